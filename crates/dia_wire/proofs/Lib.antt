@@ -1,0 +1,4 @@
+pub mod Fields
+pub mod Spelling
+pub mod Heading
+pub mod Heads

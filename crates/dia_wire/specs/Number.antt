@@ -1,0 +1,12 @@
+-- Numbers in network byte order (RFC 6733 section 3).
+use Rattle.std.specs.Prelude.{◌≡◌, ℕ, ◌+◌, ◌*◌, ◌^◌, List, [], ◌∷◌, length}
+
+-- the value of a list of bytes, the first byte the most significant
+abbrev pub number : List ℕ → ℕ
+number [] = 0
+number (b ∷ bs) = b * 256 ^ length bs + number bs
+
+-- the n bytes of the field that holds x
+pub record IsField (n x : ℕ) (bytes : List ℕ) : Type 0 where
+  pub width : length bytes ≡ n
+  pub value : number bytes ≡ x

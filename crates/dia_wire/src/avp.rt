@@ -1,0 +1,57 @@
+ghost use Rattle.std.specs.Prelude.{◌≡◌, ◌↔◌, IsTrue};
+ghost use Rattle.dia_wire.specs.Wire.{plain, key_of, Agrees};
+
+use crate::code::Key;
+use thiserror::Error;
+
+/// The V flag (RFC 6733 section 4.1): a Vendor-ID follows the Length.
+pub(crate) const VENDOR_FLAG: u8 = 0x80;
+
+/// An AVP (RFC 6733 section 4.1) whose data lies in a message.
+#[derive(Clone, Copy, Debug)]
+pub struct Avp<'a> {
+    pub code: u32,
+    /// V is 0x80, M is 0x40, P is 0x20. The other bits are kept and mean nothing.
+    pub flags: u8,
+    /// The Vendor-ID, where the AVP has the field.
+    pub vendor: Option<u32>,
+    /// The data, without padding.
+    pub bytes: &'a [u8],
+}
+
+/// The fields of an AVP in front of its data.
+#[derive(Clone, Copy, Debug, PartialEq, Eq)]
+pub struct AvpHead {
+    pub code: u32,
+    pub flags: u8,
+    pub vendor: Option<u32>,
+    /// The AVP Length: bytes of header, Vendor-ID and data, without padding.
+    pub length: u32,
+}
+
+/// Why no AVP could be read.
+#[derive(Clone, Copy, Debug, PartialEq, Eq, Error)]
+pub enum AvpFault {
+    /// The Length is shorter than the AVP's header, or padded longer than what is left of the level.
+    #[error("the AVP Length doesn't fit")]
+    Length,
+}
+
+/// The name under which a dictionary knows the AVP.
+pub fn key(avp: &Avp<'_>) -> Key
+    ensures { result ≡ key_of (plain avp.now) }
+{
+    Key {
+        code: avp.code,
+        vendor: avp.vendor.unwrap_or(0),
+    }
+}
+
+impl Avp<'_> {
+    /// Whether the V flag is set exactly where there is a Vendor-ID, as `put_avp` asks.
+    pub fn agrees(&self) -> bool
+        ensures { IsTrue result ↔ Agrees (plain self.now) }
+    {
+        (self.flags & VENDOR_FLAG != 0) == self.vendor.is_some()
+    }
+}

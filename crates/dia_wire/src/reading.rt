@@ -1,0 +1,142 @@
+//! Headers and AVPs read from bytes.
+
+ghost use Rattle.std.specs.Prelude.{◌≡◌, ◌≢◌, ◌<◌, ◌≤◌, ◌↔◌, length, take, drop, slice_index, IfOk, IfSome, IsSome, IsErr, OnErr, ◌⊎◌, Ok, Err, None, ℕ, List, ◌++◌};
+ghost use Rattle.dia_wire.specs.Number.{number};
+ghost use Rattle.dia_wire.specs.Wire.{IsHead, IsMessageLength, PlainAvp, Spells, BeginsWith, BeginsWithNone, HasWholeHead, Heads, CannotBegin, IsBadLength, plain};
+
+use crate::avp::{Avp, AvpFault, AvpHead, VENDOR_FLAG};
+use crate::header::{HeadFault, Header};
+use byteorder::{BigEndian, ByteOrder};
+
+/// The header and the Message Length of the first 20 bytes (RFC 6733 section 3), whatever follows them:
+/// the Message Length isn't compared with the bytes that are there.
+///
+/// The first fault that stands is told: `Short`, then `Version`, then `Length`.
+pub fn read_header(bytes: &[u8]) -> Result<(Header, u32), HeadFault>
+    ensures head { IfOk result (λ found. IsHead found.0 found.1 (take 20 bytes.now)) }
+    ensures long { IfOk result (λ found. IsMessageLength found.1) }
+
+    // The faults, the first that stands.
+    ensures short { (result ≡ Err HeadFault.Short) ↔ (length bytes.now < 20) }
+    ensures version { (result ≡ Err HeadFault.Version) ↔ ((20 ≤ length bytes.now) × (slice_index bytes.now 0 ≢ 1)) }
+    ensures length_fault { (result ≡ Err HeadFault.Length) ↔ ((20 ≤ length bytes.now) × (slice_index bytes.now 0 ≡ 1) × ¬ IsMessageLength (number (take 3 (drop 1 bytes.now)))) }
+{
+    if bytes.len() < 20 {
+        return Err(HeadFault::Short);
+    }
+    if bytes[0] != 1 {
+        return Err(HeadFault::Version);
+    }
+    let length = BigEndian::read_u24(&bytes[1..]);
+    if length < 20 || length % 4 != 0 {
+        return Err(HeadFault::Length);
+    }
+    let header = Header {
+        flags: bytes[4],
+        code: BigEndian::read_u24(&bytes[5..]),
+        app: BigEndian::read_u32(&bytes[8..]),
+        hop: BigEndian::read_u32(&bytes[12..]),
+        e2e: BigEndian::read_u32(&bytes[16..]),
+    };
+    Ok((header, length))
+}
+
+/// The first AVP of a level (RFC 6733 section 4.1) and what follows its padding, or `None` for an empty level.
+///
+/// A level is the body of a message or the data of a grouped AVP. Padding of any value is read over (our profile).
+/// `Length` comes where the level isn't empty and no front of it spells an AVP.
+pub fn next_avp(level: &[u8]) -> Result<Option<(Avp<'_>, &[u8])>, AvpFault>
+    ensures end { (result ≡ Ok None) ↔ (length level.now ≡ 0) }
+    ensures avp { IfOk result (λ next. IfSome next (λ found. BeginsWith (plain found.0) level.now found.1.now)) }
+    ensures fault { OnErr result ((0 < length level.now) × BeginsWithNone level.now) }
+{
+    if level.is_empty() {
+        return Ok(None);
+    }
+    if level.len() < 8 {
+        return Err(AvpFault::Length);
+    }
+    let code = BigEndian::read_u32(level);
+    let flags = level[4];
+    let length = BigEndian::read_u24(&level[5..]) as usize;
+    let has_vendor = flags & VENDOR_FLAG != 0;
+    let start = if has_vendor { 12 } else { 8 };
+    let whole = (length + 3) / 4 * 4;
+    if length < start || whole > level.len() {
+        return Err(AvpFault::Length);
+    }
+    let vendor = if has_vendor {
+        Some(BigEndian::read_u32(&level[8..]))
+    } else {
+        None
+    };
+    let avp = Avp {
+        code,
+        flags,
+        vendor,
+        bytes: &level[start..length],
+    };
+    Ok(Some((avp, &level[whole..])))
+}
+
+/// No spelling of an AVP begins another, and bytes spell at most one AVP.
+/// So what was written is read again, whatever follows it.
+pub fn one_spelling()
+    ensures { (v w : PlainAvp) (a b x y : List ℕ) → Spells v a → Spells w b → a ++ x ≡ b ++ y → (v ≡ w) × (a ≡ b) }
+{}
+
+/// The head of the AVP that these first bytes of a level begin, where `room` bytes of the level are left.
+///
+/// `None` where the head isn't whole yet: 8 bytes, 12 with a Vendor-ID. `Length` where `room` is under 8, or
+/// where the first 8 bytes show a Length that no AVP in that room has.
+pub fn avp_head(bytes: &[u8], room: usize) -> Result<Option<AvpHead>, AvpFault>
+    ensures head { IfOk result (λ o. IfSome o (λ head. HasWholeHead bytes.now × Heads bytes.now head)) }
+    ensures none { result ≡ Ok None → ¬ HasWholeHead bytes.now }
+    ensures fault { OnErr result (CannotBegin bytes.now room) }
+    ensures refused { IsErr result ↔ ((room < 8) ⊎ ((8 ≤ length bytes.now) × IsBadLength (slice_index bytes.now 4) (number (take 3 (drop 5 bytes.now))) room)) }
+{
+    if room < 8 {
+        return Err(AvpFault::Length);
+    }
+    if bytes.len() < 8 {
+        return Ok(None);
+    }
+    let code = BigEndian::read_u32(bytes);
+    let flags = bytes[4];
+    let length = BigEndian::read_u24(&bytes[5..]);
+    let has_vendor = flags & VENDOR_FLAG != 0;
+    let start = if has_vendor { 12 } else { 8 };
+    if length < start || (length as usize + 3) / 4 * 4 > room {
+        return Err(AvpFault::Length);
+    }
+    if !has_vendor {
+        return Ok(Some(AvpHead {
+            code,
+            flags,
+            vendor: None,
+            length,
+        }));
+    }
+    if bytes.len() < 12 {
+        return Ok(None);
+    }
+    let vendor = Some(BigEndian::read_u32(&bytes[8..]));
+    Ok(Some(AvpHead {
+        code,
+        flags,
+        vendor,
+        length,
+    }))
+}
+
+/// The number that exactly four bytes are, or `None` for any other count of bytes.
+pub fn number32(bytes: &[u8]) -> Option<u32>
+    ensures some { IsSome result ↔ (length bytes.now ≡ 4) }
+    ensures value { IfSome result (λ n. n ≡ number bytes.now) }
+{
+    if bytes.len() == 4 {
+        Some(BigEndian::read_u32(bytes))
+    } else {
+        None
+    }
+}

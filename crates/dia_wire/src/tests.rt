@@ -1,0 +1,93 @@
+//! The calls on bytes worked out by hand from RFC 6733.
+
+use crate::{
+    Avp, AvpFault, HeadFault, Header, Key, avp_head, key, next_avp, number32, read_header,
+};
+use std::test::Fail;
+
+/// A device watchdog request of the smallest kind: Origin-Host `a.b` and Origin-Realm `b`.
+const REQUEST: [u8; 44] = [
+    0x01, 0x00, 0x00, 0x2c, 0x80, 0x00, 0x01, 0x18, 0x00, 0x00, 0x00, 0x00, 0x00, 0x00, 0x00, 0x01,
+    0x00, 0x00, 0x00, 0x02, 0x00, 0x00, 0x01, 0x08, 0x40, 0x00, 0x00, 0x0b, 0x61, 0x2e, 0x62, 0x00,
+    0x00, 0x00, 0x01, 0x28, 0x40, 0x00, 0x00, 0x09, 0x62, 0x00, 0x00, 0x00,
+];
+
+#[test]
+fn reads_a_header(rt: HostRuntime) -> Result<(), Fail> {
+    let (header, length) = read_header(&REQUEST)?;
+    let wanted = Header {
+        flags: 0x80,
+        code: 280,
+        app: 0,
+        hop: 1,
+        e2e: 2,
+    };
+    assert_eq!(rt; header, wanted);
+    assert_eq!(rt; length, 44);
+    assert!(rt; header.fits());
+    assert_eq!(rt; read_header(&REQUEST[..19]), Err(HeadFault::Short));
+    Ok(())
+}
+
+#[test]
+fn reads_the_avps_in_order(rt: HostRuntime) -> Result<(), Fail> {
+    let (first, rest) = next_avp(&REQUEST[20..])?.ok_or("an AVP")?;
+    assert_eq!(rt;
+        key(&first),
+        Key {
+            code: 264,
+            vendor: 0
+        }
+    );
+    assert_eq!(rt; first.flags, 0x40);
+    assert!(rt; first.bytes == b"a.b".as_slice());
+    assert!(rt; first.agrees());
+    let (second, rest) = next_avp(rest)?.ok_or("another")?;
+    assert_eq!(rt; second.code, 296);
+    assert!(rt; second.bytes == b"b".as_slice());
+    assert!(rt; next_avp(rest)?.is_none());
+    Ok(())
+}
+
+#[test]
+fn refuses_bad_lengths(rt: HostRuntime) {
+    let bad: [[u8; 12]; 4] = [
+        [0, 0, 1, 8, 0x40, 0, 0, 7, 0, 0, 0, 0],
+        [0, 0, 1, 8, 0xc0, 0, 0, 11, 0, 0, 0, 0],
+        [0, 0, 1, 8, 0x40, 0, 0, 13, 0, 0, 0, 0],
+        [0, 0, 1, 8, 0x40, 0xff, 0xff, 0xff, 0, 0, 0, 0],
+    ];
+    for level in bad.iter() {
+        assert!(rt; matches!(next_avp(level), Err(AvpFault::Length)));
+        assert!(rt; matches!(avp_head(level, 12), Err(AvpFault::Length)));
+    }
+    assert!(rt; matches!(next_avp(&bad[0][..7]), Err(AvpFault::Length)));
+}
+
+#[test]
+fn reads_a_head_before_its_data(rt: HostRuntime) -> Result<(), Fail> {
+    let head = avp_head(&REQUEST[20..28], 24)?.ok_or("a head")?;
+    assert_eq!(rt; head.code, 264);
+    assert_eq!(rt; head.length, 11);
+    assert_eq!(rt; head.vendor, None);
+    assert!(rt; avp_head(&REQUEST[20..27], 24)?.is_none());
+    let long = [0, 0, 1, 8, 0xc0, 0, 0, 12, 0, 0, 0x28, 0xaf];
+    assert!(rt; avp_head(&long[..11], 12)?.is_none());
+    let head = avp_head(&long, 12)?.ok_or("a head")?;
+    assert_eq!(rt; head.vendor, Some(10415));
+    Ok(())
+}
+
+#[test]
+fn tells_numbers_and_flags(rt: HostRuntime) {
+    assert_eq!(rt; number32(&[0, 0, 0x0b, 0xb9]), Some(3001));
+    assert_eq!(rt; number32(&[0, 0, 0]), None);
+    assert_eq!(rt; number32(&[0, 0, 0, 0, 0]), None);
+    let avp = Avp {
+        code: 1,
+        flags: 0x80,
+        vendor: None,
+        bytes: &[],
+    };
+    assert!(rt; !avp.agrees());
+}

@@ -1,0 +1,5 @@
+pub mod Exit
+pub mod Texts
+pub mod Listing
+pub mod Outcome
+pub mod Writing

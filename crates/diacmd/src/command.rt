@@ -1,0 +1,67 @@
+ghost use Rattle.std.specs.Prelude.{◌≡◌};
+ghost use Rattle.diacmd.specs.Exit.{status_of};
+
+use thiserror::Error;
+
+/// What the program is to do.
+#[derive(Debug, Drop)]
+pub enum Command {
+    /// Prints a message, an AVP a line.
+    Show,
+}
+
+/// A text that was read whole.
+#[derive(Debug, Drop)]
+pub enum Input {
+    Bytes(Vec<u8>),
+    /// More bytes than the text may have.
+    TooLong,
+}
+
+/// The texts of a command. One that the command doesn't use isn't looked at.
+#[derive(Debug, Drop)]
+pub struct Inputs {
+    /// The first or only dictionary.
+    pub first: Input,
+    /// The second dictionary.
+    pub second: Input,
+    /// The table of pairs.
+    pub table: Input,
+    /// The message, as hexadecimal text.
+    pub message: Input,
+}
+
+/// How a command ended.
+#[derive(Clone, Copy, Debug, PartialEq, Eq)]
+pub enum Exit {
+    /// Status 0.
+    Yes,
+    /// Status 1.
+    No,
+    /// Status 2: an input was refused.
+    Bad,
+}
+
+/// Why a command didn't end.
+#[derive(Clone, Copy, Debug, PartialEq, Eq, Error)]
+pub enum RunFault {
+    /// The sink failed. What it has taken is a beginning of the text.
+    #[error("device failed")]
+    Device,
+    /// Nothing was written.
+    #[error("no memory")]
+    NoMemory,
+}
+
+impl Exit {
+    /// The status that the process ends with.
+    pub fn status(self) -> u8
+        ensures { result ≡ status_of self }
+    {
+        match self {
+            Exit::Yes => 0,
+            Exit::No => 1,
+            Exit::Bad => 2,
+        }
+    }
+}

@@ -1,0 +1,70 @@
+//! How the program ends where there is nothing to run, or a run didn't end.
+
+use crate::command::RunFault;
+use clap::error::ErrorKind;
+use std::alloc::AllocError;
+use std::io;
+
+/// Why there is no outcome.
+#[derive(Debug, Drop)]
+pub enum Ending {
+    /// What the reader of the words tells: help, with status 0, or a command-line fault, with status 2.
+    Told(clap::Error),
+    /// A word is no text: a command-line fault, status 2.
+    NotText,
+    /// A file couldn't be opened, or a device failed: status 3.
+    Device,
+    /// Want of memory: status 3.
+    NoMemory,
+}
+
+impl Ending {
+    /// Says why, on the stream where it belongs, and answers the status.
+    pub fn tell(&self, rt: &(impl Print + Eprint)) -> u8 {
+        let (told, status) = match self {
+            Ending::Told(error) if error.use_stderr() => (error.print(rt), 2),
+            Ending::Told(error) => (error.print(rt), 0),
+            Ending::NotText => (
+                rt.eprintln("error: a word of the command line isn't UTF-8"),
+                2,
+            ),
+            Ending::Device => (rt.eprintln("device failed"), 3),
+            Ending::NoMemory => (rt.eprintln("no memory"), 3),
+        };
+        if told.is_ok() { status } else { 3 }
+    }
+}
+
+impl From<clap::Error> for Ending {
+    fn from(error: clap::Error) -> Ending {
+        match error.kind() {
+            ErrorKind::OutOfMemory => Ending::NoMemory,
+            _ => Ending::Told(error),
+        }
+    }
+}
+
+impl From<AllocError> for Ending {
+    fn from(_error: AllocError) -> Ending {
+        Ending::NoMemory
+    }
+}
+
+impl From<io::Error> for Ending {
+    fn from(error: io::Error) -> Ending {
+        match error.kind() {
+            io::ErrorKind::OutOfMemory => Ending::NoMemory,
+            io::ErrorKind::InvalidData => Ending::NotText,
+            _ => Ending::Device,
+        }
+    }
+}
+
+impl From<RunFault> for Ending {
+    fn from(fault: RunFault) -> Ending {
+        match fault {
+            RunFault::Device => Ending::Device,
+            RunFault::NoMemory => Ending::NoMemory,
+        }
+    }
+}

@@ -1,0 +1,3 @@
+//! What the texts of the inputs say.
+
+pub mod message;

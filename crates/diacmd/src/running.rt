@@ -1,0 +1,55 @@
+//! A command, from its inputs to what is written.
+
+ghost use Rattle.std.specs.Prelude.{◌≡◌, ◌↔◌, List, ℕ, IfOk, OnOk, Err, IsErr, IsTrue};
+ghost use Rattle.std.specs.Io.KnownBytes.{Appends};
+ghost use Rattle.diacmd.specs.declared.command.Exit.{Exit as AnyExit};
+ghost use Rattle.diacmd.specs.Writing.{AppendsFront};
+ghost use Rattle.diacmd.specs.Outcome.{IsOutcome};
+
+use crate::command::{Command, Exit, Inputs, RunFault};
+use crate::commands::show::show;
+use crate::streams::{Failed, Sink};
+use std::alloc::Global;
+
+/// Writes the text of a command for its inputs, and answers how it ended.
+///
+/// The text is made first, and then written in whatever pieces the sink takes.
+pub fn run<S: Sink>(
+    alloc: Global,
+    command: &Command,
+    inputs: &Inputs,
+    sink: &mut S,
+) -> Result<Exit, RunFault>
+    requires { ¬ IsTrue (S.has_failed sink.old) }
+    ensures text { IfOk result (λ exit. (text : List ℕ) × IsOutcome command.now inputs.now text exit × Appends (S.written sink.old) (S.written sink.new) text) }
+    ensures device { (result ≡ Err RunFault.Device) ↔ IsTrue (S.has_failed sink.new) }
+    ensures front { result ≡ Err RunFault.Device
+        → (text : List ℕ) × (exit : AnyExit) × IsOutcome command.now inputs.now text exit × AppendsFront (S.written sink.old) (S.written sink.new) text }
+    ensures no_memory { result ≡ Err RunFault.NoMemory → S.written sink.new ≡ S.written sink.old }
+{
+    let made = match command {
+        Command::Show => show(alloc, inputs),
+    };
+    let Ok(outcome) = made else {
+        return Err(RunFault::NoMemory);
+    };
+    match put_all(sink, outcome.text.as_bytes()) {
+        Ok(()) => Ok(outcome.exit),
+        Err(_) => Err(RunFault::Device),
+    }
+}
+
+/// Puts all of a text into a sink, or what it takes of it before it fails.
+fn put_all<S: Sink>(sink: &mut S, text: &[u8]) -> Result<(), Failed>
+    requires { ¬ IsTrue (S.has_failed sink.old) }
+    ensures ok { OnOk result (Appends (S.written sink.old) (S.written sink.new) text.now) }
+    ensures front { AppendsFront (S.written sink.old) (S.written sink.new) text.now }
+    ensures failed { IsErr result ↔ IsTrue (S.has_failed sink.new) }
+{
+    let mut rest = text;
+    while !rest.is_empty() {
+        let count = sink.put(rest)?;
+        rest = &rest[count..];
+    }
+    Ok(())
+}
