@@ -1,11 +1,11 @@
 -- What the first bytes of a level say of its first AVP, however the level goes on.
-use Rattle.std.proofs.Common.{◌≡◌, ℕ, ◌+◌, ◌-◌, ◌*◌, ◌/◌, ◌<◌, ◌≤◌, List, ◌++◌, Option, Some, None, length, take, drop, get_or, refl, sym, ap, subst, ◌∙◌, arith, inl, inr}
+use Rattle.std.proofs.Common.{◌≡◌, ℕ, ◌+◌, ◌<◌, ◌≤◌, List, ◌++◌, Option, Some, None, length, drop, get_or, sym, ap, ◌∙◌, arith, inl, inr}
 use Rattle.std.specs.Prelude.{IsSome, ◌↔◌, ◌⊎◌}
 use Rattle.std.proofs.lemmas.List.{length-append, length-drop, drop-take, take-append-le, get_or_append_left}
 use Rattle.byteorder.specs.Endian.{big_from}
 use Rattle.dia_wire.specs.declared.avp.AvpHead.{AvpHead}
 use Rattle.dia_wire.specs.Number.{number}
-use Rattle.dia_wire.specs.Wire.{PlainAvp, HasVendorFlag, head_length, avp_length, BeginsWith, BeginsWithNone, HasHead, Heads, CannotBegin}
+use Rattle.dia_wire.specs.Wire.{HasVendorFlag, head_length, Heads, CannotBegin}
 use Rattle.dia_wire.proofs.Fields.{big_from-number}
 use Rattle.dia_wire.proofs.Spelling.{Opened, opened, none_begins, rounded, start_from, same_vendor, vendor_agrees, vendor_field_at}
 

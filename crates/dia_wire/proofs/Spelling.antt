@@ -1,11 +1,11 @@
 -- AVPs as they are read from the front of bytes.
-use Rattle.std.proofs.Common.{◌≡◌, ℕ, zero, suc, ◌+◌, ◌-◌, ◌*◌, ◌/◌, ◌%◌, ◌<◌, ◌≤◌, List, [], ◌∷◌, ◌++◌, Option, Some, None, length, take, drop, get_or, refl, sym, ap, subst, ◌∙◌, append_assoc, arith, inl, inr}
+use Rattle.std.proofs.Common.{◌≡◌, ℕ, ◌+◌, ◌-◌, ◌*◌, ◌/◌, ◌%◌, ◌<◌, ◌≤◌, List, ◌∷◌, ◌++◌, Option, Some, None, length, take, drop, get_or, refl, sym, ap, subst, ◌∙◌, append_assoc, arith, inl, inr}
 use Rattle.std.specs.Prelude.{IsSome, ◌↔◌, ◌⊎◌}
 use Rattle.std.proofs.Math.Seq.{take-add}
 use Rattle.std.proofs.lemmas.List.{length-take, length-drop, length-append, take_at, drop_at, get_or-drop, drop-drop, take-append-drop, drop_more, take_rest}
 use Rattle.byteorder.specs.Endian.{big_from}
 use Rattle.dia_wire.specs.Number.{number, IsField}
-use Rattle.dia_wire.specs.Wire.{PlainAvp, HasVendorFlag, Agrees, head_length, avp_length, IsVendorField, Spells, BeginsWith, BeginsWithNone}
+use Rattle.dia_wire.specs.Wire.{PlainAvp, HasVendorFlag, head_length, avp_length, IsVendorField, Spells, BeginsWith, BeginsWithNone}
 use Rattle.dia_wire.proofs.Fields.{big_from-number, field}
 
 abbrev pub rounded : ℕ → ℕ

@@ -1,7 +1,10 @@
 //! The calls on bytes worked out by hand from RFC 6733.
 
+ghost use Rattle.dia_wire.specs.Wire.{plain, Agrees};
+
 use crate::{
-    Avp, AvpFault, HeadFault, Header, Key, avp_head, key, next_avp, number32, read_header,
+    Avp, AvpFault, HeadFault, Header, Key, PutFault, avp_head, key, next_avp, number32, put_avp,
+    put_message, read_header,
 };
 use std::test::Fail;
 
@@ -90,4 +93,93 @@ fn tells_numbers_and_flags(rt: HostRuntime) {
         bytes: &[],
     };
     assert!(rt; !avp.agrees());
+}
+
+#[test]
+fn writes_the_message_that_was_read(rt: HostRuntime) -> Result<(), Fail> {
+    let header = Header {
+        flags: 0x80,
+        code: 280,
+        app: 0,
+        hop: 1,
+        e2e: 2,
+    };
+    let avps = [
+        Avp {
+            code: 264,
+            flags: 0x40,
+            vendor: None,
+            bytes: b"a.b",
+        },
+        Avp {
+            code: 296,
+            flags: 0x40,
+            vendor: None,
+            bytes: b"b",
+        },
+    ];
+    assert!(rt; header.fits() && avps[0].agrees() && avps[1].agrees());
+    let mut out = Vec::new(rt.alloc());
+    put_message(&mut out, &header, &avps)?;
+    assert!(rt; out.as_slice() == REQUEST.as_slice());
+    Ok(())
+}
+
+#[test]
+fn writes_a_vendor_and_padding(rt: HostRuntime) -> Result<(), Fail> {
+    let avp = Avp {
+        code: 1400,
+        flags: 0xc0,
+        vendor: Some(10415),
+        bytes: &[7],
+    };
+    assert!(rt; avp.agrees());
+    let mut out = vec![in rt.alloc(); 9]?;
+    put_avp(&mut out, &avp)?;
+    let wanted = [
+        9, 0, 0, 0x05, 0x78, 0xc0, 0, 0, 13, 0, 0, 0x28, 0xaf, 7, 0, 0, 0,
+    ];
+    assert!(rt; out.as_slice() == wanted.as_slice());
+    Ok(())
+}
+
+/// An AVP of these data and no vendor.
+fn octets(data: &[u8]) -> Avp<'_>
+    ensures { Agrees (plain result) }
+{
+    Avp {
+        code: 1,
+        flags: 0,
+        vendor: None,
+        bytes: data,
+    }
+}
+
+/// Appends a message of this AVP alone.
+fn put_alone(out: &mut Vec<u8>, avp: &Avp<'_>) -> Result<(), PutFault>
+    requires { Agrees (plain avp.now) }
+{
+    let header = Header {
+        flags: 0,
+        code: 280,
+        app: 0,
+        hop: 1,
+        e2e: 2,
+    };
+    put_message(out, &header, &[*avp])
+}
+
+#[test]
+fn keeps_the_limit_of_a_length(rt: HostRuntime) -> Result<(), Fail> {
+    let alloc = rt.alloc();
+    let data = vec![in alloc; 0; 16_777_208]?;
+    let longer = octets(data.as_slice());
+    let longest = octets(data.as_slice().split_first().ok_or("no data")?.1);
+    let mut out = vec![in alloc; 1, 2, 3]?;
+    assert_eq!(rt; put_avp(&mut out, &longer), Err(PutFault::TooLong));
+    assert_eq!(rt; put_alone(&mut out, &longest), Err(PutFault::TooLong));
+    assert!(rt; out.as_slice() == [1, 2, 3].as_slice());
+    put_avp(&mut out, &longest)?;
+    assert_eq!(rt; out.len(), 3 + 16_777_216);
+    Ok(())
 }

@@ -1,4 +1,4 @@
-use Rattle.std.proofs.Common.{◌≡◌, ◌-◌, ◌+◌, ℕ, length, take, drop, get_or, refl, sym, ap, ◌∙◌, arith, inl, inr, List, Some, None}
+use Rattle.std.proofs.Common.{◌≡◌, ℕ, drop, get_or, refl, sym, ap, ◌∙◌, arith, inl, inr, List, Some, None}
 use Rattle.dia_wire.specs.declared.avp.AvpHead.{AvpHead}
 use Rattle.std.proofs.lemmas.List.{take_rest}
 use Rattle.byteorder.specs.Endian.{big_from}

@@ -1,8 +1,7 @@
-use Rattle.std.proofs.Common.{◌≡◌, ◌-◌, ◌+◌, ◌≤◌, ℕ, length, take, drop, get_or, refl, sym, ap, ◌∙◌, arith, inl, inr, List, Some}
-use Rattle.std.proofs.lemmas.List.{take_rest, take-append-drop, drop-take}
+use Rattle.std.proofs.Common.{ℕ, drop, refl, sym, ap, ◌∙◌, arith, inl, inr, List, Some}
+use Rattle.std.proofs.lemmas.List.{take_rest}
 use Rattle.byteorder.specs.Endian.{big_from}
-use Rattle.dia_wire.specs.Wire.{BeginsWithNone, head_length, HasVendorFlag, Spells, plain}
-use Rattle.dia_wire.proofs.Spelling.{none_begins, start_from, vendor_agrees, vendor_field_at, begins_at}
+use Rattle.dia_wire.proofs.Spelling.{none_begins, start_from, begins_at}
 use Rattle.dia_wire.proofs.reading.next_avp.Goals as goal
 use Rattle.dia_wire.proofs.reading.next_avp.Goals.{then-has_vendor, else-has_vendor, then-has_vendor-2, else-has_vendor-2, then-length-start-via-then-length-start, then-length-start-via-else-length-start+then-whole-level}
 

@@ -1,0 +1,209 @@
+//! AVPs and messages written as bytes.
+
+ghost use Rattle.std.specs.Prelude.{◌≡◌, ◌<◌, ◌≤◌, ◌^◌, ◌+◌, ◌++◌, ◌↔◌, List, ℕ, OnOk, OnErr, All, IsNone, IfOk, IfErr, IsOk, IfSome, Err, map, sum_by};
+ghost use Rattle.byteorder.specs.Endian.{big_bytes};
+ghost use Rattle.dia_wire.specs.Number.{IsField};
+ghost use Rattle.dia_wire.specs.Wire.{plain, Agrees, avp_length, padded_length, IsHead, IsVendorField, SpellsWithZeros, MessageWithZeros, IsTooLong};
+ghost use Rattle.dia_wire.specs.Written.{avp_bytes, header_bytes, padding, vendor_bytes};
+
+use crate::avp::Avp;
+use crate::header::Header;
+use byteorder::{BigEndian, ByteOrder};
+use std::alloc::{AllocError, Global};
+use thiserror::Error;
+
+/// Why nothing was written.
+#[derive(Clone, Copy, Debug, PartialEq, Eq, Error)]
+pub enum PutFault {
+    /// An AVP Length is above 16,777,215, or a message is above 16,777,212 bytes.
+    #[error("the length is above what its field can say")]
+    TooLong,
+    #[error("no memory")]
+    NoMemory,
+}
+
+/// The first length that a field of three bytes can't say.
+const LENGTH_LIMIT: usize = 1 << 24;
+
+/// The bytes of a header.
+const HEADER_LENGTH: usize = 20;
+
+/// Appends an AVP (RFC 6733 section 4.1), padded with zero bytes to a multiple of four.
+///
+/// `TooLong` is looked for before anything is appended. On a refusal nothing was appended.
+pub fn put_avp(out: &mut Vec<u8>, avp: &Avp<'_>) -> Result<(), PutFault>
+    requires { Agrees (plain avp.now) }
+    ensures ok { OnOk result ((b : List ℕ) × SpellsWithZeros (plain avp.now) b × (out.new.items ≡ out.old.items ++ b)) }
+    ensures too_long { (result ≡ Err PutFault.TooLong) ↔ (2 ^ 24 ≤ avp_length (plain avp.now)) }
+    ensures err { OnErr result (out.new.items ≡ out.old.items) }
+{
+    let length = avp_length(avp);
+    if length >= LENGTH_LIMIT {
+        return Err(PutFault::TooLong);
+    }
+    append(out, avp_bytes(*out.allocator(), avp, length as u32))
+}
+
+/// Appends a message (RFC 6733 section 3): version 1, its length, the header and the AVPs, each padded with zero bytes.
+///
+/// `TooLong` is looked for before anything is appended. On a refusal nothing was appended.
+pub fn put_message(out: &mut Vec<u8>, header: &Header, avps: &[Avp<'_>]) -> Result<(), PutFault>
+    requires fits { header.now.code < 2 ^ 24 }
+    requires agree { All (λ avp. Agrees (plain avp)) avps.now }
+    ensures ok { OnOk result ((b : List ℕ) × MessageWithZeros header.now (map plain avps.now) b × (out.new.items ≡ out.old.items ++ b)) }
+    ensures too_long { (result ≡ Err PutFault.TooLong) ↔ IsTooLong (map plain avps.now) }
+    ensures err { OnErr result (out.new.items ≡ out.old.items) }
+{
+    let Some(length) = message_length(avps) else {
+        return Err(PutFault::TooLong);
+    };
+    append(out, message_bytes(*out.allocator(), header, length, avps))
+}
+
+/// Appends what was made, all of it or nothing.
+fn append(out: &mut Vec<u8>, made: Result<Vec<u8>, AllocError>) -> Result<(), PutFault>
+    ensures ok { OnOk result (IfOk made (λ bytes. out.new.items ≡ out.old.items ++ bytes.items)) }
+    ensures made { OnOk result (IsOk made) }
+    ensures err { OnErr result (out.new.items ≡ out.old.items) }
+    ensures memory { IfErr result (λ fault. fault ≡ PutFault.NoMemory) }
+{
+    let Ok(bytes) = made else {
+        return Err(PutFault::NoMemory);
+    };
+    match out.extend_from_slice(bytes.as_slice()) {
+        Ok(()) => Ok(()),
+        Err(_) => Err(PutFault::NoMemory),
+    }
+}
+
+/// The AVP Length: header, Vendor-ID and data.
+fn avp_length(avp: &Avp<'_>) -> usize
+    ensures { result ≡ avp_length (plain avp.now) }
+{
+    match avp.vendor {
+        Some(_) => 12 + avp.bytes.len(),
+        None => 8 + avp.bytes.len(),
+    }
+}
+
+/// The Message Length of a header and these AVPs, where the fields can say it and each AVP Length.
+fn message_length(avps: &[Avp<'_>]) -> Option<u32>
+    ensures none { IsNone result ↔ IsTooLong (map plain avps.now) }
+    ensures some { IfSome result (λ total. total ≡ 20 + sum_by padded_length (map plain avps.now)) }
+    ensures small { IfSome result (λ total. total < 2 ^ 24) }
+{
+    let mut total = HEADER_LENGTH;
+    for avp in avps {
+        let length = avp_length(avp);
+        if length >= LENGTH_LIMIT {
+            return None;
+        }
+        total += (length + 3) / 4 * 4;
+        if total >= LENGTH_LIMIT {
+            return None;
+        }
+    }
+    Some(total as u32)
+}
+
+/// The bytes of an AVP of this length.
+fn avp_bytes(alloc: Global, avp: &Avp<'_>, length: u32) -> Result<Vec<u8>, AllocError>
+    requires small { length < 2 ^ 24 }
+    requires length { length ≡ avp_length (plain avp.now) }
+    requires agrees { Agrees (plain avp.now) }
+    ensures { IfOk result (λ bytes. SpellsWithZeros (plain avp.now) bytes.items) }
+{
+    let mut bytes = Vec::with_capacity(alloc, (length as usize + 3) / 4 * 4)?;
+    push_avp(&mut bytes, avp, length)?;
+    Ok(bytes)
+}
+
+/// The bytes of a message of this length.
+fn message_bytes(
+    alloc: Global,
+    header: &Header,
+    length: u32,
+    avps: &[Avp<'_>],
+) -> Result<Vec<u8>, AllocError>
+    requires fits { header.now.code < 2 ^ 24 }
+    requires small { length < 2 ^ 24 }
+    requires length { length ≡ 20 + sum_by padded_length (map plain avps.now) }
+    requires agree { All (λ avp. Agrees (plain avp)) avps.now }
+    ensures { IfOk result (λ bytes. MessageWithZeros header.now (map plain avps.now) bytes.items) }
+{
+    let mut bytes = Vec::with_capacity(alloc, length as usize)?;
+    push_header(&mut bytes, header, length)?;
+    for avp in avps {
+        let length = avp_length(avp);
+        push_avp(&mut bytes, avp, length as u32)?;
+    }
+    Ok(bytes)
+}
+
+fn push_header(out: &mut Vec<u8>, header: &Header, length: u32) -> Result<(), AllocError>
+    requires fits { header.now.code < 2 ^ 24 }
+    requires small { length < 2 ^ 24 }
+    ensures bytes { OnOk result (out.new.items ≡ out.old.items ++ header_bytes header.now length) }
+    ensures head { OnOk result (IsHead header.now length (header_bytes header.now length)) }
+{
+    out.push(1)?;
+    push_u24(out, length)?;
+    out.push(header.flags)?;
+    push_u24(out, header.code)?;
+    push_u32(out, header.app)?;
+    push_u32(out, header.hop)?;
+    push_u32(out, header.e2e)?;
+    Ok(())
+}
+
+fn push_avp(out: &mut Vec<u8>, avp: &Avp<'_>, length: u32) -> Result<(), AllocError>
+    requires small { length < 2 ^ 24 }
+    requires length { length ≡ avp_length (plain avp.now) }
+    requires agrees { Agrees (plain avp.now) }
+    ensures bytes { OnOk result (out.new.items ≡ out.old.items ++ avp_bytes (plain avp.now)) }
+    ensures spells { OnOk result (SpellsWithZeros (plain avp.now) (avp_bytes (plain avp.now))) }
+{
+    push_u32(out, avp.code)?;
+    out.push(avp.flags)?;
+    push_u24(out, length)?;
+    push_vendor(out, avp.vendor)?;
+    out.extend_from_slice(avp.bytes)?;
+    push_padding(out, length)
+}
+
+fn push_vendor(out: &mut Vec<u8>, vendor: Option<u32>) -> Result<(), AllocError>
+    ensures bytes { OnOk result (out.new.items ≡ out.old.items ++ vendor_bytes vendor) }
+    ensures field { OnOk result (IsVendorField vendor (vendor_bytes vendor)) }
+{
+    match vendor {
+        Some(vendor) => push_u32(out, vendor),
+        None => Ok(()),
+    }
+}
+
+/// Appends the zero bytes behind an AVP of this length.
+fn push_padding(out: &mut Vec<u8>, length: u32) -> Result<(), AllocError>
+    ensures { OnOk result (out.new.items ≡ out.old.items ++ padding length) }
+{
+    let count = (4 - length as usize % 4) % 4;
+    let zeros = [0, 0, 0];
+    out.extend_from_slice(&zeros[..count])
+}
+
+fn push_u32(out: &mut Vec<u8>, number: u32) -> Result<(), AllocError>
+    ensures bytes { OnOk result (out.new.items ≡ out.old.items ++ big_bytes 4 number) }
+    ensures field { OnOk result (IsField 4 number (big_bytes 4 number)) }
+{
+    let mut bytes = [0; 4];
+    BigEndian::write_u32(&mut bytes, number);
+    out.extend_from_slice(&bytes)
+}
+
+fn push_u24(out: &mut Vec<u8>, number: u32) -> Result<(), AllocError>
+    requires { number < 2 ^ 24 }
+    ensures { OnOk result (out.new.items ≡ out.old.items ++ big_bytes 3 number) }
+{
+    let mut bytes = [0; 3];
+    BigEndian::write_u24(&mut bytes, number);
+    out.extend_from_slice(&bytes)
+}
