@@ -1,0 +1,12 @@
+pub mod Numbers
+pub mod Fronts
+pub mod Graphics
+pub mod Texts
+pub mod SeenTexts
+pub mod Addresses
+pub mod Schemes
+pub mod Leaves
+pub mod Ranges
+pub mod BelowLemmas
+pub mod Groups
+pub mod ShownValues

@@ -1,0 +1,5 @@
+use Rattle.dia_data.proofs.BelowLemmas.{included}
+use Rattle.dia_data.proofs.below.inclusion.Goals as goal
+
+pub returns : goal.returns
+returns c = included

@@ -1,0 +1,36 @@
+-- Which format accepts all that another accepts.
+use Rattle.std.specs.Prelude.{◌≡◌, ◌≢◌, ℕ, ◌≤◌, ◌⊎◌, Any, IsSome, IsNone, MatchOption, List, Option, ⊤}
+use Rattle.dia_data.specs.Plain.{PlainFormat, OctetString, Integer32, Grouped, Utf8String, DiameterIdentity, DiameterUri, Enumerated}
+use Rattle.dia_data.specs.Leaf.{IsLeaf, IsListed, IsWithin}
+
+-- no list, or each number of the first list's ranges is in some range of the second
+abbrev pub ValuesBelow : Option (List (ℕ × ℕ)) → Option (List (ℕ × ℕ)) → Type 0
+ValuesBelow v w = IsNone w ⊎ (IsSome v × ((n : ℕ) → IsListed v n → IsListed w n))
+
+-- each value of the first format is one of the second, by the formats alone (our profile)
+abbrev pub FormatBelow : PlainFormat → PlainFormat → Type 0
+FormatBelow f OctetString = ⊤
+FormatBelow (Enumerated v) (Enumerated w) = ValuesBelow v w
+FormatBelow (Enumerated v) Integer32 = ⊤
+FormatBelow DiameterIdentity Utf8String = ⊤
+FormatBelow DiameterUri Utf8String = ⊤
+FormatBelow Grouped Grouped = ⊥
+FormatBelow f g = f ≡ g
+
+-- each leaf of the first format is one of the second, or the first is Grouped and the second is OctetString
+abbrev pub IsIncluded : PlainFormat → PlainFormat → Type 0
+IsIncluded f g = ((f ≢ Grouped) × ((bytes : List ℕ) → IsLeaf f bytes → IsLeaf g bytes)) ⊎ ((f ≡ Grouped) × (g ≡ OctetString))
+
+-- each number of some range of the first list is in some range of the second
+abbrev pub RangesBelow : List (ℕ × ℕ) → List (ℕ × ℕ) → Type 0
+RangesBelow v w = (n : ℕ) → Any (IsWithin n) v → Any (IsWithin n) w
+
+-- the least number from a place on that is in some range
+pub record IsLeastListed (ranges : List (ℕ × ℕ)) (start least : ℕ) : Type 0 where
+  pub onward : start ≤ least
+  pub listed : Any (IsWithin least) ranges
+  pub first : (n : ℕ) → start ≤ n → Any (IsWithin n) ranges → least ≤ n
+
+-- that number, or none where no number from there on is in a range
+abbrev pub IsLeastFrom : List (ℕ × ℕ) → ℕ → Option ℕ → Type 0
+IsLeastFrom ranges start least = MatchOption least ((n : ℕ) → start ≤ n → ¬ Any (IsWithin n) ranges) (IsLeastListed ranges start)

@@ -1,0 +1,7 @@
+pub mod Number
+pub mod Plain
+pub mod Leaf
+pub mod Below
+pub mod Front
+pub mod State
+pub mod Shown

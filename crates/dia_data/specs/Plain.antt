@@ -1,0 +1,48 @@
+-- Formats without where their lists lie in memory.
+use Rattle.std.specs.Prelude.{ℕ, List, Option}
+use Rattle.std.specs.Option.{option_map}
+use Rattle.dia_data.specs.declared.format.Values.{Values}
+use Rattle.dia_data.specs.declared.format.Format.{Format}
+use Rattle.dia_data.specs.declared.format.Format.TheVariants as format
+
+-- the data formats of RFC 6733 sections 4.2 to 4.4; an Enumerated one with its ranges, low and high, if it has a list
+pub data PlainFormat : Type 0 where
+  OctetString : PlainFormat
+  Integer32 : PlainFormat
+  Integer64 : PlainFormat
+  Unsigned32 : PlainFormat
+  Unsigned64 : PlainFormat
+  Float32 : PlainFormat
+  Float64 : PlainFormat
+  Grouped : PlainFormat
+  Address : PlainFormat
+  Time : PlainFormat
+  Utf8String : PlainFormat
+  DiameterIdentity : PlainFormat
+  DiameterUri : PlainFormat
+  Enumerated : (ranges : Option (List (ℕ × ℕ))) → PlainFormat
+  IpFilterRule : PlainFormat
+  QosFilterRule : PlainFormat
+
+-- the ranges of a list of values, if there is one
+abbrev pub ranges_of : Values → Option (List (ℕ × ℕ))
+ranges_of values = option_map (λ v. v.items) values.list
+
+-- the format that a Rust value names
+abbrev pub plain : Format → PlainFormat
+plain format.OctetString = OctetString
+plain format.Integer32 = Integer32
+plain format.Integer64 = Integer64
+plain format.Unsigned32 = Unsigned32
+plain format.Unsigned64 = Unsigned64
+plain format.Float32 = Float32
+plain format.Float64 = Float64
+plain format.Grouped = Grouped
+plain format.Address = Address
+plain format.Time = Time
+plain format.Utf8String = Utf8String
+plain format.DiameterIdentity = DiameterIdentity
+plain format.DiameterUri = DiameterUri
+plain (format.Enumerated values) = Enumerated (ranges_of values)
+plain format.IpFilterRule = IpFilterRule
+plain format.QosFilterRule = QosFilterRule

@@ -1,0 +1,36 @@
+-- What a state of reading says of the bytes that it has been fed.
+use Rattle.std.specs.Prelude.{◌≡◌, ◌≢◌, ℕ, ◌<◌, ◌↔◌, ◌⊎◌, List, ◌++◌, length, take, All, IsTrue}
+use Rattle.std.specs.Str.{IsUtf8, StartsWithNoChar}
+use Rattle.dia_data.specs.Plain.{PlainFormat, plain, Utf8String, DiameterIdentity, DiameterUri}
+use Rattle.dia_data.specs.declared.state.LeafState.{LeafState}
+use Rattle.dia_data.specs.declared.state.Seen.{Seen}
+use Rattle.dia_data.specs.declared.state.Seen.TheVariants.{Nothing, Graphic, Characters}
+use Rattle.dia_data.specs.declared.text.Text.{Text}
+use Rattle.dia_data.specs.declared.text.Text.TheVariants.{Open, Broken}
+use Rattle.dia_data.specs.Leaf.{IsGraphic}
+use Rattle.dia_data.specs.Front.{front_bytes}
+
+-- the bytes are whole characters, and then these few, which no character begins
+pub record IsOpen (pending bytes : List ℕ) : Type 0 where
+  pub whole : List ℕ
+  pub parts : bytes ≡ whole ++ pending
+  pub text : IsUtf8 whole
+  pub short : length pending < 4
+  pub unfinished : StartsWithNoChar pending
+
+-- what a state says of the bytes of a text; where it is broken, no more bytes make them a text
+abbrev pub IsSeenOfText : Text → List ℕ → Type 0
+IsSeenOfText (Open pending) bytes = IsOpen (front_bytes pending) bytes
+IsSeenOfText Broken bytes = (more : List ℕ) → ¬ IsUtf8 (bytes ++ more)
+
+-- what is kept of all bytes of a format: nothing, whether they are all graphic, or what they are as a text
+abbrev pub IsSeen : Seen → PlainFormat → List ℕ → Type 0
+IsSeen Nothing kind bytes = (kind ≢ Utf8String) × (kind ≢ DiameterIdentity) × (kind ≢ DiameterUri)
+IsSeen (Graphic graphic) kind bytes = ((kind ≡ DiameterIdentity) ⊎ (kind ≡ DiameterUri)) × (IsTrue graphic ↔ All IsGraphic bytes)
+IsSeen (Characters text) kind bytes = (kind ≡ Utf8String) × IsSeenOfText text bytes
+
+-- the state has been fed these bytes, in whatever pieces
+pub record StandsFor (state : LeafState) (kind : PlainFormat) (bytes : List ℕ) : Type 0 where
+  pub format : plain state.format.now ≡ kind
+  pub front : front_bytes state.front ≡ take 20 bytes
+  pub seen : IsSeen state.seen kind bytes

@@ -1,0 +1,206 @@
+//! Which data a format accepts.
+ghost use Rattle.std.specs.Prelude.{◌≡◌, ◌↔◌, All, IsTrue, if◌then◌else◌};
+ghost use Rattle.dia_data.specs.Leaf.{IsAnswer, IsAddress, IsGraphic, IsListed, IsUri, NamesScheme};
+ghost use Rattle.dia_data.specs.Plain.{plain, ranges_of};
+
+use crate::format::{Format, Values};
+use byteorder::{BigEndian, ByteOrder};
+use std::str;
+
+/// What a format says of data.
+#[derive(Clone, Copy, Debug, PartialEq, Eq)]
+pub enum Leaf {
+    /// The format accepts the data.
+    Fine,
+    /// The format cannot have data of this length (result code 5014 of RFC 6733). An address of a family whose length
+    /// is fixed, and of another length, counts as such.
+    BadLength,
+    /// The format can have data of this length, and does not accept this data (result code 5004 of RFC 6733).
+    BadValue,
+}
+
+/// Whether the format accepts the data.
+///
+/// The data of a Grouped AVP is a level of AVPs, which is read elsewhere: its answer is always `Fine`.
+pub fn accepts(format: &Format, bytes: &[u8]) -> Leaf
+    ensures { IsAnswer result (plain format.now) bytes.now }
+{
+    match format {
+        Format::OctetString | Format::IpFilterRule | Format::QosFilterRule | Format::Grouped => {
+            Leaf::Fine
+        }
+        Format::Integer32 | Format::Unsigned32 | Format::Float32 | Format::Time => {
+            by_length(bytes.len() == 4)
+        }
+        Format::Integer64 | Format::Unsigned64 | Format::Float64 => by_length(bytes.len() == 8),
+        Format::Address => by_length(is_address(bytes)),
+        Format::Utf8String => by_value(str::from_utf8(bytes).is_ok()),
+        Format::DiameterIdentity => by_value(!bytes.is_empty() && is_graphic(bytes)),
+        Format::DiameterUri => by_value(is_uri(bytes)),
+        Format::Enumerated(values) => {
+            if bytes.len() == 4 {
+                by_value(is_listed(values, BigEndian::read_u32(bytes)))
+            } else {
+                Leaf::BadLength
+            }
+        }
+    }
+}
+
+fn by_length(fits: bool) -> Leaf
+    ensures { result ≡ (if fits then Leaf.Fine else Leaf.BadLength) }
+{
+    if fits { Leaf::Fine } else { Leaf::BadLength }
+}
+
+pub(crate) fn by_value(accepted: bool) -> Leaf
+    ensures { result ≡ (if accepted then Leaf.Fine else Leaf.BadValue) }
+{
+    if accepted { Leaf::Fine } else { Leaf::BadValue }
+}
+
+fn is_address(bytes: &[u8]) -> bool
+    ensures { IsTrue result ↔ IsAddress bytes.now }
+{
+    if bytes.len() < 2 {
+        return false;
+    }
+    let family = BigEndian::read_u16(bytes);
+    if family == 1 {
+        bytes.len() == 6
+    } else if family == 2 {
+        bytes.len() == 18
+    } else {
+        true
+    }
+}
+
+pub(crate) fn is_graphic(bytes: &[u8]) -> bool
+    ensures { IsTrue result ↔ All IsGraphic bytes.now }
+{
+    bytes.iter().all(|byte| byte.is_ascii_graphic())
+}
+
+fn is_uri(bytes: &[u8]) -> bool
+    ensures { IsTrue result ↔ IsUri bytes.now }
+{
+    (names_scheme(bytes, b"aaa://") || names_scheme(bytes, b"aaas://")) && is_graphic(bytes)
+}
+
+/// Whether the data begins with the scheme, in either letter case, and goes on behind it.
+fn names_scheme(bytes: &[u8], scheme: &[u8]) -> bool
+    ensures { IsTrue result ↔ NamesScheme scheme.now bytes.now }
+{
+    bytes.len() > scheme.len() && bytes[..scheme.len()].eq_ignore_ascii_case(scheme)
+}
+
+fn is_listed(values: &Values, number: u32) -> bool
+    ensures { IsTrue result ↔ IsListed (ranges_of values.now) number }
+{
+    match &values.list {
+        None => true,
+        Some(ranges) => ranges
+            .iter()
+            .any(|&(low, high)| low <= number && number <= high),
+    }
+}
+
+#[cfg(test)]
+mod tests {
+    use super::*;
+    use std::test::Fail;
+
+    #[test]
+    fn tells_addresses_and_uris(rt: HostRuntime) {
+        let cases: [(Format, &[u8], Leaf); 14] = [
+            (Format::Address, b"\x00\x01\x00\x00\x00\x00", Leaf::Fine),
+            (Format::Address, b"\x00\x03", Leaf::Fine),
+            (Format::Address, b"\x00\x01", Leaf::BadLength),
+            (Format::Address, b"\x00", Leaf::BadLength),
+            (
+                Format::Address,
+                b"\x00\x02\x00\x00\x00\x00",
+                Leaf::BadLength,
+            ),
+            (Format::DiameterUri, b"AAA://h", Leaf::Fine),
+            (Format::DiameterUri, b"aaas://h", Leaf::Fine),
+            (Format::DiameterUri, b"aAaS://h", Leaf::Fine),
+            (Format::DiameterUri, b"aaa://", Leaf::BadValue),
+            (Format::DiameterUri, b"aaas:/", Leaf::BadValue),
+            (Format::DiameterUri, b"aaa://h h", Leaf::BadValue),
+            (Format::DiameterIdentity, b"", Leaf::BadValue),
+            (Format::DiameterIdentity, b"a.b", Leaf::Fine),
+            (Format::DiameterIdentity, b"a\x7f", Leaf::BadValue),
+        ];
+        for (format, data, answer) in cases {
+            assert_eq!(rt; accepts(&format, data), answer, "{format:?} of {data:?}");
+        }
+    }
+
+    #[test]
+    fn tells_texts(rt: HostRuntime) {
+        let cases: [(&[u8], Leaf); 5] = [
+            (b"", Leaf::Fine),
+            (b"\xf4\x8f\xbf\xbf", Leaf::Fine),
+            (b"\xc0\x80", Leaf::BadValue),
+            (b"\xed\xa0\x80", Leaf::BadValue),
+            (b"\xf4\x90\x80\x80", Leaf::BadValue),
+        ];
+        for (data, answer) in cases {
+            assert_eq!(rt; accepts(&Format::Utf8String, data), answer, "at {data:?}");
+        }
+    }
+
+    #[test]
+    fn tells_enumerated_numbers(rt: HostRuntime) -> Result<(), Fail> {
+        let ranges = vec![in rt.alloc(); (0, 0), (1, 1), (2, 2), (9, 8), (20, 30)]?;
+        let listed = Format::Enumerated(Values { list: Some(ranges) });
+        let cases: [(&[u8], Leaf); 8] = [
+            (b"\x00\x00\x02", Leaf::BadLength),
+            (b"\x00\x00\x00\x02", Leaf::Fine),
+            (b"\xff\xff\xff\xff", Leaf::BadValue),
+            (b"\x00\x00\x00\x08", Leaf::BadValue),
+            (b"\x00\x00\x00\x13", Leaf::BadValue),
+            (b"\x00\x00\x00\x14", Leaf::Fine),
+            (b"\x00\x00\x00\x1e", Leaf::Fine),
+            (b"\x00\x00\x00\x1f", Leaf::BadValue),
+        ];
+        for (data, answer) in cases {
+            assert_eq!(rt; accepts(&listed, data), answer, "at {data:?}");
+        }
+        let any = Format::Enumerated(Values { list: None });
+        assert_eq!(rt; accepts(&any, b"\xff\xff\xff\xff"), Leaf::Fine);
+        Ok(())
+    }
+
+    #[test]
+    fn tells_lengths(rt: HostRuntime) {
+        let data = [0xffu8; 9];
+        let cases = [
+            (Format::OctetString, None),
+            (Format::IpFilterRule, None),
+            (Format::QosFilterRule, None),
+            (Format::Grouped, None),
+            (Format::Integer32, Some(4)),
+            (Format::Unsigned32, Some(4)),
+            (Format::Float32, Some(4)),
+            (Format::Time, Some(4)),
+            (Format::Integer64, Some(8)),
+            (Format::Unsigned64, Some(8)),
+            (Format::Float64, Some(8)),
+        ];
+        for (format, length) in cases {
+            for n in 0..10 {
+                let answer = match length {
+                    Some(length) if length != n => Leaf::BadLength,
+                    _ => Leaf::Fine,
+                };
+                assert_eq!(rt;
+                    accepts(&format, &data[..n]),
+                    answer,
+                    "{format:?} of {n} bytes"
+                );
+            }
+        }
+    }
+}

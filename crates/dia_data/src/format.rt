@@ -1,0 +1,108 @@
+//! The data formats.
+use std::alloc::AllocError;
+
+/// The numbers of an Enumerated format (RFC 6733 section 4.3.1).
+///
+/// No list stands for every number of 32 bits. A list names the numbers of its ranges `(low, high)`, both ends in. The
+/// ranges may overlap and stand in any order, and one whose `low` is above its `high` names no number.
+#[derive(Debug, Drop, PartialEq, Eq)]
+pub struct Values {
+    pub list: Option<Vec<(u32, u32)>>,
+}
+
+/// How the data of an AVP is to be read (RFC 6733 sections 4.2 to 4.4, and QoSFilterRule of RFC 3588 section 4.3).
+#[derive(Debug, Drop, PartialEq, Eq)]
+pub enum Format {
+    /// Any bytes.
+    OctetString,
+    /// A signed number of 4 bytes.
+    Integer32,
+    /// A signed number of 8 bytes.
+    Integer64,
+    /// An unsigned number of 4 bytes.
+    Unsigned32,
+    /// An unsigned number of 8 bytes.
+    Unsigned64,
+    /// 4 bytes, which are not read as a number.
+    Float32,
+    /// 8 bytes, which are not read as a number.
+    Float64,
+    /// AVPs, one after the other.
+    Grouped,
+    /// 2 bytes of address family, then the address: 4 bytes in family 1, 16 in family 2, any number in others.
+    Address,
+    /// Seconds, an unsigned number of 4 bytes.
+    Time,
+    /// UTF-8 (RFC 3629), also empty.
+    Utf8String,
+    /// One or more graphic bytes of ASCII (our profile).
+    DiameterIdentity,
+    /// `aaa://` or `aaas://` in either letter case, and one or more bytes behind it, all of them graphic ASCII (our
+    /// profile).
+    DiameterUri,
+    /// A number of 4 bytes that is one of these.
+    Enumerated(Values),
+    /// Any bytes.
+    IpFilterRule,
+    /// Any bytes.
+    QosFilterRule,
+}
+
+/// A copy has the same ranges.
+impl Clone for Values {
+    ghost use Rattle.std.specs.Prelude.{◌≡◌};
+    ghost use Rattle.dia_data.specs.Plain.{ranges_of};
+
+    ghost is_clone = { λ old new. ranges_of new ≡ ranges_of old };
+
+    fn clone(&self) -> Result<Values, AllocError> {
+        let list = self.list.clone()?;
+        Ok(Values { list })
+    }
+}
+
+/// A copy is the same format.
+impl Clone for Format {
+    ghost use Rattle.std.specs.Prelude.{◌≡◌};
+    ghost use Rattle.dia_data.specs.Plain.{plain};
+
+    ghost is_clone = { λ old new. plain new ≡ plain old };
+
+    fn clone(&self) -> Result<Format, AllocError> {
+        Ok(match self {
+            Format::OctetString => Format::OctetString,
+            Format::Integer32 => Format::Integer32,
+            Format::Integer64 => Format::Integer64,
+            Format::Unsigned32 => Format::Unsigned32,
+            Format::Unsigned64 => Format::Unsigned64,
+            Format::Float32 => Format::Float32,
+            Format::Float64 => Format::Float64,
+            Format::Grouped => Format::Grouped,
+            Format::Address => Format::Address,
+            Format::Time => Format::Time,
+            Format::Utf8String => Format::Utf8String,
+            Format::DiameterIdentity => Format::DiameterIdentity,
+            Format::DiameterUri => Format::DiameterUri,
+            Format::Enumerated(values) => Format::Enumerated(values.clone()?),
+            Format::IpFilterRule => Format::IpFilterRule,
+            Format::QosFilterRule => Format::QosFilterRule,
+        })
+    }
+}
+
+#[cfg(test)]
+mod tests {
+    use super::*;
+    use std::test::Fail;
+
+    #[test]
+    fn copies_equal_their_sources(rt: HostRuntime) -> Result<(), Fail> {
+        let ranges = vec![in rt.alloc(); (7, 9), (0, 3)]?;
+        let values = Values { list: Some(ranges) };
+        for format in [Format::Time, Format::Enumerated(values)] {
+            assert_eq!(rt; format.clone()?, format);
+        }
+        assert_ne!(rt; Format::Time, Format::Unsigned32);
+        Ok(())
+    }
+}

@@ -1,0 +1,187 @@
+//! Values as text.
+ghost use Rattle.std.specs.Prelude.{◌≡◌, ◌<◌, ◌++◌, IfOk, OnOk, length, map, string_bytes};
+ghost use Rattle.std.specs.Fmt.{decimal};
+ghost use Rattle.std.specs.List.{join_with_byte};
+ghost use Rattle.dia_data.specs.Leaf.{IsAddress};
+ghost use Rattle.dia_data.specs.Shown.{IsShown, address, groups, hex_byte, hex_digit, hexadecimal, quoted, quoted_byte};
+ghost use Rattle.dia_data.specs.Plain.{plain};
+
+use crate::accept::{Leaf, accepts};
+use crate::format::Format;
+use byteorder::{BigEndian, ByteOrder};
+use std::alloc::{AllocError, Global};
+
+/// The data as text (our profile).
+///
+/// Numbers are decimal, a text, an identity or a URI is quoted, and an address is written by its family. All else, and
+/// data that the format does not accept, is `x` and two lower-case hexadecimal digits a byte.
+pub fn print_value(alloc: Global, format: &Format, bytes: &[u8]) -> Result<String, AllocError>
+    ensures { IfOk result (λ text. IsShown (plain format.now) bytes.now (string_bytes text)) }
+{
+    if accepts(format, bytes) != Leaf::Fine {
+        return hexadecimal(alloc, bytes);
+    }
+    match format {
+        Format::Integer32 | Format::Enumerated(_) => { BigEndian::read_i32(bytes).to_string(alloc) }
+        Format::Integer64 => BigEndian::read_i64(bytes).to_string(alloc),
+        Format::Unsigned32 | Format::Time => BigEndian::read_u32(bytes).to_string(alloc),
+        Format::Unsigned64 => BigEndian::read_u64(bytes).to_string(alloc),
+        Format::Address => address(alloc, bytes),
+        Format::Utf8String | Format::DiameterIdentity | Format::DiameterUri => quoted(alloc, bytes),
+        _ => hexadecimal(alloc, bytes),
+    }
+}
+
+fn address(alloc: Global, bytes: &[u8]) -> Result<String, AllocError>
+    requires { IsAddress bytes.now }
+    ensures { IfOk result (λ text. string_bytes text ≡ address bytes.now) }
+{
+    let family = BigEndian::read_u16(bytes);
+    let rest = &bytes[2..];
+    if family == 1 {
+        ipv4(alloc, rest)
+    } else if family == 2 {
+        ipv6(alloc, rest)
+    } else {
+        let mut out = format!(in alloc; "family {family} ")?;
+        push_hexadecimal(&mut out, rest)?;
+        Ok(out)
+    }
+}
+
+fn ipv4(alloc: Global, bytes: &[u8]) -> Result<String, AllocError>
+    requires { length bytes.now ≡ 4 }
+    ensures { IfOk result (λ text. string_bytes text ≡ join_with_byte 46 (map decimal bytes.now)) }
+{
+    format!(in alloc; "{}.{}.{}.{}", bytes[0], bytes[1], bytes[2], bytes[3])
+}
+
+/// Every group with its leading zeros.
+fn ipv6(alloc: Global, bytes: &[u8]) -> Result<String, AllocError>
+    requires { length bytes.now ≡ 16 }
+    ensures { IfOk result (λ text. string_bytes text ≡ join_with_byte 58 (groups bytes.now)) }
+{
+    let mut out = String::new(alloc);
+    for i in 0..8 {
+        if i > 0 {
+            out.push(':')?;
+        }
+        push_hex(&mut out, bytes[2 * i])?;
+        push_hex(&mut out, bytes[2 * i + 1])?;
+    }
+    Ok(out)
+}
+
+fn quoted(alloc: Global, bytes: &[u8]) -> Result<String, AllocError>
+    ensures { IfOk result (λ text. string_bytes text ≡ quoted bytes.now) }
+{
+    let mut out = String::from_str(alloc, "\"")?;
+    for byte in bytes {
+        push_quoted(&mut out, *byte)?;
+    }
+    out.push('"')?;
+    Ok(out)
+}
+
+/// The byte where it is printing ASCII, and neither the quote nor the backslash.
+fn push_quoted(out: &mut String, byte: u8) -> Result<(), AllocError>
+    ensures { OnOk result (string_bytes out.new ≡ string_bytes out.old ++ quoted_byte byte) }
+{
+    if (b' '..=b'~').contains(&byte) && byte != b'"' && byte != b'\\' {
+        out.push(char::from(byte))
+    } else {
+        out.push_str("\\x")?;
+        push_hex(out, byte)
+    }
+}
+
+fn hexadecimal(alloc: Global, bytes: &[u8]) -> Result<String, AllocError>
+    ensures { IfOk result (λ text. string_bytes text ≡ hexadecimal bytes.now) }
+{
+    let mut out = String::new(alloc);
+    push_hexadecimal(&mut out, bytes)?;
+    Ok(out)
+}
+
+fn push_hexadecimal(out: &mut String, bytes: &[u8]) -> Result<(), AllocError>
+    ensures { OnOk result (string_bytes out.new ≡ string_bytes out.old ++ hexadecimal bytes.now) }
+{
+    out.push('x')?;
+    for byte in bytes {
+        push_hex(out, *byte)?;
+    }
+    Ok(())
+}
+
+fn push_hex(out: &mut String, byte: u8) -> Result<(), AllocError>
+    ensures { OnOk result (string_bytes out.new ≡ string_bytes out.old ++ hex_byte byte) }
+{
+    out.push(hex_digit(byte / 16))?;
+    out.push(hex_digit(byte % 16))
+}
+
+fn hex_digit(n: u8) -> char
+    requires { n < 16 }
+    ensures { result ≡ hex_digit n }
+{
+    char::from(if n < 10 { b'0' + n } else { b'a' + (n - 10) })
+}
+
+#[cfg(test)]
+mod tests {
+    use super::*;
+    use crate::format::Values;
+    use std::test::Fail;
+
+    /// A call that was refused memory changes nothing, so the same call again gives the text.
+    fn shown(alloc: Global, format: &Format, data: &[u8]) -> Result<String, AllocError> {
+        print_value(alloc, format, data).or_else(|_| print_value(alloc, format, data))
+    }
+
+    #[test]
+    fn prints_values(rt: HostRuntime) -> Result<(), Fail> {
+        let loopback = b"\x00\x02\x20\x01\x0d\xb8\x00\x00\x00\x00\x00\x00\x00\x00\x00\x00\x00\x01";
+        let any = Values { list: None };
+        let cases: [(Format, &[u8], &str); 22] = [
+            (Format::Integer32, b"\xff\xff\xff\xff", "-1"),
+            (Format::Integer32, b"\x00", "x00"),
+            (Format::Enumerated(any), b"\x80\x00\x00\x00", "-2147483648"),
+            (Format::Integer64, b"\xff\xff\xff\xff\xff\xff\xff\xfe", "-2"),
+            (Format::Unsigned32, b"\xff\xff\xff\xff", "4294967295"),
+            (Format::Time, b"\x00\x00\x01\x00", "256"),
+            (
+                Format::Unsigned64,
+                b"\xff\xff\xff\xff\xff\xff\xff\xff",
+                "18446744073709551615",
+            ),
+            (Format::Float32, b"\x3f\x80\x00\x00", "x3f800000"),
+            (Format::Float64, b"\x00", "x00"),
+            (
+                Format::Utf8String,
+                b"\x22\xc3\xa9\x61",
+                r#""\x22\xc3\xa9a""#,
+            ),
+            (Format::Utf8String, b"\\ ~\x7f\n", r#""\x5c ~\x7f\x0a""#),
+            (Format::Utf8String, b"\xc3", "xc3"),
+            (Format::DiameterIdentity, b"a.b", "\"a.b\""),
+            (Format::DiameterIdentity, b"", "x"),
+            (Format::DiameterUri, b"aaa://h", "\"aaa://h\""),
+            (Format::Address, b"\x00\x01\x7f\x00\x00\x01", "127.0.0.1"),
+            (
+                Format::Address,
+                loopback,
+                "2001:0db8:0000:0000:0000:0000:0000:0001",
+            ),
+            (Format::Address, b"\x00\x03\xaa\xbb", "family 3 xaabb"),
+            (Format::Address, b"\x00\x02\xaa\xbb", "x0002aabb"),
+            (Format::Grouped, b"\xab\xcd", "xabcd"),
+            (Format::OctetString, b"", "x"),
+            (Format::QosFilterRule, b"p", "x70"),
+        ];
+        for (format, data, text) in cases {
+            let printed = shown(rt.alloc(), &format, data)?;
+            assert_eq!(rt; printed.as_str(), text, "{format:?} of {data:?}");
+        }
+        Ok(())
+    }
+}
