@@ -1,3 +1,5 @@
 pub mod Putting
-pub mod Listed
 pub mod Refusing
+pub mod Known
+pub mod Owed
+pub mod Telling

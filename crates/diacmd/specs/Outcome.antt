@@ -1,35 +1,59 @@
 -- What the program writes for its inputs, and how it ends.
-use Rattle.std.specs.Prelude.{◌≡◌, ◌≢◌, ℕ, ◌<◌, ◌≤◌, List, ◌++◌, length, take, drop, slice_index, codes}
+use Rattle.std.specs.Prelude.{◌≡◌, ◌≢◌, ℕ, ◌<◌, ◌≤◌, Bool, true, false, List, ◌++◌, length, take, drop, slice_index, codes, string_bytes, Result, Ok, Err, ⊤}
+use Rattle.dia_dict.specs.Dictionary.{Dictionary}
 use Rattle.dia_wire.specs.declared.Header.{Header}
 use Rattle.dia_wire.specs.Number.{number}
 use Rattle.dia_wire.specs.Wire.{IsHead, IsMessageLength}
+use Rattle.dia_ccf.specs.Plain.{PlainSource}
+use Rattle.dia_ccf.specs.Rendering.{canonical}
+use Rattle.diacmd.specs.declared.commands.Outcome.{Outcome}
+use Rattle.diacmd.specs.declared.inputs.Refused.{Refused}
+use Rattle.diacmd.specs.declared.inputs.Refused.TheVariants.{Told, NoMemory}
 use Rattle.diacmd.specs.declared.command.Command.{Command}
-use Rattle.diacmd.specs.declared.command.Command.TheVariants.{Show}
+use Rattle.diacmd.specs.declared.command.Command.TheVariants.{Show, Render}
 use Rattle.diacmd.specs.declared.command.Inputs.{Inputs}
 use Rattle.diacmd.specs.declared.command.Exit.{Exit}
-use Rattle.diacmd.specs.declared.command.Exit.TheVariants.{Bad}
-use Rattle.diacmd.specs.Texts.{line, IsMessageText, IsNoMessageText}
-use Rattle.diacmd.specs.Listing.{header_line, IsListing}
+use Rattle.diacmd.specs.declared.command.Exit.TheVariants.{Yes, No, Bad}
+use Rattle.diacmd.specs.Texts.{line, dictionary_line, IsSourceText, IsNoSourceText, IsDictionaryText, IsNoDictionaryText, IsMessageText, IsNoMessageText}
+use Rattle.diacmd.specs.Listing.{header_line, IsListing, Level}
 
 -- an input is refused in one line
 abbrev pub Refuses : List ℕ → List ℕ → Exit → Type 0
 Refuses told text exit = (text ≡ line told) × (exit ≡ Bad)
 
+-- a bad length ends a listing with No
+abbrev pub listing_exit : Bool → Exit
+listing_exit true = No
+listing_exit false = Yes
+
 -- `show` of a message: its lines, or why it is none that can be shown
-pub data IsShown (bytes text : List ℕ) (exit : Exit) : Type 0 where
-  listing : (h : Header) (lines : List ℕ) → IsHead h (length bytes) (take 20 bytes) → IsMessageLength (length bytes) → IsListing 20 (drop 20 bytes) lines exit
-      → text ≡ header_line h (length bytes) ++ lines → IsShown bytes text exit
-  short : length bytes < 20 → Refuses (codes "message: short") text exit → IsShown bytes text exit
-  version : 20 ≤ length bytes → slice_index bytes 0 ≢ 1 → Refuses (codes "message: version") text exit → IsShown bytes text exit
-  bad_length : 20 ≤ length bytes → slice_index bytes 0 ≡ 1 → ¬ IsMessageLength (number (take 3 (drop 1 bytes))) → Refuses (codes "message: length") text exit → IsShown bytes text exit
-  truncated : (h : Header) (len : ℕ) → IsHead h len (take 20 bytes) → IsMessageLength len → length bytes < len → Refuses (codes "message: truncated") text exit → IsShown bytes text exit
-  trailing : (h : Header) (len : ℕ) → IsHead h len (take 20 bytes) → IsMessageLength len → len < length bytes → Refuses (codes "message: trailing") text exit → IsShown bytes text exit
+pub data IsShown (d : Dictionary) (bytes text : List ℕ) (exit : Exit) : Type 0 where
+  listing : (h : Header) (lines : List ℕ) (bad : Bool) → IsHead h (length bytes) (take 20 bytes) → IsMessageLength (length bytes)
+      → IsListing d (record { depth = 0; place = 20; bytes = drop 20 bytes }) lines bad → text ≡ header_line h (length bytes) ++ lines → exit ≡ listing_exit bad → IsShown d bytes text exit
+  short : length bytes < 20 → Refuses (codes "message: short") text exit → IsShown d bytes text exit
+  version : 20 ≤ length bytes → slice_index bytes 0 ≢ 1 → Refuses (codes "message: version") text exit → IsShown d bytes text exit
+  bad_length : 20 ≤ length bytes → slice_index bytes 0 ≡ 1 → ¬ IsMessageLength (number (take 3 (drop 1 bytes))) → Refuses (codes "message: length") text exit → IsShown d bytes text exit
+  truncated : (h : Header) (len : ℕ) → IsHead h len (take 20 bytes) → IsMessageLength len → length bytes < len → Refuses (codes "message: truncated") text exit → IsShown d bytes text exit
+  trailing : (h : Header) (len : ℕ) → IsHead h len (take 20 bytes) → IsMessageLength len → len < length bytes → Refuses (codes "message: trailing") text exit → IsShown d bytes text exit
 
 -- `show` of the inputs
 pub data IsShowOutcome (inputs : Inputs) (text : List ℕ) (exit : Exit) : Type 0 where
-  shown : (bytes : List ℕ) → IsMessageText inputs.message bytes → IsShown bytes text exit → IsShowOutcome inputs text exit
-  no_message : (told : List ℕ) → IsNoMessageText inputs.message told → Refuses told text exit → IsShowOutcome inputs text exit
+  shown : (d : Dictionary) (bytes : List ℕ) → IsDictionaryText inputs.first d → IsMessageText inputs.message bytes → IsShown d bytes text exit → IsShowOutcome inputs text exit
+  no_dictionary : (why : List ℕ) → IsNoDictionaryText inputs.first why → Refuses (dictionary_line 1 why) text exit → IsShowOutcome inputs text exit
+  no_message : (d : Dictionary) (told : List ℕ) → IsDictionaryText inputs.first d → IsNoMessageText inputs.message told → Refuses told text exit → IsShowOutcome inputs text exit
+
+-- `render` of the inputs
+pub data IsRenderOutcome (inputs : Inputs) (text : List ℕ) (exit : Exit) : Type 0 where
+  rendered : (source : PlainSource) → IsSourceText inputs.first source → text ≡ canonical source → exit ≡ Yes → IsRenderOutcome inputs text exit
+  no_source : (why : List ℕ) → IsNoSourceText inputs.first why → Refuses (dictionary_line 1 why) text exit → IsRenderOutcome inputs text exit
 
 -- the text for a command and its inputs, and how the program ends
 abbrev pub IsOutcome : Command → Inputs → List ℕ → Exit → Type 0
 IsOutcome Show inputs text exit = IsShowOutcome inputs text exit
+IsOutcome Render inputs text exit = IsRenderOutcome inputs text exit
+
+-- what was made holds: an outcome, or the line of a refusal
+abbrev pub Ends : (List ℕ → Exit → Type 0) → Result Outcome Refused → Type 0
+Ends P (Ok o) = P (string_bytes o.text) o.exit
+Ends P (Err (Told text)) = P (line (string_bytes text)) Bad
+Ends P (Err NoMemory) = ⊤

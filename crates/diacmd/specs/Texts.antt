@@ -1,22 +1,89 @@
 -- What the texts of the inputs say, and what is told of one that says nothing.
-use Rattle.std.specs.Prelude.{◌≡◌, ℕ, ◌<◌, ◌≤◌, Bool, not, ◌||◌, ◌==◌, List, [], ◌∷◌, ◌++◌, length, filter, Ok, codes, IsOk, ⊤}
+use Rattle.std.specs.Prelude.{◌≡◌, ◌≢◌, ℕ, ◌<◌, ◌≤◌, ◌⊎◌, Bool, not, ◌||◌, ◌==◌, List, [], ◌∷◌, ◌++◌, length, filter, None, Some, Ok, codes, IsOk, string_bytes, ⊤}
+use Rattle.std.specs.Str.{IsUtf8}
+use Rattle.std.specs.Fmt.{decimal}
 use Rattle.hex.specs.Hex.{decode_of}
+use Rattle.dia_ccf.specs.declared.CcfFault.{CcfFault}
+use Rattle.dia_ccf.specs.declared.CcfFault.TheVariants as ccf
+use Rattle.dia_ccf.specs.Plain.{PlainSource}
+use Rattle.dia_ccf.specs.Tokens.{tokens}
+use Rattle.dia_ccf.specs.Grammar.{Derives}
+use Rattle.dia_ccf.specs.Faults.{IsFault}
+use Rattle.dia_dict.specs.declared.DictKind.{DictKind}
+use Rattle.dia_dict.specs.declared.DictKind.TheVariants as kind
+use Rattle.dia_dict.specs.Dictionary.{Dictionary}
+use Rattle.dia_dict.specs.Resolution.{resolved, first_wrong, Wrong}
 use Rattle.diacmd.specs.declared.command.Input.{Input}
-use Rattle.diacmd.specs.declared.command.Input.TheVariants.{Bytes, TooLong}
+use Rattle.diacmd.specs.Inputs.{Holds, IsOver}
+use Rattle.diacmd.specs.declared.inputs.Refused.{Refused}
+use Rattle.diacmd.specs.declared.inputs.Refused.TheVariants.{Told, NoMemory}
 
 -- a text and its line feed
 abbrev pub line : List ℕ → List ℕ
 line text = text ++ 10 ∷ []
 
--- the bytes of an input within a limit
-abbrev pub Holds : Input → ℕ → List ℕ → Type 0
-Holds (Bytes v) limit bytes = (v.items ≡ bytes) × (length bytes ≤ limit)
-Holds TooLong limit bytes = ⊥
+-- what is told holds, unless memory was refused
+abbrev pub TellsOf : (List ℕ → Type 0) → Refused → Type 0
+TellsOf P (Told text) = P (string_bytes text)
+TellsOf P NoMemory = ⊤
 
--- an input above a limit
-abbrev pub IsOver : Input → ℕ → Type 0
-IsOver (Bytes v) limit = limit < length v.items
-IsOver TooLong limit = ⊤
+-- ---- dictionaries
+
+-- the most bytes of a dictionary's text
+abbrev pub most_dictionary_text : ℕ
+most_dictionary_text = 1048576
+
+-- the input is the text of this source
+abbrev pub IsSourceText : Input → PlainSource → Type 0
+IsSourceText input source = (text : List ℕ) × Holds input most_dictionary_text text × IsUtf8 text × Derives (tokens text) source
+
+abbrev pub fault_at : List ℕ → ℕ → List ℕ
+fault_at what n = what ++ codes " at line " ++ decimal n
+
+abbrev pub fault_text : CcfFault → List ℕ
+fault_text (ccf.Syntax token n) = fault_at (codes "syntax") n
+fault_text (ccf.Number n) = fault_at (codes "number") n
+fault_text (ccf.Limit n) = fault_at (codes "limit") n
+fault_text ccf.NoMemory = []
+
+-- the input is no dictionary text, and this is why
+pub data IsNoSourceText (input : Input) (why : List ℕ) : Type 0 where
+  too_long : IsOver input most_dictionary_text → why ≡ codes "too long" → IsNoSourceText input why
+  not_text : (text : List ℕ) → Holds input most_dictionary_text text → ¬ IsUtf8 text → why ≡ codes "not text" → IsNoSourceText input why
+  fault : (text : List ℕ) (f : CcfFault) → Holds input most_dictionary_text text → IsUtf8 text → IsFault text f → f ≢ ccf.NoMemory → why ≡ fault_text f → IsNoSourceText input why
+
+abbrev pub kind_word : DictKind → List ℕ
+kind_word kind.Limit = codes "limit"
+kind_word kind.DuplicateName = codes "duplicate-name"
+kind_word kind.NoGroupFormat = codes "no-group-format"
+kind_word kind.HeaderMismatch = codes "header-mismatch"
+kind_word kind.DuplicateKey = codes "duplicate-key"
+kind_word kind.DuplicateCommand = codes "duplicate-command"
+kind_word kind.UndefinedName = codes "undefined-name"
+kind_word kind.RepeatedSlot = codes "repeated-slot"
+kind_word kind.MinOverMax = codes "min-over-max"
+kind_word kind.RequiredMin = codes "required-min"
+kind_word kind.OptionalMin = codes "optional-min"
+
+-- a name, or a dash for none
+abbrev pub or_dash : List ℕ → List ℕ
+or_dash [] = codes "-"
+or_dash (c ∷ cs) = c ∷ cs
+
+abbrev pub wrong_text : Wrong → List ℕ
+wrong_text w = kind_word w.kind ++ codes " " ++ or_dash w.name ++ codes " " ++ or_dash w.slot
+
+-- the input is the text of a source that names this dictionary
+abbrev pub IsDictionaryText : Input → Dictionary → Type 0
+IsDictionaryText input d = (source : PlainSource) × IsSourceText input source × (first_wrong source ≡ None) × (d ≡ resolved source)
+
+-- the input names no dictionary, and this is why
+abbrev pub IsNoDictionaryText : Input → List ℕ → Type 0
+IsNoDictionaryText input why = IsNoSourceText input why ⊎ ((source : PlainSource) × (wrong : Wrong) × IsSourceText input source × (first_wrong source ≡ Some wrong) × (why ≡ wrong_text wrong))
+
+-- what is told of a dictionary by its number
+abbrev pub dictionary_line : ℕ → List ℕ → List ℕ
+dictionary_line number why = codes "dictionary " ++ decimal number ++ codes ": " ++ why
 
 -- ---- messages
 

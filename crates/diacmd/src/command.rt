@@ -8,6 +8,8 @@ use thiserror::Error;
 pub enum Command {
     /// Prints a message, an AVP a line.
     Show,
+    /// Prints the canonical text of a dictionary.
+    Render,
 }
 
 /// A text that was read whole.

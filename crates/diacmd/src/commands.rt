@@ -1,12 +1,14 @@
 //! The text of each command, and how it ends.
 
-ghost use Rattle.std.specs.Prelude.{◌≡◌, IfOk, string_bytes};
+ghost use Rattle.std.specs.Prelude.{◌≡◌, Ok, IfOk, IfErr, IsErr, string_bytes};
 ghost use Rattle.diacmd.specs.declared.command.Exit.TheVariants.{Bad};
-ghost use Rattle.diacmd.specs.Texts.{line};
+ghost use Rattle.diacmd.specs.Texts.{line, TellsOf};
 
 use crate::command::Exit;
+use crate::inputs::Refused;
 use std::alloc::{AllocError, Global};
 
+pub mod render;
 pub mod show;
 
 /// What a command writes, and how it ends.
@@ -25,4 +27,18 @@ pub fn refuse(alloc: Global, told: &str) -> Result<Outcome, AllocError>
     text.push('\n')?;
     let exit = Exit::Bad;
     Ok(Outcome { text, exit })
+}
+
+/// The outcome of a command, where a refusal of an input is one too.
+pub fn outcome_of(alloc: Global, made: Result<Outcome, Refused>) -> Result<Outcome, AllocError>
+    ensures done { IfOk made (λ outcome. result ≡ Ok outcome) }
+    ensures text { IfErr made (TellsOf (λ told. IfOk result (λ outcome. string_bytes outcome.text ≡ line told))) }
+    ensures exit { IsErr made → IfOk result (λ outcome. outcome.exit ≡ Exit.Bad) }
+    ensures memory { IfErr made (λ refused. refused ≡ Refused.NoMemory → IsErr result) }
+{
+    match made {
+        Ok(outcome) => Ok(outcome),
+        Err(Refused::Told(told)) => refuse(alloc, told.as_str()),
+        Err(Refused::NoMemory) => Err(AllocError),
+    }
 }

@@ -12,6 +12,8 @@ pub enum Ending {
     Told(clap::Error),
     /// A word is no text: a command-line fault, status 2.
     NotText,
+    /// Standard input is to be read twice: a command-line fault, status 2.
+    ReadTwice,
     /// A file couldn't be opened, or a device failed: status 3.
     Device,
     /// Want of memory: status 3.
@@ -28,6 +30,10 @@ impl Ending {
                 rt.eprintln("error: a word of the command line isn't UTF-8"),
                 2,
             ),
+            Ending::ReadTwice => (
+                rt.eprintln("error: '-' is given twice, and standard input can be read once"),
+                2,
+            ),
             Ending::Device => (rt.eprintln("device failed"), 3),
             Ending::NoMemory => (rt.eprintln("no memory"), 3),
         };
@@ -36,6 +42,13 @@ impl Ending {
 }
 
 impl From<clap::Error> for Ending {
+    ghost use Rattle.std.specs.Prelude.{◌≡◌, ◌≢◌};
+    ghost use Rattle.clap.specs.Words.{kind_of};
+    ghost use Rattle.diacmd.specs.declared.ending.Ending.TheVariants.{Told, NoMemory};
+    ghost use Rattle.clap.specs.declared.error.kind.ErrorKind.TheVariants.{OutOfMemory};
+
+    ghost from_gives = { λ error ending. (kind_of error ≡ OutOfMemory → ending ≡ NoMemory) × (kind_of error ≢ OutOfMemory → ending ≡ Told error) };
+
     fn from(error: clap::Error) -> Ending {
         match error.kind() {
             ErrorKind::OutOfMemory => Ending::NoMemory,
@@ -45,12 +58,21 @@ impl From<clap::Error> for Ending {
 }
 
 impl From<AllocError> for Ending {
+    ghost use Rattle.std.specs.Prelude.{◌≡◌};
+    ghost use Rattle.diacmd.specs.declared.ending.Ending.TheVariants.{NoMemory};
+
+    ghost from_gives = { λ _ ending. ending ≡ NoMemory };
+
     fn from(_error: AllocError) -> Ending {
         Ending::NoMemory
     }
 }
 
 impl From<io::Error> for Ending {
+    ghost use Rattle.diacmd.specs.Ending.{IsEndingOfIo};
+
+    ghost from_gives = { IsEndingOfIo };
+
     fn from(error: io::Error) -> Ending {
         match error.kind() {
             io::ErrorKind::OutOfMemory => Ending::NoMemory,
@@ -61,6 +83,11 @@ impl From<io::Error> for Ending {
 }
 
 impl From<RunFault> for Ending {
+    ghost use Rattle.std.specs.Prelude.{◌≡◌};
+    ghost use Rattle.diacmd.specs.Ending.{ending_of};
+
+    ghost from_gives = { λ fault ending. ending ≡ ending_of fault };
+
     fn from(fault: RunFault) -> Ending {
         match fault {
             RunFault::Device => Ending::Device,

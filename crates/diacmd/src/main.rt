@@ -19,7 +19,7 @@ mod tests;
 #[cfg(test)]
 mod vectors;
 
-use crate::arguments::{Request, parse_words};
+use crate::arguments::parse_words;
 use crate::command::Exit;
 use crate::devices::ToWriter;
 use crate::ending::Ending;
@@ -43,8 +43,8 @@ where
     R: AllocGlobal + Env + Files + Input + Print,
 {
     let words: Vec<String> = env::args(rt)?.collect(rt.alloc())?;
-    let Request { command, message } = parse_words(rt.alloc(), words.as_slice())?;
-    let inputs = open_inputs(rt, message)?;
+    let request = parse_words(rt.alloc(), words.as_slice())?;
+    let inputs = open_inputs(rt, &request)?;
     let mut sink = ToWriter::new(io::writer(rt));
-    Ok(run(rt.alloc(), &command, &inputs, &mut sink)?)
+    Ok(run(rt.alloc(), &request.command, &inputs, &mut sink)?)
 }

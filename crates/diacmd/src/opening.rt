@@ -1,26 +1,33 @@
 //! The inputs that the words name.
 
+ghost use Rattle.std.specs.Prelude.{[], IfOk, IfSome};
+ghost use Rattle.diacmd.specs.Inputs.{Holds, IsWhole};
+
+use crate::arguments::{BASE_DICTIONARY, Request, STANDARD_INPUT};
 use crate::command::{Input as Text, Inputs};
 use crate::devices::FromReader;
 use crate::ending::Ending;
 use crate::inputs::message::MAX_MESSAGE_TEXT;
 use crate::reading::{InputFault, read_input};
+use dia_ccf::MAX_TEXT;
+use dia_dict::base_text;
 use std::alloc::Global;
 use std::fs;
 use std::io::Read;
 use std::rt::Files;
 
-/// The word for standard input.
-const STANDARD_INPUT: &str = "-";
-
-/// Reads the inputs whole, in the order of the words.
+/// Reads the inputs whole, in the order of the words, the dictionary of `--dict` first.
 pub fn open_inputs<R: AllocGlobal + Files + Input>(
     rt: &R,
-    message: &str,
+    request: &Request<'_>,
 ) -> Result<Inputs, Ending> {
-    let message = open_text(rt, message, MAX_MESSAGE_TEXT)?;
+    let first = open_dictionary(rt, request.first)?;
+    let message = match request.message {
+        Some(word) => open_text(rt, word, MAX_MESSAGE_TEXT)?,
+        None => unused(rt.alloc()),
+    };
     Ok(Inputs {
-        first: unused(rt.alloc()),
+        first,
         second: unused(rt.alloc()),
         table: unused(rt.alloc()),
         message,
@@ -28,8 +35,19 @@ pub fn open_inputs<R: AllocGlobal + Files + Input>(
 }
 
 /// An input that the command doesn't look at.
-fn unused(alloc: Global) -> Text {
+fn unused(alloc: Global) -> Text
+    ensures { Holds result 0 [] }
+{
     Text::Bytes(Vec::new(alloc))
+}
+
+fn open_dictionary<R: AllocGlobal + Files + Input>(rt: &R, word: &str) -> Result<Text, Ending> {
+    if word == BASE_DICTIONARY {
+        let bytes = Vec::from_slice(rt.alloc(), base_text().as_bytes())?;
+        Ok(Text::Bytes(bytes))
+    } else {
+        open_text(rt, word, MAX_TEXT)
+    }
 }
 
 fn open_text<R: AllocGlobal + Files + Input>(
@@ -47,7 +65,10 @@ fn open_text<R: AllocGlobal + Files + Input>(
     }
 }
 
-fn read_text<R: Read + Drop>(alloc: Global, reader: R, limit: usize) -> Result<Text, Ending> {
+/// All bytes of a reader, or that they are too many.
+fn read_text<R: Read + Drop>(alloc: Global, reader: R, limit: usize) -> Result<Text, Ending>
+    ensures { IfOk result (λ text. IfSome (R.remaining reader) (IsWhole text limit)) }
+{
     let mut feed = FromReader::new(reader);
     match read_input(alloc, &mut feed, limit) {
         Ok(bytes) => Ok(Text::Bytes(bytes)),

@@ -1,15 +1,17 @@
 //! A command, from its inputs to what is written.
 
-ghost use Rattle.std.specs.Prelude.{◌≡◌, ◌↔◌, List, ℕ, IfOk, OnOk, Err, IsErr, IsTrue};
+ghost use Rattle.std.specs.Prelude.{◌≡◌, ◌↔◌, List, ℕ, IfOk, OnOk, Err, IsErr, IsTrue, string_bytes};
 ghost use Rattle.std.specs.Io.KnownBytes.{Appends};
 ghost use Rattle.diacmd.specs.declared.command.Exit.{Exit as AnyExit};
 ghost use Rattle.diacmd.specs.Writing.{AppendsFront};
 ghost use Rattle.diacmd.specs.Outcome.{IsOutcome};
 
 use crate::command::{Command, Exit, Inputs, RunFault};
+use crate::commands::render::render;
 use crate::commands::show::show;
+use crate::commands::{Outcome, outcome_of};
 use crate::streams::{Failed, Sink};
-use std::alloc::Global;
+use std::alloc::{AllocError, Global};
 
 /// Writes the text of a command for its inputs, and answers how it ended.
 ///
@@ -27,16 +29,24 @@ pub fn run<S: Sink>(
         → (text : List ℕ) × (exit : AnyExit) × IsOutcome command.now inputs.now text exit × AppendsFront (S.written sink.old) (S.written sink.new) text }
     ensures no_memory { result ≡ Err RunFault.NoMemory → S.written sink.new ≡ S.written sink.old }
 {
-    let made = match command {
-        Command::Show => show(alloc, inputs),
-    };
-    let Ok(outcome) = made else {
+    let Ok(outcome) = perform(alloc, command, inputs) else {
         return Err(RunFault::NoMemory);
     };
     match put_all(sink, outcome.text.as_bytes()) {
         Ok(()) => Ok(outcome.exit),
         Err(_) => Err(RunFault::Device),
     }
+}
+
+/// The text of a command for its inputs, and how it ends.
+fn perform(alloc: Global, command: &Command, inputs: &Inputs) -> Result<Outcome, AllocError>
+    ensures { IfOk result (λ outcome. IsOutcome command.now inputs.now (string_bytes outcome.text) outcome.exit) }
+{
+    let made = match command {
+        Command::Show => show(alloc, inputs),
+        Command::Render => render(alloc, inputs),
+    };
+    outcome_of(alloc, made)
 }
 
 /// Puts all of a text into a sink, or what it takes of it before it fails.

@@ -2,14 +2,13 @@
 
 ghost use Rattle.std.specs.Prelude.{None};
 
-use crate::arguments::{Request, parse_words};
+use crate::arguments::parse_words;
 use crate::command::{Command, Exit, RunFault};
 use crate::devices::FromReader;
-use crate::ending::Ending;
 use crate::reading::{InputFault, read_input};
 use crate::running::run;
 use crate::streams::{Failed, Feed, Sink};
-use crate::vectors::{REQUEST, REQUEST_LINES, message_inputs};
+use crate::vectors::{REQUEST, REQUEST_LINES, inputs};
 use std::test::Fail;
 
 /// Takes seven bytes a call, and fails at a call.
@@ -43,7 +42,7 @@ impl Sink for FailingSink {
 #[test]
 fn stops_at_the_call_that_fails(rt: HostRuntime) -> Result<(), Fail> {
     let alloc = rt.alloc();
-    let inputs = message_inputs(alloc, REQUEST.as_bytes())?;
+    let inputs = inputs(alloc, b"", REQUEST.as_bytes())?;
     let wanted = REQUEST_LINES.as_bytes();
     let calls = wanted.len().div_ceil(7);
     for calls_left in 0..calls + 1 {
@@ -127,23 +126,37 @@ fn keeps_the_limit_of_an_input(rt: HostRuntime) -> Result<(), Fail> {
 
 #[test]
 fn reads_the_words(rt: HostRuntime) -> Result<(), Fail> {
-    let Ok(Request { command, message }) = parse_words(rt.alloc(), &["diacmd", "show", "-"]) else {
+    let alloc = rt.alloc();
+    let Ok(request) = parse_words(alloc, &["diacmd", "show", "-"]) else {
         return Err(Fail::from("the words are refused"));
     };
-    assert!(rt; matches!(command, Command::Show));
-    assert!(rt; message == "-");
+    assert!(rt; matches!(request.command, Command::Show));
+    assert!(rt; request.first == "@base" && request.message == Some("-"));
+    let Ok(request) = parse_words(alloc, &["diacmd", "show", "--dict", "-", "m.hex"]) else {
+        return Err(Fail::from("the words are refused"));
+    };
+    assert!(rt; request.first == "-" && request.message == Some("m.hex"));
+    let Ok(request) = parse_words(alloc, &["diacmd", "render", "@base"]) else {
+        return Err(Fail::from("the words are refused"));
+    };
+    assert!(rt; matches!(request.command, Command::Render));
+    assert!(rt; request.first == "@base" && request.message.is_none());
     Ok(())
 }
 
 #[test]
 fn refuses_other_words(rt: HostRuntime) -> Result<(), Fail> {
     let alloc = rt.alloc();
-    let rows: [&[&str]; 5] = [
+    let rows: [&[&str]; 9] = [
         &["diacmd"],
         &["diacmd", "show"],
         &["diacmd", "show", "-", "-"],
+        &["diacmd", "show", "--dict", "-", "-"],
+        &["diacmd", "show", "--dict", "a", "--dict", "b", "-"],
         &["diacmd", "shown", "-"],
         &["diacmd", "show", "--levels", "-"],
+        &["diacmd", "render"],
+        &["diacmd", "render", "a", "b"],
     ];
     for words in rows.iter() {
         let Err(ending) = parse_words(alloc, *words) else {

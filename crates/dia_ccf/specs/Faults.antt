@@ -1,0 +1,45 @@
+-- What is told of a text that is no dictionary: the first token with which no text can begin.
+use Rattle.std.specs.Prelude.{◌≡◌, ℕ, suc, ◌+◌, ◌<◌, ◌≤◌, List, [], ◌∷◌, ◌++◌, length, take, Option, Some, None, slice_get, codes, ⊤}
+use Rattle.dia_ccf.specs.declared.fault.CcfFault.{CcfFault}
+use Rattle.dia_ccf.specs.declared.fault.CcfFault.TheVariants as fault
+use Rattle.dia_ccf.specs.Plain.{PlainSource}
+use Rattle.dia_ccf.specs.Tokens.{Token, Number, Name, Placed, placed_tokens, tokens, line_at}
+use Rattle.dia_ccf.specs.Grammar.{Derives}
+
+-- some text of the grammar, of whatever length, begins with these tokens
+abbrev pub CanBegin : List Token → Type 0
+CanBegin front = (rest : List Token) × (source : PlainSource) × Derives (front ++ rest) source
+
+-- the first k tokens can begin a text and the first k + 1 can not: either no token follows, or it does not fit
+pub record IsFirstFault (ts : List Token) (k : ℕ) : Type 0 where
+  pub before : CanBegin (take k ts)
+  pub here : k < length ts → ¬ CanBegin (take (k + 1) ts)
+  pub within : k ≤ length ts
+  pub no_text : (source : PlainSource) → ¬ Derives ts source
+
+-- another token in the place of token k fits
+abbrev pub Fits : List Token → ℕ → Token → Type 0
+Fits ts k other = CanBegin (take k ts ++ other ∷ [])
+
+-- a number stands at place k, and some other number fits there
+abbrev pub IsNumberFault : List Token → ℕ → Type 0
+IsNumberFault ts k = (n : ℕ) × (slice_get ts k ≡ Some (Number n)) × (other : ℕ) × Fits ts k (Number other)
+
+-- a name above 128 bytes stands at place k, and a short one fits there
+abbrev pub IsLimitFault : List Token → ℕ → Type 0
+IsLimitFault ts k = (name : List ℕ) × (slice_get ts k ≡ Some (Name name)) × (128 < length name) × Fits ts k (Name (codes "a"))
+
+-- the line on which token k stands, and behind the last token the line on which the text ends
+abbrev pub token_line : List ℕ → Option Placed → ℕ
+token_line text None = line_at text (length text)
+token_line text (Some token) = line_at text token.at
+
+abbrev pub line_of : List ℕ → ℕ → ℕ
+line_of text k = token_line text (slice_get (placed_tokens text) k)
+
+-- what is told of a text within the limit. Tokens count from 1
+abbrev pub IsFault : List ℕ → CcfFault → Type 0
+IsFault text (fault.Syntax token line) = (k : ℕ) × (token ≡ suc k) × (line ≡ line_of text k) × IsFirstFault (tokens text) k × (¬ IsNumberFault (tokens text) k) × (¬ IsLimitFault (tokens text) k)
+IsFault text (fault.Number line) = (k : ℕ) × (line ≡ line_of text k) × IsFirstFault (tokens text) k × IsNumberFault (tokens text) k
+IsFault text (fault.Limit line) = (k : ℕ) × (line ≡ line_of text k) × IsFirstFault (tokens text) k × IsLimitFault (tokens text) k
+IsFault text fault.NoMemory = ⊤

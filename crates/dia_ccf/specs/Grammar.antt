@@ -1,0 +1,218 @@
+-- The grammar of dictionary texts: RFC 6733 section 3.2, with declarations of AVPs.
+-- Each class of the grammar is a set of lists of tokens.
+use Rattle.std.specs.Prelude.{◌≡◌, ℕ, ◌≤◌, ◌⊎◌, Bool, true, false, List, [], ◌∷◌, ◌++◌, map, Option, Some, None, codes, IsTrue}
+use Rattle.std.specs.List.{filter_map, AllByRecursion}
+use Rattle.std.specs.Char.{to_ascii_lowercase}
+use Rattle.dia_ccf.specs.declared.source.FormatName.{FormatName}
+use Rattle.dia_ccf.specs.declared.source.FormatName.TheVariants as format
+use Rattle.dia_ccf.specs.declared.source.MRule.{MRule}
+use Rattle.dia_ccf.specs.declared.source.MRule.TheVariants.{Must, MustNot, Any}
+use Rattle.dia_ccf.specs.declared.source.Pxy.{Pxy}
+use Rattle.dia_ccf.specs.declared.source.Pxy.TheVariants.{Clear, Set, Either}
+use Rattle.dia_ccf.specs.declared.source.Head.{Head}
+use Rattle.dia_ccf.specs.declared.source.Head.TheVariants.{Group, Command, Error}
+use Rattle.dia_ccf.specs.declared.source.RuleKind.{RuleKind}
+use Rattle.dia_ccf.specs.declared.source.RuleKind.TheVariants.{Fixed, Required, Optional}
+use Rattle.dia_ccf.specs.declared.source.Qual.{Qual}
+use Rattle.dia_ccf.specs.Names.{is_name}
+use Rattle.dia_ccf.specs.Plain.{PlainDecl, PlainRule, PlainDef, PlainSource}
+use Rattle.dia_ccf.specs.Tokens.{Token, Less, Greater, Open_brace, Close_brace, Open_bracket, Close_bracket, Open_parenthesis, Close_parenthesis, Star, Comma, Dots, Assign, Colon, Declares, Number, Name}
+
+abbrev pub Tokens : Type 1
+Tokens = List Token → Type 0
+
+infixr 30 ◌then◌
+-- one class and then another
+abbrev pub ◌then◌ : Tokens → Tokens → Tokens
+(first then second) ts = (front : List Token) × (rest : List Token) × (ts ≡ front ++ rest) × first front × second rest
+
+abbrev pub one : Token → Tokens
+one token ts = ts ≡ token ∷ []
+
+abbrev pub nothing : Tokens
+nothing ts = ts ≡ []
+
+-- the class or nothing
+abbrev pub maybe : Tokens → Tokens
+maybe class ts = nothing ts ⊎ class ts
+
+abbrev pub either : Tokens → Tokens → Tokens
+either first second ts = first ts ⊎ second ts
+
+-- a word in the case written here, and in either case
+abbrev pub word : List ℕ → Tokens
+word text = one (Name text)
+
+abbrev pub keyword : List ℕ → Tokens
+keyword text ts = (spelled : List ℕ) × (map to_ascii_lowercase spelled ≡ text) × (ts ≡ Name spelled ∷ [])
+
+-- a name that is free to choose
+abbrev pub name : List ℕ → Tokens
+name text ts = IsTrue (is_name text) × one (Name text) ts
+
+abbrev pub number : ℕ → ℕ → Tokens
+number most n ts = (n ≤ most) × one (Number n) ts
+
+abbrev pub each : {X : Type 0} → (X → Tokens) → List X → Tokens
+each class [] ts = nothing ts
+each class (x ∷ xs) ts = (class x then each class xs) ts
+
+-- 32 bits, a command code, and a value of an Enumerated list
+abbrev pub most_32 : ℕ
+most_32 = 4294967295
+
+abbrev pub most_code : ℕ
+most_code = 16777215
+
+abbrev pub most_value : ℕ
+most_value = 2147483647
+
+-- ---- declarations
+
+abbrev pub format_word : FormatName → List ℕ
+format_word format.OctetString = codes "OctetString"
+format_word format.Integer32 = codes "Integer32"
+format_word format.Integer64 = codes "Integer64"
+format_word format.Unsigned32 = codes "Unsigned32"
+format_word format.Unsigned64 = codes "Unsigned64"
+format_word format.Float32 = codes "Float32"
+format_word format.Float64 = codes "Float64"
+format_word format.Grouped = codes "Grouped"
+format_word format.Address = codes "Address"
+format_word format.Time = codes "Time"
+format_word format.Utf8String = codes "UTF8String"
+format_word format.DiameterIdentity = codes "DiameterIdentity"
+format_word format.DiameterUri = codes "DiameterURI"
+format_word format.Enumerated = codes "Enumerated"
+format_word format.IpFilterRule = codes "IPFilterRule"
+format_word format.QosFilterRule = codes "QoSFilterRule"
+
+abbrev pub rule_word : MRule → List ℕ
+rule_word Must = codes "must"
+rule_word MustNot = codes "mustnot"
+rule_word Any = codes "any"
+
+-- a vendor of 0 and no vendor are one
+abbrev pub vendor : ℕ → Tokens
+vendor n ts = (nothing ts × (n ≡ 0)) ⊎ (word (codes "vendor") then number most_32 n) ts
+
+-- a number alone is a range of one
+abbrev pub range : ℕ × ℕ → Tokens
+range r ts = (r.0 ≤ r.1) × either (λ us. (r.0 ≡ r.1) × number most_value r.0 us) (number most_value r.0 then one Dots then number most_value r.1) ts
+
+-- a list only after Enumerated, and with one range at least
+abbrev pub values : FormatName → Option (List (ℕ × ℕ)) → Tokens
+values f None ts = nothing ts
+values format.Enumerated (Some (r ∷ rs)) ts = (one Open_parenthesis then each range (r ∷ rs) then one Close_parenthesis) ts
+values f (Some rs) ts = ⊥
+
+abbrev pub declaration : PlainDecl → Tokens
+declaration d = one Declares then name d.name then number most_32 d.code then vendor d.vendor
+    then word (format_word d.format) then word (rule_word d.rule) then values d.format d.values
+
+-- ---- definitions
+
+abbrev pub diameter_header : Tokens
+diameter_header = either (keyword (codes "diameter") then keyword (codes "header")) (keyword (codes "diameter-header")) then one Colon
+
+abbrev pub avp_header : Tokens
+avp_header = either (keyword (codes "avp") then keyword (codes "header")) (keyword (codes "avp-header")) then one Colon
+
+abbrev pub comma : Tokens
+comma = maybe (one Comma)
+
+-- a flag that is there or not
+abbrev pub flag : Bool → List ℕ → Tokens
+flag false text = nothing
+flag true text = comma then keyword text
+
+abbrev pub application : Option ℕ → Tokens
+application None = nothing
+application (Some n) = comma then number most_32 n
+
+abbrev pub group_vendor : ℕ → Tokens
+group_vendor n ts = (nothing ts × (n ≡ 0)) ⊎ (comma then number most_32 n) ts
+
+abbrev pub error_proxy : Pxy → Tokens
+error_proxy Clear = nothing
+error_proxy Set = comma then keyword (codes "pxy")
+error_proxy Either = one Open_bracket then comma then keyword (codes "pxy") then one Close_bracket
+
+abbrev pub head : Head → Tokens
+head (Group code n) = avp_header then number most_32 code then group_vendor n
+head (Command code request pxy app) = diameter_header then number most_code code then flag request (codes "req") then flag pxy (codes "pxy") then application app
+head (Error pxy) = diameter_header then keyword (codes "code") then comma then keyword (codes "err") then error_proxy pxy
+
+abbrev pub count : Option ℕ → Tokens
+count None = nothing
+count (Some n) = number most_32 n
+
+abbrev pub qualifier : Option Qual → Tokens
+qualifier None = nothing
+qualifier (Some q) = count q.min then one Star then count q.max
+
+-- the name in a rule that is not fixed: `AVP` is the wildcard
+abbrev pub slot : Option (List ℕ) → Tokens
+slot None = word (codes "AVP")
+slot (Some text) = name text
+
+abbrev pub bracketed : RuleKind → Option (List ℕ) → Tokens
+bracketed Fixed (Some text) = one Less then name text then one Greater
+bracketed Fixed None = λ ts. ⊥
+bracketed Required text = one Open_brace then slot text then one Close_brace
+bracketed Optional text = one Open_bracket then slot text then one Close_bracket
+
+abbrev pub rule : PlainRule → Tokens
+rule r = qualifier r.qual then bracketed r.kind r.name
+
+abbrev pub IsFixed : PlainRule → Type 0
+IsFixed r = r.kind ≡ Fixed
+
+-- the fixed rules come first
+abbrev pub FixedFirst : List PlainRule → Type 0
+FixedFirst rules = (fixed : List PlainRule) × (loose : List PlainRule) × (rules ≡ fixed ++ loose) × AllByRecursion IsFixed fixed × AllByRecursion (λ r. ¬ IsFixed r) loose
+
+abbrev pub definition : PlainDef → Tokens
+definition d ts = FixedFirst d.rules
+    × (either (one Less then name d.name then one Greater) (name d.name)
+    then one Assign then one Less then head d.head then one Greater then each rule d.rules) ts
+
+-- ---- texts
+
+pub data Item : Type 0 where
+  Declaration : (decl : PlainDecl) → Item
+  Definition : (def : PlainDef) → Item
+
+abbrev pub item : Item → Tokens
+item (Declaration d) = declaration d
+item (Definition d) = definition d
+
+abbrev pub declared : Item → Option PlainDecl
+declared (Declaration d) = Some d
+declared (Definition d) = None
+
+abbrev pub group_of_head : Head → PlainDef → Option PlainDef
+group_of_head (Group code n) d = Some d
+group_of_head (Command code request pxy app) d = None
+group_of_head (Error pxy) d = None
+
+abbrev pub command_of_head : Head → PlainDef → Option PlainDef
+command_of_head (Group code n) d = None
+command_of_head (Command code request pxy app) d = Some d
+command_of_head (Error pxy) d = Some d
+
+abbrev pub group_of : Item → Option PlainDef
+group_of (Declaration d) = None
+group_of (Definition d) = group_of_head d.head d
+
+abbrev pub command_of : Item → Option PlainDef
+command_of (Declaration d) = None
+command_of (Definition d) = command_of_head d.head d
+
+-- the declarations, the groups and the commands, each in the order of the text
+abbrev pub source_of : List Item → PlainSource
+source_of items = record { avps = filter_map declared items; groups = filter_map group_of items; commands = filter_map command_of items }
+
+-- the grammar derives the tokens for the source
+abbrev pub Derives : List Token → PlainSource → Type 0
+Derives ts source = (items : List Item) × each item items ts × (source ≡ source_of items)

@@ -1,0 +1,10 @@
+pub mod Names
+pub mod Tokens
+pub mod Front
+pub mod Lexing
+pub mod Plain
+pub mod Grammar
+pub mod Faults
+pub mod Rendering
+pub mod Machine
+pub mod Reading

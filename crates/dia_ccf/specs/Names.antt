@@ -1,0 +1,76 @@
+-- Names, and the other facts that each value of a source keeps.
+use Rattle.std.specs.Prelude.{ℕ, nat_lt, nat_le, nat_eq, Bool, true, false, not, ◌&&◌, ◌||◌, ◌==◌, if◌then◌else◌, List, [], ◌∷◌, length, Option, Some, None, codes, String, string_bytes}
+use Rattle.std.specs.List.{list_all, list_any, starts_with}
+use Rattle.std.specs.Char.{is_ascii_alphanumeric, is_ascii_alphabetic}
+use Rattle.std.specs.Global.{Vec, Global}
+use Rattle.dia_ccf.specs.declared.source.FormatName.{FormatName}
+use Rattle.dia_ccf.specs.declared.source.FormatName.TheVariants.{Enumerated}
+use Rattle.dia_ccf.specs.declared.source.RuleKind.{RuleKind}
+use Rattle.dia_ccf.specs.declared.source.RuleKind.TheVariants.{Fixed, Required, Optional}
+use Rattle.dia_ccf.specs.declared.source.Head.{Head}
+use Rattle.dia_ccf.specs.declared.source.Head.TheVariants.{Group, Command, Error}
+use Rattle.dia_ccf.specs.declared.source.Qual.{Qual}
+
+-- a byte of a run: a letter, a digit or a dash
+abbrev pub is_run_byte : ℕ → Bool
+is_run_byte c = is_ascii_alphanumeric c || c == 45
+
+abbrev pub same_bytes : List ℕ → List ℕ → Bool
+same_bytes a b = (length a == length b) && starts_with nat_eq a b
+
+-- a run that begins with a letter or a digit and holds a letter
+abbrev pub is_name_run : List ℕ → Bool
+is_name_run [] = false
+is_name_run (c ∷ cs) = is_ascii_alphanumeric c && list_all is_run_byte cs && list_any is_ascii_alphabetic (c ∷ cs)
+
+-- a name of at most 128 bytes, and not the wildcard's
+abbrev pub is_name : List ℕ → Bool
+is_name name = is_name_run name && nat_le (length name) 128 && not (same_bytes name (codes "AVP"))
+
+-- the wildcard has no name, and is no fixed rule
+abbrev pub is_rule_name : RuleKind → Option (String Global) → Bool
+is_rule_name kind (Some name) = is_name (string_bytes name)
+is_rule_name Fixed None = false
+is_rule_name kind None = true
+
+-- a code, a vendor, an application (RFC 6733 sections 3 and 4.1) or a count (our profile) has four bytes
+abbrev pub is_number : ℕ → Bool
+is_number n = nat_lt n 4294967296
+
+abbrev pub is_number_or_none : Option ℕ → Bool
+is_number_or_none None = true
+is_number_or_none (Some n) = is_number n
+
+abbrev pub is_qualifier : Option Qual → Bool
+is_qualifier None = true
+is_qualifier (Some q) = is_number_or_none q.min && is_number_or_none q.max
+
+abbrev pub is_range : ℕ × ℕ → Bool
+is_range range = nat_le range.0 range.1 && nat_lt range.1 2147483648
+
+-- a list stands only behind Enumerated, and is not empty
+abbrev pub fits_values : FormatName → Option (Vec (ℕ × ℕ)) → Bool
+fits_values format None = true
+fits_values Enumerated (Some ranges) = nat_lt 0 (length ranges.items) && list_all is_range ranges.items
+fits_values format (Some ranges) = false
+
+-- a command code has three bytes (RFC 6733 section 3)
+abbrev pub is_head : Head → Bool
+is_head (Group code vendor) = is_number code && is_number vendor
+is_head (Command code request pxy app) = nat_lt code 16777216 && is_number_or_none app
+is_head (Error pxy) = true
+
+abbrev pub is_fixed : RuleKind → Bool
+is_fixed Fixed = true
+is_fixed Required = false
+is_fixed Optional = false
+
+-- the fixed rules come first
+abbrev pub fixed_first : List RuleKind → Bool
+fixed_first [] = true
+fixed_first (k ∷ ks) = if is_fixed k then fixed_first ks else list_all (λ j. not (is_fixed j)) ks
+
+abbrev pub is_group : Head → Bool
+is_group (Group code vendor) = true
+is_group (Command code request pxy app) = false
+is_group (Error pxy) = false

@@ -1,0 +1,18 @@
+//! The text of Diameter dictionaries (the Command Code Format of RFC 6733 section 3.2).
+#![tactic(auto)]
+
+mod fault;
+mod lexer;
+mod names;
+mod parsing;
+mod reading;
+mod rendering;
+mod source;
+#[cfg(test)]
+mod tests;
+
+pub use fault::CcfFault;
+pub use names::{MAX_NAME, is_name};
+pub use parsing::{MAX_TEXT, one_source, parse};
+pub use rendering::render;
+pub use source::{Decl, Def, FormatName, Head, MRule, Pxy, Qual, Rule, RuleKind, Source};

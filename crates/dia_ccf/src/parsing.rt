@@ -1,0 +1,40 @@
+//! Reading a dictionary text.
+
+ghost use Rattle.std.specs.Prelude.{◌≡◌, ◌<◌, ◌≤◌, List, length, Err, MatchResult, IfOk, IfErr};
+ghost use Rattle.dia_ccf.specs.Plain.{PlainSource, plain};
+ghost use Rattle.dia_ccf.specs.Tokens.{Token, tokens};
+ghost use Rattle.dia_ccf.specs.Grammar.{Derives};
+ghost use Rattle.dia_ccf.specs.Faults.{IsFault};
+
+use crate::fault::CcfFault;
+use crate::reading::Reader;
+use crate::source::Source;
+use std::alloc::Global;
+
+/// The most bytes that a text may have.
+pub const MAX_TEXT: usize = 1_048_576;
+
+/// Reads a text.
+pub fn parse(alloc: Global, text: &str) -> Result<Source, CcfFault>
+    // What is read is derived from the text's tokens.
+    ensures found { IfOk result (λ source. Derives (tokens text.now) (plain source)) }
+    // No other source is, and one that is derived is read, unless memory runs out.
+    ensures only { (source : PlainSource) → length text.now ≤ MAX_TEXT → Derives (tokens text.now) source → MatchResult result (λ found. plain found ≡ source) (λ e. e ≡ CcfFault.NoMemory) }
+
+    ensures too_long { MAX_TEXT < length text.now → result ≡ Err (CcfFault.Limit 0) }
+    ensures fault { length text.now ≤ MAX_TEXT → IfErr result (IsFault text.now) }
+{
+    if text.len() > MAX_TEXT {
+        return Err(CcfFault::Limit { line: 0 });
+    }
+    let mut reader = Reader::new(alloc, text);
+    match reader.source() {
+        Ok(source) => Ok(source),
+        Err(refusal) => Err(reader.fault(refusal)),
+    }
+}
+
+/// No tokens are derived for two sources.
+pub fn one_source()
+    ensures { (ts : List Token) (a b : PlainSource) → Derives ts a → Derives ts b → a ≡ b }
+{}

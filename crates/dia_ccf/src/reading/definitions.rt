@@ -1,0 +1,212 @@
+//! Definitions of groups and commands, and their rules.
+
+use super::Reader;
+use super::reasons::Refusal;
+use crate::lexer::{Sign, Token};
+use crate::source::{Def, Qual, Rule, RuleKind};
+
+impl<'a> Reader<'a> {
+    ghost use Rattle.std.specs.Prelude.{◌≡◌, ◌<◌, ◌≤◌, ◌≢◌, ℕ, List, [], ◌&&◌, ◌||◌, not, map, true, false, IfOk, OnOk, IfSome, IsSome, IsTrue, MatchBool, string_bytes};
+    ghost use Rattle.std.specs.Option.{option_map};
+    ghost use Rattle.dia_ccf.specs.declared.source.Head.{Head as AnyHead};
+    ghost use Rattle.dia_ccf.specs.Names.{is_name, fixed_first, is_number_or_none, is_qualifier};
+    ghost use Rattle.dia_ccf.specs.Tokens.{Less, Greater, Assign, Declares};
+    ghost use Rattle.dia_ccf.specs.Plain.{PlainSource, PlainDef, plain_def, plain_rule};
+    ghost use Rattle.dia_ccf.specs.Machine.{State, Between, Def_assign, Rules, Qual_done, add_def, with_rule, all_fixed, name_at, sign_at, slot_at, number_at, same_sign, is_number, begins_qualifier, begins_loose, on_loose};
+    ghost use Rattle.dia_ccf.specs.Grammar.{most_32};
+    ghost use Rattle.dia_ccf.specs.Reading.{Accepts, Leads, Takes, Wants, Reads_by, course, begins_with, left, behind};
+
+    /// The name of a definition, in angle brackets or bare.
+    pub(super) fn defined_name(&mut self) -> Result<String, Refusal>
+        requires { IsSome self.old.token }
+        ensures read { (done : PlainSource) → begins_with (same_sign Declares) (left self.old) ≡ false → Leads (course (done, Between) self.old) (λ name. (done, Def_assign (string_bytes name))) result self.new }
+        ensures named { IfOk result (λ name. IsTrue (is_name (string_bytes name))) }
+        ensures farther { OnOk result (self.old.taken < self.new.taken) }
+    {
+        if self.takes(Sign::Less) {
+            self.name_in_angles()
+        } else {
+            self.name()
+        }
+    }
+
+    /// A name behind its `<`, with its `>`.
+    fn name_in_angles(&mut self) -> Result<String, Refusal>
+        ensures read { (state : State) (mid to : List ℕ → State) → Reads_by false true name_at mid state → ((name : List ℕ) → Reads_by false false (sign_at Greater) (λ u. to name) (mid name)) → Leads (course state self.old) (λ name. to (string_bytes name)) result self.new }
+        ensures named { IfOk result (λ name. IsTrue (is_name (string_bytes name))) }
+        ensures farther { OnOk result (self.old.taken ≤ self.new.taken) }
+    {
+        let name = self.name()?;
+        self.expect(Sign::Greater)?;
+        Ok(name)
+    }
+
+    /// A definition behind its name, and the name in angle brackets behind it, which begins the next one.
+    pub(super) fn definition(&mut self, name: String) -> Result<(Def, Option<String>), Refusal>
+        requires { IsTrue (is_name (string_bytes name)) }
+        ensures read { (done : PlainSource) → Leads (course (done, Def_assign (string_bytes name)) self.old) (λ found. (add_def done (plain_def found.0), behind found.1)) result self.new }
+        ensures named { IfOk result (λ found. IfSome found.1 (λ next. IsTrue (is_name (string_bytes next)))) }
+        ensures farther { OnOk result (self.old.taken < self.new.taken) }
+    {
+        self.expect(Sign::Assign)?;
+        self.expect(Sign::Less)?;
+        let head = self.head()?;
+        self.expect(Sign::Greater)?;
+        let (rules, next) = self.rules()?;
+        Ok((Def { name, head, rules }, next))
+    }
+
+    /// The rules of a definition, and the name in angle brackets behind them, which is no rule.
+    fn rules(&mut self) -> Result<(Vec<Rule>, Option<String>), Refusal>
+        ensures read { (done : PlainSource) (name : List ℕ) (head : AnyHead) → Leads (course (done, Rules (record { name = name; head = head; rules = [] })) self.old) (λ found. (add_def done (record { name = name; head = head; rules = map plain_rule found.0.items }), behind found.1)) result self.new }
+        ensures ordered { IfOk result (λ found. IsTrue (fixed_first (map (λ r. r.kind) found.0.items))) }
+        ensures named { IfOk result (λ found. IfSome found.1 (λ next. IsTrue (is_name (string_bytes next)))) }
+        ensures farther { OnOk result (self.old.taken ≤ self.new.taken) }
+    {
+        let mut rules = Vec::new(self.alloc);
+        let mut only_fixed = true;
+        loop {
+            if self.takes(Sign::Less) {
+                let name = self.name_in_angles()?;
+                if self.is_at_definition(only_fixed) {
+                    return Ok((rules, Some(name)));
+                }
+                rules.push(Rule {
+                    kind: RuleKind::Fixed,
+                    name: Some(name),
+                    qual: None,
+                })?;
+            } else if self.is_at_qualifier() {
+                let rule = self.qualified(only_fixed)?;
+                only_fixed = is_fixed(rule.kind);
+                rules.push(rule)?;
+            } else if self.is_at_loose() {
+                let rule = self.loose(None)?;
+                only_fixed = false;
+                rules.push(rule)?;
+            } else {
+                return Ok((rules, None));
+            }
+        }
+    }
+
+    /// Whether the name in angle brackets before this place begins a definition: `::=` stands ahead, or no
+    /// fixed rule may come any more.
+    fn is_at_definition(&self, only_fixed: bool) -> bool
+        ensures { result ≡ (not only_fixed || begins_with (same_sign Assign) (left self.now)) }
+    {
+        !only_fixed || self.is_at(Sign::Assign)
+    }
+
+    /// Goes past the `<` of a fixed rule, if one may come and it stands ahead.
+    fn takes_fixed(&mut self, fixed: bool) -> bool
+        ensures read { MatchBool result ((fixed ≡ true) × Takes (same_sign Less) self.old true self.new) (((fixed && begins_with (same_sign Less) (left self.old)) ≡ false) × (self.new ≡ self.old)) }
+        ensures farther { self.old.taken ≤ self.new.taken }
+    {
+        fixed && self.takes(Sign::Less)
+    }
+
+    /// Whether a qualifier begins here.
+    fn is_at_qualifier(&self) -> bool
+        ensures { result ≡ begins_with begins_qualifier (left self.now) }
+    {
+        self.is_at_number() || self.is_at(Sign::Star)
+    }
+
+    /// Whether a rule without qualifier begins here that is not fixed.
+    fn is_at_loose(&self) -> bool
+        ensures { result ≡ begins_with begins_loose (left self.now) }
+    {
+        self.is_at(Sign::OpenBrace) || self.is_at(Sign::OpenBracket)
+    }
+
+    /// A rule with a qualifier, which is a fixed one only where `fixed` says that it may be.
+    fn qualified(&mut self, fixed: bool) -> Result<Rule, Refusal>
+        requires { begins_with begins_qualifier (left self.old) ≡ true }
+        ensures read { (done : PlainSource) (d : PlainDef) → all_fixed d.rules ≡ fixed → Leads (course (done, Rules d) self.old) (λ rule. (done, Rules (with_rule d (plain_rule rule)))) result self.new }
+        ensures ordered { IfOk result (λ rule. rule.kind ≡ RuleKind.Fixed → fixed ≡ true) }
+        ensures farther { OnOk result (self.old.taken < self.new.taken) }
+    {
+        let qual = self.qualifier()?;
+        if self.takes_fixed(fixed) {
+            let name = self.name_in_angles()?;
+            return Ok(Rule {
+                kind: RuleKind::Fixed,
+                name: Some(name),
+                qual: Some(qual),
+            });
+        }
+        self.loose(Some(qual))
+    }
+
+    /// A rule that is not fixed, behind its qualifier.
+    fn loose(&mut self, qual: Option<Qual>) -> Result<Rule, Refusal>
+        requires { IsTrue (is_qualifier qual) }
+        ensures read { (done : PlainSource) (d : PlainDef) (state : State) → Wants false false (on_loose done d qual) state (left self.old) → Leads (course state self.old) (λ rule. (done, Rules (with_rule d (plain_rule rule)))) result self.new }
+        ensures ordered { IfOk result (λ rule. rule.kind ≢ RuleKind.Fixed) }
+        ensures farther { OnOk result (self.old.taken < self.new.taken) }
+    {
+        if self.takes(Sign::OpenBrace) {
+            let name = self.slot()?;
+            self.expect(Sign::CloseBrace)?;
+            return Ok(Rule {
+                kind: RuleKind::Required,
+                name,
+                qual,
+            });
+        }
+        self.expect(Sign::OpenBracket)?;
+        let name = self.slot()?;
+        self.expect(Sign::CloseBracket)?;
+        Ok(Rule {
+            kind: RuleKind::Optional,
+            name,
+            qual,
+        })
+    }
+
+    fn qualifier(&mut self) -> Result<Qual, Refusal>
+        requires { begins_with begins_qualifier (left self.old) ≡ true }
+        ensures read { (done : PlainSource) (d : PlainDef) → Leads (course (done, Rules d) self.old) (λ qual. (done, Qual_done d qual)) result self.new }
+        ensures farther { OnOk result (self.old.taken < self.new.taken) }
+        ensures small { IfOk result (λ qual. IsTrue (is_qualifier (Some qual))) }
+    {
+        let min = self.count()?;
+        self.expect(Sign::Star)?;
+        let max = self.count()?;
+        Ok(Qual { min, max })
+    }
+
+    /// A number, if one stands here.
+    fn count(&mut self) -> Result<Option<u32>, Refusal>
+        ensures read { MatchBool (begins_with is_number (left self.old)) (Accepts true false (λ token. option_map (λ n. Some n) (number_at 0 most_32 token)) (λ n. n) self.old result self.new) ((result ≡ Ok None) × (self.new ≡ self.old)) }
+        ensures small { IfOk result (λ n. IsTrue (is_number_or_none n)) }
+        ensures farther { OnOk result (self.old.taken ≤ self.new.taken) }
+    {
+        if self.is_at_number() {
+            let n = self.number(0, u32::MAX)?;
+            return Ok(Some(n));
+        }
+        Ok(None)
+    }
+
+    /// The name in a rule that is not fixed, or none for the wildcard.
+    fn slot(&mut self) -> Result<Option<String>, Refusal>
+        ensures { Accepts false true slot_at (λ name. option_map (λ text. string_bytes text) name) self.old result self.new }
+    {
+        if self.takes_word("AVP") {
+            return Ok(None);
+        }
+        let name = self.name()?;
+        Ok(Some(name))
+    }
+}
+
+ghost use Rattle.std.specs.Prelude.{◌≡◌};
+ghost use Rattle.dia_ccf.specs.Names.{is_fixed};
+
+fn is_fixed(kind: RuleKind) -> bool
+    ensures { result ≡ is_fixed kind }
+{
+    matches!(kind, RuleKind::Fixed)
+}

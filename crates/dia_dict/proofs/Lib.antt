@@ -1,0 +1,16 @@
+pub mod Lists
+pub mod Numbering
+pub mod Rows
+pub mod Opened
+pub mod Repeats
+pub mod Entries
+pub mod Named
+pub mod Refusals
+pub mod Duplicates
+pub mod Members
+pub mod Clean
+pub mod Sound
+pub mod BaseRows
+pub mod BaseSound
+pub mod BaseText
+pub mod Indexing

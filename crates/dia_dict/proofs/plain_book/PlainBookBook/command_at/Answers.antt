@@ -1,0 +1,15 @@
+use Rattle.std.proofs.Common.{ℕ, arith, sym, ap, ◌+◌, ◌∙◌}
+use Rattle.std.proofs.lemmas.List.{length-map}
+use Rattle.dia_dict.specs.Dictionary.{plain}
+use Rattle.dia_dict.proofs.Rows.{length-groups-held, groups_fit}
+use Rattle.dia_dict.proofs.plain_book.PlainBookBook.command_at.Goals as goal
+
+pub overflow_cast-len : goal.overflow_cast-len
+overflow_cast-len c =
+    let b = c.args.self.now in
+    omega (arith, groups_fit b.entries.rows.items b.entries.groups.items b.entries.numbered, b.few, c.requires, length-map b.commands.items plain)
+
+pub returns : goal.returns
+returns c =
+    let b = c.args.self.now in
+    omega (arith, length-groups-held b.entries.rows.items b.entries.groups.items b.commands.items b.entries.numbered)

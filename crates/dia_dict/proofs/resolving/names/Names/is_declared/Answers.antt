@@ -1,0 +1,9 @@
+use Rattle.std.proofs.Common.{◌∙◌}
+use Rattle.dia_ccf.specs.Plain.{PlainDecl, plain_decl}
+use Rattle.dia_dict.proofs.Named.{list_any_by_name}
+use Rattle.dia_dict.proofs.resolving.names.Names.is_declared.Goals as goal
+
+pub returns : goal.returns
+returns c =
+    let names = c.args.self.now in
+    c.contains.ensures ∙ list_any_by_name plain_decl (λ (d : PlainDecl). d.name) names.source.now.avps.items names.avps.keys names.all_avps c.args.name.now

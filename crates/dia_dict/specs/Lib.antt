@@ -1,0 +1,9 @@
+pub mod Keys
+pub mod Dictionary
+pub mod PlainMeaning
+pub mod Resolution
+pub mod Refusing
+pub mod Base
+pub mod BaseTables
+pub mod Selecting
+pub mod Indexed

@@ -1,0 +1,22 @@
+-- What the lists of a plain book mean.
+use Rattle.std.specs.Prelude.{ℕ, List, map, take, drop, length, Option, Some, None, slice_get, option_and_then, string_bytes}
+use Rattle.std.specs.List.{filter_map}
+use Rattle.dia_data.specs.Plain.{plain as plain_format}
+use Rattle.dia_dict.specs.declared.definition.Definition.{Definition}
+use Rattle.dia_dict.specs.declared.entry_list.Row.{Row}
+use Rattle.dia_dict.specs.Dictionary.{PlainDefinition, DictEntry, Dictionary, plain}
+
+abbrev pub entry_of_row : List PlainDefinition → Row → DictEntry
+entry_of_row groups row = record { name = string_bytes row.name; key = row.key; format = plain_format row.format; rule = row.rule; group = option_and_then (slice_get groups) row.group }
+
+-- the rows in order, with the groups that they name
+abbrev pub dictionary_of : List Row → List PlainDefinition → List PlainDefinition → Dictionary
+dictionary_of rows groups commands = record { entries = map (entry_of_row groups) rows; commands = commands }
+
+-- the entries of rows and groups as they lie in memory
+abbrev pub entries_of : List Row → List Definition → List DictEntry
+entries_of rows groups = map (entry_of_row (map plain groups)) rows
+
+-- the numbers of the groups that the rows name
+abbrev pub numbers : List Row → List ℕ
+numbers rows = filter_map (λ row. row.group) rows

@@ -1,0 +1,258 @@
+-- What a source means, and what is wrong with one that means nothing.
+use Rattle.std.specs.Prelude.{◌≡◌, ℕ, ◌+◌, ◌*◌, nat_lt, nat_eq, Bool, true, false, not, ◌==◌, ◌&&◌, ◌||◌, if◌then◌else◌, List, [], ◌∷◌, ◌++◌, length, map, filter, Option, Some, None, option_and_then, unwrap_or, find, position, is_some, codes, slice_get, string_bytes, ⊤}
+use Rattle.std.specs.List.{filter_map, flat_map, list_any, starts_with}
+use Rattle.std.specs.Option.{option_eq, option_map, option_map_or, option_or}
+use Rattle.dia_ccf.specs.declared.Pxy.{Pxy}
+use Rattle.dia_ccf.specs.declared.Pxy.TheVariants.{Clear, Set}
+use Rattle.dia_wire.specs.declared.Key.{Key}
+use Rattle.dia_data.specs.Plain as formats
+use Rattle.dia_data.specs.Plain.{PlainFormat}
+use Rattle.dia_ccf.specs.declared.FormatName.{FormatName}
+use Rattle.dia_ccf.specs.declared.FormatName.TheVariants as name
+use Rattle.dia_ccf.specs.declared.MRule.{MRule}
+use Rattle.dia_ccf.specs.declared.MRule.TheVariants as m_rule
+use Rattle.dia_ccf.specs.declared.Head.{Head}
+use Rattle.dia_ccf.specs.declared.Head.TheVariants as head
+use Rattle.dia_ccf.specs.declared.Qual.{Qual}
+use Rattle.dia_ccf.specs.declared.RuleKind.{RuleKind}
+use Rattle.dia_ccf.specs.declared.RuleKind.TheVariants.{Fixed, Required, Optional}
+use Rattle.dia_ccf.specs.Names.{same_bytes}
+use Rattle.dia_ccf.specs.Plain.{PlainDecl, PlainRule, PlainDef, PlainSource}
+use Rattle.dia_dict.specs.Keys.{same_key}
+use Rattle.dia_dict.specs.declared.definition.Class.{Class}
+use Rattle.dia_dict.specs.declared.definition.Class.TheVariants as classes
+use Rattle.dia_dict.specs.declared.definition.DefHead.{DefHead}
+use Rattle.dia_dict.specs.declared.definition.DefHead.TheVariants.{Group, Command, Error}
+use Rattle.dia_dict.specs.declared.definition.DRule.{DRule}
+use Rattle.dia_dict.specs.declared.fault.DictKind.{DictKind}
+use Rattle.dia_dict.specs.declared.fault.DictKind.TheVariants as kind
+use Rattle.dia_dict.specs.declared.fault.DictFault.{DictFault}
+use Rattle.dia_dict.specs.declared.fault.DictFault.TheVariants as fault
+use Rattle.dia_dict.specs.Dictionary.{PlainDefinition, DictEntry, Dictionary}
+
+-- ---- the meaning
+
+abbrev pub format_of : FormatName → Option (List (ℕ × ℕ)) → PlainFormat
+format_of name.OctetString ranges = formats.OctetString
+format_of name.Integer32 ranges = formats.Integer32
+format_of name.Integer64 ranges = formats.Integer64
+format_of name.Unsigned32 ranges = formats.Unsigned32
+format_of name.Unsigned64 ranges = formats.Unsigned64
+format_of name.Float32 ranges = formats.Float32
+format_of name.Float64 ranges = formats.Float64
+format_of name.Grouped ranges = formats.Grouped
+format_of name.Address ranges = formats.Address
+format_of name.Time ranges = formats.Time
+format_of name.Utf8String ranges = formats.Utf8String
+format_of name.DiameterIdentity ranges = formats.DiameterIdentity
+format_of name.DiameterUri ranges = formats.DiameterUri
+format_of name.Enumerated ranges = formats.Enumerated ranges
+format_of name.IpFilterRule ranges = formats.IpFilterRule
+format_of name.QosFilterRule ranges = formats.QosFilterRule
+
+abbrev pub key_of_decl : PlainDecl → Key
+key_of_decl d = record { code = d.code; vendor = d.vendor }
+
+abbrev pub group_key : Head → Key
+group_key (head.Group code vendor) = record { code = code; vendor = vendor }
+group_key (head.Command code request pxy app) = record { code = code; vendor = 0 }
+group_key (head.Error pxy) = record { code = 0; vendor = 0 }
+
+abbrev pub names_decl : List ℕ → PlainDecl → Bool
+names_decl text d = same_bytes text d.name
+
+abbrev pub names_def : List ℕ → PlainDef → Bool
+names_def text d = same_bytes text d.name
+
+abbrev pub is_bare : PlainSource → PlainDef → Bool
+is_bare s g = not (list_any (names_decl g.name) s.avps)
+
+-- groups without a declaration, in the order of the text
+abbrev pub bare_groups : PlainSource → List PlainDef
+bare_groups s = filter (is_bare s) s.groups
+
+-- the key that a name stands for
+abbrev pub key_of_name : PlainSource → List ℕ → Option Key
+key_of_name s text = option_or (option_map key_of_decl (find (names_decl text) s.avps)) (option_map (λ g. group_key g.head) (find (names_def text) s.groups))
+
+-- bounds without a qualifier: exactly 1, or 0 or 1; an absent min is 1 for a required rule and 0 for others
+abbrev pub least : RuleKind → Option Qual → ℕ
+least Optional None = 0
+least kind None = 1
+least Required (Some q) = unwrap_or q.min 1
+least kind (Some q) = unwrap_or q.min 0
+
+abbrev pub greatest : Option Qual → Option ℕ
+greatest None = Some 1
+greatest (Some q) = q.max
+
+abbrev pub rule_of : PlainSource → PlainRule → DRule
+rule_of s r = record { kind = r.kind; key = option_and_then (key_of_name s) r.name; min = least r.kind r.qual; max = greatest r.qual }
+
+abbrev pub class_of : Bool → Class
+class_of true = classes.Request
+class_of false = classes.Answer
+
+abbrev pub proxy_of : Bool → Pxy
+proxy_of true = Set
+proxy_of false = Clear
+
+abbrev pub head_of : Head → DefHead
+head_of (head.Group code vendor) = Group (record { code = code; vendor = vendor })
+head_of (head.Command code request pxy app) = Command code (class_of request) app (proxy_of pxy)
+head_of (head.Error pxy) = Error pxy
+
+abbrev pub definition_of : PlainSource → PlainDef → PlainDefinition
+definition_of s d = record { name = d.name; head = head_of d.head; rules = map (rule_of s) d.rules }
+
+abbrev pub declared_entry : PlainSource → PlainDecl → DictEntry
+declared_entry s d = record {
+  name = d.name;
+  key = key_of_decl d;
+  format = format_of d.format d.values;
+  rule = d.rule;
+  group = option_map (definition_of s) (find (names_def d.name) s.groups);
+}
+
+abbrev pub bare_entry : PlainSource → PlainDef → DictEntry
+bare_entry s g = record { name = g.name; key = group_key g.head; format = formats.Grouped; rule = m_rule.Any; group = Some (definition_of s g) }
+
+-- the dictionary that the source names: the declarations, then the groups without one, and the commands
+abbrev pub resolved : PlainSource → Dictionary
+resolved s = record {
+  entries = map (declared_entry s) s.avps ++ map (bare_entry s) (bare_groups s);
+  commands = map (definition_of s) s.commands;
+}
+
+-- ---- what is wrong. Each kind has the list of its faults in the order of the text; the first fault of the first kind is told
+
+pub record Wrong : Type 0 where
+  pub kind : DictKind
+  pub name : List ℕ
+  pub slot : List ℕ
+
+abbrev pub wrong : DictKind → List ℕ → List ℕ → Wrong
+wrong kind name slot = record { kind = kind; name = name; slot = slot }
+
+-- groups and then commands
+abbrev pub all_defs : PlainSource → List PlainDef
+all_defs s = s.groups ++ s.commands
+
+-- the members that are like an earlier one
+abbrev pub repeats : {X : Type 0} → (X → X → Bool) → List X → List X → List X
+repeats same earlier [] = []
+repeats same earlier (x ∷ xs) = if list_any (same x) earlier then x ∷ repeats same (earlier ++ x ∷ []) xs else repeats same (earlier ++ x ∷ []) xs
+
+abbrev pub is_long : PlainDef → Bool
+is_long d = nat_lt 1024 (length d.rules)
+
+abbrev pub too_many_rules : List PlainDef → List Wrong
+too_many_rules defs = map (λ d. wrong kind.Limit d.name []) (filter is_long defs)
+
+abbrev pub too_many : PlainSource → List Wrong
+too_many s = if nat_lt 16384 (length s.avps + length s.groups + length s.commands) then wrong kind.Limit [] [] ∷ [] else []
+
+abbrev pub duplicate_names : List (List ℕ) → List Wrong
+duplicate_names names = map (λ name. wrong kind.DuplicateName name []) (repeats same_bytes [] names)
+
+abbrev pub is_grouped : FormatName → Bool
+is_grouped name.Grouped = true
+is_grouped f = false
+
+abbrev pub lacks_group : PlainSource → PlainDecl → Bool
+lacks_group s d = is_grouped d.format && not (list_any (names_def d.name) s.groups)
+
+abbrev pub no_groups : PlainSource → List Wrong
+no_groups s = map (λ d. wrong kind.NoGroupFormat d.name []) (filter (lacks_group s) s.avps)
+
+abbrev pub agrees_with : PlainDef → PlainDecl → Bool
+agrees_with g d = is_grouped d.format && same_key (group_key g.head) (key_of_decl d)
+
+abbrev pub is_mismatched : PlainSource → PlainDef → Bool
+is_mismatched s g = option_map_or (λ d. not (agrees_with g d)) (find (names_decl g.name) s.avps) false
+
+abbrev pub header_mismatches : PlainSource → List Wrong
+header_mismatches s = map (λ g. wrong kind.HeaderMismatch g.name []) (filter (is_mismatched s) s.groups)
+
+-- the names of AVPs with their keys, in the order of the entries
+abbrev pub avp_names : PlainSource → List (List ℕ × Key)
+avp_names s = map (λ d. (d.name, key_of_decl d)) s.avps ++ map (λ g. (g.name, group_key g.head)) (bare_groups s)
+
+abbrev pub duplicate_keys : PlainSource → List Wrong
+duplicate_keys s = map (λ n. wrong kind.DuplicateKey n.0 []) (repeats (λ a b. same_key a.1 b.1) [] (avp_names s))
+
+abbrev pub same_bool : Bool → Bool → Bool
+same_bool true b = b
+same_bool false b = not b
+
+abbrev pub same_selector : Head → Head → Bool
+same_selector (head.Command c r p a) (head.Command d t q b) = (c == d) && same_bool r t && option_eq nat_eq a b
+same_selector (head.Error p) (head.Error q) = true
+same_selector g h = false
+
+abbrev pub duplicate_commands : PlainSource → List Wrong
+duplicate_commands s = map (λ d. wrong kind.DuplicateCommand d.name []) (repeats (λ a b. same_selector a.head b.head) [] s.commands)
+
+abbrev pub is_undefined : PlainSource → PlainRule → Bool
+is_undefined s r = option_map_or (λ name. not (is_some (key_of_name s name))) r.name false
+
+-- what a rule's AVP is called in a fault
+abbrev pub slot_name : PlainRule → List ℕ
+slot_name r = unwrap_or r.name (codes "AVP")
+
+abbrev pub same_slot : PlainRule → PlainRule → Bool
+same_slot a b = same_bytes (slot_name a) (slot_name b)
+
+abbrev pub repeated_in : PlainDef → List Wrong
+repeated_in d = map (λ r. wrong kind.RepeatedSlot d.name (slot_name r)) (repeats same_slot [] d.rules)
+
+abbrev pub repeated_slots : List PlainDef → List Wrong
+repeated_slots defs = flat_map repeated_in defs
+
+abbrev pub is_min_over_max : PlainRule → Bool
+is_min_over_max r = option_map_or (λ max. nat_lt max (least r.kind r.qual)) (greatest r.qual) false
+
+abbrev pub is_required_min : PlainRule → Bool
+is_required_min r = elim r.kind [ Fixed ↦ false | Required ↦ least Required r.qual == 0 | Optional ↦ false ]
+
+abbrev pub is_optional_min : PlainRule → Bool
+is_optional_min r = elim r.kind [ Fixed ↦ false | Required ↦ false | Optional ↦ nat_lt 0 (least Optional r.qual) ]
+
+-- a rule that has the fault by itself
+abbrev pub is_bad : DictKind → PlainSource → PlainRule → Bool
+is_bad kind.UndefinedName s r = is_undefined s r
+is_bad kind.MinOverMax s r = is_min_over_max r
+is_bad kind.RequiredMin s r = is_required_min r
+is_bad kind.OptionalMin s r = is_optional_min r
+is_bad kind s r = false
+
+abbrev pub bad_in : DictKind → PlainSource → PlainDef → List Wrong
+bad_in kind s d = map (λ r. wrong kind d.name (slot_name r)) (filter (is_bad kind s) d.rules)
+
+abbrev pub bad_rules : DictKind → PlainSource → List PlainDef → List Wrong
+bad_rules kind s defs = flat_map (bad_in kind s) defs
+
+abbrev pub wrong_limits : PlainSource → List Wrong
+wrong_limits s = too_many_rules (all_defs s) ++ too_many s
+
+abbrev pub wrong_names : PlainSource → List Wrong
+wrong_names s = duplicate_names (map (λ d. d.name) s.avps) ++ duplicate_names (map (λ d. d.name) s.groups) ++ duplicate_names (map (λ d. d.name) s.commands)
+
+abbrev pub wrong_entries : PlainSource → List Wrong
+wrong_entries s = no_groups s ++ header_mismatches s ++ duplicate_keys s ++ duplicate_commands s
+
+abbrev pub wrong_rules : PlainSource → List Wrong
+wrong_rules s = bad_rules kind.UndefinedName s (all_defs s) ++ repeated_slots (all_defs s) ++ bad_rules kind.MinOverMax s (all_defs s)
+    ++ bad_rules kind.RequiredMin s (all_defs s) ++ bad_rules kind.OptionalMin s (all_defs s)
+
+-- all that is wrong, in the order in which it is told
+abbrev pub all_wrong : PlainSource → List Wrong
+all_wrong s = wrong_limits s ++ wrong_names s ++ wrong_entries s ++ wrong_rules s
+
+abbrev pub first_wrong : PlainSource → Option Wrong
+first_wrong s = slice_get (all_wrong s) 0
+
+-- the fault that is told is the first
+abbrev pub IsToldOf : PlainSource → DictFault → Type 0
+IsToldOf s (fault.Stands kind name slot) = first_wrong s ≡ Some (wrong kind (string_bytes name) (string_bytes slot))
+IsToldOf s fault.NoMemory = ⊤

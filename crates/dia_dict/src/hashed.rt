@@ -1,0 +1,123 @@
+//! Keys of maps: what AVPs and commands are looked up by.
+use crate::definition::{Class, DefHead};
+use dia_wire::Key;
+
+/// The key of an AVP, to be hashed.
+#[derive(Clone, Copy, Debug, PartialEq, Eq, Hash)]
+pub(crate) struct HashedKey {
+    pub code: u32,
+    pub vendor: u32,
+}
+
+impl From<Key> for HashedKey {
+    ghost use Rattle.dia_dict.specs.Refusing.{hashed};
+    ghost use Rattle.std.specs.Prelude.{◌≡◌};
+
+    ghost from_gives = { λ key h. h ≡ hashed key };
+
+    fn from(key: Key) -> HashedKey {
+        HashedKey {
+            code: key.code,
+            vendor: key.vendor,
+        }
+    }
+}
+
+/// Which messages a command is for.
+#[derive(Clone, Copy, Debug, PartialEq, Eq, Hash)]
+pub(crate) enum Selector {
+    /// Requests or answers of a command code, for an application or for all that no other command names.
+    Command {
+        code: u32,
+        request: bool,
+        app: Option<u32>,
+    },
+    /// Messages of the class Error.
+    Error,
+}
+
+impl Selector {
+    ghost use Rattle.std.specs.Prelude.{◌≡◌};
+    ghost use Rattle.dia_dict.specs.Dictionary.{IsCommandHead};
+    ghost use Rattle.dia_dict.specs.Selecting.{selector, selector_of};
+
+    /// That of the messages of a code and a class, for an application or for all that no other command names.
+    pub fn new(code: u32, class: Class, app: Option<u32>) -> Self
+        ensures { result ≡ selector code class app }
+    {
+        match class {
+            Class::Request => Selector::Command {
+                code,
+                request: true,
+                app,
+            },
+            Class::Answer => Selector::Command {
+                code,
+                request: false,
+                app,
+            },
+            Class::Error => Selector::Error,
+        }
+    }
+
+    /// That of a command.
+    pub fn of(head: DefHead) -> Self
+        requires { IsCommandHead head }
+        ensures { result ≡ selector_of head }
+    {
+        match head {
+            DefHead::Group(_) => unreachable!(),
+            DefHead::Command {
+                code,
+                class,
+                app,
+                ..
+            } => Selector::new(code, class, app),
+            DefHead::Error { .. } => Selector::Error,
+        }
+    }
+}
+
+/// Which messages a command is for, where its application is left out.
+#[derive(Clone, Copy, Debug, PartialEq, Eq, Hash)]
+pub(crate) enum Service {
+    /// Requests or answers of a command code.
+    Command { code: u32, request: bool },
+    /// Messages of the class Error.
+    Error,
+}
+
+impl Service {
+    ghost use Rattle.std.specs.Prelude.{◌≡◌};
+    ghost use Rattle.dia_dict.specs.Dictionary.{IsCommandHead};
+    ghost use Rattle.dia_dict.specs.Selecting.{service, service_of};
+
+    /// That of the messages of a code and a class.
+    pub fn new(code: u32, class: Class) -> Self
+        ensures { result ≡ service code class }
+    {
+        match class {
+            Class::Request => Service::Command {
+                code,
+                request: true,
+            },
+            Class::Answer => Service::Command {
+                code,
+                request: false,
+            },
+            Class::Error => Service::Error,
+        }
+    }
+
+    /// That of a command.
+    pub fn of(head: DefHead) -> Self
+        requires { IsCommandHead head }
+        ensures { result ≡ service_of head }
+    {
+        match head {
+            DefHead::Group(_) => unreachable!(),
+            DefHead::Command { code, class, .. } => Service::new(code, class),
+            DefHead::Error { .. } => Service::Error,
+        }
+    }
+}

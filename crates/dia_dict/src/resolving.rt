@@ -1,0 +1,58 @@
+//! A dictionary out of a source.
+ghost use Rattle.std.specs.Prelude.{◌≡◌, [], None, IfOk, IfErr};
+ghost use Rattle.dia_ccf.specs.Plain.{plain};
+ghost use Rattle.dia_dict.specs.Resolution.{resolved, all_wrong, wrong_limits, wrong_names, first_wrong, IsToldOf};
+ghost use Rattle.dia_dict.specs.Refusing.{IsRefused};
+
+mod building;
+mod checks;
+mod distinct;
+mod names;
+mod refusal;
+mod rules;
+
+use crate::book::Book;
+use crate::fault::DictFault;
+use crate::plain_book::PlainBook;
+use dia_ccf::Source;
+use names::Names;
+use refusal::Refusal;
+use std::alloc::Global;
+
+/// The dictionary that a source names.
+///
+/// Entries stand in the order of the declarations, then of the groups without one; such a group has the M rule `Any`. `Stands` tells the
+/// first fault, by the order of `DictKind` and then by the order declarations, groups, commands, each in the order of the text; for
+/// two alike it is the later one. The source is given up.
+pub fn resolve(alloc: Global, source: Source) -> Result<PlainBook, DictFault>
+    ensures ok { IfOk result (λ book. (first_wrong (plain source) ≡ None) × (⟦<PlainBook as Book>⟧.meaning book ≡ resolved (plain source))) }
+    ensures err { IfErr result (IsToldOf (plain source)) }
+{
+    match checked(alloc, &source) {
+        Ok(book) => Ok(book),
+        Err(Refusal::Stands(told)) => Err(told.fault(alloc)?),
+        Err(Refusal::NoMemory) => Err(DictFault::NoMemory),
+    }
+}
+
+/// The dictionary, where nothing is wrong.
+fn checked(alloc: Global, source: &Source) -> Result<PlainBook, Refusal<'_>>
+    ensures ok { IfOk result (λ book. (first_wrong (plain source.now) ≡ None) × (⟦<PlainBook as Book>⟧.meaning book ≡ resolved (plain source.now))) }
+    ensures err { IfErr result (IsRefused (all_wrong (plain source.now))) }
+{
+    checks::limits(source)?;
+    let names = Names::new(alloc, source)?;
+    named(alloc, &names)
+}
+
+/// The same of a source within its limits, whose names are distinct.
+fn named<'a>(alloc: Global, names: &Names<'a>) -> Result<PlainBook, Refusal<'a>>
+    requires within { wrong_limits (plain names.now.source.now) ≡ [] }
+    requires distinct { wrong_names (plain names.now.source.now) ≡ [] }
+    ensures ok { IfOk result (λ book. (first_wrong (plain names.now.source.now) ≡ None) × (⟦<PlainBook as Book>⟧.meaning book ≡ resolved (plain names.now.source.now))) }
+    ensures err { IfErr result (IsRefused (all_wrong (plain names.now.source.now))) }
+{
+    checks::entries(alloc, names)?;
+    rules::check(alloc, names)?;
+    Ok(building::book(alloc, names)?)
+}

@@ -1,0 +1,245 @@
+//! The checks of limits, declarations and headers.
+ghost use Rattle.std.specs.Prelude.{◌≡◌, ◌++◌, [], IsTrue, IfOk, OnOk, IfErr, map, filter, find, not};
+ghost use Rattle.std.specs.List.{list_all};
+ghost use Rattle.std.specs.Option.{option_copied};
+ghost use Rattle.dia_ccf.specs.Names.{is_group};
+ghost use Rattle.dia_ccf.specs.Plain.{plain, plain_decl, plain_def};
+ghost use Rattle.dia_dict.specs.Resolution.{wrong_limits, wrong_entries, too_many_rules, is_long, no_groups, lacks_group, header_mismatches, is_mismatched, is_grouped, agrees_with, avp_names, is_bare, key_of_decl, group_key, duplicate_keys, duplicate_commands};
+ghost use Rattle.dia_dict.specs.Refusing.{IsRefused, named, hashed, selector_of};
+
+use super::distinct::{Repeat, distinct};
+use super::names::{Names, key_of_declaration, key_of_group};
+use super::refusal::Refusal;
+use crate::fault::DictKind;
+use crate::hashed::{HashedKey, Selector};
+use dia_ccf::{Decl, Def, FormatName, Head, Source};
+use dia_wire::Key;
+use std::alloc::{AllocError, Global};
+
+/// The most rules of a definition.
+const MAX_RULES: usize = 1024;
+
+/// The most declarations, groups and commands together.
+const MAX_ENTRIES: usize = 16384;
+
+/// No definition has too many rules, and the source not too many entries.
+pub(super) fn limits(source: &Source) -> Result<(), Refusal<'_>>
+    ensures ok { OnOk result (wrong_limits (plain source.now) ≡ []) }
+    ensures err { IfErr result (IsRefused (wrong_limits (plain source.now))) }
+{
+    lengths(&source.groups)?;
+    lengths(&source.commands)?;
+    if source.avps.len() + source.groups.len() + source.commands.len() > MAX_ENTRIES {
+        return Err(Refusal::at(DictKind::Limit, ""));
+    }
+    Ok(())
+}
+
+fn lengths(defs: &[Def]) -> Result<(), Refusal<'_>>
+    ensures ok { OnOk result (too_many_rules (map plain_def defs.now) ≡ []) }
+    ensures err { IfErr result (IsRefused (too_many_rules (map plain_def defs.now))) }
+{
+    match first_long(defs) {
+        Some(def) => Err(Refusal::at(DictKind::Limit, &def.name)),
+        None => Ok(()),
+    }
+}
+
+fn first_long(defs: &[Def]) -> Option<&Def>
+    ensures { option_copied result ≡ find (λ d. is_long (plain_def d)) defs.now }
+{
+    defs.iter().find(|def| has_many_rules(def))
+}
+
+fn has_many_rules(def: &Def) -> bool
+    ensures { result ≡ is_long (plain_def def.now) }
+{
+    def.rules.len() > MAX_RULES
+}
+
+/// Groups and their declarations agree, and no key and no selector stands twice.
+pub(super) fn entries<'a>(alloc: Global, names: &Names<'a>) -> Result<(), Refusal<'a>>
+    ensures ok { OnOk result (wrong_entries (plain names.now.source.now) ≡ []) }
+    ensures err { IfErr result (IsRefused (wrong_entries (plain names.now.source.now))) }
+{
+    groups(names)?;
+    headers(names)?;
+    keys(alloc, names)?;
+    commands(alloc, names.source)
+}
+
+/// Each Grouped declaration has a group.
+fn groups<'a>(names: &Names<'a>) -> Result<(), Refusal<'a>>
+    ensures ok { OnOk result (no_groups (plain names.now.source.now) ≡ []) }
+    ensures err { IfErr result (IsRefused (no_groups (plain names.now.source.now))) }
+{
+    match first_lacking(names, &names.source.avps) {
+        Some(decl) => Err(Refusal::at(DictKind::NoGroupFormat, &decl.name)),
+        None => Ok(()),
+    }
+}
+
+fn first_lacking<'d>(names: &Names<'_>, avps: &'d [Decl]) -> Option<&'d Decl>
+    ensures { option_copied result ≡ find (λ d. lacks_group (plain names.now.source.now) (plain_decl d)) avps.now }
+{
+    avps.iter().find(|decl| is_lacking(names, decl))
+}
+
+fn is_lacking(names: &Names<'_>, decl: &Decl) -> bool
+    ensures { result ≡ lacks_group (plain names.now.source.now) (plain_decl decl.now) }
+{
+    is_grouped(decl.format) && !names.is_group(&decl.name)
+}
+
+fn is_grouped(format: FormatName) -> bool
+    ensures { result ≡ is_grouped format }
+{
+    matches!(format, FormatName::Grouped)
+}
+
+/// Each group that is declared is so as Grouped and with its own key.
+fn headers<'a>(names: &Names<'a>) -> Result<(), Refusal<'a>>
+    ensures ok { OnOk result (header_mismatches (plain names.now.source.now) ≡ []) }
+    ensures err { IfErr result (IsRefused (header_mismatches (plain names.now.source.now))) }
+{
+    match first_mismatch(names, &names.source.groups) {
+        Some(group) => Err(Refusal::at(DictKind::HeaderMismatch, &group.name)),
+        None => Ok(()),
+    }
+}
+
+fn first_mismatch<'d>(names: &Names<'_>, groups: &'d [Def]) -> Option<&'d Def>
+    ensures { option_copied result ≡ find (λ g. is_mismatched (plain names.now.source.now) (plain_def g)) groups.now }
+{
+    groups.iter().find(|group| is_mismatch(names, group))
+}
+
+fn is_mismatch(names: &Names<'_>, group: &Def) -> bool
+    ensures { result ≡ is_mismatched (plain names.now.source.now) (plain_def group.now) }
+{
+    match names.declaration(&group.name) {
+        Some(decl) => !agrees(group, decl),
+        None => false,
+    }
+}
+
+fn agrees(group: &Def, decl: &Decl) -> bool
+    ensures { result ≡ agrees_with (plain_def group.now) (plain_decl decl.now) }
+{
+    is_grouped(decl.format) && key_of_group(group) == key_of_declaration(decl)
+}
+
+/// An AVP by its name and key.
+#[derive(Clone, Copy, Debug)]
+struct Named<'a> {
+    name: &'a str,
+    key: Key,
+}
+
+/// No two names of AVPs stand for one key.
+fn keys<'a>(alloc: Global, names: &Names<'a>) -> Result<(), Refusal<'a>>
+    ensures ok { OnOk result (duplicate_keys (plain names.now.source.now) ≡ []) }
+    ensures err { IfErr result (IsRefused (duplicate_keys (plain names.now.source.now))) }
+{
+    let avps = named_avps(alloc, names)?;
+    let keys = keys_of(alloc, &avps)?;
+    match distinct(alloc, &keys) {
+        Ok(_) => Ok(()),
+        Err(Repeat::At(place)) => Err(Refusal::at(DictKind::DuplicateKey, avps[place].name)),
+        Err(Repeat::NoMemory) => Err(Refusal::NoMemory),
+    }
+}
+
+fn keys_of(alloc: Global, avps: &[Named<'_>]) -> Result<Vec<HashedKey>, AllocError>
+    ensures { IfOk result (λ keys. keys.items ≡ map (λ n. hashed n.key) avps.now) }
+{
+    let mut keys = Vec::new(alloc);
+    for avp in avps {
+        keys.push(HashedKey::from(avp.key))?;
+    }
+    Ok(keys)
+}
+
+/// The declared AVPs, and then the groups without a declaration.
+fn named_avps<'a>(alloc: Global, names: &Names<'a>) -> Result<Vec<Named<'a>>, AllocError>
+    ensures { IfOk result (λ avps. map named avps.items ≡ avp_names (plain names.now.source.now)) }
+{
+    let mut avps = Vec::new(alloc);
+    push_declared(&mut avps, &names.source.avps)?;
+    push_bare(&mut avps, names, &names.source.groups)?;
+    Ok(avps)
+}
+
+fn push_declared<'a>(avps: &mut Vec<Named<'a>>, decls: &'a [Decl]) -> Result<(), AllocError>
+    ensures { OnOk result (map named avps.new.items ≡ map named avps.old.items ++ map (λ d. (d.name, key_of_decl d)) (map plain_decl decls.now)) }
+{
+    for decl in decls {
+        avps.push(Named {
+            name: &decl.name,
+            key: key_of_declaration(decl),
+        })?;
+    }
+    Ok(())
+}
+
+fn push_bare<'a>(
+    avps: &mut Vec<Named<'a>>,
+    names: &Names<'_>,
+    groups: &'a [Def],
+) -> Result<(), AllocError>
+    ensures { OnOk result (map named avps.new.items ≡ map named avps.old.items ++ map (λ g. (g.name, group_key g.head)) (filter (is_bare (plain names.now.source.now)) (map plain_def groups.now))) }
+{
+    for group in groups {
+        if !names.is_declared(&group.name) {
+            avps.push(Named {
+                name: &group.name,
+                key: key_of_group(group),
+            })?;
+        }
+    }
+    Ok(())
+}
+
+/// No two commands select the same messages.
+fn commands(alloc: Global, source: &Source) -> Result<(), Refusal<'_>>
+    ensures ok { OnOk result (duplicate_commands (plain source.now) ≡ []) }
+    ensures err { IfErr result (IsRefused (duplicate_commands (plain source.now))) }
+{
+    let selectors = selectors_of(alloc, &source.commands)?;
+    match distinct(alloc, &selectors) {
+        Ok(_) => Ok(()),
+        Err(Repeat::At(place)) => Err(Refusal::at(
+            DictKind::DuplicateCommand,
+            &source.commands[place].name,
+        )),
+        Err(Repeat::NoMemory) => Err(Refusal::NoMemory),
+    }
+}
+
+fn selectors_of(alloc: Global, commands: &[Def]) -> Result<Vec<Selector>, AllocError>
+    requires { IsTrue (list_all (λ d. not (is_group d.head)) commands.now) }
+    ensures { IfOk result (λ selectors. selectors.items ≡ map (λ d. selector_of d.head) commands.now) }
+{
+    let mut selectors = Vec::new(alloc);
+    for command in commands {
+        selectors.push(selector(&command.head))?;
+    }
+    Ok(selectors)
+}
+
+/// Which messages a command's header selects.
+fn selector(head: &Head) -> Selector
+    requires { IsTrue (not (is_group head.now)) }
+    ensures { result ≡ selector_of head.now }
+{
+    match *head {
+        Head::Group { .. } => unreachable!("a command has no group's header"),
+        Head::Command {
+            code,
+            request,
+            app,
+            ..
+        } => Selector::Command { code, request, app },
+        Head::Error { .. } => Selector::Error,
+    }
+}

@@ -1,0 +1,23 @@
+//! Dictionaries out of texts.
+
+use crate::indexed_book::tests::same_answers;
+use crate::{PlainBook, base_book, base_text, resolve};
+use dia_ccf::parse;
+use std::alloc::Global;
+use std::test::Fail;
+
+mod faults;
+mod limits;
+
+/// The dictionary that a text names.
+fn book_of(alloc: Global, text: &str) -> Result<PlainBook, Fail> {
+    Ok(resolve(alloc, parse(alloc, text)?)?)
+}
+
+#[test]
+fn base_text_names_the_base_book(rt: HostRuntime) -> Result<(), Fail> {
+    let base = base_book(rt.alloc())?;
+    let read = book_of(rt.alloc(), base_text())?;
+    same_answers(&rt, &base, &read);
+    Ok(())
+}

@@ -1,0 +1,119 @@
+//! Sources that name no dictionary, each by its first fault.
+
+use crate::{DictFault, DictKind, resolve};
+use dia_ccf::parse;
+use std::test::Fail;
+
+#[test]
+fn tells_the_first_fault(rt: HostRuntime) -> Result<(), Fail> {
+    let rows = [
+        (
+            "%avp X 1 Time any %avp X 1 Grouped any <T> ::= < Diameter Header: 302, REQ > { Z }",
+            DictKind::DuplicateName,
+            "X",
+            "",
+        ),
+        (
+            "%avp G 5 Grouped any <T> ::= < Diameter Header: 302, REQ > { Z }",
+            DictKind::NoGroupFormat,
+            "G",
+            "",
+        ),
+        (
+            "%avp G 5 Time any <G> ::= < AVP Header: 5 > %avp H 5 Time any",
+            DictKind::HeaderMismatch,
+            "G",
+            "",
+        ),
+        (
+            "%avp G 5 Grouped any <G> ::= < AVP Header: 6 >",
+            DictKind::HeaderMismatch,
+            "G",
+            "",
+        ),
+        (
+            "%avp A 1 Time any %avp B 1 Time any",
+            DictKind::DuplicateKey,
+            "B",
+            "",
+        ),
+        (
+            "<G> ::= < AVP Header: 1 > %avp A 1 Time any",
+            DictKind::DuplicateKey,
+            "G",
+            "",
+        ),
+        (
+            "<T> ::= < Diameter Header: 302, REQ > <U> ::= < Diameter Header: 302, REQ, PXY >",
+            DictKind::DuplicateCommand,
+            "U",
+            "",
+        ),
+        (
+            "<T> ::= < Diameter Header: code, ERR > <U> ::= < Diameter Header: code, ERR, PXY >",
+            DictKind::DuplicateCommand,
+            "U",
+            "",
+        ),
+        (
+            "%avp X 9002 Time any <T> ::= < Diameter Header: 302, REQ > { X } [ Z ]",
+            DictKind::UndefinedName,
+            "T",
+            "Z",
+        ),
+        (
+            "%avp X 9002 Time any <T> ::= < Diameter Header: 302, REQ > { X } [ X ]",
+            DictKind::RepeatedSlot,
+            "T",
+            "X",
+        ),
+        (
+            "<T> ::= < Diameter Header: 302, REQ > * [ AVP ] * { AVP }",
+            DictKind::RepeatedSlot,
+            "T",
+            "AVP",
+        ),
+        (
+            "%avp X 9002 Time any <T> ::= < Diameter Header: 302, REQ > *0 { X }",
+            DictKind::MinOverMax,
+            "T",
+            "X",
+        ),
+        (
+            "%avp X 9002 Time any <T> ::= < Diameter Header: 302, REQ > 0*0 { X }",
+            DictKind::RequiredMin,
+            "T",
+            "X",
+        ),
+        (
+            "<T> ::= < Diameter Header: 302, REQ > 0* { AVP }",
+            DictKind::RequiredMin,
+            "T",
+            "AVP",
+        ),
+        (
+            "%avp X 9002 Time any <T> ::= < Diameter Header: 302, REQ > 1* [ X ]",
+            DictKind::OptionalMin,
+            "T",
+            "X",
+        ),
+    ];
+    for (text, kind, name, slot) in rows.iter() {
+        let source = parse(rt.alloc(), text)?;
+        match resolve(rt.alloc(), source) {
+            Err(
+                DictFault::Stands {
+                    kind: k,
+                    name: n,
+                    slot: s,
+                },
+            ) => {
+                assert_eq!(rt; k, *kind, "{text}");
+                assert_eq!(rt; n.as_str(), *name, "{text}");
+                assert_eq!(rt; s.as_str(), *slot, "{text}");
+            }
+            _ => assert!(rt; false, "{text}"),
+        }
+    }
+    Ok(())
+}
