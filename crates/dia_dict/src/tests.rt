@@ -1,7 +1,7 @@
 //! Dictionaries out of texts.
 
 use crate::indexed_book::tests::same_answers;
-use crate::{PlainBook, base_book, base_text, resolve};
+use crate::{DictFault, DictKind, PlainBook, base_book, base_text, resolve};
 use dia_ccf::parse;
 use std::alloc::Global;
 use std::test::Fail;
@@ -12,6 +12,14 @@ mod limits;
 /// The dictionary that a text names.
 fn book_of(alloc: Global, text: &str) -> Result<PlainBook, Fail> {
     Ok(resolve(alloc, parse(alloc, text)?)?)
+}
+
+/// The kind and the names of a text's fault.
+fn fault_of(alloc: Global, text: &str) -> Result<Option<(DictKind, String, String)>, Fail> {
+    match resolve(alloc, parse(alloc, text)?) {
+        Err(DictFault::Stands { kind, name, slot }) => Ok(Some((kind, name, slot))),
+        _ => Ok(None),
+    }
 }
 
 #[test]

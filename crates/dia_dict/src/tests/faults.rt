@@ -1,7 +1,7 @@
 //! Sources that name no dictionary, each by its first fault.
 
-use crate::{DictFault, DictKind, resolve};
-use dia_ccf::parse;
+use super::fault_of;
+use crate::DictKind;
 use std::test::Fail;
 
 #[test]
@@ -99,20 +99,13 @@ fn tells_the_first_fault(rt: HostRuntime) -> Result<(), Fail> {
         ),
     ];
     for (text, kind, name, slot) in rows.iter() {
-        let source = parse(rt.alloc(), text)?;
-        match resolve(rt.alloc(), source) {
-            Err(
-                DictFault::Stands {
-                    kind: k,
-                    name: n,
-                    slot: s,
-                },
-            ) => {
-                assert_eq!(rt; k, *kind, "{text}");
-                assert_eq!(rt; n.as_str(), *name, "{text}");
-                assert_eq!(rt; s.as_str(), *slot, "{text}");
+        match fault_of(rt.alloc(), text)? {
+            Some((found, at, in_slot)) => {
+                assert_eq!(rt; found, *kind, "{text}");
+                assert_eq!(rt; at.as_str(), *name, "{text}");
+                assert_eq!(rt; in_slot.as_str(), *slot, "{text}");
             }
-            _ => assert!(rt; false, "{text}"),
+            None => assert!(rt; false, "{text}"),
         }
     }
     Ok(())

@@ -1,8 +1,7 @@
 //! Sources at their limits, and above them.
 
-use super::book_of;
-use crate::{Book, DictFault, DictKind, resolve};
-use dia_ccf::parse;
+use super::{book_of, fault_of};
+use crate::{Book, DictKind};
 use std::alloc::{AllocError, Global};
 use std::test::Fail;
 
@@ -25,14 +24,6 @@ fn declarations(alloc: Global, count: u32) -> Result<String, AllocError> {
         write!(text, "%avp A{code} {code} Time any\n")?;
     }
     Ok(text)
-}
-
-/// The kind and the names of a text's fault.
-fn fault_of(alloc: Global, text: &str) -> Result<Option<(DictKind, String, String)>, Fail> {
-    match resolve(alloc, parse(alloc, text)?) {
-        Err(DictFault::Stands { kind, name, slot }) => Ok(Some((kind, name, slot))),
-        _ => Ok(None),
-    }
 }
 
 #[test]
