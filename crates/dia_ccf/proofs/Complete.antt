@@ -403,3 +403,10 @@ items_taken (i ∷ items) done ts (xs, ys, parts, h, k) = ap (outcome (done, Bet
 -- what is derived, the machine reads
 pub complete : (ts : List Token) (s : PlainSource) → Derives ts s → outcome (nothing_read, Between) ts ≡ Reads s
 complete ts s (items, h, is) = items_taken items nothing_read ts h ∙ ap Reads (after-source items ∙ sym is)
+
+same_read : (a b : PlainSource) → Reads a ≡ Reads b → a ≡ b
+same_read a b h = cc
+
+-- no tokens are derived for two sources
+pub one_source : (ts : List Token) (a b : PlainSource) → Derives ts a → Derives ts b → a ≡ b
+one_source ts a b h k = same_read a b (sym (complete ts a h) ∙ complete ts b k)

@@ -122,9 +122,6 @@ number_witness done p m h = absurd cc
 
 -- ---- the fault
 
-start_sound : is_sound Between ≡ true
-start_sound = refl
-
 get_seam : {X : Type 0} (xs ys : List X) → slice_get (xs ++ ys) (length xs) ≡ slice_get ys 0
 get_seam [] ys = refl
 get_seam (x ∷ xs) ys = get_seam xs ys

@@ -18,4 +18,5 @@ pub mod Completion
 pub mod FirstFault
 pub mod Capping
 pub mod Parsed
+pub mod OneFault
 pub mod Answering

@@ -13,6 +13,6 @@ mod tests;
 
 pub use fault::CcfFault;
 pub use names::{MAX_NAME, is_name};
-pub use parsing::{MAX_TEXT, one_source, parse};
+pub use parsing::{MAX_TEXT, one_fault, one_source, parse};
 pub use rendering::render;
 pub use source::{Decl, Def, FormatName, Head, MRule, Pxy, Qual, Rule, RuleKind, Source};

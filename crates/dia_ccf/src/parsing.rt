@@ -1,6 +1,7 @@
 //! Reading a dictionary text.
 
-ghost use Rattle.std.specs.Prelude.{◌≡◌, ◌<◌, ◌≤◌, List, length, Err, MatchResult, IfOk, IfErr};
+ghost use Rattle.std.specs.Prelude.{◌≡◌, ◌<◌, ◌≤◌, ℕ, List, length, Err, MatchResult, IfOk, IfErr};
+ghost use Rattle.dia_ccf.specs.declared.fault.CcfFault.{CcfFault as AnyFault};
 ghost use Rattle.dia_ccf.specs.Plain.{PlainSource, plain};
 ghost use Rattle.dia_ccf.specs.Tokens.{Token, tokens};
 ghost use Rattle.dia_ccf.specs.Grammar.{Derives};
@@ -33,6 +34,11 @@ pub fn parse(alloc: Global, text: &str) -> Result<Source, CcfFault>
         Err(refusal) => Err(reader.fault(refusal)),
     }
 }
+
+/// A text has one fault at most, so that `parse` can tell no other.
+pub fn one_fault()
+    ensures { (text : List ℕ) (a b : AnyFault) → IsFault text a → IsFault text b → ¬ (a ≡ CcfFault.NoMemory) → ¬ (b ≡ CcfFault.NoMemory) → a ≡ b }
+{}
 
 /// No tokens are derived for two sources.
 pub fn one_source()

@@ -1,22 +1,20 @@
 -- A source with nothing wrong, member by member.
-use Rattle.std.proofs.Common.{◌≡◌, ◌≢◌, ℕ, ◌+◌, ◌<◌, ◌≤◌, Bool, true, false, cond, nat_lt, List, [], ◌∷◌, ◌++◌, length, map, filter, find, Option, Some, None, ◌⊎◌, inl, inr, ⊎_elim, refl, sym, ap, ◌∙◌, subst, arith}
-use Rattle.std.specs.Prelude.{slice_get, is_some, IsSome, not, string_bytes, String, if◌then◌else◌}
+use Rattle.std.proofs.Common.{◌≡◌, ℕ, ◌+◌, ◌≤◌, Bool, true, false, nat_lt, List, [], ◌∷◌, length, map, filter, Option, Some, None, ⊎_elim, refl, sym, ap, ◌∙◌, subst}
+use Rattle.std.specs.Prelude.{slice_get, IsSome, not, string_bytes, String, if◌then◌else◌}
 use Rattle.std.specs.Global.{Global}
 use Rattle.std.specs.Option.{option_map}
-use Rattle.std.specs.List.{list_any, list_all, flat_map}
-use Rattle.std.proofs.lemmas.Bool.{ltb-false, not-false, both_ways, false_from_ne_true}
+use Rattle.std.proofs.lemmas.Bool.{ltb-false}
 use Rattle.std.proofs.lemmas.Simd.{map-map}
 use Rattle.dia_wire.specs.declared.Key.{Key}
 use Rattle.dia_ccf.specs.declared.source.Source.{Source}
 use Rattle.dia_ccf.specs.declared.source.Def.{Def}
-use Rattle.dia_ccf.specs.declared.source.Rule.{Rule}
 use Rattle.dia_ccf.specs.declared.source.RuleKind.{RuleKind}
 use Rattle.dia_ccf.specs.declared.source.RuleKind.TheVariants.{Fixed, Required, Optional}
 use Rattle.dia_ccf.specs.Names.{same_bytes, is_group, is_fixed, is_rule_name, fixed_first}
 use Rattle.dia_ccf.specs.Plain.{PlainSource, PlainDecl, PlainDef, PlainRule, plain, plain_def, plain_rule}
 use Rattle.dia_dict.specs.declared.fault.DictKind.TheVariants as kind
 use Rattle.dia_dict.specs.declared.fault.DictKind.{DictKind}
-use Rattle.dia_dict.specs.Resolution.{Wrong, wrong, all_wrong, wrong_limits, wrong_names, wrong_entries, wrong_rules, too_many, duplicate_names, no_groups, header_mismatches, duplicate_keys, duplicate_commands, bad_rules, bad_in, repeated_slots, repeated_in, slot_name, all_defs, avp_names as names_of, lacks_group, is_mismatched, is_long, is_bad, repeats, same_slot, same_selector}
+use Rattle.dia_dict.specs.Resolution.{Wrong, wrong, all_wrong, wrong_limits, wrong_names, wrong_entries, wrong_rules, too_many, duplicate_names, no_groups, header_mismatches, duplicate_keys, duplicate_commands, bad_rules, bad_in, repeated_slots, repeated_in, slot_name, all_defs, avp_names as names_of, lacks_group, is_mismatched, is_long, is_bad, repeats, same_slot}
 use Rattle.dia_dict.proofs.Duplicates.{same_named, same_command}
 use Rattle.dia_dict.proofs.Members.{append-none, map-none, filter-none_at, flat_map-none_at, list_all_at, at_map, at_append}
 

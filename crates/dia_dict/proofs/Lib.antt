@@ -1,4 +1,5 @@
 pub mod Lists
+pub mod Keys
 pub mod Numbering
 pub mod Rows
 pub mod Opened

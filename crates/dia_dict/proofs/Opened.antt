@@ -1,9 +1,9 @@
 -- A dictionary's facts out of a truncation: each of them has one proof at most, or can be found again.
-use Rattle.std.proofs.Common.{◌≡◌, ◌≢◌, ℕ, ◌≤◌, Bool, true, false, cond, List, [], ◌∷◌, ◌++◌, length, Option, Some, None, refl, sym, ap, ◌∙◌, subst}
+use Rattle.std.proofs.Common.{◌≡◌, ℕ, ◌≤◌, false, List, Option, Some, None, sym, subst}
 use Rattle.std.proofs.Math.Logic.{∥∥₁_elim, ∥∥₁_prop}
 use Rattle.std.proofs.Props.{props}
-use Rattle.std.specs.Prelude.{slice_get, IsTrue, IsSome, IfSome, All, Contains, ◌↔◌, ⊤}
-use Rattle.std.specs.List.{list_any, list_all}
+use Rattle.std.specs.Prelude.{IfSome}
+use Rattle.std.specs.List.{list_any}
 use mathlib.Core.Sum.{⊎_set}
 use Rattle.dia_wire.specs.declared.Key.{Key}
 use Rattle.dia_data.specs.Plain.{PlainFormat, Grouped}
@@ -13,7 +13,7 @@ use Rattle.dia_ccf.specs.declared.RuleKind.TheVariants.{Fixed, Required, Optiona
 use Rattle.dia_dict.specs.declared.definition.DRule.{DRule}
 use Rattle.dia_dict.specs.declared.definition.DefHead.{DefHead}
 use Rattle.dia_dict.specs.declared.definition.DefHead.TheVariants.{Group, Command, Error}
-use Rattle.dia_dict.specs.Dictionary.{PlainDefinition, DictEntry, Dictionary, IsDictionary, AreRules, IsLeast, IsSameSelector, IsCommandHead, is_fixed}
+use Rattle.dia_dict.specs.Dictionary.{PlainDefinition, Dictionary, IsDictionary, AreRules, IsLeast, IsCommandHead, is_fixed}
 
 IsLeast-prop : (kind : RuleKind) (n : ℕ) → IsProp (IsLeast kind n)
 IsLeast-prop Fixed n = hlevel props

@@ -1,13 +1,13 @@
 -- What is told of a list of faults that was put together.
-use Rattle.std.proofs.Common.{◌≡◌, ℕ, zero, suc, ◌+◌, ◌<◌, length, take, drop, get_or, Bool, true, false, cond, List, [], ◌∷◌, ◌++◌, map, filter, find, Option, Some, None, refl, sym, ap, ◌∙◌, subst}
-use Rattle.std.specs.Prelude.{slice_get, ⊤}
+use Rattle.std.proofs.Common.{◌≡◌, ℕ, ◌+◌, ◌<◌, length, take, drop, get_or, Bool, true, false, cond, List, [], ◌∷◌, ◌++◌, map, filter, find, Some, None, refl, sym, ap, ◌∙◌, subst}
+use Rattle.std.specs.Prelude.{slice_get}
 use Rattle.std.specs.List.{flat_map}
-use Rattle.std.specs.Option.{option_map, option_or}
+use Rattle.std.specs.Option.{option_map}
 use Rattle.std.proofs.lemmas.Option.{none-some, slice_get-map}
 use Rattle.dia_dict.proofs.Named.{find-map}
 use Rattle.dia_dict.specs.declared.resolving.refusal.Refusal.{Refusal}
 use Rattle.dia_dict.specs.declared.resolving.refusal.Refusal.TheVariants.{Stands, NoMemory}
-use Rattle.std.proofs.lemmas.List.{map-append, take-append-drop, drop_more, take_more}
+use Rattle.std.proofs.lemmas.List.{map-append, take-append-drop, drop_more}
 use Rattle.std.proofs.lemmas.List.Concat.{flat_map-append}
 use Rattle.std.proofs.lemmas.List.Elements.{filter-append}
 use Rattle.dia_ccf.specs.Plain.{PlainDef}
@@ -76,11 +76,6 @@ too_many_rules-append ds es =
 module _ {X : Type 0} (faults : X → List Wrong) (xs : List X) (i : ℕ) (x : X) (within : i < length xs) (read : x ≡ get_or xs i x) (before : flat_map faults (take i xs) ≡ []) where
   split_at : xs ≡ take i xs ++ x ∷ drop (i + 1) xs
   split_at = sym (take-append-drop i xs) ∙ ap (λ ys. take i xs ++ ys) (drop_more xs i x within ∙ ap (λ y. y ∷ drop (i + 1) xs) (sym read))
-
-  pub flat_map-none_more : faults x ≡ [] → flat_map faults (take (i + 1) xs) ≡ []
-  flat_map-none_more none =
-      ap (flat_map faults) (take_more xs i x within ∙ ap (λ y. take i xs ++ y ∷ []) (sym read)) ∙ flat_map-append faults (take i xs) (x ∷ [])
-      ∙ none-append (flat_map faults (take i xs)) (faults x ++ []) before (ap (λ ws. ws ++ []) none)
 
   pub IsRefused-flat_map : (e : Refusal) → IsRefused (faults x) e → IsRefused (flat_map faults xs) e
   IsRefused-flat_map e refused =

@@ -1,5 +1,5 @@
 -- The members of a list that are like an earlier one.
-use Rattle.std.proofs.Common.{◌≡◌, ℕ, zero, suc, ◌+◌, ◌<◌, Bool, true, false, cond, List, [], ◌∷◌, ◌++◌, length, map, take, drop, get_or, Option, Some, None, refl, sym, ap, ◌∙◌, subst, arith}
+use Rattle.std.proofs.Common.{◌≡◌, ℕ, ◌+◌, ◌<◌, Bool, true, false, cond, List, [], ◌∷◌, ◌++◌, length, map, take, drop, get_or, Option, Some, None, refl, sym, ap, ◌∙◌, arith}
 use Rattle.std.specs.Prelude.{slice_get, if◌then◌else◌}
 use Rattle.std.specs.List.{list_any}
 use Rattle.std.specs.Option.{option_map}
@@ -100,9 +100,6 @@ pub record AreDistinct {X : Type 0} (same : X → X → Bool) (items keys : List
   pub kept : keys ≡ take place items
   pub none : repeats same [] (take place items) ≡ []
 
-pub AreDistinct-none : {X : Type 0} (same : X → X → Bool) (items keys : List X) → keys ≡ [] → AreDistinct same items keys 0
-AreDistinct-none same items keys e = record { kept = e; none = refl }
-
 pub AreDistinct-more : {X : Type 0} (same : X → X → Bool) (items keys next : List X) (place : ℕ) (x : X) → AreDistinct same items keys place → place < length items → x ≡ get_or items place x
     → list_any (same x) keys ≡ false → next ≡ (if list_any (same x) keys then keys else keys ++ x ∷ []) → AreDistinct same items next (place + 1)
 AreDistinct-more same items keys next place x d within read fresh step =
@@ -112,12 +109,3 @@ AreDistinct-more same items keys next place x d within read fresh step =
       none = ap (repeats same []) more ∙ repeats-append same [] (take place items) (x ∷ []) ∙ ap (λ zs. zs ++ repeats same (take place items) (x ∷ [])) d.none
           ∙ ap (λ b. cond b (x ∷ []) []) (ap (list_any (same x)) (sym d.kept) ∙ fresh);
     }
-
-pub AreDistinct-repeat : {X : Type 0} (same : X → X → Bool) (items keys : List X) (place : ℕ) (x : X) → AreDistinct same items keys place → place < length items → x ≡ get_or items place x
-    → list_any (same x) keys ≡ true → IsFirstRepeat same items place
-AreDistinct-repeat same items keys place x d within read known = record {
-  item = x;
-  at = slice_get_read items (length items) place x refl within read;
-  repeated = ap (list_any (same x)) (sym d.kept) ∙ known;
-  first = d.none;
-}

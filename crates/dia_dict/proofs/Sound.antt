@@ -1,10 +1,10 @@
 -- What a sound source means is a dictionary.
-use Rattle.std.proofs.Common.{◌≡◌, ◌≢◌, ℕ, zero, suc, ◌+◌, ◌<◌, ◌≤◌, Bool, true, false, cond, List, [], ◌∷◌, ◌++◌, length, map, filter, find, Option, Some, None, ◌⊎◌, inl, inr, ⊎_elim, refl, sym, ap, ◌∙◌, subst, arith}
-use Rattle.std.specs.Prelude.{slice_get, position, is_some, IsSome, IfSome, All, Contains, not, ◌↔◌, option_and_then, ◌==◌, ◌&&◌, nat_eq, nat_lt, IsTrue, unwrap_or, codes, if◌then◌else◌}
-use Rattle.std.specs.List.{list_any, list_all, filter_map}
+use Rattle.std.proofs.Common.{◌≡◌, ◌≢◌, ℕ, ◌+◌, ◌≤◌, Bool, true, false, cond, List, [], ◌∷◌, ◌++◌, length, map, find, Option, Some, None, ⊎_elim, refl, sym, ap, ◌∙◌, subst, arith}
+use Rattle.std.specs.Prelude.{slice_get, is_some, IsSome, IfSome, Contains, not, ◌↔◌, option_and_then, ◌==◌, ◌&&◌, nat_eq, nat_lt, IsTrue, unwrap_or, codes, if◌then◌else◌}
+use Rattle.std.specs.List.{list_any, list_all}
 use Rattle.std.specs.Option.{option_map, option_map_or, option_or, option_eq}
 use Rattle.dia_wire.specs.declared.Key.{Key}
-use Rattle.dia_data.specs.Plain.{PlainFormat, Grouped}
+use Rattle.dia_data.specs.Plain.{Grouped}
 use Rattle.dia_ccf.specs.declared.source.FormatName.{FormatName}
 use Rattle.dia_ccf.specs.declared.source.FormatName.TheVariants as name
 use Rattle.dia_ccf.specs.declared.source.Head.{Head}
@@ -20,31 +20,19 @@ use Rattle.dia_dict.specs.declared.definition.DRule.{DRule}
 use Rattle.dia_dict.specs.declared.definition.Class.TheVariants as classes
 use Rattle.dia_dict.specs.declared.definition.DefHead.{DefHead}
 use Rattle.dia_dict.specs.declared.definition.DefHead.TheVariants.{Group, Command, Error}
-use Rattle.dia_dict.specs.Dictionary.{PlainDefinition, DictEntry, Dictionary, IsDictionary, AreRules, IsSameSelector, IsCommandHead, IsLeast, is_fixed, groups as groups_of, definitions, entry_of}
+use Rattle.dia_dict.specs.Dictionary.{PlainDefinition, DictEntry, IsDictionary, AreRules, IsSameSelector, IsCommandHead, IsLeast, is_fixed, groups as groups_of, definitions, entry_of}
 use Rattle.dia_dict.specs.Resolution.{resolved, declared_entry, bare_entry, bare_groups, definition_of, rule_of, head_of, key_of_name, key_of_decl, group_key, names_decl, names_def, avp_names, all_defs, is_bare, repeats, same_selector, agrees_with, is_grouped, format_of, class_of, is_bad, least, greatest, slot_name, same_slot}
-use Rattle.std.proofs.lemmas.Bool.{and_from, and_parts, eq-eqb, eqb-true, both_ways, not-false, not-true, or_from, ltb-false, eqb-false}
+use Rattle.std.proofs.lemmas.Bool.{and_from, and_parts, eq-eqb, both_ways, not-false, not-true, or_from, ltb-false, eqb-false}
 use Rattle.std.proofs.lemmas.List.{map-append, length-map, length-append}
 use Rattle.std.proofs.lemmas.List.Filters.{length-filter_both}
 use Rattle.std.proofs.lemmas.Option.{none-some, same_Some}
 use Rattle.std.proofs.lemmas.Simd.{map-map}
 use Rattle.dia_dict.proofs.Named.{same_bytes-true, same_bytes-refl, same_bytes-Decides}
 use Rattle.dia_dict.proofs.Duplicates.{same_named, same_command}
-use Rattle.dia_dict.proofs.Members.{IsAt, AreApart, into_left, into_right, into_map, All-from_places, at_map, at_append, at_filter, into_filter, at_find, find-found, find-is_some, at_Contains, at_filter_map, position-is_some, list_any-none_at, AreApart-filter, repeats-distinct}
+use Rattle.dia_dict.proofs.Members.{AreApart, into_left, into_right, into_map, All-from_places, at_map, at_append, at_filter, into_filter, at_find, find-found, find-is_some, at_Contains, at_filter_map, position-is_some, list_any-none_at, AreApart-filter, repeats-distinct}
 use Rattle.dia_dict.proofs.Lists.{front, rest, front-append-rest, list_all-front}
 use Rattle.dia_dict.proofs.Clean.{IsFormed, IsClean}
-
-same_key-refl : (k : Key) → same_key k k ≡ true
-same_key-refl k = and_from _ _ (eq-eqb k.code k.code refl) (eq-eqb k.vendor k.vendor refl)
-
-same_key-equal : (a b : Key) → a ≡ b → same_key a b ≡ true
-same_key-equal a b e = subst (λ k. same_key a k ≡ true) e (same_key-refl a)
-
-same_key-true : (a b : Key) → same_key a b ≡ true → a ≡ b
-same_key-true a b e =
-    let parts = and_parts (a.code == b.code) (a.vendor == b.vendor) e in
-    let code = eqb-true a.code b.code parts.0 in
-    let vendor = eqb-true a.vendor b.vendor parts.1 in
-    λ i. record { code = code i; vendor = vendor i }
+use Rattle.dia_dict.proofs.Keys.{same_key-refl, same_key-equal, same_key-true}
 
 same_bytes-equal : (a b : List ℕ) → a ≡ b → same_bytes a b ≡ true
 same_bytes-equal a b = (same_bytes-Decides a b).1

@@ -1,11 +1,10 @@
 -- Dictionaries: finite maps of keys to entries, of Grouped entries to definitions, and of selectors to definitions.
-use Rattle.std.specs.Prelude.{◌≡◌, ◌≢◌, ℕ, ◌+◌, ◌<◌, ◌≤◌, ◌⊎◌, nat_eq, Bool, true, false, ◌==◌, ◌&&◌, if◌then◌else◌, List, [], ◌∷◌, ◌++◌, length, map, Option, Some, None, slice_get, position, is_some, take, not, option_and_then, IsTrue, IsSome, IfSome, ⊤, string_bytes, All, Contains, ◌↔◌}
+use Rattle.std.specs.Prelude.{◌≡◌, ◌≢◌, ℕ, ◌+◌, ◌≤◌, nat_eq, Bool, true, false, ◌==◌, ◌&&◌, if◌then◌else◌, List, ◌++◌, length, Option, Some, None, slice_get, position, take, option_and_then, IsTrue, IsSome, IfSome, ⊤, string_bytes, All, Contains, ◌↔◌}
 use Rattle.std.specs.List.{filter_map, list_any, list_all}
 use Rattle.std.specs.Option.{option_eq, option_map, option_map_or, option_or}
 use Rattle.dia_wire.specs.declared.Key.{Key}
 use Rattle.dia_data.specs.Plain.{PlainFormat, Grouped}
 use Rattle.dia_ccf.specs.declared.MRule.{MRule}
-use Rattle.dia_ccf.specs.declared.Pxy.{Pxy}
 use Rattle.dia_ccf.specs.declared.RuleKind.{RuleKind}
 use Rattle.dia_ccf.specs.declared.RuleKind.TheVariants.{Fixed, Required, Optional}
 use Rattle.dia_dict.specs.Keys.{same_key}
@@ -52,9 +51,6 @@ lists_key key rule = option_map_or (same_key key) rule.key false
 
 abbrev pub is_fixed : DRule → Bool
 is_fixed rule = elim rule.kind [ Fixed ↦ true | Required ↦ false | Optional ↦ false ]
-
-abbrev pub is_wildcard : DRule → Bool
-is_wildcard rule = not (is_some rule.key)
 
 abbrev pub slot_at : List DRule → ℕ → Slot
 slot_at rules i = option_map_or (λ rule. if is_fixed rule then slot.Fixed i else slot.Loose i) (slice_get rules i) slot.Unlisted

@@ -1,5 +1,5 @@
 -- What the lists of a plain book mean.
-use Rattle.std.specs.Prelude.{ℕ, List, map, take, drop, length, Option, Some, None, slice_get, option_and_then, string_bytes}
+use Rattle.std.specs.Prelude.{ℕ, List, map, slice_get, option_and_then, string_bytes}
 use Rattle.std.specs.List.{filter_map}
 use Rattle.dia_data.specs.Plain.{plain as plain_format}
 use Rattle.dia_dict.specs.declared.definition.Definition.{Definition}

@@ -4,7 +4,6 @@ use Rattle.std.specs.List.{list_any}
 use Rattle.dia_wire.specs.declared.Key.{Key}
 use Rattle.dia_ccf.specs.declared.Head.{Head}
 use Rattle.dia_ccf.specs.declared.Head.TheVariants as head
-use Rattle.dia_dict.specs.declared.hashed.HashedKey.{HashedKey}
 use Rattle.dia_dict.specs.declared.hashed.Selector.{Selector}
 use Rattle.dia_dict.specs.declared.hashed.Selector.TheVariants as selector
 use Rattle.dia_dict.specs.declared.resolving.checks.Named.{Named}
@@ -48,9 +47,6 @@ IsRepeat same items repeat.NoMemory = ⊤
 -- an AVP's name and key
 abbrev pub named : Named → List ℕ × Key
 named n = (n.name.now, n.key)
-
-abbrev pub hashed : Key → HashedKey
-hashed key = record { code = key.code; vendor = key.vendor }
 
 -- what a command's header selects
 abbrev pub selector_of : Head → Selector

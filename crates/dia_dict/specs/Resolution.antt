@@ -1,6 +1,6 @@
 -- What a source means, and what is wrong with one that means nothing.
-use Rattle.std.specs.Prelude.{◌≡◌, ℕ, ◌+◌, ◌*◌, nat_lt, nat_eq, Bool, true, false, not, ◌==◌, ◌&&◌, ◌||◌, if◌then◌else◌, List, [], ◌∷◌, ◌++◌, length, map, filter, Option, Some, None, option_and_then, unwrap_or, find, position, is_some, codes, slice_get, string_bytes, ⊤}
-use Rattle.std.specs.List.{filter_map, flat_map, list_any, starts_with}
+use Rattle.std.specs.Prelude.{◌≡◌, ℕ, ◌+◌, nat_lt, nat_eq, Bool, true, false, not, ◌==◌, ◌&&◌, if◌then◌else◌, List, [], ◌∷◌, ◌++◌, length, map, filter, Option, Some, None, option_and_then, unwrap_or, find, is_some, codes, slice_get, string_bytes, ⊤}
+use Rattle.std.specs.List.{flat_map, list_any}
 use Rattle.std.specs.Option.{option_eq, option_map, option_map_or, option_or}
 use Rattle.dia_ccf.specs.declared.Pxy.{Pxy}
 use Rattle.dia_ccf.specs.declared.Pxy.TheVariants.{Clear, Set}
@@ -9,7 +9,6 @@ use Rattle.dia_data.specs.Plain as formats
 use Rattle.dia_data.specs.Plain.{PlainFormat}
 use Rattle.dia_ccf.specs.declared.FormatName.{FormatName}
 use Rattle.dia_ccf.specs.declared.FormatName.TheVariants as name
-use Rattle.dia_ccf.specs.declared.MRule.{MRule}
 use Rattle.dia_ccf.specs.declared.MRule.TheVariants as m_rule
 use Rattle.dia_ccf.specs.declared.Head.{Head}
 use Rattle.dia_ccf.specs.declared.Head.TheVariants as head

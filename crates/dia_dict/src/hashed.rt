@@ -1,27 +1,5 @@
-//! Keys of maps: what AVPs and commands are looked up by.
+//! Keys of maps: what commands are looked up by.
 use crate::definition::{Class, DefHead};
-use dia_wire::Key;
-
-/// The key of an AVP, to be hashed.
-#[derive(Clone, Copy, Debug, PartialEq, Eq, Hash)]
-pub(crate) struct HashedKey {
-    pub code: u32,
-    pub vendor: u32,
-}
-
-impl From<Key> for HashedKey {
-    ghost use Rattle.dia_dict.specs.Refusing.{hashed};
-    ghost use Rattle.std.specs.Prelude.{◌≡◌};
-
-    ghost from_gives = { λ key h. h ≡ hashed key };
-
-    fn from(key: Key) -> HashedKey {
-        HashedKey {
-            code: key.code,
-            vendor: key.vendor,
-        }
-    }
-}
 
 /// Which messages a command is for.
 #[derive(Clone, Copy, Debug, PartialEq, Eq, Hash)]

@@ -8,6 +8,7 @@ use std::test::Fail;
 
 mod faults;
 mod limits;
+mod memory;
 
 /// The dictionary that a text names.
 fn book_of(alloc: Global, text: &str) -> Result<PlainBook, Fail> {

@@ -12,7 +12,7 @@ mod writing;
 pub use avp::{Avp, AvpFault, AvpHead, key};
 pub use code::Key;
 pub use header::{HeadFault, Header};
-pub use reading::{avp_head, next_avp, number32, one_spelling, read_header};
+pub use reading::{avp_head, next_avp, number32, one_header, one_spelling, read_header};
 pub use writing::{PutFault, put_avp, put_message};
 
 #[cfg(test)]

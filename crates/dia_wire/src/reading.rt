@@ -1,6 +1,7 @@
 //! Headers and AVPs read from bytes.
 
 ghost use Rattle.std.specs.Prelude.{◌≡◌, ◌≢◌, ◌<◌, ◌≤◌, ◌↔◌, length, take, drop, slice_index, IfOk, IfSome, IsSome, IsErr, OnErr, ◌⊎◌, Ok, Err, None, ℕ, List, ◌++◌};
+ghost use Rattle.dia_wire.specs.declared.header.Header.{Header as AnyHeader};
 ghost use Rattle.dia_wire.specs.Number.{number};
 ghost use Rattle.dia_wire.specs.Wire.{IsHead, IsMessageLength, PlainAvp, Spells, BeginsWith, BeginsWithNone, HasWholeHead, Heads, CannotBegin, IsBadLength, plain};
 
@@ -78,6 +79,11 @@ pub fn next_avp(level: &[u8]) -> Result<Option<(Avp<'_>, &[u8])>, AvpFault>
     };
     Ok(Some((avp, &level[whole..])))
 }
+
+/// Bytes spell at most one header and one Message Length.
+pub fn one_header()
+    ensures { (h k : AnyHeader) (n m : ℕ) (b : List ℕ) → IsHead h n b → IsHead k m b → (h ≡ k) × (n ≡ m) }
+{}
 
 /// No spelling of an AVP begins another, and bytes spell at most one AVP.
 /// So what was written is read again, whatever follows it.

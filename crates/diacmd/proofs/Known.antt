@@ -1,8 +1,7 @@
 -- What a dictionary knows of an AVP, from what a book's look-ups answer.
-use Rattle.std.proofs.Common.{◌≡◌, ℕ, ◌<◌, List, Option, Some, None, length, refl, sym, ap, subst, ◌∙◌, arith, inl, inr}
+use Rattle.std.proofs.Common.{◌≡◌, ℕ, List, Option, Some, refl, sym, ap, ◌∙◌, arith, inl, inr}
 use Rattle.std.specs.Prelude.{slice_get, IfSome, option_and_then}
 use Rattle.std.proofs.lemmas.Option.{slice_get_cases}
-use Rattle.dia_wire.specs.declared.Key.{Key}
 use Rattle.dia_wire.specs.Wire.{PlainAvp, key_of}
 use Rattle.dia_data.specs.declared.Format.{Format}
 use Rattle.dia_data.specs.declared.Format.TheVariants as format

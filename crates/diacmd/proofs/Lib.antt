@@ -2,4 +2,6 @@ pub mod Putting
 pub mod Refusing
 pub mod Known
 pub mod Owed
+pub mod OneListing
+pub mod OneOutcome
 pub mod Telling

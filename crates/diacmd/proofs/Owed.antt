@@ -1,14 +1,13 @@
 -- The lines of a level and of the groups in it, with the levels that are not done kept in a list, the outermost first.
-use Rattle.std.proofs.Common.{◌≡◌, ℕ, suc, ◌+◌, ◌-◌, ◌*◌, ◌^◌, ◌<◌, ◌≤◌, Bool, true, false, List, [], ◌∷◌, ◌++◌, length, refl, sym, ap, subst, ◌∙◌, append_assoc, arith, inl, inr}
+use Rattle.std.proofs.Common.{◌≡◌, ℕ, ◌+◌, ◌-◌, ◌^◌, ◌<◌, ◌≤◌, Bool, true, false, List, [], ◌∷◌, ◌++◌, length, refl, sym, ap, subst, ◌∙◌, append_assoc, arith, inl, inr}
 use Rattle.std.specs.Prelude.{◌⊎◌, sum_by, codes}
 use Rattle.std.specs.List.{AllByRecursion}
 use Rattle.std.proofs.lemmas.List.{append-nil, length-append}
-use Rattle.std.proofs.lemmas.List.Sums.{sum_by-append, sum_by-cons}
-use Rattle.dia_wire.specs.Wire.{PlainAvp, head_length, avp_length, padded_length, Spells, BeginsWith, BeginsWithNone}
+use Rattle.dia_wire.specs.Wire.{PlainAvp, head_length, avp_length, padded_length, BeginsWith, BeginsWithNone}
 use Rattle.dia_wire.proofs.Spelling.{opened, rounded-le}
 use Rattle.dia_dict.specs.Dictionary.{Dictionary, DictEntry}
 use Rattle.diacmd.specs.declared.commands.show.listing.Rest.{Rest}
-use Rattle.diacmd.specs.Listing.{Level, IsListing, end, bad_length, avp, group, bad_group, behind, inside, IsGroup, IsLeafText, AddsAvp, AddsLevel, avp_line, bad_length_line}
+use Rattle.diacmd.specs.Listing.{Level, IsListing, end, bad_length, avp, group, bad_group, behind, inside, IsGroup, AddsAvp, AddsLevel, avp_line, bad_length_line}
 
 -- what is left of a level at a depth
 abbrev pub level_of : ℕ → Rest → Level

@@ -1,10 +1,6 @@
 -- What is told of an input that is refused, and what an outcome is made of.
-use Rattle.std.proofs.Common.{◌≡◌, ◌≢◌, ℕ, ◌≤◌, List, length, Result, Ok, Err, refl, ap, subst, inl}
-use Rattle.std.specs.Prelude.{IfOk, IfErr, string_bytes}
-use Rattle.std.specs.declared.alloc.AllocError.{AllocError}
-use Rattle.diacmd.specs.declared.commands.Outcome.{Outcome}
-use Rattle.diacmd.specs.declared.command.Exit.{Exit}
-use Rattle.diacmd.specs.declared.command.Exit.TheVariants.{Bad}
+use Rattle.std.proofs.Common.{◌≡◌, ◌≢◌, ℕ, ◌≤◌, List, length, Err, refl, ap, subst, inl}
+use Rattle.std.specs.Prelude.{string_bytes}
 use Rattle.diacmd.specs.declared.inputs.Refused.{Refused}
 use Rattle.diacmd.specs.declared.inputs.Refused.TheVariants.{Told, NoMemory}
 use Rattle.std.specs.Str.{IsUtf8}

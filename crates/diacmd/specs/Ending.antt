@@ -1,7 +1,6 @@
 -- How the program ends where a call failed.
 use Rattle.std.specs.Prelude.{◌≡◌, ◌≢◌}
 use Rattle.std.specs.declared.io.Error.{Error}
-use Rattle.std.specs.declared.io.ErrorKind.{ErrorKind}
 use Rattle.std.specs.declared.io.ErrorKind.TheVariants.{OutOfMemory, InvalidData}
 use Rattle.std.specs.IoError.{error_kind}
 use Rattle.diacmd.specs.declared.command.RunFault.{RunFault}

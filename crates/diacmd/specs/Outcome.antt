@@ -15,7 +15,7 @@ use Rattle.diacmd.specs.declared.command.Inputs.{Inputs}
 use Rattle.diacmd.specs.declared.command.Exit.{Exit}
 use Rattle.diacmd.specs.declared.command.Exit.TheVariants.{Yes, No, Bad}
 use Rattle.diacmd.specs.Texts.{line, dictionary_line, IsSourceText, IsNoSourceText, IsDictionaryText, IsNoDictionaryText, IsMessageText, IsNoMessageText}
-use Rattle.diacmd.specs.Listing.{header_line, IsListing, Level}
+use Rattle.diacmd.specs.Listing.{header_line, IsListing}
 
 -- an input is refused in one line
 abbrev pub Refuses : List ℕ → List ℕ → Exit → Type 0

@@ -1,5 +1,5 @@
 -- What the texts of the inputs say, and what is told of one that says nothing.
-use Rattle.std.specs.Prelude.{◌≡◌, ◌≢◌, ℕ, ◌<◌, ◌≤◌, ◌⊎◌, Bool, not, ◌||◌, ◌==◌, List, [], ◌∷◌, ◌++◌, length, filter, None, Some, Ok, codes, IsOk, string_bytes, ⊤}
+use Rattle.std.specs.Prelude.{◌≡◌, ◌≢◌, ℕ, ◌⊎◌, Bool, not, ◌||◌, ◌==◌, List, [], ◌∷◌, ◌++◌, filter, None, Some, Ok, codes, IsOk, string_bytes, ⊤}
 use Rattle.std.specs.Str.{IsUtf8}
 use Rattle.std.specs.Fmt.{decimal}
 use Rattle.hex.specs.Hex.{decode_of}

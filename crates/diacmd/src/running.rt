@@ -24,6 +24,8 @@ pub fn run<S: Sink>(
 ) -> Result<Exit, RunFault>
     requires { ¬ IsTrue (S.has_failed sink.old) }
     ensures text { IfOk result (λ exit. (text : List ℕ) × IsOutcome command.now inputs.now text exit × Appends (S.written sink.old) (S.written sink.new) text) }
+    // For these inputs there is one text, and one end.
+    ensures one { (a b : List ℕ) (x y : AnyExit) → IsOutcome command.now inputs.now a x → IsOutcome command.now inputs.now b y → (a ≡ b) × (x ≡ y) }
     ensures device { (result ≡ Err RunFault.Device) ↔ IsTrue (S.has_failed sink.new) }
     ensures front { result ≡ Err RunFault.Device
         → (text : List ℕ) × (exit : AnyExit) × IsOutcome command.now inputs.now text exit × AppendsFront (S.written sink.old) (S.written sink.new) text }

@@ -19,7 +19,7 @@ use Rattle.dia_dict.specs.declared.definition.Definition.{Definition}
 use Rattle.dia_dict.specs.declared.entry_list.Row.{Row}
 use Rattle.dia_dict.specs.declared.indexed_book.entries.KnownAvp.{KnownAvp}
 use Rattle.dia_dict.proofs.Lists.{filter_map-map}
-use Rattle.dia_dict.proofs.Indexing.Slots.{same_key-true}
+use Rattle.dia_dict.proofs.Keys.{same_key-true}
 
 pub map-map : {X Y Z : Type 0} (f : X → Y) (g : Y → Z) (xs : List X) → map g (map f xs) ≡ map (λ x. g (f x)) xs
 map-map f g [] = refl

@@ -1,28 +1,15 @@
 -- Slots of a definition's keys, gathered rule by rule.
-use Rattle.std.proofs.Common.{◌≡◌, ℕ, suc, ◌+◌, ◌<◌, Bool, true, false, cond, List, [], ◌∷◌, ◌++◌, length, take, get_or, position, Option, Some, None, refl, sym, ap, ◌∙◌, arith, unwrap_or, ◌&&◌, ◌==◌}
+use Rattle.std.proofs.Common.{◌≡◌, ℕ, suc, ◌+◌, ◌<◌, Bool, true, false, cond, List, [], ◌∷◌, ◌++◌, length, take, get_or, position, Option, Some, None, refl, sym, ap, ◌∙◌, arith, unwrap_or}
 use Rattle.std.specs.List.{position_from}
 use Rattle.std.specs.Option.{option_map, option_map_or, option_or}
 use Rattle.std.proofs.lemmas.Iterator.Adapters.{position_from-zero}
 use Rattle.std.proofs.lemmas.List.{take_more, length-take-le}
-use Rattle.std.proofs.lemmas.Bool.{and_parts, and_from, eqb-true, eq-eqb}
-use Rattle.std.proofs.lemmas.Cmp.{nat_eq_equiv}
 use Rattle.dia_wire.specs.declared.Key.{Key}
 use Rattle.dia_dict.specs.Keys.{same_key}
+use Rattle.dia_dict.proofs.Keys.{same_key-true, same_key-symm}
 use Rattle.dia_dict.specs.Dictionary.{slot_at, lists_key}
 use Rattle.dia_dict.specs.declared.definition.DRule.{DRule}
 use Rattle.dia_dict.specs.declared.definition.Slot.{Slot}
-
--- ---- keys
-
-pub same_key-true : (a b : Key) → same_key a b ≡ true → a ≡ b
-same_key-true a b e =
-    let parts = and_parts (a.code == b.code) (a.vendor == b.vendor) e in
-    let code : a.code ≡ b.code = eqb-true a.code b.code parts.0 in
-    let vendor : a.vendor ≡ b.vendor = eqb-true a.vendor b.vendor parts.1 in
-    λ i. record { code = code i; vendor = vendor i }
-
-pub same_key-symm : (a b : Key) → same_key a b ≡ same_key b a
-same_key-symm a b = λ i. nat_eq_equiv.symm a.code b.code i && nat_eq_equiv.symm a.vendor b.vendor i
 
 -- ---- the first place, with one more member
 

@@ -5,13 +5,13 @@ ghost use Rattle.std.specs.Option.{option_copied};
 ghost use Rattle.dia_ccf.specs.Names.{is_group};
 ghost use Rattle.dia_ccf.specs.Plain.{plain, plain_decl, plain_def};
 ghost use Rattle.dia_dict.specs.Resolution.{wrong_limits, wrong_entries, too_many_rules, is_long, no_groups, lacks_group, header_mismatches, is_mismatched, is_grouped, agrees_with, avp_names, is_bare, key_of_decl, group_key, duplicate_keys, duplicate_commands};
-ghost use Rattle.dia_dict.specs.Refusing.{IsRefused, named, hashed, selector_of};
+ghost use Rattle.dia_dict.specs.Refusing.{IsRefused, named, selector_of};
 
 use super::distinct::{Repeat, distinct};
 use super::names::{Names, key_of_declaration, key_of_group};
 use super::refusal::Refusal;
 use crate::fault::DictKind;
-use crate::hashed::{HashedKey, Selector};
+use crate::hashed::Selector;
 use dia_ccf::{Decl, Def, FormatName, Head, Source};
 use dia_wire::Key;
 use std::alloc::{AllocError, Global};
@@ -150,12 +150,12 @@ fn keys<'a>(alloc: Global, names: &Names<'a>) -> Result<(), Refusal<'a>>
     }
 }
 
-fn keys_of(alloc: Global, avps: &[Named<'_>]) -> Result<Vec<HashedKey>, AllocError>
-    ensures { IfOk result (λ keys. keys.items ≡ map (λ n. hashed n.key) avps.now) }
+fn keys_of(alloc: Global, avps: &[Named<'_>]) -> Result<Vec<Key>, AllocError>
+    ensures { IfOk result (λ keys. keys.items ≡ map (λ n. n.key) avps.now) }
 {
     let mut keys = Vec::new(alloc);
     for avp in avps {
-        keys.push(HashedKey::from(avp.key))?;
+        keys.push(avp.key)?;
     }
     Ok(keys)
 }

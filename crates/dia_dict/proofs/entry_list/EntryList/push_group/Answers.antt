@@ -1,8 +1,7 @@
-use Rattle.std.proofs.Common.{◌≡◌, ◌++◌, ◌∷◌, [], Some, List, true, refl, sym, ap, ◌∙◌, arith, vec_len}
-use Rattle.std.specs.Prelude.{is_ok, if◌then◌else◌, vec_capacity}
-use Rattle.dia_dict.specs.PlainMeaning.{entries_of, numbers}
+use Rattle.std.proofs.Common.{◌≡◌, ◌++◌, ◌∷◌, [], Some, List, true, ap, ◌∙◌, arith}
+use Rattle.std.specs.Prelude.{is_ok, if◌then◌else◌}
+use Rattle.dia_dict.specs.PlainMeaning.{entries_of}
 use Rattle.dia_dict.specs.declared.entry_list.Row.{Row}
-use Rattle.dia_dict.specs.declared.definition.Definition.{Definition}
 use Rattle.dia_dict.proofs.Entries.{numbers-push_some, entries_of-push_some}
 use Rattle.dia_dict.proofs.entry_list.EntryList.push_group.Goals as goal
 

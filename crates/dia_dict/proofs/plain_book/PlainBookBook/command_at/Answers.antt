@@ -1,4 +1,4 @@
-use Rattle.std.proofs.Common.{ℕ, arith, sym, ap, ◌+◌, ◌∙◌}
+use Rattle.std.proofs.Common.{arith}
 use Rattle.std.proofs.lemmas.List.{length-map}
 use Rattle.dia_dict.specs.Dictionary.{plain}
 use Rattle.dia_dict.proofs.Rows.{length-groups-held, groups_fit}

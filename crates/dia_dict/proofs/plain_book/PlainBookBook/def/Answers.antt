@@ -1,4 +1,4 @@
-use Rattle.std.proofs.Common.{ℕ, ◌≡◌, ◌+◌, ◌-◌, ◌<◌, ◌≤◌, Some, length, arith, sym, ap, ◌∙◌}
+use Rattle.std.proofs.Common.{◌≡◌, ◌+◌, ◌-◌, ◌<◌, length, arith, ap, ◌∙◌}
 use Rattle.std.specs.Option.{option_map}
 use Rattle.dia_dict.specs.Dictionary.{plain}
 use Rattle.dia_dict.proofs.Rows.{definitions-held, length-definitions-held, group_at, command_at}

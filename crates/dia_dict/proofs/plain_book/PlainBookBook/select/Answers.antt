@@ -1,4 +1,4 @@
-use Rattle.std.proofs.Common.{List, ℕ, ◌+◌, ◌≡◌, ◌<◌, Option, Some, None, position, length, arith, sym, ap, ◌∙◌}
+use Rattle.std.proofs.Common.{List, ℕ, ◌+◌, Some, None, position, length, arith, sym, ap, ◌∙◌}
 use Rattle.std.specs.Option.{option_map, option_or}
 use Rattle.dia_dict.specs.Dictionary.{is_command}
 use Rattle.dia_dict.specs.declared.definition.Definition.{Definition}

@@ -1,43 +1,35 @@
-use Rattle.std.proofs.Common.{◌≡◌, Bool, List, [], length, map, refl, ap, ◌∙◌, subst, arith}
+use Rattle.std.proofs.Common.{◌≡◌, List, [], length, map, refl, ap, ◌∙◌, subst, arith}
 use Rattle.std.proofs.lemmas.List.{length-map}
 use Rattle.std.proofs.lemmas.Option.{slice_get_within}
 use Rattle.dia_wire.specs.declared.Key.{Key}
 use Rattle.dia_ccf.specs.Plain.{plain}
 use Rattle.dia_dict.specs.Keys.{same_key}
-use Rattle.dia_dict.specs.declared.hashed.HashedKey.{HashedKey}
 use Rattle.dia_dict.specs.declared.resolving.checks.Named.{Named}
 use Rattle.dia_dict.specs.declared.fault.DictKind.TheVariants.{DuplicateKey}
 use Rattle.dia_dict.specs.Resolution.{repeats}
-use Rattle.dia_dict.specs.Refusing.{hashed, IsFirstRepeat}
-use Rattle.dia_dict.specs.contracts.hashed.HashedKeyPartialEq.TheImpl as keys
+use Rattle.dia_dict.specs.Refusing.{IsFirstRepeat}
 use Rattle.dia_dict.proofs.Duplicates.{duplicate_keys-none, duplicate_keys-first}
 use Rattle.dia_dict.proofs.Repeats.{first_repeat_read}
 use Rattle.dia_dict.proofs.Refusals.{IsRefused-at}
 use Rattle.dia_dict.proofs.resolving.checks.keys.Goals as goal
 
-abbrev eq : HashedKey → HashedKey → Bool
-eq = (keys.eq-value).it
-
-same_answers : (a b : Key) → eq (hashed a) (hashed b) ≡ same_key a b
-same_answers a b = refl
-
 pub returns-in-Ok-clause-ok : goal.returns-in-Ok-clause-ok
 returns-in-Ok-clause-ok c =
     let avps = c.in_ok-avps.avps.items in
-    let all = c.deref-2.ensures.value ∙ c.in_ok-keys.ensures ∙ ap (map (λ (n : Named). hashed n.key)) c.deref.ensures.value in
-    duplicate_keys-none eq same_answers (plain c.args.names.now.source.now) avps c.in_ok-avps.ensures (subst (λ (xs : List HashedKey). repeats eq [] xs ≡ []) all c.in-Ok.ensures.distinct)
+    let all = c.deref-2.ensures.value ∙ c.in_ok-keys.ensures ∙ ap (map (λ (n : Named). n.key)) c.deref.ensures.value in
+    duplicate_keys-none (plain c.args.names.now.source.now) avps c.in_ok-avps.ensures (subst (λ (xs : List Key). repeats same_key [] xs ≡ []) all c.in-Ok.ensures.distinct)
 
 pub index-requires : goal.index-requires
 index-requires c =
     let r = rw c.in-Err-At.field-0-is at c.in-Err-At.ensures.repeat in
     let within = slice_get_within c.deref-2.result.now c.in-Err-At.place r.item r.at in
-    omega (arith, within, ap length c.deref-2.ensures.value, ap length c.in_ok-keys.ensures, length-map c.deref.result.now (λ (n : Named). hashed n.key), ap length c.deref.ensures.value, c.in_ok-avps.avps.ok.0)
+    omega (arith, within, ap length c.deref-2.ensures.value, ap length c.in_ok-keys.ensures, length-map c.deref.result.now (λ (n : Named). n.key), ap length c.deref.ensures.value, c.in_ok-avps.avps.ok.0)
 
 pub returns-in-Err-At-clause-err : goal.returns-in-Err-At-clause-err
 returns-in-Err-At-clause-err c =
     let avps = c.in_ok-avps.avps.items in
-    let all = c.deref-2.ensures.value ∙ c.in_ok-keys.ensures ∙ ap (map (λ (n : Named). hashed n.key)) c.deref.ensures.value in
+    let all = c.deref-2.ensures.value ∙ c.in_ok-keys.ensures ∙ ap (map (λ (n : Named). n.key)) c.deref.ensures.value in
     let r = rw c.in-Err-At.field-0-is at c.in-Err-At.ensures.repeat in
-    let first = subst (λ (xs : List HashedKey). IsFirstRepeat eq xs c.in-Err-At.place) all r in
-    let at = first_repeat_read (λ (n : Named). hashed n.key) eq avps c.in-Err-At.place c.index.result.now first c.index.ensures in
-    IsRefused-at _ DuplicateKey _ _ c.at.result (duplicate_keys-first eq same_answers (plain c.args.names.now.source.now) avps c.in_ok-avps.ensures c.in-Err-At.place c.index.result.now first at) refl c.at.ensures
+    let first = subst (λ (xs : List Key). IsFirstRepeat same_key xs c.in-Err-At.place) all r in
+    let at = first_repeat_read (λ (n : Named). n.key) same_key avps c.in-Err-At.place c.index.result.now first c.index.ensures in
+    IsRefused-at _ DuplicateKey _ _ c.at.result (duplicate_keys-first (plain c.args.names.now.source.now) avps c.in_ok-avps.ensures c.in-Err-At.place c.index.result.now first at) refl c.at.ensures

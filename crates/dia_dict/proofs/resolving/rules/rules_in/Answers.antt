@@ -2,7 +2,7 @@ use Rattle.std.proofs.Common.{List, find, ap, ◌∙◌}
 use Rattle.std.specs.Prelude.{string_bytes}
 use Rattle.dia_ccf.specs.declared.source.Rule.{Rule}
 use Rattle.dia_ccf.specs.Plain.{PlainRule, plain, plain_rule}
-use Rattle.dia_dict.specs.Resolution.{Wrong, wrong, is_bad, slot_name}
+use Rattle.dia_dict.specs.Resolution.{wrong, is_bad, slot_name}
 use Rattle.dia_dict.proofs.Refusals.{IsRefused-at_rule, picked-none, picked-some}
 use Rattle.dia_dict.proofs.resolving.rules.rules_in.Goals as goal
 

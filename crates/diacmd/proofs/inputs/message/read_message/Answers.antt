@@ -1,4 +1,4 @@
-use Rattle.std.proofs.Common.{rules, refl}
+use Rattle.std.proofs.Common.{rules}
 use Rattle.std.specs.Prelude.{IsOk}
 use Rattle.hex.specs.Hex.{decode_of}
 use Rattle.diacmd.specs.Texts.{IsNoMessageText, digits_of, not_hexadecimal}

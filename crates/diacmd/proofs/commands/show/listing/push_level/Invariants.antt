@@ -1,4 +1,4 @@
-use Rattle.std.proofs.Common.{◌+◌, ◌*◌, length, vec_len}
+use Rattle.std.proofs.Common.{◌+◌, ◌*◌, length}
 use Rattle.std.specs.Prelude.{string_bytes}
 use Rattle.diacmd.proofs.Owed.{IsUnderWay, bytes_left}
 use Rattle.diacmd.proofs.commands.show.listing.push_level.Given as goal

@@ -1,0 +1,27 @@
+//! The base text where memory runs out somewhere: every call answers that, or what it answers with ample memory.
+
+use crate::indexed_book::tests::same_answers;
+use crate::{DictFault, IndexedBook, PlainBook, base_text, resolve};
+use dia_ccf::{CcfFault, Source, parse};
+use std::process::Abort;
+
+fn indexes(rt: &(impl AllocGlobal + Abort), plain: &PlainBook) {
+    if let Ok(indexed) = IndexedBook::new(rt.alloc(), plain) {
+        same_answers(rt, plain, &indexed);
+    }
+}
+
+fn resolves(rt: &(impl AllocGlobal + Abort), source: Source) {
+    match resolve(rt.alloc(), source) {
+        Ok(plain) => indexes(rt, &plain),
+        Err(fault) => assert!(rt; matches!(fault, DictFault::NoMemory)),
+    }
+}
+
+#[test]
+fn the_base_text_is_indexed_or_memory_is_refused(rt: HostRuntime) {
+    match parse(rt.alloc(), base_text()) {
+        Ok(source) => resolves(&rt, source),
+        Err(fault) => assert!(rt; matches!(fault, CcfFault::NoMemory)),
+    }
+}
