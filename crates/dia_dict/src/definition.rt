@@ -105,7 +105,7 @@ impl DRule {
         ensures { result ≡ lists_key key self.now }
     {
         match self.key {
-            Some(own) => key.code == own.code && key.vendor == own.vendor,
+            Some(listed) => key == listed,
             None => false,
         }
     }

@@ -1,56 +1,42 @@
 use std::alloc::AllocError;
-use std::fmt;
 use thiserror::Error;
 
 /// What is wrong with a source, in the order in which it is told.
-#[derive(Clone, Copy, Debug, PartialEq, Eq)]
+#[derive(Clone, Copy, Debug, PartialEq, Eq, Error)]
 pub enum DictKind {
     /// A definition has more than 1,024 rules, or the source more than 16,384 declarations, groups and commands.
+    #[error("more than the limit")]
     Limit,
     /// Two declarations, two groups or two commands have one name.
+    #[error("a name stands twice")]
     DuplicateName,
     /// A declaration is Grouped, and no group has its name.
+    #[error("a Grouped AVP has no group")]
     NoGroupFormat,
     /// A group's declaration has another key, or is not Grouped.
+    #[error("a group's header is not that of its declaration")]
     HeaderMismatch,
     /// Two names of AVPs stand for one key.
+    #[error("two AVPs have one code and vendor")]
     DuplicateKey,
     /// Two commands have one code, class and application, or both are for errors.
+    #[error("two commands have one code, class and application")]
     DuplicateCommand,
     /// A rule names an AVP that is neither declared nor a group.
+    #[error("a rule names an unknown AVP")]
     UndefinedName,
     /// A definition names an AVP or the wildcard twice.
+    #[error("a definition names an AVP twice")]
     RepeatedSlot,
     /// A rule's least count is above its greatest.
+    #[error("a least count is above the greatest")]
     MinOverMax,
     /// A required rule may be met by no AVP.
+    #[error("a required AVP has the least count 0")]
     RequiredMin,
     /// An optional rule cannot be met by no AVP.
+    #[error("an optional AVP has a least count")]
     OptionalMin,
-}
-
-impl fmt::Display for DictKind {
-    fn fmt<W: fmt::Write>(&self, f: &mut fmt::Formatter<W>) -> fmt::Result {
-        write!(f, "{}", self.text())
-    }
-}
-
-impl DictKind {
-    fn text(&self) -> &'static str {
-        match self {
-            DictKind::Limit => "more than the limit",
-            DictKind::DuplicateName => "a name stands twice",
-            DictKind::NoGroupFormat => "a Grouped AVP has no group",
-            DictKind::HeaderMismatch => "a group's header is not that of its declaration",
-            DictKind::DuplicateKey => "two AVPs have one code and vendor",
-            DictKind::DuplicateCommand => "two commands have one code, class and application",
-            DictKind::UndefinedName => "a rule names an unknown AVP",
-            DictKind::RepeatedSlot => "a definition names an AVP twice",
-            DictKind::MinOverMax => "a least count is above the greatest",
-            DictKind::RequiredMin => "a required AVP has the least count 0",
-            DictKind::OptionalMin => "an optional AVP has a least count",
-        }
-    }
 }
 
 /// Why a source is no dictionary.

@@ -100,7 +100,7 @@ impl Book for PlainBook {
 fn place_of_row(rows: &[Row], key: Key) -> Option<usize>
     ensures { result ≡ position (λ row. same_key key row.key) rows.now }
 {
-    rows.iter().position(|row| key.code == row.key.code && key.vendor == row.key.vendor)
+    rows.iter().position(|row| key == row.key)
 }
 
 /// The place of the first command of this code and class, and of this application or of none.
