@@ -1,6 +1,7 @@
 //! Texts and what they are read as.
 
 mod base;
+mod memory;
 mod places;
 
 use crate::fault::CcfFault;
