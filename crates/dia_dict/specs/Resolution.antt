@@ -74,7 +74,7 @@ bare_groups s = filter (is_bare s) s.groups
 abbrev pub key_of_name : PlainSource → List ℕ → Option Key
 key_of_name s text = option_or (option_map key_of_decl (find (names_decl text) s.avps)) (option_map (λ g. group_key g.head) (find (names_def text) s.groups))
 
--- bounds without a qualifier: exactly 1, or 0 or 1; an absent min is 1 for a required rule and 0 for others
+-- the bounds of a rule (RFC 6733 section 3.2). Without a qualifier: exactly 1, or 0 or 1; an absent min is 1 for a required rule and 0 for others
 abbrev pub least : RuleKind → Option Qual → ℕ
 least Optional None = 0
 least kind None = 1
@@ -123,7 +123,7 @@ resolved s = record {
   commands = map (definition_of s) s.commands;
 }
 
--- ---- what is wrong. Each kind has the list of its faults in the order of the text; the first fault of the first kind is told
+-- ---- what is wrong. Each kind has the list of its faults, of declarations, groups and commands, each in the order of the text; the first fault of the first kind is told
 
 pub record Wrong : Type 0 where
   pub kind : DictKind

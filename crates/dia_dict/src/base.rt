@@ -28,7 +28,8 @@ pub fn base_text() -> &'static str
     TEXT
 }
 
-/// The base dictionary, which `base_text` writes down, made from tables without reading that text.
+/// The base dictionary, which `base_text` writes down, made from tables without reading that text. The error comes only
+/// where memory was refused.
 pub fn base_book(alloc: Global) -> Result<PlainBook, AllocError>
     ensures meaning { IfOk result (λ book. ⟦<PlainBook as Book>⟧.meaning book ≡ base) }
 

@@ -11,14 +11,23 @@ use dia_wire::Key;
 /// A dictionary, however it is kept: a finite map of keys to AVPs, of Grouped AVPs to their definitions, and of
 /// codes, classes and applications to the definitions of commands.
 ///
-/// Entries are the AVPs in the dictionary's order. No call takes memory. A call that asks for an entry or a definition
-/// by its number asks for one of this book's own, as the other calls answer them.
+/// Entries are the AVPs in the dictionary's order. Keys, names of AVPs, names of commands and what commands are for are
+/// distinct. An AVP is Grouped exactly where it has a definition. Rules name known AVPs, each once in its definition,
+/// fixed ones first, with counts that can be met. The clause `sound` of `entries` hands all that out.
+///
+/// No call takes memory. A call that asks for an entry or a definition by its number asks for one of this book's own,
+/// as the other calls answer them.
 pub trait Book {
     ghost meaning: { Self → Dictionary };
 
     /// The AVP with this code and this vendor, 0 where it has none (RFC 6733 section 4.1).
     fn avp(&self, key: Key) -> Option<Entry>
         ensures { result ≡ entry_of (meaning self.now) key };
+
+    /// The AVP's code and vendor, 0 where it has none.
+    fn entry_key(&self, entry: Entry) -> Key
+        requires { entry < length (meaning self.now).entries }
+        ensures { IfSome (slice_get (meaning self.now).entries entry) (λ e. result ≡ e.key) };
 
     /// The AVP's name.
     fn entry_name(&self, entry: Entry) -> &str
@@ -45,7 +54,7 @@ pub trait Book {
     fn select(&self, code: u32, class: Class, app: u32) -> Option<DefId>
         ensures { result ≡ selected (meaning self.now) code class app };
 
-    /// Whether some definition is of this code and class, of whatever application.
+    /// Whether some definition is of this code and class, of whatever application. For an error the code doesn't matter.
     fn has_command(&self, code: u32, class: Class) -> bool
         ensures { result ≡ has_command (meaning self.now) code class };
 
@@ -62,7 +71,6 @@ pub trait Book {
     /// How many AVPs there are.
     fn entries(&self) -> usize
         ensures count { result ≡ length (meaning self.now).entries }
-        // What every book keeps.
         ensures sound { IsDictionary (meaning self.now) };
 
     /// The AVP at a place of the dictionary's order, from 0.

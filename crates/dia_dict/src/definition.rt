@@ -35,8 +35,9 @@ pub enum DefHead {
     },
 }
 
-/// A rule of a definition: how often an AVP may stand there, with no greatest count where there is none.
-/// One without a key is the wildcard, for all AVPs that the definition does not list.
+/// A rule of a definition (RFC 6733 section 3.2): how often an AVP may stand there, with no greatest count where `max` is
+/// none, and never where it is 0. One without a key is the wildcard, for all AVPs that the definition does not list; its
+/// counts are of them all together (our profile).
 #[derive(Clone, Copy, Debug, PartialEq, Eq)]
 pub struct DRule {
     pub kind: RuleKind,

@@ -4,7 +4,8 @@ use thiserror::Error;
 /// What is wrong with a source, in the order in which it is told.
 #[derive(Clone, Copy, Debug, PartialEq, Eq, Error)]
 pub enum DictKind {
-    /// A definition has more than 1,024 rules, or the source more than 16,384 declarations, groups and commands.
+    /// A definition has more than 1,024 rules, and is named; or, where none has, the source has more than 16,384
+    /// declarations, groups and commands together, and no name is told (our profile).
     #[error("more than the limit")]
     Limit,
     /// Two declarations, two groups or two commands have one name.
@@ -25,16 +26,16 @@ pub enum DictKind {
     /// A rule names an AVP that is neither declared nor a group.
     #[error("a rule names an unknown AVP")]
     UndefinedName,
-    /// A definition names an AVP or the wildcard twice.
+    /// A definition names an AVP or the wildcard twice (our profile).
     #[error("a definition names an AVP twice")]
     RepeatedSlot,
-    /// A rule's least count is above its greatest.
+    /// A rule's least count is above its greatest (RFC 6733 section 3.2).
     #[error("a least count is above the greatest")]
     MinOverMax,
-    /// A required rule may be met by no AVP.
+    /// A required rule may be met by no AVP (RFC 6733 section 3.2).
     #[error("a required AVP has the least count 0")]
     RequiredMin,
-    /// An optional rule cannot be met by no AVP.
+    /// An optional rule cannot be met by no AVP (RFC 6733 section 3.2).
     #[error("an optional AVP has a least count")]
     OptionalMin,
 }
@@ -42,14 +43,16 @@ pub enum DictKind {
 /// Why a source is no dictionary.
 #[derive(Debug, Drop, Error)]
 pub enum DictFault {
-    /// The first fault, by kind and then by the order of the text. `name` is that of a definition or an AVP, `slot` that of a rule's AVP,
-    /// `AVP` for the wildcard; either is empty where there is none.
+    /// The first fault, by kind and then in the order declarations, groups, commands, each in the order of the text. `name`
+    /// is that of a definition or an AVP, `slot` that of a rule's AVP, `AVP` for the wildcard; either is empty where there
+    /// is none.
     #[error("{kind}: {name} {slot}")]
     Stands {
         kind: DictKind,
         name: String,
         slot: String,
     },
+    /// Memory was refused.
     #[error("no memory")]
     NoMemory,
 }

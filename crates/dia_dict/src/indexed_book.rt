@@ -32,7 +32,7 @@ pub struct IndexedBook {
 }
 
 impl IndexedBook {
-    /// A copy of a dictionary. It takes time in proportion to what is copied.
+    /// A copy of a dictionary. It takes time in proportion to what is copied. The error comes only where memory was refused.
     pub fn new(alloc: Global, plain: &PlainBook) -> Result<IndexedBook, AllocError>
         ensures { IfOk result (λ book. ⟦<IndexedBook as Book>⟧.meaning book ≡ ⟦<PlainBook as Book>⟧.meaning plain.now) }
     {
@@ -63,6 +63,13 @@ impl Book for IndexedBook {
     fn avp(&self, key: Key) -> Option<Entry> {
         let index = self.entries.avps.get_index_of(&key)?;
         Some(Entry::new(index as u32))
+    }
+
+    fn entry_key(&self, entry: Entry) -> Key {
+        match self.entries.avps.get_index(entry.index()) {
+            Some((key, _)) => *key,
+            None => unreachable!("an entry is one of the book's own"),
+        }
     }
 
     fn entry_name(&self, entry: Entry) -> &str {

@@ -40,6 +40,10 @@ impl Book for PlainBook {
         Some(Entry::new(index as u32))
     }
 
+    fn entry_key(&self, entry: Entry) -> Key {
+        self.entries.rows[entry.index()].key
+    }
+
     fn entry_name(&self, entry: Entry) -> &str {
         &self.entries.rows[entry.index()].name
     }

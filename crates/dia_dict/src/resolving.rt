@@ -23,7 +23,7 @@ use std::alloc::Global;
 ///
 /// Entries stand in the order of the declarations, then of the groups without one; such a group has the M rule `Any`. `Stands` tells the
 /// first fault, by the order of `DictKind` and then by the order declarations, groups, commands, each in the order of the text; for
-/// two alike it is the later one. The source is given up.
+/// two alike it is the later one. `NoMemory` comes only where memory was refused. The source is given up.
 pub fn resolve(alloc: Global, source: Source) -> Result<PlainBook, DictFault>
     ensures ok { IfOk result (λ book. (first_wrong (plain source) ≡ None) × (⟦<PlainBook as Book>⟧.meaning book ≡ resolved (plain source))) }
     ensures err { IfErr result (IsToldOf (plain source)) }

@@ -11,7 +11,7 @@ mod limits;
 mod memory;
 
 /// The dictionary that a text names.
-fn book_of(alloc: Global, text: &str) -> Result<PlainBook, Fail> {
+pub(crate) fn book_of(alloc: Global, text: &str) -> Result<PlainBook, Fail> {
     Ok(resolve(alloc, parse(alloc, text)?)?)
 }
 

@@ -12,6 +12,13 @@ pub const STANDARD_INPUT: &str = "-";
 /// The word for the base dictionary, where a dictionary stands.
 pub const BASE_DICTIONARY: &str = "@base";
 
+/// What the statuses of the process mean.
+const STATUSES: &str = "Status:
+  0  done
+  1  a bad AVP length in the message
+  2  bad input, or a bad command line
+  3  a file or a device failed, or memory was refused";
+
 /// What the words ask for: a command, and the words of its inputs.
 #[derive(Debug, Drop)]
 pub struct Request<'a> {
@@ -66,6 +73,7 @@ fn word_of<'a>(matches: &ArgMatches<'a>, id: &str) -> &'a str {
 fn command_line<'a>(alloc: Global) -> Result<clap::Command<'a>, AllocError> {
     clap::Command::new(alloc, "diacmd")
         .about("A workbench for Diameter (RFC 6733) dictionaries and messages")
+        .after_help(STATUSES)
         .subcommand_required(true)
         .subcommand(show_line(alloc)?)?
         .subcommand(render_line(alloc)?)
@@ -76,7 +84,7 @@ fn show_line<'a>(alloc: Global) -> Result<clap::Command<'a>, AllocError> {
         .long("dict")
         .value_name("D")
         .default_value(BASE_DICTIONARY)
-        .help("The dictionary of the names: a file, @base, or - for standard input");
+        .help("The dictionary that names the AVPs: a file, @base, or - for standard input");
     let message = Arg::new(alloc, "MESSAGE").required(true).help(
         "A file of hexadecimal text, white space ignored; - for standard input",
     );

@@ -8,22 +8,22 @@ use std::io::{Read, Write};
 /// A reader of std. Each `Err` of it is a failure, that of an interrupted call too.
 #[derive(Debug, Drop)]
 pub struct FromReader<R: Read> {
-    pub reader: R,
-    pub failed: bool,
+    pub(crate) reader: R,
+    failed: bool,
 }
 
 /// A writer of std. Each `Err` of it is a failure, and so is a write that takes nothing.
 #[derive(Debug, Drop)]
 pub struct ToWriter<W: Write> {
-    pub writer: W,
-    pub failed: bool,
+    pub(crate) writer: W,
+    failed: bool,
 }
 
 impl<R: Read> FromReader<R> {
     /// A feed that hasn't failed.
     pub fn new(reader: R) -> FromReader<R>
-        ensures reader { result.reader ≡ reader }
-        ensures sound { result.failed ≡ false }
+        ensures remaining { ⟦<FromReader<R> as Feed>⟧.remaining result ≡ R.remaining reader }
+        ensures sound { ⟦<FromReader<R> as Feed>⟧.has_failed result ≡ false }
     {
         FromReader {
             reader,
@@ -35,8 +35,8 @@ impl<R: Read> FromReader<R> {
 impl<W: Write> ToWriter<W> {
     /// A sink that hasn't failed.
     pub fn new(writer: W) -> ToWriter<W>
-        ensures writer { result.writer ≡ writer }
-        ensures sound { result.failed ≡ false }
+        ensures written { ⟦<ToWriter<W> as Sink>⟧.written result ≡ W.contents writer }
+        ensures sound { ⟦<ToWriter<W> as Sink>⟧.has_failed result ≡ false }
     {
         ToWriter {
             writer,

@@ -1,5 +1,7 @@
 //! How the program ends where there is nothing to run, or a run didn't end.
 
+ghost use Rattle.std.specs.Prelude.{◌≡◌};
+
 use crate::command::RunFault;
 use clap::error::ErrorKind;
 use std::alloc::AllocError;
@@ -21,24 +23,44 @@ pub enum Ending {
 }
 
 impl Ending {
-    /// Says why, on the stream where it belongs, and answers the status.
-    pub fn tell(&self, rt: &(impl Print + Eprint)) -> u8 {
+    ghost use Rattle.std.specs.Prelude.{◌≡◌, ◌⊎◌};
+    ghost use Rattle.diacmd.specs.Ending.{EndsWith};
+
+    /// Says why, on the stream where it belongs, and answers the status. Where that stream fails it is 3.
+    pub fn tell(&self, rt: &(impl Print + Eprint)) -> u8
+        ensures { EndsWith self.now result ⊎ (result ≡ 3) }
+    {
         let (told, status) = match self {
             Ending::Told(error) if error.use_stderr() => (error.print(rt), 2),
             Ending::Told(error) => (error.print(rt), 0),
             Ending::NotText => (
-                rt.eprintln("error: a word of the command line isn't UTF-8"),
+                rt.eprintln(
+                    "error: a word of the command line isn't UTF-8\n\nFor more information, try '--help'.",
+                ),
                 2,
             ),
             Ending::ReadTwice => (
-                rt.eprintln("error: '-' is given twice, and standard input can be read once"),
+                rt.eprintln(
+                    "error: '-' is given twice, and standard input can be read once: name a file for one of the two\n\nFor more information, try '--help'.",
+                ),
                 2,
             ),
             Ending::Device => (rt.eprintln("device failed"), 3),
             Ending::NoMemory => (rt.eprintln("no memory"), 3),
         };
-        if told.is_ok() { status } else { 3 }
+        match told {
+            Ok(()) => status,
+            Err(_) => failed(rt),
+        }
     }
+}
+
+/// Says that a device failed, where that can be said, and answers the status.
+fn failed(rt: &impl Eprint) -> u8
+    ensures { result ≡ 3 }
+{
+    let _told = rt.eprintln("device failed");
+    3
 }
 
 impl From<clap::Error> for Ending {

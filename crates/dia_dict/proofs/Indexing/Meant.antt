@@ -44,6 +44,13 @@ module _ (es : List (Key × KnownAvp)) (gs cs : List IndexedDefinition) where
       let r = row_read es entry avp (subst (λ (n : ℕ). slice_get (values_of es) n ≡ Some avp) same at) in
       (r.0, slice_get-map (entry_of_row (map plain (definitions_of gs))) (rows_of es) entry ∙ ap (option_map (entry_of_row (map plain (definitions_of gs)))) r.1, r.1)
 
+  -- the entry with its key that a number names
+  pub entry_with_key-meant : (i entry : ℕ) (key : Key) (avp : KnownAvp) → i ≡ entry → slice_get es i ≡ Some (key, avp)
+      → slice_get (meant es gs cs).entries entry ≡ Some (entry_of_row (map plain (definitions_of gs)) (row_of (key, avp)))
+  entry_with_key-meant i entry key avp same at =
+      slice_get-map (entry_of_row (map plain (definitions_of gs))) (rows_of es) entry
+      ∙ ap (option_map (entry_of_row (map plain (definitions_of gs)))) (slice_get-map row_of es entry ∙ ap (option_map row_of) (subst (λ (n : ℕ). slice_get es n ≡ Some (key, avp)) same at))
+
   module _ (numbered : numbers (rows_of es) ≡ range_with_len 0 (length gs)) where
     named : numbers (rows_of es) ≡ range_with_len 0 (length (definitions_of gs))
     named = numbered ∙ ap (range_with_len 0) (sym (length-map gs (λ (d : IndexedDefinition). d.definition)))

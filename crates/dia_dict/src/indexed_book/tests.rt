@@ -1,12 +1,9 @@
-ghost use Rattle.std.specs.Prelude.{◌≡◌, ◌<◌, true, false, length, IsTrue, IfOk};
-ghost use Rattle.dia_ccf.specs.Names.{is_name, is_head, is_group};
-ghost use Rattle.dia_ccf.specs.declared.Head.TheVariants as head;
+ghost use Rattle.std.specs.Prelude.{◌<◌, length};
 ghost use Rattle.dia_dict.specs.Dictionary.{definitions};
 
 use super::IndexedBook;
-use crate::{Book, Class, DefId, Entry, Key, RuleKind, Slot, base_book, resolve};
-use dia_ccf::{Decl, Def, FormatName, Head, MRule, Rule, Source};
-use std::alloc::{AllocError, Global};
+use crate::tests::book_of;
+use crate::{Book, Class, DefId, Entry, Key, Slot, base_book};
 use std::process::Abort;
 use std::test::Fail;
 
@@ -63,6 +60,7 @@ fn same_entry<A: Book, B: Book>(rt: &impl Abort, a: &A, b: &B, one: Entry, other
     requires in_a { one < length (A.meaning a.now).entries }
     requires in_b { other < length (B.meaning b.now).entries }
 {
+    assert_eq!(rt; a.entry_key(one), b.entry_key(other));
     assert_eq!(rt; a.entry_name(one), b.entry_name(other));
     assert_eq!(rt; a.format(one), b.format(other));
     assert_eq!(rt; a.rule(one), b.rule(other));
@@ -139,53 +137,62 @@ fn base_dictionary(rt: HostRuntime) -> Result<(), Fail> {
     Ok(())
 }
 
-/// `<NAME> ::= < Diameter Header: 302, REQ, APP > { X }`.
-fn command(alloc: Global, name: &str, app: Option<u32>) -> Result<Def, AllocError>
-    requires named { IsTrue (is_name name.now) }
-    requires headed { IsTrue (is_head (head.Command 302 true false app)) }
-    ensures { IfOk result (λ def. is_group def.head ≡ false) }
-{
-    let rule = Rule {
-        kind: RuleKind::Required,
-        name: Some(String::from_str(alloc, "X")?),
-        qual: None,
-    };
-    Ok(Def {
-        name: String::from_str(alloc, name)?,
-        head: Head::Command {
-            code: 302,
-            request: true,
-            pxy: false,
-            app,
-        },
-        rules: vec![in alloc; rule]?,
-    })
-}
-
-/// `%avp X 9002 Unsigned32 any`, with a command T for all applications and T5 for one of them.
-fn two_applications(alloc: Global) -> Result<Source, AllocError> {
-    let x = Decl {
-        name: String::from_str(alloc, "X")?,
-        code: 9002,
-        vendor: 0,
-        format: FormatName::Unsigned32,
-        values: None,
-        rule: MRule::Any,
-    };
-    Ok(Source {
-        avps: vec![in alloc; x]?,
-        groups: Vec::new(alloc),
-        commands: vec![in alloc; command(alloc, "T", None)?, command(alloc, "T5", Some(5))?]?,
-    })
+/// Both books of a text answer alike. The indexed one is handed out.
+fn indexed(rt: &(impl AllocGlobal + Abort), text: &str) -> Result<IndexedBook, Fail> {
+    let plain = book_of(rt.alloc(), text)?;
+    let book = IndexedBook::new(rt.alloc(), &plain)?;
+    same_answers(rt, &plain, &book);
+    Ok(book)
 }
 
 #[test]
 fn application_goes_first(rt: HostRuntime) -> Result<(), Fail> {
-    let plain = resolve(rt.alloc(), two_applications(rt.alloc())?)?;
-    let book = IndexedBook::new(rt.alloc(), &plain)?;
-    same_answers(&rt, &plain, &book);
+    let book = indexed(
+        &rt,
+        "%avp X 9002 Unsigned32 any <T> ::= < Diameter Header: 302, REQ > { X } <T5> ::= < Diameter Header: 302, REQ, 5 > { X }",
+    )?;
     assert_eq!(rt; selected_name(&book, 302, Class::Request, 5), Some("T5"));
     assert_eq!(rt; selected_name(&book, 302, Class::Request, 0), Some("T"));
     assert_eq!(rt; selected_name(&book, 302, Class::Answer, 5), None);
+    Ok(())
+}
+
+#[test]
+fn a_fixed_rule_has_the_first_slot(rt: HostRuntime) -> Result<(), Fail> {
+    let book = indexed(
+        &rt,
+        "%avp Session-Id 263 UTF8String any %avp Origin-Host 264 DiameterIdentity any <T> ::= < Diameter Header: 300, REQ > < Session-Id > { Origin-Host }",
+    )?;
+    assert_eq!(rt;
+        selected_slot(&book, 300, Class::Request, 263),
+        Some(Slot::Fixed(0))
+    );
+    assert_eq!(rt;
+        selected_slot(&book, 300, Class::Request, 264),
+        Some(Slot::Loose(1))
+    );
+    Ok(())
+}
+
+#[test]
+fn a_group_may_hold_itself(rt: HostRuntime) -> Result<(), Fail> {
+    let book = indexed(
+        &rt,
+        "<Node> ::= < AVP Header: 9001 > * [ Node ] <T> ::= < Diameter Header: 301, REQ > * [ Node ]",
+    )?;
+    let node = Key {
+        code: 9001,
+        vendor: 0,
+    };
+    let entries = book.entries();
+    assert_eq!(rt; entries, 1);
+    let entry = book.entry_at(0);
+    assert_eq!(rt; book.avp(node), Some(entry));
+    assert_eq!(rt; book.entry_key(entry), node);
+    assert!(rt; book.group(entry).is_some());
+    assert_eq!(rt;
+        selected_slot(&book, 301, Class::Request, 9001),
+        Some(Slot::Loose(0))
+    );
     Ok(())
 }

@@ -62,6 +62,12 @@ fn tells_the_first_fault(rt: HostRuntime) -> Result<(), Fail> {
             "Z",
         ),
         (
+            "<T> ::= < Diameter Header: 302, REQ > { Z } <G> ::= < AVP Header: 5 > { Y }",
+            DictKind::UndefinedName,
+            "G",
+            "Y",
+        ),
+        (
             "%avp X 9002 Time any <T> ::= < Diameter Header: 302, REQ > { X } [ X ]",
             DictKind::RepeatedSlot,
             "T",

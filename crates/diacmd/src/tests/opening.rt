@@ -1,0 +1,63 @@
+//! Inputs that are files.
+
+use crate::arguments::Request;
+use crate::command::{Command, Input as Text};
+use crate::ending::Ending;
+use crate::opening::open_inputs;
+use dia_dict::base_text;
+use std::test::Fail;
+
+/// The words of `show`.
+fn words<'a>(first: &'a str, message: &'a str) -> Request<'a> {
+    Request {
+        command: Command::Show,
+        first,
+        message: Some(message),
+    }
+}
+
+/// Whether the input is these bytes.
+fn holds(text: &Text, wanted: &[u8]) -> bool {
+    match text {
+        Text::Bytes(bytes) => bytes.as_slice() == wanted,
+        Text::TooLong => false,
+    }
+}
+
+#[test]
+fn opens_the_files_that_are_named(rt: HostRuntime) -> Result<(), Fail> {
+    let Ok(inputs) = open_inputs(&rt, &words("/dev/zero", "/dev/null")) else {
+        return Err(Fail::from("the files can't be read"));
+    };
+    assert!(rt; matches!(inputs.first, Text::TooLong));
+    assert!(rt; holds(&inputs.message, b""));
+    assert!(rt; holds(&inputs.second, b"") && holds(&inputs.table, b""));
+    let Ok(inputs) = open_inputs(&rt, &words("@base", "/dev/null")) else {
+        return Err(Fail::from("the files can't be read"));
+    };
+    assert!(rt; holds(&inputs.first, base_text().as_bytes()));
+    Ok(())
+}
+
+#[test]
+fn a_missing_file_is_a_failed_device(rt: HostRuntime) {
+    let missing = "/no/such/file";
+    assert!(rt;
+        matches!(
+            open_inputs(&rt, &words(missing, "/dev/null")),
+            Err(Ending::Device)
+        )
+    );
+    assert!(rt;
+        matches!(
+            open_inputs(&rt, &words("@base", missing)),
+            Err(Ending::Device)
+        )
+    );
+    assert!(rt;
+        matches!(
+            open_inputs(&rt, &words("/dev/null", "@base")),
+            Err(Ending::Device)
+        )
+    );
+}

@@ -1,0 +1,235 @@
+//! The words of the command line, and what is told of them.
+
+use crate::arguments::parse_words;
+use crate::command::Command;
+use crate::ending::Ending;
+use std::alloc::Global;
+use std::cell::RefCell;
+use std::fmt::Display;
+use std::io;
+use std::test::Fail;
+
+#[test]
+fn reads_the_words(rt: HostRuntime) -> Result<(), Fail> {
+    let alloc = rt.alloc();
+    let Ok(request) = parse_words(alloc, &["diacmd", "show", "-"]) else {
+        return Err(Fail::from("the words are refused"));
+    };
+    assert!(rt; matches!(request.command, Command::Show));
+    assert!(rt; request.first == "@base" && request.message == Some("-"));
+    let Ok(request) = parse_words(alloc, &["diacmd", "show", "--dict", "-", "m.hex"]) else {
+        return Err(Fail::from("the words are refused"));
+    };
+    assert!(rt; request.first == "-" && request.message == Some("m.hex"));
+    let Ok(request) = parse_words(alloc, &["diacmd", "render", "@base"]) else {
+        return Err(Fail::from("the words are refused"));
+    };
+    assert!(rt; matches!(request.command, Command::Render));
+    assert!(rt; request.first == "@base" && request.message.is_none());
+    Ok(())
+}
+
+/// Keeps what is printed, on each stream.
+#[derive(Drop)]
+struct Streams {
+    alloc: Global,
+    out: RefCell<String>,
+    err: RefCell<String>,
+}
+
+impl Streams {
+    fn new(alloc: Global) -> Streams {
+        Streams {
+            alloc,
+            out: RefCell::new(String::new(alloc)),
+            err: RefCell::new(String::new(alloc)),
+        }
+    }
+}
+
+/// Adds a text to what a stream was given.
+fn add<D: Display + Drop>(
+    alloc: Global,
+    stream: &RefCell<String>,
+    value: D,
+    end: &str,
+) -> io::Result<()> {
+    let Ok(mut kept) = stream.try_borrow_mut() else {
+        return Err(io::Error::from(io::ErrorKind::Other));
+    };
+    let text = format!(in alloc; "{value}{end}")?;
+    kept.push_str(&text)?;
+    Ok(())
+}
+
+/// Whether a stream was given this text.
+fn was_given(stream: &RefCell<String>, wanted: &str) -> bool {
+    match stream.try_borrow() {
+        Ok(kept) => kept.as_str() == wanted,
+        Err(_) => false,
+    }
+}
+
+impl Print for Streams {
+    fn print<D: Display + Drop>(&self, value: D) -> io::Result<()> {
+        add(self.alloc, &self.out, value, "")
+    }
+
+    fn println<D: Display + Drop>(&self, value: D) -> io::Result<()> {
+        add(self.alloc, &self.out, value, "\n")
+    }
+
+    fn write_all(&self, _bytes: &[u8]) -> io::Result<()> {
+        Err(io::Error::from(io::ErrorKind::Other))
+    }
+}
+
+impl Eprint for Streams {
+    fn eprint<D: Display + Drop>(&self, value: D) -> io::Result<()> {
+        add(self.alloc, &self.err, value, "")
+    }
+
+    fn eprintln<D: Display + Drop>(&self, value: D) -> io::Result<()> {
+        add(self.alloc, &self.err, value, "\n")
+    }
+}
+
+const NO_WORDS: &str = "error: 'diacmd' requires a subcommand but one was not provided
+  [subcommands: show, render, help]
+
+Usage: diacmd <COMMAND>
+
+For more information, try '--help'.
+";
+
+const NO_MESSAGE: &str = "error: the following required arguments were not provided:
+  <MESSAGE>
+
+Usage: diacmd show <MESSAGE>
+
+For more information, try '--help'.
+";
+
+const TWO_DICTIONARIES: &str = "error: the argument '--dict <D>' cannot be used multiple times
+
+Usage: diacmd show [OPTIONS] <MESSAGE>
+
+For more information, try '--help'.
+";
+
+const UNKNOWN_OPTION: &str = "error: unexpected argument '--levels' found
+
+  tip: to pass '--levels' as a value, use '-- --levels'
+
+Usage: diacmd show [OPTIONS] <MESSAGE>
+
+For more information, try '--help'.
+";
+
+const UNKNOWN_COMMAND: &str = "error: unrecognized subcommand 'shown'
+
+  tip: a similar subcommand exists: 'show'
+
+Usage: diacmd <COMMAND>
+
+For more information, try '--help'.
+";
+
+const READ_TWICE: &str =
+    "error: '-' is given twice, and standard input can be read once: name a file for one of the two
+
+For more information, try '--help'.
+";
+
+#[test]
+fn faults_of_the_words_go_to_standard_error(rt: HostRuntime) -> Result<(), Fail> {
+    let rows: [(&[&str], &str); 6] = [
+        (&["diacmd"], NO_WORDS),
+        (&["diacmd", "show"], NO_MESSAGE),
+        (
+            &["diacmd", "show", "--dict", "a", "--dict", "b", "-"],
+            TWO_DICTIONARIES,
+        ),
+        (&["diacmd", "show", "--levels", "-"], UNKNOWN_OPTION),
+        (&["diacmd", "shown", "-"], UNKNOWN_COMMAND),
+        (&["diacmd", "show", "--dict", "-", "-"], READ_TWICE),
+    ];
+    for (words, told) in rows.iter() {
+        let streams = Streams::new(rt.alloc());
+        let Err(ending) = parse_words(rt.alloc(), *words) else {
+            return Err(Fail::from("the words are read"));
+        };
+        assert_eq!(rt; ending.tell(&streams), 2, "{told}");
+        assert!(rt; was_given(&streams.out, ""), "{told}");
+        assert!(rt; was_given(&streams.err, told), "{told}");
+    }
+    Ok(())
+}
+
+const HELP: &str = "A workbench for Diameter (RFC 6733) dictionaries and messages
+
+Usage: diacmd <COMMAND>
+
+Commands:
+  show    Prints a message: its header, and a line for each AVP
+  render  Prints the canonical text of a dictionary
+  help    Print this message or the help of the given subcommand(s)
+
+Options:
+  -h, --help  Print help
+
+Status:
+  0  done
+  1  a bad AVP length in the message
+  2  bad input, or a bad command line
+  3  a file or a device failed, or memory was refused
+";
+
+const SHOW_HELP: &str = "Prints a message: its header, and a line for each AVP
+
+Usage: diacmd show [OPTIONS] <MESSAGE>
+
+Arguments:
+  <MESSAGE>  A file of hexadecimal text, white space ignored; - for standard input
+
+Options:
+      --dict <D>  The dictionary that names the AVPs: a file, @base, or - for standard input [default: @base]
+  -h, --help      Print help
+";
+
+#[test]
+fn help_goes_to_standard_output(rt: HostRuntime) -> Result<(), Fail> {
+    let rows: [(&[&str], &str); 2] = [
+        (&["diacmd", "--help"], HELP),
+        (&["diacmd", "show", "--help"], SHOW_HELP),
+    ];
+    for (words, told) in rows.iter() {
+        let streams = Streams::new(rt.alloc());
+        let Err(ending) = parse_words(rt.alloc(), *words) else {
+            return Err(Fail::from("the words are read"));
+        };
+        assert_eq!(rt; ending.tell(&streams), 0);
+        assert!(rt; was_given(&streams.out, told), "{told}");
+        assert!(rt; was_given(&streams.err, ""));
+    }
+    Ok(())
+}
+
+#[test]
+fn other_endings_are_a_line_on_standard_error(rt: HostRuntime) {
+    let rows = [
+        (
+            Ending::NotText,
+            2,
+            "error: a word of the command line isn't UTF-8\n\nFor more information, try '--help'.\n",
+        ),
+        (Ending::Device, 3, "device failed\n"),
+        (Ending::NoMemory, 3, "no memory\n"),
+    ];
+    for (ending, status, told) in rows.iter() {
+        let streams = Streams::new(rt.alloc());
+        assert_eq!(rt; ending.tell(&streams), *status);
+        assert!(rt; was_given(&streams.out, ""));
+        assert!(rt; was_given(&streams.err, told));
+    }
+}
