@@ -1,5 +1,6 @@
 //! Why a text is no dictionary.
 
+use std::fmt;
 use thiserror::Error;
 
 /// Why a text is no dictionary. Lines and tokens count from 1.
@@ -12,10 +13,20 @@ pub enum CcfFault {
     /// A number stands where one may stand, and is not in the range that is wanted there.
     #[error("line {line}: the number is out of range")]
     Number { line: u32 },
-    /// A name is longer than 128 bytes, or, on line 0, the text longer than [`MAX_TEXT`](crate::MAX_TEXT).
-    #[error("line {line}: a limit is passed")]
+    /// A name longer than 128 bytes stands where a name that is free to choose may stand; or, on line 0, the
+    /// text is longer than [`MAX_TEXT`](crate::MAX_TEXT).
+    #[error(fmt = tell_limit)]
     Limit { line: u32 },
     /// Memory was refused.
     #[error("out of memory")]
     NoMemory,
+}
+
+/// Tells which limit is passed.
+fn tell_limit<W: fmt::Write>(line: &u32, f: &mut fmt::Formatter<W>) -> fmt::Result {
+    if *line == 0 {
+        write!(f, "the text is too long")
+    } else {
+        write!(f, "line {line}: the name is too long")
+    }
 }

@@ -5,12 +5,12 @@ ghost use Rattle.dia_ccf.specs.Names.{is_name, same_bytes};
 
 use crate::lexer::is_name_run;
 
-/// The most bytes of a name.
+/// The most bytes of a name (our profile).
 pub const MAX_NAME: usize = 128;
 
 /// Whether the text is a name of a dictionary: at most [`MAX_NAME`] ASCII letters, digits and dashes, of which
-/// the first is no dash and one at least is a letter, and not `AVP`. A [`Source`](crate::Source) holds no
-/// other names.
+/// the first is no dash and one at least is a letter, and not `AVP`. That a name may begin with a digit is our
+/// profile: RFC 6733 section 3.2 has a letter there. A [`Source`](crate::Source) holds no other names.
 pub fn is_name(text: &str) -> bool
     ensures { IsTrue result ↔ IsTrue (is_name text.now) }
 {

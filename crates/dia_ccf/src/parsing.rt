@@ -12,10 +12,15 @@ use crate::reading::Reader;
 use crate::source::Source;
 use std::alloc::Global;
 
-/// The most bytes that a text may have.
+/// The most bytes that a text may have (our profile).
 pub const MAX_TEXT: usize = 1_048_576;
 
-/// Reads a text.
+/// Reads a text of definitions of commands (RFC 6733 section 3.2) and of grouped AVPs (section 4.4), with the forms of our
+/// profile, as declarations of AVPs and comments.
+///
+/// A text above [`MAX_TEXT`] bytes is `Limit { line: 0 }`, before anything else is looked at. Otherwise the fault
+/// is that of the first token with which no text of the grammar can go on. `NoMemory` comes only where memory
+/// was refused.
 pub fn parse(alloc: Global, text: &str) -> Result<Source, CcfFault>
     // What is read is derived from the text's tokens.
     ensures found { IfOk result (λ source. Derives (tokens text.now) (plain source)) }

@@ -15,6 +15,7 @@ use std::alloc::{AllocError, Global};
 /// group and then of each command, in the source's order (our profile's form of RFC 6733 section 3.2).
 /// A vendor of 0 is left out, numbers have no leading zeros, and each line ends with a line feed.
 /// The text may be longer than the limit of texts that are read: where it is not, it is read as the source again.
+/// The error comes only where memory was refused.
 pub fn render(alloc: Global, source: &Source) -> Result<String, AllocError>
     ensures text { IfOk result (λ text. string_bytes text ≡ canonical (plain source.now)) }
     ensures read_again { Derives (tokens (canonical (plain source.now))) (plain source.now) }

@@ -1,8 +1,9 @@
+//! What a dictionary text says.
 ghost use Rattle.std.specs.Prelude.{◌&&◌, IsTrue, not, map, string_bytes};
 ghost use Rattle.std.specs.List.{list_all};
 ghost use Rattle.dia_ccf.specs.Names.{is_name, is_rule_name, is_number, is_qualifier, fits_values, is_head, fixed_first, is_group};
 
-/// The formats by their names.
+/// The formats by their names (RFC 6733 sections 4.2 and 4.3).
 #[derive(Clone, Copy, Debug, PartialEq, Eq)]
 pub enum FormatName {
     OctetString,
@@ -31,13 +32,16 @@ pub enum MRule {
     Any,
 }
 
-/// A declared AVP.
+/// A declared AVP (our profile).
 #[derive(Debug, Drop)]
 pub struct Decl {
     pub name: String,
     pub code: u32,
+    /// 0 is no vendor.
     pub vendor: u32,
     pub format: FormatName,
+    /// The values of an Enumerated AVP as ranges, each its lowest and its highest value, both within. `None` is no
+    /// list (our profile).
     pub values: Option<Vec<(u32, u32)>>,
     pub rule: MRule,
     pub ghost named: { IsTrue (is_name (string_bytes name)) },
@@ -53,47 +57,62 @@ pub enum Pxy {
     Either,
 }
 
+/// The head of a definition (RFC 6733 section 3.2).
 #[derive(Clone, Copy, Debug, PartialEq, Eq)]
 pub enum Head {
+    /// The group of an AVP.
     Group {
         code: u32,
+        /// 0 is no vendor.
         vendor: u32,
     },
+    /// The requests or the answers of a command.
     Command {
         code: u32,
         request: bool,
         pxy: bool,
+        /// `None` is no application.
         app: Option<u32>,
     },
+    /// The answers with the E flag, whatever their command code.
     Error {
         pxy: Pxy,
     },
 }
 
+/// The brackets of a rule (RFC 6733 section 3.2).
 #[derive(Clone, Copy, Debug, PartialEq, Eq)]
 pub enum RuleKind {
+    /// In angle brackets: the AVPs come first, in the order of the rules.
     Fixed,
+    /// In braces.
     Required,
+    /// In brackets.
     Optional,
 }
 
+/// How often the AVP of a rule stands (RFC 6733 section 3.2).
 #[derive(Clone, Copy, Debug, PartialEq, Eq)]
 pub struct Qual {
+    /// The least count. `None` is 1 in braces and 0 elsewhere.
     pub min: Option<u32>,
+    /// The greatest count. `None` is no bound.
     pub max: Option<u32>,
 }
 
-/// A rule of a definition; one with no name is the wildcard.
+/// A rule of a definition (RFC 6733 section 3.2).
 #[derive(Debug, Drop)]
 pub struct Rule {
     pub kind: RuleKind,
+    /// `None` is the wildcard, which stands for any AVP.
     pub name: Option<String>,
+    /// Without a qualifier the AVP stands exactly once, in brackets at most once.
     pub qual: Option<Qual>,
     pub ghost named: { IsTrue (is_rule_name kind name) },
     pub ghost counted: { IsTrue (is_qualifier qual) },
 }
 
-/// A group or a command.
+/// A group or a command, with its rules in the order of the text.
 #[derive(Debug, Drop)]
 pub struct Def {
     pub name: String,
@@ -104,7 +123,7 @@ pub struct Def {
     pub ghost ordered: { IsTrue (fixed_first (map (λ r. r.kind) rules.items)) },
 }
 
-/// What a text says.
+/// What a text says, each list in the order of the text.
 #[derive(Debug, Drop)]
 pub struct Source {
     pub avps: Vec<Decl>,

@@ -5,7 +5,9 @@ mod memory;
 mod places;
 
 use crate::fault::CcfFault;
+use crate::names::is_name;
 use crate::parsing::parse;
+use crate::rendering::render;
 use base::BASE;
 use std::test::Fail;
 
@@ -43,5 +45,45 @@ fn tells_the_first_token_that_does_not_fit(rt: HostRuntime) -> Result<(), Fail> 
         answer(alloc, "%avp X\n4294967296 Time any")?.as_str(),
         "number 2"
     );
+    Ok(())
+}
+
+#[test]
+fn renders_what_it_reads(rt: HostRuntime) -> Result<(), Fail> {
+    let rows = [
+        ("", ""),
+        (BASE, BASE),
+        (
+            "t ::= <diameter-header:300 req pxy 5>{X}*[AVP] <Y>::=<AVP Header:9003 0>*2<X>",
+            "<Y> ::= < AVP Header: 9003 >\n  *2 < X >\n<t> ::= < Diameter Header: 300, REQ, PXY, 5 >\n  { X }\n  * [ AVP ]\n",
+        ),
+        (
+            "%avp E 9004 Enumerated any (0..3 7..7 10)",
+            "%avp E 9004 Enumerated any ( 0..3 7 10 )\n",
+        ),
+    ];
+    for (text, expected) in rows.iter() {
+        let source = parse(rt.alloc(), text)?;
+        let found = render(rt.alloc(), &source)?;
+        assert_eq!(rt; found.as_str(), *expected);
+    }
+    Ok(())
+}
+
+#[test]
+fn tells_names(rt: HostRuntime) -> Result<(), Fail> {
+    let long = "n".repeat(rt.alloc(), 129)?;
+    assert!(rt; is_name("3GPP-IMSI"));
+    assert!(rt; !is_name(long.as_str()));
+    assert!(rt; !is_name("AVP"));
+    Ok(())
+}
+
+#[test]
+fn tells_limits(rt: HostRuntime) -> Result<(), Fail> {
+    let text = format!(in rt.alloc(); "{}", CcfFault::Limit { line: 0 })?;
+    assert_eq!(rt; text.as_str(), "the text is too long");
+    let text = format!(in rt.alloc(); "{}", CcfFault::Limit { line: 7 })?;
+    assert_eq!(rt; text.as_str(), "line 7: the name is too long");
     Ok(())
 }

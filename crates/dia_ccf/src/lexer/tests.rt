@@ -28,7 +28,7 @@ fn takes_the_longest_sign(rt: HostRuntime) -> Result<(), Fail> {
         listed(alloc, "%avpX %avp7")?.as_str(),
         "Declares X Declares 7 "
     );
-    assert_eq!(rt; listed(alloc, "%AVP")?.as_str(), "? AVP ");
+    assert_eq!(rt; listed(alloc, "%AVP %avp-x")?.as_str(), "? AVP Declares ? ");
     assert_eq!(rt;
         listed(alloc, ":: :::=")?.as_str(),
         "Colon Colon Colon Assign "
