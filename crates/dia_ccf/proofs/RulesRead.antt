@@ -96,11 +96,6 @@ kind_told Fixed fixed h = ap (λ (x : Bool). x && true) (h refl)
 kind_told Required fixed h = and_false fixed
 kind_told Optional fixed h = and_false fixed
 
-pub loose_told : (kind : RuleKind) (fixed : Bool) → (kind ≡ Fixed → ⊥) → (fixed && is_fixed kind) ≡ false
-loose_told Fixed fixed h = absurd (h refl)
-loose_told Required fixed h = and_false fixed
-loose_told Optional fixed h = and_false fixed
-
 pub or_false : (fixed b : Bool) → (not fixed || b) ≡ false → (fixed ≡ true) × (b ≡ false)
 or_false true b h = (refl, h)
 or_false false b h = absurd cc

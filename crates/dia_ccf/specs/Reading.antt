@@ -1,5 +1,5 @@
 -- What the functions of the reader do, in terms of the machine.
-use Rattle.std.specs.Prelude.{◌≡◌, ℕ, ◌+◌, Bool, true, false, List, [], ◌∷◌, ◌++◌, Option, Some, None, Result, Ok, Err, MatchBool, is_some, length, string_bytes, String}
+use Rattle.std.specs.Prelude.{◌≡◌, ℕ, ◌+◌, ◌<◌, ◌≤◌, Bool, true, false, IsTrue, List, [], ◌∷◌, ◌++◌, Option, Some, None, Result, Ok, Err, MatchBool, is_some, length, string_bytes, String}
 use Rattle.std.specs.Option.{option_map}
 use Rattle.std.specs.Global.{Global}
 use Rattle.dia_ccf.specs.declared.reading.reasons.Refusal.{Refusal}
@@ -10,8 +10,12 @@ use Rattle.dia_ccf.specs.declared.fault.CcfFault.{CcfFault}
 use Rattle.dia_ccf.specs.declared.fault.CcfFault.TheVariants as faults
 use Rattle.dia_ccf.specs.Tokens.{Token, Comma, line_at}
 use Rattle.dia_ccf.specs.Lexing.{left_from}
-use Rattle.dia_ccf.specs.Plain.{PlainSource, plain}
-use Rattle.dia_ccf.specs.Machine.{State, Place, Between, Def_assign, Outcome, Reads, Stops, outcome, next, whole, refused, why, is_keyword, same_sign}
+use Rattle.dia_ccf.specs.declared.reading.definitions.Behind.{Behind}
+use Rattle.dia_ccf.specs.declared.reading.definitions.Behind.TheVariants as behinds
+use Rattle.dia_ccf.specs.declared.source.RuleKind.TheVariants.{Fixed}
+use Rattle.dia_ccf.specs.Names.{is_name}
+use Rattle.dia_ccf.specs.Plain.{PlainSource, PlainDef, plain, plain_rule}
+use Rattle.dia_ccf.specs.Machine.{State, Place, Between, Def_assign, Rules, add_def, with_rule, Outcome, Reads, Stops, outcome, next, whole, refused, why, is_keyword, same_sign}
 
 -- the tokens from the one ahead on
 abbrev pub left : Reader → List Token
@@ -80,6 +84,26 @@ pub record Reads_by {Y : Type 0} (numbers names : Bool) (read : Token → Option
 abbrev pub behind : Option (String Global) → Place
 behind None = Between
 behind (Some name) = Def_assign (string_bytes name)
+
+-- the state behind some rules of a definition and what stands behind them
+abbrev pub after_rules : PlainSource → PlainDef → Behind → State
+after_rules done d (behinds.Rule rule) = (done, Rules (with_rule d (plain_rule rule)))
+after_rules done d (behinds.Definition name) = (add_def done d, Def_assign (string_bytes name))
+after_rules done d behinds.Nothing = (add_def done d, Between)
+
+-- a fixed rule comes only behind fixed ones
+abbrev pub KeepsOrder : Behind → Bool → Type 0
+KeepsOrder (behinds.Rule rule) fixed = rule.kind ≡ Fixed → fixed ≡ true
+KeepsOrder found fixed = Unit {0}
+
+abbrev pub NamesNext : Behind → Type 0
+NamesNext (behinds.Definition name) = IsTrue (is_name (string_bytes name))
+NamesNext found = Unit {0}
+
+-- a rule has a token at least
+abbrev pub Goes : Behind → ℕ → ℕ → Type 0
+Goes (behinds.Rule rule) old new = old < new
+Goes found old new = old ≤ new
 
 -- the whole text was read, or the machine stops
 abbrev pub Finishes : Course → Result Source Refusal → Reader → Type 0

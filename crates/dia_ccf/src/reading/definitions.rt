@@ -5,6 +5,17 @@ use super::reasons::Refusal;
 use crate::lexer::{Sign, Token};
 use crate::source::{Def, Qual, Rule, RuleKind};
 
+/// What stands behind some rules of a definition.
+#[derive(Debug, Drop)]
+enum Behind {
+    /// One more rule.
+    Rule(Rule),
+    /// The name of the next definition, in angle brackets.
+    Definition(String),
+    /// Nothing of this definition.
+    Nothing,
+}
+
 impl<'a> Reader<'a> {
     ghost use Rattle.std.specs.Prelude.{◌≡◌, ◌<◌, ◌≤◌, ◌≢◌, ℕ, List, [], ◌&&◌, ◌||◌, not, map, true, false, IfOk, OnOk, IfSome, IsSome, IsTrue, MatchBool, string_bytes};
     ghost use Rattle.std.specs.Option.{option_map};
@@ -14,7 +25,7 @@ impl<'a> Reader<'a> {
     ghost use Rattle.dia_ccf.specs.Plain.{PlainSource, PlainDef, plain_def, plain_rule};
     ghost use Rattle.dia_ccf.specs.Machine.{State, Between, Def_assign, Rules, Qual_done, add_def, with_rule, all_fixed, name_at, sign_at, slot_at, number_at, same_sign, is_number, begins_qualifier, begins_loose, on_loose};
     ghost use Rattle.dia_ccf.specs.Grammar.{most_32};
-    ghost use Rattle.dia_ccf.specs.Reading.{Accepts, Leads, Takes, Wants, Reads_by, course, begins_with, left, behind};
+    ghost use Rattle.dia_ccf.specs.Reading.{Accepts, Leads, Takes, Wants, Reads_by, course, begins_with, left, behind, after_rules, KeepsOrder, NamesNext, Goes};
 
     /// The name of a definition, in angle brackets or bare.
     pub(super) fn defined_name(&mut self) -> Result<String, Refusal>
@@ -66,28 +77,44 @@ impl<'a> Reader<'a> {
         let mut rules = Vec::new(self.alloc);
         let mut only_fixed = true;
         loop {
-            if self.takes(Sign::Less) {
-                let name = self.name_in_angles()?;
-                if self.is_at_definition(only_fixed) {
-                    return Ok((rules, Some(name)));
+            match self.behind_rules(only_fixed)? {
+                Behind::Rule(rule) => {
+                    only_fixed = is_fixed(rule.kind);
+                    rules.push(rule)?;
                 }
-                rules.push(Rule {
-                    kind: RuleKind::Fixed,
-                    name: Some(name),
-                    qual: None,
-                })?;
-            } else if self.is_at_qualifier() {
-                let rule = self.qualified(only_fixed)?;
-                only_fixed = is_fixed(rule.kind);
-                rules.push(rule)?;
-            } else if self.is_at_loose() {
-                let rule = self.loose(None)?;
-                only_fixed = false;
-                rules.push(rule)?;
-            } else {
-                return Ok((rules, None));
+                Behind::Definition(name) => return Ok((rules, Some(name))),
+                Behind::Nothing => return Ok((rules, None)),
             }
         }
+    }
+
+    /// What stands behind the rules so far, which are all fixed or not.
+    fn behind_rules(&mut self, only_fixed: bool) -> Result<Behind, Refusal>
+        ensures read { (done : PlainSource) (d : PlainDef) → all_fixed d.rules ≡ only_fixed → Leads (course (done, Rules d) self.old) (after_rules done d) result self.new }
+        ensures ordered { IfOk result (λ found. KeepsOrder found only_fixed) }
+        ensures named { IfOk result NamesNext }
+        ensures farther { IfOk result (λ found. Goes found self.old.taken self.new.taken) }
+    {
+        if self.takes(Sign::Less) {
+            let name = self.name_in_angles()?;
+            if self.is_at_definition(only_fixed) {
+                return Ok(Behind::Definition(name));
+            }
+            return Ok(Behind::Rule(Rule {
+                kind: RuleKind::Fixed,
+                name: Some(name),
+                qual: None,
+            }));
+        }
+        if self.is_at_qualifier() {
+            let rule = self.qualified(only_fixed)?;
+            return Ok(Behind::Rule(rule));
+        }
+        if self.is_at_loose() {
+            let rule = self.loose(None)?;
+            return Ok(Behind::Rule(rule));
+        }
+        Ok(Behind::Nothing)
     }
 
     /// Whether the name in angle brackets before this place begins a definition: `::=` stands ahead, or no

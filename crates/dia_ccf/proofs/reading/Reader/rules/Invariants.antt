@@ -7,13 +7,13 @@ use Rattle.dia_ccf.specs.Machine.{Rules, all_fixed}
 use Rattle.dia_ccf.specs.Reading.{course}
 use Rattle.dia_ccf.proofs.reading.Reader.rules.Given as goal
 
-abbrev pub invariant-loop-self : goal.invariant-loop-self
-invariant-loop-self l = record {
+abbrev pub invariant-loop-rules : goal.invariant-loop-rules
+invariant-loop-rules l = record {
   read : (done : PlainSource) (name : List ℕ) (head : Head) → course (done, Rules (record { name = name; head = head; rules = [] })) l.initial.self ≡ course (done, Rules (record { name = name; head = head; rules = map plain_rule l.rules.items })) l.self;
   fixed : all_fixed (map plain_rule l.rules.items) ≡ l.only_fixed;
   ordered : IsTrue (fixed_first (map (λ r. r.kind) l.rules.items));
   farther : l.initial.self.taken ≤ l.self.taken;
 }
 
-abbrev pub decreases-loop-self : goal.decreases-loop-self
-decreases-loop-self l = 1048577 - l.self.taken
+abbrev pub decreases-loop-rules : goal.decreases-loop-rules
+decreases-loop-rules l = 1048577 - l.self.taken
