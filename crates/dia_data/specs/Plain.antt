@@ -5,7 +5,7 @@ use Rattle.dia_data.specs.declared.format.Values.{Values}
 use Rattle.dia_data.specs.declared.format.Format.{Format}
 use Rattle.dia_data.specs.declared.format.Format.TheVariants as format
 
--- the data formats of RFC 6733 sections 4.2 to 4.4; an Enumerated one with its ranges, low and high, if it has a list
+-- the data formats of RFC 6733 sections 4.2 to 4.4, and QoSFilterRule of RFC 3588 section 4.3; an Enumerated one with its ranges, low and high, if it has a list
 pub data PlainFormat : Type 0 where
   OctetString : PlainFormat
   Integer32 : PlainFormat

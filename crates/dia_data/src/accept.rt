@@ -12,8 +12,8 @@ use std::str;
 pub enum Leaf {
     /// The format accepts the data.
     Fine,
-    /// The format cannot have data of this length (result code 5014 of RFC 6733). An address of a family whose length
-    /// is fixed, and of another length, counts as such.
+    /// The format cannot have data of this length (result code 5014 of RFC 6733). An address of under 2 bytes, and one of
+    /// a family whose length is fixed and of another length, counts as such.
     BadLength,
     /// The format can have data of this length, and does not accept this data (result code 5004 of RFC 6733).
     BadValue,
@@ -170,6 +170,10 @@ mod tests {
         }
         let any = Format::Enumerated(Values { list: None });
         assert_eq!(rt; accepts(&any, b"\xff\xff\xff\xff"), Leaf::Fine);
+        let ranges = vec![in rt.alloc(); (0, 1), (3, 3)]?;
+        let gap = Format::Enumerated(Values { list: Some(ranges) });
+        assert_eq!(rt; accepts(&gap, b"\x00\x00\x00\x02"), Leaf::BadValue);
+        assert_eq!(rt; accepts(&gap, b"\x00\x00\x00\x03"), Leaf::Fine);
         Ok(())
     }
 

@@ -10,9 +10,9 @@ use crate::format::{Format, Values};
 ///
 /// Every format is below OctetString, Grouped too. Otherwise a format is below itself, Grouped excepted,
 /// DiameterIdentity and DiameterUri are below UTF8String, and Enumerated is below Integer32. One Enumerated format is
-/// below another that has no list, or whose ranges hold each number of its own; the sets of numbers are compared,
-/// however their ranges are cut. Lists of n and m ranges take at most m + 1 rounds of n + m steps, and fewer where the
-/// ranges stand in order.
+/// below another that has no list; or both have one, and the ranges of the second hold each number of the first. The sets
+/// of numbers are compared, however their ranges are cut. Lists of n and m ranges take at most m + 1 rounds of n + m steps:
+/// one for each gap of the second list that lies between numbers of the first.
 pub fn format_below(f: &Format, g: &Format) -> bool
     ensures { IsTrue result ↔ FormatBelow (plain f.now) (plain g.now) }
 {

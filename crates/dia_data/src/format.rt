@@ -3,6 +3,9 @@ use std::alloc::AllocError;
 
 /// The numbers of an Enumerated format (RFC 6733 section 4.3.1).
 ///
+/// The 4 bytes of a value are read against the list as an unsigned number in network byte order. Enumerated is derived from
+/// Integer32, so `print_value` prints it signed.
+///
 /// No list stands for every number of 32 bits. A list names the numbers of its ranges `(low, high)`, both ends in. The
 /// ranges may overlap and stand in any order, and one whose `low` is above its `high` names no number.
 #[derive(Debug, Drop, PartialEq, Eq)]
@@ -29,9 +32,10 @@ pub enum Format {
     Float64,
     /// AVPs, one after the other.
     Grouped,
-    /// 2 bytes of address family, then the address: 4 bytes in family 1, 16 in family 2, any number in others.
+    /// 2 bytes of address family, then the address: 4 bytes in family 1 (IPv4), 16 in family 2 (IPv6), any number in
+    /// others (our profile).
     Address,
-    /// Seconds, an unsigned number of 4 bytes.
+    /// Seconds since 1 January 1900, 0h UTC, an unsigned number of 4 bytes.
     Time,
     /// UTF-8 (RFC 3629), also empty.
     Utf8String,
@@ -42,9 +46,9 @@ pub enum Format {
     DiameterUri,
     /// A number of 4 bytes that is one of these.
     Enumerated(Values),
-    /// Any bytes.
+    /// Any bytes: the text of a rule isn't read (our profile).
     IpFilterRule,
-    /// Any bytes.
+    /// Any bytes: the text of a rule isn't read (our profile).
     QosFilterRule,
 }
 

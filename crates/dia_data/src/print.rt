@@ -13,8 +13,11 @@ use std::alloc::{AllocError, Global};
 
 /// The data as text (our profile).
 ///
-/// Numbers are decimal, a text, an identity or a URI is quoted, and an address is written by its family. All else, and
-/// data that the format does not accept, is `x` and two lower-case hexadecimal digits a byte.
+/// Numbers are decimal, signed or not as their format is. A text, an identity or a URI stands in double quotes, where each
+/// byte that is no printing ASCII, and the quote and the backslash, is `\x` and two lower-case hexadecimal digits. An
+/// address of family 1 is four decimals with dots, of family 2 eight groups of four digits with colons, and of another
+/// family `family N ` and the hexadecimal form of what follows. All else, and data that the format does not accept, has
+/// the hexadecimal form: `x` and two lower-case digits a byte. The error comes only where memory was refused.
 pub fn print_value(alloc: Global, format: &Format, bytes: &[u8]) -> Result<String, AllocError>
     ensures { IfOk result (λ text. IsShown (plain format.now) bytes.now (string_bytes text)) }
 {

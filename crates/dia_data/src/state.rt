@@ -19,7 +19,8 @@ enum Seen {
 
 /// What has been seen of the data of a format so far, in whatever pieces it came.
 ///
-/// It keeps a fixed number of bytes: no length that a format fixes and no scheme of a URI is above 20.
+/// It keeps a fixed number of bytes: each length that a format fixes, and each scheme of a URI, is below 20, so that one
+/// byte too many is still seen.
 #[derive(Clone, Copy, Debug)]
 pub struct LeafState<'a> {
     format: &'a Format,
@@ -80,8 +81,7 @@ mod tests {
     use super::*;
     use std::process::Abort;
 
-    fn check_pieces(rt: &impl Abort, format: &Format, data: &[u8]) {
-        let whole = accepts(format, data);
+    fn check_pieces(rt: &impl Abort, format: &Format, data: &[u8], whole: Leaf) {
         for i in 0..data.len() + 1 {
             let mut state = LeafState::start(format);
             state.feed(&data[..i]);
@@ -106,43 +106,68 @@ mod tests {
 
     #[test]
     fn cuts_texts_anywhere(rt: HostRuntime) {
-        let texts: [&[u8]; 6] = [
-            "a\u{e9}\u{20ac}\u{1f600}b\u{10ffff}c\u{7ff}".as_bytes(),
+        let whole = "a\u{e9}\u{20ac}\u{1f600}b\u{10ffff}c\u{7ff}";
+        check_pieces(&rt, &Format::Utf8String, whole.as_bytes(), Leaf::Fine);
+        let others: [&[u8]; 5] = [
             b"a\xc3\xa9\xe2\x82",
             b"ab\xed\xa0\x80cd",
             b"\xf4\x90\x80\x80",
             b"\xf0\x9f\x98\x80\x80",
             b"\xe2\x82\xe2\x82\xac",
         ];
-        for text in texts {
-            check_pieces(&rt, &Format::Utf8String, text);
+        for text in others {
+            check_pieces(&rt, &Format::Utf8String, text, Leaf::BadValue);
         }
     }
 
     #[test]
     fn cuts_other_data_anywhere(rt: HostRuntime) {
-        let cases: [(Format, &[u8]); 12] = [
-            (Format::Unsigned32, b"1234"),
-            (Format::Unsigned32, b"12345"),
-            (Format::Float64, b"12345678"),
-            (Format::Address, b"\x00\x0112345"),
-            (Format::Address, b"\x00\x021234567890123456"),
-            (Format::Address, b"\x00\x02123456789012345678901234567890"),
-            (Format::Address, b"\x00\x03123456789012345678901234567890"),
-            (Format::DiameterIdentity, b"a.b"),
-            (Format::DiameterIdentity, b"123456789012345678901234567890 "),
+        let cases: [(Format, &[u8], Leaf); 14] = [
+            (Format::Unsigned32, b"1234", Leaf::Fine),
+            (Format::Unsigned32, b"12345", Leaf::BadLength),
+            (Format::Float64, b"12345678", Leaf::Fine),
+            (Format::Address, b"\x00\x0112345", Leaf::BadLength),
+            (Format::Address, b"\x00\x021234567890123456", Leaf::Fine),
+            (
+                Format::Address,
+                b"\x00\x0212345678901234567",
+                Leaf::BadLength,
+            ),
+            (
+                Format::Address,
+                b"\x00\x02123456789012345678",
+                Leaf::BadLength,
+            ),
+            (
+                Format::Address,
+                b"\x00\x021234567890123456789",
+                Leaf::BadLength,
+            ),
+            (
+                Format::Address,
+                b"\x00\x03123456789012345678901234567890",
+                Leaf::Fine,
+            ),
+            (Format::DiameterIdentity, b"a.b", Leaf::Fine),
+            (
+                Format::DiameterIdentity,
+                b"123456789012345678901234567890 ",
+                Leaf::BadValue,
+            ),
             (
                 Format::DiameterUri,
                 b"AAAS://h.example.org:3868;transport=tcp",
+                Leaf::Fine,
             ),
             (
                 Format::DiameterUri,
                 b"aaa://h.example.org:3868;transport=tcp\x80",
+                Leaf::BadValue,
             ),
-            (Format::OctetString, b"\x00\xff"),
+            (Format::OctetString, b"\x00\xff", Leaf::Fine),
         ];
-        for (format, data) in cases {
-            check_pieces(&rt, &format, data);
+        for (format, data, whole) in cases {
+            check_pieces(&rt, &format, data, whole);
         }
     }
 }
