@@ -3,7 +3,7 @@ ghost use Rattle.std.specs.Prelude.{◌≡◌, ◌<◌, ◌++◌, IfOk, OnOk, le
 ghost use Rattle.std.specs.Fmt.{decimal};
 ghost use Rattle.std.specs.List.{join_with_byte};
 ghost use Rattle.dia_data.specs.Leaf.{IsAddress};
-ghost use Rattle.dia_data.specs.Shown.{IsShown, address, groups, hex_byte, hex_digit, hexadecimal, quoted, quoted_byte};
+ghost use Rattle.dia_data.specs.Shown.{IsShown, address, groups, hex_byte, hexadecimal, quoted, quoted_byte};
 ghost use Rattle.dia_data.specs.Plain.{plain};
 
 use crate::accept::{Leaf, accepts};
@@ -31,7 +31,12 @@ pub fn print_value(alloc: Global, format: &Format, bytes: &[u8]) -> Result<Strin
         Format::Unsigned64 => BigEndian::read_u64(bytes).to_string(alloc),
         Format::Address => address(alloc, bytes),
         Format::Utf8String | Format::DiameterIdentity | Format::DiameterUri => quoted(alloc, bytes),
-        _ => hexadecimal(alloc, bytes),
+        Format::OctetString
+        | Format::Float32
+        | Format::Float64
+        | Format::IpFilterRule
+        | Format::QosFilterRule
+        | Format::Grouped => { hexadecimal(alloc, bytes) }
     }
 }
 
@@ -119,15 +124,7 @@ fn push_hexadecimal(out: &mut String, bytes: &[u8]) -> Result<(), AllocError>
 fn push_hex(out: &mut String, byte: u8) -> Result<(), AllocError>
     ensures { OnOk result (string_bytes out.new ≡ string_bytes out.old ++ hex_byte byte) }
 {
-    out.push(hex_digit(byte / 16))?;
-    out.push(hex_digit(byte % 16))
-}
-
-fn hex_digit(n: u8) -> char
-    requires { n < 16 }
-    ensures { result ≡ hex_digit n }
-{
-    char::from(if n < 10 { b'0' + n } else { b'a' + (n - 10) })
+    write!(out, "{byte:02x}")
 }
 
 #[cfg(test)]
