@@ -1,5 +1,5 @@
-ghost use Rattle.std.specs.Prelude.{◌≡◌, ◌↔◌, IsTrue};
-ghost use Rattle.dia_wire.specs.Wire.{plain, key_of, Agrees};
+ghost use Rattle.std.specs.Prelude.{◌≡◌, ◌+◌, ◌*◌, ◌/◌, ◌↔◌, IsTrue};
+ghost use Rattle.dia_wire.specs.Wire.{plain, key_of, avp_length, Agrees};
 
 use crate::code::Key;
 use thiserror::Error;
@@ -54,4 +54,22 @@ impl Avp<'_> {
     {
         (self.flags & VENDOR_FLAG != 0) == self.vendor.is_some()
     }
+
+    /// The AVP Length (RFC 6733 section 4.1) in bytes: header, Vendor-ID and data, without padding. Where it is above
+    /// 16,777,215, its field can't say it.
+    pub fn length(&self) -> usize
+        ensures { result ≡ avp_length (plain self.now) }
+    {
+        match self.vendor {
+            Some(_) => 12 + self.bytes.len(),
+            None => 8 + self.bytes.len(),
+        }
+    }
+}
+
+/// How many bytes an AVP of this length takes with its padding (RFC 6733 section 4.1): the next multiple of four.
+pub(crate) fn padded(length: u32) -> usize
+    ensures { result ≡ (length + 3) / 4 * 4 }
+{
+    (length as usize).next_multiple_of(4)
 }

@@ -5,7 +5,7 @@ ghost use Rattle.dia_wire.specs.declared.header.Header.{Header as AnyHeader};
 ghost use Rattle.dia_wire.specs.Number.{number};
 ghost use Rattle.dia_wire.specs.Wire.{IsHead, IsMessageLength, PlainAvp, Spells, BeginsWith, BeginsWithNone, HasWholeHead, Heads, CannotBegin, IsBadLength, plain};
 
-use crate::avp::{Avp, AvpFault, AvpHead, VENDOR_FLAG};
+use crate::avp::{Avp, AvpFault, AvpHead, VENDOR_FLAG, padded};
 use crate::header::{HeadFault, Header};
 use byteorder::{BigEndian, ByteOrder};
 
@@ -59,10 +59,11 @@ pub fn next_avp(level: &[u8]) -> Result<Option<(Avp<'_>, &[u8])>, AvpFault>
     }
     let code = BigEndian::read_u32(level);
     let flags = level[4];
-    let length = BigEndian::read_u24(&level[5..]) as usize;
+    let length = BigEndian::read_u24(&level[5..]);
     let has_vendor = flags & VENDOR_FLAG != 0;
     let start = if has_vendor { 12 } else { 8 };
-    let whole = (length + 3) / 4 * 4;
+    let whole = padded(length);
+    let length = length as usize;
     if length < start || whole > level.len() {
         return Err(AvpFault::Length);
     }
@@ -112,7 +113,8 @@ pub fn avp_head(bytes: &[u8], room: usize) -> Result<Option<AvpHead>, AvpFault>
     let length = BigEndian::read_u24(&bytes[5..]);
     let has_vendor = flags & VENDOR_FLAG != 0;
     let start = if has_vendor { 12 } else { 8 };
-    if length < start || (length as usize + 3) / 4 * 4 > room {
+    let whole = padded(length);
+    if length < start || whole > room {
         return Err(AvpFault::Length);
     }
     if !has_vendor {

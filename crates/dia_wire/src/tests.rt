@@ -45,6 +45,7 @@ fn reads_the_avps_in_order(rt: HostRuntime) -> Result<(), Fail> {
     assert_eq!(rt; first.flags, 0x40);
     assert!(rt; first.bytes == b"a.b".as_slice());
     assert!(rt; first.agrees());
+    assert_eq!(rt; first.length(), 11);
     let (second, rest) = next_avp(rest)?.ok_or("another")?;
     assert_eq!(rt; second.code, 296);
     assert!(rt; second.bytes == b"b".as_slice());
@@ -134,6 +135,7 @@ fn writes_a_vendor_and_padding(rt: HostRuntime) -> Result<(), Fail> {
         bytes: &[7],
     };
     assert!(rt; avp.agrees());
+    assert_eq!(rt; avp.length(), 13);
     let mut out = vec![in rt.alloc(); 9]?;
     put_avp(&mut out, &avp)?;
     let wanted = [

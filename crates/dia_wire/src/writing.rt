@@ -1,12 +1,12 @@
 //! AVPs and messages written as bytes.
 
-ghost use Rattle.std.specs.Prelude.{◌≡◌, ◌<◌, ◌≤◌, ◌^◌, ◌+◌, ◌++◌, ◌↔◌, List, ℕ, OnOk, OnErr, All, IsNone, IfOk, IfErr, IsOk, IfSome, Err, map, sum_by};
+ghost use Rattle.std.specs.Prelude.{◌≡◌, ◌<◌, ◌≤◌, ◌^◌, ◌+◌, ◌++◌, ◌↔◌, List, ℕ, OnOk, OnErr, All, IsNone, IfOk, IfSome, Err, map, sum_by};
 ghost use Rattle.byteorder.specs.Endian.{big_bytes};
 ghost use Rattle.dia_wire.specs.Number.{IsField};
 ghost use Rattle.dia_wire.specs.Wire.{plain, Agrees, avp_length, padded_length, IsHead, IsVendorField, SpellsWithZeros, MessageWithZeros, IsTooLong};
 ghost use Rattle.dia_wire.specs.Written.{avp_bytes, header_bytes, padding, vendor_bytes};
 
-use crate::avp::Avp;
+use crate::avp::{Avp, padded};
 use crate::header::Header;
 use byteorder::{BigEndian, ByteOrder};
 use std::alloc::{AllocError, Global};
@@ -20,6 +20,16 @@ pub enum PutFault {
     TooLong,
     #[error("no memory")]
     NoMemory,
+}
+
+impl From<AllocError> for PutFault {
+    ghost use Rattle.dia_wire.specs.declared.writing.PutFault.TheVariants.{NoMemory};
+
+    ghost from_gives = { λ _ e. e ≡ NoMemory };
+
+    fn from(_error: AllocError) -> PutFault {
+        PutFault::NoMemory
+    }
 }
 
 /// The first length that a field of three bytes can't say.
@@ -37,11 +47,13 @@ pub fn put_avp(out: &mut Vec<u8>, avp: &Avp<'_>) -> Result<(), PutFault>
     ensures too_long { (result ≡ Err PutFault.TooLong) ↔ (2 ^ 24 ≤ avp_length (plain avp.now)) }
     ensures err { OnErr result (out.new.items ≡ out.old.items) }
 {
-    let length = avp_length(avp);
+    let length = avp.length();
     if length >= LENGTH_LIMIT {
         return Err(PutFault::TooLong);
     }
-    append(out, avp_bytes(*out.allocator(), avp, length as u32))
+    let bytes = avp_bytes(*out.allocator(), avp, length as u32)?;
+    out.extend_from_slice(bytes.as_slice())?;
+    Ok(())
 }
 
 /// Appends a message (RFC 6733 section 3): version 1, its length, the header and the AVPs, each padded with zero bytes.
@@ -57,33 +69,9 @@ pub fn put_message(out: &mut Vec<u8>, header: &Header, avps: &[Avp<'_>]) -> Resu
     let Some(length) = message_length(avps) else {
         return Err(PutFault::TooLong);
     };
-    append(out, message_bytes(*out.allocator(), header, length, avps))
-}
-
-/// Appends what was made, all of it or nothing.
-fn append(out: &mut Vec<u8>, made: Result<Vec<u8>, AllocError>) -> Result<(), PutFault>
-    ensures ok { OnOk result (IfOk made (λ bytes. out.new.items ≡ out.old.items ++ bytes.items)) }
-    ensures made { OnOk result (IsOk made) }
-    ensures err { OnErr result (out.new.items ≡ out.old.items) }
-    ensures memory { IfErr result (λ fault. fault ≡ PutFault.NoMemory) }
-{
-    let Ok(bytes) = made else {
-        return Err(PutFault::NoMemory);
-    };
-    match out.extend_from_slice(bytes.as_slice()) {
-        Ok(()) => Ok(()),
-        Err(_) => Err(PutFault::NoMemory),
-    }
-}
-
-/// The AVP Length: header, Vendor-ID and data.
-fn avp_length(avp: &Avp<'_>) -> usize
-    ensures { result ≡ avp_length (plain avp.now) }
-{
-    match avp.vendor {
-        Some(_) => 12 + avp.bytes.len(),
-        None => 8 + avp.bytes.len(),
-    }
+    let bytes = message_bytes(*out.allocator(), header, length, avps)?;
+    out.extend_from_slice(bytes.as_slice())?;
+    Ok(())
 }
 
 /// The Message Length of a header and these AVPs, where the fields can say it and each AVP Length.
@@ -94,11 +82,11 @@ fn message_length(avps: &[Avp<'_>]) -> Option<u32>
 {
     let mut total = HEADER_LENGTH;
     for avp in avps {
-        let length = avp_length(avp);
+        let length = avp.length();
         if length >= LENGTH_LIMIT {
             return None;
         }
-        total += (length + 3) / 4 * 4;
+        total += padded(length as u32);
         if total >= LENGTH_LIMIT {
             return None;
         }
@@ -113,7 +101,7 @@ fn avp_bytes(alloc: Global, avp: &Avp<'_>, length: u32) -> Result<Vec<u8>, Alloc
     requires agrees { Agrees (plain avp.now) }
     ensures { IfOk result (λ bytes. SpellsWithZeros (plain avp.now) bytes.items) }
 {
-    let mut bytes = Vec::with_capacity(alloc, (length as usize + 3) / 4 * 4)?;
+    let mut bytes = Vec::with_capacity(alloc, padded(length))?;
     push_avp(&mut bytes, avp, length)?;
     Ok(bytes)
 }
@@ -134,7 +122,7 @@ fn message_bytes(
     let mut bytes = Vec::with_capacity(alloc, length as usize)?;
     push_header(&mut bytes, header, length)?;
     for avp in avps {
-        let length = avp_length(avp);
+        let length = avp.length();
         push_avp(&mut bytes, avp, length as u32)?;
     }
     Ok(bytes)

@@ -18,7 +18,8 @@ pub returns-clause-avp : goal.returns-clause-avp
 returns-clause-avp c =
     let xs = c.args.level.now in
     let m = sym (c.read_u24-length.ensures ∙ ap (λ (f : List ℕ). big_from 0 3 f) (take_rest xs 5)) in
+    rw c.padded-whole.ensures (
     begins_at xs c.read_u32-code.result c.read_u24-length.result c.if-has_vendor.start (big_from 0 4 (drop 8 xs)) c.if-has_vendor-2.vendor c.read_u32-code.ensures m refl
     (elim c.if-has_vendor.branch [ then-has_vendor w ↦ inl (w.if-has_vendor.true, w.start-is) | else-has_vendor w ↦ inr ((λ k. k w.if-has_vendor.false), w.start-is) ])
     (elim c.if-has_vendor-2.branch [ then-has_vendor-2 w ↦ inl (w.if-has_vendor-2.true, w.vendor-is ∙ ap (λ (n : ℕ). Some n) (w.read_u32.ensures ∙ ap (λ (f : List ℕ). big_from 0 4 f) (take_rest xs 8))) | else-has_vendor-2 w ↦ inr ((λ k. k w.if-has_vendor-2.false), w.vendor-is) ])
-    (omega arith) (omega arith) (omega arith)
+    (omega arith) (omega arith) (omega arith))
