@@ -1,7 +1,8 @@
 //! Reading the grammar (RFC 6733 section 3.2) with one token of look-ahead.
-ghost use Rattle.std.specs.Prelude.{◌≡◌, ◌+◌, ◌≤◌, drop, length, map};
+ghost use Rattle.std.specs.Prelude.{◌≡◌, ◌+◌, ◌≤◌, drop, length, map, slice_get, OnOk, IfErr};
 ghost use Rattle.std.specs.Char.{to_ascii_lowercase};
-ghost use Rattle.std.specs.Prelude.{slice_get};
+ghost use Rattle.dia_ccf.specs.Plain.{plain, plain_decl, plain_def};
+ghost use Rattle.dia_ccf.specs.Machine.{add_decl, add_def};
 ghost use Rattle.dia_ccf.specs.Tokens.{placed_tokens, line_at};
 ghost use Rattle.dia_ccf.specs.Faults.{token_line};
 ghost use Rattle.dia_ccf.specs.Lexing.{tokens_from, left_from, ahead, sees};
@@ -259,10 +260,6 @@ fn line_of(text: &str, at: usize) -> u32
     }
     line
 }
-
-ghost use Rattle.std.specs.Prelude.{OnOk, IfErr};
-ghost use Rattle.dia_ccf.specs.Plain.{plain, plain_decl, plain_def};
-ghost use Rattle.dia_ccf.specs.Machine.{add_decl, add_def};
 
 /// Adds a declaration.
 fn keep_declaration(source: &mut Source, decl: Decl) -> Result<(), Refusal>

@@ -1,4 +1,6 @@
 //! Declarations of AVPs.
+ghost use Rattle.std.specs.Prelude.{◌≡◌};
+ghost use Rattle.dia_ccf.specs.Machine.{format_named};
 
 use super::Reader;
 use super::reasons::Refusal;
@@ -9,13 +11,13 @@ use crate::source::{Decl, FormatName, MRule};
 const MAX_VALUE: u32 = 2_147_483_647;
 
 impl<'a> Reader<'a> {
-    ghost use Rattle.std.specs.Prelude.{◌≡◌, ◌<◌, ◌≤◌, ℕ, ◌++◌, [], ◌∷◌, List, ◌&&◌, false, not, IfOk, OnOk, IsTrue};
+    ghost use Rattle.std.specs.Prelude.{◌<◌, ◌≤◌, ℕ, ◌++◌, [], ◌∷◌, List, ◌&&◌, false, not, IfOk, OnOk, IsTrue};
     ghost use Rattle.std.specs.Option.{option_map};
     ghost use Rattle.std.specs.List.{list_all};
     ghost use Rattle.dia_ccf.specs.Names.{fits_values, is_number, is_range};
     ghost use Rattle.dia_ccf.specs.Tokens.{Close_parenthesis};
     ghost use Rattle.dia_ccf.specs.Plain.{PlainDecl, PlainSource, plain_decl};
-    ghost use Rattle.dia_ccf.specs.Machine.{Between, Decl_name, Decl_vendor, Decl_format, Decl_values, In_values, add_decl, with_values, format_at, format_named, rule_at, is_none, same_sign};
+    ghost use Rattle.dia_ccf.specs.Machine.{Between, Decl_name, Decl_vendor, Decl_format, Decl_values, In_values, add_decl, with_values, format_at, rule_at, is_none, same_sign};
     ghost use Rattle.dia_ccf.specs.Reading.{Accepts, Leads, course, begins_with, left};
 
     /// A declaration behind its `%avp`.
@@ -123,10 +125,7 @@ impl<'a> Reader<'a> {
     }
 }
 
-ghost use Rattle.std.specs.Prelude.{◌≡◌};
-ghost use Rattle.dia_ccf.specs.Machine.{format_named};
-
-/// The format that the word names (RFC 6733 sections 4.2 and 4.3).
+/// The format that the word names (RFC 6733 sections 4.2 and 4.3, and for QoSFilterRule RFC 3588 section 4.3).
 #[tactic(auto, using(crate::proofs::Looking::same_bytes_eq))]
 fn format_named(word: &str) -> Option<FormatName>
     ensures { result ≡ format_named word.now }

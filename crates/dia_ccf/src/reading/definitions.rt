@@ -1,4 +1,6 @@
 //! Definitions of groups and commands, and their rules.
+ghost use Rattle.std.specs.Prelude.{◌≡◌};
+ghost use Rattle.dia_ccf.specs.Names.{is_fixed};
 
 use super::Reader;
 use super::reasons::Refusal;
@@ -17,7 +19,7 @@ enum Behind {
 }
 
 impl<'a> Reader<'a> {
-    ghost use Rattle.std.specs.Prelude.{◌≡◌, ◌<◌, ◌≤◌, ◌≢◌, ℕ, List, [], ◌&&◌, ◌||◌, not, map, true, false, IfOk, OnOk, IfSome, IsSome, IsTrue, MatchBool, string_bytes};
+    ghost use Rattle.std.specs.Prelude.{◌<◌, ◌≤◌, ◌≢◌, ℕ, List, [], ◌&&◌, ◌||◌, not, map, true, false, IfOk, OnOk, IfSome, IsSome, IsTrue, MatchBool, string_bytes};
     ghost use Rattle.std.specs.Option.{option_map};
     ghost use Rattle.dia_ccf.specs.declared.source.Head.{Head as AnyHead};
     ghost use Rattle.dia_ccf.specs.Names.{is_name, fixed_first, is_number_or_none, is_qualifier};
@@ -228,9 +230,6 @@ impl<'a> Reader<'a> {
         Ok(Some(name))
     }
 }
-
-ghost use Rattle.std.specs.Prelude.{◌≡◌};
-ghost use Rattle.dia_ccf.specs.Names.{is_fixed};
 
 fn is_fixed(kind: RuleKind) -> bool
     ensures { result ≡ is_fixed kind }
