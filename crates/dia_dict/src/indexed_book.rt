@@ -8,7 +8,7 @@ mod commands;
 mod definitions;
 mod entries;
 #[cfg(test)]
-pub(crate) mod tests;
+mod tests;
 
 use crate::book::Book;
 use crate::definition::{Class, Definition, Slot};

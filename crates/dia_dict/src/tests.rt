@@ -1,11 +1,12 @@
 //! Dictionaries out of texts.
 
-use crate::indexed_book::tests::same_answers;
 use crate::{DictFault, DictKind, PlainBook, base_book, base_text, resolve};
+use answers::same_answers;
 use dia_ccf::parse;
 use std::alloc::Global;
 use std::test::Fail;
 
+pub(crate) mod answers;
 mod faults;
 mod limits;
 mod memory;
@@ -16,10 +17,11 @@ pub(crate) fn book_of(alloc: Global, text: &str) -> Result<PlainBook, Fail> {
 }
 
 /// The kind and the names of a text's fault.
-fn fault_of(alloc: Global, text: &str) -> Result<Option<(DictKind, String, String)>, Fail> {
+fn fault_of(alloc: Global, text: &str) -> Result<(DictKind, String, String), Fail> {
     match resolve(alloc, parse(alloc, text)?) {
-        Err(DictFault::Stands { kind, name, slot }) => Ok(Some((kind, name, slot))),
-        _ => Ok(None),
+        Err(DictFault::Stands { kind, name, slot }) => Ok((kind, name, slot)),
+        Err(DictFault::NoMemory) => Err(Fail::from(DictFault::NoMemory)),
+        Ok(_) => Err(Fail::from("the text names a dictionary")),
     }
 }
 

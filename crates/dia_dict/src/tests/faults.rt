@@ -105,14 +105,10 @@ fn tells_the_first_fault(rt: HostRuntime) -> Result<(), Fail> {
         ),
     ];
     for (text, kind, name, slot) in rows.iter() {
-        match fault_of(rt.alloc(), text)? {
-            Some((found, at, in_slot)) => {
-                assert_eq!(rt; found, *kind, "{text}");
-                assert_eq!(rt; at.as_str(), *name, "{text}");
-                assert_eq!(rt; in_slot.as_str(), *slot, "{text}");
-            }
-            None => assert!(rt; false, "{text}"),
-        }
+        let (found, at, in_slot) = fault_of(rt.alloc(), text)?;
+        assert_eq!(rt; found, *kind, "{text}");
+        assert_eq!(rt; at.as_str(), *name, "{text}");
+        assert_eq!(rt; in_slot.as_str(), *slot, "{text}");
     }
     Ok(())
 }

@@ -30,14 +30,10 @@ fn declarations(alloc: Global, count: u32) -> Result<String, AllocError> {
 fn a_definition_has_1024_rules_at_most(rt: HostRuntime) -> Result<(), Fail> {
     for (count, kind) in [(1024, DictKind::RepeatedSlot), (1025, DictKind::Limit)].iter() {
         let text = rules(rt.alloc(), *count)?;
-        match fault_of(rt.alloc(), text.as_str())? {
-            Some((found, name, slot)) => {
-                assert_eq!(rt; found, *kind);
-                assert_eq!(rt; name.as_str(), "T");
-                assert_eq!(rt; slot.is_empty(), *count == 1025);
-            }
-            None => assert!(rt; false, "{count}"),
-        }
+        let (found, name, slot) = fault_of(rt.alloc(), text.as_str())?;
+        assert_eq!(rt; found, *kind);
+        assert_eq!(rt; name.as_str(), "T");
+        assert_eq!(rt; slot.is_empty(), *count == 1025);
     }
     Ok(())
 }
@@ -49,12 +45,8 @@ fn a_source_has_16384_parts_at_most(rt: HostRuntime) -> Result<(), Fail> {
     let entries = book.entries();
     assert_eq!(rt; entries, 16384);
     let text = declarations(rt.alloc(), 16385)?;
-    match fault_of(rt.alloc(), text.as_str())? {
-        Some((kind, name, slot)) => {
-            assert_eq!(rt; kind, DictKind::Limit);
-            assert!(rt; name.is_empty() && slot.is_empty());
-        }
-        None => assert!(rt; false),
-    }
+    let (kind, name, slot) = fault_of(rt.alloc(), text.as_str())?;
+    assert_eq!(rt; kind, DictKind::Limit);
+    assert!(rt; name.is_empty() && slot.is_empty());
     Ok(())
 }

@@ -1,6 +1,6 @@
 //! The base text where memory runs out somewhere: every call answers that, or what it answers with ample memory.
 
-use crate::indexed_book::tests::same_answers;
+use super::answers::same_answers;
 use crate::{DictFault, IndexedBook, PlainBook, base_text, resolve};
 use dia_ccf::{CcfFault, Source, parse};
 use std::process::Abort;
