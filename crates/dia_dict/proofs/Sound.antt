@@ -1,6 +1,6 @@
 -- What a sound source means is a dictionary.
 use Rattle.std.proofs.Common.{◌≡◌, ◌≢◌, ℕ, ◌+◌, ◌≤◌, Bool, true, false, cond, List, [], ◌∷◌, ◌++◌, length, map, find, Option, Some, None, ⊎_elim, refl, sym, ap, ◌∙◌, subst, arith}
-use Rattle.std.specs.Prelude.{slice_get, is_some, IsSome, IfSome, Contains, not, ◌↔◌, option_and_then, ◌==◌, ◌&&◌, nat_eq, nat_lt, IsTrue, unwrap_or, codes, if◌then◌else◌}
+use Rattle.std.specs.Prelude.{slice_get, is_some, IsSome, IfSome, Contains, not, ◌↔◌, option_and_then, ◌==◌, ◌&&◌, nat_eq, nat_lt, IsTrue, if◌then◌else◌}
 use Rattle.std.specs.List.{list_any, list_all}
 use Rattle.std.specs.Option.{option_map, option_map_or, option_or, option_eq}
 use Rattle.dia_wire.specs.declared.Key.{Key}
@@ -14,6 +14,7 @@ use Rattle.dia_ccf.specs.declared.source.RuleKind.TheVariants.{Fixed, Required, 
 use Rattle.dia_dict.specs.declared.fault.DictKind.TheVariants as kind
 use Rattle.dia_ccf.specs.declared.source.Head.TheVariants as head
 use Rattle.dia_ccf.specs.Names.{same_bytes, is_group, is_fixed as is_fixed_kind, fixed_first}
+use Rattle.dia_ccf.specs.Rendering.{slot_text}
 use Rattle.dia_ccf.specs.Plain.{PlainSource, PlainDecl, PlainDef, PlainRule}
 use Rattle.dia_dict.specs.Keys.{same_key}
 use Rattle.dia_dict.specs.declared.definition.DRule.{DRule}
@@ -399,8 +400,8 @@ module _ (s : PlainSource) (formed : IsFormed s) (clean : IsClean s) where
           ap (λ (z : List ℕ × Key). z.0) (same_Some {A = List ℕ × Key} (t, known.0) (u, known.0) (sym a.1 ∙ ap (slice_get (avp_names s)) place ∙ b.1))
 
       by : (o o' : Option (List ℕ)) → x.name ≡ o → y.name ≡ o' → j ≡ k
-      by None None n m = alike (ap (λ (z : Option (List ℕ)). unwrap_or z (codes "AVP")) (n ∙ sym m))
-      by (Some t) (Some u) n m = alike (ap (λ (z : Option (List ℕ)). unwrap_or z (codes "AVP")) (n ∙ ap (λ (w : List ℕ). Some w) (one_name t u n m) ∙ sym m))
+      by None None n m = alike (ap slot_text (n ∙ sym m))
+      by (Some t) (Some u) n m = alike (ap slot_text (n ∙ ap (λ (w : List ℕ). Some w) (one_name t u n m) ∙ sym m))
       by (Some t) None n m =
           let known = defined_rule i d at j x p t n in
           absurd (none-some known.0 (sym (sym (ap (option_and_then (key_of_name s)) n ∙ known.1) ∙ same ∙ ap (option_and_then (key_of_name s)) m)))

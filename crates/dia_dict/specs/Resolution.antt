@@ -1,5 +1,6 @@
 -- What a source means, and what is wrong with one that means nothing.
-use Rattle.std.specs.Prelude.{◌≡◌, ℕ, ◌+◌, nat_lt, nat_eq, Bool, true, false, not, ◌==◌, ◌&&◌, if◌then◌else◌, List, [], ◌∷◌, ◌++◌, length, map, filter, Option, Some, None, option_and_then, unwrap_or, find, is_some, codes, slice_get, string_bytes, ⊤}
+use Rattle.std.specs.Prelude.{◌≡◌, ℕ, ◌+◌, nat_lt, nat_eq, Bool, true, false, not, ◌==◌, ◌&&◌, if◌then◌else◌, List, [], ◌∷◌, ◌++◌, length, map, filter, Option, Some, None, option_and_then, unwrap_or, find, is_some, slice_get, string_bytes, ⊤}
+use Rattle.std.specs.Bool.{beq}
 use Rattle.std.specs.List.{flat_map, list_any}
 use Rattle.std.specs.Option.{option_eq, option_map, option_map_or, option_or}
 use Rattle.dia_ccf.specs.declared.Pxy.{Pxy}
@@ -17,6 +18,7 @@ use Rattle.dia_ccf.specs.declared.RuleKind.{RuleKind}
 use Rattle.dia_ccf.specs.declared.RuleKind.TheVariants.{Fixed, Required, Optional}
 use Rattle.dia_ccf.specs.Names.{same_bytes}
 use Rattle.dia_ccf.specs.Plain.{PlainDecl, PlainRule, PlainDef, PlainSource}
+use Rattle.dia_ccf.specs.Rendering.{slot_text}
 use Rattle.dia_dict.specs.Keys.{same_key}
 use Rattle.dia_dict.specs.declared.definition.Class.{Class}
 use Rattle.dia_dict.specs.declared.definition.Class.TheVariants as classes
@@ -180,12 +182,8 @@ avp_names s = map (λ d. (d.name, key_of_decl d)) s.avps ++ map (λ g. (g.name, 
 abbrev pub duplicate_keys : PlainSource → List Wrong
 duplicate_keys s = map (λ n. wrong kind.DuplicateKey n.0 []) (repeats (λ a b. same_key a.1 b.1) [] (avp_names s))
 
-abbrev pub same_bool : Bool → Bool → Bool
-same_bool true b = b
-same_bool false b = not b
-
 abbrev pub same_selector : Head → Head → Bool
-same_selector (head.Command c r p a) (head.Command d t q b) = (c == d) && same_bool r t && option_eq nat_eq a b
+same_selector (head.Command c r p a) (head.Command d t q b) = (c == d) && beq r t && option_eq nat_eq a b
 same_selector (head.Error p) (head.Error q) = true
 same_selector g h = false
 
@@ -197,7 +195,7 @@ is_undefined s r = option_map_or (λ name. not (is_some (key_of_name s name))) r
 
 -- what a rule's AVP is called in a fault
 abbrev pub slot_name : PlainRule → List ℕ
-slot_name r = unwrap_or r.name (codes "AVP")
+slot_name r = slot_text r.name
 
 abbrev pub same_slot : PlainRule → PlainRule → Bool
 same_slot a b = same_bytes (slot_name a) (slot_name b)
