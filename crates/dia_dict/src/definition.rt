@@ -105,10 +105,7 @@ impl DRule {
     fn lists(&self, key: Key) -> bool
         ensures { result ≡ lists_key key self.now }
     {
-        match self.key {
-            Some(listed) => key == listed,
-            None => false,
-        }
+        self.key == Some(key)
     }
 }
 

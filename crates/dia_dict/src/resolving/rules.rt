@@ -70,7 +70,13 @@ fn is_bad(names: &Names<'_>, kind: DictKind, rule: &Rule) -> bool
         DictKind::MinOverMax => is_min_over_max(rule),
         DictKind::RequiredMin => is_required_min(rule),
         DictKind::OptionalMin => is_optional_min(rule),
-        _ => false,
+        DictKind::Limit
+        | DictKind::DuplicateName
+        | DictKind::NoGroupFormat
+        | DictKind::HeaderMismatch
+        | DictKind::DuplicateKey
+        | DictKind::DuplicateCommand
+        | DictKind::RepeatedSlot => false,
     }
 }
 
@@ -86,10 +92,7 @@ fn is_undefined(names: &Names<'_>, rule: &Rule) -> bool
 fn is_min_over_max(rule: &Rule) -> bool
     ensures { result ≡ is_min_over_max (plain_rule rule.now) }
 {
-    match greatest(rule.qual) {
-        Some(max) => max < least(rule.kind, rule.qual),
-        None => false,
-    }
+    greatest(rule.qual).is_some_and(|max| max < least(rule.kind, rule.qual))
 }
 
 fn is_required_min(rule: &Rule) -> bool
