@@ -1,7 +1,6 @@
 //! The dictionary of a sound source.
 ghost use Rattle.std.specs.Prelude.{◌≡◌, ◌++◌, ◌∷◌, [], IfOk, OnOk, map, filter, string_bytes};
-ghost use Rattle.std.specs.Option.{option_map};
-ghost use Rattle.dia_data.specs.Plain.{plain as plain_format, ranges_of};
+ghost use Rattle.dia_data.specs.Plain.{plain as plain_format};
 ghost use Rattle.dia_ccf.specs.Plain.{plain as plain_source, plain_decl, plain_def, plain_rule};
 ghost use Rattle.dia_dict.specs.Dictionary.{plain};
 ghost use Rattle.dia_dict.specs.PlainMeaning.{entries_of};
@@ -57,7 +56,7 @@ fn push_declared(
 {
     let name = String::from_str(alloc, &decl.name)?;
     let key = key_of_declaration(decl);
-    let format = format(alloc, decl)?;
+    let format = format(decl)?;
     match names.group(&decl.name) {
         Some(group) => {
             let definition = definition(alloc, names, group)?;
@@ -177,7 +176,7 @@ fn proxy(set: bool) -> Pxy
     if set { Pxy::Set } else { Pxy::Clear }
 }
 
-fn format(alloc: Global, decl: &Decl) -> Result<Format, AllocError>
+fn format(decl: &Decl) -> Result<Format, AllocError>
     ensures { IfOk result (λ format. plain_format format ≡ format_of (plain_decl decl.now).format (plain_decl decl.now).values) }
 {
     match decl.format {
@@ -194,20 +193,10 @@ fn format(alloc: Global, decl: &Decl) -> Result<Format, AllocError>
         FormatName::Utf8String => Ok(Format::Utf8String),
         FormatName::DiameterIdentity => Ok(Format::DiameterIdentity),
         FormatName::DiameterUri => Ok(Format::DiameterUri),
-        FormatName::Enumerated => Ok(Format::Enumerated(values(alloc, &decl.values)?)),
+        FormatName::Enumerated => Ok(Format::Enumerated(Values {
+            list: decl.values.clone()?,
+        })),
         FormatName::IpFilterRule => Ok(Format::IpFilterRule),
         FormatName::QosFilterRule => Ok(Format::QosFilterRule),
-    }
-}
-
-/// The ranges of an Enumerated declaration, if it lists some.
-fn values(alloc: Global, ranges: &Option<Vec<(u32, u32)>>) -> Result<Values, AllocError>
-    ensures { IfOk result (λ values. ranges_of values ≡ option_map (λ v. v.items) ranges.now) }
-{
-    match ranges {
-        Some(ranges) => Ok(Values {
-            list: Some(Vec::from_slice(alloc, ranges)?),
-        }),
-        None => Ok(Values { list: None }),
     }
 }
