@@ -12,8 +12,6 @@ use Rattle.dia_dict.specs.declared.fault.DictFault.TheVariants as fault
 use Rattle.dia_dict.specs.declared.resolving.refusal.Told.{Told}
 use Rattle.dia_dict.specs.declared.resolving.refusal.Refusal.{Refusal}
 use Rattle.dia_dict.specs.declared.resolving.refusal.Refusal.TheVariants as refusal
-use Rattle.dia_dict.specs.declared.resolving.distinct.Repeat.{Repeat}
-use Rattle.dia_dict.specs.declared.resolving.distinct.Repeat.TheVariants as repeat
 use Rattle.dia_dict.specs.Resolution.{Wrong, wrong, repeats}
 
 abbrev pub told : Told → Wrong
@@ -39,10 +37,6 @@ pub record IsFirstRepeat {X : Type 0} (same : X → X → Bool) (items : List X)
   pub at : slice_get items place ≡ Some item
   pub repeated : list_any (same item) (take place items) ≡ true
   pub first : repeats same [] (take place items) ≡ []
-
-abbrev pub IsRepeat : {X : Type 0} → (X → X → Bool) → List X → Repeat → Type 0
-IsRepeat same items (repeat.At place) = IsFirstRepeat same items place
-IsRepeat same items repeat.NoMemory = ⊤
 
 -- an AVP's name and key
 abbrev pub named : Named → List ℕ × Key

@@ -7,7 +7,7 @@ ghost use Rattle.dia_ccf.specs.Plain.{plain, plain_decl, plain_def};
 ghost use Rattle.dia_dict.specs.Resolution.{wrong_limits, wrong_entries, too_many_rules, is_long, no_groups, lacks_group, header_mismatches, is_mismatched, is_grouped, agrees_with, avp_names, is_bare, key_of_decl, group_key, duplicate_keys, duplicate_commands};
 ghost use Rattle.dia_dict.specs.Refusing.{IsRefused, named, selector_of};
 
-use super::distinct::{Repeat, distinct};
+use super::distinct::distinct;
 use super::names::{Names, key_of_declaration, key_of_group};
 use super::refusal::Refusal;
 use crate::fault::DictKind;
@@ -143,10 +143,9 @@ fn keys<'a>(alloc: Global, names: &Names<'a>) -> Result<(), Refusal<'a>>
 {
     let avps = named_avps(alloc, names)?;
     let keys = keys_of(alloc, &avps)?;
-    match distinct(alloc, &keys) {
+    match distinct(alloc, &keys)? {
         Ok(_) => Ok(()),
-        Err(Repeat::At(place)) => Err(Refusal::at(DictKind::DuplicateKey, avps[place].name)),
-        Err(Repeat::NoMemory) => Err(Refusal::NoMemory),
+        Err(place) => Err(Refusal::at(DictKind::DuplicateKey, avps[place].name)),
     }
 }
 
@@ -206,13 +205,9 @@ fn commands(alloc: Global, source: &Source) -> Result<(), Refusal<'_>>
     ensures err { IfErr result (IsRefused (duplicate_commands (plain source.now))) }
 {
     let selectors = selectors_of(alloc, &source.commands)?;
-    match distinct(alloc, &selectors) {
+    match distinct(alloc, &selectors)? {
         Ok(_) => Ok(()),
-        Err(Repeat::At(place)) => Err(Refusal::at(
-            DictKind::DuplicateCommand,
-            &source.commands[place].name,
-        )),
-        Err(Repeat::NoMemory) => Err(Refusal::NoMemory),
+        Err(place) => Err(Refusal::at(DictKind::DuplicateCommand, &source.commands[place].name)),
     }
 }
 

@@ -1,45 +1,25 @@
 ghost use Rattle.std.specs.Prelude.{◌≡◌, [], IfOk, OnOk, IfErr};
 ghost use Rattle.dia_dict.specs.Resolution.{repeats};
-ghost use Rattle.dia_dict.specs.Refusing.{IsRepeat};
+ghost use Rattle.dia_dict.specs.Refusing.{IsFirstRepeat};
 
 use indexmap::IndexSet;
 use std::alloc::{AllocError, Global};
 use std::hash::Hash;
 
-/// Why items make no set of as many.
-#[derive(Clone, Copy, Debug)]
-pub(super) enum Repeat {
-    /// The item at this place is the first that is equal to one before it.
-    At(usize),
-    NoMemory,
-}
-
-impl From<AllocError> for Repeat {
-    ghost use Rattle.dia_dict.specs.declared.resolving.distinct.Repeat.TheVariants.{NoMemory};
-
-    ghost from_gives = { λ _ e. e ≡ NoMemory };
-
-    fn from(_error: AllocError) -> Repeat {
-        Repeat::NoMemory
-    }
-}
-
-/// The items as a set, in their order, where no two are equal.
+/// The items as a set, in their order, where no two are equal; else the place of the first that is equal to one before it.
 pub(super) fn distinct<T: Eq + Hash + Copy>(
     alloc: Global,
     items: &[T],
-) -> Result<IndexSet<T>, Repeat>
-    ensures all { IfOk result (λ set. set.keys ≡ items.now) }
-    ensures distinct { OnOk result (repeats T.eq [] items.now ≡ []) }
-    ensures repeat { IfErr result (IsRepeat T.eq items.now) }
+) -> Result<Result<IndexSet<T>, usize>, AllocError>
+    ensures all { IfOk result (λ found. IfOk found (λ set. set.keys ≡ items.now)) }
+    ensures distinct { IfOk result (λ found. OnOk found (repeats T.eq [] items.now ≡ [])) }
+    ensures repeat { IfOk result (λ found. IfErr found (IsFirstRepeat T.eq items.now)) }
 {
     let mut set = IndexSet::new(alloc);
     for (place, item) in items.iter().enumerate() {
-        match set.insert(*item) {
-            Ok(true) => {}
-            Ok(false) => return Err(Repeat::At(place)),
-            Err(_) => return Err(Repeat::NoMemory),
+        if !set.insert(*item)? {
+            return Ok(Err(place));
         }
     }
-    Ok(set)
+    Ok(Ok(set))
 }

@@ -6,7 +6,7 @@ ghost use Rattle.dia_ccf.specs.Plain.{plain, plain_decl, plain_def};
 ghost use Rattle.dia_dict.specs.Refusing.{IsRefused};
 ghost use Rattle.dia_dict.specs.Resolution.{names_decl, names_def, key_of_name, key_of_decl, group_key, duplicate_names, wrong_names};
 
-use super::distinct::{Repeat, distinct};
+use super::distinct::distinct;
 use super::refusal::Refusal;
 use crate::fault::DictKind;
 use dia_ccf::{Decl, Def, Head, Source};
@@ -147,9 +147,8 @@ fn distinct_names<'a>(alloc: Global, names: &[&'a str]) -> Result<IndexSet<&'a s
     ensures distinct { OnOk result (duplicate_names (map (λ n. n.now) names.now) ≡ []) }
     ensures err { IfErr result (IsRefused (duplicate_names (map (λ n. n.now) names.now))) }
 {
-    match distinct(alloc, names) {
+    match distinct(alloc, names)? {
         Ok(set) => Ok(set),
-        Err(Repeat::At(place)) => Err(Refusal::at(DictKind::DuplicateName, names[place])),
-        Err(Repeat::NoMemory) => Err(Refusal::NoMemory),
+        Err(place) => Err(Refusal::at(DictKind::DuplicateName, names[place])),
     }
 }

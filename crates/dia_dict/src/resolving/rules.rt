@@ -5,7 +5,7 @@ ghost use Rattle.dia_ccf.specs.Plain.{plain, plain_def, plain_rule};
 ghost use Rattle.dia_dict.specs.Resolution.{wrong_rules, bad_rules, bad_in, is_bad, is_undefined, is_min_over_max, is_required_min, is_optional_min, repeated_slots, repeated_in, all_defs, slot_name, least, greatest, rule_of};
 ghost use Rattle.dia_dict.specs.Refusing.{IsRefused};
 
-use super::distinct::{Repeat, distinct};
+use super::distinct::distinct;
 use super::names::Names;
 use super::refusal::Refusal;
 use crate::definition::DRule;
@@ -137,14 +137,9 @@ fn slots_of(alloc: Global, def: &Def) -> Result<(), Refusal<'_>>
     ensures err { IfErr result (IsRefused (repeated_in (plain_def def.now))) }
 {
     let names = slot_names(alloc, &def.rules)?;
-    match distinct(alloc, &names) {
+    match distinct(alloc, &names)? {
         Ok(_) => Ok(()),
-        Err(Repeat::At(place)) => Err(Refusal::at_rule(
-            DictKind::RepeatedSlot,
-            &def.name,
-            names[place],
-        )),
-        Err(Repeat::NoMemory) => Err(Refusal::NoMemory),
+        Err(place) => Err(Refusal::at_rule(DictKind::RepeatedSlot, &def.name, names[place])),
     }
 }
 

@@ -36,20 +36,20 @@ pub returns-in-Ok-clause-ok : goal.returns-in-Ok-clause-ok
 returns-in-Ok-clause-ok c =
     let source = c.args.source.now in
     let all = c.deref-2.ensures.value ∙ c.in_ok-selectors.ensures ∙ ap (map (λ (d : Def). selector_of d.head)) c.deref.ensures.value in
-    duplicate_commands-none eq same_answers source.commands.items source.commanded (subst (λ (xs : List Selector). repeats eq [] xs ≡ []) all c.in-Ok.ensures.distinct)
+    duplicate_commands-none eq same_answers source.commands.items source.commanded (subst (λ (xs : List Selector). repeats eq [] xs ≡ []) all (rw c.in-Ok.is at c.in_ok-distinct.ensures.distinct))
 
 pub index-requires : goal.index-requires
 index-requires c =
     let source = c.args.source.now in
-    let r = rw c.in-Err-At.field-0-is at c.in-Err-At.ensures.repeat in
-    let within = slice_get_within c.deref-2.result.now c.in-Err-At.place r.item r.at in
+    let r = rw c.in-Err.is at c.in_ok-distinct.ensures.repeat in
+    let within = slice_get_within c.deref-2.result.now c.in-Err.place r.item r.at in
     omega (arith, within, ap length c.deref-2.ensures.value, ap length c.in_ok-selectors.ensures, length-map c.deref.result.now (λ (d : Def). selector_of d.head), ap length c.deref.ensures.value, source.commands.ok.0)
 
-pub returns-in-Err-At-clause-err : goal.returns-in-Err-At-clause-err
-returns-in-Err-At-clause-err c =
+pub returns-clause-err : goal.returns-clause-err
+returns-clause-err c =
     let source = c.args.source.now in
     let all = c.deref-2.ensures.value ∙ c.in_ok-selectors.ensures ∙ ap (map (λ (d : Def). selector_of d.head)) c.deref.ensures.value in
-    let r = rw c.in-Err-At.field-0-is at c.in-Err-At.ensures.repeat in
-    let first = subst (λ (xs : List Selector). IsFirstRepeat eq xs c.in-Err-At.place) all r in
-    let at = first_repeat_read (λ (d : Def). selector_of d.head) eq source.commands.items c.in-Err-At.place c.index.result.now first c.index.ensures in
-    IsRefused-at _ DuplicateCommand _ _ c.at.result (duplicate_commands-first eq same_answers source.commands.items source.commanded c.in-Err-At.place c.index.result.now first at) c.deref-in-Err-At.ensures c.at.ensures
+    let r = rw c.in-Err.is at c.in_ok-distinct.ensures.repeat in
+    let first = subst (λ (xs : List Selector). IsFirstRepeat eq xs c.in-Err.place) all r in
+    let at = first_repeat_read (λ (d : Def). selector_of d.head) eq source.commands.items c.in-Err.place c.index.result.now first c.index.ensures in
+    IsRefused-at _ DuplicateCommand _ _ c.at.result (duplicate_commands-first eq same_answers source.commands.items source.commanded c.in-Err.place c.index.result.now first at) c.deref-in-Err.ensures c.at.ensures

@@ -17,19 +17,19 @@ pub returns-in-Ok-clause-ok : goal.returns-in-Ok-clause-ok
 returns-in-Ok-clause-ok c =
     let avps = c.in_ok-avps.avps.items in
     let all = c.deref-2.ensures.value ∙ c.in_ok-keys.ensures ∙ ap (map (λ (n : Named). n.key)) c.deref.ensures.value in
-    duplicate_keys-none (plain c.args.names.now.source.now) avps c.in_ok-avps.ensures (subst (λ (xs : List Key). repeats same_key [] xs ≡ []) all c.in-Ok.ensures.distinct)
+    duplicate_keys-none (plain c.args.names.now.source.now) avps c.in_ok-avps.ensures (subst (λ (xs : List Key). repeats same_key [] xs ≡ []) all (rw c.in-Ok.is at c.in_ok-distinct.ensures.distinct))
 
 pub index-requires : goal.index-requires
 index-requires c =
-    let r = rw c.in-Err-At.field-0-is at c.in-Err-At.ensures.repeat in
-    let within = slice_get_within c.deref-2.result.now c.in-Err-At.place r.item r.at in
+    let r = rw c.in-Err.is at c.in_ok-distinct.ensures.repeat in
+    let within = slice_get_within c.deref-2.result.now c.in-Err.place r.item r.at in
     omega (arith, within, ap length c.deref-2.ensures.value, ap length c.in_ok-keys.ensures, length-map c.deref.result.now (λ (n : Named). n.key), ap length c.deref.ensures.value, c.in_ok-avps.avps.ok.0)
 
-pub returns-in-Err-At-clause-err : goal.returns-in-Err-At-clause-err
-returns-in-Err-At-clause-err c =
+pub returns-clause-err : goal.returns-clause-err
+returns-clause-err c =
     let avps = c.in_ok-avps.avps.items in
     let all = c.deref-2.ensures.value ∙ c.in_ok-keys.ensures ∙ ap (map (λ (n : Named). n.key)) c.deref.ensures.value in
-    let r = rw c.in-Err-At.field-0-is at c.in-Err-At.ensures.repeat in
-    let first = subst (λ (xs : List Key). IsFirstRepeat same_key xs c.in-Err-At.place) all r in
-    let at = first_repeat_read (λ (n : Named). n.key) same_key avps c.in-Err-At.place c.index.result.now first c.index.ensures in
-    IsRefused-at _ DuplicateKey _ _ c.at.result (duplicate_keys-first (plain c.args.names.now.source.now) avps c.in_ok-avps.ensures c.in-Err-At.place c.index.result.now first at) refl c.at.ensures
+    let r = rw c.in-Err.is at c.in_ok-distinct.ensures.repeat in
+    let first = subst (λ (xs : List Key). IsFirstRepeat same_key xs c.in-Err.place) all r in
+    let at = first_repeat_read (λ (n : Named). n.key) same_key avps c.in-Err.place c.index.result.now first c.index.ensures in
+    IsRefused-at _ DuplicateKey _ _ c.at.result (duplicate_keys-first (plain c.args.names.now.source.now) avps c.in_ok-avps.ensures c.in-Err.place c.index.result.now first at) refl c.at.ensures

@@ -15,20 +15,20 @@ returns-in-Ok-clause-ok c =
     let def = c.args.def.now in
     let names = c.in_ok-names.names.items in
     let all = c.in_ok-names.ensures ∙ ap (map (λ (r : Rule). slot_name (plain_rule r))) c.deref.ensures.value ∙ sym (map-map slot_name plain_rule def.rules.items) in
-    repeated_in-none (plain_def def) names all (subst (λ (xs : List (Bor (List ℕ))). repeats same_text [] xs ≡ []) c.deref-2.ensures.value c.in-Ok.ensures.distinct)
+    repeated_in-none (plain_def def) names all (subst (λ (xs : List (Bor (List ℕ))). repeats same_text [] xs ≡ []) c.deref-2.ensures.value (rw c.in-Ok.is at c.in_ok-distinct.ensures.distinct))
 
 pub index-requires : goal.index-requires
 index-requires c =
-    let r = rw c.in-Err-At.field-0-is at c.in-Err-At.ensures.repeat in
-    let within = slice_get_within c.deref-2.result.now c.in-Err-At.place r.item r.at in
+    let r = rw c.in-Err.is at c.in_ok-distinct.ensures.repeat in
+    let within = slice_get_within c.deref-2.result.now c.in-Err.place r.item r.at in
     omega (arith, within, ap length c.deref-2.ensures.value, c.in_ok-names.names.ok.0)
 
-pub returns-in-Err-At-clause-err : goal.returns-in-Err-At-clause-err
-returns-in-Err-At-clause-err c =
+pub returns-clause-err : goal.returns-clause-err
+returns-clause-err c =
     let def = c.args.def.now in
     let names = c.in_ok-names.names.items in
     let all = c.in_ok-names.ensures ∙ ap (map (λ (r : Rule). slot_name (plain_rule r))) c.deref.ensures.value ∙ sym (map-map slot_name plain_rule def.rules.items) in
-    let r = rw c.in-Err-At.field-0-is at c.in-Err-At.ensures.repeat in
-    let first = subst (λ (xs : List (Bor (List ℕ))). IsFirstRepeat same_text xs c.in-Err-At.place) c.deref-2.ensures.value r in
-    IsRefused-at_rule _ RepeatedSlot _ _ _ _ c.at_rule.result (repeated_in-first (plain_def def) names all c.in-Err-At.place first.item first first.at)
-    c.deref-in-Err-At.ensures (ap text_of (c.index.ensures ∙ get_or_from_slice_get names c.in-Err-At.place first.item _ first.at)) c.at_rule.ensures
+    let r = rw c.in-Err.is at c.in_ok-distinct.ensures.repeat in
+    let first = subst (λ (xs : List (Bor (List ℕ))). IsFirstRepeat same_text xs c.in-Err.place) c.deref-2.ensures.value r in
+    IsRefused-at_rule _ RepeatedSlot _ _ _ _ c.at_rule.result (repeated_in-first (plain_def def) names all c.in-Err.place first.item first first.at)
+    c.deref-in-Err.ensures (ap text_of (c.index.ensures ∙ get_or_from_slice_get names c.in-Err.place first.item _ first.at)) c.at_rule.ensures
