@@ -17,8 +17,9 @@ use Rattle.std.specs.Str.{bytes_eq}
 use Rattle.std.proofs.lemmas.Option.{slice_get-map, same_Some}
 use Rattle.dia_ccf.specs.Names.{same_bytes}
 use Rattle.dia_dict.specs.declared.fault.DictKind.TheVariants as kind
-use Rattle.dia_dict.specs.Resolution.{Wrong, wrong, repeats, duplicate_names, duplicate_keys, avp_names, same_selector, same_slot, slot_name, repeated_in}
-use Rattle.dia_dict.specs.Refusing.{IsFirstRepeat, named, selector_of}
+use Rattle.dia_dict.specs.Resolution.{Wrong, wrong, repeats, duplicate_names, duplicate_keys, avp_names, same_selector, same_slot, slot_name, repeated_in, head_of}
+use Rattle.dia_dict.specs.Refusing.{IsFirstRepeat, named}
+use Rattle.dia_dict.specs.Selecting.{selector_of}
 use Rattle.dia_dict.proofs.Named.{bytes_eq-same}
 use Rattle.dia_dict.proofs.Repeats.{repeats-none, repeats-first, repeats-map, repeats-none_from_map, first_repeat_from_map, first_repeat-map, slice_get-repeats}
 use Rattle.dia_dict.proofs.Lists.{list_any-agree}
@@ -82,23 +83,23 @@ repeats-agree p same like agree earlier (x ∷ xs) before all =
 abbrev pub is_command : Def → Bool
 is_command d = not (is_group d.head)
 
-module _ (eq : Selector → Selector → Bool) (alike : (a b : Head) → not (is_group a) ≡ true → not (is_group b) ≡ true → eq (selector_of a) (selector_of b) ≡ same_selector a b)
+module _ (eq : Selector → Selector → Bool) (alike : (a b : Head) → not (is_group a) ≡ true → not (is_group b) ≡ true → eq (selector_of (head_of a)) (selector_of (head_of b)) ≡ same_selector a b)
     (commands : List Def) (all : list_all is_command commands ≡ true) where
-  alike_all : repeats (λ (a b : Def). eq (selector_of a.head) (selector_of b.head)) [] commands ≡ repeats (λ (a b : Def). same_selector a.head b.head) [] commands
-  alike_all = repeats-agree is_command (λ (a b : Def). eq (selector_of a.head) (selector_of b.head)) (λ (a b : Def). same_selector a.head b.head) (λ a b p q. alike a.head b.head p q) [] commands refl all
+  alike_all : repeats (λ (a b : Def). eq (selector_of (head_of a.head)) (selector_of (head_of b.head))) [] commands ≡ repeats (λ (a b : Def). same_selector a.head b.head) [] commands
+  alike_all = repeats-agree is_command (λ (a b : Def). eq (selector_of (head_of a.head)) (selector_of (head_of b.head))) (λ (a b : Def). same_selector a.head b.head) (λ a b p q. alike a.head b.head p q) [] commands refl all
 
-  pub duplicate_commands-none : repeats eq [] (map (λ (d : Def). selector_of d.head) commands) ≡ [] → map duplicate_command (repeats same_command [] (map plain_def commands)) ≡ []
+  pub duplicate_commands-none : repeats eq [] (map (λ (d : Def). selector_of (head_of d.head)) commands) ≡ [] → map duplicate_command (repeats same_command [] (map plain_def commands)) ≡ []
   duplicate_commands-none none =
       ap (map duplicate_command) (repeats-none plain_def same_command (λ (a b : Def). same_selector a.head b.head) (λ a b. refl) commands
-      (sym alike_all ∙ repeats-none_from_map (λ (d : Def). selector_of d.head) eq commands none))
+      (sym alike_all ∙ repeats-none_from_map (λ (d : Def). selector_of (head_of d.head)) eq commands none))
 
-  pub duplicate_commands-first : (place : ℕ) (d : Def) → IsFirstRepeat eq (map (λ (d : Def). selector_of d.head) commands) place → slice_get commands place ≡ Some d
+  pub duplicate_commands-first : (place : ℕ) (d : Def) → IsFirstRepeat eq (map (λ (d : Def). selector_of (head_of d.head)) commands) place → slice_get commands place ≡ Some d
       → slice_get (map duplicate_command (repeats same_command [] (map plain_def commands))) 0 ≡ Some (duplicate_command (plain_def d))
   duplicate_commands-first place d r at =
-      let found = slice_get-repeats (λ (a b : Def). eq (selector_of a.head) (selector_of b.head)) commands place (first_repeat_from_map (λ (d : Def). selector_of d.head) eq commands place r) in
+      let found = slice_get-repeats (λ (a b : Def). eq (selector_of (head_of a.head)) (selector_of (head_of b.head))) commands place (first_repeat_from_map (λ (d : Def). selector_of (head_of d.head)) eq commands place r) in
       slice_get-map duplicate_command (repeats same_command [] (map plain_def commands)) 0
       ∙ ap (option_map duplicate_command) (ap (λ ys. slice_get ys 0) (repeats-map plain_def same_command [] commands) ∙ slice_get-map plain_def (repeats (λ (a b : Def). same_selector a.head b.head) [] commands) 0
-      ∙ ap (option_map plain_def) (ap (λ ys. slice_get ys 0) (sym alike_all) ∙ found ∙ sym (first_repeat_from_map (λ (d : Def). selector_of d.head) eq commands place r).at ∙ at))
+      ∙ ap (option_map plain_def) (ap (λ ys. slice_get ys 0) (sym alike_all) ∙ found ∙ sym (first_repeat_from_map (λ (d : Def). selector_of (head_of d.head)) eq commands place r).at ∙ at))
 
 -- ---- names of slots
 

@@ -81,7 +81,7 @@ class_of-error : (request : Bool) → class_of request ≢ classes.Error
 class_of-error true e = cc
 class_of-error false e = cc
 
-head_of-command : (h : Head) → not (is_group h) ≡ true → IsCommandHead (head_of h)
+pub head_of-command : (h : Head) → not (is_group h) ≡ true → IsCommandHead (head_of h)
 head_of-command (head.Group c v) e = absurd (let x : false ≡ true = e in cc)
 head_of-command (head.Command c r p a) e = class_of-error r
 head_of-command (head.Error p) e = tt

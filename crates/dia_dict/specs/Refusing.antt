@@ -2,10 +2,6 @@
 use Rattle.std.specs.Prelude.{◌≡◌, ℕ, Bool, true, List, [], Option, Some, None, slice_get, string_bytes, take, ⊤}
 use Rattle.std.specs.List.{list_any}
 use Rattle.dia_wire.specs.declared.Key.{Key}
-use Rattle.dia_ccf.specs.declared.Head.{Head}
-use Rattle.dia_ccf.specs.declared.Head.TheVariants as head
-use Rattle.dia_dict.specs.declared.hashed.Selector.{Selector}
-use Rattle.dia_dict.specs.declared.hashed.Selector.TheVariants as selector
 use Rattle.dia_dict.specs.declared.resolving.checks.Named.{Named}
 use Rattle.dia_dict.specs.declared.fault.DictFault.{DictFault}
 use Rattle.dia_dict.specs.declared.fault.DictFault.TheVariants as fault
@@ -41,8 +37,3 @@ pub record IsFirstRepeat {X : Type 0} (same : X → X → Bool) (items : List X)
 -- an AVP's name and key
 abbrev pub named : Named → List ℕ × Key
 named n = (n.name.now, n.key)
-
--- what a command's header selects
-abbrev pub selector_of : Head → Selector
-selector_of (head.Command code request pxy app) = selector.Command code request app
-selector_of head = selector.Error

@@ -140,7 +140,7 @@ fn rule_list(alloc: Global, names: &Names<'_>, rules: &[Rule]) -> Result<Vec<DRu
     Ok(list)
 }
 
-fn head(head: Head) -> DefHead
+pub(super) fn head(head: Head) -> DefHead
     ensures { result ≡ head_of head }
 {
     match head {

@@ -4,9 +4,11 @@ ghost use Rattle.std.specs.List.{list_all};
 ghost use Rattle.std.specs.Option.{option_copied};
 ghost use Rattle.dia_ccf.specs.Names.{is_group};
 ghost use Rattle.dia_ccf.specs.Plain.{plain, plain_decl, plain_def};
-ghost use Rattle.dia_dict.specs.Resolution.{wrong_limits, wrong_entries, too_many_rules, is_long, no_groups, lacks_group, header_mismatches, is_mismatched, is_grouped, agrees_with, avp_names, is_bare, key_of_decl, group_key, duplicate_keys, duplicate_commands};
-ghost use Rattle.dia_dict.specs.Refusing.{IsRefused, named, selector_of};
+ghost use Rattle.dia_dict.specs.Resolution.{wrong_limits, wrong_entries, too_many_rules, is_long, no_groups, lacks_group, header_mismatches, is_mismatched, is_grouped, agrees_with, avp_names, is_bare, key_of_decl, group_key, head_of, duplicate_keys, duplicate_commands};
+ghost use Rattle.dia_dict.specs.Refusing.{IsRefused, named};
+ghost use Rattle.dia_dict.specs.Selecting.{selector_of};
 
+use super::building::head;
 use super::distinct::distinct;
 use super::names::{Names, key_of_declaration, key_of_group};
 use super::refusal::Refusal;
@@ -213,28 +215,19 @@ fn commands(alloc: Global, source: &Source) -> Result<(), Refusal<'_>>
 
 fn selectors_of(alloc: Global, commands: &[Def]) -> Result<Vec<Selector>, AllocError>
     requires { IsTrue (list_all (λ d. not (is_group d.head)) commands.now) }
-    ensures { IfOk result (λ selectors. selectors.items ≡ map (λ d. selector_of d.head) commands.now) }
+    ensures { IfOk result (λ selectors. selectors.items ≡ map (λ d. selector_of (head_of d.head)) commands.now) }
 {
     let mut selectors = Vec::new(alloc);
     for command in commands {
-        selectors.push(selector(&command.head))?;
+        selectors.push(selector(command.head))?;
     }
     Ok(selectors)
 }
 
 /// Which messages a command's header selects.
-fn selector(head: &Head) -> Selector
-    requires { IsTrue (not (is_group head.now)) }
-    ensures { result ≡ selector_of head.now }
+fn selector(header: Head) -> Selector
+    requires { IsTrue (not (is_group header)) }
+    ensures { result ≡ selector_of (head_of header) }
 {
-    match *head {
-        Head::Group { .. } => unreachable!("a command has no group's header"),
-        Head::Command {
-            code,
-            request,
-            app,
-            ..
-        } => Selector::Command { code, request, app },
-        Head::Error { .. } => Selector::Error,
-    }
+    Selector::of(head(header))
 }
