@@ -133,11 +133,10 @@ fn definition(alloc: Global, names: &Names<'_>, def: &Def) -> Result<Definition,
 fn rule_list(alloc: Global, names: &Names<'_>, rules: &[Rule]) -> Result<Vec<DRule>, AllocError>
     ensures { IfOk result (λ rs. rs.items ≡ map (rule_of (plain_source names.now.source.now)) (map plain_rule rules.now)) }
 {
-    let mut list = Vec::new(alloc);
-    for rule in rules {
-        list.push(rules::rule(names, rule))?;
-    }
-    Ok(list)
+    rules
+        .iter()
+        .map(|rule| rules::rule(names, rule))
+        .collect(alloc)
 }
 
 pub(super) fn head(head: Head) -> DefHead

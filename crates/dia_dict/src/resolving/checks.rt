@@ -154,11 +154,7 @@ fn keys<'a>(alloc: Global, names: &Names<'a>) -> Result<(), Refusal<'a>>
 fn keys_of(alloc: Global, avps: &[Named<'_>]) -> Result<Vec<Key>, AllocError>
     ensures { IfOk result (λ keys. keys.items ≡ map (λ n. n.key) avps.now) }
 {
-    let mut keys = Vec::new(alloc);
-    for avp in avps {
-        keys.push(avp.key)?;
-    }
-    Ok(keys)
+    avps.iter().map(|avp| avp.key).collect(alloc)
 }
 
 /// The declared AVPs, and then the groups without a declaration.

@@ -125,21 +125,13 @@ fn set_of_definitions(alloc: Global, defs: &[Def]) -> Result<IndexSet<&str>, Ref
 fn names_of_avps(alloc: Global, avps: &[Decl]) -> Result<Vec<&str>, AllocError>
     ensures { IfOk result (λ names. map (λ n. n.now) names.items ≡ map (λ d. string_bytes d.name) avps.now) }
 {
-    let mut names = Vec::new(alloc);
-    for decl in avps {
-        names.push(decl.name.as_str())?;
-    }
-    Ok(names)
+    avps.iter().map(|decl| decl.name.as_str()).collect(alloc)
 }
 
 fn names_of_definitions(alloc: Global, defs: &[Def]) -> Result<Vec<&str>, AllocError>
     ensures { IfOk result (λ names. map (λ n. n.now) names.items ≡ map (λ d. string_bytes d.name) defs.now) }
 {
-    let mut names = Vec::new(alloc);
-    for def in defs {
-        names.push(def.name.as_str())?;
-    }
-    Ok(names)
+    defs.iter().map(|def| def.name.as_str()).collect(alloc)
 }
 
 fn distinct_names<'a>(alloc: Global, names: &[&'a str]) -> Result<IndexSet<&'a str>, Refusal<'a>>

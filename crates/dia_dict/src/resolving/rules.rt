@@ -146,11 +146,7 @@ fn slots_of(alloc: Global, def: &Def) -> Result<(), Refusal<'_>>
 fn slot_names(alloc: Global, rules: &[Rule]) -> Result<Vec<&str>, AllocError>
     ensures { IfOk result (λ names. map (λ n. n.now) names.items ≡ map (λ r. slot_name (plain_rule r)) rules.now) }
 {
-    let mut names = Vec::new(alloc);
-    for rule in rules {
-        names.push(slot_name(rule))?;
-    }
-    Ok(names)
+    rules.iter().map(slot_name).collect(alloc)
 }
 
 /// The name of a rule's AVP, or the wildcard's.
