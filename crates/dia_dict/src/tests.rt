@@ -21,7 +21,7 @@ fn fault_of(alloc: Global, text: &str) -> Result<(DictKind, String, String), Fai
     match resolve(alloc, parse(alloc, text)?) {
         Err(DictFault::Stands { kind, name, slot }) => Ok((kind, name, slot)),
         Err(DictFault::NoMemory) => Err(Fail::from(DictFault::NoMemory)),
-        Ok(_) => Err(Fail::from("the text names a dictionary")),
+        Ok(_) => Err(Fail::new(format_args!("no fault: {text}"))),
     }
 }
 
