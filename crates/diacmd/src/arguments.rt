@@ -2,6 +2,7 @@
 
 use crate::command::Command;
 use crate::ending::Ending;
+use clap::error::ErrorKind;
 use clap::{Arg, ArgMatches};
 use std::alloc::{AllocError, Global};
 use std::convert::AsStr;
@@ -20,54 +21,67 @@ const STATUSES: &str = "Status:
   3  a file or a device failed, or memory was refused";
 
 /// What the words ask for: a command, and the words of its inputs.
-#[derive(Debug, Drop)]
-pub struct Request<'a> {
-    pub command: Command,
-    /// The first or only dictionary.
-    pub first: &'a str,
-    pub message: Option<&'a str>,
+#[derive(Clone, Copy, Debug, PartialEq, Eq)]
+pub enum Request<'a> {
+    /// `show [--dict D] MESSAGE`
+    Show {
+        dictionary: &'a str,
+        message: &'a str,
+    },
+    /// `render D`
+    Render {
+        dictionary: &'a str,
+    },
 }
 
 /// Reads the words, the program's own name first.
 pub fn parse_words<'a, S: AsStr>(alloc: Global, words: &'a [S]) -> Result<Request<'a>, Ending> {
-    let matches = command_line(alloc)?.try_get_matches_from(words)?;
-    let request = request_of(&matches);
-    if request.reads_twice() {
-        return Err(Ending::ReadTwice);
+    let mut line = command_line(alloc)?;
+    let matches = line.try_get_matches_from_mut(words)?;
+    match request_of(&matches) {
+        Some(request) if request.reads_twice() => Err(Ending::ReadTwice),
+        Some(request) => Ok(request),
+        // The line requires a subcommand, and each subcommand its words.
+        None => {
+            let error = line.error(ErrorKind::MissingSubcommand, "the words ask for nothing")?;
+            Err(Ending::from(error))
+        }
     }
-    Ok(request)
 }
 
 impl Request<'_> {
+    /// What the program is to do with the inputs.
+    pub fn command(&self) -> Command {
+        match self {
+            Request::Show { .. } => Command::Show,
+            Request::Render { .. } => Command::Render,
+        }
+    }
+
     /// Whether two inputs are standard input.
     fn reads_twice(&self) -> bool {
-        self.first == STANDARD_INPUT && self.message == Some(STANDARD_INPUT)
+        match self {
+            Request::Show {
+                dictionary,
+                message,
+            } => *dictionary == STANDARD_INPUT && *message == STANDARD_INPUT,
+            Request::Render { .. } => false,
+        }
     }
 }
 
-fn request_of<'a>(matches: &ArgMatches<'a>) -> Request<'a> {
-    match matches.subcommand() {
-        Some(("render", inner)) => Request {
-            command: Command::Render,
-            first: word_of(inner, "D"),
-            message: None,
-        },
-        Some((_, inner)) => Request {
-            command: Command::Show,
-            first: word_of(inner, "dict"),
-            message: inner.get_str("MESSAGE"),
-        },
-        None => Request {
-            command: Command::Show,
-            first: BASE_DICTIONARY,
-            message: None,
-        },
+/// The request of what the command line read, where that is one of the subcommands with its words.
+fn request_of<'a>(matches: &ArgMatches<'a>) -> Option<Request<'a>> {
+    match matches.subcommand()? {
+        ("show", inner) => Some(Request::Show {
+            dictionary: inner.get_str("dict")?,
+            message: inner.get_str("MESSAGE")?,
+        }),
+        ("render", inner) => Some(Request::Render {
+            dictionary: inner.get_str("D")?,
+        }),
+        _ => None,
     }
-}
-
-/// A word that is required or has a default.
-fn word_of<'a>(matches: &ArgMatches<'a>, id: &str) -> &'a str {
-    matches.get_str(id).unwrap_or(BASE_DICTIONARY)
 }
 
 fn command_line<'a>(alloc: Global) -> Result<clap::Command<'a>, AllocError> {

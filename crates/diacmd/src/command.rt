@@ -4,7 +4,7 @@ ghost use Rattle.diacmd.specs.Exit.{status_of};
 use thiserror::Error;
 
 /// What the program is to do.
-#[derive(Debug, Drop)]
+#[derive(Clone, Copy, Debug, PartialEq, Eq)]
 pub enum Command {
     /// Prints a message, an AVP a line.
     Show,

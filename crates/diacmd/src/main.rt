@@ -46,5 +46,5 @@ where
     let request = parse_words(rt.alloc(), words.as_slice())?;
     let inputs = open_inputs(rt, &request)?;
     let mut sink = ToWriter::new(io::writer(rt));
-    Ok(run(rt.alloc(), &request.command, &inputs, &mut sink)?)
+    Ok(run(rt.alloc(), &request.command(), &inputs, &mut sink)?)
 }

@@ -16,15 +16,20 @@ use std::fs;
 use std::io::Read;
 use std::rt::Files;
 
-/// Reads the inputs whole, in the order of the words, the dictionary of `--dict` first.
+/// Reads the inputs of a request whole: first the dictionary, then the message, wherever they stand among the words.
 pub fn open_inputs<R: AllocGlobal + Files + Input>(
     rt: &R,
     request: &Request<'_>,
 ) -> Result<Inputs, Ending> {
-    let first = open_dictionary(rt, request.first)?;
-    let message = match request.message {
-        Some(word) => open_text(rt, word, MAX_MESSAGE_TEXT)?,
-        None => unused(rt.alloc()),
+    let (first, message) = match request {
+        Request::Show {
+            dictionary,
+            message,
+        } => {
+            let first = open_dictionary(rt, dictionary)?;
+            (first, open_text(rt, message, MAX_MESSAGE_TEXT)?)
+        }
+        Request::Render { dictionary } => (open_dictionary(rt, dictionary)?, unused(rt.alloc())),
     };
     Ok(Inputs {
         first,

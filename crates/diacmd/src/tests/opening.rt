@@ -1,18 +1,17 @@
 //! Inputs that are files.
 
 use crate::arguments::Request;
-use crate::command::{Command, Input as Text};
+use crate::command::Input as Text;
 use crate::ending::Ending;
 use crate::opening::open_inputs;
 use dia_dict::base_text;
 use std::test::Fail;
 
 /// The words of `show`.
-fn words<'a>(first: &'a str, message: &'a str) -> Request<'a> {
-    Request {
-        command: Command::Show,
-        first,
-        message: Some(message),
+fn words<'a>(dictionary: &'a str, message: &'a str) -> Request<'a> {
+    Request::Show {
+        dictionary,
+        message,
     }
 }
 

@@ -1,6 +1,6 @@
 //! The words of the command line, and what is told of them.
 
-use crate::arguments::parse_words;
+use crate::arguments::{Request, parse_words};
 use crate::command::Command;
 use crate::ending::Ending;
 use std::alloc::Global;
@@ -11,21 +11,38 @@ use std::test::Fail;
 
 #[test]
 fn reads_the_words(rt: HostRuntime) -> Result<(), Fail> {
-    let alloc = rt.alloc();
-    let Ok(request) = parse_words(alloc, &["diacmd", "show", "-"]) else {
-        return Err(Fail::from("the words are refused"));
-    };
-    assert!(rt; matches!(request.command, Command::Show));
-    assert!(rt; request.first == "@base" && request.message == Some("-"));
-    let Ok(request) = parse_words(alloc, &["diacmd", "show", "--dict", "-", "m.hex"]) else {
-        return Err(Fail::from("the words are refused"));
-    };
-    assert!(rt; request.first == "-" && request.message == Some("m.hex"));
-    let Ok(request) = parse_words(alloc, &["diacmd", "render", "@base"]) else {
-        return Err(Fail::from("the words are refused"));
-    };
-    assert!(rt; matches!(request.command, Command::Render));
-    assert!(rt; request.first == "@base" && request.message.is_none());
+    let rows: [(&[&str], Request, Command); 3] = [
+        (
+            &["diacmd", "show", "-"],
+            Request::Show {
+                dictionary: "@base",
+                message: "-",
+            },
+            Command::Show,
+        ),
+        (
+            &["diacmd", "show", "m.hex", "--dict", "-"],
+            Request::Show {
+                dictionary: "-",
+                message: "m.hex",
+            },
+            Command::Show,
+        ),
+        (
+            &["diacmd", "render", "@base"],
+            Request::Render {
+                dictionary: "@base",
+            },
+            Command::Render,
+        ),
+    ];
+    for (words, wanted, command) in rows.iter() {
+        let Ok(request) = parse_words(rt.alloc(), *words) else {
+            return Err(Fail::from("the words are refused"));
+        };
+        assert_eq!(rt; request, *wanted);
+        assert_eq!(rt; request.command(), *command);
+    }
     Ok(())
 }
 
