@@ -15,7 +15,7 @@ abbrev pub ending_of : RunFault → Ending
 ending_of fault.Device = ending.Device
 ending_of fault.NoMemory = ending.NoMemory
 
--- want of memory, a word that is no text, and else a device
+-- of the words of the process: want of memory, a word that is no text, and else a device
 pub record IsEndingOfIo (error : Error) (made : Ending) : Type 0 where
   pub memory : error_kind error ≡ OutOfMemory → made ≡ ending.NoMemory
   pub text : error_kind error ≡ InvalidData → made ≡ ending.NotText

@@ -24,7 +24,18 @@ pub enum Ending {
 
 impl Ending {
     ghost use Rattle.std.specs.Prelude.{◌≡◌, ◌⊎◌};
-    ghost use Rattle.diacmd.specs.Ending.{EndsWith};
+    ghost use Rattle.diacmd.specs.Ending.{EndsWith, IsEndingOfIo};
+
+    /// The ending where the words of the process can't be read.
+    pub fn of_words(error: io::Error) -> Ending
+        ensures { IsEndingOfIo error result }
+    {
+        match error.kind() {
+            io::ErrorKind::OutOfMemory => Ending::NoMemory,
+            io::ErrorKind::InvalidData => Ending::NotText,
+            _ => Ending::Device,
+        }
+    }
 
     /// Says why, on the stream where it belongs, and answers the status. Where that stream fails it is 3.
     pub fn tell(&self, rt: &(impl Print + Eprint)) -> u8
@@ -87,20 +98,6 @@ impl From<AllocError> for Ending {
 
     fn from(_error: AllocError) -> Ending {
         Ending::NoMemory
-    }
-}
-
-impl From<io::Error> for Ending {
-    ghost use Rattle.diacmd.specs.Ending.{IsEndingOfIo};
-
-    ghost from_gives = { IsEndingOfIo };
-
-    fn from(error: io::Error) -> Ending {
-        match error.kind() {
-            io::ErrorKind::OutOfMemory => Ending::NoMemory,
-            io::ErrorKind::InvalidData => Ending::NotText,
-            _ => Ending::Device,
-        }
     }
 }
 

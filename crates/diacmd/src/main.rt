@@ -42,7 +42,9 @@ fn perform<R>(rt: &R) -> Result<Exit, Ending>
 where
     R: AllocGlobal + Env + Files + Input + Print,
 {
-    let words: Vec<String> = env::args(rt)?.collect(rt.alloc())?;
+    let words: Vec<String> = env::args(rt)
+        .map_err(Ending::of_words)?
+        .collect(rt.alloc())?;
     let request = parse_words(rt.alloc(), words.as_slice())?;
     let inputs = open_inputs(rt, &request)?;
     let mut sink = ToWriter::new(io::writer(rt));
