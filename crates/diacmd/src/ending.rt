@@ -41,37 +41,42 @@ impl Ending {
     pub fn tell(&self, rt: &(impl Print + Eprint)) -> u8
         ensures { EndsWith self.now result ⊎ (result ≡ 3) }
     {
-        let (told, status) = match self {
-            Ending::Told(error) if error.use_stderr() => (error.print(rt), 2),
-            Ending::Told(error) => (error.print(rt), 0),
-            Ending::NotText => (
-                rt.eprintln(
-                    "error: a word of the command line isn't UTF-8\n\nFor more information, try '--help'.",
-                ),
-                2,
-            ),
-            Ending::ReadTwice => (
-                rt.eprintln(
-                    "error: '-' is given twice, and standard input can be read once: name a file for one of the two\n\nFor more information, try '--help'.",
-                ),
-                2,
-            ),
-            Ending::Device => (rt.eprintln("device failed"), 3),
-            Ending::NoMemory => (rt.eprintln("no memory"), 3),
-        };
-        match told {
-            Ok(()) => status,
-            Err(_) => failed(rt),
+        match self.print(rt) {
+            Ok(()) => self.status(),
+            Err(_) => {
+                let failure = Ending::Device;
+                let _told = failure.print(rt);
+                failure.status()
+            }
         }
     }
-}
 
-/// Says that a device failed, where that can be said, and answers the status.
-fn failed(rt: &impl Eprint) -> u8
-    ensures { result ≡ 3 }
-{
-    let _told = rt.eprintln("device failed");
-    3
+    /// The status that the process ends with.
+    fn status(&self) -> u8
+        ensures { EndsWith self.now result }
+    {
+        match self {
+            Ending::Told(error) if error.use_stderr() => 2,
+            Ending::Told(_) => 0,
+            Ending::NotText | Ending::ReadTwice => 2,
+            Ending::Device | Ending::NoMemory => 3,
+        }
+    }
+
+    /// Says why, on the stream where it belongs.
+    fn print(&self, rt: &(impl Print + Eprint)) -> io::Result<()> {
+        match self {
+            Ending::Told(error) => error.print(rt),
+            Ending::NotText => rt.eprintln(
+                "error: a word of the command line isn't UTF-8\n\nFor more information, try '--help'.",
+            ),
+            Ending::ReadTwice => rt.eprintln(
+                "error: '-' is given twice, and standard input can be read once: name a file for one of the two\n\nFor more information, try '--help'.",
+            ),
+            Ending::Device => rt.eprintln("device failed"),
+            Ending::NoMemory => rt.eprintln("no memory"),
+        }
+    }
 }
 
 impl From<clap::Error> for Ending {

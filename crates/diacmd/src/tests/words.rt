@@ -46,54 +46,77 @@ fn reads_the_words(rt: HostRuntime) -> Result<(), Fail> {
     Ok(())
 }
 
-/// Keeps what is printed, on each stream.
+/// Keeps what is printed, or fails at each print.
+#[derive(Drop)]
+struct Stream {
+    kept: RefCell<String>,
+    fails: bool,
+}
+
+impl Stream {
+    fn new(alloc: Global, fails: bool) -> Stream {
+        Stream {
+            kept: RefCell::new(String::new(alloc)),
+            fails,
+        }
+    }
+
+    /// Adds a text to what the stream was given.
+    fn add<D: Display + Drop>(&self, alloc: Global, value: D, end: &str) -> io::Result<()> {
+        if self.fails {
+            return Err(io::Error::from(io::ErrorKind::BrokenPipe));
+        }
+        let Ok(mut kept) = self.kept.try_borrow_mut() else {
+            return Err(io::Error::from(io::ErrorKind::Other));
+        };
+        let text = format!(in alloc; "{value}{end}")?;
+        kept.push_str(&text)?;
+        Ok(())
+    }
+
+    /// Whether the stream was given this text.
+    fn was_given(&self, wanted: &str) -> bool {
+        match self.kept.try_borrow() {
+            Ok(kept) => kept.as_str() == wanted,
+            Err(_) => false,
+        }
+    }
+}
+
+/// Standard output and standard error.
 #[derive(Drop)]
 struct Streams {
     alloc: Global,
-    out: RefCell<String>,
-    err: RefCell<String>,
+    out: Stream,
+    err: Stream,
 }
 
 impl Streams {
     fn new(alloc: Global) -> Streams {
         Streams {
             alloc,
-            out: RefCell::new(String::new(alloc)),
-            err: RefCell::new(String::new(alloc)),
+            out: Stream::new(alloc, false),
+            err: Stream::new(alloc, false),
         }
     }
-}
 
-/// Adds a text to what a stream was given.
-fn add<D: Display + Drop>(
-    alloc: Global,
-    stream: &RefCell<String>,
-    value: D,
-    end: &str,
-) -> io::Result<()> {
-    let Ok(mut kept) = stream.try_borrow_mut() else {
-        return Err(io::Error::from(io::ErrorKind::Other));
-    };
-    let text = format!(in alloc; "{value}{end}")?;
-    kept.push_str(&text)?;
-    Ok(())
-}
-
-/// Whether a stream was given this text.
-fn was_given(stream: &RefCell<String>, wanted: &str) -> bool {
-    match stream.try_borrow() {
-        Ok(kept) => kept.as_str() == wanted,
-        Err(_) => false,
+    /// Streams of which some fail at each print.
+    fn failing(alloc: Global, out_fails: bool, err_fails: bool) -> Streams {
+        Streams {
+            alloc,
+            out: Stream::new(alloc, out_fails),
+            err: Stream::new(alloc, err_fails),
+        }
     }
 }
 
 impl Print for Streams {
     fn print<D: Display + Drop>(&self, value: D) -> io::Result<()> {
-        add(self.alloc, &self.out, value, "")
+        self.out.add(self.alloc, value, "")
     }
 
     fn println<D: Display + Drop>(&self, value: D) -> io::Result<()> {
-        add(self.alloc, &self.out, value, "\n")
+        self.out.add(self.alloc, value, "\n")
     }
 
     fn write_all(&self, _bytes: &[u8]) -> io::Result<()> {
@@ -103,11 +126,19 @@ impl Print for Streams {
 
 impl Eprint for Streams {
     fn eprint<D: Display + Drop>(&self, value: D) -> io::Result<()> {
-        add(self.alloc, &self.err, value, "")
+        self.err.add(self.alloc, value, "")
     }
 
     fn eprintln<D: Display + Drop>(&self, value: D) -> io::Result<()> {
-        add(self.alloc, &self.err, value, "\n")
+        self.err.add(self.alloc, value, "\n")
+    }
+}
+
+/// How the program ends for words that ask for nothing to run.
+fn ending_of(alloc: Global, words: &[&str]) -> Result<Ending, Fail> {
+    match parse_words(alloc, words) {
+        Ok(_) => Err(Fail::from("the words are read")),
+        Err(ending) => Ok(ending),
     }
 }
 
@@ -173,12 +204,10 @@ fn faults_of_the_words_go_to_standard_error(rt: HostRuntime) -> Result<(), Fail>
     ];
     for (words, told) in rows.iter() {
         let streams = Streams::new(rt.alloc());
-        let Err(ending) = parse_words(rt.alloc(), *words) else {
-            return Err(Fail::from("the words are read"));
-        };
+        let ending = ending_of(rt.alloc(), words)?;
         assert_eq!(rt; ending.tell(&streams), 2, "{told}");
-        assert!(rt; was_given(&streams.out, ""), "{told}");
-        assert!(rt; was_given(&streams.err, told), "{told}");
+        assert!(rt; streams.out.was_given(""), "{told}");
+        assert!(rt; streams.err.was_given(told), "{told}");
     }
     Ok(())
 }
@@ -222,12 +251,10 @@ fn help_goes_to_standard_output(rt: HostRuntime) -> Result<(), Fail> {
     ];
     for (words, told) in rows.iter() {
         let streams = Streams::new(rt.alloc());
-        let Err(ending) = parse_words(rt.alloc(), *words) else {
-            return Err(Fail::from("the words are read"));
-        };
+        let ending = ending_of(rt.alloc(), words)?;
         assert_eq!(rt; ending.tell(&streams), 0);
-        assert!(rt; was_given(&streams.out, told), "{told}");
-        assert!(rt; was_given(&streams.err, ""));
+        assert!(rt; streams.out.was_given(told), "{told}");
+        assert!(rt; streams.err.was_given(""));
     }
     Ok(())
 }
@@ -246,7 +273,29 @@ fn other_endings_are_a_line_on_standard_error(rt: HostRuntime) {
     for (ending, status, told) in rows.iter() {
         let streams = Streams::new(rt.alloc());
         assert_eq!(rt; ending.tell(&streams), *status);
-        assert!(rt; was_given(&streams.out, ""));
-        assert!(rt; was_given(&streams.err, told));
+        assert!(rt; streams.out.was_given(""));
+        assert!(rt; streams.err.was_given(told));
     }
+}
+
+#[test]
+fn a_stream_that_fails_is_a_failed_device(rt: HostRuntime) -> Result<(), Fail> {
+    let alloc = rt.alloc();
+    let endings = vec![in alloc;
+        ending_of(alloc, &["diacmd", "--help"])?,
+        ending_of(alloc, &["diacmd"])?,
+        Ending::NotText,
+        Ending::ReadTwice,
+        Ending::Device,
+        Ending::NoMemory,
+    ]?;
+    for ending in endings.iter() {
+        let streams = Streams::failing(alloc, true, true);
+        assert_eq!(rt; ending.tell(&streams), 3);
+    }
+    // Where standard error doesn't fail, it is given a line.
+    let streams = Streams::failing(alloc, true, false);
+    assert_eq!(rt; ending_of(alloc, &["diacmd", "--help"])?.tell(&streams), 3);
+    assert!(rt; streams.err.was_given("device failed\n"));
+    Ok(())
 }
