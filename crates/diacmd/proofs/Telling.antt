@@ -1,6 +1,9 @@
 -- What is told of an input that is refused, and what an outcome is made of.
-use Rattle.std.proofs.Common.{◌≡◌, ◌≢◌, ℕ, ◌≤◌, List, length, Err, refl, ap, subst, inl}
-use Rattle.std.specs.Prelude.{string_bytes}
+use Rattle.std.proofs.Common.{◌≡◌, ◌≢◌, ℕ, ◌≤◌, List, length, Result, Ok, Err, refl, ap, subst, inl, ◌∙◌}
+use Rattle.std.specs.Prelude.{IfOk, IsErr, string_bytes}
+use Rattle.std.specs.declared.alloc.AllocError.{AllocError}
+use Rattle.std.specs.declared.alloc.Global.{Global}
+use Rattle.std.specs.declared.string.String.{String}
 use Rattle.diacmd.specs.declared.inputs.Refused.{Refused}
 use Rattle.diacmd.specs.declared.inputs.Refused.TheVariants.{Told, NoMemory}
 use Rattle.std.specs.Str.{IsUtf8}
@@ -18,6 +21,12 @@ use Rattle.diacmd.specs.Outcome.{Ends, IsRenderOutcome, no_source, IsShowOutcome
 pub TellsOf-map : (P Q : List ℕ → Type 0) (r : Refused) → ((told : List ℕ) → P told → Q told) → TellsOf P r → TellsOf Q r
 TellsOf-map P Q (Told text) f h = f (string_bytes text) h
 TellsOf-map P Q NoMemory f h = tt
+
+-- a line that was made is told, and else memory was refused
+pub told_line : (line : Result (String Global) AllocError) (r : Refused) (made wanted : List ℕ) → IfOk line (λ text. string_bytes text ≡ made) → IfOk line (λ text. r ≡ Told text)
+    → (IsErr line → r ≡ NoMemory) → made ≡ wanted → TellsOf (λ told. told ≡ wanted) r
+told_line (Ok text) r made wanted is_made told none same = rw told (is_made ∙ same)
+told_line (Err e) r made wanted is_made told none same = rw (none refl) tt
 
 -- a dictionary's line tells why
 pub told_why : (P : List ℕ → Type 0) (number : ℕ) (why : List ℕ) (r : Refused) → P why → TellsOf (λ told. told ≡ dictionary_line number why) r

@@ -20,6 +20,22 @@ pub enum Refused {
     NoMemory,
 }
 
+impl Refused {
+    ghost use Rattle.std.specs.Prelude.{◌≡◌, IfOk, IsErr};
+    ghost use Rattle.diacmd.specs.declared.inputs.Refused.TheVariants.{Told, NoMemory};
+
+    /// The refusal that tells a line, unless memory was refused for it.
+    fn of(line: Result<String, AllocError>) -> Refused
+        ensures told { IfOk line (λ text. result ≡ Told text) }
+        ensures no_memory { IsErr line → result ≡ NoMemory }
+    {
+        match line {
+            Ok(line) => Refused::Told(line),
+            Err(AllocError) => Refused::NoMemory,
+        }
+    }
+}
+
 impl From<AllocError> for Refused {
     ghost use Rattle.std.specs.Prelude.{◌≡◌};
     ghost use Rattle.diacmd.specs.declared.inputs.Refused.TheVariants.{NoMemory};

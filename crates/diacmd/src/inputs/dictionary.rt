@@ -47,10 +47,7 @@ pub fn read_dictionary(alloc: Global, number: u8, input: &Input) -> Result<Index
 fn tell(alloc: Global, number: u8, why: &str) -> Refused
     ensures { TellsOf (λ told. told ≡ dictionary_line number why.now) result }
 {
-    match format!(in alloc; "dictionary {number}: {why}") {
-        Ok(line) => Refused::Told(line),
-        Err(_) => Refused::NoMemory,
-    }
+    Refused::of(format!(in alloc; "dictionary {number}: {why}"))
 }
 
 /// What is told of a fault of the text, but for want of memory.
@@ -70,7 +67,7 @@ fn tell_at(alloc: Global, number: u8, what: &str, line: u32) -> Refused
 {
     match format!(in alloc; "{what} at line {line}") {
         Ok(why) => tell(alloc, number, why.as_str()),
-        Err(_) => Refused::NoMemory,
+        Err(AllocError) => Refused::NoMemory,
     }
 }
 

@@ -30,10 +30,7 @@ pub fn read_message(alloc: Global, input: &Input) -> Result<Vec<u8>, Refused>
 fn tell(alloc: Global, line: &str) -> Refused
     ensures { TellsOf (λ told. told ≡ line.now) result }
 {
-    match String::from_str(alloc, line) {
-        Ok(line) => Refused::Told(line),
-        Err(_) => Refused::NoMemory,
-    }
+    Refused::of(String::from_str(alloc, line))
 }
 
 fn without_white(alloc: Global, text: &[u8]) -> Result<Vec<u8>, AllocError>

@@ -1,5 +1,6 @@
-use Rattle.std.proofs.Common.{append_assoc}
+use Rattle.std.proofs.Common.{refl, append_assoc}
+use Rattle.diacmd.proofs.Telling.{told_line}
 use Rattle.diacmd.proofs.inputs.dictionary.tell.Goals as goal
 
-pub returns-in-Ok : goal.returns-in-Ok
-returns-in-Ok c = simp append_assoc c.in-Ok.ensures.ok
+pub returns : goal.returns
+returns c = told_line _ _ _ _ c.format.ensures.ok c.of.ensures.told c.of.ensures.no_memory (simp append_assoc refl)
