@@ -54,6 +54,6 @@ fn bytes_within(input: &Input, limit: usize) -> Option<&[u8]>
 {
     match input {
         Input::Bytes(bytes) if bytes.len() <= limit => Some(bytes.as_slice()),
-        _ => None,
+        Input::Bytes(_) | Input::TooLong => None,
     }
 }

@@ -7,7 +7,7 @@ ghost use Rattle.diacmd.specs.Listing.{avp_line, bad_length_line, vendor_text, A
 use crate::commands::show::flags_text;
 use dia_data::print_value;
 use dia_dict::{Book, Format};
-use dia_wire::{Avp, key, next_avp};
+use dia_wire::{Avp, AvpFault, key, next_avp};
 use std::alloc::{AllocError, Global};
 
 /// What is left of a level, and the place of the level's end.
@@ -54,7 +54,7 @@ pub fn push_level<B: Book>(
                 Some(level) => rest = level,
                 None => return Ok(false),
             },
-            Err(_) => {
+            Err(AvpFault::Length) => {
                 push_bad_length(text, place)?;
                 return Ok(true);
             }

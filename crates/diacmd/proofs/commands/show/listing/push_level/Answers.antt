@@ -26,5 +26,5 @@ loop-avp-preserved g c = level_ended _ _ _ _ _ _ _ _ c.loop-avp.invariant c.in-S
 pub returns-in-None : goal.returns-in-None
 returns-in-None g c = all_ended _ _ _ _ _ _ c.loop-avp.invariant (sym c.loop-avp.outer.ok.0 ∙ c.in-None.ensures.cases.0) (c.in-Ok-None.ensures.end.0 (rw c.in-Ok-None.field-0-is refl))
 
-pub returns-in-Err : goal.returns-in-Err
-returns-in-Err g c = bad_found _ _ _ _ _ _ _ c.loop-avp.invariant c.in-Err.ensures.fault.0 c.in-Err.ensures.fault.1 c.in_ok-push_bad_length-in-Err.ensures
+pub returns-in-Err-Length : goal.returns-in-Err-Length
+returns-in-Err-Length g c = bad_found _ _ _ _ _ _ _ c.loop-avp.invariant c.in-Err-Length.ensures.fault.0 c.in-Err-Length.ensures.fault.1 c.in_ok-push_bad_length-in-Err-Length.ensures
