@@ -1,12 +1,12 @@
 -- What the texts of the inputs say, and what is told of one that says nothing.
-use Rattle.std.specs.Prelude.{◌≡◌, ◌≢◌, ℕ, ◌⊎◌, Bool, not, ◌||◌, ◌==◌, List, [], ◌∷◌, ◌++◌, filter, None, Some, Ok, codes, IsOk, string_bytes, ⊤}
+use Rattle.std.specs.Prelude.{◌≡◌, ◌≢◌, ℕ, ◌⊎◌, not, List, [], ◌∷◌, ◌++◌, filter, None, Some, Ok, codes, IsOk, string_bytes, ⊤}
 use Rattle.std.specs.Str.{IsUtf8}
 use Rattle.std.specs.Fmt.{decimal}
 use Rattle.hex.specs.Hex.{decode_of}
 use Rattle.dia_ccf.specs.declared.CcfFault.{CcfFault}
 use Rattle.dia_ccf.specs.declared.CcfFault.TheVariants as ccf
 use Rattle.dia_ccf.specs.Plain.{PlainSource}
-use Rattle.dia_ccf.specs.Tokens.{tokens}
+use Rattle.dia_ccf.specs.Tokens.{tokens, is_white}
 use Rattle.dia_ccf.specs.Grammar.{Derives}
 use Rattle.dia_ccf.specs.Faults.{IsFault}
 use Rattle.dia_dict.specs.declared.DictKind.{DictKind}
@@ -90,10 +90,6 @@ dictionary_line number why = codes "dictionary " ++ decimal number ++ codes ": "
 -- the most bytes of a message's text
 abbrev pub most_message_text : ℕ
 most_message_text = 67108864
-
--- space, tab, carriage return and line feed
-abbrev pub is_white : ℕ → Bool
-is_white c = c == 32 || c == 9 || c == 13 || c == 10
 
 -- the text without its white space
 abbrev pub digits_of : List ℕ → List ℕ

@@ -1,7 +1,8 @@
 //! A message as hexadecimal text.
 
 ghost use Rattle.std.specs.Prelude.{◌≡◌, IfOk, IfErr, codes};
-ghost use Rattle.diacmd.specs.Texts.{TellsOf, IsMessageText, IsNoMessageText, digits_of, is_white};
+ghost use Rattle.dia_ccf.specs.Tokens.{is_white};
+ghost use Rattle.diacmd.specs.Texts.{TellsOf, IsMessageText, IsNoMessageText, digits_of};
 
 use crate::command::Input;
 use crate::inputs::{Refused, bytes_within};
