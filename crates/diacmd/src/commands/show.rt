@@ -73,7 +73,7 @@ fn push_header(
     let hop = header.hop;
     let end = header.e2e;
     write!(text, "header flags {flags} code {code} app {app}")?;
-    write!(text, " hop {hop} end {end} length {length}\n")
+    writeln!(text, " hop {hop} end {end} length {length}")
 }
 
 /// A byte of flags as two digits.

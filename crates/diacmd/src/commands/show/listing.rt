@@ -109,15 +109,14 @@ fn push_line(
     let code = avp.code;
     let length = avp_length(avp);
     write!(text, "{place} {depth} {code} {vendor}")?;
-    write!(text, " {flags} {length} {name} {value}\n")?;
-    Ok(())
+    writeln!(text, " {flags} {length} {name} {value}")
 }
 
 /// Adds the line of a place at which no AVP begins.
 fn push_bad_length(text: &mut String, place: usize) -> Result<(), AllocError>
     ensures { OnOk result (string_bytes text.new ≡ string_bytes text.old ++ bad_length_line place) }
 {
-    write!(text, "fault 5014 at {place} avp-length -\n")
+    writeln!(text, "fault 5014 at {place} avp-length -")
 }
 
 /// The AVP Length: header, Vendor-ID and data.
