@@ -5,6 +5,7 @@ use crate::command::{Command, Exit, Input, Inputs};
 use crate::devices::ToWriter;
 use crate::running::run;
 use std::alloc::{AllocError, Global};
+use std::process::Abort;
 use std::test::Fail;
 
 mod dictionaries;
@@ -30,16 +31,26 @@ pub fn inputs(alloc: Global, dictionary: &[u8], message: &[u8]) -> Result<Inputs
     })
 }
 
-/// What a command writes for a dictionary and a message, and how it ends.
-pub fn outcome(
-    alloc: Global,
-    command: &Command,
+/// What a command writes for its inputs, and how it ends.
+pub fn outcome(alloc: Global, command: Command, inputs: &Inputs) -> Result<(String, Exit), Fail> {
+    let mut sink = ToWriter::new(Vec::new(alloc));
+    let exit = run(alloc, &command, inputs, &mut sink)?;
+    let text = str::from_utf8(sink.writer.as_slice())?;
+    Ok((String::from_str(alloc, text)?, exit))
+}
+
+/// Checks what a command writes for a dictionary and a message, and how it ends.
+pub fn check(
+    rt: &(impl AllocGlobal + Abort),
+    command: Command,
     dictionary: &[u8],
     message: &[u8],
-) -> Result<(Vec<u8>, Exit), Fail> {
-    let inputs = inputs(alloc, dictionary, message)?;
-    let mut sink = ToWriter::new(Vec::new(alloc));
-    let exit = run(alloc, command, &inputs, &mut sink)?;
-    let ToWriter { writer, .. } = sink;
-    Ok((writer, exit))
+    text: &str,
+    exit: Exit,
+) -> Result<(), Fail> {
+    let inputs = inputs(rt.alloc(), dictionary, message)?;
+    let (written, end) = outcome(rt.alloc(), command, &inputs)?;
+    assert_eq!(rt; written.as_str(), text);
+    assert_eq!(rt; end, exit);
+    Ok(())
 }

@@ -243,11 +243,23 @@ Options:
   -h, --help      Print help
 ";
 
+const RENDER_HELP: &str = "Prints the canonical text of a dictionary
+
+Usage: diacmd render <D>
+
+Arguments:
+  <D>  A dictionary text: a file, @base, or - for standard input
+
+Options:
+  -h, --help  Print help
+";
+
 #[test]
 fn help_goes_to_standard_output(rt: HostRuntime) -> Result<(), Fail> {
-    let rows: [(&[&str], &str); 2] = [
+    let rows: [(&[&str], &str); 3] = [
         (&["diacmd", "--help"], HELP),
         (&["diacmd", "show", "--help"], SHOW_HELP),
+        (&["diacmd", "render", "--help"], RENDER_HELP),
     ];
     for (words, told) in rows.iter() {
         let streams = Streams::new(rt.alloc());

@@ -1,6 +1,6 @@
 //! Dictionaries that are refused, each by the line of its first fault.
 
-use super::{REQUEST, outcome};
+use super::{REQUEST, check};
 use crate::command::{Command, Exit};
 use std::test::Fail;
 
@@ -41,30 +41,38 @@ fn tells_the_first_fault_of_a_dictionary(rt: HostRuntime) -> Result<(), Fail> {
         ),
     ];
     for (text, line) in rows.iter() {
-        let (written, exit) = outcome(
-            rt.alloc(),
-            &Command::Show,
+        check(
+            &rt,
+            Command::Show,
             text.as_bytes(),
             REQUEST.as_bytes(),
+            line,
+            Exit::Bad,
         )?;
-        assert!(rt; written.as_slice() == line.as_bytes(), "{text}");
-        assert_eq!(rt; exit, Exit::Bad);
     }
     Ok(())
 }
 
 #[test]
 fn tells_bytes_that_are_no_text(rt: HostRuntime) -> Result<(), Fail> {
-    let (written, exit) = outcome(rt.alloc(), &Command::Show, &[0xff], REQUEST.as_bytes())?;
-    assert!(rt; written.as_slice() == b"dictionary 1: not text\n".as_slice());
-    assert_eq!(rt; exit, Exit::Bad);
-    Ok(())
+    check(
+        &rt,
+        Command::Show,
+        &[0xff],
+        REQUEST.as_bytes(),
+        "dictionary 1: not text\n",
+        Exit::Bad,
+    )
 }
 
 #[test]
 fn judges_the_dictionary_before_the_message(rt: HostRuntime) -> Result<(), Fail> {
-    let (written, exit) = outcome(rt.alloc(), &Command::Show, b"%avp", b"0")?;
-    assert!(rt; written.as_slice() == b"dictionary 1: syntax at line 1\n".as_slice());
-    assert_eq!(rt; exit, Exit::Bad);
-    Ok(())
+    check(
+        &rt,
+        Command::Show,
+        b"%avp",
+        b"0",
+        "dictionary 1: syntax at line 1\n",
+        Exit::Bad,
+    )
 }

@@ -1,6 +1,6 @@
 //! Messages, shown with the names of a dictionary.
 
-use super::{REQUEST, outcome};
+use super::{REQUEST, check, inputs, outcome};
 use crate::command::{Command, Exit};
 use dia_dict::base_text;
 use std::test::Fail;
@@ -22,14 +22,14 @@ fn names_the_avps_of_the_base_dictionary(rt: HostRuntime) -> Result<(), Fail> {
         ),
     ];
     for (text, lines) in rows.iter() {
-        let (written, exit) = outcome(
-            rt.alloc(),
-            &Command::Show,
+        check(
+            &rt,
+            Command::Show,
             base_text().as_bytes(),
             text.as_bytes(),
+            lines,
+            Exit::Yes,
         )?;
-        assert!(rt; written.as_slice() == lines.as_bytes(), "{text}");
-        assert_eq!(rt; exit, Exit::Yes);
     }
     Ok(())
 }
@@ -54,14 +54,14 @@ fn goes_into_groups(rt: HostRuntime) -> Result<(), Fail> {
         ),
     ];
     for (text, lines, end) in rows.iter() {
-        let (written, exit) = outcome(
-            rt.alloc(),
-            &Command::Show,
+        check(
+            &rt,
+            Command::Show,
             NODES.as_bytes(),
             text.as_bytes(),
+            lines,
+            *end,
         )?;
-        assert!(rt; written.as_slice() == lines.as_bytes(), "{text}");
-        assert_eq!(rt; exit, *end);
     }
     Ok(())
 }
@@ -74,12 +74,13 @@ fn goes_down_a_hundred_thousand_levels(rt: HostRuntime) -> Result<(), Fail> {
         let length = 800_000 - 8 * outside;
         write!(text, "0000232900{length:06x}")?;
     }
-    let (written, exit) = outcome(alloc, &Command::Show, NODES.as_bytes(), text.as_bytes())?;
+    let inputs = inputs(alloc, NODES.as_bytes(), text.as_bytes())?;
+    let (written, exit) = outcome(alloc, Command::Show, &inputs)?;
     assert_eq!(rt; exit, Exit::Yes);
     assert!(rt;
         written
-            .as_slice()
-            .ends_with(b"\n800012 99999 9001 - 00 8 Node group\n")
+            .as_str()
+            .ends_with("\n800012 99999 9001 - 00 8 Node group\n")
     );
     Ok(())
 }

@@ -1,9 +1,7 @@
 //! Messages, shown under the empty dictionary.
 
-use super::{REQUEST, REQUEST_LINES, inputs, outcome};
+use super::{REQUEST, REQUEST_LINES, check, inputs, outcome};
 use crate::command::{Command, Exit, Input};
-use crate::devices::ToWriter;
-use crate::running::run;
 use std::test::Fail;
 
 #[test]
@@ -20,9 +18,7 @@ fn shows_messages(rt: HostRuntime) -> Result<(), Fail> {
         ),
     ];
     for (text, lines) in rows.iter() {
-        let (written, exit) = outcome(rt.alloc(), &Command::Show, b"", text.as_bytes())?;
-        assert!(rt; written.as_slice() == lines.as_bytes(), "{text}");
-        assert_eq!(rt; exit, Exit::Yes);
+        check(&rt, Command::Show, b"", text.as_bytes(), lines, Exit::Yes)?;
     }
     Ok(())
 }
@@ -33,10 +29,7 @@ fn stops_at_a_bad_length(rt: HostRuntime) -> Result<(), Fail> {
         "0100002c800001180000000000000001000000020000010840000007612e6200000001284000000962000000";
     let lines =
         "header flags 80 code 280 app 0 hop 1 end 2 length 44\nfault 5014 at 20 avp-length -\n";
-    let (written, exit) = outcome(rt.alloc(), &Command::Show, b"", text.as_bytes())?;
-    assert!(rt; written.as_slice() == lines.as_bytes());
-    assert_eq!(rt; exit, Exit::No);
-    Ok(())
+    check(&rt, Command::Show, b"", text.as_bytes(), lines, Exit::No)
 }
 
 #[test]
@@ -64,9 +57,7 @@ fn refuses_what_is_no_message(rt: HostRuntime) -> Result<(), Fail> {
         ("0g", "message: not hexadecimal\n"),
     ];
     for (text, line) in rows.iter() {
-        let (written, exit) = outcome(rt.alloc(), &Command::Show, b"", text.as_bytes())?;
-        assert!(rt; written.as_slice() == line.as_bytes(), "{text}");
-        assert_eq!(rt; exit, Exit::Bad);
+        check(&rt, Command::Show, b"", text.as_bytes(), line, Exit::Bad)?;
     }
     Ok(())
 }
@@ -85,10 +76,14 @@ fn takes_white_space_and_both_cases(rt: HostRuntime) -> Result<(), Fail> {
         };
         text.push(blank)?;
     }
-    let (written, exit) = outcome(alloc, &Command::Show, b"", text.as_slice())?;
-    assert!(rt; written.as_slice() == REQUEST_LINES.as_bytes());
-    assert_eq!(rt; exit, Exit::Yes);
-    Ok(())
+    check(
+        &rt,
+        Command::Show,
+        b"",
+        text.as_slice(),
+        REQUEST_LINES,
+        Exit::Yes,
+    )
 }
 
 #[test]
@@ -96,9 +91,8 @@ fn tells_a_text_that_is_too_long(rt: HostRuntime) -> Result<(), Fail> {
     let alloc = rt.alloc();
     let mut inputs = inputs(alloc, b"", REQUEST.as_bytes())?;
     inputs.message = Input::TooLong;
-    let mut sink = ToWriter::new(Vec::new(alloc));
-    let exit = run(alloc, &Command::Show, &inputs, &mut sink)?;
-    assert!(rt; sink.writer.as_slice() == b"message: too long\n".as_slice());
+    let (written, exit) = outcome(alloc, Command::Show, &inputs)?;
+    assert_eq!(rt; written.as_str(), "message: too long\n");
     assert_eq!(rt; exit, Exit::Bad);
     Ok(())
 }
