@@ -20,7 +20,7 @@ const STATUSES: &str = "Status:
   2  bad input, or a bad command line
   3  a file or a device failed, or memory was refused";
 
-/// What the words ask for: a command, and the words of its inputs.
+/// What the words ask for: a subcommand, with the words of its inputs.
 #[derive(Clone, Copy, Debug, PartialEq, Eq)]
 pub enum Request<'a> {
     /// `show [--dict D] MESSAGE`
@@ -41,7 +41,7 @@ pub fn parse_words<'a, S: AsStr>(alloc: Global, words: &'a [S]) -> Result<Reques
     match request_of(&matches) {
         Some(request) if request.reads_twice() => Err(Ending::ReadTwice),
         Some(request) => Ok(request),
-        // The line requires a subcommand, and each subcommand its words.
+        // It never comes to this: the line requires a subcommand, and each subcommand its words.
         None => {
             let error = line.error(ErrorKind::MissingSubcommand, "the words ask for nothing")?;
             Err(Ending::from(error))

@@ -1,7 +1,7 @@
 //! `diacmd`: the workbench for Diameter dictionaries and messages, on the command line.
 //!
 //! `main` reads the words, opens the inputs, calls `run` with standard output and ends with the
-//! status. All that is decided is decided in `run`, over values.
+//! status. What is written for the inputs, and how it ends, is decided in `run`, over values.
 #![tactic(auto)]
 
 mod arguments;

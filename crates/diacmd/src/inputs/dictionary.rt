@@ -11,7 +11,7 @@ use dia_ccf::{CcfFault, MAX_TEXT, Source, parse};
 use dia_dict::{Book, DictFault, DictKind, IndexedBook, resolve};
 use std::alloc::{AllocError, Global};
 
-/// The source that a text is. `number` is the place of the dictionary among the words, from 1.
+/// The source that a text is. `number` says which dictionary of the command it is, from 1.
 pub fn read_source(alloc: Global, number: u8, input: &Input) -> Result<Source, Refused>
     ensures source { IfOk result (λ source. IsSourceText input.now (plain source)) }
     ensures told { IfErr result (TellsOf (λ told. (why : List ℕ) × IsNoSourceText input.now why × (told ≡ dictionary_line number why))) }

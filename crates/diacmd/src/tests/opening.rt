@@ -7,8 +7,8 @@ use crate::opening::open_inputs;
 use dia_dict::base_text;
 use std::test::Fail;
 
-/// The words of `show`.
-fn words<'a>(dictionary: &'a str, message: &'a str) -> Request<'a> {
+/// A request of `show`.
+fn request<'a>(dictionary: &'a str, message: &'a str) -> Request<'a> {
     Request::Show {
         dictionary,
         message,
@@ -25,13 +25,13 @@ fn holds(text: &Text, wanted: &[u8]) -> bool {
 
 #[test]
 fn opens_the_files_that_are_named(rt: HostRuntime) -> Result<(), Fail> {
-    let Ok(inputs) = open_inputs(&rt, &words("/dev/zero", "/dev/null")) else {
+    let Ok(inputs) = open_inputs(&rt, &request("/dev/zero", "/dev/null")) else {
         return Err(Fail::from("the files can't be read"));
     };
     assert!(rt; matches!(inputs.first, Text::TooLong));
     assert!(rt; holds(&inputs.message, b""));
     assert!(rt; holds(&inputs.second, b"") && holds(&inputs.table, b""));
-    let Ok(inputs) = open_inputs(&rt, &words("@base", "/dev/null")) else {
+    let Ok(inputs) = open_inputs(&rt, &request("@base", "/dev/null")) else {
         return Err(Fail::from("the files can't be read"));
     };
     assert!(rt; holds(&inputs.first, base_text().as_bytes()));
@@ -43,19 +43,19 @@ fn a_missing_file_is_a_failed_device(rt: HostRuntime) {
     let missing = "/no/such/file";
     assert!(rt;
         matches!(
-            open_inputs(&rt, &words(missing, "/dev/null")),
+            open_inputs(&rt, &request(missing, "/dev/null")),
             Err(Ending::Device)
         )
     );
     assert!(rt;
         matches!(
-            open_inputs(&rt, &words("@base", missing)),
+            open_inputs(&rt, &request("@base", missing)),
             Err(Ending::Device)
         )
     );
     assert!(rt;
         matches!(
-            open_inputs(&rt, &words("/dev/null", "@base")),
+            open_inputs(&rt, &request("/dev/null", "@base")),
             Err(Ending::Device)
         )
     );
