@@ -1,6 +1,8 @@
 ghost use Rattle.std.specs.Prelude.{◌≡◌};
 ghost use Rattle.diacmd.specs.Exit.{status_of};
 
+use crate::streams::Failed;
+use std::alloc::AllocError;
 use thiserror::Error;
 
 /// What the program is to do.
@@ -53,6 +55,28 @@ pub enum RunFault {
     /// Nothing was written.
     #[error("no memory")]
     NoMemory,
+}
+
+impl From<Failed> for RunFault {
+    ghost use Rattle.std.specs.Prelude.{◌≡◌};
+    ghost use Rattle.diacmd.specs.declared.command.RunFault.TheVariants.{Device};
+
+    ghost from_gives = { λ _ fault. fault ≡ Device };
+
+    fn from(_failed: Failed) -> RunFault {
+        RunFault::Device
+    }
+}
+
+impl From<AllocError> for RunFault {
+    ghost use Rattle.std.specs.Prelude.{◌≡◌};
+    ghost use Rattle.diacmd.specs.declared.command.RunFault.TheVariants.{NoMemory};
+
+    ghost from_gives = { λ _ fault. fault ≡ NoMemory };
+
+    fn from(_error: AllocError) -> RunFault {
+        RunFault::NoMemory
+    }
 }
 
 impl Exit {

@@ -2,8 +2,8 @@
 
 ghost use Rattle.std.specs.Prelude.{◌≡◌, ◌<◌, ◌≤◌, ◌↔◌, length, IfOk, IfSome, Err, IsTrue};
 
-use crate::streams::Feed;
-use std::alloc::Global;
+use crate::streams::{Failed, Feed};
+use std::alloc::{AllocError, Global};
 use thiserror::Error;
 
 /// Why an input couldn't be read.
@@ -18,6 +18,26 @@ pub enum InputFault {
     /// Some front of the input was read.
     #[error("no memory")]
     NoMemory,
+}
+
+impl From<Failed> for InputFault {
+    ghost use Rattle.diacmd.specs.declared.reading.InputFault.TheVariants.{Device};
+
+    ghost from_gives = { λ _ fault. fault ≡ Device };
+
+    fn from(_failed: Failed) -> InputFault {
+        InputFault::Device
+    }
+}
+
+impl From<AllocError> for InputFault {
+    ghost use Rattle.diacmd.specs.declared.reading.InputFault.TheVariants.{NoMemory};
+
+    ghost from_gives = { λ _ fault. fault ≡ NoMemory };
+
+    fn from(_error: AllocError) -> InputFault {
+        InputFault::NoMemory
+    }
 }
 
 /// How many bytes are asked for at a time.
@@ -36,16 +56,11 @@ pub fn read_input<F: Feed>(alloc: Global, feed: &mut F, limit: usize) -> Result<
     let mut bytes = Vec::new(alloc);
     let mut piece = [0u8; PIECE];
     while bytes.len() <= limit {
-        let count = match feed.get(&mut piece) {
-            Ok(count) => count,
-            Err(_) => return Err(InputFault::Device),
-        };
+        let count = feed.get(&mut piece)?;
         if count == 0 {
             return Ok(bytes);
         }
-        if bytes.extend_from_slice(&piece[..count]).is_err() {
-            return Err(InputFault::NoMemory);
-        }
+        bytes.extend_from_slice(&piece[..count])?;
     }
     Err(InputFault::TooLong)
 }

@@ -31,13 +31,9 @@ pub fn run<S: Sink>(
         → (text : List ℕ) × (exit : AnyExit) × IsOutcome command.now inputs.now text exit × AppendsFront (S.written sink.old) (S.written sink.new) text }
     ensures no_memory { result ≡ Err RunFault.NoMemory → S.written sink.new ≡ S.written sink.old }
 {
-    let Ok(outcome) = perform(alloc, command, inputs) else {
-        return Err(RunFault::NoMemory);
-    };
-    match put_all(sink, outcome.text.as_bytes()) {
-        Ok(()) => Ok(outcome.exit),
-        Err(_) => Err(RunFault::Device),
-    }
+    let outcome = perform(alloc, command, inputs)?;
+    put_all(sink, outcome.text.as_bytes())?;
+    Ok(outcome.exit)
 }
 
 /// The text of a command for its inputs, and how it ends.
