@@ -1,7 +1,7 @@
 //! The lines of the AVPs of a message.
 
 ghost use Rattle.std.specs.Prelude.{◌≡◌, ◌<◌, ◌≤◌, ◌+◌, ◌^◌, ◌++◌, length, IfOk, OnOk, string_bytes};
-ghost use Rattle.dia_wire.specs.Wire.{plain, avp_length};
+ghost use Rattle.dia_wire.specs.Wire.{plain};
 ghost use Rattle.diacmd.specs.Listing.{avp_line, bad_length_line, vendor_text, AddsAvp, AddsLevel};
 
 use crate::commands::show::flags_text;
@@ -46,7 +46,7 @@ pub fn push_level<B: Book>(
                     outer.push(rest)?;
                     rest = Rest {
                         bytes: avp.bytes,
-                        end: place + avp_length(&avp),
+                        end: place + avp.length(),
                     };
                 }
             }
@@ -107,7 +107,7 @@ fn push_line(
     let flags = flags_text(alloc, avp.flags)?;
     let vendor = vendor_text(alloc, avp.vendor)?;
     let code = avp.code;
-    let length = avp_length(avp);
+    let length = avp.length();
     write!(text, "{place} {depth} {code} {vendor}")?;
     writeln!(text, " {flags} {length} {name} {value}")
 }
@@ -117,16 +117,6 @@ fn push_bad_length(text: &mut String, place: usize) -> Result<(), AllocError>
     ensures { OnOk result (string_bytes text.new ≡ string_bytes text.old ++ bad_length_line place) }
 {
     writeln!(text, "fault 5014 at {place} avp-length -")
-}
-
-/// The AVP Length: header, Vendor-ID and data.
-fn avp_length(avp: &Avp<'_>) -> usize
-    ensures { result ≡ avp_length (plain avp.now) }
-{
-    match avp.vendor {
-        Some(_) => 12 + avp.bytes.len(),
-        None => 8 + avp.bytes.len(),
-    }
 }
 
 /// The Vendor-ID, or a dash.

@@ -8,13 +8,13 @@ loop-avp-init g c = rw c.new-outer.ensures.items (started _ _ _ (record { bytes 
 pub overflow_add-rest-then-is_group : goal.overflow_add-rest-then-is_group
 overflow_add-rest-then-is_group g c =
     let fits = room _ _ _ (rw c.in-Ok-Some.field-0-is at c.in-Ok-Some.ensures.avp) in
-    omega (arith, fits, c.avp_length.ensures, c.loop-avp.invariant.within.0, c.loop-avp.invariant.within.1)
+    omega (arith, fits, c.length.ensures, c.loop-avp.invariant.within.0, c.loop-avp.invariant.within.1)
 
 pub loop-avp-preserved-then-is_group : goal.loop-avp-preserved-then-is_group
 loop-avp-preserved-then-is_group g c =
     rw c.in_ok-push-in-Ok-Some.ensures.items
     (group_entered _ _ _ _ _ _ _ (record { bytes = c.in-Ok-Some.behind; end = c.loop-avp.rest.end }) _ _ _ c.loop-avp.invariant (rw c.in-Ok-Some.field-0-is at c.in-Ok-Some.ensures.avp) refl refl
-    (ap (λ (n : ℕ). c.loop-avp.rest.end - length c.loop-avp.rest.bytes.now + n) c.avp_length.ensures) (c.len.ensures ∙ c.loop-avp.outer.ok.0) (rw c.if-is_group.true at c.in_ok-is_group-in-Ok-Some.ensures))
+    (ap (λ (n : ℕ). c.loop-avp.rest.end - length c.loop-avp.rest.bytes.now + n) c.length.ensures) (c.len.ensures ∙ c.loop-avp.outer.ok.0) (rw c.if-is_group.true at c.in_ok-is_group-in-Ok-Some.ensures))
 
 pub loop-avp-preserved-else-is_group : goal.loop-avp-preserved-else-is_group
 loop-avp-preserved-else-is_group g c =
