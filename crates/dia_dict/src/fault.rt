@@ -1,4 +1,5 @@
 use std::alloc::AllocError;
+use std::fmt;
 use thiserror::Error;
 
 /// What is wrong with a source, in the order in which it is told.
@@ -46,7 +47,7 @@ pub enum DictFault {
     /// The first fault, by kind and then in the order declarations, groups, commands, each in the order of the text. `name`
     /// is that of a definition or an AVP, `slot` that of a rule's AVP, `AVP` for the wildcard; either is empty where there
     /// is none.
-    #[error("{kind}: {name} {slot}")]
+    #[error(fmt = tell_stands)]
     Stands {
         kind: DictKind,
         name: String,
@@ -55,6 +56,23 @@ pub enum DictFault {
     /// Memory was refused.
     #[error("no memory")]
     NoMemory,
+}
+
+/// Tells what is wrong, and the names that there are.
+fn tell_stands<W: fmt::Write>(
+    kind: &DictKind,
+    name: &String,
+    slot: &String,
+    f: &mut fmt::Formatter<W>,
+) -> fmt::Result {
+    write!(f, "{kind}")?;
+    if !name.is_empty() {
+        write!(f, ": {name}")?;
+    }
+    if !slot.is_empty() {
+        write!(f, " {slot}")?;
+    }
+    Ok(())
 }
 
 impl From<AllocError> for DictFault {

@@ -1,7 +1,8 @@
 //! Sources that name no dictionary, each by its first fault.
 
 use super::fault_of;
-use crate::DictKind;
+use crate::{DictKind, resolve};
+use dia_ccf::parse;
 use std::test::Fail;
 
 #[test]
@@ -109,6 +110,25 @@ fn tells_the_first_fault(rt: HostRuntime) -> Result<(), Fail> {
         assert_eq!(rt; found, *kind, "{text}");
         assert_eq!(rt; at.as_str(), *name, "{text}");
         assert_eq!(rt; in_slot.as_str(), *slot, "{text}");
+    }
+    Ok(())
+}
+
+/// A fault's message for people has the names that there are, and no blanks where there are none.
+#[test]
+fn tells_people_of_a_fault(rt: HostRuntime) -> Result<(), Fail> {
+    let rows = [
+        (
+            "<T> ::= < Diameter Header: 302, REQ > { Z }",
+            "a rule names an unknown AVP: T Z",
+        ),
+        ("%avp X 9002 Grouped any", "a Grouped AVP has no group: X"),
+    ];
+    for (text, message) in rows.iter() {
+        let Err(fault) = resolve(rt.alloc(), parse(rt.alloc(), text)?) else {
+            return Err(Fail::new(format_args!("no fault: {text}")));
+        };
+        assert_eq!(rt; fault.to_string(rt.alloc())?.as_str(), *message, "{text}");
     }
     Ok(())
 }
