@@ -62,7 +62,7 @@ impl Book for IndexedBook {
 
     fn avp(&self, key: Key) -> Option<Entry> {
         let index = self.entries.avps.get_index_of(&key)?;
-        Some(Entry::new(index as u32))
+        Some(Entry::new(index))
     }
 
     fn entry_key(&self, entry: Entry) -> Key {
@@ -86,12 +86,12 @@ impl Book for IndexedBook {
 
     fn group(&self, entry: Entry) -> Option<DefId> {
         let index = self.entries.avps[entry.index()].group?;
-        Some(DefId::new(index as u32))
+        Some(DefId::new(index))
     }
 
     fn select(&self, code: u32, class: Class, app: u32) -> Option<DefId> {
         let index = self.commands.selected(code, class, app)?;
-        Some(DefId::new((self.entries.groups.len() + index) as u32))
+        Some(DefId::new(self.entries.groups.len() + index))
     }
 
     fn has_command(&self, code: u32, class: Class) -> bool {
@@ -111,7 +111,7 @@ impl Book for IndexedBook {
     }
 
     fn entry_at(&self, index: usize) -> Entry {
-        Entry::new(index as u32)
+        Entry::new(index)
     }
 
     fn commands(&self) -> usize {
@@ -119,6 +119,6 @@ impl Book for IndexedBook {
     }
 
     fn command_at(&self, index: usize) -> DefId {
-        DefId::new((self.entries.groups.len() + index) as u32)
+        DefId::new(self.entries.groups.len() + index)
     }
 }

@@ -35,10 +35,14 @@ impl Model for DefId {
 }
 
 impl Entry {
-    pub(crate) fn new(index: u32) -> Self
+    /// The entry at this place.
+    pub(crate) fn new(index: usize) -> Self
+        requires { index < 2 ^ 32 }
         ensures { result ≡ index }
     {
-        Entry { index }
+        Entry {
+            index: index as u32,
+        }
     }
 
     pub(crate) fn index(self) -> usize
@@ -49,10 +53,14 @@ impl Entry {
 }
 
 impl DefId {
-    pub(crate) fn new(index: u32) -> Self
+    /// The definition at this place.
+    pub(crate) fn new(index: usize) -> Self
+        requires { index < 2 ^ 32 }
         ensures { result ≡ index }
     {
-        DefId { index }
+        DefId {
+            index: index as u32,
+        }
     }
 
     pub(crate) fn index(self) -> usize

@@ -37,7 +37,7 @@ impl Book for PlainBook {
 
     fn avp(&self, key: Key) -> Option<Entry> {
         let index = place_of_row(&self.entries.rows, key)?;
-        Some(Entry::new(index as u32))
+        Some(Entry::new(index))
     }
 
     fn entry_key(&self, entry: Entry) -> Key {
@@ -58,12 +58,12 @@ impl Book for PlainBook {
 
     fn group(&self, entry: Entry) -> Option<DefId> {
         let index = self.entries.rows[entry.index()].group?;
-        Some(DefId::new(index as u32))
+        Some(DefId::new(index))
     }
 
     fn select(&self, code: u32, class: Class, app: u32) -> Option<DefId> {
         let index = place_of_selected(&self.commands, code, class, app)?;
-        Some(DefId::new((self.entries.groups.len() + index) as u32))
+        Some(DefId::new(self.entries.groups.len() + index))
     }
 
     fn has_command(&self, code: u32, class: Class) -> bool {
@@ -88,7 +88,7 @@ impl Book for PlainBook {
     }
 
     fn entry_at(&self, index: usize) -> Entry {
-        Entry::new(index as u32)
+        Entry::new(index)
     }
 
     fn commands(&self) -> usize {
@@ -96,7 +96,7 @@ impl Book for PlainBook {
     }
 
     fn command_at(&self, index: usize) -> DefId {
-        DefId::new((self.entries.groups.len() + index) as u32)
+        DefId::new(self.entries.groups.len() + index)
     }
 }
 

@@ -8,8 +8,8 @@ use Rattle.std.specs.Map.{values_of}
 use Rattle.dia_dict.proofs.Indexing.Meant.{length-groups-meant, length-groups-fit}
 use Rattle.dia_dict.proofs.indexed_book.IndexedBookBook.command_at.Goals as goal
 
-pub overflow_cast-len : goal.overflow_cast-len
-overflow_cast-len c =
+pub new-requires : goal.new-requires
+new-requires c =
     let b = c.args.self.now in
     let es = b.entries.avps.entries in
     let gs = b.entries.groups.items in

@@ -11,8 +11,8 @@ returns-in_err-index c =
     let cs = values_of b.commands.definitions.entries in
     c.from_residual.ensures ∙ sym c.in_err-index.was ∙ (group_of-meant es gs cs b.entries.numbered c.index.result c.args.entry c.index-2.result.now c.index.ensures c.index-2.ensures).0
 
-pub overflow_cast-index : goal.overflow_cast-index
-overflow_cast-index c =
+pub new-requires : goal.new-requires
+new-requires c =
     let b = c.args.self.now in
     let es = b.entries.avps.entries in
     let gs = b.entries.groups.items in

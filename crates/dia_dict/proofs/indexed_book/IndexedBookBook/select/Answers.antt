@@ -17,8 +17,8 @@ returns-in_err-index c =
     let cs = values_of b.commands.definitions.entries in
     c.from_residual.ensures ∙ ap (option_map (λ (i : ℕ). length gs + i)) c.in_err-index.ensures ∙ selected-meant es gs cs b.entries.numbered c.args.code c.args.class c.args.app
 
-pub overflow_cast-len : goal.overflow_cast-len
-overflow_cast-len c =
+pub new-requires : goal.new-requires
+new-requires c =
     let b = c.args.self.now in
     let es = b.entries.avps.entries in
     let gs = b.entries.groups.items in

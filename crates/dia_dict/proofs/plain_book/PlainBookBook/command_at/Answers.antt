@@ -4,8 +4,8 @@ use Rattle.dia_dict.specs.Dictionary.{plain}
 use Rattle.dia_dict.proofs.Rows.{length-groups-held, groups_fit}
 use Rattle.dia_dict.proofs.plain_book.PlainBookBook.command_at.Goals as goal
 
-pub overflow_cast-len : goal.overflow_cast-len
-overflow_cast-len c =
+pub new-requires : goal.new-requires
+new-requires c =
     let b = c.args.self.now in
     omega (arith, groups_fit b.entries.rows.items b.entries.groups.items b.entries.numbered, b.few, c.requires, length-map b.commands.items plain)
 

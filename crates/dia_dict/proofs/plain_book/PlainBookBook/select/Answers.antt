@@ -13,8 +13,8 @@ returns-in_err-index c =
     c.from_residual.ensures ∙ ap (option_map (λ (i : ℕ). length b.entries.groups.items + i)) (c.in_err-index.ensures ∙ ap places c.deref.ensures.value)
     ∙ sym (selected-held b.entries.rows.items b.entries.groups.items b.commands.items b.entries.numbered c.args.code c.args.class c.args.app)
 
-pub overflow_cast-len : goal.overflow_cast-len
-overflow_cast-len c =
+pub new-requires : goal.new-requires
+new-requires c =
     let b = c.args.self.now in
     let within = position-either (λ (d : Definition). is_command c.args.code c.args.class (Some c.args.app) d.head) (λ (d : Definition). is_command c.args.code c.args.class None d.head) c.deref.result.now c.in_ok-index.index c.in_ok-index.ensures in
     omega (arith, groups_fit b.entries.rows.items b.entries.groups.items b.entries.numbered, b.few, within, ap length c.deref.ensures.value)
