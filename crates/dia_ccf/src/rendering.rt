@@ -6,7 +6,7 @@ ghost use Rattle.std.specs.Fmt.{decimal};
 ghost use Rattle.dia_ccf.specs.Plain.{plain, plain_decl, plain_rule, plain_def};
 ghost use Rattle.dia_ccf.specs.Tokens.{tokens};
 ghost use Rattle.dia_ccf.specs.Grammar.{Derives, format_word, rule_word};
-ghost use Rattle.dia_ccf.specs.Rendering.{canonical, declaration_line, vendor_text, values_text, range_text, definition_lines, head_text, flag_text, application_text, error_proxy_text, rule_line, qualifier_text, count_text, slot_text, bracketed_text};
+ghost use Rattle.dia_ccf.specs.Rendering.{canonical, declaration_line, vendor_text, values_text, range_text, definition_lines, head_text, flag_text, application_text, error_proxy_text, rule_line, qualifier_text, count_text, bracketed_text};
 
 use crate::source::{Decl, Def, FormatName, Head, MRule, Pxy, Qual, Rule, RuleKind, Source};
 use std::alloc::{AllocError, Global};
@@ -195,17 +195,8 @@ fn put_rule(text: &mut String, rule: &Rule) -> Result<(), AllocError>
 {
     text.push_str("  ")?;
     put_qualifier(text, rule.qual)?;
-    put_bracketed(text, rule.kind, slot_name(rule))?;
+    put_bracketed(text, rule.kind, rule.slot_name())?;
     text.push('\n')
-}
-
-fn slot_name(rule: &Rule) -> &str
-    ensures { result.now ≡ slot_text (plain_rule rule.now).name }
-{
-    match &rule.name {
-        Some(name) => name.as_str(),
-        None => "AVP",
-    }
 }
 
 fn put_bracketed(text: &mut String, kind: RuleKind, name: &str) -> Result<(), AllocError>

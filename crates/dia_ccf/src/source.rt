@@ -112,6 +112,22 @@ pub struct Rule {
     pub ghost counted: { IsTrue (is_qualifier qual) },
 }
 
+impl Rule {
+    ghost use Rattle.std.specs.Prelude.{◌≡◌};
+    ghost use Rattle.dia_ccf.specs.Plain.{plain_rule};
+    ghost use Rattle.dia_ccf.specs.Rendering.{slot_text};
+
+    /// The name of the rule's AVP, and `AVP` for the wildcard (RFC 6733 section 3.2).
+    pub fn slot_name(&self) -> &str
+        ensures { result.now ≡ slot_text (plain_rule self.now).name }
+    {
+        match &self.name {
+            Some(name) => name.as_str(),
+            None => "AVP",
+        }
+    }
+}
+
 /// A group or a command, with its rules in the order of the text.
 #[derive(Debug, Drop)]
 pub struct Def {

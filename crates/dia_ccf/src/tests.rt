@@ -32,6 +32,18 @@ fn reads_the_base_dictionary(rt: HostRuntime) -> Result<(), Fail> {
 }
 
 #[test]
+fn a_rule_names_its_slot(rt: HostRuntime) -> Result<(), Fail> {
+    let text = "<T> ::= < Diameter Header: 300, REQ > { A } *[ AVP ]";
+    let source = parse(rt.alloc(), text)?;
+    let command = source.commands.first().ok_or("a command")?;
+    let required = command.rules.first().ok_or("a rule")?;
+    let wildcard = command.rules.last().ok_or("another")?;
+    assert_eq!(rt; required.slot_name(), "A");
+    assert_eq!(rt; wildcard.slot_name(), "AVP");
+    Ok(())
+}
+
+#[test]
 fn tells_the_first_token_that_does_not_fit(rt: HostRuntime) -> Result<(), Fail> {
     let alloc = rt.alloc();
     let head = "<T> ::= < Diameter Header: 300, REQ >";

@@ -49,7 +49,7 @@ fn rules_in<'a>(names: &Names<'a>, kind: DictKind, def: &'a Def) -> Result<(), R
     ensures err { IfErr result (IsRefused (bad_in kind (plain names.now.source.now) (plain_def def.now))) }
 {
     match bad_rule(names, kind, &def.rules) {
-        Some(rule) => Err(Refusal::at_rule(kind, &def.name, slot_name(rule))),
+        Some(rule) => Err(Refusal::at_rule(kind, &def.name, rule.slot_name())),
         None => Ok(()),
     }
 }
@@ -146,17 +146,7 @@ fn slots_of(alloc: Global, def: &Def) -> Result<(), Refusal<'_>>
 fn slot_names(alloc: Global, rules: &[Rule]) -> Result<Vec<&str>, AllocError>
     ensures { IfOk result (λ names. map (λ n. n.now) names.items ≡ map (λ r. slot_name (plain_rule r)) rules.now) }
 {
-    rules.iter().map(slot_name).collect(alloc)
-}
-
-/// The name of a rule's AVP, or the wildcard's.
-fn slot_name(rule: &Rule) -> &str
-    ensures { result.now ≡ slot_name (plain_rule rule.now) }
-{
-    match &rule.name {
-        Some(name) => name,
-        None => "AVP",
-    }
+    rules.iter().map(Rule::slot_name).collect(alloc)
 }
 
 /// The least count. Without a qualifier it is 1, and 0 for an optional rule; a qualifier without one means 1 for a required rule, else 0.
