@@ -104,7 +104,7 @@ pub struct Qual {
 #[derive(Debug, Drop)]
 pub struct Rule {
     pub kind: RuleKind,
-    /// `None` is the wildcard, which stands for any AVP.
+    /// `None` is the wildcard, which stands for all AVPs that no rule of the definition names.
     pub name: Option<String>,
     /// Without a qualifier the AVP stands exactly once, in brackets at most once.
     pub qual: Option<Qual>,

@@ -7,7 +7,7 @@ use Rattle.dia_data.specs.Leaf.{IsLeaf, IsListed, IsWithin}
 abbrev pub ValuesBelow : Option (List (ℕ × ℕ)) → Option (List (ℕ × ℕ)) → Type 0
 ValuesBelow v w = IsNone w ⊎ (IsSome v × ((n : ℕ) → IsListed v n → IsListed w n))
 
--- the first format may stand where the second did (our profile): each value of the first is one of the second, of the same meaning
+-- which format stands below another (our profile): its data are included then (`IsIncluded`), and more is asked, so that Time isn't below Unsigned32
 abbrev pub FormatBelow : PlainFormat → PlainFormat → Type 0
 FormatBelow f OctetString = ⊤
 FormatBelow (Enumerated v) (Enumerated w) = ValuesBelow v w

@@ -6,8 +6,8 @@ ghost use Rattle.dia_data.specs.Plain.{PlainFormat, plain, ranges_of};
 
 use crate::format::{Format, Values};
 
-/// Whether each value of the first format is one of the second, as their definitions say (our profile). Formats of
-/// different meaning stay apart where their data are the same: Time is not below Unsigned32.
+/// Whether each value of the first format is one of the second, as their definitions say (our profile). More than
+/// inclusion of data is asked: Time is not below Unsigned32, though their data are the same.
 ///
 /// Every format is below OctetString, Grouped too. Otherwise a format is below itself, Grouped excepted,
 /// DiameterIdentity and DiameterUri are below UTF8String, and Enumerated is below Integer32. One Enumerated format is

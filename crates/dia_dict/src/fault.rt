@@ -22,7 +22,7 @@ pub enum DictKind {
     #[error("two AVPs have one code and vendor")]
     DuplicateKey,
     /// Two commands have one code, class and application, or both are for errors.
-    #[error("two commands have one code, class and application")]
+    #[error("two commands are for the same messages")]
     DuplicateCommand,
     /// A rule names an AVP that is neither declared nor a group.
     #[error("a rule names an unknown AVP")]

@@ -37,7 +37,8 @@ impl Ending {
         }
     }
 
-    /// Says why, on the stream where it belongs, and answers the status. Where that stream fails it is 3.
+    /// Says why, on the stream where it belongs, and answers the status. Where that stream fails, a failed device is told
+    /// on standard error instead, and the status is 3.
     pub fn tell(&self, rt: &(impl Print + Eprint)) -> u8
         ensures { EndsWith self.now result ⊎ (result ≡ 3) }
     {

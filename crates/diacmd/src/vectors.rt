@@ -50,7 +50,7 @@ pub fn check(
 ) -> Result<(), Fail> {
     let inputs = inputs(rt.alloc(), dictionary, message)?;
     let (written, end) = outcome(rt.alloc(), command, &inputs)?;
-    assert_eq!(rt; written.as_str(), text);
-    assert_eq!(rt; end, exit);
+    assert_eq!(rt; written.as_str(), text, "{command:?} of {inputs:?}");
+    assert_eq!(rt; end, exit, "{command:?} of {inputs:?}");
     Ok(())
 }
