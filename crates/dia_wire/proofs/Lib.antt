@@ -1,5 +1,6 @@
 pub mod Fields
 pub mod Spelling
+pub mod Decode
 pub mod Heading
 pub mod OneHeader
 pub mod Heads
