@@ -1,5 +1,5 @@
 -- Reading an AVP, as a function of the bytes.
-use Rattle.std.proofs.Common.{◌≡◌, ◌≢◌, ℕ, ◌+◌, ◌-◌, ◌*◌, ◌/◌, ◌<◌, ◌≤◌, Bool, true, false, cond, List, ◌++◌, Option, Some, None, length, take, drop, get_or, refl, sym, ap, subst, ◌∙◌, arith, inl, inr}
+use Rattle.std.proofs.Common.{◌≡◌, ◌≢◌, ℕ, ◌+◌, ◌-◌, ◌<◌, Bool, true, false, cond, List, ◌++◌, Option, Some, None, length, take, drop, get_or, refl, sym, ap, subst, ◌∙◌, arith, inl, inr}
 use Rattle.std.specs.Prelude.{if◌then◌else◌, ◌==◌, nat_lt, ◌||◌, bit_and, ◌⊎◌}
 use Rattle.std.proofs.lemmas.List.{take_rest, drop_at, length-append}
 use Rattle.std.proofs.lemmas.Bool.{ltb-false, ltb-true, eqb-true}
@@ -63,9 +63,9 @@ pub bad_none : (xs : List ℕ) → is_bad xs ≡ true → BeginsWithNone xs
 bad_none xs h =
     elim (or_true (nat_lt (length xs) 8 || nat_lt (len_of xs) (head_length (vendor_of xs))) (nat_lt (length xs) (rounded (len_of xs))) h) [
       | inl k ↦ elim (or_true (nat_lt (length xs) 8) (nat_lt (len_of xs) (head_length (vendor_of xs))) k) [
-          | inl short ↦ short_none xs (ltb-true _ _ short)
-          | inr low ↦ none_begins xs (head_length (vendor_of xs)) (len_of xs) refl (start_from (get_or xs 4 0) (head_length (vendor_of xs)) (starts xs)) (inl (ltb-true _ _ low))
-        ]
+        | inl short ↦ short_none xs (ltb-true _ _ short)
+        | inr low ↦ none_begins xs (head_length (vendor_of xs)) (len_of xs) refl (start_from (get_or xs 4 0) (head_length (vendor_of xs)) (starts xs)) (inl (ltb-true _ _ low))
+      ]
       | inr long ↦ none_begins xs (head_length (vendor_of xs)) (len_of xs) refl (start_from (get_or xs 4 0) (head_length (vendor_of xs)) (starts xs)) (inr (ltb-true _ _ long))
     ]
 

@@ -1,7 +1,8 @@
 pub mod Fields
 pub mod Spelling
-pub mod Decode
-pub mod Heading
+pub mod HeaderRead
 pub mod OneHeader
-pub mod Heads
-pub mod Spelled
+pub mod OneMessage
+pub mod AvpHeadRead
+pub mod Written
+pub mod Decode

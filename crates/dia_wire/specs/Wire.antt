@@ -1,9 +1,9 @@
 -- Messages and AVPs on the wire (RFC 6733 sections 3 and 4.1).
-use Rattle.std.specs.Prelude.{◌≡◌, ℕ, ◌+◌, ◌*◌, ◌/◌, ◌%◌, ◌^◌, ◌<◌, ◌≤◌, ◌↔◌, ◌⊎◌, List, [], ◌∷◌, ◌++◌, length, Option, Some, None, IsSome, All, Any, sum_by, unwrap_or, slice_index}
+use Rattle.std.specs.Prelude.{◌≡◌, ℕ, ◌+◌, ◌*◌, ◌/◌, ◌%◌, ◌^◌, ◌<◌, ◌≤◌, ◌↔◌, ◌⊎◌, List, [], ◌∷◌, ◌++◌, length, take, Option, Some, None, IsSome, All, Any, sum_by, unwrap_or, slice_index}
 use Rattle.std.specs.Int.{IsBitSet}
 use Rattle.dia_wire.specs.declared.header.Header.{Header}
 use Rattle.dia_wire.specs.declared.avp.Avp.{Avp}
-use Rattle.dia_wire.specs.declared.code.Key.{Key}
+use Rattle.dia_wire.specs.declared.avp_key.Key.{Key}
 use Rattle.dia_wire.specs.declared.avp.AvpHead.{AvpHead}
 use Rattle.dia_wire.specs.Number.{IsField}
 
@@ -22,6 +22,10 @@ plain v = record { code = v.code; flags = v.flags; vendor = v.vendor; bytes = v.
 -- the V flag says that a Vendor-ID is there
 abbrev pub HasVendorFlag : ℕ → Type 0
 HasVendorFlag flags = IsBitSet flags 7
+
+-- the M flag says that a receiver has to understand the AVP
+abbrev pub HasM : ℕ → Type 0
+HasM flags = IsBitSet flags 6
 
 -- the V flag is set exactly where there is a Vendor-ID
 abbrev pub Agrees : PlainAvp → Type 0
@@ -79,6 +83,19 @@ key_of v = record { code = v.code; vendor = unwrap_or v.vendor 0 }
 
 -- ---- messages (RFC 6733 section 3)
 
+-- the Command Flags: a request, proxiable, an error, and maybe sent before
+abbrev pub HasR : ℕ → Type 0
+HasR flags = IsBitSet flags 7
+
+abbrev pub HasP : ℕ → Type 0
+HasP flags = IsBitSet flags 6
+
+abbrev pub HasE : ℕ → Type 0
+HasE flags = IsBitSet flags 5
+
+abbrev pub HasT : ℕ → Type 0
+HasT flags = IsBitSet flags 4
+
 -- what a Message Length can be
 pub record IsMessageLength (n : ℕ) : Type 0 where
   pub no_less : 20 ≤ n
@@ -97,6 +114,10 @@ pub record IsHead (h : Header) (n : ℕ) (b : List ℕ) : Type 0 where
   pub app_field : IsField 4 h.app app
   pub hop_field : IsField 4 h.hop hop
   pub e2e_field : IsField 4 h.e2e e2e
+
+-- the bytes begin with the header of a message of n bytes
+abbrev pub BeginsMessage : List ℕ → ℕ → Type 0
+BeginsMessage bytes n = (h : Header) × IsHead h n (take 20 bytes) × IsMessageLength n
 
 -- the bytes are the message of this header and these AVPs
 pub record IsMessage (h : Header) (vs : List PlainAvp) (b : List ℕ) : Type 0 where

@@ -1,17 +1,26 @@
 ghost use Rattle.std.specs.Prelude.{◌≡◌, ◌+◌, ◌*◌, ◌/◌, ◌↔◌, IsTrue};
-ghost use Rattle.dia_wire.specs.Wire.{plain, key_of, avp_length, Agrees};
+ghost use Rattle.dia_wire.specs.Wire.{plain, key_of, avp_length, Agrees, HasM};
 
-use crate::code::Key;
+use crate::avp_key::Key;
 use thiserror::Error;
 
-/// The V flag (RFC 6733 section 4.1): a Vendor-ID follows the Length.
-pub(crate) const VENDOR_FLAG: u8 = 0x80;
+/// The bytes of an AVP's header without a Vendor-ID (RFC 6733 section 4.1).
+pub const AVP_HEAD_LENGTH: usize = 8;
+/// The bytes of an AVP's header with a Vendor-ID (RFC 6733 section 4.1).
+pub const VENDOR_AVP_HEAD_LENGTH: usize = 12;
+
+/// The V flag of an AVP (RFC 6733 section 4.1): a Vendor-ID follows the Length.
+pub const AVP_VENDOR: u8 = 0x80;
+/// The M flag of an AVP (RFC 6733 section 4.1): a receiver has to understand the AVP.
+pub const AVP_MANDATORY: u8 = 0x40;
+/// The P flag of an AVP (RFC 6733 section 4.1), which is reserved for end-to-end security.
+pub const AVP_PROTECTED: u8 = 0x20;
 
 /// An AVP (RFC 6733 section 4.1) whose data lies in a message.
 #[derive(Clone, Copy, Debug)]
 pub struct Avp<'a> {
     pub code: u32,
-    /// V is 0x80, M is 0x40, P is 0x20. The other bits are kept and mean nothing.
+    /// The AVP Flags: V, M and P. The other bits are kept and mean nothing.
     pub flags: u8,
     /// The Vendor-ID, where the AVP has the field.
     pub vendor: Option<u32>,
@@ -52,7 +61,14 @@ impl Avp<'_> {
     pub fn agrees(&self) -> bool
         ensures { IsTrue result ↔ Agrees (plain self.now) }
     {
-        (self.flags & VENDOR_FLAG != 0) == self.vendor.is_some()
+        (self.flags & AVP_VENDOR != 0) == self.vendor.is_some()
+    }
+
+    /// Whether the M flag is set: a receiver has to understand the AVP (RFC 6733 section 4.1).
+    pub fn is_mandatory(&self) -> bool
+        ensures { IsTrue result ↔ HasM self.now.flags }
+    {
+        self.flags & AVP_MANDATORY != 0
     }
 
     /// The AVP Length (RFC 6733 section 4.1) in bytes: header, Vendor-ID and data, without padding. Where it is above
@@ -61,8 +77,8 @@ impl Avp<'_> {
         ensures { result ≡ avp_length (plain self.now) }
     {
         match self.vendor {
-            Some(_) => 12 + self.bytes.len(),
-            None => 8 + self.bytes.len(),
+            Some(_) => VENDOR_AVP_HEAD_LENGTH + self.bytes.len(),
+            None => AVP_HEAD_LENGTH + self.bytes.len(),
         }
     }
 }

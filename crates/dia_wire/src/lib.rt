@@ -4,15 +4,23 @@
 #![tactic(auto)]
 
 mod avp;
-mod code;
+mod avp_key;
 mod header;
 mod reading;
 mod writing;
 
-pub use avp::{Avp, AvpFault, AvpHead, key};
-pub use code::Key;
-pub use header::{HeadFault, Header};
-pub use reading::{avp_head, next_avp, number32, one_header, one_spelling, read_header};
+pub use avp::{
+    AVP_HEAD_LENGTH, AVP_MANDATORY, AVP_PROTECTED, AVP_VENDOR, Avp, AvpFault, AvpHead,
+    VENDOR_AVP_HEAD_LENGTH, key,
+};
+pub use avp_key::Key;
+pub use header::{
+    COMMAND_ERROR, COMMAND_PROXIABLE, COMMAND_REQUEST, COMMAND_RETRANSMITTED, HEADER_LENGTH,
+    HeadFault, Header, MessageFault,
+};
+pub use reading::{
+    avp_head, next_avp, number32, one_header, one_spelling, read_header, split_message,
+};
 pub use writing::{PutFault, put_avp, put_message};
 
 #[cfg(test)]

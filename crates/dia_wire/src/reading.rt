@@ -3,10 +3,10 @@
 ghost use Rattle.std.specs.Prelude.{◌≡◌, ◌≢◌, ◌<◌, ◌≤◌, ◌↔◌, length, take, drop, slice_index, IfOk, IfSome, IsSome, IsErr, OnErr, ◌⊎◌, Ok, Err, None, ℕ, List, ◌++◌};
 ghost use Rattle.dia_wire.specs.declared.header.Header.{Header as AnyHeader};
 ghost use Rattle.dia_wire.specs.Number.{number};
-ghost use Rattle.dia_wire.specs.Wire.{IsHead, IsMessageLength, PlainAvp, Spells, BeginsWith, BeginsWithNone, HasWholeHead, Heads, CannotBegin, IsBadLength, plain};
+ghost use Rattle.dia_wire.specs.Wire.{IsHead, IsMessageLength, BeginsMessage, PlainAvp, Spells, BeginsWith, BeginsWithNone, HasWholeHead, Heads, CannotBegin, IsBadLength, plain};
 
-use crate::avp::{Avp, AvpFault, AvpHead, VENDOR_FLAG, padded};
-use crate::header::{HeadFault, Header};
+use crate::avp::{AVP_VENDOR, Avp, AvpFault, AvpHead, padded};
+use crate::header::{HEADER_LENGTH, HeadFault, Header, MessageFault};
 use byteorder::{BigEndian, ByteOrder};
 
 /// The header and the Message Length of the first 20 bytes (RFC 6733 section 3), whatever follows them:
@@ -22,14 +22,14 @@ pub fn read_header(bytes: &[u8]) -> Result<(Header, u32), HeadFault>
     ensures version { (result ≡ Err HeadFault.Version) ↔ ((20 ≤ length bytes.now) × (slice_index bytes.now 0 ≢ 1)) }
     ensures length_fault { (result ≡ Err HeadFault.Length) ↔ ((20 ≤ length bytes.now) × (slice_index bytes.now 0 ≡ 1) × ¬ IsMessageLength (number (take 3 (drop 1 bytes.now)))) }
 {
-    if bytes.len() < 20 {
+    if bytes.len() < HEADER_LENGTH {
         return Err(HeadFault::Short);
     }
     if bytes[0] != 1 {
         return Err(HeadFault::Version);
     }
     let length = BigEndian::read_u24(&bytes[1..]);
-    if length < 20 || length % 4 != 0 {
+    if length < HEADER_LENGTH as u32 || length % 4 != 0 {
         return Err(HeadFault::Length);
     }
     let header = Header {
@@ -40,6 +40,33 @@ pub fn read_header(bytes: &[u8]) -> Result<(Header, u32), HeadFault>
         e2e: BigEndian::read_u32(&bytes[16..]),
     };
     Ok((header, length))
+}
+
+/// The header and the body of the message that these bytes are (RFC 6733 section 3): one message, and nothing behind it.
+/// The body's AVPs aren't looked at.
+///
+/// The first fault that stands is told: `Short`, then `Version`, then `Length`, then `Truncated` or `Trailing`.
+pub fn split_message(bytes: &[u8]) -> Result<(Header, &[u8]), MessageFault>
+    ensures head { IfOk result (λ found. IsHead found.0 (length bytes.now) (take 20 bytes.now)) }
+    ensures long { IfOk result (λ found. IsMessageLength (length bytes.now)) }
+    ensures body { IfOk result (λ found. found.1.now ≡ drop 20 bytes.now) }
+
+    // The faults, the first that stands.
+    ensures short { (result ≡ Err MessageFault.Short) ↔ (length bytes.now < 20) }
+    ensures version { (result ≡ Err MessageFault.Version) ↔ ((20 ≤ length bytes.now) × (slice_index bytes.now 0 ≢ 1)) }
+    ensures length_fault { (result ≡ Err MessageFault.Length) ↔ ((20 ≤ length bytes.now) × (slice_index bytes.now 0 ≡ 1) × ¬ IsMessageLength (number (take 3 (drop 1 bytes.now)))) }
+    ensures truncated { (result ≡ Err MessageFault.Truncated) ↔ ((n : ℕ) × BeginsMessage bytes.now n × (length bytes.now < n)) }
+    ensures trailing { (result ≡ Err MessageFault.Trailing) ↔ ((n : ℕ) × BeginsMessage bytes.now n × (n < length bytes.now)) }
+{
+    let (header, length) = read_header(bytes)?;
+    let length = length as usize;
+    if bytes.len() < length {
+        return Err(MessageFault::Truncated);
+    }
+    if length < bytes.len() {
+        return Err(MessageFault::Trailing);
+    }
+    Ok((header, &bytes[HEADER_LENGTH..]))
 }
 
 /// The first AVP of a level (RFC 6733 section 4.1) and what follows its padding, or `None` for an empty level.
@@ -60,7 +87,7 @@ pub fn next_avp(level: &[u8]) -> Result<Option<(Avp<'_>, &[u8])>, AvpFault>
     let code = BigEndian::read_u32(level);
     let flags = level[4];
     let length = BigEndian::read_u24(&level[5..]);
-    let has_vendor = flags & VENDOR_FLAG != 0;
+    let has_vendor = flags & AVP_VENDOR != 0;
     let start = if has_vendor { 12 } else { 8 };
     let whole = padded(length);
     let length = length as usize;
@@ -111,7 +138,7 @@ pub fn avp_head(bytes: &[u8], room: usize) -> Result<Option<AvpHead>, AvpFault>
     let code = BigEndian::read_u32(bytes);
     let flags = bytes[4];
     let length = BigEndian::read_u24(&bytes[5..]);
-    let has_vendor = flags & VENDOR_FLAG != 0;
+    let has_vendor = flags & AVP_VENDOR != 0;
     let start = if has_vendor { 12 } else { 8 };
     let whole = padded(length);
     if length < start || whole > room {

@@ -3,9 +3,11 @@
 ghost use Rattle.dia_wire.specs.Wire.{plain, Agrees};
 
 use crate::{
-    Avp, AvpFault, HeadFault, Header, Key, PutFault, avp_head, key, next_avp, number32, put_avp,
-    put_message, read_header,
+    AVP_MANDATORY, AVP_PROTECTED, AVP_VENDOR, Avp, AvpFault, COMMAND_ERROR, COMMAND_PROXIABLE,
+    COMMAND_REQUEST, COMMAND_RETRANSMITTED, HeadFault, Header, Key, MessageFault, PutFault,
+    avp_head, key, next_avp, number32, put_avp, put_message, read_header, split_message,
 };
+use std::alloc::Global;
 use std::test::Fail;
 
 /// A device watchdog request of the smallest kind: Origin-Host `a.b` and Origin-Realm `b`.
@@ -29,6 +31,76 @@ fn reads_a_header(rt: HostRuntime) -> Result<(), Fail> {
     assert_eq!(rt; length, 44);
     assert!(rt; header.fits());
     assert_eq!(rt; read_header(&REQUEST[..19]), Err(HeadFault::Short));
+    Ok(())
+}
+
+/// What `split_message` tells of the request above, with one byte of it changed.
+fn told(alloc: Global, at: usize, byte: u8) -> Result<Option<MessageFault>, Fail> {
+    let mut bytes = REQUEST.to_vec(alloc)?;
+    *bytes.get_mut(at).ok_or("no such byte")? = byte;
+    Ok(split_message(bytes.as_slice()).err())
+}
+
+#[test]
+fn splits_a_message(rt: HostRuntime) -> Result<(), Fail> {
+    let alloc = rt.alloc();
+    let (header, body) = split_message(&REQUEST)?;
+    assert_eq!(rt; header, read_header(&REQUEST)?.0);
+    assert!(rt; body == REQUEST.split_at(20).1);
+    assert!(rt; matches!(split_message(&REQUEST[..19]), Err(MessageFault::Short)));
+    assert!(rt; matches!(split_message(&REQUEST[..40]), Err(MessageFault::Truncated)));
+    assert_eq!(rt; told(alloc, 0, 2)?, Some(MessageFault::Version));
+    assert_eq!(rt; told(alloc, 3, 16)?, Some(MessageFault::Length));
+    assert_eq!(rt; told(alloc, 3, 43)?, Some(MessageFault::Length));
+    assert_eq!(rt; told(alloc, 3, 48)?, Some(MessageFault::Truncated));
+    assert_eq!(rt; told(alloc, 3, 40)?, Some(MessageFault::Trailing));
+    Ok(())
+}
+
+/// The four Command Flags of a header: R, P, E and T.
+fn command_flags(flags: u8) -> [bool; 4] {
+    let header = Header {
+        flags,
+        code: 280,
+        app: 0,
+        hop: 1,
+        e2e: 2,
+    };
+    [
+        header.is_request(),
+        header.is_proxiable(),
+        header.is_error(),
+        header.is_retransmitted(),
+    ]
+}
+
+#[test]
+fn tells_the_flags(rt: HostRuntime) {
+    assert_eq!(rt; command_flags(0x0f), [false; 4]);
+    assert_eq!(rt; command_flags(COMMAND_REQUEST), [true, false, false, false]);
+    assert_eq!(rt;
+        command_flags(COMMAND_PROXIABLE),
+        [false, true, false, false]
+    );
+    assert_eq!(rt; command_flags(COMMAND_ERROR), [false, false, true, false]);
+    assert_eq!(rt;
+        command_flags(COMMAND_RETRANSMITTED),
+        [false, false, false, true]
+    );
+    let mut avp = octets(&[]);
+    avp.flags = AVP_VENDOR | AVP_PROTECTED;
+    assert!(rt; !avp.is_mandatory());
+    avp.flags = AVP_MANDATORY;
+    assert!(rt; avp.is_mandatory());
+}
+
+#[test]
+fn displays_a_key(rt: HostRuntime) -> Result<(), Fail> {
+    let key = Key {
+        code: 1400,
+        vendor: 10415,
+    };
+    assert_eq!(rt; format!(in rt.alloc(); "{key}")?.as_str(), "1400:10415");
     Ok(())
 }
 

@@ -7,7 +7,7 @@ ghost use Rattle.dia_wire.specs.Wire.{plain, Agrees, avp_length, padded_length, 
 ghost use Rattle.dia_wire.specs.Written.{avp_bytes, header_bytes, padding, vendor_bytes};
 
 use crate::avp::{Avp, padded};
-use crate::header::Header;
+use crate::header::{HEADER_LENGTH, Header};
 use byteorder::{BigEndian, ByteOrder};
 use std::alloc::{AllocError, Global};
 use thiserror::Error;
@@ -34,9 +34,6 @@ impl From<AllocError> for PutFault {
 
 /// The first length that a field of three bytes can't say.
 const LENGTH_LIMIT: usize = 1 << 24;
-
-/// The bytes of a header.
-const HEADER_LENGTH: usize = 20;
 
 /// Appends an AVP (RFC 6733 section 4.1), padded with zero bytes to a multiple of four.
 ///

@@ -2,7 +2,7 @@ use Rattle.std.proofs.Common.{◌≡◌, ℕ, drop, get_or, refl, sym, ap, ◌�
 use Rattle.dia_wire.specs.declared.avp.AvpHead.{AvpHead}
 use Rattle.std.proofs.lemmas.List.{take_rest}
 use Rattle.byteorder.specs.Endian.{big_from}
-use Rattle.dia_wire.proofs.Heads.{cannot_begin, heads}
+use Rattle.dia_wire.proofs.AvpHeadRead.{cannot_begin, heads}
 use Rattle.dia_wire.proofs.reading.avp_head.Goals as goal
 use Rattle.dia_wire.proofs.reading.avp_head.Goals.{then-has_vendor, else-has_vendor, then-length-start-via-then-length-start, then-length-start-via-else-length-start+then-whole-room}
 

@@ -1,5 +1,5 @@
 use Rattle.std.proofs.Common.{ℕ, ◌<◌, ◌^◌, sym, subst, arith}
-use Rattle.dia_wire.proofs.Spelled.{part_fits, made_avp, made_all}
+use Rattle.dia_wire.proofs.Written.{part_fits, made_avp, made_all}
 use Rattle.dia_wire.proofs.writing.message_bytes.Goals as goal
 
 pub overflow_cast-length-in-loop-avp : goal.overflow_cast-length-in-loop-avp

@@ -1,5 +1,5 @@
 use Rattle.std.proofs.Common.{take}
-use Rattle.dia_wire.proofs.Spelled.{IsMade}
+use Rattle.dia_wire.proofs.Written.{IsMade}
 use Rattle.dia_wire.proofs.writing.message_bytes.Given as goal
 
 abbrev pub invariant-loop-avp : goal.invariant-loop-avp

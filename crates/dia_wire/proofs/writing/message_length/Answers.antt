@@ -3,7 +3,7 @@ use Rattle.std.proofs.lemmas.List.{take_all}
 use Rattle.std.specs.Prelude.{sum_by, List}
 use Rattle.dia_wire.specs.declared.avp.Avp.{Avp}
 use Rattle.dia_wire.specs.Wire.{plain, padded_length}
-use Rattle.dia_wire.proofs.Spelled.{fits_length}
+use Rattle.dia_wire.proofs.Written.{fits_length}
 use Rattle.dia_wire.proofs.writing.message_length.Goals as goal
 
 pub returns-clause-none : goal.returns-clause-none

@@ -1,5 +1,5 @@
 use Rattle.std.proofs.Common.{arith}
-use Rattle.dia_wire.proofs.Spelled.{OnOk-always, avp_spelled}
+use Rattle.dia_wire.proofs.Written.{OnOk-always, avp_spelled}
 use Rattle.dia_wire.proofs.writing.push_avp.Goals as goal
 
 pub returns-clause-spells : goal.returns-clause-spells

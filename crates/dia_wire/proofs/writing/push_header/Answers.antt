@@ -1,4 +1,4 @@
-use Rattle.dia_wire.proofs.Spelled.{header_chain, header_spelled}
+use Rattle.dia_wire.proofs.Written.{header_chain, header_spelled}
 use Rattle.dia_wire.proofs.writing.push_header.Goals as goal
 
 pub returns-clause-bytes : goal.returns-clause-bytes
