@@ -6,6 +6,7 @@
 mod avp;
 mod avp_key;
 mod header;
+mod opening;
 mod reading;
 mod writing;
 

@@ -5,8 +5,9 @@ ghost use Rattle.dia_wire.specs.declared.header.Header.{Header as AnyHeader};
 ghost use Rattle.dia_wire.specs.Number.{number};
 ghost use Rattle.dia_wire.specs.Wire.{IsHead, IsMessageLength, BeginsMessage, PlainAvp, Spells, BeginsWith, BeginsWithNone, HasWholeHead, Heads, CannotBegin, IsBadLength, plain};
 
-use crate::avp::{AVP_VENDOR, Avp, AvpFault, AvpHead, padded};
+use crate::avp::{AVP_HEAD_LENGTH, Avp, AvpFault, AvpHead, padded};
 use crate::header::{HEADER_LENGTH, HeadFault, Header, MessageFault};
+use crate::opening::Opening;
 use byteorder::{BigEndian, ByteOrder};
 
 /// The header and the Message Length of the first 20 bytes (RFC 6733 section 3), whatever follows them:
@@ -81,31 +82,17 @@ pub fn next_avp(level: &[u8]) -> Result<Option<(Avp<'_>, &[u8])>, AvpFault>
     if level.is_empty() {
         return Ok(None);
     }
-    if level.len() < 8 {
+    if level.len() < AVP_HEAD_LENGTH {
         return Err(AvpFault::Length);
     }
-    let code = BigEndian::read_u32(level);
-    let flags = level[4];
-    let length = BigEndian::read_u24(&level[5..]);
-    let has_vendor = flags & AVP_VENDOR != 0;
-    let start = if has_vendor { 12 } else { 8 };
-    let whole = padded(length);
-    let length = length as usize;
-    if length < start || whole > level.len() {
-        return Err(AvpFault::Length);
-    }
-    let vendor = if has_vendor {
-        Some(BigEndian::read_u32(&level[8..]))
-    } else {
-        None
-    };
+    let opening = Opening::read(level, level.len())?;
     let avp = Avp {
-        code,
-        flags,
-        vendor,
-        bytes: &level[start..length],
+        code: opening.code,
+        flags: opening.flags,
+        vendor: opening.vendor(level),
+        bytes: &level[opening.start..opening.length as usize],
     };
-    Ok(Some((avp, &level[whole..])))
+    Ok(Some((avp, &level[padded(opening.length)..])))
 }
 
 /// Bytes spell at most one header and one Message Length.
@@ -129,38 +116,21 @@ pub fn avp_head(bytes: &[u8], room: usize) -> Result<Option<AvpHead>, AvpFault>
     ensures fault { OnErr result (CannotBegin bytes.now room) }
     ensures refused { IsErr result ↔ ((room < 8) ⊎ ((8 ≤ length bytes.now) × IsBadLength (slice_index bytes.now 4) (number (take 3 (drop 5 bytes.now))) room)) }
 {
-    if room < 8 {
+    if room < AVP_HEAD_LENGTH {
         return Err(AvpFault::Length);
     }
-    if bytes.len() < 8 {
+    if bytes.len() < AVP_HEAD_LENGTH {
         return Ok(None);
     }
-    let code = BigEndian::read_u32(bytes);
-    let flags = bytes[4];
-    let length = BigEndian::read_u24(&bytes[5..]);
-    let has_vendor = flags & AVP_VENDOR != 0;
-    let start = if has_vendor { 12 } else { 8 };
-    let whole = padded(length);
-    if length < start || whole > room {
-        return Err(AvpFault::Length);
-    }
-    if !has_vendor {
-        return Ok(Some(AvpHead {
-            code,
-            flags,
-            vendor: None,
-            length,
-        }));
-    }
-    if bytes.len() < 12 {
+    let opening = Opening::read(bytes, room)?;
+    if bytes.len() < opening.start {
         return Ok(None);
     }
-    let vendor = Some(BigEndian::read_u32(&bytes[8..]));
     Ok(Some(AvpHead {
-        code,
-        flags,
-        vendor,
-        length,
+        code: opening.code,
+        flags: opening.flags,
+        vendor: opening.vendor(bytes),
+        length: opening.length,
     }))
 }
 

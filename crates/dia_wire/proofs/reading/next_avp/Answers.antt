@@ -1,25 +1,21 @@
-use Rattle.std.proofs.Common.{ℕ, drop, refl, sym, ap, ◌∙◌, arith, inl, inr, List, Some}
-use Rattle.std.proofs.lemmas.List.{take_rest}
-use Rattle.byteorder.specs.Endian.{big_from}
-use Rattle.dia_wire.proofs.Spelling.{none_begins, start_from, begins_at}
+use Rattle.std.proofs.Common.{◌<◌, length, arith}
+use Rattle.std.specs.Prelude.{Result, Ok, OnErr}
+use Rattle.std.proofs.lemmas.Grind.{common_steps}
+use Rattle.dia_wire.specs.Wire.{BeginsWithNone}
+use Rattle.dia_wire.proofs.AvpHeadRead.{avp_at, none_here}
 use Rattle.dia_wire.proofs.reading.next_avp.Goals as goal
-use Rattle.dia_wire.proofs.reading.next_avp.Goals.{then-has_vendor, else-has_vendor, then-has_vendor-2, else-has_vendor-2, then-length-start-via-then-length-start, then-length-start-via-else-length-start+then-whole-level}
 
-pub returns-then-length-start-clause-fault : goal.returns-then-length-start-clause-fault
-returns-then-length-start-clause-fault c =
-    let m = sym (c.read_u24-length.ensures ∙ ap (λ (f : List ℕ). big_from 0 3 f) (take_rest c.args.level.now 5)) in (
-      omega arith,
-      none_begins c.args.level.now c.if-has_vendor.start c.read_u24-length.result m
-          (start_from _ _ (elim c.if-has_vendor.branch [ then-has_vendor w ↦ inl (w.if-has_vendor.true, w.start-is) | else-has_vendor w ↦ inr ((λ k. k w.if-has_vendor.false), w.start-is) ]))
-          (elim c.then-length-start.branch [ then-length-start-via-then-length-start w ↦ inl (omega arith) | then-length-start-via-else-length-start+then-whole-level w ↦ inr (omega arith) ]),
-    )
+OnErr-always : {T E : Type 0} (r : Result T E) (P : Type 0) → P → OnErr r P
+OnErr-always (Ok x) P h = tt
+OnErr-always r P h = h
+
+pub returns-in_err-opening-clause-fault : goal.returns-in_err-opening-clause-fault
+returns-in_err-opening-clause-fault c =
+    let some : 0 < length c.args.level.now = grind (arith, common_steps) in
+    let told : (0 < length c.args.level.now) × BeginsWithNone c.args.level.now = (some, none_here _ c.in_err-opening.ensures.fault) in
+    OnErr-always _ _ told
 
 pub returns-clause-avp : goal.returns-clause-avp
 returns-clause-avp c =
-    let xs = c.args.level.now in
-    let m = sym (c.read_u24-length.ensures ∙ ap (λ (f : List ℕ). big_from 0 3 f) (take_rest xs 5)) in
-    rw c.padded-whole.ensures (
-    begins_at xs c.read_u32-code.result c.read_u24-length.result c.if-has_vendor.start (big_from 0 4 (drop 8 xs)) c.if-has_vendor-2.vendor c.read_u32-code.ensures m refl
-    (elim c.if-has_vendor.branch [ then-has_vendor w ↦ inl (w.if-has_vendor.true, w.start-is) | else-has_vendor w ↦ inr ((λ k. k w.if-has_vendor.false), w.start-is) ])
-    (elim c.if-has_vendor-2.branch [ then-has_vendor-2 w ↦ inl (w.if-has_vendor-2.true, w.vendor-is ∙ ap (λ (n : ℕ). Some n) (w.read_u32.ensures ∙ ap (λ (f : List ℕ). big_from 0 4 f) (take_rest xs 8))) | else-has_vendor-2 w ↦ inr ((λ k. k w.if-has_vendor-2.false), w.vendor-is) ])
-    (omega arith) (omega arith) (omega arith))
+    let is = c.in_ok-opening.ensures in
+    avp_at _ _ _ _ _ _ _ is.code is.flags is.length is.start c.vendor.ensures (omega arith) is.header_fits c.padded.ensures is.room
