@@ -5,8 +5,8 @@ pub mod Texts
 pub mod SeenTexts
 pub mod Addresses
 pub mod Schemes
+pub mod RangeSets
 pub mod Leaves
-pub mod Ranges
 pub mod BelowLemmas
 pub mod Groups
 pub mod ShownValues

@@ -1,5 +1,5 @@
 -- Which format accepts all that another accepts.
-use Rattle.std.specs.Prelude.{◌≡◌, ◌≢◌, ℕ, ◌≤◌, ◌⊎◌, Any, IsSome, IsNone, MatchOption, List, Option, ⊤}
+use Rattle.std.specs.Prelude.{◌≡◌, ◌≢◌, ℕ, ◌⊎◌, Any, IsSome, IsNone, List, Option, ⊤}
 use Rattle.dia_data.specs.Plain.{PlainFormat, OctetString, Integer32, Grouped, Utf8String, DiameterIdentity, DiameterUri, Enumerated}
 use Rattle.dia_data.specs.Leaf.{IsLeaf, IsListed, IsWithin}
 
@@ -24,13 +24,3 @@ IsIncluded f g = ((f ≢ Grouped) × ((bytes : List ℕ) → IsLeaf f bytes → 
 -- each number of some range of the first list is in some range of the second
 abbrev pub RangesBelow : List (ℕ × ℕ) → List (ℕ × ℕ) → Type 0
 RangesBelow v w = (n : ℕ) → Any (IsWithin n) v → Any (IsWithin n) w
-
--- the least number from a place on that is in some range
-pub record IsLeastListed (ranges : List (ℕ × ℕ)) (start least : ℕ) : Type 0 where
-  pub onward : start ≤ least
-  pub listed : Any (IsWithin least) ranges
-  pub first : (n : ℕ) → start ≤ n → Any (IsWithin n) ranges → least ≤ n
-
--- that number, or none where no number from there on is in a range
-abbrev pub IsLeastFrom : List (ℕ × ℕ) → ℕ → Option ℕ → Type 0
-IsLeastFrom ranges start least = MatchOption least ((n : ℕ) → start ≤ n → ¬ Any (IsWithin n) ranges) (IsLeastListed ranges start)

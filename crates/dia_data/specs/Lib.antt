@@ -1,4 +1,5 @@
 pub mod Number
+pub mod Ranges
 pub mod Plain
 pub mod Leaf
 pub mod Below

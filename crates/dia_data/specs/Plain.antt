@@ -1,7 +1,7 @@
 -- Formats without where their lists lie in memory.
 use Rattle.std.specs.Prelude.{ℕ, List, Option}
 use Rattle.std.specs.Option.{option_map}
-use Rattle.dia_data.specs.declared.format.Values.{Values}
+use Rattle.dia_data.specs.declared.values.Values.{Values}
 use Rattle.dia_data.specs.declared.format.Format.{Format}
 use Rattle.dia_data.specs.declared.format.Format.TheVariants as format
 
@@ -24,9 +24,9 @@ pub data PlainFormat : Type 0 where
   IpFilterRule : PlainFormat
   QosFilterRule : PlainFormat
 
--- the ranges of a list of values, if there is one
+-- the ranges of a list of values as they were written, if there is one
 abbrev pub ranges_of : Values → Option (List (ℕ × ℕ))
-ranges_of values = option_map (λ v. v.items) values.list
+ranges_of values = option_map (λ l. l.written.items) values.listed
 
 -- the format that a Rust value names
 abbrev pub plain : Format → PlainFormat

@@ -1,9 +1,9 @@
 //! Which data a format accepts.
 ghost use Rattle.std.specs.Prelude.{◌≡◌, ◌↔◌, All, IsTrue, if◌then◌else◌};
-ghost use Rattle.dia_data.specs.Leaf.{IsAnswer, IsAddress, IsGraphic, IsListed, IsUri, NamesScheme};
-ghost use Rattle.dia_data.specs.Plain.{plain, ranges_of};
+ghost use Rattle.dia_data.specs.Leaf.{IsAnswer, IsAddress, IsGraphic, IsUri, NamesScheme};
+ghost use Rattle.dia_data.specs.Plain.{plain};
 
-use crate::format::{Format, Values};
+use crate::format::Format;
 use byteorder::{BigEndian, ByteOrder};
 use std::str;
 
@@ -39,7 +39,7 @@ pub fn accepts(format: &Format, bytes: &[u8]) -> Leaf
         Format::DiameterUri => by_value(is_uri(bytes)),
         Format::Enumerated(values) => {
             if bytes.len() == 4 {
-                by_value(is_listed(values, BigEndian::read_u32(bytes)))
+                by_value(values.contains(BigEndian::read_u32(bytes)))
             } else {
                 Leaf::BadLength
             }
@@ -94,20 +94,10 @@ fn names_scheme(bytes: &[u8], scheme: &[u8]) -> bool
     bytes.len() > scheme.len() && bytes[..scheme.len()].eq_ignore_ascii_case(scheme)
 }
 
-fn is_listed(values: &Values, number: u32) -> bool
-    ensures { IsTrue result ↔ IsListed (ranges_of values.now) number }
-{
-    match &values.list {
-        None => true,
-        Some(ranges) => ranges
-            .iter()
-            .any(|&(low, high)| low <= number && number <= high),
-    }
-}
-
 #[cfg(test)]
 mod tests {
     use super::*;
+    use crate::values::Values;
     use std::test::Fail;
 
     #[test]
@@ -154,7 +144,7 @@ mod tests {
     #[test]
     fn tells_enumerated_numbers(rt: HostRuntime) -> Result<(), Fail> {
         let ranges = vec![in rt.alloc(); (0, 0), (1, 1), (2, 2), (9, 8), (20, 30)]?;
-        let listed = Format::Enumerated(Values { list: Some(ranges) });
+        let listed = Format::Enumerated(Values::new(rt.alloc(), ranges)?);
         let cases: [(&[u8], Leaf); 8] = [
             (b"\x00\x00\x02", Leaf::BadLength),
             (b"\x00\x00\x00\x02", Leaf::Fine),
@@ -168,10 +158,10 @@ mod tests {
         for (data, answer) in cases {
             assert_eq!(rt; accepts(&listed, data), answer, "at {data:?}");
         }
-        let any = Format::Enumerated(Values { list: None });
+        let any = Format::Enumerated(Values::any());
         assert_eq!(rt; accepts(&any, b"\xff\xff\xff\xff"), Leaf::Fine);
         let ranges = vec![in rt.alloc(); (0, 1), (3, 3)]?;
-        let gap = Format::Enumerated(Values { list: Some(ranges) });
+        let gap = Format::Enumerated(Values::new(rt.alloc(), ranges)?);
         assert_eq!(rt; accepts(&gap, b"\x00\x00\x00\x02"), Leaf::BadValue);
         assert_eq!(rt; accepts(&gap, b"\x00\x00\x00\x03"), Leaf::Fine);
         Ok(())

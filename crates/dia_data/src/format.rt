@@ -1,17 +1,6 @@
 //! The data formats.
+use crate::values::Values;
 use std::alloc::AllocError;
-
-/// The numbers of an Enumerated format (RFC 6733 section 4.3.1).
-///
-/// The 4 bytes of a value are read against the list as an unsigned number in network byte order. Enumerated is derived from
-/// Integer32, so `print_value` prints it signed.
-///
-/// No list stands for every number of 32 bits. A list names the numbers of its ranges `(low, high)`, both ends in. The
-/// ranges may overlap and stand in any order, and one whose `low` is above its `high` names no number.
-#[derive(Debug, Drop, PartialEq, Eq)]
-pub struct Values {
-    pub list: Option<Vec<(u32, u32)>>,
-}
 
 /// How the data of an AVP is to be read (RFC 6733 sections 4.2 to 4.4, and QoSFilterRule of RFC 3588 section 4.3).
 #[derive(Debug, Drop, PartialEq, Eq)]
@@ -52,19 +41,6 @@ pub enum Format {
     QosFilterRule,
 }
 
-/// A copy has the same ranges.
-impl Clone for Values {
-    ghost use Rattle.std.specs.Prelude.{◌≡◌};
-    ghost use Rattle.dia_data.specs.Plain.{ranges_of};
-
-    ghost is_clone = { λ old new. ranges_of new ≡ ranges_of old };
-
-    fn clone(&self) -> Result<Values, AllocError> {
-        let list = self.list.clone()?;
-        Ok(Values { list })
-    }
-}
-
 /// A copy is the same format.
 impl Clone for Format {
     ghost use Rattle.std.specs.Prelude.{◌≡◌};
@@ -102,7 +78,7 @@ mod tests {
     #[test]
     fn copies_equal_their_sources(rt: HostRuntime) -> Result<(), Fail> {
         let ranges = vec![in rt.alloc(); (7, 9), (0, 3)]?;
-        let values = Values { list: Some(ranges) };
+        let values = Values::new(rt.alloc(), ranges)?;
         for format in [Format::Time, Format::Enumerated(values)] {
             assert_eq!(rt; format.clone()?, format);
         }

@@ -7,11 +7,14 @@ mod below;
 mod format;
 mod front;
 mod print;
+mod range_set;
 mod state;
 mod text;
+mod values;
 
 pub use accept::{Leaf, accepts};
 pub use below::{format_below, inclusion};
-pub use format::{Format, Values};
+pub use format::Format;
 pub use print::print_value;
 pub use state::LeafState;
+pub use values::Values;

@@ -130,13 +130,13 @@ fn push_hex(out: &mut String, byte: u8) -> Result<(), AllocError>
 #[cfg(test)]
 mod tests {
     use super::*;
-    use crate::format::Values;
+    use crate::values::Values;
     use std::test::Fail;
 
     #[test]
     fn prints_values(rt: HostRuntime) -> Result<(), Fail> {
         let loopback = b"\x00\x02\x20\x01\x0d\xb8\x00\x00\x00\x00\x00\x00\x00\x00\x00\x00\x00\x01";
-        let any = Values { list: None };
+        let any = Values::any();
         let cases: [(Format, &[u8], &str); 22] = [
             (Format::Integer32, b"\xff\xff\xff\xff", "-1"),
             (Format::Integer32, b"\x00", "x00"),
