@@ -1,6 +1,6 @@
 //! The dictionary of a sound source.
 ghost use Rattle.std.specs.Prelude.{◌≡◌, ◌++◌, ◌∷◌, [], IfOk, OnOk, map, filter, string_bytes};
-ghost use Rattle.dia_data.specs.Plain.{plain as plain_format};
+ghost use Rattle.dia_data.specs.Plain.{plain as plain_format, ranges_of};
 ghost use Rattle.dia_ccf.specs.Plain.{plain as plain_source, plain_decl, plain_def, plain_rule};
 ghost use Rattle.dia_dict.specs.Dictionary.{plain};
 ghost use Rattle.dia_dict.specs.PlainMeaning.{entries_of};
@@ -56,7 +56,7 @@ fn push_declared(
 {
     let name = String::from_str(alloc, &decl.name)?;
     let key = key_of_declaration(decl);
-    let format = format(decl)?;
+    let format = format(alloc, decl)?;
     match names.group(&decl.name) {
         Some(group) => {
             let definition = definition(alloc, names, group)?;
@@ -175,7 +175,7 @@ fn proxy(set: bool) -> Pxy
     if set { Pxy::Set } else { Pxy::Clear }
 }
 
-fn format(decl: &Decl) -> Result<Format, AllocError>
+fn format(alloc: Global, decl: &Decl) -> Result<Format, AllocError>
     ensures { IfOk result (λ format. plain_format format ≡ format_of (plain_decl decl.now).format (plain_decl decl.now).values) }
 {
     match decl.format {
@@ -192,10 +192,18 @@ fn format(decl: &Decl) -> Result<Format, AllocError>
         FormatName::Utf8String => Ok(Format::Utf8String),
         FormatName::DiameterIdentity => Ok(Format::DiameterIdentity),
         FormatName::DiameterUri => Ok(Format::DiameterUri),
-        FormatName::Enumerated => Ok(Format::Enumerated(Values {
-            list: decl.values.clone()?,
-        })),
+        FormatName::Enumerated => Ok(Format::Enumerated(values(alloc, decl)?)),
         FormatName::IpFilterRule => Ok(Format::IpFilterRule),
         FormatName::QosFilterRule => Ok(Format::QosFilterRule),
+    }
+}
+
+/// The numbers that the declaration lists, or all.
+fn values(alloc: Global, decl: &Decl) -> Result<Values, AllocError>
+    ensures { IfOk result (λ values. ranges_of values ≡ (plain_decl decl.now).values) }
+{
+    match &decl.values {
+        Some(ranges) => Values::new(alloc, ranges.clone()?),
+        None => Ok(Values::any()),
     }
 }
