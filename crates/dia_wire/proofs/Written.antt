@@ -1,10 +1,10 @@
 -- What is written is a spelling, and a message of them.
-use Rattle.std.proofs.Common.{◌≡◌, ℕ, suc, zero, ◌+◌, ◌-◌, ◌%◌, ◌^◌, ◌<◌, ◌≤◌, List, [], ◌∷◌, ◌++◌, Option, Some, None, map, length, take, get_or, refl, sym, ap, subst, ◌∙◌, append_assoc, arith, inl, inr}
-use Rattle.std.specs.Prelude.{sum_by, OnOk, Result, Ok, Err}
+use Rattle.std.proofs.Common.{◌≡◌, ℕ, suc, zero, ◌+◌, ◌-◌, ◌*◌, ◌/◌, ◌%◌, ◌^◌, ◌<◌, ◌≤◌, List, [], ◌∷◌, ◌++◌, Option, Some, None, map, length, take, get_or, refl, sym, ap, subst, ◌∙◌, append_assoc, arith, inl, inr}
+use Rattle.std.specs.Prelude.{sum_by}
 use Rattle.std.specs.List.{AllByRecursion}
 use Rattle.std.proofs.lemmas.List.{append-nil, length-append, length-take, take_all, take_more}
 use Rattle.std.proofs.lemmas.List.Elements.{All-from_recursion}
-use Rattle.std.proofs.lemmas.List.Sums.{sum_by-cons, get_or-le-sum_by}
+use Rattle.std.proofs.lemmas.List.Sums.{sum_by-cons, sum_by_more, sum_by-take-le, get_or-le-sum_by}
 use Rattle.byteorder.specs.Endian.{big_from, big_bytes}
 use Rattle.byteorder.specs.Numbers.{big_number-reads_back}
 use Rattle.dia_wire.specs.declared.avp.Avp.{Avp}
@@ -53,7 +53,7 @@ four x small = field_bytes 4 x refl (omega (arith, small))
 three : (x : ℕ) → x < 2 ^ 24 → IsField 3 x (big_bytes 3 x)
 three x small = field_bytes 3 x refl (omega (arith, small))
 
-length-vendor_bytes : (vendor : Option ℕ) → length (vendor_bytes vendor) + 8 ≡ head_length vendor
+pub length-vendor_bytes : (vendor : Option ℕ) → length (vendor_bytes vendor) + 8 ≡ head_length vendor
 length-vendor_bytes None = refl
 length-vendor_bytes (Some n) = refl
 
@@ -66,7 +66,7 @@ zeros_are_zero (suc (suc zero)) h = (refl, (refl, tt))
 zeros_are_zero (suc (suc (suc zero))) h = (refl, (refl, (refl, tt)))
 zeros_are_zero (suc (suc (suc (suc k)))) h = absurd (omega arith)
 
-padding_length : (len : ℕ) → length (padding len) ≡ (4 - len % 4) % 4
+pub padding_length : (len : ℕ) → length (padding len) ≡ (4 - len % 4) % 4
 padding_length len = length-take ((4 - len % 4) % 4) (0 ∷ 0 ∷ 0 ∷ []) ∙ omega arith
 
 avp_bytes-size : (v : PlainAvp) → length (vendor_bytes v.vendor ++ v.bytes ++ padding (avp_length v)) ≡ length (vendor_bytes v.vendor) + length v.bytes + length (padding (avp_length v))
@@ -113,11 +113,6 @@ header_chain t t1 t2 t3 t4 t5 t6 t7 len code app hop e2e flags e1 e2 e3 e4 e5 e6
 
 -- ---- messages
 
--- what a call ensures where it succeeds
-pub OnOk-always : {E : Type 0} (r : Result (Unit {0}) E) (P : Type 0) → P → OnOk r P
-OnOk-always (Ok x) P h = h
-OnOk-always (Err e) P h = tt
-
 length-zeros : (v : PlainAvp) (b : List ℕ) → SpellsWithZeros v b → length b ≡ padded_length v
 length-zeros v b s = (opened v b [] s.spells).front_length
 
@@ -140,30 +135,49 @@ map-push : {X Y : Type 0} (g : X → Y) (xs : List X) (x : X) → map g (xs ++ x
 map-push g [] x = refl
 map-push g (y ∷ xs) x = ap (λ (r : List _). g y ∷ r) (map-push g xs x)
 
--- a header and the AVPs so far
-pub record IsMade (h : Header) (len : ℕ) (taken : List Avp) (bytes : List ℕ) : Type 0 where
+-- the bytes that were there, a header and the AVPs so far
+pub record IsMade (h : Header) (len : ℕ) (before : List ℕ) (taken : List Avp) (bytes : List ℕ) : Type 0 where
   pub body : List ℕ
-  pub parts : bytes ≡ header_bytes h len ++ body
+  pub parts : bytes ≡ before ++ (header_bytes h len ++ body)
   pub is_head : IsHead h len (header_bytes h len)
   pub all : SpellsAllWithZeros (map plain taken) body
 
-pub made_avp : (h : Header) (len : ℕ) (avps : List Avp) (i : ℕ) (d : Avp) (bytes new : List ℕ) → IsMade h len (take i avps) bytes → i < length avps
-    → new ≡ bytes ++ avp_bytes (plain (get_or avps i d)) → SpellsWithZeros (plain (get_or avps i d)) (avp_bytes (plain (get_or avps i d))) → IsMade h len (take (i + 1) avps) new
-made_avp h len avps i d bytes new m within is_new spells =
+pub made_head : (h : Header) (len : ℕ) (before bytes : List ℕ) (avps : List Avp) → bytes ≡ before ++ header_bytes h len → IsHead h len (header_bytes h len) → IsMade h len before (take 0 avps) bytes
+made_head h len before bytes avps is_bytes is_head = record { body = []; parts = is_bytes ∙ ap (λ (f : List ℕ). before ++ f) (sym (append-nil (header_bytes h len))); is_head = is_head; all = refl }
+
+pub made_avp : (h : Header) (len : ℕ) (before : List ℕ) (avps : List Avp) (i : ℕ) (d : Avp) (bytes new : List ℕ) → IsMade h len before (take i avps) bytes → i < length avps
+    → new ≡ bytes ++ avp_bytes (plain (get_or avps i d)) → SpellsWithZeros (plain (get_or avps i d)) (avp_bytes (plain (get_or avps i d))) → IsMade h len before (take (i + 1) avps) new
+made_avp h len before avps i d bytes new m within is_new spells =
     let v : PlainAvp = plain (get_or avps i d) in
     record {
       body = m.body ++ avp_bytes v;
-      parts = is_new ∙ ap (λ (f : List ℕ). f ++ avp_bytes v) m.parts ∙ append_assoc (header_bytes h len) m.body (avp_bytes v);
+      parts = is_new ∙ ap (λ (f : List ℕ). f ++ avp_bytes v) m.parts ∙ simp append_assoc;
       is_head = m.is_head;
       all = subst (λ (vs : List PlainAvp). SpellsAllWithZeros vs (m.body ++ avp_bytes v)) (sym (ap (map plain) (take_more avps i d within) ∙ map-push plain (take i avps) (get_or avps i d)))
           (SpellsAllWithZeros-push (map plain (take i avps)) v m.body (avp_bytes v) m.all spells);
     }
 
-pub made_all : (h : Header) (len i : ℕ) (avps : List Avp) (bytes : List ℕ) → IsMade h len (take i avps) bytes → length avps ≤ i → len ≡ 20 + sum_by padded_length (map plain avps) → MessageWithZeros h (map plain avps) bytes
-made_all h len i avps bytes m end is_len =
+pub made_all : (h : Header) (len i : ℕ) (before : List ℕ) (avps : List Avp) (bytes : List ℕ) → IsMade h len before (take i avps) bytes → length avps ≤ i → len ≡ 20 + sum_by padded_length (map plain avps)
+    → (b : List ℕ) × MessageWithZeros h (map plain avps) b × (bytes ≡ before ++ b)
+made_all h len i before avps bytes m end is_len =
+    let written : List ℕ = header_bytes h len ++ m.body in
     let all : SpellsAllWithZeros (map plain avps) m.body = subst (λ (xs : List Avp). SpellsAllWithZeros (map plain xs) m.body) (take_all i avps end) m.all in
-    let size : len ≡ length bytes = is_len ∙ ap (λ (n : ℕ). 20 + n) (sym (length-all (map plain avps) m.body all)) ∙ sym (ap length m.parts ∙ length-append (header_bytes h len) m.body) in
-    record {
-      message = record { head = header_bytes h len; body = m.body; parts = m.parts; is_head = subst (λ (n : ℕ). IsHead h n (header_bytes h len)) size m.is_head; is_body = any_padding (map plain avps) m.body all };
+    let size : len ≡ length written = is_len ∙ ap (λ (n : ℕ). 20 + n) (sym (length-all (map plain avps) m.body all)) ∙ sym (length-append (header_bytes h len) m.body) in
+    let message : MessageWithZeros h (map plain avps) written = record {
+      message = record { head = header_bytes h len; body = m.body; parts = refl; is_head = subst (λ (n : ℕ). IsHead h n (header_bytes h len)) size m.is_head; is_body = any_padding (map plain avps) m.body all };
       zeros = all;
-    }
+    } in
+    (written, message, m.parts)
+
+-- the next AVP has room where the room is for all, and what is filled then
+pub next_room : (xs : List Avp) (i : ℕ) (d : Avp) (before filled room total n : ℕ) → filled ≡ before + 20 + sum_by (λ x. padded_length (plain x)) (take i xs) → before + total ≤ room
+    → total ≡ 20 + sum_by padded_length (map plain xs) → i < length xs → n ≡ avp_length (plain (get_or xs i d)) → filled + (n + 3) / 4 * 4 ≤ room
+next_room xs i d before filled room total n is_filled fits is_total within is_n =
+    let part : (n + 3) / 4 * 4 ≡ padded_length (plain (get_or xs i d)) = ap (λ (k : ℕ). (k + 3) / 4 * 4) is_n in
+    omega (arith, part, is_filled, fits, is_total, sum_by_more (λ (x : Avp). padded_length (plain x)) xs i d within, sum_by-take-le (λ (x : Avp). padded_length (plain x)) xs (i + 1), sum_by-map padded_length plain xs)
+
+pub next_filled : (xs : List Avp) (i : ℕ) (d : Avp) (before filled new n : ℕ) → filled ≡ before + 20 + sum_by (λ x. padded_length (plain x)) (take i xs) → i < length xs
+    → n ≡ avp_length (plain (get_or xs i d)) → new ≡ filled + (n + 3) / 4 * 4 → new ≡ before + 20 + sum_by (λ x. padded_length (plain x)) (take (i + 1) xs)
+next_filled xs i d before filled new n is_filled within is_n is_new =
+    let part : (n + 3) / 4 * 4 ≡ padded_length (plain (get_or xs i d)) = ap (λ (k : ℕ). (k + 3) / 4 * 4) is_n in
+    omega (arith, part, is_filled, is_new, sum_by_more (λ (x : Avp). padded_length (plain x)) xs i d within)

@@ -1,6 +1,6 @@
 //! AVPs and messages written as bytes.
 
-ghost use Rattle.std.specs.Prelude.{◌≡◌, ◌<◌, ◌≤◌, ◌^◌, ◌+◌, ◌++◌, ◌↔◌, List, ℕ, OnOk, OnErr, All, IsNone, IfOk, IfSome, Err, map, sum_by};
+ghost use Rattle.std.specs.Prelude.{◌≡◌, ◌<◌, ◌≤◌, ◌^◌, ◌+◌, ◌-◌, ◌*◌, ◌/◌, ◌%◌, ◌++◌, ◌↔◌, List, ℕ, OnOk, OnErr, All, IsNone, IfSome, Err, length, map, sum_by, vec_len, vec_capacity};
 ghost use Rattle.byteorder.specs.Endian.{big_bytes};
 ghost use Rattle.dia_wire.specs.Number.{IsField};
 ghost use Rattle.dia_wire.specs.Wire.{plain, Agrees, avp_length, padded_length, IsHead, IsVendorField, SpellsWithZeros, MessageWithZeros, IsTooLong};
@@ -9,7 +9,7 @@ ghost use Rattle.dia_wire.specs.Written.{avp_bytes, header_bytes, padding, vendo
 use crate::avp::{Avp, padded};
 use crate::header::{HEADER_LENGTH, Header};
 use byteorder::{BigEndian, ByteOrder};
-use std::alloc::{AllocError, Global};
+use std::alloc::AllocError;
 use thiserror::Error;
 
 /// Why nothing was written.
@@ -48,8 +48,9 @@ pub fn put_avp(out: &mut Vec<u8>, avp: &Avp<'_>) -> Result<(), PutFault>
     if length >= LENGTH_LIMIT {
         return Err(PutFault::TooLong);
     }
-    let bytes = avp_bytes(*out.allocator(), avp, length as u32)?;
-    out.extend_from_slice(bytes.as_slice())?;
+    let length = length as u32;
+    out.reserve(padded(length))?;
+    push_avp(out, avp, length);
     Ok(())
 }
 
@@ -63,11 +64,15 @@ pub fn put_message(out: &mut Vec<u8>, header: &Header, avps: &[Avp<'_>]) -> Resu
     ensures too_long { (result ≡ Err PutFault.TooLong) ↔ IsTooLong (map plain avps.now) }
     ensures err { OnErr result (out.new.items ≡ out.old.items) }
 {
-    let Some(length) = message_length(avps) else {
+    let Some(total) = message_length(avps) else {
         return Err(PutFault::TooLong);
     };
-    let bytes = message_bytes(*out.allocator(), header, length, avps)?;
-    out.extend_from_slice(bytes.as_slice())?;
+    out.reserve(total as usize)?;
+    push_header(out, header, total);
+    for avp in avps {
+        let length = avp.length();
+        push_avp(out, avp, length as u32);
+    }
     Ok(())
 }
 
@@ -91,104 +96,96 @@ fn message_length(avps: &[Avp<'_>]) -> Option<u32>
     Some(total as u32)
 }
 
-/// The bytes of an AVP of this length.
-fn avp_bytes(alloc: Global, avp: &Avp<'_>, length: u32) -> Result<Vec<u8>, AllocError>
+fn push_header(out: &mut Vec<u8>, header: &Header, length: u32)
+    requires fits { header.now.code < 2 ^ 24 }
+    requires small { length < 2 ^ 24 }
+    requires room { vec_len out.old + 20 ≤ vec_capacity out.old }
+    ensures bytes { out.new.items ≡ out.old.items ++ header_bytes header.now length }
+    ensures head { IsHead header.now length (header_bytes header.now length) }
+    ensures len { vec_len out.new ≡ vec_len out.old + 20 }
+    ensures capacity { vec_capacity out.old ≤ vec_capacity out.new }
+{
+    push(out, &[1]);
+    push_u24(out, length);
+    push(out, &[header.flags]);
+    push_u24(out, header.code);
+    push_u32(out, header.app);
+    push_u32(out, header.hop);
+    push_u32(out, header.e2e);
+}
+
+fn push_avp(out: &mut Vec<u8>, avp: &Avp<'_>, length: u32)
     requires small { length < 2 ^ 24 }
     requires length { length ≡ avp_length (plain avp.now) }
     requires agrees { Agrees (plain avp.now) }
-    ensures { IfOk result (λ bytes. SpellsWithZeros (plain avp.now) bytes.items) }
+    requires room { vec_len out.old + (length + 3) / 4 * 4 ≤ vec_capacity out.old }
+    ensures bytes { out.new.items ≡ out.old.items ++ avp_bytes (plain avp.now) }
+    ensures spells { SpellsWithZeros (plain avp.now) (avp_bytes (plain avp.now)) }
+    ensures len { vec_len out.new ≡ vec_len out.old + (length + 3) / 4 * 4 }
+    ensures capacity { vec_capacity out.old ≤ vec_capacity out.new }
 {
-    let mut bytes = Vec::with_capacity(alloc, padded(length))?;
-    push_avp(&mut bytes, avp, length)?;
-    Ok(bytes)
+    push_u32(out, avp.code);
+    push(out, &[avp.flags]);
+    push_u24(out, length);
+    push_vendor(out, avp.vendor);
+    push(out, avp.bytes);
+    push_padding(out, length);
 }
 
-/// The bytes of a message of this length.
-fn message_bytes(
-    alloc: Global,
-    header: &Header,
-    length: u32,
-    avps: &[Avp<'_>],
-) -> Result<Vec<u8>, AllocError>
-    requires fits { header.now.code < 2 ^ 24 }
-    requires small { length < 2 ^ 24 }
-    requires length { length ≡ 20 + sum_by padded_length (map plain avps.now) }
-    requires agree { All (λ avp. Agrees (plain avp)) avps.now }
-    ensures { IfOk result (λ bytes. MessageWithZeros header.now (map plain avps.now) bytes.items) }
+fn push_vendor(out: &mut Vec<u8>, vendor: Option<u32>)
+    requires { vec_len out.old + length (vendor_bytes vendor) ≤ vec_capacity out.old }
+    ensures bytes { out.new.items ≡ out.old.items ++ vendor_bytes vendor }
+    ensures field { IsVendorField vendor (vendor_bytes vendor) }
+    ensures len { vec_len out.new ≡ vec_len out.old + length (vendor_bytes vendor) }
+    ensures capacity { vec_capacity out.old ≤ vec_capacity out.new }
 {
-    let mut bytes = Vec::with_capacity(alloc, length as usize)?;
-    push_header(&mut bytes, header, length)?;
-    for avp in avps {
-        let length = avp.length();
-        push_avp(&mut bytes, avp, length as u32)?;
-    }
-    Ok(bytes)
-}
-
-fn push_header(out: &mut Vec<u8>, header: &Header, length: u32) -> Result<(), AllocError>
-    requires fits { header.now.code < 2 ^ 24 }
-    requires small { length < 2 ^ 24 }
-    ensures bytes { OnOk result (out.new.items ≡ out.old.items ++ header_bytes header.now length) }
-    ensures head { OnOk result (IsHead header.now length (header_bytes header.now length)) }
-{
-    out.push(1)?;
-    push_u24(out, length)?;
-    out.push(header.flags)?;
-    push_u24(out, header.code)?;
-    push_u32(out, header.app)?;
-    push_u32(out, header.hop)?;
-    push_u32(out, header.e2e)?;
-    Ok(())
-}
-
-fn push_avp(out: &mut Vec<u8>, avp: &Avp<'_>, length: u32) -> Result<(), AllocError>
-    requires small { length < 2 ^ 24 }
-    requires length { length ≡ avp_length (plain avp.now) }
-    requires agrees { Agrees (plain avp.now) }
-    ensures bytes { OnOk result (out.new.items ≡ out.old.items ++ avp_bytes (plain avp.now)) }
-    ensures spells { OnOk result (SpellsWithZeros (plain avp.now) (avp_bytes (plain avp.now))) }
-{
-    push_u32(out, avp.code)?;
-    out.push(avp.flags)?;
-    push_u24(out, length)?;
-    push_vendor(out, avp.vendor)?;
-    out.extend_from_slice(avp.bytes)?;
-    push_padding(out, length)
-}
-
-fn push_vendor(out: &mut Vec<u8>, vendor: Option<u32>) -> Result<(), AllocError>
-    ensures bytes { OnOk result (out.new.items ≡ out.old.items ++ vendor_bytes vendor) }
-    ensures field { OnOk result (IsVendorField vendor (vendor_bytes vendor)) }
-{
-    match vendor {
-        Some(vendor) => push_u32(out, vendor),
-        None => Ok(()),
+    if let Some(vendor) = vendor {
+        push_u32(out, vendor);
     }
 }
 
 /// Appends the zero bytes behind an AVP of this length.
-fn push_padding(out: &mut Vec<u8>, length: u32) -> Result<(), AllocError>
-    ensures { OnOk result (out.new.items ≡ out.old.items ++ padding length) }
+fn push_padding(out: &mut Vec<u8>, length: u32)
+    requires { vec_len out.old + (4 - length % 4) % 4 ≤ vec_capacity out.old }
+    ensures bytes { out.new.items ≡ out.old.items ++ padding length }
+    ensures len { vec_len out.new ≡ vec_len out.old + (4 - length % 4) % 4 }
+    ensures capacity { vec_capacity out.old ≤ vec_capacity out.new }
 {
     let count = (4 - length as usize % 4) % 4;
     let zeros = [0, 0, 0];
-    out.extend_from_slice(&zeros[..count])
+    push(out, &zeros[..count]);
 }
 
-fn push_u32(out: &mut Vec<u8>, number: u32) -> Result<(), AllocError>
-    ensures bytes { OnOk result (out.new.items ≡ out.old.items ++ big_bytes 4 number) }
-    ensures field { OnOk result (IsField 4 number (big_bytes 4 number)) }
+fn push_u32(out: &mut Vec<u8>, number: u32)
+    requires { vec_len out.old + 4 ≤ vec_capacity out.old }
+    ensures bytes { out.new.items ≡ out.old.items ++ big_bytes 4 number }
+    ensures field { IsField 4 number (big_bytes 4 number) }
+    ensures len { vec_len out.new ≡ vec_len out.old + 4 }
+    ensures capacity { vec_capacity out.old ≤ vec_capacity out.new }
 {
     let mut bytes = [0; 4];
     BigEndian::write_u32(&mut bytes, number);
-    out.extend_from_slice(&bytes)
+    push(out, &bytes);
 }
 
-fn push_u24(out: &mut Vec<u8>, number: u32) -> Result<(), AllocError>
-    requires { number < 2 ^ 24 }
-    ensures { OnOk result (out.new.items ≡ out.old.items ++ big_bytes 3 number) }
+fn push_u24(out: &mut Vec<u8>, number: u32)
+    requires small { number < 2 ^ 24 }
+    requires room { vec_len out.old + 3 ≤ vec_capacity out.old }
+    ensures bytes { out.new.items ≡ out.old.items ++ big_bytes 3 number }
+    ensures len { vec_len out.new ≡ vec_len out.old + 3 }
+    ensures capacity { vec_capacity out.old ≤ vec_capacity out.new }
 {
     let mut bytes = [0; 3];
     BigEndian::write_u24(&mut bytes, number);
-    out.extend_from_slice(&bytes)
+    push(out, &bytes);
+}
+
+/// Appends bytes that the vector has room for.
+fn push(out: &mut Vec<u8>, bytes: &[u8])
+    requires { vec_len out.old + length bytes.now ≤ vec_capacity out.old }
+    ensures bytes { out.new.items ≡ out.old.items ++ bytes.now }
+    ensures len { vec_len out.new ≡ vec_len out.old + length bytes.now }
+    ensures capacity { vec_capacity out.old ≤ vec_capacity out.new }
+{
+    out.extend_from_slice(bytes).unwrap();
 }
