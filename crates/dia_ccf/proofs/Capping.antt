@@ -7,7 +7,7 @@ use Rattle.dia_ccf.specs.declared.source.RuleKind.{RuleKind}
 use Rattle.dia_ccf.specs.declared.source.RuleKind.TheVariants.{Fixed, Required, Optional}
 use Rattle.dia_ccf.specs.Plain.{PlainSource}
 use Rattle.dia_ccf.specs.Tokens.{Token, Number}
-use Rattle.dia_ccf.specs.Grammar.{most_32, most_code, most_value}
+use Rattle.dia_ccf.specs.Limits.{max_number, max_command_code, max_value}
 use Rattle.dia_ccf.specs.Lexing.{capped}
 use Rattle.dia_ccf.specs.Machine.{State, Place, HeadPlace, number_at, next, step, next_in_head, whole, refused, outcome, Outcome, Reads, Stops, gone_on, ended, Decl_code, Decl_number, In_values, After_value, After_dots, In_head, Rules, Qual_star, After_angle, Loose_close, sign_at, closing_sign, Command_code, Group_code, Flags, Group_vendor}
 use Rattle.dia_ccf.proofs.Complete.{and_false}
@@ -27,10 +27,10 @@ number_capped : (least most n : ℕ) → most < 4294967296 → number_at least m
 number_capped least most n small = cap_size least most n (min n 4294967296) (nat_le n most) (nat_le (min n 4294967296) most) refl refl refl small
 
 head_capped : (at : HeadPlace) (n : ℕ) → next_in_head at (Number (min n 4294967296)) ≡ next_in_head at (Number n)
-head_capped Command_code n = rw (number_capped 0 most_code n (lit< tt)) refl
-head_capped Group_code n = rw (number_capped 0 most_32 n (lit< tt)) refl
-head_capped (Flags c request pxy comma) n = rw (number_capped 0 most_32 n (lit< tt)) refl
-head_capped (Group_vendor c comma) n = rw (number_capped 0 most_32 n (lit< tt)) refl
+head_capped Command_code n = rw (number_capped 0 max_command_code n (lit< tt)) refl
+head_capped Group_code n = rw (number_capped 0 max_number n (lit< tt)) refl
+head_capped (Flags c request pxy comma) n = rw (number_capped 0 max_number n (lit< tt)) refl
+head_capped (Group_vendor c comma) n = rw (number_capped 0 max_number n (lit< tt)) refl
 head_capped at n = refl
 
 close_capped : (kind : RuleKind) (m n : ℕ) → sign_at (closing_sign kind) (Number m) ≡ sign_at (closing_sign kind) (Number n)
@@ -39,15 +39,15 @@ close_capped Required m n = refl
 close_capped Optional m n = refl
 
 step_capped : (done : PlainSource) (p : Place) (n : ℕ) → step done p (Number (min n 4294967296)) ≡ step done p (Number n)
-step_capped done (Decl_code name) n = rw (number_capped 0 most_32 n (lit< tt)) refl
-step_capped done (Decl_number name c) n = rw (number_capped 0 most_32 n (lit< tt)) refl
-step_capped done (In_values d ranges) n = rw (number_capped 0 most_value n (lit< tt)) refl
-step_capped done (After_value d ranges m) n = rw (number_capped 0 most_value n (lit< tt)) refl
-step_capped done (After_dots d ranges low) n = rw (number_capped low most_value n (lit< tt)) refl
+step_capped done (Decl_code name) n = rw (number_capped 0 max_number n (lit< tt)) refl
+step_capped done (Decl_number name c) n = rw (number_capped 0 max_number n (lit< tt)) refl
+step_capped done (In_values d ranges) n = rw (number_capped 0 max_value n (lit< tt)) refl
+step_capped done (After_value d ranges m) n = rw (number_capped 0 max_value n (lit< tt)) refl
+step_capped done (After_dots d ranges low) n = rw (number_capped low max_value n (lit< tt)) refl
 step_capped done (In_head text at) n = rw (head_capped at n) refl
-step_capped done (Rules d) n = rw (number_capped 0 most_32 n (lit< tt)) refl
-step_capped done (Qual_star d least) n = rw (number_capped 0 most_32 n (lit< tt)) refl
-step_capped done (After_angle d text) n = rw (number_capped 0 most_32 n (lit< tt)) refl
+step_capped done (Rules d) n = rw (number_capped 0 max_number n (lit< tt)) refl
+step_capped done (Qual_star d least) n = rw (number_capped 0 max_number n (lit< tt)) refl
+step_capped done (After_angle d text) n = rw (number_capped 0 max_number n (lit< tt)) refl
 step_capped done (Loose_close d r) n = rw (close_capped r.kind (min n 4294967296) n) refl
 step_capped done p n = refl
 

@@ -14,7 +14,8 @@ use Rattle.dia_ccf.specs.declared.source.Qual.{Qual}
 use Rattle.dia_ccf.specs.Names.{is_name, is_name_run, is_fixed, same_bytes}
 use Rattle.dia_ccf.specs.Plain.{PlainDecl, PlainRule, PlainDef, PlainSource}
 use Rattle.dia_ccf.specs.Tokens.{Token, Less, Greater, Open_brace, Open_bracket, Open_parenthesis, Close_parenthesis, Star, Dots, Assign, Declares, Number, Name}
-use Rattle.dia_ccf.specs.Grammar.{Tokens, ◌then◌, one, word, name, number, each, either, nothing, most_32, most_value, format_word, rule_word, vendor, range, values, declaration, head, count, qualifier, slot, bracketed, rule, Item, Declaration, Definition, item, Derives}
+use Rattle.dia_ccf.specs.Grammar.{Tokens, ◌then◌, one, word, name, number, each, either, nothing, format_word, rule_word, vendor, range, values, declaration, head, count, qualifier, slot, bracketed, rule, Item, Declaration, Definition, item, Derives}
+use Rattle.dia_ccf.specs.Limits.{max_number, max_value}
 use Rattle.dia_ccf.specs.Machine.{State, Between, Decl_name, Decl_code, Decl_vendor, Decl_number, Decl_format, Decl_rule, Decl_values, In_values, After_value, After_dots, Def_name, Def_close, Def_assign, Head_open, In_head, Head_word, Rules, Qual_min, Qual_star, Qual_done, Fixed_name, Fixed_close, Angle_name, Angle_close, After_angle, Loose_name, Loose_close, next, on_item, add_decl, add_def, with_values, with_rule, fixed_rule, all_fixed, is_enumerated, is_none, closing_sign, same_sign, is_word, format_at, Reads, outcome}
 use Rattle.dia_ccf.specs.Reading.{nothing_read, begins_with}
 use Rattle.dia_ccf.proofs.Recognized.{both, format_named-word, rule_named-word}
@@ -39,8 +40,8 @@ taken_name text p q h front us (named, is) = ap (λ (f : List Token). outcome p 
 pub value_alone : (done : PlainSource) (d : PlainDecl) (ranges : List (ℕ × ℕ)) (n : ℕ) (us : List Token) → begins_with (same_sign Dots) us ≡ false → outcome (done, After_value d ranges n) us ≡ outcome (done, In_values d (ranges ++ (n, n) ∷ [])) us
 value_alone done d ranges n us h = outcome_same (done, After_value d ranges n) (done, In_values d (ranges ++ (n, n) ∷ [])) us (λ t vs e. (rw (ahead_not (same_sign Dots) t vs us h e) refl, refl)) (λ e. refl)
 
-number_in_values : (done : PlainSource) (d : PlainDecl) (ranges : List (ℕ × ℕ)) (n : ℕ) → n ≤ most_value → next (done, In_values d ranges) (Number n) ≡ Some (done, After_value d ranges n)
-number_in_values done d ranges n small = rw (and_false (not (is_none ranges)), number_at-some 0 most_value n (omega arith) small) refl
+number_in_values : (done : PlainSource) (d : PlainDecl) (ranges : List (ℕ × ℕ)) (n : ℕ) → n ≤ max_value → next (done, In_values d ranges) (Number n) ≡ Some (done, After_value d ranges n)
+number_in_values done d ranges n small = rw (and_false (not (is_none ranges)), number_at-some 0 max_value n (omega arith) small) refl
 
 ahead_values : (rs : List (ℕ × ℕ)) (ws us : List Token) → each range rs ws → begins_with (same_sign Dots) (ws ++ Close_parenthesis ∷ us) ≡ false
 ahead_values [] ws us h = rw h refl
@@ -54,11 +55,11 @@ range_taken done d ranges r xs us (ordered, h) free =
     ∙ take_one (done, In_values d ranges) (Number r.0) (done, After_value d ranges r.0) us (number_in_values done d ranges r.0 small)
     ∙ value_alone done d ranges r.0 us free
     ∙ ap (λ (n : ℕ). outcome (done, In_values d (ranges ++ (r.0, n) ∷ [])) us) e)
-    (λ dotted. taken_then (number most_value r.0) (one Dots then number most_value r.1) (done, In_values d ranges) (done, After_value d ranges r.0) (done, In_values d (ranges ++ r ∷ []))
-    (taken_number most_value r.0 (done, In_values d ranges) (done, After_value d ranges r.0) (number_in_values done d ranges r.0))
-    (taken_then (one Dots) (number most_value r.1) (done, After_value d ranges r.0) (done, After_dots d ranges r.0) (done, In_values d (ranges ++ r ∷ []))
+    (λ dotted. taken_then (number max_value r.0) (one Dots then number max_value r.1) (done, In_values d ranges) (done, After_value d ranges r.0) (done, In_values d (ranges ++ r ∷ []))
+    (taken_number max_value r.0 (done, In_values d ranges) (done, After_value d ranges r.0) (number_in_values done d ranges r.0))
+    (taken_then (one Dots) (number max_value r.1) (done, After_value d ranges r.0) (done, After_dots d ranges r.0) (done, In_values d (ranges ++ r ∷ []))
     (taken_one Dots (done, After_value d ranges r.0) (done, After_dots d ranges r.0) refl)
-    (taken_number most_value r.1 (done, After_dots d ranges r.0) (done, In_values d (ranges ++ r ∷ [])) (λ small. rw (number_at-some r.0 most_value r.1 ordered small) refl)))
+    (taken_number max_value r.1 (done, After_dots d ranges r.0) (done, In_values d (ranges ++ r ∷ [])) (λ small. rw (number_at-some r.0 max_value r.1 ordered small) refl)))
     xs us dotted) h
 
 values_taken : (done : PlainSource) (d : PlainDecl) (rs ranges : List (ℕ × ℕ)) (ws us : List Token) → each range rs ws → not (is_none (ranges ++ rs)) ≡ true
@@ -102,10 +103,10 @@ vendor_taken : (done : PlainSource) (n : List ℕ) (c v : ℕ) (f : FormatName) 
 vendor_taken done n c v f front us (xs, ys, parts, h, k) =
     ⊎_elim (λ (e, zero_is). subst (λ (m : ℕ). outcome (done, Decl_vendor n c) (front ++ us) ≡ outcome (done, Decl_rule n c m f) us) (sym zero_is)
     (taken_one (Name (format_word f)) (done, Decl_vendor n c) (done, Decl_rule n c 0 f) (rw (no_vendor f, format_at-word f) refl) front us (parts ∙ ap (λ (g : List Token). g ++ ys) e ∙ k)))
-    (λ with_word. taken_then (word (codes "vendor") then number most_32 v) (word (format_word f)) (done, Decl_vendor n c) (done, Decl_format n c v) (done, Decl_rule n c v f)
-    (taken_then (word (codes "vendor")) (number most_32 v) (done, Decl_vendor n c) (done, Decl_number n c) (done, Decl_format n c v)
+    (λ with_word. taken_then (word (codes "vendor") then number max_number v) (word (format_word f)) (done, Decl_vendor n c) (done, Decl_format n c v) (done, Decl_rule n c v f)
+    (taken_then (word (codes "vendor")) (number max_number v) (done, Decl_vendor n c) (done, Decl_number n c) (done, Decl_format n c v)
     (taken_one (Name (codes "vendor")) (done, Decl_vendor n c) (done, Decl_number n c) refl)
-    (taken_number most_32 v (done, Decl_number n c) (done, Decl_format n c v) (λ small. rw (number_at-some 0 most_32 v (omega arith) small) refl)))
+    (taken_number max_number v (done, Decl_number n c) (done, Decl_format n c v) (λ small. rw (number_at-some 0 max_number v (omega arith) small) refl)))
     (taken_one (Name (format_word f)) (done, Decl_format n c v) (done, Decl_rule n c v f) (rw (format_at-word f) refl))
     front us (xs, ys, parts, with_word, k)) h
 
@@ -124,12 +125,12 @@ rule_of_decl done d = taken_one (Name (rule_word d.rule)) (done, Decl_rule d.nam
 
 decl_taken : (done : PlainSource) (d : PlainDecl) (us : List Token) (q : State) → Taken_before us (values d.format d.values) (done, Decl_values (unlisted d)) q → Taken_before us (declaration d) (done, Between) q
 decl_taken done d us q h =
-    before_then us (one Declares) (name d.name then number most_32 d.code then vendor d.vendor then word (format_word d.format) then word (rule_word d.rule) then values d.format d.values) (done, Between) (done, Decl_name) q
+    before_then us (one Declares) (name d.name then number max_number d.code then vendor d.vendor then word (format_word d.format) then word (rule_word d.rule) then values d.format d.values) (done, Between) (done, Decl_name) q
     (taken_one Declares (done, Between) (done, Decl_name) refl)
-    (before_then us (name d.name) (number most_32 d.code then vendor d.vendor then word (format_word d.format) then word (rule_word d.rule) then values d.format d.values) (done, Decl_name) (done, Decl_code d.name) q
+    (before_then us (name d.name) (number max_number d.code then vendor d.vendor then word (format_word d.format) then word (rule_word d.rule) then values d.format d.values) (done, Decl_name) (done, Decl_code d.name) q
     (taken_name d.name (done, Decl_name) (done, Decl_code d.name) (λ named. rw named refl))
-    (before_then us (number most_32 d.code) (vendor d.vendor then word (format_word d.format) then word (rule_word d.rule) then values d.format d.values) (done, Decl_code d.name) (done, Decl_vendor d.name d.code) q
-    (taken_number most_32 d.code (done, Decl_code d.name) (done, Decl_vendor d.name d.code) (λ small. rw (number_at-some 0 most_32 d.code (omega arith) small) refl))
+    (before_then us (number max_number d.code) (vendor d.vendor then word (format_word d.format) then word (rule_word d.rule) then values d.format d.values) (done, Decl_code d.name) (done, Decl_vendor d.name d.code) q
+    (taken_number max_number d.code (done, Decl_code d.name) (done, Decl_vendor d.name d.code) (λ small. rw (number_at-some 0 max_number d.code (omega arith) small) refl))
     (λ front (xs, ys, parts, of_vendor, (cs, bs, inner, of_format, k)).
     before_then us (vendor d.vendor then word (format_word d.format)) (word (rule_word d.rule) then values d.format d.values) (done, Decl_vendor d.name d.code) (done, Decl_rule d.name d.code d.vendor d.format) q
     (vendor_taken done d.name d.code d.vendor d.format)
@@ -233,8 +234,8 @@ star_settled done d min Optional text front us (xs, ys, parts, first, k) = rw (p
 min_taken : (done : PlainSource) (d : PlainDef) (min : Option ℕ) → Taken (count min then one Star) (done, Rules d) (done, Qual_star d min)
 min_taken done d None = taken_then nothing (one Star) (done, Rules d) (done, Rules d) (done, Qual_star d None) (taken_nothing (done, Rules d)) (taken_one Star (done, Rules d) (done, Qual_star d None) refl)
 min_taken done d (Some n) =
-    taken_then (number most_32 n) (one Star) (done, Rules d) (done, Qual_min d n) (done, Qual_star d (Some n))
-    (taken_number most_32 n (done, Rules d) (done, Qual_min d n) (λ small. rw (number_at-some 0 most_32 n (omega arith) small) refl))
+    taken_then (number max_number n) (one Star) (done, Rules d) (done, Qual_min d n) (done, Qual_star d (Some n))
+    (taken_number max_number n (done, Rules d) (done, Qual_min d n) (λ small. rw (number_at-some 0 max_number n (omega arith) small) refl))
     (taken_one Star (done, Qual_min d n) (done, Qual_star d (Some n)) refl)
 
 max_taken : (done : PlainSource) (d : PlainDef) (min max : Option ℕ) (kind : RuleKind) (text : Option (List ℕ)) → (kind ≡ Fixed → all_fixed d.rules ≡ true)
@@ -244,8 +245,8 @@ max_taken done d min None kind text fixed front us (xs, ys, parts, first, k) =
     ∙ star_settled done d min kind text ys us k
     ∙ bracket_taken done d kind (record { min = min; max = None }) text fixed ys us k
 max_taken done d min (Some n) kind text fixed front us h =
-    taken_then (number most_32 n) (bracketed kind text) (done, Qual_star d min) (done, Qual_done d (record { min = min; max = Some n })) (done, Rules (with_rule d (record { kind = kind; name = text; qual = Some (record { min = min; max = Some n }) })))
-    (taken_number most_32 n (done, Qual_star d min) (done, Qual_done d (record { min = min; max = Some n })) (λ small. rw (number_at-some 0 most_32 n (omega arith) small) refl))
+    taken_then (number max_number n) (bracketed kind text) (done, Qual_star d min) (done, Qual_done d (record { min = min; max = Some n })) (done, Rules (with_rule d (record { kind = kind; name = text; qual = Some (record { min = min; max = Some n }) })))
+    (taken_number max_number n (done, Qual_star d min) (done, Qual_done d (record { min = min; max = Some n })) (λ small. rw (number_at-some 0 max_number n (omega arith) small) refl))
     (bracket_taken done d kind (record { min = min; max = Some n }) text fixed)
     front us h
 

@@ -8,7 +8,8 @@ use Rattle.dia_ccf.specs.declared.source.Head.{Head}
 use Rattle.dia_ccf.specs.declared.source.Head.TheVariants.{Group, Command, Error}
 use Rattle.dia_ccf.specs.Plain.{PlainSource}
 use Rattle.dia_ccf.specs.Tokens.{Token, Greater, Open_bracket, Close_bracket, Comma, Colon, Number, Name}
-use Rattle.dia_ccf.specs.Grammar.{Tokens, ◌then◌, one, keyword, number, either, nothing, comma, flag, application, group_vendor, error_proxy, head, diameter_header, avp_header, most_32, most_code}
+use Rattle.dia_ccf.specs.Grammar.{Tokens, ◌then◌, one, keyword, number, either, nothing, comma, flag, application, group_vendor, error_proxy, head, diameter_header, avp_header}
+use Rattle.dia_ccf.specs.Limits.{max_number, max_command_code}
 use Rattle.dia_ccf.specs.Machine.{State, HeadPlace, In_head, Rules, Head_word, Diameter_word, Avp_word, Diameter_colon, Avp_colon, Command_code, Group_code, Flags, Group_vendor, Error_word, Error_flags, Error_either, Error_close, Head_end, next, outcome}
 use Rattle.dia_ccf.proofs.Running.{take_one, number_at-some}
 
@@ -80,12 +81,12 @@ proxiable_taken done text c r true =
 
 -- a number that ends a head, behind a comma or none
 ending_number : (done : PlainSource) (text : List ℕ) (at behind_comma : HeadPlace) (n : ℕ) (h : Head) → next (done, In_head text at) Comma ≡ Some (done, In_head text behind_comma)
-    → (n ≤ most_32 → next (done, In_head text at) (Number n) ≡ Some (done, In_head text (Head_end h))) → (n ≤ most_32 → next (done, In_head text behind_comma) (Number n) ≡ Some (done, In_head text (Head_end h)))
-    → Taken (comma then number most_32 n) (done, In_head text at) (done, In_head text (Head_end h))
+    → (n ≤ max_number → next (done, In_head text at) (Number n) ≡ Some (done, In_head text (Head_end h))) → (n ≤ max_number → next (done, In_head text behind_comma) (Number n) ≡ Some (done, In_head text (Head_end h)))
+    → Taken (comma then number max_number n) (done, In_head text at) (done, In_head text (Head_end h))
 ending_number done text at behind_comma n h step bare behind =
-    taken_comma (number most_32 n) (done, In_head text at) (done, In_head text behind_comma) (done, In_head text (Head_end h)) step
-    (taken_number most_32 n (done, In_head text at) (done, In_head text (Head_end h)) bare)
-    (taken_number most_32 n (done, In_head text behind_comma) (done, In_head text (Head_end h)) behind)
+    taken_comma (number max_number n) (done, In_head text at) (done, In_head text behind_comma) (done, In_head text (Head_end h)) step
+    (taken_number max_number n (done, In_head text at) (done, In_head text (Head_end h)) bare)
+    (taken_number max_number n (done, In_head text behind_comma) (done, In_head text (Head_end h)) behind)
 
 application_ended : (done : PlainSource) (text : List ℕ) (c : ℕ) (r p : Bool) (app : Option ℕ) → Taken (application app then one Greater) (done, In_head text (Flags c r p false)) (done, Rules (record { name = text; head = Command c r p app; rules = [] }))
 application_ended done text c r p None =
@@ -93,8 +94,8 @@ application_ended done text c r p None =
     (taken_nothing (done, In_head text (Flags c r p false)))
     (taken_one Greater (done, In_head text (Flags c r p false)) (done, Rules (record { name = text; head = Command c r p None; rules = [] })) refl)
 application_ended done text c r p (Some n) =
-    taken_then (comma then number most_32 n) (one Greater) (done, In_head text (Flags c r p false)) (done, In_head text (Head_end (Command c r p (Some n)))) (done, Rules (record { name = text; head = Command c r p (Some n); rules = [] }))
-    (ending_number done text (Flags c r p false) (Flags c r p true) n (Command c r p (Some n)) refl (λ small. rw (number_at-some 0 most_32 n (omega arith) small) refl) (λ small. rw (number_at-some 0 most_32 n (omega arith) small) refl))
+    taken_then (comma then number max_number n) (one Greater) (done, In_head text (Flags c r p false)) (done, In_head text (Head_end (Command c r p (Some n)))) (done, Rules (record { name = text; head = Command c r p (Some n); rules = [] }))
+    (ending_number done text (Flags c r p false) (Flags c r p true) n (Command c r p (Some n)) refl (λ small. rw (number_at-some 0 max_number n (omega arith) small) refl) (λ small. rw (number_at-some 0 max_number n (omega arith) small) refl))
     (taken_one Greater (done, In_head text (Head_end (Command c r p (Some n)))) (done, Rules (record { name = text; head = Command c r p (Some n); rules = [] })) refl)
 
 -- ---- groups
@@ -103,8 +104,8 @@ group_ended : (done : PlainSource) (text : List ℕ) (c n : ℕ) → Taken (grou
 group_ended done text c n front us (xs, ys, parts, h, k) =
     ⊎_elim (λ (e, zero_is). subst (λ (m : ℕ). outcome (done, In_head text (Group_vendor c false)) (front ++ us) ≡ outcome (done, Rules (record { name = text; head = Group c m; rules = [] })) us) (sym zero_is)
     (taken_one Greater (done, In_head text (Group_vendor c false)) (done, Rules (record { name = text; head = Group c 0; rules = [] })) refl front us (parts ∙ ap (λ (f : List Token). f ++ ys) e ∙ k)))
-    (λ numbered. taken_then (comma then number most_32 n) (one Greater) (done, In_head text (Group_vendor c false)) (done, In_head text (Head_end (Group c n))) (done, Rules (record { name = text; head = Group c n; rules = [] }))
-    (ending_number done text (Group_vendor c false) (Group_vendor c true) n (Group c n) refl (λ small. rw (number_at-some 0 most_32 n (omega arith) small) refl) (λ small. rw (number_at-some 0 most_32 n (omega arith) small) refl))
+    (λ numbered. taken_then (comma then number max_number n) (one Greater) (done, In_head text (Group_vendor c false)) (done, In_head text (Head_end (Group c n))) (done, Rules (record { name = text; head = Group c n; rules = [] }))
+    (ending_number done text (Group_vendor c false) (Group_vendor c true) n (Group c n) refl (λ small. rw (number_at-some 0 max_number n (omega arith) small) refl) (λ small. rw (number_at-some 0 max_number n (omega arith) small) refl))
     (taken_one Greater (done, In_head text (Head_end (Group c n))) (done, Rules (record { name = text; head = Group c n; rules = [] })) refl) front us (xs, ys, parts, numbered, k)) h
 
 -- ---- the answer with errors
@@ -146,20 +147,20 @@ headed done text h = (done, Rules (record { name = text; head = h; rules = [] })
 -- a head and its `>`
 pub head_taken : (done : PlainSource) (text : List ℕ) (h : Head) → Taken (head h then one Greater) (done, In_head text Head_word) (done, Rules (record { name = text; head = h; rules = [] }))
 head_taken done text (Group c n) =
-    taken_left avp_header (number most_32 c then group_vendor n) (one Greater) (done, In_head text Head_word) (done, Rules (record { name = text; head = Group c n; rules = [] }))
-    (taken_then avp_header ((number most_32 c then group_vendor n) then one Greater) (done, In_head text Head_word) (done, In_head text Group_code) (done, Rules (record { name = text; head = Group c n; rules = [] }))
+    taken_left avp_header (number max_number c then group_vendor n) (one Greater) (done, In_head text Head_word) (done, Rules (record { name = text; head = Group c n; rules = [] }))
+    (taken_then avp_header ((number max_number c then group_vendor n) then one Greater) (done, In_head text Head_word) (done, In_head text Group_code) (done, Rules (record { name = text; head = Group c n; rules = [] }))
     (avp_header_taken done text)
-    (taken_left (number most_32 c) (group_vendor n) (one Greater) (done, In_head text Group_code) (done, Rules (record { name = text; head = Group c n; rules = [] }))
-    (taken_then (number most_32 c) (group_vendor n then one Greater) (done, In_head text Group_code) (done, In_head text (Group_vendor c false)) (done, Rules (record { name = text; head = Group c n; rules = [] }))
-    (taken_number most_32 c (done, In_head text Group_code) (done, In_head text (Group_vendor c false)) (λ small. rw (number_at-some 0 most_32 c (omega arith) small) refl))
+    (taken_left (number max_number c) (group_vendor n) (one Greater) (done, In_head text Group_code) (done, Rules (record { name = text; head = Group c n; rules = [] }))
+    (taken_then (number max_number c) (group_vendor n then one Greater) (done, In_head text Group_code) (done, In_head text (Group_vendor c false)) (done, Rules (record { name = text; head = Group c n; rules = [] }))
+    (taken_number max_number c (done, In_head text Group_code) (done, In_head text (Group_vendor c false)) (λ small. rw (number_at-some 0 max_number c (omega arith) small) refl))
     (group_ended done text c n))))
 head_taken done text (Command c r p app) =
-    taken_left diameter_header (number most_code c then flag r (codes "req") then flag p (codes "pxy") then application app) (one Greater) (done, In_head text Head_word) (headed done text (Command c r p app))
-    (taken_then diameter_header ((number most_code c then flag r (codes "req") then flag p (codes "pxy") then application app) then one Greater) (done, In_head text Head_word) (done, In_head text Command_code) (headed done text (Command c r p app))
+    taken_left diameter_header (number max_command_code c then flag r (codes "req") then flag p (codes "pxy") then application app) (one Greater) (done, In_head text Head_word) (headed done text (Command c r p app))
+    (taken_then diameter_header ((number max_command_code c then flag r (codes "req") then flag p (codes "pxy") then application app) then one Greater) (done, In_head text Head_word) (done, In_head text Command_code) (headed done text (Command c r p app))
     (diameter_header_taken done text)
-    (taken_left (number most_code c) (flag r (codes "req") then flag p (codes "pxy") then application app) (one Greater) (done, In_head text Command_code) (headed done text (Command c r p app))
-    (taken_then (number most_code c) ((flag r (codes "req") then flag p (codes "pxy") then application app) then one Greater) (done, In_head text Command_code) (done, In_head text (Flags c false false false)) (headed done text (Command c r p app))
-    (taken_number most_code c (done, In_head text Command_code) (done, In_head text (Flags c false false false)) (λ small. rw (number_at-some 0 most_code c (omega arith) small) refl))
+    (taken_left (number max_command_code c) (flag r (codes "req") then flag p (codes "pxy") then application app) (one Greater) (done, In_head text Command_code) (headed done text (Command c r p app))
+    (taken_then (number max_command_code c) ((flag r (codes "req") then flag p (codes "pxy") then application app) then one Greater) (done, In_head text Command_code) (done, In_head text (Flags c false false false)) (headed done text (Command c r p app))
+    (taken_number max_command_code c (done, In_head text Command_code) (done, In_head text (Flags c false false false)) (λ small. rw (number_at-some 0 max_command_code c (omega arith) small) refl))
     (taken_left (flag r (codes "req")) (flag p (codes "pxy") then application app) (one Greater) (done, In_head text (Flags c false false false)) (headed done text (Command c r p app))
     (taken_then (flag r (codes "req")) ((flag p (codes "pxy") then application app) then one Greater) (done, In_head text (Flags c false false false)) (done, In_head text (Flags c r false false)) (headed done text (Command c r p app))
     (request_taken done text c r)

@@ -8,7 +8,7 @@ use Rattle.dia_ccf.specs.declared.source.RuleKind.TheVariants.{Fixed, Required, 
 use Rattle.dia_ccf.specs.declared.source.Qual.{Qual}
 use Rattle.dia_ccf.specs.Plain.{PlainDecl, PlainRule, PlainDef, PlainSource}
 use Rattle.dia_ccf.specs.Tokens.{Token, Less, Greater, Open_brace, Close_brace, Open_bracket, Close_bracket, Open_parenthesis, Close_parenthesis, Star, Dots, Assign, Colon, Declares, Number, Name}
-use Rattle.dia_ccf.specs.Grammar.{most_32, most_value}
+use Rattle.dia_ccf.specs.Limits.{max_number, max_value}
 use Rattle.dia_ccf.specs.Machine.{State, Place, Between, Decl_name, Decl_code, Decl_vendor, Decl_number, Decl_format, Decl_rule, Decl_values, In_values, After_value, After_dots, Def_name, Def_close, Def_assign, Head_open, In_head, HeadPlace, Head_word, Diameter_word, Avp_word, Diameter_colon, Avp_colon, Command_code, Group_code, Flags, Group_vendor, Error_word, Error_flags, Error_either, Error_close, Head_end, Rules, Qual_min, Qual_star, Qual_done, Fixed_name, Fixed_close, Angle_name, Angle_close, After_angle, Loose_name, Loose_close, next, step, on_item, on_values, on_loose, on_bracket, on_qualifier, on_rules, begins_qualifier, begins_loose, add_decl, add_def, with_values, with_rule, fixed_rule, all_fixed, is_enumerated, is_none, closing_sign, head_at, next_in_head, same_sign, is_word, is_number, sign_at, number_at, name_at, format_at, rule_at, slot_at, Outcome, Reads, Stops, outcome}
 use Rattle.dia_ccf.proofs.Recognized.{number_at-is}
 use Rattle.dia_ccf.proofs.Running.{take_one, number_at-some}
@@ -17,8 +17,8 @@ use Rattle.dia_ccf.proofs.Complete.{and_false}
 -- ---- the places where the machine can stand
 
 abbrev pub is_sound : Place → Bool
-is_sound (After_value d ranges n) = nat_le n most_value
-is_sound (After_dots d ranges low) = nat_le low most_value
+is_sound (After_value d ranges n) = nat_le n max_value
+is_sound (After_dots d ranges low) = nat_le low max_value
 is_sound place = true
 
 abbrev leads_soundly : Option State → Bool
@@ -36,12 +36,12 @@ sound_map to (Some x) h = h x
 sound_item : (done : PlainSource) (t : Token) → leads_soundly (on_item done t) ≡ true
 sound_item done t = sound_cond (same_sign Declares t) (Some (done, Decl_name)) _ refl (sound_cond (same_sign Less t) (Some (done, Def_name)) _ refl (sound_map (λ n. (done, Def_assign n)) (name_at t) (λ n. refl)))
 
-sound_number : (done : PlainSource) (d : PlainDecl) (ranges : List (ℕ × ℕ)) (t : Token) (o : Option ℕ) → number_at 0 most_value t ≡ o → leads_soundly (option_map (λ n. (done, After_value d ranges n)) o) ≡ true
+sound_number : (done : PlainSource) (d : PlainDecl) (ranges : List (ℕ × ℕ)) (t : Token) (o : Option ℕ) → number_at 0 max_value t ≡ o → leads_soundly (option_map (λ n. (done, After_value d ranges n)) o) ≡ true
 sound_number done d ranges t None h = refl
-sound_number done d ranges t (Some n) h = le-leb n most_value (number_at-is 0 most_value t n h).2
+sound_number done d ranges t (Some n) h = le-leb n max_value (number_at-is 0 max_value t n h).2
 
 sound_values : (done : PlainSource) (d : PlainDecl) (ranges : List (ℕ × ℕ)) (t : Token) → leads_soundly (on_values done d ranges t) ≡ true
-sound_values done d ranges t = sound_cond (not (is_none ranges) && same_sign Close_parenthesis t) (Some (add_decl done (with_values d ranges), Between)) _ refl (sound_number done d ranges t (number_at 0 most_value t) refl)
+sound_values done d ranges t = sound_cond (not (is_none ranges) && same_sign Close_parenthesis t) (Some (add_decl done (with_values d ranges), Between)) _ refl (sound_number done d ranges t (number_at 0 max_value t) refl)
 
 sound_loose : (done : PlainSource) (d : PlainDef) (qual : Option Qual) (t : Token) → leads_soundly (on_loose done d qual t) ≡ true
 sound_loose done d qual t = sound_cond (same_sign Open_brace t) (Some (done, Loose_name d Required qual)) _ refl (sound_map (λ u. (done, Loose_name d Optional qual)) (sign_at Open_bracket t) (λ u. refl))
@@ -53,21 +53,21 @@ sound_rules : (done : PlainSource) (d : PlainDef) (t : Token) → leads_soundly 
 sound_rules done d t =
     sound_cond (same_sign Less t) (Some (done, Angle_name d)) _ refl
     (sound_cond (begins_qualifier t) (on_qualifier done d t) _
-    (sound_cond (is_number t) (option_map (λ n. (done, Qual_min d n)) (number_at 0 most_32 t)) _ (sound_map (λ n. (done, Qual_min d n)) (number_at 0 most_32 t) (λ n. refl)) (sound_map (λ u. (done, Qual_star d None)) (sign_at Star t) (λ u. refl)))
+    (sound_cond (is_number t) (option_map (λ n. (done, Qual_min d n)) (number_at 0 max_number t)) _ (sound_map (λ n. (done, Qual_min d n)) (number_at 0 max_number t) (λ n. refl)) (sound_map (λ u. (done, Qual_star d None)) (sign_at Star t) (λ u. refl)))
     (sound_cond (begins_loose t) (on_loose done d None t) (on_item (add_def done d) t) (sound_loose done d None t) (sound_item (add_def done d) t)))
 
 sound_step : (done : PlainSource) (p : Place) (t : Token) → is_sound p ≡ true → leads_soundly (step done p t) ≡ true
 sound_step done Between t h = sound_item done t
 sound_step done Decl_name t h = sound_map (λ n. (done, Decl_code n)) (name_at t) (λ n. refl)
-sound_step done (Decl_code n) t h = sound_map (λ c. (done, Decl_vendor n c)) (number_at 0 most_32 t) (λ c. refl)
+sound_step done (Decl_code n) t h = sound_map (λ c. (done, Decl_vendor n c)) (number_at 0 max_number t) (λ c. refl)
 sound_step done (Decl_vendor n c) t h = sound_cond (is_word (codes "vendor") t) (Some (done, Decl_number n c)) _ refl (sound_map (λ f. (done, Decl_rule n c 0 f)) (format_at t) (λ f. refl))
-sound_step done (Decl_number n c) t h = sound_map (λ v. (done, Decl_format n c v)) (number_at 0 most_32 t) (λ v. refl)
+sound_step done (Decl_number n c) t h = sound_map (λ v. (done, Decl_format n c v)) (number_at 0 max_number t) (λ v. refl)
 sound_step done (Decl_format n c v) t h = sound_map (λ f. (done, Decl_rule n c v f)) (format_at t) (λ f. refl)
 sound_step done (Decl_rule n c v f) t h = sound_map (λ r. (done, Decl_values (record { name = n; code = c; vendor = v; format = f; values = None; rule = r }))) (rule_at t) (λ r. refl)
 sound_step done (Decl_values d) t h = sound_cond (is_enumerated d.format && same_sign Open_parenthesis t) (Some (done, In_values d [])) _ refl (sound_item (add_decl done d) t)
 sound_step done (In_values d ranges) t h = sound_values done d ranges t
 sound_step done (After_value d ranges n) t h = sound_cond (same_sign Dots t) (Some (done, After_dots d ranges n)) _ h (sound_values done d (ranges ++ (n, n) ∷ []) t)
-sound_step done (After_dots d ranges low) t h = sound_map (λ n. (done, In_values d (ranges ++ (low, n) ∷ []))) (number_at low most_value t) (λ n. refl)
+sound_step done (After_dots d ranges low) t h = sound_map (λ n. (done, In_values d (ranges ++ (low, n) ∷ []))) (number_at low max_value t) (λ n. refl)
 sound_step done Def_name t h = sound_map (λ n. (done, Def_close n)) (name_at t) (λ n. refl)
 sound_step done (Def_close n) t h = sound_map (λ u. (done, Def_assign n)) (sign_at Greater t) (λ u. refl)
 sound_step done (Def_assign n) t h = sound_map (λ u. (done, Head_open n)) (sign_at Assign t) (λ u. refl)
@@ -76,8 +76,8 @@ sound_step done (In_head n at) t h = sound_cond (same_sign Greater t) (option_ma
     (sound_map (λ k. (done, Rules (record { name = n; head = k; rules = [] }))) (head_at at) (λ k. refl)) (sound_map (λ to. (done, In_head n to)) (next_in_head at t) (λ to. refl))
 sound_step done (Rules d) t h = sound_rules done d t
 sound_step done (Qual_min d n) t h = sound_map (λ u. (done, Qual_star d (Some n))) (sign_at Star t) (λ u. refl)
-sound_step done (Qual_star d min) t h = sound_cond (is_number t) (option_map (λ n. (done, Qual_done d (record { min = min; max = Some n }))) (number_at 0 most_32 t)) _
-    (sound_map (λ n. (done, Qual_done d (record { min = min; max = Some n }))) (number_at 0 most_32 t) (λ n. refl)) (sound_bracket done d (record { min = min; max = None }) t)
+sound_step done (Qual_star d min) t h = sound_cond (is_number t) (option_map (λ n. (done, Qual_done d (record { min = min; max = Some n }))) (number_at 0 max_number t)) _
+    (sound_map (λ n. (done, Qual_done d (record { min = min; max = Some n }))) (number_at 0 max_number t) (λ n. refl)) (sound_bracket done d (record { min = min; max = None }) t)
 sound_step done (Qual_done d qual) t h = sound_bracket done d qual t
 sound_step done (Fixed_name d qual) t h = sound_map (λ n. (done, Fixed_close d qual n)) (name_at t) (λ n. refl)
 sound_step done (Fixed_close d qual n) t h = sound_map (λ u. (done, Rules (with_rule d (fixed_rule n (Some qual))))) (sign_at Greater t) (λ u. refl)
@@ -203,7 +203,7 @@ completed done (Decl_values d) h = tt
 completed done (In_values d ranges) h = goes_to (done, In_values d ranges) (done, After_value d ranges 0) (Number 0) (Close_parenthesis ∷ []) (rw (and_false (not (is_none ranges))) refl) (value_completed done d ranges 0)
 completed done (After_value d ranges n) h = value_completed done d ranges n
 completed done (After_dots d ranges low) h =
-    goes_to (done, After_dots d ranges low) (done, In_values d (ranges ++ (low, low) ∷ [])) (Number low) (Close_parenthesis ∷ []) (rw (number_at-some low most_value low (omega arith) (leb-true low most_value h)) refl) (values_completed done d ranges (low, low))
+    goes_to (done, After_dots d ranges low) (done, In_values d (ranges ++ (low, low) ∷ [])) (Number low) (Close_parenthesis ∷ []) (rw (number_at-some low max_value low (omega arith) (leb-true low max_value h)) refl) (values_completed done d ranges (low, low))
 completed done Def_name h = tt
 completed done (Def_close n) h = tt
 completed done (Def_assign n) h = tt

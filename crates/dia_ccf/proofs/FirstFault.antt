@@ -11,7 +11,8 @@ use Rattle.dia_ccf.specs.declared.source.RuleKind.{RuleKind}
 use Rattle.dia_ccf.specs.declared.source.RuleKind.TheVariants.{Fixed, Required, Optional}
 use Rattle.dia_ccf.specs.Plain.{PlainSource}
 use Rattle.dia_ccf.specs.Tokens.{Token, Number, Name}
-use Rattle.dia_ccf.specs.Grammar.{Derives, most_value}
+use Rattle.dia_ccf.specs.Grammar.{Derives}
+use Rattle.dia_ccf.specs.Limits.{max_value}
 use Rattle.dia_ccf.specs.Faults.{CanBegin, IsFirstFault, Fits, IsNumberFault, IsLimitFault}
 use Rattle.dia_ccf.specs.Machine.{State, Place, Between, In_values, After_value, After_dots, In_head, Flags, Group_vendor, Error_flags, Loose_close, with_rule, closing_sign, sign_at, Command_code, Group_code, Rules, Qual_star, Qual_done, After_angle, Decl_code, Decl_number, Decl_values, HeadPlace, is_none, all_fixed, is_enumerated, number_at, next, step, whole, refused, least_at, outcome, Reads, Stops, gone_on, ended}
 use Rattle.dia_ccf.specs.Reading.{nothing_read}
@@ -98,9 +99,9 @@ witness_angle : (b : Bool) (x y : Option State) → is_some (cond b x None) ≡ 
 witness_angle true x y h k = k
 witness_angle false x y h k = absurd cc
 
-low_number : (low m : ℕ) (o : Option ℕ) (to : ℕ → State) → number_at low most_value (Number m) ≡ o → is_some (option_map to o) ≡ true → low ≤ most_value
+low_number : (low m : ℕ) (o : Option ℕ) (to : ℕ → State) → number_at low max_value (Number m) ≡ o → is_some (option_map to o) ≡ true → low ≤ max_value
 low_number low m None to e h = absurd cc
-low_number low m (Some n) to e h = let k = number_at-is low most_value (Number m) n e in omega (arith, k.1, k.2)
+low_number low m (Some n) to e h = let k = number_at-is low max_value (Number m) n e in omega (arith, k.1, k.2)
 
 -- where some number may stand, the least one may
 number_witness : (done : PlainSource) (p : Place) (m : ℕ) → is_some (step done p (Number m)) ≡ true → is_some (step done p (Number (least_at p))) ≡ true
@@ -110,8 +111,8 @@ number_witness done (Decl_values d) m h = absurd (let k : is_some (cond (is_enum
 number_witness done (In_values d ranges) m h = rw (and_false (not (is_none ranges))) refl
 number_witness done (After_value d ranges n) m h = rw (and_false (not (is_none (ranges ++ (n, n) ∷ [])))) refl
 number_witness done (After_dots d ranges low) m h =
-    let small = low_number low m (number_at low most_value (Number m)) (λ n. (done, In_values d (ranges ++ (low, n) ∷ []))) refl h in
-    rw (number_at-some low most_value low (omega arith) small) refl
+    let small = low_number low m (number_at low max_value (Number m)) (λ n. (done, In_values d (ranges ++ (low, n) ∷ []))) refl h in
+    rw (number_at-some low max_value low (omega arith) small) refl
 number_witness done (In_head text at) m h = witness_head done text at m h
 number_witness done (Rules d) m h = refl
 number_witness done (Qual_star d least) m h = refl

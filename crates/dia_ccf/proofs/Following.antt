@@ -12,7 +12,8 @@ use Rattle.dia_ccf.specs.declared.source.RuleKind.TheVariants.{Fixed, Required, 
 use Rattle.dia_ccf.specs.Names.{is_name, is_fixed, fixed_first}
 use Rattle.dia_ccf.specs.Plain.{PlainDecl, PlainRule, PlainDef, PlainSource}
 use Rattle.dia_ccf.specs.Tokens.{Token, Open_parenthesis, Close_parenthesis, Declares, Number, Name}
-use Rattle.dia_ccf.specs.Grammar.{Tokens, ◌then◌, each, most_32, format_word, rule_word, vendor, range, values, rule, FixedFirst, IsFixed, Item, Declaration, Definition, item, group_of_head, command_of_head, source_of}
+use Rattle.dia_ccf.specs.Grammar.{Tokens, ◌then◌, each, format_word, rule_word, vendor, range, values, rule, FixedFirst, IsFixed, Item, Declaration, Definition, item, group_of_head, command_of_head, source_of}
+use Rattle.dia_ccf.specs.Limits.{max_number}
 use Rattle.dia_ccf.specs.Machine.{add_decl, add_def, add_by_head, with_values, with_rule, all_fixed}
 use Rattle.dia_ccf.specs.Reading.{nothing_read}
 use Rattle.dia_ccf.proofs.Recognized.{both}
@@ -69,7 +70,7 @@ ends_more done s i front rest h (items, each_of, is) = (i ∷ items, (front, res
 abbrev pub decl_front : PlainDecl → List Token → List Token → List Token
 decl_front d vs ts = Declares ∷ Name d.name ∷ Number d.code ∷ (vs ++ Name (format_word d.format) ∷ Name (rule_word d.rule) ∷ ts)
 
-pub decl_made : (done s : PlainSource) (d : PlainDecl) (vs list ts : List Token) → is_name d.name ≡ true → d.code ≤ most_32 → vendor d.vendor vs → values d.format d.values list
+pub decl_made : (done s : PlainSource) (d : PlainDecl) (vs list ts : List Token) → is_name d.name ≡ true → d.code ≤ max_number → vendor d.vendor vs → values d.format d.values list
     → Ends (add_decl done d) s ts → Ends done s (decl_front d vs (list ++ ts))
 decl_made done s d vs list ts named small of_vendor of_values h =
     let whole = ends_more done s (Declaration d) (decl_front d vs list) ts (
@@ -108,7 +109,7 @@ decl_made done s d vs list ts named small of_vendor of_values h =
 
 pub record Sound_decl (d : PlainDecl) : Type 0 where
   pub named : is_name d.name ≡ true
-  pub small : d.code ≤ most_32
+  pub small : d.code ≤ max_number
   pub unlisted : d.values ≡ None
 
 -- in a list of values

@@ -8,7 +8,8 @@ use Rattle.dia_ccf.specs.declared.source.Pxy.TheVariants.{Clear, Set, Either}
 use Rattle.dia_ccf.specs.declared.source.Head.{Head}
 use Rattle.dia_ccf.specs.declared.source.Head.TheVariants.{Group, Command, Error}
 use Rattle.dia_ccf.specs.Tokens.{Token, Open_bracket, Close_bracket, Comma, Colon, Number, Name}
-use Rattle.dia_ccf.specs.Grammar.{Tokens, ◌then◌, one, keyword, number, either, nothing, comma, flag, application, group_vendor, error_proxy, head, most_32, most_code}
+use Rattle.dia_ccf.specs.Grammar.{Tokens, ◌then◌, one, keyword, number, either, nothing, comma, flag, application, group_vendor, error_proxy, head}
+use Rattle.dia_ccf.specs.Limits.{max_number, max_command_code}
 use Rattle.dia_ccf.specs.Machine.{HeadPlace, Head_word, Diameter_word, Avp_word, Diameter_colon, Avp_colon, Command_code, Group_code, Flags, Group_vendor, Error_word, Error_flags, Error_either, Error_close, Head_end, next_in_head, next_flag, on_comma, head_at, same_sign, is_keyword, keyword_at, sign_at, number_at}
 use Rattle.dia_ccf.proofs.Recognized.{chosen, mapped, some_is, same_sign-is, sign_at-is, keyword-is, keyword_at-is, number_at-is}
 
@@ -21,11 +22,11 @@ flags_rest request true r p app = λ ts. (r ≡ request) × (p ≡ true) × appl
 -- behind a head's colon
 abbrev diameter_rest : Head → Tokens
 diameter_rest (Group code n) = λ ts. ⊥
-diameter_rest (Command code request pxy app) = number most_code code then flags_rest false false request pxy app
+diameter_rest (Command code request pxy app) = number max_command_code code then flags_rest false false request pxy app
 diameter_rest (Error pxy) = keyword (codes "code") then comma then keyword (codes "err") then error_proxy pxy
 
 abbrev group_rest : Head → Tokens
-group_rest (Group code n) = number most_32 code then group_vendor n
+group_rest (Group code n) = number max_number code then group_vendor n
 group_rest (Command code request pxy app) = λ ts. ⊥
 group_rest (Error pxy) = λ ts. ⊥
 
@@ -178,27 +179,27 @@ application_wider false false app us h = nothing_then (flag false (codes "pxy") 
 application_wider true false app us h = (refl, nothing_then (application app) us h)
 application_wider request true app us h = (refl, refl, h)
 
-application_back : (c : ℕ) (request pxy read : Bool) (n : ℕ) (h : Head) (ts : List Token) → n ≤ most_32 → head_rest (Head_end (Command c request pxy (Some n))) h ts → behind_comma read (after_code c request pxy h) (Number n ∷ ts)
+application_back : (c : ℕ) (request pxy read : Bool) (n : ℕ) (h : Head) (ts : List Token) → n ≤ max_number → head_rest (Head_end (Command c request pxy (Some n))) h ts → behind_comma read (after_code c request pxy h) (Number n ∷ ts)
 application_back c request pxy read n h ts small (is, none) =
     let P : Head → List Token → Type 0 = λ k us. behind_comma read (after_code c request pxy k) (Number n ∷ us) in
     subst (λ (us : List Token). P h us) (sym none) (subst (λ (k : Head). P k []) is
-    (behind_wider (application (Some n)) (after_code c request pxy (Command c request pxy (Some n))) read (Number n ∷ []) (λ us wide. (refl, application_wider request pxy (Some n) us wide)) (behind_number n most_32 read small)))
+    (behind_wider (application (Some n)) (after_code c request pxy (Command c request pxy (Some n))) read (Number n ∷ []) (λ us wide. (refl, application_wider request pxy (Some n) us wide)) (behind_number n max_number read small)))
 
 flag_back : (c : ℕ) (request pxy read : Bool) (t : Token) (q : HeadPlace) (h : Head) (ts : List Token) → next_flag c request pxy t ≡ Some q → head_rest q h ts → behind_comma read (after_code c request pxy h) (t ∷ ts)
 flag_back c request pxy read t q h ts k f =
     ⊎_elim (λ (e, k1). (let w = keyword-is (codes "req") t e in subst (λ (u : Token). behind_comma read (after_code c request pxy h) (u ∷ ts)) (sym w.2) (request_back c request pxy read w.0 q h ts w.1 k1 f)))
     (λ (e, k1). ⊎_elim (λ (e2, k2). (let w = keyword-is (codes "pxy") t e2 in subst (λ (u : Token). behind_comma read (after_code c request pxy h) (u ∷ ts)) (sym w.2) (proxiable_back c request pxy read w.0 q h ts w.1 k2 f)))
-    (λ (e2, k2). (let m = mapped (λ n. Head_end (Command c request pxy (Some n))) (number_at 0 most_32 t) q k2 in
-    let n = number_at-is 0 most_32 t m.0 m.1 in
+    (λ (e2, k2). (let m = mapped (λ n. Head_end (Command c request pxy (Some n))) (number_at 0 max_number t) q k2 in
+    let n = number_at-is 0 max_number t m.0 m.1 in
     subst (λ (u : Token). behind_comma read (after_code c request pxy h) (u ∷ ts)) (sym n.0) (application_back c request pxy read m.0 h ts n.2 (subst (λ (at : HeadPlace). head_rest at h ts) (sym m.2) f))))
-    (chosen (is_keyword (codes "pxy") t) (cond pxy None (Some (Flags c request true false))) (option_map (λ n. Head_end (Command c request pxy (Some n))) (number_at 0 most_32 t)) (Some q) k1))
+    (chosen (is_keyword (codes "pxy") t) (cond pxy None (Some (Flags c request true false))) (option_map (λ n. Head_end (Command c request pxy (Some n))) (number_at 0 max_number t)) (Some q) k1))
     (chosen (is_keyword (codes "req") t) (cond (request || pxy) None (Some (Flags c true pxy false))) _ (Some q) k)
 
-group_vendor_back : (c n : ℕ) (read : Bool) (h : Head) (ts : List Token) → n ≤ most_32 → head_rest (Head_end (Group c n)) h ts → behind_comma read (after_group c h) (Number n ∷ ts)
+group_vendor_back : (c n : ℕ) (read : Bool) (h : Head) (ts : List Token) → n ≤ max_number → head_rest (Head_end (Group c n)) h ts → behind_comma read (after_group c h) (Number n ∷ ts)
 group_vendor_back c n read h ts small (is, none) =
     let P : Head → List Token → Type 0 = λ k us. behind_comma read (after_group c k) (Number n ∷ us) in
     subst (λ (us : List Token). P h us) (sym none) (subst (λ (k : Head). P k []) is
-    (behind_wider (comma then number most_32 n) (after_group c (Group c n)) read (Number n ∷ []) (λ us wide. (refl, inr wide)) (behind_number n most_32 read small)))
+    (behind_wider (comma then number max_number n) (after_group c (Group c n)) read (Number n ∷ []) (λ us wide. (refl, inr wide)) (behind_number n max_number read small)))
 
 error_word_back : (read : Bool) (w : List ℕ) (h : Head) (ts : List Token) → map to_ascii_lowercase w ≡ codes "err" → head_rest (Error_flags false) h ts → head_rest (Error_word read) h (Name w ∷ ts)
 error_word_back read w (Group code n) ts e f = absurd f
@@ -235,13 +236,13 @@ code_back w (Group code n) ts e f = absurd f
 code_back w (Command code r p app) ts e f = absurd f
 code_back w (Error p) ts e f = then_one (keyword (codes "code")) (comma then keyword (codes "err") then error_proxy p) (Name w) ts (spelled (codes "code") w e) f
 
-number_back : (n : ℕ) (h : Head) (ts : List Token) → n ≤ most_code → head_rest (Flags n false false false) h ts → diameter_rest h (Number n ∷ ts)
+number_back : (n : ℕ) (h : Head) (ts : List Token) → n ≤ max_command_code → head_rest (Flags n false false false) h ts → diameter_rest h (Number n ∷ ts)
 number_back n (Group code m) ts small f = absurd f
-number_back n (Command code r p app) ts small f = subst (λ (k : ℕ). (number most_code k then flags_rest false false r p app) (Number n ∷ ts)) f.0 (then_one (number most_code n) (flags_rest false false r p app) (Number n) ts (small, refl) f.1)
+number_back n (Command code r p app) ts small f = subst (λ (k : ℕ). (number max_command_code k then flags_rest false false r p app) (Number n ∷ ts)) f.0 (then_one (number max_command_code n) (flags_rest false false r p app) (Number n) ts (small, refl) f.1)
 number_back n (Error p) ts small f = absurd f
 
-group_back : (n : ℕ) (h : Head) (ts : List Token) → n ≤ most_32 → head_rest (Group_vendor n false) h ts → group_rest h (Number n ∷ ts)
-group_back n (Group code m) ts small f = subst (λ (k : ℕ). (number most_32 k then group_vendor m) (Number n ∷ ts)) f.0 (then_one (number most_32 n) (group_vendor m) (Number n) ts (small, refl) f.1)
+group_back : (n : ℕ) (h : Head) (ts : List Token) → n ≤ max_number → head_rest (Group_vendor n false) h ts → group_rest h (Number n ∷ ts)
+group_back n (Group code m) ts small f = subst (λ (k : ℕ). (number max_number k then group_vendor m) (Number n ∷ ts)) f.0 (then_one (number max_number n) (group_vendor m) (Number n) ts (small, refl) f.1)
 group_back n (Command code r p app) ts small f = absurd f
 group_back n (Error p) ts small f = absurd f
 
@@ -313,13 +314,13 @@ head_back Avp_colon t q h ts k f =
 head_back Command_code t q h ts k f =
     ⊎_elim (λ (e, k1). (let w = keyword-is (codes "code") t e in
     subst (λ (u : Token). diameter_rest h (u ∷ ts)) (sym w.2) (code_back w.0 h ts w.1 (subst (λ (p : HeadPlace). head_rest p h ts) (sym (some_is (Error_word false) q k1)) f))))
-    (λ (e, k1). (let m = mapped (λ n. Flags n false false false) (number_at 0 most_code t) q k1 in
-    let n = number_at-is 0 most_code t m.0 m.1 in
+    (λ (e, k1). (let m = mapped (λ n. Flags n false false false) (number_at 0 max_command_code t) q k1 in
+    let n = number_at-is 0 max_command_code t m.0 m.1 in
     subst (λ (u : Token). diameter_rest h (u ∷ ts)) (sym n.0) (number_back m.0 h ts n.2 (subst (λ (p : HeadPlace). head_rest p h ts) (sym m.2) f))))
-    (chosen (is_keyword (codes "code") t) (Some (Error_word false)) (option_map (λ n. Flags n false false false) (number_at 0 most_code t)) (Some q) k)
+    (chosen (is_keyword (codes "code") t) (Some (Error_word false)) (option_map (λ n. Flags n false false false) (number_at 0 max_command_code t)) (Some q) k)
 head_back Group_code t q h ts k f =
-    let m = mapped (λ n. Group_vendor n false) (number_at 0 most_32 t) q k in
-    let n = number_at-is 0 most_32 t m.0 m.1 in
+    let m = mapped (λ n. Group_vendor n false) (number_at 0 max_number t) q k in
+    let n = number_at-is 0 max_number t m.0 m.1 in
     subst (λ (u : Token). group_rest h (u ∷ ts)) (sym n.0) (group_back m.0 h ts n.2 (subst (λ (p : HeadPlace). head_rest p h ts) (sym m.2) f))
 head_back (Flags c request pxy read) t q h ts k f =
     ⊎_elim (λ (e, e2, e3). comma_read (after_code c request pxy h) read t ts e e2 (subst (λ (p : HeadPlace). head_rest p h ts) (sym e3) f))
@@ -327,10 +328,10 @@ head_back (Flags c request pxy read) t q h ts k f =
     (comma_back read (Flags c request pxy true) q (next_flag c request pxy t) t k)
 head_back (Group_vendor c read) t q h ts k f =
     ⊎_elim (λ (e, e2, e3). comma_read (after_group c h) read t ts e e2 (subst (λ (p : HeadPlace). head_rest p h ts) (sym e3) f))
-    (λ k1. (let m = mapped (λ n. Head_end (Group c n)) (number_at 0 most_32 t) q k1 in
-    let n = number_at-is 0 most_32 t m.0 m.1 in
+    (λ k1. (let m = mapped (λ n. Head_end (Group c n)) (number_at 0 max_number t) q k1 in
+    let n = number_at-is 0 max_number t m.0 m.1 in
     subst (λ (u : Token). head_rest (Group_vendor c read) h (u ∷ ts)) (sym n.0) (group_vendor_back c m.0 read h ts n.2 (subst (λ (p : HeadPlace). head_rest p h ts) (sym m.2) f))))
-    (comma_back read (Group_vendor c true) q (option_map (λ n. Head_end (Group c n)) (number_at 0 most_32 t)) t k)
+    (comma_back read (Group_vendor c true) q (option_map (λ n. Head_end (Group c n)) (number_at 0 max_number t)) t k)
 head_back (Error_word read) t q h ts k f =
     ⊎_elim (λ (e, e2, e3). comma_read (of_error (λ p. comma then keyword (codes "err") then error_proxy p) h) read t ts e e2 (subst (λ (p : HeadPlace). head_rest p h ts) (sym e3) f))
     (λ k1. (let m = mapped (λ u. Error_flags false) (keyword_at (codes "err") t) q k1 in

@@ -7,7 +7,7 @@ use Rattle.dia_ccf.specs.declared.reading.Reader.{Reader}
 use Rattle.dia_ccf.specs.declared.source.Head.TheVariants.{Command}
 use Rattle.dia_ccf.specs.Plain.{PlainSource}
 use Rattle.dia_ccf.specs.Tokens.{Token, Comma, Number, Name}
-use Rattle.dia_ccf.specs.Grammar.{most_32, most_code}
+use Rattle.dia_ccf.specs.Limits.{max_number, max_command_code}
 use Rattle.dia_ccf.specs.Machine.{State, HeadPlace, In_head, Command_code, Flags, Head_end, next, next_flag, refused, outcome, is_keyword, is_number, same_sign, number_at, keyword_at}
 use Rattle.dia_ccf.specs.Reading.{left, Passes, begins_with, Takes, Flags_read, course, Wants}
 use Rattle.dia_ccf.proofs.Recognized.{number_at-is, keyword-is, keyword_at-is}
@@ -122,12 +122,12 @@ map_twice f g (Some x) = refl
 
 -- behind a comma a number has to come, where no flag does
 pub number_wanted : (done : PlainSource) (name : List ℕ) (code : ℕ) (request pxy comma : Bool) (ts : List Token) → Settled request pxy comma ts → (comma || begins_with is_number ts) ≡ true
-    → Wants true false (λ t. option_map (λ n. command_at done name code request pxy (Some n)) (number_at 0 most_32 t)) (flags_at done name code request pxy comma) ts
+    → Wants true false (λ t. option_map (λ n. command_at done name code request pxy (Some n)) (number_at 0 max_number t)) (flags_at done name code request pxy comma) ts
 number_wanted done name code request pxy comma [] s h = refl
 number_wanted done name code request pxy true (Name w ∷ us) s h = (rw (no_flag code request pxy w s.request_free s.proxy_free) refl, refl)
-number_wanted done name code request pxy true (Number n ∷ us) s h = (map_twice (λ to. (done, In_head name to)) (λ n. Head_end (Command code request pxy (Some n))) (number_at 0 most_32 (Number n)), refl)
+number_wanted done name code request pxy true (Number n ∷ us) s h = (map_twice (λ to. (done, In_head name to)) (λ n. Head_end (Command code request pxy (Some n))) (number_at 0 max_number (Number n)), refl)
 number_wanted done name code request pxy true (t ∷ us) s h = (refl, refl)
-number_wanted done name code request pxy false (Number n ∷ us) s h = (map_twice (λ to. (done, In_head name to)) (λ n. Head_end (Command code request pxy (Some n))) (number_at 0 most_32 (Number n)), refl)
+number_wanted done name code request pxy false (Number n ∷ us) s h = (map_twice (λ to. (done, In_head name to)) (λ n. Head_end (Command code request pxy (Some n))) (number_at 0 max_number (Number n)), refl)
 number_wanted done name code request pxy false (t ∷ us) s h = absurd cc
 
 -- where neither a comma nor a flag nor a number is ahead the head ends
@@ -144,11 +144,11 @@ command_ends done name code request pxy false ts s h = outcome_same (flags_at do
     at_token t us k free = (refl, refl)
 
 -- a command from its code to its flags
-pub command_begun : (done : PlainSource) (name : List ℕ) (code : ℕ) (start first second third last : Reader) (comma : Bool) (asked proxied : Bool × Bool) → (t : Token) × (number_at 0 most_code t ≡ Some code) × Passes start (t ∷ []) first
+pub command_begun : (done : PlainSource) (name : List ℕ) (code : ℕ) (start first second third last : Reader) (comma : Bool) (asked proxied : Bool × Bool) → (t : Token) × (number_at 0 max_command_code t ≡ Some code) × Passes start (t ∷ []) first
     → Takes (same_sign Comma) first comma second → Flags_read (codes "req") comma second asked third → Flags_read (codes "pxy") asked.1 third proxied last
     → (course (done, In_head name Command_code) start ≡ course (flags_at done name code asked.0 proxied.0 proxied.1) last) × Settled asked.0 proxied.0 proxied.1 (left last)
 command_begun done name code start first second third last comma asked proxied n a b c =
-    let k = number_passed (done, In_head name Command_code) (λ m. flags_at done name m false false false) 0 most_code code start first n (λ m. map_twice (λ to. (done, In_head name to)) (λ m. Flags m false false false) (number_at 0 most_code (Number m))) in
+    let k = number_passed (done, In_head name Command_code) (λ m. flags_at done name m false false false) 0 max_command_code code start first n (λ m. map_twice (λ to. (done, In_head name to)) (λ m. Flags m false false false) (number_at 0 max_command_code (Number m))) in
     let f = flags_read done name code first second third last comma asked proxied a b c in
     (k ∙ f.0, f.1)
 

@@ -11,7 +11,7 @@ use Rattle.dia_ccf.specs.declared.source.RuleKind.{RuleKind}
 use Rattle.dia_ccf.specs.declared.source.RuleKind.TheVariants.{Fixed, Required, Optional}
 use Rattle.dia_ccf.specs.Names.{is_name, is_fixed, is_rule_name}
 use Rattle.dia_ccf.specs.Plain.{PlainSource, PlainDef}
-use Rattle.dia_ccf.specs.Grammar.{most_32}
+use Rattle.dia_ccf.specs.Limits.{max_number}
 use Rattle.dia_ccf.specs.Tokens.{Token, Star, Number}
 use Rattle.dia_ccf.specs.Machine.{State, next, whole, refused, why, outcome, Outcome, Stops, ended, is_number, same_sign, name_at, number_at, sign_at, slot_at, Rules, Qual_min, Qual_star, Qual_done}
 use Rattle.dia_ccf.specs.Reading.{left, Passes, begins_with, why_ahead, Accepts, Course, course, StopsAt, Leads, Wants, Reads_by}
@@ -100,19 +100,19 @@ exits from to k (Err e) new is h = subst (λ (r : Refusal). StopsAt from r new) 
 
 -- what count says of an Ok
 abbrev Counted : Reader → Option ℕ → Reader → Type 0
-Counted old n new = MatchBool (begins_with is_number (left old)) ((t : Token) × (option_map (λ k. Some k) (number_at 0 most_32 t) ≡ Some n) × Passes old (t ∷ []) new) ((◌≡◌ {A = Result (Option ℕ) Refusal} (Ok n) (Ok None)) × (new ≡ old))
+Counted old n new = MatchBool (begins_with is_number (left old)) ((t : Token) × (option_map (λ k. Some k) (number_at 0 max_number t) ≡ Some n) × Passes old (t ∷ []) new) ((◌≡◌ {A = Result (Option ℕ) Refusal} (Ok n) (Ok None)) × (new ≡ old))
 
-counted_some : (t : Token) (n : Option ℕ) → option_map (λ k. Some k) (number_at 0 most_32 t) ≡ Some n → (m : ℕ) × (t ≡ Number m) × (n ≡ Some m) × (number_at 0 most_32 (Number m) ≡ Some m)
+counted_some : (t : Token) (n : Option ℕ) → option_map (λ k. Some k) (number_at 0 max_number t) ≡ Some n → (m : ℕ) × (t ≡ Number m) × (n ≡ Some m) × (number_at 0 max_number (Number m) ≡ Some m)
 counted_some t n h =
-    let k = mapped (λ k. Some k) (number_at 0 most_32 t) n h in
-    let e = number_at-is 0 most_32 t k.0 k.1 in
-    (k.0, e.0, sym k.2, ap (number_at 0 most_32) (sym e.0) ∙ k.1)
+    let k = mapped (λ k. Some k) (number_at 0 max_number t) n h in
+    let e = number_at-is 0 max_number t k.0 k.1 in
+    (k.0, e.0, sym k.2, ap (number_at 0 max_number) (sym e.0) ∙ k.1)
 
 -- a count and the star behind it
 pub min_read : (done : PlainSource) (d : PlainDef) (old mid new : Reader) (min : Option ℕ) → Counted old min mid → (t : Token) × (sign_at Star t ≡ Some tt) × Passes mid (t ∷ []) new → course (done, Rules d) old ≡ course (done, Qual_star d min) new
 min_read done d old mid new min counted (t, star, passes) = by_number (begins_with is_number (left old)) counted
   where
-    by_number : (b : Bool) → MatchBool b ((t : Token) × (option_map (λ k. Some k) (number_at 0 most_32 t) ≡ Some min) × Passes old (t ∷ []) mid) ((◌≡◌ {A = Result (Option ℕ) Refusal} (Ok min) (Ok None)) × (mid ≡ old)) → course (done, Rules d) old ≡ course (done, Qual_star d min) new
+    by_number : (b : Bool) → MatchBool b ((t : Token) × (option_map (λ k. Some k) (number_at 0 max_number t) ≡ Some min) × Passes old (t ∷ []) mid) ((◌≡◌ {A = Result (Option ℕ) Refusal} (Ok min) (Ok None)) × (mid ≡ old)) → course (done, Rules d) old ≡ course (done, Qual_star d min) new
     by_number true (u, read, first) =
         let k = counted_some u min read in
         let step : next (done, Rules d) u ≡ Some (done, Qual_min d k.0) = subst (λ (x : Token). next (done, Rules d) x ≡ Some (done, Qual_min d k.0)) (sym k.1) (ap (option_map (λ n. (done, Qual_min d n))) k.3) in
@@ -133,7 +133,7 @@ no_number b t h = refl
 pub max_read : (done : PlainSource) (d : PlainDef) (old new : Reader) (min max : Option ℕ) → Counted old max new → course (done, Qual_star d min) old ≡ course (done, Qual_done d (record { min = min; max = max })) new
 max_read done d old new min max counted = by_number (begins_with is_number (left old)) refl counted
   where
-    by_number : (b : Bool) → begins_with is_number (left old) ≡ b → MatchBool b ((t : Token) × (option_map (λ k. Some k) (number_at 0 most_32 t) ≡ Some max) × Passes old (t ∷ []) new) ((◌≡◌ {A = Result (Option ℕ) Refusal} (Ok max) (Ok None)) × (new ≡ old)) → course (done, Qual_star d min) old ≡ course (done, Qual_done d (record { min = min; max = max })) new
+    by_number : (b : Bool) → begins_with is_number (left old) ≡ b → MatchBool b ((t : Token) × (option_map (λ k. Some k) (number_at 0 max_number t) ≡ Some max) × Passes old (t ∷ []) new) ((◌≡◌ {A = Result (Option ℕ) Refusal} (Ok max) (Ok None)) × (new ≡ old)) → course (done, Qual_star d min) old ≡ course (done, Qual_done d (record { min = min; max = max })) new
     by_number true e (u, read, first) =
         let k = counted_some u max read in
         let step : next (done, Qual_star d min) u ≡ Some (done, Qual_done d (record { min = min; max = Some k.0 })) = subst (λ (x : Token). next (done, Qual_star d min) x ≡ Some (done, Qual_done d (record { min = min; max = Some k.0 }))) (sym k.1) (ap (option_map (λ n. (done, Qual_done d (record { min = min; max = Some n })))) k.3) in

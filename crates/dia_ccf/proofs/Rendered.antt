@@ -25,7 +25,8 @@ use Rattle.dia_ccf.specs.declared.source.Source.{Source}
 use Rattle.dia_ccf.specs.Names.{is_name, is_name_run, is_rule_name, is_number, is_number_or_none, is_qualifier, is_range, fits_values, is_head, is_fixed, fixed_first, is_group, same_bytes}
 use Rattle.dia_ccf.specs.Plain.{PlainDef, plain, plain_decl, plain_rule, plain_def}
 use Rattle.dia_ccf.specs.Tokens.{Less, Greater, Open_brace, Close_brace, Open_bracket, Close_bracket, Open_parenthesis, Close_parenthesis, Star, Comma, Dots, Assign, Colon, Declares, Name, tokens}
-use Rattle.dia_ccf.specs.Grammar.{◌then◌, one, either, word, name, number, each, most_32, most_code, most_value, format_word, rule_word, vendor, range, values, declaration, diameter_header, avp_header, comma, flag, application, group_vendor, error_proxy, head, count, qualifier, slot, bracketed, rule, IsFixed, FixedFirst, definition, Item, Declaration, Definition, item, declared, group_of, command_of, group_of_head, command_of_head, source_of, Derives}
+use Rattle.dia_ccf.specs.Grammar.{◌then◌, one, either, word, name, number, each, format_word, rule_word, vendor, range, values, declaration, diameter_header, avp_header, comma, flag, application, group_vendor, error_proxy, head, count, qualifier, slot, bracketed, rule, IsFixed, FixedFirst, definition, Item, Declaration, Definition, item, declared, group_of, command_of, group_of_head, command_of_head, source_of, Derives}
+use Rattle.dia_ccf.specs.Limits.{max_number, max_command_code, max_value}
 use Rattle.dia_ccf.specs.Rendering.{line_feed, range_text, values_text, vendor_text, declaration_line, flag_text, application_text, error_proxy_text, head_text, count_text, qualifier_text, slot_text, bracketed_text, rule_line, definition_lines, canonical}
 use Rattle.dia_ccf.proofs.Lexing.{lexed, tokens_after-lexed, starts_run}
 use Rattle.dia_ccf.proofs.ReadBack.{Reads, Anything, NoRun, reads_then, reads_after_space, reads_before_space, reads_before_feed, reads_after_feed, reads_narrower, reads_wider, reads_same, reads_number, reads_word, reads_keyword, reads_nothing, reads_each, reads_each-append}
@@ -38,8 +39,8 @@ reads_name text named =
     let p = reads_word text run in
     record { tokens = p.tokens; derived = (named, p.derived); read = p.read }
 
-reads_number_32 : (n : ℕ) → is_number n ≡ true → Reads NoRun (number most_32 n) (decimal n)
-reads_number_32 n small = let below = ltb-true n 4294967296 small in reads_number most_32 n (omega arith) (omega arith)
+reads_number_32 : (n : ℕ) → is_number n ≡ true → Reads NoRun (number max_number n) (decimal n)
+reads_number_32 n small = let below = ltb-true n 4294967296 small in reads_number max_number n (omega arith) (omega arith)
 
 -- what follows a text that is empty, or that begins with no byte of a run
 abbrev KeepsNoRun : List ℕ → Type 0
@@ -72,8 +73,8 @@ vendor-keeps n rest ends = elim (eqb n 0) as (λ t. starts_run (cond t [] (codes
 reads_dots : Reads Anything (one Dots) (codes "..")
 reads_dots = record { tokens = Dots ∷ []; derived = refl; read = λ rest may. refl }
 
-reads_value : (n : ℕ) → n < 2147483648 → Reads NoRun (number most_value n) (decimal n)
-reads_value n small = reads_number most_value n (omega arith) (omega arith)
+reads_value : (n : ℕ) → n < 2147483648 → Reads NoRun (number max_value n) (decimal n)
+reads_value n small = reads_number max_value n (omega arith) (omega arith)
 
 reads_range : (r : ℕ × ℕ) → is_range r ≡ true → Reads Anything (range r) (range_text r ++ codes " ")
 reads_range r ranged =
@@ -241,7 +242,7 @@ reads_head (Command code request pxy app) fits =
     let last = keeps-append p a (proxiable-keeps pxy) (application-keeps app) in
     reads_same (head_text (Command code request pxy app)) (command-regroup (codes "Diameter Header: ") (decimal code) r p a)
     (reads_then reads_diameter_header
-    (reads_then (reads_number most_code code (omega arith) (omega arith))
+    (reads_then (reads_number max_command_code code (omega arith) (omega arith))
     (reads_then (reads_request request)
     (reads_then (reads_proxiable pxy) (reads_application app parts.1) (application-keeps app))
     last)

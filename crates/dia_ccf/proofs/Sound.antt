@@ -11,7 +11,8 @@ use Rattle.dia_ccf.specs.declared.source.Qual.{Qual}
 use Rattle.dia_ccf.specs.Names.{is_name, is_fixed}
 use Rattle.dia_ccf.specs.Plain.{PlainDecl, PlainRule, PlainDef, PlainSource}
 use Rattle.dia_ccf.specs.Tokens.{Token, Less, Greater, Open_brace, Close_brace, Open_bracket, Close_bracket, Open_parenthesis, Close_parenthesis, Star, Dots, Assign, Declares, Number, Name}
-use Rattle.dia_ccf.specs.Grammar.{Tokens, ◌then◌, one, name, either, most_32, most_value, format_word, vendor, values, count, qualifier, slot, bracketed, rule, definition, Definition, Derives}
+use Rattle.dia_ccf.specs.Grammar.{Tokens, ◌then◌, one, name, either, format_word, vendor, values, count, qualifier, slot, bracketed, rule, definition, Definition, Derives}
+use Rattle.dia_ccf.specs.Limits.{max_number, max_value}
 use Rattle.dia_ccf.specs.Machine.{State, Place, Between, Decl_name, Decl_code, Decl_vendor, Decl_number, Decl_format, Decl_rule, Decl_values, In_values, After_value, After_dots, Def_name, Def_close, Def_assign, Head_open, In_head, HeadPlace, Head_word, Rules, Qual_min, Qual_star, Qual_done, Fixed_name, Fixed_close, Angle_name, Angle_close, After_angle, Loose_name, Loose_close, next, step, whole, whole_at, on_item, on_values, on_loose, on_bracket, on_star, on_qualifier, on_rules, begins_qualifier, begins_loose, add_decl, add_def, with_values, with_rule, fixed_rule, all_fixed, is_enumerated, is_none, closing_sign, head_at, next_in_head, same_sign, is_word, is_number, sign_at, number_at, name_at, format_at, rule_at, slot_at, Outcome, Reads, outcome, ended, gone_on}
 use Rattle.dia_ccf.specs.Reading.{nothing_read}
 use Rattle.dia_ccf.proofs.Recognized.{slot_tokens, Is_slot, slot_at-is, both, chosen, mapped, guarded, some_is, same_sign-is, sign_at-is, name_at-is, number_at-is, word-is, format_at-is, rule_at-is}
@@ -108,7 +109,7 @@ bare_made done s text ts named a = def_made done s text (Name text ∷ []) ts (i
 
 -- a count is in its range
 abbrev Small_count : Option ℕ → Type 0
-Small_count n = IfSome n (λ k. k ≤ most_32)
+Small_count n = IfSome n (λ k. k ≤ max_number)
 
 abbrev count_tokens : Option ℕ → List Token
 count_tokens None = []
@@ -131,21 +132,21 @@ abbrev Follows : PlainSource → Place → PlainSource → Tokens
 Follows done Between s ts = Ends done s ts
 Follows done Decl_name s ts = Ends done s (Declares ∷ ts)
 Follows done (Decl_code n) s ts = is_name n ≡ true → Ends done s (Declares ∷ Name n ∷ ts)
-Follows done (Decl_vendor n c) s ts = is_name n ≡ true → c ≤ most_32 → Ends done s (Declares ∷ Name n ∷ Number c ∷ ts)
-Follows done (Decl_number n c) s ts = is_name n ≡ true → c ≤ most_32 → Ends done s (Declares ∷ Name n ∷ Number c ∷ Name (codes "vendor") ∷ ts)
-Follows done (Decl_format n c v) s ts = is_name n ≡ true → c ≤ most_32 → v ≤ most_32 → Ends done s (Declares ∷ Name n ∷ Number c ∷ Name (codes "vendor") ∷ Number v ∷ ts)
-Follows done (Decl_rule n c v f) s ts = is_name n ≡ true → c ≤ most_32 → (vs : List Token) → vendor v vs → Ends done s (Declares ∷ Name n ∷ Number c ∷ (vs ++ Name (format_word f) ∷ ts))
+Follows done (Decl_vendor n c) s ts = is_name n ≡ true → c ≤ max_number → Ends done s (Declares ∷ Name n ∷ Number c ∷ ts)
+Follows done (Decl_number n c) s ts = is_name n ≡ true → c ≤ max_number → Ends done s (Declares ∷ Name n ∷ Number c ∷ Name (codes "vendor") ∷ ts)
+Follows done (Decl_format n c v) s ts = is_name n ≡ true → c ≤ max_number → v ≤ max_number → Ends done s (Declares ∷ Name n ∷ Number c ∷ Name (codes "vendor") ∷ Number v ∷ ts)
+Follows done (Decl_rule n c v f) s ts = is_name n ≡ true → c ≤ max_number → (vs : List Token) → vendor v vs → Ends done s (Declares ∷ Name n ∷ Number c ∷ (vs ++ Name (format_word f) ∷ ts))
 Follows done (Decl_values d) s ts = Sound_decl d → (vs : List Token) → vendor d.vendor vs → Ends done s (decl_front d vs ts)
 Follows done (In_values d ranges) s ts = Values_follow done s d ranges ts
-Follows done (After_value d ranges n) s ts = n ≤ most_value → Values_follow done s d ranges (Number n ∷ ts)
-Follows done (After_dots d ranges low) s ts = low ≤ most_value → Values_follow done s d ranges (Number low ∷ Dots ∷ ts)
+Follows done (After_value d ranges n) s ts = n ≤ max_value → Values_follow done s d ranges (Number n ∷ ts)
+Follows done (After_dots d ranges low) s ts = low ≤ max_value → Values_follow done s d ranges (Number low ∷ Dots ∷ ts)
 Follows done Def_name s ts = Name_follows done s ts
 Follows done (Def_close n) s ts = Close_follows done s n ts
 Follows done (Def_assign n) s ts = Assign_follows done s n ts
 Follows done (Head_open n) s ts = Open_follows done s n ts
 Follows done (In_head n at) s ts = Head_follows done s n at ts
 Follows done (Rules d) s ts = Rules_follow done s d ts
-Follows done (Qual_min d n) s ts = n ≤ most_32 → Rules_follow done s d (Number n ∷ ts)
+Follows done (Qual_min d n) s ts = n ≤ max_number → Rules_follow done s d (Number n ∷ ts)
 Follows done (Qual_star d min) s ts = Small_count min → Rules_follow done s d (count_tokens min ++ Star ∷ ts)
 Follows done (Qual_done d q) s ts = Small_qual (Some q) → Rules_follow done s d (qual_tokens (Some q) ++ ts)
 Follows done (Fixed_name d q) s ts = Small_qual (Some q) → all_fixed d.rules ≡ true → Rules_follow done s d (qual_tokens (Some q) ++ Less ∷ ts)
@@ -185,10 +186,10 @@ values_back done s d ranges t q ts h f =
     let r = nonempty ranges b.0 in
     subst (λ (u : Token). Values_follow done s d ranges (u ∷ ts)) (same_sign-is Close_parenthesis t b.1)
     (values_closed done s d ranges r.0 r.1 ts r.2 (moved (add_decl done (with_values d ranges), Between) q s ts (some_is (add_decl done (with_values d ranges), Between) q k) f))))
-    (λ (e, k). (let m = mapped (λ n. (done, After_value d ranges n)) (number_at 0 most_value t) q k in
-    let n = number_at-is 0 most_value t m.0 m.1 in
+    (λ (e, k). (let m = mapped (λ n. (done, After_value d ranges n)) (number_at 0 max_value t) q k in
+    let n = number_at-is 0 max_value t m.0 m.1 in
     subst (λ (u : Token). Values_follow done s d ranges (u ∷ ts)) (sym n.0) (moved (done, After_value d ranges m.0) q s ts m.2 f n.2)))
-    (chosen (not (is_none ranges) && same_sign Close_parenthesis t) (Some (add_decl done (with_values d ranges), Between)) (option_map (λ n. (done, After_value d ranges n)) (number_at 0 most_value t)) (Some q) h)
+    (chosen (not (is_none ranges) && same_sign Close_parenthesis t) (Some (add_decl done (with_values d ranges), Between)) (option_map (λ n. (done, After_value d ranges n)) (number_at 0 max_value t)) (Some q) h)
 
 loose_back : (done s : PlainSource) (d : PlainDef) (qual : Option Qual) (t : Token) (q : State) (ts : List Token) → on_loose done d qual t ≡ Some q → Follows_state q s ts → Small_qual qual → Rules_follow done s d (qual_tokens qual ++ t ∷ ts)
 loose_back done s d qual t q ts h f small =
@@ -206,21 +207,21 @@ bracket_back done s d qual t q ts h f small =
 
 star_back : (done s : PlainSource) (d : PlainDef) (min : Option ℕ) (t : Token) (q : State) (ts : List Token) → on_star done d min t ≡ Some q → Follows_state q s ts → Small_count min → Rules_follow done s d (count_tokens min ++ Star ∷ t ∷ ts)
 star_back done s d min t q ts h f small =
-    ⊎_elim (λ (e, k). (let m = mapped (λ n. (done, Qual_done d (record { min = min; max = Some n }))) (number_at 0 most_32 t) q k in
-    let n = number_at-is 0 most_32 t m.0 m.1 in
+    ⊎_elim (λ (e, k). (let m = mapped (λ n. (done, Qual_done d (record { min = min; max = Some n }))) (number_at 0 max_number t) q k in
+    let n = number_at-is 0 max_number t m.0 m.1 in
     subst (λ (u : Token). Rules_follow done s d (count_tokens min ++ Star ∷ u ∷ ts)) (sym n.0)
     (subst (Rules_follow done s d) (append_assoc (count_tokens min) (Star ∷ Number m.0 ∷ []) ts) (moved (done, Qual_done d (record { min = min; max = Some m.0 })) q s ts m.2 f (small, n.2)))))
     (λ (e, k). subst (Rules_follow done s d) (append_assoc (count_tokens min) (Star ∷ []) (t ∷ ts)) (bracket_back done s d (record { min = min; max = None }) t q ts k f (small, tt)))
-    (chosen (is_number t) (option_map (λ n. (done, Qual_done d (record { min = min; max = Some n }))) (number_at 0 most_32 t)) (on_bracket done d (record { min = min; max = None }) t) (Some q) h)
+    (chosen (is_number t) (option_map (λ n. (done, Qual_done d (record { min = min; max = Some n }))) (number_at 0 max_number t)) (on_bracket done d (record { min = min; max = None }) t) (Some q) h)
 
 qualifier_back : (done s : PlainSource) (d : PlainDef) (t : Token) (q : State) (ts : List Token) → on_qualifier done d t ≡ Some q → Follows_state q s ts → Rules_follow done s d (t ∷ ts)
 qualifier_back done s d t q ts h f =
-    ⊎_elim (λ (e, k). (let m = mapped (λ n. (done, Qual_min d n)) (number_at 0 most_32 t) q k in
-    let n = number_at-is 0 most_32 t m.0 m.1 in
+    ⊎_elim (λ (e, k). (let m = mapped (λ n. (done, Qual_min d n)) (number_at 0 max_number t) q k in
+    let n = number_at-is 0 max_number t m.0 m.1 in
     subst (λ (u : Token). Rules_follow done s d (u ∷ ts)) (sym n.0) (moved (done, Qual_min d m.0) q s ts m.2 f n.2)))
     (λ (e, k). (let m = mapped (λ u. (done, Qual_star d None)) (sign_at Star t) q k in
     subst (λ (u : Token). Rules_follow done s d (u ∷ ts)) (sym (sign_at-is Star t m.0 m.1)) (moved (done, Qual_star d None) q s ts m.2 f tt)))
-    (chosen (is_number t) (option_map (λ n. (done, Qual_min d n)) (number_at 0 most_32 t)) (option_map (λ u. (done, Qual_star d None)) (sign_at Star t)) (Some q) h)
+    (chosen (is_number t) (option_map (λ n. (done, Qual_min d n)) (number_at 0 max_number t)) (option_map (λ u. (done, Qual_star d None)) (sign_at Star t)) (Some q) h)
 
 rules_back : (done s : PlainSource) (d : PlainDef) (t : Token) (q : State) (ts : List Token) → on_rules done d t ≡ Some q → Follows_state q s ts → Rules_follow done s d (t ∷ ts)
 rules_back done s d t q ts h f =
@@ -335,13 +336,13 @@ step_back done Decl_name s t q ts h f =
     let n = name_at-is t m.0 m.1 in
     subst (λ (u : Token). Ends done s (Declares ∷ u ∷ ts)) (sym n.0) (moved (done, Decl_code m.0) q s ts m.2 f n.1)
 step_back done (Decl_code n) s t q ts h f = λ named.
-    (let m = mapped (λ c. (done, Decl_vendor n c)) (number_at 0 most_32 t) q h in
-    let c = number_at-is 0 most_32 t m.0 m.1 in
+    (let m = mapped (λ c. (done, Decl_vendor n c)) (number_at 0 max_number t) q h in
+    let c = number_at-is 0 max_number t m.0 m.1 in
     subst (λ (u : Token). Ends done s (Declares ∷ Name n ∷ u ∷ ts)) (sym c.0) (moved (done, Decl_vendor n m.0) q s ts m.2 f named c.2))
 step_back done (Decl_vendor n c) s t q ts h f = vendor_back done s n c t q ts h f
 step_back done (Decl_number n c) s t q ts h f = λ named small.
-    (let m = mapped (λ v. (done, Decl_format n c v)) (number_at 0 most_32 t) q h in
-    let v = number_at-is 0 most_32 t m.0 m.1 in
+    (let m = mapped (λ v. (done, Decl_format n c v)) (number_at 0 max_number t) q h in
+    let v = number_at-is 0 max_number t m.0 m.1 in
     subst (λ (u : Token). Ends done s (Declares ∷ Name n ∷ Number c ∷ Name (codes "vendor") ∷ u ∷ ts)) (sym v.0) (moved (done, Decl_format n c m.0) q s ts m.2 f named small v.2))
 step_back done (Decl_format n c v) s t q ts h f = λ named small small2.
     (let m = mapped (λ g. (done, Decl_rule n c v g)) (format_at t) q h in
@@ -355,8 +356,8 @@ step_back done (Decl_values d) s t q ts h f = list_back done s d t q ts h f
 step_back done (In_values d ranges) s t q ts h f = values_back done s d ranges t q ts h f
 step_back done (After_value d ranges n) s t q ts h f = range_back done s d ranges n t q ts h f
 step_back done (After_dots d ranges low) s t q ts h f = λ small.
-    (let m = mapped (λ n. (done, In_values d (ranges ++ (low, n) ∷ []))) (number_at low most_value t) q h in
-    let n = number_at-is low most_value t m.0 m.1 in
+    (let m = mapped (λ n. (done, In_values d (ranges ++ (low, n) ∷ []))) (number_at low max_value t) q h in
+    let n = number_at-is low max_value t m.0 m.1 in
     subst (λ (u : Token). Values_follow done s d ranges (Number low ∷ Dots ∷ u ∷ ts)) (sym n.0)
     (range_more done s d ranges (low, m.0) (Number low ∷ Dots ∷ Number m.0 ∷ []) ts
     (n.1, inr (Number low ∷ [], Dots ∷ Number m.0 ∷ [], refl, (small, refl), (Dots ∷ [], Number m.0 ∷ [], refl, refl, (n.2, refl))))

@@ -2,6 +2,7 @@
 use Rattle.std.specs.Prelude.{◌≡◌, ℕ, suc, ◌+◌, ◌<◌, ◌≤◌, List, [], ◌∷◌, ◌++◌, length, take, Option, Some, None, slice_get, codes, ⊤}
 use Rattle.dia_ccf.specs.declared.fault.CcfFault.{CcfFault}
 use Rattle.dia_ccf.specs.declared.fault.CcfFault.TheVariants as fault
+use Rattle.dia_ccf.specs.Limits.{max_name}
 use Rattle.dia_ccf.specs.Plain.{PlainSource}
 use Rattle.dia_ccf.specs.Tokens.{Token, Number, Name, Placed, placed_tokens, tokens, line_at}
 use Rattle.dia_ccf.specs.Grammar.{Derives}
@@ -25,9 +26,9 @@ Fits ts k other = CanBegin (take k ts ++ other ∷ [])
 abbrev pub IsNumberFault : List Token → ℕ → Type 0
 IsNumberFault ts k = (n : ℕ) × (slice_get ts k ≡ Some (Number n)) × (other : ℕ) × Fits ts k (Number other)
 
--- a name above 128 bytes stands at place k, and a short one fits there
+-- a name above the limit stands at place k, and a short one fits there
 abbrev pub IsLimitFault : List Token → ℕ → Type 0
-IsLimitFault ts k = (name : List ℕ) × (slice_get ts k ≡ Some (Name name)) × (128 < length name) × Fits ts k (Name (codes "a"))
+IsLimitFault ts k = (name : List ℕ) × (slice_get ts k ≡ Some (Name name)) × (max_name < length name) × Fits ts k (Name (codes "a"))
 
 -- the line on which token k stands, and behind the last token the line on which the text ends
 abbrev pub token_line : List ℕ → Option Placed → ℕ

@@ -14,6 +14,7 @@ use Rattle.dia_ccf.specs.declared.source.Head.TheVariants.{Group, Command, Error
 use Rattle.dia_ccf.specs.declared.source.RuleKind.{RuleKind}
 use Rattle.dia_ccf.specs.declared.source.RuleKind.TheVariants.{Fixed, Required, Optional}
 use Rattle.dia_ccf.specs.declared.source.Qual.{Qual}
+use Rattle.dia_ccf.specs.Limits.{max_number, max_command_code, max_value}
 use Rattle.dia_ccf.specs.Names.{is_name}
 use Rattle.dia_ccf.specs.Plain.{PlainDecl, PlainRule, PlainDef, PlainSource}
 use Rattle.dia_ccf.specs.Tokens.{Token, Less, Greater, Open_brace, Close_brace, Open_bracket, Close_bracket, Open_parenthesis, Close_parenthesis, Star, Comma, Dots, Assign, Colon, Declares, Number, Name}
@@ -57,16 +58,6 @@ abbrev pub each : {X : Type 0} → (X → Tokens) → List X → Tokens
 each class [] ts = nothing ts
 each class (x ∷ xs) ts = (class x then each class xs) ts
 
--- 32 bits, a command code, and a value of an Enumerated list
-abbrev pub most_32 : ℕ
-most_32 = 4294967295
-
-abbrev pub most_code : ℕ
-most_code = 16777215
-
-abbrev pub most_value : ℕ
-most_value = 2147483647
-
 -- ---- declarations
 
 abbrev pub format_word : FormatName → List ℕ
@@ -94,11 +85,11 @@ rule_word Any = codes "any"
 
 -- a vendor of 0 and no vendor are one
 abbrev pub vendor : ℕ → Tokens
-vendor n ts = (nothing ts × (n ≡ 0)) ⊎ (word (codes "vendor") then number most_32 n) ts
+vendor n ts = (nothing ts × (n ≡ 0)) ⊎ (word (codes "vendor") then number max_number n) ts
 
 -- a number alone is a range of one
 abbrev pub range : ℕ × ℕ → Tokens
-range r ts = (r.0 ≤ r.1) × either (λ us. (r.0 ≡ r.1) × number most_value r.0 us) (number most_value r.0 then one Dots then number most_value r.1) ts
+range r ts = (r.0 ≤ r.1) × either (λ us. (r.0 ≡ r.1) × number max_value r.0 us) (number max_value r.0 then one Dots then number max_value r.1) ts
 
 -- a list only after Enumerated, and with one range at least
 abbrev pub values : FormatName → Option (List (ℕ × ℕ)) → Tokens
@@ -107,7 +98,7 @@ values format.Enumerated (Some (r ∷ rs)) ts = (one Open_parenthesis then each 
 values f (Some rs) ts = ⊥
 
 abbrev pub declaration : PlainDecl → Tokens
-declaration d = one Declares then name d.name then number most_32 d.code then vendor d.vendor
+declaration d = one Declares then name d.name then number max_number d.code then vendor d.vendor
     then word (format_word d.format) then word (rule_word d.rule) then values d.format d.values
 
 -- ---- definitions
@@ -128,10 +119,10 @@ flag true text = comma then keyword text
 
 abbrev pub application : Option ℕ → Tokens
 application None = nothing
-application (Some n) = comma then number most_32 n
+application (Some n) = comma then number max_number n
 
 abbrev pub group_vendor : ℕ → Tokens
-group_vendor n ts = (nothing ts × (n ≡ 0)) ⊎ (comma then number most_32 n) ts
+group_vendor n ts = (nothing ts × (n ≡ 0)) ⊎ (comma then number max_number n) ts
 
 abbrev pub error_proxy : Pxy → Tokens
 error_proxy Clear = nothing
@@ -139,13 +130,13 @@ error_proxy Set = comma then keyword (codes "pxy")
 error_proxy Either = one Open_bracket then comma then keyword (codes "pxy") then one Close_bracket
 
 abbrev pub head : Head → Tokens
-head (Group code n) = avp_header then number most_32 code then group_vendor n
-head (Command code request pxy app) = diameter_header then number most_code code then flag request (codes "req") then flag pxy (codes "pxy") then application app
+head (Group code n) = avp_header then number max_number code then group_vendor n
+head (Command code request pxy app) = diameter_header then number max_command_code code then flag request (codes "req") then flag pxy (codes "pxy") then application app
 head (Error pxy) = diameter_header then keyword (codes "code") then comma then keyword (codes "err") then error_proxy pxy
 
 abbrev pub count : Option ℕ → Tokens
 count None = nothing
-count (Some n) = number most_32 n
+count (Some n) = number max_number n
 
 abbrev pub qualifier : Option Qual → Tokens
 qualifier None = nothing

@@ -1,5 +1,6 @@
 -- What the lexer's tokens stand for in the text.
-use Rattle.std.specs.Prelude.{◌≡◌, ℕ, ◌<◌, ◌≤◌, min, List, [], ◌∷◌, length, drop, map, Option, Some, None}
+use Rattle.std.specs.Prelude.{◌≡◌, ℕ, ◌+◌, ◌<◌, ◌≤◌, min, List, [], ◌∷◌, length, drop, map, Option, Some, None}
+use Rattle.dia_ccf.specs.Limits.{max_number}
 use Rattle.dia_ccf.specs.declared.lexer.Token.{Token as LexerToken}
 use Rattle.dia_ccf.specs.declared.lexer.Token.TheVariants as lexer
 use Rattle.dia_ccf.specs.declared.lexer.Sign.{Sign}
@@ -7,9 +8,9 @@ use Rattle.dia_ccf.specs.declared.lexer.Sign.TheVariants as signs
 use Rattle.dia_ccf.specs.declared.lexer.Lexed.{Lexed}
 use Rattle.dia_ccf.specs.Tokens.{Token, Less, Greater, Open_brace, Close_brace, Open_bracket, Close_bracket, Open_parenthesis, Close_parenthesis, Star, Comma, Dots, Assign, Colon, Declares, Number, Name, Other, Placed, tokens_after}
 
--- a number above 32 bits counts as the first such number
+-- a number above the limit counts as the first such number
 abbrev pub capped : Token → Token
-capped (Number n) = Number (min n 4294967296)
+capped (Number n) = Number (min n (max_number + 1))
 capped token = token
 
 abbrev pub shown_sign : Sign → Token
@@ -32,7 +33,7 @@ shown_sign signs.Declares = Declares
 abbrev pub shown : LexerToken → Token
 shown (lexer.Sign sign) = shown_sign sign
 shown (lexer.Number n) = Number n
-shown lexer.TooGreat = Number 4294967296
+shown lexer.TooGreat = Number (max_number + 1)
 shown (lexer.Name text) = Name text.now
 shown lexer.Other = Other
 

@@ -19,7 +19,7 @@ use Rattle.dia_ccf.specs.declared.reading.reasons.Refusal.TheVariants as refusal
 use Rattle.dia_ccf.specs.Names.{is_name, is_fixed, same_bytes}
 use Rattle.dia_ccf.specs.Plain.{PlainDecl, PlainRule, PlainDef, PlainSource}
 use Rattle.dia_ccf.specs.Tokens.{Token, Less, Greater, Open_brace, Close_brace, Open_bracket, Close_bracket, Open_parenthesis, Close_parenthesis, Star, Comma, Dots, Assign, Colon, Declares, Number, Name}
-use Rattle.dia_ccf.specs.Grammar.{most_32, most_code, most_value}
+use Rattle.dia_ccf.specs.Limits.{max_name, max_number, max_command_code, max_value}
 
 -- ---- places
 
@@ -177,7 +177,7 @@ abbrev pub next_flag : ℕ → Bool → Bool → Token → Option HeadPlace
 next_flag code request pxy token =
     cond (is_keyword (codes "req") token) (cond (request || pxy) None (Some (Flags code true pxy false)))
     (cond (is_keyword (codes "pxy") token) (cond pxy None (Some (Flags code request true false)))
-    (option_map (λ n. Head_end (Command code request pxy (Some n))) (number_at 0 most_32 token)))
+    (option_map (λ n. Head_end (Command code request pxy (Some n))) (number_at 0 max_number token)))
 
 -- a comma, where none stands yet, or what else may come
 abbrev pub on_comma : Bool → HeadPlace → Option HeadPlace → Token → Option HeadPlace
@@ -193,10 +193,10 @@ next_in_head Diameter_word token = option_map (λ u. Diameter_colon) (keyword_at
 next_in_head Avp_word token = option_map (λ u. Avp_colon) (keyword_at (codes "header") token)
 next_in_head Diameter_colon token = option_map (λ u. Command_code) (sign_at Colon token)
 next_in_head Avp_colon token = option_map (λ u. Group_code) (sign_at Colon token)
-next_in_head Command_code token = cond (is_keyword (codes "code") token) (Some (Error_word false)) (option_map (λ n. Flags n false false false) (number_at 0 most_code token))
-next_in_head Group_code token = option_map (λ n. Group_vendor n false) (number_at 0 most_32 token)
+next_in_head Command_code token = cond (is_keyword (codes "code") token) (Some (Error_word false)) (option_map (λ n. Flags n false false false) (number_at 0 max_command_code token))
+next_in_head Group_code token = option_map (λ n. Group_vendor n false) (number_at 0 max_number token)
 next_in_head (Flags code request pxy comma) token = on_comma comma (Flags code request pxy true) (next_flag code request pxy token) token
-next_in_head (Group_vendor code comma) token = on_comma comma (Group_vendor code true) (option_map (λ n. Head_end (Group code n)) (number_at 0 most_32 token)) token
+next_in_head (Group_vendor code comma) token = on_comma comma (Group_vendor code true) (option_map (λ n. Head_end (Group code n)) (number_at 0 max_number token)) token
 next_in_head (Error_word comma) token = on_comma comma (Error_word true) (option_map (λ u. Error_flags false) (keyword_at (codes "err") token)) token
 next_in_head (Error_flags comma) token =
     on_comma comma (Error_flags true) (cond (is_keyword (codes "pxy") token) (Some (Head_end (Error Set))) (cond comma None (option_map (λ u. Error_either false) (sign_at Open_bracket token)))) token
@@ -255,7 +255,7 @@ on_item done token =
 abbrev pub on_values : PlainSource → PlainDecl → List (ℕ × ℕ) → Token → Option State
 on_values done d ranges token =
     cond (not (is_none ranges) && same_sign Close_parenthesis token) (Some (add_decl done (with_values d ranges), Between))
-    (option_map (λ n. (done, After_value d ranges n)) (number_at 0 most_value token))
+    (option_map (λ n. (done, After_value d ranges n)) (number_at 0 max_value token))
 
 -- the bracket that opens a rule that is not fixed
 abbrev pub on_loose : PlainSource → PlainDef → Option Qual → Token → Option State
@@ -269,7 +269,7 @@ on_bracket done d qual token = cond (all_fixed d.rules && same_sign Less token) 
 
 abbrev pub on_star : PlainSource → PlainDef → Option ℕ → Token → Option State
 on_star done d min token =
-    cond (is_number token) (option_map (λ n. (done, Qual_done d (record { min = min; max = Some n }))) (number_at 0 most_32 token))
+    cond (is_number token) (option_map (λ n. (done, Qual_done d (record { min = min; max = Some n }))) (number_at 0 max_number token))
     (on_bracket done d (record { min = min; max = None }) token)
 
 abbrev pub begins_qualifier : Token → Bool
@@ -277,7 +277,7 @@ begins_qualifier token = is_number token || same_sign Star token
 
 abbrev pub on_qualifier : PlainSource → PlainDef → Token → Option State
 on_qualifier done d token =
-    cond (is_number token) (option_map (λ n. (done, Qual_min d n)) (number_at 0 most_32 token))
+    cond (is_number token) (option_map (λ n. (done, Qual_min d n)) (number_at 0 max_number token))
     (option_map (λ u. (done, Qual_star d None)) (sign_at Star token))
 
 abbrev pub begins_loose : Token → Bool
@@ -294,15 +294,15 @@ on_rules done d token =
 abbrev pub step : PlainSource → Place → Token → Option State
 step done Between token = on_item done token
 step done Decl_name token = option_map (λ name. (done, Decl_code name)) (name_at token)
-step done (Decl_code name) token = option_map (λ n. (done, Decl_vendor name n)) (number_at 0 most_32 token)
+step done (Decl_code name) token = option_map (λ n. (done, Decl_vendor name n)) (number_at 0 max_number token)
 step done (Decl_vendor name code) token = cond (is_word (codes "vendor") token) (Some (done, Decl_number name code)) (option_map (λ f. (done, Decl_rule name code 0 f)) (format_at token))
-step done (Decl_number name code) token = option_map (λ n. (done, Decl_format name code n)) (number_at 0 most_32 token)
+step done (Decl_number name code) token = option_map (λ n. (done, Decl_format name code n)) (number_at 0 max_number token)
 step done (Decl_format name code vendor) token = option_map (λ f. (done, Decl_rule name code vendor f)) (format_at token)
 step done (Decl_rule name code vendor f) token = option_map (λ rule. (done, Decl_values (record { name = name; code = code; vendor = vendor; format = f; values = None; rule = rule }))) (rule_at token)
 step done (Decl_values d) token = cond (is_enumerated d.format && same_sign Open_parenthesis token) (Some (done, In_values d [])) (on_item (add_decl done d) token)
 step done (In_values d ranges) token = on_values done d ranges token
 step done (After_value d ranges n) token = cond (same_sign Dots token) (Some (done, After_dots d ranges n)) (on_values done d (ranges ++ (n, n) ∷ []) token)
-step done (After_dots d ranges low) token = option_map (λ n. (done, In_values d (ranges ++ (low, n) ∷ []))) (number_at low most_value token)
+step done (After_dots d ranges low) token = option_map (λ n. (done, In_values d (ranges ++ (low, n) ∷ []))) (number_at low max_value token)
 step done Def_name token = option_map (λ name. (done, Def_close name)) (name_at token)
 step done (Def_close name) token = option_map (λ u. (done, Def_assign name)) (sign_at Greater token)
 step done (Def_assign name) token = option_map (λ u. (done, Head_open name)) (sign_at Assign token)
@@ -348,7 +348,7 @@ least_at place = 0
 -- why a token is refused where a number, and where a name might stand
 abbrev pub why : Bool → Bool → Token → Refusal
 why numbers names (Number n) = cond numbers refusal.Number refusal.Syntax
-why numbers names (Name text) = cond (nat_lt 128 (length text) && names) refusal.Limit refusal.Syntax
+why numbers names (Name text) = cond (nat_lt max_name (length text) && names) refusal.Limit refusal.Syntax
 why numbers names token = refusal.Syntax
 
 abbrev pub refused : State → Token → Refusal

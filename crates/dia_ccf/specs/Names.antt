@@ -1,8 +1,9 @@
 -- Names, and the other facts that each value of a source keeps.
-use Rattle.std.specs.Prelude.{ℕ, nat_lt, nat_le, nat_eq, Bool, true, false, not, ◌&&◌, ◌||◌, ◌==◌, if◌then◌else◌, List, [], ◌∷◌, length, Option, Some, None, codes, String, string_bytes}
+use Rattle.std.specs.Prelude.{ℕ, ◌+◌, nat_lt, nat_le, nat_eq, Bool, true, false, not, ◌&&◌, ◌||◌, ◌==◌, if◌then◌else◌, List, [], ◌∷◌, length, Option, Some, None, codes, String, string_bytes}
 use Rattle.std.specs.List.{list_all, list_any, starts_with}
 use Rattle.std.specs.Char.{is_ascii_alphanumeric, is_ascii_alphabetic}
 use Rattle.std.specs.Global.{Vec, Global}
+use Rattle.dia_ccf.specs.Limits.{max_name, max_number, max_command_code, max_value}
 use Rattle.dia_ccf.specs.declared.source.FormatName.{FormatName}
 use Rattle.dia_ccf.specs.declared.source.FormatName.TheVariants.{Enumerated}
 use Rattle.dia_ccf.specs.declared.source.RuleKind.{RuleKind}
@@ -23,9 +24,9 @@ abbrev pub is_name_run : List ℕ → Bool
 is_name_run [] = false
 is_name_run (c ∷ cs) = is_ascii_alphanumeric c && list_all is_run_byte cs && list_any is_ascii_alphabetic (c ∷ cs)
 
--- a name of at most 128 bytes, and not the wildcard's
+-- a name within the limit, and not the wildcard's
 abbrev pub is_name : List ℕ → Bool
-is_name name = is_name_run name && nat_le (length name) 128 && not (same_bytes name (codes "AVP"))
+is_name name = is_name_run name && nat_le (length name) max_name && not (same_bytes name (codes "AVP"))
 
 -- the wildcard has no name, and is no fixed rule
 abbrev pub is_rule_name : RuleKind → Option (String Global) → Bool
@@ -33,9 +34,8 @@ is_rule_name kind (Some name) = is_name (string_bytes name)
 is_rule_name Fixed None = false
 is_rule_name kind None = true
 
--- a code, a vendor, an application (RFC 6733 sections 3 and 4.1) or a count (our profile) has four bytes
 abbrev pub is_number : ℕ → Bool
-is_number n = nat_lt n 4294967296
+is_number n = nat_lt n (max_number + 1)
 
 abbrev pub is_number_or_none : Option ℕ → Bool
 is_number_or_none None = true
@@ -46,7 +46,7 @@ is_qualifier None = true
 is_qualifier (Some q) = is_number_or_none q.min && is_number_or_none q.max
 
 abbrev pub is_range : ℕ × ℕ → Bool
-is_range range = nat_le range.0 range.1 && nat_lt range.1 2147483648
+is_range range = nat_le range.0 range.1 && nat_lt range.1 (max_value + 1)
 
 -- a list stands only behind Enumerated, and is not empty
 abbrev pub fits_values : FormatName → Option (Vec (ℕ × ℕ)) → Bool
@@ -54,10 +54,9 @@ fits_values format None = true
 fits_values Enumerated (Some ranges) = nat_lt 0 (length ranges.items) && list_all is_range ranges.items
 fits_values format (Some ranges) = false
 
--- a command code has three bytes (RFC 6733 section 3)
 abbrev pub is_head : Head → Bool
 is_head (Group code vendor) = is_number code && is_number vendor
-is_head (Command code request pxy app) = nat_lt code 16777216 && is_number_or_none app
+is_head (Command code request pxy app) = nat_lt code (max_command_code + 1) && is_number_or_none app
 is_head (Error pxy) = true
 
 abbrev pub is_fixed : RuleKind → Bool

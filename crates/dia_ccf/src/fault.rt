@@ -4,7 +4,7 @@ use std::fmt;
 use thiserror::Error;
 
 /// Why a text is no dictionary. Lines and tokens count from 1.
-#[derive(Debug, Drop, Error)]
+#[derive(Clone, Copy, Debug, PartialEq, Eq, Error)]
 pub enum CcfFault {
     /// The token of this number fits nowhere in the grammar after those before it. The end of the text is
     /// the token after the last, on the line on which the text ends.
@@ -13,7 +13,7 @@ pub enum CcfFault {
     /// A number stands where one may stand, and is not in the range that is wanted there.
     #[error("line {line}: the number is out of range")]
     Number { line: u32 },
-    /// A name longer than 128 bytes stands where a name that is free to choose may stand; or, on line 0, the
+    /// A name longer than [`MAX_NAME`](crate::MAX_NAME) bytes stands where a name that is free to choose may stand; or, on line 0, the
     /// text is longer than [`MAX_TEXT`](crate::MAX_TEXT).
     #[error(fmt = tell_limit)]
     Limit { line: u32 },

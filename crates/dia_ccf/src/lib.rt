@@ -3,6 +3,7 @@
 
 mod fault;
 mod lexer;
+mod limits;
 mod names;
 mod parsing;
 mod reading;
@@ -12,7 +13,8 @@ mod source;
 mod tests;
 
 pub use fault::CcfFault;
-pub use names::{MAX_NAME, is_name};
-pub use parsing::{MAX_TEXT, one_fault, one_source, parse};
+pub use limits::{MAX_NAME, MAX_TEXT};
+pub use names::is_name;
+pub use parsing::{one_fault, one_source, parse};
 pub use rendering::render;
 pub use source::{Decl, Def, FormatName, Head, MRule, Pxy, Qual, Rule, RuleKind, Source};

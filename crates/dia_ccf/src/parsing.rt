@@ -2,18 +2,17 @@
 
 ghost use Rattle.std.specs.Prelude.{◌≡◌, ◌<◌, ◌≤◌, ℕ, List, length, Err, MatchResult, IfOk, IfErr};
 ghost use Rattle.dia_ccf.specs.declared.fault.CcfFault.{CcfFault as AnyFault};
+ghost use Rattle.dia_ccf.specs.Limits.{max_text};
 ghost use Rattle.dia_ccf.specs.Plain.{PlainSource, plain};
 ghost use Rattle.dia_ccf.specs.Tokens.{Token, tokens};
 ghost use Rattle.dia_ccf.specs.Grammar.{Derives};
 ghost use Rattle.dia_ccf.specs.Faults.{IsFault};
 
 use crate::fault::CcfFault;
+use crate::limits::MAX_TEXT;
 use crate::reading::Reader;
 use crate::source::Source;
 use std::alloc::Global;
-
-/// The most bytes that a text may have (our profile).
-pub const MAX_TEXT: usize = 1_048_576;
 
 /// Reads a text of definitions of commands (RFC 6733 section 3.2) and of grouped AVPs (section 4.4), with the forms of our
 /// profile, as declarations of AVPs and comments.
@@ -25,10 +24,10 @@ pub fn parse(alloc: Global, text: &str) -> Result<Source, CcfFault>
     // What is read is derived from the text's tokens.
     ensures found { IfOk result (λ source. Derives (tokens text.now) (plain source)) }
     // No other source is, and one that is derived is read, unless memory runs out.
-    ensures only { (source : PlainSource) → length text.now ≤ MAX_TEXT → Derives (tokens text.now) source → MatchResult result (λ found. plain found ≡ source) (λ e. e ≡ CcfFault.NoMemory) }
+    ensures only { (source : PlainSource) → length text.now ≤ max_text → Derives (tokens text.now) source → MatchResult result (λ found. plain found ≡ source) (λ e. e ≡ CcfFault.NoMemory) }
 
-    ensures too_long { MAX_TEXT < length text.now → result ≡ Err (CcfFault.Limit 0) }
-    ensures fault { length text.now ≤ MAX_TEXT → IfErr result (IsFault text.now) }
+    ensures too_long { max_text < length text.now → result ≡ Err (CcfFault.Limit 0) }
+    ensures fault { length text.now ≤ max_text → IfErr result (IsFault text.now) }
 {
     if text.len() > MAX_TEXT {
         return Err(CcfFault::Limit { line: 0 });

@@ -1,6 +1,7 @@
 //! Reading the grammar (RFC 6733 section 3.2) with one token of look-ahead.
 ghost use Rattle.std.specs.Prelude.{◌≡◌, ◌+◌, ◌≤◌, drop, length, map, slice_get, OnOk, IfErr};
 ghost use Rattle.std.specs.Char.{to_ascii_lowercase};
+ghost use Rattle.dia_ccf.specs.Limits.{max_text};
 ghost use Rattle.dia_ccf.specs.Plain.{plain, plain_decl, plain_def};
 ghost use Rattle.dia_ccf.specs.Machine.{add_decl, add_def};
 ghost use Rattle.dia_ccf.specs.Tokens.{placed_tokens, line_at};
@@ -14,7 +15,8 @@ mod reasons;
 
 use crate::fault::CcfFault;
 use crate::lexer::{Sign, Token, next_token};
-use crate::names::{MAX_NAME, is_name, is_same, is_same_word};
+use crate::limits::MAX_NAME;
+use crate::names::{is_name, is_same, is_same_word};
 use crate::source::{Decl, Def, Head, Source};
 use reasons::Refusal;
 use std::alloc::Global;
@@ -31,7 +33,7 @@ pub(crate) struct Reader<'a> {
     end: usize,
     /// How many tokens stand before it.
     taken: u32,
-    ghost small: { length text.now ≤ 1048576 },
+    ghost small: { length text.now ≤ max_text },
     ghost within: { end ≤ length text.now },
     ghost long: { at + length (ahead token) ≤ end },
     ghost few: { taken ≤ at },
@@ -50,7 +52,7 @@ impl<'a> Reader<'a> {
 
     /// A reader that stands at the first token.
     pub(crate) fn new(alloc: Global, text: &'a str) -> Self
-        requires { length text.now ≤ 1048576 }
+        requires { length text.now ≤ max_text }
         ensures { (result.text.now ≡ text.now) × (result.taken ≡ 0) }
     {
         let (token, at, end) = look(text, 0);
@@ -248,7 +250,7 @@ fn look(text: &str, from: usize) -> (Option<Token<'_>>, usize, usize)
 
 /// The line of a place: 1 and the line feeds before it.
 fn line_of(text: &str, at: usize) -> u32
-    requires small { length text.now ≤ 1048576 }
+    requires small { length text.now ≤ max_text }
     requires within { at ≤ length text.now }
     ensures { result ≡ line_at text.now at }
 {

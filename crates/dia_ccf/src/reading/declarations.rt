@@ -5,10 +5,8 @@ ghost use Rattle.dia_ccf.specs.Machine.{format_named};
 use super::Reader;
 use super::reasons::Refusal;
 use crate::lexer::{Sign, Token};
+use crate::limits::MAX_VALUE;
 use crate::source::{Decl, FormatName, MRule};
-
-/// The greatest value of an Enumerated list.
-const MAX_VALUE: u32 = 2_147_483_647;
 
 impl<'a> Reader<'a> {
     ghost use Rattle.std.specs.Prelude.{◌<◌, ◌≤◌, ℕ, ◌++◌, [], ◌∷◌, List, ◌&&◌, false, not, IfOk, OnOk, IsTrue};

@@ -26,7 +26,7 @@ impl<'a> Reader<'a> {
     ghost use Rattle.dia_ccf.specs.Tokens.{Less, Greater, Assign, Declares};
     ghost use Rattle.dia_ccf.specs.Plain.{PlainSource, PlainDef, plain_def, plain_rule};
     ghost use Rattle.dia_ccf.specs.Machine.{State, Between, Def_assign, Rules, Qual_done, add_def, with_rule, all_fixed, name_at, sign_at, slot_at, number_at, same_sign, is_number, begins_qualifier, begins_loose, on_loose};
-    ghost use Rattle.dia_ccf.specs.Grammar.{most_32};
+    ghost use Rattle.dia_ccf.specs.Limits.{max_number};
     ghost use Rattle.dia_ccf.specs.Reading.{Accepts, Leads, Takes, Wants, Reads_by, course, begins_with, left, behind, after_rules, KeepsOrder, NamesNext, Goes};
 
     /// The name of a definition, in angle brackets or bare.
@@ -208,7 +208,7 @@ impl<'a> Reader<'a> {
 
     /// A number, if one stands here.
     fn count(&mut self) -> Result<Option<u32>, Refusal>
-        ensures read { MatchBool (begins_with is_number (left self.old)) (Accepts true false (λ token. option_map (λ n. Some n) (number_at 0 most_32 token)) (λ n. n) self.old result self.new) ((result ≡ Ok None) × (self.new ≡ self.old)) }
+        ensures read { MatchBool (begins_with is_number (left self.old)) (Accepts true false (λ token. option_map (λ n. Some n) (number_at 0 max_number token)) (λ n. n) self.old result self.new) ((result ≡ Ok None) × (self.new ≡ self.old)) }
         ensures small { IfOk result (λ n. IsTrue (is_number_or_none n)) }
         ensures farther { OnOk result (self.old.taken ≤ self.new.taken) }
     {

@@ -3,10 +3,8 @@
 use super::Reader;
 use super::reasons::Refusal;
 use crate::lexer::Sign;
+use crate::limits::MAX_COMMAND_CODE;
 use crate::source::{Head, Pxy};
-
-/// The greatest command code.
-const MAX_CODE: u32 = 16_777_215;
 
 impl<'a> Reader<'a> {
     ghost use Rattle.std.specs.Prelude.{◌≡◌, ◌<◌, ◌≤◌, ℕ, List, ◌||◌, false, cond, codes, map, IfOk, OnOk, IsTrue};
@@ -75,7 +73,7 @@ impl<'a> Reader<'a> {
         ensures sound { IfOk result (λ head. IsTrue (is_head head)) }
         ensures farther { OnOk result (self.old.taken ≤ self.new.taken) }
     {
-        let code = self.number(0, MAX_CODE)?;
+        let code = self.number(0, MAX_COMMAND_CODE)?;
         let comma = self.takes(Sign::Comma);
         let (request, comma) = self.flag("req", comma);
         let (pxy, comma) = self.flag("pxy", comma);

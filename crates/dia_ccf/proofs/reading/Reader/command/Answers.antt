@@ -1,6 +1,6 @@
 use Rattle.std.proofs.Common.{arith, ap, sym, Some, Ok, Err, ◌∙◌}
 use Rattle.std.specs.Prelude.{true, false}
-use Rattle.dia_ccf.specs.Grammar.{most_32}
+use Rattle.dia_ccf.specs.Limits.{max_number}
 use Rattle.dia_ccf.specs.Tokens.{Comma}
 use Rattle.dia_ccf.specs.Machine.{Outcome, same_sign, In_head, Command_code, Head_end, number_at}
 use Rattle.dia_ccf.specs.Reading.{course, left}
@@ -15,7 +15,7 @@ returns-in_err-app-clause-read c = λ done name free.
     let px = c.flag-pxy.result.0 in
     let begun = command_begun done name code c.args.self.now c.number.new.self c.takes-comma.new.self c.flag-request.new.self c.flag-pxy.new.self c.takes-comma.result c.flag-request.result c.flag-pxy.result c.in_ok-code.ensures c.takes-comma.ensures c.flag-request.ensures.read c.flag-pxy.ensures.read in
     let wanted = number_wanted done name code rq px c.flag-pxy.result.1 (left c.flag-pxy.new.self) begun.1 (sym c.wants_number.ensures ∙ c.if-not-wants_number.false) in
-    let stops = accepted true false (number_at 0 most_32) (λ n. n) (λ n. command_at done name code rq px (Some n)) (flags_at done name code rq px c.flag-pxy.result.1) c.flag-pxy.new.self c.number-2.new.self (Err c.in_err-app.field-0.0) wanted c.in_err-app.ensures in
+    let stops = accepted true false (number_at 0 max_number) (λ n. n) (λ n. command_at done name code rq px (Some n)) (flags_at done name code rq px c.flag-pxy.result.1) c.flag-pxy.new.self c.number-2.new.self (Err c.in_err-app.field-0.0) wanted c.in_err-app.ensures in
     leads_along (course (done, In_head name Command_code) c.args.self.now) (course (flags_at done name code rq px c.flag-pxy.result.1) c.flag-pxy.new.self) (λ head. (done, In_head name (Head_end head))) c.from_residual-in_err-app.result c.number-2.new.self begun.0
     (exits (course (flags_at done name code rq px c.flag-pxy.result.1) c.flag-pxy.new.self) (λ head. (done, In_head name (Head_end head))) c.in_err-app.field-0.0 c.from_residual-in_err-app.result c.number-2.new.self c.from_residual-in_err-app.ensures.1 stops))
 
@@ -34,7 +34,7 @@ returns-clause-read c = λ done name free.
     let px = c.flag-pxy.result.0 in
     let begun = command_begun done name code c.args.self.now c.number.new.self c.takes-comma.new.self c.flag-request.new.self c.flag-pxy.new.self c.takes-comma.result c.flag-request.result c.flag-pxy.result c.in_ok-code.ensures c.takes-comma.ensures c.flag-request.ensures.read c.flag-pxy.ensures.read in
     let wanted = number_wanted done name code rq px c.flag-pxy.result.1 (left c.flag-pxy.new.self) begun.1 (sym c.wants_number.ensures ∙ c.if-not-wants_number.false) in
-    begun.0 ∙ accepted true false (number_at 0 most_32) (λ n. n) (λ n. command_at done name code rq px (Some n)) (flags_at done name code rq px c.flag-pxy.result.1) c.flag-pxy.new.self c.number-2.new.self (Ok c.in_ok-app.app) wanted c.in_ok-app.ensures)
+    begun.0 ∙ accepted true false (number_at 0 max_number) (λ n. n) (λ n. command_at done name code rq px (Some n)) (flags_at done name code rq px c.flag-pxy.result.1) c.flag-pxy.new.self c.number-2.new.self (Ok c.in_ok-app.app) wanted c.in_ok-app.ensures)
 
 pub returns-clause-farther : goal.returns-clause-farther
 returns-clause-farther c = omega (arith, c.in_ok-code.ensures.2.2, takes_farther (same_sign Comma) c.number.new.self c.takes-comma.new.self c.takes-comma.result c.takes-comma.ensures, c.flag-request.ensures.farther, c.flag-pxy.ensures.farther, c.in_ok-app.ensures.2.2)
