@@ -5,6 +5,7 @@
 
 mod avp;
 mod avp_key;
+mod avps;
 mod header;
 mod opening;
 mod reading;
@@ -15,6 +16,7 @@ pub use avp::{
     VENDOR_AVP_HEAD_LENGTH, key,
 };
 pub use avp_key::Key;
+pub use avps::Avps;
 pub use header::{
     COMMAND_ERROR, COMMAND_PROXIABLE, COMMAND_REQUEST, COMMAND_RETRANSMITTED, HEADER_LENGTH,
     HeadFault, Header, MessageFault,

@@ -3,9 +3,10 @@
 ghost use Rattle.dia_wire.specs.Wire.{plain, Agrees};
 
 use crate::{
-    AVP_MANDATORY, AVP_PROTECTED, AVP_VENDOR, Avp, AvpFault, COMMAND_ERROR, COMMAND_PROXIABLE,
-    COMMAND_REQUEST, COMMAND_RETRANSMITTED, HeadFault, Header, Key, MessageFault, PutFault,
-    avp_head, key, next_avp, number32, put_avp, put_message, read_header, split_message,
+    AVP_MANDATORY, AVP_PROTECTED, AVP_VENDOR, Avp, AvpFault, Avps, COMMAND_ERROR,
+    COMMAND_PROXIABLE, COMMAND_REQUEST, COMMAND_RETRANSMITTED, HeadFault, Header, Key,
+    MessageFault, PutFault, avp_head, key, next_avp, number32, put_avp, put_message, read_header,
+    split_message,
 };
 use std::alloc::Global;
 use std::test::Fail;
@@ -122,6 +123,28 @@ fn reads_the_avps_in_order(rt: HostRuntime) -> Result<(), Fail> {
     assert_eq!(rt; second.code, 296);
     assert!(rt; second.bytes == b"b".as_slice());
     assert!(rt; next_avp(rest)?.is_none());
+    Ok(())
+}
+
+/// The codes of a level's AVPs, up to the first fault.
+fn codes(alloc: Global, level: &[u8]) -> Result<Vec<u32>, Fail> {
+    let mut codes = Vec::new(alloc);
+    for avp in Avps::new(level) {
+        codes.push(avp?.code)?;
+    }
+    Ok(codes)
+}
+
+#[test]
+fn goes_over_a_level(rt: HostRuntime) -> Result<(), Fail> {
+    let alloc = rt.alloc();
+    let (_, body) = split_message(&REQUEST)?;
+    assert_eq!(rt; codes(alloc, body)?.as_slice(), [264, 296].as_slice());
+    assert_eq!(rt; codes(alloc, &[])?.len(), 0);
+    let mut avps = Avps::new(&REQUEST[20..36]);
+    assert!(rt; matches!(avps.next(), Some(Ok(_))));
+    assert!(rt; matches!(avps.next(), Some(Err(AvpFault::Length))));
+    assert!(rt; avps.next().is_none());
     Ok(())
 }
 
