@@ -12,6 +12,7 @@ use Rattle.dia_ccf.specs.declared.source.RuleKind.{RuleKind}
 use Rattle.dia_ccf.specs.declared.source.RuleKind.TheVariants.{Fixed, Required, Optional}
 use Rattle.dia_ccf.specs.Names.{same_bytes, is_group, is_fixed, is_rule_name, fixed_first}
 use Rattle.dia_ccf.specs.Plain.{PlainSource, PlainDecl, PlainDef, PlainRule, plain, plain_def, plain_rule}
+use Rattle.dia_dict.specs.Limits.{max_rules, max_parts}
 use Rattle.dia_dict.specs.declared.fault.DictKind.TheVariants as kind
 use Rattle.dia_dict.specs.declared.fault.DictKind.{DictKind}
 use Rattle.dia_dict.specs.Resolution.{Wrong, wrong, all_wrong, wrong_limits, wrong_names, wrong_entries, wrong_rules, too_many, duplicate_names, no_groups, header_mismatches, duplicate_keys, duplicate_commands, bad_rules, bad_in, repeated_slots, repeated_in, slot_name, all_defs, avp_names as names_of, lacks_group, is_mismatched, is_long, is_bad, repeats, same_slot}
@@ -27,8 +28,8 @@ pub record IsFormed (s : PlainSource) : Type 0 where
 
 -- nothing is wrong with it
 pub record IsClean (s : PlainSource) : Type 0 where
-  pub short : (i : ℕ) (d : PlainDef) → slice_get (all_defs s) i ≡ Some d → length d.rules ≤ 1024
-  pub few : length s.avps + length s.groups + length s.commands ≤ 16384
+  pub short : (i : ℕ) (d : PlainDef) → slice_get (all_defs s) i ≡ Some d → length d.rules ≤ max_rules
+  pub few : length s.avps + length s.groups + length s.commands ≤ max_parts
   pub avps : repeats same_bytes [] (map (λ d. d.name) s.avps) ≡ []
   pub groups : repeats same_bytes [] (map (λ d. d.name) s.groups) ≡ []
   pub commands : repeats same_bytes [] (map (λ d. d.name) s.commands) ≡ []
@@ -66,9 +67,9 @@ formed s = record {
       subst (λ (x : PlainRule). IsSome x.name) rule.2 (fixed_named rule.0.kind rule.0.name rule.0.named (ap (λ (x : PlainRule). is_fixed x.kind) rule.2 ∙ fixed));
 }
 
-below_limit : (b : Bool) (n : ℕ) (w : Wrong) → nat_lt 16384 n ≡ b → (if b then w ∷ [] else []) ≡ [] → n ≤ 16384
+below_limit : (b : Bool) (n : ℕ) (w : Wrong) → nat_lt max_parts n ≡ b → (if b then w ∷ [] else []) ≡ [] → n ≤ max_parts
 below_limit true n w here none = absurd (let p : w ∷ [] ≡ [] = none in cc)
-below_limit false n w here none = ltb-false 16384 n here
+below_limit false n w here none = ltb-false max_parts n here
 
 pub clean : (s : PlainSource) → all_wrong s ≡ [] → IsClean s
 clean s none =
@@ -88,8 +89,8 @@ clean s none =
     let each = λ (k : DictKind) (fine : bad_rules k s (all_defs s) ≡ []) (i j : ℕ) (d : PlainDef) (r : PlainRule) (at : slice_get (all_defs s) i ≡ Some d) (at' : slice_get d.rules j ≡ Some r).
     filter-none_at (is_bad k s) d.rules (map-none (λ (x : PlainRule). wrong k d.name (slot_name x)) (filter (is_bad k s) d.rules) (flat_map-none_at (bad_in k s) (all_defs s) fine i d at)) j r at' in
     record {
-      short = λ i d at. ltb-false 1024 (length d.rules) (filter-none_at is_long (all_defs s) (map-none (λ (x : PlainDef). wrong kind.Limit x.name []) (filter is_long (all_defs s)) limits.0) i d at);
-      few = below_limit (nat_lt 16384 (length s.avps + length s.groups + length s.commands)) _ (wrong kind.Limit [] []) refl limits.1;
+      short = λ i d at. ltb-false max_rules (length d.rules) (filter-none_at is_long (all_defs s) (map-none (λ (x : PlainDef). wrong kind.Limit x.name []) (filter is_long (all_defs s)) limits.0) i d at);
+      few = below_limit (nat_lt max_parts (length s.avps + length s.groups + length s.commands)) _ (wrong kind.Limit [] []) refl limits.1;
       avps = map-none (λ (n : List ℕ). wrong kind.DuplicateName n []) (repeats same_bytes [] (map (λ (d : PlainDecl). d.name) s.avps)) avp_names.0;
       groups = map-none (λ (n : List ℕ). wrong kind.DuplicateName n []) (repeats same_bytes [] (map (λ (d : PlainDef). d.name) s.groups)) avp_names.1;
       commands = map-none (λ (n : List ℕ). wrong kind.DuplicateName n []) (repeats same_bytes [] (map (λ (d : PlainDef). d.name) s.commands)) command_names.1;

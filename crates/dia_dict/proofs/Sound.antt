@@ -11,6 +11,7 @@ use Rattle.dia_ccf.specs.declared.source.Head.{Head}
 use Rattle.dia_ccf.specs.declared.source.Qual.{Qual}
 use Rattle.dia_ccf.specs.declared.source.RuleKind.{RuleKind}
 use Rattle.dia_ccf.specs.declared.source.RuleKind.TheVariants.{Fixed, Required, Optional}
+use Rattle.dia_dict.specs.Limits.{max_parts}
 use Rattle.dia_dict.specs.declared.fault.DictKind.TheVariants as kind
 use Rattle.dia_ccf.specs.declared.source.Head.TheVariants as head
 use Rattle.dia_ccf.specs.Names.{same_bytes, is_group, is_fixed as is_fixed_kind, fixed_first}
@@ -432,7 +433,7 @@ module _ (s : PlainSource) (formed : IsFormed s) (clean : IsClean s) where
       rules : List DRule
       rules = map (rule_of s) d.rules
 
-  pub few : length (resolved s).entries + length (resolved s).commands ≤ 16384
+  pub few : length (resolved s).entries + length (resolved s).commands ≤ max_parts
   few =
       omega (arith, clean.few, length-append (map (declared_entry s) s.avps) (map (bare_entry s) (bare_groups s)), length-map s.avps (declared_entry s), length-map (bare_groups s) (bare_entry s), length-map s.commands (definition_of s), length-filter_both (is_bare s) (λ g. not (is_bare s g)) (λ g. refl) s.groups)
 

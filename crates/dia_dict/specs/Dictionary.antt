@@ -8,6 +8,7 @@ use Rattle.dia_ccf.specs.declared.MRule.{MRule}
 use Rattle.dia_ccf.specs.declared.RuleKind.{RuleKind}
 use Rattle.dia_ccf.specs.declared.RuleKind.TheVariants.{Fixed, Required, Optional}
 use Rattle.dia_dict.specs.Keys.{same_key}
+use Rattle.dia_dict.specs.Limits.{max_rules, max_parts}
 use Rattle.dia_dict.specs.declared.definition.Class.{Class}
 use Rattle.dia_dict.specs.declared.definition.Class.TheVariants as classes
 use Rattle.dia_dict.specs.declared.definition.DefHead.{DefHead}
@@ -113,7 +114,7 @@ pub record AreRules (rules : List DRule) : Type 0 where
   pub fixed_keys : All (λ r. IsTrue (is_fixed r) → IsSome r.key) rules
   pub bounds : All (λ r. IfSome r.max (λ max. r.min ≤ max)) rules
   pub least : All (λ r. IsLeast r.kind r.min) rules
-  pub few : length rules ≤ 1024
+  pub few : length rules ≤ max_rules
 
 -- two headers select the same messages
 abbrev pub IsSameSelector : DefHead → DefHead → Type 0
@@ -137,4 +138,4 @@ pub record IsDictionary (d : Dictionary) : Type 0 where
   pub command_heads : All (λ c. IsCommandHead c.head) d.commands
   pub known_keys : (def : PlainDefinition) (r : DRule) (key : Key) → Contains (definitions d) def → Contains def.rules r → r.key ≡ Some key → IsSome (entry_of d key)
   pub rules : All (λ def. AreRules def.rules) (definitions d)
-  pub few : length d.entries + length d.commands ≤ 16384
+  pub few : length d.entries + length d.commands ≤ max_parts

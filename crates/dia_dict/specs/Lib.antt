@@ -1,4 +1,6 @@
 pub mod Keys
+pub mod Limits
+pub mod Words
 pub mod Dictionary
 pub mod PlainMeaning
 pub mod Resolution

@@ -20,6 +20,7 @@ use Rattle.dia_ccf.specs.Names.{same_bytes}
 use Rattle.dia_ccf.specs.Plain.{PlainDecl, PlainRule, PlainDef, PlainSource}
 use Rattle.dia_ccf.specs.Rendering.{slot_text}
 use Rattle.dia_dict.specs.Keys.{same_key}
+use Rattle.dia_dict.specs.Limits.{max_rules, max_parts}
 use Rattle.dia_dict.specs.declared.definition.Class.{Class}
 use Rattle.dia_dict.specs.declared.definition.Class.TheVariants as classes
 use Rattle.dia_dict.specs.declared.definition.DefHead.{DefHead}
@@ -145,13 +146,13 @@ repeats same earlier [] = []
 repeats same earlier (x ∷ xs) = if list_any (same x) earlier then x ∷ repeats same (earlier ++ x ∷ []) xs else repeats same (earlier ++ x ∷ []) xs
 
 abbrev pub is_long : PlainDef → Bool
-is_long d = nat_lt 1024 (length d.rules)
+is_long d = nat_lt max_rules (length d.rules)
 
 abbrev pub too_many_rules : List PlainDef → List Wrong
 too_many_rules defs = map (λ d. wrong kind.Limit d.name []) (filter is_long defs)
 
 abbrev pub too_many : PlainSource → List Wrong
-too_many s = if nat_lt 16384 (length s.avps + length s.groups + length s.commands) then wrong kind.Limit [] [] ∷ [] else []
+too_many s = if nat_lt max_parts (length s.avps + length s.groups + length s.commands) then wrong kind.Limit [] [] ∷ [] else []
 
 abbrev pub duplicate_names : List (List ℕ) → List Wrong
 duplicate_names names = map (λ name. wrong kind.DuplicateName name []) (repeats same_bytes [] names)

@@ -1,6 +1,7 @@
 ghost use Rattle.std.specs.Prelude.{◌≡◌, ◌<◌, ◌≤◌, ◌+◌, ◌++◌, length, map, IfOk, slice_get};
 ghost use Rattle.indexmap.specs.IndexMap.{values, index_map_len};
 ghost use Rattle.dia_dict.specs.Dictionary.{IsDictionary, plain};
+ghost use Rattle.dia_dict.specs.Limits.{max_parts};
 ghost use Rattle.dia_dict.specs.PlainMeaning.{dictionary_of};
 ghost use Rattle.dia_dict.specs.Indexed.{rows_of, definitions_of};
 
@@ -27,7 +28,7 @@ use std::alloc::{AllocError, Global};
 pub struct IndexedBook {
     entries: IndexedEntries,
     commands: IndexedCommands,
-    ghost few: { index_map_len entries.avps + index_map_len commands.definitions ≤ 16384 },
+    ghost few: { index_map_len entries.avps + index_map_len commands.definitions ≤ max_parts },
     ghost sound: { ∥ IsDictionary (dictionary_of (rows_of entries.avps.entries) (map plain (definitions_of entries.groups.items)) (map plain (definitions_of (values commands.definitions)))) ∥₁ },
 }
 

@@ -3,6 +3,7 @@ ghost use Rattle.std.specs.List.{list_any};
 ghost use Rattle.std.specs.Option.{option_or};
 ghost use Rattle.dia_dict.specs.Keys.{same_key};
 ghost use Rattle.dia_dict.specs.Dictionary.{IsDictionary, plain, is_command, has_class};
+ghost use Rattle.dia_dict.specs.Limits.{max_parts};
 ghost use Rattle.dia_dict.specs.PlainMeaning.{dictionary_of};
 
 use crate::book::Book;
@@ -18,13 +19,13 @@ use dia_wire::Key;
 pub struct PlainBook {
     pub(crate) entries: EntryList,
     pub(crate) commands: Vec<Definition>,
-    ghost few: { length entries.rows.items + length commands.items ≤ 16384 },
+    ghost few: { length entries.rows.items + length commands.items ≤ max_parts },
     ghost sound: { ∥ IsDictionary (dictionary_of entries.rows.items (map plain entries.groups.items) (map plain commands.items)) ∥₁ },
 }
 
 impl PlainBook {
     pub(crate) fn new(entries: EntryList, commands: Vec<Definition>) -> Self
-        requires few { length entries.rows.items + length commands.items ≤ 16384 }
+        requires few { length entries.rows.items + length commands.items ≤ max_parts }
         requires sound { IsDictionary (dictionary_of entries.rows.items (map plain entries.groups.items) (map plain commands.items)) }
         ensures { ⟦<PlainBook as Book>⟧.meaning result ≡ dictionary_of entries.rows.items (map plain entries.groups.items) (map plain commands.items) }
     {

@@ -1,6 +1,6 @@
 //! Dictionaries out of texts.
 
-use crate::{DictFault, DictKind, PlainBook, base_book, base_text, resolve};
+use crate::{DictFault, PlainBook, base_book, base_text, resolve};
 use answers::same_answers;
 use dia_ccf::parse;
 use std::alloc::Global;
@@ -16,11 +16,10 @@ pub(crate) fn book_of(alloc: Global, text: &str) -> Result<PlainBook, Fail> {
     Ok(resolve(alloc, parse(alloc, text)?)?)
 }
 
-/// The kind and the names of a text's fault.
-fn fault_of(alloc: Global, text: &str) -> Result<(DictKind, String, String), Fail> {
+/// What is wrong with a text.
+fn fault_of(alloc: Global, text: &str) -> Result<DictFault, Fail> {
     match resolve(alloc, parse(alloc, text)?) {
-        Err(DictFault::Stands { kind, name, slot }) => Ok((kind, name, slot)),
-        Err(DictFault::NoMemory) => Err(Fail::from(DictFault::NoMemory)),
+        Err(fault) => Ok(fault),
         Ok(_) => Err(Fail::new(format_args!("no fault: {text}"))),
     }
 }

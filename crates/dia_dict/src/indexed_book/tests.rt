@@ -2,6 +2,7 @@ use super::IndexedBook;
 use crate::tests::answers::same_answers;
 use crate::tests::book_of;
 use crate::{Book, Class, Key, Slot, base_book};
+use std::alloc::{AllocError, Global};
 use std::process::Abort;
 use std::test::Fail;
 
@@ -106,6 +107,35 @@ fn a_group_may_hold_itself(rt: HostRuntime) -> Result<(), Fail> {
     assert_eq!(rt;
         selected_slot(&book, 301, Class::Request, 9001),
         Some(Slot::Loose(0))
+    );
+    Ok(())
+}
+
+/// A command of so many rules, each for an AVP of its own.
+fn rules(alloc: Global, count: u32) -> Result<String, AllocError> {
+    let mut text = String::new(alloc);
+    for code in 0..count {
+        write!(text, "%avp A{code} {code} Time any\n")?;
+    }
+    text.push_str("<T> ::= < Diameter Header: 302, REQ >")?;
+    for code in 0..count {
+        write!(text, " [ A{code} ]")?;
+    }
+    Ok(text)
+}
+
+#[test]
+fn finds_each_of_1024_rules(rt: HostRuntime) -> Result<(), Fail> {
+    let text = rules(rt.alloc(), 1024)?;
+    let plain = book_of(rt.alloc(), text.as_str())?;
+    let book = IndexedBook::new(rt.alloc(), &plain)?;
+    for code in 0..1024u32 {
+        let slot = Some(Slot::Loose(code as usize));
+        assert_eq!(rt; selected_slot(&book, 302, Class::Request, code), slot);
+    }
+    assert_eq!(rt;
+        selected_slot(&book, 302, Class::Request, 1024),
+        Some(Slot::Unlisted)
     );
     Ok(())
 }

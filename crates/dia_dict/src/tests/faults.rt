@@ -1,8 +1,7 @@
 //! Sources that name no dictionary, each by its first fault.
 
 use super::fault_of;
-use crate::{DictKind, resolve};
-use dia_ccf::parse;
+use crate::{DictFault, DictKind};
 use std::test::Fail;
 
 #[test]
@@ -106,10 +105,12 @@ fn tells_the_first_fault(rt: HostRuntime) -> Result<(), Fail> {
         ),
     ];
     for (text, kind, name, slot) in rows.iter() {
-        let (found, at, in_slot) = fault_of(rt.alloc(), text)?;
-        assert_eq!(rt; found, *kind, "{text}");
-        assert_eq!(rt; at.as_str(), *name, "{text}");
-        assert_eq!(rt; in_slot.as_str(), *slot, "{text}");
+        let stands = DictFault::Stands {
+            kind: *kind,
+            name: String::from_str(rt.alloc(), name)?,
+            slot: String::from_str(rt.alloc(), slot)?,
+        };
+        assert_eq!(rt; fault_of(rt.alloc(), text)?, stands, "{text}");
     }
     Ok(())
 }
@@ -120,14 +121,12 @@ fn tells_people_of_a_fault(rt: HostRuntime) -> Result<(), Fail> {
     let rows = [
         (
             "<T> ::= < Diameter Header: 302, REQ > { Z }",
-            "a rule names an unknown AVP: T Z",
+            "undefined-name: T Z",
         ),
-        ("%avp X 9002 Grouped any", "a Grouped AVP has no group: X"),
+        ("%avp X 9002 Grouped any", "no-group-format: X"),
     ];
     for (text, message) in rows.iter() {
-        let Err(fault) = resolve(rt.alloc(), parse(rt.alloc(), text)?) else {
-            return Err(Fail::new(format_args!("no fault: {text}")));
-        };
+        let fault = fault_of(rt.alloc(), text)?;
         assert_eq!(rt; fault.to_string(rt.alloc())?.as_str(), *message, "{text}");
     }
     Ok(())

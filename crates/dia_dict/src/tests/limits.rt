@@ -1,7 +1,7 @@
 //! Sources at their limits, and above them.
 
 use super::{book_of, fault_of};
-use crate::{Book, DictKind};
+use crate::{Book, DictFault, DictKind};
 use std::alloc::{AllocError, Global};
 use std::test::Fail;
 
@@ -26,15 +26,23 @@ fn declarations(alloc: Global, count: u32) -> Result<String, AllocError> {
     Ok(text)
 }
 
+/// The fault of a kind, with these names.
+fn stands(alloc: Global, kind: DictKind, name: &str, slot: &str) -> Result<DictFault, AllocError> {
+    Ok(DictFault::Stands {
+        kind,
+        name: String::from_str(alloc, name)?,
+        slot: String::from_str(alloc, slot)?,
+    })
+}
+
 #[test]
 fn a_definition_has_1024_rules_at_most(rt: HostRuntime) -> Result<(), Fail> {
-    for (count, kind) in [(1024, DictKind::RepeatedSlot), (1025, DictKind::Limit)].iter() {
-        let text = rules(rt.alloc(), *count)?;
-        let (found, name, slot) = fault_of(rt.alloc(), text.as_str())?;
-        assert_eq!(rt; found, *kind);
-        assert_eq!(rt; name.as_str(), "T");
-        assert_eq!(rt; slot.is_empty(), *count == 1025);
-    }
+    let text = rules(rt.alloc(), 1024)?;
+    let repeated = stands(rt.alloc(), DictKind::RepeatedSlot, "T", "X")?;
+    assert_eq!(rt; fault_of(rt.alloc(), text.as_str())?, repeated);
+    let text = rules(rt.alloc(), 1025)?;
+    let limit = stands(rt.alloc(), DictKind::Limit, "T", "")?;
+    assert_eq!(rt; fault_of(rt.alloc(), text.as_str())?, limit);
     Ok(())
 }
 
@@ -45,8 +53,7 @@ fn a_source_has_16384_parts_at_most(rt: HostRuntime) -> Result<(), Fail> {
     let entries = book.entries();
     assert_eq!(rt; entries, 16384);
     let text = declarations(rt.alloc(), 16385)?;
-    let (kind, name, slot) = fault_of(rt.alloc(), text.as_str())?;
-    assert_eq!(rt; kind, DictKind::Limit);
-    assert!(rt; name.is_empty() && slot.is_empty());
+    let limit = stands(rt.alloc(), DictKind::Limit, "", "")?;
+    assert_eq!(rt; fault_of(rt.alloc(), text.as_str())?, limit);
     Ok(())
 }
