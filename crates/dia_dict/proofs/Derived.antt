@@ -1,13 +1,13 @@
 -- A source that the grammar derives keeps what a source in memory keeps by its types.
-use Rattle.std.proofs.Common.{◌≡◌, ℕ, zero, suc, true, false, List, [], ◌∷◌, ◌++◌, map, Option, Some, None, ⊎_elim, refl, sym, ap, ◌∙◌, subst}
+use Rattle.std.proofs.Common.{◌≡◌, ℕ, zero, suc, true, false, List, [], ◌∷◌, Option, Some, None, ⊎_elim, refl, sym, ap, ◌∙◌, subst}
 use Rattle.std.specs.Prelude.{slice_get, IsSome, not}
 use Rattle.std.proofs.lemmas.Option.{none-some, same_Some}
 use Rattle.dia_ccf.specs.declared.source.Head.{Head}
 use Rattle.dia_ccf.specs.declared.source.Head.TheVariants.{Group, Command, Error}
 use Rattle.dia_ccf.specs.declared.source.RuleKind.{RuleKind}
 use Rattle.dia_ccf.specs.declared.source.RuleKind.TheVariants.{Fixed, Required, Optional}
-use Rattle.dia_ccf.specs.Grammar.{Tokens, each, bracketed, rule, FixedFirst, Item, Declaration, Definition, item, group_of, command_of, group_of_head, command_of_head, source_of, Derives}
-use Rattle.dia_ccf.specs.Names.{is_group, is_fixed, fixed_first}
+use Rattle.dia_ccf.specs.Grammar.{Tokens, each, bracketed, rule, Item, Declaration, Definition, item, group_of, command_of, group_of_head, command_of_head, source_of, Derives}
+use Rattle.dia_ccf.specs.Names.{is_group, is_fixed}
 use Rattle.dia_ccf.specs.Plain.{PlainSource, PlainDef, PlainRule}
 use Rattle.dia_ccf.specs.Tokens.{Token}
 use Rattle.dia_ccf.proofs.Following.{fixed-in_order}

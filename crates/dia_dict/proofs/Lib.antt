@@ -10,6 +10,7 @@ pub mod Refusals
 pub mod Duplicates
 pub mod Members
 pub mod Clean
+pub mod Derived
 pub mod Sound
 pub mod BaseRows
 pub mod BaseSound

@@ -153,6 +153,10 @@ position-is_some {X} p xs i x at pass = by (position p xs) refl
 
 -- ---- lists of faults with nothing in them
 
+pub first-none : {X : Type 0} (xs : List X) → slice_get xs 0 ≡ None → xs ≡ []
+first-none [] e = refl
+first-none (x ∷ xs) e = absurd (none-some x (sym e))
+
 pub append-none : {X : Type 0} (xs ys : List X) → xs ++ ys ≡ [] → (xs ≡ []) × (ys ≡ [])
 append-none [] ys e = (refl, e)
 append-none (x ∷ xs) ys e = absurd (let p : x ∷ (xs ++ ys) ≡ [] = e in cc)

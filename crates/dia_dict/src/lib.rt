@@ -27,4 +27,4 @@ pub use fault::{DictFault, DictKind};
 pub use indexed_book::IndexedBook;
 pub use numbers::{DefId, Entry};
 pub use plain_book::PlainBook;
-pub use resolving::resolve;
+pub use resolving::{named_is_sound, resolve};

@@ -10,6 +10,7 @@ mod distinct;
 mod names;
 mod refusal;
 mod rules;
+mod soundness;
 
 use crate::book::Book;
 use crate::fault::DictFault;
@@ -17,6 +18,7 @@ use crate::plain_book::PlainBook;
 use dia_ccf::Source;
 use names::Names;
 use refusal::Refusal;
+pub use soundness::named_is_sound;
 use std::alloc::Global;
 
 /// The dictionary that a source names.

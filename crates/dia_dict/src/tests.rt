@@ -1,6 +1,6 @@
 //! Dictionaries out of texts.
 
-use crate::{DictFault, PlainBook, base_book, base_text, resolve};
+use crate::{DictFault, PlainBook, base_book, base_text, named_is_sound, resolve};
 use answers::same_answers;
 use dia_ccf::parse;
 use std::alloc::Global;
@@ -26,6 +26,7 @@ fn fault_of(alloc: Global, text: &str) -> Result<DictFault, Fail> {
 
 #[test]
 fn base_text_names_the_base_book(rt: HostRuntime) -> Result<(), Fail> {
+    named_is_sound();
     let base = base_book(rt.alloc())?;
     let read = book_of(rt.alloc(), base_text())?;
     same_answers(&rt, &base, &read);

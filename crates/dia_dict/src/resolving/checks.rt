@@ -84,8 +84,7 @@ fn groups<'a>(names: &Names<'a>) -> Result<(), Refusal<'a>>
 fn first_lacking<'d>(names: &Names<'_>, avps: &'d [Decl]) -> Option<&'d Decl>
     ensures { option_copied result ≡ find (λ d. lacks_group (plain names.now.source.now) (plain_decl d)) avps.now }
 {
-    avps.iter()
-        .find(|decl| is_grouped(decl.format) && !names.is_group(&decl.name))
+    avps.iter().find(|decl| is_grouped(decl.format) && !names.is_group(&decl.name))
 }
 
 fn is_grouped(format: FormatName) -> bool

@@ -1,0 +1,9 @@
+use Rattle.dia_dict.specs.Resolution.{all_wrong}
+use Rattle.dia_dict.proofs.Clean.{clean}
+use Rattle.dia_dict.proofs.Derived.{formed_derived}
+use Rattle.dia_dict.proofs.Members.{first-none}
+use Rattle.dia_dict.proofs.Sound.{sound}
+use Rattle.dia_dict.proofs.resolving.soundness.named_is_sound.Goals as goal
+
+pub returns : goal.returns
+returns c = λ ts s derived none. sound s (formed_derived ts s derived) (clean s (first-none (all_wrong s) none))

@@ -1,0 +1,12 @@
+//! That sources name dictionaries.
+ghost use Rattle.std.specs.Prelude.{◌≡◌, List, None};
+ghost use Rattle.dia_ccf.specs.Grammar.{Derives};
+ghost use Rattle.dia_ccf.specs.Plain.{PlainSource};
+ghost use Rattle.dia_ccf.specs.Tokens.{Token};
+ghost use Rattle.dia_dict.specs.Dictionary.{IsDictionary};
+ghost use Rattle.dia_dict.specs.Resolution.{first_wrong, resolved};
+
+/// Where the grammar derives tokens for a source, and nothing is wrong with that, it names what every `Book` keeps.
+pub fn named_is_sound()
+    ensures { (ts : List Token) (s : PlainSource) → Derives ts s → first_wrong s ≡ None → IsDictionary (resolved s) }
+{}
