@@ -5,3 +5,7 @@ pub mod Listing
 pub mod Outcome
 pub mod Writing
 pub mod Ending
+pub mod Origins
+pub mod Request
+pub mod Devices
+pub mod Opening

@@ -1,17 +1,19 @@
 //! The words of the command line.
 
-use crate::command::Command;
+ghost use Rattle.std.specs.Prelude.{◌≡◌, IfOk, false};
+ghost use Rattle.diacmd.specs.Origins.{reads_twice};
+ghost use Rattle.diacmd.specs.Request.{origins_of, read_once};
+
 use crate::ending::Ending;
+use crate::origin::BASE_DICTIONARY;
+use crate::request::Request;
 use clap::error::ErrorKind;
 use clap::{Arg, ArgMatches};
 use std::alloc::{AllocError, Global};
 use std::convert::AsStr;
 
-/// The word for standard input.
-pub const STANDARD_INPUT: &str = "-";
-
-/// The word for the base dictionary, where a dictionary stands.
-pub const BASE_DICTIONARY: &str = "@base";
+/// The program's version.
+const VERSION: &str = "0.1.0";
 
 /// What the statuses of the process mean.
 const STATUSES: &str = "Status:
@@ -20,27 +22,14 @@ const STATUSES: &str = "Status:
   2  bad input, or a bad command line
   3  a file or a device failed, or memory was refused";
 
-/// What the words ask for: a subcommand, with the words of its inputs.
-#[derive(Clone, Copy, Debug, PartialEq, Eq)]
-pub enum Request<'a> {
-    /// `show [--dict D] MESSAGE`
-    Show {
-        dictionary: &'a str,
-        message: &'a str,
-    },
-    /// `render D`
-    Render {
-        dictionary: &'a str,
-    },
-}
-
 /// Reads the words, the program's own name first.
-pub fn parse_words<'a, S: AsStr>(alloc: Global, words: &'a [S]) -> Result<Request<'a>, Ending> {
+pub fn parse_words<'a, S: AsStr>(alloc: Global, words: &'a [S]) -> Result<Request<'a>, Ending<'a>>
+    ensures { IfOk result (λ request. reads_twice (origins_of request) ≡ false) }
+{
     let mut line = command_line(alloc)?;
     let matches = line.try_get_matches_from_mut(words)?;
     match request_of(&matches) {
-        Some(request) if request.reads_twice() => Err(Ending::ReadTwice),
-        Some(request) => Ok(request),
+        Some(request) => read_once(request),
         // It never comes to this: the line requires a subcommand, and each subcommand its words.
         None => {
             let error = line.error(ErrorKind::MissingSubcommand, "the words ask for nothing")?;
@@ -49,24 +38,14 @@ pub fn parse_words<'a, S: AsStr>(alloc: Global, words: &'a [S]) -> Result<Reques
     }
 }
 
-impl Request<'_> {
-    /// What the program is to do with the inputs.
-    pub fn command(&self) -> Command {
-        match self {
-            Request::Show { .. } => Command::Show,
-            Request::Render { .. } => Command::Render,
-        }
-    }
-
-    /// Whether two inputs are standard input.
-    fn reads_twice(&self) -> bool {
-        match self {
-            Request::Show {
-                dictionary,
-                message,
-            } => *dictionary == STANDARD_INPUT && *message == STANDARD_INPUT,
-            Request::Render { .. } => false,
-        }
+/// The request, unless it reads standard input twice.
+fn read_once(request: Request<'_>) -> Result<Request<'_>, Ending<'_>>
+    ensures { result ≡ read_once request.entry }
+{
+    if request.origins().reads_twice() {
+        Err(Ending::ReadTwice)
+    } else {
+        Ok(request)
     }
 }
 
@@ -87,6 +66,7 @@ fn request_of<'a>(matches: &ArgMatches<'a>) -> Option<Request<'a>> {
 fn command_line<'a>(alloc: Global) -> Result<clap::Command<'a>, AllocError> {
     clap::Command::new(alloc, "diacmd")
         .about("A workbench for Diameter (RFC 6733) dictionaries and messages")
+        .version(VERSION)
         .after_help(STATUSES)
         .subcommand_required(true)
         .subcommand(show_line(alloc)?)?

@@ -1,86 +1,158 @@
 //! How the program ends where there is nothing to run, or a run didn't end.
 
-ghost use Rattle.std.specs.Prelude.{◌≡◌};
+ghost use Rattle.std.specs.Prelude.{◌≡◌, ◌⊎◌, IfOk, IfErr};
+ghost use Rattle.diacmd.specs.Ending.{EndsWith};
+ghost use Rattle.diacmd.specs.Exit.{status_of};
 
-use crate::command::RunFault;
+use crate::command::{Exit, RunFault};
 use clap::error::ErrorKind;
 use std::alloc::AllocError;
-use std::io;
+use std::{fmt, io};
 
 /// Why there is no outcome.
 #[derive(Debug, Drop)]
-pub enum Ending {
-    /// What the reader of the words tells: help, with status 0, or a command-line fault, with status 2.
+pub enum Ending<'a> {
+    /// What the reader of the words tells: help or the version, with status 0, or a command-line fault, with status 2.
     Told(clap::Error),
     /// A word is no text: a command-line fault, status 2.
     NotText,
     /// Standard input is to be read twice: a command-line fault, status 2.
     ReadTwice,
     /// A file couldn't be opened, or a device failed: status 3.
-    Device,
-    /// Want of memory: status 3.
+    Device {
+        /// The word of the input, or what is no input by its own name.
+        name: &'a str,
+        /// What the system said.
+        error: Option<io::Error>,
+    },
+    /// Memory was refused: status 3.
     NoMemory,
 }
 
-impl Ending {
-    ghost use Rattle.std.specs.Prelude.{◌≡◌, ◌⊎◌};
-    ghost use Rattle.diacmd.specs.Ending.{EndsWith, IsEndingOfIo};
+/// The status that the process ends with. An ending is told first, on the stream where it belongs.
+pub fn finish(rt: &(impl Print + Eprint), ended: Result<Exit, Ending<'_>>) -> u8
+    ensures exit { IfOk ended.entry (λ exit. result ≡ status_of exit) }
+    ensures ending { IfErr ended.entry (λ ending. EndsWith ending result ⊎ (result ≡ 3)) }
+{
+    match ended {
+        Ok(exit) => exit.status(),
+        Err(ending) => ending.tell(rt),
+    }
+}
+
+impl<'a> Ending<'a> {
+    ghost use Rattle.std.specs.Prelude.{◌≡◌, ◌⊎◌, ◌↔◌, IfOk, IsErr, IsTrue};
+    ghost use Rattle.diacmd.specs.Ending.{EndsWith, IsEndingOfIo, IsShown, ending_of_run};
 
     /// The ending where the words of the process can't be read.
-    pub fn of_words(error: io::Error) -> Ending
+    pub fn of_words(error: io::Error) -> Ending<'static>
         ensures { IsEndingOfIo error result }
     {
         match error.kind() {
             io::ErrorKind::OutOfMemory => Ending::NoMemory,
             io::ErrorKind::InvalidData => Ending::NotText,
-            _ => Ending::Device,
+            _ => Ending::Device {
+                name: "command line",
+                error: Some(error),
+            },
         }
     }
 
-    /// Says why, on the stream where it belongs, and answers the status. Where that stream fails, a failed device is told
-    /// on standard error instead, and the status is 3.
+    /// The ending where a run didn't end. `name` and `error` are those of its sink.
+    pub fn of_run(fault: RunFault, name: &'a str, error: Option<io::Error>) -> Ending<'a>
+        ensures { result ≡ ending_of_run fault name.entry error }
+    {
+        match fault {
+            RunFault::Device => Ending::Device { name, error },
+            RunFault::NoMemory => Ending::NoMemory,
+        }
+    }
+
+    /// Says why, on the stream where it belongs, and answers the status. Where that stream fails, this is told on
+    /// standard error instead.
     pub fn tell(&self, rt: &(impl Print + Eprint)) -> u8
         ensures { EndsWith self.now result ⊎ (result ≡ 3) }
     {
-        match self.print(rt) {
-            Ok(()) => self.status(),
-            Err(_) => {
-                let failure = Ending::Device;
-                let _told = failure.print(rt);
-                failure.status()
+        let printed = self.print(rt);
+        if let Err(error) = printed {
+            let _told = Ending::Device {
+                name: self.stream(),
+                error: Some(error),
             }
+            .print(rt);
         }
+        self.status(printed)
     }
 
-    /// The status that the process ends with.
-    fn status(&self) -> u8
-        ensures { EndsWith self.now result }
+    /// The status that the process ends with, once the ending was printed or its stream failed.
+    fn status(&self, printed: io::Result<()>) -> u8
+        ensures printed { IfOk printed (λ _. EndsWith self.now result) }
+        ensures failed { IsErr printed → result ≡ 3 }
     {
         match self {
+            _ if printed.is_err() => 3,
             Ending::Told(error) if error.use_stderr() => 2,
             Ending::Told(_) => 0,
             Ending::NotText | Ending::ReadTwice => 2,
-            Ending::Device | Ending::NoMemory => 3,
+            Ending::Device { .. } | Ending::NoMemory => 3,
         }
     }
 
-    /// Says why, on the stream where it belongs.
-    fn print(&self, rt: &(impl Print + Eprint)) -> io::Result<()> {
+    /// Whether it is what was asked for: help, or the version.
+    fn is_shown(&self) -> bool
+        ensures { IsTrue result ↔ IsShown self.now }
+    {
         match self {
-            Ending::Told(error) => error.print(rt),
-            Ending::NotText => rt.eprintln(
-                "error: a word of the command line isn't UTF-8\n\nFor more information, try '--help'.",
-            ),
-            Ending::ReadTwice => rt.eprintln(
-                "error: '-' is given twice, and standard input can be read once: name a file for one of the two\n\nFor more information, try '--help'.",
-            ),
-            Ending::Device => rt.eprintln("device failed"),
-            Ending::NoMemory => rt.eprintln("no memory"),
+            Ending::Told(error) => !error.use_stderr(),
+            _ => false,
+        }
+    }
+
+    /// What the stream is called on which this is told.
+    fn stream(&self) -> &'static str {
+        if self.is_shown() {
+            "standard output"
+        } else {
+            "standard error"
+        }
+    }
+
+    fn print(&self, rt: &(impl Print + Eprint)) -> io::Result<()> {
+        if self.is_shown() {
+            rt.print(self)
+        } else {
+            rt.eprint(self)
         }
     }
 }
 
-impl From<clap::Error> for Ending {
+impl fmt::Display for Ending<'_> {
+    ghost use Rattle.diacmd.specs.Ending.{ending_text};
+
+    ghost output = { λ ending. ending_text ending };
+
+    fn fmt<W: fmt::Write>(&self, f: &mut fmt::Formatter<W>) -> fmt::Result {
+        match self {
+            Ending::Told(error) => write!(f, "{error}"),
+            Ending::NotText => f.write_str(NOT_TEXT),
+            Ending::ReadTwice => f.write_str(READ_TWICE),
+            Ending::Device {
+                name,
+                error: Some(error),
+            } => write!(f, "device failed\n{name}: {error}\n"),
+            Ending::Device { .. } => f.write_str("device failed\n"),
+            Ending::NoMemory => f.write_str("no memory\n"),
+        }
+    }
+}
+
+const NOT_TEXT: &str =
+    "error: a word of the command line isn't UTF-8\n\nFor more information, try '--help'.\n";
+
+const READ_TWICE: &str =
+    "error: '-' is given twice, and standard input can be read once: name a file for one of the two\n\nFor more information, try '--help'.\n";
+
+impl<'a> From<clap::Error> for Ending<'a> {
     ghost use Rattle.std.specs.Prelude.{◌≡◌, ◌≢◌};
     ghost use Rattle.clap.specs.Words.{kind_of};
     ghost use Rattle.diacmd.specs.declared.ending.Ending.TheVariants.{Told, NoMemory};
@@ -88,7 +160,7 @@ impl From<clap::Error> for Ending {
 
     ghost from_gives = { λ error ending. (kind_of error ≡ OutOfMemory → ending ≡ NoMemory) × (kind_of error ≢ OutOfMemory → ending ≡ Told error) };
 
-    fn from(error: clap::Error) -> Ending {
+    fn from(error: clap::Error) -> Ending<'a> {
         match error.kind() {
             ErrorKind::OutOfMemory => Ending::NoMemory,
             _ => Ending::Told(error),
@@ -96,27 +168,13 @@ impl From<clap::Error> for Ending {
     }
 }
 
-impl From<AllocError> for Ending {
+impl<'a> From<AllocError> for Ending<'a> {
     ghost use Rattle.std.specs.Prelude.{◌≡◌};
     ghost use Rattle.diacmd.specs.declared.ending.Ending.TheVariants.{NoMemory};
 
     ghost from_gives = { λ _ ending. ending ≡ NoMemory };
 
-    fn from(_error: AllocError) -> Ending {
+    fn from(_error: AllocError) -> Ending<'a> {
         Ending::NoMemory
-    }
-}
-
-impl From<RunFault> for Ending {
-    ghost use Rattle.std.specs.Prelude.{◌≡◌};
-    ghost use Rattle.diacmd.specs.Ending.{ending_of};
-
-    ghost from_gives = { λ fault ending. ending ≡ ending_of fault };
-
-    fn from(fault: RunFault) -> Ending {
-        match fault {
-            RunFault::Device => Ending::Device,
-            RunFault::NoMemory => Ending::NoMemory,
-        }
     }
 }

@@ -1,7 +1,8 @@
 //! `diacmd`: the workbench for Diameter dictionaries and messages, on the command line.
 //!
 //! `main` reads the words, opens the inputs, calls `run` with standard output and ends with the
-//! status. What is written for the inputs, and how it ends, is decided in `run`, over values.
+//! status. What is written for the inputs, and how it ends, is decided in `run`, over values; what the
+//! shell around it decides, in functions over values too.
 #![tactic(auto)]
 
 mod arguments;
@@ -11,7 +12,9 @@ mod devices;
 mod ending;
 mod inputs;
 mod opening;
+mod origin;
 mod reading;
+mod request;
 mod running;
 mod streams;
 #[cfg(test)]
@@ -22,7 +25,7 @@ mod vectors;
 use crate::arguments::parse_words;
 use crate::command::Exit;
 use crate::devices::ToWriter;
-use crate::ending::Ending;
+use crate::ending::{Ending, finish};
 use crate::opening::open_inputs;
 use crate::running::run;
 use std::process::ExitCode;
@@ -30,23 +33,31 @@ use std::rt::{Env, Files};
 use std::{env, io};
 
 fn main(rt: HostRuntime) -> ExitCode {
-    let status = match perform(&rt) {
-        Ok(exit) => exit.status(),
-        Err(ending) => ending.tell(&rt),
+    let status = match read_words(&rt) {
+        Ok(words) => finish(&rt, perform(&rt, words.as_slice())),
+        Err(ending) => finish(&rt, Err(ending)),
     };
     ExitCode::from(status)
 }
 
-/// Does what the words of the process ask for.
-fn perform<R>(rt: &R) -> Result<Exit, Ending>
-where
-    R: AllocGlobal + Env + Files + Input + Print,
-{
-    let words: Vec<String> = env::args(rt)
+/// The words of the process, its own name first.
+fn read_words<R: AllocGlobal + Env>(rt: &R) -> Result<Vec<String>, Ending<'static>> {
+    let words = env::args(rt)
         .map_err(Ending::of_words)?
         .collect(rt.alloc())?;
-    let request = parse_words(rt.alloc(), words.as_slice())?;
-    let inputs = open_inputs(rt, &request)?;
+    Ok(words)
+}
+
+/// Does what the words ask for.
+fn perform<'a, R>(rt: &R, words: &'a [String]) -> Result<Exit, Ending<'a>>
+where
+    R: AllocGlobal + Files + Input + Print,
+{
+    let request = parse_words(rt.alloc(), words)?;
+    let inputs = open_inputs(rt, &request.origins())?;
     let mut sink = ToWriter::new(io::writer(rt));
-    Ok(run(rt.alloc(), &request.command(), &inputs, &mut sink)?)
+    match run(rt.alloc(), &request.command(), &inputs, &mut sink) {
+        Ok(exit) => Ok(exit),
+        Err(fault) => Err(Ending::of_run(fault, "standard output", sink.failure())),
+    }
 }

@@ -1,84 +1,93 @@
-//! The inputs that the words name.
+//! The inputs, read from where they come from.
 
-ghost use Rattle.std.specs.Prelude.{[], IfOk, IfSome};
-ghost use Rattle.diacmd.specs.Inputs.{Holds, IsWhole};
+ghost use Rattle.std.specs.Prelude.{◌≡◌, IfOk, IfErr, IfSome};
+ghost use Rattle.diacmd.specs.Inputs.{IsWhole};
+ghost use Rattle.diacmd.specs.Opening.{IsAnyUnread, IsFaultOf, IsInputOf, IsReadOf, IsUnread, IsWithin, input_of};
 
-use crate::arguments::{BASE_DICTIONARY, Request, STANDARD_INPUT};
 use crate::command::{Input as Text, Inputs};
 use crate::devices::FromReader;
 use crate::ending::Ending;
-use crate::inputs::message::MAX_MESSAGE_TEXT;
+use crate::origin::{Origin, Origins, STANDARD_INPUT};
 use crate::reading::{InputFault, read_input};
-use dia_ccf::MAX_TEXT;
 use dia_dict::base_text;
 use std::alloc::Global;
-use std::fs;
 use std::io::Read;
 use std::rt::Files;
+use std::{fs, io};
 
-/// Reads the inputs of a request whole: first the dictionary, then the message, wherever they stand among the words.
-pub fn open_inputs<R: AllocGlobal + Files + Input>(
+/// Reads the inputs whole: first the dictionaries, then the table, then the message, wherever they stand among the words.
+pub fn open_inputs<'a, R: AllocGlobal + Files + Input>(
     rt: &R,
-    request: &Request<'_>,
-) -> Result<Inputs, Ending> {
-    let (first, message) = match request {
-        Request::Show {
-            dictionary,
-            message,
-        } => {
-            let first = open_dictionary(rt, dictionary)?;
-            (first, open_text(rt, message, MAX_MESSAGE_TEXT)?)
-        }
-        Request::Render { dictionary } => (open_dictionary(rt, dictionary)?, unused(rt.alloc())),
-    };
+    origins: &Origins<'a>,
+) -> Result<Inputs, Ending<'a>>
+    ensures ok { IfOk result (IsReadOf origins.now) }
+    ensures err { IfErr result (IsAnyUnread origins.now) }
+{
+    let first = open_input(rt, origins.first)?;
+    let second = open_input(rt, origins.second)?;
+    let table = open_input(rt, origins.table)?;
+    let message = open_input(rt, origins.message)?;
     Ok(Inputs {
         first,
-        second: unused(rt.alloc()),
-        table: unused(rt.alloc()),
+        second,
+        table,
         message,
     })
 }
 
-/// An input that the command doesn't look at.
-fn unused(alloc: Global) -> Text
-    ensures { Holds result 0 [] }
-{
-    Text::Bytes(Vec::new(alloc))
-}
-
-fn open_dictionary<R: AllocGlobal + Files + Input>(rt: &R, word: &str) -> Result<Text, Ending> {
-    if word == BASE_DICTIONARY {
-        let bytes = Vec::from_slice(rt.alloc(), base_text().as_bytes())?;
-        Ok(Text::Bytes(bytes))
-    } else {
-        open_text(rt, word, MAX_TEXT)
-    }
-}
-
-fn open_text<R: AllocGlobal + Files + Input>(
+fn open_input<'a, R: AllocGlobal + Files + Input>(
     rt: &R,
-    word: &str,
-    limit: usize,
-) -> Result<Text, Ending> {
-    if word == STANDARD_INPUT {
-        read_text(rt.alloc(), rt.reader(), limit)
-    } else {
-        let Ok(file) = fs::open(rt, word) else {
-            return Err(Ending::Device);
-        };
-        read_text(rt.alloc(), file, limit)
+    origin: Origin<'a>,
+) -> Result<Text, Ending<'a>>
+    ensures ok { IfOk result (IsInputOf origin.entry) }
+    ensures err { IfErr result (IsUnread origin.entry) }
+{
+    let alloc = rt.alloc();
+    match origin {
+        Origin::Nowhere => Ok(Text::Bytes(Vec::new(alloc))),
+        Origin::Base => {
+            let bytes = Vec::from_slice(alloc, base_text().as_bytes())?;
+            Ok(Text::Bytes(bytes))
+        }
+        Origin::StandardInput { limit } => read_text(alloc, rt.reader(), STANDARD_INPUT, limit),
+        Origin::File { path, limit } => match fs::open(rt, path) {
+            Ok(file) => read_text(alloc, file, path, limit),
+            Err(error) => Err(Ending::Device {
+                name: path,
+                error: Some(error),
+            }),
+        },
     }
 }
 
-/// All bytes of a reader, or that they are too many.
-fn read_text<R: Read + Drop>(alloc: Global, reader: R, limit: usize) -> Result<Text, Ending>
-    ensures { IfOk result (λ text. IfSome (R.remaining reader) (IsWhole text limit)) }
+/// All bytes of a reader, or that they are too many. `name` is the word of the input.
+fn read_text<'a, R: Read + Drop>(
+    alloc: Global,
+    reader: R,
+    name: &'a str,
+    limit: usize,
+) -> Result<Text, Ending<'a>>
+    ensures whole { IfOk result (λ text. IfSome (R.remaining reader) (IsWhole text limit)) }
+    ensures within { IfOk result (λ text. IsWithin text limit) }
+    ensures err { IfErr result (IsFaultOf name.entry.now) }
 {
     let mut feed = FromReader::new(reader);
-    match read_input(alloc, &mut feed, limit) {
+    let read = read_input(alloc, &mut feed, limit);
+    input_of(read, name, feed.failure())
+}
+
+/// The input that was read, or how the program ends. `name` is the word of the input, and `error` what its reader said.
+fn input_of<'a>(
+    read: Result<Vec<u8>, InputFault>,
+    name: &'a str,
+    error: Option<io::Error>,
+) -> Result<Text, Ending<'a>>
+    ensures { result ≡ input_of read name.entry error }
+{
+    match read {
         Ok(bytes) => Ok(Text::Bytes(bytes)),
         Err(InputFault::TooLong) => Ok(Text::TooLong),
-        Err(InputFault::Device) => Err(Ending::Device),
+        Err(InputFault::Device) => Err(Ending::Device { name, error }),
         Err(InputFault::NoMemory) => Err(Ending::NoMemory),
     }
 }

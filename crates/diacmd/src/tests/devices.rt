@@ -175,17 +175,23 @@ impl Write for Full {
     }
 }
 
+fn is_interrupted(failure: Option<io::Error>) -> bool {
+    matches!(failure, Some(error) if error.kind() == io::ErrorKind::Interrupted)
+}
+
 #[test]
 fn an_interrupted_call_is_a_failure(rt: HostRuntime) {
     let mut buffer = [0u8; 4];
     let mut feed = FromReader::new(Interrupted { once: true });
     assert_eq!(rt; feed.get(&mut buffer), Err(Failed));
     assert!(rt; feed.failed());
+    assert!(rt; is_interrupted(feed.failure()));
     assert_eq!(rt; feed.get(&mut buffer), Ok(1));
     assert!(rt; feed.failed());
     let mut sink = ToWriter::new(Interrupted { once: true });
     assert_eq!(rt; sink.put(b"text"), Err(Failed));
     assert!(rt; sink.failed());
+    assert!(rt; is_interrupted(sink.failure()));
     assert_eq!(rt; sink.put(b"text"), Ok(4));
     assert!(rt; sink.failed());
 }

@@ -1,47 +1,96 @@
 //! The words of the command line, and what is told of them.
 
-use crate::arguments::{Request, parse_words};
-use crate::command::Command;
-use crate::ending::Ending;
+use crate::arguments::parse_words;
+use crate::command::{Command, Exit};
+use crate::ending::{Ending, finish};
+use crate::origin::{Origin, Origins};
 use std::alloc::Global;
 use std::cell::RefCell;
 use std::fmt::Display;
 use std::io;
 use std::test::Fail;
 
+/// A dictionary's file, with the limit of its text.
+const fn dictionary_file(path: &str) -> Origin<'_> {
+    Origin::File {
+        path,
+        limit: 1_048_576,
+    }
+}
+
+/// The inputs of `show`.
+fn show_origins<'a>(first: Origin<'a>, message: Origin<'a>) -> Origins<'a> {
+    Origins {
+        first,
+        second: Origin::Nowhere,
+        table: Origin::Nowhere,
+        message,
+    }
+}
+
 #[test]
 fn reads_the_words(rt: HostRuntime) -> Result<(), Fail> {
-    let rows: [(&[&str], Request, Command); 3] = [
+    let limit = 67_108_864;
+    let from_input = Origin::StandardInput { limit };
+    let from_file = Origin::File {
+        path: "m.hex",
+        limit,
+    };
+    let dictionary_input = Origin::StandardInput { limit: 1_048_576 };
+    let rows: [(&[&str], Command, Origins); 8] = [
         (
             &["diacmd", "show", "-"],
-            Request::Show {
-                dictionary: "@base",
-                message: "-",
-            },
             Command::Show,
+            show_origins(Origin::Base, from_input),
         ),
         (
             &["diacmd", "show", "m.hex", "--dict", "-"],
-            Request::Show {
-                dictionary: "-",
-                message: "m.hex",
-            },
             Command::Show,
+            show_origins(dictionary_input, from_file),
+        ),
+        (
+            &["diacmd", "show", "--dict=d.txt", "m.hex"],
+            Command::Show,
+            show_origins(dictionary_file("d.txt"), from_file),
+        ),
+        (
+            &["diacmd", "show", "--dict", "@base", "--", "m.hex"],
+            Command::Show,
+            show_origins(Origin::Base, from_file),
+        ),
+        (
+            &["diacmd", "show", "@base"],
+            Command::Show,
+            show_origins(
+                Origin::Base,
+                Origin::File {
+                    path: "@base",
+                    limit,
+                },
+            ),
         ),
         (
             &["diacmd", "render", "@base"],
-            Request::Render {
-                dictionary: "@base",
-            },
             Command::Render,
+            show_origins(Origin::Base, Origin::Nowhere),
+        ),
+        (
+            &["diacmd", "render", "-"],
+            Command::Render,
+            show_origins(dictionary_input, Origin::Nowhere),
+        ),
+        (
+            &["diacmd", "render", "--", "-d"],
+            Command::Render,
+            show_origins(dictionary_file("-d"), Origin::Nowhere),
         ),
     ];
-    for (words, wanted, command) in rows.iter() {
+    for (words, command, origins) in rows.iter() {
         let Ok(request) = parse_words(rt.alloc(), *words) else {
-            return Err(Fail::from("the words are refused"));
+            return Err(Fail::new(format_args!("the words are refused: {words:?}")));
         };
-        assert_eq!(rt; request, *wanted);
         assert_eq!(rt; request.command(), *command);
+        assert_eq!(rt; request.origins(), *origins);
     }
     Ok(())
 }
@@ -135,7 +184,7 @@ impl Eprint for Streams {
 }
 
 /// How the program ends for words that ask for nothing to run.
-fn ending_of(alloc: Global, words: &[&str]) -> Result<Ending, Fail> {
+fn ending_of<'a>(alloc: Global, words: &'a [&'a str]) -> Result<Ending<'a>, Fail> {
     match parse_words(alloc, words) {
         Ok(_) => Err(Fail::from("the words are read")),
         Err(ending) => Ok(ending),
@@ -222,7 +271,8 @@ Commands:
   help    Print this message or the help of the given subcommand(s)
 
 Options:
-  -h, --help  Print help
+  -h, --help     Print help
+  -V, --version  Print version
 
 Status:
   0  done
@@ -255,8 +305,9 @@ Options:
 ";
 
 #[test]
-fn help_goes_to_standard_output(rt: HostRuntime) -> Result<(), Fail> {
-    let rows: [(&[&str], &str); 3] = [
+fn what_is_asked_for_goes_to_standard_output(rt: HostRuntime) -> Result<(), Fail> {
+    let rows: [(&[&str], &str); 4] = [
+        (&["diacmd", "--version"], "diacmd 0.1.0\n"),
         (&["diacmd", "--help"], HELP),
         (&["diacmd", "show", "--help"], SHOW_HELP),
         (&["diacmd", "render", "--help"], RENDER_HELP),
@@ -272,42 +323,76 @@ fn help_goes_to_standard_output(rt: HostRuntime) -> Result<(), Fail> {
 }
 
 #[test]
-fn other_endings_are_a_line_on_standard_error(rt: HostRuntime) {
+fn other_endings_go_to_standard_error(rt: HostRuntime) {
     let rows = [
         (
             Ending::NotText,
             2,
             "error: a word of the command line isn't UTF-8\n\nFor more information, try '--help'.\n",
         ),
-        (Ending::Device, 3, "device failed\n"),
+        (
+            Ending::Device {
+                name: "nofile.hex",
+                error: Some(io::Error::from_raw_os_error(2)),
+            },
+            3,
+            "device failed\nnofile.hex: No such file or directory (os error 2)\n",
+        ),
+        (
+            Ending::Device {
+                name: "-",
+                error: None,
+            },
+            3,
+            "device failed\n",
+        ),
         (Ending::NoMemory, 3, "no memory\n"),
     ];
     for (ending, status, told) in rows.iter() {
         let streams = Streams::new(rt.alloc());
         assert_eq!(rt; ending.tell(&streams), *status);
         assert!(rt; streams.out.was_given(""));
-        assert!(rt; streams.err.was_given(told));
+        assert!(rt; streams.err.was_given(told), "{told}");
     }
 }
 
 #[test]
 fn a_stream_that_fails_is_a_failed_device(rt: HostRuntime) -> Result<(), Fail> {
     let alloc = rt.alloc();
+    let device = Ending::Device {
+        name: "-",
+        error: None,
+    };
     let endings = vec![in alloc;
         ending_of(alloc, &["diacmd", "--help"])?,
         ending_of(alloc, &["diacmd"])?,
         Ending::NotText,
         Ending::ReadTwice,
-        Ending::Device,
+        device,
         Ending::NoMemory,
     ]?;
     for ending in endings.iter() {
         let streams = Streams::failing(alloc, true, true);
         assert_eq!(rt; ending.tell(&streams), 3);
     }
-    // Where standard error doesn't fail, it is given a line.
+    // Where standard error doesn't fail, it is told there.
     let streams = Streams::failing(alloc, true, false);
     assert_eq!(rt; ending_of(alloc, &["diacmd", "--help"])?.tell(&streams), 3);
-    assert!(rt; streams.err.was_given("device failed\n"));
+    assert!(rt;
+        streams
+            .err
+            .was_given("device failed\nstandard output: broken pipe\n")
+    );
     Ok(())
+}
+
+#[test]
+fn the_status_is_that_of_the_exit_or_the_ending(rt: HostRuntime) {
+    let streams = Streams::new(rt.alloc());
+    for (exit, status) in [(Exit::Yes, 0), (Exit::No, 1), (Exit::Bad, 2)].iter() {
+        assert_eq!(rt; finish(&streams, Ok(*exit)), *status);
+    }
+    assert!(rt; streams.err.was_given(""));
+    assert_eq!(rt; finish(&streams, Err(Ending::NoMemory)), 3);
+    assert!(rt; streams.err.was_given("no memory\n") && streams.out.was_given(""));
 }

@@ -1,0 +1,87 @@
+//! Where the text of each input comes from.
+
+ghost use Rattle.std.specs.Prelude.{◌≡◌, count_by};
+ghost use Rattle.diacmd.specs.Origins.{dictionary_origin, is_standard_input, message_origin, origin_within, reads_twice};
+
+use crate::inputs::message::MAX_MESSAGE_TEXT;
+use dia_ccf::MAX_TEXT;
+
+/// The word for standard input.
+pub const STANDARD_INPUT: &str = "-";
+
+/// The word for the base dictionary, where a dictionary stands.
+pub const BASE_DICTIONARY: &str = "@base";
+
+/// Where the text of an input comes from. A limit is the most bytes that the text may have.
+#[derive(Clone, Copy, Debug, PartialEq, Eq)]
+pub enum Origin<'a> {
+    /// The command looks at no such text.
+    Nowhere,
+    /// The base dictionary.
+    Base,
+    StandardInput { limit: usize },
+    File { path: &'a str, limit: usize },
+}
+
+impl<'a> Origin<'a> {
+    /// Of a word where a dictionary stands.
+    pub fn of_dictionary(word: &'a str) -> Origin<'a>
+        ensures { result ≡ dictionary_origin word.entry }
+    {
+        if word == BASE_DICTIONARY {
+            Origin::Base
+        } else {
+            Origin::within(word, MAX_TEXT)
+        }
+    }
+
+    /// Of a word where a message stands.
+    pub fn of_message(word: &'a str) -> Origin<'a>
+        ensures { result ≡ message_origin word.entry }
+    {
+        Origin::within(word, MAX_MESSAGE_TEXT)
+    }
+
+    fn within(word: &'a str, limit: usize) -> Origin<'a>
+        ensures { result ≡ origin_within word.entry limit }
+    {
+        if word == STANDARD_INPUT {
+            Origin::StandardInput { limit }
+        } else {
+            Origin::File { path: word, limit }
+        }
+    }
+
+    fn is_standard_input(&self) -> bool
+        ensures { result ≡ is_standard_input self.entry.now }
+    {
+        matches!(self, Origin::StandardInput { .. })
+    }
+}
+
+/// Where the texts of a command come from, by the fields of `Inputs`.
+#[derive(Clone, Copy, Debug, PartialEq, Eq)]
+pub struct Origins<'a> {
+    pub first: Origin<'a>,
+    pub second: Origin<'a>,
+    pub table: Origin<'a>,
+    pub message: Origin<'a>,
+}
+
+impl Origins<'_> {
+    /// Whether two of the texts are standard input.
+    pub fn reads_twice(&self) -> bool
+        ensures { result ≡ reads_twice self.now }
+    {
+        standard_inputs(&[self.first, self.second, self.table, self.message]) > 1
+    }
+}
+
+fn standard_inputs(origins: &[Origin<'_>]) -> usize
+    ensures { result ≡ count_by is_standard_input origins.now }
+{
+    origins
+        .iter()
+        .filter(|origin| origin.is_standard_input())
+        .count()
+}
