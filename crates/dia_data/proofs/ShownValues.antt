@@ -7,7 +7,6 @@ use Rattle.dia_data.specs.declared.accept.Leaf.TheVariants.{Fine}
 use Rattle.dia_data.specs.Plain.{PlainFormat, Grouped}
 use Rattle.dia_data.specs.Number.{number}
 use Rattle.dia_data.specs.Leaf.{IsLeaf, IsAnswer}
-use Rattle.dia_data.specs.Shown.{IsShown, value_text}
 use Rattle.dia_data.proofs.Numbers.{big_from-number}
 
 pub leaf_from_fine : (answer : Leaf) (kind : PlainFormat) (bytes : List ℕ) → answer ≡ Fine → kind ≢ Grouped → IsAnswer answer kind bytes → IsLeaf kind bytes
@@ -15,9 +14,6 @@ leaf_from_fine answer kind bytes fine level said = elim (subst (λ (a : Leaf). I
   | inl leaf ↦ leaf
   | inr grouped ↦ absurd (level grouped)
 ]
-
-pub shown_leaf : (kind : PlainFormat) (bytes text : List ℕ) → IsLeaf kind bytes → text ≡ value_text kind bytes → IsShown kind bytes text
-shown_leaf kind bytes text leaf is = record { accepted = λ _. is; refused = λ none. absurd (none leaf) }
 
 pub number_of_all : (n : ℕ) (bytes : List ℕ) → length bytes ≡ n → big_from 0 n bytes ≡ number bytes
 number_of_all n bytes is = big_from-number n bytes (omega arith) ∙ ap number (take_all n bytes (omega arith))

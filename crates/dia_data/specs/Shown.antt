@@ -59,3 +59,7 @@ value_text format bytes = hexadecimal bytes
 pub record IsShown (format : PlainFormat) (bytes text : List ℕ) : Type 0 where
   pub accepted : IsLeaf format bytes → text ≡ value_text format bytes
   pub refused : ¬ IsLeaf format bytes → text ≡ hexadecimal bytes
+
+-- the text of the data was added
+abbrev pub AddsShown : PlainFormat → List ℕ → List ℕ → List ℕ → Type 0
+AddsShown format bytes old new = (text : List ℕ) × IsShown format bytes text × (new ≡ old ++ text)

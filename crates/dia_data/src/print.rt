@@ -2,8 +2,8 @@
 ghost use Rattle.std.specs.Prelude.{◌≡◌, ◌<◌, ◌++◌, IfOk, OnOk, length, map, string_bytes};
 ghost use Rattle.std.specs.Fmt.{decimal};
 ghost use Rattle.std.specs.List.{join_with_byte};
-ghost use Rattle.dia_data.specs.Leaf.{IsAddress};
-ghost use Rattle.dia_data.specs.Shown.{IsShown, address, groups, hex_byte, hexadecimal, quoted, quoted_byte};
+ghost use Rattle.dia_data.specs.Leaf.{IsAddress, IsAnswer};
+ghost use Rattle.dia_data.specs.Shown.{IsShown, AddsShown, address, groups, hex_byte, hex_digit, hexadecimal, quoted, quoted_byte, value_text};
 ghost use Rattle.dia_data.specs.Plain.{plain};
 
 use crate::accept::{Leaf, accepts};
@@ -21,94 +21,106 @@ use std::alloc::{AllocError, Global};
 pub fn print_value(alloc: Global, format: &Format, bytes: &[u8]) -> Result<String, AllocError>
     ensures { IfOk result (λ text. IsShown (plain format.now) bytes.now (string_bytes text)) }
 {
-    if accepts(format, bytes) != Leaf::Fine {
-        return hexadecimal(alloc, bytes);
+    let mut text = String::new(alloc);
+    push_value(&mut text, format, bytes)?;
+    Ok(text)
+}
+
+/// Adds the text of the data, as `print_value` prints it, and takes no memory but that of the growing text. The error comes
+/// only where memory was refused; some of the text of the data may have been added then.
+pub fn push_value(out: &mut String, format: &Format, bytes: &[u8]) -> Result<(), AllocError>
+    ensures { OnOk result (AddsShown (plain format.now) bytes.now (string_bytes out.old) (string_bytes out.new)) }
+{
+    if accepts(format, bytes) == Leaf::Fine {
+        push_accepted(out, format, bytes)
+    } else {
+        push_hexadecimal(out, bytes)
     }
+}
+
+/// Adds the text of data that the format accepts.
+fn push_accepted(out: &mut String, format: &Format, bytes: &[u8]) -> Result<(), AllocError>
+    requires { IsAnswer Leaf.Fine (plain format.now) bytes.now }
+    ensures { OnOk result (string_bytes out.new ≡ string_bytes out.old ++ value_text (plain format.now) bytes.now) }
+{
     match format {
-        Format::Integer32 | Format::Enumerated(_) => { BigEndian::read_i32(bytes).to_string(alloc) }
-        Format::Integer64 => BigEndian::read_i64(bytes).to_string(alloc),
-        Format::Unsigned32 | Format::Time => BigEndian::read_u32(bytes).to_string(alloc),
-        Format::Unsigned64 => BigEndian::read_u64(bytes).to_string(alloc),
-        Format::Address => address(alloc, bytes),
-        Format::Utf8String | Format::DiameterIdentity | Format::DiameterUri => quoted(alloc, bytes),
+        Format::Integer32 | Format::Enumerated(_) => {
+            write!(out, "{}", BigEndian::read_i32(bytes))
+        }
+        Format::Integer64 => write!(out, "{}", BigEndian::read_i64(bytes)),
+        Format::Unsigned32 | Format::Time => write!(out, "{}", BigEndian::read_u32(bytes)),
+        Format::Unsigned64 => write!(out, "{}", BigEndian::read_u64(bytes)),
+        Format::Address => push_address(out, bytes),
+        Format::Utf8String | Format::DiameterIdentity | Format::DiameterUri => push_quoted(
+            out, bytes,
+        ),
         Format::OctetString
         | Format::Float32
         | Format::Float64
         | Format::IpFilterRule
         | Format::QosFilterRule
-        | Format::Grouped => { hexadecimal(alloc, bytes) }
+        | Format::Grouped => push_hexadecimal(out, bytes),
     }
 }
 
-fn address(alloc: Global, bytes: &[u8]) -> Result<String, AllocError>
+fn push_address(out: &mut String, bytes: &[u8]) -> Result<(), AllocError>
     requires { IsAddress bytes.now }
-    ensures { IfOk result (λ text. string_bytes text ≡ address bytes.now) }
+    ensures { OnOk result (string_bytes out.new ≡ string_bytes out.old ++ address bytes.now) }
 {
     let family = BigEndian::read_u16(bytes);
     let rest = &bytes[2..];
     if family == 1 {
-        ipv4(alloc, rest)
+        push_ipv4(out, rest)
     } else if family == 2 {
-        ipv6(alloc, rest)
+        push_ipv6(out, rest)
     } else {
-        let mut out = format!(in alloc; "family {family} ")?;
-        push_hexadecimal(&mut out, rest)?;
-        Ok(out)
+        write!(out, "family {family} ")?;
+        push_hexadecimal(out, rest)
     }
 }
 
-fn ipv4(alloc: Global, bytes: &[u8]) -> Result<String, AllocError>
+fn push_ipv4(out: &mut String, bytes: &[u8]) -> Result<(), AllocError>
     requires { length bytes.now ≡ 4 }
-    ensures { IfOk result (λ text. string_bytes text ≡ join_with_byte 46 (map decimal bytes.now)) }
+    ensures { OnOk result (string_bytes out.new ≡ string_bytes out.old ++ join_with_byte 46 (map decimal bytes.now)) }
 {
-    format!(in alloc; "{}.{}.{}.{}", bytes[0], bytes[1], bytes[2], bytes[3])
+    write!(out, "{}.{}.{}.{}", bytes[0], bytes[1], bytes[2], bytes[3])
 }
 
 /// Every group with its leading zeros.
-fn ipv6(alloc: Global, bytes: &[u8]) -> Result<String, AllocError>
+fn push_ipv6(out: &mut String, bytes: &[u8]) -> Result<(), AllocError>
     requires { length bytes.now ≡ 16 }
-    ensures { IfOk result (λ text. string_bytes text ≡ join_with_byte 58 (groups bytes.now)) }
+    ensures { OnOk result (string_bytes out.new ≡ string_bytes out.old ++ join_with_byte 58 (groups bytes.now)) }
 {
-    let mut out = String::new(alloc);
     for i in 0..8 {
         if i > 0 {
             out.push(':')?;
         }
-        push_hex(&mut out, bytes[2 * i])?;
-        push_hex(&mut out, bytes[2 * i + 1])?;
+        push_hex_byte(out, bytes[2 * i])?;
+        push_hex_byte(out, bytes[2 * i + 1])?;
     }
-    Ok(out)
+    Ok(())
 }
 
-fn quoted(alloc: Global, bytes: &[u8]) -> Result<String, AllocError>
-    ensures { IfOk result (λ text. string_bytes text ≡ quoted bytes.now) }
+fn push_quoted(out: &mut String, bytes: &[u8]) -> Result<(), AllocError>
+    ensures { OnOk result (string_bytes out.new ≡ string_bytes out.old ++ quoted bytes.now) }
 {
-    let mut out = String::from_str(alloc, "\"")?;
-    for byte in bytes {
-        push_quoted(&mut out, *byte)?;
-    }
     out.push('"')?;
-    Ok(out)
+    for byte in bytes {
+        push_quoted_byte(out, *byte)?;
+    }
+    out.push('"')
 }
 
 /// The byte where it is printing ASCII, and neither the quote nor the backslash.
-fn push_quoted(out: &mut String, byte: u8) -> Result<(), AllocError>
+fn push_quoted_byte(out: &mut String, byte: u8) -> Result<(), AllocError>
     ensures { OnOk result (string_bytes out.new ≡ string_bytes out.old ++ quoted_byte byte) }
 {
     if (b' '..=b'~').contains(&byte) && byte != b'"' && byte != b'\\' {
         out.push(char::from(byte))
     } else {
         out.push_str("\\x")?;
-        push_hex(out, byte)
+        push_hex_byte(out, byte)
     }
-}
-
-fn hexadecimal(alloc: Global, bytes: &[u8]) -> Result<String, AllocError>
-    ensures { IfOk result (λ text. string_bytes text ≡ hexadecimal bytes.now) }
-{
-    let mut out = String::new(alloc);
-    push_hexadecimal(&mut out, bytes)?;
-    Ok(out)
 }
 
 fn push_hexadecimal(out: &mut String, bytes: &[u8]) -> Result<(), AllocError>
@@ -116,15 +128,25 @@ fn push_hexadecimal(out: &mut String, bytes: &[u8]) -> Result<(), AllocError>
 {
     out.push('x')?;
     for byte in bytes {
-        push_hex(out, *byte)?;
+        push_hex_byte(out, *byte)?;
     }
     Ok(())
 }
 
-fn push_hex(out: &mut String, byte: u8) -> Result<(), AllocError>
+/// Adds a byte as two lower-case hexadecimal digits. The error comes only where memory was refused; the first digit may have
+/// been added then.
+pub fn push_hex_byte(out: &mut String, byte: u8) -> Result<(), AllocError>
     ensures { OnOk result (string_bytes out.new ≡ string_bytes out.old ++ hex_byte byte) }
 {
-    write!(out, "{byte:02x}")
+    out.push(hex_digit(byte / 16))?;
+    out.push(hex_digit(byte % 16))
+}
+
+fn hex_digit(n: u8) -> char
+    requires { n < 16 }
+    ensures { result ≡ hex_digit n }
+{
+    char::from(if n < 10 { b'0' + n } else { b'a' + (n - 10) })
 }
 
 #[cfg(test)]
@@ -177,6 +199,15 @@ mod tests {
             let printed = print_value(rt.alloc(), &format, data)?;
             assert_eq!(rt; printed.as_str(), text, "{format:?} of {data:?}");
         }
+        Ok(())
+    }
+
+    #[test]
+    fn adds_a_value(rt: HostRuntime) -> Result<(), Fail> {
+        let mut line = String::from_str(rt.alloc(), "1 ")?;
+        push_value(&mut line, &Format::Time, b"\x00\x00\x01\x00")?;
+        push_value(&mut line, &Format::Time, b"")?;
+        assert_eq!(rt; line.as_str(), "1 256x");
         Ok(())
     }
 }
