@@ -5,3 +5,4 @@ pub mod Owed
 pub mod OneListing
 pub mod OneOutcome
 pub mod Telling
+pub mod Digits

@@ -1,17 +1,12 @@
 -- The lines of a message: its header, and then each AVP, with the members of the groups that the dictionary knows.
 use Rattle.std.specs.Prelude.{◌≡◌, ℕ, ◌+◌, ◌<◌, Bool, true, false, List, [], ◌∷◌, ◌++◌, length, Option, Some, None, codes, option_and_then, slice_get}
 use Rattle.std.specs.Fmt.{decimal}
-use Rattle.hex.specs.Hex.{encode_lower}
 use Rattle.dia_wire.specs.declared.Header.{Header}
 use Rattle.dia_wire.specs.Wire.{PlainAvp, key_of, head_length, avp_length, padded_length, BeginsWith, BeginsWithNone}
-use Rattle.dia_data.specs.Plain.{Grouped}
-use Rattle.dia_data.specs.Shown.{hexadecimal, IsShown}
+use Rattle.dia_data.specs.Plain.{PlainFormat, Grouped}
+use Rattle.dia_data.specs.Shown.{hex_byte, hexadecimal, IsShown}
 use Rattle.dia_dict.specs.Dictionary.{Dictionary, DictEntry, entry_of}
 use Rattle.diacmd.specs.Texts.{line}
-
--- a byte of flags as two hexadecimal digits
-abbrev pub flags_text : ℕ → List ℕ
-flags_text flags = encode_lower (flags ∷ [])
 
 -- a dash where there is no Vendor-ID
 abbrev pub vendor_text : Option ℕ → List ℕ
@@ -20,13 +15,17 @@ vendor_text (Some vendor) = decimal vendor
 
 -- the line of a header with this Message Length
 abbrev pub header_line : Header → ℕ → List ℕ
-header_line h len = line (codes "header flags " ++ flags_text h.flags ++ codes " code " ++ decimal h.code ++ codes " app " ++ decimal h.app
+header_line h len = line (codes "header flags " ++ hex_byte h.flags ++ codes " code " ++ decimal h.code ++ codes " app " ++ decimal h.app
     ++ codes " hop " ++ decimal h.hop ++ codes " end " ++ decimal h.e2e ++ codes " length " ++ decimal len)
 
--- the line of an AVP: place, depth, code, vendor, flags, length, name and value
+-- what stands in front of the name of an AVP: place, depth, code, vendor, flags and length
+abbrev pub avp_columns : ℕ → ℕ → PlainAvp → List ℕ
+avp_columns place depth v = decimal place ++ codes " " ++ decimal depth ++ codes " " ++ decimal v.code ++ codes " " ++ vendor_text v.vendor
+    ++ codes " " ++ hex_byte v.flags ++ codes " " ++ decimal (avp_length v) ++ codes " "
+
+-- the line of an AVP
 abbrev pub avp_line : ℕ → ℕ → PlainAvp → List ℕ → List ℕ → List ℕ
-avp_line place depth v name value = line (decimal place ++ codes " " ++ decimal depth ++ codes " " ++ decimal v.code ++ codes " " ++ vendor_text v.vendor
-    ++ codes " " ++ flags_text v.flags ++ codes " " ++ decimal (avp_length v) ++ codes " " ++ name ++ codes " " ++ value)
+avp_line place depth v name value = line (avp_columns place depth v ++ name ++ codes " " ++ value)
 
 -- the line of a place at which no AVP begins
 abbrev pub bad_length_line : ℕ → List ℕ
@@ -76,6 +75,10 @@ pub data IsListing (d : Dictionary) : Level → List ℕ → Bool → Type 0 whe
 abbrev pub AddsAvp : Dictionary → ℕ → ℕ → PlainAvp → List ℕ → List ℕ → Bool → Type 0
 AddsAvp d place depth v old new true = (e : DictEntry) × IsGroup d v e × (new ≡ old ++ avp_line place depth v e.name (codes "group"))
 AddsAvp d place depth v old new false = (name : List ℕ) × (value : List ℕ) × IsLeafText d v name value × (new ≡ old ++ avp_line place depth v name value)
+
+-- the end of an AVP's line was added
+abbrev pub AddsNameAndValue : List ℕ → PlainFormat → List ℕ → List ℕ → List ℕ → Type 0
+AddsNameAndValue name format bytes old new = (value : List ℕ) × IsShown format bytes value × (new ≡ old ++ line (name ++ codes " " ++ value))
 
 -- the lines of a level were added
 abbrev pub AddsLevel : Dictionary → Level → List ℕ → List ℕ → Bool → Type 0

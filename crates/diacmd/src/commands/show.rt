@@ -1,7 +1,7 @@
 //! `show`: a message, an AVP a line.
 
 ghost use Rattle.std.specs.Prelude.{◌≡◌, ◌++◌, IfOk, OnOk, string_bytes};
-ghost use Rattle.diacmd.specs.Listing.{header_line, flags_text};
+ghost use Rattle.diacmd.specs.Listing.{header_line};
 ghost use Rattle.diacmd.specs.Outcome.{Ends, IsShowOutcome, IsShown, listing_exit};
 
 use crate::command::{Exit, Inputs};
@@ -10,6 +10,7 @@ use crate::commands::{Outcome, refuse};
 use crate::inputs::Refused;
 use crate::inputs::dictionary::read_dictionary;
 use crate::inputs::message::read_message;
+use dia_data::push_hex_byte;
 use dia_dict::Book;
 use dia_wire::{HeadFault, Header, read_header};
 use std::alloc::{AllocError, Global};
@@ -46,7 +47,7 @@ fn show_message<B: Book>(alloc: Global, book: &B, bytes: &[u8]) -> Result<Outcom
         return refuse(alloc, "message: trailing");
     }
     let mut text = String::new(alloc);
-    push_header(alloc, &mut text, &header, length)?;
+    push_header(&mut text, &header, length)?;
     let bad = push_level(
         alloc,
         &mut text,
@@ -59,28 +60,16 @@ fn show_message<B: Book>(alloc: Global, book: &B, bytes: &[u8]) -> Result<Outcom
 }
 
 /// Adds the line of a header.
-fn push_header(
-    alloc: Global,
-    text: &mut String,
-    header: &Header,
-    length: u32,
-) -> Result<(), AllocError>
+fn push_header(text: &mut String, header: &Header, length: u32) -> Result<(), AllocError>
     ensures { OnOk result (string_bytes text.new ≡ string_bytes text.old ++ header_line header.now length) }
 {
-    let flags = flags_text(alloc, header.flags)?;
     let code = header.code;
     let app = header.app;
     let hop = header.hop;
     let end = header.e2e;
-    write!(text, "header flags {flags} code {code} app {app}")?;
-    writeln!(text, " hop {hop} end {end} length {length}")
-}
-
-/// A byte of flags as two digits.
-pub fn flags_text(alloc: Global, flags: u8) -> Result<String, AllocError>
-    ensures { IfOk result (λ text. string_bytes text ≡ flags_text flags) }
-{
-    hex::encode(alloc, [flags].as_slice())
+    text.push_str("header flags ")?;
+    push_hex_byte(text, header.flags)?;
+    writeln!(text, " code {code} app {app} hop {hop} end {end} length {length}")
 }
 
 /// How a listing ends that may end at a bad length.

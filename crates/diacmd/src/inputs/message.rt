@@ -1,6 +1,7 @@
 //! A message as hexadecimal text.
 
-ghost use Rattle.std.specs.Prelude.{◌≡◌, IfOk, IfErr, codes};
+ghost use Rattle.std.specs.Prelude.{◌≡◌, ◌≢◌, Ok, IfOk, IfErr, IsOk, codes};
+ghost use Rattle.hex.specs.Hex.{decode_of};
 ghost use Rattle.dia_ccf.specs.Tokens.{is_white};
 ghost use Rattle.diacmd.specs.Texts.{TellsOf, IsMessageText, IsNoMessageText, digits_of};
 
@@ -20,8 +21,7 @@ pub fn read_message(alloc: Global, input: &Input) -> Result<Vec<u8>, Refused>
     let Some(text) = bytes_within(input, MAX_MESSAGE_TEXT) else {
         return Err(tell(alloc, "message: too long"));
     };
-    let digits = without_white(alloc, text)?;
-    match hex::decode(alloc, digits.as_slice()) {
+    match decode(alloc, text) {
         Ok(bytes) => Ok(bytes),
         Err(FromHexError::OutOfMemory) => Err(Refused::NoMemory),
         Err(_) => Err(tell(alloc, "message: not hexadecimal")),
@@ -32,6 +32,31 @@ fn tell(alloc: Global, line: &str) -> Refused
     ensures { TellsOf (λ told. told ≡ line.now) result }
 {
     Refused::of(String::from_str(alloc, line))
+}
+
+/// The bytes that a text spells. A text without white space between its digits is decoded as it is.
+fn decode(alloc: Global, text: &[u8]) -> Result<Vec<u8>, FromHexError>
+    ensures ok { IfOk result (λ bytes. decode_of (digits_of text.now) ≡ Ok bytes.items) }
+    ensures err { IfErr result (λ fault. fault ≢ FromHexError.OutOfMemory → ¬ IsOk (decode_of (digits_of text.now))) }
+{
+    match hex::decode(alloc, without_white_end(text)) {
+        Ok(bytes) => Ok(bytes),
+        Err(FromHexError::OutOfMemory) => Err(FromHexError::OutOfMemory),
+        Err(_) => match without_white(alloc, text) {
+            Ok(digits) => hex::decode(alloc, digits.as_slice()),
+            Err(AllocError) => Err(FromHexError::OutOfMemory),
+        },
+    }
+}
+
+fn without_white_end(text: &[u8]) -> &[u8]
+    ensures { digits_of result.now ≡ digits_of text.entry.now }
+{
+    let mut length = text.len();
+    while length > 0 && is_white(text[length - 1]) {
+        length -= 1;
+    }
+    &text[..length]
 }
 
 fn without_white(alloc: Global, text: &[u8]) -> Result<Vec<u8>, AllocError>

@@ -2,10 +2,10 @@
 
 ghost use Rattle.std.specs.Prelude.{◌≡◌, ◌<◌, ◌≤◌, ◌+◌, ◌^◌, ◌++◌, length, IfOk, OnOk, string_bytes};
 ghost use Rattle.dia_wire.specs.Wire.{plain};
-ghost use Rattle.diacmd.specs.Listing.{avp_line, bad_length_line, vendor_text, AddsAvp, AddsLevel};
+ghost use Rattle.dia_data.specs.Plain.{plain as plain_format};
+ghost use Rattle.diacmd.specs.Listing.{avp_columns, bad_length_line, vendor_text, AddsAvp, AddsLevel, AddsNameAndValue};
 
-use crate::commands::show::flags_text;
-use dia_data::print_value;
+use dia_data::{push_hex_byte, push_value};
 use dia_dict::{Book, Format};
 use dia_wire::{Avp, AvpFault, key, next_avp};
 use std::alloc::{AllocError, Global};
@@ -40,7 +40,7 @@ pub fn push_level<B: Book>(
         let place = rest.end - rest.bytes.len();
         match next_avp(rest.bytes) {
             Ok(Some((avp, behind))) => {
-                let is_group = push_avp(alloc, text, book, place, outer.len(), &avp)?;
+                let is_group = push_avp(text, book, place, outer.len(), &avp)?;
                 rest.bytes = behind;
                 if is_group {
                     outer.push(rest)?;
@@ -64,7 +64,6 @@ pub fn push_level<B: Book>(
 
 /// Adds the line of an AVP, and answers whether it is a known group.
 fn push_avp<B: Book>(
-    alloc: Global,
     text: &mut String,
     book: &B,
     place: usize,
@@ -73,43 +72,66 @@ fn push_avp<B: Book>(
 ) -> Result<bool, AllocError>
     ensures { IfOk result (AddsAvp (B.meaning book.now) place depth (plain avp.now) (string_bytes text.old) (string_bytes text.new)) }
 {
+    push_columns(text, place, depth, avp)?;
     let Some(entry) = book.avp(key(avp)) else {
-        let value = print_value(alloc, &Format::OctetString, avp.bytes)?;
-        push_line(alloc, text, place, depth, avp, "?", value.as_str())?;
+        push_name_and_value(text, "?", &Format::OctetString, avp.bytes)?;
         return Ok(false);
     };
     let name = book.entry_name(entry);
     match book.format(entry) {
         Format::Grouped => {
-            push_line(alloc, text, place, depth, avp, name, "group")?;
+            text.push_str(name)?;
+            text.push_str(" group\n")?;
             Ok(true)
         }
         format => {
-            let value = print_value(alloc, format, avp.bytes)?;
-            push_line(alloc, text, place, depth, avp, name, value.as_str())?;
+            push_name_and_value(text, name, format, avp.bytes)?;
             Ok(false)
         }
     }
 }
 
-/// Adds the line of an AVP with this name and this value.
-fn push_line(
-    alloc: Global,
+/// Adds what stands in front of an AVP's name in its line.
+fn push_columns(
     text: &mut String,
     place: usize,
     depth: usize,
     avp: &Avp<'_>,
-    name: &str,
-    value: &str,
 ) -> Result<(), AllocError>
-    ensures { OnOk result (string_bytes text.new ≡ string_bytes text.old ++ avp_line place depth (plain avp.now) name.now value.now) }
+    ensures { OnOk result (string_bytes text.new ≡ string_bytes text.old ++ avp_columns place depth (plain avp.now)) }
 {
-    let flags = flags_text(alloc, avp.flags)?;
-    let vendor = vendor_text(alloc, avp.vendor)?;
     let code = avp.code;
     let length = avp.length();
-    write!(text, "{place} {depth} {code} {vendor}")?;
-    writeln!(text, " {flags} {length} {name} {value}")
+    write!(text, "{place} {depth} {code} ")?;
+    push_vendor(text, avp.vendor)?;
+    text.push(' ')?;
+    push_hex_byte(text, avp.flags)?;
+    write!(text, " {length} ")
+}
+
+/// Adds the Vendor-ID, or a dash.
+fn push_vendor(text: &mut String, vendor: Option<u32>) -> Result<(), AllocError>
+    ensures { OnOk result (string_bytes text.new ≡ string_bytes text.old ++ vendor_text vendor) }
+{
+    match vendor {
+        Some(vendor) => write!(text, "{vendor}"),
+        None => text.push('-'),
+    }
+}
+
+/// Adds the name and the value, which end the line of an AVP.
+fn push_name_and_value(
+    text: &mut String,
+    name: &str,
+    format: &Format,
+    bytes: &[u8],
+) -> Result<(), AllocError>
+    ensures { OnOk result (AddsNameAndValue name.now (plain_format format.now) bytes.now (string_bytes text.old) (string_bytes text.new)) }
+{
+    text.push_str(name)?;
+    text.push(' ')?;
+    push_value(text, format, bytes)?;
+    text.push('\n')
 }
 
 /// Adds the line of a place at which no AVP begins.
@@ -117,14 +139,4 @@ fn push_bad_length(text: &mut String, place: usize) -> Result<(), AllocError>
     ensures { OnOk result (string_bytes text.new ≡ string_bytes text.old ++ bad_length_line place) }
 {
     writeln!(text, "fault 5014 at {place} avp-length -")
-}
-
-/// The Vendor-ID, or a dash.
-fn vendor_text(alloc: Global, vendor: Option<u32>) -> Result<String, AllocError>
-    ensures { IfOk result (λ text. string_bytes text ≡ vendor_text vendor) }
-{
-    match vendor {
-        Some(vendor) => format!(in alloc; "{vendor}"),
-        None => String::from_str(alloc, "-"),
-    }
 }
