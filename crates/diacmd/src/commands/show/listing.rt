@@ -1,6 +1,7 @@
 //! The lines of the AVPs of a message.
 
-ghost use Rattle.std.specs.Prelude.{◌≡◌, ◌<◌, ◌≤◌, ◌+◌, ◌^◌, ◌++◌, length, IfOk, OnOk, string_bytes};
+ghost use Rattle.std.specs.Prelude.{◌≡◌, ◌<◌, ◌≤◌, ◌+◌, ◌^◌, ◌++◌, length, IfOk, OnOk, codes, string_bytes};
+ghost use Rattle.std.specs.Fmt.{decimal};
 ghost use Rattle.dia_wire.specs.Wire.{plain};
 ghost use Rattle.dia_data.specs.Plain.{plain as plain_format};
 ghost use Rattle.diacmd.specs.Listing.{avp_columns, bad_length_line, vendor_text, AddsAvp, AddsLevel, AddsNameAndValue};
@@ -100,13 +101,33 @@ fn push_columns(
 ) -> Result<(), AllocError>
     ensures { OnOk result (string_bytes text.new ≡ string_bytes text.old ++ avp_columns place depth (plain avp.now)) }
 {
-    let code = avp.code;
-    let length = avp.length();
-    write!(text, "{place} {depth} {code} ")?;
+    push_number(text, place as u64)?;
+    push_number(text, depth as u64)?;
+    push_number(text, u64::from(avp.code))?;
     push_vendor(text, avp.vendor)?;
     text.push(' ')?;
     push_hex_byte(text, avp.flags)?;
-    write!(text, " {length} ")
+    text.push(' ')?;
+    push_number(text, avp.length() as u64)
+}
+
+/// Adds a number and a blank.
+fn push_number(text: &mut String, number: u64) -> Result<(), AllocError>
+    ensures { OnOk result (string_bytes text.new ≡ string_bytes text.old ++ decimal number ++ codes " ") }
+{
+    push_decimal(text, number)?;
+    text.push(' ')
+}
+
+/// Adds a number. Most depths have one digit, which needs no formatter.
+fn push_decimal(text: &mut String, number: u64) -> Result<(), AllocError>
+    ensures { OnOk result (string_bytes text.new ≡ string_bytes text.old ++ decimal number) }
+{
+    if number < 10 {
+        text.push(char::from(b'0' + number as u8))
+    } else {
+        write!(text, "{number}")
+    }
 }
 
 /// Adds the Vendor-ID, or a dash.
