@@ -1,22 +1,22 @@
 -- An outcome, from what is known of its parts.
-use Rattle.std.proofs.Common.{◌≡◌, ℕ, ◌≤◌, List, [], ◌++◌, Bool, Result, Ok, Err, length, take, drop, ap, subst, ◌∙◌, arith}
-use Rattle.std.specs.Prelude.{IfOk, string_bytes}
-use Rattle.std.specs.declared.alloc.AllocError.{AllocError}
+use Rattle.std.proofs.Common.{◌≡◌, ℕ, ◌≤◌, List, [], ◌++◌, Bool, Err, length, take, drop, ap, subst, ◌∙◌, arith}
 use Rattle.dia_wire.specs.declared.Header.{Header}
 use Rattle.dia_wire.specs.Wire.{IsHead, IsMessageLength}
 use Rattle.dia_dict.specs.Dictionary.{Dictionary}
-use Rattle.diacmd.specs.declared.commands.Outcome.{Outcome}
+use Rattle.diacmd.specs.declared.inputs.Refused.{Refused}
+use Rattle.diacmd.specs.declared.inputs.Refused.TheVariants.{Bad}
+use Rattle.diacmd.specs.declared.inputs.bad_input.BadInput.TheVariants.{Message}
+use Rattle.diacmd.specs.declared.inputs.bad_input.BadMessage.{BadMessage}
 use Rattle.diacmd.specs.declared.command.Exit.{Exit}
-use Rattle.diacmd.specs.declared.command.Exit.TheVariants.{Bad}
+use Rattle.diacmd.specs.declared.command.Exit.TheVariants as exits
 use Rattle.diacmd.specs.Texts.{line}
+use Rattle.diacmd.specs.Refusals.{bad_input_text}
 use Rattle.diacmd.specs.Listing.{header_line, AddsLevel}
-use Rattle.diacmd.specs.Outcome.{Refuses, IsShown, listing, listing_exit}
+use Rattle.diacmd.specs.Outcome.{Ends, IsShown, listing, listing_exit}
 
--- what a refusal's line and exit make hold
-pub IfOk-refuse : (P : Outcome → Type 0) (told : List ℕ) (r : Result Outcome AllocError) → ((o : Outcome) → Refuses told (string_bytes o.text) o.exit → P o)
-    → IfOk r (λ o. string_bytes o.text ≡ line told) → IfOk r (λ o. o.exit ≡ Bad) → IfOk r P
-IfOk-refuse P told (Ok o) make text exit = make o (text, exit)
-IfOk-refuse P told (Err e) make text exit = tt
+-- a message that is refused ends the command
+pub Ends-bad_message : (P : List ℕ → Exit → Type 0) (r : Refused) (why : BadMessage) → r ≡ Bad (Message why) → P (line (bad_input_text (Message why))) exits.Bad → Ends P (Err r)
+Ends-bad_message P r why same h = rw same h
 
 -- the text of a message whose length is its Message Length
 pub listed : (d : Dictionary) (bytes body begun headed all : List ℕ) (h : Header) (len : ℕ) (bad : Bool) (exit : Exit) → begun ≡ [] → headed ≡ begun ++ header_line h len → IsHead h len (take 20 bytes) → IsMessageLength len

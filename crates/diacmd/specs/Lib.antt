@@ -1,6 +1,7 @@
 pub mod Inputs
 pub mod Exit
 pub mod Texts
+pub mod Refusals
 pub mod Listing
 pub mod Outcome
 pub mod Writing

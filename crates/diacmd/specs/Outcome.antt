@@ -8,13 +8,14 @@ use Rattle.dia_ccf.specs.Plain.{PlainSource}
 use Rattle.dia_ccf.specs.Rendering.{canonical}
 use Rattle.diacmd.specs.declared.commands.Outcome.{Outcome}
 use Rattle.diacmd.specs.declared.inputs.Refused.{Refused}
-use Rattle.diacmd.specs.declared.inputs.Refused.TheVariants.{Told, NoMemory}
+use Rattle.diacmd.specs.declared.inputs.Refused.TheVariants.{Bad as BadInput, NoMemory}
 use Rattle.diacmd.specs.declared.command.Command.{Command}
 use Rattle.diacmd.specs.declared.command.Command.TheVariants.{Show, Render}
 use Rattle.diacmd.specs.declared.command.Inputs.{Inputs}
 use Rattle.diacmd.specs.declared.command.Exit.{Exit}
 use Rattle.diacmd.specs.declared.command.Exit.TheVariants.{Yes, No, Bad}
 use Rattle.diacmd.specs.Texts.{line, dictionary_line, IsSourceText, IsNoSourceText, IsDictionaryText, IsNoDictionaryText, IsMessageText, IsNoMessageText}
+use Rattle.diacmd.specs.Refusals.{bad_input_text}
 use Rattle.diacmd.specs.Listing.{header_line, IsListing}
 
 -- an input is refused in one line
@@ -55,5 +56,5 @@ IsOutcome Render inputs text exit = IsRenderOutcome inputs text exit
 -- what was made holds: an outcome, or the line of a refusal
 abbrev pub Ends : (List ℕ → Exit → Type 0) → Result Outcome Refused → Type 0
 Ends P (Ok o) = P (string_bytes o.text) o.exit
-Ends P (Err (Told text)) = P (line (string_bytes text)) Bad
+Ends P (Err (BadInput bad)) = P (line (bad_input_text bad)) Bad
 Ends P (Err NoMemory) = ⊤

@@ -1,5 +1,5 @@
 -- What the texts of the inputs say, and what is told of one that says nothing.
-use Rattle.std.specs.Prelude.{◌≡◌, ◌≢◌, ℕ, ◌⊎◌, not, List, [], ◌∷◌, ◌++◌, filter, None, Some, Ok, codes, IsOk, string_bytes, ⊤}
+use Rattle.std.specs.Prelude.{◌≡◌, ◌≢◌, ℕ, ◌⊎◌, not, List, [], ◌∷◌, ◌++◌, filter, None, Some, Ok, codes, IsOk}
 use Rattle.std.specs.Str.{IsUtf8}
 use Rattle.std.specs.Fmt.{decimal}
 use Rattle.hex.specs.Hex.{decode_of}
@@ -15,17 +15,10 @@ use Rattle.dia_dict.specs.Dictionary.{Dictionary}
 use Rattle.dia_dict.specs.Resolution.{resolved, first_wrong, Wrong}
 use Rattle.diacmd.specs.declared.command.Input.{Input}
 use Rattle.diacmd.specs.Inputs.{Holds, IsOver}
-use Rattle.diacmd.specs.declared.inputs.Refused.{Refused}
-use Rattle.diacmd.specs.declared.inputs.Refused.TheVariants.{Told, NoMemory}
 
 -- a text and its line feed
 abbrev pub line : List ℕ → List ℕ
 line text = text ++ 10 ∷ []
-
--- what is told holds, unless memory was refused
-abbrev pub TellsOf : (List ℕ → Type 0) → Refused → Type 0
-TellsOf P (Told text) = P (string_bytes text)
-TellsOf P NoMemory = ⊤
 
 -- ---- dictionaries
 

@@ -2,10 +2,12 @@
 
 ghost use Rattle.std.specs.Prelude.{◌≡◌, Ok, IfOk, IfErr, IsErr, string_bytes};
 ghost use Rattle.diacmd.specs.declared.command.Exit.TheVariants.{Bad};
-ghost use Rattle.diacmd.specs.Texts.{line, TellsOf};
+ghost use Rattle.diacmd.specs.Texts.{line};
+ghost use Rattle.diacmd.specs.Refusals.{TellsOf, bad_input_text};
 
 use crate::command::Exit;
 use crate::inputs::Refused;
+use crate::inputs::bad_input::BadInput;
 use std::alloc::{AllocError, Global};
 
 pub mod render;
@@ -19,12 +21,11 @@ pub struct Outcome {
 }
 
 /// The outcome of an input that is refused: one line.
-pub fn refuse(alloc: Global, told: &str) -> Result<Outcome, AllocError>
-    ensures text { IfOk result (λ outcome. string_bytes outcome.text ≡ line told.now) }
+fn refuse(alloc: Global, bad: &BadInput) -> Result<Outcome, AllocError>
+    ensures text { IfOk result (λ outcome. string_bytes outcome.text ≡ line (bad_input_text bad.now)) }
     ensures exit { IfOk result (λ outcome. outcome.exit ≡ Exit.Bad) }
 {
-    let mut text = String::from_str(alloc, told)?;
-    text.push('\n')?;
+    let text = format!(in alloc; "{bad}\n")?;
     let exit = Exit::Bad;
     Ok(Outcome { text, exit })
 }
@@ -38,7 +39,7 @@ pub fn outcome_of(alloc: Global, made: Result<Outcome, Refused>) -> Result<Outco
 {
     match made {
         Ok(outcome) => Ok(outcome),
-        Err(Refused::Told(told)) => refuse(alloc, told.as_str()),
+        Err(Refused::Bad(bad)) => refuse(alloc, &bad),
         Err(Refused::NoMemory) => Err(AllocError),
     }
 }

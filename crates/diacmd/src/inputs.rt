@@ -4,35 +4,29 @@ ghost use Rattle.std.specs.Prelude.{◌≡◌, IfSome, IsNone};
 ghost use Rattle.diacmd.specs.Inputs.{Holds, IsOver};
 
 use crate::command::Input;
+use crate::inputs::bad_input::{BadInput, BadMessage};
 use std::alloc::AllocError;
-use thiserror::Error;
 
+pub mod bad_input;
 pub mod dictionary;
 pub mod message;
 
 /// Why an input gives nothing.
-#[derive(Debug, Drop, Error)]
+#[derive(Debug, Drop)]
 pub enum Refused {
-    /// The line that tells why, without its line feed.
-    #[error("{0}")]
-    Told(String),
-    #[error("no memory")]
+    Bad(BadInput),
     NoMemory,
 }
 
-impl Refused {
-    ghost use Rattle.std.specs.Prelude.{◌≡◌, IfOk, IsErr};
-    ghost use Rattle.diacmd.specs.declared.inputs.Refused.TheVariants.{Told, NoMemory};
+impl From<BadMessage> for Refused {
+    ghost use Rattle.std.specs.Prelude.{◌≡◌};
+    ghost use Rattle.diacmd.specs.declared.inputs.Refused.TheVariants.{Bad};
+    ghost use Rattle.diacmd.specs.declared.inputs.bad_input.BadInput.TheVariants.{Message};
 
-    /// The refusal that tells a line, unless memory was refused for it.
-    fn of(line: Result<String, AllocError>) -> Refused
-        ensures told { IfOk line (λ text. result ≡ Told text) }
-        ensures no_memory { IsErr line → result ≡ NoMemory }
-    {
-        match line {
-            Ok(line) => Refused::Told(line),
-            Err(AllocError) => Refused::NoMemory,
-        }
+    ghost from_gives = { λ why refused. refused ≡ Bad (Message why) };
+
+    fn from(why: BadMessage) -> Refused {
+        Refused::Bad(BadInput::Message(why))
     }
 }
 

@@ -1,13 +1,14 @@
 //! `show`: a message, an AVP a line.
 
-ghost use Rattle.std.specs.Prelude.{◌≡◌, ◌++◌, IfOk, OnOk, string_bytes};
+ghost use Rattle.std.specs.Prelude.{◌≡◌, ◌++◌, OnOk, string_bytes};
 ghost use Rattle.diacmd.specs.Listing.{header_line};
 ghost use Rattle.diacmd.specs.Outcome.{Ends, IsShowOutcome, IsShown, listing_exit};
 
 use crate::command::{Exit, Inputs};
 use crate::commands::show::listing::push_level;
-use crate::commands::{Outcome, refuse};
+use crate::commands::Outcome;
 use crate::inputs::Refused;
+use crate::inputs::bad_input::BadMessage;
 use crate::inputs::dictionary::read_dictionary;
 use crate::inputs::message::read_message;
 use dia_data::push_hex_byte;
@@ -26,35 +27,29 @@ pub fn show(alloc: Global, inputs: &Inputs) -> Result<Outcome, Refused>
 {
     let book = read_dictionary(alloc, 1, &inputs.first)?;
     let bytes = read_message(alloc, &inputs.message)?;
-    let outcome = show_message(alloc, &book, bytes.as_slice())?;
-    Ok(outcome)
+    show_message(alloc, &book, bytes.as_slice())
 }
 
-/// The lines of a message, or the line that refuses it.
-fn show_message<B: Book>(alloc: Global, book: &B, bytes: &[u8]) -> Result<Outcome, AllocError>
-    ensures { IfOk result (λ outcome. IsShown (B.meaning book.now) bytes.now (string_bytes outcome.text) outcome.exit) }
+/// The lines of a message.
+fn show_message<B: Book>(alloc: Global, book: &B, bytes: &[u8]) -> Result<Outcome, Refused>
+    ensures { Ends (IsShown (B.meaning book.now) bytes.now) result }
 {
     let (header, length) = match read_header(bytes) {
         Ok(found) => found,
-        Err(HeadFault::Short) => return refuse(alloc, "message: short"),
-        Err(HeadFault::Version) => return refuse(alloc, "message: version"),
-        Err(HeadFault::Length) => return refuse(alloc, "message: length"),
+        Err(HeadFault::Short) => return Err(Refused::from(BadMessage::Short)),
+        Err(HeadFault::Version) => return Err(Refused::from(BadMessage::Version)),
+        Err(HeadFault::Length) => return Err(Refused::from(BadMessage::Length)),
     };
     if bytes.len() < length as usize {
-        return refuse(alloc, "message: truncated");
+        return Err(Refused::from(BadMessage::Truncated));
     }
     if bytes.len() > length as usize {
-        return refuse(alloc, "message: trailing");
+        return Err(Refused::from(BadMessage::Trailing));
     }
     let mut text = String::new(alloc);
     push_header(&mut text, &header, length)?;
-    let bad = push_level(
-        alloc,
-        &mut text,
-        book,
-        &bytes[HEADER_LENGTH..],
-        HEADER_LENGTH,
-    )?;
+    let body = &bytes[HEADER_LENGTH..];
+    let bad = push_level(alloc, &mut text, book, body, HEADER_LENGTH)?;
     let exit = listing_exit(bad);
     Ok(Outcome { text, exit })
 }

@@ -1,11 +1,13 @@
 //! A message as hexadecimal text.
 
-ghost use Rattle.std.specs.Prelude.{◌≡◌, ◌≢◌, Ok, IfOk, IfErr, IsOk, codes};
+ghost use Rattle.std.specs.Prelude.{◌≡◌, ◌≢◌, Ok, IfOk, IfErr, IsOk};
 ghost use Rattle.hex.specs.Hex.{decode_of};
 ghost use Rattle.dia_ccf.specs.Tokens.{is_white};
-ghost use Rattle.diacmd.specs.Texts.{TellsOf, IsMessageText, IsNoMessageText, digits_of};
+ghost use Rattle.diacmd.specs.Texts.{IsMessageText, IsNoMessageText, digits_of};
+ghost use Rattle.diacmd.specs.Refusals.{TellsOf};
 
 use crate::command::Input;
+use crate::inputs::bad_input::BadMessage;
 use crate::inputs::{Refused, bytes_within};
 use hex::FromHexError;
 use std::alloc::{AllocError, Global};
@@ -19,19 +21,13 @@ pub fn read_message(alloc: Global, input: &Input) -> Result<Vec<u8>, Refused>
     ensures told { IfErr result (TellsOf (IsNoMessageText input.now)) }
 {
     let Some(text) = bytes_within(input, MAX_MESSAGE_TEXT) else {
-        return Err(tell(alloc, "message: too long"));
+        return Err(Refused::from(BadMessage::TooLong));
     };
     match decode(alloc, text) {
         Ok(bytes) => Ok(bytes),
         Err(FromHexError::OutOfMemory) => Err(Refused::NoMemory),
-        Err(_) => Err(tell(alloc, "message: not hexadecimal")),
+        Err(_) => Err(Refused::from(BadMessage::NotHexadecimal)),
     }
-}
-
-fn tell(alloc: Global, line: &str) -> Refused
-    ensures { TellsOf (λ told. told ≡ line.now) result }
-{
-    Refused::of(String::from_str(alloc, line))
 }
 
 /// The bytes that a text spells. A text without white space between its digits is decoded as it is.

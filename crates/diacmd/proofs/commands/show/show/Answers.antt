@@ -1,6 +1,6 @@
 use Rattle.std.proofs.lemmas.Result.{err_from_is_err_and}
-use Rattle.diacmd.specs.Outcome.{shown}
-use Rattle.diacmd.proofs.Telling.{Ends-no_dictionary, Ends-no_message}
+use Rattle.diacmd.specs.Outcome.{IsShown, IsShowOutcome, shown}
+use Rattle.diacmd.proofs.Telling.{Ends-map, Ends-no_dictionary, Ends-no_message}
 use Rattle.diacmd.proofs.commands.show.show.Goals as goal
 
 pub returns-in_err-book : goal.returns-in_err-book
@@ -14,4 +14,6 @@ returns-in_err-bytes c =
     rw (p.1, p.2) (Ends-no_message c.args.inputs.now _ _ c.in_ok-book.ensures.book c.in_err-bytes.ensures.told)
 
 pub returns : goal.returns
-returns c = shown _ c.as_slice.result.now c.in_ok-book.ensures.book (rw c.as_slice.ensures.value c.in_ok-bytes.ensures.message) c.in_ok-outcome.ensures
+returns c =
+    Ends-map (IsShown _ c.as_slice.result.now) (IsShowOutcome c.args.inputs.now) _ (λ text exit shows. shown _ c.as_slice.result.now c.in_ok-book.ensures.book (rw c.as_slice.ensures.value c.in_ok-bytes.ensures.message) shows)
+    c.show_message.ensures

@@ -1,9 +1,10 @@
-use Rattle.std.proofs.Common.{◌∙◌, inr}
+use Rattle.std.proofs.Common.{inr}
 use Rattle.std.specs.Prelude.{string_bytes}
 use Rattle.std.proofs.lemmas.Result.{err_from_is_err_and}
 use Rattle.dia_ccf.specs.Plain.{plain}
 use Rattle.dia_dict.specs.Resolution.{wrong}
 use Rattle.diacmd.specs.Texts.{IsNoDictionaryText}
+use Rattle.diacmd.specs.Refusals.{bad_dictionary_text}
 use Rattle.diacmd.proofs.Telling.{told_of_source, told_why}
 use Rattle.diacmd.proofs.inputs.dictionary.read_dictionary.Goals as goal
 
@@ -15,13 +16,7 @@ returns-in_err-source-clause-told c =
 pub returns-in_ok-why-in-Err-Stands-clause-told : goal.returns-in_ok-why-in-Err-Stands-clause-told
 returns-in_ok-why-in-Err-Stands-clause-told c =
     let is_first = rw c.in-Err-Stands.field-0-is at c.in-Err-Stands.ensures.err in
+    let is_wrong = wrong c.in-Err-Stands.kind (string_bytes c.in-Err-Stands.name) (string_bytes c.in-Err-Stands.slot) in
     let why = rw (c.as_str.ensures.value, c.as_str-in-Err-Stands.ensures.value) at c.in_ok-why-in-Err-Stands.ensures in
-    told_why (IsNoDictionaryText c.args.input.now) c.args.number c.as_str-in-Err-Stands-2.result.now _
-    (inr (
-      plain c.in_ok-source.source,
-      wrong c.in-Err-Stands.kind (string_bytes c.in-Err-Stands.name) (string_bytes c.in-Err-Stands.slot),
-      c.in_ok-source.ensures.source,
-      is_first,
-      c.as_str-in-Err-Stands-2.ensures.value ∙ why,
-    ))
-    c.tell.ensures
+    told_why (IsNoDictionaryText c.args.input.now) c.args.number (bad_dictionary_text c.in_ok-why-in-Err-Stands.why) _
+    (inr (plain c.in_ok-source.source, is_wrong, c.in_ok-source.ensures.source, is_first, why)) c.tell.ensures

@@ -1,0 +1,39 @@
+-- What is told of an input that is refused.
+use Rattle.std.specs.Prelude.{ℕ, List, ◌++◌, codes, string_bytes, ⊤}
+use Rattle.dia_dict.specs.Resolution.{wrong}
+use Rattle.diacmd.specs.declared.inputs.Refused.{Refused}
+use Rattle.diacmd.specs.declared.inputs.Refused.TheVariants.{Bad, NoMemory}
+use Rattle.diacmd.specs.declared.inputs.bad_input.BadInput.{BadInput}
+use Rattle.diacmd.specs.declared.inputs.bad_input.BadInput.TheVariants.{Dictionary, Message}
+use Rattle.diacmd.specs.declared.inputs.bad_input.BadDictionary.{BadDictionary}
+use Rattle.diacmd.specs.declared.inputs.bad_input.BadDictionary.TheVariants as dictionary
+use Rattle.diacmd.specs.declared.inputs.bad_input.BadMessage.{BadMessage}
+use Rattle.diacmd.specs.declared.inputs.bad_input.BadMessage.TheVariants as message
+use Rattle.diacmd.specs.Texts.{dictionary_line, fault_at, wrong_text}
+
+abbrev pub bad_dictionary_text : BadDictionary → List ℕ
+bad_dictionary_text dictionary.TooLong = codes "too long"
+bad_dictionary_text dictionary.NotText = codes "not text"
+bad_dictionary_text (dictionary.Syntax n) = fault_at (codes "syntax") n
+bad_dictionary_text (dictionary.Number n) = fault_at (codes "number") n
+bad_dictionary_text (dictionary.Limit n) = fault_at (codes "limit") n
+bad_dictionary_text (dictionary.Wrong kind name slot) = wrong_text (wrong kind (string_bytes name) (string_bytes slot))
+
+abbrev pub bad_message_word : BadMessage → List ℕ
+bad_message_word message.TooLong = codes "too long"
+bad_message_word message.NotHexadecimal = codes "not hexadecimal"
+bad_message_word message.Short = codes "short"
+bad_message_word message.Version = codes "version"
+bad_message_word message.Length = codes "length"
+bad_message_word message.Truncated = codes "truncated"
+bad_message_word message.Trailing = codes "trailing"
+
+-- the line, without its line feed
+abbrev pub bad_input_text : BadInput → List ℕ
+bad_input_text (Dictionary number why) = dictionary_line number (bad_dictionary_text why)
+bad_input_text (Message why) = codes "message: " ++ bad_message_word why
+
+-- what is told holds, unless memory was refused
+abbrev pub TellsOf : (List ℕ → Type 0) → Refused → Type 0
+TellsOf P (Bad bad) = P (bad_input_text bad)
+TellsOf P NoMemory = ⊤

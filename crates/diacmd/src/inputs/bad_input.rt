@@ -1,0 +1,130 @@
+//! Inputs that are refused, and what is told of them.
+
+ghost use Rattle.std.specs.Prelude.{◌≡◌};
+ghost use Rattle.diacmd.specs.Texts.{kind_word, or_dash};
+
+use dia_dict::DictKind;
+use std::fmt;
+
+/// An input that is refused, and why.
+#[derive(Debug, Drop)]
+pub enum BadInput {
+    /// A dictionary, by its number in the command, from 1.
+    Dictionary { number: u8, why: BadDictionary },
+    Message(BadMessage),
+}
+
+/// Why a text names no dictionary.
+#[derive(Debug, Drop)]
+pub enum BadDictionary {
+    /// More bytes than the text of a dictionary may have.
+    TooLong,
+    /// Bytes that are no UTF-8.
+    NotText,
+    Syntax { line: u32 },
+    Number { line: u32 },
+    Limit { line: u32 },
+    /// The first fault of its definitions. A name is empty where there is none.
+    Wrong {
+        kind: DictKind,
+        name: String,
+        slot: String,
+    },
+}
+
+/// Why a text is no message, or bytes are none that can be shown.
+#[derive(Clone, Copy, Debug, PartialEq, Eq)]
+pub enum BadMessage {
+    /// More bytes than the text of a message may have.
+    TooLong,
+    NotHexadecimal,
+    /// Fewer bytes than a header has.
+    Short,
+    Version,
+    /// A Message Length that no message has.
+    Length,
+    /// Fewer bytes than Message Length.
+    Truncated,
+    /// More bytes than Message Length.
+    Trailing,
+}
+
+impl fmt::Display for BadInput {
+    ghost use Rattle.std.specs.Prelude.{Some};
+    ghost use Rattle.diacmd.specs.Refusals.{bad_input_text};
+
+    ghost output = { λ bad. Some (bad_input_text bad) };
+
+    fn fmt<W: fmt::Write>(&self, f: &mut fmt::Formatter<W>) -> fmt::Result {
+        match self {
+            BadInput::Dictionary { number, why } => write!(f, "dictionary {number}: {why}"),
+            BadInput::Message(why) => write!(f, "message: {why}"),
+        }
+    }
+}
+
+impl fmt::Display for BadDictionary {
+    ghost use Rattle.std.specs.Prelude.{Some};
+    ghost use Rattle.diacmd.specs.Refusals.{bad_dictionary_text};
+
+    ghost output = { λ why. Some (bad_dictionary_text why) };
+
+    fn fmt<W: fmt::Write>(&self, f: &mut fmt::Formatter<W>) -> fmt::Result {
+        match self {
+            BadDictionary::TooLong => write!(f, "too long"),
+            BadDictionary::NotText => write!(f, "not text"),
+            BadDictionary::Syntax { line } => write!(f, "syntax at line {line}"),
+            BadDictionary::Number { line } => write!(f, "number at line {line}"),
+            BadDictionary::Limit { line } => write!(f, "limit at line {line}"),
+            BadDictionary::Wrong { kind, name, slot } => {
+                let kind = kind_word(*kind);
+                let name = or_dash(name.as_str());
+                let slot = or_dash(slot.as_str());
+                write!(f, "{kind} {name} {slot}")
+            }
+        }
+    }
+}
+
+impl fmt::Display for BadMessage {
+    ghost use Rattle.std.specs.Prelude.{Some};
+    ghost use Rattle.diacmd.specs.Refusals.{bad_message_word};
+
+    ghost output = { λ why. Some (bad_message_word why) };
+
+    fn fmt<W: fmt::Write>(&self, f: &mut fmt::Formatter<W>) -> fmt::Result {
+        match self {
+            BadMessage::TooLong => write!(f, "too long"),
+            BadMessage::NotHexadecimal => write!(f, "not hexadecimal"),
+            BadMessage::Short => write!(f, "short"),
+            BadMessage::Version => write!(f, "version"),
+            BadMessage::Length => write!(f, "length"),
+            BadMessage::Truncated => write!(f, "truncated"),
+            BadMessage::Trailing => write!(f, "trailing"),
+        }
+    }
+}
+
+fn or_dash(name: &str) -> &str
+    ensures { result.now ≡ or_dash name.entry.now }
+{
+    if name.is_empty() { "-" } else { name }
+}
+
+fn kind_word(kind: DictKind) -> &'static str
+    ensures { result.now ≡ kind_word kind }
+{
+    match kind {
+        DictKind::Limit => "limit",
+        DictKind::DuplicateName => "duplicate-name",
+        DictKind::NoGroupFormat => "no-group-format",
+        DictKind::HeaderMismatch => "header-mismatch",
+        DictKind::DuplicateKey => "duplicate-key",
+        DictKind::DuplicateCommand => "duplicate-command",
+        DictKind::UndefinedName => "undefined-name",
+        DictKind::RepeatedSlot => "repeated-slot",
+        DictKind::MinOverMax => "min-over-max",
+        DictKind::RequiredMin => "required-min",
+        DictKind::OptionalMin => "optional-min",
+    }
+}
