@@ -1,7 +1,7 @@
 -- What a test of one token says of the token.
 use Rattle.std.proofs.Common.{◌≡◌, ℕ, ◌≤◌, Bool, true, false, cond, List, [], ◌∷◌, length, take, map, Option, Some, None, refl, sym, ap, subst, ◌∙◌, arith, inl, inr, ◌⊎◌, ⊎_elim, eqb}
 use Rattle.std.specs.Prelude.{nat_le, nat_eq, codes, ◌&&◌, ◌==◌, ⊤}
-use Rattle.std.specs.List.{starts_with}
+use Rattle.std.specs.List.{find, starts_with}
 use Rattle.std.specs.Option.{option_map}
 use Rattle.std.specs.Char.{to_ascii_lowercase}
 use Rattle.std.proofs.lemmas.Bool.{leb-true, eqb-true, eq-eqb}
@@ -15,7 +15,7 @@ use Rattle.dia_ccf.specs.declared.source.MRule.TheVariants.{Must, MustNot, Any}
 use Rattle.dia_ccf.specs.Names.{is_name, same_bytes}
 use Rattle.dia_ccf.specs.Tokens.{Token, Less, Greater, Open_brace, Close_brace, Open_bracket, Close_bracket, Open_parenthesis, Close_parenthesis, Star, Comma, Dots, Assign, Colon, Declares, Number, Name}
 use Rattle.dia_ccf.specs.Grammar.{format_word, rule_word}
-use Rattle.dia_ccf.specs.Machine.{same_sign, is_word, is_keyword, sign_at, keyword_at, number_at, name_at, format_at, format_named, rule_at, rule_named, slot_at}
+use Rattle.dia_ccf.specs.Machine.{same_sign, is_word, is_keyword, sign_at, keyword_at, number_at, name_at, format_at, formats, format_named, rule_at, rule_named, slot_at}
 
 -- ---- tests and options
 
@@ -105,31 +105,19 @@ first_word spelled word x rest y h go = by_test (same_bytes word (spelled x)) re
     by_test true e k = same_bytes-is word (spelled x) e ∙ ap spelled (cc)
     by_test false e k = go k
 
+found_word : {X : Type 0} (spelled : X → List ℕ) (word : List ℕ) (xs : List X) (y : X) → find (λ x. same_bytes word (spelled x)) xs ≡ Some y → word ≡ spelled y
+found_word spelled word [] y h = absurd cc
+found_word spelled word (x ∷ xs) y h = first_word spelled word x (find (λ x. same_bytes word (spelled x)) xs) y h (λ h. found_word spelled word xs y h)
+
 rule_named-is : (word : List ℕ) (r : MRule) → rule_named word ≡ Some r → word ≡ rule_word r
-rule_named-is word r h = first_word rule_word word Must _ r h (λ h. first_word rule_word word MustNot _ r h (λ h. first_word rule_word word Any _ r h (λ h. absurd cc)))
+rule_named-is word r h = found_word rule_word word (Must ∷ MustNot ∷ Any ∷ []) r h
 
 pub rule_at-is : (token : Token) (r : MRule) → rule_at token ≡ Some r → token ≡ Name (rule_word r)
 rule_at-is (Name word) r h = ap Name (rule_named-is word r h)
 rule_at-is token r h = absurd cc
 
 format_named-is : (word : List ℕ) (f : FormatName) → format_named word ≡ Some f → word ≡ format_word f
-format_named-is word f h =
-    first_word format_word word format.OctetString _ f h (λ h.
-    first_word format_word word format.Integer32 _ f h (λ h.
-    first_word format_word word format.Integer64 _ f h (λ h.
-    first_word format_word word format.Unsigned32 _ f h (λ h.
-    first_word format_word word format.Unsigned64 _ f h (λ h.
-    first_word format_word word format.Float32 _ f h (λ h.
-    first_word format_word word format.Float64 _ f h (λ h.
-    first_word format_word word format.Grouped _ f h (λ h.
-    first_word format_word word format.Address _ f h (λ h.
-    first_word format_word word format.Time _ f h (λ h.
-    first_word format_word word format.Utf8String _ f h (λ h.
-    first_word format_word word format.DiameterIdentity _ f h (λ h.
-    first_word format_word word format.DiameterUri _ f h (λ h.
-    first_word format_word word format.Enumerated _ f h (λ h.
-    first_word format_word word format.IpFilterRule _ f h (λ h.
-    first_word format_word word format.QosFilterRule _ f h (λ h. absurd cc))))))))))))))))
+format_named-is word f h = found_word format_word word formats f h
 
 pub format_at-is : (token : Token) (f : FormatName) → format_at token ≡ Some f → token ≡ Name (format_word f)
 format_at-is (Name word) f h = ap Name (format_named-is word f h)

@@ -1,7 +1,7 @@
 -- The grammar as a machine over tokens: what has been read, and what may come next. The private functions of
 -- the reader speak of it; what it has to do with the grammar is proved in proofs/.
 use Rattle.std.specs.Prelude.{ℕ, nat_le, nat_lt, Bool, true, false, not, ◌&&◌, ◌||◌, cond, List, [], ◌∷◌, ◌++◌, length, map, Option, Some, None, is_some, codes}
-use Rattle.std.specs.List.{list_all}
+use Rattle.std.specs.List.{find, list_all}
 use Rattle.std.specs.Option.{option_map}
 use Rattle.std.specs.Char.{to_ascii_lowercase}
 use Rattle.dia_ccf.specs.declared.source.FormatName.{FormatName}
@@ -19,6 +19,7 @@ use Rattle.dia_ccf.specs.declared.reading.reasons.Refusal.TheVariants as refusal
 use Rattle.dia_ccf.specs.Names.{is_name, is_fixed, same_bytes}
 use Rattle.dia_ccf.specs.Plain.{PlainDecl, PlainRule, PlainDef, PlainSource}
 use Rattle.dia_ccf.specs.Tokens.{Token, Less, Greater, Open_brace, Close_brace, Open_bracket, Close_bracket, Open_parenthesis, Close_parenthesis, Star, Comma, Dots, Assign, Colon, Declares, Number, Name}
+use Rattle.dia_ccf.specs.Grammar.{format_word, rule_word}
 use Rattle.dia_ccf.specs.Limits.{max_name, max_number, max_command_code, max_value}
 
 -- ---- places
@@ -126,34 +127,20 @@ abbrev pub name_at : Token → Option (List ℕ)
 name_at (Name text) = cond (is_name text) (Some text) None
 name_at token = None
 
+abbrev pub formats : List FormatName
+formats =
+    format.OctetString ∷ format.Integer32 ∷ format.Integer64 ∷ format.Unsigned32 ∷ format.Unsigned64 ∷ format.Float32 ∷ format.Float64 ∷ format.Grouped
+    ∷ format.Address ∷ format.Time ∷ format.Utf8String ∷ format.DiameterIdentity ∷ format.DiameterUri ∷ format.Enumerated ∷ format.IpFilterRule ∷ format.QosFilterRule ∷ []
+
 abbrev pub format_named : List ℕ → Option FormatName
-format_named word =
-    cond (same_bytes word (codes "OctetString")) (Some format.OctetString)
-    (cond (same_bytes word (codes "Integer32")) (Some format.Integer32)
-    (cond (same_bytes word (codes "Integer64")) (Some format.Integer64)
-    (cond (same_bytes word (codes "Unsigned32")) (Some format.Unsigned32)
-    (cond (same_bytes word (codes "Unsigned64")) (Some format.Unsigned64)
-    (cond (same_bytes word (codes "Float32")) (Some format.Float32)
-    (cond (same_bytes word (codes "Float64")) (Some format.Float64)
-    (cond (same_bytes word (codes "Grouped")) (Some format.Grouped)
-    (cond (same_bytes word (codes "Address")) (Some format.Address)
-    (cond (same_bytes word (codes "Time")) (Some format.Time)
-    (cond (same_bytes word (codes "UTF8String")) (Some format.Utf8String)
-    (cond (same_bytes word (codes "DiameterIdentity")) (Some format.DiameterIdentity)
-    (cond (same_bytes word (codes "DiameterURI")) (Some format.DiameterUri)
-    (cond (same_bytes word (codes "Enumerated")) (Some format.Enumerated)
-    (cond (same_bytes word (codes "IPFilterRule")) (Some format.IpFilterRule)
-    (cond (same_bytes word (codes "QoSFilterRule")) (Some format.QosFilterRule) None)))))))))))))))
+format_named word = find (λ f. same_bytes word (format_word f)) formats
 
 abbrev pub format_at : Token → Option FormatName
 format_at (Name word) = format_named word
 format_at token = None
 
 abbrev pub rule_named : List ℕ → Option MRule
-rule_named word =
-    cond (same_bytes word (codes "must")) (Some Must)
-    (cond (same_bytes word (codes "mustnot")) (Some MustNot)
-    (cond (same_bytes word (codes "any")) (Some Any) None))
+rule_named word = find (λ r. same_bytes word (rule_word r)) (Must ∷ MustNot ∷ Any ∷ [])
 
 abbrev pub rule_at : Token → Option MRule
 rule_at (Name word) = rule_named word

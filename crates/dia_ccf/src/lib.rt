@@ -11,6 +11,7 @@ mod rendering;
 mod source;
 #[cfg(test)]
 mod tests;
+mod words;
 
 pub use fault::CcfFault;
 pub use limits::{MAX_NAME, MAX_TEXT};

@@ -8,7 +8,8 @@ ghost use Rattle.dia_ccf.specs.Tokens.{tokens};
 ghost use Rattle.dia_ccf.specs.Grammar.{Derives, format_word, rule_word};
 ghost use Rattle.dia_ccf.specs.Rendering.{canonical, declaration_line, vendor_text, values_text, range_text, definition_lines, head_text, flag_text, application_text, error_proxy_text, rule_line, qualifier_text, count_text, bracketed_text};
 
-use crate::source::{Decl, Def, FormatName, Head, MRule, Pxy, Qual, Rule, RuleKind, Source};
+use crate::source::{Decl, Def, Head, Pxy, Qual, Rule, RuleKind, Source};
+use crate::words::{format_name, rule_name};
 use std::alloc::{AllocError, Global};
 
 /// The canonical text of a source: a line for each declaration, then a line for the head and one for each rule of each
@@ -227,39 +228,6 @@ fn put_count(text: &mut String, count: Option<u32>) -> Result<(), AllocError>
     match count {
         Some(count) => write!(text, "{count}"),
         None => Ok(()),
-    }
-}
-
-fn rule_name(rule: MRule) -> &'static str
-    ensures { result.now ≡ rule_word rule }
-{
-    match rule {
-        MRule::Must => "must",
-        MRule::MustNot => "mustnot",
-        MRule::Any => "any",
-    }
-}
-
-fn format_name(format: FormatName) -> &'static str
-    ensures { result.now ≡ format_word format }
-{
-    match format {
-        FormatName::OctetString => "OctetString",
-        FormatName::Integer32 => "Integer32",
-        FormatName::Integer64 => "Integer64",
-        FormatName::Unsigned32 => "Unsigned32",
-        FormatName::Unsigned64 => "Unsigned64",
-        FormatName::Float32 => "Float32",
-        FormatName::Float64 => "Float64",
-        FormatName::Grouped => "Grouped",
-        FormatName::Address => "Address",
-        FormatName::Time => "Time",
-        FormatName::Utf8String => "UTF8String",
-        FormatName::DiameterIdentity => "DiameterIdentity",
-        FormatName::DiameterUri => "DiameterURI",
-        FormatName::Enumerated => "Enumerated",
-        FormatName::IpFilterRule => "IPFilterRule",
-        FormatName::QosFilterRule => "QoSFilterRule",
     }
 }
 

@@ -1,15 +1,13 @@
 //! Declarations of AVPs.
-ghost use Rattle.std.specs.Prelude.{◌≡◌};
-ghost use Rattle.dia_ccf.specs.Machine.{format_named};
-
 use super::Reader;
 use super::reasons::Refusal;
 use crate::lexer::{Sign, Token};
 use crate::limits::MAX_VALUE;
 use crate::source::{Decl, FormatName, MRule};
+use crate::words::format_named;
 
 impl<'a> Reader<'a> {
-    ghost use Rattle.std.specs.Prelude.{◌<◌, ◌≤◌, ℕ, ◌++◌, [], ◌∷◌, List, ◌&&◌, false, not, IfOk, OnOk, IsTrue};
+    ghost use Rattle.std.specs.Prelude.{◌≡◌, ◌<◌, ◌≤◌, ℕ, ◌++◌, [], ◌∷◌, List, ◌&&◌, false, not, IfOk, OnOk, IsTrue};
     ghost use Rattle.std.specs.Option.{option_map};
     ghost use Rattle.std.specs.List.{list_all};
     ghost use Rattle.dia_ccf.specs.Names.{fits_values, is_number, is_range};
@@ -120,31 +118,5 @@ impl<'a> Reader<'a> {
             return Ok((low, high));
         }
         Ok((low, low))
-    }
-}
-
-/// The format that the word names (RFC 6733 sections 4.2 and 4.3, and for QoSFilterRule RFC 3588 section 4.3).
-#[tactic(auto, using(crate::proofs::Looking::same_bytes_eq))]
-fn format_named(word: &str) -> Option<FormatName>
-    ensures { result ≡ format_named word.now }
-{
-    match word {
-        "OctetString" => Some(FormatName::OctetString),
-        "Integer32" => Some(FormatName::Integer32),
-        "Integer64" => Some(FormatName::Integer64),
-        "Unsigned32" => Some(FormatName::Unsigned32),
-        "Unsigned64" => Some(FormatName::Unsigned64),
-        "Float32" => Some(FormatName::Float32),
-        "Float64" => Some(FormatName::Float64),
-        "Grouped" => Some(FormatName::Grouped),
-        "Address" => Some(FormatName::Address),
-        "Time" => Some(FormatName::Time),
-        "UTF8String" => Some(FormatName::Utf8String),
-        "DiameterIdentity" => Some(FormatName::DiameterIdentity),
-        "DiameterURI" => Some(FormatName::DiameterUri),
-        "Enumerated" => Some(FormatName::Enumerated),
-        "IPFilterRule" => Some(FormatName::IpFilterRule),
-        "QoSFilterRule" => Some(FormatName::QosFilterRule),
-        _ => None,
     }
 }
