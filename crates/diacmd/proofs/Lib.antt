@@ -6,3 +6,4 @@ pub mod OneListing
 pub mod OneOutcome
 pub mod Telling
 pub mod Digits
+pub mod Words

@@ -10,3 +10,4 @@ pub mod Origins
 pub mod Request
 pub mod Devices
 pub mod Opening
+pub mod Words

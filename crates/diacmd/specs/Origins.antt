@@ -3,7 +3,7 @@ use Rattle.std.specs.Prelude.{ℕ, nat_lt, Bool, true, false, if◌then◌else�
 use Rattle.std.specs.Borrow.{Bor}
 use Rattle.std.specs.Str.{bytes_eq}
 use Rattle.diacmd.specs.declared.origin.Origin.{Origin}
-use Rattle.diacmd.specs.declared.origin.Origin.TheVariants.{Nowhere, Base, StandardInput, File}
+use Rattle.diacmd.specs.declared.origin.Origin.TheVariants.{Base, StandardInput, File}
 use Rattle.diacmd.specs.declared.origin.Origins.{Origins}
 
 -- `-` is standard input, and any other word is the name of a file
