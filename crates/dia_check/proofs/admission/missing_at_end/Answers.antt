@@ -1,0 +1,13 @@
+use Rattle.std.proofs.Common.{List, sym, subst}
+use Rattle.std.specs.Prelude.{MatchOption}
+use Rattle.dia_dict.specs.declared.DRule.{DRule}
+use Rattle.dia_dict.specs.Dictionary.{definitions}
+use Rattle.dia_check.specs.OpenLevels.{IsMetAtEnd, IsMissingAtEnd}
+use Rattle.dia_check.proofs.Admitting.{rules_here}
+use Rattle.dia_check.proofs.admission.missing_at_end.Goals as goal
+
+pub returns : goal.returns
+returns g c outer level now =
+    let d = g.B.Book.meaning c.args.book.now in
+    let same = rules_here d c.args.open_levels.now outer level c.innermost-def.result _ c.deref.result.now now c.innermost-def.ensures c.def.ensures c.deref.ensures.value in
+    subst (λ (rs : List DRule). MatchOption c.missing.result (IsMetAtEnd rs level.keys) (IsMissingAtEnd rs level.keys)) (sym same) (c.missing.ensures (definitions d) outer level now same)

@@ -1,0 +1,133 @@
+-- What a checker keeps of the levels that are open: the run that each is in, and how often each of its rules was met.
+use Rattle.std.specs.Prelude.{◌≡◌, ◌≢◌, ℕ, zero, suc, ◌+◌, ◌<◌, ◌≤◌, ◌⊎◌, ◌==◌, if◌then◌else◌, Bool, false, List, [], ◌∷◌, ◌++◌, length, map, drop, Option, Some, None, Result, Ok, Err, slice_get, slice_index, position, IsTrue}
+use Rattle.std.specs.List.{prefix_len}
+use Rattle.dia_wire.specs.declared.Key.{Key}
+use Rattle.dia_dict.specs.declared.DRule.{DRule}
+use Rattle.dia_dict.specs.Dictionary.{PlainDefinition, AreRules, lists_key}
+use Rattle.dia_check.specs.declared.fault.Reason.{Reason}
+use Rattle.dia_check.specs.declared.fault.Reason.TheVariants as reason
+use Rattle.dia_check.specs.declared.fault.Subject.{Subject}
+use Rattle.dia_check.specs.declared.fault.Subject.TheVariants.{Avp}
+use Rattle.dia_check.specs.declared.open_levels.OpenLevel.{OpenLevel}
+use Rattle.dia_check.specs.declared.open_levels.OpenLevels.{OpenLevels}
+use Rattle.dia_check.specs.declared.open_levels.Wrong.{Wrong}
+use Rattle.dia_check.specs.Valid.{fixed_rules, is_listed, has_wildcard, is_wildcard}
+use Rattle.dia_check.specs.Faults.{runs, run_end, loose_start, met, subject_of, row_of, IsFirstShort, IsFirstMissing}
+
+-- ---- what is wrong with a key behind others, by the rules of their level
+
+-- in the loose part stands a fixed key, or an unlisted one where there is no wildcard
+abbrev pub IsNotAllowed : List DRule → List Key → Key → Type 0
+IsNotAllowed rules keys key =
+    (loose_start rules (keys ++ key ∷ []) ≤ length keys)
+    × (IsTrue (is_listed (fixed_rules rules) key) ⊎ ((is_listed rules key ≡ false) × (has_wildcard rules ≡ false)))
+
+pub data IsMisplaced (rules : List DRule) (keys : List Key) (key : Key) : Reason → Subject → Type 0 where
+  missing : (i : ℕ) (rule : DRule) → IsFirstShort rules (keys ++ key ∷ []) i rule → run_end rules i (keys ++ key ∷ []) ≡ length keys
+      → IsMisplaced rules keys key reason.Missing (subject_of rule.key)
+  not_allowed : IsNotAllowed rules keys key → IsMisplaced rules keys key reason.NotAllowed (Avp key)
+  too_many : (i : ℕ) (rule : DRule) (max : ℕ) → slice_get rules i ≡ Some rule → rule.max ≡ Some max → met rules keys i rule ≡ max
+      → met rules (keys ++ key ∷ []) i rule ≡ suc max → IsMisplaced rules keys key reason.TooMany (Avp key)
+
+pub record IsFirstMisplaced (rules : List DRule) (keys : List Key) (key : Key) (wrong : Wrong) : Type 0 where
+  pub misplaced : IsMisplaced rules keys key wrong.reason wrong.subject
+  pub none_sooner : (r : Reason) (s : Subject) → IsMisplaced rules keys key r s → row_of wrong.reason ≤ row_of r
+
+-- nothing is wrong with the key
+abbrev pub IsWellPlaced : List DRule → List Key → Key → Type 0
+IsWellPlaced rules keys key = (r : Reason) (s : Subject) → ¬ IsMisplaced rules keys key r s
+
+-- at the end of a level each rule is met, or the first that is not is told
+abbrev pub IsMetAtEnd : List DRule → List Key → Type 0
+IsMetAtEnd rules keys = (i : ℕ) (rule : DRule) → ¬ IsFirstMissing rules keys i rule
+
+abbrev pub IsMissingAtEnd : List DRule → List Key → Wrong → Type 0
+IsMissingAtEnd rules keys wrong =
+    (i : ℕ) × (rule : DRule) × IsFirstMissing rules keys i rule × (wrong.reason ≡ reason.Missing) × (wrong.subject ≡ subject_of rule.key)
+
+-- ---- one level
+
+-- the keys end in the run of fixed rule m, and a rule behind the first is only entered by a key; or they end behind all the runs
+abbrev pub IsAt : List DRule → ℕ → List Key → Type 0
+IsAt [] m keys = m ≡ 0
+IsAt (r ∷ rules) zero keys = prefix_len (λ key. lists_key key r) keys ≡ length keys
+IsAt (r ∷ rules) (suc m) keys =
+    let n = prefix_len (λ key. lists_key key r) keys in (n < length keys) × IsAt rules m (drop n keys)
+
+-- the rules from one place up to another are met often enough
+abbrev pub AreMet : List DRule → List ℕ → ℕ → ℕ → Type 0
+AreMet rules counts from to = (i : ℕ) (rule : DRule) → from ≤ i → i < to → slice_get rules i ≡ Some rule → rule.min ≤ slice_index counts i
+
+-- the first rule from one place up to another that is not
+pub record IsFirstUnmet (rules : List DRule) (counts : List ℕ) (from to i : ℕ) : Type 0 where
+  pub from_here : from ≤ i
+  pub inside : i < to
+  pub rule : DRule
+  pub is_rule : slice_get rules i ≡ Some rule
+  pub unmet : slice_index counts i < rule.min
+  pub met_before : AreMet rules counts from i
+
+-- the counts are those of the keys, and the rules in front of the run are met
+pub record IsCounted (rules : List DRule) (keys : List Key) (level : OpenLevel) (counts : List ℕ) : Type 0 where
+  pub fixed : level.fixed ≡ length (fixed_rules rules)
+  pub wildcard : level.wildcard ≡ position is_wildcard rules
+  pub run : IsAt (fixed_rules rules) level.run keys
+  pub many : length counts ≡ length rules
+  pub counted : (i : ℕ) (rule : DRule) → slice_get rules i ≡ Some rule → slice_index counts i ≡ met rules keys i rule
+  pub met_before : AreMet rules counts 0 level.run
+
+-- where one key more leads: into the run of a fixed rule or behind all the runs, and to the rule that counts it
+pub record Leads (rules : List DRule) (keys : List Key) (key : Key) (old run : ℕ) (rule : Option ℕ) : Type 0 where
+  pub at : IsAt (fixed_rules rules) run (keys ++ key ∷ [])
+  pub within : (run ≤ length (fixed_rules rules)) × (old ≤ length (fixed_rules rules))
+  pub same_runs : (i : ℕ) → i < run → slice_index (runs (fixed_rules rules) (keys ++ key ∷ [])) i ≡ slice_index (runs (fixed_rules rules) keys) i
+  pub passed : (i : ℕ) → old ≤ i → i < run → run_end rules i (keys ++ key ∷ []) ≡ length keys
+  pub not_passed : (i : ℕ) → run ≤ i → i < length (fixed_rules rules) → run_end rules i (keys ++ key ∷ []) ≢ length keys
+  pub counts : (i : ℕ) → rule ≡ Some i
+      → (i < length rules) × (¬ IsNotAllowed rules keys key)
+      × ((j : ℕ) (other : DRule) → slice_get rules j ≡ Some other → met rules (keys ++ key ∷ []) j other ≡ met rules keys j other + (if j == i then 1 else 0))
+  pub counts_none : rule ≡ None → IsNotAllowed rules keys key
+
+-- one key more is met: nothing is wrong with it, and it is counted
+pub record IsMet (rules : List DRule) (keys : List Key) (key : Key) (level : OpenLevel) (counts : List ℕ) : Type 0 where
+  pub none_wrong : IsWellPlaced rules keys key
+  pub counted : IsCounted rules (keys ++ key ∷ []) level counts
+
+-- ---- all levels
+
+-- a level by its rules, its end, and the keys of its AVPs so far
+pub record SoFar : Type 0 where
+  pub rules : List DRule
+  pub end : ℕ
+  pub keys : List Key
+
+abbrev pub begun : List DRule → ℕ → SoFar
+begun rules end = record { rules = rules; end = end; keys = [] }
+
+abbrev pub and_key : SoFar → Key → SoFar
+and_key level key = record { rules = level.rules; end = level.end; keys = level.keys ++ key ∷ [] }
+
+-- a level and its counts are kept so
+pub record IsKept (defs : List PlainDefinition) (kept : OpenLevel) (counts : List ℕ) (level : SoFar) : Type 0 where
+  pub definition : PlainDefinition
+  pub is_definition : slice_get defs kept.def ≡ Some definition
+  pub is_rules : definition.rules ≡ level.rules
+  pub is_end : kept.end ≡ level.end
+  pub counted : IsCounted level.rules level.keys kept counts
+
+-- the levels, the outermost first, with their counts one level behind the other from a place on
+abbrev pub AreKept : List PlainDefinition → ℕ → List OpenLevel → List ℕ → List SoFar → Type 0
+AreKept defs base [] counts [] = counts ≡ []
+AreKept defs base [] counts (level ∷ levels) = ⊥
+AreKept defs base (kept ∷ others) counts [] = ⊥
+AreKept defs base (kept ∷ others) counts (level ∷ levels) =
+    (mine : List ℕ) × (rest : List ℕ) × (counts ≡ mine ++ rest) × (kept.base ≡ base) × IsKept defs kept mine level × AreKept defs (base + length mine) others rest levels
+
+-- the open levels: those round the innermost, the outermost first, and the innermost
+pub record AreOpen (defs : List PlainDefinition) (open_levels : OpenLevels) (outer : List SoFar) (level : SoFar) : Type 0 where
+  pub before : List ℕ
+  pub mine : List ℕ
+  pub parts : open_levels.counts.items ≡ before ++ mine
+  pub are_outer : AreKept defs 0 open_levels.outer.items before outer
+  pub base : open_levels.innermost.base ≡ length before
+  pub innermost : IsKept defs open_levels.innermost mine level

@@ -1,0 +1,208 @@
+//! One AVP of an open level: its flags, its place, and its data.
+
+ghost use Rattle.std.specs.Prelude.{◌≡◌, ◌<◌, ◌↔◌, ◌++◌, ◌∷◌, [], IfOk, OnOk, List, Option, Some, length, slice_get, MatchOption, MatchResult, IsTrue};
+ghost use Rattle.dia_wire.specs.Wire.{plain, key_of};
+ghost use Rattle.dia_dict.specs.Dictionary.{Dictionary, DictEntry, IsDictionary, PlainDefinition, definitions, entry_of};
+ghost use Rattle.dia_check.specs.Valid.{MHolds, IsAccepted};
+ghost use Rattle.dia_check.specs.Levels.{MayOpen};
+ghost use Rattle.dia_check.specs.OpenLevels.{SoFar, begun, and_key, AreOpen, IsMetAtEnd, IsMissingAtEnd};
+ghost use Rattle.dia_check.specs.Admission.{HasFlags, IsWrongFlags, IsAdmitted, IsFirstRefused, IsFineData, IsWrongData, IsFineAvp, IsWrongAvp};
+
+use crate::fault::{Reason, Subject};
+use crate::open_levels::{OpenLevels, Wrong};
+use crate::policy::{Levels, Unknown};
+use dia_dict::{Book, DefId, Entry, Leaf, MRule, accepts};
+use dia_wire::{Avp, Key, key};
+use std::alloc::{AllocError, Global};
+
+/// The M flag of an AVP (RFC 6733 section 4.1).
+const MANDATORY: u8 = 0x40;
+
+/// Checks an AVP of the innermost level. Answers the definition of a known group, whose data is a level to open.
+pub(crate) fn check_avp<B: Book>(
+    book: &B,
+    unknown: Unknown,
+    levels: Levels,
+    open_levels: &mut OpenLevels,
+    avp: &Avp<'_>,
+) -> Result<Option<DefId>, Wrong>
+    requires sound { IsDictionary (B.meaning book.now) }
+    requires open_levels { (outer : List SoFar) × (level : SoFar) × AreOpen (definitions (B.meaning book.now)) open_levels.old outer level × (length level.keys < 4294967295) }
+    ensures { (outer : List SoFar) (level : SoFar) → AreOpen (definitions (B.meaning book.now)) open_levels.old outer level
+        → MatchResult result
+        (λ group. IsFineAvp (B.meaning book.now) unknown levels (length outer) level.rules level.keys (plain avp.now) group
+        × AreOpen (definitions (B.meaning book.now)) open_levels.new outer (and_key level (key_of (plain avp.now))))
+        (λ wrong. IsWrongAvp (B.meaning book.now) unknown levels (length outer) level.rules level.keys (plain avp.now) wrong) }
+{
+    let key = key(avp);
+    let depth = open_levels.depth();
+    match admit(book, unknown, open_levels, key, avp.flags)? {
+        Some(entry) => match check_data(book, levels, depth, entry, avp.bytes) {
+            Ok(group) => Ok(group),
+            Err(reason) => Err(Wrong {
+                reason,
+                subject: Subject::Avp(key),
+            }),
+        },
+        None => Ok(None),
+    }
+}
+
+/// What is missing at the end of the innermost level.
+pub(crate) fn missing_at_end<B: Book>(book: &B, open_levels: &OpenLevels) -> Option<Wrong>
+    requires sound { IsDictionary (B.meaning book.now) }
+    requires open_levels { (outer : List SoFar) × (level : SoFar) × AreOpen (definitions (B.meaning book.now)) open_levels.now outer level }
+    ensures { (outer : List SoFar) (level : SoFar) → AreOpen (definitions (B.meaning book.now)) open_levels.now outer level
+        → MatchOption result (IsMetAtEnd level.rules level.keys) (IsMissingAtEnd level.rules level.keys) }
+{
+    let def = open_levels.innermost().def;
+    open_levels.missing(&book.def(def).rules)
+}
+
+/// The open levels of a message of which nothing was read yet: its body alone, which ends at a place.
+pub(crate) fn open_body<B: Book>(
+    alloc: Global,
+    book: &B,
+    def: DefId,
+    end: usize,
+) -> Result<OpenLevels, AllocError>
+    requires sound { IsDictionary (B.meaning book.now) }
+    requires def { def < length (definitions (B.meaning book.now)) }
+    ensures { (definition : PlainDefinition) → slice_get (definitions (B.meaning book.now)) def ≡ Some definition
+        → IfOk result (λ open_levels. AreOpen (definitions (B.meaning book.now)) open_levels [] (begun definition.rules end)) }
+{
+    OpenLevels::new(alloc, def, &book.def(def).rules, end)
+}
+
+/// Opens the data of a group, which ends at a place. This alone takes memory.
+pub(crate) fn open_group<B: Book>(
+    book: &B,
+    open_levels: &mut OpenLevels,
+    def: DefId,
+    end: usize,
+) -> Result<(), AllocError>
+    requires sound { IsDictionary (B.meaning book.now) }
+    requires def { def < length (definitions (B.meaning book.now)) }
+    ensures { (definition : PlainDefinition) (outer : List SoFar) (level : SoFar) → slice_get (definitions (B.meaning book.now)) def ≡ Some definition
+        → AreOpen (definitions (B.meaning book.now)) open_levels.old outer level
+        → OnOk result (AreOpen (definitions (B.meaning book.now)) open_levels.new (outer ++ level ∷ []) (begun definition.rules end)) }
+{
+    open_levels.open(def, &book.def(def).rules, end)
+}
+
+/// Admits an AVP of this key and these flags to the innermost level: its entry, where the dictionary knows it.
+pub(crate) fn admit<B: Book>(
+    book: &B,
+    unknown: Unknown,
+    open_levels: &mut OpenLevels,
+    key: Key,
+    flags: u8,
+) -> Result<Option<Entry>, Wrong>
+    requires sound { IsDictionary (B.meaning book.now) }
+    requires open_levels { (outer : List SoFar) × (level : SoFar) × AreOpen (definitions (B.meaning book.now)) open_levels.old outer level × (length level.keys < 4294967295) }
+    ensures { (outer : List SoFar) (level : SoFar) → AreOpen (definitions (B.meaning book.now)) open_levels.old outer level
+        → MatchResult result
+        (λ entry. IsAdmitted (B.meaning book.now) unknown level.rules level.keys key flags × (entry ≡ entry_of (B.meaning book.now) key)
+        × AreOpen (definitions (B.meaning book.now)) open_levels.new outer (and_key level key))
+        (λ wrong. IsFirstRefused (B.meaning book.now) unknown level.rules level.keys key flags wrong) }
+{
+    let entry = find_entry(book, unknown, key, flags)?;
+    let def = open_levels.innermost().def;
+    open_levels.meet(&book.def(def).rules, book.slot(def, key), key)?;
+    Ok(entry)
+}
+
+/// The entry of an AVP, where its M flag is as it has to be.
+fn find_entry<B: Book>(
+    book: &B,
+    unknown: Unknown,
+    key: Key,
+    flags: u8,
+) -> Result<Option<Entry>, Wrong>
+    ensures { MatchResult result (λ entry. (entry ≡ entry_of (B.meaning book.now) key) × HasFlags (B.meaning book.now) unknown key flags)
+        (λ wrong. IsWrongFlags (B.meaning book.now) unknown key flags wrong) }
+{
+    let subject = Subject::Avp(key);
+    match book.avp(key) {
+        Some(entry) => {
+            if m_holds(book.rule(entry), flags) {
+                Ok(Some(entry))
+            } else {
+                Err(Wrong {
+                    reason: Reason::MBit,
+                    subject,
+                })
+            }
+        }
+        None => {
+            if is_accepted(unknown, flags) {
+                Ok(None)
+            } else {
+                Err(Wrong {
+                    reason: Reason::Unknown,
+                    subject,
+                })
+            }
+        }
+    }
+}
+
+/// Whether the M flag is as the rule says.
+fn m_holds(rule: MRule, flags: u8) -> bool
+    ensures { IsTrue result ↔ MHolds rule flags }
+{
+    let set = flags & MANDATORY != 0;
+    match rule {
+        MRule::Must => set,
+        MRule::MustNot => !set,
+        MRule::Any => true,
+    }
+}
+
+/// Whether an AVP that the dictionary does not know is accepted.
+fn is_accepted(unknown: Unknown, flags: u8) -> bool
+    ensures { IsTrue result ↔ IsAccepted unknown flags }
+{
+    match unknown {
+        Unknown::Kept => flags & MANDATORY == 0,
+        Unknown::Refused => false,
+    }
+}
+
+/// Checks the data of a known AVP in a level of this depth: the definition of a group, whose data is a level to open.
+pub(crate) fn check_data<B: Book>(
+    book: &B,
+    levels: Levels,
+    depth: usize,
+    entry: Entry,
+    bytes: &[u8],
+) -> Result<Option<DefId>, Reason>
+    requires sound { IsDictionary (B.meaning book.now) }
+    requires entry { entry < length (B.meaning book.now).entries }
+    ensures { (e : DictEntry) → slice_get (B.meaning book.now).entries entry ≡ Some e
+        → MatchResult result (λ group. IsFineData (B.meaning book.now) levels depth e bytes.now group) (λ reason. IsWrongData levels depth e bytes.now reason) }
+{
+    match accepts(book.format(entry), bytes) {
+        Leaf::Fine => {}
+        Leaf::BadLength => return Err(Reason::LeafLength),
+        Leaf::BadValue => return Err(Reason::LeafValue),
+    }
+    let Some(group) = book.group(entry) else {
+        return Ok(None);
+    };
+    if may_open(levels, depth) {
+        Ok(Some(group))
+    } else {
+        Err(Reason::Depth)
+    }
+}
+
+/// Whether a group in a level of this depth is opened: the body has depth 0.
+fn may_open(levels: Levels, depth: usize) -> bool
+    ensures { IsTrue result ↔ MayOpen levels depth }
+{
+    match levels {
+        Levels::Any => true,
+        Levels::AtMost(most) => depth < most as usize,
+    }
+}

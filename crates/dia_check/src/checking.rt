@@ -1,0 +1,49 @@
+ghost use Rattle.std.specs.Prelude.{◌≡◌, ◌≢◌, ◌↔◌, Err, ℕ, List, length, MatchResult, Result};
+ghost use Rattle.dia_dict.specs.Dictionary.{Dictionary, IsDictionary};
+ghost use Rattle.dia_check.specs.declared.policy.Unknown.{Unknown as AnyPolicy};
+ghost use Rattle.dia_check.specs.declared.policy.Levels.{Levels as AnyLevels};
+ghost use Rattle.dia_check.specs.declared.fault.Reason.{Reason as AnyReason};
+ghost use Rattle.dia_check.specs.declared.fault.Subject.{Subject as AnySubject};
+ghost use Rattle.dia_check.specs.declared.fault.Selected.{Selected as AnySelected};
+ghost use Rattle.dia_check.specs.declared.fault.Refusal.{Refusal as AnyRefusal};
+ghost use Rattle.dia_check.specs.Valid.{IsValid, IsValidOf};
+ghost use Rattle.dia_check.specs.Faults.{IsAnswer, HasLength, Stands, Spot};
+
+use crate::body::check_body;
+use crate::fault::{Refusal, Selected};
+use crate::header::{good_command, whole_header};
+use crate::policy::{Levels, Unknown};
+use dia_dict::Book;
+use std::alloc::Global;
+
+/// Checks a message: the command of a valid one, and else what is wrong with it.
+pub fn check<B: Book>(
+    alloc: Global,
+    book: &B,
+    unknown: Unknown,
+    levels: Levels,
+    bytes: &[u8],
+) -> Result<Selected, Refusal>
+    ensures answer { IsAnswer (B.meaning book.now) unknown levels bytes.now result }
+    // A valid message is found to be one, unless memory runs out.
+    ensures valid { (c : ℕ) → IsValidOf (B.meaning book.now) unknown levels bytes.now c → MatchResult result (λ found. found.def ≡ c) (λ e. e ≡ Refusal.NoMemory) }
+{
+    // A book hands out with its count that it is sound.
+    let _count = book.entries();
+    let header = whole_header(bytes)?;
+    let def = good_command(book, &header)?;
+    check_body(alloc, book, unknown, levels, def, bytes)?;
+    Ok(Selected { def })
+}
+
+/// A whole message is valid exactly where no fault stands.
+pub fn validity()
+    ensures { (d : Dictionary) (u : AnyPolicy) (most : AnyLevels) (bytes : List ℕ) → IsDictionary d → HasLength bytes (length bytes)
+        → IsValid d u most bytes ↔ ((spot : Spot) (reason : AnyReason) (subject : AnySubject) → ¬ Stands d u most bytes spot reason subject) }
+{}
+
+/// Bytes have one answer, but for want of memory.
+pub fn one_answer()
+    ensures { (d : Dictionary) (u : AnyPolicy) (most : AnyLevels) (bytes : List ℕ) (a b : Result AnySelected AnyRefusal) → IsDictionary d
+        → IsAnswer d u most bytes a → IsAnswer d u most bytes b → a ≢ Err Refusal.NoMemory → b ≢ Err Refusal.NoMemory → a ≡ b }
+{}

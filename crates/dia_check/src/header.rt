@@ -1,0 +1,135 @@
+//! The header of a message (RFC 6733 section 3).
+
+ghost use Rattle.std.specs.Prelude.{◌≡◌, ◌<◌, ◌^◌, ◌↔◌, ◌⊎◌, ℕ, List, length, Err, MatchResult, IsTrue, IsFalse};
+ghost use Rattle.dia_dict.specs.Dictionary.{Dictionary, IsDictionary};
+ghost use Rattle.dia_check.specs.declared.policy.Unknown.{Unknown as AnyPolicy};
+ghost use Rattle.dia_check.specs.declared.policy.Levels.{Levels as AnyLevels};
+ghost use Rattle.dia_check.specs.Valid.{HasR, HasE, HasT, class_of, PHolds, AllowsP};
+ghost use Rattle.dia_check.specs.Faults.{HasHeader, HasLength, HasGoodHeader, IsAnswer, simple};
+
+use crate::body::fault;
+use crate::fault::{Reason, Refusal, Subject};
+use crate::open_levels::Wrong;
+use dia_dict::{Book, Class, DefHead, DefId, Pxy};
+use dia_wire::{HeadFault, Header, read_header};
+
+/// The Command Flags (RFC 6733 section 3).
+const REQUEST: u8 = 0x80;
+
+const PROXIABLE: u8 = 0x40;
+
+const ERROR: u8 = 0x20;
+
+const RETRANSMITTED: u8 = 0x10;
+
+/// The header of a message that is all of the bytes.
+pub(crate) fn whole_header(bytes: &[u8]) -> Result<Header, Refusal>
+    ensures { (d : Dictionary) (u : AnyPolicy) (most : AnyLevels)
+        → MatchResult result (λ header. HasHeader bytes.now header × HasLength bytes.now (length bytes.now) × (length bytes.now < 2 ^ 32)) (λ refusal. IsAnswer d u most bytes.now (Err refusal)) }
+{
+    match read_header(bytes) {
+        Ok((header, length)) => {
+            let length = length as usize;
+            if bytes.len() < length {
+                Err(Refusal::Truncated)
+            } else if length < bytes.len() {
+                Err(Refusal::Trailing)
+            } else {
+                Ok(header)
+            }
+        }
+        Err(HeadFault::Short) => Err(Refusal::Truncated),
+        Err(HeadFault::Version) => Err(header_fault(0, Reason::Version)),
+        Err(HeadFault::Length) => Err(header_fault(1, Reason::Length)),
+    }
+}
+
+/// The command of a message with this header, where nothing is wrong with the header.
+pub(crate) fn good_command<B: Book>(book: &B, header: &Header) -> Result<DefId, Refusal>
+    requires { IsDictionary (B.meaning book.now) }
+    ensures { (u : AnyPolicy) (most : AnyLevels) (bytes : List ℕ) → HasLength bytes (length bytes) → HasHeader bytes header.now
+        → MatchResult result (λ def. (good : HasGoodHeader (B.meaning book.now) bytes) × (good.c ≡ def)) (λ refusal. IsAnswer (B.meaning book.now) u most bytes (Err refusal)) }
+{
+    if !has_good_bits(header.flags) {
+        return Err(header_fault(4, Reason::Bits));
+    }
+    let class = class_of(header.flags);
+    match book.select(header.code, class, header.app) {
+        Some(def) => {
+            if allows_p(book.def(def).head, header.flags) {
+                Ok(def)
+            } else {
+                Err(header_fault(4, Reason::Proxiable))
+            }
+        }
+        None => {
+            if book.has_command(header.code, class) {
+                Err(header_fault(8, Reason::Application))
+            } else {
+                Err(header_fault(5, Reason::Command))
+            }
+        }
+    }
+}
+
+/// A fault of the header at a place.
+fn header_fault(place: usize, reason: Reason) -> Refusal
+    requires { place < 20 }
+    ensures { result ≡ Refusal.Fault (simple place reason) }
+{
+    fault(
+        place,
+        Wrong {
+            reason,
+            subject: Subject::Nothing,
+        },
+    )
+}
+
+/// Whether E is clear in a request, and T is clear in an answer.
+fn has_good_bits(flags: u8) -> bool
+    ensures good { IsTrue result → (HasR flags → ¬ HasE flags) × (HasT flags → HasR flags) }
+    ensures bad { IsFalse result → (HasR flags × HasE flags) ⊎ (HasT flags × (¬ HasR flags)) }
+{
+    if flags & REQUEST != 0 {
+        flags & ERROR == 0
+    } else {
+        flags & RETRANSMITTED == 0
+    }
+}
+
+/// The class of a message by its flags.
+fn class_of(flags: u8) -> Class
+    ensures { result ≡ class_of flags }
+{
+    if flags & REQUEST != 0 {
+        Class::Request
+    } else if flags & ERROR != 0 {
+        Class::Error
+    } else {
+        Class::Answer
+    }
+}
+
+/// Whether the P flag is one that the command may have.
+fn allows_p(head: DefHead, flags: u8) -> bool
+    ensures { IsTrue result ↔ AllowsP head flags }
+{
+    match head {
+        DefHead::Group(_) => false,
+        DefHead::Command { p, .. } => p_holds(p, flags),
+        DefHead::Error { p } => p_holds(p, flags),
+    }
+}
+
+/// Whether the P flag is as the header of a definition says.
+fn p_holds(p: Pxy, flags: u8) -> bool
+    ensures { IsTrue result ↔ PHolds p flags }
+{
+    let set = flags & PROXIABLE != 0;
+    match p {
+        Pxy::Clear => !set,
+        Pxy::Set => set,
+        Pxy::Either => true,
+    }
+}

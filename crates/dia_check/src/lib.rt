@@ -1,0 +1,16 @@
+//! Checks messages against a dictionary.
+#![tactic(auto)]
+
+mod admission;
+mod body;
+mod checking;
+mod fault;
+mod header;
+mod open_levels;
+mod policy;
+#[cfg(test)]
+mod tests;
+
+pub use checking::{check, one_answer, validity};
+pub use fault::{Fault, Reason, Refusal, Selected, Subject};
+pub use policy::{Levels, Unknown};

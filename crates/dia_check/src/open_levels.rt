@@ -1,0 +1,257 @@
+//! The levels that are open, and how often each of their rules was met.
+
+ghost use Rattle.std.specs.Prelude.{◌≡◌, ◌<◌, ◌≤◌, ◌++◌, ◌∷◌, [], ℕ, List, Option, Some, length, position, slice_get, MatchOption, MatchResult, OnOk, IfOk, IsTrue, IsFalse, replicate};
+ghost use Rattle.dia_wire.specs.declared.Key.{Key as AnyKey};
+ghost use Rattle.dia_dict.specs.declared.DRule.{DRule as AnyRule};
+ghost use Rattle.dia_dict.specs.Dictionary.{AreRules, PlainDefinition, slot_of};
+ghost use Rattle.dia_check.specs.Valid.{fixed_rules, is_wildcard};
+ghost use Rattle.dia_check.specs.Faults.{subject_of};
+ghost use Rattle.dia_check.specs.OpenLevels.{AreMet, IsFirstUnmet, IsCounted, Leads, IsMet, IsWellPlaced, IsFirstMisplaced, IsMetAtEnd, IsMissingAtEnd, SoFar, begun, and_key, AreOpen};
+
+use crate::fault::{Reason, Subject};
+use dia_dict::{DRule, DefId, RuleKind, Slot};
+use dia_wire::Key;
+use std::alloc::{AllocError, Global};
+
+/// An open level.
+#[derive(Clone, Copy, Debug)]
+pub(crate) struct OpenLevel {
+    /// Its definition.
+    pub(crate) def: DefId,
+    /// The place behind its last byte.
+    pub(crate) end: usize,
+    /// Where its counts begin: one for each rule.
+    base: usize,
+    /// The fixed rule in whose run the level is; behind the last run, the number of fixed rules.
+    run: usize,
+    /// How many fixed rules there are.
+    fixed: usize,
+    /// The place of the wildcard's rule.
+    wildcard: Option<usize>,
+}
+
+/// The levels that are open, and the counts of their rules, one level behind the other.
+#[derive(Debug, Drop)]
+pub(crate) struct OpenLevels {
+    innermost: OpenLevel,
+    /// The levels round it, the outermost first.
+    outer: Vec<OpenLevel>,
+    counts: Vec<u32>,
+}
+
+/// What is wrong with an AVP or at the end of a level.
+#[derive(Clone, Copy, Debug, PartialEq, Eq)]
+pub(crate) struct Wrong {
+    pub(crate) reason: Reason,
+    pub(crate) subject: Subject,
+}
+
+impl OpenLevel {
+    /// A level of which nothing was read yet, whose counts begin at a place and are all 0.
+    fn new(def: DefId, rules: &[DRule], end: usize, base: usize) -> Self
+        requires { AreRules rules.now }
+        ensures counted { IsCounted rules.now [] result (replicate (length rules.now) 0) }
+        ensures rest { (result.def ≡ def) × (result.end ≡ end) × (result.base ≡ base) }
+    {
+        OpenLevel {
+            def,
+            end,
+            base,
+            run: 0,
+            fixed: fixed_count(rules),
+            wildcard: wildcard_place(rules),
+        }
+    }
+
+    /// The run into which an AVP of this slot leads, and the rule that counts it.
+    fn lead(&self, slot: Slot) -> (usize, Option<usize>)
+        ensures { (rules : List AnyRule) (keys : List AnyKey) (key : AnyKey) (counts : List ℕ) → AreRules rules → IsCounted rules keys self.now counts
+            → slot ≡ slot_of rules key → Leads rules keys key self.now.run result.0 result.1 }
+    {
+        match slot {
+            Slot::Fixed(rule) if rule >= self.run => (rule, Some(rule)),
+            Slot::Fixed(_) => (self.fixed, None),
+            Slot::Loose(rule) => (self.fixed, Some(rule)),
+            Slot::Unlisted => (self.fixed, self.wildcard),
+        }
+    }
+
+    /// Meets an AVP of this key and slot: the run that the level is in then, or what is wrong.
+    fn meet(
+        &self,
+        counts: &mut [u32],
+        rules: &[DRule],
+        slot: Slot,
+        key: Key,
+    ) -> Result<usize, Wrong>
+        requires rules { AreRules rules.now }
+        requires slot { slot ≡ slot_of rules.now key }
+        requires counted { (keys : List AnyKey) × IsCounted rules.now keys self.now counts.old × (length keys < 4294967295) }
+        ensures { (keys : List AnyKey) → IsCounted rules.now keys self.now counts.old
+            → MatchResult result (λ run. IsMet rules.now keys key (record self.now { run = run }) counts.new) (λ wrong. IsFirstMisplaced rules.now keys key wrong) }
+    {
+        let (run, rule) = self.lead(slot);
+        if let Some(place) = first_unmet(rules, counts, self.run, run) {
+            let rule = rules[place];
+            return Err(missing(rule));
+        }
+        let Some(rule) = rule else {
+            return Err(Wrong {
+                reason: Reason::NotAllowed,
+                subject: Subject::Avp(key),
+            });
+        };
+        let count = counts[rule];
+        if rules[rule].max == Some(count) {
+            return Err(Wrong {
+                reason: Reason::TooMany,
+                subject: Subject::Avp(key),
+            });
+        }
+        counts[rule] = count + 1;
+        Ok(run)
+    }
+}
+
+/// The first rule from one place up to another that was met less often than its min.
+fn first_unmet(rules: &[DRule], counts: &[u32], from: usize, to: usize) -> Option<usize>
+    requires { (length counts.now ≡ length rules.now) × (to ≤ length rules.now) }
+    ensures { MatchOption result (AreMet rules.now counts.now from to) (λ i. IsFirstUnmet rules.now counts.now from to i) }
+{
+    for place in from..to {
+        if counts[place] < rules[place].min {
+            return Some(place);
+        }
+    }
+    None
+}
+
+/// The AVP of a rule is missing.
+fn missing(rule: DRule) -> Wrong
+    ensures { result ≡ record { reason = Reason.Missing; subject = subject_of rule.key } }
+{
+    let subject = match rule.key {
+        Some(key) => Subject::Avp(key),
+        None => Subject::Wildcard,
+    };
+    Wrong {
+        reason: Reason::Missing,
+        subject,
+    }
+}
+
+impl OpenLevels {
+    /// The levels of a message of which nothing was read yet: its body alone, which ends at a place.
+    pub(crate) fn new(
+        alloc: Global,
+        def: DefId,
+        rules: &[DRule],
+        end: usize,
+    ) -> Result<Self, AllocError>
+        requires { AreRules rules.now }
+        ensures { (defs : List PlainDefinition) (definition : PlainDefinition) → slice_get defs def ≡ Some definition → definition.rules ≡ rules.now
+            → IfOk result (λ levels. AreOpen defs levels [] (begun rules.now end)) }
+    {
+        let mut counts = Vec::new(alloc);
+        counts.resize(rules.len(), 0)?;
+        Ok(OpenLevels {
+            innermost: OpenLevel::new(def, rules, end, 0),
+            outer: Vec::new(alloc),
+            counts,
+        })
+    }
+
+    /// Opens a level in the innermost one. This alone takes memory.
+    pub(crate) fn open(&mut self, def: DefId, rules: &[DRule], end: usize) -> Result<(), AllocError>
+        requires { AreRules rules.now }
+        ensures { (defs : List PlainDefinition) (definition : PlainDefinition) (outer : List SoFar) (level : SoFar) → slice_get defs def ≡ Some definition
+            → definition.rules ≡ rules.now → AreOpen defs self.old outer level → OnOk result (AreOpen defs self.new (outer ++ level ∷ []) (begun rules.now end)) }
+    {
+        let base = self.counts.len();
+        self.outer.push(self.innermost)?;
+        self.counts.resize(base + rules.len(), 0)?;
+        self.innermost = OpenLevel::new(def, rules, end, base);
+        Ok(())
+    }
+
+    /// Ends the innermost level. Answers whether it lay in another, which is the innermost then.
+    pub(crate) fn close(&mut self) -> bool
+        ensures inner { IsTrue result → (defs : List PlainDefinition) (outer : List SoFar) (level : SoFar) → AreOpen defs self.old outer level
+            → (others : List SoFar) × (next : SoFar) × (outer ≡ others ++ next ∷ []) × AreOpen defs self.new others next }
+        ensures last { IsFalse result → (defs : List PlainDefinition) (outer : List SoFar) (level : SoFar) → AreOpen defs self.old outer level → outer ≡ [] }
+    {
+        match self.outer.pop() {
+            Some(next) => {
+                self.counts.truncate(self.innermost.base);
+                self.innermost = next;
+                true
+            }
+            None => false,
+        }
+    }
+
+    /// Meets an AVP of this key and slot in the innermost level.
+    pub(crate) fn meet(&mut self, rules: &[DRule], slot: Slot, key: Key) -> Result<(), Wrong>
+        requires rules { AreRules rules.now }
+        requires slot { slot ≡ slot_of rules.now key }
+        requires open { (defs : List PlainDefinition) × (outer : List SoFar) × (level : SoFar) × AreOpen defs self.old outer level × (level.rules ≡ rules.now) × (length level.keys < 4294967295) }
+        ensures { (defs : List PlainDefinition) (outer : List SoFar) (level : SoFar) → AreOpen defs self.old outer level → level.rules ≡ rules.now
+            → MatchResult result (λ _. IsWellPlaced rules.now level.keys key × AreOpen defs self.new outer (and_key level key)) (λ wrong. IsFirstMisplaced rules.now level.keys key wrong) }
+    {
+        let base = self.innermost.base;
+        let run = self
+            .innermost
+            .meet(&mut self.counts[base..], rules, slot, key)?;
+        self.innermost.run = run;
+        Ok(())
+    }
+
+    /// What is missing at the end of the innermost level.
+    pub(crate) fn missing(&self, rules: &[DRule]) -> Option<Wrong>
+        requires { (defs : List PlainDefinition) × (outer : List SoFar) × (level : SoFar) × AreOpen defs self.now outer level × (level.rules ≡ rules.now) }
+        ensures { (defs : List PlainDefinition) (outer : List SoFar) (level : SoFar) → AreOpen defs self.now outer level → level.rules ≡ rules.now
+            → MatchOption result (IsMetAtEnd rules.now level.keys) (IsMissingAtEnd rules.now level.keys) }
+    {
+        let base = self.innermost.base;
+        let place = first_unmet(rules, &self.counts[base..], 0, rules.len())?;
+        Some(missing(rules[place]))
+    }
+
+    /// The innermost level.
+    pub(crate) fn innermost(&self) -> OpenLevel
+        ensures { result ≡ self.now.innermost }
+    {
+        self.innermost
+    }
+
+    /// How many groups the innermost level lies in.
+    pub(crate) fn depth(&self) -> usize
+        ensures { (defs : List PlainDefinition) (outer : List SoFar) (level : SoFar) → AreOpen defs self.now outer level → result ≡ length outer }
+    {
+        self.outer.len()
+    }
+}
+
+/// The place of the wildcard's rule.
+fn wildcard_place(rules: &[DRule]) -> Option<usize>
+    ensures { result ≡ position is_wildcard rules.now }
+{
+    rules.iter().position(|rule| is_wildcard(rule))
+}
+
+fn is_wildcard(rule: &DRule) -> bool
+    ensures { result ≡ is_wildcard rule.now }
+{
+    rule.key.is_none()
+}
+
+/// How many fixed rules there are: they come first.
+fn fixed_count(rules: &[DRule]) -> usize
+    requires { AreRules rules.now }
+    ensures { result ≡ length (fixed_rules rules.now) }
+{
+    rules
+        .iter()
+        .filter(|rule| rule.kind == RuleKind::Fixed)
+        .count()
+}

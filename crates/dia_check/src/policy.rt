@@ -1,0 +1,14 @@
+/// What happens to an AVP that the dictionary does not know.
+#[derive(Clone, Copy, Debug, PartialEq, Eq)]
+pub enum Unknown {
+    /// It is accepted where its M flag is clear.
+    Kept,
+    Refused,
+}
+
+/// How deep groups may stand in one another.
+#[derive(Clone, Copy, Debug, PartialEq, Eq)]
+pub enum Levels {
+    Any,
+    AtMost(u32),
+}
