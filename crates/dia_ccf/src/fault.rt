@@ -13,8 +13,8 @@ pub enum CcfFault {
     /// A number stands where one may stand, and is not in the range that is wanted there.
     #[error("line {line}: the number is out of range")]
     Number { line: u32 },
-    /// A name longer than [`MAX_NAME`](crate::MAX_NAME) bytes stands where a name that is free to choose may stand; or, on line 0, the
-    /// text is longer than [`MAX_TEXT`](crate::MAX_TEXT).
+    /// A name longer than [`MAX_NAME`](crate::MAX_NAME) bytes stands where a name that is free to choose may
+    /// stand; or, on line 0, the text is longer than [`MAX_TEXT`](crate::MAX_TEXT).
     #[error(fmt = tell_limit)]
     Limit { line: u32 },
     /// Memory was refused.
