@@ -30,7 +30,7 @@ pub enum DictKind {
     OptionalMin,
 }
 
-/// The word for a kind, as `required-min`.
+/// Prints the kind's word, `required-min` for one (our profile).
 impl fmt::Display for DictKind {
     ghost use Rattle.std.specs.Prelude.{Some};
     ghost use Rattle.dia_dict.specs.Words.{kind_word};
@@ -54,7 +54,7 @@ impl fmt::Display for DictKind {
     }
 }
 
-/// Why a source is no dictionary.
+/// Why a source is no dictionary. It prints as `required-min: DEFINITION AVP`, with the names that there are.
 #[derive(Debug, Drop, PartialEq, Eq, Error)]
 pub enum DictFault {
     /// The first fault, by kind and then in the order declarations, groups, commands, each in the order of the text. `name`
@@ -67,7 +67,7 @@ pub enum DictFault {
         slot: String,
     },
     /// Memory was refused.
-    #[error("no memory")]
+    #[error("out of memory")]
     NoMemory,
 }
 
