@@ -1,6 +1,6 @@
 -- A command has one text and one end for its inputs.
 use Rattle.std.proofs.Common.{◌≡◌, ◌≢◌, ℕ, ◌<◌, ◌≤◌, Bool, List, ◌++◌, length, take, drop, refl, sym, ap, subst, ◌∙◌, arith, codes, inl, inr}
-use Rattle.std.specs.Prelude.{slice_index, Ok}
+use Rattle.std.specs.Prelude.{slice_index, Result, Ok, Err}
 use Rattle.std.proofs.lemmas.Option.{none-some, same_Some}
 use Rattle.hex.specs.Hex.{decode_of}
 use Rattle.dia_wire.specs.declared.Header.{Header}
@@ -13,7 +13,13 @@ use Rattle.dia_ccf.specs.Tokens.{tokens}
 use Rattle.dia_ccf.specs.Grammar.{Derives}
 use Rattle.dia_ccf.proofs.OneFault.{one_fault, no_text_of}
 use Rattle.dia_ccf.proofs.Complete.{one_source}
-use Rattle.dia_dict.specs.Dictionary.{Dictionary}
+use Rattle.dia_dict.specs.Dictionary.{Dictionary, IsDictionary, PlainDefinition}
+use Rattle.dia_check.specs.declared.Unknown.{Unknown}
+use Rattle.dia_check.specs.declared.Levels.{Levels}
+use Rattle.dia_check.specs.declared.Selected.{Selected}
+use Rattle.dia_check.specs.declared.Refusal.{Refusal}
+use Rattle.dia_check.specs.declared.Refusal.TheVariants as refusal
+use Rattle.dia_check.proofs.OneAnswer.{one_answer}
 use Rattle.dia_dict.specs.Resolution.{first_wrong, resolved}
 use Rattle.diacmd.specs.declared.command.Command.{Command}
 use Rattle.diacmd.specs.declared.command.Command.TheVariants as command
@@ -23,8 +29,9 @@ use Rattle.diacmd.specs.declared.command.Input.TheVariants.{Bytes, TooLong}
 use Rattle.diacmd.specs.declared.command.Exit.{Exit}
 use Rattle.diacmd.specs.Inputs.{Holds, IsOver}
 use Rattle.diacmd.specs.Texts.{line, dictionary_line, fault_text, wrong_text, IsSourceText, IsNoSourceText, too_long, not_text, fault, IsDictionaryText, IsNoDictionaryText, IsMessageText, IsNoMessageText, not_hexadecimal, digits_of}
+use Rattle.diacmd.specs.Verdict.{IsVerdict}
 use Rattle.diacmd.specs.Listing.{Level, IsListing, header_line}
-use Rattle.diacmd.specs.Outcome.{Refuses, IsShown, listing, short, version, bad_length, truncated, trailing, IsShowOutcome, shown, no_dictionary, no_message, IsRenderOutcome, rendered, no_source, IsOutcome, listing_exit}
+use Rattle.diacmd.specs.Outcome.{Refuses, IsShown, listing, short, version, bad_length, truncated, trailing, IsMessageOutcome, ended, no_dictionary, no_message, IsJudged, IsRenderOutcome, rendered, no_source, IsOutcome, listing_exit}
 use Rattle.diacmd.proofs.OneListing.{one_listing}
 
 -- one text and one end
@@ -67,11 +74,11 @@ one_reason input m n (fault a f held utf8 is_fault no_memory is_m) (fault b g he
     is_m ∙ ap fault_text (one_fault a f g is_fault (rw (held_once input 1048576 a b held held') is_fault') no_memory no_memory') ∙ sym is_n
 
 one_dictionary : (input : Input) (d e : Dictionary) → IsDictionaryText input d → IsDictionaryText input e → d ≡ e
-one_dictionary input d e (s, is_s, sound, is_d) (t, is_t, sound', is_e) = is_d ∙ ap resolved (one_source_text input s t is_s is_t) ∙ sym is_e
+one_dictionary input d e (s, is_s, sound, is_d, well) (t, is_t, sound', is_e, well') = is_d ∙ ap resolved (one_source_text input s t is_s is_t) ∙ sym is_e
 
 dictionary_or_not : (input : Input) (d : Dictionary) (why : List ℕ) → IsDictionaryText input d → IsNoDictionaryText input why → ⊥
-dictionary_or_not input d why (s, is_s, sound, is_d) (inl none) = source_or_not input s why is_s none
-dictionary_or_not input d why (s, is_s, sound, is_d) (inr (t, w, is_t, wrong, is_why)) = none-some w (sym sound ∙ ap first_wrong (one_source_text input s t is_s is_t) ∙ wrong)
+dictionary_or_not input d why (s, is_s, sound, is_d, well) (inl none) = source_or_not input s why is_s none
+dictionary_or_not input d why (s, is_s, sound, is_d, well) (inr (t, w, is_t, wrong, is_why)) = none-some w (sym sound ∙ ap first_wrong (one_source_text input s t is_s is_t) ∙ wrong)
 
 one_reason_for_dictionary : (input : Input) (m n : List ℕ) → IsNoDictionaryText input m → IsNoDictionaryText input n → m ≡ n
 one_reason_for_dictionary input m n (inl none) (inl none') = one_reason input m n none none'
@@ -187,20 +194,42 @@ shown_once d bytes t u x y (trailing h len is_head is_length more refuses) secon
 
 -- ---- commands
 
-show_once : (inputs : Inputs) (t u : List ℕ) (x y : Exit) → IsShowOutcome inputs t x → IsShowOutcome inputs u y → Same t u x y
-show_once inputs t u x y (shown d a is_d is_a shows) (shown e b is_e is_b shows') =
+-- P says one thing of a dictionary and a message
+abbrev HasOne : (Dictionary → List ℕ → List ℕ → Exit → Type 0) → Type 0
+HasOne P = (d : Dictionary) (bytes t u : List ℕ) (x y : Exit) → IsDictionary d → P d bytes t x → P d bytes u y → Same t u x y
+
+of_message_once : (P : Dictionary → List ℕ → List ℕ → Exit → Type 0) → HasOne P → (inputs : Inputs) (t u : List ℕ) (x y : Exit) → IsMessageOutcome P inputs t x → IsMessageOutcome P inputs u y → Same t u x y
+of_message_once P one inputs t u x y (ended d a is_d is_a made) (ended e b is_e is_b made') =
     let same_book = one_dictionary inputs.first d e is_d is_e in
     let same_bytes = one_message inputs.message a b is_a is_b in
-    shown_once d a t u x y shows (rw (same_book, same_bytes) shows')
-show_once inputs t u x y (shown d a is_d is_a shows) (no_dictionary why none refuses) = absurd (dictionary_or_not inputs.first d why is_d none)
-show_once inputs t u x y (shown d a is_d is_a shows) (no_message e told is_e none refuses) = absurd (message_or_not inputs.message a told is_a none)
-show_once inputs t u x y (no_dictionary why none refuses) (shown e b is_e is_b shows') = absurd (dictionary_or_not inputs.first e why is_e none)
-show_once inputs t u x y (no_dictionary why none refuses) (no_dictionary why' none' refuses') =
+    one d a t u x y is_d.4 made (rw (same_book, same_bytes) made')
+of_message_once P one inputs t u x y (ended d a is_d is_a made) (no_dictionary why none refuses) = absurd (dictionary_or_not inputs.first d why is_d none)
+of_message_once P one inputs t u x y (ended d a is_d is_a made) (no_message e told is_e none refuses) = absurd (message_or_not inputs.message a told is_a none)
+of_message_once P one inputs t u x y (no_dictionary why none refuses) (ended e b is_e is_b made) = absurd (dictionary_or_not inputs.first e why is_e none)
+of_message_once P one inputs t u x y (no_dictionary why none refuses) (no_dictionary why' none' refuses') =
     refused_once (dictionary_line 1 why) (dictionary_line 1 why') t u x y (ap (dictionary_line 1) (one_reason_for_dictionary inputs.first why why' none none')) refuses refuses'
-show_once inputs t u x y (no_dictionary why none refuses) (no_message e told is_e none' refuses') = absurd (dictionary_or_not inputs.first e why is_e none)
-show_once inputs t u x y (no_message d told is_d none refuses) (shown e b is_e is_b shows') = absurd (message_or_not inputs.message b told is_b none)
-show_once inputs t u x y (no_message d told is_d none refuses) (no_dictionary why none' refuses') = absurd (dictionary_or_not inputs.first d why is_d none')
-show_once inputs t u x y (no_message d told is_d none refuses) (no_message e told' is_e none' refuses') = refused_once told told' t u x y (one_message_reason inputs.message told told' none none') refuses refuses'
+of_message_once P one inputs t u x y (no_dictionary why none refuses) (no_message e told is_e none' refuses') = absurd (dictionary_or_not inputs.first e why is_e none)
+of_message_once P one inputs t u x y (no_message d told is_d none refuses) (ended e b is_e is_b made) = absurd (message_or_not inputs.message b told is_b none)
+of_message_once P one inputs t u x y (no_message d told is_d none refuses) (no_dictionary why none' refuses') = absurd (dictionary_or_not inputs.first d why is_d none')
+of_message_once P one inputs t u x y (no_message d told is_d none refuses) (no_message e told' is_e none' refuses') = refused_once told told' t u x y (one_message_reason inputs.message told told' none none') refuses refuses'
+
+verdict_once : (d : Dictionary) (answer : Result Selected Refusal) (t u : List ℕ) (x y : Exit) → IsVerdict d answer t x → IsVerdict d answer u y → Same t u x y
+verdict_once d (Ok found) t u x y (c, is_c, is_t, is_x) (e, is_e, is_u, is_y) =
+    (is_t ∙ ap (λ (k : PlainDefinition). line (codes "valid " ++ k.name)) (same_Some c e (sym is_c ∙ is_e)) ∙ sym is_u, is_x ∙ sym is_y)
+verdict_once d (Err (refusal.Fault f)) t u x y (is_t, is_x) (is_u, is_y) = (is_t ∙ sym is_u, is_x ∙ sym is_y)
+verdict_once d (Err refusal.Truncated) t u x y (is_t, is_x) (is_u, is_y) = (is_t ∙ sym is_u, is_x ∙ sym is_y)
+verdict_once d (Err refusal.Trailing) t u x y (is_t, is_x) (is_u, is_y) = (is_t ∙ sym is_u, is_x ∙ sym is_y)
+verdict_once d (Err refusal.NoMemory) t u x y h k = absurd h
+verdict_once d (Err refusal.Spent) t u x y h k = absurd h
+
+-- an answer with a verdict doesn't say that memory was refused
+is_known : (d : Dictionary) (answer : Result Selected Refusal) (t : List ℕ) (x : Exit) → IsVerdict d answer t x → answer ≢ Err refusal.NoMemory
+is_known d answer t x h none = subst (λ (a : Result Selected Refusal). IsVerdict d a t x) none h
+
+judged_once : (policy : Unknown) (most : Levels) → HasOne (IsJudged policy most)
+judged_once policy most d bytes t u x y sound (a, is_a, verdict) (b, is_b, verdict') =
+    let same : a ≡ b = one_answer d policy most bytes a b sound is_a is_b (is_known d a t x verdict) (is_known d b u y verdict') in
+    verdict_once d a t u x y verdict (subst (λ (r : Result Selected Refusal). IsVerdict d r u y) (sym same) verdict')
 
 render_once : (inputs : Inputs) (t u : List ℕ) (x y : Exit) → IsRenderOutcome inputs t x → IsRenderOutcome inputs u y → Same t u x y
 render_once inputs t u x y (rendered s is_s is_t is_x) (rendered r is_r is_u is_y) = (is_t ∙ ap canonical (one_source_text inputs.first s r is_s is_r) ∙ sym is_u, is_x ∙ sym is_y)
@@ -209,5 +238,6 @@ render_once inputs t u x y (no_source why none refuses) (rendered r is_r is_u is
 render_once inputs t u x y (no_source why none refuses) (no_source why' none' refuses') = refused_once (dictionary_line 1 why) (dictionary_line 1 why') t u x y (ap (dictionary_line 1) (one_reason inputs.first why why' none none')) refuses refuses'
 
 pub one_outcome : (c : Command) (inputs : Inputs) (t u : List ℕ) (x y : Exit) → IsOutcome c inputs t x → IsOutcome c inputs u y → (t ≡ u) × (x ≡ y)
-one_outcome command.Show inputs t u x y first second = show_once inputs t u x y first second
+one_outcome command.Show inputs t u x y first second = of_message_once IsShown (λ d bytes t u x y sound. shown_once d bytes t u x y) inputs t u x y first second
+one_outcome (command.Check policy most) inputs t u x y first second = of_message_once (IsJudged policy most) (judged_once policy most) inputs t u x y first second
 one_outcome command.Render inputs t u x y first second = render_once inputs t u x y first second

@@ -17,7 +17,7 @@ use Rattle.diacmd.specs.Texts.{line, dictionary_line, fault_text, most_dictionar
 use Rattle.diacmd.specs.Refusals.{TellsOf, bad_input_text}
 use Rattle.dia_dict.specs.Dictionary.{Dictionary}
 use Rattle.diacmd.specs.declared.command.Inputs.{Inputs}
-use Rattle.diacmd.specs.Outcome.{Ends, IsRenderOutcome, no_source, IsShowOutcome, no_dictionary, no_message}
+use Rattle.diacmd.specs.Outcome.{Ends, IsRenderOutcome, no_source, IsMessageOutcome, no_dictionary, no_message}
 
 pub TellsOf-map : (P Q : List ℕ → Type 0) (r : Refused) → ((told : List ℕ) → P told → Q told) → TellsOf P r → TellsOf Q r
 TellsOf-map P Q (Bad bad) f h = f (bad_input_text bad) h
@@ -52,13 +52,14 @@ pub Ends-no_source : (inputs : Inputs) (r : Refused) → TellsOf (λ told. (why 
 Ends-no_source inputs (Bad bad) (why, h, e) = no_source why h (ap line e, refl)
 Ends-no_source inputs NoMemory h = tt
 
-pub Ends-no_dictionary : (inputs : Inputs) (r : Refused) → TellsOf (λ told. (why : List ℕ) × IsNoDictionaryText inputs.first why × (told ≡ dictionary_line 1 why)) r → Ends (IsShowOutcome inputs) (Err r)
-Ends-no_dictionary inputs (Bad bad) (why, h, e) = no_dictionary why h (ap line e, refl)
-Ends-no_dictionary inputs NoMemory h = tt
+pub Ends-no_dictionary : (P : Dictionary → List ℕ → List ℕ → Exit → Type 0) (inputs : Inputs) (r : Refused) → TellsOf (λ told. (why : List ℕ) × IsNoDictionaryText inputs.first why × (told ≡ dictionary_line 1 why)) r
+    → Ends (IsMessageOutcome P inputs) (Err r)
+Ends-no_dictionary P inputs (Bad bad) (why, h, e) = no_dictionary why h (ap line e, refl)
+Ends-no_dictionary P inputs NoMemory h = tt
 
-pub Ends-no_message : (inputs : Inputs) (d : Dictionary) (r : Refused) → IsDictionaryText inputs.first d → TellsOf (IsNoMessageText inputs.message) r → Ends (IsShowOutcome inputs) (Err r)
-Ends-no_message inputs d (Bad bad) is_d h = no_message d (bad_input_text bad) is_d h (refl, refl)
-Ends-no_message inputs d NoMemory is_d h = tt
+pub Ends-no_message : (P : Dictionary → List ℕ → List ℕ → Exit → Type 0) (inputs : Inputs) (d : Dictionary) (r : Refused) → IsDictionaryText inputs.first d → TellsOf (IsNoMessageText inputs.message) r → Ends (IsMessageOutcome P inputs) (Err r)
+Ends-no_message P inputs d (Bad bad) is_d h = no_message d (bad_input_text bad) is_d h (refl, refl)
+Ends-no_message P inputs d NoMemory is_d h = tt
 
 -- a text that is no source names no dictionary
 pub told_of_source : (input : Input) (number : ℕ) (r : Refused) → TellsOf (λ told. (w : List ℕ) × IsNoSourceText input w × (told ≡ dictionary_line number w)) r

@@ -3,6 +3,7 @@ pub mod Exit
 pub mod Texts
 pub mod Refusals
 pub mod Listing
+pub mod Verdict
 pub mod Outcome
 pub mod Writing
 pub mod Ending

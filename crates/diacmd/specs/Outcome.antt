@@ -6,16 +6,22 @@ use Rattle.dia_wire.specs.Number.{number}
 use Rattle.dia_wire.specs.Wire.{IsHead, IsMessageLength}
 use Rattle.dia_ccf.specs.Plain.{PlainSource}
 use Rattle.dia_ccf.specs.Rendering.{canonical}
+use Rattle.dia_check.specs.declared.Unknown.{Unknown}
+use Rattle.dia_check.specs.declared.Levels.{Levels}
+use Rattle.dia_check.specs.declared.Selected.{Selected}
+use Rattle.dia_check.specs.declared.Refusal.{Refusal}
+use Rattle.dia_check.specs.Faults.{IsAnswer as IsChecked}
 use Rattle.diacmd.specs.declared.commands.Outcome.{Outcome}
 use Rattle.diacmd.specs.declared.inputs.Refused.{Refused}
 use Rattle.diacmd.specs.declared.inputs.Refused.TheVariants.{Bad as BadInput, NoMemory}
 use Rattle.diacmd.specs.declared.command.Command.{Command}
-use Rattle.diacmd.specs.declared.command.Command.TheVariants.{Show, Render}
+use Rattle.diacmd.specs.declared.command.Command.TheVariants.{Show, Render, Check}
 use Rattle.diacmd.specs.declared.command.Inputs.{Inputs}
 use Rattle.diacmd.specs.declared.command.Exit.{Exit}
 use Rattle.diacmd.specs.declared.command.Exit.TheVariants.{Yes, No, Bad}
 use Rattle.diacmd.specs.Texts.{line, dictionary_line, IsSourceText, IsNoSourceText, IsDictionaryText, IsNoDictionaryText, IsMessageText, IsNoMessageText}
 use Rattle.diacmd.specs.Refusals.{bad_input_text}
+use Rattle.diacmd.specs.Verdict.{IsVerdict}
 use Rattle.diacmd.specs.Listing.{header_line, IsListing}
 
 -- an input is refused in one line
@@ -37,11 +43,23 @@ pub data IsShown (d : Dictionary) (bytes text : List ℕ) (exit : Exit) : Type 0
   truncated : (h : Header) (len : ℕ) → IsHead h len (take 20 bytes) → IsMessageLength len → length bytes < len → Refuses (codes "message: truncated") text exit → IsShown d bytes text exit
   trailing : (h : Header) (len : ℕ) → IsHead h len (take 20 bytes) → IsMessageLength len → len < length bytes → Refuses (codes "message: trailing") text exit → IsShown d bytes text exit
 
+-- a command of a dictionary and a message, where P says how it ends for them: the dictionary is judged first
+pub data IsMessageOutcome (P : Dictionary → List ℕ → List ℕ → Exit → Type 0) (inputs : Inputs) (text : List ℕ) (exit : Exit) : Type 0 where
+  ended : (d : Dictionary) (bytes : List ℕ) → IsDictionaryText inputs.first d → IsMessageText inputs.message bytes → P d bytes text exit → IsMessageOutcome P inputs text exit
+  no_dictionary : (why : List ℕ) → IsNoDictionaryText inputs.first why → Refuses (dictionary_line 1 why) text exit → IsMessageOutcome P inputs text exit
+  no_message : (d : Dictionary) (told : List ℕ) → IsDictionaryText inputs.first d → IsNoMessageText inputs.message told → Refuses told text exit → IsMessageOutcome P inputs text exit
+
 -- `show` of the inputs
-pub data IsShowOutcome (inputs : Inputs) (text : List ℕ) (exit : Exit) : Type 0 where
-  shown : (d : Dictionary) (bytes : List ℕ) → IsDictionaryText inputs.first d → IsMessageText inputs.message bytes → IsShown d bytes text exit → IsShowOutcome inputs text exit
-  no_dictionary : (why : List ℕ) → IsNoDictionaryText inputs.first why → Refuses (dictionary_line 1 why) text exit → IsShowOutcome inputs text exit
-  no_message : (d : Dictionary) (told : List ℕ) → IsDictionaryText inputs.first d → IsNoMessageText inputs.message told → Refuses told text exit → IsShowOutcome inputs text exit
+abbrev pub IsShowOutcome : Inputs → List ℕ → Exit → Type 0
+IsShowOutcome inputs text exit = IsMessageOutcome IsShown inputs text exit
+
+-- the verdict on a message
+abbrev pub IsJudged : Unknown → Levels → Dictionary → List ℕ → List ℕ → Exit → Type 0
+IsJudged u most d bytes text exit = (answer : Result Selected Refusal) × IsChecked d u most bytes answer × IsVerdict d answer text exit
+
+-- `check` of the inputs
+abbrev pub IsCheckOutcome : Unknown → Levels → Inputs → List ℕ → Exit → Type 0
+IsCheckOutcome u most inputs text exit = IsMessageOutcome (IsJudged u most) inputs text exit
 
 -- `render` of the inputs
 pub data IsRenderOutcome (inputs : Inputs) (text : List ℕ) (exit : Exit) : Type 0 where
@@ -52,6 +70,7 @@ pub data IsRenderOutcome (inputs : Inputs) (text : List ℕ) (exit : Exit) : Typ
 abbrev pub IsOutcome : Command → Inputs → List ℕ → Exit → Type 0
 IsOutcome Show inputs text exit = IsShowOutcome inputs text exit
 IsOutcome Render inputs text exit = IsRenderOutcome inputs text exit
+IsOutcome (Check u most) inputs text exit = IsCheckOutcome u most inputs text exit
 
 -- what was made holds: an outcome, or the line of a refusal
 abbrev pub Ends : (List ℕ → Exit → Type 0) → Result Outcome Refused → Type 0

@@ -11,7 +11,7 @@ use Rattle.dia_ccf.specs.Grammar.{Derives}
 use Rattle.dia_ccf.specs.Faults.{IsFault}
 use Rattle.dia_dict.specs.declared.DictKind.{DictKind}
 use Rattle.dia_dict.specs.declared.DictKind.TheVariants as kind
-use Rattle.dia_dict.specs.Dictionary.{Dictionary}
+use Rattle.dia_dict.specs.Dictionary.{Dictionary, IsDictionary}
 use Rattle.dia_dict.specs.Resolution.{resolved, first_wrong, Wrong}
 use Rattle.diacmd.specs.declared.command.Input.{Input}
 use Rattle.diacmd.specs.Inputs.{Holds, IsOver}
@@ -68,7 +68,7 @@ wrong_text w = kind_word w.kind ++ codes " " ++ or_dash w.name ++ codes " " ++ o
 
 -- the input is the text of a source that names this dictionary
 abbrev pub IsDictionaryText : Input → Dictionary → Type 0
-IsDictionaryText input d = (source : PlainSource) × IsSourceText input source × (first_wrong source ≡ None) × (d ≡ resolved source)
+IsDictionaryText input d = (source : PlainSource) × IsSourceText input source × (first_wrong source ≡ None) × (d ≡ resolved source) × IsDictionary d
 
 -- the input names no dictionary, and this is why
 abbrev pub IsNoDictionaryText : Input → List ℕ → Type 0

@@ -2,6 +2,7 @@ ghost use Rattle.std.specs.Prelude.{◌≡◌};
 ghost use Rattle.diacmd.specs.Exit.{status_of};
 
 use crate::streams::Failed;
+use dia_check::{Levels, Unknown};
 use std::alloc::AllocError;
 use thiserror::Error;
 
@@ -12,6 +13,8 @@ pub enum Command {
     Show,
     /// Prints the canonical text of a dictionary.
     Render,
+    /// Tells whether a message is valid, or its first fault.
+    Check { unknown: Unknown, levels: Levels },
 }
 
 /// A text that was read whole.

@@ -10,6 +10,7 @@ use crate::inputs::Refused;
 use crate::inputs::bad_input::BadInput;
 use std::alloc::{AllocError, Global};
 
+pub mod check;
 pub mod render;
 pub mod show;
 

@@ -7,6 +7,7 @@ ghost use Rattle.diacmd.specs.Writing.{AppendsFront};
 ghost use Rattle.diacmd.specs.Outcome.{IsOutcome};
 
 use crate::command::{Command, Exit, Inputs, RunFault};
+use crate::commands::check::check;
 use crate::commands::render::render;
 use crate::commands::show::show;
 use crate::commands::{Outcome, outcome_of};
@@ -43,6 +44,7 @@ fn perform(alloc: Global, command: &Command, inputs: &Inputs) -> Result<Outcome,
     let made = match command {
         Command::Show => show(alloc, inputs),
         Command::Render => render(alloc, inputs),
+        Command::Check { unknown, levels } => check(alloc, *unknown, *levels, inputs),
     };
     outcome_of(alloc, made)
 }

@@ -8,6 +8,7 @@ use std::alloc::{AllocError, Global};
 use std::process::Abort;
 use std::test::Fail;
 
+mod checks;
 mod dictionaries;
 mod listings;
 mod messages;

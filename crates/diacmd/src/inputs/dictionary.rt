@@ -3,6 +3,7 @@
 ghost use Rattle.std.specs.Prelude.{◌≡◌, ◌≢◌, List, ℕ, IfOk, IfErr};
 ghost use Rattle.dia_dict.specs.Resolution.{wrong};
 ghost use Rattle.dia_ccf.specs.Plain.{plain};
+ghost use Rattle.dia_dict.specs.Dictionary.{IsDictionary};
 ghost use Rattle.diacmd.specs.Texts.{IsSourceText, IsNoSourceText, IsDictionaryText, IsNoDictionaryText, dictionary_line, fault_text, wrong_text};
 ghost use Rattle.diacmd.specs.Refusals.{TellsOf, bad_dictionary_text};
 
@@ -10,7 +11,7 @@ use crate::command::Input;
 use crate::inputs::bad_input::{BadDictionary, BadInput};
 use crate::inputs::{Refused, bytes_within};
 use dia_ccf::{CcfFault, MAX_TEXT, Source, parse};
-use dia_dict::{Book, DictFault, DictKind, IndexedBook, resolve};
+use dia_dict::{Book, DictFault, DictKind, IndexedBook, PlainBook, resolve};
 use std::alloc::{AllocError, Global};
 
 /// The source that a text is. `number` says which dictionary of the command it is, from 1.
@@ -37,13 +38,23 @@ pub fn read_dictionary(alloc: Global, number: u8, input: &Input) -> Result<Index
 {
     let source = read_source(alloc, number, input)?;
     match resolve(alloc, source) {
-        Ok(book) => Ok(IndexedBook::new(alloc, &book)?),
+        Ok(book) => indexed(alloc, &book),
         Err(DictFault::NoMemory) => Err(Refused::NoMemory),
         Err(DictFault::Stands { kind, name, slot }) => {
             let why = wrong_of(alloc, kind, name.as_str(), slot.as_str())?;
             Err(tell(number, why))
         }
     }
+}
+
+/// The book with its look-ups. It is a dictionary as every book is.
+fn indexed(alloc: Global, book: &PlainBook) -> Result<IndexedBook, Refused>
+    ensures ok { IfOk result (λ indexed. (⟦<IndexedBook as Book>⟧.meaning indexed ≡ ⟦<PlainBook as Book>⟧.meaning book.now) × IsDictionary (⟦<IndexedBook as Book>⟧.meaning indexed)) }
+    ensures no_memory { IfErr result (λ refused. refused ≡ Refused.NoMemory) }
+{
+    let indexed = IndexedBook::new(alloc, book)?;
+    let _count = indexed.entries();
+    Ok(indexed)
 }
 
 fn tell(number: u8, why: BadDictionary) -> Refused

@@ -1,19 +1,19 @@
 use Rattle.std.proofs.lemmas.Result.{err_from_is_err_and}
-use Rattle.diacmd.specs.Outcome.{IsShown, IsShowOutcome, shown}
+use Rattle.diacmd.specs.Outcome.{IsShown, IsShowOutcome, ended}
 use Rattle.diacmd.proofs.Telling.{Ends-map, Ends-no_dictionary, Ends-no_message}
 use Rattle.diacmd.proofs.commands.show.show.Goals as goal
 
 pub returns-in_err-book : goal.returns-in_err-book
 returns-in_err-book c =
     let p = err_from_is_err_and c.from_residual.result c.from_residual.ensures.1 in
-    rw (p.1, p.2) (Ends-no_dictionary c.args.inputs.now _ c.in_err-book.ensures.told)
+    rw (p.1, p.2) (Ends-no_dictionary IsShown c.args.inputs.now _ c.in_err-book.ensures.told)
 
 pub returns-in_err-bytes : goal.returns-in_err-bytes
 returns-in_err-bytes c =
     let p = err_from_is_err_and c.from_residual-in_err-bytes.result c.from_residual-in_err-bytes.ensures.1 in
-    rw (p.1, p.2) (Ends-no_message c.args.inputs.now _ _ c.in_ok-book.ensures.book c.in_err-bytes.ensures.told)
+    rw (p.1, p.2) (Ends-no_message IsShown c.args.inputs.now _ _ c.in_ok-book.ensures.book c.in_err-bytes.ensures.told)
 
 pub returns : goal.returns
 returns c =
-    Ends-map (IsShown _ c.as_slice.result.now) (IsShowOutcome c.args.inputs.now) _ (λ text exit shows. shown _ c.as_slice.result.now c.in_ok-book.ensures.book (rw c.as_slice.ensures.value c.in_ok-bytes.ensures.message) shows)
+    Ends-map (IsShown _ c.as_slice.result.now) (IsShowOutcome c.args.inputs.now) _ (λ text exit shows. ended _ c.as_slice.result.now c.in_ok-book.ensures.book (rw c.as_slice.ensures.value c.in_ok-bytes.ensures.message) shows)
     c.show_message.ensures

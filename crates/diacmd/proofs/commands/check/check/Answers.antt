@@ -1,0 +1,17 @@
+use Rattle.std.proofs.lemmas.Result.{err_from_is_err_and}
+use Rattle.diacmd.specs.Outcome.{IsJudged, ended}
+use Rattle.diacmd.proofs.Telling.{Ends-no_dictionary, Ends-no_message}
+use Rattle.diacmd.proofs.commands.check.check.Goals as goal
+
+pub returns-in_err-book : goal.returns-in_err-book
+returns-in_err-book c =
+    let p = err_from_is_err_and c.from_residual.result c.from_residual.ensures.1 in
+    rw (p.1, p.2) (Ends-no_dictionary (IsJudged c.args.unknown c.args.levels) c.args.inputs.now _ c.in_err-book.ensures.told)
+
+pub returns-in_err-bytes : goal.returns-in_err-bytes
+returns-in_err-bytes c =
+    let p = err_from_is_err_and c.from_residual-in_err-bytes.result c.from_residual-in_err-bytes.ensures.1 in
+    rw (p.1, p.2) (Ends-no_message (IsJudged c.args.unknown c.args.levels) c.args.inputs.now _ _ c.in_ok-book.ensures.book c.in_err-bytes.ensures.told)
+
+pub returns : goal.returns
+returns c = ended _ c.as_slice.result.now c.in_ok-book.ensures.book (rw c.as_slice.ensures.value c.in_ok-bytes.ensures.message) (_, c.check-answer.ensures.answer, c.in_ok-outcome.ensures)
