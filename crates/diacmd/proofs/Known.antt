@@ -1,17 +1,16 @@
 -- What a dictionary knows of an AVP, from what a book's look-ups answer.
-use Rattle.std.proofs.Common.{◌≡◌, ℕ, Bool, true, false, List, ◌++◌, Option, Some, None, codes, refl, sym, ap, ◌∙◌, append_assoc, arith, inl, inr}
+use Rattle.std.proofs.Common.{◌≡◌, ℕ, true, false, List, ◌++◌, Option, Some, None, codes, refl, sym, ap, ◌∙◌, append_assoc, arith, inl, inr}
 use Rattle.std.specs.Prelude.{slice_get, IfSome, option_and_then}
 use Rattle.std.proofs.lemmas.Option.{slice_get_cases}
 use Rattle.dia_wire.specs.Wire.{PlainAvp, key_of}
 use Rattle.dia_data.specs.declared.Format.{Format}
 use Rattle.dia_data.specs.declared.Format.TheVariants as format
 use Rattle.dia_data.specs.Plain.{plain as plain_format, Grouped, OctetString}
-use Rattle.dia_data.specs.Shown.{IsShown}
 use Rattle.dia_dict.specs.Dictionary.{Dictionary, DictEntry, entry_of}
 use Rattle.dia_dict.specs.Keys.{same_key}
 use Rattle.dia_dict.proofs.Lists.{position-within}
 use Rattle.diacmd.specs.Texts.{line}
-use Rattle.diacmd.specs.Listing.{known, IsGroup, IsLeafText, unknown, leaf, avp_columns, avp_line, AddsAvp, AddsNameAndValue}
+use Rattle.diacmd.specs.Listing.{known, IsGroup, unknown, leaf, avp_columns, AddsAvp, AddsNameAndValue}
 
 plain_format-Grouped : (f : Format) → plain_format f ≡ Grouped → f ≡ format.Grouped
 plain_format-Grouped format.Grouped h = refl
@@ -31,9 +30,12 @@ unknown_added d place depth v old front new none is_front (value, shown, is_new)
 
 pub group_added : (d : Dictionary) (place depth : ℕ) (v : PlainAvp) (old front named new name : List ℕ) (e : DictEntry) → IsGroup d v e → front ≡ old ++ avp_columns place depth v → named ≡ front ++ name → name ≡ e.name
     → new ≡ named ++ codes " group\n" → AddsAvp d place depth v old new true
-group_added d place depth v old front named new name e is_group is_front is_named is_name is_new =
-    (e, is_group, is_new ∙ ap (λ (f : List ℕ). f ++ codes " group\n") (is_named ∙ ap (λ (f : List ℕ). f ++ name) is_front ∙ ap (λ (f : List ℕ). (old ++ avp_columns place depth v) ++ f) is_name)
-    ∙ group_joined old (avp_columns place depth v) e.name)
+group_added d place depth v old front named new name e is_group is_front is_named is_name is_new = (
+  e,
+  is_group,
+  is_new ∙ ap (λ (f : List ℕ). f ++ codes " group\n") (is_named ∙ ap (λ (f : List ℕ). f ++ name) is_front ∙ ap (λ (f : List ℕ). (old ++ avp_columns place depth v) ++ f) is_name)
+      ∙ group_joined old (avp_columns place depth v) e.name,
+)
 
 -- an AVP that the book knows as no group has the name and the value that were added
 pub leaf_added : (d : Dictionary) (place depth : ℕ) (v : PlainAvp) (i : ℕ) (f : Format) (name old front new : List ℕ) → Some i ≡ entry_of d (key_of v)
@@ -44,9 +46,12 @@ leaf_added d place depth v i f name old front new is_i is_name is_format no_grou
       | inl (e, inside, is_e, here) ↦
           let same : name ≡ e.name = rw is_e at is_name in
           let format_is : plain_format f ≡ e.format = rw is_e at is_format in
-          let is_known : known d v ≡ Some e = ap (λ (o : Option ℕ). option_and_then (slice_get d.entries) o) (sym is_i) ∙ is_e in
-          (name, value, leaf e is_known (λ g. no_group (plain_format-Grouped f (format_is ∙ g))) same (rw (← format_is) shown),
-            is_new ∙ ap (λ (t : List ℕ). t ++ line (name ++ codes " " ++ value)) is_front ∙ joined old (avp_columns place depth v) name value)
+          let is_known : known d v ≡ Some e = ap (λ (o : Option ℕ). option_and_then (slice_get d.entries) o) (sym is_i) ∙ is_e in (
+            name,
+            value,
+            leaf e is_known (λ g. no_group (plain_format-Grouped f (format_is ∙ g))) same (rw (← format_is) shown),
+            is_new ∙ ap (λ (t : List ℕ). t ++ line (name ++ codes " " ++ value)) is_front ∙ joined old (avp_columns place depth v) name value,
+          )
       | inr (past, none) ↦ absurd (omega (arith, past, position-within (λ (e : DictEntry). same_key (key_of v) e.key) d.entries i (sym is_i)))
     ]
 

@@ -5,8 +5,8 @@ ghost use Rattle.diacmd.specs.Listing.{header_line};
 ghost use Rattle.diacmd.specs.Outcome.{Ends, IsShowOutcome, IsShown, listing_exit};
 
 use crate::command::{Exit, Inputs};
-use crate::commands::show::listing::push_level;
 use crate::commands::Outcome;
+use crate::commands::show::listing::push_level;
 use crate::inputs::Refused;
 use crate::inputs::bad_input::BadMessage;
 use crate::inputs::dictionary::read_dictionary;
@@ -64,7 +64,10 @@ fn push_header(text: &mut String, header: &Header, length: u32) -> Result<(), Al
     let end = header.e2e;
     text.push_str("header flags ")?;
     push_hex_byte(text, header.flags)?;
-    writeln!(text, " code {code} app {app} hop {hop} end {end} length {length}")
+    writeln!(
+        text,
+        " code {code} app {app} hop {hop} end {end} length {length}"
+    )
 }
 
 /// How a listing ends that may end at a bad length.

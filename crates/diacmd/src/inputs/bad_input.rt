@@ -21,9 +21,15 @@ pub enum BadDictionary {
     TooLong,
     /// Bytes that are no UTF-8.
     NotText,
-    Syntax { line: u32 },
-    Number { line: u32 },
-    Limit { line: u32 },
+    Syntax {
+        line: u32,
+    },
+    Number {
+        line: u32,
+    },
+    Limit {
+        line: u32,
+    },
     /// The first fault of its definitions. A name is empty where there is none.
     Wrong {
         kind: DictKind,

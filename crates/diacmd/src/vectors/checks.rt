@@ -26,15 +26,15 @@ const FAILED: &str = "0000011740000008";
 const RESULT: &str = "0000010c4000000c00000bb9";
 
 /// A session that is fixed at the front.
-const SESSIONS: &str = "%avp Session-Id 263 UTF8String any %avp Origin-Host 264 DiameterIdentity any <T> ::= < Diameter Header: 300, REQ > < Session-Id > { Origin-Host }";
+const SESSIONS: &str =
+    "%avp Session-Id 263 UTF8String any %avp Origin-Host 264 DiameterIdentity any <T> ::= < Diameter Header: 300, REQ > < Session-Id > { Origin-Host }";
 
 /// Groups of code 9001 in one another, as deep as one likes.
 const NODES: &str =
     "<Node> ::= < AVP Header: 9001 > * [ Node ] <T> ::= < Diameter Header: 301, REQ > * [ Node ]";
 
 /// One required number.
-const NUMBER: &str =
-    "%avp X 9002 Unsigned32 any <T> ::= < Diameter Header: 302, REQ > { X }";
+const NUMBER: &str = "%avp X 9002 Unsigned32 any <T> ::= < Diameter Header: 302, REQ > { X }";
 
 /// Checks the verdict on each message, whose text stands in pieces. A valid message ends with Yes, each other with No.
 fn verdicts(
@@ -122,7 +122,10 @@ fn tells_faults_of_the_header(rt: HostRuntime) -> Result<(), Fail> {
             &["0100002e80000118", IDS, HOST, REALM],
             "fault 5015 at 1 length -\n",
         ),
-        (&["0100002c80000118", "0000000000000001000000"], "truncated\n"),
+        (
+            &["0100002c80000118", "0000000000000001000000"],
+            "truncated\n",
+        ),
         (
             &["0100002c80000118", IDS, HOST, "0000012840000009620000"],
             "truncated\n",
@@ -155,8 +158,10 @@ fn tells_a_message_of_no_command(rt: HostRuntime) -> Result<(), Fail> {
     let unknown = Unknown::Kept;
     let empty: [(&[&str], &str); 1] = [(&[REQUEST], "fault 3001 at 5 command -\n")];
     verdicts(&rt, unknown, Levels::Any, "", empty.as_slice())?;
-    let answer: [(&[&str], &str); 1] =
-        [(&["010000142000012e", IDS], "fault 3001 at 5 command -\n")];
+    let answer: [(&[&str], &str); 1] = [(
+        &["010000142000012e", IDS],
+        "fault 3001 at 5 command -\n",
+    )];
     verdicts(&rt, unknown, Levels::Any, NUMBER, answer.as_slice())?;
     let rows: [(&[&str], &str); 2] = [
         (
@@ -286,8 +291,7 @@ fn refuses_unknown_avps_by_the_policy(rt: HostRuntime) -> Result<(), Fail> {
 fn takes_data_by_the_format_of_the_dictionary(rt: HostRuntime) -> Result<(), Fail> {
     let group = "<Failed-AVP> ::= < AVP Header: 279 >\n  1* { AVP }\n";
     let (front, behind) = base_text().split_once(group).ok_or("no such group")?;
-    let mut dictionary =
-        String::from_str(rt.alloc(), "%avp Failed-AVP 279 OctetString any\n")?;
+    let mut dictionary = String::from_str(rt.alloc(), "%avp Failed-AVP 279 OctetString any\n")?;
     dictionary.push_str(front)?;
     dictionary.push_str(behind)?;
     let rows: [(&[&str], &str); 1] = [(
@@ -360,7 +364,9 @@ fn tells_each_length_of_an_avp(rt: HostRuntime) -> Result<(), Fail> {
             } else {
                 Exit::No
             };
-            let text = format!(in alloc; "0100002c80000118{IDS}00000108{flags:02x}{length:06x}612e6200{REALM}")?;
+            let text = format!(in alloc;
+                "0100002c80000118{IDS}00000108{flags:02x}{length:06x}612e6200{REALM}"
+            )?;
             check(
                 &rt,
                 Command::Check {
@@ -425,8 +431,7 @@ fn goes_down_a_hundred_thousand_levels(rt: HostRuntime) -> Result<(), Fail> {
         NODES,
         valid.as_slice(),
     )?;
-    let deep: [(&[&str], &str); 1] =
-        [(&[text.as_str()], "fault 5012 at 800012 depth Node\n")];
+    let deep: [(&[&str], &str); 1] = [(&[text.as_str()], "fault 5012 at 800012 depth Node\n")];
     verdicts(
         &rt,
         Unknown::Kept,

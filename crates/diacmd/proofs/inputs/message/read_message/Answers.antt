@@ -1,8 +1,7 @@
 use Rattle.std.proofs.Common.{rules, refl}
 use Rattle.std.specs.Prelude.{IsOk}
 use Rattle.hex.specs.Hex.{decode_of}
-use Rattle.diacmd.specs.Texts.{IsNoMessageText, digits_of, not_hexadecimal}
-use Rattle.diacmd.specs.Refusals.{TellsOf}
+use Rattle.diacmd.specs.Texts.{digits_of, not_hexadecimal}
 use Rattle.diacmd.proofs.inputs.message.read_message.Goals as goal
 
 pub returns-in-Err-clause-told : goal.returns-in-Err-clause-told
