@@ -38,7 +38,8 @@ fn push_range(ranges: &mut Vec<(u32, u32)>, low: u32, high: u32) -> Result<(), A
     requires later { All (λ r. r.0 ≤ low) ranges.old.items }
     ensures apart { OnOk result (AreApart ranges.new.items) }
     ensures later { OnOk result (All (λ r. r.0 ≤ low) ranges.new.items) }
-    ensures both { OnOk result ((n : ℕ) → list_any (covers n) ranges.new.items ≡ (list_any (covers n) ranges.old.items || covers n (low, high))) }
+    ensures both { OnOk result ((n : ℕ) → list_any (covers n) ranges.new.items
+        ≡ (list_any (covers n) ranges.old.items || covers n (low, high))) }
 {
     match ranges.pop() {
         Some((first, last)) if low <= last.saturating_add(1) => {
