@@ -9,6 +9,7 @@ use std::process::Abort;
 use std::test::Fail;
 
 mod checks;
+mod depths;
 mod dictionaries;
 mod listings;
 mod messages;

@@ -47,7 +47,7 @@ pub fn read_dictionary(alloc: Global, number: u8, input: &Input) -> Result<Index
     }
 }
 
-/// The book with its look-ups. It is a dictionary as every book is.
+/// The book with its look-ups. That it is a dictionary is what `entries` says of every book.
 fn indexed(alloc: Global, book: &PlainBook) -> Result<IndexedBook, Refused>
     ensures ok { IfOk result (λ indexed. (⟦<IndexedBook as Book>⟧.meaning indexed ≡ ⟦<PlainBook as Book>⟧.meaning book.now) × IsDictionary (⟦<IndexedBook as Book>⟧.meaning indexed)) }
     ensures no_memory { IfErr result (λ refused. refused ≡ Refused.NoMemory) }
@@ -75,6 +75,7 @@ fn tell_fault(number: u8, fault: CcfFault) -> Refused
     }
 }
 
+/// Why the definitions name no dictionary, with copies of the names.
 fn wrong_of(
     alloc: Global,
     kind: DictKind,
