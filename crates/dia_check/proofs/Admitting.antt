@@ -1,6 +1,6 @@
 -- What is wrong with an AVP by its key and flags, and by its data.
-use Rattle.std.proofs.Common.{◌≡◌, ◌≢◌, ℕ, zero, suc, ◌+◌, ◌<◌, ◌≤◌, Bool, true, false, List, [], ◌∷◌, ◌++◌, length, map, take, Option, Some, None, refl, sym, ap, subst, ◌∙◌, arith, inl, inr, ⊎_elim}
-use Rattle.std.specs.Prelude.{slice_get, position, option_and_then, MatchOption, IfSome, IsSome, is_some, ◌⊎◌, ◌↔◌}
+use Rattle.std.proofs.Common.{◌≡◌, ℕ, zero, suc, ◌<◌, ◌≤◌, true, false, List, [], ◌∷◌, length, take, Option, Some, None, refl, sym, ap, subst, ◌∙◌, arith, inl, inr}
+use Rattle.std.specs.Prelude.{slice_get, option_and_then, MatchOption, IfSome, IsSome, is_some, ◌⊎◌, ◌↔◌}
 use Rattle.std.specs.List.{filter_map, cons_option}
 use Rattle.std.specs.Option.{option_map}
 use Rattle.std.proofs.lemmas.Option.{none-some, same_Some, slice_get_within, MatchOption-at_some, MatchOption-at_none}
@@ -74,7 +74,8 @@ module _ (d : Dictionary) (u : Unknown) (key : Key) (flags : ℕ) where
       let (e, at, here) = entry_here d key i is in
       subst (λ (o : Option DictEntry). MatchOption o (IsAccepted u flags) (λ x. MHolds x.rule flags)) (sym here) (subst (λ (r : MRule). MHolds r flags) (rule_of_entry i rule e at h) holds)
 
-  pub known_wrong : (i : ℕ) (rule : MRule) → Some i ≡ entry_of d key → IfSome (slice_get d.entries i) (λ x. rule ≡ x.rule) → ¬ MHolds rule flags → IsWrongFlags d u key flags (record { reason = reason.MBit; subject = Avp key })
+  pub known_wrong : (i : ℕ) (rule : MRule) → Some i ≡ entry_of d key → IfSome (slice_get d.entries i) (λ x. rule ≡ x.rule) → ¬ MHolds rule flags
+      → IsWrongFlags d u key flags (record { reason = reason.MBit; subject = Avp key })
   known_wrong i rule is h bad =
       let (e, at, here) = entry_here d key i is in (
         refl,
@@ -86,8 +87,11 @@ module _ (d : Dictionary) (u : Unknown) (key : Key) (flags : ℕ) where
   unknown_flags is h = subst (λ (o : Option DictEntry). MatchOption o (IsAccepted u flags) (λ x. MHolds x.rule flags)) (sym (not_known d key is)) h
 
   pub unknown_wrong : None ≡ entry_of d key → ¬ IsAccepted u flags → IsWrongFlags d u key flags (record { reason = reason.Unknown; subject = Avp key })
-  unknown_wrong is bad =
-      (refl, subst (λ (o : Option DictEntry). MatchOption o ((¬ IsAccepted u flags) × (reason.Unknown ≡ reason.Unknown)) (λ x. (¬ MHolds x.rule flags) × (reason.Unknown ≡ reason.MBit))) (sym (not_known d key is)) (bad, refl))
+  unknown_wrong is bad = (
+    refl,
+    subst (λ (o : Option DictEntry). MatchOption o ((¬ IsAccepted u flags) × (reason.Unknown ≡ reason.Unknown)) (λ x. (¬ MHolds x.rule flags) × (reason.Unknown ≡ reason.MBit)))
+        (sym (not_known d key is)) (bad, refl),
+  )
 
   -- ---- refused and admitted
 
@@ -113,9 +117,11 @@ module _ (d : Dictionary) (u : Unknown) (key : Key) (flags : ℕ) where
         after_m_bit e some r s (m_bit x some' bad) = omega arith
         after_m_bit e some r s (misplaced q t m) = omega (arith, late q t m)
 
-        by : (o : Option DictEntry) → known d key ≡ o → MatchOption o ((¬ IsAccepted u flags) × (wrong.reason ≡ reason.Unknown)) (λ e. (¬ MHolds e.rule flags) × (wrong.reason ≡ reason.MBit)) → IsFirstRefused d u rules keys key flags wrong
+        by : (o : Option DictEntry) → known d key ≡ o → MatchOption o ((¬ IsAccepted u flags) × (wrong.reason ≡ reason.Unknown))
+            (λ e. (¬ MHolds e.rule flags) × (wrong.reason ≡ reason.MBit)) → IsFirstRefused d u rules keys key flags wrong
         by None none (bad, e) = subst (IsFirstRefused d u rules keys key flags) (sym (is_wrong reason.Unknown e)) (record { refused = unknown none bad; none_sooner = λ r s x. after_unknown r s x })
-        by (Some x) some (bad, e) = subst (IsFirstRefused d u rules keys key flags) (sym (is_wrong reason.MBit e)) (record { refused = m_bit x some bad; none_sooner = λ r s y. after_m_bit x some r s y })
+        by (Some x) some (bad, e) = subst (IsFirstRefused d u rules keys key flags) (sym (is_wrong reason.MBit e))
+            (record { refused = m_bit x some bad; none_sooner = λ r s y. after_m_bit x some r s y })
 
     pub refused_by_place : (wrong : Wrong) → HasFlags d u key flags → IsFirstMisplaced rules keys key wrong → IsFirstRefused d u rules keys key flags wrong
     refused_by_place wrong has first = record {
@@ -149,7 +155,8 @@ module _ (d : Dictionary) (sound : IsDictionary d) (most : Levels) (depth i : �
   pub group_definition : (n : ℕ) → Some n ≡ group_of d i → (g : PlainDefinition) × (e.group ≡ Some g) × (slice_get (definitions d) n ≡ Some g)
   group_definition n is = by e.group refl (is ∙ group_of_entry d i e at)
     where
-      by : (o : Option PlainDefinition) → e.group ≡ o → Some n ≡ option_map (λ _. length (filter_map (λ y. y.group) (take i d.entries))) o → (g : PlainDefinition) × (e.group ≡ Some g) × (slice_get (definitions d) n ≡ Some g)
+      by : (o : Option PlainDefinition) → e.group ≡ o → Some n ≡ option_map (λ _. length (filter_map (λ y. y.group) (take i d.entries))) o
+          → (g : PlainDefinition) × (e.group ≡ Some g) × (slice_get (definitions d) n ≡ Some g)
       by None none h = absurd (none-some n (sym h))
       by (Some g) some h =
           let number : length (filter_map (λ (y : DictEntry). y.group) (take i d.entries)) ≡ n = sym (same_Some n (length (filter_map (λ (y : DictEntry). y.group) (take i d.entries))) h) in
@@ -169,7 +176,8 @@ module _ (d : Dictionary) (sound : IsDictionary d) (most : Levels) (depth i : �
   pub leaf_data : IsLeaf e.format bytes ⊎ (e.format ≡ Grouped) → None ≡ group_of d i → IsFineData d most depth e bytes None
   leaf_data leaf none = record {
     leaf = leaf;
-    opens = λ is. let some : is_some e.group ≡ true = grouped.0 is in let other : is_some e.group ≡ false = ap (λ (o : Option PlainDefinition). is_some o) (no_group none) in absurd (let x : true ≡ false = sym some ∙ other in cc);
+    opens = λ is. let some : is_some e.group ≡ true = grouped.0 is in
+        let other : is_some e.group ≡ false = ap (λ (o : Option PlainDefinition). is_some o) (no_group none) in absurd (let x : true ≡ false = sym some ∙ other in cc);
     definition = no_group none;
   }
 
@@ -182,11 +190,13 @@ module _ (d : Dictionary) (sound : IsDictionary d) (most : Levels) (depth i : �
 
 -- ---- the innermost level and its definition
 
-pub def_within : (d : Dictionary) (o : OpenLevels) (outer : List SoFar) (level : SoFar) (kept : OpenLevel) → AreOpen (definitions d) o outer level → kept ≡ o.innermost → kept.def < length (definitions d)
+pub def_within : (d : Dictionary) (o : OpenLevels) (outer : List SoFar) (level : SoFar) (kept : OpenLevel) → AreOpen (definitions d) o outer level → kept ≡ o.innermost
+    → kept.def < length (definitions d)
 def_within d o outer level kept now same =
     subst (λ (k : OpenLevel). k.def < length (definitions d)) (sym same) (slice_get_within (definitions d) o.innermost.def now.innermost.definition now.innermost.is_definition)
 
-pub rules_here : (d : Dictionary) (o : OpenLevels) (outer : List SoFar) (level : SoFar) (kept : OpenLevel) (def : PlainDefinition) (rules : List DRule) → AreOpen (definitions d) o outer level → kept ≡ o.innermost
+pub rules_here : (d : Dictionary) (o : OpenLevels) (outer : List SoFar) (level : SoFar) (kept : OpenLevel) (def : PlainDefinition) (rules : List DRule)
+    → AreOpen (definitions d) o outer level → kept ≡ o.innermost
     → slice_get (definitions d) kept.def ≡ Some def → rules ≡ def.rules → level.rules ≡ rules
 rules_here d o outer level kept def rules now same at is =
     let here : slice_get (definitions d) o.innermost.def ≡ Some def = ap (λ (k : OpenLevel). slice_get (definitions d) k.def) (sym same) ∙ at in
@@ -205,8 +215,11 @@ module _ (d : Dictionary) (u : Unknown) (most : Levels) (rules : List DRule) (ke
       → ((e : DictEntry) → slice_get d.entries i ≡ Some e → IsFineData d most depth e v.bytes group) → IsFineAvp d u most deep rules keys v group
   fine_known depth deep i group level admits is says =
       let (e, at, here) = entry_here d k i is in
-      subst (λ (x : Key). IsAdmitted d u rules keys x v.flags × MatchOption (known d x) (group ≡ None) (λ y. IsFineData d most deep y v.bytes group)) same
-      (admits, subst (λ (o : Option DictEntry). MatchOption o (group ≡ None) (λ y. IsFineData d most deep y v.bytes group)) (sym here) (subst (λ (n : ℕ). IsFineData d most n e v.bytes group) level (says e at)))
+      subst (λ (x : Key). IsAdmitted d u rules keys x v.flags × MatchOption (known d x) (group ≡ None) (λ y. IsFineData d most deep y v.bytes group)) same (
+        admits,
+        subst (λ (o : Option DictEntry). MatchOption o (group ≡ None) (λ y. IsFineData d most deep y v.bytes group)) (sym here)
+            (subst (λ (n : ℕ). IsFineData d most n e v.bytes group) level (says e at)),
+      )
 
   pub fine_unknown : (deep : ℕ) → IsAdmitted d u rules keys k v.flags → None ≡ entry_of d k → IsFineAvp d u most deep rules keys v None
   fine_unknown deep admits is =

@@ -1,19 +1,16 @@
-use Rattle.std.proofs.Common.{◌≡◌, ◌≢◌, ℕ, zero, suc, ◌+◌, ◌<◌, ◌≤◌, Bool, true, false, List, [], ◌∷◌, length, take, Option, Some, None, refl, sym, ap, subst, ◌∙◌, arith, inl, inr, ⊎_elim}
-use Rattle.std.specs.Prelude.{◌⊎◌, slice_get, slice_index, Result, Ok, Err, MatchResult}
+-- What a check answers, from the walk that it makes or from the fault of the header; and that a valid message is found to be one.
+use Rattle.std.proofs.Common.{◌≡◌, ◌≢◌, ℕ, ◌≤◌, true, false, List, length, take, Option, Some, None, refl, sym, ap, subst, ◌∙◌, arith, inl, inr, ⊎_elim}
+use Rattle.std.specs.Prelude.{◌⊎◌, slice_get, Result, Ok, Err, MatchResult}
 use Rattle.std.proofs.lemmas.Bool.{both_ways}
 use Rattle.std.proofs.lemmas.Option.{same_Some, none-some}
 use Rattle.dia_wire.specs.declared.Header.{Header}
-use Rattle.dia_wire.specs.Wire.{PlainAvp}
 use Rattle.dia_wire.proofs.OneHeader.{one_header}
-use Rattle.dia_dict.specs.declared.DRule.{DRule}
 use Rattle.dia_dict.specs.Dictionary.{Dictionary, IsDictionary, PlainDefinition, definitions, selected, has_command}
 use Rattle.dia_check.specs.declared.policy.Unknown.{Unknown}
 use Rattle.dia_check.specs.declared.policy.Levels.{Levels}
 use Rattle.dia_check.specs.declared.fault.Reason.{Reason}
 use Rattle.dia_check.specs.declared.fault.Reason.TheVariants as reason
 use Rattle.dia_check.specs.declared.fault.Subject.{Subject}
-use Rattle.dia_check.specs.declared.fault.Subject.TheVariants.{Nothing}
-use Rattle.dia_check.specs.declared.fault.Fault.{Fault}
 use Rattle.dia_check.specs.declared.fault.Selected.{Selected}
 use Rattle.dia_check.specs.declared.fault.Refusal.{Refusal}
 use Rattle.dia_check.specs.declared.fault.Refusal.TheVariants as refusal
@@ -22,7 +19,8 @@ use Rattle.dia_check.specs.Faults.{Row, At, Spot, spot, row_of, code_of, IsBefor
 use Rattle.dia_check.specs.Faults as faults
 use Rattle.dia_check.specs.Walks.{Found, Walks, whole, fault_of}
 use Rattle.dia_check.proofs.Found.{walks_stands}
-use Rattle.dia_check.proofs.First.{walks_first, selected_command}
+use Rattle.dia_check.proofs.Uniqueness.{selected_command}
+use Rattle.dia_check.proofs.First.{walks_first}
 use Rattle.dia_check.proofs.Messages.{walk_valid}
 use Rattle.dia_check.proofs.OneAnswer.{one_answer}
 use Rattle.dia_check.proofs.Quiet.{some_definition}
@@ -73,7 +71,12 @@ module _ (d : Dictionary) (sound : IsDictionary d) (u : Unknown) (most : Levels)
   of_header h is other r t (faults.bits k is' bad) = inl (refl, subst (λ (x : Header). (HasR x.flags × HasE x.flags) ⊎ (HasT x.flags × (¬ HasR x.flags))) (same_header k h is' is) bad)
   of_header h is other r t (faults.command k is' none) = inr (inl (refl, subst (λ (x : Header). has_command d x.code (class_of x.flags) ≡ false) (same_header k h is' is) none))
   of_header h is other r t (faults.application k is' some none) =
-      inr (inr (inl (refl, subst (λ (x : Header). has_command d x.code (class_of x.flags) ≡ true) (same_header k h is' is) some, subst (λ (x : Header). selected d x.code (class_of x.flags) x.app ≡ None) (same_header k h is' is) none)))
+      inr (inr (inl (
+        refl,
+        subst (λ (x : Header). has_command d x.code (class_of x.flags) ≡ true) (same_header k h is' is) some,
+        subst
+            (λ (x : Header). selected d x.code (class_of x.flags) x.app ≡ None) (same_header k h is' is) none,
+      )))
   of_header h is other r t (faults.proxiable k c command is' select is_command bad) =
       inr (inr (inr (inl (refl, (c, subst (λ (x : Header). selected d x.code (class_of x.flags) x.app ≡ Some c) (same_header k h is' is) select)))))
   of_header h is other r t (faults.avp_length level earlier at looks from lt before none) = inr (inr (inr (inr looks.good)))
@@ -108,7 +111,8 @@ module _ (d : Dictionary) (sound : IsDictionary d) (u : Unknown) (most : Levels)
   no_bad_bits : (h : Header) → GoodBits h → ¬ ((HasR h.flags × HasE h.flags) ⊎ (HasT h.flags × (¬ HasR h.flags)))
   no_bad_bits h rules bad = ⊎_elim (λ b. rules.0 b.0 b.1) (λ b. b.1 (rules.1 b.0)) bad
 
-  pub proxiable_first : (h : Header) (c : ℕ) (command : PlainDefinition) → HasHeader bytes h → GoodBits h → selected d h.code (class_of h.flags) h.app ≡ Some c → slice_get (definitions d) c ≡ Some command → ¬ AllowsP command.head h.flags
+  pub proxiable_first : (h : Header) (c : ℕ) (command : PlainDefinition) → HasHeader bytes h → GoodBits h → selected d h.code (class_of h.flags) h.app ≡ Some c
+      → slice_get (definitions d) c ≡ Some command → ¬ AllowsP command.head h.flags
       → IsFirst d u most bytes (simple 4 reason.Proxiable)
   proxiable_first h c command is rules select is_command bad = record {
     row = At (row_of reason.Proxiable);
@@ -146,7 +150,8 @@ module _ (d : Dictionary) (sound : IsDictionary d) (u : Unknown) (most : Levels)
       by other r (inr (inr (inr (inl x)))) = absurd (no_select x.1.0 some_definition x.1.1)
       by other r (inr (inr (inr (inr good)))) = let (k, other_command, select', is_command', allows) = (is_good h is good).1 in absurd (no_select k other_command select')
 
-  pub application_first : (h : Header) → HasHeader bytes h → GoodBits h → has_command d h.code (class_of h.flags) ≡ true → selected d h.code (class_of h.flags) h.app ≡ None → IsFirst d u most bytes (simple 8 reason.Application)
+  pub application_first : (h : Header) → HasHeader bytes h → GoodBits h → has_command d h.code (class_of h.flags) ≡ true → selected d h.code (class_of h.flags) h.app ≡ None
+      → IsFirst d u most bytes (simple 8 reason.Application)
   application_first h is rules some none = record {
     row = At (row_of reason.Application);
     stands = faults.application h is some none;
@@ -184,7 +189,8 @@ module _ (d : Dictionary) (sound : IsDictionary d) (u : Unknown) (most : Levels)
       let same : kind a ≡ 0 = ap kind (ok_is a c (λ one. omega (arith, one, two)) answer valid) in
       omega (arith, same, two)
 
-  pub valid_answer : (a : Result Selected Refusal) (c : ℕ) → IsAnswer d u most bytes a → IsValidOf d u most bytes c → MatchResult a (λ (found : Selected). found.def ≡ c) (λ (e : Refusal). e ≡ refusal.NoMemory)
+  pub valid_answer : (a : Result Selected Refusal) (c : ℕ) → IsAnswer d u most bytes a → IsValidOf d u most bytes c
+      → MatchResult a (λ (found : Selected). found.def ≡ c) (λ (e : Refusal). e ≡ refusal.NoMemory)
   valid_answer (Ok found) c answer valid = ap number_of (ok_is (Ok found) c (λ p. omega (arith, p)) answer valid)
   valid_answer (Err refusal.NoMemory) c answer valid = refl
   valid_answer (Err (refusal.Fault f)) c answer valid = absurd (refused (Err (refusal.Fault f)) c refl answer valid)

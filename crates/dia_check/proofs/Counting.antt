@@ -1,4 +1,5 @@
-use Rattle.std.proofs.Common.{◌≡◌, ℕ, zero, suc, ◌+◌, ◌<◌, ◌≤◌, Bool, true, false, cond, List, [], ◌∷◌, ◌++◌, length, take, drop, sum, filter, Option, Some, None, refl, sym, ap, subst, ◌∙◌, arith, inl, inr}
+-- Where each rule is met as often as it says, and what is behind the runs may stand there, the keys are placed; and what one key more does to the counts.
+use Rattle.std.proofs.Common.{◌≡◌, ℕ, zero, suc, ◌+◌, ◌<◌, ◌≤◌, Bool, true, false, cond, List, [], ◌∷◌, ◌++◌, length, drop, sum, filter, Some, refl, sym, ap, subst, ◌∙◌, arith}
 use Rattle.std.specs.Prelude.{slice_get, slice_index, not, count_by, if◌then◌else◌, ◌&&◌, ◌||◌}
 use Rattle.std.specs.List.{prefix_len, list_all, list_any, AllByRecursion}
 use Rattle.std.proofs.Math.Seq.{drop-length}
@@ -83,7 +84,8 @@ placed rules keys are each loose = record {
       (λ j rule at. let here = fixed_place rules j rule are at in subst (InBounds rule) (met_fixed rules keys j rule here.1) (each j rule here.0)));
   loose = loose;
   counts = all_by_places (λ rule. InBounds rule (counted rules rule (drop (loose_start rules keys) keys))) (loose_rules rules)
-      (λ i rule at. let here = at_filter (λ r. not (is_fixed r)) rules i rule at in subst (InBounds rule) (met_loose rules keys here.0 rule (not_true (is_fixed rule) here.2)) (each here.0 rule here.1));
+      (λ i rule at. let here = at_filter (λ r. not (is_fixed r)) rules i rule at in
+      subst (InBounds rule) (met_loose rules keys here.0 rule (not_true (is_fixed rule) here.2)) (each here.0 rule here.1));
 }
 
 -- ---- one key more

@@ -1,18 +1,19 @@
-use Rattle.std.proofs.Common.{◌≡◌, ◌≢◌, ℕ, zero, suc, ◌+◌, ◌<◌, ◌≤◌, Bool, true, false, cond, List, [], ◌∷◌, ◌++◌, length, map, drop, sum, Option, Some, None, refl, sym, ap, subst, ◌∙◌, arith, inl, inr}
+-- Keys of which nothing is wrong are placed.
+use Rattle.std.proofs.Common.{◌≡◌, ◌≢◌, ℕ, zero, suc, ◌+◌, ◌≤◌, Bool, true, false, cond, List, [], ◌∷◌, ◌++◌, length, drop, sum, Option, Some, None, refl, ap, ◌∙◌, arith, inl, inr}
 use Rattle.std.proofs.lemmas.Bool.{ltb-false, ltb-true}
 use Rattle.std.proofs.lemmas.List.Sums.{count_by-le-length}
-use Rattle.std.specs.Prelude.{nat_lt, slice_get, slice_index, not, count_by, if◌then◌else◌, ◌&&◌, ◌||◌, ◌⊎◌, IsTrue, IfSome}
-use Rattle.std.specs.List.{prefix_len, list_any, AllByRecursion}
+use Rattle.std.specs.Prelude.{nat_lt, slice_get, slice_index, count_by, if◌then◌else◌, ◌⊎◌, IfSome}
+use Rattle.std.specs.List.{AllByRecursion}
 use Rattle.std.proofs.Math.Seq.{drop-length}
-use Rattle.std.proofs.lemmas.List.{drop-append-le, length-append}
+use Rattle.std.proofs.lemmas.List.{drop-append-le}
 use Rattle.dia_wire.specs.declared.Key.{Key}
 use Rattle.dia_dict.specs.declared.DRule.{DRule}
-use Rattle.dia_dict.specs.Dictionary.{AreRules, is_fixed, lists_key}
-use Rattle.dia_check.specs.Valid.{InBounds, Placed, MayBeLoose, fixed_rules, loose_rules, counted, is_wildcard, is_listed, has_wildcard}
+use Rattle.dia_dict.specs.Dictionary.{AreRules, is_fixed}
+use Rattle.dia_check.specs.Valid.{Placed, MayBeLoose, fixed_rules}
 use Rattle.dia_check.specs.Faults.{runs, met, loose_start}
 use Rattle.dia_check.specs.OpenLevels.{IsAt}
-use Rattle.dia_check.proofs.Pushing.{is_of, NoneFrom, Reaches, one_more, at_start, same_runs, behind_all, longer_run, in_run}
-use Rattle.dia_check.proofs.Counting.{met_fixed, met_loose, met_more, met_longer, counts_key, placed, sum-runs, all_at, reached, length-runs, fixed_place}
+use Rattle.dia_check.proofs.Pushing.{is_of, NoneFrom, Reaches, one_more, same_runs, behind_all, in_run}
+use Rattle.dia_check.proofs.Counting.{met_fixed, met_more, met_longer, counts_key, placed, sum-runs, all_at, reached}
 
 -- ---- a key is of a rule from here on, or of none
 
@@ -20,7 +21,8 @@ later : (r : DRule) (rules : List DRule) (k : Key) → is_of r k ≡ false → (
 later r rules k other (inl (i, h)) = inl (suc i, (other, h))
 later r rules k other (inr h) = inr (other, h)
 
-first_or_later : (r : DRule) (rules : List DRule) (k : Key) (b : Bool) → is_of r k ≡ b → ((i : ℕ) × Reaches rules 0 i k) ⊎ NoneFrom rules 0 k → ((i : ℕ) × Reaches (r ∷ rules) 0 i k) ⊎ NoneFrom (r ∷ rules) 0 k
+first_or_later : (r : DRule) (rules : List DRule) (k : Key) (b : Bool) → is_of r k ≡ b → ((i : ℕ) × Reaches rules 0 i k) ⊎ NoneFrom rules 0 k
+    → ((i : ℕ) × Reaches (r ∷ rules) 0 i k) ⊎ NoneFrom (r ∷ rules) 0 k
 first_or_later r rules k true e h = inl (0, e)
 first_or_later r rules k false e h = later r rules k e h
 
@@ -108,21 +110,25 @@ counted_more rules keys k c passes stands = by (found_or_not (fixed_rules rules)
         record {
           run = i;
           at = inside;
-          few = λ j rule here. let up = grows_fixed rules keys k i c.run j rule c.at h in few_at rule.max (met rules keys j rule) (met rules (keys ++ k ∷ []) j rule) up.0 up.1 (c.few j rule here) (λ max is. passes j rule max here is);
+          few = λ j rule here. let up = grows_fixed rules keys k i c.run j rule c.at h in
+              few_at rule.max (met rules keys j rule) (met rules (keys ++ k ∷ []) j rule) up.0 up.1 (c.few j rule here) (λ max is. passes j rule max here is);
           loose = let none : drop (loose_start rules (keys ++ k ∷ [])) (keys ++ k ∷ []) ≡ [] = ap (λ (n : ℕ). drop n (keys ++ k ∷ [])) all ∙ drop-length (keys ++ k ∷ []) in rw none tt;
         }
     by (inr none) =
         let same = same_runs (fixed_rules rules) c.run keys k c.at none in
         let start : loose_start rules (keys ++ k ∷ []) ≡ loose_start rules keys = ap (λ (ns : List ℕ). sum ns) same in
         let most = sum-runs (fixed_rules rules) keys in
-        let rest : drop (loose_start rules (keys ++ k ∷ [])) (keys ++ k ∷ []) ≡ drop (loose_start rules keys) keys ++ k ∷ [] = ap (λ (n : ℕ). drop n (keys ++ k ∷ [])) start ∙ drop-append-le (loose_start rules keys) keys (k ∷ []) most in
+        let rest : drop (loose_start rules (keys ++ k ∷ [])) (keys ++ k ∷ []) ≡ drop (loose_start rules keys) keys ++ k ∷ [] = ap (λ (n : ℕ). drop n (keys ++ k ∷ [])) start
+        ∙ drop-append-le (loose_start rules keys) keys (k ∷ []) most in
         record {
           run = length (fixed_rules rules);
           at = behind_all (fixed_rules rules) c.run keys k c.at none;
-          few = λ j rule here. let up = grows_loose rules keys k j c.run rule c.at none in few_at rule.max (met rules keys j rule) (met rules (keys ++ k ∷ []) j rule) up.0 up.1 (c.few j rule here) (λ max is. passes j rule max here is);
+          few = λ j rule here. let up = grows_loose rules keys k j c.run rule c.at none in
+              few_at rule.max (met rules keys j rule) (met rules (keys ++ k ∷ []) j rule) up.0 up.1 (c.few j rule here) (λ max is. passes j rule max here is);
           loose = rw rest (all_snoc (MayBeLoose rules) (drop (loose_start rules keys) keys) k c.loose (stands (omega (arith, start, most))));
         }
 
 -- all the keys, where no rule is met too seldom
-pub counted_placed : (rules : List DRule) (keys : List Key) → AreRules rules → Counted rules keys → ((i : ℕ) (rule : DRule) → slice_get rules i ≡ Some rule → rule.min ≤ met rules keys i rule) → Placed rules keys
+pub counted_placed : (rules : List DRule) (keys : List Key) → AreRules rules → Counted rules keys
+    → ((i : ℕ) (rule : DRule) → slice_get rules i ≡ Some rule → rule.min ≤ met rules keys i rule) → Placed rules keys
 counted_placed rules keys are c each = placed rules keys are (λ i rule here. (each i rule here, c.few i rule here)) c.loose

@@ -1,5 +1,6 @@
-use Rattle.std.proofs.Common.{◌≡◌, ◌≢◌, ℕ, zero, suc, ◌+◌, ◌-◌, ◌<◌, ◌≤◌, Bool, true, false, List, [], ◌∷◌, ◌++◌, length, map, take, drop, get_or, Option, Some, None, refl, sym, ap, subst, ◌∙◌, arith, inl, inr, ⊎_elim, codes}
-use Rattle.std.specs.Prelude.{nat_lt, ◌⊎◌, All, Any, IfSome, slice_index}
+-- Data that is not other than its format says is as it says.
+use Rattle.std.proofs.Common.{◌≡◌, ℕ, ◌+◌, ◌≤◌, Bool, true, false, List, [], ◌∷◌, length, map, take, drop, get_or, Option, Some, None, refl, sym, ap, ◌∙◌, arith, inl, inr, ⊎_elim, codes}
+use Rattle.std.specs.Prelude.{nat_lt, ◌⊎◌, All, Any}
 use Rattle.std.specs.List.{list_any}
 use Rattle.std.specs.Str.{IsUtf8, is_utf8}
 use Rattle.std.specs.Char.{to_ascii_lowercase}
@@ -23,7 +24,8 @@ le_stable n m h = by (nat_lt m n) refl
 
 address_stable : (bytes : List ℕ) → ¬ ¬ IsAddress bytes → IsAddress bytes
 address_stable bytes h =
-    let long : 2 ≤ length bytes = le_stable 2 (length bytes) (λ short. h (λ a. let e : length bytes ≡ length a.family + length a.rest = ap length a.parts ∙ length-append a.family a.rest in let w = a.width in short (omega (arith, e, w)))) in
+    let long : 2 ≤ length bytes = le_stable 2 (length bytes) (λ short. h (λ a. let e : length bytes ≡ length a.family + length a.rest = ap length a.parts ∙ length-append a.family a.rest in
+    let w = a.width in short (omega (arith, e, w)))) in
     record {
       family = take 2 bytes;
       rest = drop 2 bytes;
@@ -73,11 +75,18 @@ names_or_not scheme bytes = by (one_list (map to_ascii_lowercase (take (length s
     size : (n : NamesScheme scheme bytes) → length n.front ≡ length scheme
     size n = sym (length-map n.front to_ascii_lowercase) ∙ ap length n.spelled ∙ length-map scheme to_ascii_lowercase
 
-    by : ((map to_ascii_lowercase (take (length scheme) bytes) ≡ map to_ascii_lowercase scheme) ⊎ (¬ (map to_ascii_lowercase (take (length scheme) bytes) ≡ map to_ascii_lowercase scheme))) → (b : Bool) → nat_lt (length scheme) (length bytes) ≡ b
+    by : ((map to_ascii_lowercase (take (length scheme) bytes) ≡ map to_ascii_lowercase scheme) ⊎ (¬ (map to_ascii_lowercase (take (length scheme) bytes) ≡ map to_ascii_lowercase scheme)))
+        → (b : Bool) → nat_lt (length scheme) (length bytes) ≡ b
         → NamesScheme scheme bytes ⊎ (¬ NamesScheme scheme bytes)
     by (inl e) true f =
         let lt = ltb-true (length scheme) (length bytes) f in
-        inl (record { front = take (length scheme) bytes; rest = drop (length scheme) bytes; parts = sym (take-append-drop (length scheme) bytes); spelled = e; more = omega (arith, lt, length-drop (length scheme) bytes) })
+        inl (record {
+          front = take (length scheme) bytes;
+          rest = drop (length scheme) bytes;
+          parts = sym (take-append-drop (length scheme) bytes);
+          spelled = e;
+          more = omega (arith, lt, length-drop (length scheme) bytes);
+        })
     by (inl e) false f =
         let le = ltb-false (length scheme) (length bytes) f in
         inr (λ n. let all : length bytes ≡ length n.front + length n.rest = ap length n.parts ∙ length-append n.front n.rest in let more = n.more in omega (arith, le, all, size n, more))
@@ -86,7 +95,8 @@ names_or_not scheme bytes = by (one_list (map to_ascii_lowercase (take (length s
 uri_stable : (bytes : List ℕ) → ¬ ¬ IsUri bytes → IsUri bytes
 uri_stable bytes h = (by (names_or_not (codes "aaa://") bytes) (names_or_not (codes "aaas://") bytes), graphic_stable bytes (λ other. h (λ u. other u.1)))
   where
-    by : (NamesScheme (codes "aaa://") bytes ⊎ (¬ NamesScheme (codes "aaa://") bytes)) → (NamesScheme (codes "aaas://") bytes ⊎ (¬ NamesScheme (codes "aaas://") bytes)) → NamesScheme (codes "aaa://") bytes ⊎ NamesScheme (codes "aaas://") bytes
+    by : (NamesScheme (codes "aaa://") bytes ⊎ (¬ NamesScheme (codes "aaa://") bytes)) → (NamesScheme (codes "aaas://") bytes ⊎ (¬ NamesScheme (codes "aaas://") bytes))
+        → NamesScheme (codes "aaa://") bytes ⊎ NamesScheme (codes "aaas://") bytes
     by (inl a) b = inl a
     by (inr a) (inl b) = inr b
     by (inr a) (inr b) = absurd (h (λ u. ⊎_elim a b u.0))
@@ -160,4 +170,5 @@ is_grouped f = inr refl
 
 -- a leaf of the format, or a level
 pub leaf_or_level : (f : PlainFormat) (bytes : List ℕ) → ¬ ¬ (IsLeaf f bytes ⊎ (f ≡ Grouped)) → IsLeaf f bytes ⊎ (f ≡ Grouped)
-leaf_or_level f bytes h = ⊎_elim (λ e. inr e) (λ zero_is. inl (leaf_stable f bytes (λ other. h (λ x. ⊎_elim other (λ e. let p : grouped f ≡ 1 = ap grouped e in omega (arith, p, zero_is)) x)))) (is_grouped f)
+leaf_or_level f bytes h = ⊎_elim (λ e. inr e) (λ zero_is. inl
+    (leaf_stable f bytes (λ other. h (λ x. ⊎_elim other (λ e. let p : grouped f ≡ 1 = ap grouped e in omega (arith, p, zero_is)) x)))) (is_grouped f)

@@ -1,19 +1,18 @@
-use Rattle.std.proofs.Common.{◌≡◌, ℕ, suc, ◌+◌, ◌-◌, ◌*◌, ◌/◌, ◌<◌, ◌≤◌, List, [], ◌∷◌, ◌++◌, length, take, drop, Option, Some, None, refl, sym, ap, subst, ◌∙◌, arith, append_assoc}
-use Rattle.std.specs.Prelude.{◌⊎◌, option_and_then}
+-- What a walk finds stands.
+use Rattle.std.proofs.Common.{◌≡◌, ℕ, ◌+◌, ◌-◌, ◌≤◌, List, [], ◌∷◌, ◌++◌, length, take, drop, Option, Some, None, refl, sym, ap, subst, ◌∙◌, arith, append_assoc}
 use Rattle.std.proofs.Math.Seq.{take-add}
 use Rattle.std.proofs.lemmas.List.{length-take, length-drop, length-append, take_all, take_at, drop_at, drop-drop, append-nil}
 use Rattle.std.proofs.lemmas.Option.{same_Some, none-some}
-use Rattle.dia_wire.specs.Wire.{PlainAvp, key_of, head_length, avp_length, padded_length, IsVendorField, Spells, SpellsAll, BeginsWith, BeginsWithNone}
-use Rattle.dia_wire.proofs.Spelling.{opened, rounded-le, at_least_8}
+use Rattle.dia_wire.specs.Wire.{PlainAvp, head_length, avp_length, padded_length, IsVendorField, Spells, SpellsAll, BeginsWith, BeginsWithNone}
+use Rattle.dia_wire.proofs.Spelling.{opened, rounded-le}
 use Rattle.dia_wire.proofs.OneHeader.{head_says}
-use Rattle.dia_dict.specs.Dictionary.{Dictionary, DictEntry, IsDictionary, PlainDefinition}
+use Rattle.dia_dict.specs.Dictionary.{Dictionary, IsDictionary, PlainDefinition}
 use Rattle.dia_check.proofs.Level.{opens}
 use Rattle.dia_check.specs.declared.policy.Unknown.{Unknown}
 use Rattle.dia_check.specs.declared.policy.Levels.{Levels}
-use Rattle.dia_check.specs.declared.fault.Reason.TheVariants as reason
 use Rattle.dia_check.specs.Levels.{Level, IsMember, IsOpen, MayOpen, between}
 use Rattle.dia_check.specs.Levels as levels
-use Rattle.dia_check.specs.Faults.{Stands, Looks, Meets, HasGoodHeader, avp_length as bad_length, avp as at_avp, missing_at_end}
+use Rattle.dia_check.specs.Faults.{Stands, Looks, HasGoodHeader, avp_length as bad_length, avp as at_avp, missing_at_end}
 use Rattle.dia_check.specs.Walks.{Found, Rest, behind, inside, whole, group_at, IsFine, Walks, ended, missing, broken, wrong, leaf, group, bad_group}
 
 -- ---- parts of bytes
@@ -25,16 +24,19 @@ pub between-split : (bytes : List ℕ) (a b c : ℕ) → a ≤ b → b ≤ c →
 between-split bytes a b c le le' =
     let e : c - a ≡ (b - a) + (c - b) = omega (arith, le, le') in
     let f : a + (b - a) ≡ b = omega (arith, le) in
-    ap (λ (n : ℕ). take n (drop a bytes)) e ∙ take-add (b - a) (c - b) (drop a bytes) ∙ ap (λ (t : List ℕ). take (b - a) (drop a bytes) ++ take (c - b) t) (drop-drop (b - a) a bytes ∙ ap (λ (n : ℕ). drop n bytes) f)
+    ap (λ (n : ℕ). take n (drop a bytes)) e ∙ take-add (b - a) (c - b) (drop a bytes)
+    ∙ ap (λ (t : List ℕ). take (b - a) (drop a bytes) ++ take (c - b) t) (drop-drop (b - a) a bytes ∙ ap (λ (n : ℕ). drop n bytes) f)
 
 -- the first part of what lies between, by its length, and what follows it
 pub first_part : (bytes x y : List ℕ) (a b c : ℕ) → a ≤ b → b ≤ c → c ≤ length bytes → between bytes a c ≡ x ++ y → length x ≡ b - a → between bytes a b ≡ x
 first_part bytes x y a b c le le' within is size =
-    sym (take_at (between bytes a b) (between bytes b c) (b - a) (length-between bytes a b le (omega (arith, le', within)))) ∙ ap (take (b - a)) (sym (between-split bytes a b c le le') ∙ is) ∙ take_at x y (b - a) size
+    sym (take_at (between bytes a b) (between bytes b c) (b - a) (length-between bytes a b le (omega (arith, le', within))))
+    ∙ ap (take (b - a)) (sym (between-split bytes a b c le le') ∙ is) ∙ take_at x y (b - a) size
 
 pub second_part : (bytes x y : List ℕ) (a b c : ℕ) → a ≤ b → b ≤ c → c ≤ length bytes → between bytes a c ≡ x ++ y → length x ≡ b - a → between bytes b c ≡ y
 second_part bytes x y a b c le le' within is size =
-    sym (drop_at (between bytes a b) (between bytes b c) (b - a) (length-between bytes a b le (omega (arith, le', within)))) ∙ ap (drop (b - a)) (sym (between-split bytes a b c le le') ∙ is) ∙ drop_at x y (b - a) size
+    sym (drop_at (between bytes a b) (between bytes b c) (b - a) (length-between bytes a b le (omega (arith, le', within))))
+    ∙ ap (drop (b - a)) (sym (between-split bytes a b c le le') ∙ is) ∙ drop_at x y (b - a) size
 
 pub nothing_between : (bytes : List ℕ) (a : ℕ) → between bytes a a ≡ []
 nothing_between bytes a = let e : a - a ≡ 0 = omega arith in ap (λ (n : ℕ). take n (drop a bytes)) e
@@ -88,7 +90,8 @@ module _ (d : Dictionary) (u : Unknown) (most : Levels) (bytes : List ℕ) (good
       record {
         open_level = l.open_level;
         from = omega (arith, l.from);
-        before = subst (SpellsAll (s.earlier ++ v ∷ [])) (ap (λ (t : List ℕ). between bytes s.level.start s.at ++ t) (sym first) ∙ sym (between-split bytes s.level.start s.at next l.from up)) (spells_more s.earlier v (between bytes s.level.start s.at) front l.before spells);
+        before = subst (SpellsAll (s.earlier ++ v ∷ [])) (ap (λ (t : List ℕ). between bytes s.level.start s.at ++ t) (sym first)
+            ∙ sym (between-split bytes s.level.start s.at next l.from up)) (spells_more s.earlier v (between bytes s.level.start s.at) front l.before spells);
         here = second_part bytes front rest s.at next s.level.end up to l.within is width;
         size = omega (arith, l.size, whole, o.front_length);
         within = l.within;
@@ -120,7 +123,8 @@ module _ (d : Dictionary) (u : Unknown) (most : Levels) (bytes : List ℕ) (good
   at_some : (P : Found → Type 0) (f : Option Found) (g h : Found) → f ≡ Some h → f ≡ Some g → P h → P g
   at_some P f g h is same p = subst P (same_Some h g (sym is ∙ same)) p
 
-  pub found_stands : (may : (s : Rest) (v : PlainAvp) (g : PlainDefinition) → IsFine d u most s v → group_at d v ≡ Some g → MayOpen most s.level.depth) (s : Rest) (f : Option Found) (g : Found) → Walks d u most s f → f ≡ Some g → Lies s
+  pub found_stands : (may : (s : Rest) (v : PlainAvp) (g : PlainDefinition) → IsFine d u most s v → group_at d v ≡ Some g
+      → MayOpen most s.level.depth) (s : Rest) (f : Option Found) (g : Found) → Walks d u most s f → f ≡ Some g → Lies s
       → Stands d u most bytes g.spot g.reason g.subject
   found_stands may s f g (ended done none is) same l = absurd (none-some g (sym is ∙ same))
   found_stands may s f g (missing i rule done first is) same l =

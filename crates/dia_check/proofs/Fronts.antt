@@ -1,21 +1,22 @@
-use Rattle.std.proofs.Common.{◌≡◌, ◌≢◌, ℕ, zero, suc, ◌+◌, ◌-◌, ◌<◌, ◌≤◌, Bool, true, false, cond, List, [], ◌∷◌, ◌++◌, length, take, drop, sum, filter, Option, Some, None, refl, sym, ap, subst, ◌∙◌, arith, inl, inr, ⊎_elim, append_assoc}
+-- Where the whole is placed, no key of it is missing another, nor not allowed, nor one too many.
+use Rattle.std.proofs.Common.{◌≡◌, ◌≢◌, ℕ, zero, suc, ◌+◌, ◌<◌, ◌≤◌, Bool, true, false, cond, List, [], ◌∷◌, ◌++◌, length, take, drop, sum, filter, Option, Some, refl, sym, ap, subst, ◌∙◌, arith, inl, inr, ⊎_elim}
 use Rattle.std.proofs.lemmas.Bool.{ltb-false, ltb-true, both_ways}
-use Rattle.std.specs.Prelude.{nat_lt, slice_get, slice_index, not, count_by, if◌then◌else◌, ◌&&◌, ◌||◌, ◌⊎◌, IsTrue, IfSome}
-use Rattle.std.specs.List.{prefix_len, list_any, list_all, AllByRecursion}
+use Rattle.std.specs.Prelude.{nat_lt, slice_get, slice_index, not, if◌then◌else◌, ◌||◌, ◌⊎◌, IsTrue, IfSome}
+use Rattle.std.specs.List.{prefix_len, list_any, AllByRecursion}
 use Rattle.std.proofs.Math.ListN.{drop_of_length-le}
 use Rattle.std.proofs.lemmas.List.{append-nil, drop-append-le, length-append, length-drop, drop-drop}
 use Rattle.std.proofs.lemmas.List.Elements.{filter-append}
 use Rattle.std.proofs.lemmas.List.Sums.{sum_by-append, prefix_len-le-length}
-use Rattle.std.proofs.lemmas.Option.{none-some, same_Some, slice_get_within}
+use Rattle.std.proofs.lemmas.Option.{none-some, same_Some}
 use Rattle.dia_wire.specs.declared.Key.{Key}
 use Rattle.dia_dict.specs.declared.DRule.{DRule}
 use Rattle.dia_dict.specs.Dictionary.{AreRules, is_fixed, lists_key}
 use Rattle.dia_dict.proofs.Members.{at_filter, at_append}
-use Rattle.dia_check.specs.Valid.{InBounds, Placed, MayBeLoose, fixed_rules, loose_rules, counted, is_wildcard, is_listed, has_wildcard}
+use Rattle.dia_check.specs.Valid.{InBounds, Placed, MayBeLoose, fixed_rules, loose_rules, counted, is_listed, has_wildcard}
 use Rattle.dia_check.specs.Faults.{runs, met, loose_start, run_end, IsFirstShort}
-use Rattle.dia_check.proofs.Greedy.{AllInBounds, AreDistinct, AreOthers, IsNewKey, runs_are_longest, sum-cons, is_of-key}
+use Rattle.dia_check.proofs.Greedy.{AllInBounds, AreDistinct, AreOthers, runs_are_longest, sum-cons, is_of-key}
 use Rattle.dia_check.proofs.Pushing.{is_of, stops_inside, goes_on, runs_step, none_left}
-use Rattle.dia_check.proofs.Counting.{met_fixed, met_loose, counts_key, sum-runs, fixed_place, all_by_places, filter_all, filter_none}
+use Rattle.dia_check.proofs.Counting.{met_fixed, met_loose, counts_key, fixed_place, all_by_places, filter_all, filter_none}
 
 -- ---- the longest runs of a front
 
@@ -47,7 +48,8 @@ cons_le : (n m : ℕ) (ns ms : List ℕ) (j : ℕ) → n ≤ m → ((i : ℕ) �
 cons_le n m ns ms zero le h = le
 cons_le n m ns ms (suc j) le h = h j
 
-front_at : (r : DRule) (rules : List DRule) (p q : List Key) (j : ℕ) → ((i : ℕ) → slice_index (runs rules (drop (prefix_len (is_of r) p) p)) i ≤ slice_index (runs rules (drop (prefix_len (is_of r) p) p ++ q)) i)
+front_at : (r : DRule) (rules : List DRule) (p q : List Key) (j : ℕ)
+    → ((i : ℕ) → slice_index (runs rules (drop (prefix_len (is_of r) p) p)) i ≤ slice_index (runs rules (drop (prefix_len (is_of r) p) p ++ q)) i)
     → (prefix_len (is_of r) p < length p) ⊎ (prefix_len (is_of r) p ≡ length p) → slice_index (runs (r ∷ rules) p) j ≤ slice_index (runs (r ∷ rules) (p ++ q)) j
 front_at r rules p q j ih (inl less) =
     let n = prefix_len (is_of r) p in
@@ -84,8 +86,11 @@ rest_at r rules p q (t, ih) (inl less) =
       behind_cons r rules (p ++ q) (drop n p ++ q) n (inside_runs r rules p q less) (drop-append-le n p q (omega (arith, less)))
           ∙ ih ∙ ap (λ (x : List Key). x ++ t) (sym (behind_cons r rules p (drop n p) n refl refl)),
     )
-rest_at r rules p q ih (inr all) =
-    (behind_runs (r ∷ rules) (p ++ q), ap (λ (x : List Key). x ++ behind_runs (r ∷ rules) (p ++ q)) (sym (behind_cons r rules p [] (length p) (all_runs r rules p all) (none_left p) ∙ nothing_behind rules)))
+rest_at r rules p q ih (inr all) = (
+  behind_runs (r ∷ rules) (p ++ q),
+  ap (λ (x : List Key). x ++ behind_runs (r ∷ rules) (p ++ q))
+      (sym (behind_cons r rules p [] (length p) (all_runs r rules p all) (none_left p) ∙ nothing_behind rules)),
+)
 
 pub front_rest : (rules : List DRule) (p q : List Key) → (t : List Key) × (behind_runs rules (p ++ q) ≡ behind_runs rules p ++ t)
 front_rest [] p q = (q, refl)
@@ -121,7 +126,8 @@ pub any_at : {X : Type 0} (p : X → Bool) (xs : List X) → list_any p xs ≡ t
 any_at p [] h = absurd (let e : false ≡ true = h in cc)
 any_at {X} p (x ∷ xs) h = by (p x) refl h (any_at p xs)
   where
-    by : (b : Bool) → p x ≡ b → (b || list_any p xs) ≡ true → (list_any p xs ≡ true → (i : ℕ) × (y : X) × (slice_get xs i ≡ Some y) × (p y ≡ true)) → (i : ℕ) × (y : X) × (slice_get (x ∷ xs) i ≡ Some y) × (p y ≡ true)
+    by : (b : Bool) → p x ≡ b → (b || list_any p xs) ≡ true → (list_any p xs ≡ true → (i : ℕ) × (y : X) × (slice_get xs i ≡ Some y) × (p y ≡ true))
+        → (i : ℕ) × (y : X) × (slice_get (x ∷ xs) i ≡ Some y) × (p y ≡ true)
     by true e g ih = (0, x, refl, e)
     by false e g ih = let r = ih g in (suc r.0, r.1, r.2, r.3)
 
@@ -179,7 +185,8 @@ into_fixed rules j rule are at fixed_one =
     let kept : fixed_rules rules ≡ fixed = ap (filter is_fixed) parts ∙ filter-append is_fixed fixed loose ∙ ap (λ (t : List DRule). t ++ filter is_fixed loose) (filter_all is_fixed fixed all)
     ∙ ap (λ (t : List DRule). fixed ++ t) (filter_none is_fixed loose none) ∙ append-nil fixed in
     ap (λ (t : List DRule). slice_get t j) kept ∙
-    ⊎_elim (λ h. h) (λ h. absurd (both_ways (list_any is_fixed loose) none (at_any is_fixed loose h.0 rule h.2 fixed_one))) (at_append fixed loose j rule (ap (λ (t : List DRule). slice_get t j) (sym parts) ∙ at))
+    ⊎_elim (λ h. h) (λ h. absurd (both_ways (list_any is_fixed loose) none (at_any is_fixed loose h.0 rule h.2 fixed_one)))
+    (at_append fixed loose j rule (ap (λ (t : List DRule). slice_get t j) (sym parts) ∙ at))
 
 in_filter : {X : Type 0} (P : X → Type 0) (q : X → Bool) (xs : List X) (i : ℕ) (x : X) → AllByRecursion P (filter q xs) → slice_get xs i ≡ Some x → q x ≡ true → P x
 in_filter P q [] i x all at h = absurd (none-some x at)
@@ -210,7 +217,8 @@ placed_says rules keys are p =
   where
     by : AllInBounds (fixed_rules rules) (runs (fixed_rules rules) keys) × (drop (sum (runs (fixed_rules rules) keys)) keys ≡ p.rest)
         → (i : ℕ) (rule : DRule) → slice_get rules i ≡ Some rule → (b : Bool) → is_fixed rule ≡ b → InBounds rule (met rules keys i rule)
-    by longest i rule at true e = subst (InBounds rule) (sym (met_fixed rules keys i rule e)) (bounds_at (fixed_rules rules) (runs (fixed_rules rules) keys) i rule longest.0 (into_fixed rules i rule are at e))
+    by longest i rule at true e = subst (InBounds rule) (sym (met_fixed rules keys i rule e))
+        (bounds_at (fixed_rules rules) (runs (fixed_rules rules) keys) i rule longest.0 (into_fixed rules i rule are at e))
     by longest i rule at false e = subst (InBounds rule) (sym (met_loose rules keys i rule e ∙ ap (counted rules rule) longest.1))
         (in_filter (λ (r : DRule). InBounds r (counted rules r p.rest)) (λ (r : DRule). not (is_fixed r)) rules i rule p.counts at (ap not e))
 
@@ -219,7 +227,8 @@ placed_says rules keys are p =
 met_le : (rules : List DRule) (p q : List Key) (i : ℕ) (rule : DRule) → met rules p i rule ≤ met rules (p ++ q) i rule
 met_le rules p q i rule = by (is_fixed rule)
   where
-    more : (t : List Key) → drop (loose_start rules (p ++ q)) (p ++ q) ≡ drop (loose_start rules p) p ++ t → counted rules rule (drop (loose_start rules p) p) ≤ counted rules rule (drop (loose_start rules (p ++ q)) (p ++ q))
+    more : (t : List Key) → drop (loose_start rules (p ++ q)) (p ++ q) ≡ drop (loose_start rules p) p ++ t
+        → counted rules rule (drop (loose_start rules p) p) ≤ counted rules rule (drop (loose_start rules (p ++ q)) (p ++ q))
     more t e =
         let f : counted rules rule (drop (loose_start rules (p ++ q)) (p ++ q)) ≡ counted rules rule (drop (loose_start rules p) p) + counted rules rule t
         = ap (counted rules rule) e ∙ sum_by-append (λ (x : Key). cond (counts_key rules rule x) 1 0) (drop (loose_start rules p) p) t in
@@ -237,7 +246,8 @@ all_middle P (y ∷ xs) x ys h = all_middle P xs x ys h.1
 at_most : (o : Option ℕ) (n max : ℕ) → IfSome o (λ m. n ≤ m) → o ≡ Some max → n ≤ max
 at_most o n max h e = let k : IfSome (Some max) (λ (m : ℕ). n ≤ m) = subst (λ (x : Option ℕ). IfSome x (λ m. n ≤ m)) e h in k
 
-pub not_missing_at : (rules : List DRule) (p : List Key) (k : Key) (q : List Key) → Says rules ((p ++ k ∷ []) ++ q) → (i : ℕ) (rule : DRule) → IsFirstShort rules (p ++ k ∷ []) i rule → run_end rules i (p ++ k ∷ []) ≢ length p
+pub not_missing_at : (rules : List DRule) (p : List Key) (k : Key) (q : List Key) → Says rules ((p ++ k ∷ []) ++ q) → (i : ℕ) (rule : DRule) → IsFirstShort rules (p ++ k ∷ []) i rule
+    → run_end rules i (p ++ k ∷ []) ≢ length p
 not_missing_at rules p k q says i rule first ends =
     let size = length-append p (k ∷ []) in
     let same = ended_same (fixed_rules rules) (p ++ k ∷ []) q i (omega (arith, size, ends)) in

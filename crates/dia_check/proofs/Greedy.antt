@@ -1,13 +1,12 @@
 -- The keys of a level stand as the rules say exactly where the longest runs do.
-use Rattle.std.proofs.Common.{◌≡◌, ◌≢◌, ℕ, zero, suc, ◌+◌, ◌-◌, ◌<◌, ◌≤◌, Bool, true, false, ◌&&◌, cond, eqb, List, [], ◌∷◌, ◌++◌, length, take, drop, sum, Option, Some, None, refl, sym, ap, subst, ◌∙◌, arith}
-use Rattle.std.specs.Prelude.{IsSome}
+use Rattle.std.proofs.Common.{◌≡◌, ◌≢◌, ℕ, suc, ◌+◌, Bool, true, false, ◌&&◌, cond, eqb, List, [], ◌∷◌, ◌++◌, length, take, drop, sum, Option, Some, None, refl, sym, ap, subst, ◌∙◌, arith}
 use Rattle.std.specs.Option.{option_map_or}
 use Rattle.std.specs.List.{prefix_len, AllByRecursion}
 use Rattle.std.specs.Cmp.Derive.{both_true}
 use Rattle.std.proofs.lemmas.Bool.{eqb-true, eq-eqb}
 use Rattle.std.proofs.lemmas.List.Sums.{sum_by-cons}
 use Rattle.std.proofs.lemmas.List.Folds.{length-prefix_len}
-use Rattle.std.proofs.lemmas.List.{take-append-drop, length-take, length-append, drop-drop, drop_at}
+use Rattle.std.proofs.lemmas.List.{take-append-drop, drop-drop, drop_at}
 use Rattle.dia_wire.specs.declared.Key.{Key}
 use Rattle.dia_dict.specs.declared.DRule.{DRule}
 use Rattle.dia_dict.specs.Keys.{same_key}
@@ -29,7 +28,8 @@ AllInBounds (r ∷ rs) (n ∷ ns) = InBounds r n × AllInBounds rs ns
 
 -- ---- the longest front that passes
 
-take_passes : {X : Type 0} (p : X → Bool) (P : X → Type 0) → (x : X) (xs : List X) (b : Bool) → p x ≡ b → (b ≡ true → P x) → AllByRecursion P (take (prefix_len p xs) xs) → AllByRecursion P (take (cond b (1 + prefix_len p xs) 0) (x ∷ xs))
+take_passes : {X : Type 0} (p : X → Bool) (P : X → Type 0) → (x : X) (xs : List X) (b : Bool) → p x ≡ b → (b ≡ true → P x) → AllByRecursion P (take (prefix_len p xs) xs)
+    → AllByRecursion P (take (cond b (1 + prefix_len p xs) 0) (x ∷ xs))
 take_passes p P x xs true e h rest = let k : 1 + prefix_len p xs ≡ suc (prefix_len p xs) = omega arith in rw k (h refl, rest)
 take_passes p P x xs false e h rest = tt
 

@@ -14,9 +14,9 @@ use Rattle.dia_dict.specs.declared.Slot.{Slot}
 use Rattle.dia_dict.specs.declared.Slot.TheVariants as slot
 use Rattle.dia_dict.specs.Dictionary.{AreRules, is_fixed, lists_key, slot_of, slot_at}
 use Rattle.dia_dict.proofs.Lists.{position-within}
-use Rattle.dia_dict.proofs.Members.{position-is_some, list_any-none_at}
+use Rattle.dia_dict.proofs.Members.{position-is_some}
 use Rattle.dia_check.specs.Valid.{fixed_rules, is_listed, has_wildcard, is_wildcard}
-use Rattle.dia_check.specs.Faults.{runs, met, run_end, loose_start}
+use Rattle.dia_check.specs.Faults.{runs, met, loose_start}
 use Rattle.dia_check.specs.OpenLevels.{IsAt, IsCounted, IsNotAllowed, Leads}
 use Rattle.dia_check.specs.declared.open_levels.OpenLevel.{OpenLevel}
 use Rattle.dia_check.proofs.Greedy.{sum-cons, is_of-key}
@@ -146,7 +146,8 @@ fixed_slot rules key i e = ⊎_elim (λ (j, r, at, lists, same). by j r at lists
 loose_slot : (rules : List DRule) (key : Key) (i : ℕ) → slot.Loose i ≡ slot_of rules key → IsRuleOf rules key i false
 loose_slot rules key i e = ⊎_elim (λ (j, r, at, lists, same). by j r at lists (is_fixed r) refl same) (λ h. absurd (let p = h.0 in cc)) (slot_is rules key (slot.Loose i) e)
   where
-    by : (j : ℕ) (r : DRule) → slice_get rules j ≡ Some r → lists_key key r ≡ true → (b : Bool) → is_fixed r ≡ b → slot.Loose i ≡ (if b then slot.Fixed j else slot.Loose j) → IsRuleOf rules key i false
+    by : (j : ℕ) (r : DRule) → slice_get rules j ≡ Some r → lists_key key r ≡ true → (b : Bool) → is_fixed r ≡ b → slot.Loose i ≡ (if b then slot.Fixed j else slot.Loose j)
+        → IsRuleOf rules key i false
     by j r at lists false is same = let here : i ≡ j = cc in (r, ap (λ (k : ℕ). slice_get rules k) here ∙ at, is, lists)
     by j r at lists true is same = absurd cc
 
@@ -212,7 +213,8 @@ module _ (rules : List DRule) (are : AreRules rules) (keys : List Key) (key : Ke
               let one : j ≡ i = eqb-true j i same in
               let up = one_more_here i (runs (fixed_rules rules) keys) (omega (arith, lt, length-runs (fixed_rules rules) keys)) in
               let old = met_fixed rules keys j other is in
-              let moved : slice_index (one_more i (runs (fixed_rules rules) keys)) j ≡ slice_index (runs (fixed_rules rules) keys) j + 1 = subst (λ (k : ℕ). slice_index (one_more i (runs (fixed_rules rules) keys)) k ≡ slice_index (runs (fixed_rules rules) keys) k + 1) (sym one) up in
+              let moved : slice_index (one_more i (runs (fixed_rules rules) keys)) j ≡ slice_index (runs (fixed_rules rules) keys) j + 1 = subst
+              (λ (k : ℕ). slice_index (one_more i (runs (fixed_rules rules) keys)) k ≡ slice_index (runs (fixed_rules rules) keys) k + 1) (sym one) up in
               omega (arith, h, moved, old)
           by true false is same h =
               let other_place : j ≢ i = λ p. both_ways (j == i) same (eq-eqb j i p) in
@@ -245,7 +247,8 @@ module _ (rules : List DRule) (are : AreRules rules) (keys : List Key) (key : Ke
     same_runs = λ j before. ap (λ (ns : List ℕ). slice_index ns j) same;
     passed = λ j from to. ap (λ (ns : List ℕ). sum (take (suc j) ns)) same ∙ all_to (fixed_rules rules) level.run j keys from (omega (arith, from, to)) c.run;
     not_passed = λ j from to. absurd (omega (arith, from, to));
-    counts = λ i is. let (lt, allowed, each) = some_counts i is in (lt, (λ bad. allowed bad.1), λ j other at. by j other (is_fixed other) (j == i) (each j other at) (met_more rules level.run keys key j other c.run none));
+    counts = λ i is. let (lt, allowed, each) = some_counts i is in
+        (lt, (λ bad. allowed bad.1), λ j other at. by j other (is_fixed other) (j == i) (each j other at) (met_more rules level.run keys key j other c.run none));
     counts_none = λ is. (behind, none_counts is);
   })
     where

@@ -1,14 +1,15 @@
-use Rattle.std.proofs.Common.{◌≡◌, ◌≢◌, ℕ, zero, suc, ◌+◌, ◌*◌, ◌/◌, ◌<◌, ◌≤◌, Bool, true, false, cond, List, [], ◌∷◌, ◌++◌, length, map, filter, drop, sum, get_or, Option, Some, None, refl, sym, ap, subst, ◌∙◌, arith, inl, inr, ⊎_elim, append_assoc}
-use Rattle.std.specs.Prelude.{slice_get, slice_index, nat_lt, not, ◌||◌, if◌then◌else◌, ◌⊎◌, IsTrue, IsSome, IfSome, MatchOption, All, option_and_then, ◌↔◌}
+-- A level in which a walk finds nothing is one whose AVPs fit.
+use Rattle.std.proofs.Common.{◌≡◌, ℕ, zero, suc, ◌+◌, ◌<◌, ◌≤◌, Bool, true, false, List, [], ◌∷◌, ◌++◌, length, map, filter, drop, get_or, Option, Some, None, refl, sym, ap, subst, ◌∙◌, arith, inl, inr, ⊎_elim, append_assoc}
+use Rattle.std.specs.Prelude.{slice_get, slice_index, nat_lt, not, ◌||◌, ◌⊎◌, IsTrue, IsSome, IfSome, MatchOption, All, option_and_then, ◌↔◌}
 use Rattle.std.specs.List.{list_any, filter_map, cons_option, AllByRecursion}
 use Rattle.std.proofs.Math.ListN.{drop_of_length-le}
 use Rattle.std.proofs.lemmas.Bool.{ltb-false, ltb-true}
 use Rattle.std.proofs.lemmas.List.{append-nil, length-append, map-append, length-map}
 use Rattle.std.proofs.lemmas.Option.{none-some, same_Some, slice_get-get_or, slice_get_within}
 use Rattle.dia_wire.specs.declared.Key.{Key}
-use Rattle.dia_wire.specs.Wire.{PlainAvp, key_of, head_length, avp_length, padded_length, BeginsWith, SpellsAll}
+use Rattle.dia_wire.specs.Wire.{PlainAvp, key_of, avp_length, BeginsWith, SpellsAll}
 use Rattle.dia_wire.proofs.Spelling.{opened, rounded-le, at_least_8}
-use Rattle.dia_data.specs.Plain.{PlainFormat, Grouped}
+use Rattle.dia_data.specs.Plain.{Grouped}
 use Rattle.dia_data.specs.Leaf.{IsLeaf}
 use Rattle.dia_dict.specs.declared.MRule.{MRule}
 use Rattle.dia_dict.specs.declared.MRule.TheVariants.{Must, MustNot, Any as AnyM}
@@ -21,12 +22,12 @@ use Rattle.dia_check.specs.declared.policy.Levels.{Levels}
 use Rattle.dia_check.specs.declared.policy.Levels.TheVariants.{Any, AtMost}
 use Rattle.dia_check.specs.declared.fault.Reason.TheVariants as reason
 use Rattle.dia_check.specs.declared.fault.Subject.TheVariants.{Avp}
-use Rattle.dia_check.specs.Valid.{known, Placed, IsLevel, Fits, FitsBy, MHolds, HasM, IsAccepted, MayBeLoose, fixed_rules, loose_rules, is_listed, has_wildcard, counted}
+use Rattle.dia_check.specs.Valid.{known, Placed, IsLevel, Fits, FitsBy, MHolds, IsAccepted, MayBeLoose, fixed_rules, loose_rules, is_listed, has_wildcard, counted}
 use Rattle.dia_check.specs.Levels.{MayOpen}
-use Rattle.dia_check.specs.Faults.{runs, met, loose_start, IsFirstMissing, IsWrong, unknown, m_bit, not_allowed, too_many, depth}
+use Rattle.dia_check.specs.Faults.{runs, met, loose_start, IsFirstMissing, unknown, m_bit, not_allowed, too_many, depth}
 use Rattle.dia_check.proofs.Pushing.{at_start}
 use Rattle.dia_check.proofs.Counting.{met_fixed, met_loose}
-use Rattle.dia_check.proofs.Fine.{Counted, PassesNone, MayStand, counted_more, counted_placed}
+use Rattle.dia_check.proofs.Fine.{Counted, counted_more, counted_placed}
 use Rattle.dia_check.specs.Walks.{Found, Rest, behind, inside, group_at, IsFine, Walks, ended, missing, broken, wrong, leaf, group, bad_group, AreEnough}
 
 -- ---- before the first key
@@ -66,7 +67,8 @@ not_missing : (rules : List DRule) (keys : List Key) (j : ℕ) (rule : DRule) (b
 not_missing rules keys j rule false none at before e = ltb-false (met rules keys j rule) rule.min e
 not_missing rules keys j rule true none at before e = absurd (none j rule (record { is_rule = at; short = ltb-true (met rules keys j rule) rule.min e; first = before }))
 
-pub enough_up_to : (rules : List DRule) (keys : List Key) → ((i : ℕ) (rule : DRule) → ¬ IsFirstMissing rules keys i rule) → (n j : ℕ) (rule : DRule) → j < n → slice_get rules j ≡ Some rule → rule.min ≤ met rules keys j rule
+pub enough_up_to : (rules : List DRule) (keys : List Key) → ((i : ℕ) (rule : DRule) → ¬ IsFirstMissing rules keys i rule) → (n j : ℕ) (rule : DRule) → j < n → slice_get rules j ≡ Some rule
+    → rule.min ≤ met rules keys j rule
 enough_up_to rules keys none zero j rule lt at = absurd (omega (arith, lt))
 enough_up_to rules keys none (suc n) j rule lt at =
     not_missing rules keys j rule (nat_lt (met rules keys j rule) rule.min) none at (λ i other less here. enough_up_to rules keys none n i other (omega (arith, less, lt)) here) refl
@@ -108,7 +110,8 @@ may_open (AtMost m) n h = by (nat_lt n m) refl
 
 -- ---- where a key may stand
 
-may_be : (rules : List DRule) (k : Key) (fixed loose listed wild : Bool) → is_listed (fixed_rules rules) k ≡ fixed → is_listed (loose_rules rules) k ≡ loose → is_listed rules k ≡ listed → has_wildcard rules ≡ wild
+may_be : (rules : List DRule) (k : Key) (fixed loose listed wild : Bool) → is_listed (fixed_rules rules) k ≡ fixed → is_listed (loose_rules rules) k ≡ loose → is_listed rules k ≡ listed
+    → has_wildcard rules ≡ wild
     → (listed ≡ true → (fixed ≡ true) ⊎ (loose ≡ true)) → ¬ (IsTrue (is_listed (fixed_rules rules) k) ⊎ ((is_listed rules k ≡ false) × (has_wildcard rules ≡ false))) → MayBeLoose rules k
 may_be rules k fixed true listed wild f l r w split none = inl l
 may_be rules k true false listed wild f l r w split none = absurd (none (inl f))
@@ -116,7 +119,8 @@ may_be rules k false false false true f l r w split none = inr (r, w)
 may_be rules k false false false false f l r w split none = absurd (none (inr (r, w)))
 may_be rules k false false true wild f l r w split none = ⊎_elim (λ e. absurd cc) (λ e. absurd cc) (split refl)
 
-split_at : {X : Type 0} (p q : X → Bool) (x : X) (xs : List X) (b c : Bool) → q x ≡ b → p x ≡ c → (list_any p xs ≡ true → (list_any p (filter q xs) ≡ true) ⊎ (list_any p (filter (λ y. not (q y)) xs) ≡ true))
+split_at : {X : Type 0} (p q : X → Bool) (x : X) (xs : List X) (b c : Bool) → q x ≡ b → p x ≡ c
+    → (list_any p xs ≡ true → (list_any p (filter q xs) ≡ true) ⊎ (list_any p (filter (λ y. not (q y)) xs) ≡ true))
     → list_any p (x ∷ xs) ≡ true → (list_any p (filter q (x ∷ xs)) ≡ true) ⊎ (list_any p (filter (λ y. not (q y)) (x ∷ xs)) ≡ true)
 split_at p q x xs true true e f ih h = inl (rw (e, f) refl)
 split_at p q x xs false true e f ih h = inr (rw (e, f) refl)
@@ -139,7 +143,8 @@ module _ (d : Dictionary) (sound : IsDictionary d) (u : Unknown) (most : Levels)
   group_rules v e g h is =
       let place = entry_place d.entries (entry_of d (key_of v)) e h in
       let into = into_filter_map (λ (x : DictEntry). x.group) d.entries place.0 e g place.1 is in
-      all_at (λ (def : PlainDefinition). AreRules def.rules) (definitions d) into.0 g sound.rules (slice_get-append_left (groups d) d.commands into.0 (slice_get_within (groups d) into.0 g into.1) ∙ into.1)
+      all_at (λ (def : PlainDefinition). AreRules def.rules) (definitions d) into.0 g sound.rules
+      (slice_get-append_left (groups d) d.commands into.0 (slice_get_within (groups d) into.0 g into.1) ∙ into.1)
 
   abbrev Body : (List DRule → List ℕ → Type 0) → PlainAvp → Option DictEntry → Type 0
   Body Inner v o = MatchOption o (IsAccepted u v.flags) (λ e. MHolds e.rule v.flags × MatchOption e.group (IsLeaf e.format v.bytes) (λ group. Inner group.rules v.bytes))
@@ -156,11 +161,13 @@ module _ (d : Dictionary) (sound : IsDictionary d) (u : Unknown) (most : Levels)
 
   leaf_data : (Inner : List DRule → List ℕ → Type 0) (s : Rest) (v : PlainAvp) (e : DictEntry) (o : Option PlainDefinition) → e.group ≡ o → o ≡ None → known d (key_of v) ≡ Some e → IsFine d u most s v
       → MatchOption o (IsLeaf e.format v.bytes) (λ group. Inner group.rules v.bytes)
-  leaf_data Inner s v e None is none h fine = ⊎_elim (λ l. l) (λ g. absurd (let p : IsSome e.group = (grouped_at v e h).0 g in let q : IsSome {T = PlainDefinition} None = subst (λ (x : Option PlainDefinition). IsSome x) is p in cc)) (fine.leaf e h)
+  leaf_data Inner s v e None is none h fine = ⊎_elim (λ l. l) (λ g. absurd (let p : IsSome e.group = (grouped_at v e h).0 g in
+      let q : IsSome {T = PlainDefinition} None = subst (λ (x : Option PlainDefinition). IsSome x) is p in cc)) (fine.leaf e h)
   leaf_data Inner s v e (Some g) is none h fine = absurd (none-some g (sym none))
 
   fits_leaf : (Inner : List DRule → List ℕ → Type 0) (s : Rest) (v : PlainAvp) → IsFine d u most s v → group_at d v ≡ None → FitsBy d u Inner v
-  fits_leaf Inner s v fine none = fits_by Inner s v fine (λ e h. leaf_data Inner s v e e.group refl (ap (λ (o : Option DictEntry). option_and_then (λ (x : DictEntry). x.group) o) (sym h) ∙ none) h fine)
+  fits_leaf Inner s v fine none = fits_by Inner s v fine (λ e h. leaf_data Inner s v e e.group refl (ap (λ (o : Option DictEntry). option_and_then (λ (x : DictEntry). x.group) o) (sym h)
+      ∙ none) h fine)
 
   fits_any : (n : ℕ) (v : PlainAvp) → ((Inner : List DRule → List ℕ → Type 0) → FitsBy d u Inner v) → Fits d u n v
   fits_any zero v h = h (λ rules bytes. ⊥)
@@ -178,7 +185,8 @@ module _ (d : Dictionary) (sound : IsDictionary d) (u : Unknown) (most : Levels)
   counted_behind s v rest fine c =
       subst (Counted s.level.rules) (sym (more_keys s.earlier v)) (counted_more s.level.rules (map key_of s.earlier) (key_of v) c
       (λ i rule max here is before now. fine.none_wrong reason.TooMany (Avp (key_of v)) (too_many i rule (record { is_rule = here; max = max; is_max = is; before = before; now = now })))
-      (λ behind_runs. may_be s.level.rules (key_of v) (is_listed (fixed_rules s.level.rules) (key_of v)) (is_listed (loose_rules s.level.rules) (key_of v)) (is_listed s.level.rules (key_of v)) (has_wildcard s.level.rules) refl refl refl refl
+      (λ behind_runs. may_be s.level.rules (key_of v) (is_listed (fixed_rules s.level.rules) (key_of v)) (is_listed (loose_rules s.level.rules) (key_of v))
+      (is_listed s.level.rules (key_of v)) (has_wildcard s.level.rules) refl refl refl refl
       (listed_split s.level.rules (key_of v)) (λ bad. fine.none_wrong reason.NotAllowed (Avp (key_of v)) (not_allowed (let e = length-map s.earlier key_of in omega (arith, behind_runs, e)) bad))))
 
   sizes : (s : Rest) (v : PlainAvp) (rest : List ℕ) → BeginsWith v s.bytes rest → (length rest ≤ length s.bytes) × (8 + length v.bytes ≤ length s.bytes)
@@ -191,13 +199,15 @@ module _ (d : Dictionary) (sound : IsDictionary d) (u : Unknown) (most : Levels)
   enough_behind Any n deep bytes rest less h = omega (arith, less, h)
   enough_behind (AtMost k) n deep bytes rest less h = h
 
-  enough_inside : (m : Levels) (n deep : ℕ) (bytes inner : List ℕ) → 8 + length inner ≤ length bytes → MayOpen m deep → AreEnough m n deep bytes → (k : ℕ) × (n ≡ suc k) × AreEnough m k (suc deep) inner
+  enough_inside : (m : Levels) (n deep : ℕ) (bytes inner : List ℕ) → 8 + length inner ≤ length bytes → MayOpen m deep → AreEnough m n deep bytes
+      → (k : ℕ) × (n ≡ suc k) × AreEnough m k (suc deep) inner
   enough_inside Any zero deep bytes inner less may h = absurd (omega (arith, less, h))
   enough_inside Any (suc k) deep bytes inner less may h = (k, refl, omega (arith, less, h))
   enough_inside (AtMost m) zero deep bytes inner less may h = absurd (omega (arith, may, h))
   enough_inside (AtMost m) (suc k) deep bytes inner less may h = (k, refl, omega (arith, h))
 
-  pub entry_of_group : (v : PlainAvp) (g : PlainDefinition) (o : Option DictEntry) → known d (key_of v) ≡ o → option_and_then (λ (e : DictEntry). e.group) o ≡ Some g → (e : DictEntry) × (known d (key_of v) ≡ Some e) × (e.group ≡ Some g)
+  pub entry_of_group : (v : PlainAvp) (g : PlainDefinition) (o : Option DictEntry) → known d (key_of v) ≡ o → option_and_then (λ (e : DictEntry). e.group) o ≡ Some g
+      → (e : DictEntry) × (known d (key_of v) ≡ Some e) × (e.group ≡ Some g)
   entry_of_group v g None h is = absurd (none-some g is)
   entry_of_group v g (Some e) h is = (e, h, is)
 
@@ -219,7 +229,8 @@ module _ (d : Dictionary) (sound : IsDictionary d) (u : Unknown) (most : Levels)
   no_some : (f : Option Found) (g : Found) → f ≡ Some g → f ≡ None → ⊥
   no_some f g h none = none-some g (sym none ∙ h)
 
-  walked : (n : ℕ) (s : Rest) (f : Option Found) → Walks d u most s f → f ≡ None → AreRules s.level.rules → Counted s.level.rules (map key_of s.earlier) → AreEnough most n s.level.depth s.bytes → Outcome n s
+  walked : (n : ℕ) (s : Rest) (f : Option Found) → Walks d u most s f → f ≡ None → AreRules s.level.rules → Counted s.level.rules (map key_of s.earlier)
+      → AreEnough most n s.level.depth s.bytes → Outcome n s
   walked n s f (ended done none is) nothing are c enough = (
     [],
     done,

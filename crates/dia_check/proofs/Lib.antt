@@ -9,9 +9,11 @@ pub mod Level
 pub mod Opening
 pub mod Admitting
 pub mod Found
+pub mod Uniqueness
 pub mod First
 pub mod Messages
 pub mod Owing
+pub mod UnderWay
 pub mod OneAnswer
 pub mod Formats
 pub mod Quiet

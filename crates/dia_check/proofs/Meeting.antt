@@ -1,7 +1,7 @@
 -- What a level's rules say of one key more, from the counts of the keys before it.
-use Rattle.std.proofs.Common.{◌≡◌, ◌≢◌, ℕ, zero, suc, ◌+◌, ◌<◌, ◌≤◌, Bool, true, false, cond, List, [], ◌∷◌, ◌++◌, length, filter, set, drop, get_or, Option, Some, None, refl, sym, ap, subst, ◌∙◌, arith, inl, inr, ⊎_elim, get_or-set_other, get_or-set_same}
+use Rattle.std.proofs.Common.{◌≡◌, ◌≢◌, ℕ, zero, suc, ◌+◌, ◌<◌, ◌≤◌, Bool, true, false, List, [], ◌∷◌, ◌++◌, length, set, drop, get_or, Option, Some, None, refl, sym, ap, subst, ◌∙◌, arith, inl, inr, get_or-set_other, get_or-set_same}
 use Rattle.std.specs.Option.{option_eq}
-use Rattle.std.specs.Prelude.{nat_eq, slice_get, slice_index, slice_set, ◌==◌, if◌then◌else◌, ◌⊎◌, nat_lt}
+use Rattle.std.specs.Prelude.{nat_eq, slice_get, slice_index, ◌==◌, if◌then◌else◌, ◌⊎◌, nat_lt}
 use Rattle.std.proofs.lemmas.Bool.{eqb-true, eq-eqb, both_ways, ltb-true, ltb-false}
 use Rattle.std.proofs.lemmas.List.{length-set, length-drop}
 use Rattle.std.proofs.lemmas.List.Sums.{length-filter, count_by-le-length, prefix_len-le-length}
@@ -22,10 +22,12 @@ use Rattle.dia_check.proofs.Pushing.{is_of}
 use Rattle.dia_check.proofs.Counting.{met_fixed, counts_key, fixed_place}
 
 -- the first fixed rules are the first rules
-pub fixed_at : (rules : List DRule) (i : ℕ) (rule : DRule) → AreRules rules → i < length (fixed_rules rules) → slice_get rules i ≡ Some rule → (slice_get (fixed_rules rules) i ≡ Some rule) × (is_fixed rule ≡ true)
+pub fixed_at : (rules : List DRule) (i : ℕ) (rule : DRule) → AreRules rules → i < length (fixed_rules rules) → slice_get rules i ≡ Some rule
+    → (slice_get (fixed_rules rules) i ≡ Some rule) × (is_fixed rule ≡ true)
 fixed_at rules i rule are lt at = by (slice_get_cases (fixed_rules rules) i).1
   where
-    by : ((x : DRule) × (i < length (fixed_rules rules)) × (slice_get (fixed_rules rules) i ≡ Some x) × (get_or (fixed_rules rules) i x ≡ x)) ⊎ ((length (fixed_rules rules) ≤ i) × (slice_get (fixed_rules rules) i ≡ None))
+    by : ((x : DRule) × (i < length (fixed_rules rules)) × (slice_get (fixed_rules rules) i ≡ Some x) × (get_or (fixed_rules rules) i x ≡ x)) ⊎
+        ((length (fixed_rules rules) ≤ i) × (slice_get (fixed_rules rules) i ≡ None))
         → (slice_get (fixed_rules rules) i ≡ Some rule) × (is_fixed rule ≡ true)
     by (inl (x, lt', here, got)) =
         let place = fixed_place rules i x are here in

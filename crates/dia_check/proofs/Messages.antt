@@ -1,12 +1,13 @@
-use Rattle.std.proofs.Common.{◌≡◌, ◌≢◌, ℕ, zero, suc, ◌+◌, ◌-◌, ◌<◌, ◌≤◌, Bool, true, false, List, [], ◌∷◌, ◌++◌, length, map, take, drop, Option, Some, None, refl, sym, ap, subst, ◌∙◌, arith, inl, inr, ⊎_elim, append_assoc}
-use Rattle.std.specs.Prelude.{◌⊎◌, slice_get, IsSome, IfSome, MatchOption, option_and_then}
+-- A valid message has a walk that finds nothing, and so nothing stands in it; and where a walk finds nothing the message is valid.
+use Rattle.std.proofs.Common.{◌≡◌, ℕ, zero, suc, ◌+◌, ◌≤◌, List, [], ◌∷◌, ◌++◌, length, map, take, drop, Option, Some, None, refl, sym, ap, subst, ◌∙◌, arith, inl, inr, ⊎_elim, append_assoc}
+use Rattle.std.specs.Prelude.{◌⊎◌, slice_get, IsSome, MatchOption}
 use Rattle.std.specs.List.{AllByRecursion}
 use Rattle.std.proofs.lemmas.List.{length-append, length-map, append-nil, take_at, drop_at, take-append-drop}
-use Rattle.std.proofs.lemmas.Option.{same_Some, none-some}
+use Rattle.std.proofs.lemmas.Option.{same_Some}
 use Rattle.dia_wire.specs.declared.Header.{Header}
 use Rattle.dia_wire.specs.declared.Key.{Key}
-use Rattle.dia_wire.specs.Wire.{PlainAvp, key_of, SpellsAll, BeginsWith, IsHead, IsMessage}
-use Rattle.dia_wire.proofs.OneHeader.{head_says, one_header}
+use Rattle.dia_wire.specs.Wire.{PlainAvp, key_of, SpellsAll, BeginsWith, IsHead}
+use Rattle.dia_wire.proofs.OneHeader.{one_header}
 use Rattle.dia_data.specs.Plain.{PlainFormat, OctetString, Integer32, Integer64, Unsigned32, Unsigned64, Float32, Float64, Grouped, Address, Time, Utf8String, DiameterIdentity, DiameterUri, Enumerated, IpFilterRule, QosFilterRule}
 use Rattle.dia_data.specs.Leaf.{IsLeaf, LengthFits}
 use Rattle.dia_dict.specs.declared.DRule.{DRule}
@@ -17,7 +18,7 @@ use Rattle.dia_check.specs.declared.policy.Levels.TheVariants.{Any, AtMost}
 use Rattle.dia_check.specs.declared.fault.Reason.{Reason}
 use Rattle.dia_check.specs.declared.fault.Subject.{Subject}
 use Rattle.dia_check.specs.Valid.{class_of, known, IsLevel, Fits, FitsBy, AllFit, MHolds, IsAccepted, IsValidOf}
-use Rattle.dia_check.specs.Levels.{Level, MayOpen}
+use Rattle.dia_check.specs.Levels.{MayOpen}
 use Rattle.dia_check.specs.Faults.{met, loose_start, run_end, keys_to, Spot, IsFirstMissing, IsWrong, Stands, HasGoodHeader}
 use Rattle.dia_check.specs.Faults as faults
 use Rattle.dia_check.proofs.Fronts.{Says, placed_says, not_missing_at, allowed_at, few_at, may_be_allowed}
@@ -61,12 +62,14 @@ module _ (d : Dictionary) (sound : IsDictionary d) (u : Unknown) (most : Levels)
   fits_none Inner v fits h =
       subst (λ (o : Option DictEntry). MatchOption o (IsAccepted u v.flags) (λ e. MHolds e.rule v.flags × MatchOption e.group (IsLeaf e.format v.bytes) (λ group. Inner group.rules v.bytes))) h fits
 
-  fits_some : (Inner : List DRule → List ℕ → Type 0) (v : PlainAvp) (e : DictEntry) → FitsBy d u Inner v → known d (key_of v) ≡ Some e → MHolds e.rule v.flags × MatchOption e.group (IsLeaf e.format v.bytes) (λ group. Inner group.rules v.bytes)
+  fits_some : (Inner : List DRule → List ℕ → Type 0) (v : PlainAvp) (e : DictEntry) → FitsBy d u Inner v → known d (key_of v) ≡ Some e
+      → MHolds e.rule v.flags × MatchOption e.group (IsLeaf e.format v.bytes) (λ group. Inner group.rules v.bytes)
   fits_some Inner v e fits h =
       subst (λ (o : Option DictEntry). MatchOption o (IsAccepted u v.flags) (λ e. MHolds e.rule v.flags × MatchOption e.group (IsLeaf e.format v.bytes) (λ group. Inner group.rules v.bytes))) h fits
 
   -- a leaf, or a group
-  leaf_or_group : (Inner : List DRule → List ℕ → Type 0) (v : PlainAvp) (e : DictEntry) (o : Option PlainDefinition) → e.group ≡ o → known d (key_of v) ≡ Some e → MatchOption o (IsLeaf e.format v.bytes) (λ group. Inner group.rules v.bytes)
+  leaf_or_group : (Inner : List DRule → List ℕ → Type 0) (v : PlainAvp) (e : DictEntry) (o : Option PlainDefinition) → e.group ≡ o → known d (key_of v) ≡ Some e
+      → MatchOption o (IsLeaf e.format v.bytes) (λ group. Inner group.rules v.bytes)
       → (IsLeaf e.format v.bytes × (e.group ≡ None)) ⊎ ((e.format ≡ Grouped) × ((g : PlainDefinition) × (e.group ≡ Some g) × Inner g.rules v.bytes))
   leaf_or_group Inner v e None is h data_fits = inl (data_fits, is)
   leaf_or_group Inner v e (Some g) is h data_fits =
@@ -94,7 +97,8 @@ module _ (d : Dictionary) (sound : IsDictionary d) (u : Unknown) (most : Levels)
   none_wrong Inner s v q may are says fits r t (faults.leaf_value e is long bad single) =
       ⊎_elim (λ l. bad l.0) (λ g. single g.0) (data_of Inner v e fits is)
   none_wrong Inner s v q may are says fits r t (faults.depth e is is_group bad) =
-      ⊎_elim (λ l. let some : IsSome e.group = (grouped_at d sound u most v e is).0 is_group in let none : IsSome {T = PlainDefinition} None = subst (λ (x : Option PlainDefinition). IsSome x) l.1 some in absurd cc)
+      ⊎_elim (λ l. let some : IsSome e.group = (grouped_at d sound u most v e is).0 is_group in
+      let none : IsSome {T = PlainDefinition} None = subst (λ (x : Option PlainDefinition). IsSome x) l.1 some in absurd cc)
       (λ g. bad (may g.1.0 g.1.2)) (data_of Inner v e fits is)
 
   is_fine : (Inner : List DRule → List ℕ → Type 0) (s : Rest) (v : PlainAvp) (q : List Key) → ((g : PlainDefinition) → Inner g.rules v.bytes → MayOpen most s.level.depth) → AreRules s.level.rules
@@ -113,29 +117,35 @@ module _ (d : Dictionary) (sound : IsDictionary d) (u : Unknown) (most : Levels)
   abbrev Inside : (List DRule → List ℕ → Type 0) → ℕ → Type 0
   Inside Inner deep = (g : PlainDefinition) (start end : ℕ) (bytes : List ℕ) → AreRules g.rules → Inner g.rules bytes → Walks d u most (start_of g start end (suc deep) bytes) None
 
-  goes_by : (Inner : List DRule → List ℕ → Type 0) (s : Rest) (v : PlainAvp) (rest : List ℕ) (o : Option PlainDefinition) → group_at d v ≡ o → Inside Inner s.level.depth → FitsBy d u Inner v → BeginsWith v s.bytes rest → IsFine d u most s v
+  goes_by : (Inner : List DRule → List ℕ → Type 0) (s : Rest) (v : PlainAvp) (rest : List ℕ) (o : Option PlainDefinition) → group_at d v ≡ o → Inside Inner s.level.depth
+      → FitsBy d u Inner v → BeginsWith v s.bytes rest → IsFine d u most s v
       → Walks d u most (behind s v rest) None → Walks d u most s None
   goes_by Inner s v rest None is inner fits begins fine walk = leaf v rest begins fine is walk
   goes_by Inner s v rest (Some g) is inner fits begins fine walk =
       let (e, h, group_is) = entry_of_group d sound u most v g (known d (key_of v)) refl is in
-      let fits_in : Inner g.rules v.bytes = subst (λ (x : Option PlainDefinition). MatchOption x (IsLeaf e.format v.bytes) (λ group. Inner group.rules v.bytes)) group_is (fits_some Inner v e fits h).1 in
+      let fits_in : Inner g.rules v.bytes = subst (λ (x : Option PlainDefinition). MatchOption x (IsLeaf e.format v.bytes) (λ group. Inner group.rules v.bytes)) group_is
+      (fits_some Inner v e fits h).1 in
       group v rest g begins fine is (inner g (inside s v g).level.start (inside s v g).level.end v.bytes (group_rules d sound u most v e g h group_is) fits_in) walk
 
-  walk_avps : (Inner : List DRule → List ℕ → Type 0) (avps : List PlainAvp) (s : Rest) → ((g : PlainDefinition) (bytes : List ℕ) → Inner g.rules bytes → MayOpen most s.level.depth) → Inside Inner s.level.depth → AreRules s.level.rules
+  walk_avps : (Inner : List DRule → List ℕ → Type 0) (avps : List PlainAvp) (s : Rest) → ((g : PlainDefinition) (bytes : List ℕ) → Inner g.rules bytes → MayOpen most s.level.depth)
+      → Inside Inner s.level.depth → AreRules s.level.rules
       → SpellsAll avps s.bytes → Says s.level.rules (map key_of s.earlier ++ map key_of avps) → AllByRecursion (FitsBy d u Inner) avps → Walks d u most s None
   walk_avps Inner [] s may inner are spells says fits =
       let all : Says s.level.rules (map key_of s.earlier) = subst (Says s.level.rules) (append-nil (map key_of s.earlier)) says in
       ended spells (λ i rule first. let least = (all.each i rule first.is_rule).0 in let short = first.short in omega (arith, least, short)) refl
   walk_avps Inner (v ∷ more) s may inner are (front, rest, spelled, parts, others) says fits =
       let here : Says s.level.rules (keys_to s.earlier v ++ map key_of more) = subst (Says s.level.rules) (sym (append_assoc (map key_of s.earlier) (key_of v ∷ []) (map key_of more))) says in
-      let next : Says s.level.rules (map key_of (s.earlier ++ v ∷ []) ++ map key_of more) = subst (λ (ks : List Key). Says s.level.rules (ks ++ map key_of more)) (sym (more_keys d sound u most s.earlier v)) here in
+      let next : Says s.level.rules (map key_of (s.earlier ++ v ∷ []) ++ map key_of more) = subst (λ (ks : List Key). Says s.level.rules (ks ++ map key_of more))
+      (sym (more_keys d sound u most s.earlier v)) here in
       let begins : BeginsWith v s.bytes rest = (front, spelled, parts) in
       let fine = is_fine Inner s v (map key_of more) (λ g h. may g v.bytes h) are here fits.0 in
       goes_by Inner s v rest (group_at d v) refl inner fits.0 begins fine (walk_avps Inner more (behind s v rest) may inner are others next fits.1)
 
-  pub level_walk : (n : ℕ) (g : PlainDefinition) (start end deep : ℕ) (bytes : List ℕ) → AreRules g.rules → AreLeft most n deep → IsLevel (Fits d u n) g.rules bytes → Walks d u most (start_of g start end deep bytes) None
+  pub level_walk : (n : ℕ) (g : PlainDefinition) (start end deep : ℕ) (bytes : List ℕ) → AreRules g.rules → AreLeft most n deep → IsLevel (Fits d u n) g.rules bytes
+      → Walks d u most (start_of g start end deep bytes) None
   level_walk zero g start end deep bytes are left (avps, spells, is_placed, fits) =
-      walk_avps (λ rules bytes. ⊥) avps (start_of g start end deep bytes) (λ k b h. absurd h) (λ k from to b sound_rules h. absurd h) are spells (placed_says g.rules (map key_of avps) are is_placed) fits
+      walk_avps (λ rules bytes. ⊥) avps (start_of g start end deep bytes) (λ k b h. absurd h) (λ k from to b sound_rules h. absurd h) are spells
+      (placed_says g.rules (map key_of avps) are is_placed) fits
   level_walk (suc n) g start end deep bytes are left (avps, spells, is_placed, fits) =
       let may = left_open most n deep left in
       walk_avps (IsLevel (Fits d u n)) avps (start_of g start end deep bytes) (λ k b h. may.0)
@@ -167,7 +177,8 @@ module _ (d : Dictionary) (sound : IsDictionary d) (u : Unknown) (most : Levels)
   abbrev pub valid_good : (c : ℕ) → IsValidOf d u most bytes c → HasGoodHeader d bytes
   valid_good c v = record {
     header = v.header;
-    is_header = let m = v.message in subst (λ (b : List ℕ). IsHead v.header (length bytes) b) (sym (ap (take 20) m.parts ∙ take_at m.head m.body 20 (head_size v.header (length bytes) m.head m.is_head))) m.is_head;
+    is_header = let m = v.message in subst (λ (b : List ℕ). IsHead v.header (length bytes) b)
+        (sym (ap (take 20) m.parts ∙ take_at m.head m.body 20 (head_size v.header (length bytes) m.head m.is_head))) m.is_head;
     bits = (v.no_error_request, v.no_repeated_answer);
     c = c;
     select = v.select;

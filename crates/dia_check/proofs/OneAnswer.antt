@@ -1,4 +1,5 @@
-use Rattle.std.proofs.Common.{◌≡◌, ◌≢◌, ℕ, zero, suc, ◌+◌, ◌-◌, ◌*◌, ◌/◌, ◌%◌, ◌<◌, ◌≤◌, Bool, true, false, List, [], ◌∷◌, ◌++◌, length, map, take, drop, Option, Some, None, refl, sym, ap, subst, ◌∙◌, arith, inl, inr, ⊎_elim}
+-- Bytes have one answer. Any bytes have a walk, but for a double negation, since no format is decided; what two answers are is decided, so that is enough.
+use Rattle.std.proofs.Common.{◌≡◌, ◌≢◌, ℕ, zero, suc, ◌+◌, ◌%◌, ◌<◌, ◌≤◌, Bool, true, false, List, [], ◌∷◌, length, take, drop, Option, Some, None, refl, sym, ap, subst, ◌∙◌, arith, inl, inr}
 use Rattle.std.specs.Prelude.{nat_lt, ◌⊎◌, slice_index, Result, Ok, Err}
 use Rattle.std.proofs.lemmas.Bool.{ltb-false, ltb-true}
 use Rattle.std.proofs.lemmas.List.{length-append}
@@ -9,8 +10,7 @@ use Rattle.dia_wire.specs.Wire.{PlainAvp, key_of, avp_length, SpellsAll, BeginsW
 use Rattle.dia_wire.proofs.Spelling.{rounded-le, at_least_8}
 use Rattle.dia_wire.proofs.OneHeader.{head_says}
 use Rattle.dia_data.specs.Plain.{Grouped}
-use Rattle.dia_data.specs.Leaf.{IsLeaf, LengthFits}
-use Rattle.dia_dict.specs.declared.DRule.{DRule}
+use Rattle.dia_data.specs.Leaf.{IsLeaf}
 use Rattle.dia_dict.specs.Dictionary.{Dictionary, DictEntry, IsDictionary, PlainDefinition}
 use Rattle.dia_check.specs.declared.policy.Unknown.{Unknown}
 use Rattle.dia_check.specs.declared.policy.Levels.{Levels}
@@ -27,7 +27,8 @@ use Rattle.dia_check.specs.Faults.{Row, End, At, Spot, spot, row_of, code_of, Is
 use Rattle.dia_check.specs.Faults as faults
 use Rattle.dia_check.specs.Walks.{Found, Rest, behind, inside, whole, group_at, IsFine, IsFirstWrong, Walks, ended, missing, broken, wrong, leaf, group, bad_group}
 use Rattle.dia_check.proofs.Found.{walks_stands}
-use Rattle.dia_check.proofs.First.{nat_cases, one_reason, begun_room, found_at, StandsBehind, least}
+use Rattle.dia_check.proofs.Uniqueness.{nat_cases, one_reason, found_at}
+use Rattle.dia_check.proofs.First.{begun_room, StandsBehind, least}
 use Rattle.dia_check.proofs.Messages.{head_size, valid_good, valid_stands, valid_command}
 
 -- ---- any rest has a walk, but for a double negation
@@ -41,13 +42,15 @@ no_sooner n m h = by (nat_lt n m) refl
 
 module _ (d : Dictionary) (u : Unknown) (most : Levels) where
   -- where nothing is wrong first, nothing is wrong
-  none_wrong : (s : Rest) (v : PlainAvp) → ((r : Reason) (t : Subject) → ¬ IsFirstWrong d u most s v r t) → (n : ℕ) (r : Reason) (t : Subject) → row_of r < n → ¬ IsWrong d u most s.level s.earlier v r t
+  none_wrong : (s : Rest) (v : PlainAvp) → ((r : Reason) (t : Subject) → ¬ IsFirstWrong d u most s v r t) → (n : ℕ) (r : Reason) (t : Subject) → row_of r < n
+      → ¬ IsWrong d u most s.level s.earlier v r t
   none_wrong s v none zero r t lt bad = absurd (omega (arith, lt))
   none_wrong s v none (suc n) r t lt bad =
       none r t (record { wrong = bad; none_sooner = λ q w bad'. no_sooner (row_of q) (row_of r) (λ sooner. none_wrong s v none n q w (omega (arith, sooner, lt)) bad') })
 
   -- its data is one that its format accepts, or a level
-  pub leaf_at : (s : Rest) (v : PlainAvp) (e : DictEntry) → ((r : Reason) (t : Subject) → ¬ IsWrong d u most s.level s.earlier v r t) → known d (key_of v) ≡ Some e → ¬ ¬ (IsLeaf e.format v.bytes ⊎ (e.format ≡ Grouped))
+  pub leaf_at : (s : Rest) (v : PlainAvp) (e : DictEntry) → ((r : Reason) (t : Subject) → ¬ IsWrong d u most s.level s.earlier v r t) → known d (key_of v) ≡ Some e
+      → ¬ ¬ (IsLeaf e.format v.bytes ⊎ (e.format ≡ Grouped))
   leaf_at s v e none h not_so =
       none reason.LeafLength (Avp (key_of v)) (faults.leaf_length e h (λ long. none reason.LeafValue (Avp (key_of v)) (faults.leaf_value e h long (λ l. not_so (inl l)) (λ g. not_so (inr g)))))
 
@@ -59,11 +62,13 @@ module _ (d : Dictionary) (u : Unknown) (most : Levels) where
   abbrev NoWalk : Rest → Type 0
   NoWalk s = (f : Option Found) → ¬ Walks d u most s f
 
-  in_group : (s : Rest) (v : PlainAvp) (rest : List ℕ) (g : PlainDefinition) → NoWalk s → BeginsWith v s.bytes rest → IsFine d u most s v → group_at d v ≡ Some g → ¬ NoWalk (behind s v rest) → (f : Option Found) → ¬ Walks d u most (inside s v g) f
+  in_group : (s : Rest) (v : PlainAvp) (rest : List ℕ) (g : PlainDefinition) → NoWalk s → BeginsWith v s.bytes rest → IsFine d u most s v → group_at d v ≡ Some g
+      → ¬ NoWalk (behind s v rest) → (f : Option Found) → ¬ Walks d u most (inside s v g) f
   in_group s v rest g not_so begins fine is next None inner = next (λ f walk. not_so f (group v rest g begins fine is inner walk))
   in_group s v rest g not_so begins fine is next (Some h) inner = not_so (Some h) (bad_group v rest g h begins fine is inner refl)
 
-  at_fine : (s : Rest) (v : PlainAvp) (rest : List ℕ) (o : Option PlainDefinition) → group_at d v ≡ o → NoWalk s → BeginsWith v s.bytes rest → IsFine d u most s v → ¬ NoWalk (behind s v rest) → ((g : PlainDefinition) → ¬ NoWalk (inside s v g)) → ⊥
+  at_fine : (s : Rest) (v : PlainAvp) (rest : List ℕ) (o : Option PlainDefinition) → group_at d v ≡ o → NoWalk s → BeginsWith v s.bytes rest → IsFine d u most s v
+      → ¬ NoWalk (behind s v rest) → ((g : PlainDefinition) → ¬ NoWalk (inside s v g)) → ⊥
   at_fine s v rest None is not_so begins fine next inner = next (λ f walk. not_so f (leaf v rest begins fine is walk))
   at_fine s v rest (Some g) is not_so begins fine next inner = inner g (in_group s v rest g not_so begins fine is next)
 
@@ -143,7 +148,8 @@ module _ (d : Dictionary) (sound : IsDictionary d) (u : Unknown) (most : Levels)
     where
       by : StandsBehind o (record { place = f.place; row = first.row }) f.reason f.subject → o ≡ Some (found_of f first.row)
       by (h, is, inl later) =
-          absurd (first.none_before h.spot h.reason h.subject (walks_stands d sound u most bytes good h (subst (λ (x : Option Found). Walks d u most (whole good.command.rules bytes) x) is walk)) later)
+          absurd (first.none_before h.spot h.reason h.subject (walks_stands d sound u most bytes good h
+          (subst (λ (x : Option Found). Walks d u most (whole good.command.rules bytes) x) is walk)) later)
       by (h, is, inr same) = is ∙ ap (λ (x : Found). Some x) (sym same)
 
   same_found : (good : HasGoodHeader d bytes) (f g : Fault) (x : IsFirst d u most bytes f) (y : IsFirst d u most bytes g) → ¬ ¬ (found_of f x.row ≡ found_of g y.row)
@@ -168,16 +174,19 @@ module _ (d : Dictionary) (sound : IsDictionary d) (u : Unknown) (most : Levels)
   good_or_header other r t (faults.avp level earlier v at q w meets bad) = inl meets.looks.good
   good_or_header other r t (faults.missing_at_end level avps i rule looks spells first) = inl looks.good
 
-  one_header_fault : (f g : Fault) (x : IsFirst d u most bytes f) (y : IsFirst d u most bytes g) → (f.subject ≡ Nothing) × (x.row ≡ At (row_of f.reason)) → (g.subject ≡ Nothing) × (y.row ≡ At (row_of g.reason)) → f ≡ g
+  one_header_fault : (f g : Fault) (x : IsFirst d u most bytes f) (y : IsFirst d u most bytes g) → (f.subject ≡ Nothing) × (x.row ≡ At (row_of f.reason))
+      → (g.subject ≡ Nothing) × (y.row ≡ At (row_of g.reason)) → f ≡ g
   one_header_fault f g x y h k = by (nat_cases f.place g.place) (nat_cases (row_of f.reason) (row_of g.reason))
     where
       forth : ¬ IsBefore (record { place = f.place; row = At (row_of f.reason) }) (record { place = g.place; row = At (row_of g.reason) })
       forth before = y.none_before (record { place = f.place; row = x.row }) f.reason f.subject x.stands
-          (subst (λ (a : Row). IsBefore (record { place = f.place; row = a }) (record { place = g.place; row = y.row })) (sym h.1) (subst (λ (b : Row). IsBefore (record { place = f.place; row = At (row_of f.reason) }) (record { place = g.place; row = b })) (sym k.1) before))
+          (subst (λ (a : Row). IsBefore (record { place = f.place; row = a }) (record { place = g.place; row = y.row })) (sym h.1)
+          (subst (λ (b : Row). IsBefore (record { place = f.place; row = At (row_of f.reason) }) (record { place = g.place; row = b })) (sym k.1) before))
 
       back : ¬ IsBefore (record { place = g.place; row = At (row_of g.reason) }) (record { place = f.place; row = At (row_of f.reason) })
       back before = x.none_before (record { place = g.place; row = y.row }) g.reason g.subject y.stands
-          (subst (λ (a : Row). IsBefore (record { place = g.place; row = a }) (record { place = f.place; row = x.row })) (sym k.1) (subst (λ (b : Row). IsBefore (record { place = g.place; row = At (row_of g.reason) }) (record { place = f.place; row = b })) (sym h.1) before))
+          (subst (λ (a : Row). IsBefore (record { place = g.place; row = a }) (record { place = f.place; row = x.row })) (sym k.1)
+          (subst (λ (b : Row). IsBefore (record { place = g.place; row = At (row_of g.reason) }) (record { place = f.place; row = b })) (sym h.1) before))
 
       by : (f.place < g.place) ⊎ ((g.place < f.place) ⊎ (f.place ≡ g.place)) → (row_of f.reason < row_of g.reason) ⊎ ((row_of g.reason < row_of f.reason) ⊎ (row_of f.reason ≡ row_of g.reason)) → f ≡ g
       by (inl less) rows = absurd (forth (inl less))

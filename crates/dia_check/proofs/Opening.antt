@@ -1,6 +1,6 @@
 -- The levels that are kept, where one is opened, met further, or ended.
-use Rattle.std.proofs.Common.{◌≡◌, ℕ, zero, suc, ◌+◌, ◌-◌, ◌<◌, ◌≤◌, List, [], ◌∷◌, ◌++◌, length, take, drop, replicate, Option, Some, None, refl, sym, ap, subst, ◌∙◌, append_assoc, arith}
-use Rattle.std.specs.Prelude.{slice_get, slice_index, position, vec_len}
+use Rattle.std.proofs.Common.{◌≡◌, ℕ, zero, suc, ◌+◌, ◌-◌, ◌<◌, ◌≤◌, List, [], ◌∷◌, ◌++◌, length, take, drop, replicate, Some, refl, sym, ap, subst, ◌∙◌, append_assoc, arith}
+use Rattle.std.specs.Prelude.{slice_get, slice_index, position}
 use Rattle.std.proofs.Math.Seq.{take-append_seam, drop-append_seam, take-length, drop-length}
 use Rattle.std.proofs.lemmas.List.{append-nil, length-append, length-replicate, take_all, length-drop, length-take-le}
 use Rattle.dia_wire.specs.declared.Key.{Key}
@@ -63,7 +63,8 @@ record Popped (defs : List PlainDefinition) (base : ℕ) (ks : List OpenLevel) (
   kept : IsKept defs k mine next
   rest : AreKept defs base ks before others
 
-kept_pop : (defs : List PlainDefinition) (base : ℕ) (ks : List OpenLevel) (k : OpenLevel) (counts : List ℕ) (ls : List SoFar) → AreKept defs base (ks ++ k ∷ []) counts ls → Popped defs base ks k counts ls
+kept_pop : (defs : List PlainDefinition) (base : ℕ) (ks : List OpenLevel) (k : OpenLevel) (counts : List ℕ) (ls : List SoFar) → AreKept defs base (ks ++ k ∷ []) counts ls
+    → Popped defs base ks k counts ls
 kept_pop defs base [] k counts [] h = absurd h
 kept_pop defs base [] k counts (l ∷ []) (mine, rest, parts, at, kept, none) = record {
   others = [];
@@ -111,7 +112,8 @@ opened defs definition old new outer level rules end o is_definition is_rules is
 }
 
 -- the body is opened
-pub body_opened : (defs : List PlainDefinition) (definition : PlainDefinition) (new : OpenLevels) (rules : List DRule) (end : ℕ) → slice_get defs new.innermost.def ≡ Some definition → definition.rules ≡ rules
+pub body_opened : (defs : List PlainDefinition) (definition : PlainDefinition) (new : OpenLevels) (rules : List DRule) (end : ℕ) → slice_get defs new.innermost.def ≡ Some definition
+    → definition.rules ≡ rules
     → new.innermost.end ≡ end → new.innermost.base ≡ 0 → IsCounted rules [] new.innermost (replicate (length rules) 0) → new.outer.items ≡ [] → new.counts.items ≡ replicate (length rules) 0
     → AreOpen defs new [] (begun rules end)
 body_opened defs definition new rules end is_definition is_rules is_end base counted is_outer is_counts = record {
@@ -135,7 +137,8 @@ pub rewritten : (old counts new post : List ℕ) (a many : ℕ) → many ≡ len
 rewritten old counts new post a all is_all same size le is_post =
     let none : post ≡ [] = is_post ∙ ap (λ (n : ℕ). drop n (drop a counts)) (sym (length-drop a counts)) ∙ drop-length (drop a counts) in
     let whole : take a counts ++ (new ++ post) ≡ take a counts ++ new = ap (λ (t : List ℕ). take a counts ++ (new ++ t)) none ∙ ap (λ (t : List ℕ). take a counts ++ t) (append-nil new) in
-    let many : length (take a counts ++ (new ++ post)) ≡ length old = ap length whole ∙ length-append (take a counts) new ∙ (let e = length-take-le a counts le in let f = ap length same in omega (arith, e, f, size, le)) in
+    let many : length (take a counts ++ (new ++ post)) ≡ length old = ap length whole ∙ length-append (take a counts) new
+    ∙ (let e = length-take-le a counts le in let f = ap length same in omega (arith, e, f, size, le)) in
     ap (λ (t : List ℕ). take all t)
     (ap (λ (n : ℕ). (take a counts ++ (new ++ post)) ++ drop n old) many ∙ ap (λ (t : List ℕ). (take a counts ++ (new ++ post)) ++ t) (drop-length old) ∙ append-nil (take a counts ++ (new ++ post))
     ∙ whole)
@@ -147,7 +150,8 @@ pub ended : (defs : List PlainDefinition) (old new : OpenLevels) (outer : List S
     → (others : List SoFar) × (next : SoFar) × (outer ≡ others ++ next ∷ []) × AreOpen defs new others next
 ended defs old new outer level o is_outer is_counts =
     let p = kept_pop defs 0 new.outer.items new.innermost o.before outer (subst (λ (t : List OpenLevel). AreKept defs 0 t o.before outer) is_outer o.are_outer) in
-    let cut : new.counts.items ≡ o.before = is_counts ∙ ap (λ (t : List ℕ). take old.innermost.base t) o.parts ∙ ap (λ (n : ℕ). take n (o.before ++ o.mine)) o.base ∙ take-append_seam o.before o.mine in (
+    let cut : new.counts.items ≡ o.before = is_counts ∙ ap (λ (t : List ℕ). take old.innermost.base t) o.parts ∙ ap (λ (n : ℕ). take n (o.before ++ o.mine)) o.base
+    ∙ take-append_seam o.before o.mine in (
       p.others,
       p.next,
       p.is,
@@ -181,14 +185,16 @@ own_counts defs o outer level counts now e =
 pub counts_before : (defs : List PlainDefinition) (o : OpenLevels) (outer : List SoFar) (level : SoFar) (now : AreOpen defs o outer level) → take o.innermost.base o.counts.items ≡ now.before
 counts_before defs o outer level now = ap (λ (n : ℕ). take n o.counts.items) now.base ∙ ap (λ (t : List ℕ). take (length now.before) t) now.parts ∙ take-append_seam now.before now.mine
 
-pub own_counted : (defs : List PlainDefinition) (o : OpenLevels) (outer : List SoFar) (level : SoFar) (rules : List DRule) (counts : List ℕ) (now : AreOpen defs o outer level) → level.rules ≡ rules → counts ≡ o.counts.items
+pub own_counted : (defs : List PlainDefinition) (o : OpenLevels) (outer : List SoFar) (level : SoFar) (rules : List DRule) (counts : List ℕ) (now : AreOpen defs o outer level)
+    → level.rules ≡ rules → counts ≡ o.counts.items
     → IsCounted rules level.keys o.innermost (take (length counts - o.innermost.base) (drop o.innermost.base counts))
 own_counted defs o outer level rules counts now same e =
     subst (λ (t : List ℕ). IsCounted rules level.keys o.innermost t) (sym (own_counts defs o outer level counts now e))
     (subst (λ (rs : List DRule). IsCounted rs level.keys o.innermost now.mine) same now.innermost.counted)
 
 -- the innermost level is met further
-pub met_further : (defs : List PlainDefinition) (old new : OpenLevels) (outer : List SoFar) (level : SoFar) (rules : List DRule) (key : Key) (run : ℕ) (counts : List ℕ) → AreOpen defs old outer level → level.rules ≡ rules
+pub met_further : (defs : List PlainDefinition) (old new : OpenLevels) (outer : List SoFar) (level : SoFar) (rules : List DRule) (key : Key) (run : ℕ) (counts : List ℕ)
+    → AreOpen defs old outer level → level.rules ≡ rules
     → IsCounted rules (level.keys ++ key ∷ []) (record old.innermost { run = run }) counts → new.innermost ≡ record old.innermost { run = run } → new.outer.items ≡ old.outer.items
     → new.counts.items ≡ take old.innermost.base old.counts.items ++ counts → AreOpen defs new outer (and_key level key)
 met_further defs old new outer level rules key run counts now same counted is_innermost is_outer is_counts = record {
@@ -213,7 +219,8 @@ all_met rules keys level counts c enough i rule first =
     let at = enough i rule (omega arith) (slice_get_within rules i rule first.is_rule) first.is_rule in
     omega (arith, at, c.counted i rule first.is_rule, first.short)
 
-pub one_missing : (rules : List DRule) (keys : List Key) (level : OpenLevel) (counts : List ℕ) (i : ℕ) (rule : DRule) → IsCounted rules keys level counts → IsFirstUnmet rules counts 0 (length rules) i → slice_get rules i ≡ Some rule
+pub one_missing : (rules : List DRule) (keys : List Key) (level : OpenLevel) (counts : List ℕ) (i : ℕ) (rule : DRule) → IsCounted rules keys level counts
+    → IsFirstUnmet rules counts 0 (length rules) i → slice_get rules i ≡ Some rule
     → IsFirstMissing rules keys i rule
 one_missing rules keys level counts i rule c unmet at = record {
   is_rule = at;

@@ -1,8 +1,8 @@
-use Rattle.std.proofs.Common.{◌≡◌, ℕ, zero, suc, ◌+◌, ◌<◌, ◌≤◌, Bool, true, false, cond, List, [], ◌∷◌, ◌++◌, length, drop, refl, sym, ap, ◌∙◌, arith}
+-- What one key more does to the longest runs: it lengthens one run, or none.
+use Rattle.std.proofs.Common.{◌≡◌, ℕ, zero, suc, ◌+◌, ◌<◌, Bool, true, false, cond, List, [], ◌∷◌, ◌++◌, length, drop, refl, sym, ap, ◌∙◌, arith}
 use Rattle.std.specs.List.{prefix_len}
 use Rattle.std.proofs.Math.Seq.{drop-append_seam, drop-length}
-use Rattle.std.proofs.lemmas.List.{drop-append-le, length-append, length-drop}
-use Rattle.std.proofs.lemmas.List.Sums.{prefix_len-le-length}
+use Rattle.std.proofs.lemmas.List.{drop-append-le, length-append}
 use Rattle.dia_wire.specs.declared.Key.{Key}
 use Rattle.dia_dict.specs.declared.DRule.{DRule}
 use Rattle.dia_dict.specs.Dictionary.{lists_key}

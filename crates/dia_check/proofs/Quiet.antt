@@ -1,4 +1,5 @@
-use Rattle.std.proofs.Common.{◌≡◌, ◌≢◌, ℕ, zero, suc, ◌+◌, ◌-◌, ◌*◌, ◌/◌, ◌<◌, ◌≤◌, Bool, true, false, List, [], ◌∷◌, ◌++◌, length, map, take, drop, get_or, Option, Some, None, refl, sym, ap, subst, ◌∙◌, arith, inl, inr, ⊎_elim}
+-- A message is valid exactly where no fault stands.
+use Rattle.std.proofs.Common.{◌≡◌, ℕ, zero, suc, ◌+◌, ◌<◌, ◌≤◌, Bool, true, false, List, [], ◌∷◌, ◌++◌, length, take, drop, get_or, Option, Some, None, refl, sym, ap, subst, ◌∙◌, arith, inl, inr}
 use Rattle.std.specs.Prelude.{◌⊎◌, ◌↔◌, slice_get, slice_index, position}
 use Rattle.std.specs.Option.{option_or, option_map}
 use Rattle.std.proofs.Math.Seq.{take-add}
@@ -7,7 +8,7 @@ use Rattle.std.proofs.lemmas.List.Quantifiers.{position-Some}
 use Rattle.std.proofs.lemmas.Option.{same_Some, none-some, slice_get-get_or}
 use Rattle.dia_wire.specs.declared.Header.{Header}
 use Rattle.dia_wire.specs.Number.{number, IsField}
-use Rattle.dia_wire.specs.Wire.{PlainAvp, key_of, avp_length, SpellsAll, BeginsWith, BeginsWithNone, IsHead}
+use Rattle.dia_wire.specs.Wire.{PlainAvp, avp_length, SpellsAll, BeginsWith, BeginsWithNone}
 use Rattle.dia_wire.proofs.Spelling.{rounded, rounded-le, at_least_8}
 use Rattle.dia_wire.proofs.Decode.{is_bad, avp_of, len_of, bad_none, good_begins}
 use Rattle.dia_dict.specs.declared.Class.{Class}
@@ -15,8 +16,7 @@ use Rattle.dia_dict.specs.declared.Pxy.{Pxy}
 use Rattle.dia_dict.specs.declared.Pxy.TheVariants.{Clear, Set, Either}
 use Rattle.dia_dict.specs.declared.DefHead.{DefHead}
 use Rattle.dia_dict.specs.declared.DefHead.TheVariants.{Group, Command, Error}
-use Rattle.dia_dict.specs.declared.DRule.{DRule}
-use Rattle.dia_dict.specs.Dictionary.{Dictionary, DictEntry, IsDictionary, PlainDefinition, groups, definitions, selected, has_command, is_command}
+use Rattle.dia_dict.specs.Dictionary.{Dictionary, IsDictionary, PlainDefinition, groups, definitions, selected, has_command, is_command}
 use Rattle.dia_dict.proofs.Numbering.{slice_get-append_right}
 use Rattle.dia_check.specs.declared.policy.Unknown.{Unknown}
 use Rattle.dia_check.specs.declared.policy.Levels.{Levels}
@@ -24,11 +24,11 @@ use Rattle.dia_check.specs.declared.fault.Reason.{Reason}
 use Rattle.dia_check.specs.declared.fault.Reason.TheVariants as reason
 use Rattle.dia_check.specs.declared.fault.Subject.{Subject}
 use Rattle.dia_check.specs.declared.fault.Subject.TheVariants.{Nothing}
-use Rattle.dia_check.specs.Valid.{HasR, HasE, HasT, HasP, class_of, AllowsP, PHolds, known, IsValid}
+use Rattle.dia_check.specs.Valid.{class_of, AllowsP, PHolds, IsValid}
 use Rattle.dia_check.specs.Levels.{MayOpen, between}
 use Rattle.dia_check.specs.Faults.{Spot, spot, IsWrong, Stands, HasGoodHeader, HasHeader, HasLength}
 use Rattle.dia_check.specs.Faults as faults
-use Rattle.dia_check.specs.Walks.{Found, Rest, behind, inside, whole, group_at, IsFine, Walks, ended, leaf, group}
+use Rattle.dia_check.specs.Walks.{Rest, behind, inside, whole, group_at, IsFine, Walks, ended, leaf, group}
 use Rattle.dia_check.proofs.Level.{opens}
 use Rattle.dia_check.proofs.Found.{Lies, looks, member, lies_behind, lies_inside, body_lies}
 use Rattle.dia_check.proofs.First.{begun_room}
@@ -38,12 +38,14 @@ use Rattle.dia_check.proofs.Formats.{leaf_or_level}
 
 -- ---- the header of 20 bytes
 
-head_parts : (xs : List ℕ) → 20 ≤ length xs → take 20 xs ≡ (get_or xs 0 0 ∷ take 3 (drop 1 xs)) ++ (get_or xs 4 0 ∷ take 3 (drop 5 xs)) ++ take 4 (drop 8 xs) ++ take 4 (drop 12 xs) ++ take 4 (drop 16 xs)
+head_parts : (xs : List ℕ) → 20 ≤ length xs → take 20 xs ≡ (get_or xs 0 0 ∷ take 3 (drop 1 xs)) ++ (get_or xs 4 0 ∷ take 3 (drop 5 xs)) ++ take 4 (drop 8 xs) ++ take 4
+    (drop 12 xs) ++ take 4 (drop 16 xs)
 head_parts xs h =
     take-add 16 4 xs ∙ ap (λ (f : List ℕ). f ++ take 4 (drop 16 xs)) (
     take-add 12 4 xs ∙ ap (λ (f : List ℕ). f ++ take 4 (drop 12 xs)) (
     take-add 8 4 xs ∙ ap (λ (f : List ℕ). f ++ take 4 (drop 8 xs)) (
-    take-add 4 4 xs ∙ ap (λ (f : List ℕ). take 4 xs ++ take 4 f) (drop_more xs 4 0 (omega arith)) ∙ ap (λ (f : List ℕ). take 4 f ++ (get_or xs 4 0 ∷ take 3 (drop 5 xs))) (drop_more xs 0 0 (omega arith)))))
+    take-add 4 4 xs ∙ ap (λ (f : List ℕ). take 4 xs ++ take 4 f) (drop_more xs 4 0 (omega arith))
+    ∙ ap (λ (f : List ℕ). take 4 f ++ (get_or xs 4 0 ∷ take 3 (drop 5 xs))) (drop_more xs 0 0 (omega arith)))))
 
 read_field : (n i x : ℕ) (xs : List ℕ) → i + n ≤ length xs → number (take n (drop i xs)) ≡ x → IsField n x (take n (drop i xs))
 read_field n i x xs h e = record { width = omega (arith, length-take n (drop i xs), length-drop i xs, h); value = e }
@@ -62,7 +64,8 @@ header_of bytes h =
         app = take 4 (drop 8 bytes);
         hop = take 4 (drop 12 bytes);
         e2e = take 4 (drop 16 bytes);
-        parts = head_parts bytes long ∙ ap (λ (x : ℕ). (x ∷ take 3 (drop 1 bytes)) ++ (get_or bytes 4 0 ∷ take 3 (drop 5 bytes)) ++ take 4 (drop 8 bytes) ++ take 4 (drop 12 bytes) ++ take 4 (drop 16 bytes)) (first_is bytes long h.version);
+        parts = head_parts bytes long ∙ ap (λ (x : ℕ). (x ∷ take 3 (drop 1 bytes)) ++ (get_or bytes 4 0 ∷ take 3 (drop 5 bytes)) ++ take 4 (drop 8 bytes) ++ take 4 (drop 12 bytes) ++ take 4
+            (drop 16 bytes)) (first_is bytes long h.version);
         length_field = read_field 3 1 (length bytes) bytes (omega (arith, long)) (sym h.is_length);
         code_field = read_field 3 5 (number (take 3 (drop 5 bytes))) bytes (omega (arith, long)) refl;
         app_field = read_field 4 8 (number (take 4 (drop 8 bytes))) bytes (omega (arith, long)) refl;
@@ -81,14 +84,16 @@ either None None n c P h x y = absurd (none-some c h)
 either None (Some j) n c P h x y = y j refl (same_Some (n + j) c h)
 either (Some i) b n c P h x y = x i refl (same_Some (n + i) c h)
 
-command_at : (d : Dictionary) (code : ℕ) (class : Class) (app : Option ℕ) (c i : ℕ) → position (λ (x : PlainDefinition). is_command code class app x.head) d.commands ≡ Some i → length (groups d) + i ≡ c → (command : PlainDefinition) × (slice_get (definitions d) c ≡ Some command)
+command_at : (d : Dictionary) (code : ℕ) (class : Class) (app : Option ℕ) (c i : ℕ) → position (λ (x : PlainDefinition). is_command code class app x.head) d.commands ≡ Some i
+    → length (groups d) + i ≡ c → (command : PlainDefinition) × (slice_get (definitions d) c ≡ Some command)
 command_at d code class app c i h e =
     let p = position-Some (λ (x : PlainDefinition). is_command code class app x.head) d.commands i some_definition h in
     (get_or d.commands i some_definition, ap (λ (n : ℕ). slice_get (definitions d) n) (sym e) ∙ slice_get-append_right (groups d) d.commands i ∙ slice_get-get_or d.commands i some_definition p.0)
 
 selected_at : (d : Dictionary) (code : ℕ) (class : Class) (app c : ℕ) → selected d code class app ≡ Some c → (command : PlainDefinition) × (slice_get (definitions d) c ≡ Some command)
 selected_at d code class app c h =
-    either (position (λ (x : PlainDefinition). is_command code class (Some app) x.head) d.commands) (position (λ (x : PlainDefinition). is_command code class None x.head) d.commands) (length (groups d)) c
+    either (position (λ (x : PlainDefinition). is_command code class (Some app) x.head) d.commands) (position (λ (x : PlainDefinition). is_command code class None x.head) d.commands)
+    (length (groups d)) c
     ((command : PlainDefinition) × (slice_get (definitions d) c ≡ Some command)) h (λ i at e. command_at d code class (Some app) c i at e) (λ i at e. command_at d code class None c i at e)
 
 p_holds : (p : Pxy) (flags : ℕ) → ¬ ¬ PHolds p flags → PHolds p flags
@@ -159,7 +164,8 @@ module _ (d : Dictionary) (sound : IsDictionary d) (u : Unknown) (most : Levels)
     quiet_end s l [] is no_avp =
         let done : length s.bytes ≡ 0 = ap length is in
         let at_end : s.at ≡ s.level.end = omega (arith, l.size, done) in
-        ended is (λ i rule first. none _ _ _ (faults.missing_at_end s.level s.earlier i rule (looks d u most bytes good s l) (subst (λ (n : ℕ). SpellsAll s.earlier (between bytes s.level.start n)) at_end l.before) first)) refl
+        ended is (λ i rule first. none _ _ _ (faults.missing_at_end s.level s.earlier i rule (looks d u most bytes good s l)
+        (subst (λ (n : ℕ). SpellsAll s.earlier (between bytes s.level.start n)) at_end l.before) first)) refl
     quiet_end s l (x ∷ xs) is no_avp =
         let some : length s.bytes ≡ suc (length xs) = ap length is in
         absurd (none _ _ _ (faults.avp_length s.level s.earlier s.at (looks d u most bytes good s l) l.from (omega (arith, l.size, some)) l.before (subst BeginsWithNone (sym l.here) no_avp)))
@@ -171,7 +177,8 @@ module _ (d : Dictionary) (sound : IsDictionary d) (u : Unknown) (most : Levels)
 
     quiet_front : (s : Rest) → Here s → ((v : PlainAvp) × (rest : List ℕ) × BeginsWith v s.bytes rest) ⊎ BeginsWithNone s.bytes
         → ((v : PlainAvp) (rest : List ℕ) → BeginsWith v s.bytes rest → Walks d u most (behind s v rest) None)
-        → ((v : PlainAvp) (rest : List ℕ) (g : PlainDefinition) → BeginsWith v s.bytes rest → group_at d v ≡ Some g → MayOpen most s.level.depth → Walks d u most (inside s v g) None) → Walks d u most s None
+        → ((v : PlainAvp) (rest : List ℕ) (g : PlainDefinition) → BeginsWith v s.bytes rest → group_at d v ≡ Some g → MayOpen most s.level.depth → Walks d u most (inside s v g) None)
+        → Walks d u most s None
     quiet_front s l (inl (v, rest, begins)) next inner =
         let fine = quiet_fine s v rest l begins in
         quiet_avp s v rest (group_at d v) refl begins fine (next v rest begins) (λ g is. inner v rest g begins is (opens d sound u most s v g fine is))
@@ -188,8 +195,11 @@ module _ (d : Dictionary) (sound : IsDictionary d) (u : Unknown) (most : Levels)
   pub none_valid : HasLength bytes (length bytes) → IsValid d u most bytes
   none_valid h =
       let (header, is) = header_of bytes h in
-      let good = good_of header is in
-      (good.c, walk_valid d sound u most bytes good (quiet good (suc (length (whole good.command.rules bytes).bytes)) (whole good.command.rules bytes) (body_lies d sound u most bytes good) (omega arith)))
+      let good = good_of header is in (
+        good.c,
+        walk_valid d sound u most bytes good (quiet good (suc (length (whole good.command.rules bytes).bytes)) (whole good.command.rules bytes) (body_lies d sound u most bytes good)
+            (omega arith)),
+      )
 
 pub validity : (d : Dictionary) (u : Unknown) (most : Levels) (bytes : List ℕ) → IsDictionary d → HasLength bytes (length bytes)
     → IsValid d u most bytes ↔ ((other : Spot) (r : Reason) (t : Subject) → ¬ Stands d u most bytes other r t)

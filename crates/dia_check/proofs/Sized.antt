@@ -1,5 +1,5 @@
 -- The header of a message, and what is answered of it.
-use Rattle.std.proofs.Common.{◌≡◌, ℕ, ◌<◌, ◌≤◌, Bool, true, false, List, length, take, Option, Some, None, refl, sym, ap, subst, ◌∙◌, arith, inl, inr}
+use Rattle.std.proofs.Common.{◌≡◌, ℕ, Bool, true, false, List, length, take, Option, Some, None, refl, sym, ap, subst, ◌∙◌, inr}
 use Rattle.std.specs.Prelude.{slice_get, Err, ◌⊎◌}
 use Rattle.dia_wire.specs.declared.Header.{Header}
 use Rattle.dia_wire.specs.Wire.{IsHead, IsMessageLength}
@@ -13,8 +13,8 @@ use Rattle.dia_check.specs.declared.fault.Reason.TheVariants as reason
 use Rattle.dia_check.specs.declared.fault.Refusal.{Refusal}
 use Rattle.dia_check.specs.declared.fault.Refusal.TheVariants as refusal
 use Rattle.dia_check.specs.Valid.{HasR, HasE, HasT, class_of, AllowsP}
-use Rattle.dia_check.specs.Faults.{HasGoodHeader, HasHeader, HasLength, IsFirst, IsAnswer, simple}
-use Rattle.dia_check.specs.Walks.{Found, Walks, IsFoundIn, whole, fault_of}
+use Rattle.dia_check.specs.Faults.{HasGoodHeader, HasHeader, HasLength, IsAnswer, simple}
+use Rattle.dia_check.specs.Walks.{IsFoundIn, whole}
 use Rattle.dia_check.proofs.Answering.{bits_first, proxiable_first, command_first, application_first, walk_answers}
 
 pub has_length : (h : Header) (n : ℕ) (bytes : List ℕ) → IsHead h n (take 20 bytes) → IsMessageLength n → HasLength bytes n
@@ -43,8 +43,13 @@ module _ (d : Dictionary) (sound : IsDictionary d) (u : Unknown) (most : Levels)
     pub no_command : (found : Bool) → found ≡ has_command d h.code class → found ≡ false → IsAnswer d u most bytes (Err (refusal.Fault (simple 5 reason.Command)))
     no_command found e none = inr (inr (sized, command_first d sound u most bytes h is bits (ap (λ (c : Class). has_command d h.code c) (sym same) ∙ sym e ∙ none)))
 
-    pub no_application : (found : Bool) → found ≡ has_command d h.code class → found ≡ true → None ≡ selected d h.code class h.app → IsAnswer d u most bytes (Err (refusal.Fault (simple 8 reason.Application)))
-    no_application found e some none = inr (inr (sized, application_first d sound u most bytes h is bits (ap (λ (c : Class). has_command d h.code c) (sym same) ∙ sym e ∙ some) (selected_of None none)))
+    pub no_application : (found : Bool) → found ≡ has_command d h.code class → found ≡ true → None ≡ selected d h.code class h.app
+        → IsAnswer d u most bytes (Err (refusal.Fault (simple 8 reason.Application)))
+    no_application found e some none = inr (inr (
+      sized,
+      application_first d sound u most bytes h is bits (ap (λ (c : Class). has_command d h.code c) (sym same) ∙ sym e
+          ∙ some) (selected_of None none),
+    ))
 
 module _ (d : Dictionary) (sound : IsDictionary d) (u : Unknown) (most : Levels) (bytes : List ℕ) (sized : HasLength bytes (length bytes)) (good : HasGoodHeader d bytes) where
   pub found_answers : (e : Refusal) → IsFoundIn d u most (whole good.command.rules bytes) e → IsAnswer d u most bytes (Err e)

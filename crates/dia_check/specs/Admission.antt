@@ -1,5 +1,5 @@
 -- What is wrong with an AVP, by what a checker knows of it: first by its key and flags, and then by its data.
-use Rattle.std.specs.Prelude.{◌≡◌, ◌≢◌, ℕ, ◌≤◌, ◌⊎◌, List, length, map, Option, Some, None, Result, Ok, Err, slice_get, MatchOption}
+use Rattle.std.specs.Prelude.{◌≡◌, ◌≢◌, ℕ, ◌≤◌, ◌⊎◌, List, Option, Some, None, slice_get, MatchOption}
 use Rattle.dia_wire.specs.declared.Key.{Key}
 use Rattle.dia_wire.specs.Wire.{PlainAvp, key_of}
 use Rattle.dia_data.specs.Plain.{Grouped}

@@ -1,11 +1,11 @@
 -- What is wrong with a message, and which of it is told (RFC 6733 section 7.1; places and order are this project's).
-use Rattle.std.specs.Prelude.{◌≡◌, ◌≢◌, ℕ, zero, suc, ◌+◌, ◌<◌, ◌≤◌, ◌⊎◌, Bool, true, false, List, [], ◌∷◌, ◌++◌, length, map, take, drop, sum, Option, Some, None, Result, Ok, Err, slice_get, slice_index, IsSome, IfSome, IsNone, if◌then◌else◌, IsTrue, ⊤}
-use Rattle.std.specs.List.{prefix_len, list_any}
+use Rattle.std.specs.Prelude.{◌≡◌, ◌≢◌, ℕ, suc, ◌<◌, ◌≤◌, ◌⊎◌, true, false, List, [], ◌∷◌, ◌++◌, length, map, take, drop, sum, Option, Some, None, Result, Ok, Err, slice_get, slice_index, if◌then◌else◌, IsTrue, ⊤}
+use Rattle.std.specs.List.{prefix_len}
 use Rattle.dia_wire.specs.declared.Header.{Header}
 use Rattle.dia_wire.specs.declared.Key.{Key}
 use Rattle.dia_wire.specs.Number.{number}
 use Rattle.dia_wire.specs.Wire.{PlainAvp, key_of, SpellsAll, BeginsWithNone, IsHead, IsMessageLength}
-use Rattle.dia_data.specs.Plain.{PlainFormat, Grouped}
+use Rattle.dia_data.specs.Plain.{Grouped}
 use Rattle.dia_data.specs.Leaf.{IsLeaf, LengthFits}
 use Rattle.dia_dict.specs.declared.DRule.{DRule}
 use Rattle.dia_dict.specs.Dictionary.{Dictionary, DictEntry, PlainDefinition, is_fixed, lists_key, has_command, selected, definitions}
@@ -19,7 +19,7 @@ use Rattle.dia_check.specs.declared.fault.Fault.{Fault}
 use Rattle.dia_check.specs.declared.fault.Selected.{Selected}
 use Rattle.dia_check.specs.declared.fault.Refusal.{Refusal}
 use Rattle.dia_check.specs.declared.fault.Refusal.TheVariants as refusal
-use Rattle.dia_check.specs.Valid.{HasR, HasE, HasT, class_of, AllowsP, known, MHolds, IsAccepted, IsValidOf, InBounds, fixed_rules, loose_rules, is_listed, has_wildcard, counted}
+use Rattle.dia_check.specs.Valid.{HasR, HasE, HasT, class_of, AllowsP, known, MHolds, IsAccepted, IsValidOf, fixed_rules, is_listed, has_wildcard, counted}
 use Rattle.dia_check.specs.Levels.{Level, between, IsMember, IsOpen, MayOpen}
 
 -- ---- where faults stand, and their order

@@ -1,5 +1,5 @@
 -- The levels of a message: its body, and the data of each group that the dictionary knows (RFC 6733 section 4.4).
-use Rattle.std.specs.Prelude.{◌≡◌, ℕ, suc, ◌+◌, ◌-◌, ◌<◌, ◌≤◌, List, ◌++◌, length, take, drop, Option, Some, None, slice_get, IsSome, IfSome, replicate, option_and_then, ⊤}
+use Rattle.std.specs.Prelude.{◌≡◌, ℕ, suc, ◌+◌, ◌-◌, ◌<◌, ◌≤◌, List, ◌++◌, length, take, drop, Some, slice_get, replicate, option_and_then, ⊤}
 use Rattle.dia_wire.specs.declared.Header.{Header}
 use Rattle.dia_wire.specs.Number.{number}
 use Rattle.dia_wire.specs.Wire.{PlainAvp, key_of, head_length, avp_length, SpellsAll, BeginsWith, IsHead}

@@ -1,9 +1,9 @@
 -- What a checker keeps of the levels that are open: the run that each is in, and how often each of its rules was met.
-use Rattle.std.specs.Prelude.{◌≡◌, ◌≢◌, ℕ, zero, suc, ◌+◌, ◌<◌, ◌≤◌, ◌⊎◌, ◌==◌, if◌then◌else◌, Bool, false, List, [], ◌∷◌, ◌++◌, length, map, drop, Option, Some, None, Result, Ok, Err, slice_get, slice_index, position, IsTrue}
+use Rattle.std.specs.Prelude.{◌≡◌, ◌≢◌, ℕ, zero, suc, ◌+◌, ◌<◌, ◌≤◌, ◌⊎◌, ◌==◌, if◌then◌else◌, false, List, [], ◌∷◌, ◌++◌, length, drop, Option, Some, None, slice_get, slice_index, position, IsTrue}
 use Rattle.std.specs.List.{prefix_len}
 use Rattle.dia_wire.specs.declared.Key.{Key}
 use Rattle.dia_dict.specs.declared.DRule.{DRule}
-use Rattle.dia_dict.specs.Dictionary.{PlainDefinition, AreRules, lists_key}
+use Rattle.dia_dict.specs.Dictionary.{Dictionary, PlainDefinition, definitions, lists_key}
 use Rattle.dia_check.specs.declared.fault.Reason.{Reason}
 use Rattle.dia_check.specs.declared.fault.Reason.TheVariants as reason
 use Rattle.dia_check.specs.declared.fault.Subject.{Subject}
@@ -104,6 +104,10 @@ pub record SoFar : Type 0 where
 abbrev pub begun : List DRule → ℕ → SoFar
 begun rules end = record { rules = rules; end = end; keys = [] }
 
+-- one key more can be counted
+abbrev pub HasRoom : SoFar → Type 0
+HasRoom level = length level.keys < 4294967295
+
 abbrev pub and_key : SoFar → Key → SoFar
 and_key level key = record { rules = level.rules; end = level.end; keys = level.keys ++ key ∷ [] }
 
@@ -131,3 +135,7 @@ pub record AreOpen (defs : List PlainDefinition) (open_levels : OpenLevels) (out
   pub are_outer : AreKept defs 0 open_levels.outer.items before outer
   pub base : open_levels.innermost.base ≡ length before
   pub innermost : IsKept defs open_levels.innermost mine level
+
+-- the open levels have their definitions in this dictionary
+abbrev pub AreOpenUnder : Dictionary → OpenLevels → List SoFar → SoFar → Type 0
+AreOpenUnder d open_levels outer level = AreOpen (definitions d) open_levels outer level

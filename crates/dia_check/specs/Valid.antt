@@ -1,5 +1,5 @@
 -- Valid messages (RFC 6733 sections 3, 3.2, 4.1 and 4.4).
-use Rattle.std.specs.Prelude.{◌≡◌, ◌≢◌, ℕ, zero, suc, ◌+◌, ◌<◌, ◌≤◌, ◌⊎◌, ◌==◌, bit_and, Bool, true, false, not, if◌then◌else◌, List, [], ◌∷◌, ◌++◌, length, map, filter, count_by, Option, Some, None, is_some, slice_get, IsSome, IfSome, MatchOption, Contains, IsTrue, option_and_then, ⊤}
+use Rattle.std.specs.Prelude.{◌≡◌, ℕ, zero, suc, ◌≤◌, ◌⊎◌, ◌==◌, bit_and, Bool, false, not, if◌then◌else◌, List, [], ◌∷◌, ◌++◌, length, map, filter, count_by, Option, Some, is_some, slice_get, IfSome, MatchOption, IsTrue, option_and_then, ⊤}
 use Rattle.std.specs.List.{list_any, AllByRecursion}
 use Rattle.std.specs.Int.{IsBitSet}
 use Rattle.dia_wire.specs.declared.Header.{Header}

@@ -1,11 +1,11 @@
 -- How a checker goes through a message, one AVP after the other and the members of a group before what is behind it, and what it finds first.
-use Rattle.std.proofs.Common.{◌≡◌, ℕ, zero, suc, ◌+◌, ◌<◌, ◌≤◌, List, [], ◌∷◌, ◌++◌, length, map, drop, Option, Some, None}
+use Rattle.std.proofs.Common.{◌≡◌, ℕ, suc, ◌+◌, ◌<◌, ◌≤◌, List, [], ◌∷◌, ◌++◌, length, map, drop, Option, Some, None}
 use Rattle.std.specs.Prelude.{option_and_then, ◌⊎◌, ⊤}
 use Rattle.dia_wire.specs.Wire.{PlainAvp, key_of, head_length, avp_length, padded_length, BeginsWith, BeginsWithNone}
 use Rattle.dia_data.specs.Plain.{Grouped}
 use Rattle.dia_data.specs.Leaf.{IsLeaf}
 use Rattle.dia_dict.specs.declared.DRule.{DRule}
-use Rattle.dia_dict.specs.Dictionary.{Dictionary, DictEntry, IsDictionary, PlainDefinition}
+use Rattle.dia_dict.specs.Dictionary.{Dictionary, DictEntry, PlainDefinition}
 use Rattle.dia_check.specs.declared.policy.Unknown.{Unknown}
 use Rattle.dia_check.specs.declared.policy.Levels.{Levels}
 use Rattle.dia_check.specs.declared.policy.Levels.TheVariants.{Any, AtMost}
@@ -16,9 +16,9 @@ use Rattle.dia_check.specs.declared.fault.Subject.TheVariants.{Nothing}
 use Rattle.dia_check.specs.declared.fault.Fault.{Fault}
 use Rattle.dia_check.specs.declared.fault.Refusal.{Refusal}
 use Rattle.dia_check.specs.declared.fault.Refusal.TheVariants as refusal
-use Rattle.dia_check.specs.Valid.{known, IsValidOf}
-use Rattle.dia_check.specs.Levels.{Level, IsOpen}
-use Rattle.dia_check.specs.Faults.{Spot, End, spot, row_of, code_of, IsBefore, subject_of, IsFirstMissing, IsWrong, Stands, HasGoodHeader}
+use Rattle.dia_check.specs.Valid.{known}
+use Rattle.dia_check.specs.Levels.{Level}
+use Rattle.dia_check.specs.Faults.{Spot, End, spot, row_of, code_of, subject_of, IsFirstMissing, IsWrong}
 
 pub record Found : Type 0 where
   pub spot : Spot
@@ -62,7 +62,8 @@ pub data Walks (d : Dictionary) (u : Unknown) (most : Levels) : Rest → Option 
   ended : {s : Rest} {f : Option Found} → s.bytes ≡ [] → ((i : ℕ) (rule : DRule) → ¬ IsFirstMissing s.level.rules (map key_of s.earlier) i rule) → f ≡ None → Walks d u most s f
   missing : {s : Rest} {f : Option Found} (i : ℕ) (rule : DRule) → s.bytes ≡ [] → IsFirstMissing s.level.rules (map key_of s.earlier) i rule
       → f ≡ Some (record { spot = record { place = s.level.end; row = End s.level.depth }; reason = reason.Missing; subject = subject_of rule.key }) → Walks d u most s f
-  broken : {s : Rest} {f : Option Found} → 0 < length s.bytes → BeginsWithNone s.bytes → f ≡ Some (record { spot = spot s.at reason.AvpLength; reason = reason.AvpLength; subject = Nothing }) → Walks d u most s f
+  broken : {s : Rest} {f : Option Found} → 0 < length s.bytes → BeginsWithNone s.bytes
+      → f ≡ Some (record { spot = spot s.at reason.AvpLength; reason = reason.AvpLength; subject = Nothing }) → Walks d u most s f
   wrong : {s : Rest} {f : Option Found} (v : PlainAvp) (rest : List ℕ) (r : Reason) (t : Subject) → BeginsWith v s.bytes rest → IsFirstWrong d u most s v r t
       → f ≡ Some (record { spot = spot s.at r; reason = r; subject = t }) → Walks d u most s f
   leaf : {s : Rest} {f : Option Found} (v : PlainAvp) (rest : List ℕ) → BeginsWith v s.bytes rest → IsFine d u most s v → group_at d v ≡ None → Walks d u most (behind s v rest) f → Walks d u most s f

@@ -1,11 +1,12 @@
 //! One AVP of an open level: its flags, its place, and its data.
 
-ghost use Rattle.std.specs.Prelude.{◌≡◌, ◌<◌, ◌↔◌, ◌++◌, ◌∷◌, [], IfOk, OnOk, List, Option, Some, length, slice_get, MatchOption, MatchResult, IsTrue};
+ghost use Rattle.std.specs.Prelude.{◌≡◌, ◌<◌, ◌↔◌, ◌++◌, ◌∷◌, [], IfOk, OnOk, List, Option, Some};
+ghost use Rattle.std.specs.Prelude.{length, slice_get, MatchOption, MatchResult, IsTrue};
 ghost use Rattle.dia_wire.specs.Wire.{plain, key_of};
 ghost use Rattle.dia_dict.specs.Dictionary.{Dictionary, DictEntry, IsDictionary, PlainDefinition, definitions, entry_of};
 ghost use Rattle.dia_check.specs.Valid.{MHolds, IsAccepted};
 ghost use Rattle.dia_check.specs.Levels.{MayOpen};
-ghost use Rattle.dia_check.specs.OpenLevels.{SoFar, begun, and_key, AreOpen, IsMetAtEnd, IsMissingAtEnd};
+ghost use Rattle.dia_check.specs.OpenLevels.{SoFar, begun, and_key, HasRoom, AreOpenUnder, IsMetAtEnd, IsMissingAtEnd};
 ghost use Rattle.dia_check.specs.Admission.{HasFlags, IsWrongFlags, IsAdmitted, IsFirstRefused, IsFineData, IsWrongData, IsFineAvp, IsWrongAvp};
 
 use crate::fault::{Reason, Subject};
@@ -27,11 +28,13 @@ pub(crate) fn check_avp<B: Book>(
     avp: &Avp<'_>,
 ) -> Result<Option<DefId>, Wrong>
     requires sound { IsDictionary (B.meaning book.now) }
-    requires open_levels { (outer : List SoFar) × (level : SoFar) × AreOpen (definitions (B.meaning book.now)) open_levels.old outer level × (length level.keys < 4294967295) }
-    ensures { (outer : List SoFar) (level : SoFar) → AreOpen (definitions (B.meaning book.now)) open_levels.old outer level
+    requires open_levels { (outer : List SoFar) × (level : SoFar)
+        × AreOpenUnder (B.meaning book.now) open_levels.old outer level × HasRoom level }
+    ensures { (outer : List SoFar) (level : SoFar)
+        → AreOpenUnder (B.meaning book.now) open_levels.old outer level
         → MatchResult result
         (λ group. IsFineAvp (B.meaning book.now) unknown levels (length outer) level.rules level.keys (plain avp.now) group
-        × AreOpen (definitions (B.meaning book.now)) open_levels.new outer (and_key level (key_of (plain avp.now))))
+        × AreOpenUnder (B.meaning book.now) open_levels.new outer (and_key level (key_of (plain avp.now))))
         (λ wrong. IsWrongAvp (B.meaning book.now) unknown levels (length outer) level.rules level.keys (plain avp.now) wrong) }
 {
     let key = key(avp);
@@ -51,8 +54,10 @@ pub(crate) fn check_avp<B: Book>(
 /// What is missing at the end of the innermost level.
 pub(crate) fn missing_at_end<B: Book>(book: &B, open_levels: &OpenLevels) -> Option<Wrong>
     requires sound { IsDictionary (B.meaning book.now) }
-    requires open_levels { (outer : List SoFar) × (level : SoFar) × AreOpen (definitions (B.meaning book.now)) open_levels.now outer level }
-    ensures { (outer : List SoFar) (level : SoFar) → AreOpen (definitions (B.meaning book.now)) open_levels.now outer level
+    requires open_levels { (outer : List SoFar) × (level : SoFar)
+        × AreOpenUnder (B.meaning book.now) open_levels.now outer level }
+    ensures { (outer : List SoFar) (level : SoFar)
+        → AreOpenUnder (B.meaning book.now) open_levels.now outer level
         → MatchOption result (IsMetAtEnd level.rules level.keys) (IsMissingAtEnd level.rules level.keys) }
 {
     let def = open_levels.innermost().def;
@@ -68,8 +73,9 @@ pub(crate) fn open_body<B: Book>(
 ) -> Result<OpenLevels, AllocError>
     requires sound { IsDictionary (B.meaning book.now) }
     requires def { def < length (definitions (B.meaning book.now)) }
-    ensures { (definition : PlainDefinition) → slice_get (definitions (B.meaning book.now)) def ≡ Some definition
-        → IfOk result (λ open_levels. AreOpen (definitions (B.meaning book.now)) open_levels [] (begun definition.rules end)) }
+    ensures { (definition : PlainDefinition)
+        → slice_get (definitions (B.meaning book.now)) def ≡ Some definition
+        → IfOk result (λ open_levels. AreOpenUnder (B.meaning book.now) open_levels [] (begun definition.rules end)) }
 {
     OpenLevels::new(alloc, def, &book.def(def).rules, end)
 }
@@ -83,9 +89,10 @@ pub(crate) fn open_group<B: Book>(
 ) -> Result<(), AllocError>
     requires sound { IsDictionary (B.meaning book.now) }
     requires def { def < length (definitions (B.meaning book.now)) }
-    ensures { (definition : PlainDefinition) (outer : List SoFar) (level : SoFar) → slice_get (definitions (B.meaning book.now)) def ≡ Some definition
-        → AreOpen (definitions (B.meaning book.now)) open_levels.old outer level
-        → OnOk result (AreOpen (definitions (B.meaning book.now)) open_levels.new (outer ++ level ∷ []) (begun definition.rules end)) }
+    ensures { (definition : PlainDefinition) (outer : List SoFar) (level : SoFar)
+        → slice_get (definitions (B.meaning book.now)) def ≡ Some definition
+        → AreOpenUnder (B.meaning book.now) open_levels.old outer level
+        → OnOk result (AreOpenUnder (B.meaning book.now) open_levels.new (outer ++ level ∷ []) (begun definition.rules end)) }
 {
     open_levels.open(def, &book.def(def).rules, end)
 }
@@ -99,11 +106,14 @@ pub(crate) fn admit<B: Book>(
     flags: u8,
 ) -> Result<Option<Entry>, Wrong>
     requires sound { IsDictionary (B.meaning book.now) }
-    requires open_levels { (outer : List SoFar) × (level : SoFar) × AreOpen (definitions (B.meaning book.now)) open_levels.old outer level × (length level.keys < 4294967295) }
-    ensures { (outer : List SoFar) (level : SoFar) → AreOpen (definitions (B.meaning book.now)) open_levels.old outer level
+    requires open_levels { (outer : List SoFar) × (level : SoFar)
+        × AreOpenUnder (B.meaning book.now) open_levels.old outer level × HasRoom level }
+    ensures { (outer : List SoFar) (level : SoFar)
+        → AreOpenUnder (B.meaning book.now) open_levels.old outer level
         → MatchResult result
-        (λ entry. IsAdmitted (B.meaning book.now) unknown level.rules level.keys key flags × (entry ≡ entry_of (B.meaning book.now) key)
-        × AreOpen (definitions (B.meaning book.now)) open_levels.new outer (and_key level key))
+        (λ entry. IsAdmitted (B.meaning book.now) unknown level.rules level.keys key flags
+        × (entry ≡ entry_of (B.meaning book.now) key)
+        × AreOpenUnder (B.meaning book.now) open_levels.new outer (and_key level key))
         (λ wrong. IsFirstRefused (B.meaning book.now) unknown level.rules level.keys key flags wrong) }
 {
     let entry = find_entry(book, unknown, key, flags)?;
@@ -119,7 +129,9 @@ fn find_entry<B: Book>(
     key: Key,
     flags: u8,
 ) -> Result<Option<Entry>, Wrong>
-    ensures { MatchResult result (λ entry. (entry ≡ entry_of (B.meaning book.now) key) × HasFlags (B.meaning book.now) unknown key flags)
+    ensures { MatchResult result
+        (λ entry. (entry ≡ entry_of (B.meaning book.now) key)
+        × HasFlags (B.meaning book.now) unknown key flags)
         (λ wrong. IsWrongFlags (B.meaning book.now) unknown key flags wrong) }
 {
     let subject = Subject::Avp(key);
@@ -180,7 +192,8 @@ pub(crate) fn check_data<B: Book>(
     requires sound { IsDictionary (B.meaning book.now) }
     requires entry { entry < length (B.meaning book.now).entries }
     ensures { (e : DictEntry) → slice_get (B.meaning book.now).entries entry ≡ Some e
-        → MatchResult result (λ group. IsFineData (B.meaning book.now) levels depth e bytes.now group) (λ reason. IsWrongData levels depth e bytes.now reason) }
+        → MatchResult result (λ group. IsFineData (B.meaning book.now) levels depth e bytes.now group)
+        (λ reason. IsWrongData levels depth e bytes.now reason) }
 {
     match accepts(book.format(entry), bytes) {
         Leaf::Fine => {}

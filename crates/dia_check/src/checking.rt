@@ -16,7 +16,15 @@ use crate::policy::{Levels, Unknown};
 use dia_dict::Book;
 use std::alloc::Global;
 
-/// Checks a message: the command of a valid one, and else what is wrong with it.
+/// Checks the bytes of a message against a dictionary (RFC 6733 sections 3, 3.2, 4.1 and 4.4): the command of a valid
+/// one, and else what is wrong with it.
+///
+/// `Truncated` are fewer bytes than a header's 20 or than Message Length says, and `Trailing` are more. Everything else that
+/// is wrong is a `Fault`, at its place in bytes from the first: a version that isn't 1, then a Message Length that no message
+/// has, and then the first fault of all by its place. Ends of levels come before AVPs at one place, and deeper ends before
+/// outer ones; faults of one AVP come in the order of `Reason`. The places, the order and the result codes are our profile.
+///
+/// `NoMemory` comes where a level could not be opened for lack of memory, and `Spent` never.
 pub fn check<B: Book>(
     alloc: Global,
     book: &B,
@@ -26,7 +34,8 @@ pub fn check<B: Book>(
 ) -> Result<Selected, Refusal>
     ensures answer { IsAnswer (B.meaning book.now) unknown levels bytes.now result }
     // A valid message is found to be one, unless memory runs out.
-    ensures valid { (c : ℕ) → IsValidOf (B.meaning book.now) unknown levels bytes.now c → MatchResult result (λ found. found.def ≡ c) (λ e. e ≡ Refusal.NoMemory) }
+    ensures valid { (c : ℕ) → IsValidOf (B.meaning book.now) unknown levels bytes.now c
+        → MatchResult result (λ found. found.def ≡ c) (λ e. e ≡ Refusal.NoMemory) }
 {
     // A book hands out with its count that it is sound.
     let _count = book.entries();
@@ -36,14 +45,18 @@ pub fn check<B: Book>(
     Ok(Selected { def })
 }
 
-/// A whole message is valid exactly where no fault stands.
+/// A whole message, with a sound version and Message Length, is valid exactly where no fault stands.
 pub fn validity()
-    ensures { (d : Dictionary) (u : AnyPolicy) (most : AnyLevels) (bytes : List ℕ) → IsDictionary d → HasLength bytes (length bytes)
-        → IsValid d u most bytes ↔ ((spot : Spot) (reason : AnyReason) (subject : AnySubject) → ¬ Stands d u most bytes spot reason subject) }
+    ensures { (d : Dictionary) (u : AnyPolicy) (most : AnyLevels) (bytes : List ℕ) → IsDictionary d
+        → HasLength bytes (length bytes)
+        → IsValid d u most bytes
+        ↔ ((spot : Spot) (reason : AnyReason) (subject : AnySubject) → ¬ Stands d u most bytes spot reason subject) }
 {}
 
-/// Bytes have one answer, but for want of memory.
+/// Bytes have one answer, unless memory runs out.
 pub fn one_answer()
-    ensures { (d : Dictionary) (u : AnyPolicy) (most : AnyLevels) (bytes : List ℕ) (a b : Result AnySelected AnyRefusal) → IsDictionary d
-        → IsAnswer d u most bytes a → IsAnswer d u most bytes b → a ≢ Err Refusal.NoMemory → b ≢ Err Refusal.NoMemory → a ≡ b }
+    ensures { (d : Dictionary) (u : AnyPolicy) (most : AnyLevels) (bytes : List ℕ)
+        (a b : Result AnySelected AnyRefusal) → IsDictionary d
+        → IsAnswer d u most bytes a → IsAnswer d u most bytes b → a ≢ Err Refusal.NoMemory
+        → b ≢ Err Refusal.NoMemory → a ≡ b }
 {}

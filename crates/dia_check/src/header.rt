@@ -25,7 +25,8 @@ const RETRANSMITTED: u8 = 0x10;
 /// The header of a message that is all of the bytes.
 pub(crate) fn whole_header(bytes: &[u8]) -> Result<Header, Refusal>
     ensures { (d : Dictionary) (u : AnyPolicy) (most : AnyLevels)
-        → MatchResult result (λ header. HasHeader bytes.now header × HasLength bytes.now (length bytes.now) × (length bytes.now < 2 ^ 32)) (λ refusal. IsAnswer d u most bytes.now (Err refusal)) }
+        → MatchResult result (λ header. HasHeader bytes.now header × HasLength bytes.now (length bytes.now)
+        × (length bytes.now < 2 ^ 32)) (λ refusal. IsAnswer d u most bytes.now (Err refusal)) }
 {
     match read_header(bytes) {
         Ok((header, length)) => {
@@ -47,8 +48,10 @@ pub(crate) fn whole_header(bytes: &[u8]) -> Result<Header, Refusal>
 /// The command of a message with this header, where nothing is wrong with the header.
 pub(crate) fn good_command<B: Book>(book: &B, header: &Header) -> Result<DefId, Refusal>
     requires { IsDictionary (B.meaning book.now) }
-    ensures { (u : AnyPolicy) (most : AnyLevels) (bytes : List ℕ) → HasLength bytes (length bytes) → HasHeader bytes header.now
-        → MatchResult result (λ def. (good : HasGoodHeader (B.meaning book.now) bytes) × (good.c ≡ def)) (λ refusal. IsAnswer (B.meaning book.now) u most bytes (Err refusal)) }
+    ensures { (u : AnyPolicy) (most : AnyLevels) (bytes : List ℕ) → HasLength bytes (length bytes)
+        → HasHeader bytes header.now
+        → MatchResult result (λ def. (good : HasGoodHeader (B.meaning book.now) bytes) × (good.c ≡ def))
+        (λ refusal. IsAnswer (B.meaning book.now) u most bytes (Err refusal)) }
 {
     if !has_good_bits(header.flags) {
         return Err(header_fault(4, Reason::Bits));

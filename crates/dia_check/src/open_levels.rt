@@ -6,7 +6,7 @@ ghost use Rattle.dia_dict.specs.declared.DRule.{DRule as AnyRule};
 ghost use Rattle.dia_dict.specs.Dictionary.{AreRules, PlainDefinition, slot_of};
 ghost use Rattle.dia_check.specs.Valid.{fixed_rules, is_wildcard};
 ghost use Rattle.dia_check.specs.Faults.{subject_of};
-ghost use Rattle.dia_check.specs.OpenLevels.{AreMet, IsFirstUnmet, IsCounted, Leads, IsMet, IsWellPlaced, IsFirstMisplaced, IsMetAtEnd, IsMissingAtEnd, SoFar, begun, and_key, AreOpen};
+ghost use Rattle.dia_check.specs.OpenLevels.{AreMet, IsFirstUnmet, IsCounted, Leads, IsMet, IsWellPlaced, IsFirstMisplaced, IsMetAtEnd, IsMissingAtEnd, SoFar, begun, and_key, HasRoom, AreOpen};
 
 use crate::fault::{Reason, Subject};
 use dia_dict::{DRule, DefId, RuleKind, Slot};
@@ -65,7 +65,8 @@ impl OpenLevel {
 
     /// The run into which an AVP of this slot leads, and the rule that counts it.
     fn lead(&self, slot: Slot) -> (usize, Option<usize>)
-        ensures { (rules : List AnyRule) (keys : List AnyKey) (key : AnyKey) (counts : List ℕ) → AreRules rules → IsCounted rules keys self.now counts
+        ensures { (rules : List AnyRule) (keys : List AnyKey) (key : AnyKey) (counts : List ℕ)
+            → AreRules rules → IsCounted rules keys self.now counts
             → slot ≡ slot_of rules key → Leads rules keys key self.now.run result.0 result.1 }
     {
         match slot {
@@ -86,7 +87,8 @@ impl OpenLevel {
     ) -> Result<usize, Wrong>
         requires rules { AreRules rules.now }
         requires slot { slot ≡ slot_of rules.now key }
-        requires counted { (keys : List AnyKey) × IsCounted rules.now keys self.now counts.old × (length keys < 4294967295) }
+        requires counted { (keys : List AnyKey) × IsCounted rules.now keys self.now counts.old
+            × (length keys < 4294967295) }
         ensures { (keys : List AnyKey) → IsCounted rules.now keys self.now counts.old
             → MatchResult result (λ run. IsMet rules.now keys key (record self.now { run = run }) counts.new) (λ wrong. IsFirstMisplaced rules.now keys key wrong) }
     {
@@ -116,7 +118,8 @@ impl OpenLevel {
 /// The first rule from one place up to another that was met less often than its min.
 fn first_unmet(rules: &[DRule], counts: &[u32], from: usize, to: usize) -> Option<usize>
     requires { (length counts.now ≡ length rules.now) × (to ≤ length rules.now) }
-    ensures { MatchOption result (AreMet rules.now counts.now from to) (λ i. IsFirstUnmet rules.now counts.now from to i) }
+    ensures { MatchOption result (AreMet rules.now counts.now from to)
+        (λ i. IsFirstUnmet rules.now counts.now from to i) }
 {
     for place in from..to {
         if counts[place] < rules[place].min {
@@ -149,7 +152,8 @@ impl OpenLevels {
         end: usize,
     ) -> Result<Self, AllocError>
         requires { AreRules rules.now }
-        ensures { (defs : List PlainDefinition) (definition : PlainDefinition) → slice_get defs def ≡ Some definition → definition.rules ≡ rules.now
+        ensures { (defs : List PlainDefinition) (definition : PlainDefinition)
+            → slice_get defs def ≡ Some definition → definition.rules ≡ rules.now
             → IfOk result (λ levels. AreOpen defs levels [] (begun rules.now end)) }
     {
         let mut counts = Vec::new(alloc);
@@ -165,7 +169,8 @@ impl OpenLevels {
     pub(crate) fn open(&mut self, def: DefId, rules: &[DRule], end: usize) -> Result<(), AllocError>
         requires { AreRules rules.now }
         ensures { (defs : List PlainDefinition) (definition : PlainDefinition) (outer : List SoFar) (level : SoFar) → slice_get defs def ≡ Some definition
-            → definition.rules ≡ rules.now → AreOpen defs self.old outer level → OnOk result (AreOpen defs self.new (outer ++ level ∷ []) (begun rules.now end)) }
+            → definition.rules ≡ rules.now → AreOpen defs self.old outer level
+            → OnOk result (AreOpen defs self.new (outer ++ level ∷ []) (begun rules.now end)) }
     {
         let base = self.counts.len();
         self.outer.push(self.innermost)?;
@@ -176,9 +181,12 @@ impl OpenLevels {
 
     /// Ends the innermost level. Answers whether it lay in another, which is the innermost then.
     pub(crate) fn close(&mut self) -> bool
-        ensures inner { IsTrue result → (defs : List PlainDefinition) (outer : List SoFar) (level : SoFar) → AreOpen defs self.old outer level
-            → (others : List SoFar) × (next : SoFar) × (outer ≡ others ++ next ∷ []) × AreOpen defs self.new others next }
-        ensures last { IsFalse result → (defs : List PlainDefinition) (outer : List SoFar) (level : SoFar) → AreOpen defs self.old outer level → outer ≡ [] }
+        ensures inner { IsTrue result → (defs : List PlainDefinition) (outer : List SoFar) (level : SoFar)
+            → AreOpen defs self.old outer level
+            → (others : List SoFar) × (next : SoFar) × (outer ≡ others ++ next ∷ [])
+            × AreOpen defs self.new others next }
+        ensures last { IsFalse result → (defs : List PlainDefinition) (outer : List SoFar) (level : SoFar)
+            → AreOpen defs self.old outer level → outer ≡ [] }
     {
         match self.outer.pop() {
             Some(next) => {
@@ -194,9 +202,13 @@ impl OpenLevels {
     pub(crate) fn meet(&mut self, rules: &[DRule], slot: Slot, key: Key) -> Result<(), Wrong>
         requires rules { AreRules rules.now }
         requires slot { slot ≡ slot_of rules.now key }
-        requires open { (defs : List PlainDefinition) × (outer : List SoFar) × (level : SoFar) × AreOpen defs self.old outer level × (level.rules ≡ rules.now) × (length level.keys < 4294967295) }
-        ensures { (defs : List PlainDefinition) (outer : List SoFar) (level : SoFar) → AreOpen defs self.old outer level → level.rules ≡ rules.now
-            → MatchResult result (λ _. IsWellPlaced rules.now level.keys key × AreOpen defs self.new outer (and_key level key)) (λ wrong. IsFirstMisplaced rules.now level.keys key wrong) }
+        requires open { (defs : List PlainDefinition) × (outer : List SoFar) × (level : SoFar)
+            × AreOpen defs self.old outer level × (level.rules ≡ rules.now) × HasRoom level }
+        ensures { (defs : List PlainDefinition) (outer : List SoFar) (level : SoFar)
+            → AreOpen defs self.old outer level → level.rules ≡ rules.now
+            → MatchResult result (λ _. IsWellPlaced rules.now level.keys key
+            × AreOpen defs self.new outer (and_key level key))
+            (λ wrong. IsFirstMisplaced rules.now level.keys key wrong) }
     {
         let base = self.innermost.base;
         let run = self
@@ -208,8 +220,10 @@ impl OpenLevels {
 
     /// What is missing at the end of the innermost level.
     pub(crate) fn missing(&self, rules: &[DRule]) -> Option<Wrong>
-        requires { (defs : List PlainDefinition) × (outer : List SoFar) × (level : SoFar) × AreOpen defs self.now outer level × (level.rules ≡ rules.now) }
-        ensures { (defs : List PlainDefinition) (outer : List SoFar) (level : SoFar) → AreOpen defs self.now outer level → level.rules ≡ rules.now
+        requires { (defs : List PlainDefinition) × (outer : List SoFar) × (level : SoFar)
+            × AreOpen defs self.now outer level × (level.rules ≡ rules.now) }
+        ensures { (defs : List PlainDefinition) (outer : List SoFar) (level : SoFar)
+            → AreOpen defs self.now outer level → level.rules ≡ rules.now
             → MatchOption result (IsMetAtEnd rules.now level.keys) (IsMissingAtEnd rules.now level.keys) }
     {
         let base = self.innermost.base;
@@ -226,7 +240,8 @@ impl OpenLevels {
 
     /// How many groups the innermost level lies in.
     pub(crate) fn depth(&self) -> usize
-        ensures { (defs : List PlainDefinition) (outer : List SoFar) (level : SoFar) → AreOpen defs self.now outer level → result ≡ length outer }
+        ensures { (defs : List PlainDefinition) (outer : List SoFar) (level : SoFar)
+            → AreOpen defs self.now outer level → result ≡ length outer }
     {
         self.outer.len()
     }

@@ -1,4 +1,4 @@
-use Rattle.std.proofs.Common.{List, sym, subst, ◌∙◌}
+use Rattle.std.proofs.Common.{List, sym, subst}
 use Rattle.std.proofs.lemmas.Result.{err_from_is_err_and}
 use Rattle.dia_dict.specs.declared.DRule.{DRule}
 use Rattle.dia_dict.specs.Dictionary.{definitions}
@@ -12,10 +12,12 @@ returns-in_err-entry g c outer level now =
     rw (p.1, p.2) (refused_by_flags (g.B.Book.meaning c.args.book.now) c.args.unknown c.args.key c.args.flags level.rules level.keys c.in_err-entry.field-0.0 c.in_err-entry.ensures)
 
 pub def-requires : goal.def-requires
-def-requires g c = let (outer, level, now, few) = c.requires.open_levels in def_within (g.B.Book.meaning c.args.book.now) c.args.open_levels.now outer level c.innermost-def.result now c.innermost-def.ensures
+def-requires g c = let (outer, level, now, few) = c.requires.open_levels in
+    def_within (g.B.Book.meaning c.args.book.now) c.args.open_levels.now outer level c.innermost-def.result now c.innermost-def.ensures
 
 pub slot-requires : goal.slot-requires
-slot-requires g c = let (outer, level, now, few) = c.requires.open_levels in def_within (g.B.Book.meaning c.args.book.now) c.args.open_levels.now outer level c.innermost-def.result now c.innermost-def.ensures
+slot-requires g c = let (outer, level, now, few) = c.requires.open_levels in
+    def_within (g.B.Book.meaning c.args.book.now) c.args.open_levels.now outer level c.innermost-def.result now c.innermost-def.ensures
 
 pub meet-requires-clause-rules : goal.meet-requires-clause-rules
 meet-requires-clause-rules g c = are_rules_here (g.B.Book.meaning c.args.book.now) c.innermost-def.result.def _ c.deref.result.now c.requires.sound c.def.ensures c.deref.ensures.value

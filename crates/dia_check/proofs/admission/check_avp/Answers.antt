@@ -1,7 +1,7 @@
 use Rattle.std.proofs.Common.{sym, subst, length, ◌∙◌}
 use Rattle.std.proofs.lemmas.Result.{err_from_is_err_and}
 use Rattle.dia_wire.specs.declared.Key.{Key}
-use Rattle.dia_wire.specs.Wire.{plain, key_of}
+use Rattle.dia_wire.specs.Wire.{plain}
 use Rattle.dia_dict.specs.Dictionary.{definitions}
 use Rattle.dia_check.specs.OpenLevels.{AreOpen, and_key}
 use Rattle.dia_check.proofs.Admitting.{entry_within, fine_known, fine_unknown, wrong_refused, wrong_data}
@@ -11,7 +11,8 @@ pub returns-in_err-entry : goal.returns-in_err-entry
 returns-in_err-entry g c outer level now =
     let p = err_from_is_err_and c.from_residual.result c.from_residual.ensures.1 in
     rw (p.1, p.2)
-    (wrong_refused (g.B.Book.meaning c.args.book.now) c.args.unknown c.args.levels level.rules level.keys (plain c.args.avp.now) c.key-key.result c.key-key.ensures (length outer) c.in_err-entry.field-0.0
+    (wrong_refused (g.B.Book.meaning c.args.book.now) c.args.unknown c.args.levels level.rules level.keys (plain c.args.avp.now) c.key-key.result c.key-key.ensures
+    (length outer) c.in_err-entry.field-0.0
     (c.in_err-entry.ensures outer level now))
 
 pub check_data-requires-clause-entry : goal.check_data-requires-clause-entry

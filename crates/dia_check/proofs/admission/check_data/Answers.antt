@@ -1,4 +1,3 @@
-use Rattle.std.proofs.Common.{subst}
 use Rattle.std.proofs.lemmas.Bool.{both_ways}
 use Rattle.dia_check.proofs.Admitting.{group_data, too_deep, answer_at}
 use Rattle.dia_check.proofs.admission.check_data.Goals as goal

@@ -1,5 +1,5 @@
-use Rattle.std.proofs.Common.{ℕ, ◌≤◌, ◌<◌, ◌≡◌, Some, None, length, get_or, sym, refl, arith}
-use Rattle.std.proofs.lemmas.Option.{slice_get-get_or, get_or_from_slice_get}
+use Rattle.std.proofs.Common.{◌<◌, None, length, arith}
+use Rattle.std.proofs.lemmas.Option.{slice_get-get_or}
 use Rattle.dia_check.proofs.Meeting.{to_within, rule_within, count_few, missing_first, not_allowed_first, too_many_first, met_now, is_max_of, no_max_of}
 use Rattle.dia_dict.specs.declared.DRule.{DRule}
 use Rattle.dia_dict.specs.declared.RuleKind.TheVariants.{Fixed}
@@ -9,54 +9,109 @@ no_rule : DRule
 no_rule = record { kind = Fixed; key = None; min = 0; max = None }
 
 pub first_unmet-requires : goal.first_unmet-requires
-first_unmet-requires c = let (keys, counted, few) = c.requires.counted in (counted.many, to_within c.args.rules.now c.requires.rules keys c.args.key c.args.self.now c.args.counts.now counted c.lead-run.result.0 c.lead-run.result.1 (c.lead-run.ensures c.args.rules.now keys c.args.key c.args.counts.now c.requires.rules counted c.requires.slot))
+first_unmet-requires c = let (keys, counted, few) = c.requires.counted in (
+  counted.many,
+  to_within c.args.rules.now c.requires.rules keys c.args.key c.args.self.now c.args.counts.now counted c.lead-run.result.0 c.lead-run.result.1
+      (c.lead-run.ensures c.args.rules.now keys c.args.key c.args.counts.now c.requires.rules counted c.requires.slot),
+)
 
 pub bounds-rules-place : goal.bounds-rules-place
-bounds-rules-place c = let (keys, counted, few) = c.requires.counted in omega (arith, c.in-Some.ensures.inside, to_within c.args.rules.now c.requires.rules keys c.args.key c.args.self.now c.args.counts.now counted c.lead-run.result.0 c.lead-run.result.1 (c.lead-run.ensures c.args.rules.now keys c.args.key c.args.counts.now c.requires.rules counted c.requires.slot))
+bounds-rules-place c = let (keys, counted, few) = c.requires.counted in
+    omega (
+      arith,
+      c.in-Some.ensures.inside,
+      to_within c.args.rules.now c.requires.rules keys c.args.key c.args.self.now c.args.counts.now counted c.lead-run.result.0 c.lead-run.result.1
+          (c.lead-run.ensures c.args.rules.now keys c.args.key c.args.counts.now c.requires.rules counted c.requires.slot),
+    )
 
 pub offset_bounds-rules-place : goal.offset_bounds-rules-place
-offset_bounds-rules-place c = let (keys, counted, few) = c.requires.counted in omega (arith, c.in-Some.ensures.inside, to_within c.args.rules.now c.requires.rules keys c.args.key c.args.self.now c.args.counts.now counted c.lead-run.result.0 c.lead-run.result.1 (c.lead-run.ensures c.args.rules.now keys c.args.key c.args.counts.now c.requires.rules counted c.requires.slot), c.requires.rules.few)
+offset_bounds-rules-place c = let (keys, counted, few) = c.requires.counted in
+    omega (
+      arith,
+      c.in-Some.ensures.inside,
+      to_within c.args.rules.now c.requires.rules keys c.args.key c.args.self.now c.args.counts.now counted c.lead-run.result.0 c.lead-run.result.1
+          (c.lead-run.ensures c.args.rules.now keys c.args.key c.args.counts.now c.requires.rules counted c.requires.slot),
+      c.requires.rules.few,
+    )
 
 pub returns-in-Some : goal.returns-in-Some
 returns-in-Some c keys counted =
-    let within = to_within c.args.rules.now c.requires.rules keys c.args.key c.args.self.now c.args.counts.now counted c.lead-run.result.0 c.lead-run.result.1 (c.lead-run.ensures c.args.rules.now keys c.args.key c.args.counts.now c.requires.rules counted c.requires.slot) in
+    let within = to_within c.args.rules.now c.requires.rules keys c.args.key c.args.self.now c.args.counts.now counted c.lead-run.result.0 c.lead-run.result.1
+    (c.lead-run.ensures c.args.rules.now keys c.args.key c.args.counts.now c.requires.rules counted c.requires.slot) in
     let lt : c.in-Some.place < length c.args.rules.now = omega (arith, c.in-Some.ensures.inside, within) in
     rw c.missing.ensures
-    (missing_first c.args.rules.now c.requires.rules keys c.args.key c.args.self.now c.args.counts.now counted c.lead-run.result.0 c.lead-run.result.1 (c.lead-run.ensures c.args.rules.now keys c.args.key c.args.counts.now c.requires.rules counted c.requires.slot) c.in-Some.place _ c.in-Some.ensures (slice_get-get_or c.args.rules.now c.in-Some.place _ lt))
+    (missing_first c.args.rules.now c.requires.rules keys c.args.key c.args.self.now c.args.counts.now counted c.lead-run.result.0 c.lead-run.result.1
+    (c.lead-run.ensures c.args.rules.now keys c.args.key c.args.counts.now c.requires.rules counted c.requires.slot) c.in-Some.place _ c.in-Some.ensures
+    (slice_get-get_or c.args.rules.now c.in-Some.place _ lt))
 
 pub returns-in_default-rule : goal.returns-in_default-rule
-returns-in_default-rule c keys counted = not_allowed_first c.args.rules.now c.requires.rules keys c.args.key c.args.self.now c.args.counts.now counted c.lead-run.result.0 c.lead-run.result.1 (c.lead-run.ensures c.args.rules.now keys c.args.key c.args.counts.now c.requires.rules counted c.requires.slot) c.in_default.ensures c.in_default-rule.is
+returns-in_default-rule c keys counted = not_allowed_first c.args.rules.now c.requires.rules keys c.args.key c.args.self.now c.args.counts.now counted c.lead-run.result.0
+    c.lead-run.result.1 (c.lead-run.ensures c.args.rules.now keys c.args.key c.args.counts.now c.requires.rules counted c.requires.slot) c.in_default.ensures c.in_default-rule.is
 
 pub bounds-counts-rule : goal.bounds-counts-rule
-bounds-counts-rule c = let (keys, counted, few) = c.requires.counted in (rule_within c.args.rules.now c.requires.rules keys c.args.key c.args.self.now c.args.counts.now counted c.lead-run.result.0 c.lead-run.result.1 (c.lead-run.ensures c.args.rules.now keys c.args.key c.args.counts.now c.requires.rules counted c.requires.slot) c.in-Some-rule.rule c.in-Some-rule.is).1
+bounds-counts-rule c = let (keys, counted, few) = c.requires.counted in
+    (rule_within c.args.rules.now c.requires.rules keys c.args.key c.args.self.now c.args.counts.now counted c.lead-run.result.0 c.lead-run.result.1
+    (c.lead-run.ensures c.args.rules.now keys c.args.key c.args.counts.now c.requires.rules counted c.requires.slot) c.in-Some-rule.rule c.in-Some-rule.is).1
 
 pub offset_bounds-counts-rule : goal.offset_bounds-counts-rule
-offset_bounds-counts-rule c = let (keys, counted, few) = c.requires.counted in omega (arith, rule_within c.args.rules.now c.requires.rules keys c.args.key c.args.self.now c.args.counts.now counted c.lead-run.result.0 c.lead-run.result.1 (c.lead-run.ensures c.args.rules.now keys c.args.key c.args.counts.now c.requires.rules counted c.requires.slot) c.in-Some-rule.rule c.in-Some-rule.is)
+offset_bounds-counts-rule c = let (keys, counted, few) = c.requires.counted in
+    omega (
+      arith,
+      rule_within c.args.rules.now c.requires.rules keys c.args.key c.args.self.now c.args.counts.now counted c.lead-run.result.0 c.lead-run.result.1
+          (c.lead-run.ensures c.args.rules.now keys c.args.key c.args.counts.now c.requires.rules counted c.requires.slot) c.in-Some-rule.rule c.in-Some-rule.is,
+    )
 
 pub bounds-rules-rule : goal.bounds-rules-rule
-bounds-rules-rule c = let (keys, counted, few) = c.requires.counted in (rule_within c.args.rules.now c.requires.rules keys c.args.key c.args.self.now c.args.counts.now counted c.lead-run.result.0 c.lead-run.result.1 (c.lead-run.ensures c.args.rules.now keys c.args.key c.args.counts.now c.requires.rules counted c.requires.slot) c.in-Some-rule.rule c.in-Some-rule.is).0
+bounds-rules-rule c = let (keys, counted, few) = c.requires.counted in
+    (rule_within c.args.rules.now c.requires.rules keys c.args.key c.args.self.now c.args.counts.now counted c.lead-run.result.0 c.lead-run.result.1
+    (c.lead-run.ensures c.args.rules.now keys c.args.key c.args.counts.now c.requires.rules counted c.requires.slot) c.in-Some-rule.rule c.in-Some-rule.is).0
 
 pub offset_bounds-rules-rule : goal.offset_bounds-rules-rule
-offset_bounds-rules-rule c = let (keys, counted, few) = c.requires.counted in omega (arith, rule_within c.args.rules.now c.requires.rules keys c.args.key c.args.self.now c.args.counts.now counted c.lead-run.result.0 c.lead-run.result.1 (c.lead-run.ensures c.args.rules.now keys c.args.key c.args.counts.now c.requires.rules counted c.requires.slot) c.in-Some-rule.rule c.in-Some-rule.is)
+offset_bounds-rules-rule c = let (keys, counted, few) = c.requires.counted in
+    omega (
+      arith,
+      rule_within c.args.rules.now c.requires.rules keys c.args.key c.args.self.now c.args.counts.now counted c.lead-run.result.0 c.lead-run.result.1
+          (c.lead-run.ensures c.args.rules.now keys c.args.key c.args.counts.now c.requires.rules counted c.requires.slot) c.in-Some-rule.rule c.in-Some-rule.is,
+    )
 
 pub bounds-counts-rule-2 : goal.bounds-counts-rule-2
-bounds-counts-rule-2 c = let (keys, counted, few) = c.requires.counted in (rule_within c.args.rules.now c.requires.rules keys c.args.key c.args.self.now c.args.counts.now counted c.lead-run.result.0 c.lead-run.result.1 (c.lead-run.ensures c.args.rules.now keys c.args.key c.args.counts.now c.requires.rules counted c.requires.slot) c.in-Some-rule.rule c.in-Some-rule.is).1
+bounds-counts-rule-2 c = let (keys, counted, few) = c.requires.counted in
+    (rule_within c.args.rules.now c.requires.rules keys c.args.key c.args.self.now c.args.counts.now counted c.lead-run.result.0 c.lead-run.result.1
+    (c.lead-run.ensures c.args.rules.now keys c.args.key c.args.counts.now c.requires.rules counted c.requires.slot) c.in-Some-rule.rule c.in-Some-rule.is).1
 
 pub offset_bounds-counts-rule-2 : goal.offset_bounds-counts-rule-2
-offset_bounds-counts-rule-2 c = let (keys, counted, few) = c.requires.counted in omega (arith, rule_within c.args.rules.now c.requires.rules keys c.args.key c.args.self.now c.args.counts.now counted c.lead-run.result.0 c.lead-run.result.1 (c.lead-run.ensures c.args.rules.now keys c.args.key c.args.counts.now c.requires.rules counted c.requires.slot) c.in-Some-rule.rule c.in-Some-rule.is)
+offset_bounds-counts-rule-2 c = let (keys, counted, few) = c.requires.counted in
+    omega (
+      arith,
+      rule_within c.args.rules.now c.requires.rules keys c.args.key c.args.self.now c.args.counts.now counted c.lead-run.result.0 c.lead-run.result.1
+          (c.lead-run.ensures c.args.rules.now keys c.args.key c.args.counts.now c.requires.rules counted c.requires.slot) c.in-Some-rule.rule c.in-Some-rule.is,
+    )
 
 pub overflow_add-counts : goal.overflow_add-counts
 overflow_add-counts c =
     let (keys, counted, few) = c.requires.counted in
-    let lt = (rule_within c.args.rules.now c.requires.rules keys c.args.key c.args.self.now c.args.counts.now counted c.lead-run.result.0 c.lead-run.result.1 (c.lead-run.ensures c.args.rules.now keys c.args.key c.args.counts.now c.requires.rules counted c.requires.slot) c.in-Some-rule.rule c.in-Some-rule.is).0 in
-    omega (arith, few, count_few c.args.rules.now c.requires.rules keys c.args.key c.args.self.now c.args.counts.now counted c.lead-run.result.0 c.lead-run.result.1 (c.lead-run.ensures c.args.rules.now keys c.args.key c.args.counts.now c.requires.rules counted c.requires.slot) c.in-Some-rule.rule _ (slice_get-get_or c.args.rules.now c.in-Some-rule.rule no_rule lt))
+    let lt = (rule_within c.args.rules.now c.requires.rules keys c.args.key c.args.self.now c.args.counts.now counted c.lead-run.result.0 c.lead-run.result.1
+    (c.lead-run.ensures c.args.rules.now keys c.args.key c.args.counts.now c.requires.rules counted c.requires.slot) c.in-Some-rule.rule c.in-Some-rule.is).0 in
+    omega (
+      arith,
+      few,
+      count_few c.args.rules.now c.requires.rules keys c.args.key c.args.self.now c.args.counts.now counted c.lead-run.result.0 c.lead-run.result.1
+          (c.lead-run.ensures c.args.rules.now keys c.args.key c.args.counts.now c.requires.rules counted c.requires.slot) c.in-Some-rule.rule _
+          (slice_get-get_or c.args.rules.now c.in-Some-rule.rule no_rule lt),
+    )
 
 pub returns-then-eq : goal.returns-then-eq
 returns-then-eq c keys counted =
-    let lt = (rule_within c.args.rules.now c.requires.rules keys c.args.key c.args.self.now c.args.counts.now counted c.lead-run.result.0 c.lead-run.result.1 (c.lead-run.ensures c.args.rules.now keys c.args.key c.args.counts.now c.requires.rules counted c.requires.slot) c.in-Some-rule.rule c.in-Some-rule.is).0 in
-    too_many_first c.args.rules.now c.requires.rules keys c.args.key c.args.self.now c.args.counts.now counted c.lead-run.result.0 c.lead-run.result.1 (c.lead-run.ensures c.args.rules.now keys c.args.key c.args.counts.now c.requires.rules counted c.requires.slot) c.in_default.ensures c.in-Some-rule.rule c.in-Some-rule.is _ (slice_get-get_or c.args.rules.now c.in-Some-rule.rule _ lt) (is_max_of _ _ c.if-eq.ensures)
+    let lt = (rule_within c.args.rules.now c.requires.rules keys c.args.key c.args.self.now c.args.counts.now counted c.lead-run.result.0 c.lead-run.result.1
+    (c.lead-run.ensures c.args.rules.now keys c.args.key c.args.counts.now c.requires.rules counted c.requires.slot) c.in-Some-rule.rule c.in-Some-rule.is).0 in
+    too_many_first c.args.rules.now c.requires.rules keys c.args.key c.args.self.now c.args.counts.now counted c.lead-run.result.0 c.lead-run.result.1
+    (c.lead-run.ensures c.args.rules.now keys c.args.key c.args.counts.now c.requires.rules counted c.requires.slot) c.in_default.ensures c.in-Some-rule.rule c.in-Some-rule.is _
+    (slice_get-get_or c.args.rules.now c.in-Some-rule.rule _ lt) (is_max_of _ _ c.if-eq.ensures)
 
 pub returns : goal.returns
 returns c keys counted =
-    let lt = (rule_within c.args.rules.now c.requires.rules keys c.args.key c.args.self.now c.args.counts.now counted c.lead-run.result.0 c.lead-run.result.1 (c.lead-run.ensures c.args.rules.now keys c.args.key c.args.counts.now c.requires.rules counted c.requires.slot) c.in-Some-rule.rule c.in-Some-rule.is).0 in
-    met_now c.args.rules.now c.requires.rules keys c.args.key c.args.self.now c.args.counts.now counted c.lead-run.result.0 c.lead-run.result.1 (c.lead-run.ensures c.args.rules.now keys c.args.key c.args.counts.now c.requires.rules counted c.requires.slot) c.in_default.ensures c.in-Some-rule.rule c.in-Some-rule.is _ (slice_get-get_or c.args.rules.now c.in-Some-rule.rule _ lt) (no_max_of _ _ c.if-eq.ensures)
+    let lt = (rule_within c.args.rules.now c.requires.rules keys c.args.key c.args.self.now c.args.counts.now counted c.lead-run.result.0 c.lead-run.result.1
+    (c.lead-run.ensures c.args.rules.now keys c.args.key c.args.counts.now c.requires.rules counted c.requires.slot) c.in-Some-rule.rule c.in-Some-rule.is).0 in
+    met_now c.args.rules.now c.requires.rules keys c.args.key c.args.self.now c.args.counts.now counted c.lead-run.result.0 c.lead-run.result.1
+    (c.lead-run.ensures c.args.rules.now keys c.args.key c.args.counts.now c.requires.rules counted c.requires.slot) c.in_default.ensures c.in-Some-rule.rule c.in-Some-rule.is _
+    (slice_get-get_or c.args.rules.now c.in-Some-rule.rule _ lt) (no_max_of _ _ c.if-eq.ensures)

@@ -1,4 +1,4 @@
-use Rattle.std.proofs.Common.{ℕ, List, length, take, ◌++◌, ◌-◌, ◌∙◌, refl}
+use Rattle.std.proofs.Common.{length, take, ◌++◌, ◌-◌, ◌∙◌, refl}
 use Rattle.std.specs.Vec.{with_items}
 use borrow.Rule.Slice.PartMut.{post_of}
 use Rattle.dia_check.specs.declared.open_levels.OpenLevels.{OpenLevels}
