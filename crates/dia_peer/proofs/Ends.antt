@@ -1,0 +1,294 @@
+use Rattle.std.proofs.Common.{◌≡◌, ℕ, zero, suc, ◌<◌, Bool, true, false, cond, ◌&&◌, List, [], ◌∷◌, ◌++◌, length, map, Option, Some, None, inl, inr, ⊎_elim, refl, sym, ap, subst, ◌∙◌}
+use Rattle.std.specs.Prelude.{◌↔◌, nat_eq, slice_get}
+use Rattle.std.specs.List.{AllByRecursion, starts_with}
+use Rattle.std.proofs.lemmas.Option.{same_Some, none-some}
+use Rattle.dia_wire.specs.Wire.{PlainAvp, MessageWithZeros}
+use Rattle.dia_peer.specs.declared.kept.Ids.{Ids}
+use Rattle.dia_peer.specs.declared.config.App.{App}
+use Rattle.dia_peer.specs.declared.config.Role.{Role}
+use Rattle.dia_peer.specs.declared.config.Role.TheVariants.{Initiator, Responder}
+use Rattle.dia_peer.specs.declared.event.State.{State}
+use Rattle.dia_peer.specs.declared.event.State.TheVariants.{Open}
+use Rattle.dia_peer.specs.Core.{PlainConfig, IsConfig, PlainCore, PlainTaken, Pair, pair_of, common_of}
+use Rattle.dia_peer.specs.Messages.{Received, Cer, Cea, cea, IsGood, IsReceived}
+use Rattle.dia_peer.specs.Table.{Happening, Starts, Gets, Ticks, Stops, Breaks, Deed, Sends, Closes, Outcome, nothing, same_bytes, repeated, only_responder, happens_in, happens}
+use Rattle.dia_peer.specs.World.{End, World, Event, Start, Tick, Stop, Lose, Deliver, AreBytes, AreSpelled, Goes, HappensAt, Happens, Run, start, AreShared, IsPastOpen, RepeatsAnswer, Agrees}
+use Rattle.dia_peer.proofs.Sets.{IsIn, to_in, of_in, in_cases, in_left, in_right, in_common, into_common, eq_self}
+use Rattle.dia_peer.proofs.Spelled.{one_writing}
+use Rattle.dia_peer.proofs.Moves.{Suits, may_later, AllMay, Opened, stays, by_answer, by_request, Moves, moves}
+use Rattle.dia_peer.proofs.Delivered.{IsSentBy, is_request, received_cer, received_cea}
+
+abbrev Numbers : PlainConfig → Type 0
+Numbers c = AllByRecursion (λ (a : App). a.id < 4294967295) c.apps
+
+abbrev Has : PlainConfig → Pair → Type 0
+Has c p = IsIn (map pair_of c.apps) p
+
+-- ---- one end
+
+-- an end of this role and configuration: what it has sent
+record IsEnd (role : Role) (c : PlainConfig) (e : End) : Type 0 where
+  config : e.core.config ≡ c
+  role_is : e.core.role ≡ role
+  suits : Suits role e.core.state
+  sent : (bytes : List ℕ) → IsIn e.sent bytes → IsSentBy role c e.core.state bytes
+
+sent_later : (role : Role) (c : PlainConfig) (s t : State) (bytes : List ℕ) → (IsPastOpen s → IsPastOpen t) → IsSentBy role c s bytes → IsSentBy role c t bytes
+sent_later role c s t bytes past x = record { m = x.m; may = may_later role c s t x.m past x.may; are_bytes = x.are_bytes; message = x.message }
+
+sent_now : (role : Role) (c : PlainConfig) (state : State) (deeds : List Deed) (messages : List (List ℕ)) → AreSpelled deeds messages → AllMay role c state deeds → (bytes : List ℕ) → IsIn messages bytes → IsSentBy role c state bytes
+sent_now role c state [] messages is may bytes m = absurd (subst (λ (x : List (List ℕ)). IsIn x bytes) is m)
+sent_now role c state (Closes reason ∷ deeds) messages is may bytes m = sent_now role c state deeds messages is may bytes m
+sent_now role c state (Sends s ∷ deeds) messages (b, rest, e, are, message, more) may bytes m = by (subst (λ (x : List (List ℕ)). IsIn x bytes) e m) (λ k. sent_now role c state deeds rest more may.1 bytes k)
+  where
+    by : IsIn (b ∷ rest) bytes → (IsIn rest bytes → IsSentBy role c state bytes) → IsSentBy role c state bytes
+    by (inl same) later = record { m = s; may = may.0; are_bytes = subst AreBytes same are; message = subst (MessageWithZeros s.header s.avps) same message }
+    by (inr k) later = later k
+
+moved : (role : Role) (c : PlainConfig) (old : End) (h : Happening) → IsEnd role c old → Moves old.core h (happens old.core h)
+moved role c old h e = moves old.core h (subst (λ r. Suits r old.core.state) (sym e.role_is) e.suits)
+
+end_goes : (role : Role) (c : PlainConfig) (old : End) (h : Happening) (messages : List (List ℕ)) → IsEnd role c old → AreSpelled (happens old.core h).deeds messages
+    → IsEnd role c (record { core = (happens old.core h).core; sent = old.sent ++ messages })
+end_goes role c old h messages e is =
+    let m = moved role c old h e in
+    let may : AllMay role c (happens old.core h).core.state (happens old.core h).deeds = subst (λ r. AllMay r c (happens old.core h).core.state (happens old.core h).deeds) e.role_is (subst (λ k. AllMay old.core.role k (happens old.core h).core.state (happens old.core h).deeds) e.config m.sends) in
+    record {
+      config = m.config ∙ e.config;
+      role_is = m.role ∙ e.role_is;
+      suits = subst (λ r. Suits r (happens old.core h).core.state) e.role_is m.suits;
+      sent = λ bytes k. ⊎_elim (λ l. sent_later role c old.core.state (happens old.core h).core.state bytes m.past (e.sent bytes l)) (λ r. sent_now role c (happens old.core h).core.state (happens old.core h).deeds messages is may bytes r) (in_cases old.sent messages bytes k);
+    }
+
+-- ---- what comes was sent
+
+abbrev IsFrom : End → Happening → Type 0
+IsFrom other h = (what : Received) → h ≡ Gets what → (bytes : List ℕ) × IsIn other.sent bytes × IsReceived bytes what
+
+abbrev what_of : Happening → Option Received
+what_of (Gets what) = Some what
+what_of Starts = None
+what_of Ticks = None
+what_of (Stops cause) = None
+what_of Breaks = None
+
+at_in : {X : Type 0} (xs : List X) (k : ℕ) (x : X) → slice_get xs k ≡ Some x → IsIn xs x
+at_in [] k x e = absurd (none-some x e)
+at_in (y ∷ xs) zero x e = inl (same_Some y x e)
+at_in (y ∷ xs) (suc k) x e = inr (at_in xs k x e)
+
+-- an event at an end
+record Went (old other new : End) : Type 0 where
+  h : Happening
+  messages : List (List ℕ)
+  from : IsFrom other h
+  spelled : AreSpelled (happens old.core h).deeds messages
+  is : new ≡ record { core = (happens old.core h).core; sent = old.sent ++ messages }
+
+by_itself : (old other new : End) (h : Happening) → what_of h ≡ None → Goes old h new → Went old other new
+by_itself old other new h none g = record { h = h; messages = g.0; from = λ what e. absurd (none-some what (sym none ∙ ap what_of e)); spelled = g.1; is = g.2 }
+
+went : (old other : End) (e : Event) (new : End) → HappensAt old other e new → Went old other new
+went old other Start new g = by_itself old other new Starts refl g
+went old other Tick new g = by_itself old other new Ticks refl g
+went old other (Stop cause) new g = by_itself old other new (Stops cause) refl g
+went old other Lose new g = by_itself old other new Breaks refl g
+went old other (Deliver k) new (bytes, what, at, received, g) = record {
+  h = Gets what;
+  messages = g.0;
+  from = λ w e. (bytes, at_in other.sent k bytes at, subst (IsReceived bytes) (same_Some what w (ap what_of e)) received);
+  spelled = g.1;
+  is = g.2;
+}
+
+-- ---- both ends
+
+-- the applications of both configurations
+abbrev IsShared : PlainConfig → PlainConfig → List Pair → Type 0
+IsShared a b pairs = (p : Pair) → IsIn pairs p ↔ (Has a p × Has b p)
+
+shared_common : (c other : PlainConfig) (apps : List Pair) → ((p : Pair) → IsIn apps p ↔ Has other p) → IsShared c other (common_of c apps)
+shared_common c other apps are p = (
+  λ m. (let k = in_common c apps p m in (k.0, (are p).0 k.1)),
+  λ h. into_common c apps p h.0 ((are p).1 h.1),
+)
+
+turned : (a b : PlainConfig) (pairs : List Pair) → IsShared b a pairs → IsShared a b pairs
+turned a b pairs s p = ((λ m. (let k = (s p).0 m in (k.1, k.0))), (λ h. (s p).1 (h.1, h.0)))
+
+-- the responder took a CER, and has sent its answer
+record Took (b : PlainConfig) (e : End) : Type 0 where
+  taken : PlainTaken
+  is_taken : e.core.taken ≡ Some taken
+  answer : List ℕ
+  sent : IsIn e.sent answer
+  are_bytes : AreBytes answer
+  message : MessageWithZeros (cea b taken.ids 2001).header (cea b taken.ids 2001).avps answer
+  ids : Ids
+  avps : List PlainAvp
+  good : IsGood taken.bytes 257 true false ids avps
+
+-- what holds after any events
+record Holds (a b : PlainConfig) (w : World) : Type 0 where
+  i : IsEnd Initiator a w.initiator
+  r : IsEnd Responder b w.responder
+  i_open : w.initiator.core.state ≡ Open → IsShared a b w.initiator.core.common × (0 < length w.initiator.core.common) × IsPastOpen w.responder.core.state
+  r_open : w.responder.core.state ≡ Open → IsShared a b w.responder.core.common × (0 < length w.responder.core.common) × Took b w.responder
+
+roles_differ : (r : Role) → r ≡ Initiator → r ≡ Responder → ⊥
+roles_differ r e f = let g : Initiator ≡ Responder = sym e ∙ f in absurd cc
+
+abbrev made : End → Happening → List (List ℕ) → End
+made old h messages = record { core = (happens old.core h).core; sent = old.sent ++ messages }
+
+module _ (a b : PlainConfig) (an : Numbers a) (bn : Numbers b) where
+  begins : Holds a b (start a b)
+  begins = record {
+    i = record { config = refl; role_is = refl; suits = tt; sent = λ bytes m. absurd m };
+    r = record { config = refl; role_is = refl; suits = tt; sent = λ bytes m. absurd m };
+    i_open = λ e. absurd cc;
+    r_open = λ e. absurd cc;
+  }
+
+  -- the initiator opens by a CEA of a responder that has opened
+  initiator_opens : (w : World) (h : Happening) → Holds a b w → IsFrom w.responder h → Opened w.initiator.core h (happens w.initiator.core h)
+      → IsShared a b (happens w.initiator.core h).core.common × (0 < length (happens w.initiator.core h).core.common) × IsPastOpen w.responder.core.state
+  initiator_opens w h hold from (stays e common taken) =
+      subst (λ (x : List Pair). IsShared a b x × (0 < length x) × IsPastOpen w.responder.core.state) (sym common) (hold.i_open e)
+  initiator_opens w h hold from (by_request ids bytes apps role is common some taken deeds) = absurd (roles_differ w.initiator.core.role hold.i.role_is role)
+  initiator_opens w h hold from (by_answer ids apps role is common some) =
+      let (bytes, m, received) = from (Cea ids 2001 apps) is in
+      let says = received_cea b bn bytes Responder w.responder.core.state ids apps (hold.r.sent bytes m) received in
+      let config : common_of w.initiator.core.config apps ≡ common_of a apps = ap (λ (c : PlainConfig). common_of c apps) hold.i.config in
+      (subst (IsShared a b) (sym (common ∙ config)) (shared_common a b apps says.2), some, says.1)
+
+  -- the responder opens by a CER of the initiator, and answers it
+  responder_opens : (w : World) (h : Happening) (messages : List (List ℕ)) → Holds a b w → IsFrom w.initiator h → AreSpelled (happens w.responder.core h).deeds messages → Opened w.responder.core h (happens w.responder.core h)
+      → IsShared a b (happens w.responder.core h).core.common × (0 < length (happens w.responder.core h).core.common) × Took b (made w.responder h messages)
+  responder_opens w h messages hold from spelled (stays e common taken) =
+      let old = hold.r_open e in let t = old.2 in (
+        subst (IsShared a b) (sym common) old.0,
+        subst (λ (x : List Pair). 0 < length x) (sym common) old.1,
+        record {
+          taken = t.taken;
+          is_taken = taken ∙ t.is_taken;
+          answer = t.answer;
+          sent = in_left w.responder.sent messages t.answer t.sent;
+          are_bytes = t.are_bytes;
+          message = t.message;
+          ids = t.ids;
+          avps = t.avps;
+          good = t.good;
+        },
+      )
+  responder_opens w h messages hold from spelled (by_answer ids apps role is common some) = absurd (roles_differ w.responder.core.role role hold.r.role_is)
+  responder_opens w h messages hold from spelled (by_request ids same apps role is common some taken deeds) =
+      let (bytes, m, received) = from (Cer ids same apps) is in
+      let says = received_cer a an bytes Initiator w.initiator.core.state ids same apps (hold.i.sent bytes m) received in
+      let config : common_of w.responder.core.config apps ≡ common_of b apps = ap (λ (c : PlainConfig). common_of c apps) hold.r.config in
+      let (answer, rest, is_sent, are_bytes, message, none) = subst (λ (d : List Deed). AreSpelled d messages) deeds spelled in (
+        turned a b (happens w.responder.core h).core.common (subst (IsShared b a) (sym (common ∙ config)) (shared_common b a apps says.1)),
+        some,
+        record {
+          taken = record { bytes = same; ids = ids };
+          is_taken = taken;
+          answer = answer;
+          sent = in_right w.responder.sent messages answer (subst (λ (x : List (List ℕ)). IsIn x answer) (sym is_sent) (inl refl));
+          are_bytes = are_bytes;
+          message = subst (λ (c : PlainConfig). MessageWithZeros (cea c ids 2001).header (cea c ids 2001).avps answer) hold.r.config message;
+          ids = ids;
+          avps = received.0;
+          good = subst (λ (x : List ℕ). IsGood x 257 true false ids received.0) (sym received.2) received.1;
+        },
+      )
+
+  initiator_goes : (w : World) (h : Happening) (messages : List (List ℕ)) → Holds a b w → IsFrom w.responder h → AreSpelled (happens w.initiator.core h).deeds messages
+      → Holds a b (record { initiator = made w.initiator h messages; responder = w.responder })
+  initiator_goes w h messages hold from spelled = record {
+    i = end_goes Initiator a w.initiator h messages hold.i spelled;
+    r = hold.r;
+    i_open = λ e. initiator_opens w h hold from ((moved Initiator a w.initiator h hold.i).opened e);
+    r_open = hold.r_open;
+  }
+
+  responder_goes : (w : World) (h : Happening) (messages : List (List ℕ)) → Holds a b w → IsFrom w.initiator h → AreSpelled (happens w.responder.core h).deeds messages
+      → Holds a b (record { initiator = w.initiator; responder = made w.responder h messages })
+  responder_goes w h messages hold from spelled = record {
+    i = hold.i;
+    r = end_goes Responder b w.responder h messages hold.r spelled;
+    i_open = λ e. (let o = hold.i_open e in (o.0, o.1, (moved Responder b w.responder h hold.r).past o.2));
+    r_open = λ e. responder_opens w h messages hold from spelled ((moved Responder b w.responder h hold.r).opened e);
+  }
+
+  goes : (w : World) (role : Role) (e : Event) (v : World) → Holds a b w → Happens w role e v → Holds a b v
+  goes w Initiator e v hold (at, same) =
+      let g = went w.initiator w.responder e v.initiator at in
+      let new = initiator_goes w g.h g.messages hold g.from g.spelled in
+      subst (λ (x : World). Holds a b x) (λ i. record { initiator = sym g.is i; responder = sym same i }) new
+  goes w Responder e v hold (at, same) =
+      let g = went w.responder w.initiator e v.responder at in
+      let new = responder_goes w g.h g.messages hold g.from g.spelled in
+      subst (λ (x : World). Holds a b x) (λ i. record { initiator = sym same i; responder = sym g.is i }) new
+
+  runs : (w : World) (events : List (Role × Event)) (v : World) → Holds a b w → Run w events v → Holds a b v
+  runs w [] v hold run = subst (Holds a b) (sym run) hold
+  runs w (e ∷ events) v hold (mid, first, later) = runs mid events v (goes w e.0 e.1 mid hold first) later
+
+-- ---- the CER that was taken comes again
+
+starts_self : (xs : List ℕ) → starts_with nat_eq xs xs ≡ true
+starts_self [] = refl
+starts_self (x ∷ xs) = ap (λ (t : Bool). t && starts_with nat_eq xs xs) (eq_self x) ∙ starts_self xs
+
+bytes_self : (xs : List ℕ) → same_bytes xs xs ≡ true
+bytes_self xs = ap (λ (t : Bool). t && starts_with nat_eq xs xs) (eq_self (length xs)) ∙ starts_self xs
+
+abbrev says_again : PlainCore → PlainTaken → Outcome
+says_again c taken = record { core = c; deeds = Sends (cea c.config taken.ids 2001) ∷ [] }
+
+again_is : (c : PlainCore) (taken : PlainTaken) (ids : Ids) (apps : List Pair) → c.state ≡ Open → c.role ≡ Responder → c.taken ≡ Some taken
+    → happens c (Gets (Cer ids taken.bytes apps)) ≡ record { core = c; deeds = Sends (cea c.config taken.ids 2001) ∷ [] }
+again_is c taken ids apps open_now role is =
+    ap (λ (s : State). happens_in s c (Gets (Cer ids taken.bytes apps))) open_now
+    ∙ ap (λ (r : Role). only_responder r (repeated c taken.bytes c.taken) (nothing c)) role
+    ∙ ap (λ (t : Option PlainTaken). repeated c taken.bytes t) is
+    ∙ ap (λ (t : Bool). cond t (says_again c taken) (nothing c)) (bytes_self taken.bytes)
+
+repeats : (b : PlainConfig) (e : End) → IsEnd Responder b e → e.core.state ≡ Open → Took b e → RepeatsAnswer e
+repeats b e is_end open_now t = record {
+  taken = t.taken;
+  is_taken = t.is_taken;
+  answer = t.answer;
+  sent = of_in e.sent t.answer t.sent;
+  again = λ what new received g. once what new received g.0 g.1 g.2;
+}
+  where
+    once : (what : Received) (new : End) → IsReceived t.taken.bytes what → (messages : List (List ℕ)) → AreSpelled (happens e.core (Gets what)).deeds messages
+        → new ≡ record { core = (happens e.core (Gets what)).core; sent = e.sent ++ messages } → new ≡ record { core = e.core; sent = e.sent ++ t.answer ∷ [] }
+    once what new received messages spelled is =
+        let (ids, apps, is_cer) = is_request t.taken.bytes t.ids t.avps what t.good received in
+        let out : happens e.core (Gets what) ≡ record { core = e.core; deeds = Sends (cea e.core.config t.taken.ids 2001) ∷ [] } =
+        ap (λ (x : Received). happens e.core (Gets x)) is_cer ∙ again_is e.core t.taken ids apps open_now is_end.role_is t.is_taken in
+        let (bytes, rest, is_sent, are_bytes, message, none) = subst (λ (o : Outcome). AreSpelled o.deeds messages) out spelled in
+        let same : bytes ≡ t.answer = one_writing (cea b t.taken.ids 2001).header (cea b t.taken.ids 2001).avps bytes t.answer are_bytes t.are_bytes
+        (subst (λ (c : PlainConfig). MessageWithZeros (cea c t.taken.ids 2001).header (cea c t.taken.ids 2001).avps bytes) is_end.config message) t.message in
+        let all : messages ≡ t.answer ∷ [] = is_sent ∙ (λ i. same i ∷ none i) in
+        is ∙ (λ i. record { core = (out i).core; sent = e.sent ++ all i })
+
+-- ---- the law
+
+shared : (a b : PlainConfig) (pairs : List Pair) → IsShared a b pairs → AreShared a b pairs
+shared a b pairs s p = (
+  λ m. (let k = (s p).0 (to_in pairs p m) in (of_in (map pair_of a.apps) p k.0, of_in (map pair_of b.apps) p k.1)),
+  λ h. of_in pairs p ((s p).1 (to_in (map pair_of a.apps) p h.0, to_in (map pair_of b.apps) p h.1)),
+)
+
+pub agrees : (a b : PlainConfig) (events : List (Role × Event)) (w : World) → IsConfig a → IsConfig b → Run (start a b) events w → Agrees a b w
+agrees a b events w ac bc run =
+    let h = runs a b ac.apps.numbers bc.apps.numbers (start a b) events w (begins a b ac.apps.numbers bc.apps.numbers) run in
+    record {
+      initiator = λ e. (shared a b w.initiator.core.common (h.i_open e).0, (h.i_open e).1);
+      responder = λ e. (shared a b w.responder.core.common (h.r_open e).0, (h.r_open e).1);
+      follows = λ e. (h.i_open e).2;
+      repeats = λ e. repeats b w.responder h.r e (h.r_open e).2;
+    }

@@ -1,0 +1,17 @@
+pub mod Rows
+pub mod Sets
+pub mod Spelled
+pub mod Advertised
+pub mod Moves
+pub mod Delivered
+pub mod Fitting
+pub mod Ends
+pub mod Choosing
+pub mod Placing
+pub mod Sending
+pub mod Opened
+pub mod Naming
+pub mod Walking
+pub mod Telling
+pub mod ResultCode
+pub mod Keeping

@@ -1,0 +1,255 @@
+use Rattle.std.proofs.Common.{◌≡◌, ◌≢◌, ℕ, ◌<◌, true, false, cond, List, [], ◌∷◌, length, Option, Some, None, inl, inr, refl, sym, ap, subst, ◌∙◌, arith}
+use Rattle.std.specs.Prelude.{◌==◌, ⊤}
+use Rattle.std.proofs.lemmas.Bool.{cond_both}
+use Rattle.dia_peer.specs.declared.kept.Ids.{Ids}
+use Rattle.dia_peer.specs.declared.config.Role.{Role}
+use Rattle.dia_peer.specs.declared.config.Role.TheVariants.{Initiator, Responder}
+use Rattle.dia_peer.specs.declared.event.State.{State}
+use Rattle.dia_peer.specs.declared.event.State.TheVariants.{Idle, WaitCea, WaitCer, Open, WaitDpa, Closed}
+use Rattle.dia_peer.specs.declared.event.Cause.{Cause}
+use Rattle.dia_peer.specs.declared.event.Why.{Why}
+use Rattle.dia_peer.specs.declared.event.Why.TheVariants as why
+use Rattle.dia_peer.specs.Core.{PlainConfig, PlainCore, PlainTaken, Pair, Sent, common_of}
+use Rattle.dia_peer.specs.Messages.{Received, Unreadable, Foreign, Invalid, Cer, Dwr, Dpr, Cea, Refusal, Dwa, Dpa, Other, cer, cea, dwr, dwa, dpr, dpa, after}
+use Rattle.dia_peer.specs.Table.{Happening, Starts, Gets, Ticks, Stops, Breaks, Deed, Sends, Closes, Outcome, nothing, closed, closes, same_bytes, same_ids, starts, opens, answered, accepts, repeated, gets_waiting_answer, gets_waiting_request, only_responder, gets_open, gets_waiting_end, ticks_open, stops_open, happens_in, happens}
+use Rattle.dia_peer.specs.World.{IsPastOpen}
+use Rattle.dia_peer.proofs.Sets.{eq_same}
+
+-- the states that an end of this role has
+abbrev pub Suits : Role → State → Type 0
+Suits Initiator WaitCer = ⊥
+Suits Responder WaitCea = ⊥
+Suits role state = ⊤
+
+-- what an end of this role, configuration and state has sent
+pub data MaySend (role : Role) (c : PlainConfig) (state : State) (m : Sent) : Type 0 where
+  asks : (ids : Ids) → role ≡ Initiator → m ≡ cer c ids → MaySend role c state m
+  accepts_it : (ids : Ids) → role ≡ Responder → IsPastOpen state → m ≡ cea c ids 2001 → MaySend role c state m
+  refuses_it : (ids : Ids) → role ≡ Responder → m ≡ cea c ids 5010 → MaySend role c state m
+  watches : (ids : Ids) → m ≡ dwr c ids → MaySend role c state m
+  is_there : (ids : Ids) → m ≡ dwa c ids → MaySend role c state m
+  leaves : (ids : Ids) (cause : Cause) → m ≡ dpr c ids cause → MaySend role c state m
+  lets_go : (ids : Ids) → m ≡ dpa c ids → MaySend role c state m
+
+pub may_later : (role : Role) (c : PlainConfig) (s t : State) (m : Sent) → (IsPastOpen s → IsPastOpen t) → MaySend role c s m → MaySend role c t m
+may_later role c s t m past (asks ids r e) = asks ids r e
+may_later role c s t m past (accepts_it ids r p e) = accepts_it ids r (past p) e
+may_later role c s t m past (refuses_it ids r e) = refuses_it ids r e
+may_later role c s t m past (watches ids e) = watches ids e
+may_later role c s t m past (is_there ids e) = is_there ids e
+may_later role c s t m past (leaves ids cause e) = leaves ids cause e
+may_later role c s t m past (lets_go ids e) = lets_go ids e
+
+abbrev pub AllMay : Role → PlainConfig → State → List Deed → Type 0
+AllMay role c state [] = ⊤
+AllMay role c state (Sends m ∷ deeds) = MaySend role c state m × AllMay role c state deeds
+AllMay role c state (Closes reason ∷ deeds) = AllMay role c state deeds
+
+-- how a core that is open afterwards came to be so
+pub data Opened (c : PlainCore) (h : Happening) (o : Outcome) : Type 0 where
+  stays : c.state ≡ Open → o.core.common ≡ c.common → o.core.taken ≡ c.taken → Opened c h o
+  by_answer : (ids : Ids) (apps : List Pair) → c.role ≡ Initiator → h ≡ Gets (Cea ids 2001 apps) → o.core.common ≡ common_of c.config apps → 0 < length o.core.common → Opened c h o
+  by_request : (ids : Ids) (bytes : List ℕ) (apps : List Pair) → c.role ≡ Responder → h ≡ Gets (Cer ids bytes apps) → o.core.common ≡ common_of c.config apps → 0 < length o.core.common
+      → o.core.taken ≡ Some (record { bytes = bytes; ids = ids }) → o.deeds ≡ Sends (cea c.config ids 2001) ∷ [] → Opened c h o
+
+pub record Moves (c : PlainCore) (h : Happening) (o : Outcome) : Type 0 where
+  pub config : o.core.config ≡ c.config
+  pub role : o.core.role ≡ c.role
+  pub suits : Suits c.role o.core.state
+  pub past : IsPastOpen c.state → IsPastOpen o.core.state
+  pub sends : AllMay c.role c.config o.core.state o.deeds
+  pub opened : o.core.state ≡ Open → Opened c h o
+
+-- ---- roles and states
+
+suits_closed : (r : Role) → Suits r Closed
+suits_closed Initiator = tt
+suits_closed Responder = tt
+
+suits_open : (r : Role) → Suits r Open
+suits_open Initiator = tt
+suits_open Responder = tt
+
+suits_end : (r : Role) → Suits r WaitDpa
+suits_end Initiator = tt
+suits_end Responder = tt
+
+is_initiator : (r : Role) → Suits r WaitCea → r ≡ Initiator
+is_initiator Initiator h = refl
+is_initiator Responder h = absurd h
+
+is_responder : (r : Role) → Suits r WaitCer → r ≡ Responder
+is_responder Initiator h = absurd h
+is_responder Responder h = refl
+
+is_open : IsPastOpen Open
+is_open = inl refl
+
+is_end : IsPastOpen WaitDpa
+is_end = inr (inl refl)
+
+pub is_closed : IsPastOpen Closed
+is_closed = inr (inr refl)
+
+not_past : (s : State) → IsPastOpen s → (s ≢ Open) → (s ≢ WaitDpa) → (s ≢ Closed) → ⊥
+not_past s (inl e) x y z = x e
+not_past s (inr (inl e)) x y z = y e
+not_past s (inr (inr e)) x y z = z e
+
+idle_not : IsPastOpen Idle → ⊥
+idle_not h = not_past Idle h (λ e. absurd cc) (λ e. absurd cc) (λ e. absurd cc)
+
+-- ---- single outcomes
+
+m_nothing : (c : PlainCore) (h : Happening) → Suits c.role c.state → Moves c h (nothing c)
+m_nothing c h s = record { config = refl; role = refl; suits = s; past = λ p. p; sends = tt; opened = λ e. stays e refl refl }
+
+m_closes : (c : PlainCore) (h : Happening) (reason : Why) → Moves c h (closes c [] reason)
+m_closes c h reason = record { config = refl; role = refl; suits = suits_closed c.role; past = λ p. is_closed; sends = tt; opened = λ e. absurd cc }
+
+m_breaks : (c : PlainCore) (h : Happening) → Moves c h (record { core = closed c; deeds = [] })
+m_breaks c h = record { config = refl; role = refl; suits = suits_closed c.role; past = λ p. is_closed; sends = tt; opened = λ e. absurd cc }
+
+m_answers : (c : PlainCore) (h : Happening) (m : Sent) (reason : Why) → MaySend c.role c.config Closed m → Moves c h (closes c (Sends m ∷ []) reason)
+m_answers c h m reason may = record { config = refl; role = refl; suits = suits_closed c.role; past = λ p. is_closed; sends = (may, tt); opened = λ e. absurd cc }
+
+m_says : (c : PlainCore) (h : Happening) (m : Sent) → Suits c.role c.state → MaySend c.role c.config c.state m → Moves c h (record { core = c; deeds = Sends m ∷ [] })
+m_says c h m s may = record { config = refl; role = refl; suits = s; past = λ p. p; sends = (may, tt); opened = λ e. stays e refl refl }
+
+m_starts : (r : Role) (c : PlainCore) (h : Happening) → c.role ≡ r → c.state ≡ Idle → Moves c h (starts c r)
+m_starts Initiator c h e s = record { config = refl; role = refl; suits = subst (λ r. Suits r WaitCea) (sym e) tt; past = λ p. absurd (idle_not (subst IsPastOpen s p)); sends = (asks c.next e refl, tt); opened = λ o. absurd cc }
+m_starts Responder c h e s = record { config = refl; role = refl; suits = subst (λ r. Suits r WaitCer) (sym e) tt; past = λ p. absurd (idle_not (subst IsPastOpen s p)); sends = tt; opened = λ o. absurd cc }
+
+m_opens : (c : PlainCore) (h : Happening) (ids : Ids) (apps : List Pair) (ps : List Pair) → c.role ≡ Initiator → h ≡ Gets (Cea ids 2001 apps) → ps ≡ common_of c.config apps → Moves c h (opens c ps)
+m_opens c h ids apps [] r e is = m_closes c h why.NoCommon
+m_opens c h ids apps (p ∷ ps) r e is = record { config = refl; role = refl; suits = suits_open c.role; past = λ x. is_open; sends = tt; opened = λ o. by_answer ids apps r e is (omega arith) }
+
+m_answered : (c : PlainCore) (h : Happening) (ids : Ids) (result : ℕ) (apps : List Pair) → c.role ≡ Initiator → h ≡ Gets (Cea ids result apps) → Moves c h (answered c result apps)
+m_answered c h ids result apps r e =
+    cond_both (result == 2001) (opens c (common_of c.config apps)) (cond (result == 5010) (closes c [] why.NoCommon) (closes c [] why.Refused)) (Moves c h)
+    (λ t. m_opens c h ids apps (common_of c.config apps) r (e ∙ ap (λ n. Gets (Cea ids n apps)) (eq_same result 2001 t)) refl)
+    (λ f. cond_both (result == 5010) (closes c [] why.NoCommon) (closes c [] why.Refused) (Moves c h) (λ t. m_closes c h why.NoCommon) (λ g. m_closes c h why.Refused))
+
+m_accepts : (c : PlainCore) (h : Happening) (ids : Ids) (bytes : List ℕ) (apps : List Pair) (ps : List Pair) → c.role ≡ Responder → h ≡ Gets (Cer ids bytes apps) → ps ≡ common_of c.config apps → Moves c h (accepts c ids bytes ps)
+m_accepts c h ids bytes apps [] r e is = m_answers c h (cea c.config ids 5010) why.NoCommon (refuses_it ids r refl)
+m_accepts c h ids bytes apps (p ∷ ps) r e is = record {
+  config = refl;
+  role = refl;
+  suits = suits_open c.role;
+  past = λ x. is_open;
+  sends = (accepts_it ids r is_open refl, tt);
+  opened = λ o. by_request ids bytes apps r e is (omega arith) refl refl;
+}
+
+m_repeated : (c : PlainCore) (h : Happening) (bytes : List ℕ) (taken : Option PlainTaken) → c.role ≡ Responder → c.state ≡ Open → Suits c.role c.state → Moves c h (repeated c bytes taken)
+m_repeated c h bytes None r e s = m_nothing c h s
+m_repeated c h bytes (Some taken) r e s =
+    cond_both (same_bytes bytes taken.bytes) (record { core = c; deeds = Sends (cea c.config taken.ids 2001) ∷ [] }) (nothing c) (Moves c h)
+    (λ t. m_says c h (cea c.config taken.ids 2001) s (accepts_it taken.ids r (subst IsPastOpen (sym e) is_open) refl)) (λ f. m_nothing c h s)
+
+m_only : (r : Role) (c : PlainCore) (h : Happening) (bytes : List ℕ) → c.role ≡ r → c.state ≡ Open → Suits c.role c.state → Moves c h (only_responder r (repeated c bytes c.taken) (nothing c))
+m_only Initiator c h bytes r e s = m_nothing c h s
+m_only Responder c h bytes r e s = m_repeated c h bytes c.taken r e s
+
+-- ---- what comes
+
+m_waiting_answer : (c : PlainCore) (what : Received) → c.role ≡ Initiator → Suits c.role c.state → Moves c (Gets what) (gets_waiting_answer c what)
+m_waiting_answer c Unreadable r s = m_closes c _ why.Invalid
+m_waiting_answer c Invalid r s = m_closes c _ why.Invalid
+m_waiting_answer c (Cea ids result apps) r s =
+    cond_both (same_ids ids c.last_cer) (answered c result apps) (nothing c) (Moves c (Gets (Cea ids result apps))) (λ t. m_answered c (Gets (Cea ids result apps)) ids result apps r refl) (λ f. m_nothing c _ s)
+m_waiting_answer c (Refusal ids) r s =
+    cond_both (same_ids ids c.last_cer) (closes c [] why.Refused) (nothing c) (Moves c (Gets (Refusal ids))) (λ t. m_closes c _ why.Refused) (λ f. m_nothing c _ s)
+m_waiting_answer c Foreign r s = m_nothing c _ s
+m_waiting_answer c (Cer ids bytes apps) r s = m_nothing c _ s
+m_waiting_answer c (Dwr ids) r s = m_nothing c _ s
+m_waiting_answer c (Dpr ids) r s = m_nothing c _ s
+m_waiting_answer c (Dwa ids) r s = m_nothing c _ s
+m_waiting_answer c (Dpa ids) r s = m_nothing c _ s
+m_waiting_answer c Other r s = m_nothing c _ s
+
+m_waiting_request : (c : PlainCore) (what : Received) → c.role ≡ Responder → Suits c.role c.state → Moves c (Gets what) (gets_waiting_request c what)
+m_waiting_request c Unreadable r s = m_closes c _ why.Invalid
+m_waiting_request c Invalid r s = m_closes c _ why.Invalid
+m_waiting_request c (Cer ids bytes apps) r s = m_accepts c (Gets (Cer ids bytes apps)) ids bytes apps (common_of c.config apps) r refl refl
+m_waiting_request c Foreign r s = m_nothing c _ s
+m_waiting_request c (Cea ids result apps) r s = m_nothing c _ s
+m_waiting_request c (Refusal ids) r s = m_nothing c _ s
+m_waiting_request c (Dwr ids) r s = m_nothing c _ s
+m_waiting_request c (Dpr ids) r s = m_nothing c _ s
+m_waiting_request c (Dwa ids) r s = m_nothing c _ s
+m_waiting_request c (Dpa ids) r s = m_nothing c _ s
+m_waiting_request c Other r s = m_nothing c _ s
+
+m_waits : (c : PlainCore) (h : Happening) → Suits c.role c.state → Moves c h (record { core = record c { waits = false }; deeds = [] })
+m_waits c h s = record { config = refl; role = refl; suits = s; past = λ p. p; sends = tt; opened = λ e. stays e refl refl }
+
+m_open : (c : PlainCore) (what : Received) → c.state ≡ Open → Suits c.role c.state → Moves c (Gets what) (gets_open c what)
+m_open c Unreadable e s = m_closes c _ why.Invalid
+m_open c Invalid e s = m_closes c _ why.Invalid
+m_open c (Cer ids bytes apps) e s = m_only c.role c (Gets (Cer ids bytes apps)) bytes refl e s
+m_open c (Dwa ids) e s =
+    cond_both (same_ids ids c.last_dwr) (record { core = record c { waits = false }; deeds = [] }) (nothing c) (Moves c (Gets (Dwa ids))) (λ t. m_waits c _ s) (λ f. m_nothing c _ s)
+m_open c (Dwr ids) e s = m_says c _ (dwa c.config ids) s (is_there ids refl)
+m_open c (Dpr ids) e s = m_answers c _ (dpa c.config ids) why.PeerStopped (lets_go ids refl)
+m_open c Foreign e s = m_nothing c _ s
+m_open c (Cea ids result apps) e s = m_nothing c _ s
+m_open c (Refusal ids) e s = m_nothing c _ s
+m_open c (Dpa ids) e s = m_nothing c _ s
+m_open c Other e s = m_nothing c _ s
+
+m_waiting_end : (c : PlainCore) (what : Received) → Suits c.role c.state → Moves c (Gets what) (gets_waiting_end c what)
+m_waiting_end c Unreadable s = m_closes c _ why.Invalid
+m_waiting_end c Invalid s = m_closes c _ why.Invalid
+m_waiting_end c (Dwr ids) s = m_says c _ (dwa c.config ids) s (is_there ids refl)
+m_waiting_end c (Dpr ids) s = m_answers c _ (dpa c.config ids) why.PeerStopped (lets_go ids refl)
+m_waiting_end c (Dpa ids) s =
+    cond_both (same_ids ids c.last_dpr) (closes c [] why.Stopped) (nothing c) (Moves c (Gets (Dpa ids))) (λ t. m_closes c _ why.Stopped) (λ f. m_nothing c _ s)
+m_waiting_end c Foreign s = m_nothing c _ s
+m_waiting_end c (Cer ids bytes apps) s = m_nothing c _ s
+m_waiting_end c (Cea ids result apps) s = m_nothing c _ s
+m_waiting_end c (Refusal ids) s = m_nothing c _ s
+m_waiting_end c (Dwa ids) s = m_nothing c _ s
+m_waiting_end c Other s = m_nothing c _ s
+
+m_watch : (c : PlainCore) (h : Happening) → Suits c.role c.state → Moves c h (record { core = record c { next = after c.next; last_dwr = Some c.next; waits = true }; deeds = Sends (dwr c.config c.next) ∷ [] })
+m_watch c h s = record { config = refl; role = refl; suits = s; past = λ p. p; sends = (watches c.next refl, tt); opened = λ e. stays e refl refl }
+
+m_ticks : (c : PlainCore) (h : Happening) → Suits c.role c.state → Moves c h (ticks_open c)
+m_ticks c h s =
+    cond_both c.waits (closes c [] why.Watchdog) (record { core = record c { next = after c.next; last_dwr = Some c.next; waits = true }; deeds = Sends (dwr c.config c.next) ∷ [] }) (Moves c h)
+    (λ t. m_closes c h why.Watchdog) (λ f. m_watch c h s)
+
+m_stops : (c : PlainCore) (h : Happening) (cause : Cause) → Moves c h (stops_open c cause)
+m_stops c h cause = record { config = refl; role = refl; suits = suits_end c.role; past = λ p. is_end; sends = (leaves c.next cause refl, tt); opened = λ e. absurd cc }
+
+moves_in : (s : State) (c : PlainCore) (h : Happening) → c.state ≡ s → Suits c.role c.state → Moves c h (happens_in s c h)
+moves_in Closed c h e s = m_nothing c h s
+moves_in Idle c Breaks e s = m_breaks c Breaks
+moves_in WaitCea c Breaks e s = m_breaks c Breaks
+moves_in WaitCer c Breaks e s = m_breaks c Breaks
+moves_in Open c Breaks e s = m_breaks c Breaks
+moves_in WaitDpa c Breaks e s = m_breaks c Breaks
+moves_in Idle c Starts e s = m_starts c.role c Starts refl e
+moves_in Idle c (Stops cause) e s = m_closes c _ why.Stopped
+moves_in Idle c (Gets what) e s = m_nothing c _ s
+moves_in Idle c Ticks e s = m_nothing c _ s
+moves_in WaitCea c Starts e s = m_nothing c _ s
+moves_in WaitCer c Starts e s = m_nothing c _ s
+moves_in Open c Starts e s = m_nothing c _ s
+moves_in WaitDpa c Starts e s = m_nothing c _ s
+moves_in WaitCea c (Gets what) e s = m_waiting_answer c what (is_initiator c.role (subst (Suits c.role) e s)) s
+moves_in WaitCer c (Gets what) e s = m_waiting_request c what (is_responder c.role (subst (Suits c.role) e s)) s
+moves_in Open c (Gets what) e s = m_open c what e s
+moves_in WaitDpa c (Gets what) e s = m_waiting_end c what s
+moves_in Open c Ticks e s = m_ticks c Ticks s
+moves_in WaitCea c Ticks e s = m_closes c _ why.Timeout
+moves_in WaitCer c Ticks e s = m_closes c _ why.Timeout
+moves_in WaitDpa c Ticks e s = m_closes c _ why.Timeout
+moves_in Open c (Stops cause) e s = m_stops c _ cause
+moves_in WaitDpa c (Stops cause) e s = m_nothing c _ s
+moves_in WaitCea c (Stops cause) e s = m_closes c _ why.Stopped
+moves_in WaitCer c (Stops cause) e s = m_closes c _ why.Stopped
+
+pub moves : (c : PlainCore) (h : Happening) → Suits c.role c.state → Moves c h (happens c h)
+moves c h s = moves_in c.state c h refl s

@@ -1,0 +1,29 @@
+use Rattle.std.proofs.Common.{◌≡◌, ℕ, zero, suc, ◌<◌, false, List, [], ◌∷◌, length, Some, sym, subst, arith}
+use Rattle.std.specs.Prelude.{◌==◌}
+use Rattle.std.proofs.lemmas.List.{length-map}
+use Rattle.dia_peer.specs.declared.event.Output.{Output}
+use Rattle.dia_peer.specs.declared.event.Output.TheVariants as output
+use Rattle.dia_peer.specs.declared.event.State.TheVariants.{Open}
+use Rattle.dia_peer.specs.declared.kept.Ids.{Ids}
+use Rattle.dia_peer.specs.Core.{Pair, PlainCore, the_pair, pairs_of}
+use Rattle.dia_peer.specs.Messages.{cea}
+use Rattle.dia_peer.specs.Table.{Sends, accepts}
+use Rattle.dia_peer.specs.Machine.{core_of, AreOutputs, IsOutput, Does}
+use Rattle.dia_peer.proofs.connection.Core.accepts.Goals as goal
+
+some : (n m : ℕ) → false ≡ (n == 0) → n ≡ m → 0 < m
+some zero m h e = absurd cc
+some (suc n) m h e = omega (arith, e)
+
+does_accept : (c : PlainCore) (ids : Ids) (bytes : List ℕ) (pairs : List Pair) (new : PlainCore) (outputs : List Output) (o : Output) → 0 < length pairs
+    → new ≡ record c { state = Open; common = pairs; taken = Some (record { bytes = bytes; ids = ids }) } → outputs ≡ o ∷ [] → IsOutput (Sends (cea c.config ids 2001)) o → Does (accepts c ids bytes pairs) outputs new
+does_accept c ids bytes [] new outputs o h e is m = absurd (omega (arith, h))
+does_accept c ids bytes (p ∷ ps) new outputs o h e is m = (e, subst (AreOutputs (Sends (cea c.config ids 2001) ∷ [])) (sym is) (m, tt))
+
+pub returns-clause-ok : goal.returns-clause-ok
+returns-clause-ok c =
+    let core = core_of c.args.self.now in
+    let size = length-map c.args.common.items the_pair in
+    let any = some _ _ c.if-is_empty.ensures c.args.common.ok.0 in
+    does_accept core c.args.ids c.args.bytes.now (pairs_of c.args.common.items) _ c.in_ok-outputs.outputs.items (output.Send c.in_ok-cea-2.field-0) (omega (arith, size, any))
+    (λ i. record core { state = Open; common = pairs_of c.args.common.items; taken = Some (record { bytes = c.in_ok-bytes.ensures.items i; ids = c.args.ids }) }) c.in_ok-outputs.ensures c.in_ok-cea-2.ensures

@@ -1,0 +1,75 @@
+-- What the fields of a core mean, and what one step of it does.
+use Rattle.std.specs.Prelude.{◌≡◌, ◌<◌, ◌≤◌, ◌⊎◌, List, [], ◌∷◌, length, ⊤}
+use Rattle.std.specs.Option.{option_map}
+use Rattle.dia_wire.specs.Wire.{MessageWithZeros}
+use Rattle.dia_dict.specs.Base.{base}
+use Rattle.dia_check.specs.declared.Unknown.TheVariants.{Kept}
+use Rattle.dia_check.specs.declared.Levels.TheVariants.{Any}
+use Rattle.dia_check.specs.Valid.{IsValid}
+use Rattle.dia_peer.specs.declared.kept.Taken.{Taken}
+use Rattle.dia_peer.specs.declared.connection.Core.{Core}
+use Rattle.dia_peer.specs.declared.config.ConfigFault.{ConfigFault}
+use Rattle.dia_peer.specs.declared.config.ConfigFault.TheVariants as fault
+use Rattle.dia_peer.specs.declared.event.Event.{Event}
+use Rattle.dia_peer.specs.declared.event.Event.TheVariants as event
+use Rattle.dia_peer.specs.declared.event.Output.{Output}
+use Rattle.dia_peer.specs.declared.event.Output.TheVariants as output
+use Rattle.dia_peer.specs.Core.{PlainConfig, PlainCore, PlainTaken, IsIdentity, AreApps, plain, pairs_of}
+use Rattle.dia_peer.specs.Messages.{Received, IsReceived}
+use Rattle.dia_peer.specs.Table.{Happening, Starts, Gets, Ticks, Stops, Breaks, Deed, Sends, Closes, Outcome, happens}
+
+abbrev pub taken_of : Taken → PlainTaken
+taken_of t = record { bytes = t.bytes.items; ids = t.ids }
+
+abbrev pub core_of : Core → PlainCore
+core_of c = record {
+  config = plain c.node.config;
+  role = c.role;
+  state = c.state;
+  common = pairs_of c.common.items;
+  next = c.next;
+  last_cer = c.last_cer;
+  last_dwr = c.last_dwr;
+  last_dpr = c.last_dpr;
+  waits = c.waits;
+  taken = option_map taken_of c.taken;
+}
+
+abbrev pub IsHappening : Event → Happening → Type 0
+IsHappening event.Start h = h ≡ Starts
+IsHappening (event.Bytes bytes) h = (what : Received) × IsReceived bytes.now what × (h ≡ Gets what)
+IsHappening event.Tick h = h ≡ Ticks
+IsHappening (event.Stop cause) h = h ≡ Stops cause
+IsHappening event.Lost h = h ≡ Breaks
+
+abbrev pub IsOutput : Deed → Output → Type 0
+IsOutput (Sends m) (output.Send bytes) = MessageWithZeros m.header m.avps bytes.items
+IsOutput (Closes why) (output.Close reason) = why ≡ reason
+IsOutput deed out = ⊥
+
+abbrev pub AreOutputs : List Deed → List Output → Type 0
+AreOutputs [] [] = ⊤
+AreOutputs (d ∷ ds) (o ∷ os) = IsOutput d o × AreOutputs ds os
+AreOutputs ds os = ⊥
+
+-- what is done, and the core afterwards
+abbrev pub Does : Outcome → List Output → PlainCore → Type 0
+Does outcome outputs new = (new ≡ outcome.core) × AreOutputs outcome.deeds outputs
+
+-- what is sent is a valid message under the base dictionary
+abbrev pub IsSound : Output → Type 0
+IsSound (output.Send bytes) = IsValid base Kept Any bytes.items
+IsSound (output.Close why) = ⊤
+
+-- one line of the table
+abbrev pub IsStep : PlainCore → Event → List Output → PlainCore → Type 0
+IsStep old e outputs new = (h : Happening) × IsHappening e h × (new ≡ (happens old h).core) × AreOutputs (happens old h).deeds outputs
+
+-- the first thing that is wrong with a configuration
+abbrev pub IsRefusedAs : PlainConfig → ConfigFault → Type 0
+IsRefusedAs c fault.Host = ¬ IsIdentity c.host
+IsRefusedAs c fault.Realm = IsIdentity c.host × ¬ IsIdentity c.realm
+IsRefusedAs c fault.Product = IsIdentity c.host × IsIdentity c.realm × (255 < length c.product)
+IsRefusedAs c fault.Address = IsIdentity c.host × IsIdentity c.realm × (length c.product ≤ 255) × ((c.addresses ≡ []) ⊎ (64 < length c.addresses))
+IsRefusedAs c fault.Application = IsIdentity c.host × IsIdentity c.realm × (length c.product ≤ 255) × (0 < length c.addresses) × (length c.addresses ≤ 64) × (¬ AreApps c.apps)
+IsRefusedAs c fault.NoMemory = ⊤

@@ -1,0 +1,137 @@
+-- What a core does at each event: the table of one connection.
+use Rattle.std.specs.Prelude.{ℕ, ◌==◌, ◌&&◌, Bool, true, false, if◌then◌else◌, List, [], ◌∷◌, ◌++◌, length, Option, Some, None, nat_eq}
+use Rattle.std.specs.Option.{option_map_or}
+use Rattle.std.specs.List.{starts_with}
+use Rattle.dia_peer.specs.declared.kept.Ids.{Ids}
+use Rattle.dia_peer.specs.declared.config.Role.{Role}
+use Rattle.dia_peer.specs.declared.config.Role.TheVariants.{Initiator, Responder}
+use Rattle.dia_peer.specs.declared.event.State.{State}
+use Rattle.dia_peer.specs.declared.event.State.TheVariants.{Idle, WaitCea, WaitCer, Open, WaitDpa, Closed}
+use Rattle.dia_peer.specs.declared.event.Cause.{Cause}
+use Rattle.dia_peer.specs.declared.event.Why.{Why}
+use Rattle.dia_peer.specs.declared.event.Why.TheVariants as why
+use Rattle.dia_peer.specs.Core.{PlainCore, PlainTaken, Pair, Sent, common_of}
+use Rattle.dia_peer.specs.Messages.{Received, Unreadable, Invalid, Cer, Dwr, Dpr, Cea, Refusal, Dwa, Dpa, cer, cea, dwr, dwa, dpr, dpa, after}
+
+pub data Happening : Type 0 where
+  Starts : Happening
+  Gets : (what : Received) → Happening
+  Ticks : Happening
+  Stops : (cause : Cause) → Happening
+  Breaks : Happening
+
+pub data Deed : Type 0 where
+  Sends : (message : Sent) → Deed
+  Closes : (why : Why) → Deed
+
+-- the core afterwards, and what it does
+pub record Outcome : Type 0 where
+  pub core : PlainCore
+  pub deeds : List Deed
+
+abbrev pub nothing : PlainCore → Outcome
+nothing c = record { core = c; deeds = [] }
+
+abbrev pub closed : PlainCore → PlainCore
+closed c = record c { state = Closed }
+
+-- closes, after these messages
+abbrev pub closes : PlainCore → List Deed → Why → Outcome
+closes c before reason = record { core = closed c; deeds = before ++ Closes reason ∷ [] }
+
+abbrev pub same_bytes : List ℕ → List ℕ → Bool
+same_bytes a b = (length a == length b) && starts_with nat_eq a b
+
+abbrev pub same_ids : Ids → Option Ids → Bool
+same_ids ids last = option_map_or (λ l. (l.hop == ids.hop) && (l.e2e == ids.e2e)) last false
+
+-- ---- what comes in each state
+
+abbrev pub starts : PlainCore → Role → Outcome
+starts c Initiator = record { core = record c { state = WaitCea; next = after c.next; last_cer = Some c.next }; deeds = Sends (cer c.config c.next) ∷ [] }
+starts c Responder = record { core = record c { state = WaitCer }; deeds = [] }
+
+-- the answer to the CER opens, where there are common applications
+abbrev pub opens : PlainCore → List Pair → Outcome
+opens c [] = closes c [] why.NoCommon
+opens c (p ∷ ps) = record { core = record c { state = Open; common = p ∷ ps }; deeds = [] }
+
+abbrev pub answered : PlainCore → ℕ → List Pair → Outcome
+answered c result apps = if result == 2001 then opens c (common_of c.config apps) else (if result == 5010 then closes c [] why.NoCommon else closes c [] why.Refused)
+
+-- a CER gets a CEA, and opens where there are common applications
+abbrev pub accepts : PlainCore → Ids → List ℕ → List Pair → Outcome
+accepts c ids bytes [] = closes c (Sends (cea c.config ids 5010) ∷ []) why.NoCommon
+accepts c ids bytes (p ∷ ps) = record {
+  core = record c { state = Open; common = p ∷ ps; taken = Some (record { bytes = bytes; ids = ids }) };
+  deeds = Sends (cea c.config ids 2001) ∷ [];
+}
+
+-- the CER that was taken comes again
+abbrev pub repeated : PlainCore → List ℕ → Option PlainTaken → Outcome
+repeated c bytes None = nothing c
+repeated c bytes (Some taken) = if same_bytes bytes taken.bytes then record { core = c; deeds = Sends (cea c.config taken.ids 2001) ∷ [] } else nothing c
+
+abbrev pub gets_waiting_answer : PlainCore → Received → Outcome
+gets_waiting_answer c Unreadable = closes c [] why.Invalid
+gets_waiting_answer c Invalid = closes c [] why.Invalid
+gets_waiting_answer c (Cea ids result apps) = if same_ids ids c.last_cer then answered c result apps else nothing c
+gets_waiting_answer c (Refusal ids) = if same_ids ids c.last_cer then closes c [] why.Refused else nothing c
+gets_waiting_answer c what = nothing c
+
+abbrev pub gets_waiting_request : PlainCore → Received → Outcome
+gets_waiting_request c Unreadable = closes c [] why.Invalid
+gets_waiting_request c Invalid = closes c [] why.Invalid
+gets_waiting_request c (Cer ids bytes apps) = accepts c ids bytes (common_of c.config apps)
+gets_waiting_request c what = nothing c
+
+abbrev pub only_responder : Role → Outcome → Outcome → Outcome
+only_responder Responder first second = first
+only_responder Initiator first second = second
+
+abbrev pub gets_open : PlainCore → Received → Outcome
+gets_open c Unreadable = closes c [] why.Invalid
+gets_open c Invalid = closes c [] why.Invalid
+gets_open c (Cer ids bytes apps) = only_responder c.role (repeated c bytes c.taken) (nothing c)
+gets_open c (Dwa ids) = if same_ids ids c.last_dwr then record { core = record c { waits = false }; deeds = [] } else nothing c
+gets_open c (Dwr ids) = record { core = c; deeds = Sends (dwa c.config ids) ∷ [] }
+gets_open c (Dpr ids) = closes c (Sends (dpa c.config ids) ∷ []) why.PeerStopped
+gets_open c what = nothing c
+
+abbrev pub gets_waiting_end : PlainCore → Received → Outcome
+gets_waiting_end c Unreadable = closes c [] why.Invalid
+gets_waiting_end c Invalid = closes c [] why.Invalid
+gets_waiting_end c (Dwr ids) = record { core = c; deeds = Sends (dwa c.config ids) ∷ [] }
+gets_waiting_end c (Dpr ids) = closes c (Sends (dpa c.config ids) ∷ []) why.PeerStopped
+gets_waiting_end c (Dpa ids) = if same_ids ids c.last_dpr then closes c [] why.Stopped else nothing c
+gets_waiting_end c what = nothing c
+
+abbrev pub ticks_open : PlainCore → Outcome
+ticks_open c = if c.waits then closes c [] why.Watchdog
+    else record { core = record c { next = after c.next; last_dwr = Some c.next; waits = true }; deeds = Sends (dwr c.config c.next) ∷ [] }
+
+abbrev pub stops_open : PlainCore → Cause → Outcome
+stops_open c cause = record { core = record c { state = WaitDpa; next = after c.next; last_dpr = Some c.next }; deeds = Sends (dpr c.config c.next cause) ∷ [] }
+
+-- ---- the table, by state and event
+
+abbrev pub happens_in : State → PlainCore → Happening → Outcome
+happens_in Closed c h = nothing c
+happens_in state c Breaks = record { core = closed c; deeds = [] }
+happens_in Idle c Starts = starts c c.role
+happens_in Idle c (Stops cause) = closes c [] why.Stopped
+happens_in Idle c (Gets what) = nothing c
+happens_in Idle c Ticks = nothing c
+happens_in state c Starts = nothing c
+happens_in WaitCea c (Gets what) = gets_waiting_answer c what
+happens_in WaitCer c (Gets what) = gets_waiting_request c what
+happens_in Open c (Gets what) = gets_open c what
+happens_in WaitDpa c (Gets what) = gets_waiting_end c what
+happens_in Open c Ticks = ticks_open c
+happens_in state c Ticks = closes c [] why.Timeout
+happens_in Open c (Stops cause) = stops_open c cause
+happens_in WaitDpa c (Stops cause) = nothing c
+happens_in state c (Stops cause) = closes c [] why.Stopped
+
+abbrev pub happens : PlainCore → Happening → Outcome
+happens c h = happens_in c.state c h

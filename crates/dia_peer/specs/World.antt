@@ -1,0 +1,91 @@
+-- Two ends that send messages to each other. What is delivered was sent: at any time, any number of times, or never.
+use Rattle.std.specs.Prelude.{◌≡◌, ℕ, ◌<◌, ◌⊎◌, ◌↔◌, List, [], ◌∷◌, ◌++◌, length, map, Some, None, Contains, slice_get, false}
+use Rattle.std.specs.List.{AllByRecursion}
+use Rattle.dia_wire.specs.Wire.{MessageWithZeros}
+use Rattle.dia_peer.specs.declared.config.Role.{Role}
+use Rattle.dia_peer.specs.declared.config.Role.TheVariants.{Initiator, Responder}
+use Rattle.dia_peer.specs.declared.event.State.{State}
+use Rattle.dia_peer.specs.declared.event.State.TheVariants.{Idle, Open, WaitDpa, Closed}
+use Rattle.dia_peer.specs.declared.event.Cause.{Cause}
+use Rattle.dia_peer.specs.Core.{PlainConfig, PlainCore, PlainTaken, Pair, pair_of}
+use Rattle.dia_peer.specs.Messages.{Received, IsReceived}
+use Rattle.dia_peer.specs.Table.{Happening, Starts, Gets, Ticks, Stops, Breaks, Deed, Sends, Closes, happens}
+
+-- the core of a configuration before its first event
+abbrev pub idle : PlainConfig → Role → PlainCore
+idle config role = record { config = config; role = role; state = Idle; common = []; next = record { hop = config.hop; e2e = config.e2e }; last_cer = None; last_dwr = None; last_dpr = None; waits = false; taken = None }
+
+-- an end, and the bytes of each message that it has sent
+pub record End : Type 0 where
+  pub core : PlainCore
+  pub sent : List (List ℕ)
+
+pub record World : Type 0 where
+  pub initiator : End
+  pub responder : End
+
+-- an event at one end. A delivery is of the k-th message that the other end ever sent
+pub data Event : Type 0 where
+  Start : Event
+  Tick : Event
+  Stop : (cause : Cause) → Event
+  Lose : Event
+  Deliver : (k : ℕ) → Event
+
+-- each is a byte
+abbrev pub AreBytes : List ℕ → Type 0
+AreBytes bytes = AllByRecursion (λ byte. byte < 256) bytes
+
+-- these are the bytes of the messages that are sent
+abbrev pub AreSpelled : List Deed → List (List ℕ) → Type 0
+AreSpelled [] messages = messages ≡ []
+AreSpelled (Closes why ∷ deeds) messages = AreSpelled deeds messages
+AreSpelled (Sends m ∷ deeds) messages = (bytes : List ℕ) × (rest : List (List ℕ)) × (messages ≡ bytes ∷ rest) × AreBytes bytes × MessageWithZeros m.header m.avps bytes × AreSpelled deeds rest
+
+-- what happens at an end, and what it then has sent
+abbrev pub Goes : End → Happening → End → Type 0
+Goes old h new = (messages : List (List ℕ)) × AreSpelled (happens old.core h).deeds messages × (new ≡ record { core = (happens old.core h).core; sent = old.sent ++ messages })
+
+abbrev pub HappensAt : End → End → Event → End → Type 0
+HappensAt old other Start new = Goes old Starts new
+HappensAt old other Tick new = Goes old Ticks new
+HappensAt old other (Stop cause) new = Goes old (Stops cause) new
+HappensAt old other Lose new = Goes old Breaks new
+HappensAt old other (Deliver k) new = (bytes : List ℕ) × (what : Received) × (slice_get other.sent k ≡ Some bytes) × IsReceived bytes what × Goes old (Gets what) new
+
+abbrev pub Happens : World → Role → Event → World → Type 0
+Happens w Initiator e v = HappensAt w.initiator w.responder e v.initiator × (v.responder ≡ w.responder)
+Happens w Responder e v = HappensAt w.responder w.initiator e v.responder × (v.initiator ≡ w.initiator)
+
+-- a whole schedule
+abbrev pub Run : World → List (Role × Event) → World → Type 0
+Run w [] v = v ≡ w
+Run w (e ∷ es) v = (mid : World) × Happens w e.0 e.1 mid × Run mid es v
+
+abbrev pub start : PlainConfig → PlainConfig → World
+start a b = record { initiator = record { core = idle a Initiator; sent = [] }; responder = record { core = idle b Responder; sent = [] } }
+
+-- the applications that both configurations hold
+abbrev pub AreShared : PlainConfig → PlainConfig → List Pair → Type 0
+AreShared a b pairs = (p : Pair) → Contains pairs p ↔ (Contains (map pair_of a.apps) p × Contains (map pair_of b.apps) p)
+
+abbrev pub IsPastOpen : State → Type 0
+IsPastOpen state = (state ≡ Open) ⊎ (state ≡ WaitDpa) ⊎ (state ≡ Closed)
+
+-- an open end holds exactly the shared applications, and there is one
+abbrev pub HoldsShared : PlainConfig → PlainConfig → PlainCore → Type 0
+HoldsShared a b core = core.state ≡ Open → AreShared a b core.common × (0 < length core.common)
+
+-- the CER that opened the responder gets, when it comes again, the CEA that was sent, byte for byte, and changes nothing in the core
+pub record RepeatsAnswer (responder : End) : Type 0 where
+  pub taken : PlainTaken
+  pub is_taken : responder.core.taken ≡ Some taken
+  pub answer : List ℕ
+  pub sent : Contains responder.sent answer
+  pub again : (what : Received) (new : End) → IsReceived taken.bytes what → Goes responder (Gets what) new → new ≡ record { core = responder.core; sent = responder.sent ++ answer ∷ [] }
+
+pub record Agrees (a b : PlainConfig) (w : World) : Type 0 where
+  pub initiator : HoldsShared a b w.initiator.core
+  pub responder : HoldsShared a b w.responder.core
+  pub follows : w.initiator.core.state ≡ Open → IsPastOpen w.responder.core.state
+  pub repeats : w.responder.core.state ≡ Open → RepeatsAnswer w.responder

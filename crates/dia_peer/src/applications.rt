@@ -1,0 +1,78 @@
+//! The applications of a configuration, in order.
+
+ghost use Rattle.std.specs.Prelude.{◌≡◌, ◌<◌, ◌↔◌, IsTrue, IfOk, IfSome, MatchOption, length, map, position};
+ghost use Rattle.std.specs.List.{AllByRecursion, list_any};
+ghost use Rattle.dia_peer.specs.Core.{AreDistinct, pair_of, the_pair, pairs_of, comes_before, same_pair, sorted_pairs};
+
+use crate::config::{App, Kind};
+use std::alloc::{AllocError, Global};
+
+/// Whether the numbers of all applications may be advertised: none is that of relays (RFC 6733 section 2.4).
+pub(crate) fn may_be_used(apps: &[App]) -> bool
+    ensures { IsTrue result ↔ AllByRecursion (λ a. a.id < 4294967295) apps.now }
+{
+    for app in apps {
+        if is_relay(app.id) {
+            return false;
+        }
+    }
+    true
+}
+
+fn is_relay(id: u32) -> bool
+    ensures { IsTrue result ↔ ¬ (id < 4294967295) }
+{
+    id == u32::MAX
+}
+
+/// The applications, Auth first and then by number, or `None` where one of a kind and number stands twice.
+///
+/// Each is put into its place by a scan of those before it: at most 1,024 times 1,024 steps, once for each core.
+pub(crate) fn sorted(alloc: Global, apps: &[App]) -> Result<Option<Vec<(Kind, u32)>>, AllocError>
+    ensures { IfOk result (λ found. MatchOption found (¬ AreDistinct apps.now) (λ pairs. AreDistinct apps.now × (pairs_of pairs.items ≡ sorted_pairs (map pair_of apps.now)))) }
+{
+    let mut pairs = Vec::new(alloc);
+    for app in apps {
+        let pair = (app.kind, app.id);
+        if is_among(pair, &pairs) {
+            return Ok(None);
+        }
+        let place = place_of(pair, &pairs).unwrap_or(pairs.len());
+        pairs.insert(place, pair)?;
+    }
+    Ok(Some(pairs))
+}
+
+fn is_among(pair: (Kind, u32), pairs: &[(Kind, u32)]) -> bool
+    ensures { result ≡ list_any (λ other. same_pair (the_pair pair) (the_pair other)) pairs.now }
+{
+    pairs.iter().any(|other| is_same(pair, *other))
+}
+
+/// The place of the first application that comes behind this one.
+fn place_of(pair: (Kind, u32), pairs: &[(Kind, u32)]) -> Option<usize>
+    ensures place { result ≡ position (λ other. comes_before (the_pair pair) (the_pair other)) pairs.now }
+    ensures inside { IfSome result (λ place. place < length pairs.now) }
+{
+    pairs.iter().position(|other| is_before(pair, *other))
+}
+
+fn is_same(one: (Kind, u32), other: (Kind, u32)) -> bool
+    ensures { result ≡ same_pair (the_pair one) (the_pair other) }
+{
+    match (one.0, other.0) {
+        (Kind::Auth, Kind::Auth) | (Kind::Acct, Kind::Acct) => one.1 == other.1,
+        (Kind::Auth, Kind::Acct) | (Kind::Acct, Kind::Auth) => false,
+    }
+}
+
+/// Whether an application comes before another: Auth before Acct, and then by number.
+fn is_before(one: (Kind, u32), other: (Kind, u32)) -> bool
+    ensures { result ≡ comes_before (the_pair one) (the_pair other) }
+{
+    match (one.0, other.0) {
+        (Kind::Auth, Kind::Auth) | (Kind::Acct, Kind::Acct) => one.1 < other.1,
+        (Kind::Auth, Kind::Acct) => true,
+        (Kind::Acct, Kind::Auth) => false,
+    }
+}

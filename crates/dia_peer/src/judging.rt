@@ -1,0 +1,78 @@
+//! What is asked of a configuration.
+
+ghost use Rattle.std.specs.Prelude.{◌≡◌, ◌↔◌, IfOk, IfErr, IsTrue, map, length, All};
+ghost use Rattle.dia_peer.specs.Core.{IsConfig, IsIdentity, IsIp, plain, pair_of, pairs_of, sorted_pairs};
+ghost use Rattle.dia_peer.specs.Machine.{IsRefusedAs};
+
+use crate::applications::{may_be_used, sorted};
+use crate::config::{App, Config, ConfigFault, Ip, Kind};
+use dia_dict::{Format, Leaf, accepts};
+use std::alloc::Global;
+
+/// The greatest count of bytes of a host, a realm and a product's name.
+const NAME_LIMIT: usize = 255;
+
+const ADDRESS_LIMIT: usize = 64;
+
+const APP_LIMIT: usize = 1024;
+
+/// The applications of a configuration in order, where nothing is wrong with it.
+pub(crate) fn judged(alloc: Global, config: &Config) -> Result<Vec<(Kind, u32)>, ConfigFault>
+    ensures ok { IfOk result (λ pairs. IsConfig (plain config.now) × (pairs_of pairs.items ≡ sorted_pairs (map pair_of config.now.apps.items))) }
+    ensures err { IfErr result (IsRefusedAs (plain config.now)) }
+{
+    if !is_identity(&config.host) {
+        return Err(ConfigFault::Host);
+    }
+    if !is_identity(&config.realm) {
+        return Err(ConfigFault::Realm);
+    }
+    let product = config.product.as_str();
+    if product.len() > NAME_LIMIT {
+        return Err(ConfigFault::Product);
+    }
+    if config.addresses.is_empty() || config.addresses.len() > ADDRESS_LIMIT {
+        return Err(ConfigFault::Address);
+    }
+    know_their_lengths(&config.addresses);
+    if config.apps.is_empty() || config.apps.len() > APP_LIMIT || !may_be_used(&config.apps) {
+        return Err(ConfigFault::Application);
+    }
+    match sorted(alloc, &config.apps)? {
+        Some(pairs) => Ok(pairs),
+        None => Err(ConfigFault::Application),
+    }
+}
+
+/// Whether it is a DiameterIdentity of at most 255 bytes.
+fn is_identity(name: &str) -> bool
+    ensures { IsTrue result ↔ IsIdentity name.now }
+{
+    name.len() <= NAME_LIMIT && accepts(&Format::DiameterIdentity, name.as_bytes()) == Leaf::Fine
+}
+
+/// Each address has the bytes of its family.
+fn know_their_lengths(addresses: &[Ip])
+    ensures { All IsIp addresses.now }
+{
+    for address in addresses {
+        knows_its_length(address);
+    }
+}
+
+fn knows_its_length(address: &Ip)
+    ensures { IsIp address.now }
+{
+    match address {
+        Ip::V4(bytes) => has_four(bytes),
+        Ip::V6(bytes) => has_sixteen(bytes),
+    }
+}
+
+fn has_four(bytes: &[u8; 4])
+    ensures { length bytes.now ≡ 4 }
+{}
+
+fn has_sixteen(bytes: &[u8; 16])
+    ensures { length bytes.now ≡ 16 }
+{}

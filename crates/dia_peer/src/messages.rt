@@ -1,0 +1,102 @@
+//! The messages that a core sends (RFC 6733 sections 5.3 to 5.5).
+
+ghost use Rattle.std.specs.Prelude.{◌≡◌, IfOk};
+ghost use Rattle.dia_peer.specs.Core.{plain};
+ghost use Rattle.dia_peer.specs.Messages.{IsSent, cer, cea, dwr, dwa, dpr, dpa, cause_number};
+
+use crate::draft::Draft;
+use crate::event::Cause;
+use crate::kept::Ids;
+use crate::node::{Node, put_applications, put_capabilities, put_origin, put_state_id};
+use std::alloc::AllocError;
+
+/// The R flag (RFC 6733 section 3): the message is a request.
+const REQUEST: u8 = 0x80;
+
+const ANSWER: u8 = 0;
+
+/// The command codes of Capabilities-Exchange, Device-Watchdog and Disconnect-Peer (RFC 6733 section 3.1).
+pub(crate) const CAPABILITIES: u32 = 257;
+
+pub(crate) const WATCHDOG: u32 = 280;
+
+pub(crate) const DISCONNECT: u32 = 282;
+
+/// The code of the AVP Result-Code (RFC 6733 section 7.1).
+const RESULT_CODE: u32 = 268;
+
+/// The result codes DIAMETER_SUCCESS and DIAMETER_NO_COMMON_APPLICATION (RFC 6733 section 7.1).
+pub(crate) const SUCCESS: u32 = 2001;
+
+pub(crate) const NO_COMMON_APPLICATION: u32 = 5010;
+
+impl Node {
+    pub(crate) fn cer(&self, ids: Ids) -> Result<Vec<u8>, AllocError>
+        ensures { IfOk result (λ bytes. IsSent (cer (plain self.now.config) ids) bytes.items) }
+    {
+        let mut draft = Draft::new(self.alloc);
+        put_origin(&mut draft, &self.config)?;
+        put_capabilities(self.alloc, &mut draft, &self.config)?;
+        put_applications(self.alloc, &mut draft, &self.config)?;
+        draft.message(REQUEST, CAPABILITIES, ids)
+    }
+
+    pub(crate) fn cea(&self, ids: Ids, result_code: u32) -> Result<Vec<u8>, AllocError>
+        ensures { IfOk result (λ bytes. IsSent (cea (plain self.now.config) ids result_code) bytes.items) }
+    {
+        let mut draft = Draft::new(self.alloc);
+        draft.put_number(RESULT_CODE, result_code)?;
+        put_origin(&mut draft, &self.config)?;
+        put_capabilities(self.alloc, &mut draft, &self.config)?;
+        put_applications(self.alloc, &mut draft, &self.config)?;
+        draft.message(ANSWER, CAPABILITIES, ids)
+    }
+
+    pub(crate) fn dwr(&self, ids: Ids) -> Result<Vec<u8>, AllocError>
+        ensures { IfOk result (λ bytes. IsSent (dwr (plain self.now.config) ids) bytes.items) }
+    {
+        let mut draft = Draft::new(self.alloc);
+        put_origin(&mut draft, &self.config)?;
+        put_state_id(&mut draft, &self.config)?;
+        draft.message(REQUEST, WATCHDOG, ids)
+    }
+
+    pub(crate) fn dwa(&self, ids: Ids) -> Result<Vec<u8>, AllocError>
+        ensures { IfOk result (λ bytes. IsSent (dwa (plain self.now.config) ids) bytes.items) }
+    {
+        let mut draft = Draft::new(self.alloc);
+        draft.put_number(RESULT_CODE, SUCCESS)?;
+        put_origin(&mut draft, &self.config)?;
+        put_state_id(&mut draft, &self.config)?;
+        draft.message(ANSWER, WATCHDOG, ids)
+    }
+
+    pub(crate) fn dpr(&self, ids: Ids, cause: Cause) -> Result<Vec<u8>, AllocError>
+        ensures { IfOk result (λ bytes. IsSent (dpr (plain self.now.config) ids cause) bytes.items) }
+    {
+        let mut draft = Draft::new(self.alloc);
+        put_origin(&mut draft, &self.config)?;
+        draft.put_number(273, cause_number(cause))?;
+        draft.message(REQUEST, DISCONNECT, ids)
+    }
+
+    pub(crate) fn dpa(&self, ids: Ids) -> Result<Vec<u8>, AllocError>
+        ensures { IfOk result (λ bytes. IsSent (dpa (plain self.now.config) ids) bytes.items) }
+    {
+        let mut draft = Draft::new(self.alloc);
+        draft.put_number(RESULT_CODE, SUCCESS)?;
+        put_origin(&mut draft, &self.config)?;
+        draft.message(ANSWER, DISCONNECT, ids)
+    }
+}
+
+/// Disconnect-Cause (RFC 6733 section 5.4.3).
+fn cause_number(cause: Cause) -> u32
+    ensures { result ≡ cause_number cause }
+{
+    match cause {
+        Cause::Rebooting => 0,
+        Cause::Busy => 1,
+        Cause::DoNotWant => 2,
+    }
+}

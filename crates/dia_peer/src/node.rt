@@ -1,0 +1,207 @@
+//! What a core has of its configuration, and the messages that it makes of it.
+
+ghost use Rattle.std.specs.Prelude.{◌≡◌, ◌++◌, IfOk, IfErr, OnOk, map, filter, ◌∷◌, []};
+ghost use Rattle.std.specs.Int.{w16, to_be_bytes};
+ghost use Rattle.std.specs.List.{filter_map, list_any};
+ghost use Rattle.dia_peer.specs.Core.{IsConfig, plain, pair_of, the_pair, pairs_of, same_pair, sorted_pairs, common_of};
+ghost use Rattle.dia_peer.specs.Incoming.{pairs_named};
+ghost use Rattle.dia_peer.specs.Drafts.{drafted};
+ghost use Rattle.dia_peer.specs.Messages.{avp, address, avp32, spelled, origin, capabilities, applications, app_code, plain_app, vendor_app, if_some};
+
+use crate::base::BaseBook;
+use crate::config::{App, Config, ConfigFault, Ip, Kind};
+use crate::draft::Draft;
+use crate::judging::judged;
+use crate::named::Named;
+use std::alloc::{AllocError, Global};
+
+/// A configuration that is accepted, its applications in order, and the base dictionary.
+#[derive(Debug, Drop)]
+pub(crate) struct Node {
+    pub alloc: Global,
+    pub base: BaseBook,
+    pub config: Config,
+    pub apps: Vec<(Kind, u32)>,
+    pub ghost sound: { ∥ IsConfig (plain config) ∥₁ },
+    pub ghost in_order: { ∥ pairs_of apps.items ≡ sorted_pairs (map pair_of config.apps.items) ∥₁ },
+}
+
+impl Node {
+    ghost use Rattle.dia_peer.specs.Machine.{IsRefusedAs};
+
+    pub(crate) fn new(alloc: Global, config: Config) -> Result<Node, ConfigFault>
+        ensures ok { IfOk result (λ node. IsConfig (plain config) × (plain node.config ≡ plain config)) }
+        ensures err { IfErr result (IsRefusedAs (plain config)) }
+    {
+        let apps = judged(alloc, &config)?;
+        let base = BaseBook::new(alloc)?;
+        Ok(Node {
+            alloc,
+            base,
+            config,
+            apps,
+        })
+    }
+
+    /// The applications of the configuration that are also among these, in order.
+    pub(crate) fn common(&self, named: &Named) -> Result<Vec<(Kind, u32)>, AllocError>
+        ensures { IfOk result (λ pairs. pairs_of pairs.items ≡ common_of (plain self.now.config) (pairs_named named.now)) }
+    {
+        let mut common = Vec::new(self.alloc);
+        for pair in &self.apps {
+            push_if_named(&mut common, *pair, named)?;
+        }
+        Ok(common)
+    }
+}
+
+fn push_if_named(
+    common: &mut Vec<(Kind, u32)>,
+    app: (Kind, u32),
+    named: &Named,
+) -> Result<(), AllocError>
+    ensures { OnOk result (pairs_of common.new.items ≡ pairs_of common.old.items ++ filter (λ p. list_any (same_pair p) (pairs_named named.now)) (the_pair app ∷ [])) }
+{
+    if named.contains(app.0, app.1) {
+        common.push(app)?;
+    }
+    Ok(())
+}
+
+/// Origin-Host and Origin-Realm (RFC 6733 sections 6.3 and 6.4).
+pub(crate) fn put_origin(draft: &mut Draft, config: &Config) -> Result<(), AllocError>
+    ensures { OnOk result (drafted draft.new ≡ drafted draft.old ++ origin (plain config.now)) }
+{
+    draft.put(264, config.host.as_bytes())?;
+    draft.put(296, config.realm.as_bytes())
+}
+
+/// Origin-State-Id (RFC 6733 section 8.16), where there is one.
+pub(crate) fn put_state_id(draft: &mut Draft, config: &Config) -> Result<(), AllocError>
+    ensures { OnOk result (drafted draft.new ≡ drafted draft.old ++ if_some (avp32 278) config.now.state_id) }
+{
+    match config.state_id {
+        Some(id) => draft.put_number(278, id),
+        None => Ok(()),
+    }
+}
+
+/// What an end is, in its CER and CEA (RFC 6733 section 5.3).
+pub(crate) fn put_capabilities(
+    alloc: Global,
+    draft: &mut Draft,
+    config: &Config,
+) -> Result<(), AllocError>
+    ensures { OnOk result (drafted draft.new ≡ drafted draft.old ++ capabilities (plain config.now)) }
+{
+    put_addresses(alloc, draft, &config.addresses)?;
+    draft.put_number(266, config.vendor)?;
+    draft.put_optional(269, config.product.as_bytes())?;
+    put_state_id(draft, config)
+}
+
+/// Host-IP-Address (RFC 6733 section 5.3.5), once for each address.
+fn put_addresses(alloc: Global, draft: &mut Draft, addresses: &[Ip]) -> Result<(), AllocError>
+    ensures { OnOk result (drafted draft.new ≡ drafted draft.old ++ map (λ ip. avp 257 64 (address ip)) addresses.now) }
+{
+    for ip in addresses {
+        let bytes = address_bytes(alloc, ip)?;
+        draft.put(257, &bytes)?;
+    }
+    Ok(())
+}
+
+/// The address family and the address (RFC 6733 section 4.3.1).
+fn address_bytes(alloc: Global, ip: &Ip) -> Result<Vec<u8>, AllocError>
+    ensures { IfOk result (λ bytes. bytes.items ≡ address ip.now) }
+{
+    match ip {
+        Ip::V4(bytes) => of_family(alloc, 1, bytes),
+        Ip::V6(bytes) => of_family(alloc, 2, bytes),
+    }
+}
+
+fn of_family(alloc: Global, family: u16, bytes: &[u8]) -> Result<Vec<u8>, AllocError>
+    ensures { IfOk result (λ found. found.items ≡ to_be_bytes w16 family ++ bytes.now) }
+{
+    let mut found = Vec::from_slice(alloc, &family.to_be_bytes())?;
+    found.extend_from_slice(bytes)?;
+    Ok(found)
+}
+
+/// The applications: those without a vendor, Auth before Acct, and then those of a vendor.
+pub(crate) fn put_applications(
+    alloc: Global,
+    draft: &mut Draft,
+    config: &Config,
+) -> Result<(), AllocError>
+    ensures { OnOk result (drafted draft.new ≡ drafted draft.old ++ applications (plain config.now)) }
+{
+    put_plain(draft, Kind::Auth, &config.apps)?;
+    put_plain(draft, Kind::Acct, &config.apps)?;
+    put_vendors(alloc, draft, &config.apps)
+}
+
+/// The applications of a kind that have no vendor.
+fn put_plain(draft: &mut Draft, wanted: Kind, apps: &[App]) -> Result<(), AllocError>
+    ensures { OnOk result (drafted draft.new ≡ drafted draft.old ++ filter_map (plain_app wanted) apps.now) }
+{
+    for app in apps {
+        put_if_plain(draft, wanted, app)?;
+    }
+    Ok(())
+}
+
+fn put_if_plain(draft: &mut Draft, wanted: Kind, app: &App) -> Result<(), AllocError>
+    ensures { OnOk result (drafted draft.new ≡ drafted draft.old ++ filter_map (plain_app wanted) (app.now ∷ [])) }
+{
+    match (app.vendor, wanted, app.kind) {
+        (None, Kind::Auth, Kind::Auth) => draft.put_number(258, app.id),
+        (None, Kind::Acct, Kind::Acct) => draft.put_number(259, app.id),
+        (None, Kind::Auth, Kind::Acct) | (None, Kind::Acct, Kind::Auth) => Ok(()),
+        (Some(_), _, _) => Ok(()),
+    }
+}
+
+/// The applications of a vendor, each in a Vendor-Specific-Application-Id (RFC 6733 section 6.11).
+fn put_vendors(alloc: Global, draft: &mut Draft, apps: &[App]) -> Result<(), AllocError>
+    ensures { OnOk result (drafted draft.new ≡ drafted draft.old ++ filter_map vendor_app apps.now) }
+{
+    for app in apps {
+        put_if_vendor(alloc, draft, app)?;
+    }
+    Ok(())
+}
+
+fn put_if_vendor(alloc: Global, draft: &mut Draft, app: &App) -> Result<(), AllocError>
+    ensures { OnOk result (drafted draft.new ≡ drafted draft.old ++ filter_map vendor_app (app.now ∷ [])) }
+{
+    let Some(vendor) = app.vendor else {
+        return Ok(());
+    };
+    let mut bytes = Vec::new(alloc);
+    push_number(&mut bytes, 266, vendor)?;
+    push_number(&mut bytes, app_code(app.kind), app.id)?;
+    draft.put(260, &bytes)?;
+    Ok(())
+}
+
+/// The code of the AVP that holds an application's number.
+fn app_code(kind: Kind) -> u32
+    ensures { result ≡ app_code kind }
+{
+    match kind {
+        Kind::Auth => 258,
+        Kind::Acct => 259,
+    }
+}
+
+/// Appends an AVP of four bytes: 12 bytes with the M flag set and no Vendor-ID.
+fn push_number(out: &mut Vec<u8>, code: u32, number: u32) -> Result<(), AllocError>
+    ensures { OnOk result (out.new.items ≡ out.old.items ++ spelled (avp32 code number)) }
+{
+    out.extend_from_slice(&code.to_be_bytes())?;
+    out.extend_from_slice(&[0x40, 0, 0, 12])?;
+    out.extend_from_slice(&number.to_be_bytes())?;
+    Ok(())
+}

@@ -1,0 +1,112 @@
+//! What the AVPs of a message say: the applications that it names, and its result code.
+
+ghost use Rattle.std.specs.Prelude.{◌≡◌, ◌⊎◌, ◌↔◌, ℕ, List, IsTrue, IsNone, IfSome, IfOk, OnOk, MatchOption};
+ghost use Rattle.std.specs.List.{AllByRecursion};
+ghost use Rattle.dia_wire.specs.Wire.{PlainAvp, plain, BeginsWith, BeginsWithNone, SpellsAll};
+ghost use Rattle.dia_peer.specs.Core.{Pair};
+ghost use Rattle.dia_peer.specs.Incoming.{Has, HasNumber, Names, SaidBy, Tells, IsReadable, IsResult, HasCode, kind_of, is_vendor_specific, is_result_code};
+
+use crate::config::Kind;
+use crate::named::Named;
+use dia_dict::Key;
+use dia_wire::{Avp, key, next_avp, number32};
+use std::alloc::{AllocError, Global};
+
+/// The applications that the AVPs of a body name, and those directly inside its Vendor-Specific-Application-Ids.
+///
+/// Each is put into an ordered set: a body of n AVPs takes n times log n steps.
+pub(crate) fn named_in(alloc: Global, body: &[u8]) -> Result<Named, AllocError>
+    ensures { IfOk result (λ named. (avps : List PlainAvp) → SpellsAll avps body.now → AllByRecursion IsReadable avps → (p : Pair) → Has named p ↔ SaidBy Tells avps p) }
+{
+    let mut named = Named::new(alloc);
+    let mut rest = body;
+    while let Some((avp, after)) = first_of(rest) {
+        add_told(&mut named, &avp)?;
+        rest = after;
+    }
+    Ok(named)
+}
+
+/// The number of the first Result-Code.
+pub(crate) fn result_code(body: &[u8]) -> Option<u32>
+    ensures { (avps : List PlainAvp) → SpellsAll avps body.now → AllByRecursion HasCode avps → MatchOption result ((n : ℕ) → ¬ SaidBy IsResult avps n) (SaidBy IsResult avps) }
+{
+    let mut rest = body;
+    while let Some((avp, after)) = first_of(rest) {
+        if is_result_code(key(&avp)) {
+            return number32(avp.bytes);
+        }
+        rest = after;
+    }
+    None
+}
+
+/// The first AVP of a level, and what follows it.
+fn first_of(level: &[u8]) -> Option<(Avp<'_>, &[u8])>
+    ensures some { IfSome result (λ found. BeginsWith (plain found.0) level.now found.1.now) }
+    ensures none { IsNone result → BeginsWithNone level.now }
+{
+    match next_avp(level) {
+        Ok(next) => next,
+        Err(_) => None,
+    }
+}
+
+/// Adds the application that an AVP names, and those that stand directly inside it.
+fn add_told(named: &mut Named, avp: &Avp<'_>) -> Result<(), AllocError>
+    ensures { OnOk result (IsReadable (plain avp.now) → (p : Pair) → Has named.new p ↔ (Has named.old p ⊎ Tells (plain avp.now) p)) }
+{
+    add_named(named, avp)?;
+    if is_vendor_specific(key(avp)) {
+        add_members(named, avp.bytes)?;
+    }
+    Ok(())
+}
+
+/// Adds the applications that the AVPs of a group name.
+fn add_members(named: &mut Named, level: &[u8]) -> Result<(), AllocError>
+    ensures { OnOk result ((avps : List PlainAvp) → SpellsAll avps level.now → AllByRecursion HasNumber avps → (p : Pair) → Has named.new p ↔ (Has named.old p ⊎ SaidBy Names avps p)) }
+{
+    let mut rest = level;
+    while let Some((avp, after)) = first_of(rest) {
+        add_named(named, &avp)?;
+        rest = after;
+    }
+    Ok(())
+}
+
+/// Adds the application that an AVP names.
+fn add_named(named: &mut Named, avp: &Avp<'_>) -> Result<(), AllocError>
+    ensures { OnOk result (HasNumber (plain avp.now) → (p : Pair) → Has named.new p ↔ (Has named.old p ⊎ Names (plain avp.now) p)) }
+{
+    let Some(kind) = kind_of(key(avp)) else {
+        return Ok(());
+    };
+    let Some(id) = number32(avp.bytes) else {
+        return Ok(());
+    };
+    named.insert(kind, id)?;
+    Ok(())
+}
+
+fn kind_of(key: Key) -> Option<Kind>
+    ensures { result ≡ kind_of key }
+{
+    match (key.vendor, key.code) {
+        (0, 258) => Some(Kind::Auth),
+        (0, 259) => Some(Kind::Acct),
+        _ => None,
+    }
+}
+
+fn is_vendor_specific(key: Key) -> bool
+    ensures { result ≡ is_vendor_specific key }
+{
+    key.code == 260 && key.vendor == 0
+}
+
+fn is_result_code(key: Key) -> bool
+    ensures { result ≡ is_result_code key }
+{
+    key.code == 268 && key.vendor == 0
+}

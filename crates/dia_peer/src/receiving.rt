@@ -1,0 +1,165 @@
+//! What bytes are to a core.
+
+ghost use Rattle.std.specs.Prelude.{◌≡◌, ◌↔◌, IsTrue, IsNone, IfSome, IfOk, ℕ, List, length, take};
+ghost use Rattle.dia_wire.specs.Wire.{IsHead};
+ghost use Rattle.dia_dict.specs.Base.{base};
+ghost use Rattle.dia_check.specs.declared.Unknown.TheVariants.{Kept};
+ghost use Rattle.dia_check.specs.declared.Levels.TheVariants.{Any};
+ghost use Rattle.dia_check.specs.Valid.{IsValid, class_of};
+ghost use Rattle.dia_check.specs.Faults.{HasLength};
+ghost use Rattle.dia_peer.specs.Messages.{IsOurCode, IsReceived};
+ghost use Rattle.dia_peer.specs.Incoming.{received_of};
+
+use crate::incoming::Incoming;
+use crate::kept::Ids;
+use crate::messages::{CAPABILITIES, DISCONNECT, WATCHDOG};
+use crate::node::Node;
+use crate::reading::{named_in, result_code};
+use dia_dict::Class;
+use dia_wire::{HeadFault, Header, read_header};
+use std::alloc::{AllocError, Global};
+
+/// The bytes of a header (RFC 6733 section 3).
+const HEADER_LENGTH: usize = 20;
+
+/// The flags R and E (RFC 6733 section 3).
+const REQUEST_FLAG: u8 = 0x80;
+
+const ERROR_FLAG: u8 = 0x20;
+
+impl Node {
+    /// What the bytes are. They are checked once, and the AVPs of a CER and a CEA are gone through.
+    pub(crate) fn received(&self, bytes: &[u8]) -> Result<Incoming, AllocError>
+        ensures { IfOk result (λ what. IsReceived bytes.now (received_of bytes.now what)) }
+    {
+        let Some(header) = whole_header(bytes) else {
+            return Ok(Incoming::Unreadable);
+        };
+        if !is_our_code(header.code) {
+            return Ok(Incoming::Foreign);
+        }
+        if !self.base.is_valid(self.alloc, bytes)? {
+            return Ok(Incoming::Invalid);
+        }
+        sorted_out(self.alloc, &header, bytes)
+    }
+}
+
+/// The header of bytes that are as many as their Message Length says.
+fn whole_header(bytes: &[u8]) -> Option<Header>
+    ensures some { IfSome result (λ header. IsHead header (length bytes.now) (take 20 bytes.now) × HasLength bytes.now (length bytes.now)) }
+    ensures none { IsNone result → ¬ HasLength bytes.now (length bytes.now) }
+{
+    match read_header(bytes) {
+        Ok((header, length)) => {
+            if length as usize == bytes.len() {
+                Some(header)
+            } else {
+                None
+            }
+        }
+        Err(HeadFault::Short) => None,
+        Err(HeadFault::Version) => None,
+        Err(HeadFault::Length) => None,
+    }
+}
+
+fn is_our_code(code: u32) -> bool
+    ensures { IsTrue result ↔ IsOurCode code }
+{
+    code == CAPABILITIES || code == WATCHDOG || code == DISCONNECT
+}
+
+/// What a valid message of one of the three command codes is.
+fn sorted_out(alloc: Global, header: &Header, bytes: &[u8]) -> Result<Incoming, AllocError>
+    requires head { IsHead header.now (length bytes.now) (take 20 bytes.now) }
+    requires code { IsOurCode header.now.code }
+    requires valid { IsValid base Kept Any bytes.now }
+    ensures { IfOk result (λ what. IsReceived bytes.now (received_of bytes.now what)) }
+{
+    match class_of(header.flags) {
+        Class::Request => request(alloc, header, bytes),
+        Class::Answer => answer(alloc, header, bytes),
+        Class::Error => Ok(error(header)),
+    }
+}
+
+/// What a valid request is.
+fn request(alloc: Global, header: &Header, bytes: &[u8]) -> Result<Incoming, AllocError>
+    requires head { IsHead header.now (length bytes.now) (take 20 bytes.now) }
+    requires code { IsOurCode header.now.code }
+    requires class { class_of header.now.flags ≡ Class.Request }
+    requires valid { IsValid base Kept Any bytes.now }
+    ensures { IfOk result (λ what. IsReceived bytes.now (received_of bytes.now what)) }
+{
+    let ids = ids_of(header);
+    if header.code == CAPABILITIES {
+        let named = named_in(alloc, &bytes[HEADER_LENGTH..])?;
+        return Ok(Incoming::Cer { ids, named });
+    }
+    if header.code == WATCHDOG {
+        return Ok(Incoming::Dwr(ids));
+    }
+    Ok(Incoming::Dpr(ids))
+}
+
+/// What a valid answer without the E flag is.
+fn answer(alloc: Global, header: &Header, bytes: &[u8]) -> Result<Incoming, AllocError>
+    requires head { IsHead header.now (length bytes.now) (take 20 bytes.now) }
+    requires code { IsOurCode header.now.code }
+    requires class { class_of header.now.flags ≡ Class.Answer }
+    requires valid { IsValid base Kept Any bytes.now }
+    ensures { IfOk result (λ what. IsReceived bytes.now (received_of bytes.now what)) }
+{
+    let ids = ids_of(header);
+    if header.code == CAPABILITIES {
+        let body = &bytes[HEADER_LENGTH..];
+        let named = named_in(alloc, body)?;
+        let Some(result_code) = result_code(body) else {
+            unreachable!("a valid CEA has a Result-Code");
+        };
+        return Ok(Incoming::Cea {
+            ids,
+            result_code,
+            named,
+        });
+    }
+    if header.code == WATCHDOG {
+        return Ok(Incoming::Dwa(ids));
+    }
+    Ok(Incoming::Dpa(ids))
+}
+
+/// What a valid answer with the E flag is.
+fn error(header: &Header) -> Incoming
+    requires { IsOurCode header.now.code }
+    ensures { (bytes : List ℕ) → IsHead header.now (length bytes) (take 20 bytes) → class_of header.now.flags ≡ Class.Error → IsValid base Kept Any bytes → IsReceived bytes (received_of bytes result) }
+{
+    if header.code == CAPABILITIES {
+        Incoming::Refusal(ids_of(header))
+    } else {
+        Incoming::Other
+    }
+}
+
+fn ids_of(header: &Header) -> Ids
+    ensures { (result.hop ≡ header.now.hop) × (result.e2e ≡ header.now.e2e) }
+{
+    Ids {
+        hop: header.hop,
+        e2e: header.e2e,
+    }
+}
+
+/// The class of a message with these Command Flags: R and E (RFC 6733 section 3).
+fn class_of(flags: u8) -> Class
+    ensures { result ≡ class_of flags }
+{
+    if flags & REQUEST_FLAG != 0 {
+        Class::Request
+    } else if flags & ERROR_FLAG != 0 {
+        Class::Error
+    } else {
+        Class::Answer
+    }
+}
