@@ -1,0 +1,275 @@
+-- The named commands, one after the other.
+use Rattle.std.proofs.Common.{◌≡◌, ◌≢◌, ℕ, zero, suc, ◌+◌, ◌<◌, ◌≤◌, Bool, true, false, cond, List, [], ◌∷◌, ◌++◌, length, map, take, drop, get_or, ◌==◌, Option, Some, None, refl, sym, ap, subst, ◌∙◌, arith, inl, inr}
+use Rattle.std.specs.Prelude.{◌⊎◌, ◌↔◌, Contains, slice_get, is_some, IsSome, string_bytes}
+use Rattle.std.specs.Option.{option_map, option_map_or}
+use Rattle.std.specs.List.{filter_map, list_any}
+use Rattle.std.proofs.lemmas.List.{append_assoc, append-nil, map-append, drop_more, map_more}
+use Rattle.std.proofs.lemmas.Bool.{eq-eqb}
+use Rattle.std.proofs.lemmas.Option.{same_Some}
+use Rattle.dia_wire.specs.declared.Key.{Key}
+use Rattle.dia_dict.specs.Keys.{same_key}
+use Rattle.dia_dict.specs.declared.DRule.{DRule}
+use Rattle.dia_dict.specs.Dictionary.{Dictionary, DictEntry, PlainDefinition, IsDictionary, definitions, groups}
+use Rattle.dia_dict.proofs.Members.{IsAt, at_filter_map}
+use Rattle.dia_check.specs.declared.policy.Unknown.{Unknown}
+use Rattle.dia_check.specs.Valid.{known}
+use Rattle.dia_compat.specs.declared.proposing.naming.Named.{Named}
+use Rattle.dia_compat.specs.declared.proposing.reaching.Reached.{Reached}
+use Rattle.dia_compat.specs.TableText.{plain_pair}
+use Rattle.dia_compat.specs.Below.{HasRule, IsListed, HasWildcard, IsAboveZero, IsKnown, IsCoveredAlone}
+use Rattle.dia_compat.specs.Closed.{NamesEntry, NamesCommand}
+use Rattle.dia_compat.specs.Proposed.{WantsPair, IsProposed, by_command, by_group, AreBeside, AreCommandPairs, AreAvpPairs}
+use Rattle.dia_compat.specs.Reaching.{has, Waits, IsShared, IsAllowed, IsOpenTo, Admits, Wants, Grew, ComesToAll, Follows, root, in_group, AllWait}
+use Rattle.dia_compat.specs.Wanting.{or_alone, wanted_names, names_beside}
+use Rattle.dia_compat.specs.Naming.{shared_pair, Same, Adds, Names, name_at, AreRoots, NamedSoFar}
+use Rattle.dia_compat.proofs.Placing.{IsIn}
+use Rattle.dia_compat.proofs.Counts.{in_at, at_in, in_contains, contains_in, in_left, in_right, in_append, in_any}
+use Rattle.dia_compat.proofs.Fitting.{known_entry, entry_known, in_filter_map}
+use Rattle.dia_compat.proofs.Selecting.{one_command}
+use Rattle.dia_compat.proofs.Reaching.{is_known}
+use Rattle.dia_compat.proofs.Wanting.{are_beside, filter_map_order}
+
+abbrev Pairs : Type 0
+Pairs = List (List ℕ × List ℕ)
+
+in_map : {X Y : Type 0} (f : X → Y) (xs : List X) (y : Y) → IsIn y (map f xs) → (x : X) × IsIn x xs × (y ≡ f x)
+in_map f [] y h = absurd h
+in_map f (x ∷ xs) y (inl e) = (x, inl refl, e)
+in_map f (x ∷ xs) y (inr h) = let r = in_map f xs y h in (r.0, inr r.1, r.2)
+
+into_map : {X Y : Type 0} (f : X → Y) (xs : List X) (x : X) → IsIn x xs → IsIn (f x) (map f xs)
+into_map f [] x h = absurd h
+into_map f (z ∷ xs) x (inl e) = inl (ap f e)
+into_map f (z ∷ xs) x (inr h) = inr (into_map f xs x h)
+
+name_there : (d : Dictionary) (place : ℕ) (c : PlainDefinition) → slice_get d.commands place ≡ Some c → name_at d place ≡ c.name
+name_there d place c at = ap (λ (o : Option PlainDefinition). option_map_or (λ (x : PlainDefinition). x.name) o []) at
+
+-- ---- lists
+
+pub not_among : (ks : List ℕ) (k : ℕ) → false ≡ list_any (λ n. n == k) ks → ¬ Contains ks k
+not_among ks k none i = let e : true ≡ false = sym (in_any (λ (n : ℕ). n == k) ks k (in_contains ks k i) (eq-eqb k k refl)) ∙ sym none in absurd cc
+
+pub next_item : {X : Type 0} (f : X → List ℕ) (xs : List X) (i : ℕ) (x : X) → i < length xs → x ≡ get_or xs i x → (map f (drop i xs) ≡ f x ∷ map f (drop (i + 1) xs)) × (map f (take (i + 1) xs) ≡ map f (take i xs) ++ f x ∷ [])
+next_item {X} f xs i x within is = (
+  ap (map f) (drop_more xs i x within) ∙ ap (λ (y : X). f y ∷ map f (drop (i + 1) xs)) (sym is),
+  map_more f xs i x within ∙ ap (λ (y : X). map f (take i xs) ++ f y ∷ []) (sym is),
+)
+
+pub item_at : {X : Type 0} (f : X → List ℕ) (xs : List X) (i : ℕ) (x : X) → i < length xs → x ≡ get_or xs i x → slice_get (map f xs) i ≡ Some (f x)
+item_at f [] i x within is = absurd (omega arith)
+item_at f (y ∷ xs) zero x within is = ap (λ z. Some (f z)) (sym is)
+item_at f (y ∷ xs) (suc i) x within is = item_at f xs i x (omega arith) is
+
+-- ---- one name more
+
+module _ (da db : Dictionary) (sa : IsDictionary da) (sb : IsDictionary db) where
+  known_more : (gone : List (List ℕ)) (c : PlainDefinition) → Contains da.commands c → ((name : List ℕ) → Contains gone name → (x : PlainDefinition) × NamesCommand da name x) → (name : List ℕ) → Contains (gone ++ c.name ∷ []) name → (x : PlainDefinition) × NamesCommand da name x
+  known_more gone c inside before name i = by (in_append gone (c.name ∷ []) name (in_contains (gone ++ c.name ∷ []) name i))
+    where
+      by : IsIn name gone ⊎ IsIn name (c.name ∷ []) → (x : PlainDefinition) × NamesCommand da name x
+      by (inl h) = before name (contains_in gone name h)
+      by (inr (inl e)) = (c, (inside, sym e))
+      by (inr (inr none)) = absurd none
+
+  pub named_again : (gone left : List (List ℕ)) (place : ℕ) (c : PlainDefinition) (old new : Named) → slice_get da.commands place ≡ Some c → NamedSoFar da db gone (c.name ∷ left) old → Contains old.places.items place → Same old new
+      → NamedSoFar da db (gone ++ c.name ∷ []) left new
+  named_again gone left place c old new at so again same = record {
+    owed = λ more h.
+        let listed : Contains (map (name_at da) old.places.items) c.name = subst (Contains (map (name_at da) old.places.items)) (name_there da place c at)
+        (contains_in (map (name_at da) old.places.items) (name_at da place) (into_map (name_at da) old.places.items place (in_contains old.places.items place again))) in
+        let all = so.owed more (inl (listed, subst (λ (ks : List ℕ). AreCommandPairs da db (map (name_at da) ks) left more) same.places h)) in
+        subst (λ (ns : List (List ℕ)). AreCommandPairs da db [] ns (map plain_pair new.pairs.items ++ more)) (sym (append_assoc gone (c.name ∷ []) left))
+        (subst (λ (ps : Pairs). AreCommandPairs da db [] (gone ++ (c.name ∷ left)) (ps ++ more)) (sym same.pairs) all);
+    roots = subst (λ (ps : Pairs). AreRoots da db ps new.reached) (sym same.pairs) (subst (λ (r : Reached). AreRoots da db (map plain_pair old.pairs.items) r) (sym same.reached) so.roots);
+    within = λ k i. so.within k (subst (λ (ks : List ℕ). Contains ks k) same.places i);
+    listed = λ p i. subst (λ (ks : List ℕ). Contains (map (name_at da) ks) p.0) (sym same.places) (so.listed p (subst (λ (ps : Pairs). Contains ps p) same.pairs i));
+    known = known_more gone c (contains_in da.commands c (in_at da.commands place c at)) so.known;
+  }
+
+  some_name : (name : List ℕ) (ns : List (List ℕ)) → (n : List ℕ) × IsIn n (or_alone name ns)
+  some_name name [] = (name, inl refl)
+  some_name name (n ∷ ns) = (n, inl refl)
+
+  module _ (gone left : List (List ℕ)) (place : ℕ) (c : PlainDefinition) (old new : Named) (at : slice_get da.commands place ≡ Some c) (so : NamedSoFar da db gone (c.name ∷ left) old) (fresh : ¬ Contains old.places.items place) (adds : Adds da db place c old new) where
+    abbrev pairs_of_c : Pairs
+    pairs_of_c = map (λ (name : List ℕ). (c.name, name)) (names_beside da db c)
+
+    abbrev before : Pairs
+    before = map plain_pair old.pairs.items
+
+    abbrev after : Pairs
+    after = map plain_pair new.pairs.items
+
+    inside : Contains da.commands c
+    inside = contains_in da.commands c (in_at da.commands place c at)
+
+    names_now : map (name_at da) new.places.items ≡ map (name_at da) old.places.items ++ c.name ∷ []
+    names_now = ap (map (name_at da)) adds.places ∙ map-append (name_at da) old.places.items (place ∷ []) ∙ ap (λ (n : List ℕ). map (name_at da) old.places.items ++ n ∷ []) (name_there da place c at)
+
+    not_listed : ¬ Contains (map (name_at da) old.places.items) c.name
+    not_listed h =
+        let r = in_map (name_at da) old.places.items c.name (in_contains (map (name_at da) old.places.items) c.name h) in
+        let k = contains_in old.places.items r.0 r.1 in
+        let x = so.within r.0 k in
+        let same : r.0 ≡ place = sa.distinct_commands r.0 place x.0 c x.1 at (sym (name_there da r.0 x.0 x.1) ∙ sym r.2) in
+        fresh (subst (Contains old.places.items) same k)
+
+    owed : (more : Pairs) → AreCommandPairs da db (map (name_at da) new.places.items) left more → AreCommandPairs da db [] ((gone ++ c.name ∷ []) ++ left) (after ++ more)
+    owed more h =
+        let h2 = subst (λ (ns : List (List ℕ)). AreCommandPairs da db ns left more) names_now h in
+        let all = so.owed (pairs_of_c ++ more) (inr (not_listed, c, names_beside da db c, more, (inside, refl), are_beside da db sa sb c inside, refl, h2)) in
+        let grouped : before ++ (pairs_of_c ++ more) ≡ after ++ more = sym (append_assoc before pairs_of_c more) ∙ ap (λ (ps : Pairs). ps ++ more) (sym adds.pairs) in
+        subst (λ (ns : List (List ℕ)). AreCommandPairs da db [] ns (after ++ more)) (sym (append_assoc gone (c.name ∷ []) left)) (subst (λ (ps : Pairs). AreCommandPairs da db [] (gone ++ (c.name ∷ left)) ps) grouped all)
+
+    split_pair : (p : List ℕ × List ℕ) → Contains after p → Contains before p ⊎ (p.0 ≡ c.name)
+    split_pair p i = by (in_append before pairs_of_c p (in_contains (before ++ pairs_of_c) p (subst (λ (ps : Pairs). Contains ps p) adds.pairs i)))
+      where
+        by : IsIn p before ⊎ IsIn p pairs_of_c → Contains before p ⊎ (p.0 ≡ c.name)
+        by (inl h) = inl (contains_in before p h)
+        by (inr h) = let r = in_map (λ (name : List ℕ). (c.name, name)) (names_beside da db c) p h in inr (ap (λ (q : List ℕ × List ℕ). q.0) r.2)
+
+    kept_pair : (p : List ℕ × List ℕ) → Contains before p → Contains after p
+    kept_pair p i = subst (λ (ps : Pairs). Contains ps p) (sym adds.pairs) (contains_in (before ++ pairs_of_c) p (in_left before pairs_of_c p (in_contains before p i)))
+
+    own_pair : (p : List ℕ × List ℕ) × Contains after p × (p.0 ≡ c.name)
+    own_pair =
+        let n = some_name c.name (wanted_names da db c.head) in (
+          (c.name, n.0),
+          subst (λ (ps : Pairs). Contains ps (c.name, n.0)) (sym adds.pairs) (contains_in (before ++ pairs_of_c) (c.name, n.0)
+              (in_right before pairs_of_c (c.name, n.0) (into_map (λ (name : List ℕ). (c.name, name)) (names_beside da db c) n.0 n.1))),
+          refl,
+        )
+
+    each : (key : Key) → (has old.reached key ≡ true) ⊎ (Admits c.rules key × IsShared da db key) → (p : List ℕ × List ℕ) × (x : PlainDefinition) × Contains after p × NamesCommand da p.0 x × Wants da db x.rules key
+    each key (inl h) = let r = so.roots.each key h in (r.0, r.1, kept_pair r.0 r.2, r.3, r.4)
+    each key (inr w) = (own_pair.0, c, own_pair.1, (inside, sym own_pair.2), w)
+
+    all : (p : List ℕ × List ℕ) (x : PlainDefinition) (key : Key) → Contains before p ⊎ (p.0 ≡ c.name) → NamesCommand da p.0 x → Wants da db x.rules key → has new.reached key ≡ true
+    all p x key (inl i) n w = adds.reached.grew.grows key (so.roots.all p x key i n w)
+    all p x key (inr e) n w =
+        let same : x ≡ c = one_command da x c sa (in_contains da.commands x n.0) (in_contains da.commands c inside) (n.1 ∙ e) in
+        let v = subst (λ (y : PlainDefinition). Wants da db y.rules key) same w in
+        adds.reached.there key v.0 v.1
+
+    waits_each : (key : Key) → (has old.reached key ≡ true) ⊎ Waits new.reached key → Waits new.reached key
+    waits_each key (inl h) = adds.reached.grew.still key (so.roots.wait.each key h)
+    waits_each key (inr w) = w
+
+    waits_only : (key : Key) → Waits old.reached key ⊎ (has new.reached key ≡ true) → has new.reached key ≡ true
+    waits_only key (inl w) = adds.reached.grew.grows key (so.roots.wait.only key w)
+    waits_only key (inr h) = h
+
+    within : (k : ℕ) → IsIn k old.places.items ⊎ IsIn k (place ∷ []) → (x : PlainDefinition) × (slice_get da.commands k ≡ Some x)
+    within k (inl i) = so.within k (contains_in old.places.items k i)
+    within k (inr (inl e)) = (c, ap (slice_get da.commands) e ∙ at)
+    within k (inr (inr none)) = absurd none
+
+    listed : (p : List ℕ × List ℕ) → Contains before p ⊎ (p.0 ≡ c.name) → Contains (map (name_at da) old.places.items ++ c.name ∷ []) p.0
+    listed p (inl i) = contains_in (map (name_at da) old.places.items ++ c.name ∷ []) p.0 (in_left (map (name_at da) old.places.items) (c.name ∷ []) p.0 (in_contains (map (name_at da) old.places.items) p.0 (so.listed p i)))
+    listed p (inr e) = contains_in (map (name_at da) old.places.items ++ c.name ∷ []) p.0 (in_right (map (name_at da) old.places.items) (c.name ∷ []) p.0 (inl e))
+
+    pub named_new : NamedSoFar da db (gone ++ c.name ∷ []) left new
+    named_new = record {
+      owed = owed;
+      roots = record {
+        each = λ key h. each key (adds.reached.grew.only key h);
+        all = λ p x key i n w. all p x key (split_pair p i) n w;
+        wait = record { each = λ key h. waits_each key (adds.reached.grew.queued key h); only = λ key w. waits_only key (adds.reached.grew.waits key w) };
+      };
+      within = λ k i. within k (in_append old.places.items (place ∷ []) k (in_contains (old.places.items ++ place ∷ []) k (subst (λ (ks : List ℕ). Contains ks k) adds.places i)));
+      listed = λ p i. subst (λ (ns : List (List ℕ)). Contains ns p.0) (sym names_now) (listed p (split_pair p i));
+      known = known_more gone c inside so.known;
+    }
+
+  pub named_more : (gone left : List (List ℕ)) (place : ℕ) (c : PlainDefinition) (old new : Named) → slice_get da.commands place ≡ Some c → NamedSoFar da db gone (c.name ∷ left) old → Names da db place c old new → NamedSoFar da db (gone ++ c.name ∷ []) left new
+  named_more gone left place c old new at so (inl (again, same)) = named_again gone left place c old new at so again same
+  named_more gone left place c old new at so (inr (fresh, adds)) = named_new gone left place c old new at so fresh adds
+
+  pub all_named : (names : List (List ℕ)) (named : Named) → NamedSoFar da db names [] named → AreCommandPairs da db [] names (map plain_pair named.pairs.items)
+  all_named names named so =
+      subst (λ (ns : List (List ℕ)). AreCommandPairs da db [] ns (map plain_pair named.pairs.items)) (append-nil names)
+      (subst (λ (ps : Pairs). AreCommandPairs da db [] (names ++ []) ps) (append-nil (map plain_pair named.pairs.items)) (so.owed [] refl))
+
+  -- ---- what follows is what is proposed
+
+  module _ (u : Unknown) where
+    pub wants_pair : (rules : List DRule) (key : Key) → Wants da db rules key → WantsPair da db u rules key
+    wants_pair rules key w = record { wanted = by w.0; not_alone = not_alone; known_too = w.1.1 }
+      where
+        by : Admits rules key → ((r : DRule) × HasRule rules key r × IsAboveZero r.max) ⊎ ((v : DRule) × HasWildcard rules v × IsAboveZero v.max × IsKnown da key × (¬ IsListed rules key))
+        by (inl p) = inl p
+        by (inr q) = inr (q.0.0, q.0.1, q.0.2, w.1.0, q.1)
+
+        not_alone : ¬ IsCoveredAlone da db u key
+        not_alone h = let e : true ≡ false = sym w.1.1 ∙ ap (λ (o : Option DictEntry). is_some o) h.1 in absurd cc
+
+    pub pair_wants : (d : PlainDefinition) (key : Key) → Contains (definitions da) d → WantsPair da db u d.rules key → Wants da db d.rules key
+    pair_wants d key i w = by w.wanted
+      where
+        by : ((r : DRule) × HasRule d.rules key r × IsAboveZero r.max) ⊎ ((v : DRule) × HasWildcard d.rules v × IsAboveZero v.max × IsKnown da key × (¬ IsListed d.rules key)) → Wants da db d.rules key
+        by (inl (r, h, pos)) = (inl (r, h, pos), (is_known da key (sa.known_keys d r key i h.0 h.1), w.known_too))
+        by (inr (v, h, pos, is, unl)) = (inr ((v, h, pos), unl), (is, w.known_too))
+
+    group_inside : (e : DictEntry) (g : PlainDefinition) → IsIn e da.entries → e.group ≡ Some g → Contains (definitions da) g
+    group_inside e g i is = contains_in (definitions da) g (in_left (groups da) da.commands g (in_filter_map (λ (x : DictEntry). x.group) da.entries e g i is))
+
+    module _ (pairs : Pairs) (roots : Reached) (are : AreRoots da db pairs roots) where
+      pub proposed : (key : Key) → Follows da db roots key → IsProposed da db u pairs key
+      proposed key (root k h) = let r = are.each key h in by_command r.0 r.1 key r.2 r.3 (wants_pair r.1.rules key r.4)
+      proposed key (in_group outer k e f group up ea eb both is w) = by_group outer key e f group (proposed outer up) ea eb both is (wants_pair group.rules key w)
+
+      pub follows : (key : Key) → IsProposed da db u pairs key → Follows da db roots key
+      follows key (by_command p c k i n w) = root key (are.all p c key i n (pair_wants c key (contains_in (definitions da) c (in_right (groups da) da.commands c (in_contains da.commands c n.0))) w))
+      follows key (by_group outer k e f group up ea eb both is w) =
+          in_group outer key e f group (follows outer up) ea eb both is (pair_wants group key (group_inside e group (known_entry da outer e ea).0 is) w)
+
+  -- ---- the AVP pairs
+
+  shared_says : (r : Reached) (e : DictEntry) (p : List ℕ × List ℕ) → shared_pair db r e ≡ Some p → (has r e.key ≡ true) × ((f : DictEntry) × (known db e.key ≡ Some f) × (p ≡ (e.name, f.name)))
+  shared_says r e p h = by (has r e.key) refl h
+    where
+      inner : (o : Option DictEntry) → known db e.key ≡ o → option_map (λ (f : DictEntry). (e.name, f.name)) o ≡ Some p → (f : DictEntry) × (known db e.key ≡ Some f) × (p ≡ (e.name, f.name))
+      inner None g k = absurd (let f : None ≡ Some p = k in cc)
+      inner (Some f) g k = (f, g, sym (same_Some (e.name, f.name) p k))
+
+      by : (b : Bool) → has r e.key ≡ b → cond b (option_map (λ (f : DictEntry). (e.name, f.name)) (known db e.key)) None ≡ Some p → (has r e.key ≡ true) × ((f : DictEntry) × (known db e.key ≡ Some f) × (p ≡ (e.name, f.name)))
+      by true g k = (g, inner (known db e.key) refl k)
+      by false g k = absurd (let f : None ≡ Some p = k in cc)
+
+  shared_is : (r : Reached) (e f : DictEntry) → has r e.key ≡ true → known db e.key ≡ Some f → shared_pair db r e ≡ Some (e.name, f.name)
+  shared_is r e f h k =
+      ap (λ (b : Bool). cond b (option_map (λ (x : DictEntry). (e.name, x.name)) (known db e.key)) None) h ∙ ap (λ (o : Option DictEntry). option_map (λ (x : DictEntry). (e.name, x.name)) o) k
+
+  pub are_avp_pairs : (r : Reached) (wanted : Key → Type 0) → ((key : Key) → has r key ≡ true → wanted key) → ((key : Key) → wanted key → has r key ≡ true) → AreAvpPairs da db wanted (filter_map (shared_pair db r) da.entries)
+  are_avp_pairs r wanted to from = record {
+    each = λ p. (there p, back p);
+    in_order = λ i j k l p q e f less at_i at_j at_k at_l first second.
+        let o = filter_map_order (shared_pair db r) da.entries i j p q less at_i at_j in
+        let x = shared_says r o.x p o.gives_y in
+        let y = shared_says r o.w q o.gives_z in
+        let a : k ≡ o.k = sa.distinct_names k o.k e o.x at_k o.at_k (first ∙ ap (λ (z : List ℕ × List ℕ). z.0) x.1.2) in
+        let b : l ≡ o.l = sa.distinct_names l o.l f o.w at_l o.at_l (second ∙ ap (λ (z : List ℕ × List ℕ). z.0) y.1.2) in
+        let lt = o.before in omega arith;
+  }
+    where
+      there : (p : List ℕ × List ℕ) → Contains (filter_map (shared_pair db r) da.entries) p → (e f : DictEntry) × NamesEntry da p.0 e × NamesEntry db p.1 f × (e.key ≡ f.key) × wanted e.key
+      there p i =
+          let s = at_in (filter_map (shared_pair db r) da.entries) p (in_contains (filter_map (shared_pair db r) da.entries) p i) in
+          let o = at_filter_map (shared_pair db r) da.entries s.place p s.at in
+          let x = shared_says r o.1 p o.3 in
+          let f = known_entry db o.1.key x.1.0 x.1.1 in (
+            o.1,
+            x.1.0,
+            (contains_in da.entries o.1 (in_at da.entries o.0 o.1 o.2), sym (ap (λ (z : List ℕ × List ℕ). z.0) x.1.2)),
+            (contains_in db.entries x.1.0 f.0, sym (ap (λ (z : List ℕ × List ℕ). z.1) x.1.2)),
+            sym f.1,
+            to o.1.key x.0,
+          )
+
+      back : (p : List ℕ × List ℕ) → (e f : DictEntry) × NamesEntry da p.0 e × NamesEntry db p.1 f × (e.key ≡ f.key) × wanted e.key → Contains (filter_map (shared_pair db r) da.entries) p
+      back p (e, f, n, m, same, w) =
+          let k = entry_known db e.key f sb (in_contains db.entries f m.0) (sym same) in
+          let is : (e.name, f.name) ≡ p = ap (λ (x : List ℕ). (x, f.name)) n.1 ∙ ap (λ (y : List ℕ). (p.0, y)) m.1 in
+          subst (Contains (filter_map (shared_pair db r) da.entries)) is
+          (contains_in (filter_map (shared_pair db r) da.entries) (e.name, f.name) (in_filter_map (shared_pair db r) da.entries e (e.name, f.name) (in_contains da.entries e n.0) (shared_is r e f (from e.key w) k)))

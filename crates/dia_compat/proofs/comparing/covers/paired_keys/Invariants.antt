@@ -1,0 +1,10 @@
+use Rattle.std.proofs.Common.{◌≡◌, map, take}
+use Rattle.std.specs.List.{list_any}
+use Rattle.dia_wire.specs.declared.Key.{Key}
+use Rattle.dia_compat.specs.TableText.{plain_pair}
+use Rattle.dia_compat.specs.Tests.{holds_key}
+use Rattle.dia_compat.specs.Comparing.{pairs_key}
+use Rattle.dia_compat.proofs.comparing.covers.paired_keys.Given as goal
+
+abbrev pub invariant-loop-first : goal.invariant-loop-first
+invariant-loop-first g l = (key : Key) → holds_key l.keys.keys key ≡ list_any (pairs_key (g.A.Book.meaning l.a.book.now) (g.B.Book.meaning l.b.book.now) key) (map plain_pair (take l.first-index l.pairs))

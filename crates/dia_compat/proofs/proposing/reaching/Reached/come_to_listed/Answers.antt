@@ -1,0 +1,7 @@
+use Rattle.std.proofs.Common.{arith, length, ◌<◌}
+use Rattle.dia_compat.proofs.Reaching.{listed_more}
+use Rattle.dia_compat.proofs.proposing.reaching.Reached.come_to_listed.Goals as goal
+
+pub loop-rule-preserved : goal.loop-rule-preserved
+loop-rule-preserved g c =
+    listed_more (g.A.Book.meaning c.args.a.now) (g.B.Book.meaning c.args.b.now) c.args.rules.now c.loop-rule.rule-index _ c.args.self.now c.loop-rule.self c.come_to_allowed.new.self (omega arith) c.loop-rule.invariant c.in_ok-come_to_allowed.ensures

@@ -1,0 +1,12 @@
+pub mod TableText
+pub mod Below
+pub mod Closed
+pub mod Proposed
+pub mod Tests
+pub mod Comparing
+pub mod Failing
+pub mod Words
+pub mod Lines
+pub mod Reaching
+pub mod Wanting
+pub mod Naming

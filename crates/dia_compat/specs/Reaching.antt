@@ -1,0 +1,87 @@
+-- Which AVPs a proposal has come to, and which of their groups are still to be gone through.
+use Rattle.std.specs.Prelude.{◌≡◌, ℕ, ◌+◌, ◌<◌, ◌≤◌, ◌⊎◌, Bool, true, false, not, if◌then◌else◌, List, [], ◌∷◌, ◌++◌, length, count_by, Option, Some, None, IsSome, Contains, slice_get}
+use Rattle.std.specs.List.{list_any}
+use Rattle.dia_wire.specs.declared.Key.{Key}
+use Rattle.dia_dict.specs.Keys.{same_key}
+use Rattle.dia_dict.specs.declared.DRule.{DRule}
+use Rattle.dia_dict.specs.Dictionary.{Dictionary, DictEntry, PlainDefinition, definitions}
+use Rattle.dia_check.specs.Valid.{known}
+use Rattle.dia_compat.specs.declared.proposing.reaching.Reached.{Reached}
+use Rattle.dia_compat.specs.Below.{HasRule, IsListed, HasWildcard, IsAboveZero, IsKnown}
+use Rattle.dia_compat.specs.Closed.{BothGrouped}
+
+-- it has come to the AVP with this key
+abbrev pub has : Reached → Key → Bool
+has r key = list_any (same_key key) r.keys.keys
+
+abbrev pub Waits : Reached → Key → Type 0
+Waits r key = Contains r.waiting.items key
+
+abbrev pub IsShared : Dictionary → Dictionary → Key → Type 0
+IsShared da db key = IsKnown da key × IsKnown db key
+
+abbrev pub IsAllowedBy : DRule → Key → Type 0
+IsAllowedBy rule key = (rule.key ≡ Some key) × IsAboveZero rule.max
+
+-- a rule for the key lets it in
+abbrev pub IsAllowed : List DRule → Key → Type 0
+IsAllowed rules key = (r : DRule) × HasRule rules key r × IsAboveZero r.max
+
+-- the wildcard lets the key in
+abbrev pub IsOpenTo : List DRule → Key → Type 0
+IsOpenTo rules key = ((w : DRule) × HasWildcard rules w × IsAboveZero w.max) × (¬ IsListed rules key)
+
+-- a definition of A lets in the key, which both know
+abbrev pub Admits : List DRule → Key → Type 0
+Admits rules key = IsAllowed rules key ⊎ IsOpenTo rules key
+
+abbrev pub Wants : Dictionary → Dictionary → List DRule → Key → Type 0
+Wants da db rules key = Admits rules key × IsShared da db key
+
+-- this key is there now, and waits if it is new
+pub record Inserts (key : Key) (old new : Reached) : Type 0 where
+  pub keys : (other : Key) → has new other ≡ (if same_key key other then true else has old other)
+  pub waiting : new.waiting.items ≡ (if has old key then old.waiting.items else old.waiting.items ++ key ∷ [])
+
+-- how many AVPs of A it has not come to, and how many wait
+abbrev pub potential : Dictionary → Reached → ℕ
+potential da r = count_by (λ e. not (has r e.key)) da.entries + length r.waiting.items
+
+-- it has come to some keys that have P, which now wait
+pub record Grew (da : Dictionary) (P : (Key → Type 0)) (old new : Reached) : Type 0 where
+  pub grows : (key : Key) → has old key ≡ true → has new key ≡ true
+  pub only : (key : Key) → has new key ≡ true → (has old key ≡ true) ⊎ P key
+  pub still : (key : Key) → Waits old key → Waits new key
+  pub waits : (key : Key) → Waits new key → Waits old key ⊎ (has new key ≡ true)
+  pub queued : (key : Key) → has new key ≡ true → (has old key ≡ true) ⊎ Waits new key
+  pub nearer : potential da new ≤ potential da old
+
+-- the key is there now, if both know it
+pub record ComesTo (da db : Dictionary) (key : Key) (old new : Reached) : Type 0 where
+  pub grew : Grew da (λ other. (other ≡ key) × IsShared da db other) old new
+  pub there : IsShared da db key → has new key ≡ true
+
+-- all keys with P that both know are there now
+pub record ComesToAll (da db : Dictionary) (P : (Key → Type 0)) (old new : Reached) : Type 0 where
+  pub grew : Grew da (λ key. P key × IsShared da db key) old new
+  pub there : (key : Key) → P key → IsShared da db key → has new key ≡ true
+
+-- what follows from the keys that it had come to
+pub data Follows (da db : Dictionary) (roots : Reached) : Key → Type 0 where
+  root : (key : Key) → has roots key ≡ true → Follows da db roots key
+  in_group : (outer key : Key) (e f : DictEntry) (group : PlainDefinition) → Follows da db roots outer → known da outer ≡ Some e → known db outer ≡ Some f
+      → BothGrouped e f → e.group ≡ Some group → Wants da db group.rules key → Follows da db roots key
+
+-- the group of A's AVP of this key, where B's is Grouped too
+pub record IsSharedGroup (da db : Dictionary) (key : Key) (group : PlainDefinition) : Type 0 where
+  pub e : DictEntry
+  pub f : DictEntry
+  pub at_a : known da key ≡ Some e
+  pub at_b : known db key ≡ Some f
+  pub both : BothGrouped e f
+  pub is_group : e.group ≡ Some group
+
+-- each key that it has come to waits, and each that waits is one
+pub record AllWait (r : Reached) : Type 0 where
+  pub each : (key : Key) → has r key ≡ true → Waits r key
+  pub only : (key : Key) → Waits r key → has r key ≡ true

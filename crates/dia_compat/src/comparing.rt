@@ -1,0 +1,15 @@
+//! What the tests of a table's pairs are made of.
+mod bounds;
+mod commands;
+mod covers;
+mod heads;
+mod keys;
+mod named;
+mod pairs;
+mod rules;
+mod testing;
+#[cfg(test)]
+mod tests;
+mod wildcards;
+
+pub(crate) use pairs::Comparison;

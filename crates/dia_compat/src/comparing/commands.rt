@@ -1,0 +1,180 @@
+//! The test of a pair of commands.
+ghost use Rattle.std.specs.Prelude.{◌≡◌, ◌<◌, ◌||◌, not, IfOk, IfSome, length, map, slice_get, ℕ, List};
+ghost use Rattle.std.specs.List.{list_any, list_all};
+ghost use Rattle.dia_dict.specs.Dictionary.{Dictionary, definitions, plain};
+ghost use Rattle.dia_dict.specs.declared.definition.Class.TheVariants as classes;
+ghost use Rattle.dia_compat.specs.TableText.{plain_pair};
+ghost use Rattle.dia_compat.specs.Comparing.{plain_names, is_pair, names_app, wants_app, is_of_app, is_wanted, serves, is_selected, is_command_pair};
+
+use super::heads::{is_proxiable, same_selector, serves};
+use dia_dict::{Book, Class, DefHead, Definition};
+use indexmap::IndexSet;
+use std::alloc::{AllocError, Global};
+
+/// The pairs as a set.
+pub(super) fn set_of_pairs(
+    alloc: Global,
+    pairs: &[(String, String)],
+) -> Result<IndexSet<(&str, &str)>, AllocError>
+    ensures { IfOk result
+        (λ set. (x y : List ℕ)
+        → list_any (is_pair x y) (map plain_names set.keys) ≡ list_any (is_pair x y)
+        (map plain_pair pairs.now)) }
+{
+    let mut set = IndexSet::new(alloc);
+    for pair in pairs {
+        set.insert((pair.0.as_str(), pair.1.as_str()))?;
+    }
+    Ok(set)
+}
+
+/// Whether the names stand in the table as a pair.
+fn is_beside(beside: &IndexSet<(&str, &str)>, first: &str, second: &str) -> bool
+    ensures { result ≡ list_any (is_pair first.now second.now) (map plain_names beside.now.keys) }
+{
+    beside.contains(&(first, second))
+}
+
+/// Whether the commands are of one code and class, the second allows each value of P that the first does, and the table has
+/// each definition of `b` that may be selected for a message of the first.
+pub(super) fn is_command_pair<A: Book, B: Book>(
+    a: &A,
+    b: &B,
+    beside: &IndexSet<(&str, &str)>,
+    first: &Definition,
+    second: &Definition,
+) -> bool
+    ensures { result ≡ is_command_pair (A.meaning a.now) (B.meaning b.now) (map plain_names beside.now.keys)
+        (plain first.now) (plain second.now) }
+{
+    same_selector(&first.head, &second.head)
+        && is_proxiable(&first.head, &second.head)
+        && is_served(b, &first.head)
+        && all_beside(a, b, beside, first)
+}
+
+/// Whether some command of `b` is selected for the messages of a command.
+fn is_served<B: Book>(b: &B, head: &DefHead) -> bool
+    ensures { result ≡ list_any (λ d. serves head.now d.head) (B.meaning b.now).commands }
+{
+    for index in 0..b.commands() {
+        if serves(head, &b.def(b.command_at(index)).head) {
+            return true;
+        }
+    }
+    false
+}
+
+/// Whether each command of `b` that may be selected for messages of this one stands beside it.
+fn all_beside<A: Book, B: Book>(
+    a: &A,
+    b: &B,
+    beside: &IndexSet<(&str, &str)>,
+    command: &Definition,
+) -> bool
+    ensures { result ≡ list_all
+        (λ d. not (is_wanted (A.meaning a.now) (B.meaning b.now) (plain command.now).head d.head) || list_any
+        (is_pair (plain command.now).name d.name) (map plain_names beside.now.keys))
+        (B.meaning b.now).commands }
+{
+    for index in 0..b.commands() {
+        if !is_ready(a, b, beside, command, b.def(b.command_at(index))) {
+            return false;
+        }
+    }
+    true
+}
+
+/// Whether a command of `b` isn't selected for messages of this one, or stands beside it.
+fn is_ready<A: Book, B: Book>(
+    a: &A,
+    b: &B,
+    beside: &IndexSet<(&str, &str)>,
+    command: &Definition,
+    other: &Definition,
+) -> bool
+    ensures { result ≡ (not
+        (is_wanted (A.meaning a.now) (B.meaning b.now) (plain command.now).head (plain other.now).head) ||
+        list_any (is_pair (plain command.now).name (plain other.now).name)
+        (map plain_names beside.now.keys)) }
+{
+    !is_wanted(a, b, &command.head, &other.head)
+        || is_beside(beside, command.name.as_str(), other.name.as_str())
+}
+
+/// Whether a command of `b` may be selected for messages of one of `a`.
+fn is_wanted<A: Book, B: Book>(a: &A, b: &B, head: &DefHead, other: &DefHead) -> bool
+    ensures { result ≡ is_wanted (A.meaning a.now) (B.meaning b.now) head.now other.now }
+{
+    match head {
+        DefHead::Group(_) => false,
+        DefHead::Command {
+            code,
+            class,
+            app,
+            ..
+        } => match other {
+            DefHead::Group(_) => false,
+            DefHead::Command {
+                code: other_code,
+                class: other_class,
+                app: other_app,
+                ..
+            } => {
+                code == other_code
+                    && class == other_class
+                    && wants_app(a, b, *code, *class, *app, *other_app)
+            }
+            DefHead::Error { .. } => false,
+        },
+        DefHead::Error { .. } => match other {
+            DefHead::Group(_) => false,
+            DefHead::Command { .. } => false,
+            DefHead::Error { .. } => true,
+        },
+    }
+}
+
+/// Whether of a code and a class a command of `b` with that application, or with none, may be selected for messages of a
+/// command of `a` with this.
+fn wants_app<A: Book, B: Book>(
+    a: &A,
+    b: &B,
+    code: u32,
+    class: Class,
+    app: Option<u32>,
+    other: Option<u32>,
+) -> bool
+    ensures { result ≡ wants_app (A.meaning a.now) (B.meaning b.now) code class app other }
+{
+    match app {
+        None => match other {
+            None => true,
+            Some(other) => !names_app(a, code, class, other),
+        },
+        Some(app) => match other {
+            None => !names_app(b, code, class, app),
+            Some(other) => app == other,
+        },
+    }
+}
+
+/// Whether a command of this code, this class and this very application exists.
+fn names_app<B: Book>(book: &B, code: u32, class: Class, app: u32) -> bool
+    ensures { result ≡ names_app (B.meaning book.now) code class app }
+{
+    match book.select(code, class, app) {
+        Some(def) => is_of_app(&book.def(def).head, app),
+        None => false,
+    }
+}
+
+fn is_of_app(head: &DefHead, app: u32) -> bool
+    ensures { result ≡ is_of_app head.now app }
+{
+    match head {
+        DefHead::Group(_) => false,
+        DefHead::Command { app: own, .. } => *own == Some(app),
+        DefHead::Error { .. } => true,
+    }
+}

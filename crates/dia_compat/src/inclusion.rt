@@ -1,0 +1,109 @@
+ghost use Rattle.std.specs.Prelude.{◌≡◌, ◌↔◌, IfOk, IsTrue, List, ℕ};
+ghost use Rattle.dia_dict.specs.Dictionary.{Dictionary, IsDictionary};
+ghost use Rattle.dia_check.specs.declared.policy.Unknown.{Unknown as AnyPolicy};
+ghost use Rattle.dia_check.specs.Valid.{IsValid};
+ghost use Rattle.dia_compat.specs.TableText.{PlainTable, plain};
+ghost use Rattle.dia_compat.specs.Closed.{IsClosed, IsIncluded, IsAnswer};
+ghost use Rattle.dia_compat.specs.declared.inclusion.Answer.{Answer as AnyAnswer};
+
+use crate::comparing::Comparison;
+use crate::table::Table;
+use dia_check::{Levels, Refusal, Unknown, check};
+use dia_dict::Book;
+use std::alloc::{AllocError, Global};
+
+/// A test of a pair of definitions; the tenth is of the pair itself.
+#[derive(Clone, Copy, Debug, PartialEq, Eq)]
+pub enum Test {
+    N1,
+    N2,
+    N3,
+    N4,
+    N5,
+    N6,
+    N7,
+    N8,
+    N9,
+    N10,
+}
+
+#[derive(Clone, Copy, Debug, PartialEq, Eq)]
+pub enum PairKind {
+    Command,
+    Avp,
+}
+
+#[derive(Clone, Copy, Debug, PartialEq, Eq)]
+pub enum Answer {
+    Yes,
+    No {
+        kind: PairKind,
+        pair: usize,
+        reason: Test,
+    },
+}
+
+/// Whether the table shows that each valid message of the first dictionary is valid under the second.
+pub fn check_table<A: Book, B: Book>(
+    alloc: Global,
+    a: &A,
+    b: &B,
+    unknown: Unknown,
+    table: &Table,
+) -> Result<Answer, AllocError>
+    ensures answer { IfOk result (IsAnswer (A.meaning a.now) (B.meaning b.now) unknown (plain table.now)) }
+    ensures inclusion { IfOk result
+        (λ answer. answer ≡ Answer.Yes
+        → IsIncluded (A.meaning a.now) (B.meaning b.now) unknown (plain table.now)) }
+{
+    let comparison = Comparison::new(alloc, a, b, unknown, table)?;
+    comparison.answer(alloc, table)
+}
+
+/// A table in which every pair passes every test shows inclusion.
+pub fn closed_is_included()
+    ensures { (da db : Dictionary) (u : AnyPolicy) (table : PlainTable) → IsDictionary da → IsDictionary db
+        → IsClosed da db u table → IsIncluded da db u table }
+{}
+
+/// Two dictionaries and a table have one answer.
+pub fn one_comparison()
+    ensures { (da db : Dictionary) (u : AnyPolicy) (table : PlainTable) (x y : AnyAnswer)
+        → IsAnswer da db u table x → IsAnswer da db u table y → x ≡ y }
+{}
+
+/// Whether the bytes are valid under the first dictionary and not under the second.
+pub fn refutes<A: Book, B: Book>(
+    alloc: Global,
+    a: &A,
+    b: &B,
+    unknown: Unknown,
+    levels: Levels,
+    bytes: &[u8],
+) -> Result<bool, AllocError>
+    ensures { IfOk result
+        (λ yes. IsTrue yes ↔ (IsValid (A.meaning a.now) unknown levels bytes.now × ¬ IsValid
+        (B.meaning b.now) unknown levels bytes.now)) }
+{
+    Ok(is_valid(alloc, a, unknown, levels, bytes)? && !is_valid(alloc, b, unknown, levels, bytes)?)
+}
+
+/// Whether the bytes are a valid message.
+fn is_valid<B: Book>(
+    alloc: Global,
+    book: &B,
+    unknown: Unknown,
+    levels: Levels,
+    bytes: &[u8],
+) -> Result<bool, AllocError>
+    ensures { IfOk result (λ yes. IsTrue yes ↔ IsValid (B.meaning book.now) unknown levels bytes.now) }
+{
+    match check(alloc, book, unknown, levels, bytes) {
+        Ok(_) => Ok(true),
+        Err(Refusal::NoMemory) => Err(AllocError),
+        Err(Refusal::Fault(_)) => Ok(false),
+        Err(Refusal::Truncated) => Ok(false),
+        Err(Refusal::Trailing) => Ok(false),
+        Err(Refusal::Spent) => Ok(false),
+    }
+}

@@ -1,0 +1,15 @@
+//! Whether each valid message of one dictionary is valid under another.
+#![tactic(auto)]
+
+mod comparing;
+mod inclusion;
+mod proposing;
+mod table;
+
+pub use inclusion::{
+    Answer, PairKind, Test, check_table, closed_is_included, one_comparison, refutes,
+};
+pub use proposing::{ProposeFault, one_proposal, propose};
+pub use table::{
+    MAX_NAME, MAX_PAIRS, MAX_TABLE, Table, TableFault, one_table, one_table_fault, parse_table,
+};

@@ -1,0 +1,118 @@
+ghost use Rattle.std.specs.Prelude.{◌≡◌, ◌<◌, ◌++◌, IfOk, IfErr, OnOk, List, ℕ, Some, length, map, option_to_list, slice_get, string_bytes};
+ghost use Rattle.std.specs.List.{filter_map};
+ghost use Rattle.dia_dict.specs.Dictionary.{DictEntry, Dictionary, IsDictionary};
+ghost use Rattle.dia_check.specs.declared.policy.Unknown.{Unknown as AnyPolicy};
+ghost use Rattle.dia_compat.specs.TableText.{PlainTable, plain, plain_pair};
+ghost use Rattle.dia_compat.specs.Proposed.{IsProposal, IsLeast, IsRefusal};
+ghost use Rattle.dia_compat.specs.Naming.{shared_pair};
+
+mod naming;
+mod reaching;
+#[cfg(test)]
+mod tests;
+mod wanting;
+
+use crate::table::{Table, push_pair};
+use dia_check::Unknown;
+use dia_dict::{Book, Entry};
+use naming::Named;
+use reaching::Reached;
+use std::alloc::{AllocError, Global};
+use thiserror::Error;
+
+/// Why no table is proposed.
+#[derive(Debug, Drop, Error)]
+pub enum ProposeFault {
+    /// The first name of which the first dictionary has no command.
+    #[error("no command {name}")]
+    UnknownCommand { name: String },
+    /// Memory was refused.
+    #[error("out of memory")]
+    NoMemory,
+}
+
+/// The least table for the named commands of the first dictionary, as `compare` asks for it under this policy.
+///
+/// Each named command stands in it at its first mention, with the definitions of the second dictionary that may be
+/// selected for its messages, in that dictionary's order, or with its own name where there is none. The AVP pairs are
+/// those of the keys that both know and that these commands, and the groups that the pairs lead to, let in, in the first
+/// dictionary's order. So where no table that lists the commands passes, neither does this one.
+///
+/// It takes time in proportion to the commands and to the definitions that it comes to. `UnknownCommand` has the first
+/// name of which the first dictionary has no command. `NoMemory` comes only where memory was refused.
+pub fn propose<A: Book, B: Book>(
+    alloc: Global,
+    a: &A,
+    b: &B,
+    unknown: Unknown,
+    names: &[String],
+) -> Result<Table, ProposeFault>
+    ensures proposal { IfOk result (λ table. IsProposal (A.meaning a.now) (B.meaning b.now) unknown (map (λ n. string_bytes n) names.now) (plain table)) }
+    ensures least { IfOk result (λ table. IsLeast (A.meaning a.now) (B.meaning b.now) unknown (map (λ n. string_bytes n) names.now) (plain table)) }
+    ensures refusal { IfErr result (IsRefusal (A.meaning a.now) (map (λ n. string_bytes n) names.now)) }
+{
+    let mut named = Named::new(alloc, a.entries().min(b.entries()))?;
+    named.add_all(alloc, a, b, names)?;
+    let Named {
+        pairs: commands,
+        mut reached,
+        ..
+    } = named;
+    reached.follow(a, b)?;
+    let avps = shared_pairs(alloc, a, b, &reached)?;
+    Ok(Table { commands, avps })
+}
+
+/// There is one proposal.
+pub fn one_proposal()
+    ensures { (da db : Dictionary) (u : AnyPolicy) (names : List (List ℕ)) (a b : PlainTable) → IsDictionary da → IsDictionary db → IsProposal da db u names a → IsProposal da db u names b → a ≡ b }
+{}
+
+impl From<AllocError> for ProposeFault {
+    ghost use Rattle.std.specs.Prelude.{◌≡◌};
+    ghost use Rattle.dia_compat.specs.declared.proposing.ProposeFault.TheVariants.{NoMemory};
+
+    ghost from_gives = { λ e fault. fault ≡ NoMemory };
+
+    fn from(_: AllocError) -> ProposeFault {
+        ProposeFault::NoMemory
+    }
+}
+
+/// The pairs of the AVPs that it has come to, by their names, in A's order.
+fn shared_pairs<A: Book, B: Book>(
+    alloc: Global,
+    a: &A,
+    b: &B,
+    reached: &Reached,
+) -> Result<Vec<(String, String)>, AllocError>
+    ensures { IfOk result (λ pairs. map plain_pair pairs.items ≡ filter_map (shared_pair (B.meaning b.now) reached.now) (A.meaning a.now).entries) }
+{
+    let mut pairs = Vec::new(alloc);
+    for index in 0..a.entries() {
+        push_if_shared(alloc, a, b, reached, a.entry_at(index), &mut pairs)?;
+    }
+    Ok(pairs)
+}
+
+/// Adds the pair of an AVP of A, if it has come to it and B knows it.
+fn push_if_shared<A: Book, B: Book>(
+    alloc: Global,
+    a: &A,
+    b: &B,
+    reached: &Reached,
+    entry: Entry,
+    pairs: &mut Vec<(String, String)>,
+) -> Result<(), AllocError>
+    requires { entry < length (A.meaning a.now).entries }
+    ensures { (e : DictEntry) → slice_get (A.meaning a.now).entries entry ≡ Some e → OnOk result (map plain_pair pairs.new.items ≡ map plain_pair pairs.old.items ++ option_to_list (shared_pair (B.meaning b.now) reached.now e)) }
+{
+    let key = a.entry_key(entry);
+    if !reached.contains(key) {
+        return Ok(());
+    }
+    let Some(other) = b.avp(key) else {
+        return Ok(());
+    };
+    push_pair(alloc, pairs, a.entry_name(entry), b.entry_name(other))
+}

@@ -1,0 +1,194 @@
+//! The AVPs that the definitions of some commands let in, and the groups in them.
+ghost use Rattle.std.specs.Prelude.{◌≡◌, ◌<◌, ◌≤◌, ◌+◌, ◌||◌, ◌↔◌, ℕ, IfOk, OnOk, IsTrue, Some, None, IfSome, false, true, not, length, slice_get, [], Contains};
+ghost use Rattle.dia_wire.specs.declared.Key.{Key as AnyKey};
+ghost use Rattle.dia_data.specs.Plain.{Grouped, plain as plain_format};
+ghost use Rattle.dia_dict.specs.declared.DRule.{DRule as AnyRule};
+ghost use Rattle.dia_dict.specs.Dictionary.{PlainDefinition, IsDictionary, definitions};
+ghost use Rattle.dia_compat.specs.Below.{HasRule, IsListed, HasWildcard, IsAboveZero};
+ghost use Rattle.dia_compat.specs.Reaching.{has, IsAllowedBy, IsAllowed, Admits, Inserts, ComesTo, ComesToAll, Follows, IsSharedGroup, AllWait};
+
+use dia_dict::{Book, DRule, DefId, Format, Key, Slot};
+use std::alloc::{AllocError, Global};
+use std::collections::HashSet;
+
+/// The AVPs that a proposal has come to, by their keys, and those of them whose groups are still to be gone through.
+#[derive(Drop)]
+pub(crate) struct Reached {
+    keys: HashSet<Key>,
+    waiting: Vec<Key>,
+}
+
+impl Reached {
+    /// Nothing yet, with room for as many AVPs.
+    pub(crate) fn new(alloc: Global, most: usize) -> Result<Reached, AllocError>
+        ensures empty { IfOk result (λ r. r.keys.keys ≡ []) }
+        ensures none { IfOk result (λ r. r.waiting.items ≡ []) }
+    {
+        Ok(Reached {
+            keys: HashSet::with_capacity(alloc, most)?,
+            waiting: Vec::new(alloc),
+        })
+    }
+
+    /// Whether it has come to the AVP with this key.
+    pub(crate) fn contains(&self, key: Key) -> bool
+        ensures { result ≡ has self.now key }
+    {
+        self.keys.contains(&key)
+    }
+
+    /// Comes to the AVP with this key.
+    fn insert(&mut self, key: Key) -> Result<(), AllocError>
+        ensures { OnOk result (Inserts key self.old self.new) }
+    {
+        if self.keys.insert(key)? {
+            self.waiting.push(key)?;
+        }
+        Ok(())
+    }
+
+    /// Comes to the AVP with this key, if both dictionaries know it.
+    fn come_to<A: Book, B: Book>(&mut self, a: &A, b: &B, key: Key) -> Result<(), AllocError>
+        ensures { OnOk result (ComesTo (A.meaning a.now) (B.meaning b.now) key self.old self.new) }
+    {
+        if a.avp(key).is_some() && b.avp(key).is_some() {
+            self.insert(key)?;
+        }
+        Ok(())
+    }
+
+    /// Comes to the AVP that a rule lists, if the rule lets it in.
+    fn come_to_allowed<A: Book, B: Book>(
+        &mut self,
+        a: &A,
+        b: &B,
+        rule: DRule,
+    ) -> Result<(), AllocError>
+        ensures { OnOk result (ComesToAll (A.meaning a.now) (B.meaning b.now) (IsAllowedBy rule) self.old self.new) }
+    {
+        match rule.key {
+            Some(key) if is_above_zero(rule.max) => self.come_to(a, b, key),
+            _ => Ok(()),
+        }
+    }
+
+    /// Comes to the AVPs that the rules list and let in.
+    fn come_to_listed<A: Book, B: Book>(
+        &mut self,
+        a: &A,
+        b: &B,
+        rules: &[DRule],
+    ) -> Result<(), AllocError>
+        ensures { OnOk result (ComesToAll (A.meaning a.now) (B.meaning b.now) (IsAllowed rules.now) self.old self.new) }
+    {
+        for rule in rules {
+            self.come_to_allowed(a, b, *rule)?;
+        }
+        Ok(())
+    }
+
+    /// Comes to the AVP with this key, if a definition of A does not list it.
+    fn come_to_if_unlisted<A: Book, B: Book>(
+        &mut self,
+        a: &A,
+        b: &B,
+        def: DefId,
+        key: Key,
+    ) -> Result<(), AllocError>
+        requires { def < length (definitions (A.meaning a.now)) }
+        ensures { (d : PlainDefinition) → slice_get (definitions (A.meaning a.now)) def ≡ Some d
+            → OnOk result (ComesToAll (A.meaning a.now) (B.meaning b.now) (λ other. (other ≡ key) × ¬ IsListed d.rules other) self.old self.new) }
+    {
+        if let Slot::Unlisted = a.slot(def, key) {
+            self.come_to(a, b, key)?;
+        }
+        Ok(())
+    }
+
+    /// Comes to the AVPs that a definition of A does not list.
+    fn come_to_unlisted<A: Book, B: Book>(
+        &mut self,
+        a: &A,
+        b: &B,
+        def: DefId,
+    ) -> Result<(), AllocError>
+        requires { def < length (definitions (A.meaning a.now)) }
+        ensures { (d : PlainDefinition) → slice_get (definitions (A.meaning a.now)) def ≡ Some d
+            → OnOk result (ComesToAll (A.meaning a.now) (B.meaning b.now) (λ key. ¬ IsListed d.rules key) self.old self.new) }
+    {
+        for index in 0..a.entries() {
+            let key = a.entry_key(a.entry_at(index));
+            self.come_to_if_unlisted(a, b, def, key)?;
+        }
+        Ok(())
+    }
+
+    /// Comes to the AVPs that a definition of A lets in.
+    pub(crate) fn come_to_admitted<A: Book, B: Book>(
+        &mut self,
+        a: &A,
+        b: &B,
+        def: DefId,
+    ) -> Result<(), AllocError>
+        requires { def < length (definitions (A.meaning a.now)) }
+        ensures { (d : PlainDefinition) → slice_get (definitions (A.meaning a.now)) def ≡ Some d
+            → OnOk result (ComesToAll (A.meaning a.now) (B.meaning b.now) (Admits d.rules) self.old self.new) }
+    {
+        let rules = a.def(def).rules.as_slice();
+        self.come_to_listed(a, b, rules)?;
+        if has_open_wildcard(rules) {
+            self.come_to_unlisted(a, b, def)?;
+        }
+        Ok(())
+    }
+
+    /// Comes to the AVPs that are let in by the groups that wait, and by those that then wait.
+    pub(crate) fn follow<A: Book, B: Book>(&mut self, a: &A, b: &B) -> Result<(), AllocError>
+        requires { AllWait self.old }
+        ensures { OnOk result ((key : AnyKey) → IsTrue (has self.new key) ↔ Follows (A.meaning a.now) (B.meaning b.now) self.old key) }
+    {
+        while let Some(key) = self.waiting.pop() {
+            if let Some(group) = shared_group(a, b, key) {
+                self.come_to_admitted(a, b, group)?;
+            }
+        }
+        Ok(())
+    }
+}
+
+/// The definition of A's AVP with this key, where B's is Grouped too.
+fn shared_group<A: Book, B: Book>(a: &A, b: &B, key: Key) -> Option<DefId>
+    ensures within { IfSome result (λ def. def < length (definitions (A.meaning a.now))) }
+    ensures some { IfSome result (λ def. (d : PlainDefinition) × (slice_get (definitions (A.meaning a.now)) def ≡ Some d) × IsSharedGroup (A.meaning a.now) (B.meaning b.now) key d) }
+    ensures none { result ≡ None → (d : PlainDefinition) → ¬ IsSharedGroup (A.meaning a.now) (B.meaning b.now) key d }
+{
+    let entry = a.avp(key)?;
+    let other = b.avp(key)?;
+    if is_grouped(a.format(entry)) && is_grouped(b.format(other)) {
+        a.group(entry)
+    } else {
+        None
+    }
+}
+
+fn is_grouped(format: &Format) -> bool
+    ensures { IsTrue result ↔ (plain_format format.now ≡ Grouped) }
+{
+    matches!(format, Format::Grouped)
+}
+
+/// Whether a rule lets AVPs in.
+fn is_above_zero(max: Option<u32>) -> bool
+    ensures { IsTrue result ↔ IsAboveZero max }
+{
+    max != Some(0)
+}
+
+/// Whether the rules have a wildcard that lets AVPs in.
+fn has_open_wildcard(rules: &[DRule]) -> bool
+    ensures { IsTrue result ↔ ((w : AnyRule) × HasWildcard rules.now w × IsAboveZero w.max) }
+{
+    rules
+        .iter()
+        .any(|rule| rule.key.is_none() && is_above_zero(rule.max))
+}
