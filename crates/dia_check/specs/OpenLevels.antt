@@ -22,6 +22,7 @@ IsNotAllowed rules keys key =
     (loose_start rules (keys ++ key ∷ []) ≤ length keys)
     × (IsTrue (is_listed (fixed_rules rules) key) ⊎ ((is_listed rules key ≡ false) × (has_wildcard rules ≡ false)))
 
+-- the key doesn't stand where and as often as the rules say, behind these keys
 pub data IsMisplaced (rules : List DRule) (keys : List Key) (key : Key) : Reason → Subject → Type 0 where
   missing : (i : ℕ) (rule : DRule) → IsFirstShort rules (keys ++ key ∷ []) i rule → run_end rules i (keys ++ key ∷ []) ≡ length keys
       → IsMisplaced rules keys key reason.Missing (subject_of rule.key)
@@ -111,7 +112,7 @@ HasRoom level = length level.keys < 4294967295
 abbrev pub and_key : SoFar → Key → SoFar
 and_key level key = record { rules = level.rules; end = level.end; keys = level.keys ++ key ∷ [] }
 
--- a level and its counts are kept so
+-- what is kept of a level: its definition's number, its end, and its counts
 pub record IsKept (defs : List PlainDefinition) (kept : OpenLevel) (counts : List ℕ) (level : SoFar) : Type 0 where
   pub definition : PlainDefinition
   pub is_definition : slice_get defs kept.def ≡ Some definition

@@ -73,7 +73,12 @@ pub(crate) fn check_body<B: Book>(
 /// The fault at a place of the message.
 pub(crate) fn fault(place: usize, wrong: Wrong) -> Refusal
     requires { place < 2 ^ 32 }
-    ensures { result ≡ Refusal.Fault (record { place = place; code = code_of wrong.reason; reason = wrong.reason; subject = wrong.subject }) }
+    ensures { result ≡ Refusal.Fault (record {
+      place = place;
+      code = code_of wrong.reason;
+      reason = wrong.reason;
+      subject = wrong.subject;
+    }) }
 {
     Refusal::Fault(Fault {
         place: place as u32,

@@ -37,7 +37,7 @@ pub fn check<B: Book>(
     ensures valid { (c : ℕ) → IsValidOf (B.meaning book.now) unknown levels bytes.now c
         → MatchResult result (λ found. found.def ≡ c) (λ e. e ≡ Refusal.NoMemory) }
 {
-    // A book hands out with its count that it is sound.
+    // Called for its clause `sound`: the rules of the book's dictionary can be met.
     let _count = book.entries();
     let header = whole_header(bytes)?;
     let def = good_command(book, &header)?;

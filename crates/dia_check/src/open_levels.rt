@@ -90,7 +90,8 @@ impl OpenLevel {
         requires counted { (keys : List AnyKey) × IsCounted rules.now keys self.now counts.old
             × (length keys < 4294967295) }
         ensures { (keys : List AnyKey) → IsCounted rules.now keys self.now counts.old
-            → MatchResult result (λ run. IsMet rules.now keys key (record self.now { run = run }) counts.new) (λ wrong. IsFirstMisplaced rules.now keys key wrong) }
+            → MatchResult result (λ run. IsMet rules.now keys key (record self.now { run = run }) counts.new)
+            (λ wrong. IsFirstMisplaced rules.now keys key wrong) }
     {
         let (run, rule) = self.lead(slot);
         if let Some(place) = first_unmet(rules, counts, self.run, run) {
@@ -168,8 +169,8 @@ impl OpenLevels {
     /// Opens a level in the innermost one. This alone takes memory.
     pub(crate) fn open(&mut self, def: DefId, rules: &[DRule], end: usize) -> Result<(), AllocError>
         requires { AreRules rules.now }
-        ensures { (defs : List PlainDefinition) (definition : PlainDefinition) (outer : List SoFar) (level : SoFar) → slice_get defs def ≡ Some definition
-            → definition.rules ≡ rules.now → AreOpen defs self.old outer level
+        ensures { (defs : List PlainDefinition) (definition : PlainDefinition) (outer : List SoFar) (level : SoFar)
+            → slice_get defs def ≡ Some definition → definition.rules ≡ rules.now → AreOpen defs self.old outer level
             → OnOk result (AreOpen defs self.new (outer ++ level ∷ []) (begun rules.now end)) }
     {
         let base = self.counts.len();
