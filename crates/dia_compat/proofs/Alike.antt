@@ -1,11 +1,10 @@
 -- What is looked up is what the definitions say: keys of pairs, keys that need none, and what is left.
-use Rattle.std.proofs.Common.{◌≡◌, ◌≢◌, ℕ, ◌<◌, Bool, true, false, List, [], ◌∷◌, length, map, filter, find, get_or, Option, Some, None, refl, sym, ap, subst, ◌∙◌, arith, inl, inr, Decides}
-use Rattle.std.specs.Prelude.{◌⊎◌, ◌↔◌, ◌||◌, ◌&&◌, not, is_some, IsSome, Contains, slice_get, position, option_and_then, if◌then◌else◌}
+use Rattle.std.proofs.Common.{◌≡◌, ◌≢◌, ℕ, Bool, true, false, List, map, get_or, Option, Some, None, refl, sym, ap, subst, ◌∙◌, arith, Decides}
+use Rattle.std.specs.Prelude.{◌⊎◌, ◌↔◌, ◌&&◌, not, is_some, Contains, slice_get, position, option_and_then, if◌then◌else◌}
 use Rattle.std.specs.List.{list_any, list_all}
 use Rattle.std.specs.Option.{option_map, option_map_or}
 use Rattle.std.specs.Str.{bytes_eq}
-use Rattle.std.proofs.lemmas.Bool.{and_parts, and_from}
-use Rattle.std.proofs.lemmas.Bool.Decides.{Decides-and, Decides-or, Decides-not, Decides-like, Decides-at}
+use Rattle.std.proofs.lemmas.Bool.Decides.{Decides-and, Decides-or, Decides-like, Decides-at}
 use Rattle.std.proofs.lemmas.List.Quantifiers.{position-Some}
 use Rattle.std.proofs.lemmas.Option.{none-some, same_Some, get_or_from_slice_get, slice_get-get_or}
 use Rattle.std.proofs.lemmas.Slice.Eq.{bytes_eq-Decides}
@@ -25,11 +24,11 @@ use Rattle.dia_compat.specs.TableText.{PlainTable}
 use Rattle.dia_compat.specs.Below.{IsCoveredAlone, IsCovered, IsKnown}
 use Rattle.dia_compat.specs.Closed.{NamesEntry, NamesCommand, IsPairKey}
 use Rattle.dia_compat.specs.Tests.{is_kept, holds_key, may_come}
-use Rattle.dia_compat.specs.Comparing.{Names, entry_named, command_named, key_named, pair_key, pairs_key, is_must_not, may_be_clear, is_octets, is_alone, is_covered, uncovered_keys, stranger_fits, strangers_fit}
+use Rattle.dia_compat.specs.Comparing.{Names, entry_named, command_named, key_named, pairs_key, is_must_not, may_be_clear, is_octets, is_alone, is_covered, stranger_fits, strangers_fit}
 use Rattle.dia_compat.specs.Failing.{IsLookedUp}
 use Rattle.dia_compat.proofs.Placing.{IsIn}
 use Rattle.dia_compat.proofs.Counts.{in_at, at_in, in_contains, contains_in, any_in, in_any, in_filter, into_filter}
-use Rattle.dia_compat.proofs.Fitting.{known_entry, entry_known, one_entry}
+use Rattle.dia_compat.proofs.Fitting.{known_entry, entry_known}
 use Rattle.dia_compat.proofs.Naming.{get_none}
 use Rattle.dia_compat.proofs.Deciding.{all_in_decides, implied, unless}
 

@@ -1,11 +1,11 @@
 -- The answer of a comparison is that of the books it was made of, and Yes means inclusion.
-use Rattle.std.proofs.Common.{◌≡◌, Bool, List, ℕ, refl, sym, subst, ◌∙◌}
+use Rattle.std.proofs.Common.{◌≡◌, Bool, List, subst}
 use Rattle.std.specs.Prelude.{Result, Ok, Err, IfOk}
 use Rattle.dia_wire.specs.declared.Key.{Key}
 use Rattle.dia_dict.specs.Dictionary.{Dictionary, IsDictionary}
 use Rattle.dia_check.specs.declared.policy.Unknown.{Unknown}
 use Rattle.dia_compat.specs.declared.inclusion.Answer.{Answer}
-use Rattle.dia_compat.specs.declared.inclusion.Answer.TheVariants.{Yes, No}
+use Rattle.dia_compat.specs.declared.inclusion.Answer.TheVariants.{Yes}
 use Rattle.dia_compat.specs.TableText.{PlainTable}
 use Rattle.dia_compat.specs.Closed.{IsAnswer, IsIncluded}
 use Rattle.dia_compat.specs.Comparing.{Names}

@@ -1,22 +1,21 @@
 -- What the answers of yes or no say: each decides its test.
-use Rattle.std.proofs.Common.{◌≡◌, ◌≢◌, ℕ, zero, suc, ◌<◌, ◌≤◌, Bool, true, false, List, [], ◌∷◌, ◌++◌, Option, Some, None, refl, sym, ap, subst, ◌∙◌, arith, inl, inr, Decides, cond}
-use Rattle.std.specs.Prelude.{◌⊎◌, ◌↔◌, ◌||◌, ◌&&◌, ◌==◌, not, nat_le, nat_eq, find, is_some, IsSome, IfSome, Contains, slice_get}
+use Rattle.std.proofs.Common.{◌≡◌, ◌≢◌, ℕ, ◌<◌, ◌≤◌, Bool, true, false, List, [], ◌∷◌, ◌++◌, Option, Some, None, refl, sym, ap, subst, ◌∙◌, arith, inl, inr, Decides, cond}
+use Rattle.std.specs.Prelude.{◌⊎◌, ◌↔◌, ◌||◌, ◌&&◌, ◌==◌, not, nat_le, nat_eq, find, is_some, Contains, slice_get}
 use Rattle.std.specs.List.{list_any, list_all}
 use Rattle.std.specs.Option.{option_eq, option_map_or}
 use Rattle.std.proofs.lemmas.Bool.{eqb-true, eqb-false, or_parts, and_parts}
-use Rattle.std.proofs.lemmas.Bool.Decides.{Decides-and, Decides-or, Decides-like, Decides-at, Decides-eqb, leb_tells}
+use Rattle.std.proofs.lemmas.Bool.Decides.{Decides-and, Decides-like, Decides-eqb, leb_tells}
 use Rattle.std.proofs.lemmas.Option.{none-some, same_Some}
 use Rattle.dia_wire.specs.declared.Key.{Key}
 use Rattle.dia_dict.specs.Keys.{same_key}
 use Rattle.dia_dict.proofs.Keys.{same_key-refl, same_key-true}
 use Rattle.dia_dict.proofs.Members.{at_find, find-found}
-use Rattle.dia_data.specs.Plain.{PlainFormat, OctetString}
-use Rattle.dia_dict.specs.declared.MRule.{MRule}
+use Rattle.dia_data.specs.Plain.{OctetString}
 use Rattle.dia_dict.specs.declared.MRule.TheVariants.{Must}
 use Rattle.dia_dict.specs.declared.DRule.{DRule}
 use Rattle.dia_dict.specs.Dictionary.{Dictionary, DictEntry, AreRules, is_fixed, lists_key}
 use Rattle.dia_check.specs.declared.policy.Unknown.{Unknown}
-use Rattle.dia_check.specs.declared.policy.Unknown.TheVariants.{Kept, Refused}
+use Rattle.dia_check.specs.declared.policy.Unknown.TheVariants.{Kept}
 use Rattle.dia_check.specs.Valid.{known, fixed_rules, is_listed, is_wildcard, has_wildcard}
 use Rattle.dia_compat.specs.declared.inclusion.Test.{Test}
 use Rattle.dia_compat.specs.declared.inclusion.Test.TheVariants.{N1, N2, N3, N4, N5, N6, N7, N8, N9, N10}

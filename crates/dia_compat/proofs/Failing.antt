@@ -1,8 +1,7 @@
 -- The first test that a pair fails.
-use Rattle.std.proofs.Common.{◌≡◌, ◌≢◌, ℕ, zero, suc, ◌+◌, ◌<◌, ◌≤◌, Bool, true, false, cond, List, [], ◌∷◌, map, filter, Option, Some, None, refl, sym, ap, subst, ◌∙◌, arith, inl, inr, Decides}
-use Rattle.std.specs.Prelude.{◌⊎◌, ◌↔◌, not, find, Contains}
+use Rattle.std.proofs.Common.{◌≡◌, ℕ, suc, ◌<◌, Bool, true, false, cond, List, [], ◌∷◌, Option, Some, None, refl, sym, ap, ◌∙◌, arith, inl, inr, Decides}
+use Rattle.std.specs.Prelude.{not, find}
 use Rattle.std.proofs.lemmas.Bool.{cases_order}
-use Rattle.std.proofs.lemmas.Option.{none-some, same_Some}
 use Rattle.dia_compat.specs.declared.inclusion.Test.{Test}
 use Rattle.dia_compat.specs.declared.inclusion.Test.TheVariants.{N1, N2, N3, N4, N5, N6, N7, N8, N9, N10}
 use Rattle.dia_compat.specs.Closed.{test_number}
@@ -61,8 +60,3 @@ first_failed p P decides ten = by (find (λ t. not (p t)) rule_tests) (walk p 1 
 -- where it isn't
 pub tenth_failed : (P : Test → Type 0) → ¬ P N10 → IsFirstFailed P (Some N10)
 tenth_failed P fails = (fails, λ s lt. absurd (omega (arith, lt)))
-
--- what is said of the same tests in other words
-pub same_failed : (P Q : Test → Type 0) → ((t : Test) → P t → Q t) → ((t : Test) → Q t → P t) → (o : Option Test) → IsFirstFailed P o → IsFirstFailed Q o
-same_failed P Q f g None h = λ t. f t (h t)
-same_failed P Q f g (Some t) h = ((λ q. h.0 (g t q)), λ s lt. f s (h.1 s lt))

@@ -4,7 +4,7 @@ use Rattle.std.specs.Prelude.{slice_get, position, IfSome}
 use Rattle.std.specs.List.{list_any}
 use Rattle.std.specs.Option.{option_map}
 use Rattle.std.specs.Str.{bytes_eq}
-use Rattle.std.proofs.lemmas.List.{map-append, take_more, take_all, length-map}
+use Rattle.std.proofs.lemmas.List.{map-append, take_more}
 use Rattle.std.proofs.lemmas.Option.{slice_get-map, slice_get-get_or, slice_get_within, same_Some}
 use Rattle.std.proofs.lemmas.Slice.Eq.{bytes_eq-Decides}
 use Rattle.indexmap.specs.IndexSet.{insert_key}
@@ -12,7 +12,6 @@ use Rattle.dia_dict.proofs.Lists.{position-map, list_any-map}
 use Rattle.dia_dict.specs.Dictionary.{Dictionary, PlainDefinition, groups, definitions}
 use Rattle.dia_dict.proofs.Members.{into_map}
 use Rattle.dia_dict.proofs.Numbering.{slice_get-append_right}
-use Rattle.dia_compat.proofs.Placing.{IsIn}
 use Rattle.dia_compat.proofs.Counts.{any_in, at_in}
 
 abbrev pub same_text : Bor (List ℕ) → Bor (List ℕ) → Bool

@@ -1,6 +1,6 @@
 -- Worked comparisons: what the definitions say of small dictionaries.
 use Rattle.std.proofs.Common.{◌≡◌, ◌≢◌, ℕ, zero, suc, ◌+◌, ◌<◌, ◌≤◌, Bool, true, false, List, [], ◌∷◌, length, Option, Some, None, refl, sym, ap, subst, ◌∙◌, arith, inl, inr}
-use Rattle.std.specs.Prelude.{◌⊎◌, ◌↔◌, IsTrue, nat_lt, All, get_or, slice_index_or, IfSome, IsSome, is_some, Contains, slice_get}
+use Rattle.std.specs.Prelude.{◌⊎◌, ◌↔◌, IsTrue, nat_lt, All, get_or, slice_index_or, IfSome, IsSome, Contains, slice_get}
 use Rattle.std.specs.List.{AllByRecursion}
 use Rattle.std.proofs.lemmas.Option.{same_Some, none-some}
 use Rattle.std.proofs.lemmas.Bool.{ltb-true, ltb-false}
@@ -10,7 +10,7 @@ use Rattle.dia_data.specs.Below.{FormatBelow, ValuesBelow}
 use Rattle.dia_data.specs.Plain.{PlainFormat, OctetString, Unsigned32, Enumerated, Grouped}
 use Rattle.dia_data.specs.Leaf.{IsListed as HoldsNumber}
 use Rattle.dia_dict.specs.declared.MRule.{MRule}
-use Rattle.dia_dict.specs.declared.MRule.TheVariants.{Must, MustNot, Any as AnyM}
+use Rattle.dia_dict.specs.declared.MRule.TheVariants.{MustNot, Any as AnyM}
 use Rattle.dia_dict.specs.declared.RuleKind.TheVariants.{Fixed, Required, Optional}
 use Rattle.dia_dict.specs.declared.Pxy.TheVariants.{Clear}
 use Rattle.dia_dict.specs.declared.Class.TheVariants.{Request, Error as ErrorClass}
@@ -28,8 +28,8 @@ use Rattle.dia_compat.specs.declared.inclusion.PairKind.TheVariants as kind
 use Rattle.dia_compat.specs.declared.inclusion.Test.{Test}
 use Rattle.dia_compat.specs.declared.inclusion.Test.TheVariants.{N1, N2, N3, N4, N5, N6, N7, N8, N9, N10}
 use Rattle.dia_compat.specs.TableText.{PlainTable}
-use Rattle.dia_compat.specs.Below.{HasRule, IsListed, HasWildcard, IsCovered, IsKnown}
-use Rattle.dia_compat.specs.Closed.{NamesEntry, NamesCommand, IsPairKey, IsBeside, IsWanted, error, same_app, no_app, both_none, other_app, NamesApp, HasCode, IsServed, CommandPair, AvpPair, CommandTest, AvpTest, PassesAt, PairBefore, IsAnswer}
+use Rattle.dia_compat.specs.Below.{HasWildcard, IsCovered}
+use Rattle.dia_compat.specs.Closed.{NamesEntry, NamesCommand, IsPairKey, IsBeside, IsWanted, both_none, other_app, NamesApp, CommandPair, CommandTest, AvpTest, PassesAt, PairBefore, IsAnswer}
 use Rattle.dia_compat.specs.Proposed.{WantsPair, IsProposed, by_command, by_group, AreBeside, AreAvpPairs, IsProposal}
 use Rattle.dia_compat.proofs.Placing.{IsIn, in_all}
 use Rattle.dia_compat.proofs.Counts.{in_at, in_contains, contains_in}

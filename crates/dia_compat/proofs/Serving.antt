@@ -1,13 +1,12 @@
 -- Whether a command of an application exists, as the definition shows that is selected for it.
-use Rattle.std.proofs.Common.{◌≡◌, ℕ, ◌+◌, Bool, true, false, List, length, Option, Some, None, refl, sym, ap, subst, ◌∙◌}
+use Rattle.std.proofs.Common.{◌≡◌, ℕ, ◌+◌, Bool, true, false, length, Option, Some, None, refl, sym, ap, ◌∙◌}
 use Rattle.std.specs.Prelude.{nat_eq, ◌&&◌, ◌==◌, position, slice_get, is_some}
 use Rattle.std.specs.List.{list_any}
-use Rattle.std.specs.Option.{option_eq, option_map, option_map_or, option_or}
+use Rattle.std.specs.Option.{option_map, option_or}
 use Rattle.std.proofs.lemmas.Bool.{and_parts, eqb-true, eq-eqb}
 use Rattle.std.proofs.lemmas.List.Quantifiers.{position-Some}
 use Rattle.std.proofs.lemmas.Option.{none-some, same_Some, get_or_from_slice_get}
 use Rattle.dia_dict.specs.declared.Class.{Class}
-use Rattle.dia_dict.specs.declared.Class.TheVariants.{Error as ErrorClass}
 use Rattle.dia_dict.specs.declared.DefHead.{DefHead}
 use Rattle.dia_dict.specs.declared.DefHead.TheVariants.{Group, Command, Error}
 use Rattle.dia_dict.specs.Dictionary.{Dictionary, PlainDefinition, groups, definitions, selected, is_command, same_class}

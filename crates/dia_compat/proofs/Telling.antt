@@ -1,11 +1,10 @@
 -- The first test that a pair fails, by what was looked up.
-use Rattle.std.proofs.Common.{◌≡◌, ◌≢◌, ℕ, ◌+◌, ◌<◌, Bool, true, false, cond, List, [], ◌∷◌, length, map, find, Option, Some, None, refl, sym, ap, subst, ◌∙◌, arith, inl, inr, Decides}
-use Rattle.std.specs.Prelude.{◌⊎◌, ◌↔◌, not, Contains, slice_get, IfSome, MatchOption, if◌then◌else◌}
+use Rattle.std.proofs.Common.{◌≡◌, ℕ, ◌+◌, Bool, true, false, List, [], length, Option, Some, None, refl, sym, ap, subst, ◌∙◌, inl, inr, Decides}
+use Rattle.std.specs.Prelude.{◌⊎◌, slice_get, IfSome, MatchOption, if◌then◌else◌}
 use Rattle.std.specs.Option.{option_map_or}
-use Rattle.std.proofs.lemmas.Bool.Decides.{Decides-like, Decides-at}
+use Rattle.std.proofs.lemmas.Bool.Decides.{Decides-like}
 use Rattle.std.proofs.lemmas.Option.{none-some, same_Some, slice_get_within}
 use Rattle.dia_wire.specs.declared.Key.{Key}
-use Rattle.dia_data.specs.Plain.{Grouped}
 use Rattle.dia_dict.proofs.Members.{into_right}
 use Rattle.dia_dict.specs.declared.DRule.{DRule}
 use Rattle.dia_dict.specs.Dictionary.{Dictionary, DictEntry, PlainDefinition, IsDictionary, AreRules, groups, definitions, group_of}
@@ -18,11 +17,11 @@ use Rattle.dia_compat.specs.TableText.{PlainTable}
 use Rattle.dia_compat.specs.Below.{Passes}
 use Rattle.dia_compat.specs.Closed.{NamesEntry, NamesCommand, IsPairKey, BothGrouped, CommandPair, AvpPair, CommandTest, AvpTest, PassesAt, PairBefore, IsClosed, IsFirstFailure}
 use Rattle.dia_compat.specs.Tests.{may_come, rules_in, is_passed}
-use Rattle.dia_compat.specs.Comparing.{Names, entry_named, command_named, is_covered, is_command_pair, rule_tests, failed_rules, failed_commands, failed_groups}
+use Rattle.dia_compat.specs.Comparing.{Names, entry_named, command_named, is_covered, is_command_pair, failed_rules, failed_commands, failed_groups}
 use Rattle.dia_compat.specs.Failing.{IsFirstFailed, IsLookedUp, IsFirstPair, IsFound, PairTest, pairs_at, failed_command, FailsEntries, FailsAvp}
 use Rattle.dia_compat.proofs.Placing.{IsIn}
-use Rattle.dia_compat.proofs.Counts.{in_at, in_contains, in_left, in_right}
-use Rattle.dia_compat.proofs.Fitting.{all_of, has_group, is_grouped, group_rules, one_entry}
+use Rattle.dia_compat.proofs.Counts.{in_at, in_right}
+use Rattle.dia_compat.proofs.Fitting.{all_of, is_grouped, group_rules}
 use Rattle.dia_compat.proofs.Deciding.{decides}
 use Rattle.dia_compat.proofs.Commanding.{command_pair_decides}
 use Rattle.dia_compat.proofs.Grouping.{number_of, group_there, group_missing}

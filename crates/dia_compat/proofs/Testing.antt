@@ -1,6 +1,6 @@
 -- Tests that compute, each of which shows the test of its name.
 use Rattle.std.proofs.Common.{◌≡◌, ◌≢◌, ℕ, zero, suc, ◌<◌, ◌≤◌, Bool, true, false, ◌&&◌, List, [], ◌∷◌, Option, Some, None, refl, sym, ap, subst, ◌∙◌, arith, inl, inr}
-use Rattle.std.specs.Prelude.{◌⊎◌, ◌||◌, not, nat_lt, nat_eq, is_some, IsSome, IfSome, Contains, slice_get}
+use Rattle.std.specs.Prelude.{◌⊎◌, ◌||◌, not, nat_lt, nat_eq, is_some, IfSome, Contains, slice_get}
 use Rattle.std.specs.List.{list_any, AllByRecursion}
 use Rattle.std.proofs.lemmas.Bool.{and_parts, and_from, eqb-true, eq-eqb, ltb-false, lt-ltb, or_left, or_right}
 use Rattle.dia_wire.specs.declared.Key.{Key}
@@ -17,14 +17,14 @@ use Rattle.dia_dict.specs.declared.DefHead.TheVariants.{Command}
 use Rattle.dia_dict.specs.Dictionary.{Dictionary, DictEntry, PlainDefinition}
 use Rattle.dia_check.specs.declared.policy.Unknown.{Unknown}
 use Rattle.dia_check.specs.declared.policy.Unknown.TheVariants.{Kept, Refused}
-use Rattle.dia_check.specs.Valid.{AllowsP, PHolds, known, fixed_rules, is_listed, is_wildcard, has_wildcard}
+use Rattle.dia_check.specs.Valid.{AllowsP, known, fixed_rules, is_listed, is_wildcard, has_wildcard}
 use Rattle.dia_compat.specs.declared.inclusion.PairKind.{PairKind}
 use Rattle.dia_compat.specs.declared.inclusion.PairKind.TheVariants as kind
 use Rattle.dia_compat.specs.declared.inclusion.Test.{Test}
 use Rattle.dia_compat.specs.declared.inclusion.Test.TheVariants.{N1, N2, N3, N4, N5, N6, N7, N8, N9, N10}
 use Rattle.dia_compat.specs.TableText.{PlainTable}
-use Rattle.dia_compat.specs.Below.{MaxWithin, Within, IsAboveZero, HasRule, IsListed, HasWildcard, IsCoveredAlone, IsCovered, FixedWithin, IsKnown, Passes}
-use Rattle.dia_compat.specs.Closed.{NamesEntry, NamesCommand, IsPairKey, BothGrouped, IsBeside, IsWanted, error, same_app, no_app, both_none, other_app, CommandTest, AvpTest, IsClosed, NamesApp, HasCode, IsServed, SameSelector, CommandPair, PassesAt, PairBefore, test_number, IsFirstFailure}
+use Rattle.dia_compat.specs.Below.{MaxWithin, Within, IsAboveZero, IsListed, HasWildcard, IsCoveredAlone, IsCovered, FixedWithin, IsKnown, Passes}
+use Rattle.dia_compat.specs.Closed.{NamesEntry, NamesCommand, IsPairKey, BothGrouped, IsBeside, IsWanted, error, same_app, no_app, both_none, other_app, CommandTest, AvpTest, IsClosed, NamesApp, IsServed, CommandPair, PassesAt, PairBefore, test_number}
 use Rattle.dia_compat.proofs.Placing.{IsIn, in_all}
 use Rattle.dia_compat.proofs.Counts.{in_at, in_contains, contains_in, any_in, in_any}
 use Rattle.dia_compat.proofs.Fitting.{known_entry}

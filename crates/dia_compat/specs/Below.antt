@@ -1,8 +1,7 @@
 -- When what stands as one definition says stands as another says.
-use Rattle.std.specs.Prelude.{◌≡◌, ◌≢◌, ℕ, ◌<◌, ◌≤◌, ◌⊎◌, ◌↔◌, List, [], ◌∷◌, length, Option, Some, None, IsSome, IfSome, Contains, IsTrue, true, false, ⊤}
+use Rattle.std.specs.Prelude.{◌≡◌, ◌≢◌, ℕ, ◌<◌, ◌≤◌, ◌⊎◌, List, [], ◌∷◌, Option, Some, None, IsSome, IfSome, Contains, ⊤}
 use Rattle.dia_wire.specs.declared.Key.{Key}
-use Rattle.dia_data.specs.Plain.{PlainFormat, OctetString}
-use Rattle.dia_dict.specs.declared.MRule.{MRule}
+use Rattle.dia_data.specs.Plain.{OctetString}
 use Rattle.dia_dict.specs.declared.MRule.TheVariants.{Must, MustNot}
 use Rattle.dia_dict.specs.declared.DRule.{DRule}
 use Rattle.dia_dict.specs.Dictionary.{Dictionary, DictEntry}

@@ -1,20 +1,17 @@
 -- When a table of pairs shows that each valid message of one dictionary is valid under another.
-use Rattle.std.specs.Prelude.{◌≡◌, ◌≢◌, ℕ, ◌<◌, ◌≤◌, ◌⊎◌, ◌+◌, nat_eq, List, [], ◌∷◌, length, Option, Some, None, IsSome, IfSome, Contains, slice_get, IsTrue, ⊤, ◌↔◌}
+use Rattle.std.specs.Prelude.{◌≡◌, ℕ, ◌<◌, ◌⊎◌, List, length, Option, Some, None, IfSome, Contains, slice_get, ⊤}
 use Rattle.dia_wire.specs.declared.Key.{Key}
-use Rattle.dia_data.specs.Plain.{PlainFormat, Grouped}
+use Rattle.dia_data.specs.Plain.{Grouped}
 use Rattle.dia_data.specs.Below.{FormatBelow}
-use Rattle.dia_dict.specs.declared.MRule.{MRule}
 use Rattle.dia_dict.specs.declared.MRule.TheVariants.{Any}
 use Rattle.dia_dict.specs.declared.Class.{Class}
-use Rattle.dia_dict.specs.declared.Class.TheVariants.{Error as ErrorClass}
 use Rattle.dia_dict.specs.declared.Pxy.{Pxy}
 use Rattle.dia_dict.specs.declared.DefHead.{DefHead}
 use Rattle.dia_dict.specs.declared.DefHead.TheVariants.{Group, Command, Error}
-use Rattle.dia_dict.specs.declared.DRule.{DRule}
 use Rattle.dia_dict.specs.Dictionary.{Dictionary, DictEntry, PlainDefinition, definitions}
 use Rattle.dia_check.specs.declared.policy.Unknown.{Unknown}
 use Rattle.dia_check.specs.declared.policy.Levels.{Levels}
-use Rattle.dia_check.specs.Valid.{known, AllowsP, IsValidOf}
+use Rattle.dia_check.specs.Valid.{AllowsP, IsValidOf}
 use Rattle.dia_compat.specs.declared.inclusion.Answer.{Answer}
 use Rattle.dia_compat.specs.declared.inclusion.Answer.TheVariants.{Yes, No}
 use Rattle.dia_compat.specs.declared.inclusion.PairKind.{PairKind}
@@ -22,7 +19,7 @@ use Rattle.dia_compat.specs.declared.inclusion.PairKind.TheVariants as kind
 use Rattle.dia_compat.specs.declared.inclusion.Test.{Test}
 use Rattle.dia_compat.specs.declared.inclusion.Test.TheVariants.{N1, N2, N3, N4, N5, N6, N7, N8, N9, N10}
 use Rattle.dia_compat.specs.TableText.{PlainTable}
-use Rattle.dia_compat.specs.Below.{Passes, DefBelow}
+use Rattle.dia_compat.specs.Below.{Passes}
 
 -- ---- names
 

@@ -1,5 +1,5 @@
 -- The tests of a table's pairs as answers of yes or no.
-use Rattle.std.specs.Prelude.{ℕ, nat_eq, Bool, true, false, not, ◌&&◌, ◌||◌, ◌==◌, if◌then◌else◌, List, [], ◌∷◌, length, map, filter, Option, Some, None, is_some, find, position, slice_get, option_and_then}
+use Rattle.std.specs.Prelude.{ℕ, nat_eq, Bool, true, false, not, ◌&&◌, ◌||◌, ◌==◌, if◌then◌else◌, List, [], ◌∷◌, map, filter, Option, Some, None, is_some, find, position, slice_get, option_and_then}
 use Rattle.std.specs.Borrow.{Bor}
 use Rattle.std.specs.List.{list_all, list_any}
 use Rattle.std.specs.Option.{option_eq, option_map, option_map_or}

@@ -1,4 +1,4 @@
-use Rattle.std.proofs.Common.{List, map, ap}
+use Rattle.std.proofs.Common.{map, ap}
 use Rattle.dia_compat.specs.TableText.{plain}
 use Rattle.dia_compat.specs.Comparing.{plain_names}
 use Rattle.dia_compat.proofs.Concluding.{answered, concluded}

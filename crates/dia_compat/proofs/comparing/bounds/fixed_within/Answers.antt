@@ -1,4 +1,4 @@
-use Rattle.std.proofs.Common.{◌≡◌, Bool, true, false, suc, refl, sym, ap, ◌∙◌, ◌+◌, drop, subst, arith, ℕ}
+use Rattle.std.proofs.Common.{◌≡◌, Bool, suc, refl, sym, ap, ◌∙◌, ◌+◌, drop, arith, ℕ}
 use Rattle.std.specs.Prelude.{◌&&◌}
 use Rattle.dia_compat.specs.Tests.{begins_with}
 use Rattle.dia_compat.proofs.Looking.{goes_on}

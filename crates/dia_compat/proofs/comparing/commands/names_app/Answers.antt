@@ -1,4 +1,4 @@
-use Rattle.std.proofs.Common.{◌≡◌, Some, ℕ, sym, ap, ◌∙◌}
+use Rattle.std.proofs.Common.{sym, ◌∙◌}
 use Rattle.dia_dict.specs.Dictionary.{plain}
 use Rattle.dia_compat.proofs.Serving.{names_own, names_none}
 use Rattle.dia_compat.proofs.comparing.commands.names_app.Goals as goal

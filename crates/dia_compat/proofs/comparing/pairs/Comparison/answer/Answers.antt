@@ -1,6 +1,4 @@
-use Rattle.std.proofs.Common.{◌≡◌, List, map, ap}
-use Rattle.std.specs.Prelude.{String}
-use Rattle.std.specs.Global.{Global}
+use Rattle.std.proofs.Common.{map, ap}
 use Rattle.dia_compat.specs.TableText.{plain, plain_pair}
 use Rattle.dia_compat.proofs.Telling.{told_command, told_avp, told_closed}
 use Rattle.dia_compat.proofs.comparing.pairs.Comparison.answer.Goals as goal

@@ -1,7 +1,6 @@
-use Rattle.std.proofs.Common.{◌≡◌, List, Option, map, sym, subst}
+use Rattle.std.proofs.Common.{map, sym, subst}
 use Rattle.dia_compat.specs.declared.inclusion.PairKind.{PairKind}
 use Rattle.dia_compat.specs.declared.inclusion.PairKind.TheVariants as kind
-use Rattle.dia_compat.specs.declared.inclusion.Test.{Test}
 use Rattle.dia_compat.specs.Comparing.{Names, plain_names}
 use Rattle.dia_compat.specs.Failing.{IsFirstFailed, PairTest}
 use Rattle.dia_compat.proofs.Telling.{first_command, first_avp}

@@ -1,5 +1,3 @@
-use Rattle.std.proofs.Common.{◌≡◌, List, map}
-use Rattle.dia_compat.specs.Comparing.{plain_names}
 use Rattle.dia_compat.specs.Failing.{PairTest}
 use Rattle.dia_compat.proofs.Pairing.{one_pair_more, this_fails, this_passes, stood_before, is_old}
 use Rattle.dia_compat.proofs.comparing.pairs.Comparison.first_failure.Goals as goal

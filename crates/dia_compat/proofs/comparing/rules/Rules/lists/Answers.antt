@@ -1,4 +1,4 @@
-use Rattle.std.proofs.Common.{sym, ap, ◌∙◌}
+use Rattle.std.proofs.Common.{ap, ◌∙◌}
 use Rattle.std.specs.Prelude.{is_some}
 use Rattle.dia_dict.specs.Dictionary.{lists_key}
 use Rattle.dia_dict.proofs.Members.{find-is_some}
