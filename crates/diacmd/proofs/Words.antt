@@ -1,28 +1,12 @@
--- What clap found, read off the rows of a subcommand.
-use Rattle.std.proofs.Common.{◌≡◌, ◌∷◌, ◌∙◌, ap, refl, subst, sym, ℕ, List, [], Option, Some, None}
-use Rattle.std.specs.Prelude.{option_map, option_and_then, slice_get, find, IsSomeAnd, unwrap_or}
-use Rattle.std.specs.Borrow.{Bor}
-use Rattle.std.specs.Str.{bytes_eq}
-use Rattle.clap.specs.Facts.{Entry}
-use Rattle.clap.specs.Matches.{first_value}
-use Rattle.clap.specs.Walk.{Row, Text, row_of, rows_of, texts}
-use Rattle.clap.specs.declared.parser.matches.Found.{Found}
-use Rattle.clap.proofs.WalkLemmas.{find_row}
-use Rattle.diacmd.specs.Words.{value_of}
-
-head_text : (vs : List (Bor (List ℕ))) → option_map (λ s. s.now) (slice_get vs 0) ≡ slice_get (texts vs) 0
-head_text [] = refl
-head_text (v ∷ vs) = refl
-
-value_at : (found : Option Entry)
-    → option_and_then (λ a. option_map (λ s. s.now) (slice_get a.vals.items 0)) (option_map (λ e. e.1) found)
-    ≡ option_and_then (λ row. slice_get row.values 0) (option_map row_of found)
-value_at None = refl
-value_at (Some e) = head_text e.1.vals.items
-
-pub value_of_rows : (f : Found) (id : List ℕ) → first_value f id ≡ value_of (rows_of f) id
-value_of_rows f id = value_at (find (λ e. bytes_eq e.0.now id) f.entries.items)
-    ∙ ap (option_and_then (λ row. slice_get row.values 0)) (sym (find_row f.entries.items id))
+-- What clap found, read off the rows of a subcommand, and the request that is read once.
+use Rattle.std.proofs.Common.{◌≡◌, ap, refl, subst, sym, Bool, true, false, List, Option, Some, None}
+use Rattle.std.specs.Prelude.{option_map, if◌then◌else◌, IfOk, IsSomeAnd, Result, Ok, Err, unwrap_or}
+use Rattle.clap.specs.Walk.{Row, Text}
+use Rattle.diacmd.specs.Origins.{reads_twice}
+use Rattle.diacmd.specs.Request.{origins_of, read_once}
+use Rattle.diacmd.specs.declared.ending.Ending.{Ending}
+use Rattle.diacmd.specs.declared.ending.Ending.TheVariants.{ReadTwice}
+use Rattle.diacmd.specs.declared.request.Request.{Request}
 
 -- where a name and rows are told of one subcommand, what holds of the two holds of it
 pub found_at : {X : Type 0} (s : Option X) (f : X → Text) (g : X → List Row) (name : Text) (rows : List Row) (P : Text × List Row → Type 0)
@@ -31,3 +15,19 @@ pub found_at : {X : Type 0} (s : Option X) (f : X → Text) (g : X → List Row)
 found_at None f g name rows P named read h = absurd cc
 found_at (Some b) f g name rows P named read h =
     subst (λ n. P (n, g b)) (ap (λ o. unwrap_or o name) named) (subst (λ r. P (name, r)) (ap (λ o. unwrap_or o rows) read) h)
+
+-- what holds of a request holds of it where it is read once
+pub read_keeps : (request : Request) (read : Result Request Ending) (P : Request → Type 0) → read ≡ read_once request → P request → IfOk read P
+read_keeps request read P is h = subst (λ r. IfOk r P) (sym is) (go (reads_twice (origins_of request)))
+  where
+    go : (twice : Bool) → IfOk (if twice then Err ReadTwice else Ok request) P
+    go true = tt
+    go false = h
+
+pub read_is_once : (request : Request) (read : Result Request Ending) → read ≡ read_once request → IfOk read (λ made. reads_twice (origins_of made) ≡ false)
+read_is_once request read is = subst (λ r. IfOk r (λ made. reads_twice (origins_of made) ≡ false)) (sym is) (go (reads_twice (origins_of request)) refl)
+  where
+    go : (twice : Bool) → reads_twice (origins_of request) ≡ twice
+        → IfOk (if twice then Err ReadTwice else Ok request) (λ made. reads_twice (origins_of made) ≡ false)
+    go true e = tt
+    go false e = e

@@ -5,12 +5,20 @@ ghost use Rattle.diacmd.specs.Request.{command_of, origins_of};
 
 use crate::command::Command;
 use crate::origin::{Origin, Origins};
+use dia_check::{Levels, Unknown};
 
 /// A subcommand, with the words of its inputs.
 #[derive(Clone, Copy, Debug, PartialEq, Eq)]
 pub enum Request<'a> {
     /// `show [--dict D] MESSAGE`
     Show {
+        dictionary: &'a str,
+        message: &'a str,
+    },
+    /// `check [--unknown kept|refused] [--levels N] D MESSAGE`
+    Check {
+        unknown: Unknown,
+        levels: Levels,
         dictionary: &'a str,
         message: &'a str,
     },
@@ -25,8 +33,13 @@ impl<'a> Request<'a> {
     pub fn command(&self) -> Command
         ensures { result ≡ command_of self.now }
     {
-        match self {
+        match *self {
             Request::Show { .. } => Command::Show,
+            Request::Check {
+                unknown,
+                levels,
+                ..
+            } => Command::Check { unknown, levels },
             Request::Render { .. } => Command::Render,
         }
     }
@@ -40,6 +53,16 @@ impl<'a> Request<'a> {
             Request::Show {
                 dictionary,
                 message,
+            } => Origins {
+                first: Origin::of_dictionary(dictionary),
+                second: nowhere,
+                table: nowhere,
+                message: Origin::of_message(message),
+            },
+            Request::Check {
+                dictionary,
+                message,
+                ..
             } => Origins {
                 first: Origin::of_dictionary(dictionary),
                 second: nowhere,

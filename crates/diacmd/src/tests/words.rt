@@ -4,10 +4,12 @@ use crate::arguments::parse_words;
 use crate::command::{Command, Exit};
 use crate::ending::{Ending, finish};
 use crate::origin::{Origin, Origins};
+use dia_check::{Levels, Unknown};
 use std::alloc::Global;
 use std::cell::RefCell;
 use std::fmt::Display;
 use std::io;
+use std::process::Abort;
 use std::test::Fail;
 
 /// A dictionary's file, with the limit of its text.
@@ -18,8 +20,8 @@ const fn dictionary_file(path: &str) -> Origin<'_> {
     }
 }
 
-/// The inputs of `show`.
-fn show_origins<'a>(first: Origin<'a>, message: Origin<'a>) -> Origins<'a> {
+/// The inputs of a subcommand that reads a dictionary and a message.
+fn origins_of<'a>(first: Origin<'a>, message: Origin<'a>) -> Origins<'a> {
     Origins {
         first,
         second: Origin::Nowhere,
@@ -41,27 +43,27 @@ fn reads_the_words(rt: HostRuntime) -> Result<(), Fail> {
         (
             &["diacmd", "show", "-"],
             Command::Show,
-            show_origins(Origin::Base, from_input),
+            origins_of(Origin::Base, from_input),
         ),
         (
             &["diacmd", "show", "m.hex", "--dict", "-"],
             Command::Show,
-            show_origins(dictionary_input, from_file),
+            origins_of(dictionary_input, from_file),
         ),
         (
             &["diacmd", "show", "--dict=d.txt", "m.hex"],
             Command::Show,
-            show_origins(dictionary_file("d.txt"), from_file),
+            origins_of(dictionary_file("d.txt"), from_file),
         ),
         (
             &["diacmd", "show", "--dict", "@base", "--", "m.hex"],
             Command::Show,
-            show_origins(Origin::Base, from_file),
+            origins_of(Origin::Base, from_file),
         ),
         (
             &["diacmd", "show", "@base"],
             Command::Show,
-            show_origins(
+            origins_of(
                 Origin::Base,
                 Origin::File {
                     path: "@base",
@@ -72,25 +74,112 @@ fn reads_the_words(rt: HostRuntime) -> Result<(), Fail> {
         (
             &["diacmd", "render", "@base"],
             Command::Render,
-            show_origins(Origin::Base, Origin::Nowhere),
+            origins_of(Origin::Base, Origin::Nowhere),
         ),
         (
             &["diacmd", "render", "-"],
             Command::Render,
-            show_origins(dictionary_input, Origin::Nowhere),
+            origins_of(dictionary_input, Origin::Nowhere),
         ),
         (
             &["diacmd", "render", "--", "-d"],
             Command::Render,
-            show_origins(dictionary_file("-d"), Origin::Nowhere),
+            origins_of(dictionary_file("-d"), Origin::Nowhere),
         ),
     ];
     for (words, command, origins) in rows.iter() {
-        let Ok(request) = parse_words(rt.alloc(), *words) else {
-            return Err(Fail::new(format_args!("the words are refused: {words:?}")));
+        are_read(&rt, words, *command, *origins)?;
+    }
+    Ok(())
+}
+
+/// Checks the command and the origins of these words.
+fn are_read(
+    rt: &(impl AllocGlobal + Abort),
+    words: &[&str],
+    command: Command,
+    origins: Origins<'_>,
+) -> Result<(), Fail> {
+    let Ok(request) = parse_words(rt.alloc(), words) else {
+        return Err(Fail::new(format_args!("the words are refused: {words:?}")));
+    };
+    assert_eq!(rt; request.command(), command);
+    assert_eq!(rt; request.origins(), origins);
+    Ok(())
+}
+
+#[test]
+fn reads_the_words_of_check(rt: HostRuntime) -> Result<(), Fail> {
+    let limit = 67_108_864;
+    let message = Origin::File {
+        path: "m.hex",
+        limit,
+    };
+    let rows: [(&[&str], Unknown, Levels); 9] = [
+        (&[], Unknown::Kept, Levels::Any),
+        (&["--unknown", "kept"], Unknown::Kept, Levels::Any),
+        (&["--unknown=refused"], Unknown::Refused, Levels::Any),
+        (&["--levels", "0"], Unknown::Kept, Levels::AtMost(0)),
+        (&["--levels", "+5"], Unknown::Kept, Levels::AtMost(5)),
+        (&["--levels=+5"], Unknown::Kept, Levels::AtMost(5)),
+        (&["--levels", "007"], Unknown::Kept, Levels::AtMost(7)),
+        (
+            &["--levels", "4294967295"],
+            Unknown::Kept,
+            Levels::AtMost(4_294_967_295),
+        ),
+        (
+            &["--levels", "1", "--unknown", "refused"],
+            Unknown::Refused,
+            Levels::AtMost(1),
+        ),
+    ];
+    for (options, unknown, levels) in rows.iter() {
+        let command = Command::Check {
+            unknown: *unknown,
+            levels: *levels,
         };
-        assert_eq!(rt; request.command(), *command);
-        assert_eq!(rt; request.origins(), *origins);
+        let mut words: Vec<&str> = Vec::from_slice(rt.alloc(), &["diacmd", "check"])?;
+        words.extend_from_slice(options)?;
+        words.extend_from_slice(&["d.txt", "m.hex"])?;
+        are_read(
+            &rt,
+            &words,
+            command,
+            origins_of(dictionary_file("d.txt"), message),
+        )?;
+    }
+    Ok(())
+}
+
+#[test]
+fn reads_the_inputs_of_check(rt: HostRuntime) -> Result<(), Fail> {
+    let limit = 67_108_864;
+    let command = Command::Check {
+        unknown: Unknown::Kept,
+        levels: Levels::Any,
+    };
+    let message = |path| Origin::File { path, limit };
+    let rows: [(&[&str], Origins); 4] = [
+        (
+            &["diacmd", "check", "@base", "-"],
+            origins_of(Origin::Base, Origin::StandardInput { limit }),
+        ),
+        (
+            &["diacmd", "check", "-", "@base"],
+            origins_of(Origin::StandardInput { limit: 1_048_576 }, message("@base")),
+        ),
+        (
+            &["diacmd", "check", "d.txt", "m.hex", "--unknown", "kept"],
+            origins_of(dictionary_file("d.txt"), message("m.hex")),
+        ),
+        (
+            &["diacmd", "check", "--", "-d", "--levels"],
+            origins_of(dictionary_file("-d"), message("--levels")),
+        ),
+    ];
+    for (words, origins) in rows.iter() {
+        are_read(&rt, words, command, *origins)?;
     }
     Ok(())
 }
@@ -192,7 +281,7 @@ fn ending_of<'a>(alloc: Global, words: &'a [&'a str]) -> Result<Ending<'a>, Fail
 }
 
 const NO_WORDS: &str = "error: 'diacmd' requires a subcommand but one was not provided
-  [subcommands: show, render, help]
+  [subcommands: show, check, render, help]
 
 Usage: diacmd <COMMAND>
 
@@ -232,6 +321,61 @@ Usage: diacmd <COMMAND>
 For more information, try '--help'.
 ";
 
+const NO_DICTIONARY: &str = "error: the following required arguments were not provided:
+  <D>
+  <MESSAGE>
+
+Usage: diacmd check <D> <MESSAGE>
+
+For more information, try '--help'.
+";
+
+const UNKNOWN_POLICY: &str = "error: invalid value 'maybe' for '--unknown <POLICY>'
+  [possible values: kept, refused]
+
+For more information, try '--help'.
+";
+
+const TWO_POLICIES: &str = "error: the argument '--unknown <POLICY>' cannot be used multiple times
+
+Usage: diacmd check [OPTIONS] <D> <MESSAGE>
+
+For more information, try '--help'.
+";
+
+const NO_NUMBER: &str = "error: invalid value 'x' for '--levels <N>': invalid digit found in string
+
+For more information, try '--help'.
+";
+
+const TOO_MANY_LEVELS: &str =
+    "error: invalid value '4294967296' for '--levels <N>': 4294967296 is not in 0..=4294967295
+
+For more information, try '--help'.
+";
+
+const TWO_LIMITS: &str = "error: the argument '--levels <N>' cannot be used multiple times
+
+Usage: diacmd check [OPTIONS] <D> <MESSAGE>
+
+For more information, try '--help'.
+";
+
+const NEGATIVE_LEVELS: &str = "error: unexpected argument '-1' found
+
+  tip: to pass '-1' as a value, use '-- -1'
+
+Usage: diacmd check [OPTIONS] <D> <MESSAGE>
+
+For more information, try '--help'.
+";
+
+const NEGATIVE_ZERO: &str =
+    "error: invalid value '-0' for '--levels <N>': invalid digit found in string
+
+For more information, try '--help'.
+";
+
 const READ_TWICE: &str =
     "error: '-' is given twice, and standard input can be read once: name a file for one of the two
 
@@ -240,7 +384,7 @@ For more information, try '--help'.
 
 #[test]
 fn faults_of_the_words_go_to_standard_error(rt: HostRuntime) -> Result<(), Fail> {
-    let rows: [(&[&str], &str); 6] = [
+    let rows: [(&[&str], &str); 15] = [
         (&["diacmd"], NO_WORDS),
         (&["diacmd", "show"], NO_MESSAGE),
         (
@@ -250,6 +394,46 @@ fn faults_of_the_words_go_to_standard_error(rt: HostRuntime) -> Result<(), Fail>
         (&["diacmd", "show", "--levels", "-"], UNKNOWN_OPTION),
         (&["diacmd", "shown", "-"], UNKNOWN_COMMAND),
         (&["diacmd", "show", "--dict", "-", "-"], READ_TWICE),
+        (&["diacmd", "check"], NO_DICTIONARY),
+        (
+            &["diacmd", "check", "--unknown", "maybe", "@base", "-"],
+            UNKNOWN_POLICY,
+        ),
+        (
+            &[
+                "diacmd",
+                "check",
+                "--unknown",
+                "kept",
+                "--unknown=kept",
+                "@base",
+                "-",
+            ],
+            TWO_POLICIES,
+        ),
+        (
+            &["diacmd", "check", "--levels", "x", "@base", "-"],
+            NO_NUMBER,
+        ),
+        (
+            &["diacmd", "check", "--levels", "4294967296", "@base", "-"],
+            TOO_MANY_LEVELS,
+        ),
+        (
+            &[
+                "diacmd", "check", "--levels", "1", "--levels", "1", "@base", "-",
+            ],
+            TWO_LIMITS,
+        ),
+        (
+            &["diacmd", "check", "--levels", "-1", "@base", "-"],
+            NEGATIVE_LEVELS,
+        ),
+        (
+            &["diacmd", "check", "--levels=-0", "@base", "-"],
+            NEGATIVE_ZERO,
+        ),
+        (&["diacmd", "check", "-", "-"], READ_TWICE),
     ];
     for (words, told) in rows.iter() {
         let streams = Streams::new(rt.alloc());
@@ -267,6 +451,7 @@ Usage: diacmd <COMMAND>
 
 Commands:
   show    Prints a message: its header, and a line for each AVP
+  check   Tells whether a message is valid for a dictionary, or its first fault
   render  Prints the canonical text of a dictionary
   help    Print this message or the help of the given subcommand(s)
 
@@ -275,8 +460,8 @@ Options:
   -V, --version  Print version
 
 Status:
-  0  done
-  1  a bad AVP length in the message
+  0  done; for check, the message is valid
+  1  for show, a bad AVP length in the message; for check, the message isn't valid
   2  bad input, or a bad command line
   3  a file or a device failed, or memory was refused
 ";
@@ -293,6 +478,20 @@ Options:
   -h, --help      Print help
 ";
 
+const CHECK_HELP: &str = "Tells whether a message is valid for a dictionary, or its first fault
+
+Usage: diacmd check [OPTIONS] <D> <MESSAGE>
+
+Arguments:
+  <D>        A dictionary text: a file, @base, or - for standard input
+  <MESSAGE>  A file of hexadecimal text, white space ignored; - for standard input
+
+Options:
+      --unknown <POLICY>  Whether an AVP that isn't in the dictionary, with its M flag clear, is kept or refused [default: kept] [possible values: kept, refused]
+      --levels <N>        How many levels of Grouped AVPs may stand in one another; without it, any number
+  -h, --help              Print help
+";
+
 const RENDER_HELP: &str = "Prints the canonical text of a dictionary
 
 Usage: diacmd render <D>
@@ -306,10 +505,11 @@ Options:
 
 #[test]
 fn what_is_asked_for_goes_to_standard_output(rt: HostRuntime) -> Result<(), Fail> {
-    let rows: [(&[&str], &str); 4] = [
+    let rows: [(&[&str], &str); 5] = [
         (&["diacmd", "--version"], "diacmd 0.1.0\n"),
         (&["diacmd", "--help"], HELP),
         (&["diacmd", "show", "--help"], SHOW_HELP),
+        (&["diacmd", "check", "--help"], CHECK_HELP),
         (&["diacmd", "render", "--help"], RENDER_HELP),
     ];
     for (words, told) in rows.iter() {
