@@ -43,7 +43,7 @@ pub fn parse_words<'a, S: AsStr>(alloc: Global, words: &'a [S]) -> Result<Reques
     let matches = line.try_get_matches_from_mut(words)?;
     match request_of(&matches) {
         Some(request) => read_once(request),
-        // It never comes to this: the line requires a subcommand, and each subcommand its words.
+        // It never comes to this: the line requires a subcommand, and each subcommand its words, with values that it can read.
         None => {
             let error = line.error(ErrorKind::MissingSubcommand, "the words ask for nothing")?;
             Err(Ending::from(error))
