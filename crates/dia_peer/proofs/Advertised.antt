@@ -95,7 +95,7 @@ code_fits : (kind : Kind) → number (to_be_bytes w32 (app_code kind)) ≡ app_c
 code_fits Auth = refl
 code_fits Acct = refl
 
-vendor_spells : (n : ℕ) (kind : Kind) (id : ℕ) → SpellsAll (avp32 266 n ∷ avp32 (app_code kind) id ∷ []) (vendor_data n kind id)
+pub vendor_spells : (n : ℕ) (kind : Kind) (id : ℕ) → SpellsAll (avp32 266 n ∷ avp32 (app_code kind) id ∷ []) (vendor_data n kind id)
 vendor_spells n kind id = (spelled (avp32 266 n), spelled (avp32 (app_code kind) id), spells32 266 n refl, refl, (spelled (avp32 (app_code kind) id), [], spells32 (app_code kind) id (code_fits kind), refl, refl))
 
 -- ---- names

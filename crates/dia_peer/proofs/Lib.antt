@@ -6,7 +6,10 @@ pub mod Moves
 pub mod Delivered
 pub mod Fitting
 pub mod Ends
-pub mod Choosing
+pub mod OurAvps
+pub mod Counted
+pub mod OurMessages
+pub mod Sound
 pub mod Placing
 pub mod Sending
 pub mod Opened

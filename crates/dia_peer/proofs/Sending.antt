@@ -22,6 +22,11 @@ all_append P (x ∷ xs) ys h k = (h.0, all_append P xs ys h.1 k)
 abbrev pub vendor_data : ℕ → Kind → ℕ → List ℕ
 vendor_data n kind id = spelled (avp32 266 n) ++ spelled (avp32 (app_code kind) id)
 
+-- what holds of the AVPs that advertise applications
+pub record OfApps (P : PlainAvp → Type 0) : Type 0 where
+  pub app : (kind : Kind) (n : ℕ) → P (avp32 (app_code kind) n)
+  pub group : (n : ℕ) (kind : Kind) (id : ℕ) → P (avp 260 64 (vendor_data n kind id))
+
 -- what holds of the AVPs of each kind
 pub record OfEach (P : PlainAvp → Type 0) (c : PlainConfig) : Type 0 where
   pub host : P (avp 264 64 c.host)
@@ -30,27 +35,11 @@ pub record OfEach (P : PlainAvp → Type 0) (c : PlainConfig) : Type 0 where
   pub ip : (ip : Ip) → IsIp ip → P (avp 257 64 (address ip))
   pub vendor : P (avp32 266 c.vendor)
   pub state : (n : ℕ) → P (avp32 278 n)
-  pub app : (kind : Kind) (n : ℕ) → P (avp32 (app_code kind) n)
-  pub group : (n : ℕ) (kind : Kind) (id : ℕ) → P (avp 260 64 (vendor_data n kind id))
+  pub apps : OfApps P
   pub result : (n : ℕ) → P (avp32 268 n)
   pub cause : (cause : Cause) → P (avp32 273 (cause_number cause))
 
-module _ (P : PlainAvp → Type 0) (c : PlainConfig) (of : OfEach P c) where
-  all_origin : AllByRecursion P (origin c)
-  all_origin = (of.host, (of.realm, tt))
-
-  all_state : (o : Option ℕ) → AllByRecursion P (if_some (avp32 278) o)
-  all_state None = tt
-  all_state (Some n) = (of.state n, tt)
-
-  all_addresses : (ips : List Ip) → AllByRecursion IsIp ips → AllByRecursion P (map (λ ip. avp 257 64 (address ip)) ips)
-  all_addresses [] h = tt
-  all_addresses (ip ∷ ips) h = (of.ip ip h.0, all_addresses ips h.1)
-
-  all_option : (o : Option PlainAvp) (vs : List PlainAvp) → ((v : PlainAvp) → o ≡ Some v → P v) → AllByRecursion P vs → AllByRecursion P (cons_option o vs)
-  all_option None vs h k = k
-  all_option (Some v) vs h k = (h v refl, k)
-
+module _ (P : PlainAvp → Type 0) (of : OfApps P) where
   one_plain : (wanted kind : Kind) (id : ℕ) (vendor : Option ℕ) (vs : List PlainAvp) → AllByRecursion P vs → AllByRecursion P (cons_option (plain_app wanted (record { kind = kind; id = id; vendor = vendor })) vs)
   one_plain Auth Auth id None vs k = (of.app Auth id, k)
   one_plain Acct Acct id None vs k = (of.app Acct id, k)
@@ -70,18 +59,30 @@ module _ (P : PlainAvp → Type 0) (c : PlainConfig) (of : OfEach P c) where
   all_vendor [] = tt
   all_vendor (a ∷ apps) = one_vendor a.kind a.id a.vendor (filter_map vendor_app apps) (all_vendor apps)
 
+  pub all_applications : (c : PlainConfig) → AllByRecursion P (applications c)
+  all_applications c =
+      all_append P (filter_map (plain_app Auth) c.apps ++ filter_map (plain_app Acct) c.apps) (filter_map vendor_app c.apps)
+      (all_append P (filter_map (plain_app Auth) c.apps) (filter_map (plain_app Acct) c.apps) (all_plain Auth c.apps) (all_plain Acct c.apps)) (all_vendor c.apps)
+
+module _ (P : PlainAvp → Type 0) (c : PlainConfig) (of : OfEach P c) where
+  all_origin : AllByRecursion P (origin c)
+  all_origin = (of.host, (of.realm, tt))
+
+  all_state : (o : Option ℕ) → AllByRecursion P (if_some (avp32 278) o)
+  all_state None = tt
+  all_state (Some n) = (of.state n, tt)
+
+  all_addresses : (ips : List Ip) → AllByRecursion IsIp ips → AllByRecursion P (map (λ ip. avp 257 64 (address ip)) ips)
+  all_addresses [] h = tt
+  all_addresses (ip ∷ ips) h = (of.ip ip h.0, all_addresses ips h.1)
+
   all_capabilities : AllByRecursion IsIp c.addresses → AllByRecursion P (capabilities c)
   all_capabilities ips =
       all_append P (map (λ ip. avp 257 64 (address ip)) c.addresses ++ avp32 266 c.vendor ∷ avp 269 0 c.product ∷ []) (if_some (avp32 278) c.state_id)
       (all_append P (map (λ ip. avp 257 64 (address ip)) c.addresses) (avp32 266 c.vendor ∷ avp 269 0 c.product ∷ []) (all_addresses c.addresses ips) (of.vendor, (of.product, tt))) (all_state c.state_id)
 
-  all_applications : AllByRecursion P (applications c)
-  all_applications =
-      all_append P (filter_map (plain_app Auth) c.apps ++ filter_map (plain_app Acct) c.apps) (filter_map vendor_app c.apps)
-      (all_append P (filter_map (plain_app Auth) c.apps) (filter_map (plain_app Acct) c.apps) (all_plain Auth c.apps) (all_plain Acct c.apps)) (all_vendor c.apps)
-
   all_exchange : AllByRecursion IsIp c.addresses → AllByRecursion P (origin c ++ capabilities c ++ applications c)
-  all_exchange ips = all_append P (origin c ++ capabilities c) (applications c) (all_append P (origin c) (capabilities c) all_origin (all_capabilities ips)) all_applications
+  all_exchange ips = all_append P (origin c ++ capabilities c) (applications c) (all_append P (origin c) (capabilities c) all_origin (all_capabilities ips)) (all_applications P of.apps c)
 
   pub all_ours : AllByRecursion IsIp c.addresses → (m : Sent) → IsOurs c m → AllByRecursion P m.avps
   all_ours ips m (is_cer ids) = all_exchange ips
@@ -108,8 +109,7 @@ short_each c ok = record {
   ip = short_ip;
   vendor = omega arith;
   state = λ n. omega arith;
-  app = λ kind n. omega arith;
-  group = λ n kind id. omega arith;
+  apps = record { app = λ kind n. omega arith; group = λ n kind id. omega arith };
   result = λ n. omega arith;
   cause = λ cause. omega arith;
 }

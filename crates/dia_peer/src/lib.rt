@@ -10,6 +10,7 @@ mod event;
 mod incoming;
 mod judging;
 mod kept;
+mod laws;
 mod messages;
 mod named;
 mod node;
@@ -17,5 +18,6 @@ mod reading;
 mod receiving;
 
 pub use config::{App, Config, ConfigFault, Ip, Kind, Role};
-pub use connection::{Core, agreement};
+pub use connection::Core;
 pub use event::{Cause, Event, Output, State, Why};
+pub use laws::{agreement, our_messages_are_valid};

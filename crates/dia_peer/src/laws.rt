@@ -1,0 +1,25 @@
+//! What holds of every connection.
+
+ghost use Rattle.std.specs.Prelude.{ℕ, List};
+ghost use Rattle.dia_wire.specs.Wire.{IsMessage};
+ghost use Rattle.dia_dict.specs.Base.{base};
+ghost use Rattle.dia_check.specs.declared.Unknown.TheVariants.{Kept};
+ghost use Rattle.dia_check.specs.declared.Levels.TheVariants.{Any};
+ghost use Rattle.dia_check.specs.Valid.{IsValid};
+ghost use Rattle.dia_peer.specs.Core.{PlainConfig, IsConfig, Sent};
+ghost use Rattle.dia_peer.specs.Messages.{IsOurs};
+ghost use Rattle.dia_peer.specs.World.{World, Event as AnyEvent, Run, start, Agrees};
+ghost use Rattle.dia_peer.specs.declared.config.Role.{Role as AnyRole};
+
+/// However the messages of two ends are lost, repeated or reordered, each end that is open holds the
+/// applications that both advertise.
+pub fn agreement()
+    ensures { (a b : PlainConfig) (events : List (AnyRole × AnyEvent)) (w : World) → IsConfig a → IsConfig b
+        → Run (start a b) events w → Agrees a b w }
+{}
+
+/// Each message that a core of an accepted configuration sends is valid under the base dictionary.
+pub fn our_messages_are_valid()
+    ensures { (c : PlainConfig) (m : Sent) (bytes : List ℕ) → IsConfig c → IsOurs c m
+        → IsMessage m.header m.avps bytes → IsValid base Kept Any bytes }
+{}
