@@ -1,16 +1,18 @@
 -- The named commands, one after the other.
-use Rattle.std.proofs.Common.{◌≡◌, ◌≢◌, ℕ, zero, suc, ◌+◌, ◌<◌, ◌≤◌, Bool, true, false, cond, List, [], ◌∷◌, ◌++◌, length, map, take, drop, get_or, ◌==◌, Option, Some, None, refl, sym, ap, subst, ◌∙◌, arith, inl, inr}
-use Rattle.std.specs.Prelude.{◌⊎◌, ◌↔◌, Contains, slice_get, is_some, IsSome, string_bytes}
+use Rattle.std.proofs.Common.{◌≡◌, ℕ, zero, suc, ◌+◌, ◌<◌, Bool, true, false, cond, List, [], ◌∷◌, ◌++◌, length, map, take, drop, get_or, Option, Some, None, refl, sym, ap, subst, ◌∙◌, arith, inl, inr}
+use Rattle.std.specs.Prelude.{◌⊎◌, nat_eq, Contains, slice_get, is_some}
 use Rattle.std.specs.Option.{option_map, option_map_or}
 use Rattle.std.specs.List.{filter_map, list_any}
 use Rattle.std.proofs.lemmas.List.{append_assoc, append-nil, map-append, drop_more, map_more}
-use Rattle.std.proofs.lemmas.Bool.{eq-eqb}
+use Rattle.std.proofs.lemmas.Bool.{eq-eqb, eqb-true}
 use Rattle.std.proofs.lemmas.Option.{same_Some}
+use Rattle.std.specs.Str.{bytes_eq}
+use Rattle.std.proofs.lemmas.Slice.Eq.{bytes_eq-Decides}
+use Rattle.indexmap.specs.IndexSet.{insert_key}
 use Rattle.dia_wire.specs.declared.Key.{Key}
-use Rattle.dia_dict.specs.Keys.{same_key}
 use Rattle.dia_dict.specs.declared.DRule.{DRule}
 use Rattle.dia_dict.specs.Dictionary.{Dictionary, DictEntry, PlainDefinition, IsDictionary, definitions, groups}
-use Rattle.dia_dict.proofs.Members.{IsAt, at_filter_map}
+use Rattle.dia_dict.proofs.Members.{at_filter_map, position-is_some}
 use Rattle.dia_check.specs.declared.policy.Unknown.{Unknown}
 use Rattle.dia_check.specs.Valid.{known}
 use Rattle.dia_compat.specs.declared.proposing.naming.Named.{Named}
@@ -18,14 +20,15 @@ use Rattle.dia_compat.specs.declared.proposing.reaching.Reached.{Reached}
 use Rattle.dia_compat.specs.TableText.{plain_pair}
 use Rattle.dia_compat.specs.Below.{HasRule, IsListed, HasWildcard, IsAboveZero, IsKnown, IsCoveredAlone}
 use Rattle.dia_compat.specs.Closed.{NamesEntry, NamesCommand}
-use Rattle.dia_compat.specs.Proposed.{WantsPair, IsProposed, by_command, by_group, AreBeside, AreCommandPairs, AreAvpPairs}
-use Rattle.dia_compat.specs.Reaching.{has, Waits, IsShared, IsAllowed, IsOpenTo, Admits, Wants, Grew, ComesToAll, Follows, root, in_group, AllWait}
+use Rattle.dia_compat.specs.Proposed.{WantsPair, IsProposed, by_command, by_group, AreCommandPairs, AreAvpPairs}
+use Rattle.dia_compat.specs.Reaching.{has, Waits, IsShared, Admits, Wants, Follows, root, in_group}
+use Rattle.dia_compat.specs.Comparing.{command_named}
 use Rattle.dia_compat.specs.Wanting.{or_alone, wanted_names, names_beside}
 use Rattle.dia_compat.specs.Naming.{shared_pair, Same, Adds, Names, name_at, AreRoots, NamedSoFar}
 use Rattle.dia_compat.proofs.Placing.{IsIn}
-use Rattle.dia_compat.proofs.Counts.{in_at, at_in, in_contains, contains_in, in_left, in_right, in_append, in_any}
+use Rattle.dia_compat.proofs.Counts.{in_at, at_in, in_contains, contains_in, in_left, in_right, in_append, in_any, any_in}
 use Rattle.dia_compat.proofs.Fitting.{known_entry, entry_known, in_filter_map}
-use Rattle.dia_compat.proofs.Selecting.{one_command}
+use Rattle.dia_compat.proofs.Selecting.{one_command, found_or_not, Found, NotFound}
 use Rattle.dia_compat.proofs.Reaching.{is_known}
 use Rattle.dia_compat.proofs.Wanting.{are_beside, filter_map_order}
 
@@ -47,8 +50,34 @@ name_there d place c at = ap (λ (o : Option PlainDefinition). option_map_or (λ
 
 -- ---- lists
 
-pub not_among : (ks : List ℕ) (k : ℕ) → false ≡ list_any (λ n. n == k) ks → ¬ Contains ks k
-not_among ks k none i = let e : true ≡ false = sym (in_any (λ (n : ℕ). n == k) ks k (in_contains ks k i) (eq-eqb k k refl)) ∙ sym none in absurd cc
+pub not_among : (ks : List ℕ) (k : ℕ) → false ≡ list_any (nat_eq k) ks → ¬ Contains ks k
+not_among ks k none i = let e : true ≡ false = sym (in_any (nat_eq k) ks k (in_contains ks k i) (eq-eqb k k refl)) ∙ sym none in absurd cc
+
+pub among : (ks : List ℕ) (k : ℕ) → true ≡ list_any (nat_eq k) ks → Contains ks k
+among ks k some = let r = any_in (nat_eq k) ks (sym some) in contains_in ks k (subst (λ (n : ℕ). IsIn n ks) (sym (eqb-true k r.0 r.2)) r.1)
+
+pub one_place_more : (ks more : List ℕ) (k : ℕ) → false ≡ list_any (nat_eq k) ks → more ≡ insert_key nat_eq ks k → more ≡ ks ++ k ∷ []
+one_place_more ks more k none inserted = inserted ∙ ap (λ (b : Bool). cond b ks (ks ++ k ∷ [])) (sym none)
+
+-- ---- a command by its name
+
+-- the command at the place of a name has the name, and there is none where the name has no place
+pub command_found : (d : Dictionary) (name : List ℕ) (i : ℕ) → command_named d name ≡ Some i → (c : PlainDefinition) × (slice_get d.commands i ≡ Some c) × (c.name ≡ name)
+command_found d name i e = by (found_or_not (λ (c : PlainDefinition). bytes_eq name c.name) d.commands)
+  where
+    by : Found (λ (c : PlainDefinition). bytes_eq name c.name) d.commands ⊎ NotFound (λ (c : PlainDefinition). bytes_eq name c.name) d.commands
+        → (c : PlainDefinition) × (slice_get d.commands i ≡ Some c) × (c.name ≡ name)
+    by (inl f) =
+        let same : f.place ≡ i = same_Some f.place i (sym f.is_place ∙ e) in
+        (f.item, ap (slice_get d.commands) (sym same) ∙ f.at, sym ((bytes_eq-Decides name f.item.name).0 f.passes))
+    by (inr n) = absurd (let none : None ≡ Some i = sym n.is_none ∙ e in cc)
+
+pub no_command : (d : Dictionary) (name : List ℕ) (c : PlainDefinition) → command_named d name ≡ None → ¬ NamesCommand d name c
+no_command d name c e n =
+    let p = at_in d.commands c (in_contains d.commands c n.0) in
+    let passes : bytes_eq name c.name ≡ true = (bytes_eq-Decides name c.name).1 (sym n.1) in
+    let some = position-is_some (λ (x : PlainDefinition). bytes_eq name x.name) d.commands p.place c p.at passes in
+    absurd (let f : false ≡ true = ap (λ (o : Option ℕ). is_some o) (sym e) ∙ some in cc)
 
 pub next_item : {X : Type 0} (f : X → List ℕ) (xs : List X) (i : ℕ) (x : X) → i < length xs → x ≡ get_or xs i x → (map f (drop i xs) ≡ f x ∷ map f (drop (i + 1) xs)) × (map f (take (i + 1) xs) ≡ map f (take i xs) ++ f x ∷ [])
 next_item {X} f xs i x within is = (
@@ -72,12 +101,12 @@ module _ (da db : Dictionary) (sa : IsDictionary da) (sb : IsDictionary db) wher
       by (inr (inl e)) = (c, (inside, sym e))
       by (inr (inr none)) = absurd none
 
-  pub named_again : (gone left : List (List ℕ)) (place : ℕ) (c : PlainDefinition) (old new : Named) → slice_get da.commands place ≡ Some c → NamedSoFar da db gone (c.name ∷ left) old → Contains old.places.items place → Same old new
+  pub named_again : (gone left : List (List ℕ)) (place : ℕ) (c : PlainDefinition) (old new : Named) → slice_get da.commands place ≡ Some c → NamedSoFar da db gone (c.name ∷ left) old → Contains old.places.keys place → Same old new
       → NamedSoFar da db (gone ++ c.name ∷ []) left new
   named_again gone left place c old new at so again same = record {
     owed = λ more h.
-        let listed : Contains (map (name_at da) old.places.items) c.name = subst (Contains (map (name_at da) old.places.items)) (name_there da place c at)
-        (contains_in (map (name_at da) old.places.items) (name_at da place) (into_map (name_at da) old.places.items place (in_contains old.places.items place again))) in
+        let listed : Contains (map (name_at da) old.places.keys) c.name = subst (Contains (map (name_at da) old.places.keys)) (name_there da place c at)
+        (contains_in (map (name_at da) old.places.keys) (name_at da place) (into_map (name_at da) old.places.keys place (in_contains old.places.keys place again))) in
         let all = so.owed more (inl (listed, subst (λ (ks : List ℕ). AreCommandPairs da db (map (name_at da) ks) left more) same.places h)) in
         subst (λ (ns : List (List ℕ)). AreCommandPairs da db [] ns (map plain_pair new.pairs.items ++ more)) (sym (append_assoc gone (c.name ∷ []) left))
         (subst (λ (ps : Pairs). AreCommandPairs da db [] (gone ++ (c.name ∷ left)) (ps ++ more)) (sym same.pairs) all);
@@ -91,7 +120,7 @@ module _ (da db : Dictionary) (sa : IsDictionary da) (sb : IsDictionary db) wher
   some_name name [] = (name, inl refl)
   some_name name (n ∷ ns) = (n, inl refl)
 
-  module _ (gone left : List (List ℕ)) (place : ℕ) (c : PlainDefinition) (old new : Named) (at : slice_get da.commands place ≡ Some c) (so : NamedSoFar da db gone (c.name ∷ left) old) (fresh : ¬ Contains old.places.items place) (adds : Adds da db place c old new) where
+  module _ (gone left : List (List ℕ)) (place : ℕ) (c : PlainDefinition) (old new : Named) (at : slice_get da.commands place ≡ Some c) (so : NamedSoFar da db gone (c.name ∷ left) old) (fresh : ¬ Contains old.places.keys place) (adds : Adds da db place c old new) where
     abbrev pairs_of_c : Pairs
     pairs_of_c = map (λ (name : List ℕ). (c.name, name)) (names_beside da db c)
 
@@ -104,18 +133,18 @@ module _ (da db : Dictionary) (sa : IsDictionary da) (sb : IsDictionary db) wher
     inside : Contains da.commands c
     inside = contains_in da.commands c (in_at da.commands place c at)
 
-    names_now : map (name_at da) new.places.items ≡ map (name_at da) old.places.items ++ c.name ∷ []
-    names_now = ap (map (name_at da)) adds.places ∙ map-append (name_at da) old.places.items (place ∷ []) ∙ ap (λ (n : List ℕ). map (name_at da) old.places.items ++ n ∷ []) (name_there da place c at)
+    names_now : map (name_at da) new.places.keys ≡ map (name_at da) old.places.keys ++ c.name ∷ []
+    names_now = ap (map (name_at da)) adds.places ∙ map-append (name_at da) old.places.keys (place ∷ []) ∙ ap (λ (n : List ℕ). map (name_at da) old.places.keys ++ n ∷ []) (name_there da place c at)
 
-    not_listed : ¬ Contains (map (name_at da) old.places.items) c.name
+    not_listed : ¬ Contains (map (name_at da) old.places.keys) c.name
     not_listed h =
-        let r = in_map (name_at da) old.places.items c.name (in_contains (map (name_at da) old.places.items) c.name h) in
-        let k = contains_in old.places.items r.0 r.1 in
+        let r = in_map (name_at da) old.places.keys c.name (in_contains (map (name_at da) old.places.keys) c.name h) in
+        let k = contains_in old.places.keys r.0 r.1 in
         let x = so.within r.0 k in
         let same : r.0 ≡ place = sa.distinct_commands r.0 place x.0 c x.1 at (sym (name_there da r.0 x.0 x.1) ∙ sym r.2) in
-        fresh (subst (Contains old.places.items) same k)
+        fresh (subst (Contains old.places.keys) same k)
 
-    owed : (more : Pairs) → AreCommandPairs da db (map (name_at da) new.places.items) left more → AreCommandPairs da db [] ((gone ++ c.name ∷ []) ++ left) (after ++ more)
+    owed : (more : Pairs) → AreCommandPairs da db (map (name_at da) new.places.keys) left more → AreCommandPairs da db [] ((gone ++ c.name ∷ []) ++ left) (after ++ more)
     owed more h =
         let h2 = subst (λ (ns : List (List ℕ)). AreCommandPairs da db ns left more) names_now h in
         let all = so.owed (pairs_of_c ++ more) (inr (not_listed, c, names_beside da db c, more, (inside, refl), are_beside da db sa sb c inside, refl, h2)) in
@@ -160,14 +189,14 @@ module _ (da db : Dictionary) (sa : IsDictionary da) (sb : IsDictionary db) wher
     waits_only key (inl w) = adds.reached.grew.grows key (so.roots.wait.only key w)
     waits_only key (inr h) = h
 
-    within : (k : ℕ) → IsIn k old.places.items ⊎ IsIn k (place ∷ []) → (x : PlainDefinition) × (slice_get da.commands k ≡ Some x)
-    within k (inl i) = so.within k (contains_in old.places.items k i)
+    within : (k : ℕ) → IsIn k old.places.keys ⊎ IsIn k (place ∷ []) → (x : PlainDefinition) × (slice_get da.commands k ≡ Some x)
+    within k (inl i) = so.within k (contains_in old.places.keys k i)
     within k (inr (inl e)) = (c, ap (slice_get da.commands) e ∙ at)
     within k (inr (inr none)) = absurd none
 
-    listed : (p : List ℕ × List ℕ) → Contains before p ⊎ (p.0 ≡ c.name) → Contains (map (name_at da) old.places.items ++ c.name ∷ []) p.0
-    listed p (inl i) = contains_in (map (name_at da) old.places.items ++ c.name ∷ []) p.0 (in_left (map (name_at da) old.places.items) (c.name ∷ []) p.0 (in_contains (map (name_at da) old.places.items) p.0 (so.listed p i)))
-    listed p (inr e) = contains_in (map (name_at da) old.places.items ++ c.name ∷ []) p.0 (in_right (map (name_at da) old.places.items) (c.name ∷ []) p.0 (inl e))
+    listed : (p : List ℕ × List ℕ) → Contains before p ⊎ (p.0 ≡ c.name) → Contains (map (name_at da) old.places.keys ++ c.name ∷ []) p.0
+    listed p (inl i) = contains_in (map (name_at da) old.places.keys ++ c.name ∷ []) p.0 (in_left (map (name_at da) old.places.keys) (c.name ∷ []) p.0 (in_contains (map (name_at da) old.places.keys) p.0 (so.listed p i)))
+    listed p (inr e) = contains_in (map (name_at da) old.places.keys ++ c.name ∷ []) p.0 (in_right (map (name_at da) old.places.keys) (c.name ∷ []) p.0 (inl e))
 
     pub named_new : NamedSoFar da db (gone ++ c.name ∷ []) left new
     named_new = record {
@@ -177,7 +206,7 @@ module _ (da db : Dictionary) (sa : IsDictionary da) (sb : IsDictionary db) wher
         all = λ p x key i n w. all p x key (split_pair p i) n w;
         wait = record { each = λ key h. waits_each key (adds.reached.grew.queued key h); only = λ key w. waits_only key (adds.reached.grew.waits key w) };
       };
-      within = λ k i. within k (in_append old.places.items (place ∷ []) k (in_contains (old.places.items ++ place ∷ []) k (subst (λ (ks : List ℕ). Contains ks k) adds.places i)));
+      within = λ k i. within k (in_append old.places.keys (place ∷ []) k (in_contains (old.places.keys ++ place ∷ []) k (subst (λ (ks : List ℕ). Contains ks k) adds.places i)));
       listed = λ p i. subst (λ (ns : List (List ℕ)). Contains ns p.0) (sym names_now) (listed p (split_pair p i));
       known = known_more gone c inside so.known;
     }

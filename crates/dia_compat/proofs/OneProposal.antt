@@ -1,16 +1,14 @@
 -- Names have one proposal.
-use Rattle.std.proofs.Common.{◌≡◌, ℕ, zero, suc, ◌+◌, ◌<◌, ◌≤◌, List, [], ◌∷◌, ◌++◌, length, map, Option, Some, None, refl, sym, ap, subst, ◌∙◌, arith, inl, inr}
-use Rattle.std.specs.Prelude.{◌⊎◌, ◌↔◌, Contains, slice_get}
-use Rattle.std.proofs.lemmas.Option.{none-some, same_Some}
+use Rattle.std.proofs.Common.{◌≡◌, ℕ, suc, ◌<◌, List, [], ◌∷◌, ◌++◌, map, Some, refl, sym, ap, subst, ◌∙◌, arith, inl, inr}
+use Rattle.std.specs.Prelude.{◌⊎◌, Contains, slice_get}
 use Rattle.dia_wire.specs.declared.Key.{Key}
 use Rattle.dia_dict.specs.Dictionary.{Dictionary, DictEntry, PlainDefinition, IsDictionary}
-use Rattle.dia_dict.proofs.Members.{IsAt}
 use Rattle.dia_check.specs.declared.policy.Unknown.{Unknown}
 use Rattle.dia_compat.specs.TableText.{PlainTable}
-use Rattle.dia_compat.specs.Closed.{NamesEntry, NamesCommand, IsWanted, error, same_app, no_app, both_none, other_app}
+use Rattle.dia_compat.specs.Closed.{IsWanted, error, same_app, no_app, both_none, other_app}
 use Rattle.dia_compat.specs.Proposed.{IsProposed, AreBeside, AreCommandPairs, AreAvpPairs, IsProposal}
 use Rattle.dia_compat.proofs.Placing.{IsIn}
-use Rattle.dia_compat.proofs.Counts.{in_at, at_in, in_contains, contains_in}
+use Rattle.dia_compat.proofs.Counts.{at_in, in_contains, contains_in}
 use Rattle.dia_compat.proofs.Selecting.{one_command}
 
 abbrev Names : Type 0

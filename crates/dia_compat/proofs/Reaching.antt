@@ -1,26 +1,24 @@
 -- What a proposal comes to, step by step.
-use Rattle.std.proofs.Common.{◌≡◌, ◌≢◌, ℕ, zero, suc, ◌+◌, ◌<◌, ◌≤◌, Bool, true, false, not, cond, List, [], ◌∷◌, ◌++◌, length, take, get_or, Option, Some, None, option_to_list, refl, sym, ap, subst, ◌∙◌, arith, inl, inr}
-use Rattle.std.specs.Prelude.{◌⊎◌, ◌↔◌, IsTrue, is_some, IsSome, IfSome, Contains, slice_get, count_by, position, option_and_then}
+use Rattle.std.proofs.Common.{◌≡◌, ℕ, zero, suc, ◌+◌, ◌<◌, ◌≤◌, Bool, true, false, not, cond, List, [], ◌∷◌, ◌++◌, length, take, get_or, Option, Some, None, refl, sym, ap, subst, ◌∙◌, arith, inl, inr}
+use Rattle.std.specs.Prelude.{◌⊎◌, ◌↔◌, is_some, IsSome, IfSome, Contains, slice_get, count_by, option_and_then}
 use Rattle.std.specs.Option.{option_map, option_map_or}
-use Rattle.std.specs.List.{list_any, filter_map, cons_option}
-use Rattle.std.proofs.lemmas.Bool.{cases_Bool, not_from_true, not-true}
+use Rattle.std.specs.List.{filter_map, cons_option}
+use Rattle.std.proofs.lemmas.Bool.{not-true}
 use Rattle.std.proofs.lemmas.List.{take_more, length-append}
 use Rattle.std.proofs.lemmas.Option.{none-some, same_Some, slice_get_within, get_or_from_slice_get}
 use Rattle.dia_wire.specs.declared.Key.{Key}
 use Rattle.dia_dict.specs.Keys.{same_key}
 use Rattle.dia_dict.proofs.Keys.{same_key-refl, same_key-true}
-use Rattle.dia_dict.proofs.Members.{IsAt, into_left, into_right, at_append}
-use Rattle.dia_dict.specs.declared.Slot.{Slot}
+use Rattle.dia_dict.proofs.Members.{into_left}
 use Rattle.dia_dict.specs.declared.Slot.TheVariants.{Fixed, Loose, Unlisted}
 use Rattle.dia_dict.specs.declared.DRule.{DRule}
 use Rattle.dia_dict.specs.Dictionary.{Dictionary, DictEntry, PlainDefinition, definitions, groups, entry_of, group_of, lists_key, slot_at, slot_of, is_fixed}
 use Rattle.dia_check.specs.Valid.{known}
 use Rattle.dia_compat.specs.declared.proposing.reaching.Reached.{Reached}
-use Rattle.dia_compat.specs.Below.{HasRule, IsListed, HasWildcard, IsAboveZero, IsKnown}
-use Rattle.dia_compat.specs.Closed.{BothGrouped}
-use Rattle.dia_compat.specs.Reaching.{has, Waits, IsShared, IsAllowedBy, IsAllowed, IsOpenTo, Admits, Wants, Inserts, potential, Grew, ComesTo, ComesToAll, Follows, root, in_group, IsSharedGroup, AllWait}
+use Rattle.dia_compat.specs.Below.{IsListed, HasWildcard, IsAboveZero, IsKnown}
+use Rattle.dia_compat.specs.Reaching.{has, Waits, IsShared, IsAllowedBy, IsAllowed, Admits, Wants, Inserts, potential, Grew, ComesTo, ComesToAll, Follows, root, in_group, IsSharedGroup, AllWait}
 use Rattle.dia_compat.proofs.Placing.{IsIn}
-use Rattle.dia_compat.proofs.Counts.{in_at, at_in, in_contains, contains_in, in_left, in_right, in_append, count_cons, count_mono}
+use Rattle.dia_compat.proofs.Counts.{in_at, in_contains, contains_in, in_left, in_right, in_append, count_cons, count_mono}
 use Rattle.dia_compat.proofs.Fitting.{known_entry}
 use Rattle.dia_compat.proofs.Selecting.{found_or_not, Found, NotFound}
 

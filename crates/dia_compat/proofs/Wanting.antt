@@ -1,19 +1,19 @@
 -- The tests on definitions of B show which of them a command of A wants.
-use Rattle.std.proofs.Common.{◌≡◌, ◌≢◌, ℕ, zero, suc, ◌+◌, ◌<◌, ◌≤◌, Bool, true, false, not, cond, ◌&&◌, ◌==◌, List, [], ◌∷◌, ◌++◌, length, map, take, Option, Some, None, option_to_list, get_or, refl, sym, ap, subst, ◌∙◌, arith, inl, inr}
-use Rattle.std.specs.Prelude.{◌⊎◌, ◌↔◌, Contains, slice_get}
+use Rattle.std.proofs.Common.{◌≡◌, ◌≢◌, ℕ, zero, suc, ◌+◌, ◌<◌, Bool, true, false, not, cond, ◌&&◌, ◌==◌, List, [], ◌∷◌, ◌++◌, length, map, take, Option, Some, None, option_to_list, get_or, refl, sym, ap, subst, ◌∙◌, arith, inl, inr}
+use Rattle.std.specs.Prelude.{◌⊎◌, Contains, slice_get}
 use Rattle.std.specs.List.{list_any, filter_map, cons_option}
-use Rattle.std.proofs.lemmas.Bool.{and_parts, and_from, cases_Bool, eqb-true, eq-eqb, not-true, not_from_false, true_from_ne_false}
-use Rattle.std.proofs.lemmas.List.{append_assoc, map-append, length-append, length-map, append-nil, take_more, nil_from_length}
+use Rattle.std.proofs.lemmas.Bool.{and_parts, and_from, eqb-true, eq-eqb, not-true}
+use Rattle.std.proofs.lemmas.List.{append_assoc, map-append, take_more}
 use Rattle.std.proofs.lemmas.List.Elements.{filter_map-append}
 use Rattle.std.proofs.lemmas.Option.{none-some, same_Some, slice_get_within, get_or_from_slice_get}
 use Rattle.dia_dict.specs.declared.Class.{Class}
 use Rattle.dia_dict.specs.declared.Class.TheVariants as classes
 use Rattle.dia_dict.specs.declared.Pxy.{Pxy}
 use Rattle.dia_dict.specs.declared.DefHead.{DefHead}
-use Rattle.dia_dict.specs.declared.DefHead.TheVariants.{Group, Command, Error}
+use Rattle.dia_dict.specs.declared.DefHead.TheVariants.{Command, Error}
 use Rattle.dia_dict.specs.Dictionary.{Dictionary, PlainDefinition, IsDictionary, IsCommandHead, definitions, groups, selected, is_command, same_class}
 use Rattle.dia_dict.proofs.Members.{into_right, at_filter_map}
-use Rattle.dia_compat.specs.Closed.{HasCode, IsError, NamesApp, IsWanted, error, same_app, no_app, both_none, other_app}
+use Rattle.dia_compat.specs.Closed.{HasCode, NamesApp, IsWanted, error, same_app, no_app, both_none, other_app}
 use Rattle.dia_compat.specs.Proposed.{AreBeside}
 use Rattle.dia_compat.specs.Wanting.{has_app, names_app, reaches, is_wanted, wanted_name, wanted_names, or_alone, names_beside}
 use Rattle.dia_compat.proofs.Placing.{IsIn}

@@ -18,17 +18,17 @@ shared_pair db r e = if has r e.key then option_map (λ f. (e.name, f.name)) (kn
 
 -- what one command more adds: nothing where it was named before
 pub record Same (old new : Named) : Type 0 where
-  pub places : new.places.items ≡ old.places.items
+  pub places : new.places.keys ≡ old.places.keys
   pub pairs : map plain_pair new.pairs.items ≡ map plain_pair old.pairs.items
   pub reached : new.reached ≡ old.reached
 
 pub record Adds (da db : Dictionary) (place : ℕ) (c : PlainDefinition) (old new : Named) : Type 0 where
-  pub places : new.places.items ≡ old.places.items ++ place ∷ []
+  pub places : new.places.keys ≡ old.places.keys ++ place ∷ []
   pub pairs : map plain_pair new.pairs.items ≡ map plain_pair old.pairs.items ++ map (λ name. (c.name, name)) (names_beside da db c)
   pub reached : ComesToAll da db (Admits c.rules) old.reached new.reached
 
 abbrev pub Names : Dictionary → Dictionary → ℕ → PlainDefinition → Named → Named → Type 0
-Names da db place c old new = (Contains old.places.items place × Same old new) ⊎ ((¬ Contains old.places.items place) × Adds da db place c old new)
+Names da db place c old new = (Contains old.places.keys place × Same old new) ⊎ ((¬ Contains old.places.keys place) × Adds da db place c old new)
 
 -- the name of the command at a place
 abbrev pub name_at : Dictionary → ℕ → List ℕ
@@ -42,8 +42,8 @@ pub record AreRoots (da db : Dictionary) (pairs : List (List ℕ × List ℕ)) (
 
 -- names that were gone through, and what is still to come
 pub record NamedSoFar (da db : Dictionary) (gone left : List (List ℕ)) (named : Named) : Type 0 where
-  pub owed : (more : List (List ℕ × List ℕ)) → AreCommandPairs da db (map (name_at da) named.places.items) left more → AreCommandPairs da db [] (gone ++ left) (map plain_pair named.pairs.items ++ more)
+  pub owed : (more : List (List ℕ × List ℕ)) → AreCommandPairs da db (map (name_at da) named.places.keys) left more → AreCommandPairs da db [] (gone ++ left) (map plain_pair named.pairs.items ++ more)
   pub roots : AreRoots da db (map plain_pair named.pairs.items) named.reached
-  pub within : (place : ℕ) → Contains named.places.items place → (c : PlainDefinition) × (slice_get da.commands place ≡ Some c)
-  pub listed : (p : List ℕ × List ℕ) → Contains (map plain_pair named.pairs.items) p → Contains (map (name_at da) named.places.items) p.0
+  pub within : (place : ℕ) → Contains named.places.keys place → (c : PlainDefinition) × (slice_get da.commands place ≡ Some c)
+  pub listed : (p : List ℕ × List ℕ) → Contains (map plain_pair named.pairs.items) p → Contains (map (name_at da) named.places.keys) p.0
   pub known : (name : List ℕ) → Contains gone name → (c : PlainDefinition) × NamesCommand da name c

@@ -1,5 +1,5 @@
 -- The text of a table of pairs (our profile).
-use Rattle.std.specs.Prelude.{◌≡◌, ℕ, zero, suc, ◌+◌, ◌<◌, ◌≤◌, ◌⊎◌, ◌==◌, ◌||◌, ◌&&◌, Bool, true, false, not, IsTrue, List, [], ◌∷◌, ◌++◌, length, map, take, Option, Some, None, option_to_list, codes, string_bytes, String, slice_get, ⊤}
+use Rattle.std.specs.Prelude.{◌≡◌, ℕ, suc, ◌+◌, ◌<◌, ◌≤◌, ◌⊎◌, ◌==◌, ◌||◌, ◌&&◌, Bool, false, IsTrue, List, [], ◌∷◌, ◌++◌, length, map, take, Option, Some, None, option_to_list, codes, string_bytes, String, slice_get, ⊤}
 use Rattle.std.specs.List.{filter_map, list_all, list_any, AllByRecursion}
 use Rattle.std.specs.Global.{Global}
 use Rattle.std.specs.Str.Lines.{lines}

@@ -3,7 +3,7 @@ use Rattle.std.specs.Prelude.{ℕ, ◌==◌, ◌&&◌, Bool, true, false, not, i
 use Rattle.std.specs.List.{list_any, filter_map}
 use Rattle.dia_dict.specs.declared.Class.{Class}
 use Rattle.dia_dict.specs.declared.DefHead.{DefHead}
-use Rattle.dia_dict.specs.declared.DefHead.TheVariants.{Group, Command, Error}
+use Rattle.dia_dict.specs.declared.DefHead.TheVariants.{Command, Error}
 use Rattle.dia_dict.specs.Dictionary.{Dictionary, PlainDefinition, same_class, is_command}
 
 abbrev pub has_app : DefHead → Bool

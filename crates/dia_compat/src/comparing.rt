@@ -12,4 +12,5 @@ mod testing;
 mod tests;
 mod wildcards;
 
+pub(crate) use named::names_of_commands;
 pub(crate) use pairs::Comparison;

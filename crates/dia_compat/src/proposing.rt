@@ -12,6 +12,7 @@ mod reaching;
 mod tests;
 mod wanting;
 
+use crate::comparing::names_of_commands;
 use crate::table::{Table, push_pair};
 use dia_check::Unknown;
 use dia_dict::{Book, Entry};
@@ -51,8 +52,9 @@ pub fn propose<A: Book, B: Book>(
     ensures least { IfOk result (λ table. IsLeast (A.meaning a.now) (B.meaning b.now) unknown (map (λ n. string_bytes n) names.now) (plain table)) }
     ensures refusal { IfErr result (IsRefusal (A.meaning a.now) (map (λ n. string_bytes n) names.now)) }
 {
+    let commands = names_of_commands(alloc, a)?;
     let mut named = Named::new(alloc, a.entries().min(b.entries()))?;
-    named.add_all(alloc, a, b, names)?;
+    named.add_all(alloc, a, b, &commands, names)?;
     let Named {
         pairs: commands,
         mut reached,

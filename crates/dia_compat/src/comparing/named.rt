@@ -71,7 +71,11 @@ fn names_of_avps<B: Book>(alloc: Global, book: &B) -> Result<IndexSet<&str>, All
     Ok(names)
 }
 
-fn names_of_commands<B: Book>(alloc: Global, book: &B) -> Result<IndexSet<&str>, AllocError>
+/// The names of the commands, each at its place.
+pub(crate) fn names_of_commands<B: Book>(
+    alloc: Global,
+    book: &B,
+) -> Result<IndexSet<&str>, AllocError>
     ensures { IfOk result
         (λ names. map (λ n. n.now) names.keys ≡ map (λ c. c.name) (B.meaning book.now).commands) }
 {

@@ -1,5 +1,6 @@
 //! The commands that a proposal is for.
-ghost use Rattle.std.specs.Prelude.{◌≡◌, ◌≢◌, ◌<◌, [], IfOk, IfErr, IfSome, OnOk, None, Some, ℕ, length, map, slice_get, string_bytes};
+ghost use Rattle.std.specs.Prelude.{◌≡◌, ◌≢◌, ◌<◌, [], IfOk, IfErr, IfSome, OnOk, None, Some, ℕ, length, map, position, slice_get, string_bytes};
+ghost use Rattle.std.specs.Str.{bytes_eq};
 ghost use Rattle.dia_dict.specs.Dictionary.{IsDictionary, PlainDefinition};
 ghost use Rattle.dia_compat.specs.TableText.{plain_pair};
 ghost use Rattle.dia_compat.specs.Closed.{NamesCommand};
@@ -12,12 +13,13 @@ use crate::proposing::ProposeFault;
 use crate::proposing::reaching::Reached;
 use crate::proposing::wanting::push_pairs;
 use dia_dict::Book;
+use indexmap::IndexSet;
 use std::alloc::{AllocError, Global};
 
 /// The commands of A that were named, by their places, with their pairs and the AVPs that they let in.
 #[derive(Drop)]
 pub(crate) struct Named {
-    places: Vec<usize>,
+    places: IndexSet<usize>,
     pub(crate) pairs: Vec<(String, String)>,
     pub(crate) reached: Reached,
 }
@@ -25,26 +27,29 @@ pub(crate) struct Named {
 impl Named {
     /// No command yet, with room for as many AVPs.
     pub(crate) fn new(alloc: Global, most: usize) -> Result<Named, AllocError>
-        ensures places { IfOk result (λ n. n.places.items ≡ []) }
+        ensures places { IfOk result (λ n. n.places.keys ≡ []) }
         ensures pairs { IfOk result (λ n. n.pairs.items ≡ []) }
         ensures reached { IfOk result (λ n. n.reached.waiting.items ≡ []) }
         ensures none { IfOk result (λ n. n.reached.keys.keys ≡ []) }
     {
         Ok(Named {
-            places: Vec::new(alloc),
+            places: IndexSet::new(alloc),
             pairs: Vec::new(alloc),
             reached: Reached::new(alloc, most)?,
         })
     }
 
-    /// Adds the commands of these names, each at its first mention.
+    /// Adds the commands of these names, each at its first mention. `commands` has the names of A's commands, each at its
+    /// place.
     pub(crate) fn add_all<A: Book, B: Book>(
         &mut self,
         alloc: Global,
         a: &A,
         b: &B,
+        commands: &IndexSet<&str>,
         names: &[String],
     ) -> Result<(), ProposeFault>
+        requires commands { map (λ n. n.now) commands.now.keys ≡ map (λ c. c.name) (A.meaning a.now).commands }
         requires sound_a { IsDictionary (A.meaning a.now) }
         requires sound_b { IsDictionary (B.meaning b.now) }
         requires new { NamedSoFar (A.meaning a.now) (B.meaning b.now) [] (map (λ n. string_bytes n) names.now) self.old }
@@ -53,7 +58,7 @@ impl Named {
     {
         for name in names {
             let text = name.as_str();
-            let Some(place) = place_of_command(a, text) else {
+            let Some(place) = place_of_name(commands, text) else {
                 let name = String::from_str(alloc, text)?;
                 return Err(ProposeFault::UnknownCommand { name });
             };
@@ -81,21 +86,14 @@ impl Named {
         let def = a.command_at(place);
         push_pairs(alloc, a, b, a.def(def), &mut self.pairs)?;
         self.reached.come_to_admitted(a, b, def)?;
-        self.places.push(place)?;
+        self.places.insert(place)?;
         Ok(())
     }
 }
 
-/// The place of A's command with this name.
-fn place_of_command<A: Book>(a: &A, name: &str) -> Option<usize>
-    ensures within { IfSome result (λ place. place < length (A.meaning a.now).commands) }
-    ensures some { IfSome result (λ place. (c : PlainDefinition) → slice_get (A.meaning a.now).commands place ≡ Some c → c.name ≡ name.now) }
-    ensures none { result ≡ None → (c : PlainDefinition) → ¬ NamesCommand (A.meaning a.now) name.now c }
+/// The place of a name in the set.
+fn place_of_name(names: &IndexSet<&str>, name: &str) -> Option<usize>
+    ensures { result ≡ position (λ n. bytes_eq name.now n.now) names.now.keys }
 {
-    for place in 0..a.commands() {
-        if a.def(a.command_at(place)).name.as_str() == name {
-            return Some(place);
-        }
-    }
-    None
+    names.get_index_of(&name)
 }

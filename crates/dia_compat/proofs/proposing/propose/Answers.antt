@@ -1,4 +1,4 @@
-use Rattle.std.proofs.Common.{◌≡◌, ℕ, List, map, String, string_bytes, sym, subst}
+use Rattle.std.proofs.Common.{map, String, string_bytes, sym, subst}
 use Rattle.std.specs.Global.{Global}
 use Rattle.dia_wire.specs.declared.Key.{Key}
 use Rattle.dia_compat.specs.TableText.{plain, plain_pair}

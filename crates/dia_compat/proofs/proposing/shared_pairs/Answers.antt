@@ -1,4 +1,4 @@
-use Rattle.std.proofs.Common.{◌≡◌, ◌<◌, length, arith, sym, ap, ◌∙◌, ◌++◌, option_to_list}
+use Rattle.std.proofs.Common.{arith, sym, ap, ◌∙◌, ◌++◌, option_to_list}
 use Rattle.std.specs.Prelude.{slice_get}
 use Rattle.dia_compat.specs.Naming.{shared_pair}
 use Rattle.dia_compat.proofs.Reaching.{there_is}

@@ -1,4 +1,4 @@
-use Rattle.std.proofs.Common.{◌<◌, IsCharBoundary, ap, sym, subst, ◌∙◌}
+use Rattle.std.proofs.Common.{IsCharBoundary, ap, sym, subst, ◌∙◌}
 use Rattle.std.specs.List.{prefix_len}
 use Rattle.dia_compat.specs.TableText.{is_blank}
 use Rattle.dia_compat.specs.Words.{is_word_byte}

@@ -1,4 +1,4 @@
-use Rattle.std.proofs.Common.{arith, length, ◌<◌}
+use Rattle.std.proofs.Common.{arith}
 use Rattle.dia_compat.proofs.Reaching.{listed_more}
 use Rattle.dia_compat.proofs.proposing.reaching.Reached.come_to_listed.Goals as goal
 

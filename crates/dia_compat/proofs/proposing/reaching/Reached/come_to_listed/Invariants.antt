@@ -1,6 +1,5 @@
-use Rattle.std.proofs.Common.{◌≡◌, true, take}
-use Rattle.dia_wire.specs.declared.Key.{Key}
-use Rattle.dia_compat.specs.Reaching.{has, IsShared, IsAllowed, ComesToAll}
+use Rattle.std.proofs.Common.{take}
+use Rattle.dia_compat.specs.Reaching.{IsAllowed, ComesToAll}
 use Rattle.dia_compat.proofs.proposing.reaching.Reached.come_to_listed.Given as goal
 
 abbrev pub invariant-loop-rule : goal.invariant-loop-rule

@@ -1,4 +1,4 @@
-use Rattle.std.proofs.Common.{◌≡◌, List, arith, sym, ap, subst, ◌∙◌, take, length, ◌<◌}
+use Rattle.std.proofs.Common.{◌≡◌, List, arith, ap, subst, ◌∙◌, take, length, ◌<◌}
 use Rattle.std.specs.Prelude.{slice_get}
 use Rattle.std.proofs.lemmas.List.{take_all}
 use Rattle.dia_dict.specs.Dictionary.{DictEntry}
