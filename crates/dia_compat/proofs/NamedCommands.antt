@@ -29,7 +29,7 @@ use Rattle.dia_compat.proofs.Placing.{IsIn}
 use Rattle.dia_compat.proofs.Counts.{in_at, at_in, in_contains, contains_in, in_left, in_right, in_append, in_any, any_in}
 use Rattle.dia_compat.proofs.Fitting.{known_entry, entry_known, in_filter_map}
 use Rattle.dia_compat.proofs.Selecting.{one_command, found_or_not, Found, NotFound}
-use Rattle.dia_compat.proofs.Reaching.{is_known}
+use Rattle.dia_compat.proofs.Reaching.{is_known, rest_then}
 use Rattle.dia_compat.proofs.Wanting.{are_beside, filter_map_order}
 
 abbrev Pairs : Type 0
@@ -205,6 +205,7 @@ module _ (da db : Dictionary) (sa : IsDictionary da) (sb : IsDictionary db) wher
         each = λ key h. each key (adds.reached.grew.only key h);
         all = λ p x key i n w. all p x key (split_pair p i) n w;
         wait = record { each = λ key h. waits_each key (adds.reached.grew.queued key h); only = λ key w. waits_only key (adds.reached.grew.waits key w) };
+        rest = rest_then da db (Admits c.rules) old.reached new.reached so.roots.rest adds.reached;
       };
       within = λ k i. within k (in_append old.places.keys (place ∷ []) k (in_contains (old.places.keys ++ place ∷ []) k (subst (λ (ks : List ℕ). Contains ks k) adds.places i)));
       listed = λ p i. subst (λ (ns : List (List ℕ)). Contains ns p.0) (sym names_now) (listed p (split_pair p i));

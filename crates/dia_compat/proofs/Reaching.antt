@@ -1,24 +1,24 @@
 -- What a proposal comes to, step by step.
-use Rattle.std.proofs.Common.{◌≡◌, ℕ, zero, suc, ◌+◌, ◌<◌, ◌≤◌, Bool, true, false, not, cond, List, [], ◌∷◌, ◌++◌, length, take, get_or, Option, Some, None, refl, sym, ap, subst, ◌∙◌, arith, inl, inr}
+use Rattle.std.proofs.Common.{◌≡◌, ℕ, zero, suc, ◌+◌, ◌<◌, ◌≤◌, Bool, true, false, not, cond, List, [], ◌∷◌, ◌++◌, length, map, filter, take, get_or, Option, Some, None, refl, sym, ap, subst, ◌∙◌, arith, inl, inr}
 use Rattle.std.specs.Prelude.{◌⊎◌, ◌↔◌, is_some, IsSome, IfSome, Contains, slice_get, count_by, option_and_then}
 use Rattle.std.specs.Option.{option_map, option_map_or}
 use Rattle.std.specs.List.{filter_map, cons_option}
 use Rattle.std.proofs.lemmas.Bool.{not-true}
 use Rattle.std.proofs.lemmas.List.{take_more, length-append}
-use Rattle.std.proofs.lemmas.Option.{none-some, same_Some, slice_get_within, get_or_from_slice_get}
+use Rattle.std.proofs.lemmas.Option.{none-some, same_Some}
 use Rattle.dia_wire.specs.declared.Key.{Key}
 use Rattle.dia_dict.specs.Keys.{same_key}
 use Rattle.dia_dict.proofs.Keys.{same_key-refl, same_key-true}
-use Rattle.dia_dict.proofs.Members.{into_left}
+use Rattle.dia_dict.proofs.Members.{into_left, into_map}
 use Rattle.dia_dict.specs.declared.Slot.TheVariants.{Fixed, Loose, Unlisted}
 use Rattle.dia_dict.specs.declared.DRule.{DRule}
 use Rattle.dia_dict.specs.Dictionary.{Dictionary, DictEntry, PlainDefinition, definitions, groups, entry_of, group_of, lists_key, slot_at, slot_of, is_fixed}
 use Rattle.dia_check.specs.Valid.{known}
 use Rattle.dia_compat.specs.declared.proposing.reaching.Reached.{Reached}
 use Rattle.dia_compat.specs.Below.{IsListed, HasWildcard, IsAboveZero, IsKnown}
-use Rattle.dia_compat.specs.Reaching.{has, Waits, IsShared, IsAllowedBy, IsAllowed, Admits, Wants, Inserts, potential, Grew, ComesTo, ComesToAll, Follows, root, in_group, IsSharedGroup, AllWait}
+use Rattle.dia_compat.specs.Reaching.{has, Waits, IsShared, IsAllowedBy, IsAllowed, Admits, Wants, Inserts, potential, Grew, ComesTo, ComesToAll, Follows, root, in_group, IsSharedGroup, AllWait, AreRest, Sorts}
 use Rattle.dia_compat.proofs.Placing.{IsIn}
-use Rattle.dia_compat.proofs.Counts.{in_at, in_contains, contains_in, in_left, in_right, in_append, count_cons, count_mono}
+use Rattle.dia_compat.proofs.Counts.{in_at, at_in, in_contains, contains_in, in_left, in_right, in_append, into_filter, count_cons, count_mono}
 use Rattle.dia_compat.proofs.Fitting.{known_entry}
 use Rattle.dia_compat.proofs.Selecting.{found_or_not, Found, NotFound}
 
@@ -152,7 +152,7 @@ module _ (key : Key) (old new : Reached) (ins : Inserts key old new) where
           last other (inr is) same = inr (subst (λ (xs : List Key). Contains xs other) (sym same) (contains_in (old.waiting.items ++ key ∷ []) other (in_right old.waiting.items (key ∷ []) other (inl is))))
 
   pub came_to : (da db : Dictionary) → IsShared da db key → ComesTo da db key old new
-  came_to da db shared = record { grew = grew_by_one da db shared; there = λ _. has_it }
+  came_to da db shared = record { grew = grew_by_one da db shared; there = λ _. has_it; rest = λ other _ i. inr (subst (λ (xs : List Key). Contains xs other) (sym ins.rest) i) }
 
 -- ---- several steps
 
@@ -206,8 +206,13 @@ pub all_then : (da db : Dictionary) (P Q R : Key → Type 0) (x y z : Reached) �
 all_then da db P Q R x y z one two first second either = record {
   grew = grew_then da (λ key. P key × IsShared da db key) (λ key. Q key × IsShared da db key) (λ key. R key × IsShared da db key) x y z one.grew two.grew (λ key p. (first key p.0, p.1)) (λ key q. (second key q.0, q.1));
   there = λ key r shared. by key shared (either key r);
+  rest = λ key shared i. rest key shared (one.rest key shared i);
 }
   where
+    rest : (key : Key) → IsShared da db key → (has y key ≡ true) ⊎ Contains y.rest.items key → (has z key ≡ true) ⊎ Contains z.rest.items key
+    rest key shared (inl h) = inl (two.grew.grows key h)
+    rest key shared (inr i) = two.rest key shared i
+
     by : (key : Key) → IsShared da db key → P key ⊎ Q key → has z key ≡ true
     by key shared (inl p) = two.grew.grows key (one.there key p shared)
     by key shared (inr q) = two.there key q shared
@@ -217,15 +222,17 @@ pub all_same : (da db : Dictionary) (P Q : Key → Type 0) (x y : Reached) → C
 all_same da db P Q x y all first second = record {
   grew = grew_then da (λ key. P key × IsShared da db key) (λ _. ⊥) (λ key. Q key × IsShared da db key) x y y all.grew (grew_none da (λ _. ⊥) y) (λ key p. (first key p.0, p.1)) (λ key none. absurd none);
   there = λ key q shared. all.there key (second key q shared) shared;
+  rest = all.rest;
 }
 
 pub all_none : (da db : Dictionary) (P : Key → Type 0) (r : Reached) → ((key : Key) → ¬ P key) → ComesToAll da db P r r
-all_none da db P r none = record { grew = grew_none da (λ key. P key × IsShared da db key) r; there = λ key p _. absurd (none key p) }
+all_none da db P r none = record { grew = grew_none da (λ key. P key × IsShared da db key) r; there = λ key p _. absurd (none key p); rest = λ key _ i. inr i }
 
 pub all_one : (da db : Dictionary) (P : Key → Type 0) (key : Key) (x y : Reached) → ComesTo da db key x y → P key → ((other : Key) → P other → other ≡ key) → ComesToAll da db P x y
 all_one da db P key x y one p only = record {
   grew = grew_then da (λ other. (other ≡ key) × IsShared da db other) (λ _. ⊥) (λ other. P other × IsShared da db other) x y y one.grew (grew_none da (λ _. ⊥) y) (λ other h. (subst P (sym h.0) p, h.1)) (λ other none. absurd none);
   there = λ other q shared. ap (has y) (only other q) ∙ one.there (subst (IsShared da db) (only other q) shared);
+  rest = one.rest;
 }
 
 -- ---- the rules of a definition
@@ -296,35 +303,115 @@ unlisted rules key = by (found_or_not (lists_key key) rules)
       λ _. ap (λ (o : Option ℕ). option_map_or (slot_at rules) o Unlisted) n.is_none,
     )
 
--- ---- the entries that a definition does not list
+-- ---- the keys that a definition does not list
 
--- one of these entries has the key, and no rule lists it
-abbrev pub IsUnlistedIn : List DictEntry → List DRule → Key → Type 0
-IsUnlistedIn entries rules key = ((e : DictEntry) × IsIn e entries × (e.key ≡ key)) × (¬ IsListed rules key)
-
-pub unlisted_more : (da db : Dictionary) (rules : List DRule) (i : ℕ) (e : DictEntry) (key : Key) (x y z : Reached) → slice_get da.entries i ≡ Some e → key ≡ e.key → ComesToAll da db (IsUnlistedIn (take i da.entries) rules) x y
-    → ComesToAll da db (λ other. (other ≡ key) × ¬ IsListed rules other) y z → ComesToAll da db (IsUnlistedIn (take (i + 1) da.entries) rules) x z
-unlisted_more da db rules i e key x y z at is one two = all_then da db (IsUnlistedIn (take i entries) rules) (λ other. (other ≡ key) × ¬ IsListed rules other) (IsUnlistedIn (take (i + 1) entries) rules) x y z one two
-    (λ other p. ((p.0.0, in_front_too entries i p.0.0 e within p.0.1, p.0.2), p.1))
-    (λ other q. ((e, subst (λ (w : DictEntry). IsIn w (take (i + 1) entries)) there (in_last entries i e within), sym is ∙ sym q.0), q.1))
-    (λ other p. by other p (in_more entries i p.0.0 e within p.0.1))
+pub entry_there : (d : Dictionary) (key : Key) → IsKnown d key → is_some (entry_of d key) ≡ true
+entry_there d key h = by (entry_of d key) refl
   where
-    entries : List DictEntry
-    entries = da.entries
+    by : (o : Option ℕ) → entry_of d key ≡ o → is_some (entry_of d key) ≡ true
+    by (Some i) e = ap (λ (o : Option ℕ). is_some o) e
+    by None e =
+        let none : known d key ≡ None = ap (λ (o : Option ℕ). option_and_then (λ (n : ℕ). slice_get d.entries n) o) e in
+        absurd (let f : false ≡ true = sym (ap (λ (o : Option DictEntry). is_some o) none) ∙ h in cc)
 
-    within : i < length entries
-    within = slice_get_within entries i e at
+-- at first the rest are all keys that both know
+pub first_rest : (da db : Dictionary) (r : Reached) → r.rest.items ≡ filter (λ key. is_some (entry_of db key)) (map (λ e. e.key) da.entries) → AreRest da db r
+first_rest da db r is = λ key shared.
+    let e = some_of (known da key) shared.0 in
+    let there = known_entry da key e.0 e.1 in
+    let p = at_in da.entries e.0 there.0 in
+    let keys = map (λ (x : DictEntry). x.key) da.entries in
+    let inside = subst (λ (k : Key). IsIn k keys) there.1 (in_at keys p.place e.0.key (into_map (λ (x : DictEntry). x.key) da.entries p.place e.0 p.at)) in
+    let all = filter (λ (k : Key). is_some (entry_of db k)) keys in
+    let found = contains_in all key (into_filter (λ (k : Key). is_some (entry_of db k)) keys key inside (entry_there db key shared.1)) in
+    inr (subst (λ (ks : List Key). Contains ks key) (sym is) found)
 
-    there : get_or entries i e ≡ e
-    there = get_or_from_slice_get entries i e e at
+pub rest_then : (da db : Dictionary) (P : Key → Type 0) (x y : Reached) → AreRest da db x → ComesToAll da db P x y → AreRest da db y
+rest_then da db P x y rest all = λ key shared. by key shared (rest key shared)
+  where
+    by : (key : Key) → IsShared da db key → (has x key ≡ true) ⊎ Contains x.rest.items key → (has y key ≡ true) ⊎ Contains y.rest.items key
+    by key shared (inl h) = inl (all.grew.grows key h)
+    by key shared (inr i) = all.rest key shared i
 
-    by : (other : Key) (p : IsUnlistedIn (take (i + 1) entries) rules other) → IsIn p.0.0 (take i entries) ⊎ (p.0.0 ≡ get_or entries i e) → IsUnlistedIn (take i entries) rules other ⊎ ((other ≡ key) × ¬ IsListed rules other)
-    by other p (inl j) = inl ((p.0.0, j, p.0.2), p.1)
-    by other p (inr same) = inr (sym p.0.2 ∙ ap (λ (w : DictEntry). w.key) (same ∙ there) ∙ sym is, p.1)
+-- the rest changes, and nothing else
+pub grew_same : (da : Dictionary) (P : Key → Type 0) (x y : Reached) → ((key : Key) → has y key ≡ has x key) → y.waiting.items ≡ x.waiting.items → potential da y ≡ potential da x → Grew da P x y
+grew_same da P x y same waits near = record {
+  grows = λ key h. same key ∙ h;
+  only = λ key h. inl (sym (same key) ∙ h);
+  still = λ key w. subst (λ (xs : List Key). Contains xs key) (sym waits) w;
+  waits = λ key w. inl (subst (λ (xs : List Key). Contains xs key) waits w);
+  queued = λ key h. inl (sym (same key) ∙ h);
+  nearer = omega (arith, near);
+}
 
-pub unlisted_all : (da db : Dictionary) (rules : List DRule) (x y : Reached) → ComesToAll da db (IsUnlistedIn da.entries rules) x y → ComesToAll da db (λ key. ¬ IsListed rules key) x y
-unlisted_all da db rules x y all = all_same da db (IsUnlistedIn da.entries rules) (λ key. ¬ IsListed rules key) x y all (λ key p. p.1)
-    (λ key q shared. let e = some_of (known da key) shared.0 in let there = known_entry da key e.0 e.1 in ((e.0, there.0, there.1), q))
+-- a key that is not listed is come to, and one that is listed is left
+pub sorts_new : (da db : Dictionary) (rules : List DRule) (key : Key) (x y : Reached) → ¬ IsListed rules key → ComesTo da db key x y → Sorts da db rules key x y
+sorts_new da db rules key x y new one = record {
+  comes = all_one da db (λ other. (other ≡ key) × ¬ IsListed rules other) key x y one (refl, new) (λ other h. h.0);
+  left = λ shared. inl (one.there shared);
+}
+
+pub sorts_listed : (da db : Dictionary) (rules : List DRule) (key : Key) (x y : Reached) → (¬ ¬ IsListed rules key) → ((other : Key) → has y other ≡ has x other) → y.waiting.items ≡ x.waiting.items → potential da y ≡ potential da x
+    → y.rest.items ≡ x.rest.items ++ key ∷ [] → Sorts da db rules key x y
+sorts_listed da db rules key x y listed same waits near pushed = record {
+  comes = record {
+    grew = grew_same da (λ other. ((other ≡ key) × ¬ IsListed rules other) × IsShared da db other) x y same waits near;
+    there = λ other q _. absurd (listed (subst (λ (k : Key). ¬ IsListed rules k) q.0 q.1));
+    rest = λ other _ i. inr (subst (λ (ks : List Key). Contains ks other) (sym pushed) (contains_in (x.rest.items ++ key ∷ []) other (in_left x.rest.items (key ∷ []) other (in_contains x.rest.items other i))));
+  };
+  left = λ _. inr (subst (λ (ks : List Key). Contains ks key) (sym pushed) (contains_in (x.rest.items ++ key ∷ []) key (in_right x.rest.items (key ∷ []) key (inl refl))));
+}
+
+-- one of these keys, which no rule lists
+abbrev pub IsUnlistedOf : List Key → List DRule → Key → Type 0
+IsUnlistedOf keys rules key = IsIn key keys × ¬ IsListed rules key
+
+-- all of these keys, one after the other
+pub record SortsAll (da db : Dictionary) (rules : List DRule) (keys : List Key) (x y : Reached) : Type 0 where
+  pub comes : ComesToAll da db (IsUnlistedOf keys rules) x y
+  pub left : (key : Key) → IsIn key keys → IsShared da db key → (has y key ≡ true) ⊎ Contains y.rest.items key
+
+pub sorts_none : (da db : Dictionary) (rules : List DRule) (x : Reached) → SortsAll da db rules [] x x
+sorts_none da db rules x = record { comes = all_none da db (IsUnlistedOf [] rules) x (λ key p. p.0); left = λ key i _. absurd i }
+
+pub sorts_more : (da db : Dictionary) (rules : List DRule) (keys : List Key) (i : ℕ) (d : Key) (x y z : Reached) → i < length keys → SortsAll da db rules (take i keys) x y → Sorts da db rules (get_or keys i d) y z
+    → SortsAll da db rules (take (i + 1) keys) x z
+sorts_more da db rules keys i d x y z within one two = record {
+  comes = all_then da db (IsUnlistedOf (take i keys) rules) (λ other. (other ≡ k) × ¬ IsListed rules other) (IsUnlistedOf (take (i + 1) keys) rules) x y z one.comes two.comes
+      (λ other p. (in_front_too keys i other d within p.0, p.1))
+      (λ other q. (subst (λ (w : Key). IsIn w (take (i + 1) keys)) (sym q.0) (in_last keys i d within), q.1))
+      (λ other p. by other p (in_more keys i other d within p.0));
+  left = λ key j shared. left key shared (in_more keys i key d within j);
+}
+  where
+    k : Key
+    k = get_or keys i d
+
+    by : (other : Key) → IsUnlistedOf (take (i + 1) keys) rules other → IsIn other (take i keys) ⊎ (other ≡ k) → IsUnlistedOf (take i keys) rules other ⊎ ((other ≡ k) × ¬ IsListed rules other)
+    by other p (inl j) = inl (j, p.1)
+    by other p (inr same) = inr (same, p.1)
+
+    after : (key : Key) → IsShared da db key → (has y key ≡ true) ⊎ Contains y.rest.items key → (has z key ≡ true) ⊎ Contains z.rest.items key
+    after key shared (inl h) = inl (two.comes.grew.grows key h)
+    after key shared (inr j) = two.comes.rest key shared j
+
+    left : (key : Key) → IsShared da db key → IsIn key (take i keys) ⊎ (key ≡ k) → (has z key ≡ true) ⊎ Contains z.rest.items key
+    left key shared (inl j) = after key shared (one.left key j shared)
+    left key shared (inr same) = subst (λ (w : Key). (has z w ≡ true) ⊎ Contains z.rest.items w) (sym same) (two.left (subst (IsShared da db) same shared))
+
+-- all of the rest
+pub sorts_all : (da db : Dictionary) (rules : List DRule) (x mid y : Reached) → AreRest da db x → ((key : Key) → has mid key ≡ has x key) → mid.waiting.items ≡ x.waiting.items → potential da mid ≡ potential da x
+    → SortsAll da db rules x.rest.items mid y → ComesToAll da db (λ key. ¬ IsListed rules key) x y
+sorts_all da db rules x mid y rest same waits near all = record {
+  grew = grew_then da (λ _. ⊥) (λ key. IsUnlistedOf x.rest.items rules key × IsShared da db key) (λ key. (¬ IsListed rules key) × IsShared da db key) x mid y (grew_same da (λ _. ⊥) x mid same waits near) all.comes.grew
+      (λ key none. absurd none) (λ key q. (q.0.1, q.1));
+  there = λ key q shared. there key q shared (rest key shared);
+  rest = λ key shared i. all.left key (in_contains x.rest.items key i) shared;
+}
+  where
+    there : (key : Key) → (¬ IsListed rules key) → IsShared da db key → (has x key ≡ true) ⊎ Contains x.rest.items key → has y key ≡ true
+    there key q shared (inl h) = all.comes.grew.grows key (same key ∙ h)
+    there key q shared (inr i) = all.comes.there key (in_contains x.rest.items key i, q) shared
 
 -- ---- groups
 
@@ -366,23 +453,26 @@ pub record Following (da db : Dictionary) (roots r : Reached) : Type 0 where
   pub keeps : (key : Key) → has roots key ≡ true → has r key ≡ true
   pub waiting : (key : Key) → Waits r key → has r key ≡ true
   pub done : (key : Key) → has r key ≡ true → Waits r key ⊎ IsDone da db r key
+  pub rest : AreRest da db r
 
-pub following_none : (da db : Dictionary) (roots : Reached) → AllWait roots → Following da db roots roots
-following_none da db roots all = record {
+pub following_none : (da db : Dictionary) (roots : Reached) → AllWait roots → AreRest da db roots → Following da db roots roots
+following_none da db roots all rest = record {
   sound = λ key h. root key h;
   keeps = λ key h. h;
   waiting = all.only;
   done = λ key h. inl (all.each key h);
+  rest = rest;
 }
 
 -- a key is taken, and its group, if both have one, is gone through
 pub following_more : (da db : Dictionary) (roots old mid new : Reached) (key : Key) → Following da db roots old → ((other : Key) → has mid other ≡ has old other) → old.waiting.items ≡ mid.waiting.items ++ key ∷ []
-    → (P : Key → Type 0) → Grew da P mid new → ((other : Key) → P other → Follows da db roots other) → IsDone da db new key → Following da db roots new
-following_more da db roots old mid new key f same popped P grew follows is_done = record {
+    → (P : Key → Type 0) → Grew da P mid new → ((other : Key) → P other → Follows da db roots other) → IsDone da db new key → AreRest da db new → Following da db roots new
+following_more da db roots old mid new key f same popped P grew follows is_done rest = record {
   sound = λ other h. sound other (grew.only other h);
   keeps = λ other h. grew.grows other (same other ∙ f.keeps other h);
   waiting = λ other w. waiting other (grew.waits other w);
   done = λ other h. done other (grew.queued other h);
+  rest = rest;
 }
   where
     sound : (other : Key) → (has mid other ≡ true) ⊎ P other → Follows da db roots other
@@ -435,17 +525,18 @@ last_waits r front key popped = subst (λ (xs : List Key). Contains xs key) (sym
 
 -- a key is taken, and the group that both have is gone through
 pub follow_group : (da db : Dictionary) (roots old mid new : Reached) (key : Key) (group : PlainDefinition) → Following da db roots old → ((other : Key) → has mid other ≡ has old other) → old.waiting.items ≡ mid.waiting.items ++ key ∷ []
-    → IsSharedGroup da db key group → ComesToAll da db (Admits group.rules) mid new → Following da db roots new
-follow_group da db roots old mid new key group f same popped is all =
+    → IsSharedGroup da db key group → AreRest da db mid → ComesToAll da db (Admits group.rules) mid new → Following da db roots new
+follow_group da db roots old mid new key group f same popped is rest all =
     following_more da db roots old mid new key f same popped (Wants da db group.rules) all.grew
     (λ other w. in_group key other is.e is.f group (f.sound key (f.waiting key (last_waits old mid.waiting.items key popped))) is.at_a is.at_b is.both is.is_group w)
     (λ other_group other_is other w. let e = one_shared_group da db key other_group group other_is is in let v = subst (λ (x : PlainDefinition). Wants da db x.rules other) e w in all.there other v.0 v.1)
+    (rest_then da db (Admits group.rules) mid new rest all)
 
 -- a key is taken that has no such group
 pub follow_none : (da db : Dictionary) (roots old mid : Reached) (key : Key) → Following da db roots old → ((other : Key) → has mid other ≡ has old other) → old.waiting.items ≡ mid.waiting.items ++ key ∷ []
-    → ((group : PlainDefinition) → ¬ IsSharedGroup da db key group) → Following da db roots mid
-follow_none da db roots old mid key f same popped none =
-    following_more da db roots old mid mid key f same popped (λ _. ⊥) (grew_none da (λ _. ⊥) mid) (λ other h. absurd h) (λ group is. absurd (none group is))
+    → ((group : PlainDefinition) → ¬ IsSharedGroup da db key group) → AreRest da db mid → Following da db roots mid
+follow_none da db roots old mid key f same popped none rest =
+    following_more da db roots old mid mid key f same popped (λ _. ⊥) (grew_none da (λ _. ⊥) mid) (λ other h. absurd h) (λ group is. absurd (none group is)) rest
 
 pub taken_nearer : (da : Dictionary) (P : Key → Type 0) (old mid new : Reached) (key : Key) → count_by (λ e. not (has mid e.key)) da.entries ≡ count_by (λ e. not (has old e.key)) da.entries
     → old.waiting.items ≡ mid.waiting.items ++ key ∷ [] → Grew da P mid new → potential da new < potential da old

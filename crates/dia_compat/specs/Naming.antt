@@ -9,7 +9,7 @@ use Rattle.dia_compat.specs.declared.proposing.reaching.Reached.{Reached}
 use Rattle.dia_compat.specs.TableText.{plain_pair}
 use Rattle.dia_compat.specs.Closed.{NamesCommand}
 use Rattle.dia_compat.specs.Proposed.{AreCommandPairs}
-use Rattle.dia_compat.specs.Reaching.{has, Admits, Wants, ComesToAll, AllWait}
+use Rattle.dia_compat.specs.Reaching.{has, Admits, Wants, ComesToAll, AllWait, AreRest}
 use Rattle.dia_compat.specs.Wanting.{names_beside}
 
 -- the pair of an AVP of A, if it was come to and B knows its key
@@ -39,6 +39,7 @@ pub record AreRoots (da db : Dictionary) (pairs : List (List ℕ × List ℕ)) (
   pub each : (key : Key) → has r key ≡ true → (p : List ℕ × List ℕ) × (c : PlainDefinition) × Contains pairs p × NamesCommand da p.0 c × Wants da db c.rules key
   pub all : (p : List ℕ × List ℕ) (c : PlainDefinition) (key : Key) → Contains pairs p → NamesCommand da p.0 c → Wants da db c.rules key → has r key ≡ true
   pub wait : AllWait r
+  pub rest : AreRest da db r
 
 -- names that were gone through, and what is still to come
 pub record NamedSoFar (da db : Dictionary) (gone left : List (List ℕ)) (named : Named) : Type 0 where

@@ -42,6 +42,7 @@ Wants da db rules key = Admits rules key × IsShared da db key
 pub record Inserts (key : Key) (old new : Reached) : Type 0 where
   pub keys : (other : Key) → has new other ≡ (if same_key key other then true else has old other)
   pub waiting : new.waiting.items ≡ (if has old key then old.waiting.items else old.waiting.items ++ key ∷ [])
+  pub rest : new.rest.items ≡ old.rest.items
 
 -- how many AVPs of A it has not come to, and how many wait
 abbrev pub potential : Dictionary → Reached → ℕ
@@ -56,15 +57,30 @@ pub record Grew (da : Dictionary) (P : (Key → Type 0)) (old new : Reached) : T
   pub queued : (key : Key) → has new key ≡ true → (has old key ≡ true) ⊎ Waits new key
   pub nearer : potential da new ≤ potential da old
 
+-- a key that both know is still among the rest, unless it is there now
+abbrev pub KeepsRest : Dictionary → Dictionary → Reached → Reached → Type 0
+KeepsRest da db old new = (key : Key) → IsShared da db key → Contains old.rest.items key → (has new key ≡ true) ⊎ Contains new.rest.items key
+
 -- the key is there now, if both know it
 pub record ComesTo (da db : Dictionary) (key : Key) (old new : Reached) : Type 0 where
   pub grew : Grew da (λ other. (other ≡ key) × IsShared da db other) old new
   pub there : IsShared da db key → has new key ≡ true
+  pub rest : KeepsRest da db old new
 
 -- all keys with P that both know are there now
 pub record ComesToAll (da db : Dictionary) (P : (Key → Type 0)) (old new : Reached) : Type 0 where
   pub grew : Grew da (λ key. P key × IsShared da db key) old new
   pub there : (key : Key) → P key → IsShared da db key → has new key ≡ true
+  pub rest : KeepsRest da db old new
+
+-- each key that both know was come to, or is one of the rest
+abbrev pub AreRest : Dictionary → Dictionary → Reached → Type 0
+AreRest da db r = (key : Key) → IsShared da db key → (has r key ≡ true) ⊎ Contains r.rest.items key
+
+-- the key is there now, where the rules don't list it and both know it, and is one of the rest where they list it
+pub record Sorts (da db : Dictionary) (rules : List DRule) (key : Key) (old new : Reached) : Type 0 where
+  pub comes : ComesToAll da db (λ other. (other ≡ key) × ¬ IsListed rules other) old new
+  pub left : IsShared da db key → (has new key ≡ true) ⊎ Contains new.rest.items key
 
 -- what follows from the keys that it had come to
 pub data Follows (da db : Dictionary) (roots : Reached) : Key → Type 0 where

@@ -39,8 +39,9 @@ pub enum ProposeFault {
 /// those of the keys that both know and that these commands, and the groups that the pairs lead to, let in, in the first
 /// dictionary's order. So where no table that lists the commands passes, neither does this one.
 ///
-/// It takes time in proportion to the commands and to the definitions that it comes to. `UnknownCommand` has the first
-/// name of which the first dictionary has no command. `NoMemory` comes only where memory was refused.
+/// It takes time in proportion to the names, to both dictionaries and to the definitions that it comes to, and it goes over
+/// the second dictionary's commands once for each command that is named. `UnknownCommand` has the first name of which the
+/// first dictionary has no command. `NoMemory` comes only where memory was refused.
 pub fn propose<A: Book, B: Book>(
     alloc: Global,
     a: &A,
@@ -53,14 +54,14 @@ pub fn propose<A: Book, B: Book>(
     ensures refusal { IfErr result (IsRefusal (A.meaning a.now) (map (λ n. string_bytes n) names.now)) }
 {
     let commands = names_of_commands(alloc, a)?;
-    let mut named = Named::new(alloc, a.entries().min(b.entries()))?;
+    let mut named = Named::new(alloc, a, b, a.entries().min(b.entries()))?;
     named.add_all(alloc, a, b, &commands, names)?;
     let Named {
         pairs: commands,
         mut reached,
         ..
     } = named;
-    reached.follow(a, b)?;
+    reached.follow(alloc, a, b)?;
     let avps = shared_pairs(alloc, a, b, &reached)?;
     Ok(Table { commands, avps })
 }

@@ -6,7 +6,7 @@ ghost use Rattle.dia_compat.specs.TableText.{plain_pair};
 ghost use Rattle.dia_compat.specs.Closed.{NamesCommand};
 ghost use Rattle.dia_compat.specs.Proposed.{AreCommandPairs, IsRefusal};
 ghost use Rattle.dia_compat.specs.Naming.{Names, NamedSoFar, AreRoots};
-ghost use Rattle.dia_compat.specs.Reaching.{has};
+ghost use Rattle.dia_compat.specs.Reaching.{has, AreRest};
 ghost use Rattle.dia_wire.specs.declared.Key.{Key as AnyKey};
 
 use crate::proposing::ProposeFault;
@@ -26,16 +26,22 @@ pub(crate) struct Named {
 
 impl Named {
     /// No command yet, with room for as many AVPs.
-    pub(crate) fn new(alloc: Global, most: usize) -> Result<Named, AllocError>
+    pub(crate) fn new<A: Book, B: Book>(
+        alloc: Global,
+        a: &A,
+        b: &B,
+        most: usize,
+    ) -> Result<Named, AllocError>
         ensures places { IfOk result (λ n. n.places.keys ≡ []) }
         ensures pairs { IfOk result (λ n. n.pairs.items ≡ []) }
         ensures reached { IfOk result (λ n. n.reached.waiting.items ≡ []) }
         ensures none { IfOk result (λ n. n.reached.keys.keys ≡ []) }
+        ensures rest { IfOk result (λ n. AreRest (A.meaning a.now) (B.meaning b.now) n.reached) }
     {
         Ok(Named {
             places: IndexSet::new(alloc),
             pairs: Vec::new(alloc),
-            reached: Reached::new(alloc, most)?,
+            reached: Reached::new(alloc, a, b, most)?,
         })
     }
 
@@ -78,6 +84,7 @@ impl Named {
         requires sound_a { IsDictionary (A.meaning a.now) }
         requires sound_b { IsDictionary (B.meaning b.now) }
         requires within { place < length (A.meaning a.now).commands }
+        requires rest { AreRest (A.meaning a.now) (B.meaning b.now) self.old.reached }
         ensures { (c : PlainDefinition) → slice_get (A.meaning a.now).commands place ≡ Some c → OnOk result (Names (A.meaning a.now) (B.meaning b.now) place c self.old self.new) }
     {
         if self.places.contains(&place) {
@@ -85,7 +92,7 @@ impl Named {
         }
         let def = a.command_at(place);
         push_pairs(alloc, a, b, a.def(def), &mut self.pairs)?;
-        self.reached.come_to_admitted(a, b, def)?;
+        self.reached.come_to_admitted(alloc, a, b, def)?;
         self.places.insert(place)?;
         Ok(())
     }

@@ -1,32 +1,42 @@
 //! The AVPs that the definitions of some commands let in, and the groups in them.
-ghost use Rattle.std.specs.Prelude.{◌≡◌, ◌<◌, ◌≤◌, ◌+◌, ◌||◌, ◌↔◌, ℕ, IfOk, OnOk, IsTrue, Some, None, IfSome, false, true, not, length, slice_get, [], Contains};
+ghost use Rattle.std.specs.Prelude.{◌≡◌, ◌<◌, ◌≤◌, ◌+◌, ◌||◌, ◌↔◌, ℕ, IfOk, OnOk, IsTrue, Some, None, IfSome, false, true, not, is_some, filter, map, length, slice_get, [], Contains};
 ghost use Rattle.dia_wire.specs.declared.Key.{Key as AnyKey};
 ghost use Rattle.dia_data.specs.Plain.{Grouped, plain as plain_format};
 ghost use Rattle.dia_dict.specs.declared.DRule.{DRule as AnyRule};
-ghost use Rattle.dia_dict.specs.Dictionary.{PlainDefinition, IsDictionary, definitions};
+ghost use Rattle.dia_dict.specs.Dictionary.{PlainDefinition, IsDictionary, definitions, entry_of};
 ghost use Rattle.dia_compat.specs.Below.{HasRule, IsListed, HasWildcard, IsAboveZero};
-ghost use Rattle.dia_compat.specs.Reaching.{has, IsAllowedBy, IsAllowed, Admits, Inserts, ComesTo, ComesToAll, Follows, IsSharedGroup, AllWait};
+ghost use Rattle.dia_compat.specs.Reaching.{has, IsAllowedBy, IsAllowed, Admits, Inserts, ComesTo, ComesToAll, Follows, IsSharedGroup, AllWait, AreRest, Sorts};
 
 use dia_dict::{Book, DRule, DefId, Format, Key, Slot};
 use std::alloc::{AllocError, Global};
 use std::collections::HashSet;
+use std::mem;
 
 /// The AVPs that a proposal has come to, by their keys, and those of them whose groups are still to be gone through.
 #[derive(Drop)]
 pub(crate) struct Reached {
     keys: HashSet<Key>,
     waiting: Vec<Key>,
+    /// Among these are all keys that both dictionaries know and that it has not come to.
+    rest: Vec<Key>,
 }
 
 impl Reached {
     /// Nothing yet, with room for as many AVPs.
-    pub(crate) fn new(alloc: Global, most: usize) -> Result<Reached, AllocError>
+    pub(crate) fn new<A: Book, B: Book>(
+        alloc: Global,
+        a: &A,
+        b: &B,
+        most: usize,
+    ) -> Result<Reached, AllocError>
         ensures empty { IfOk result (λ r. r.keys.keys ≡ []) }
         ensures none { IfOk result (λ r. r.waiting.items ≡ []) }
+        ensures rest { IfOk result (λ r. AreRest (A.meaning a.now) (B.meaning b.now) r) }
     {
         Ok(Reached {
             keys: HashSet::with_capacity(alloc, most)?,
             waiting: Vec::new(alloc),
+            rest: shared_keys(alloc, a, b)?,
         })
     }
 
@@ -87,8 +97,8 @@ impl Reached {
         Ok(())
     }
 
-    /// Comes to the AVP with this key, if a definition of A does not list it.
-    fn come_to_if_unlisted<A: Book, B: Book>(
+    /// Comes to the AVP with this key, if a definition of A does not list it, and else leaves it among the rest.
+    fn come_to_or_leave<A: Book, B: Book>(
         &mut self,
         a: &A,
         b: &B,
@@ -97,28 +107,32 @@ impl Reached {
     ) -> Result<(), AllocError>
         requires { def < length (definitions (A.meaning a.now)) }
         ensures { (d : PlainDefinition) → slice_get (definitions (A.meaning a.now)) def ≡ Some d
-            → OnOk result (ComesToAll (A.meaning a.now) (B.meaning b.now) (λ other. (other ≡ key) × ¬ IsListed d.rules other) self.old self.new) }
+            → OnOk result (Sorts (A.meaning a.now) (B.meaning b.now) d.rules key self.old self.new) }
     {
         if let Slot::Unlisted = a.slot(def, key) {
             self.come_to(a, b, key)?;
+        } else {
+            self.rest.push(key)?;
         }
         Ok(())
     }
 
-    /// Comes to the AVPs that a definition of A does not list.
+    /// Comes to the AVPs that a definition of A does not list. The rest is then no longer than its rules.
     fn come_to_unlisted<A: Book, B: Book>(
         &mut self,
+        alloc: Global,
         a: &A,
         b: &B,
         def: DefId,
     ) -> Result<(), AllocError>
-        requires { def < length (definitions (A.meaning a.now)) }
+        requires def { def < length (definitions (A.meaning a.now)) }
+        requires rest { AreRest (A.meaning a.now) (B.meaning b.now) self.old }
         ensures { (d : PlainDefinition) → slice_get (definitions (A.meaning a.now)) def ≡ Some d
             → OnOk result (ComesToAll (A.meaning a.now) (B.meaning b.now) (λ key. ¬ IsListed d.rules key) self.old self.new) }
     {
-        for index in 0..a.entries() {
-            let key = a.entry_key(a.entry_at(index));
-            self.come_to_if_unlisted(a, b, def, key)?;
+        let rest = mem::replace(&mut self.rest, Vec::new(alloc));
+        for key in rest.as_slice() {
+            self.come_to_or_leave(a, b, def, *key)?;
         }
         Ok(())
     }
@@ -126,34 +140,56 @@ impl Reached {
     /// Comes to the AVPs that a definition of A lets in.
     pub(crate) fn come_to_admitted<A: Book, B: Book>(
         &mut self,
+        alloc: Global,
         a: &A,
         b: &B,
         def: DefId,
     ) -> Result<(), AllocError>
-        requires { def < length (definitions (A.meaning a.now)) }
+        requires def { def < length (definitions (A.meaning a.now)) }
+        requires rest { AreRest (A.meaning a.now) (B.meaning b.now) self.old }
         ensures { (d : PlainDefinition) → slice_get (definitions (A.meaning a.now)) def ≡ Some d
             → OnOk result (ComesToAll (A.meaning a.now) (B.meaning b.now) (Admits d.rules) self.old self.new) }
     {
         let rules = a.def(def).rules.as_slice();
         self.come_to_listed(a, b, rules)?;
         if has_open_wildcard(rules) {
-            self.come_to_unlisted(a, b, def)?;
+            self.come_to_unlisted(alloc, a, b, def)?;
         }
         Ok(())
     }
 
     /// Comes to the AVPs that are let in by the groups that wait, and by those that then wait.
-    pub(crate) fn follow<A: Book, B: Book>(&mut self, a: &A, b: &B) -> Result<(), AllocError>
-        requires { AllWait self.old }
+    pub(crate) fn follow<A: Book, B: Book>(
+        &mut self,
+        alloc: Global,
+        a: &A,
+        b: &B,
+    ) -> Result<(), AllocError>
+        requires wait { AllWait self.old }
+        requires rest { AreRest (A.meaning a.now) (B.meaning b.now) self.old }
         ensures { OnOk result ((key : AnyKey) → IsTrue (has self.new key) ↔ Follows (A.meaning a.now) (B.meaning b.now) self.old key) }
     {
         while let Some(key) = self.waiting.pop() {
             if let Some(group) = shared_group(a, b, key) {
-                self.come_to_admitted(a, b, group)?;
+                self.come_to_admitted(alloc, a, b, group)?;
             }
         }
         Ok(())
     }
+}
+
+/// The keys that both dictionaries know, in A's order.
+fn shared_keys<A: Book, B: Book>(alloc: Global, a: &A, b: &B) -> Result<Vec<Key>, AllocError>
+    ensures { IfOk result (λ keys. keys.items ≡ filter (λ key. is_some (entry_of (B.meaning b.now) key)) (map (λ e. e.key) (A.meaning a.now).entries)) }
+{
+    let mut keys = Vec::new(alloc);
+    for index in 0..a.entries() {
+        let key = a.entry_key(a.entry_at(index));
+        if b.avp(key).is_some() {
+            keys.push(key)?;
+        }
+    }
+    Ok(keys)
 }
 
 /// The definition of A's AVP with this key, where B's is Grouped too.

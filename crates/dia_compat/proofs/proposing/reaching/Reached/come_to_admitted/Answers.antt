@@ -4,7 +4,7 @@ use Rattle.dia_dict.specs.declared.DRule.{DRule}
 use Rattle.dia_dict.specs.Dictionary.{PlainDefinition, plain}
 use Rattle.dia_compat.specs.Below.{HasWildcard, IsAboveZero}
 use Rattle.dia_compat.specs.Reaching.{ComesToAll, IsAllowed}
-use Rattle.dia_compat.proofs.Reaching.{admitted}
+use Rattle.dia_compat.proofs.Reaching.{admitted, rest_then}
 use Rattle.dia_compat.proofs.proposing.reaching.Reached.come_to_admitted.Goals as goal
 
 pub returns-in_ok-come_to_unlisted : goal.returns-in_ok-come_to_unlisted
@@ -15,3 +15,7 @@ returns-in_ok-come_to_unlisted g c = λ d at.
     let listed = subst (λ (rules : List DRule). ComesToAll da db (IsAllowed rules) c.args.self.now c.come_to_listed.new.self) same c.in_ok-come_to_listed.ensures in
     let wild = subst (λ (rules : List DRule). (w : DRule) × HasWildcard rules w × IsAboveZero w.max) same (c.has_open_wildcard.ensures.0 c.if-has_open_wildcard.true) in
     admitted da db d.rules c.args.self.now c.come_to_listed.new.self c.come_to_unlisted.new.self wild listed (c.in_ok-come_to_unlisted.ensures d at)
+
+pub come_to_unlisted-requires-clause-rest : goal.come_to_unlisted-requires-clause-rest
+come_to_unlisted-requires-clause-rest g c =
+    rest_then (g.A.Book.meaning c.args.a.now) (g.B.Book.meaning c.args.b.now) (IsAllowed c.as_slice-rules.result.now) c.args.self.now c.come_to_listed.new.self c.requires.rest c.in_ok-come_to_listed.ensures

@@ -1,0 +1,25 @@
+use Rattle.std.proofs.Common.{◌<◌, List, [], ◌∷◌, ◌++◌, length, map, sym, ap, ◌∙◌, arith, Option, ℕ}
+use Rattle.std.specs.Prelude.{is_some}
+use Rattle.dia_wire.specs.declared.Key.{Key}
+use Rattle.dia_dict.specs.Dictionary.{DictEntry, entry_of}
+use Rattle.dia_compat.proofs.Naming.{read_at}
+use Rattle.dia_compat.proofs.Covering.{kept, left_out}
+use Rattle.dia_compat.proofs.proposing.reaching.shared_keys.Goals as goal
+use Rattle.dia_compat.proofs.proposing.reaching.shared_keys.Goals.{then-is_some+in_ok-push, else-is_some}
+
+pub loop-index-preserved : goal.loop-index-preserved
+loop-index-preserved g c =
+    let db = g.B.Book.meaning c.args.b.now in
+    let entries = (g.A.Book.meaning c.args.a.now).entries in
+    let keys = map (λ (e : DictEntry). e.key) entries in
+    let test = λ (key : Key). is_some (entry_of db key) in
+    let i = c.loop-index.index in
+    let key = c.entry_key-key.result in
+    let within : i < length entries = omega (arith, c.loop-index-test.true, c.entries-index-end.ensures.count) in
+    let at = read_at (λ (e : DictEntry). e.key) entries i c.entry_at.result key within c.entry_at.ensures c.entry_key-key.ensures in
+    let is = ap (λ (o : Option ℕ). is_some o) (sym c.avp.ensures) ∙ sym c.is_some.ensures in
+    elim c.if-is_some.branch [
+      | then-is_some+in_ok-push w ↦
+          ap (λ v. v.items) w.keys-is ∙ w.in_ok-push.ensures.items ∙ ap (λ (xs : List Key). xs ++ key ∷ []) c.loop-index.invariant ∙ sym (kept test keys i key at (is ∙ w.if-is_some.true))
+      | else-is_some w ↦ ap (λ v. v.items) w.keys-is ∙ c.loop-index.invariant ∙ sym (left_out test keys i key at (is ∙ w.if-is_some.false))
+    ]
