@@ -96,7 +96,8 @@ code_fits Auth = refl
 code_fits Acct = refl
 
 pub vendor_spells : (n : ℕ) (kind : Kind) (id : ℕ) → SpellsAll (avp32 266 n ∷ avp32 (app_code kind) id ∷ []) (vendor_data n kind id)
-vendor_spells n kind id = (spelled (avp32 266 n), spelled (avp32 (app_code kind) id), spells32 266 n refl, refl, (spelled (avp32 (app_code kind) id), [], spells32 (app_code kind) id (code_fits kind), refl, refl))
+vendor_spells n kind id =
+    (spelled (avp32 266 n), spelled (avp32 (app_code kind) id), spells32 266 n refl, refl, (spelled (avp32 (app_code kind) id), [], spells32 (app_code kind) id (code_fits kind), refl, refl))
 
 -- ---- names
 
@@ -167,7 +168,8 @@ module _ (c : PlainConfig) (numbers : AllByRecursion (λ (a : App). a.id < 42949
 
   from_applications : (v : PlainAvp) (p : Pair) → IsIn (applications c) v → Names v p → Held p
   from_applications v p h names =
-      ⊎_elim (λ x. from_plain Auth v p x names) (λ t. ⊎_elim (λ y. from_plain Acct v p y names) (λ z. absurd (omega (arith, vendor_code v z, names_code v p names, (code_range p.kind).1))) t) (three_cases v h)
+      ⊎_elim (λ x. from_plain Auth v p x names) (λ t. ⊎_elim (λ y. from_plain Acct v p y names) (λ z. absurd (omega (arith, vendor_code v z, names_code v p names, (code_range p.kind).1))) t)
+      (three_cases v h)
 
   from_inner : (a : App) (n : ℕ) (p : Pair) → IsIn c.apps a → NamesPair (avp32 266 n ∷ avp32 (app_code a.kind) a.id ∷ []) p → Held p
   from_inner a n p m names = by (names_as (avp32 266 n ∷ avp32 (app_code a.kind) a.id ∷ []) p.kind p.id names)
@@ -181,7 +183,9 @@ module _ (c : PlainConfig) (numbers : AllByRecursion (λ (a : App). a.id < 42949
   from_vendor v inner p h all names =
       let (a, m, e) = in_filter_map vendor_app c.apps v h in
       let (n, is) = vendor_is a.kind a.id a.vendor v e in
-      let same : inner ≡ avp32 266 n ∷ avp32 (app_code a.kind) a.id ∷ [] = one_list inner (avp32 266 n ∷ avp32 (app_code a.kind) a.id ∷ []) v.bytes all (subst (λ (x : PlainAvp). SpellsAll (avp32 266 n ∷ avp32 (app_code a.kind) a.id ∷ []) x.bytes) is (vendor_spells n a.kind a.id)) in
+      let same : inner ≡ avp32 266 n ∷ avp32 (app_code a.kind) a.id ∷ [] =
+      one_list inner (avp32 266 n ∷ avp32 (app_code a.kind) a.id ∷ []) v.bytes all
+      (subst (λ (x : PlainAvp). SpellsAll (avp32 266 n ∷ avp32 (app_code a.kind) a.id ∷ []) x.bytes) is (vendor_spells n a.kind a.id)) in
       from_inner a n p m (subst (λ (x : List PlainAvp). NamesPair x p) same names)
 
   module _ (front : List PlainAvp) (quiet : (v : PlainAvp) → IsIn front v → IsQuiet v) where
@@ -209,13 +213,17 @@ module _ (c : PlainConfig) (numbers : AllByRecursion (λ (a : App). a.id < 42949
 
     plain_in : (kind : Kind) (id : ℕ) → IsIn c.apps (record { kind = kind; id = id; vendor = None }) → IsIn (applications c) (avp32 (app_code kind) id)
     plain_in Auth id m = in_left (filter_map (plain_app Auth) c.apps ++ filter_map (plain_app Acct) c.apps) (filter_map vendor_app c.apps) (avp32 258 id)
-        (in_left (filter_map (plain_app Auth) c.apps) (filter_map (plain_app Acct) c.apps) (avp32 258 id) (into_filter_map (plain_app Auth) c.apps (record { kind = Auth; id = id; vendor = None }) (avp32 258 id) m refl))
+        (in_left (filter_map (plain_app Auth) c.apps) (filter_map (plain_app Acct) c.apps) (avp32 258 id)
+        (into_filter_map (plain_app Auth) c.apps (record { kind = Auth; id = id; vendor = None }) (avp32 258 id) m refl))
     plain_in Acct id m = in_left (filter_map (plain_app Auth) c.apps ++ filter_map (plain_app Acct) c.apps) (filter_map vendor_app c.apps) (avp32 259 id)
-        (in_right (filter_map (plain_app Auth) c.apps) (filter_map (plain_app Acct) c.apps) (avp32 259 id) (into_filter_map (plain_app Acct) c.apps (record { kind = Acct; id = id; vendor = None }) (avp32 259 id) m refl))
+        (in_right (filter_map (plain_app Auth) c.apps) (filter_map (plain_app Acct) c.apps) (avp32 259 id)
+        (into_filter_map (plain_app Acct) c.apps (record { kind = Acct; id = id; vendor = None }) (avp32 259 id) m refl))
 
-    app_advertised : (kind : Kind) (id : ℕ) (vendor : Option ℕ) → IsIn c.apps (record { kind = kind; id = id; vendor = vendor }) → Advertises (front ++ applications c) (record { kind = kind; id = id })
+    app_advertised : (kind : Kind) (id : ℕ) (vendor : Option ℕ) → IsIn c.apps (record { kind = kind; id = id; vendor = vendor })
+        → Advertises (front ++ applications c) (record { kind = kind; id = id })
     app_advertised kind id None m =
-        inl (as_names (front ++ applications c) kind id (avp32 (app_code kind) id) (in_right front (applications c) (avp32 (app_code kind) id) (plain_in kind id m)) (self_named (record { kind = kind; id = id; vendor = None }) m))
+        inl (as_names (front ++ applications c) kind id (avp32 (app_code kind) id) (in_right front (applications c) (avp32 (app_code kind) id) (plain_in kind id m))
+        (self_named (record { kind = kind; id = id; vendor = None }) m))
     app_advertised kind id (Some n) m =
         let v = avp 260 64 (vendor_data n kind id) in
         let inner = avp32 266 n ∷ avp32 (app_code kind) id ∷ [] in

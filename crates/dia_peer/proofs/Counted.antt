@@ -181,14 +181,40 @@ cer_stands c ok = record {
   loose = all_may_stand (rules_of 4) refl refl (map key_of (exchange c []));
   counts = (
     once c [] 264 (refl, refl, refl) refl refl refl,
-    (once c [] 296 (refl, refl, refl) refl refl refl,
-    (some_address c [] ok,
-    (once c [] 266 (refl, refl, refl) refl refl refl,
-    (once c [] 269 (refl, refl, refl) refl refl refl,
-    (few c [] 278 (refl, refl, refl) refl refl,
-    (free _, (free _, (free _, (free _, (free _,
-    (few c [] 267 (refl, refl, refl) refl refl,
-    (free _, tt))))))))))))
+    (
+      once c [] 296 (refl, refl, refl) refl refl refl,
+      (
+        some_address c [] ok,
+        (
+          once c [] 266 (refl, refl, refl) refl refl refl,
+          (
+            once c [] 269 (refl, refl, refl) refl refl refl,
+            (
+              few c [] 278 (refl, refl, refl) refl refl,
+              (
+                free _,
+                (
+                  free _,
+                  (
+                    free _,
+                    (
+                      free _,
+                      (
+                        free _,
+                        (
+                          few c [] 267 (refl, refl, refl) refl refl,
+                          (free _, tt),
+                        ),
+                      ),
+                    ),
+                  ),
+                ),
+              ),
+            ),
+          ),
+        ),
+      ),
+    ),
   );
 }
 
@@ -201,17 +227,49 @@ cea_stands c n ok =
       loose = all_may_stand (rules_of 5) refl refl (map key_of (exchange c result));
       counts = (
         once c result 268 (refl, refl, refl) refl refl refl,
-        (once c result 264 (refl, refl, refl) refl refl refl,
-        (once c result 296 (refl, refl, refl) refl refl refl,
-        (some_address c result ok,
-        (once c result 266 (refl, refl, refl) refl refl refl,
-        (once c result 269 (refl, refl, refl) refl refl refl,
-        (few c result 278 (refl, refl, refl) refl refl,
-        (few c result 281 (refl, refl, refl) refl refl,
-        (few c result 279 (refl, refl, refl) refl refl,
-        (free _, (free _, (free _, (free _, (free _,
-        (few c result 267 (refl, refl, refl) refl refl,
-        (free _, tt)))))))))))))))
+        (
+          once c result 264 (refl, refl, refl) refl refl refl,
+          (
+            once c result 296 (refl, refl, refl) refl refl refl,
+            (
+              some_address c result ok,
+              (
+                once c result 266 (refl, refl, refl) refl refl refl,
+                (
+                  once c result 269 (refl, refl, refl) refl refl refl,
+                  (
+                    few c result 278 (refl, refl, refl) refl refl,
+                    (
+                      few c result 281 (refl, refl, refl) refl refl,
+                      (
+                        few c result 279 (refl, refl, refl) refl refl,
+                        (
+                          free _,
+                          (
+                            free _,
+                            (
+                              free _,
+                              (
+                                free _,
+                                (
+                                  free _,
+                                  (
+                                    few c result 267 (refl, refl, refl) refl refl,
+                                    (free _, tt),
+                                  ),
+                                ),
+                              ),
+                            ),
+                          ),
+                        ),
+                      ),
+                    ),
+                  ),
+                ),
+              ),
+            ),
+          ),
+        ),
       );
     }
 
@@ -232,12 +290,22 @@ dwa_stands c n =
       loose = all_may_stand (rules_of 7) refl refl (map key_of (watchdog c result));
       counts = (
         watched_once c result 268 refl refl,
-        (watched_once c result 264 refl refl,
-        (watched_once c result 296 refl refl,
-        (watched_few c result 281 refl,
-        (watched_few c result 279 refl,
-        (watched_few c result 278 refl,
-        (free _, tt))))))
+        (
+          watched_once c result 264 refl refl,
+          (
+            watched_once c result 296 refl refl,
+            (
+              watched_few c result 281 refl,
+              (
+                watched_few c result 279 refl,
+                (
+                  watched_few c result 278 refl,
+                  (free _, tt),
+                ),
+              ),
+            ),
+          ),
+        ),
       );
     }
 

@@ -1,4 +1,36 @@
-use Rattle.std.proofs.Common.{◌≡◌, ◌≢◌, ℕ, suc, ◌^◌, ◌<◌, Bool, true, false, List, [], ◌∷◌, ◌++◌, length, map, take, drop, Option, Some, None, ◌⊎◌, inl, inr, ⊎_elim, refl, sym, ap, subst, ◌∙◌, append_assoc, arith}
+use Rattle.std.proofs.Common.{
+  ◌≡◌,
+  ◌≢◌,
+  ℕ,
+  suc,
+  ◌^◌,
+  ◌<◌,
+  Bool,
+  true,
+  false,
+  List,
+  [],
+  ◌∷◌,
+  ◌++◌,
+  length,
+  map,
+  take,
+  drop,
+  Option,
+  Some,
+  None,
+  ◌⊎◌,
+  inl,
+  inr,
+  ⊎_elim,
+  refl,
+  sym,
+  ap,
+  subst,
+  ◌∙◌,
+  append_assoc,
+  arith,
+}
 use Rattle.std.specs.Prelude.{◌↔◌, IsTrue}
 use Rattle.std.specs.List.{AllByRecursion}
 use Rattle.std.proofs.lemmas.List.{drop-drop, drop_at, take_at}
@@ -15,7 +47,31 @@ use Rattle.dia_peer.specs.declared.config.Role.{Role}
 use Rattle.dia_peer.specs.declared.config.Role.TheVariants.{Initiator, Responder}
 use Rattle.dia_peer.specs.declared.event.State.{State}
 use Rattle.dia_peer.specs.Core.{PlainConfig, Pair, Sent}
-use Rattle.dia_peer.specs.Messages.{Received, Unreadable, Foreign, Invalid, Cer, Dwr, Dpr, Cea, Refusal, Dwa, Dpa, Other, avp, avp32, address, origin, capabilities, applications, if_some, AreAdvertised, HasResult, IsGood, IsReceived}
+use Rattle.dia_peer.specs.Messages.{
+  Received,
+  Unreadable,
+  Foreign,
+  Invalid,
+  Cer,
+  Dwr,
+  Dpr,
+  Cea,
+  Refusal,
+  Dwa,
+  Dpa,
+  Other,
+  avp,
+  avp32,
+  address,
+  origin,
+  capabilities,
+  applications,
+  if_some,
+  AreAdvertised,
+  HasResult,
+  IsGood,
+  IsReceived,
+}
 use Rattle.dia_peer.specs.World.{AreBytes, IsPastOpen}
 use Rattle.dia_peer.proofs.Sets.{IsIn, to_in, of_in, in_cases}
 use Rattle.dia_peer.proofs.Spelled.{one_message, has_length}
@@ -97,11 +153,13 @@ no_capabilities c v h =
 module _ (c : PlainConfig) (numbers : AllByRecursion (λ (a : App). a.id < 4294967295) c.apps) where
   no_applications : (v : PlainAvp) → IsIn (applications c) v → v.code ≢ 268
   no_applications v h k =
-      ⊎_elim (λ x. omega (arith, k, plain_code c numbers Auth v x)) (λ t. ⊎_elim (λ y. omega (arith, k, plain_code c numbers Acct v y)) (λ z. omega (arith, k, vendor_code c numbers v z)) t) (three_cases c numbers v h)
+      ⊎_elim (λ x. omega (arith, k, plain_code c numbers Auth v x)) (λ t. ⊎_elim (λ y. omega (arith, k, plain_code c numbers Acct v y)) (λ z. omega (arith, k, vendor_code c numbers v z)) t)
+      (three_cases c numbers v h)
 
   no_others : (v : PlainAvp) → IsIn (origin c ++ capabilities c ++ applications c) v → v.code ≢ 268
   no_others v h =
-      ⊎_elim (λ l. ⊎_elim (λ o. no_origin c v o) (λ x. no_capabilities c v x) (in_cases (origin c) (capabilities c) v l)) (λ r. no_applications v r) (in_cases (origin c ++ capabilities c) (applications c) v h)
+      ⊎_elim (λ l. ⊎_elim (λ o. no_origin c v o) (λ x. no_capabilities c v x) (in_cases (origin c) (capabilities c) v l)) (λ r. no_applications v r)
+      (in_cases (origin c ++ capabilities c) (applications c) v h)
 
   one_result : (n m : ℕ) → n < 2 ^ 32 → HasResult (avp32 268 n ∷ origin c ++ capabilities c ++ applications c) m → n ≡ m
   one_result n m small (v, m', key, is) = by (to_in (avp32 268 n ∷ origin c ++ capabilities c ++ applications c) v m')
@@ -135,11 +193,6 @@ module _ (c : PlainConfig) (numbers : AllByRecursion (λ (a : App). a.id < 42949
   pub sent_avps : (m : Sent) (code : ℕ) (r e : Bool) (ids : Ids) (vs : List PlainAvp) → MessageWithZeros m.header m.avps b → IsGood b code r e ids vs → vs ≡ m.avps
   sent_avps m code r e ids vs z g = (one_message g.header m.header vs m.avps b g.message z.message).1
 
-  pub sent_ids : (m : Sent) (code : ℕ) (r e : Bool) (ids : Ids) (vs : List PlainAvp) → MessageWithZeros m.header m.avps b → IsGood b code r e ids vs → (ids.hop ≡ m.header.hop) × (ids.e2e ≡ m.header.e2e)
-  sent_ids m code r e ids vs z g =
-      let same = (one_message g.header m.header vs m.avps b g.message z.message).0 in
-      (sym g.ids_are.0 ∙ ap (λ (h : Header). h.hop) same, sym g.ids_are.1 ∙ ap (λ (h : Header). h.e2e) same)
-
   abbrev pub ArePairs : List Pair → Type 0
   ArePairs apps = (p : Pair) → IsIn apps p ↔ Held c numbers p
 
@@ -149,7 +202,8 @@ module _ (c : PlainConfig) (numbers : AllByRecursion (λ (a : App). a.id < 42949
       ((λ m. from_advertised c numbers front quiet p ((is p).0 (of_in apps p m))), (λ h. to_in apps p ((is p).1 (into_advertised c numbers front quiet p h))))
 
   module _ (role : Role) (state : State) where
-    cer_was_sent : (m : Sent) (ids : Ids) (vs : List PlainAvp) (apps : List Pair) → MaySend role c state m → MessageWithZeros m.header m.avps b → IsGood b 257 true false ids vs → AreAdvertised vs apps → (role ≡ Initiator) × ArePairs apps
+    cer_was_sent : (m : Sent) (ids : Ids) (vs : List PlainAvp) (apps : List Pair) → MaySend role c state m → MessageWithZeros m.header m.avps b → IsGood b 257 true false ids vs
+        → AreAdvertised vs apps → (role ≡ Initiator) × ArePairs apps
     cer_was_sent m ids vs apps (asks i r e) z g are = (r, pairs_of (origin c ++ capabilities c) vs apps (quiet_front c) (sent_avps m 257 true false ids vs z g ∙ ap (λ (x : Sent). x.avps) e) are)
     cer_was_sent m ids vs apps (accepts_it i r p e) z g are = absurd (subst (λ (x : Sent). HasR x.header.flags) e (sent_request m 257 false ids vs z g) refl)
     cer_was_sent m ids vs apps (refuses_it i r e) z g are = absurd (subst (λ (x : Sent). HasR x.header.flags) e (sent_request m 257 false ids vs z g) refl)
@@ -158,13 +212,17 @@ module _ (c : PlainConfig) (numbers : AllByRecursion (λ (a : App). a.id < 42949
     cer_was_sent m ids vs apps (leaves i cause e) z g are = absurd (omega (arith, sent_code m 257 true false ids vs z g ∙ ap (λ (x : Sent). x.header.code) e))
     cer_was_sent m ids vs apps (lets_go i e) z g are = absurd (omega (arith, sent_code m 257 true false ids vs z g ∙ ap (λ (x : Sent). x.header.code) e))
 
-    cea_was_sent : (m : Sent) (ids : Ids) (vs : List PlainAvp) (apps : List Pair) → MaySend role c state m → MessageWithZeros m.header m.avps b → IsGood b 257 false false ids vs → HasResult vs 2001 → AreAdvertised vs apps
+    cea_was_sent : (m : Sent) (ids : Ids) (vs : List PlainAvp) (apps : List Pair) → MaySend role c state m → MessageWithZeros m.header m.avps b → IsGood b 257 false false ids vs
+        → HasResult vs 2001 → AreAdvertised vs apps
         → (role ≡ Responder) × IsPastOpen state × ArePairs apps
     cea_was_sent m ids vs apps (asks i r e) z g has are = absurd (sent_answer m 257 false ids vs z g (subst (λ (x : Sent). HasR x.header.flags) (sym e) (λ n. absurd cc)))
     cea_was_sent m ids vs apps (accepts_it i r p e) z g has are =
         (r, p, pairs_of (avp32 268 2001 ∷ (origin c ++ capabilities c)) vs apps (quiet_answer c 2001) (sent_avps m 257 false false ids vs z g ∙ ap (λ (x : Sent). x.avps) e) are)
     cea_was_sent m ids vs apps (refuses_it i r e) z g has are =
-        absurd (omega (arith, one_result c numbers 5010 2001 (omega arith) (subst (λ (x : List PlainAvp). HasResult x 2001) (sent_avps m 257 false false ids vs z g ∙ ap (λ (x : Sent). x.avps) e) has)))
+        absurd (omega (
+          arith,
+          one_result c numbers 5010 2001 (omega arith) (subst (λ (x : List PlainAvp). HasResult x 2001) (sent_avps m 257 false false ids vs z g ∙ ap (λ (x : Sent). x.avps) e) has),
+        ))
     cea_was_sent m ids vs apps (watches i e) z g has are = absurd (omega (arith, sent_code m 257 false false ids vs z g ∙ ap (λ (x : Sent). x.header.code) e))
     cea_was_sent m ids vs apps (is_there i e) z g has are = absurd (omega (arith, sent_code m 257 false false ids vs z g ∙ ap (λ (x : Sent). x.header.code) e))
     cea_was_sent m ids vs apps (leaves i cause e) z g has are = absurd (omega (arith, sent_code m 257 false false ids vs z g ∙ ap (λ (x : Sent). x.header.code) e))

@@ -36,10 +36,12 @@ record IsEnd (role : Role) (c : PlainConfig) (e : End) : Type 0 where
 sent_later : (role : Role) (c : PlainConfig) (s t : State) (bytes : List ℕ) → (IsPastOpen s → IsPastOpen t) → IsSentBy role c s bytes → IsSentBy role c t bytes
 sent_later role c s t bytes past x = record { m = x.m; may = may_later role c s t x.m past x.may; are_bytes = x.are_bytes; message = x.message }
 
-sent_now : (role : Role) (c : PlainConfig) (state : State) (deeds : List Deed) (messages : List (List ℕ)) → AreSpelled deeds messages → AllMay role c state deeds → (bytes : List ℕ) → IsIn messages bytes → IsSentBy role c state bytes
+sent_now : (role : Role) (c : PlainConfig) (state : State) (deeds : List Deed) (messages : List (List ℕ)) → AreSpelled deeds messages → AllMay role c state deeds → (bytes : List ℕ)
+    → IsIn messages bytes → IsSentBy role c state bytes
 sent_now role c state [] messages is may bytes m = absurd (subst (λ (x : List (List ℕ)). IsIn x bytes) is m)
 sent_now role c state (Closes reason ∷ deeds) messages is may bytes m = sent_now role c state deeds messages is may bytes m
-sent_now role c state (Sends s ∷ deeds) messages (b, rest, e, are, message, more) may bytes m = by (subst (λ (x : List (List ℕ)). IsIn x bytes) e m) (λ k. sent_now role c state deeds rest more may.1 bytes k)
+sent_now role c state (Sends s ∷ deeds) messages (b, rest, e, are, message, more) may bytes m =
+    by (subst (λ (x : List (List ℕ)). IsIn x bytes) e m) (λ k. sent_now role c state deeds rest more may.1 bytes k)
   where
     by : IsIn (b ∷ rest) bytes → (IsIn rest bytes → IsSentBy role c state bytes) → IsSentBy role c state bytes
     by (inl same) later = record { m = s; may = may.0; are_bytes = subst AreBytes same are; message = subst (MessageWithZeros s.header s.avps) same message }
@@ -52,12 +54,15 @@ end_goes : (role : Role) (c : PlainConfig) (old : End) (h : Happening) (messages
     → IsEnd role c (record { core = (happens old.core h).core; sent = old.sent ++ messages })
 end_goes role c old h messages e is =
     let m = moved role c old h e in
-    let may : AllMay role c (happens old.core h).core.state (happens old.core h).deeds = subst (λ r. AllMay r c (happens old.core h).core.state (happens old.core h).deeds) e.role_is (subst (λ k. AllMay old.core.role k (happens old.core h).core.state (happens old.core h).deeds) e.config m.sends) in
+    let may : AllMay role c (happens old.core h).core.state (happens old.core h).deeds =
+    subst (λ r. AllMay r c (happens old.core h).core.state (happens old.core h).deeds) e.role_is
+    (subst (λ k. AllMay old.core.role k (happens old.core h).core.state (happens old.core h).deeds) e.config m.sends) in
     record {
       config = m.config ∙ e.config;
       role_is = m.role ∙ e.role_is;
       suits = subst (λ r. Suits r (happens old.core h).core.state) e.role_is m.suits;
-      sent = λ bytes k. ⊎_elim (λ l. sent_later role c old.core.state (happens old.core h).core.state bytes m.past (e.sent bytes l)) (λ r. sent_now role c (happens old.core h).core.state (happens old.core h).deeds messages is may bytes r) (in_cases old.sent messages bytes k);
+      sent = λ bytes k. ⊎_elim (λ l. sent_later role c old.core.state (happens old.core h).core.state bytes m.past (e.sent bytes l))
+          (λ r. sent_now role c (happens old.core h).core.state (happens old.core h).deeds messages is may bytes r) (in_cases old.sent messages bytes k);
     }
 
 -- ---- what comes was sent
@@ -163,7 +168,8 @@ module _ (a b : PlainConfig) (an : Numbers a) (bn : Numbers b) where
       (subst (IsShared a b) (sym (common ∙ config)) (shared_common a b apps says.2), some, says.1)
 
   -- the responder opens by a CER of the initiator, and answers it
-  responder_opens : (w : World) (h : Happening) (messages : List (List ℕ)) → Holds a b w → IsFrom w.initiator h → AreSpelled (happens w.responder.core h).deeds messages → Opened w.responder.core h (happens w.responder.core h)
+  responder_opens : (w : World) (h : Happening) (messages : List (List ℕ)) → Holds a b w → IsFrom w.initiator h → AreSpelled (happens w.responder.core h).deeds messages
+      → Opened w.responder.core h (happens w.responder.core h)
       → IsShared a b (happens w.responder.core h).core.common × (0 < length (happens w.responder.core h).core.common) × Took b (made w.responder h messages)
   responder_opens w h messages hold from spelled (stays e common taken) =
       let old = hold.r_open e in let t = old.2 in (

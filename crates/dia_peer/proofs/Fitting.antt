@@ -54,7 +54,8 @@ both_same key code h = parts key.code key.vendor h
 pub kind_cases : (key : Key) → IsSome (kind_of key) → (key ≡ the_key 258 0) ⊎ (key ≡ the_key 259 0)
 kind_cases key h = by (key.vendor == 0) (key.code == 258) (key.code == 259) refl refl refl h
   where
-    by : (x y z : Bool) → (key.vendor == 0) ≡ x → (key.code == 258) ≡ y → (key.code == 259) ≡ z → IsSome (cond x (cond y (Some Auth) (cond z (Some Acct) None)) None) → (key ≡ the_key 258 0) ⊎ (key ≡ the_key 259 0)
+    by : (x y z : Bool) → (key.vendor == 0) ≡ x → (key.code == 258) ≡ y → (key.code == 259) ≡ z → IsSome (cond x (cond y (Some Auth) (cond z (Some Acct) None)) None)
+        → (key ≡ the_key 258 0) ⊎ (key ≡ the_key 259 0)
     by true true z e f g h = inl (λ i. record { code = eq_same key.code 258 f i; vendor = eq_same key.vendor 0 e i })
     by true false true e f g h = inr (λ i. record { code = eq_same key.code 259 g i; vendor = eq_same key.vendor 0 e i })
     by true false false e f g h = absurd cc
@@ -85,7 +86,11 @@ all_by P Q f (v ∷ vs) h = (f v h.0, all_by P Q f vs h.1)
 
 readable_at : (n : ℕ) (v : PlainAvp) → Fits base Kept n v → IsReadable v
 readable_at zero v fits = (has_number Nothing v fits, λ is. absurd (members Nothing v fits is).1)
-readable_at (suc n) v fits = (has_number (IsLevel (Fits base Kept n)) v fits, λ is. (let (rules, (inner, all, placed, fit)) = members (IsLevel (Fits base Kept n)) v fits is in (inner, all, all_by (Fits base Kept n) HasNumber (numbers_at n) inner fit)))
+readable_at (suc n) v fits = (
+  has_number (IsLevel (Fits base Kept n)) v fits,
+  λ is. (let (rules, (inner, all, placed, fit)) = members (IsLevel (Fits base Kept n)) v fits is in
+      (inner, all, all_by (Fits base Kept n) HasNumber (numbers_at n) inner fit)),
+)
 
 -- ---- a valid message
 
@@ -116,7 +121,8 @@ reads h b head (c, valid) =
 -- ---- what bytes are
 
 -- a valid message with what its header says
-pub good_of : (h : Header) (b : List ℕ) (ids : Ids) (request error : Bool) → (r : Reads h b) → IsValid base Kept Any b → (IsTrue request ↔ HasR h.flags) → (IsTrue error ↔ HasE h.flags) → (ids.hop ≡ h.hop) × (ids.e2e ≡ h.e2e)
+pub good_of : (h : Header) (b : List ℕ) (ids : Ids) (request error : Bool) → (r : Reads h b) → IsValid base Kept Any b → (IsTrue request ↔ HasR h.flags) → (IsTrue error ↔ HasE h.flags)
+    → (ids.hop ≡ h.hop) × (ids.e2e ≡ h.e2e)
     → IsGood b h.code request error ids r.avps
 good_of h b ids request error r valid is_request is_error same = record {
   header = h;
@@ -159,13 +165,16 @@ yes A a = ((λ t. a), (λ x. refl))
 no : (A : Type 0) → ¬ A → IsTrue false ↔ A
 no A n = ((λ (t : IsTrue false). absurd cc), (λ x. absurd (n x)))
 
-pub request_good : (h : Header) (b : List ℕ) (ids : Ids) (r : Reads h b) → IsValid base Kept Any b → class_of h.flags ≡ Request → (ids.hop ≡ h.hop) × (ids.e2e ≡ h.e2e) → IsGood b h.code true false ids r.avps
+pub request_good : (h : Header) (b : List ℕ) (ids : Ids) (r : Reads h b) → IsValid base Kept Any b → class_of h.flags ≡ Request → (ids.hop ≡ h.hop) × (ids.e2e ≡ h.e2e)
+    → IsGood b h.code true false ids r.avps
 request_good h b ids r valid class same = let set = request_flags h.flags class in good_of h b ids true false r valid (yes (HasR h.flags) set) (no (HasE h.flags) (r.apart set)) same
 
-pub answer_good : (h : Header) (b : List ℕ) (ids : Ids) (r : Reads h b) → IsValid base Kept Any b → class_of h.flags ≡ Answer → (ids.hop ≡ h.hop) × (ids.e2e ≡ h.e2e) → IsGood b h.code false false ids r.avps
+pub answer_good : (h : Header) (b : List ℕ) (ids : Ids) (r : Reads h b) → IsValid base Kept Any b → class_of h.flags ≡ Answer → (ids.hop ≡ h.hop) × (ids.e2e ≡ h.e2e)
+    → IsGood b h.code false false ids r.avps
 answer_good h b ids r valid class same = let clear = answer_flags h.flags class in good_of h b ids false false r valid (no (HasR h.flags) clear.0) (no (HasE h.flags) clear.1) same
 
-pub error_good : (h : Header) (b : List ℕ) (ids : Ids) (r : Reads h b) → IsValid base Kept Any b → class_of h.flags ≡ ErrorClass → (ids.hop ≡ h.hop) × (ids.e2e ≡ h.e2e) → IsGood b h.code false true ids r.avps
+pub error_good : (h : Header) (b : List ℕ) (ids : Ids) (r : Reads h b) → IsValid base Kept Any b → class_of h.flags ≡ ErrorClass → (ids.hop ≡ h.hop) × (ids.e2e ≡ h.e2e)
+    → IsGood b h.code false true ids r.avps
 error_good h b ids r valid class same = let flags = error_flags h.flags class in good_of h b ids false true r valid (no (HasR h.flags) flags.0) (yes (HasE h.flags) flags.1) same
 
 -- of the three codes, one that is neither of two is the third

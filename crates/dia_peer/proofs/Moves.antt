@@ -11,7 +11,37 @@ use Rattle.dia_peer.specs.declared.event.Why.{Why}
 use Rattle.dia_peer.specs.declared.event.Why.TheVariants as why
 use Rattle.dia_peer.specs.Core.{PlainConfig, PlainCore, PlainTaken, Pair, Sent, common_of}
 use Rattle.dia_peer.specs.Messages.{Received, Unreadable, Foreign, Invalid, Cer, Dwr, Dpr, Cea, Refusal, Dwa, Dpa, Other, cer, cea, dwr, dwa, dpr, dpa, after}
-use Rattle.dia_peer.specs.Table.{Happening, Starts, Gets, Ticks, Stops, Breaks, Deed, Sends, Closes, Outcome, nothing, closed, closes, same_bytes, same_ids, starts, opens, answered, accepts, repeated, gets_waiting_answer, gets_waiting_request, only_responder, gets_open, gets_waiting_end, ticks_open, stops_open, happens_in, happens}
+use Rattle.dia_peer.specs.Table.{
+  Happening,
+  Starts,
+  Gets,
+  Ticks,
+  Stops,
+  Breaks,
+  Deed,
+  Sends,
+  Closes,
+  Outcome,
+  nothing,
+  closed,
+  closes,
+  same_bytes,
+  same_ids,
+  starts,
+  opens,
+  answered,
+  accepts,
+  repeated,
+  gets_waiting_answer,
+  gets_waiting_request,
+  only_responder,
+  gets_open,
+  gets_waiting_end,
+  ticks_open,
+  stops_open,
+  happens_in,
+  happens,
+}
 use Rattle.dia_peer.specs.World.{IsPastOpen}
 use Rattle.dia_peer.proofs.Sets.{eq_same}
 
@@ -117,8 +147,18 @@ m_says : (c : PlainCore) (h : Happening) (m : Sent) → Suits c.role c.state →
 m_says c h m s may = record { config = refl; role = refl; suits = s; past = λ p. p; sends = (may, tt); opened = λ e. stays e refl refl }
 
 m_starts : (r : Role) (c : PlainCore) (h : Happening) → c.role ≡ r → c.state ≡ Idle → Moves c h (starts c r)
-m_starts Initiator c h e s = record { config = refl; role = refl; suits = subst (λ r. Suits r WaitCea) (sym e) tt; past = λ p. absurd (idle_not (subst IsPastOpen s p)); sends = (asks c.next e refl, tt); opened = λ o. absurd cc }
-m_starts Responder c h e s = record { config = refl; role = refl; suits = subst (λ r. Suits r WaitCer) (sym e) tt; past = λ p. absurd (idle_not (subst IsPastOpen s p)); sends = tt; opened = λ o. absurd cc }
+m_starts Initiator c h e s =
+    record {
+      config = refl;
+      role = refl;
+      suits = subst (λ r. Suits r WaitCea) (sym e) tt;
+      past = λ p. absurd (idle_not (subst IsPastOpen s p));
+      sends = (asks c.next e refl, tt);
+      opened =
+          λ o. absurd cc;
+    }
+m_starts Responder c h e s =
+    record { config = refl; role = refl; suits = subst (λ r. Suits r WaitCer) (sym e) tt; past = λ p. absurd (idle_not (subst IsPastOpen s p)); sends = tt; opened = λ o. absurd cc }
 
 m_opens : (c : PlainCore) (h : Happening) (ids : Ids) (apps : List Pair) (ps : List Pair) → c.role ≡ Initiator → h ≡ Gets (Cea ids 2001 apps) → ps ≡ common_of c.config apps → Moves c h (opens c ps)
 m_opens c h ids apps [] r e is = m_closes c h why.NoCommon
@@ -130,7 +170,8 @@ m_answered c h ids result apps r e =
     (λ t. m_opens c h ids apps (common_of c.config apps) r (e ∙ ap (λ n. Gets (Cea ids n apps)) (eq_same result 2001 t)) refl)
     (λ f. cond_both (result == 5010) (closes c [] why.NoCommon) (closes c [] why.Refused) (Moves c h) (λ t. m_closes c h why.NoCommon) (λ g. m_closes c h why.Refused))
 
-m_accepts : (c : PlainCore) (h : Happening) (ids : Ids) (bytes : List ℕ) (apps : List Pair) (ps : List Pair) → c.role ≡ Responder → h ≡ Gets (Cer ids bytes apps) → ps ≡ common_of c.config apps → Moves c h (accepts c ids bytes ps)
+m_accepts : (c : PlainCore) (h : Happening) (ids : Ids) (bytes : List ℕ) (apps : List Pair) (ps : List Pair) → c.role ≡ Responder → h ≡ Gets (Cer ids bytes apps) → ps ≡ common_of c.config apps
+    → Moves c h (accepts c ids bytes ps)
 m_accepts c h ids bytes apps [] r e is = m_answers c h (cea c.config ids 5010) why.NoCommon (refuses_it ids r refl)
 m_accepts c h ids bytes apps (p ∷ ps) r e is = record {
   config = refl;
@@ -157,7 +198,8 @@ m_waiting_answer : (c : PlainCore) (what : Received) → c.role ≡ Initiator �
 m_waiting_answer c Unreadable r s = m_closes c _ why.Invalid
 m_waiting_answer c Invalid r s = m_closes c _ why.Invalid
 m_waiting_answer c (Cea ids result apps) r s =
-    cond_both (same_ids ids c.last_cer) (answered c result apps) (nothing c) (Moves c (Gets (Cea ids result apps))) (λ t. m_answered c (Gets (Cea ids result apps)) ids result apps r refl) (λ f. m_nothing c _ s)
+    cond_both (same_ids ids c.last_cer) (answered c result apps) (nothing c) (Moves c (Gets (Cea ids result apps))) (λ t. m_answered c (Gets (Cea ids result apps)) ids result apps r refl)
+    (λ f. m_nothing c _ s)
 m_waiting_answer c (Refusal ids) r s =
     cond_both (same_ids ids c.last_cer) (closes c [] why.Refused) (nothing c) (Moves c (Gets (Refusal ids))) (λ t. m_closes c _ why.Refused) (λ f. m_nothing c _ s)
 m_waiting_answer c Foreign r s = m_nothing c _ s
@@ -212,7 +254,8 @@ m_waiting_end c (Refusal ids) s = m_nothing c _ s
 m_waiting_end c (Dwa ids) s = m_nothing c _ s
 m_waiting_end c Other s = m_nothing c _ s
 
-m_watch : (c : PlainCore) (h : Happening) → Suits c.role c.state → Moves c h (record { core = record c { next = after c.next; last_dwr = Some c.next; waits = true }; deeds = Sends (dwr c.config c.next) ∷ [] })
+m_watch : (c : PlainCore) (h : Happening) → Suits c.role c.state
+    → Moves c h (record { core = record c { next = after c.next; last_dwr = Some c.next; waits = true }; deeds = Sends (dwr c.config c.next) ∷ [] })
 m_watch c h s = record { config = refl; role = refl; suits = s; past = λ p. p; sends = (watches c.next refl, tt); opened = λ e. stays e refl refl }
 
 m_ticks : (c : PlainCore) (h : Happening) → Suits c.role c.state → Moves c h (ticks_open c)

@@ -15,7 +15,8 @@ use Rattle.dia_peer.proofs.Sets.{IsIn, to_in, of_in, in_cases, in_left, in_right
 
 -- ---- a number that is put into a set
 
-in_ordering : (k x : ℕ) (xs more : List ℕ) (q : ℕ) (o : Ordering) → nat_cmp k x ≡ o → (IsIn more q ↔ (IsIn xs q ⊎ (k ≡ q))) → IsIn (match_ordering o (k ∷ x ∷ xs) (x ∷ xs) (x ∷ more)) q ↔ (IsIn (x ∷ xs) q ⊎ (k ≡ q))
+in_ordering : (k x : ℕ) (xs more : List ℕ) (q : ℕ) (o : Ordering) → nat_cmp k x ≡ o → (IsIn more q ↔ (IsIn xs q ⊎ (k ≡ q)))
+    → IsIn (match_ordering o (k ∷ x ∷ xs) (x ∷ xs) (x ∷ more)) q ↔ (IsIn (x ∷ xs) q ⊎ (k ≡ q))
 in_ordering k x xs more q Less e h = (⊎_elim (λ l. inr l) (λ r. inl r), ⊎_elim (λ l. inr l) (λ r. inl r))
 in_ordering k x xs more q Equal e h = ((λ m. inl m), ⊎_elim (λ l. l) (λ r. inl (sym (exact_unsigned k x e) ∙ r)))
 in_ordering k x xs more q Greater e h = (
@@ -36,7 +37,8 @@ grown xs new k q e = (
 same_kept : (xs : List ℕ) (q : ℕ) (A : Type 0) → ¬ A → Contains xs q ↔ (Contains xs q ⊎ A)
 same_kept xs q A no_a = ((λ m. inl m), ⊎_elim (λ l. l) (λ r. absurd (no_a r)))
 
-pub insert_auth : (auth acct new : List ℕ) (id : ℕ) → new ≡ insert_key nat_cmp auth id → (p : Pair) → Contains (pick new acct p.kind) p.id ↔ (Contains (pick auth acct p.kind) p.id ⊎ (pair Auth id ≡ p))
+pub insert_auth : (auth acct new : List ℕ) (id : ℕ) → new ≡ insert_key nat_cmp auth id → (p : Pair)
+    → Contains (pick new acct p.kind) p.id ↔ (Contains (pick auth acct p.kind) p.id ⊎ (pair Auth id ≡ p))
 insert_auth auth acct new id e p = by p.kind p.id
   where
     by : (kind : Kind) (n : ℕ) → Contains (pick new acct kind) n ↔ (Contains (pick auth acct kind) n ⊎ (pair Auth id ≡ pair kind n))
@@ -44,7 +46,8 @@ insert_auth auth acct new id e p = by p.kind p.id
         ((λ m. ⊎_elim (λ l. inl l) (λ r. inr (λ i. pair Auth (r i))) (g.0 m)), λ h. g.1 (⊎_elim (λ l. inl l) (λ r. inr (ap (λ (x : Pair). x.id) r)) h))
     by Acct n = same_kept acct n (pair Auth id ≡ pair Acct n) (λ e. let k : Auth ≡ Acct = ap (λ (x : Pair). x.kind) e in absurd cc)
 
-pub insert_acct : (auth acct new : List ℕ) (id : ℕ) → new ≡ insert_key nat_cmp acct id → (p : Pair) → Contains (pick auth new p.kind) p.id ↔ (Contains (pick auth acct p.kind) p.id ⊎ (pair Acct id ≡ p))
+pub insert_acct : (auth acct new : List ℕ) (id : ℕ) → new ≡ insert_key nat_cmp acct id → (p : Pair)
+    → Contains (pick auth new p.kind) p.id ↔ (Contains (pick auth acct p.kind) p.id ⊎ (pair Acct id ≡ p))
 insert_acct auth acct new id e p = by p.kind p.id
   where
     by : (kind : Kind) (n : ℕ) → Contains (pick auth new kind) n ↔ (Contains (pick auth acct kind) n ⊎ (pair Acct id ≡ pair kind n))
@@ -67,7 +70,8 @@ from_listed auth acct p m = by p.kind p.id m
   where
     by : (kind : Kind) (n : ℕ) → IsIn (listed auth acct) (pair kind n) → IsIn (pick auth acct kind) n
     by kind n m =
-        ⊎_elim (λ l. (let r = from_map Auth kind auth n l in subst (λ (k : Kind). IsIn (pick auth acct k) n) r.0 r.1)) (λ l. (let r = from_map Acct kind acct n l in subst (λ (k : Kind). IsIn (pick auth acct k) n) r.0 r.1))
+        ⊎_elim (λ l. (let r = from_map Auth kind auth n l in subst (λ (k : Kind). IsIn (pick auth acct k) n) r.0 r.1)) (λ l. (let r = from_map Acct kind acct n l in
+        subst (λ (k : Kind). IsIn (pick auth acct k) n) r.0 r.1))
         (in_cases (map (λ (id : ℕ). pair Auth id) auth) (map (λ (id : ℕ). pair Acct id) acct) (pair kind n) m)
 
 pub into_listed : (auth acct : List ℕ) (p : Pair) → IsIn (pick auth acct p.kind) p.id → IsIn (listed auth acct) p

@@ -35,18 +35,24 @@ module _ (Inner : List DRule → List ℕ → Type 0) where
 
 -- a Vendor-Specific-Application-Id: a Vendor-Id, and an application of one kind
 group_fits : (n : ℕ) (kind : Kind) (id : ℕ) → Fits base Kept 1 (avp 260 64 (vendor_data n kind id))
-group_fits n Auth id = (tt, (
-  avp32 266 n ∷ avp32 258 id ∷ [],
-  vendor_spells n Auth id,
-  record { rest = _; runs = refl; loose = (inl refl, (inl refl, tt)); counts = ((omega arith, omega arith), ((omega arith, omega arith), ((omega arith, omega arith), tt))) },
-  (vendor_fits (λ rules bytes. ⊥) n, (app_fits (λ rules bytes. ⊥) Auth id, tt)),
-))
-group_fits n Acct id = (tt, (
-  avp32 266 n ∷ avp32 259 id ∷ [],
-  vendor_spells n Acct id,
-  record { rest = _; runs = refl; loose = (inl refl, (inl refl, tt)); counts = ((omega arith, omega arith), ((omega arith, omega arith), ((omega arith, omega arith), tt))) },
-  (vendor_fits (λ rules bytes. ⊥) n, (app_fits (λ rules bytes. ⊥) Acct id, tt)),
-))
+group_fits n Auth id = (
+  tt,
+  (
+    avp32 266 n ∷ avp32 258 id ∷ [],
+    vendor_spells n Auth id,
+    record { rest = _; runs = refl; loose = (inl refl, (inl refl, tt)); counts = ((omega arith, omega arith), ((omega arith, omega arith), ((omega arith, omega arith), tt))) },
+    (vendor_fits (λ rules bytes. ⊥) n, (app_fits (λ rules bytes. ⊥) Auth id, tt)),
+  ),
+)
+group_fits n Acct id = (
+  tt,
+  (
+    avp32 266 n ∷ avp32 259 id ∷ [],
+    vendor_spells n Acct id,
+    record { rest = _; runs = refl; loose = (inl refl, (inl refl, tt)); counts = ((omega arith, omega arith), ((omega arith, omega arith), ((omega arith, omega arith), tt))) },
+    (vendor_fits (λ rules bytes. ⊥) n, (app_fits (λ rules bytes. ⊥) Acct id, tt)),
+  ),
+)
 
 -- what a group on the outer level may hold
 abbrev Inside : List DRule → List ℕ → Type 0

@@ -19,19 +19,22 @@ use Rattle.dia_peer.proofs.Sending.{all_ours}
 is_valid : (n flags code : ℕ) (ids : Ids) (avps : List PlainAvp) (bytes : List ℕ) → (HasR flags → ¬ HasE flags) → (HasT flags → HasR flags) → selected base code (class_of flags) 0 ≡ Some n
     → slice_get (definitions base) n ≡ Some (definition n) → AllowsP (definition n).head flags → Placed (definition n).rules (map key_of avps) → AllByRecursion (Fits base Kept 1) avps
     → IsMessage (header_of flags code ids) avps bytes → IsValid base Kept Any bytes
-is_valid n flags code ids avps bytes apart again select is p placed fit message = (n, record {
-  header = header_of flags code ids;
-  avps = avps;
-  command = definition n;
-  message = message;
-  no_error_request = apart;
-  no_repeated_answer = again;
-  select = select;
-  is_command = is;
-  proxiable = p;
-  placed = placed;
-  fit = (1, fit);
-})
+is_valid n flags code ids avps bytes apart again select is p placed fit message = (
+  n,
+  record {
+    header = header_of flags code ids;
+    avps = avps;
+    command = definition n;
+    message = message;
+    no_error_request = apart;
+    no_repeated_answer = again;
+    select = select;
+    is_command = is;
+    proxiable = p;
+    placed = placed;
+    fit = (1, fit);
+  },
+)
 
 pub ours_are_valid : (c : PlainConfig) (m : Sent) (bytes : List ℕ) → IsConfig c → IsOurs c m → IsMessage m.header m.avps bytes → IsValid base Kept Any bytes
 ours_are_valid c m bytes ok ours message = by m ours (all_ours (Fits base Kept 1) c (each_fits c ok) ok.addresses.2 m ours) message

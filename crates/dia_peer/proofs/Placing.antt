@@ -1,5 +1,35 @@
 -- Pairs put into their places one after the other, and pairs that are found twice.
-use Rattle.std.proofs.Common.{◌≡◌, ℕ, zero, suc, ◌+◌, ◌≤◌, Bool, true, false, cond, List, [], ◌∷◌, length, map, Option, Some, None, inl, inr, ⊎_elim, refl, sym, ap, subst, ◌∙◌, arith, add_comm, add-one}
+use Rattle.std.proofs.Common.{
+  ◌≡◌,
+  ℕ,
+  zero,
+  suc,
+  ◌+◌,
+  ◌≤◌,
+  Bool,
+  true,
+  false,
+  cond,
+  List,
+  [],
+  ◌∷◌,
+  length,
+  map,
+  Option,
+  Some,
+  None,
+  inl,
+  inr,
+  ⊎_elim,
+  refl,
+  sym,
+  ap,
+  subst,
+  ◌∙◌,
+  arith,
+  add_comm,
+  add-one,
+}
 use Rattle.std.specs.Prelude.{position, unwrap_or, slice_get, nat_lt, not, ◌||◌, ◌↔◌, ⊤}
 use Rattle.std.specs.List.{fold, insert, list_any, position_or_len}
 use Rattle.std.proofs.lemmas.Bool.{cond_both, ltb-false}
@@ -79,7 +109,8 @@ into_apart sorted [] out d = tt
 into_apart sorted (x ∷ apps) out d = (
   λ m. out (pair_of x) m (inl refl),
   into_apart (insert_pair (pair_of x) sorted) apps
-      (λ q m k. ⊎_elim (λ e. (let (b, in_apps, same) = in_map pair_of apps q k in let (j, at) = in_at apps b in_apps in let z : zero ≡ suc j = d zero (suc j) x b refl at (e ∙ sym same) in absurd (omega (arith, z))))
+      (λ q m k. ⊎_elim (λ e. (let (b, in_apps, same) = in_map pair_of apps q k in let (j, at) = in_at apps b in_apps in let z : zero ≡ suc j = d zero (suc j) x b refl at (e ∙ sym same) in
+      absurd (omega (arith, z))))
       (λ l. out q l (inr k)) (in_insert (pair_of x) sorted q m))
       (λ i j a b p q e. (let s : suc i ≡ suc j = d (suc i) (suc j) a b p q e in omega (arith, s))),
 )

@@ -20,7 +20,8 @@ use Rattle.dia_peer.proofs.Sets.{IsIn}
 use Rattle.dia_peer.proofs.Spelled.{one_message}
 use Rattle.dia_peer.proofs.Walking.{into_said}
 
-found_first : (p : Key → Bool) (v : PlainAvp) (vs : List PlainAvp) (b : Bool) → p (key_of v) ≡ b → 1 ≤ count_by p (map key_of (v ∷ vs)) → (1 ≤ count_by p (map key_of vs) → (w : PlainAvp) × IsIn vs w × (p (key_of w) ≡ true))
+found_first : (p : Key → Bool) (v : PlainAvp) (vs : List PlainAvp) (b : Bool) → p (key_of v) ≡ b → 1 ≤ count_by p (map key_of (v ∷ vs))
+    → (1 ≤ count_by p (map key_of vs) → (w : PlainAvp) × IsIn vs w × (p (key_of w) ≡ true))
     → (w : PlainAvp) × IsIn (v ∷ vs) w × (p (key_of w) ≡ true)
 found_first p v vs true e h later = (v, inl refl, e)
 found_first p v vs false e h later =

@@ -13,7 +13,27 @@ use Rattle.dia_peer.specs.declared.config.Ip.{Ip}
 use Rattle.dia_peer.specs.declared.config.Ip.TheVariants.{V4, V6}
 use Rattle.dia_peer.specs.declared.event.Cause.{Cause}
 use Rattle.dia_peer.specs.Core.{PlainConfig, IsConfig, IsIp, Sent}
-use Rattle.dia_peer.specs.Messages.{avp, avp32, address, app_code, spelled, origin, capabilities, applications, if_some, plain_app, vendor_app, IsOurs, is_cer, is_cea, is_dwr, is_dwa, is_dpr, is_dpa, cause_number}
+use Rattle.dia_peer.specs.Messages.{
+  avp,
+  avp32,
+  address,
+  app_code,
+  spelled,
+  origin,
+  capabilities,
+  applications,
+  if_some,
+  plain_app,
+  vendor_app,
+  IsOurs,
+  is_cer,
+  is_cea,
+  is_dwr,
+  is_dwa,
+  is_dpr,
+  is_dpa,
+  cause_number,
+}
 
 pub all_append : {X : Type 0} (P : X → Type 0) (xs ys : List X) → AllByRecursion P xs → AllByRecursion P ys → AllByRecursion P (xs ++ ys)
 all_append P [] ys h k = k
@@ -40,7 +60,8 @@ pub record OfEach (P : PlainAvp → Type 0) (c : PlainConfig) : Type 0 where
   pub cause : (cause : Cause) → P (avp32 273 (cause_number cause))
 
 module _ (P : PlainAvp → Type 0) (of : OfApps P) where
-  one_plain : (wanted kind : Kind) (id : ℕ) (vendor : Option ℕ) (vs : List PlainAvp) → AllByRecursion P vs → AllByRecursion P (cons_option (plain_app wanted (record { kind = kind; id = id; vendor = vendor })) vs)
+  one_plain : (wanted kind : Kind) (id : ℕ) (vendor : Option ℕ) (vs : List PlainAvp) → AllByRecursion P vs
+      → AllByRecursion P (cons_option (plain_app wanted (record { kind = kind; id = id; vendor = vendor })) vs)
   one_plain Auth Auth id None vs k = (of.app Auth id, k)
   one_plain Acct Acct id None vs k = (of.app Acct id, k)
   one_plain Auth Acct id None vs k = k
@@ -79,7 +100,8 @@ module _ (P : PlainAvp → Type 0) (c : PlainConfig) (of : OfEach P c) where
   all_capabilities : AllByRecursion IsIp c.addresses → AllByRecursion P (capabilities c)
   all_capabilities ips =
       all_append P (map (λ ip. avp 257 64 (address ip)) c.addresses ++ avp32 266 c.vendor ∷ avp 269 0 c.product ∷ []) (if_some (avp32 278) c.state_id)
-      (all_append P (map (λ ip. avp 257 64 (address ip)) c.addresses) (avp32 266 c.vendor ∷ avp 269 0 c.product ∷ []) (all_addresses c.addresses ips) (of.vendor, (of.product, tt))) (all_state c.state_id)
+      (all_append P (map (λ ip. avp 257 64 (address ip)) c.addresses) (avp32 266 c.vendor ∷ avp 269 0 c.product ∷ []) (all_addresses c.addresses ips) (of.vendor, (of.product, tt)))
+      (all_state c.state_id)
 
   all_exchange : AllByRecursion IsIp c.addresses → AllByRecursion P (origin c ++ capabilities c ++ applications c)
   all_exchange ips = all_append P (origin c ++ capabilities c) (applications c) (all_append P (origin c) (capabilities c) all_origin (all_capabilities ips)) (all_applications P of.apps c)

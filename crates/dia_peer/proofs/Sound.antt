@@ -17,8 +17,33 @@ use Rattle.dia_peer.specs.Core.{PlainConfig, PlainCore, PlainTaken, Pair, IsConf
 use Rattle.dia_peer.specs.Messages.{Received, Unreadable, Foreign, Invalid, Cer, Dwr, Dpr, Cea, Refusal, Dwa, Dpa, Other, cea, dwr, after, IsOurs, is_cer, is_cea, is_dwr, is_dwa, is_dpr, is_dpa}
 use Rattle.dia_peer.specs.Machine.{AreOutputs, IsSound, IsStep}
 use Rattle.dia_peer.specs.Table.{
-  Happening, Starts, Gets, Ticks, Stops, Breaks, Deed, Sends, Closes, Outcome, nothing, closes, same_bytes, same_ids, starts, opens, answered, accepts, repeated,
-  gets_waiting_answer, gets_waiting_request, only_responder, gets_open, gets_waiting_end, ticks_open, happens_in, happens
+  Happening,
+  Starts,
+  Gets,
+  Ticks,
+  Stops,
+  Breaks,
+  Deed,
+  Sends,
+  Closes,
+  Outcome,
+  nothing,
+  closes,
+  same_bytes,
+  same_ids,
+  starts,
+  opens,
+  answered,
+  accepts,
+  repeated,
+  gets_waiting_answer,
+  gets_waiting_request,
+  only_responder,
+  gets_open,
+  gets_waiting_end,
+  ticks_open,
+  happens_in,
+  happens,
 }
 use Rattle.dia_peer.proofs.OurMessages.{ours_are_valid}
 

@@ -92,7 +92,8 @@ three_numbers a c e b d f x h k m n =
     let three : e ≡ f = omega (arith, u, v, h.0, h.1.0, h.1.1.0, k.0, k.1.0, k.1.1.0) in
     λ i. one i ∷ two i ∷ three i ∷ []
 
-four_numbers : (a c e g b d f j x : ℕ) → AreBytes (a ∷ c ∷ e ∷ g ∷ []) → AreBytes (b ∷ d ∷ f ∷ j ∷ []) → number (a ∷ c ∷ e ∷ g ∷ []) ≡ x → number (b ∷ d ∷ f ∷ j ∷ []) ≡ x → a ∷ c ∷ e ∷ g ∷ [] ≡ b ∷ d ∷ f ∷ j ∷ []
+four_numbers : (a c e g b d f j x : ℕ) → AreBytes (a ∷ c ∷ e ∷ g ∷ []) → AreBytes (b ∷ d ∷ f ∷ j ∷ []) → number (a ∷ c ∷ e ∷ g ∷ []) ≡ x → number (b ∷ d ∷ f ∷ j ∷ []) ≡ x
+    → a ∷ c ∷ e ∷ g ∷ [] ≡ b ∷ d ∷ f ∷ j ∷ []
 four_numbers a c e g b d f j x h k m n =
     let u : a * 16777216 + (c * 65536 + (e * 256 + (g * 1 + 0))) ≡ x = m in
     let v : b * 16777216 + (d * 65536 + (f * 256 + (j * 1 + 0))) ≡ x = n in
@@ -110,7 +111,8 @@ three_same a b x h k m n =
 pub four_same : (a b : List ℕ) (x : ℕ) → AreBytes a → AreBytes b → IsField 4 x a → IsField 4 x b → a ≡ b
 four_same a b x h k m n =
     let s = four_of a m.width in let t = four_of b n.width in
-    s ∙ four_numbers (at a 0) (at a 1) (at a 2) (at a 3) (at b 0) (at b 1) (at b 2) (at b 3) x (subst AreBytes s h) (subst AreBytes t k) (ap number (sym s) ∙ m.value) (ap number (sym t) ∙ n.value) ∙ sym t
+    s ∙ four_numbers (at a 0) (at a 1) (at a 2) (at a 3) (at b 0) (at b 1) (at b 2) (at b 3) x (subst AreBytes s h) (subst AreBytes t k) (ap number (sym s) ∙ m.value) (ap number (sym t) ∙ n.value)
+    ∙ sym t
 
 vendor_same : (o : Option ℕ) (a b : List ℕ) → AreBytes a → AreBytes b → IsVendorField o a → IsVendorField o b → a ≡ b
 vendor_same None a b h k m n = m ∙ sym n
@@ -174,6 +176,7 @@ one_writing h vs a b ha hb m n =
     let s = m.message in let t = n.message in
     let x = bytes_cases s.head s.body (subst AreBytes s.parts ha) in let y = bytes_cases t.head t.body (subst AreBytes t.parts hb) in
     let bodies = list_same vs s.body t.body x.1 y.1 m.zeros n.zeros in
-    let size : length a ≡ length b = omega (arith, ap length s.parts ∙ length-append s.head s.body, ap length t.parts ∙ length-append t.head t.body, head_size s.head s.is_head, head_size t.head t.is_head, ap length bodies) in
+    let size : length a ≡ length b =
+    omega (arith, ap length s.parts ∙ length-append s.head s.body, ap length t.parts ∙ length-append t.head t.body, head_size s.head s.is_head, head_size t.head t.is_head, ap length bodies) in
     let heads = head_same h (length b) s.head t.head x.0 y.0 (subst (λ (n : ℕ). IsHead h n s.head) size s.is_head) t.is_head in
     s.parts ∙ (λ i. heads i ++ bodies i) ∙ sym t.parts

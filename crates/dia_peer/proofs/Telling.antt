@@ -36,8 +36,10 @@ some_kind v p (Some k) is = refl
 
 names_to : (v : PlainAvp) (p : Pair) → Names v p → NamesHere v p
 names_to v p n =
-    ⊎_elim (λ e. (let q : pair Auth (number v.bytes) ≡ p = same_Some (pair Auth (number v.bytes)) p (sym (names_at v Auth 258 e refl) ∙ n) in (ap (λ (x : Pair). x.id) q, inl (sym (ap (λ (x : Pair). x.kind) q), e))))
-    (λ e. (let q : pair Acct (number v.bytes) ≡ p = same_Some (pair Acct (number v.bytes)) p (sym (names_at v Acct 259 e refl) ∙ n) in (ap (λ (x : Pair). x.id) q, inr (sym (ap (λ (x : Pair). x.kind) q), e))))
+    ⊎_elim (λ e. (let q : pair Auth (number v.bytes) ≡ p = same_Some (pair Auth (number v.bytes)) p (sym (names_at v Auth 258 e refl) ∙ n) in
+    (ap (λ (x : Pair). x.id) q, inl (sym (ap (λ (x : Pair). x.kind) q), e))))
+    (λ e. (let q : pair Acct (number v.bytes) ≡ p = same_Some (pair Acct (number v.bytes)) p (sym (names_at v Acct 259 e refl) ∙ n) in
+    (ap (λ (x : Pair). x.id) q, inr (sym (ap (λ (x : Pair). x.kind) q), e))))
     (kind_cases (key_of v) (some_kind v p (kind_of (key_of v)) n))
 
 names_from : (v : PlainAvp) (p : Pair) → NamesHere v p → Names v p

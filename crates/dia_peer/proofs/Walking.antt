@@ -23,9 +23,6 @@ begun v front s = let o = opened v front [] s in omega (arith, o.front_length, r
 pub shorter : (v : PlainAvp) (level rest : List ℕ) → BeginsWith v level rest → length rest < length level
 shorter v level rest (front, s, parts) = omega (arith, begun v front s, ap length parts, length-append front rest)
 
-pub empty_none : (level : List ℕ) → length level ≡ 0 → BeginsWithNone level
-empty_none level e v rest b = let h = shorter v level rest b in omega (arith, h, e)
-
 -- a level that begins with an AVP has it as its first
 pub first_is : (vs : List PlainAvp) (v : PlainAvp) (level rest : List ℕ) → SpellsAll vs level → BeginsWith v level rest → (more : List PlainAvp) × (vs ≡ v ∷ more) × SpellsAll more rest
 first_is [] v level rest all b = absurd (let h = shorter v level rest b in omega (arith, h, ap length all))
@@ -59,15 +56,8 @@ pub record Walk {Q : Type 0} (good : PlainAvp → Type 0) (says : PlainAvp → Q
   pub found : (p : Q) → (start p ⊎ SaidBy says avps p) ↔ (now p ⊎ SaidBy says left p)
 
 module _ {Q : Type 0} (good : PlainAvp → Type 0) (says : PlainAvp → Q → Type 0) (avps : List PlainAvp) (start : Q → Type 0) where
-  pub walk_begins : (now : Q → Type 0) (level : List ℕ) → ((p : Q) → now p ↔ start p) → SpellsAll avps level → AllByRecursion good avps → Walk good says avps start now level
-  walk_begins now level same all are = record {
-    left = avps;
-    spells = all;
-    are_good = are;
-    found = λ p. ((λ h. ⊎_elim (λ n. inl ((same p).1 n)) (λ s. inr s) h), (λ h. ⊎_elim (λ n. inl ((same p).0 n)) (λ s. inr s) h));
-  }
-
-  pub walk_goes : (now new : Q → Type 0) (level rest : List ℕ) (v : PlainAvp) → Walk good says avps start now level → BeginsWith v level rest → (good v → (p : Q) → new p ↔ (now p ⊎ says v p)) → Walk good says avps start new rest
+  pub walk_goes : (now new : Q → Type 0) (level rest : List ℕ) (v : PlainAvp) → Walk good says avps start now level → BeginsWith v level rest → (good v → (p : Q) → new p ↔ (now p ⊎ says v p))
+      → Walk good says avps start new rest
   walk_goes now new level rest v w b adds =
       let (more, is, spells) = first_is w.left v level rest w.spells b in
       let are = subst (AllByRecursion good) is w.are_good in
@@ -77,7 +67,8 @@ module _ {Q : Type 0} (good : PlainAvp → Type 0) (says : PlainAvp → Q → Ty
         are_good = are.1;
         found = λ p. (
           λ h. ⊎_elim (λ n. inl ((adds are.0 p).1 (inl n))) (λ s. ⊎_elim (λ x. inl ((adds are.0 p).1 (inr x))) (λ y. inr y) (subst (λ (l : List PlainAvp). SaidBy says l p) is s)) ((w.found p).0 h),
-          λ h. (w.found p).1 (⊎_elim (λ n. ⊎_elim (λ x. inl x) (λ y. inr (subst (λ (l : List PlainAvp). SaidBy says l p) (sym is) (inl y))) ((adds are.0 p).0 n)) (λ s. inr (subst (λ (l : List PlainAvp). SaidBy says l p) (sym is) (inr s))) h),
+          λ h. (w.found p).1 (⊎_elim (λ n. ⊎_elim (λ x. inl x) (λ y. inr (subst (λ (l : List PlainAvp). SaidBy says l p) (sym is) (inl y))) ((adds are.0 p).0 n))
+              (λ s. inr (subst (λ (l : List PlainAvp). SaidBy says l p) (sym is) (inr s))) h),
         );
       }
 
@@ -90,29 +81,27 @@ module _ {Q : Type 0} (good : PlainAvp → Type 0) (says : PlainAvp → Q → Ty
 
 -- ---- what one AVP names
 
-pub names_pair : (v : PlainAvp) (kind : Kind) (id : ℕ) (start now : Pair → Type 0) → Some kind ≡ kind_of (key_of v) → id ≡ number v.bytes → ((p : Pair) → now p ↔ (start p ⊎ (pair kind id ≡ p))) → (p : Pair) → now p ↔ (start p ⊎ Names v p)
+pub names_pair : (v : PlainAvp) (kind : Kind) (id : ℕ) (start now : Pair → Type 0) → Some kind ≡ kind_of (key_of v) → id ≡ number v.bytes → ((p : Pair) → now p ↔ (start p ⊎ (pair kind id ≡ p)))
+    → (p : Pair) → now p ↔ (start p ⊎ Names v p)
 names_pair v kind id start now is id_is adds p =
     let named : named_by v ≡ Some (pair kind id) = ap (option_map (λ (k : Kind). pair k (number v.bytes))) (sym is) ∙ (λ i. Some (pair kind (sym id_is i))) in (
       λ n. ⊎_elim (λ l. inl l) (λ e. inr (named ∙ ap (λ (q : Pair). Some q) e)) ((adds p).0 n),
       λ h. (adds p).1 (⊎_elim (λ l. inl l) (λ e. inr (same_Some (pair kind id) p (sym named ∙ e))) h),
     )
 
-pub names_none : (v : PlainAvp) (start : Pair → Type 0) → None ≡ kind_of (key_of v) → (p : Pair) → start p ↔ (start p ⊎ Names v p)
-names_none v start is p =
-    let named : named_by v ≡ None = ap (option_map (λ (k : Kind). pair k (number v.bytes))) (sym is) in
-    ((λ n. inl n), (λ h. ⊎_elim (λ l. l) (λ e. absurd (none-some p (sym named ∙ e))) h))
-
 pub has_four : (v : PlainAvp) (kind : Kind) → Some kind ≡ kind_of (key_of v) → HasNumber v → length v.bytes ≡ 4
 has_four v kind is h = h (subst (λ (o : Option Kind). IsSome o) is refl)
 
 -- an AVP and those inside it
 pub tells_inside : (v : PlainAvp) (start mid now : Pair → Type 0) → true ≡ is_vendor_specific (key_of v) → ((p : Pair) → mid p ↔ (start p ⊎ Names v p))
-    → ((inner : List PlainAvp) → SpellsAll inner v.bytes → AllByRecursion HasNumber inner → (p : Pair) → now p ↔ (mid p ⊎ SaidBy Names inner p)) → IsReadable v → (p : Pair) → now p ↔ (start p ⊎ Tells v p)
+    → ((inner : List PlainAvp) → SpellsAll inner v.bytes → AllByRecursion HasNumber inner → (p : Pair) → now p ↔ (mid p ⊎ SaidBy Names inner p)) → IsReadable v → (p : Pair)
+    → now p ↔ (start p ⊎ Tells v p)
 tells_inside v start mid now is first later readable p =
     let (inner, all, are) = readable.1 (sym is) in
     let k = later inner all are p in (
       λ n. ⊎_elim (λ m. ⊎_elim (λ l. inl l) (λ r. inr (inl r)) ((first p).0 m)) (λ s. inr (inr (sym is, (inner, all, s)))) (k.0 n),
-      λ h. k.1 (⊎_elim (λ l. inl ((first p).1 (inl l))) (λ t. ⊎_elim (λ r. inl ((first p).1 (inr r))) (λ w. inr (subst (λ (l : List PlainAvp). SaidBy Names l p) (one_list w.1.0 inner v.bytes w.1.1 all) w.1.2)) t) h),
+      λ h. k.1 (⊎_elim (λ l. inl ((first p).1 (inl l)))
+          (λ t. ⊎_elim (λ r. inl ((first p).1 (inr r))) (λ w. inr (subst (λ (l : List PlainAvp). SaidBy Names l p) (one_list w.1.0 inner v.bytes w.1.1 all) w.1.2)) t) h),
     )
 
 pub tells_none : (v : PlainAvp) (start now : Pair → Type 0) → false ≡ is_vendor_specific (key_of v) → ((p : Pair) → now p ↔ (start p ⊎ Names v p)) → (p : Pair) → now p ↔ (start p ⊎ Tells v p)
@@ -126,7 +115,8 @@ tells_none v start now is first p = (
 pub no_result : (v : PlainAvp) → false ≡ is_result_code (key_of v) → (n : ℕ) → ⊥ ↔ (⊥ ⊎ IsResult v n)
 no_result v is n = ((λ x. absurd x), ⊎_elim (λ l. l) (λ w. (let f : false ≡ true = is ∙ w.0 in absurd cc)))
 
-pub result_here : (avps : List PlainAvp) (v : PlainAvp) (level rest : List ℕ) (r : Option ℕ) → Walk HasCode IsResult avps (λ n. ⊥) (λ n. ⊥) level → BeginsWith v level rest → true ≡ is_result_code (key_of v)
+pub result_here : (avps : List PlainAvp) (v : PlainAvp) (level rest : List ℕ) (r : Option ℕ) → Walk HasCode IsResult avps (λ n. ⊥) (λ n. ⊥) level → BeginsWith v level rest
+    → true ≡ is_result_code (key_of v)
     → (IsSome r ↔ (length v.bytes ≡ 4)) → IfSome r (λ n. n ≡ number v.bytes) → MatchOption r ((n : ℕ) → ¬ SaidBy IsResult avps n) (SaidBy IsResult avps)
 result_here avps v level rest r w b is some value =
     let (more, left_is, spells) = first_is w.left v level rest w.spells b in

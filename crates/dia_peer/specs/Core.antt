@@ -26,7 +26,18 @@ pub record PlainConfig : Type 0 where
   pub e2e : ℕ
 
 abbrev pub plain : Config → PlainConfig
-plain c = record { host = string_bytes c.host; realm = string_bytes c.realm; product = string_bytes c.product; addresses = c.addresses.items; vendor = c.vendor; apps = c.apps.items; state_id = c.state_id; hop = c.hop; e2e = c.e2e }
+plain c = record {
+  host = string_bytes c.host;
+  realm = string_bytes c.realm;
+  product = string_bytes c.product;
+  addresses = c.addresses.items;
+  vendor = c.vendor;
+  apps = c.apps.items;
+  state_id =
+      c.state_id;
+  hop = c.hop;
+  e2e = c.e2e;
+}
 
 -- a printing character of ASCII that is no space
 abbrev pub IsGraphic : ℕ → Type 0

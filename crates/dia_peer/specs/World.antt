@@ -13,7 +13,19 @@ use Rattle.dia_peer.specs.Table.{Happening, Starts, Gets, Ticks, Stops, Breaks, 
 
 -- the core of a configuration before its first event
 abbrev pub idle : PlainConfig → Role → PlainCore
-idle config role = record { config = config; role = role; state = Idle; common = []; next = record { hop = config.hop; e2e = config.e2e }; last_cer = None; last_dwr = None; last_dpr = None; waits = false; taken = None }
+idle config role = record {
+  config = config;
+  role = role;
+  state = Idle;
+  common = [];
+  next = record { hop = config.hop; e2e = config.e2e };
+  last_cer = None;
+  last_dwr = None;
+  last_dpr =
+      None;
+  waits = false;
+  taken = None;
+}
 
 -- an end, and the bytes of each message that it has sent
 pub record End : Type 0 where

@@ -29,7 +29,9 @@ fn is_relay(id: u32) -> bool
 ///
 /// Each is put into its place by a scan of those before it: at most 1,024 times 1,024 steps, once for each core.
 pub(crate) fn sorted(alloc: Global, apps: &[App]) -> Result<Option<Vec<(Kind, u32)>>, AllocError>
-    ensures { IfOk result (λ found. MatchOption found (¬ AreDistinct apps.now) (λ pairs. AreDistinct apps.now × (pairs_of pairs.items ≡ sorted_pairs (map pair_of apps.now)))) }
+    ensures { IfOk result
+        (λ found. MatchOption found (¬ AreDistinct apps.now) (λ pairs. AreDistinct apps.now
+        × (pairs_of pairs.items ≡ sorted_pairs (map pair_of apps.now)))) }
 {
     let mut pairs = Vec::new(alloc);
     for app in apps {

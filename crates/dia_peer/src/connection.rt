@@ -32,7 +32,16 @@ pub struct Core {
 impl Core {
     ghost use Rattle.dia_peer.specs.Machine.{core_of, IsStep, IsRefusedAs, IsSound, Does};
     ghost use Rattle.dia_peer.specs.Table.{
-        happens, starts, Starts, Ticks, Stops, Breaks, closed, closes, stops_open, ticks_open
+      happens,
+      starts,
+      Starts,
+      Ticks,
+      Stops,
+      Breaks,
+      closed,
+      closes,
+      stops_open,
+      ticks_open,
     };
 
     /// A core before its first event. The base dictionary is made ready for it once.
@@ -69,8 +78,8 @@ impl Core {
         self.state
     }
 
-    /// The applications that both ends advertise, Auth first and then by number: none before the connection is open, and kept from then on.
-    /// Takes no memory.
+    /// The applications that both ends advertise, Auth first and then by number: none before the connection is
+    /// open, and kept from then on. Takes no memory.
     pub fn common(&self) -> &[(Kind, u32)]
         ensures { pairs_of result.now ≡ (core_of self.now).common }
     {
@@ -244,7 +253,8 @@ impl Core {
 
     fn sends_and_closes(&mut self, bytes: Vec<u8>, why: Why) -> Result<Vec<Output>, AllocError>
         ensures ok { IfOk result
-            (λ outputs. (core_of self.new ≡ closed (core_of self.old)) × (outputs.items ≡ Output.Send bytes ∷ Output.Close why ∷ [])) }
+            (λ outputs. (core_of self.new ≡ closed (core_of self.old))
+            × (outputs.items ≡ Output.Send bytes ∷ Output.Close why ∷ [])) }
         ensures err { OnErr result (core_of self.new ≡ core_of self.old) }
     {
         let mut outputs = self.sends(bytes)?;

@@ -18,7 +18,9 @@ const APP_LIMIT: usize = 1024;
 
 /// The applications of a configuration in order, where nothing is wrong with it.
 pub(crate) fn judged(alloc: Global, config: &Config) -> Result<Vec<(Kind, u32)>, ConfigFault>
-    ensures ok { IfOk result (λ pairs. IsConfig (plain config.now) × (pairs_of pairs.items ≡ sorted_pairs (map pair_of config.now.apps.items))) }
+    ensures ok { IfOk result
+        (λ pairs. IsConfig (plain config.now)
+        × (pairs_of pairs.items ≡ sorted_pairs (map pair_of config.now.apps.items))) }
     ensures err { IfErr result (IsRefusedAs (plain config.now)) }
 {
     if !is_identity(&config.host) {

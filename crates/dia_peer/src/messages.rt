@@ -4,6 +4,9 @@ ghost use Rattle.std.specs.Prelude.{◌≡◌, IfOk};
 ghost use Rattle.dia_peer.specs.Core.{plain};
 ghost use Rattle.dia_peer.specs.Messages.{IsSent, cer, cea, dwr, dwa, dpr, dpa, cause_number};
 
+use crate::codes::{
+    CAPABILITIES_EXCHANGE, DEVICE_WATCHDOG, DISCONNECT_CAUSE, DISCONNECT_PEER, RESULT_CODE, SUCCESS,
+};
 use crate::draft::Draft;
 use crate::event::Cause;
 use crate::kept::Ids;
@@ -15,21 +18,6 @@ const REQUEST: u8 = 0x80;
 
 const ANSWER: u8 = 0;
 
-/// The command codes of Capabilities-Exchange, Device-Watchdog and Disconnect-Peer (RFC 6733 section 3.1).
-pub(crate) const CAPABILITIES: u32 = 257;
-
-pub(crate) const WATCHDOG: u32 = 280;
-
-pub(crate) const DISCONNECT: u32 = 282;
-
-/// The code of the AVP Result-Code (RFC 6733 section 7.1).
-const RESULT_CODE: u32 = 268;
-
-/// The result codes DIAMETER_SUCCESS and DIAMETER_NO_COMMON_APPLICATION (RFC 6733 section 7.1).
-pub(crate) const SUCCESS: u32 = 2001;
-
-pub(crate) const NO_COMMON_APPLICATION: u32 = 5010;
-
 impl Node {
     pub(crate) fn cer(&self, ids: Ids) -> Result<Vec<u8>, AllocError>
         ensures { IfOk result (λ bytes. IsSent (cer (plain self.now.config) ids) bytes.items) }
@@ -38,7 +26,7 @@ impl Node {
         put_origin(&mut draft, &self.config)?;
         put_capabilities(self.alloc, &mut draft, &self.config)?;
         put_applications(self.alloc, &mut draft, &self.config)?;
-        draft.message(REQUEST, CAPABILITIES, ids)
+        draft.message(REQUEST, CAPABILITIES_EXCHANGE, ids)
     }
 
     pub(crate) fn cea(&self, ids: Ids, result_code: u32) -> Result<Vec<u8>, AllocError>
@@ -49,7 +37,7 @@ impl Node {
         put_origin(&mut draft, &self.config)?;
         put_capabilities(self.alloc, &mut draft, &self.config)?;
         put_applications(self.alloc, &mut draft, &self.config)?;
-        draft.message(ANSWER, CAPABILITIES, ids)
+        draft.message(ANSWER, CAPABILITIES_EXCHANGE, ids)
     }
 
     pub(crate) fn dwr(&self, ids: Ids) -> Result<Vec<u8>, AllocError>
@@ -58,7 +46,7 @@ impl Node {
         let mut draft = Draft::new(self.alloc);
         put_origin(&mut draft, &self.config)?;
         put_state_id(&mut draft, &self.config)?;
-        draft.message(REQUEST, WATCHDOG, ids)
+        draft.message(REQUEST, DEVICE_WATCHDOG, ids)
     }
 
     pub(crate) fn dwa(&self, ids: Ids) -> Result<Vec<u8>, AllocError>
@@ -68,7 +56,7 @@ impl Node {
         draft.put_number(RESULT_CODE, SUCCESS)?;
         put_origin(&mut draft, &self.config)?;
         put_state_id(&mut draft, &self.config)?;
-        draft.message(ANSWER, WATCHDOG, ids)
+        draft.message(ANSWER, DEVICE_WATCHDOG, ids)
     }
 
     pub(crate) fn dpr(&self, ids: Ids, cause: Cause) -> Result<Vec<u8>, AllocError>
@@ -76,8 +64,8 @@ impl Node {
     {
         let mut draft = Draft::new(self.alloc);
         put_origin(&mut draft, &self.config)?;
-        draft.put_number(273, cause_number(cause))?;
-        draft.message(REQUEST, DISCONNECT, ids)
+        draft.put_number(DISCONNECT_CAUSE, cause_number(cause))?;
+        draft.message(REQUEST, DISCONNECT_PEER, ids)
     }
 
     pub(crate) fn dpa(&self, ids: Ids) -> Result<Vec<u8>, AllocError>
@@ -86,7 +74,7 @@ impl Node {
         let mut draft = Draft::new(self.alloc);
         draft.put_number(RESULT_CODE, SUCCESS)?;
         put_origin(&mut draft, &self.config)?;
-        draft.message(ANSWER, DISCONNECT, ids)
+        draft.message(ANSWER, DISCONNECT_PEER, ids)
     }
 }
 

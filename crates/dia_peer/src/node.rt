@@ -6,9 +6,25 @@ ghost use Rattle.std.specs.List.{filter_map, list_any};
 ghost use Rattle.dia_peer.specs.Core.{IsConfig, plain, pair_of, the_pair, pairs_of, same_pair, sorted_pairs, common_of};
 ghost use Rattle.dia_peer.specs.Incoming.{pairs_named};
 ghost use Rattle.dia_peer.specs.Drafts.{drafted};
-ghost use Rattle.dia_peer.specs.Messages.{avp, address, avp32, spelled, origin, capabilities, applications, app_code, plain_app, vendor_app, if_some};
+ghost use Rattle.dia_peer.specs.Messages.{
+  avp,
+  address,
+  avp32,
+  spelled,
+  origin,
+  capabilities,
+  applications,
+  app_code,
+  plain_app,
+  vendor_app,
+  if_some,
+};
 
 use crate::base::BaseBook;
+use crate::codes::{
+    ACCT_APPLICATION_ID, AUTH_APPLICATION_ID, HOST_IP_ADDRESS, ORIGIN_HOST, ORIGIN_REALM,
+    ORIGIN_STATE_ID, PRODUCT_NAME, VENDOR_ID, VENDOR_SPECIFIC_APPLICATION_ID,
+};
 use crate::config::{App, Config, ConfigFault, Ip, Kind};
 use crate::draft::Draft;
 use crate::judging::judged;
@@ -60,7 +76,9 @@ fn push_if_named(
     app: (Kind, u32),
     named: &Named,
 ) -> Result<(), AllocError>
-    ensures { OnOk result (pairs_of common.new.items ≡ pairs_of common.old.items ++ filter (λ p. list_any (same_pair p) (pairs_named named.now)) (the_pair app ∷ [])) }
+    ensures { OnOk result
+        (pairs_of common.new.items ≡ pairs_of common.old.items
+        ++ filter (λ p. list_any (same_pair p) (pairs_named named.now)) (the_pair app ∷ [])) }
 {
     if named.contains(app.0, app.1) {
         common.push(app)?;
@@ -72,8 +90,8 @@ fn push_if_named(
 pub(crate) fn put_origin(draft: &mut Draft, config: &Config) -> Result<(), AllocError>
     ensures { OnOk result (drafted draft.new ≡ drafted draft.old ++ origin (plain config.now)) }
 {
-    draft.put(264, config.host.as_bytes())?;
-    draft.put(296, config.realm.as_bytes())
+    draft.put(ORIGIN_HOST, config.host.as_bytes())?;
+    draft.put(ORIGIN_REALM, config.realm.as_bytes())
 }
 
 /// Origin-State-Id (RFC 6733 section 8.16), where there is one.
@@ -81,7 +99,7 @@ pub(crate) fn put_state_id(draft: &mut Draft, config: &Config) -> Result<(), All
     ensures { OnOk result (drafted draft.new ≡ drafted draft.old ++ if_some (avp32 278) config.now.state_id) }
 {
     match config.state_id {
-        Some(id) => draft.put_number(278, id),
+        Some(id) => draft.put_number(ORIGIN_STATE_ID, id),
         None => Ok(()),
     }
 }
@@ -95,8 +113,8 @@ pub(crate) fn put_capabilities(
     ensures { OnOk result (drafted draft.new ≡ drafted draft.old ++ capabilities (plain config.now)) }
 {
     put_addresses(alloc, draft, &config.addresses)?;
-    draft.put_number(266, config.vendor)?;
-    draft.put_optional(269, config.product.as_bytes())?;
+    draft.put_number(VENDOR_ID, config.vendor)?;
+    draft.put_optional(PRODUCT_NAME, config.product.as_bytes())?;
     put_state_id(draft, config)
 }
 
@@ -106,7 +124,7 @@ fn put_addresses(alloc: Global, draft: &mut Draft, addresses: &[Ip]) -> Result<(
 {
     for ip in addresses {
         let bytes = address_bytes(alloc, ip)?;
-        draft.put(257, &bytes)?;
+        draft.put(HOST_IP_ADDRESS, &bytes)?;
     }
     Ok(())
 }
@@ -156,8 +174,8 @@ fn put_if_plain(draft: &mut Draft, wanted: Kind, app: &App) -> Result<(), AllocE
     ensures { OnOk result (drafted draft.new ≡ drafted draft.old ++ filter_map (plain_app wanted) (app.now ∷ [])) }
 {
     match (app.vendor, wanted, app.kind) {
-        (None, Kind::Auth, Kind::Auth) => draft.put_number(258, app.id),
-        (None, Kind::Acct, Kind::Acct) => draft.put_number(259, app.id),
+        (None, Kind::Auth, Kind::Auth) => draft.put_number(AUTH_APPLICATION_ID, app.id),
+        (None, Kind::Acct, Kind::Acct) => draft.put_number(ACCT_APPLICATION_ID, app.id),
         (None, Kind::Auth, Kind::Acct) | (None, Kind::Acct, Kind::Auth) => Ok(()),
         (Some(_), _, _) => Ok(()),
     }
@@ -180,9 +198,9 @@ fn put_if_vendor(alloc: Global, draft: &mut Draft, app: &App) -> Result<(), Allo
         return Ok(());
     };
     let mut bytes = Vec::new(alloc);
-    push_number(&mut bytes, 266, vendor)?;
+    push_number(&mut bytes, VENDOR_ID, vendor)?;
     push_number(&mut bytes, app_code(app.kind), app.id)?;
-    draft.put(260, &bytes)?;
+    draft.put(VENDOR_SPECIFIC_APPLICATION_ID, &bytes)?;
     Ok(())
 }
 
@@ -191,8 +209,8 @@ fn app_code(kind: Kind) -> u32
     ensures { result ≡ app_code kind }
 {
     match kind {
-        Kind::Auth => 258,
-        Kind::Acct => 259,
+        Kind::Auth => AUTH_APPLICATION_ID,
+        Kind::Acct => ACCT_APPLICATION_ID,
     }
 }
 

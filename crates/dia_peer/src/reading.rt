@@ -4,8 +4,23 @@ ghost use Rattle.std.specs.Prelude.{◌≡◌, ◌⊎◌, ◌↔◌, ℕ, List, 
 ghost use Rattle.std.specs.List.{AllByRecursion};
 ghost use Rattle.dia_wire.specs.Wire.{PlainAvp, plain, BeginsWith, BeginsWithNone, SpellsAll};
 ghost use Rattle.dia_peer.specs.Core.{Pair};
-ghost use Rattle.dia_peer.specs.Incoming.{Has, HasNumber, Names, SaidBy, Tells, IsReadable, IsResult, HasCode, kind_of, is_vendor_specific, is_result_code};
+ghost use Rattle.dia_peer.specs.Incoming.{
+  Has,
+  HasNumber,
+  Names,
+  SaidBy,
+  Tells,
+  IsReadable,
+  IsResult,
+  HasCode,
+  kind_of,
+  is_vendor_specific,
+  is_result_code,
+};
 
+use crate::codes::{
+    ACCT_APPLICATION_ID, AUTH_APPLICATION_ID, RESULT_CODE, VENDOR_SPECIFIC_APPLICATION_ID,
+};
 use crate::config::Kind;
 use crate::named::Named;
 use dia_dict::Key;
@@ -16,7 +31,9 @@ use std::alloc::{AllocError, Global};
 ///
 /// Each is put into an ordered set: a body of n AVPs takes n times log n steps.
 pub(crate) fn named_in(alloc: Global, body: &[u8]) -> Result<Named, AllocError>
-    ensures { IfOk result (λ named. (avps : List PlainAvp) → SpellsAll avps body.now → AllByRecursion IsReadable avps → (p : Pair) → Has named p ↔ SaidBy Tells avps p) }
+    ensures { IfOk result
+        (λ named. (avps : List PlainAvp) → SpellsAll avps body.now → AllByRecursion IsReadable avps
+        → (p : Pair) → Has named p ↔ SaidBy Tells avps p) }
 {
     let mut named = Named::new(alloc);
     let mut rest = body;
@@ -29,7 +46,8 @@ pub(crate) fn named_in(alloc: Global, body: &[u8]) -> Result<Named, AllocError>
 
 /// The number of the first Result-Code.
 pub(crate) fn result_code(body: &[u8]) -> Option<u32>
-    ensures { (avps : List PlainAvp) → SpellsAll avps body.now → AllByRecursion HasCode avps → MatchOption result ((n : ℕ) → ¬ SaidBy IsResult avps n) (SaidBy IsResult avps) }
+    ensures { (avps : List PlainAvp) → SpellsAll avps body.now → AllByRecursion HasCode avps
+        → MatchOption result ((n : ℕ) → ¬ SaidBy IsResult avps n) (SaidBy IsResult avps) }
 {
     let mut rest = body;
     while let Some((avp, after)) = first_of(rest) {
@@ -54,7 +72,9 @@ fn first_of(level: &[u8]) -> Option<(Avp<'_>, &[u8])>
 
 /// Adds the application that an AVP names, and those that stand directly inside it.
 fn add_told(named: &mut Named, avp: &Avp<'_>) -> Result<(), AllocError>
-    ensures { OnOk result (IsReadable (plain avp.now) → (p : Pair) → Has named.new p ↔ (Has named.old p ⊎ Tells (plain avp.now) p)) }
+    ensures { OnOk result
+        (IsReadable (plain avp.now) → (p : Pair) → Has named.new p
+        ↔ (Has named.old p ⊎ Tells (plain avp.now) p)) }
 {
     add_named(named, avp)?;
     if is_vendor_specific(key(avp)) {
@@ -65,7 +85,9 @@ fn add_told(named: &mut Named, avp: &Avp<'_>) -> Result<(), AllocError>
 
 /// Adds the applications that the AVPs of a group name.
 fn add_members(named: &mut Named, level: &[u8]) -> Result<(), AllocError>
-    ensures { OnOk result ((avps : List PlainAvp) → SpellsAll avps level.now → AllByRecursion HasNumber avps → (p : Pair) → Has named.new p ↔ (Has named.old p ⊎ SaidBy Names avps p)) }
+    ensures { OnOk result
+        ((avps : List PlainAvp) → SpellsAll avps level.now → AllByRecursion HasNumber avps → (p : Pair)
+        → Has named.new p ↔ (Has named.old p ⊎ SaidBy Names avps p)) }
 {
     let mut rest = level;
     while let Some((avp, after)) = first_of(rest) {
@@ -77,7 +99,9 @@ fn add_members(named: &mut Named, level: &[u8]) -> Result<(), AllocError>
 
 /// Adds the application that an AVP names.
 fn add_named(named: &mut Named, avp: &Avp<'_>) -> Result<(), AllocError>
-    ensures { OnOk result (HasNumber (plain avp.now) → (p : Pair) → Has named.new p ↔ (Has named.old p ⊎ Names (plain avp.now) p)) }
+    ensures { OnOk result
+        (HasNumber (plain avp.now) → (p : Pair) → Has named.new p
+        ↔ (Has named.old p ⊎ Names (plain avp.now) p)) }
 {
     let Some(kind) = kind_of(key(avp)) else {
         return Ok(());
@@ -93,8 +117,8 @@ fn kind_of(key: Key) -> Option<Kind>
     ensures { result ≡ kind_of key }
 {
     match (key.vendor, key.code) {
-        (0, 258) => Some(Kind::Auth),
-        (0, 259) => Some(Kind::Acct),
+        (0, AUTH_APPLICATION_ID) => Some(Kind::Auth),
+        (0, ACCT_APPLICATION_ID) => Some(Kind::Acct),
         _ => None,
     }
 }
@@ -102,11 +126,11 @@ fn kind_of(key: Key) -> Option<Kind>
 fn is_vendor_specific(key: Key) -> bool
     ensures { result ≡ is_vendor_specific key }
 {
-    key.code == 260 && key.vendor == 0
+    key.code == VENDOR_SPECIFIC_APPLICATION_ID && key.vendor == 0
 }
 
 fn is_result_code(key: Key) -> bool
     ensures { result ≡ is_result_code key }
 {
-    key.code == 268 && key.vendor == 0
+    key.code == RESULT_CODE && key.vendor == 0
 }

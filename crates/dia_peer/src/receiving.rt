@@ -10,9 +10,9 @@ ghost use Rattle.dia_check.specs.Faults.{HasLength};
 ghost use Rattle.dia_peer.specs.Messages.{IsOurCode, IsReceived};
 ghost use Rattle.dia_peer.specs.Incoming.{received_of};
 
+use crate::codes::{CAPABILITIES_EXCHANGE, DEVICE_WATCHDOG, DISCONNECT_PEER};
 use crate::incoming::Incoming;
 use crate::kept::Ids;
-use crate::messages::{CAPABILITIES, DISCONNECT, WATCHDOG};
 use crate::node::Node;
 use crate::reading::{named_in, result_code};
 use dia_dict::Class;
@@ -47,7 +47,9 @@ impl Node {
 
 /// The header of bytes that are as many as their Message Length says.
 fn whole_header(bytes: &[u8]) -> Option<Header>
-    ensures some { IfSome result (λ header. IsHead header (length bytes.now) (take 20 bytes.now) × HasLength bytes.now (length bytes.now)) }
+    ensures some { IfSome result
+        (λ header. IsHead header (length bytes.now) (take 20 bytes.now)
+        × HasLength bytes.now (length bytes.now)) }
     ensures none { IsNone result → ¬ HasLength bytes.now (length bytes.now) }
 {
     match read_header(bytes) {
@@ -67,7 +69,7 @@ fn whole_header(bytes: &[u8]) -> Option<Header>
 fn is_our_code(code: u32) -> bool
     ensures { IsTrue result ↔ IsOurCode code }
 {
-    code == CAPABILITIES || code == WATCHDOG || code == DISCONNECT
+    code == CAPABILITIES_EXCHANGE || code == DEVICE_WATCHDOG || code == DISCONNECT_PEER
 }
 
 /// What a valid message of one of the three command codes is.
@@ -93,11 +95,11 @@ fn request(alloc: Global, header: &Header, bytes: &[u8]) -> Result<Incoming, All
     ensures { IfOk result (λ what. IsReceived bytes.now (received_of bytes.now what)) }
 {
     let ids = ids_of(header);
-    if header.code == CAPABILITIES {
+    if header.code == CAPABILITIES_EXCHANGE {
         let named = named_in(alloc, &bytes[HEADER_LENGTH..])?;
         return Ok(Incoming::Cer { ids, named });
     }
-    if header.code == WATCHDOG {
+    if header.code == DEVICE_WATCHDOG {
         return Ok(Incoming::Dwr(ids));
     }
     Ok(Incoming::Dpr(ids))
@@ -112,7 +114,7 @@ fn answer(alloc: Global, header: &Header, bytes: &[u8]) -> Result<Incoming, Allo
     ensures { IfOk result (λ what. IsReceived bytes.now (received_of bytes.now what)) }
 {
     let ids = ids_of(header);
-    if header.code == CAPABILITIES {
+    if header.code == CAPABILITIES_EXCHANGE {
         let body = &bytes[HEADER_LENGTH..];
         let named = named_in(alloc, body)?;
         let Some(result_code) = result_code(body) else {
@@ -124,7 +126,7 @@ fn answer(alloc: Global, header: &Header, bytes: &[u8]) -> Result<Incoming, Allo
             named,
         });
     }
-    if header.code == WATCHDOG {
+    if header.code == DEVICE_WATCHDOG {
         return Ok(Incoming::Dwa(ids));
     }
     Ok(Incoming::Dpa(ids))
@@ -133,9 +135,11 @@ fn answer(alloc: Global, header: &Header, bytes: &[u8]) -> Result<Incoming, Allo
 /// What a valid answer with the E flag is.
 fn error(header: &Header) -> Incoming
     requires { IsOurCode header.now.code }
-    ensures { (bytes : List ℕ) → IsHead header.now (length bytes) (take 20 bytes) → class_of header.now.flags ≡ Class.Error → IsValid base Kept Any bytes → IsReceived bytes (received_of bytes result) }
+    ensures { (bytes : List ℕ) → IsHead header.now (length bytes) (take 20 bytes)
+        → class_of header.now.flags ≡ Class.Error → IsValid base Kept Any bytes
+        → IsReceived bytes (received_of bytes result) }
 {
-    if header.code == CAPABILITIES {
+    if header.code == CAPABILITIES_EXCHANGE {
         Incoming::Refusal(ids_of(header))
     } else {
         Incoming::Other

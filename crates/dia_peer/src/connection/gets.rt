@@ -5,23 +5,33 @@ ghost use Rattle.dia_peer.specs.Core.{pairs_of};
 ghost use Rattle.dia_peer.specs.Incoming.{received_of, pairs_named};
 ghost use Rattle.dia_peer.specs.Machine.{core_of, Does};
 ghost use Rattle.dia_peer.specs.Table.{
-    happens, Gets, opens, accepts, repeated, answered, gets_waiting_answer, gets_waiting_request, gets_open,
-    gets_waiting_end, same_ids
+  happens,
+  Gets,
+  opens,
+  accepts,
+  repeated,
+  answered,
+  gets_waiting_answer,
+  gets_waiting_request,
+  gets_open,
+  gets_waiting_end,
+  same_ids,
 };
 
 use super::Core;
+use crate::codes::{NO_COMMON_APPLICATION, SUCCESS};
 use crate::config::{Kind, Role};
 use crate::event::{Output, State, Why};
 use crate::incoming::Incoming;
 use crate::kept::{Ids, Taken};
-use crate::messages::{NO_COMMON_APPLICATION, SUCCESS};
 use crate::named::Named;
 use std::alloc::AllocError;
 
 impl Core {
     pub(super) fn gets(&mut self, bytes: &[u8], what: Incoming) -> Result<Vec<Output>, AllocError>
         ensures ok { IfOk result
-            (λ outputs. Does (happens (core_of self.old) (Gets (received_of bytes.now what))) outputs.items (core_of self.new)) }
+            (λ outputs. Does (happens (core_of self.old) (Gets (received_of bytes.now what)))
+            outputs.items (core_of self.new)) }
         ensures err { OnErr result (core_of self.new ≡ core_of self.old) }
     {
         match self.state {
@@ -41,7 +51,8 @@ impl Core {
         what: Incoming,
     ) -> Result<Vec<Output>, AllocError>
         ensures ok { IfOk result
-            (λ outputs. Does (gets_waiting_answer (core_of self.old) (received_of _bytes.now what)) outputs.items (core_of self.new)) }
+            (λ outputs. Does (gets_waiting_answer (core_of self.old) (received_of _bytes.now what))
+            outputs.items (core_of self.new)) }
         ensures err { OnErr result (core_of self.new ≡ core_of self.old) }
     {
         match what {
@@ -78,7 +89,8 @@ impl Core {
     /// A CEA that answers the CER.
     fn answered(&mut self, result_code: u32, named: &Named) -> Result<Vec<Output>, AllocError>
         ensures ok { IfOk result
-            (λ outputs. Does (answered (core_of self.old) result_code (pairs_named named.now)) outputs.items (core_of self.new)) }
+            (λ outputs. Does (answered (core_of self.old) result_code (pairs_named named.now))
+            outputs.items (core_of self.new)) }
         ensures err { OnErr result (core_of self.new ≡ core_of self.old) }
     {
         if result_code == SUCCESS {
@@ -111,7 +123,8 @@ impl Core {
         what: Incoming,
     ) -> Result<Vec<Output>, AllocError>
         ensures ok { IfOk result
-            (λ outputs. Does (gets_waiting_request (core_of self.old) (received_of bytes.now what)) outputs.items (core_of self.new)) }
+            (λ outputs. Does (gets_waiting_request (core_of self.old) (received_of bytes.now what))
+            outputs.items (core_of self.new)) }
         ensures err { OnErr result (core_of self.new ≡ core_of self.old) }
     {
         match what {
@@ -140,7 +153,8 @@ impl Core {
         common: Vec<(Kind, u32)>,
     ) -> Result<Vec<Output>, AllocError>
         ensures ok { IfOk result
-            (λ outputs. Does (accepts (core_of self.old) ids bytes.now (pairs_of common.items)) outputs.items (core_of self.new)) }
+            (λ outputs. Does (accepts (core_of self.old) ids bytes.now (pairs_of common.items))
+            outputs.items (core_of self.new)) }
         ensures err { OnErr result (core_of self.new ≡ core_of self.old) }
     {
         if common.is_empty() {
@@ -190,7 +204,8 @@ impl Core {
     /// The CER that was taken gets its CEA again.
     fn repeats(&self, bytes: &[u8]) -> Result<Vec<Output>, AllocError>
         ensures { IfOk result
-            (λ outputs. Does (repeated (core_of self.now) bytes.now (core_of self.now).taken) outputs.items (core_of self.now)) }
+            (λ outputs. Does (repeated (core_of self.now) bytes.now (core_of self.now).taken)
+            outputs.items (core_of self.now)) }
     {
         let Some(taken) = &self.taken else {
             return Ok(self.nothing());
@@ -206,7 +221,8 @@ impl Core {
     /// A message comes while the DPA is waited for.
     fn gets_waiting_end(&mut self, _bytes: &[u8], what: Incoming) -> Result<Vec<Output>, AllocError>
         ensures ok { IfOk result
-            (λ outputs. Does (gets_waiting_end (core_of self.old) (received_of _bytes.now what)) outputs.items (core_of self.new)) }
+            (λ outputs. Does (gets_waiting_end (core_of self.old) (received_of _bytes.now what))
+            outputs.items (core_of self.new)) }
         ensures err { OnErr result (core_of self.new ≡ core_of self.old) }
     {
         match what {

@@ -21,7 +21,9 @@ abbrev So : List App → ℕ → List (Kind × ℕ) → Type 0
 So apps i items = Sorts (map pair_of apps) (pairs_of items) (map pair_of (drop i apps))
 
 opened : (apps : List App) (i : ℕ) (items : List (Kind × ℕ)) → i < length apps → So apps i items → Sorts (map pair_of apps) (pairs_of items) (pair_of (app_at apps i) ∷ map pair_of (drop (i + 1) apps))
-opened apps i items lt s = subst (λ (rest : List App). Sorts (map pair_of apps) (pairs_of items) (map pair_of rest)) (drop-cons apps i (record { kind = Auth; id = 0; vendor = None }) lt ∙ (λ k. app_at apps i ∷ drop (sym (add-one i) k) apps)) s
+opened apps i items lt s =
+    subst (λ (rest : List App). Sorts (map pair_of apps) (pairs_of items) (map pair_of rest)) (drop-cons apps i (record { kind = Auth; id = 0; vendor = None }) lt
+    ∙ (λ k. app_at apps i ∷ drop (sym (add-one i) k) apps)) s
 
 step : (apps : List App) (i : ℕ) (items seen scanned new : List (Kind × ℕ)) (place : Option ℕ) (at : ℕ) → i < length apps → So apps i items
     → false ≡ list_any (λ other. same_pair (the_pair (of (app_at apps i))) (the_pair other)) seen → seen ≡ items
@@ -46,9 +48,11 @@ returns-then-is_among c =
 pub loop-app-preserved : goal.loop-app-preserved
 loop-app-preserved c =
     let size : c.len.result ≡ length c.loop-app.pairs.items = c.len.ensures ∙ c.loop-app.pairs.ok.0 in
-    step c.args.apps.now c.loop-app.app-index c.loop-app.pairs.items c.deref.result.now c.deref-in-loop-app.result.now c.insert.new.self.items c.place_of.result c.unwrap_or-place.result c.loop-app-test.true
+    step c.args.apps.now c.loop-app.app-index c.loop-app.pairs.items c.deref.result.now c.deref-in-loop-app.result.now
+    c.insert.new.self.items c.place_of.result c.unwrap_or-place.result c.loop-app-test.true
     c.loop-app.invariant c.if-is_among.ensures c.deref.ensures.value c.place_of.ensures.place c.deref-in-loop-app.ensures.value
     (c.unwrap_or-place.ensures ∙ ap (λ (n : ℕ). unwrap_or c.place_of.result n) size) c.in_ok-insert.ensures.items
 
 pub returns : goal.returns
-returns c = sorts_all c.args.apps.now _ (subst (λ (rest : List App). Sorts (map pair_of c.args.apps.now) (pairs_of c.loop-app.pairs.items) (map pair_of rest)) (drop_all _ c.args.apps.now c.loop-app-test.false) c.loop-app.invariant)
+returns c = sorts_all c.args.apps.now _
+    (subst (λ (rest : List App). Sorts (map pair_of c.args.apps.now) (pairs_of c.loop-app.pairs.items) (map pair_of rest)) (drop_all _ c.args.apps.now c.loop-app-test.false) c.loop-app.invariant)

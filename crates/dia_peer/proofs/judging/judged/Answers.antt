@@ -20,7 +20,11 @@ returns-in-Some-clause-ok c =
       record {
         host = search rules;
         realm = search rules;
-        product = (subst IsUtf8 c.as_str-product.ensures.value c.as_str-product.utf8, (let size = ap length c.as_str-product.ensures.value in let f = c.if-product-gt-NAME_LIMIT.false in omega (arith, size, f)));
+        product = (
+          subst IsUtf8 c.as_str-product.ensures.value c.as_str-product.utf8,
+          (let size = ap length c.as_str-product.ensures.value in let f = c.if-product-gt-NAME_LIMIT.false in
+              omega (arith, size, f)),
+        );
         addresses = (
           some _ _ c.if-is_empty.ensures config.addresses.ok.0,
           (let size = config.addresses.ok.0 in let e = c.len.ensures in let f = c.if-len-gt-ADDRESS_LIMIT.false in omega (arith, size, e, f)),

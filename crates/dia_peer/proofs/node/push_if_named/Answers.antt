@@ -9,7 +9,8 @@ use Rattle.dia_peer.proofs.node.push_if_named.Goals as goal
 pub returns-in_ok-push : goal.returns-in_ok-push
 returns-in_ok-push c =
     let n = c.args.named.now in
-    kept_yes (λ (p : Pair). list_any (same_pair p) (pairs_named n)) c.args.common.now.items c.push.new.self.items c.args.app (test_of n.auth.keys n.acct.keys (the_pair c.args.app) true c.if-contains.ensures) c.in_ok-push.ensures.items
+    kept_yes (λ (p : Pair). list_any (same_pair p) (pairs_named n)) c.args.common.now.items c.push.new.self.items c.args.app
+    (test_of n.auth.keys n.acct.keys (the_pair c.args.app) true c.if-contains.ensures) c.in_ok-push.ensures.items
 
 pub returns-else-contains : goal.returns-else-contains
 returns-else-contains c =

@@ -6,4 +6,5 @@ use Rattle.dia_peer.proofs.reading.add_named.Goals as goal
 
 pub returns : goal.returns
 returns c has =
-    names_pair (plain c.args.avp.now) c.in-Some.kind c.in-Some-number32.id (Has c.args.named.now) (Has c.insert.new.self) (c.in-Some.ensures ∙ ap kind_of c.key.ensures) c.in-Some-number32.ensures.value c.in_ok-insert.ensures
+    names_pair (plain c.args.avp.now) c.in-Some.kind c.in-Some-number32.id (Has c.args.named.now) (Has c.insert.new.self) (c.in-Some.ensures
+    ∙ ap kind_of c.key.ensures) c.in-Some-number32.ensures.value c.in_ok-insert.ensures

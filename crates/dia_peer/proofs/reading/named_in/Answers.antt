@@ -6,7 +6,8 @@ use Rattle.dia_peer.proofs.reading.named_in.Goals as goal
 
 pub loop-avp-preserved : goal.loop-avp-preserved
 loop-avp-preserved c avps all are =
-    walk_goes IsReadable Tells avps (λ p. ⊥) (Has c.loop-avp.named) (Has c.add_told.new.named) c.loop-avp.rest.now c.in-Some.after.now (plain c.in-Some.avp) (c.loop-avp.invariant avps all are) c.in-Some.ensures.some c.in_ok-add_told.ensures
+    walk_goes IsReadable Tells avps (λ p. ⊥) (Has c.loop-avp.named) (Has c.add_told.new.named) c.loop-avp.rest.now c.in-Some.after.now (plain c.in-Some.avp)
+    (c.loop-avp.invariant avps all are) c.in-Some.ensures.some c.in_ok-add_told.ensures
 
 pub returns : goal.returns
 returns c avps all are p =

@@ -9,7 +9,8 @@ use Rattle.dia_check.specs.Valid.{IsValid, IsValidOf}
 use Rattle.dia_peer.proofs.base.BaseBook.is_valid.Goals as goal
 
 -- a valid message is refused for no other reason than memory
-refused : (d : Dictionary) (bytes : List ℕ) (e : Refusal) → d ≡ base → e ≢ refusal.NoMemory → ((c : ℕ) → IsValidOf d Kept Any bytes c → e ≡ refusal.NoMemory) → IsTrue false ↔ IsValid base Kept Any bytes
+refused : (d : Dictionary) (bytes : List ℕ) (e : Refusal) → d ≡ base → e ≢ refusal.NoMemory → ((c : ℕ) → IsValidOf d Kept Any bytes c → e ≡ refusal.NoMemory)
+    → IsTrue false ↔ IsValid base Kept Any bytes
 refused d bytes e is other only = (λ (f : IsTrue false). absurd cc, λ valid. absurd (other (only valid.0 (subst (λ (x : Dictionary). IsValidOf x Kept Any bytes valid.0) (sym is) valid.1))))
 
 pub returns-in-Err-Fault : goal.returns-in-Err-Fault

@@ -16,7 +16,8 @@ some zero m h e = absurd cc
 some (suc n) m h e = omega (arith, e)
 
 does_accept : (c : PlainCore) (ids : Ids) (bytes : List ℕ) (pairs : List Pair) (new : PlainCore) (outputs : List Output) (o : Output) → 0 < length pairs
-    → new ≡ record c { state = Open; common = pairs; taken = Some (record { bytes = bytes; ids = ids }) } → outputs ≡ o ∷ [] → IsOutput (Sends (cea c.config ids 2001)) o → Does (accepts c ids bytes pairs) outputs new
+    → new ≡ record c { state = Open; common = pairs; taken = Some (record { bytes = bytes; ids = ids }) } → outputs ≡ o ∷ [] → IsOutput (Sends (cea c.config ids 2001)) o
+    → Does (accepts c ids bytes pairs) outputs new
 does_accept c ids bytes [] new outputs o h e is m = absurd (omega (arith, h))
 does_accept c ids bytes (p ∷ ps) new outputs o h e is m = (e, subst (AreOutputs (Sends (cea c.config ids 2001) ∷ [])) (sym is) (m, tt))
 
@@ -26,4 +27,9 @@ returns-clause-ok c =
     let size = length-map c.args.common.items the_pair in
     let any = some _ _ c.if-is_empty.ensures c.args.common.ok.0 in
     does_accept core c.args.ids c.args.bytes.now (pairs_of c.args.common.items) _ c.in_ok-outputs.outputs.items (output.Send c.in_ok-cea-2.field-0) (omega (arith, size, any))
-    (λ i. record core { state = Open; common = pairs_of c.args.common.items; taken = Some (record { bytes = c.in_ok-bytes.ensures.items i; ids = c.args.ids }) }) c.in_ok-outputs.ensures c.in_ok-cea-2.ensures
+    (λ i. record core {
+      state = Open;
+      common = pairs_of c.args.common.items;
+      taken =
+          Some (record { bytes = c.in_ok-bytes.ensures.items i; ids = c.args.ids });
+    }) c.in_ok-outputs.ensures c.in_ok-cea-2.ensures

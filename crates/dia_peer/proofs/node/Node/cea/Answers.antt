@@ -10,5 +10,8 @@ pub message-requires-clause-short : goal.message-requires-clause-short
 message-requires-clause-short c =
     let config = plain c.args.self.now.config in
     let avps = c.in_ok-put_applications.ensures ∙ ap (λ (vs : List PlainAvp). vs ++ applications config)
-    (c.in_ok-put_capabilities.ensures ∙ ap (λ (vs : List PlainAvp). vs ++ capabilities config) (c.in_ok-put_origin.ensures ∙ ap (λ (vs : List PlainAvp). vs ++ origin config) (c.in_ok-put_number.ensures ∙ ap (λ (vs : List PlainAvp). vs ++ avp32 268 c.args.result_code ∷ []) c.new-draft.ensures))) in
-    subst (λ (vs : List PlainAvp). ¬ IsTooLong vs) (sym avps) (not_too_long config (cea config c.args.ids c.args.result_code) (opened config c.args.self.now.sound) (is_cea c.args.ids c.args.result_code))
+    (c.in_ok-put_capabilities.ensures
+    ∙ ap (λ (vs : List PlainAvp). vs ++ capabilities config) (c.in_ok-put_origin.ensures
+    ∙ ap (λ (vs : List PlainAvp). vs ++ origin config) (c.in_ok-put_number.ensures ∙ ap (λ (vs : List PlainAvp). vs ++ avp32 268 c.args.result_code ∷ []) c.new-draft.ensures))) in
+    subst (λ (vs : List PlainAvp). ¬ IsTooLong vs) (sym avps)
+    (not_too_long config (cea config c.args.ids c.args.result_code) (opened config c.args.self.now.sound) (is_cea c.args.ids c.args.result_code))

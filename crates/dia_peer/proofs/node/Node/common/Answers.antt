@@ -32,5 +32,6 @@ returns c =
     let node = c.args.self.now in
     let same = c.deref-pair-items.ensures.value in
     c.loop-pair.invariant
-    ∙ ap (λ (xs : List (Kind × ℕ)). filter (kept c.args.named.now) (pairs_of xs)) (subst (λ (xs : List (Kind × ℕ)). take c.loop-pair.pair-index xs ≡ xs) same (take_all c.loop-pair.pair-index c.deref-pair-items.result.now c.loop-pair-test.false))
+    ∙ ap (λ (xs : List (Kind × ℕ)). filter (kept c.args.named.now) (pairs_of xs))
+    (subst (λ (xs : List (Kind × ℕ)). take c.loop-pair.pair-index xs ≡ xs) same (take_all c.loop-pair.pair-index c.deref-pair-items.result.now c.loop-pair-test.false))
     ∙ ap (filter (kept c.args.named.now)) (in_order node.apps.items node.config.apps.items node.in_order)
