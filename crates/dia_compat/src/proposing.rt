@@ -1,4 +1,5 @@
-ghost use Rattle.std.specs.Prelude.{◌≡◌, ◌<◌, ◌++◌, IfOk, IfErr, OnOk, List, ℕ, Some, length, map, option_to_list, slice_get, string_bytes};
+ghost use Rattle.std.specs.Prelude.{◌≡◌, ◌<◌, ◌++◌, IfOk, IfErr, OnOk, List};
+ghost use Rattle.std.specs.Prelude.{ℕ, Some, length, map, option_to_list, slice_get, string_bytes};
 ghost use Rattle.std.specs.List.{filter_map};
 ghost use Rattle.dia_dict.specs.Dictionary.{DictEntry, Dictionary, IsDictionary};
 ghost use Rattle.dia_check.specs.declared.policy.Unknown.{Unknown as AnyPolicy};
@@ -49,8 +50,10 @@ pub fn propose<A: Book, B: Book>(
     unknown: Unknown,
     names: &[String],
 ) -> Result<Table, ProposeFault>
-    ensures proposal { IfOk result (λ table. IsProposal (A.meaning a.now) (B.meaning b.now) unknown (map (λ n. string_bytes n) names.now) (plain table)) }
-    ensures least { IfOk result (λ table. IsLeast (A.meaning a.now) (B.meaning b.now) unknown (map (λ n. string_bytes n) names.now) (plain table)) }
+    ensures proposal { IfOk result (λ table. IsProposal (A.meaning a.now) (B.meaning b.now) unknown
+        (map (λ n. string_bytes n) names.now) (plain table)) }
+    ensures least { IfOk result (λ table. IsLeast (A.meaning a.now) (B.meaning b.now) unknown
+        (map (λ n. string_bytes n) names.now) (plain table)) }
     ensures refusal { IfErr result (IsRefusal (A.meaning a.now) (map (λ n. string_bytes n) names.now)) }
 {
     let commands = names_of_commands(alloc, a)?;
@@ -68,7 +71,9 @@ pub fn propose<A: Book, B: Book>(
 
 /// There is one proposal.
 pub fn one_proposal()
-    ensures { (da db : Dictionary) (u : AnyPolicy) (names : List (List ℕ)) (a b : PlainTable) → IsDictionary da → IsDictionary db → IsProposal da db u names a → IsProposal da db u names b → a ≡ b }
+    ensures { (da db : Dictionary) (u : AnyPolicy) (names : List (List ℕ)) (a b : PlainTable)
+        → IsDictionary da → IsDictionary db → IsProposal da db u names a
+        → IsProposal da db u names b → a ≡ b }
 {}
 
 impl From<AllocError> for ProposeFault {
@@ -89,7 +94,8 @@ fn shared_pairs<A: Book, B: Book>(
     b: &B,
     reached: &Reached,
 ) -> Result<Vec<(String, String)>, AllocError>
-    ensures { IfOk result (λ pairs. map plain_pair pairs.items ≡ filter_map (shared_pair (B.meaning b.now) reached.now) (A.meaning a.now).entries) }
+    ensures { IfOk result (λ pairs. map plain_pair pairs.items
+        ≡ filter_map (shared_pair (B.meaning b.now) reached.now) (A.meaning a.now).entries) }
 {
     let mut pairs = Vec::new(alloc);
     for index in 0..a.entries() {
@@ -108,7 +114,9 @@ fn push_if_shared<A: Book, B: Book>(
     pairs: &mut Vec<(String, String)>,
 ) -> Result<(), AllocError>
     requires { entry < length (A.meaning a.now).entries }
-    ensures { (e : DictEntry) → slice_get (A.meaning a.now).entries entry ≡ Some e → OnOk result (map plain_pair pairs.new.items ≡ map plain_pair pairs.old.items ++ option_to_list (shared_pair (B.meaning b.now) reached.now e)) }
+    ensures { (e : DictEntry) → slice_get (A.meaning a.now).entries entry ≡ Some e → OnOk result
+        (map plain_pair pairs.new.items ≡ map plain_pair pairs.old.items
+        ++ option_to_list (shared_pair (B.meaning b.now) reached.now e)) }
 {
     let key = a.entry_key(entry);
     if !reached.contains(key) {

@@ -1,5 +1,6 @@
 //! Tables of pairs of names, and their text.
-ghost use Rattle.std.specs.Prelude.{◌≡◌, ◌<◌, ◌≤◌, length, Err, IfOk, IfErr, MatchResult, List, ℕ, ◌≢◌, OnOk, ◌↔◌, ◌++◌, ◌∷◌, [], map, IsTrue};
+ghost use Rattle.std.specs.Prelude.{◌≡◌, ◌<◌, ◌≤◌, length, Err, IfOk, IfErr, MatchResult, List};
+ghost use Rattle.std.specs.Prelude.{ℕ, ◌≢◌, OnOk, ◌↔◌, ◌++◌, ◌∷◌, [], map, IsTrue};
 ghost use Rattle.dia_compat.specs.declared.table.TableFault.{TableFault as AnyFault};
 ghost use Rattle.dia_compat.specs.TableText.{PlainTable, plain, plain_pair, IsTable, IsTableFault, IsWithinLimits, HasForm};
 ghost use Rattle.dia_compat.specs.Lines.{Adds, PassesLimit, HasRoom};
@@ -25,7 +26,7 @@ pub const MAX_NAME: usize = 128;
 
 /// Pairs of names, each of the first dictionary and of the second: what stands for what. Both lists are in order, and
 /// a pair may stand in them more than once.
-#[derive(Debug, Drop)]
+#[derive(Debug, Drop, PartialEq, Eq)]
 pub struct Table {
     pub commands: Vec<(String, String)>,
     pub avps: Vec<(String, String)>,
@@ -67,7 +68,8 @@ pub fn parse_table(alloc: Global, text: &str) -> Result<Table, TableFault>
     // What is read is what the text says.
     ensures found { IfOk result (λ table. IsTable text.now (plain table)) }
     // It says nothing else, and a text that says something is read, unless memory runs out.
-    ensures only { (table : PlainTable) → length text.now ≤ MAX_TABLE → IsTable text.now table → MatchResult result (λ found. plain found ≡ table) (λ e. e ≡ TableFault.NoMemory) }
+    ensures only { (table : PlainTable) → length text.now ≤ MAX_TABLE → IsTable text.now table
+        → MatchResult result (λ found. plain found ≡ table) (λ e. e ≡ TableFault.NoMemory) }
     ensures too_long { MAX_TABLE < length text.now → result ≡ Err (TableFault.Limit 0) }
     ensures fault { length text.now ≤ MAX_TABLE → IfErr result (IsTableFault text.now) }
 {
@@ -98,8 +100,10 @@ pub fn one_table()
 
 /// A text has one fault at most, and is then that of no table.
 pub fn one_table_fault()
-    ensures one { (text : List ℕ) (a b : AnyFault) → IsTableFault text a → IsTableFault text b → a ≢ TableFault.NoMemory → b ≢ TableFault.NoMemory → a ≡ b }
-    ensures none { (text : List ℕ) (a : AnyFault) (table : PlainTable) → IsTableFault text a → a ≢ TableFault.NoMemory → ¬ IsTable text table }
+    ensures one { (text : List ℕ) (a b : AnyFault) → IsTableFault text a → IsTableFault text b
+        → a ≢ TableFault.NoMemory → b ≢ TableFault.NoMemory → a ≡ b }
+    ensures none { (text : List ℕ) (a : AnyFault) (table : PlainTable) → IsTableFault text a
+        → a ≢ TableFault.NoMemory → ¬ IsTable text table }
 {}
 
 /// Why a line adds no pair.

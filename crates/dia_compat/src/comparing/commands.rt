@@ -1,10 +1,11 @@
 //! The test of a pair of commands.
-ghost use Rattle.std.specs.Prelude.{◌≡◌, ◌<◌, ◌||◌, not, IfOk, IfSome, length, map, slice_get, ℕ, List};
+ghost use Rattle.std.specs.Prelude.{◌≡◌, ◌||◌, not, IfOk, map, ℕ, List};
 ghost use Rattle.std.specs.List.{list_any, list_all};
-ghost use Rattle.dia_dict.specs.Dictionary.{Dictionary, definitions, plain};
+ghost use Rattle.dia_dict.specs.Dictionary.{plain};
 ghost use Rattle.dia_dict.specs.declared.definition.Class.TheVariants as classes;
 ghost use Rattle.dia_compat.specs.TableText.{plain_pair};
-ghost use Rattle.dia_compat.specs.Comparing.{plain_names, is_pair, names_app, wants_app, is_of_app, is_wanted, serves, is_selected, is_command_pair};
+ghost use Rattle.dia_compat.specs.Comparing.{plain_names, is_pair, names_app, wants_app};
+ghost use Rattle.dia_compat.specs.Comparing.{is_of_app, is_wanted, serves, is_command_pair};
 
 use super::heads::{is_proxiable, same_selector, serves};
 use dia_dict::{Book, Class, DefHead, Definition};

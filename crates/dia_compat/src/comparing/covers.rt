@@ -7,7 +7,8 @@ ghost use Rattle.dia_check.specs.Valid.{known};
 ghost use Rattle.dia_wire.specs.declared.Key.{Key as AnyKey};
 ghost use Rattle.dia_compat.specs.TableText.{plain_pair};
 ghost use Rattle.dia_compat.specs.Tests.{holds_key};
-ghost use Rattle.dia_compat.specs.Comparing.{pair_key, pairs_key, is_alone, is_covered, is_must_not, may_be_clear, is_octets, stranger_fits, uncovered_keys, strangers_fit};
+ghost use Rattle.dia_compat.specs.Comparing.{pair_key, pairs_key, is_alone, is_covered, is_must_not};
+ghost use Rattle.dia_compat.specs.Comparing.{may_be_clear, is_octets, stranger_fits, uncovered_keys, strangers_fit};
 
 use super::named::Named;
 use dia_check::Unknown;

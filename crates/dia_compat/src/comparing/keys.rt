@@ -1,8 +1,9 @@
 //! The tests that go over the keys that definitions list.
 ghost use Rattle.std.specs.Prelude.{◌≡◌};
 ghost use Rattle.std.specs.List.{list_all};
-ghost use Rattle.dia_check.specs.Valid.{is_listed, has_wildcard};
-ghost use Rattle.dia_compat.specs.Tests.{rules_in, wildcard_of, common_rule, let_in_rule, covered_rule, own_rule, has_room, may_come};
+ghost use Rattle.dia_check.specs.Valid.{has_wildcard};
+ghost use Rattle.dia_compat.specs.Tests.{rules_in, wildcard_of, common_rule, let_in_rule};
+ghost use Rattle.dia_compat.specs.Tests.{covered_rule, own_rule, has_room, may_come};
 ghost use Rattle.dia_compat.specs.Comparing.{is_covered};
 
 use super::bounds::{max_within, may_stand, within};

@@ -16,7 +16,8 @@ pub(crate) struct Named<'a, B: Book> {
     avps: IndexSet<&'a str>,
     commands: IndexSet<&'a str>,
     ghost all_avps: { map (λ n. n.now) avps.keys ≡ map (λ e. e.name) (B.meaning book.now).entries } by { Prim.hlevel props },
-    ghost all_commands: { map (λ n. n.now) commands.keys ≡ map (λ c. c.name) (B.meaning book.now).commands } by { Prim.hlevel props },
+    ghost all_commands: { map (λ n. n.now) commands.keys
+        ≡ map (λ c. c.name) (B.meaning book.now).commands } by { Prim.hlevel props },
 }
 
 impl<'a, B: Book> Named<'a, B> {

@@ -1,13 +1,11 @@
 //! The commands that a proposal is for.
-ghost use Rattle.std.specs.Prelude.{◌≡◌, ◌≢◌, ◌<◌, [], IfOk, IfErr, IfSome, OnOk, None, Some, ℕ, length, map, position, slice_get, string_bytes};
+ghost use Rattle.std.specs.Prelude.{◌≡◌, ◌<◌, [], IfOk, IfErr, OnOk, Some};
+ghost use Rattle.std.specs.Prelude.{length, map, position, slice_get, string_bytes};
 ghost use Rattle.std.specs.Str.{bytes_eq};
 ghost use Rattle.dia_dict.specs.Dictionary.{IsDictionary, PlainDefinition};
-ghost use Rattle.dia_compat.specs.TableText.{plain_pair};
-ghost use Rattle.dia_compat.specs.Closed.{NamesCommand};
-ghost use Rattle.dia_compat.specs.Proposed.{AreCommandPairs, IsRefusal};
-ghost use Rattle.dia_compat.specs.Naming.{Names, NamedSoFar, AreRoots};
+ghost use Rattle.dia_compat.specs.Proposed.{IsRefusal};
+ghost use Rattle.dia_compat.specs.Naming.{Names, NamedSoFar};
 ghost use Rattle.dia_compat.specs.Reaching.{has, AreRest};
-ghost use Rattle.dia_wire.specs.declared.Key.{Key as AnyKey};
 
 use crate::proposing::ProposeFault;
 use crate::proposing::reaching::Reached;
@@ -59,7 +57,8 @@ impl Named {
         requires sound_a { IsDictionary (A.meaning a.now) }
         requires sound_b { IsDictionary (B.meaning b.now) }
         requires new { NamedSoFar (A.meaning a.now) (B.meaning b.now) [] (map (λ n. string_bytes n) names.now) self.old }
-        ensures ok { OnOk result (NamedSoFar (A.meaning a.now) (B.meaning b.now) (map (λ n. string_bytes n) names.now) [] self.new) }
+        ensures ok { OnOk result (NamedSoFar (A.meaning a.now) (B.meaning b.now)
+            (map (λ n. string_bytes n) names.now) [] self.new) }
         ensures refusal { IfErr result (IsRefusal (A.meaning a.now) (map (λ n. string_bytes n) names.now)) }
     {
         for name in names {
@@ -85,7 +84,8 @@ impl Named {
         requires sound_b { IsDictionary (B.meaning b.now) }
         requires within { place < length (A.meaning a.now).commands }
         requires rest { AreRest (A.meaning a.now) (B.meaning b.now) self.old.reached }
-        ensures { (c : PlainDefinition) → slice_get (A.meaning a.now).commands place ≡ Some c → OnOk result (Names (A.meaning a.now) (B.meaning b.now) place c self.old self.new) }
+        ensures { (c : PlainDefinition) → slice_get (A.meaning a.now).commands place ≡ Some c
+            → OnOk result (Names (A.meaning a.now) (B.meaning b.now) place c self.old self.new) }
     {
         if self.places.contains(&place) {
             return Ok(());

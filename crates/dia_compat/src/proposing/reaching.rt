@@ -1,11 +1,13 @@
 //! The AVPs that the definitions of some commands let in, and the groups in them.
-ghost use Rattle.std.specs.Prelude.{◌≡◌, ◌<◌, ◌≤◌, ◌+◌, ◌||◌, ◌↔◌, ℕ, IfOk, OnOk, IsTrue, Some, None, IfSome, false, true, not, is_some, filter, map, length, slice_get, [], Contains};
+ghost use Rattle.std.specs.Prelude.{◌≡◌, ◌<◌, ◌↔◌, IfOk, OnOk, IsTrue, Some, None};
+ghost use Rattle.std.specs.Prelude.{IfSome, not, is_some, filter, map, length, slice_get, []};
 ghost use Rattle.dia_wire.specs.declared.Key.{Key as AnyKey};
 ghost use Rattle.dia_data.specs.Plain.{Grouped, plain as plain_format};
 ghost use Rattle.dia_dict.specs.declared.DRule.{DRule as AnyRule};
-ghost use Rattle.dia_dict.specs.Dictionary.{PlainDefinition, IsDictionary, definitions, entry_of};
-ghost use Rattle.dia_compat.specs.Below.{HasRule, IsListed, HasWildcard, IsAboveZero};
-ghost use Rattle.dia_compat.specs.Reaching.{has, IsAllowedBy, IsAllowed, Admits, Inserts, ComesTo, ComesToAll, Follows, IsSharedGroup, AllWait, AreRest, Sorts};
+ghost use Rattle.dia_dict.specs.Dictionary.{PlainDefinition, definitions, entry_of};
+ghost use Rattle.dia_compat.specs.Below.{IsListed, HasWildcard, IsAboveZero};
+ghost use Rattle.dia_compat.specs.Reaching.{has, IsAllowedBy, IsAllowed, Admits, Inserts, ComesTo};
+ghost use Rattle.dia_compat.specs.Reaching.{ComesToAll, Follows, IsSharedGroup, AllWait, AreRest, Sorts};
 
 use dia_dict::{Book, DRule, DefId, Format, Key, Slot};
 use std::alloc::{AllocError, Global};
@@ -167,7 +169,8 @@ impl Reached {
     ) -> Result<(), AllocError>
         requires wait { AllWait self.old }
         requires rest { AreRest (A.meaning a.now) (B.meaning b.now) self.old }
-        ensures { OnOk result ((key : AnyKey) → IsTrue (has self.new key) ↔ Follows (A.meaning a.now) (B.meaning b.now) self.old key) }
+        ensures { OnOk result ((key : AnyKey) → IsTrue (has self.new key)
+            ↔ Follows (A.meaning a.now) (B.meaning b.now) self.old key) }
     {
         while let Some(key) = self.waiting.pop() {
             if let Some(group) = shared_group(a, b, key) {
@@ -180,7 +183,9 @@ impl Reached {
 
 /// The keys that both dictionaries know, in A's order.
 fn shared_keys<A: Book, B: Book>(alloc: Global, a: &A, b: &B) -> Result<Vec<Key>, AllocError>
-    ensures { IfOk result (λ keys. keys.items ≡ filter (λ key. is_some (entry_of (B.meaning b.now) key)) (map (λ e. e.key) (A.meaning a.now).entries)) }
+    ensures { IfOk result (λ keys. keys.items
+        ≡ filter (λ key. is_some (entry_of (B.meaning b.now) key))
+        (map (λ e. e.key) (A.meaning a.now).entries)) }
 {
     let mut keys = Vec::new(alloc);
     for index in 0..a.entries() {
@@ -195,7 +200,9 @@ fn shared_keys<A: Book, B: Book>(alloc: Global, a: &A, b: &B) -> Result<Vec<Key>
 /// The definition of A's AVP with this key, where B's is Grouped too.
 fn shared_group<A: Book, B: Book>(a: &A, b: &B, key: Key) -> Option<DefId>
     ensures within { IfSome result (λ def. def < length (definitions (A.meaning a.now))) }
-    ensures some { IfSome result (λ def. (d : PlainDefinition) × (slice_get (definitions (A.meaning a.now)) def ≡ Some d) × IsSharedGroup (A.meaning a.now) (B.meaning b.now) key d) }
+    ensures some { IfSome result (λ def. (d : PlainDefinition)
+        × (slice_get (definitions (A.meaning a.now)) def ≡ Some d)
+        × IsSharedGroup (A.meaning a.now) (B.meaning b.now) key d) }
     ensures none { result ≡ None → (d : PlainDefinition) → ¬ IsSharedGroup (A.meaning a.now) (B.meaning b.now) key d }
 {
     let entry = a.avp(key)?;

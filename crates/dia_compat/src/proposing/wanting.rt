@@ -20,7 +20,9 @@ pub(crate) fn push_pairs<A: Book, B: Book>(
     requires sound_a { IsDictionary (A.meaning a.now) }
     requires sound_b { IsDictionary (B.meaning b.now) }
     requires is_command { IsCommandHead command.now.head }
-    ensures { OnOk result (map plain_pair pairs.new.items ≡ map plain_pair pairs.old.items ++ map (λ name. ((plain command.now).name, name)) (names_beside (A.meaning a.now) (B.meaning b.now) (plain command.now))) }
+    ensures { OnOk result (map plain_pair pairs.new.items ≡ map plain_pair pairs.old.items
+        ++ map (λ name. ((plain command.now).name, name))
+        (names_beside (A.meaning a.now) (B.meaning b.now) (plain command.now))) }
 {
     let before = pairs.len();
     push_wanted(alloc, a, b, command, pairs)?;
@@ -41,7 +43,9 @@ fn push_wanted<A: Book, B: Book>(
     requires sound_a { IsDictionary (A.meaning a.now) }
     requires sound_b { IsDictionary (B.meaning b.now) }
     requires is_command { IsCommandHead command.now.head }
-    ensures { OnOk result (map plain_pair pairs.new.items ≡ map plain_pair pairs.old.items ++ map (λ name. ((plain command.now).name, name)) (wanted_names (A.meaning a.now) (B.meaning b.now) command.now.head)) }
+    ensures { OnOk result (map plain_pair pairs.new.items ≡ map plain_pair pairs.old.items
+        ++ map (λ name. ((plain command.now).name, name))
+        (wanted_names (A.meaning a.now) (B.meaning b.now) command.now.head)) }
 {
     for index in 0..b.commands() {
         push_if_wanted(alloc, a, b, command, b.def(b.command_at(index)), pairs)?;
@@ -61,7 +65,9 @@ fn push_if_wanted<A: Book, B: Book>(
     requires sound_a { IsDictionary (A.meaning a.now) }
     requires sound_b { IsDictionary (B.meaning b.now) }
     requires is_command { IsCommandHead command.now.head }
-    ensures { OnOk result (map plain_pair pairs.new.items ≡ map plain_pair pairs.old.items ++ map (λ name. ((plain command.now).name, name)) (option_to_list (wanted_name (A.meaning a.now) (B.meaning b.now) command.now.head (plain other.now)))) }
+    ensures { OnOk result (map plain_pair pairs.new.items ≡ map plain_pair pairs.old.items
+        ++ map (λ name. ((plain command.now).name, name))
+        (option_to_list (wanted_name (A.meaning a.now) (B.meaning b.now) command.now.head (plain other.now)))) }
 {
     if is_wanted(a, b, command.head, other.head) {
         push_pair(alloc, pairs, command.name.as_str(), other.name.as_str())?;
