@@ -1,6 +1,5 @@
-pub mod Slots
-pub mod Copies
+pub mod Places
 pub mod Selectors
 pub mod Commands
-pub mod Meant
 pub mod Premises
+pub mod Tables

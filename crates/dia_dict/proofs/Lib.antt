@@ -1,5 +1,6 @@
 pub mod Lists
 pub mod Keys
+pub mod KeyTables
 pub mod Numbering
 pub mod Rows
 pub mod Opened

@@ -1,4 +1,5 @@
 pub mod Keys
+pub mod KeyTables
 pub mod Limits
 pub mod Words
 pub mod Dictionary

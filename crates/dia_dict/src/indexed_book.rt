@@ -1,125 +1,143 @@
-ghost use Rattle.std.specs.Prelude.{◌≡◌, ◌<◌, ◌≤◌, ◌+◌, ◌++◌, length, map, IfOk, slice_get};
-ghost use Rattle.indexmap.specs.IndexMap.{values, index_map_len};
-ghost use Rattle.dia_dict.specs.Dictionary.{IsDictionary, plain};
-ghost use Rattle.dia_dict.specs.Limits.{max_parts};
-ghost use Rattle.dia_dict.specs.PlainMeaning.{dictionary_of};
-ghost use Rattle.dia_dict.specs.Indexed.{rows_of, definitions_of};
+ghost use Rattle.std.specs.Prelude.{◌≡◌, ◌<◌, ◌++◌, IfOk, IsTrue, map, position};
+ghost use Rattle.std.specs.List.{list_any};
+ghost use Rattle.std.specs.Option.{option_or};
+ghost use Rattle.dia_dict.specs.Dictionary.{is_command};
+ghost use Rattle.dia_dict.specs.Indexed.{AreSlotTables, row_keys};
+ghost use Rattle.dia_dict.specs.KeyTables.{IsIndexOf, place_among};
+ghost use Rattle.dia_dict.specs.Selecting.{selector_of, service_of, same_service};
+ghost use Rattle.dia_dict.specs.declared.hashed.Service.{Service as AnyService};
 
 mod commands;
-mod definitions;
-mod entries;
+mod tables;
 #[cfg(test)]
 mod tests;
 
 use crate::book::Book;
 use crate::definition::{Class, Definition, Slot};
+use crate::hashed::{Selector, Service};
+use crate::key_table::KeyTable;
 use crate::numbers::{DefId, Entry};
 use crate::plain_book::PlainBook;
-use commands::IndexedCommands;
-use definitions::IndexedDefinition;
 use dia_ccf::MRule;
 use dia_data::Format;
 use dia_wire::Key;
-use entries::IndexedEntries;
+use indexmap::IndexSet;
 use std::alloc::{AllocError, Global};
 
-/// A dictionary in hashed maps, which a look-up asks once, `select` twice at most.
+/// A dictionary with tables for its look-ups. A look-up of a key takes log n steps at most among n keys, whichever they are.
 #[derive(Debug, Drop)]
 pub struct IndexedBook {
-    entries: IndexedEntries,
-    commands: IndexedCommands,
-    ghost few: { index_map_len entries.avps + index_map_len commands.definitions ≤ max_parts },
-    ghost sound: { ∥ IsDictionary (dictionary_of (rows_of entries.avps.entries) (map plain (definitions_of entries.groups.items)) (map plain (definitions_of (values commands.definitions)))) ∥₁ },
+    book: PlainBook,
+    avps: KeyTable,
+    slots: Vec<KeyTable>,
+    selectors: IndexSet<Selector>,
+    services: IndexSet<Service>,
+    ghost placed: { IsIndexOf avps.rows.items (place_among (row_keys book.entries.rows.items)) },
+    ghost slotted: { ∥ AreSlotTables slots.items (book.entries.groups.items ++ book.commands.items) ∥₁ },
+    ghost selected: { ∥ selectors.keys ≡ map (λ d. selector_of d.head) book.commands.items ∥₁ },
+    ghost served: { (s : AnyService) → list_any (same_service s) services.keys ≡ list_any (same_service s) (map (λ d. service_of d.head) book.commands.items) },
 }
 
 impl IndexedBook {
-    /// A copy of a dictionary. It takes time in proportion to what is copied. The error comes only where memory was refused.
-    pub fn new(alloc: Global, plain: &PlainBook) -> Result<IndexedBook, AllocError>
-        ensures { IfOk result (λ book. ⟦<IndexedBook as Book>⟧.meaning book ≡ ⟦<PlainBook as Book>⟧.meaning plain.now) }
+    /// The dictionary with its tables: n keys or rules take n log n steps. The error comes only where memory was refused.
+    pub fn new(alloc: Global, book: PlainBook) -> Result<IndexedBook, AllocError>
+        ensures { IfOk result (λ indexed. ⟦<IndexedBook as Book>⟧.meaning indexed ≡ ⟦<PlainBook as Book>⟧.meaning book) }
     {
+        let avps = tables::avp_table(alloc, &book.entries.rows)?;
+        let slots = tables::slot_tables(alloc, &book.entries.groups, &book.commands)?;
+        let selectors = commands::selectors_of(alloc, &book.commands)?;
+        let services = commands::services_of(alloc, &book.commands)?;
         Ok(IndexedBook {
-            entries: IndexedEntries::new(alloc, &plain.entries)?,
-            commands: IndexedCommands::new(alloc, &plain.commands)?,
+            book,
+            avps,
+            slots,
+            selectors,
+            services,
         })
     }
 
-    /// The definition with a number.
-    fn indexed(&self, def: DefId) -> &IndexedDefinition
-        requires { def < length self.now.entries.groups.items + index_map_len self.now.commands.definitions }
-        ensures { slice_get (self.now.entries.groups.items ++ values self.now.commands.definitions) def ≡ Some result.now }
+    /// The place of the command for this application, else of the one without.
+    fn place_of_selected(&self, code: u32, class: Class, app: u32) -> Option<usize>
+        ensures { result ≡ option_or (position (λ d. is_command code class (Some app) d.head) self.now.book.commands.items)
+            (position (λ d. is_command code class None d.head) self.now.book.commands.items) }
     {
-        let index = def.index();
-        let groups = self.entries.groups.len();
-        if index < groups {
-            &self.entries.groups[index]
-        } else {
-            &self.commands.definitions[index - groups]
+        match self.place_of_command(code, class, Some(app)) {
+            Some(place) => Some(place),
+            None => self.place_of_command(code, class, None),
         }
+    }
+
+    /// The place of the command of this code and class, and of this application or of none.
+    fn place_of_command(&self, code: u32, class: Class, app: Option<u32>) -> Option<usize>
+        ensures { result ≡ position (λ d. is_command code class app d.head) self.now.book.commands.items }
+    {
+        self.selectors
+            .get_index_of(&Selector::new(code, class, app))
     }
 }
 
 impl Book for IndexedBook {
-    ghost meaning = { λ b. dictionary_of (rows_of b.entries.avps.entries) (map plain (definitions_of b.entries.groups.items)) (map plain (definitions_of (values b.commands.definitions))) };
+    ghost meaning = { λ b. ⟦<PlainBook as Book>⟧.meaning b.book };
 
     fn avp(&self, key: Key) -> Option<Entry> {
-        let index = self.entries.avps.get_index_of(&key)?;
-        Some(Entry::new(index))
+        let place = self.avps.place(key)?;
+        Some(Entry::new(place))
     }
 
     fn entry_key(&self, entry: Entry) -> Key {
-        match self.entries.avps.get_index(entry.index()) {
-            Some((key, _)) => *key,
-            None => unreachable!("an entry is one of the book's own"),
-        }
+        self.book.entry_key(entry)
     }
 
     fn entry_name(&self, entry: Entry) -> &str {
-        &self.entries.avps[entry.index()].name
+        self.book.entry_name(entry)
     }
 
     fn format(&self, entry: Entry) -> &Format {
-        &self.entries.avps[entry.index()].format
+        self.book.format(entry)
     }
 
     fn rule(&self, entry: Entry) -> MRule {
-        self.entries.avps[entry.index()].rule
+        self.book.rule(entry)
     }
 
     fn group(&self, entry: Entry) -> Option<DefId> {
-        let index = self.entries.avps[entry.index()].group?;
-        Some(DefId::new(index))
+        self.book.group(entry)
     }
 
     fn select(&self, code: u32, class: Class, app: u32) -> Option<DefId> {
-        let index = self.commands.selected(code, class, app)?;
-        Some(DefId::new(self.entries.groups.len() + index))
+        let place = self.place_of_selected(code, class, app)?;
+        Some(self.book.command_at(place))
     }
 
     fn has_command(&self, code: u32, class: Class) -> bool {
-        self.commands.serves(code, class)
+        self.services.contains(&Service::new(code, class))
     }
 
     fn def(&self, def: DefId) -> &Definition {
-        &self.indexed(def).definition
+        self.book.def(def)
     }
 
     fn slot(&self, def: DefId, key: Key) -> Slot {
-        self.indexed(def).slot(key)
+        let definition = self.book.def(def);
+        match self.slots[def.index()].place(key) {
+            Some(place) => definition.slot_at(place),
+            None => Slot::Unlisted,
+        }
     }
 
     fn entries(&self) -> usize {
-        self.entries.avps.len()
+        self.book.entries()
     }
 
     fn entry_at(&self, index: usize) -> Entry {
-        Entry::new(index)
+        self.book.entry_at(index)
     }
 
     fn commands(&self) -> usize {
-        self.commands.definitions.len()
+        self.book.commands()
     }
 
     fn command_at(&self, index: usize) -> DefId {
-        DefId::new(self.entries.groups.len() + index)
+        self.book.command_at(index)
     }
 }

@@ -11,6 +11,7 @@ mod entry_list;
 mod fault;
 mod hashed;
 mod indexed_book;
+mod key_table;
 mod numbers;
 mod plain_book;
 mod resolving;

@@ -1,5 +1,5 @@
 -- Selectors and services: what commands are looked up by says the same as their headers.
-use Rattle.std.proofs.Common.{◌≡◌, ℕ, Bool, true, false, List, map, position, Option, Some, None, refl, sym, ap, ◌∙◌, subst, nat_eq}
+use Rattle.std.proofs.Common.{◌≡◌, ℕ, Bool, true, false, List, map, get_or, position, Option, Some, None, refl, sym, ap, ◌∙◌, subst, nat_eq}
 use Rattle.std.specs.Prelude.{◌==◌, ◌&&◌, All, slice_get}
 use Rattle.std.specs.List.{list_any}
 use Rattle.std.specs.Option.{option_eq}
@@ -10,7 +10,7 @@ use Rattle.std.proofs.lemmas.Bool.{and_parts, eqb-true}
 use Rattle.std.proofs.lemmas.Cmp.{nat_eq_equiv}
 use Rattle.std.proofs.Math.Bool.{and-false}
 use Rattle.std.specs.Cmp.{bool_eq_equiv}
-use Rattle.std.proofs.lemmas.Option.{slice_get_within, get_or_from_slice_get}
+use Rattle.std.proofs.lemmas.Option.{slice_get_within, slice_get-get_or, get_or_from_slice_get}
 use Rattle.dia_dict.specs.declared.definition.Class.{Class}
 use Rattle.dia_dict.specs.declared.definition.Class.TheVariants.{Request, Answer, Error as Failure}
 use Rattle.dia_dict.specs.declared.definition.DefHead.{DefHead}
@@ -19,12 +19,11 @@ use Rattle.dia_dict.specs.declared.hashed.Selector.{Selector}
 use Rattle.dia_dict.specs.declared.hashed.Service.{Service}
 use Rattle.dia_dict.specs.declared.hashed.Service.TheVariants as services
 use Rattle.dia_dict.specs.Dictionary.{is_command, has_class, IsCommandHead, IsSameSelector}
-use Rattle.dia_dict.specs.Indexed.{definitions_of, heads_of}
 use Rattle.dia_dict.specs.declared.definition.Definition.{Definition}
-use Rattle.dia_dict.specs.declared.indexed_book.definitions.IndexedDefinition.{IndexedDefinition}
 use Rattle.dia_dict.specs.Selecting.{selector, selector_of, service, service_of, same_service}
 use Rattle.dia_dict.specs.contracts.hashed.SelectorPartialEq.TheImpl as selector_eq
 use Rattle.dia_dict.specs.contracts.hashed.ServicePartialEq.TheImpl as service_eq
+use Rattle.dia_dict.proofs.Indexing.Places.{place_of_image}
 use Rattle.dia_dict.proofs.Lists.{and_true, and_false, position-map, list_any-map, map-agree}
 
 -- what `==` answers
@@ -110,6 +109,11 @@ service-has_class code class (Group key) h = absurd h
 pub All-at : {X : Type 0} (P : X → Type 0) (xs : List X) (i : ℕ) (x : X) → All P xs → slice_get xs i ≡ Some x → P x
 All-at P xs i x all at = subst P (get_or_from_slice_get xs i x x at) (all i x (slice_get_within xs i x at))
 
+pub All-image : {X Y : Type 0} (f : X → Y) (P : Y → Type 0) (xs : List X) → All (λ x. P (f x)) xs → All P (map f xs)
+All-image f P xs all k y short =
+    let found = place_of_image f xs k (get_or (map f xs) k y) (slice_get-get_or (map f xs) k y short) in
+    subst P found.2 (All-at (λ x. P (f x)) xs k found.0 all found.1)
+
 module _ (heads : List DefHead) (commands : All IsCommandHead heads) where
   -- two tests that agree at each header of a command
   agree : (p q : DefHead → Bool) → ((head : DefHead) → IsCommandHead head → p head ≡ q head) → map p heads ≡ map q heads
@@ -129,20 +133,29 @@ module _ (heads : List DefHead) (commands : All IsCommandHead heads) where
 
 -- ---- where commands are found
 
-option-prop : (a b : Option ℕ) → IsProp (a ≡ b)
+pub option-prop : (a b : Option ℕ) → IsProp (a ≡ b)
 option-prop a b = hlevel (props, ⊎_set)
 
-module _ (ds : List IndexedDefinition) (commands : ∥ All IsCommandHead (heads_of ds) ∥₁) where
-  pub place-found : (ks : List Selector) → ∥ ks ≡ map selector_of (heads_of ds) ∥₁ → (code : ℕ) (class : Class) (app : Option ℕ)
-      → position (same_selector (selector code class app)) ks ≡ position (λ (d : Definition). is_command code class app d.head) (definitions_of ds)
-  place-found ks selected code class app =
-      ∥∥₁_elim commands (option-prop _ _) (λ all. ∥∥₁_elim selected (option-prop _ _) (λ same.
-      ap (position (same_selector (selector code class app))) same ∙ position-selected (heads_of ds) all code class app
-      ∙ position-map (λ (d : IndexedDefinition). d.definition.head) (is_command code class app) ds ∙ sym (position-map (λ (d : IndexedDefinition). d.definition) (λ (d : Definition). is_command code class app d.head) ds)))
+module _ (ds : List Definition) (commands : All (λ (d : Definition). IsCommandHead d.head) ds) where
+  headed : All IsCommandHead (map (λ (d : Definition). d.head) ds)
+  headed = All-image (λ (d : Definition). d.head) IsCommandHead ds commands
 
-  pub service-found : (ss : List Service) → ((s : Service) → list_any (same_service s) ss ≡ list_any (same_service s) (map service_of (heads_of ds))) → (code : ℕ) (class : Class)
-      → list_any (equal_services (service code class)) ss ≡ list_any (λ (d : Definition). has_class code class d.head) (definitions_of ds)
+  pub place-found : (ks : List Selector) → ∥ ks ≡ map (λ (d : Definition). selector_of d.head) ds ∥₁ → (code : ℕ) (class : Class) (app : Option ℕ)
+      → position (same_selector (selector code class app)) ks ≡ position (λ (d : Definition). is_command code class app d.head) ds
+  place-found ks selected code class app =
+      ∥∥₁_elim selected (option-prop _ _) (λ same.
+      ap (position (same_selector (selector code class app))) same ∙ position-map (λ (d : Definition). selector_of d.head) (same_selector (selector code class app)) ds
+      ∙ sym (position-map (λ (d : Definition). d.head) (λ (h : DefHead). same_selector (selector code class app) (selector_of h)) ds)
+      ∙ sym (position-map selector_of (same_selector (selector code class app)) (map (λ (d : Definition). d.head) ds))
+      ∙ position-selected (map (λ (d : Definition). d.head) ds) headed code class app
+      ∙ position-map (λ (d : Definition). d.head) (is_command code class app) ds)
+
+  pub service-found : (ss : List Service) → ((s : Service) → list_any (same_service s) ss ≡ list_any (same_service s) (map (λ (d : Definition). service_of d.head) ds)) → (code : ℕ) (class : Class)
+      → list_any (equal_services (service code class)) ss ≡ list_any (λ (d : Definition). has_class code class d.head) ds
   service-found ss served code class =
-      (λ i. list_any (λ s. equal_services-same (service code class) s i) ss) ∙ served (service code class)
-      ∙ ∥∥₁_elim commands (hlevel props) (λ all. list_any-served (heads_of ds) all code class)
-      ∙ list_any-map (λ (d : IndexedDefinition). d.definition.head) (has_class code class) ds ∙ sym (list_any-map (λ (d : IndexedDefinition). d.definition) (λ (d : Definition). has_class code class d.head) ds)
+      let one = service code class in
+      (λ i. list_any (λ s. equal_services-same one s i) ss) ∙ served one
+      ∙ list_any-map (λ (d : Definition). service_of d.head) (same_service one) ds ∙ sym (list_any-map (λ (d : Definition). d.head) (λ (h : DefHead). same_service one (service_of h)) ds)
+      ∙ sym (list_any-map service_of (same_service one) (map (λ (d : Definition). d.head) ds))
+      ∙ list_any-served (map (λ (d : Definition). d.head) ds) headed code class
+      ∙ list_any-map (λ (d : Definition). d.head) (has_class code class) ds

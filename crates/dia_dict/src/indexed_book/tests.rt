@@ -24,9 +24,8 @@ fn selected_slot<B: Book>(book: &B, code: u32, class: Class, avp: u32) -> Option
 
 #[test]
 fn base_dictionary(rt: HostRuntime) -> Result<(), Fail> {
-    let plain = base_book(rt.alloc())?;
-    let book = IndexedBook::new(rt.alloc(), &plain)?;
-    same_answers(&rt, &plain, &book);
+    let book = IndexedBook::new(rt.alloc(), base_book(rt.alloc())?)?;
+    same_answers(&rt, &base_book(rt.alloc())?, &book);
     assert_eq!(rt; selected_name(&book, 257, Class::Request, 7), Some("CER"));
     assert_eq!(rt; selected_name(&book, 280, Class::Answer, 0), Some("DWA"));
     assert_eq!(rt;
@@ -53,9 +52,8 @@ fn base_dictionary(rt: HostRuntime) -> Result<(), Fail> {
 
 /// Both books of a text answer alike. The indexed one is handed out.
 fn indexed(rt: &(impl AllocGlobal + Abort), text: &str) -> Result<IndexedBook, Fail> {
-    let plain = book_of(rt.alloc(), text)?;
-    let book = IndexedBook::new(rt.alloc(), &plain)?;
-    same_answers(rt, &plain, &book);
+    let book = IndexedBook::new(rt.alloc(), book_of(rt.alloc(), text)?)?;
+    same_answers(rt, &book_of(rt.alloc(), text)?, &book);
     Ok(book)
 }
 
@@ -128,7 +126,7 @@ fn rules(alloc: Global, count: u32) -> Result<String, AllocError> {
 fn finds_each_of_1024_rules(rt: HostRuntime) -> Result<(), Fail> {
     let text = rules(rt.alloc(), 1024)?;
     let plain = book_of(rt.alloc(), text.as_str())?;
-    let book = IndexedBook::new(rt.alloc(), &plain)?;
+    let book = IndexedBook::new(rt.alloc(), plain)?;
     for code in 0..1024u32 {
         let slot = Some(Slot::Loose(code as usize));
         assert_eq!(rt; selected_slot(&book, 302, Class::Request, code), slot);

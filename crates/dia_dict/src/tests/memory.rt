@@ -1,19 +1,21 @@
 //! The base text where memory runs out somewhere: every call answers that, or what it answers with ample memory.
 
 use super::answers::same_answers;
-use crate::{DictFault, IndexedBook, PlainBook, base_text, resolve};
+use crate::{DictFault, IndexedBook, PlainBook, base_book, base_text, resolve};
 use dia_ccf::{CcfFault, Source, parse};
 use std::process::Abort;
 
-fn indexes(rt: &(impl AllocGlobal + Abort), plain: &PlainBook) {
-    if let Ok(indexed) = IndexedBook::new(rt.alloc(), plain) {
-        same_answers(rt, plain, &indexed);
+fn indexes(rt: &(impl AllocGlobal + Abort), plain: PlainBook) {
+    if let Ok(indexed) = IndexedBook::new(rt.alloc(), plain)
+        && let Ok(plain) = base_book(rt.alloc())
+    {
+        same_answers(rt, &plain, &indexed);
     }
 }
 
 fn resolves(rt: &(impl AllocGlobal + Abort), source: Source) {
     match resolve(rt.alloc(), source) {
-        Ok(plain) => indexes(rt, &plain),
+        Ok(plain) => indexes(rt, plain),
         Err(fault) => assert!(rt; matches!(fault, DictFault::NoMemory)),
     }
 }

@@ -1,59 +1,75 @@
-use Rattle.std.proofs.Common.{◌≡◌, List, length, map, sym, ap, ◌∙◌, subst, arith}
+use Rattle.std.proofs.Common.{List, ◌++◌, map, ap, sym, ◌∙◌, subst}
 use Rattle.std.specs.Prelude.{All}
-use Rattle.std.specs.Map.{values_of}
-use Rattle.std.proofs.lemmas.List.{length-map}
-use Rattle.dia_dict.specs.Dictionary.{Dictionary, IsDictionary, IsCommandHead, plain}
-use Rattle.dia_dict.specs.PlainMeaning.{entry_of_row}
-use Rattle.dia_dict.specs.Indexed.{row_of, rows_of, definitions_of, HaveDistinctSelectors}
+use Rattle.std.specs.List.{list_any}
+use Rattle.dia_dict.specs.Dictionary.{IsCommandHead, AreRules}
+use Rattle.dia_dict.specs.Indexed.{row_keys, AreSlotTables, HaveDistinctSelectors}
+use Rattle.dia_dict.specs.KeyTables.{AreDistinct, IsIndexOf, place_among}
+use Rattle.dia_dict.specs.Selecting.{selector_of, service_of, same_service}
 use Rattle.dia_dict.specs.declared.definition.Definition.{Definition}
-use Rattle.dia_dict.specs.declared.hashed.Selector.{Selector}
-use Rattle.dia_dict.specs.declared.indexed_book.definitions.IndexedDefinition.{IndexedDefinition}
+use Rattle.dia_dict.specs.declared.entry_list.Row.{Row}
+use Rattle.dia_dict.proofs.Indexing.Premises.{distinct_keys-held, distinct_selectors-held, command_heads-held, rules_of_groups-held, rules_of_commands-held}
 use Rattle.dia_dict.proofs.Opened.{opened}
-use Rattle.dia_dict.proofs.Indexing.Premises.{distinct_keys-held, distinct_selectors-held, command_heads-held}
 use Rattle.dia_dict.proofs.Rows.{held}
-use Rattle.dia_dict.proofs.Indexing.Meant.{meant}
 use Rattle.dia_dict.proofs.indexed_book.IndexedBook.new.Goals as goal
 
-pub new-requires : goal.new-requires
-new-requires c =
-    let b = c.args.plain.now in
-    let sound = opened (held b.entries.rows.items b.entries.groups.items b.commands.items) b.sound in
-    distinct_keys-held b.entries.rows.items (map plain b.entries.groups.items) b.commands.items sound
+pub avp_table-requires-clause-distinct : goal.avp_table-requires-clause-distinct
+avp_table-requires-clause-distinct c =
+    let b = c.args.book in
+    let rows = b.entries.rows.items in
+    let groups = b.entries.groups.items in
+    let commands = b.commands.items in
+    let sound = opened (held rows groups commands) b.sound in
+    subst (λ (es : List Row). AreDistinct (row_keys es)) (sym c.deref.ensures.value) (distinct_keys-held rows groups commands sound)
 
-pub new-requires-2-clause-headed : goal.new-requires-2-clause-headed
-new-requires-2-clause-headed c =
-    let b = c.args.plain.now in
-    let sound = opened (held b.entries.rows.items b.entries.groups.items b.commands.items) b.sound in
-    subst (λ (ds : List Definition). All IsCommandHead (map (λ d. d.head) ds)) (sym c.deref.ensures.value) (command_heads-held b.entries.rows.items (map plain b.entries.groups.items) b.commands.items sound)
+pub slot_tables-requires-clause-groups : goal.slot_tables-requires-clause-groups
+slot_tables-requires-clause-groups c =
+    let b = c.args.book in
+    let rows = b.entries.rows.items in
+    let groups = b.entries.groups.items in
+    let commands = b.commands.items in
+    let sound = opened (held rows groups commands) b.sound in
+    subst (λ (ds : List Definition). All (λ (d : Definition). AreRules d.rules.items) ds) (sym c.deref-2.ensures.value) (rules_of_groups-held rows groups commands sound b.entries.numbered)
 
-pub new-requires-2-clause-distinct : goal.new-requires-2-clause-distinct
-new-requires-2-clause-distinct c =
-    let b = c.args.plain.now in
-    let sound = opened (held b.entries.rows.items b.entries.groups.items b.commands.items) b.sound in
-    subst HaveDistinctSelectors (sym c.deref.ensures.value) (distinct_selectors-held b.entries.rows.items (map plain b.entries.groups.items) b.commands.items sound)
+pub slot_tables-requires-clause-commands : goal.slot_tables-requires-clause-commands
+slot_tables-requires-clause-commands c =
+    let b = c.args.book in
+    let rows = b.entries.rows.items in
+    let groups = b.entries.groups.items in
+    let commands = b.commands.items in
+    let sound = opened (held rows groups commands) b.sound in
+    subst (λ (ds : List Definition). All (λ (d : Definition). AreRules d.rules.items) ds) (sym c.deref-3.ensures.value) (rules_of_commands-held rows groups commands sound b.entries.numbered)
+
+pub selectors_of-requires-clause-headed : goal.selectors_of-requires-clause-headed
+selectors_of-requires-clause-headed c =
+    let b = c.args.book in
+    let rows = b.entries.rows.items in
+    let groups = b.entries.groups.items in
+    let commands = b.commands.items in
+    let sound = opened (held rows groups commands) b.sound in
+    subst (λ (ds : List Definition). All (λ (d : Definition). IsCommandHead d.head) ds) (sym c.deref-4.ensures.value) (command_heads-held rows groups commands sound)
+
+pub selectors_of-requires-clause-distinct : goal.selectors_of-requires-clause-distinct
+selectors_of-requires-clause-distinct c =
+    let b = c.args.book in
+    let rows = b.entries.rows.items in
+    let groups = b.entries.groups.items in
+    let commands = b.commands.items in
+    let sound = opened (held rows groups commands) b.sound in
+    subst (λ (ds : List Definition). HaveDistinctSelectors ds) (sym c.deref-4.ensures.value) (distinct_selectors-held rows groups commands sound)
+
+pub services_of-requires : goal.services_of-requires
+services_of-requires c =
+    let b = c.args.book in
+    let rows = b.entries.rows.items in
+    let groups = b.entries.groups.items in
+    let commands = b.commands.items in
+    let sound = opened (held rows groups commands) b.sound in
+    subst (λ (ds : List Definition). All (λ (d : Definition). IsCommandHead d.head) ds) (sym c.deref-5.ensures.value) (command_heads-held rows groups commands sound)
 
 pub invariant_of-result : goal.invariant_of-result
-invariant_of-result c =
-    let b = c.args.plain.now in
-    let es = c.in_ok-new.field-0.avps.entries in
-    let gs = c.in_ok-new.field-0.groups.items in
-    let cs = values_of c.in_ok-new-2.field-0.definitions.entries in
-    let entries = c.in_ok-new.ensures in
-    let commands = c.in_ok-new-2.ensures ∙ ap (map plain) c.deref.ensures.value in
-    let same : held b.entries.rows.items b.entries.groups.items b.commands.items ≡ meant es gs cs = λ i. record { entries = sym entries i; commands = sym commands i } in
-    record {
-      few = omega (
-        arith,
-        b.few,
-        ap length entries,
-        ap length commands,
-        length-map es row_of,
-        length-map (rows_of es) (entry_of_row (map plain (definitions_of gs))),
-        length-map b.entries.rows.items (entry_of_row (map plain b.entries.groups.items)),
-        length-map c.in_ok-new-2.field-0.definitions.entries (λ (e : Selector × IndexedDefinition). e.1),
-        length-map cs (λ (d : IndexedDefinition). d.definition),
-        length-map (definitions_of cs) plain,
-        length-map b.commands.items plain,
-      );
-      sound = subst (λ (d : Dictionary). ∥ IsDictionary d ∥₁) same b.sound;
-    }
+invariant_of-result c = record {
+  placed = subst (λ (es : List Row). IsIndexOf c.in_ok-avps.avps.rows.items (place_among (row_keys es))) c.deref.ensures.value c.in_ok-avps.ensures;
+  slotted = ∣ subst (AreSlotTables c.in_ok-slots.slots.items) (λ i. c.deref-2.ensures.value i ++ c.deref-3.ensures.value i) c.in_ok-slots.ensures ∣₁;
+  selected = ∣ c.in_ok-selectors.ensures ∙ ap (map (λ (d : Definition). selector_of d.head)) c.deref-4.ensures.value ∣₁;
+  served = λ s. c.in_ok-services.ensures s ∙ ap (λ (ds : List Definition). list_any (same_service s) (map (λ (d : Definition). service_of d.head) ds)) c.deref-5.ensures.value;
+}

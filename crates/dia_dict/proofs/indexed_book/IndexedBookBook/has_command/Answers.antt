@@ -1,12 +1,18 @@
-use Rattle.std.proofs.Common.{◌∙◌}
-use Rattle.std.specs.Map.{values_of}
-use Rattle.dia_dict.proofs.Indexing.Meant.{has_command-meant}
+use Rattle.std.proofs.Common.{ap, sym, ◌∙◌}
+use Rattle.std.specs.List.{list_any}
+use Rattle.dia_dict.specs.declared.hashed.Service.{Service}
+use Rattle.dia_dict.proofs.Indexing.Premises.{command_heads-held}
+use Rattle.dia_dict.proofs.Indexing.Selectors.{equal_services, service-found}
+use Rattle.dia_dict.proofs.Opened.{opened}
+use Rattle.dia_dict.proofs.Rows.{held, has_command-held}
 use Rattle.dia_dict.proofs.indexed_book.IndexedBookBook.has_command.Goals as goal
 
 pub returns : goal.returns
 returns c =
     let b = c.args.self.now in
-    let es = b.entries.avps.entries in
-    let gs = b.entries.groups.items in
-    let cs = values_of b.commands.definitions.entries in
-    c.serves.ensures ∙ has_command-meant es gs cs c.args.code c.args.class
+    let rows = b.book.entries.rows.items in
+    let groups = b.book.entries.groups.items in
+    let commands = b.book.commands.items in
+    c.contains.ensures ∙ ap (λ (s : Service). list_any (equal_services s) b.services.keys) c.new.ensures
+    ∙ service-found commands (command_heads-held rows groups commands (opened (held rows groups commands) b.book.sound)) b.services.keys b.served c.args.code c.args.class
+    ∙ sym (has_command-held rows groups commands c.args.code c.args.class)

@@ -1,25 +1,50 @@
-use Rattle.std.proofs.Common.{◌≡◌, Option, sym, subst, arith}
+use Rattle.std.proofs.Common.{ℕ, Option, Some, None, ap, sym, ◌≡◌, ◌∙◌, subst, arith}
 use Rattle.std.specs.Prelude.{IfSome}
-use Rattle.std.proofs.lemmas.List.{length-map}
-use Rattle.dia_dict.specs.declared.hashed.Selector.{Selector}
-use Rattle.dia_dict.specs.declared.indexed_book.definitions.IndexedDefinition.{IndexedDefinition}
-use Rattle.std.specs.Map.{values_of}
-use Rattle.dia_dict.specs.Dictionary.{PlainDefinition, slot_of}
-use Rattle.dia_dict.proofs.Indexing.Meant.{length-definitions-meant, definition_at-meant}
+use Rattle.std.specs.Option.{option_map_or}
+use Rattle.dia_dict.specs.Dictionary.{PlainDefinition, lists_key, slot_at, slot_of}
+use Rattle.dia_dict.specs.declared.definition.Slot.TheVariants.{Unlisted}
+use Rattle.dia_dict.proofs.Indexing.Tables.{length-tables, found_slot}
+use Rattle.dia_dict.proofs.Lists.{position-within}
+use Rattle.dia_dict.proofs.Rows.{length-definitions-held}
 use Rattle.dia_dict.proofs.indexed_book.IndexedBookBook.slot.Goals as goal
 
-pub indexed-requires : goal.indexed-requires
-indexed-requires c =
+pub index-requires-2 : goal.index-requires-2
+index-requires-2 c =
     let b = c.args.self.now in
-    let es = b.entries.avps.entries in
-    let gs = b.entries.groups.items in
-    let cs = values_of b.commands.definitions.entries in
-    omega (arith, c.requires, length-definitions-meant es gs cs b.entries.numbered, b.entries.groups.ok.0, length-map b.commands.definitions.entries (λ (e : Selector × IndexedDefinition). e.1))
+    let rows = b.book.entries.rows.items in
+    let groups = b.book.entries.groups.items in
+    let commands = b.book.commands.items in
+    let numbered = b.book.entries.numbered in
+    omega (arith, c.requires, c.index.ensures, b.slots.ok.0, length-tables rows groups commands numbered b.slots.items b.slotted, length-definitions-held rows groups commands numbered)
 
-pub returns : goal.returns
-returns c =
+pub slot_at-requires : goal.slot_at-requires
+slot_at-requires c =
     let b = c.args.self.now in
-    let es = b.entries.avps.entries in
-    let gs = b.entries.groups.items in
-    let cs = values_of b.commands.definitions.entries in
-    subst (λ (o : Option PlainDefinition). IfSome o (λ d. c.slot.result ≡ slot_of d.rules c.args.key)) (sym (definition_at-meant es gs cs b.entries.numbered c.args.def c.indexed.result.now c.indexed.ensures)) c.slot.ensures
+    let rows = b.book.entries.rows.items in
+    let groups = b.book.entries.groups.items in
+    let commands = b.book.commands.items in
+    let d = c.def-definition.result.now in
+    let found = found_slot rows groups commands b.book.entries.numbered b.slots.items b.slotted c.args.def c.index.result c.index-2.result.now d c.index.ensures c.requires c.index-2.ensures c.def-definition.ensures c.args.key (Some c.in-Some.place) c.in-Some.ensures in
+    position-within (lists_key c.args.key) d.rules.items c.in-Some.place (sym found)
+
+pub returns-in-Some : goal.returns-in-Some
+returns-in-Some c =
+    let b = c.args.self.now in
+    let rows = b.book.entries.rows.items in
+    let groups = b.book.entries.groups.items in
+    let commands = b.book.commands.items in
+    let d = c.def-definition.result.now in
+    let found = found_slot rows groups commands b.book.entries.numbered b.slots.items b.slotted c.args.def c.index.result c.index-2.result.now d c.index.ensures c.requires c.index-2.ensures c.def-definition.ensures c.args.key (Some c.in-Some.place) c.in-Some.ensures in
+    subst (λ (o : Option PlainDefinition). IfSome o (λ p. c.slot_at.result ≡ slot_of p.rules c.args.key)) (sym c.def-definition.ensures)
+    (c.slot_at.ensures ∙ ap (λ (o : Option ℕ). option_map_or (slot_at d.rules.items) o Unlisted) found)
+
+pub returns-in-None : goal.returns-in-None
+returns-in-None c =
+    let b = c.args.self.now in
+    let rows = b.book.entries.rows.items in
+    let groups = b.book.entries.groups.items in
+    let commands = b.book.commands.items in
+    let d = c.def-definition.result.now in
+    let found = found_slot rows groups commands b.book.entries.numbered b.slots.items b.slotted c.args.def c.index.result c.index-2.result.now d c.index.ensures c.requires c.index-2.ensures c.def-definition.ensures c.args.key None c.in-None.ensures in
+    subst (λ (o : Option PlainDefinition). IfSome o (λ p. Unlisted ≡ slot_of p.rules c.args.key)) (sym c.def-definition.ensures)
+    (ap (λ (o : Option ℕ). option_map_or (slot_at d.rules.items) o Unlisted) found)
