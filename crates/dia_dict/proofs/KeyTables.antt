@@ -1,11 +1,14 @@
 -- Tables of keys: what their rows say, and where a search among them goes.
-use Rattle.std.proofs.Common.{◌≡◌, ℕ, ◌+◌, ◌*◌, ◌%◌, ◌^◌, ◌<◌, ◌≤◌, Bool, true, false, cond, List, [], ◌∷◌, ◌++◌, length, take, get_or, Option, Some, None, refl, sym, ap, ◌∙◌, subst, arith}
+use Rattle.std.proofs.Common.{◌≡◌, ℕ, ◌+◌, ◌-◌, ◌*◌, ◌/◌, ◌%◌, ◌^◌, ◌<◌, ◌≤◌, Bool, true, false, cond, List, [], ◌∷◌, ◌++◌, length, take, get_or, Option, Some, None, refl, sym, ap, ◌∙◌, subst, inl, inr, arith}
 use Rattle.std.specs.Prelude.{slice_get, position, All}
-use Rattle.std.specs.List.Sorted.{IsNonDecreasingBy, IsPermutation}
+use Rattle.std.specs.List.Sorted.{IsNonDecreasingBy, IsPermutation, IsPartitionPoint}
 use Rattle.std.specs.Option.{option_or}
-use Rattle.std.proofs.Math.Nat.{mod-eq_of_lt, add-mul-mod_self_right}
+use Rattle.std.proofs.Math.Nat.{mod-eq_of_lt, add-mul-mod_self_right, mul-le-mul_right}
+use Rattle.std.proofs.Math.Dec.{ltb}
+use Rattle.std.proofs.Math.Seq.{get_or-append_seam}
+use Rattle.std.proofs.lemmas.Bool.{cases_lt, ltb-true, ltb-false}
 use Rattle.std.proofs.lemmas.Nat.{mul-mod_first}
-use Rattle.std.proofs.lemmas.List.{take_more, length-take-le, get_or_default}
+use Rattle.std.proofs.lemmas.List.{take_more, length-take-le, length_push, get_or_default, get_or_append_left}
 use Rattle.std.proofs.lemmas.List.Elements.{All-push, All-pop}
 use Rattle.std.proofs.lemmas.List.Quantifiers.{position-Some}
 use Rattle.std.proofs.lemmas.List.Sorted.{All-permutation, IsPermutation-sym}
@@ -13,7 +16,7 @@ use Rattle.std.proofs.lemmas.Option.{slice_get-get_or}
 use Rattle.dia_wire.specs.declared.Key.{Key}
 use Rattle.dia_dict.specs.declared.key_table.rows.KeyRow.{KeyRow}
 use Rattle.dia_dict.specs.Keys.{same_key}
-use Rattle.dia_dict.specs.KeyTables.{IsKey, rank_of, is_key, place_among, AreDistinct, IsIndexOf, IsFound}
+use Rattle.dia_dict.specs.KeyTables.{IsKey, rank_of, is_key, place_among, AreDistinct, IsIndexOf, IsFound, bucket_of, IsStart, AreStarts}
 use Rattle.dia_dict.proofs.Keys.{same_key-true, same_key-equal}
 use Rattle.dia_dict.proofs.Indexing.Places.{slice_get-take, position-push}
 
@@ -46,8 +49,7 @@ module _ (rows : List KeyRow) where
 
   pub IsIndexOf-permutation : (place : Key → Option ℕ) (others : List KeyRow) → IsPermutation rows others → IsIndexOf rows place → IsIndexOf others place
   IsIndexOf-permutation place others moved index = λ key fits.
-      let own = index key fits in
-      (
+      let own = index key fits in (
         All-permutation (λ row. row.rank ≡ rank_of key → place key ≡ Some row.place) rows others moved own.0,
         λ none. own.1 (All-permutation (λ row. row.rank ≡ rank_of key → ⊥) others rows (IsPermutation-sym rows others moved) none),
       )
@@ -99,17 +101,16 @@ module _ (keys : List (Option Key)) (i : ℕ) (d : Option Key) (within : i < len
     IsIndexOf-more rows row fits rank place index = λ key others.
         let known = index key others in
         let rest : Bool → Option ℕ = λ b. cond b (Some i) None in
-        let more = place_among-more key ∙ ap (λ (o : Option Key). option_or (place_among (take i keys) key) (rest (is_key key o))) here in
-        (
+        let more = place_among-more key ∙ ap (λ (o : Option Key). option_or (place_among (take i keys) key) (rest (is_key key o))) here in (
           All-push (λ r. r.rank ≡ rank_of key → place_among (take (i + 1) keys) key ≡ Some r.place) rows row
-          (λ k e short same. more ∙ ap (λ (o : Option ℕ). option_or o (rest (same_key key own))) (known.0 k e short same))
-          (λ same.
-          let one : own ≡ key = rank_of-distinct own key fits others (sym rank ∙ same) in
-          more ∙ ap (λ (o : Option ℕ). option_or o (rest (same_key key own))) (first key one) ∙ ap rest (same_key-equal key own (sym one)) ∙ ap (λ (n : ℕ). Some n) (sym place)),
+              (λ k e short same. more ∙ ap (λ (o : Option ℕ). option_or o (rest (same_key key own))) (known.0 k e short same))
+              (λ same.
+              let one : own ≡ key = rank_of-distinct own key fits others (sym rank ∙ same) in
+              more ∙ ap (λ (o : Option ℕ). option_or o (rest (same_key key own))) (first key one) ∙ ap rest (same_key-equal key own (sym one)) ∙ ap (λ (n : ℕ). Some n) (sym place)),
           λ none.
-          let apart = All-pop (λ (r : KeyRow). r.rank ≡ rank_of key → ⊥) (rows ++ row ∷ []) rows (Some row) refl none in
-          more ∙ ap (λ (o : Option ℕ). option_or o (rest (same_key key own))) (known.1 apart.0)
-          ∙ ap rest (not_same (same_key key own) (λ t. apart.1 (rank ∙ ap rank_of (sym (same_key-true key own t))))),
+              let apart = All-pop (λ (r : KeyRow). r.rank ≡ rank_of key → ⊥) (rows ++ row ∷ []) rows (Some row) refl none in
+              more ∙ ap (λ (o : Option ℕ). option_or o (rest (same_key key own))) (known.1 apart.0)
+              ∙ ap rest (not_same (same_key key own) (λ t. apart.1 (rank ∙ ap rank_of (sym (same_key-true key own t))))),
         )
       where
         not_same : (b : Bool) → (b ≡ true → ⊥) → b ≡ false
@@ -130,3 +131,58 @@ module _ (rows : List KeyRow) (sorted : IsNonDecreasingBy (λ (row : KeyRow). ro
   higher large k d above short same =
       let e : (get_or rows middle d).rank ≡ (get_or rows middle row).rank = ap (λ (r : KeyRow). r.rank) (get_or_default rows middle d row within) in
       omega (arith, large, same, e, sorted middle k d above short)
+
+-- ---- buckets
+
+pub bucket_of-within : (buckets rank : ℕ) → 0 < buckets → rank < 2 ^ 64 → bucket_of buckets rank < buckets
+unfolding bucket_of
+bucket_of-within buckets rank some fits =
+    let top : rank / 2 ^ 32 ≤ 2 ^ 32 - 1 = omega (arith, fits) in
+    let most : rank / 2 ^ 32 * buckets ≤ (2 ^ 32 - 1) * buckets = mul-le-mul_right buckets top in
+    omega (arith, most, some)
+
+pub bucket_of-rises : (buckets one other : ℕ) → one ≤ other → bucket_of buckets one ≤ bucket_of buckets other
+unfolding bucket_of
+bucket_of-rises buckets one other le =
+    let tops : one / 2 ^ 32 ≤ other / 2 ^ 32 = omega (arith, le) in
+    let products : one / 2 ^ 32 * buckets ≤ other / 2 ^ 32 * buckets = mul-le-mul_right buckets tops in
+    omega (arith, products)
+
+module _ (rows : List KeyRow) (buckets : ℕ) where
+  pub buckets_rise : IsNonDecreasingBy (λ (row : KeyRow). row.rank) rows → IsNonDecreasingBy (λ (row : KeyRow). bucket_of buckets row.rank) rows
+  buckets_rise sorted i j d le short = bucket_of-rises buckets _ _ (sorted i j d le short)
+
+  pub IsStart-point : (bucket start : ℕ) → start ≤ length rows
+      → IsPartitionPoint (λ (row : KeyRow). ltb (bucket_of buckets row.rank) bucket ≡ true) (λ (row : KeyRow). ltb (bucket_of buckets row.rank) bucket ≡ false) rows start → IsStart rows buckets bucket start
+  IsStart-point bucket start within point = (
+    within,
+    λ k d before. ltb-true (bucket_of buckets (get_or rows k d).rank) bucket (point.0 k d (omega arith) before),
+    λ k d after short. ltb-false (bucket_of buckets (get_or rows k d).rank) bucket (point.1 k d after short),
+  )
+
+  pub AreStarts-more : (starts : List ℕ) (start : ℕ) → AreStarts rows buckets starts → IsStart rows buckets (length starts) start → AreStarts rows buckets (starts ++ start ∷ [])
+  AreStarts-more starts start known own bucket short = elim (cases_lt bucket (length starts)) [
+    | inl before ↦ subst (IsStart rows buckets bucket) (sym (get_or_append_left starts (start ∷ []) 0 bucket before)) (known bucket before)
+    | inr after ↦ (
+        let last : length starts ≡ bucket = omega (arith, length_push starts start) in
+        subst (λ (b : ℕ). IsStart rows buckets b (get_or (starts ++ start ∷ []) b 0)) last (subst (IsStart rows buckets (length starts)) (sym (get_or-append_seam starts start [] 0)) own)
+        )
+  ]
+
+  module _ (starts : List ℕ) (known : AreStarts rows buckets starts) (rank bucket start : ℕ) (short : bucket < length starts) (read : start ≡ get_or starts bucket start) where
+    pub start_is : IsStart rows buckets bucket start
+    start_is = subst (IsStart rows buckets bucket) (sym (read ∙ get_or_default starts bucket start 0 short)) (known bucket short)
+
+    -- no row before its bucket's start has the rank
+    pub off_before : bucket ≡ bucket_of buckets rank → (k : ℕ) (d : KeyRow) → k < start → (get_or rows k d).rank ≡ rank → ⊥
+    off_before own k d before same =
+        let less = start_is.1 k d before in
+        let e : bucket_of buckets (get_or rows k d).rank ≡ bucket_of buckets rank = ap (bucket_of buckets) same in
+        omega (arith, less, e, own)
+
+    -- and none from the next bucket's start on
+    pub off_after : bucket ≡ bucket_of buckets rank + 1 → (k : ℕ) (d : KeyRow) → start ≤ k → k < length rows → (get_or rows k d).rank ≡ rank → ⊥
+    off_after next k d after within same =
+        let more = start_is.2 k d after within in
+        let e : bucket_of buckets (get_or rows k d).rank ≡ bucket_of buckets rank = ap (bucket_of buckets) same in
+        omega (arith, more, e, next)

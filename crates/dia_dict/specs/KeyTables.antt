@@ -1,5 +1,5 @@
 -- Tables of keys: rows that tell the places of keys, in the order of a number of each key.
-use Rattle.std.specs.Prelude.{◌≡◌, ◌≢◌, ℕ, ◌+◌, ◌*◌, ◌%◌, ◌^◌, ◌<◌, Bool, false, List, Option, Some, None, slice_get, position, All, Any}
+use Rattle.std.specs.Prelude.{◌≡◌, ◌≢◌, ℕ, ◌+◌, ◌*◌, ◌/◌, ◌%◌, ◌^◌, ◌<◌, ◌≤◌, Bool, false, List, length, Option, Some, None, slice_get, slice_index, slice_index_or, position, All, Any}
 use Rattle.std.specs.Option.{option_map_or}
 use Rattle.dia_wire.specs.declared.Key.{Key}
 use Rattle.dia_dict.specs.declared.key_table.rows.KeyRow.{KeyRow}
@@ -32,3 +32,18 @@ IsIndexOf rows place = (key : Key) → IsKey key
 abbrev pub IsFound : List KeyRow → ℕ → Option ℕ → Type 0
 IsFound rows rank None = All (λ row. row.rank ≢ rank) rows
 IsFound rows rank (Some place) = Any (λ row. (row.rank ≡ rank) × (row.place ≡ place)) rows
+
+-- ---- buckets of ranks
+
+-- the bucket of a rank, from 0: the ranks below 2 ^ 64 are cut into so many ranges
+unfoldable pub bucket_of : ℕ → ℕ → ℕ
+bucket_of buckets rank = rank / 2 ^ 32 * buckets / 2 ^ 32
+
+-- the rows before the place are in lower buckets, and those from there on are not
+abbrev pub IsStart : List KeyRow → ℕ → ℕ → ℕ → Type 0
+IsStart rows buckets bucket start = (start ≤ length rows)
+    × ((k : ℕ) (d : KeyRow) → k < start → bucket_of buckets (slice_index_or rows k d).rank < bucket)
+    × ((k : ℕ) (d : KeyRow) → start ≤ k → k < length rows → bucket ≤ bucket_of buckets (slice_index_or rows k d).rank)
+
+abbrev pub AreStarts : List KeyRow → ℕ → List ℕ → Type 0
+AreStarts rows buckets starts = (bucket : ℕ) → bucket < length starts → IsStart rows buckets bucket (slice_index starts bucket)

@@ -82,6 +82,6 @@ module _ (rows : List Row) (groups commands : List Definition) (numbered : numbe
 -- the places of commands that a message selects
 pub selected-places : (rows : List Row) (groups commands : List Definition) (code : ℕ) (class : Class) (app : ℕ) → selected (held rows groups commands) code class app
     ≡ option_map (λ (i : ℕ). length (groups_of (held rows groups commands)) + i)
-      (option_or (position (λ (d : Definition). is_command code class (Some app) d.head) commands) (position (λ (d : Definition). is_command code class None d.head) commands))
+    (option_or (position (λ (d : Definition). is_command code class (Some app) d.head) commands) (position (λ (d : Definition). is_command code class None d.head) commands))
 selected-places rows groups commands code class app =
     rw (position-map plain (λ (c : PlainDefinition). is_command code class (Some app) c.head) commands, position-map plain (λ (c : PlainDefinition). is_command code class None c.head) commands) refl

@@ -137,3 +137,40 @@ fn finds_each_of_1024_rules(rt: HostRuntime) -> Result<(), Fail> {
     );
     Ok(())
 }
+
+/// The inverse of the odd number that keys are multiplied by: the products of the keys below are 1, 2, 3 and so on.
+const INVERSE: u64 = 17428512612931826493;
+
+fn neighbour(number: u64) -> Key {
+    let number = number.wrapping_mul(INVERSE);
+    Key {
+        code: (number & 0xffff_ffff) as u32,
+        vendor: (number >> 32) as u32,
+    }
+}
+
+/// AVPs whose keys all share a bucket.
+fn neighbours(alloc: Global, count: u64) -> Result<String, AllocError> {
+    let mut text = String::new(alloc);
+    for number in 1..=count {
+        let Key { code, vendor } = neighbour(number);
+        write!(text, "%avp A{number} {code} vendor {vendor} Time any\n")?;
+    }
+    Ok(text)
+}
+
+#[test]
+fn finds_keys_that_share_a_bucket(rt: HostRuntime) -> Result<(), Fail> {
+    let text = neighbours(rt.alloc(), 1000)?;
+    let book = IndexedBook::new(rt.alloc(), book_of(rt.alloc(), text.as_str())?)?;
+    let entries = book.entries();
+    assert_eq!(rt; entries, 1000);
+    for place in 0..entries {
+        let entry = book.entry_at(place);
+        assert_eq!(rt; book.avp(book.entry_key(entry)), Some(entry));
+        assert_eq!(rt; book.avp(neighbour(place as u64 + 1)), Some(entry));
+    }
+    assert_eq!(rt; book.avp(neighbour(0)), None);
+    assert_eq!(rt; book.avp(neighbour(1001)), None);
+    Ok(())
+}

@@ -1,5 +1,5 @@
 //! Rows of a table: what is said of each key.
-ghost use Rattle.std.specs.Prelude.{◌≡◌, ◌<◌, ◌^◌, IfOk, length};
+ghost use Rattle.std.specs.Prelude.{◌≡◌, ◌<◌, ◌≤◌, ◌^◌, IfOk, length};
 ghost use Rattle.dia_dict.specs.KeyTables.{AreDistinct, IsIndexOf, IsKey, place_among, rank_of};
 
 use dia_wire::Key;
@@ -28,7 +28,8 @@ pub(super) fn rank(key: Key) -> u64
 pub(super) fn rows_of(alloc: Global, keys: &[Option<Key>]) -> Result<Vec<KeyRow>, AllocError>
     requires few { length keys.now < 2 ^ 32 }
     requires distinct { AreDistinct keys.now }
-    ensures { IfOk result (λ rows. IsIndexOf rows.items (place_among keys.now)) }
+    ensures many { IfOk result (λ rows. length rows.items ≤ length keys.now) }
+    ensures index { IfOk result (λ rows. IsIndexOf rows.items (place_among keys.now)) }
 {
     let mut rows = Vec::with_capacity(alloc, keys.len())?;
     for (index, key) in keys.iter().enumerate() {

@@ -9,7 +9,7 @@ use super::rows::KeyRow;
 /// A binary search for a rank that no row before `low` has, and none from `high` on.
 pub(super) fn search(rows: &[KeyRow], low: usize, high: usize, rank: u64) -> Option<usize>
     requires sorted { IsNonDecreasingBy (λ row. row.rank) rows.now }
-    requires within { (low ≤ high) × (high ≤ length rows.now) }
+    requires within { high ≤ length rows.now }
     requires before { (k : ℕ) (d : AnyRow) → k < low → (slice_index_or rows.now k d).rank ≢ rank }
     requires after { (k : ℕ) (d : AnyRow) → high ≤ k → k < length rows.now → (slice_index_or rows.now k d).rank ≢ rank }
     ensures { IsFound rows.now rank result }

@@ -7,7 +7,6 @@ loop-low-preserved-then-row-rank c =
     let middle : ℕ = c.loop-low.low + (c.loop-low.high - c.loop-low.low) / 2 in
     let inside : middle < c.loop-low.high = omega arith in
     record {
-      ordered = omega arith;
       within = c.loop-low.invariant.within;
       before = lower c.args.rows.now c.requires.sorted c.args.rank middle _ (omega arith) c.if-row-rank.true;
       after = c.loop-low.invariant.after;
@@ -18,7 +17,6 @@ loop-low-preserved c =
     let middle : ℕ = c.loop-low.low + (c.loop-low.high - c.loop-low.low) / 2 in
     let inside : middle < c.loop-low.high = omega arith in
     record {
-      ordered = omega arith;
       within = omega arith;
       before = c.loop-low.invariant.before;
       after = higher c.args.rows.now c.requires.sorted c.args.rank middle _ (omega arith) c.if-rank-row.true;

@@ -4,7 +4,6 @@ use Rattle.dia_dict.proofs.key_table.searching.search.Given as goal
 
 abbrev pub invariant-loop-low : goal.invariant-loop-low
 invariant-loop-low l = record {
-  ordered : l.low ≤ l.high;
   within : l.high ≤ length l.rows;
   before : (k : ℕ) (d : KeyRow) → k < l.low → (get_or l.rows k d).rank ≡ l.rank → ⊥;
   after : (k : ℕ) (d : KeyRow) → l.high ≤ k → k < length l.rows → (get_or l.rows k d).rank ≡ l.rank → ⊥;
