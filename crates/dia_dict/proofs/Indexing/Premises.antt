@@ -1,10 +1,9 @@
 -- What a dictionary keeps, of the lists that a plain book holds.
-use Rattle.std.proofs.Common.{◌≡◌, ℕ, ◌+◌, List, ◌++◌, length, map, get_or, Some, sym, ap, ◌∙◌, subst}
+use Rattle.std.proofs.Common.{◌≡◌, ℕ, ◌+◌, List, ◌++◌, length, map, get_or, Some, sym, ap, ◌∙◌}
 use Rattle.std.specs.Prelude.{slice_get, All}
 use Rattle.std.specs.List.{range_with_len}
 use Rattle.std.specs.Option.{option_map}
 use Rattle.std.proofs.lemmas.Option.{slice_get-map, slice_get-get_or, same_Some}
-use Rattle.dia_wire.specs.declared.Key.{Key}
 use Rattle.dia_dict.specs.Dictionary.{PlainDefinition, IsDictionary, IsCommandHead, AreRules, definitions, plain}
 use Rattle.dia_dict.specs.KeyTables.{AreDistinct}
 use Rattle.dia_dict.specs.PlainMeaning.{entry_of_row, numbers}

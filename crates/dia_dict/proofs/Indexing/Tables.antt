@@ -1,6 +1,6 @@
 -- Tables of definitions, and what a look-up in them finds.
-use Rattle.std.proofs.Common.{◌≡◌, ℕ, ◌+◌, ◌<◌, ◌≤◌, List, [], ◌∷◌, ◌++◌, length, map, Option, Some, None, sym, ap, ◌∙◌, subst, arith, inl, inr, ⊎_elim, ◌⊎◌, position, zero, suc, refl, get_or}
-use Rattle.std.specs.Prelude.{slice_get, IfSome}
+use Rattle.std.proofs.Common.{◌≡◌, ℕ, ◌+◌, ◌<◌, List, [], ◌∷◌, ◌++◌, length, Option, Some, None, sym, ap, ◌∙◌, subst, arith, inl, inr, ⊎_elim, ◌⊎◌, position, zero, suc, refl, get_or}
+use Rattle.std.specs.Prelude.{slice_get}
 use Rattle.std.specs.List.{range_with_len}
 use Rattle.std.specs.Option.{option_map, option_or}
 use Rattle.std.proofs.Math.Logic.{∥∥₁_elim}
@@ -17,7 +17,7 @@ use Rattle.dia_dict.specs.declared.definition.DRule.{DRule}
 use Rattle.dia_dict.specs.declared.definition.Class.{Class}
 use Rattle.dia_dict.specs.declared.entry_list.Row.{Row}
 use Rattle.dia_dict.specs.declared.key_table.KeyTable.{KeyTable}
-use Rattle.dia_dict.proofs.Lists.{position-map, position-within}
+use Rattle.dia_dict.proofs.Lists.{position-map}
 use Rattle.dia_dict.specs.Keys.{same_key}
 use Rattle.dia_dict.proofs.Indexing.Places.{image_at}
 use Rattle.dia_dict.proofs.Indexing.Selectors.{option-prop}

@@ -1,9 +1,7 @@
-use Rattle.std.proofs.Common.{ℕ, ◌+◌, length, Some, None, ap, sym, ◌∙◌}
+use Rattle.std.proofs.Common.{ℕ, ◌+◌, length, Some, ap, sym, ◌∙◌}
 use Rattle.std.specs.Option.{option_map}
-use Rattle.dia_dict.specs.Dictionary.{groups as groups_of, is_command}
-use Rattle.dia_dict.specs.declared.definition.Definition.{Definition}
+use Rattle.dia_dict.specs.Dictionary.{groups as groups_of}
 use Rattle.dia_dict.proofs.Indexing.Tables.{selected-places}
-use Rattle.dia_dict.proofs.Lists.{position-either}
 use Rattle.dia_dict.proofs.Rows.{held}
 use Rattle.dia_dict.proofs.indexed_book.IndexedBookBook.select.Goals as goal
 

@@ -1,4 +1,4 @@
-use Rattle.std.proofs.Common.{List, Option, ap, sym, ◌∙◌, subst}
+use Rattle.std.proofs.Common.{List, Option, sym, ◌∙◌, subst}
 use Rattle.std.specs.Prelude.{IfOk}
 use Rattle.dia_wire.specs.declared.Key.{Key}
 use Rattle.dia_dict.specs.KeyTables.{AreDistinct, IsIndexOf, place_among}

@@ -1,4 +1,4 @@
-use Rattle.std.proofs.Common.{ℕ, ◌+◌, ◌*◌, ◌%◌, ◌^◌, ap}
+use Rattle.std.proofs.Common.{◌+◌, ◌*◌, ◌%◌, ◌^◌}
 use Rattle.dia_dict.specs.KeyTables.{rank_of}
 use Rattle.dia_dict.proofs.key_table.rows.rank.Goals as goal
 

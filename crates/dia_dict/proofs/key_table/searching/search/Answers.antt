@@ -1,4 +1,4 @@
-use Rattle.std.proofs.Common.{ℕ, ◌+◌, ◌-◌, ◌/◌, ◌<◌, length, arith}
+use Rattle.std.proofs.Common.{ℕ, ◌+◌, ◌-◌, ◌/◌, ◌<◌, arith}
 use Rattle.dia_dict.proofs.KeyTables.{lower, higher}
 use Rattle.dia_dict.proofs.key_table.searching.search.Goals as goal
 

@@ -1,4 +1,4 @@
-use Rattle.std.proofs.Common.{ℕ, ◌*◌, ◌/◌, ◌^◌, ◌<◌, ap, subst, sym, ◌∙◌}
+use Rattle.std.proofs.Common.{ℕ, ◌*◌, ◌/◌, ◌^◌, ◌<◌, ap, subst, sym}
 use Rattle.dia_dict.specs.KeyTables.{bucket_of}
 use Rattle.dia_dict.proofs.KeyTables.{bucket_of-within}
 use Rattle.dia_dict.proofs.key_table.starts.bucket_of.Goals as goal

@@ -1,4 +1,4 @@
-use Rattle.std.proofs.Common.{◌∷◌, [], ◌++◌, List, ℕ, ap, sym, subst, arith, length}
+use Rattle.std.proofs.Common.{ℕ, ap, sym, subst, arith, length}
 use Rattle.std.proofs.lemmas.List.{length_push}
 use Rattle.dia_dict.specs.KeyTables.{AreStarts, IsStart}
 use Rattle.dia_dict.proofs.KeyTables.{AreStarts-more}
