@@ -9,7 +9,7 @@ ghost use Rattle.dia_check.specs.Levels.{MayOpen};
 ghost use Rattle.dia_check.specs.OpenLevels.{SoFar, begun, and_key, HasRoom, AreOpenUnder, IsMetAtEnd, IsMissingAtEnd};
 ghost use Rattle.dia_check.specs.Admission.{HasFlags, IsWrongFlags, IsAdmitted, IsFirstRefused, IsFineData, IsWrongData, IsFineAvp, IsWrongAvp};
 
-use crate::fault::{Reason, Subject};
+use crate::fault::Reason;
 use crate::open_levels::{OpenLevels, Wrong};
 use crate::policy::{Levels, Unknown};
 use dia_dict::{Book, DefId, Entry, Leaf, MRule, accepts};
@@ -39,13 +39,14 @@ pub(crate) fn check_avp<B: Book>(
 {
     let key = key(avp);
     let depth = open_levels.depth();
-    match admit(book, unknown, open_levels, key, avp.flags)? {
+    let known = book.avp(key);
+    if let Some(wrong) = admit(book, unknown, open_levels, key, &known, avp.flags) {
+        return Err(wrong);
+    }
+    match known {
         Some(entry) => match check_data(book, levels, depth, entry, avp.bytes) {
             Ok(group) => Ok(group),
-            Err(reason) => Err(Wrong {
-                reason,
-                subject: Subject::Avp(key),
-            }),
+            Err(reason) => Err(Wrong::avp(reason, key)),
         },
         None => Ok(None),
     }
@@ -97,63 +98,58 @@ pub(crate) fn open_group<B: Book>(
     open_levels.open(def, &book.def(def).rules, end)
 }
 
-/// Admits an AVP of this key and these flags to the innermost level: its entry, where the dictionary knows it.
+/// Admits an AVP of this key, entry and flags to the innermost level, or says what is wrong.
 pub(crate) fn admit<B: Book>(
     book: &B,
     unknown: Unknown,
     open_levels: &mut OpenLevels,
     key: Key,
+    known: &Option<Entry>,
     flags: u8,
-) -> Result<Option<Entry>, Wrong>
+) -> Option<Wrong>
     requires sound { IsDictionary (B.meaning book.now) }
     requires open_levels { (outer : List SoFar) × (level : SoFar)
         × AreOpenUnder (B.meaning book.now) open_levels.old outer level × HasRoom level }
+    requires known { known.now ≡ entry_of (B.meaning book.now) key }
     ensures { (outer : List SoFar) (level : SoFar)
         → AreOpenUnder (B.meaning book.now) open_levels.old outer level
-        → MatchResult result
-        (λ entry. IsAdmitted (B.meaning book.now) unknown level.rules level.keys key flags
-        × (entry ≡ entry_of (B.meaning book.now) key)
+        → MatchOption result
+        (IsAdmitted (B.meaning book.now) unknown level.rules level.keys key flags
         × AreOpenUnder (B.meaning book.now) open_levels.new outer (and_key level key))
         (λ wrong. IsFirstRefused (B.meaning book.now) unknown level.rules level.keys key flags wrong) }
 {
-    let entry = find_entry(book, unknown, key, flags)?;
+    if let Some(wrong) = wrong_flags(book, unknown, key, known, flags) {
+        return Some(wrong);
+    }
     let def = open_levels.innermost().def;
-    open_levels.meet(&book.def(def).rules, book.slot(def, key), key)?;
-    Ok(entry)
+    open_levels.meet(&book.def(def).rules, book.slot(def, key), key)
 }
 
-/// The entry of an AVP, where its M flag is as it has to be.
-fn find_entry<B: Book>(
+/// What is wrong with the flags of an AVP of this key and entry.
+fn wrong_flags<B: Book>(
     book: &B,
     unknown: Unknown,
     key: Key,
+    known: &Option<Entry>,
     flags: u8,
-) -> Result<Option<Entry>, Wrong>
-    ensures { MatchResult result
-        (λ entry. (entry ≡ entry_of (B.meaning book.now) key)
-        × HasFlags (B.meaning book.now) unknown key flags)
+) -> Option<Wrong>
+    requires { known.now ≡ entry_of (B.meaning book.now) key }
+    ensures { MatchOption result (HasFlags (B.meaning book.now) unknown key flags)
         (λ wrong. IsWrongFlags (B.meaning book.now) unknown key flags wrong) }
 {
-    let subject = Subject::Avp(key);
-    match book.avp(key) {
+    match known {
         Some(entry) => {
-            if m_holds(book.rule(entry), flags) {
-                Ok(Some(entry))
+            if m_holds(book.rule(*entry), flags) {
+                None
             } else {
-                Err(Wrong {
-                    reason: Reason::MBit,
-                    subject,
-                })
+                Some(Wrong::avp(Reason::MBit, key))
             }
         }
         None => {
             if is_accepted(unknown, flags) {
-                Ok(None)
+                None
             } else {
-                Err(Wrong {
-                    reason: Reason::Unknown,
-                    subject,
-                })
+                Some(Wrong::avp(Reason::Unknown, key))
             }
         }
     }

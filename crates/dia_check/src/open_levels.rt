@@ -1,6 +1,6 @@
 //! The levels that are open, and how often each of their rules was met.
 
-ghost use Rattle.std.specs.Prelude.{◌≡◌, ◌<◌, ◌≤◌, ◌++◌, ◌∷◌, [], ℕ, List, Option, Some, length, position, slice_get, MatchOption, MatchResult, OnOk, IfOk, IsTrue, IsFalse, replicate};
+ghost use Rattle.std.specs.Prelude.{◌≡◌, ◌<◌, ◌≤◌, ◌++◌, ◌∷◌, [], ℕ, List, Option, Some, length, position, slice_get, MatchOption, OnOk, IfOk, IsTrue, IsFalse, replicate};
 ghost use Rattle.dia_wire.specs.declared.Key.{Key as AnyKey};
 ghost use Rattle.dia_dict.specs.declared.DRule.{DRule as AnyRule};
 ghost use Rattle.dia_dict.specs.Dictionary.{AreRules, PlainDefinition, slot_of};
@@ -46,6 +46,18 @@ pub(crate) struct Wrong {
     pub(crate) subject: Subject,
 }
 
+impl Wrong {
+    /// What is wrong with an AVP of this key.
+    pub(crate) fn avp(reason: Reason, key: Key) -> Self
+        ensures { result ≡ record { reason = reason; subject = Subject.Avp key } }
+    {
+        Wrong {
+            reason,
+            subject: Subject::Avp(key),
+        }
+    }
+}
+
 impl OpenLevel {
     /// A level of which nothing was read yet, whose counts begin at a place and are all 0.
     fn new(def: DefId, rules: &[DRule], end: usize, base: usize) -> Self
@@ -77,42 +89,32 @@ impl OpenLevel {
         }
     }
 
-    /// Meets an AVP of this key and slot: the run that the level is in then, or what is wrong.
-    fn meet(
-        &self,
-        counts: &mut [u32],
-        rules: &[DRule],
-        slot: Slot,
-        key: Key,
-    ) -> Result<usize, Wrong>
+    /// Meets an AVP of this key and slot, or says what is wrong.
+    fn meet(&mut self, counts: &mut [u32], rules: &[DRule], slot: Slot, key: Key) -> Option<Wrong>
         requires rules { AreRules rules.now }
         requires slot { slot ≡ slot_of rules.now key }
-        requires counted { (keys : List AnyKey) × IsCounted rules.now keys self.now counts.old
+        requires counted { (keys : List AnyKey) × IsCounted rules.now keys self.old counts.old
             × (length keys < 4294967295) }
-        ensures { (keys : List AnyKey) → IsCounted rules.now keys self.now counts.old
-            → MatchResult result (λ run. IsMet rules.now keys key (record self.now { run = run }) counts.new)
+        ensures { (keys : List AnyKey) → IsCounted rules.now keys self.old counts.old
+            → MatchOption result
+            (IsMet rules.now keys key self.new counts.new × (self.new ≡ record self.old { run = self.new.run }))
             (λ wrong. IsFirstMisplaced rules.now keys key wrong) }
     {
         let (run, rule) = self.lead(slot);
         if let Some(place) = first_unmet(rules, counts, self.run, run) {
             let rule = rules[place];
-            return Err(missing(rule));
+            return Some(missing(rule));
         }
         let Some(rule) = rule else {
-            return Err(Wrong {
-                reason: Reason::NotAllowed,
-                subject: Subject::Avp(key),
-            });
+            return Some(Wrong::avp(Reason::NotAllowed, key));
         };
         let count = counts[rule];
         if rules[rule].max == Some(count) {
-            return Err(Wrong {
-                reason: Reason::TooMany,
-                subject: Subject::Avp(key),
-            });
+            return Some(Wrong::avp(Reason::TooMany, key));
         }
         counts[rule] = count + 1;
-        Ok(run)
+        self.run = run;
+        None
     }
 }
 
@@ -199,24 +201,21 @@ impl OpenLevels {
         }
     }
 
-    /// Meets an AVP of this key and slot in the innermost level.
-    pub(crate) fn meet(&mut self, rules: &[DRule], slot: Slot, key: Key) -> Result<(), Wrong>
+    /// Meets an AVP of this key and slot in the innermost level, or says what is wrong.
+    pub(crate) fn meet(&mut self, rules: &[DRule], slot: Slot, key: Key) -> Option<Wrong>
         requires rules { AreRules rules.now }
         requires slot { slot ≡ slot_of rules.now key }
         requires open { (defs : List PlainDefinition) × (outer : List SoFar) × (level : SoFar)
             × AreOpen defs self.old outer level × (level.rules ≡ rules.now) × HasRoom level }
         ensures { (defs : List PlainDefinition) (outer : List SoFar) (level : SoFar)
             → AreOpen defs self.old outer level → level.rules ≡ rules.now
-            → MatchResult result (λ _. IsWellPlaced rules.now level.keys key
+            → MatchOption result (IsWellPlaced rules.now level.keys key
             × AreOpen defs self.new outer (and_key level key))
             (λ wrong. IsFirstMisplaced rules.now level.keys key wrong) }
     {
         let base = self.innermost.base;
-        let run = self
-            .innermost
-            .meet(&mut self.counts[base..], rules, slot, key)?;
-        self.innermost.run = run;
-        Ok(())
+        self.innermost
+            .meet(&mut self.counts[base..], rules, slot, key)
     }
 
     /// What is missing at the end of the innermost level.

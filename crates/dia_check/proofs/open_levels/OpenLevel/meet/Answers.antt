@@ -1,4 +1,4 @@
-use Rattle.std.proofs.Common.{◌<◌, None, length, arith}
+use Rattle.std.proofs.Common.{◌<◌, None, length, refl, arith}
 use Rattle.std.proofs.lemmas.Option.{slice_get-get_or}
 use Rattle.dia_check.proofs.Meeting.{to_within, rule_within, count_few, missing_first, not_allowed_first, too_many_first, met_now, is_max_of, no_max_of}
 use Rattle.dia_dict.specs.declared.DRule.{DRule}
@@ -45,8 +45,8 @@ returns-in-Some c keys counted =
     (slice_get-get_or c.args.rules.now c.in-Some.place _ lt))
 
 pub returns-in_default-rule : goal.returns-in_default-rule
-returns-in_default-rule c keys counted = not_allowed_first c.args.rules.now c.requires.rules keys c.args.key c.args.self.now c.args.counts.now counted c.lead-run.result.0
-    c.lead-run.result.1 (c.lead-run.ensures c.args.rules.now keys c.args.key c.args.counts.now c.requires.rules counted c.requires.slot) c.in_default.ensures c.in_default-rule.is
+returns-in_default-rule c keys counted = rw c.avp.ensures (not_allowed_first c.args.rules.now c.requires.rules keys c.args.key c.args.self.now c.args.counts.now counted c.lead-run.result.0
+    c.lead-run.result.1 (c.lead-run.ensures c.args.rules.now keys c.args.key c.args.counts.now c.requires.rules counted c.requires.slot) c.in_default.ensures c.in_default-rule.is)
 
 pub bounds-counts-rule : goal.bounds-counts-rule
 bounds-counts-rule c = let (keys, counted, few) = c.requires.counted in
@@ -104,14 +104,16 @@ pub returns-then-eq : goal.returns-then-eq
 returns-then-eq c keys counted =
     let lt = (rule_within c.args.rules.now c.requires.rules keys c.args.key c.args.self.now c.args.counts.now counted c.lead-run.result.0 c.lead-run.result.1
     (c.lead-run.ensures c.args.rules.now keys c.args.key c.args.counts.now c.requires.rules counted c.requires.slot) c.in-Some-rule.rule c.in-Some-rule.is).0 in
-    too_many_first c.args.rules.now c.requires.rules keys c.args.key c.args.self.now c.args.counts.now counted c.lead-run.result.0 c.lead-run.result.1
+    rw c.avp-then-eq.ensures (too_many_first c.args.rules.now c.requires.rules keys c.args.key c.args.self.now c.args.counts.now counted c.lead-run.result.0 c.lead-run.result.1
     (c.lead-run.ensures c.args.rules.now keys c.args.key c.args.counts.now c.requires.rules counted c.requires.slot) c.in_default.ensures c.in-Some-rule.rule c.in-Some-rule.is _
-    (slice_get-get_or c.args.rules.now c.in-Some-rule.rule _ lt) (is_max_of _ _ c.if-eq.ensures)
+    (slice_get-get_or c.args.rules.now c.in-Some-rule.rule _ lt) (is_max_of _ _ c.if-eq.ensures))
 
 pub returns : goal.returns
 returns c keys counted =
     let lt = (rule_within c.args.rules.now c.requires.rules keys c.args.key c.args.self.now c.args.counts.now counted c.lead-run.result.0 c.lead-run.result.1
-    (c.lead-run.ensures c.args.rules.now keys c.args.key c.args.counts.now c.requires.rules counted c.requires.slot) c.in-Some-rule.rule c.in-Some-rule.is).0 in
-    met_now c.args.rules.now c.requires.rules keys c.args.key c.args.self.now c.args.counts.now counted c.lead-run.result.0 c.lead-run.result.1
-    (c.lead-run.ensures c.args.rules.now keys c.args.key c.args.counts.now c.requires.rules counted c.requires.slot) c.in_default.ensures c.in-Some-rule.rule c.in-Some-rule.is _
-    (slice_get-get_or c.args.rules.now c.in-Some-rule.rule _ lt) (no_max_of _ _ c.if-eq.ensures)
+    (c.lead-run.ensures c.args.rules.now keys c.args.key c.args.counts.now c.requires.rules counted c.requires.slot) c.in-Some-rule.rule c.in-Some-rule.is).0 in (
+      met_now c.args.rules.now c.requires.rules keys c.args.key c.args.self.now c.args.counts.now counted c.lead-run.result.0 c.lead-run.result.1
+          (c.lead-run.ensures c.args.rules.now keys c.args.key c.args.counts.now c.requires.rules counted c.requires.slot) c.in_default.ensures c.in-Some-rule.rule c.in-Some-rule.is _
+          (slice_get-get_or c.args.rules.now c.in-Some-rule.rule _ lt) (no_max_of _ _ c.if-eq.ensures),
+      refl,
+    )
