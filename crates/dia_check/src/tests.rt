@@ -68,7 +68,7 @@ fn check_in_both(
     wanted: Wanted,
 ) -> Result<(), Fail> {
     let plain = base_book(rt.alloc())?;
-    let indexed = IndexedBook::new(rt.alloc(), &plain)?;
+    let indexed = IndexedBook::new(rt.alloc(), base_book(rt.alloc())?)?;
     check_one(rt, &plain, unknown, levels, bytes, wanted);
     check_one(rt, &indexed, unknown, levels, bytes, wanted);
     Ok(())

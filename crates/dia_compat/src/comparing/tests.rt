@@ -74,7 +74,7 @@ fn compares<A: Book, B: Book>(
 #[test]
 fn compares_the_base_dictionary_with_itself(rt: HostRuntime) -> Result<(), Fail> {
     let plain = base_book(rt.alloc())?;
-    let indexed = IndexedBook::new(rt.alloc(), &plain)?;
+    let indexed = IndexedBook::new(rt.alloc(), base_book(rt.alloc())?)?;
     compares(&rt, rt.alloc(), &plain, &plain)?;
     compares(&rt, rt.alloc(), &plain, &indexed)?;
     compares(&rt, rt.alloc(), &indexed, &plain)?;

@@ -18,7 +18,7 @@ fn owned(alloc: Global, names: &[&str]) -> Result<Vec<String>, AllocError> {
 fn lists_commands_at_their_first_mention(rt: HostRuntime) -> Result<(), Fail> {
     one_proposal();
     let base = base_book(rt.alloc())?;
-    let indexed = IndexedBook::new(rt.alloc(), &base)?;
+    let indexed = IndexedBook::new(rt.alloc(), base_book(rt.alloc())?)?;
     let names = owned(rt.alloc(), &["DWR", "CER", "DWR"])?;
     let table = propose(rt.alloc(), &base, &indexed, Unknown::Kept, &names)?;
     let mut commands = String::new(rt.alloc());

@@ -38,7 +38,7 @@ pub fn read_dictionary(alloc: Global, number: u8, input: &Input) -> Result<Index
 {
     let source = read_source(alloc, number, input)?;
     match resolve(alloc, source) {
-        Ok(book) => indexed(alloc, &book),
+        Ok(book) => indexed(alloc, book),
         Err(DictFault::NoMemory) => Err(Refused::NoMemory),
         Err(DictFault::Stands { kind, name, slot }) => {
             let why = wrong_of(alloc, kind, name.as_str(), slot.as_str())?;
@@ -48,8 +48,8 @@ pub fn read_dictionary(alloc: Global, number: u8, input: &Input) -> Result<Index
 }
 
 /// The book with its look-ups. That it is a dictionary is what `entries` says of every book.
-fn indexed(alloc: Global, book: &PlainBook) -> Result<IndexedBook, Refused>
-    ensures ok { IfOk result (λ indexed. (⟦<IndexedBook as Book>⟧.meaning indexed ≡ ⟦<PlainBook as Book>⟧.meaning book.now) × IsDictionary (⟦<IndexedBook as Book>⟧.meaning indexed)) }
+fn indexed(alloc: Global, book: PlainBook) -> Result<IndexedBook, Refused>
+    ensures ok { IfOk result (λ indexed. (⟦<IndexedBook as Book>⟧.meaning indexed ≡ ⟦<PlainBook as Book>⟧.meaning book) × IsDictionary (⟦<IndexedBook as Book>⟧.meaning indexed)) }
     ensures no_memory { IfErr result (λ refused. refused ≡ Refused.NoMemory) }
 {
     let indexed = IndexedBook::new(alloc, book)?;
