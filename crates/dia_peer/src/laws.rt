@@ -18,7 +18,8 @@ pub fn agreement()
         → Run (start a b) events w → Agrees a b w }
 {}
 
-/// Each message that a core of an accepted configuration sends is valid under the base dictionary.
+/// Each message that a core of an accepted configuration sends is valid under the base dictionary, whatever its
+/// identifiers and its result code are.
 pub fn our_messages_are_valid()
     ensures { (c : PlainConfig) (m : Sent) (bytes : List ℕ) → IsConfig c → IsOurs c m
         → IsMessage m.header m.avps bytes → IsValid base Kept Any bytes }

@@ -2,30 +2,24 @@
 //!
 //! A `Core` is one end. It is told what happens by `step`, which answers the messages that are to be sent, and
 //! whether the connection is to be closed. Two ends, where `told` gives an event to a core and keeps the messages
-//! that it sends, and `delivered` does so for each message of a queue:
+//! that it sends, `delivered` does so for each message of a queue, and `exchanged` delivers in both directions:
 //!
 //! ```text
 //! let mut initiator = Core::new(alloc, ours, Role::Initiator)?;
 //! let mut responder = Core::new(alloc, theirs, Role::Responder)?;
 //!
 //! // Capabilities are exchanged.
-//! let cer = told(alloc, &mut initiator, Event::Start)?;
 //! told(alloc, &mut responder, Event::Start)?;
-//! let cea = delivered(alloc, &mut responder, &cer)?;
-//! delivered(alloc, &mut initiator, &cea)?;
+//! exchanged(alloc, &mut initiator, Event::Start, &mut responder)?;
 //! assert_eq!(rt; initiator.state(), State::Open);
 //! assert_eq!(rt; responder.state(), State::Open);
 //!
-//! // No message came for a time.
-//! let dwr = told(alloc, &mut initiator, Event::Tick)?;
-//! let dwa = delivered(alloc, &mut responder, &dwr)?;
-//! delivered(alloc, &mut initiator, &dwa)?;
-//! assert_eq!(rt; initiator.state(), State::Open);
+//! // No message came for a time: a watchdog and its answer.
+//! exchanged(alloc, &mut initiator, Event::Tick, &mut responder)?;
 //!
 //! // The initiator goes.
-//! let dpr = told(alloc, &mut initiator, Event::Stop(Cause::Rebooting))?;
-//! let dpa = delivered(alloc, &mut responder, &dpr)?;
-//! delivered(alloc, &mut initiator, &dpa)?;
+//! let cause = Event::Stop(Cause::Rebooting);
+//! exchanged(alloc, &mut initiator, cause, &mut responder)?;
 //! assert_eq!(rt; initiator.state(), State::Closed);
 //! assert_eq!(rt; responder.state(), State::Closed);
 //! ```
