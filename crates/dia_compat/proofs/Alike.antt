@@ -102,7 +102,8 @@ module _ (da db : Dictionary) (sa : IsDictionary da) (sb : IsDictionary db) wher
       same k l false e g = absurd (let f : false ≡ true = g in cc)
       same k l true e g = let here = same_key-true k key g in (here, sym (same_key-true k l e) ∙ here)
 
-      by : (x y : Option Key) → key_named da p.0 ≡ x → key_named db p.1 ≡ y → option_map_or (λ m. same_key m key) (option_and_then (λ k. option_and_then (λ l. if same_key k l then Some k else None) y) x) false ≡ true
+      by : (x y : Option Key) → key_named da p.0 ≡ x → key_named db p.1 ≡ y → option_map_or (λ m. same_key m key)
+          (option_and_then (λ k. option_and_then (λ l. if same_key k l then Some k else None) y) x) false ≡ true
           → (key_named da p.0 ≡ Some key) × (key_named db p.1 ≡ Some key)
       by None y e f g = absurd (let w : false ≡ true = g in cc)
       by (Some k) None e f g = absurd (let w : false ≡ true = g in cc)
@@ -189,7 +190,8 @@ alone_decides u da db key =
 module _ (da db : Dictionary) (sa : IsDictionary da) (sb : IsDictionary db) (u : Unknown) (table : PlainTable) (keys uncovered : List Key) (fit : Bool) (pairs : List Names)
     (look : IsLookedUp da db u table keys uncovered fit pairs) where
   pub covered_decides : (key : Key) → Decides (is_covered u da db keys key) (IsCovered da db u (IsPairKey da db table) key)
-  covered_decides key = Decides-or (holds_key keys key) (is_alone u da db key) (Decides-at (holds_key keys key) (list_any (pairs_key da db key) table.avps) (look.paired key) (paired_decides da db sa sb table key)) (alone_decides u da db key)
+  covered_decides key = Decides-or (holds_key keys key) (is_alone u da db key)
+      (Decides-at (holds_key keys key) (list_any (pairs_key da db key) table.avps) (look.paired key) (paired_decides da db sa sb table key)) (alone_decides u da db key)
 
   pub comes_decides : (key : Key) → Decides (may_come u da key) ((u ≡ Kept) ⊎ IsKnown da key)
   comes_decides key = Decides-or (is_kept u) (is_some (entry_of da key)) (kept_decides u) (known_decides da key)
@@ -211,7 +213,8 @@ module _ (da db : Dictionary) (sa : IsDictionary da) (sb : IsDictionary db) (u :
           by (Some x) e k =
               let r = known_entry da key x e in
               let p = at_in da.entries x r.0 in
-              subst (λ (z : Key). IsIn z (map (λ (y : DictEntry). y.key) da.entries)) r.1 (in_at (map (λ (y : DictEntry). y.key) da.entries) p.place x.key (into_map (λ (y : DictEntry). y.key) da.entries p.place x p.at))
+              subst (λ (z : Key). IsIn z (map (λ (y : DictEntry). y.key) da.entries)) r.1
+              (in_at (map (λ (y : DictEntry). y.key) da.entries) p.place x.key (into_map (λ (y : DictEntry). y.key) da.entries p.place x p.at))
 
   pub uncovered_is : (key : Key) → IsIn key uncovered ↔ (IsKnown da key × (is_covered u da db keys key ≡ false))
   uncovered_is key = (right, back)
@@ -233,7 +236,8 @@ module _ (da db : Dictionary) (sa : IsDictionary da) (sb : IsDictionary db) (u :
           (into_filter (λ (k : Key). not (is_covered u da db keys k)) (map (λ (e : DictEntry). e.key) da.entries) key ((keys_known key).1 h.0) (ap not h.1))
 
   stranger_decides : (e : DictEntry) → Decides (stranger_fits da e) (¬ IsKnown da e.key → (e.format ≡ OctetString) × (e.rule ≢ Must))
-  stranger_decides e = unless (is_some (entry_of da e.key)) (is_octets e.format && may_be_clear e.rule) (known_decides da e.key) (Decides-and (is_octets e.format) (may_be_clear e.rule) (octets_decides e.format) (may_be_clear_decides e.rule))
+  stranger_decides e = unless (is_some (entry_of da e.key)) (is_octets e.format && may_be_clear e.rule) (known_decides da e.key)
+      (Decides-and (is_octets e.format) (may_be_clear e.rule) (octets_decides e.format) (may_be_clear_decides e.rule))
 
   pub fit_decides : Decides fit (u ≡ Kept → (key : Key) (e : DictEntry) → known db key ≡ Some e → ¬ IsKnown da key → (e.format ≡ OctetString) × (e.rule ≢ Must))
   fit_decides = Decides-at fit (strangers_fit u da db) look.fit_is

@@ -132,12 +132,14 @@ proxiable_decides x y i j =
     let p = p_there x i in
     let q = p_there y j in
     Decides-at (is_proxiable x y) (p_within p.0 q.0) (rw (p.1, q.1) refl)
-    (Decides-like (p_within p.0 q.0) (λ h flags a. (allows y q.0 q.1 flags).1 (h flags ((allows x p.0 p.1 flags).0 a))) (λ h flags a. (allows y q.0 q.1 flags).0 (h flags ((allows x p.0 p.1 flags).1 a)))
+    (Decides-like (p_within p.0 q.0) (λ h flags a. (allows y q.0 q.1 flags).1 (h flags ((allows x p.0 p.1 flags).0 a)))
+    (λ h flags a. (allows y q.0 q.1 flags).0 (h flags ((allows x p.0 p.1 flags).1 a)))
     (p_decides p.0 q.0))
 
 -- ---- what is selected
 
-class_of_head : (d : Dictionary) (c : PlainDefinition) (code : ℕ) (class : Class) (app : Option ℕ) (p : Pxy) → IsDictionary d → IsIn c d.commands → c.head ≡ Command code class app p → class ≢ classes.Error
+class_of_head : (d : Dictionary) (c : PlainDefinition) (code : ℕ) (class : Class) (app : Option ℕ) (p : Pxy) → IsDictionary d → IsIn c d.commands → c.head ≡ Command code class app p
+    → class ≢ classes.Error
 class_of_head d c code class app p sound i e = subst IsCommandHead e (all_of (λ (x : PlainDefinition). IsCommandHead x.head) d.commands c sound.command_heads i)
 
 -- a command of this code, this class and this application, or none
@@ -153,12 +155,17 @@ is_one c (Command own kind app' p) code class app e other = (right, back)
         let codes : code ≡ own = eqb-true code own t.0 in
         let sorts : class ≡ kind = (class_decides class kind).0 t.1 in
         let apps : app ≡ app' = (app_decides app app').0 s.1 in
-        record { p = p; head = e ∙ ap (λ (n : ℕ). Command n kind app' p) (sym codes) ∙ ap (λ (k : Class). Command code k app' p) (sym sorts) ∙ ap (λ (a : Option ℕ). Command code class a p) (sym apps) }
+        record {
+          p = p;
+          head = e ∙ ap (λ (n : ℕ). Command n kind app' p) (sym codes) ∙ ap (λ (k : Class). Command code k app' p) (sym sorts)
+              ∙ ap (λ (a : Option ℕ). Command code class a p) (sym apps);
+        }
 
     back : HasCode c code class app → ((code == own) && same_class class kind && option_eq nat_eq app app') ≡ true
     back h =
         let s = of_head c code own class kind app app' p e h in
-        and_from ((code == own) && same_class class kind) (option_eq nat_eq app app') (and_from (code == own) (same_class class kind) (eq-eqb code own s.codes) ((class_decides class kind).1 s.sorts)) ((app_decides app app').1 s.apps)
+        and_from ((code == own) && same_class class kind) (option_eq nat_eq app app')
+        (and_from (code == own) (same_class class kind) (eq-eqb code own s.codes) ((class_decides class kind).1 s.sorts)) ((app_decides app app').1 s.apps)
 
 -- some command is
 some_one : (d : Dictionary) (code : ℕ) (class : Class) (app : Option ℕ) → class ≢ classes.Error → Decides (list_any (λ c. is_command code class app c.head) d.commands) (NamesApp d code class app)
@@ -183,16 +190,29 @@ module _ (da db : Dictionary) (sa : IsDictionary da) (sb : IsDictionary db) wher
   not_named : (d : Dictionary) (n : ℕ) (cl : Class) (a : ℕ) → cl ≢ classes.Error → (¬ NamesApp d n cl (Some a)) → not (names_app d n cl a) ≡ true
   not_named d n cl a ne none = (Decides-not (names_app d n cl a) (some_one d n cl (Some a) ne)).1 none
 
-  wanted_right : (c d : PlainDefinition) (code : ℕ) (class : Class) (app app' : Option ℕ) → Contains db.commands d → class ≢ classes.Error → HasCode c code class app → HasCode d code class app' → wants_app da db code class app app' ≡ true → IsWanted da db c d
+  wanted_right : (c d : PlainDefinition) (code : ℕ) (class : Class) (app app' : Option ℕ) → Contains db.commands d → class ≢ classes.Error → HasCode c code class app
+      → HasCode d code class app' → wants_app da db code class app app' ≡ true → IsWanted da db c d
   wanted_right c d code class None None i ne h k w = both_none code class i h k
   wanted_right c d code class None (Some a) i ne h k w = other_app code a class i h k ((Decides-not (names_app da code class a) (some_one da code class (Some a) ne)).0 w)
   wanted_right c d code class (Some a) None i ne h k w = no_app code a class i h k ((Decides-not (names_app db code class a) (some_one db code class (Some a) ne)).0 w)
   wanted_right c d code class (Some a) (Some b) i ne h k w = same_app code a class i h (subst (λ (n : ℕ). HasCode d code class (Some n)) (sym (eqb-true a b w)) k)
 
   wanted_decides : (c d : PlainDefinition) (x y : DefHead) → c.head ≡ x → d.head ≡ y → IsIn c da.commands → IsIn d db.commands → Decides (is_wanted da db x y) (IsWanted da db c d)
-  wanted_decides c d (Group k) y e f i j = (λ g. absurd (let h : false ≡ true = g in cc), λ w. absurd (subst IsCommandHead e (all_of (λ (z : PlainDefinition). IsCommandHead z.head) da.commands c sa.command_heads i)))
-  wanted_decides c d (Error p) (Group k) e f i j = (λ g. absurd (let h : false ≡ true = g in cc), λ w. absurd (subst IsCommandHead f (all_of (λ (z : PlainDefinition). IsCommandHead z.head) db.commands d sb.command_heads j)))
-  wanted_decides c d (Command code class app p) (Group k) e f i j = (λ g. absurd (let h : false ≡ true = g in cc), λ w. absurd (subst IsCommandHead f (all_of (λ (z : PlainDefinition). IsCommandHead z.head) db.commands d sb.command_heads j)))
+  wanted_decides c d (Group k) y e f i j = (
+    λ g. absurd (let h : false ≡ true = g in cc),
+    λ w. absurd
+        (subst IsCommandHead e (all_of (λ (z : PlainDefinition). IsCommandHead z.head) da.commands c sa.command_heads i)),
+  )
+  wanted_decides c d (Error p) (Group k) e f i j = (
+    λ g. absurd (let h : false ≡ true = g in cc),
+    λ w. absurd
+        (subst IsCommandHead f (all_of (λ (z : PlainDefinition). IsCommandHead z.head) db.commands d sb.command_heads j)),
+  )
+  wanted_decides c d (Command code class app p) (Group k) e f i j = (
+    λ g. absurd (let h : false ≡ true = g in cc),
+    λ w. absurd
+        (subst IsCommandHead f (all_of (λ (z : PlainDefinition). IsCommandHead z.head) db.commands d sb.command_heads j)),
+  )
   wanted_decides c d (Error p) (Error q) e f i j = (λ g. error (contains_in db.commands d j) (p, e) (q, f), λ w. refl)
   wanted_decides c d (Error p) (Command code class app q) e f i j = (λ g. absurd (let h : false ≡ true = g in cc), wrong)
     where
@@ -226,16 +246,20 @@ module _ (da db : Dictionary) (sa : IsDictionary da) (sb : IsDictionary db) wher
 
       back : IsWanted da db c d → ((code == own) && same_class class kind && wants_app da db code class app app') ≡ true
       back (error m h k) = absurd (no_error c code class app p e h)
-      back (same_app n a cl m h k) = fits_apps code own class kind app app' (Some a) (Some a) n cl (of_head c n code cl class (Some a) app p e h) (of_head d n own cl kind (Some a) app' q f k) (eq-eqb a a refl)
+      back (same_app n a cl m h k) = fits_apps code own class kind app app' (Some a) (Some a) n cl (of_head c n code cl class (Some a) app p e h)
+          (of_head d n own cl kind (Some a) app' q f k) (eq-eqb a a refl)
       back (no_app n a cl m h k none) =
-          fits_apps code own class kind app app' (Some a) None n cl (of_head c n code cl class (Some a) app p e h) (of_head d n own cl kind None app' q f k) (not_named db n cl a (sort_of n cl (Some a) h) none)
+          fits_apps code own class kind app app' (Some a) None n cl (of_head c n code cl class (Some a) app p e h) (of_head d n own cl kind None app' q f k)
+          (not_named db n cl a (sort_of n cl (Some a) h) none)
       back (both_none n cl m h k) = fits_apps code own class kind app app' None None n cl (of_head c n code cl class None app p e h) (of_head d n own cl kind None app' q f k) refl
       back (other_app n a cl m h k none) =
-          fits_apps code own class kind app app' None (Some a) n cl (of_head c n code cl class None app p e h) (of_head d n own cl kind (Some a) app' q f k) (not_named da n cl a (sort_of n cl None h) none)
+          fits_apps code own class kind app app' None (Some a) n cl (of_head c n code cl class None app p e h) (of_head d n own cl kind (Some a) app' q f k)
+          (not_named da n cl a (sort_of n cl None h) none)
 
   -- ---- what is served
 
-  served_app : (code : ℕ) (class : Class) (app other : Option ℕ) (d : PlainDefinition) → Contains db.commands d → HasCode d code class other → (p : Pxy) → serves_app app other ≡ true → (c : PlainDefinition) → IsServed da db c (Command code class app p)
+  served_app : (code : ℕ) (class : Class) (app other : Option ℕ) (d : PlainDefinition) → Contains db.commands d → HasCode d code class other → (p : Pxy) → serves_app app other ≡ true
+      → (c : PlainDefinition) → IsServed da db c (Command code class app p)
   served_app code class None None d i h p s c = (d, i, h)
   served_app code class (Some a) None d i h p s c = inr (d, i, h)
   served_app code class None (Some b) d i h p s c = absurd (let f : false ≡ true = s in cc)
@@ -256,7 +280,8 @@ module _ (da db : Dictionary) (sa : IsDictionary da) (sb : IsDictionary db) wher
       served_app code class app app' d (contains_in db.commands d j)
       (record { p = q; head = f ∙ ap (λ (n : ℕ). Command n kind app' q) (sym codes) ∙ ap (λ (k : Class). Command code k app' q) (sym sorts) }) p s.1 c
 
-  serves_one : (code : ℕ) (class : Class) (app other : Option ℕ) (p : Pxy) (d : PlainDefinition) → HasCode d code class other → serves_app app other ≡ true → serves (Command code class app p) d.head ≡ true
+  serves_one : (code : ℕ) (class : Class) (app other : Option ℕ) (p : Pxy) (d : PlainDefinition) → HasCode d code class other → serves_app app other ≡ true
+      → serves (Command code class app p) d.head ≡ true
   serves_one code class app other p d h s =
       subst (λ (y : DefHead). serves (Command code class app p) y ≡ true) (sym h.head)
       (and_from ((code == code) && same_class class class) (serves_app app other) (and_from (code == code) (same_class class class) (eq-eqb code code refl) ((class_decides class class).1 refl)) s)

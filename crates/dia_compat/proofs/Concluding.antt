@@ -19,11 +19,13 @@ module _ {E : Type 0} (table : PlainTable) (keys uncovered : List Key) (fit : Bo
   answers : (da db : Dictionary) (u : Unknown) → IsDictionary da → IsDictionary db → IsLookedUp da db u table keys uncovered fit pairs → Answers da db u → IfOk r (IsAnswer da db u table)
   answers da db u sa sb look h = by r h
     where
-      by : (q : Result Answer E) → IfOk q (λ answer. IsDictionary da → IsDictionary db → IsLookedUp da db u table keys uncovered fit pairs → IsAnswer da db u table answer) → IfOk q (IsAnswer da db u table)
+      by : (q : Result Answer E) → IfOk q (λ answer. IsDictionary da → IsDictionary db → IsLookedUp da db u table keys uncovered fit pairs → IsAnswer da db u table answer)
+          → IfOk q (IsAnswer da db u table)
       by (Ok answer) k = k sa sb look
       by (Err e) k = tt
 
-  pub answered : (dx da dy db : Dictionary) (v u : Unknown) → dx ≡ da → dy ≡ db → v ≡ u → IsDictionary da → IsDictionary db → IsLookedUp da db u table keys uncovered fit pairs → Answers dx dy v → IfOk r (IsAnswer da db u table)
+  pub answered : (dx da dy db : Dictionary) (v u : Unknown) → dx ≡ da → dy ≡ db → v ≡ u → IsDictionary da → IsDictionary db → IsLookedUp da db u table keys uncovered fit pairs
+      → Answers dx dy v → IfOk r (IsAnswer da db u table)
   answered dx da dy db v u e f g sa sb look h =
       answers da db u sa sb look (subst (λ (w : Unknown). Answers da db w) g (subst (λ (d : Dictionary). Answers da d v) f (subst (λ (d : Dictionary). Answers d dy v) e h)))
 

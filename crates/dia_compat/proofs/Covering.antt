@@ -24,7 +24,8 @@ append_none [] = refl
 append_none (x ∷ xs) = ap (λ ys. x ∷ ys) (append_none xs)
 
 pub left_out : {X : Type 0} (p : X → Bool) (xs : List X) (i : ℕ) (x : X) → slice_get xs i ≡ Some x → p x ≡ false → filter p (take (i + 1) xs) ≡ filter p (take i xs)
-left_out {X} p xs i x at e = ap (filter p) (taken xs i x at) ∙ filter-append p (take i xs) (x ∷ []) ∙ ap (λ (b : Bool). filter p (take i xs) ++ cond b (x ∷ []) []) e ∙ append_none (filter p (take i xs))
+left_out {X} p xs i x at e = ap (filter p) (taken xs i x at) ∙ filter-append p (take i xs) (x ∷ []) ∙ ap (λ (b : Bool). filter p (take i xs) ++ cond b (x ∷ []) []) e
+    ∙ append_none (filter p (take i xs))
 
 member : {X : Type 0} (p : X → Bool) (xs : List X) (i j : ℕ) (b : Bool) → i < length xs → j ≡ i → IfSome (slice_get xs j) (λ x. b ≡ p x) → (x : X) × (slice_get xs i ≡ Some x) × (b ≡ p x)
 member {X} p xs i j b within same h = by (slice_get xs i) refl (subst (λ (k : ℕ). IfSome (slice_get xs k) (λ x. b ≡ p x)) same h)
@@ -33,7 +34,8 @@ member {X} p xs i j b within same h = by (slice_get xs i) refl (subst (λ (k : �
     by None e k = absurd (let z = get_none xs i e in omega (arith, within, z))
     by (Some x) e k = (x, e, k)
 
-pub all_more : {X : Type 0} (p : X → Bool) (xs : List X) (i j : ℕ) (b : Bool) → i < length xs → j ≡ i → IfSome (slice_get xs j) (λ x. b ≡ p x) → b ≡ true → list_all p (take i xs) ≡ true → list_all p (take (i + 1) xs) ≡ true
+pub all_more : {X : Type 0} (p : X → Bool) (xs : List X) (i j : ℕ) (b : Bool) → i < length xs → j ≡ i → IfSome (slice_get xs j) (λ x. b ≡ p x) → b ≡ true → list_all p (take i xs) ≡ true
+    → list_all p (take (i + 1) xs) ≡ true
 all_more p xs i j b within same h e before =
     let m = member p xs i j b within same h in
     ap (list_all p) (taken xs i m.0 m.1) ∙ list_all-append p (take i xs) (m.0 ∷ []) ∙ and_from (list_all p (take i xs)) (p m.0 && true) before (and_from (p m.0) true (sym m.2 ∙ e) refl)
@@ -45,7 +47,8 @@ all_stops {X} p xs i j b within same h e = by (list_all p xs) refl
     by false f = refl
     by true f = let m = member p xs i j b within same h in sym e ∙ m.2 ∙ list_all_at p xs f i m.0 m.1
 
-pub all_more_at : {X : Type 0} (p : X → Bool) (xs : List X) (i : ℕ) (x : X) (b : Bool) → slice_get xs i ≡ Some x → b ≡ p x → b ≡ true → list_all p (take i xs) ≡ true → list_all p (take (i + 1) xs) ≡ true
+pub all_more_at : {X : Type 0} (p : X → Bool) (xs : List X) (i : ℕ) (x : X) (b : Bool) → slice_get xs i ≡ Some x → b ≡ p x → b ≡ true → list_all p (take i xs) ≡ true
+    → list_all p (take (i + 1) xs) ≡ true
 all_more_at p xs i x b at e holds before =
     ap (list_all p) (taken xs i x at) ∙ list_all-append p (take i xs) (x ∷ []) ∙ and_from (list_all p (take i xs)) (p x && true) before (and_from (p x) true (sym e ∙ holds) refl)
 
@@ -56,7 +59,8 @@ all_stops_at {X} p xs i x b at e fails = by (list_all p xs) refl
     by false f = refl
     by true f = sym fails ∙ e ∙ list_all_at p xs f i x at
 
-pub none_more_at : {X : Type 0} (p : X → Bool) (xs : List X) (i : ℕ) (x : X) (b : Bool) → slice_get xs i ≡ Some x → b ≡ p x → b ≡ false → list_any p (take i xs) ≡ false → list_any p (take (i + 1) xs) ≡ false
+pub none_more_at : {X : Type 0} (p : X → Bool) (xs : List X) (i : ℕ) (x : X) (b : Bool) → slice_get xs i ≡ Some x → b ≡ p x → b ≡ false → list_any p (take i xs) ≡ false
+    → list_any p (take (i + 1) xs) ≡ false
 none_more_at p xs i x b at e fails before =
     ap (list_any p) (taken xs i x at) ∙ list_any-append p (take i xs) (x ∷ []) ∙ ap (λ (r : Bool). r || (p x || false)) before ∙ ap (λ (r : Bool). r || false) (sym e ∙ fails)
 

@@ -20,7 +20,8 @@ use Rattle.dia_check.specs.Valid.{known, fixed_rules, is_listed, is_wildcard, ha
 use Rattle.dia_compat.specs.declared.inclusion.Test.{Test}
 use Rattle.dia_compat.specs.declared.inclusion.Test.TheVariants.{N1, N2, N3, N4, N5, N6, N7, N8, N9, N10}
 use Rattle.dia_compat.specs.Below.{MaxWithin, Within, IsAboveZero, HasRule, IsListed, HasWildcard, IsCovered, FixedWithin, IsKnown, WildcardCovered, Passes}
-use Rattle.dia_compat.specs.Tests.{is_max_within, is_within, is_above_zero, rule_of, wildcard_of, of_key, begins_with, common_rule, let_in_rule, covered_rule, has_room, own_rule, listed_rule, bounded_wildcard, required_wildcard, is_passed}
+use Rattle.dia_compat.specs.Tests.{is_max_within, is_within, is_above_zero, rule_of, wildcard_of, of_key, begins_with, common_rule}
+use Rattle.dia_compat.specs.Tests.{let_in_rule, covered_rule, has_room, own_rule, listed_rule, bounded_wildcard, required_wildcard, is_passed}
 use Rattle.dia_compat.proofs.Placing.{IsIn}
 use Rattle.dia_compat.proofs.Counts.{in_at, at_in, in_contains, contains_in, any_in, in_any}
 use Rattle.dia_compat.proofs.Placed.{listed, is_listed_by}
@@ -53,11 +54,13 @@ pub all_decides : {X : Type 0} (test : X → Bool) (P : X → Type 0) → ((x : 
 all_decides test P each xs = all_in_decides test P xs (λ x i. each x)
 
 -- what may be there is there as an option says
-some_decides : {X : Type 0} (test : X → Bool) (P H : X → Type 0) → ((x : X) → Decides (test x) (P x)) → (o : Option X) → ((x : X) → H x ↔ (o ≡ Some x)) → Decides (option_map_or test o true) ((x : X) → H x → P x)
+some_decides : {X : Type 0} (test : X → Bool) (P H : X → Type 0) → ((x : X) → Decides (test x) (P x)) → (o : Option X) → ((x : X) → H x ↔ (o ≡ Some x))
+    → Decides (option_map_or test o true) ((x : X) → H x → P x)
 some_decides test P H each None is = (λ e x h. absurd (none-some x ((is x).0 h)), λ h. refl)
 some_decides test P H each (Some y) is = Decides-like (test y) (λ p x h. subst P (same_Some y x ((is x).0 h)) p) (λ h. h y ((is y).1 refl)) (each y)
 
-any_decides : {X : Type 0} (test : X → Bool) (P H : X → Type 0) → ((x : X) → Decides (test x) (P x)) → (o : Option X) → ((x : X) → H x ↔ (o ≡ Some x)) → Decides (option_map_or test o false) ((x : X) × H x × P x)
+any_decides : {X : Type 0} (test : X → Bool) (P H : X → Type 0) → ((x : X) → Decides (test x) (P x)) → (o : Option X) → ((x : X) → H x ↔ (o ≡ Some x))
+    → Decides (option_map_or test o false) ((x : X) × H x × P x)
 any_decides test P H each None is = (λ e. absurd (let f : false ≡ true = e in cc), λ h. absurd (none-some h.0 ((is h.0).0 h.1)))
 any_decides test P H each (Some y) is = Decides-like (test y) (λ p. (y, (is y).1 refl, p)) (λ h. subst P (sym (same_Some y h.0 ((is h.0).0 h.1))) h.2) (each y)
 
@@ -249,7 +252,8 @@ module _ (da db : Dictionary) (u : Unknown) (paired : (Key → Type 0)) (covered
       (implied (may_come key) (has_room (wildcard_of a) s.max) (comes key) (room s.max)))
 
   n5 : Decides (list_all (own_rule may_come a (wildcard_of a)) b) (Passes N5 da db u paired a b)
-  n5 = Decides-like (list_all (own_rule may_come a (wildcard_of a)) b) (λ h key s i no. let p = h key s i no in (p.0, λ w j k. p.1 k w j)) (λ h key s i no. let p = h key s i no in (p.0, λ k w j. p.1 w j k))
+  n5 = Decides-like (list_all (own_rule may_come a (wildcard_of a)) b) (λ h key s i no. let p = h key s i no in (p.0, λ w j k. p.1 k w j))
+      (λ h key s i no. let p = h key s i no in (p.0, λ k w j. p.1 w j k))
       (of_rules b (λ s key. is_listed a key || ((s.min == 0) && (not (may_come key) || has_room (wildcard_of a) s.max)))
       (λ s key. ¬ IsListed a key → (s.min ≡ 0) × ((u ≡ Kept) ⊎ IsKnown da key → (w : DRule) → HasWildcard a w → MaxWithin w.max s.max)) n5_key)
 
@@ -281,7 +285,8 @@ module _ (da db : Dictionary) (u : Unknown) (paired : (Key → Type 0)) (covered
       rest : Bool
       rest = option_map_or (λ v. nat_le min v.min) (wildcard_of a) false && list_all (of_key (is_listed a)) b
 
-      both : Decides (option_map_or (λ v. nat_le min v.min) (wildcard_of a) false && list_all (of_key (is_listed a)) b) (((v : DRule) × HasWildcard a v × (min ≤ v.min)) × ((key : Key) → IsListed b key → IsListed a key))
+      both : Decides (option_map_or (λ v. nat_le min v.min) (wildcard_of a) false && list_all (of_key (is_listed a)) b)
+          (((v : DRule) × HasWildcard a v × (min ≤ v.min)) × ((key : Key) → IsListed b key → IsListed a key))
       both = Decides-and (option_map_or (λ v. nat_le min v.min) (wildcard_of a) false) (list_all (of_key (is_listed a)) b)
           (any_decides (λ v. nat_le min v.min) (λ v. min ≤ v.min) (HasWildcard a) (λ v. le_decides min v.min) (wildcard_of a) (wildcard_is a are_a))
           (Decides-like (list_all (of_key (is_listed a)) b) (λ h key i. h key i.0 i.1) (λ h key s i. h key (s, i))

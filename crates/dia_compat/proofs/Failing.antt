@@ -51,7 +51,8 @@ tenth t lt = one_test t N10 (omega (arith, lt))
 
 -- where the tenth test is passed, the first of the others that isn't
 pub first_failed : (p : Test → Bool) (P : Test → Type 0) → ((t : Test) → Decides (p t) (P t)) → p N10 ≡ true → IsFirstFailed P (find (λ t. not (p t)) rule_tests)
-first_failed p P decides ten = by (find (λ t. not (p t)) rule_tests) (walk p 1 rule_tests (refl, (refl, (refl, (refl, (refl, (refl, (refl, (refl, (refl, refl))))))))) (λ s lt. ap p (tenth s lt) ∙ ten))
+first_failed p P decides ten = by (find (λ t. not (p t)) rule_tests) (walk p 1 rule_tests (refl, (refl, (refl, (refl, (refl, (refl, (refl, (refl, (refl, refl)))))))))
+    (λ s lt. ap p (tenth s lt) ∙ ten))
   where
     by : (o : Option Test) → First p o → IsFirstFailed P o
     by None h = λ t. (decides t).0 (h t (below_ten t))

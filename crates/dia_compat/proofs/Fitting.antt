@@ -84,7 +84,8 @@ pub is_grouped : (d : Dictionary) (e : DictEntry) (g : PlainDefinition) → IsDi
 is_grouped d e g sound i h = (all_of (λ (x : DictEntry). (x.format ≡ Grouped) ↔ IsSome x.group) d.entries e sound.grouped i).1 (ap (λ (x : Option PlainDefinition). is_some x) h)
 
 pub group_rules : (d : Dictionary) (e : DictEntry) (g : PlainDefinition) → IsDictionary d → IsIn e d.entries → e.group ≡ Some g → AreRules g.rules
-group_rules d e g sound i h = all_of (λ (def : PlainDefinition). AreRules def.rules) (definitions d) g sound.rules (in_left (groups d) d.commands g (in_filter_map (λ (x : DictEntry). x.group) d.entries e g i h))
+group_rules d e g sound i h = all_of (λ (def : PlainDefinition). AreRules def.rules) (definitions d) g sound.rules
+    (in_left (groups d) d.commands g (in_filter_map (λ (x : DictEntry). x.group) d.entries e g i h))
 
 pub one_entry : (d : Dictionary) (e f : DictEntry) → IsDictionary d → IsIn e d.entries → IsIn f d.entries → e.name ≡ f.name → e ≡ f
 one_entry d e f sound i j h =
@@ -238,8 +239,11 @@ module _ (da db : Dictionary) (sa : IsDictionary da) (sb : IsDictionary db) (u :
   new_at Q v (Some f) at h new =
       let k = only_kept u v.flags h in
       let n = new.1 k.0 f at in
-      let none = no_group db f sb (known_entry db (key_of v) f at).0 (λ is. absurd (let e : OctetString ≡ Grouped = sym n.0 ∙ is in cc)) in
-      (m_clear f.rule v.flags n.1 k.1, subst (λ (g : Option PlainDefinition). MatchOption g (IsLeaf f.format v.bytes) (λ group. Q group.rules v.bytes)) (sym none) (subst (λ (x : PlainFormat). IsLeaf x v.bytes) (sym n.0) tt))
+      let none = no_group db f sb (known_entry db (key_of v) f at).0 (λ is. absurd (let e : OctetString ≡ Grouped = sym n.0 ∙ is in cc)) in (
+        m_clear f.rule v.flags n.1 k.1,
+        subst (λ (g : Option PlainDefinition). MatchOption g (IsLeaf f.format v.bytes) (λ group. Q group.rules v.bytes)) (sym none)
+            (subst (λ (x : PlainFormat). IsLeaf x v.bytes) (sym n.0) tt),
+      )
 
   lifted : (P Q : List DRule → List ℕ → Type 0) (v : PlainAvp) → Lifts P Q → MayCome (key_of v) → FitsBy da u P v → FitsBy db u Q v
   lifted P Q v lifts (inl (inl paired)) h = in_pair P Q v lifts (pair_of (key_of v) paired) h
@@ -261,7 +265,11 @@ module _ (da db : Dictionary) (sa : IsDictionary da) (sb : IsDictionary db) (u :
       inl ((below N9 w.wild (contains_in a w.wild w.is_rule, w.no_key) w.allowed).known_keys key (ap (λ (o : Option DictEntry). is_some o) at) (λ l.
       let true_too = is_listed_by a key l.0 (in_contains a l.0 l.1.0) l.1.1 in absurd (let e : true ≡ false = sym true_too ∙ w.unlisted in cc)))
   through a b key None below w at =
-      inr (at, λ kept f is. (below N9 w.wild (contains_in a w.wild w.is_rule, w.no_key) w.allowed).new_keys kept key f is (λ some. absurd (let e : true ≡ false = sym some ∙ ap (λ (o : Option DictEntry). is_some o) at in cc)))
+      inr (
+        at,
+        λ kept f is. (below N9 w.wild (contains_in a w.wild w.is_rule, w.no_key) w.allowed).new_keys kept key f is
+            (λ some. absurd (let e : true ≡ false = sym some ∙ ap (λ (o : Option DictEntry). is_some o) at in cc)),
+      )
 
   may_come : (a b : List DRule) (key : Key) → Below a b → Comes a key → MayCome key
   may_come a b key below (inl r) = inl (below N4 key r.rule (contains_in a r.rule r.is_rule, r.is_key) r.allowed)
@@ -282,8 +290,10 @@ module _ (da db : Dictionary) (sa : IsDictionary da) (sb : IsDictionary db) (u :
   -- each AVP that may come and fits in A fits in B
   pub fits : (n : ℕ) → AllKept n
   fits zero v may h = lifted (λ rules bytes. ⊥) (λ rules bytes. ⊥) v (λ a b bytes ra rb below bad. bad) may h
-  fits (suc n) v may h = lifted (IsLevel (Fits da u n)) (IsLevel (Fits db u n)) v (λ a b bytes ra rb below lv. let r = level_at n (fits n) a b lv.0 ra rb below lv.2 lv.3 in (lv.0, lv.1, r.0, r.1)) may h
+  fits (suc n) v may h = lifted (IsLevel (Fits da u n)) (IsLevel (Fits db u n)) v
+      (λ a b bytes ra rb below lv. let r = level_at n (fits n) a b lv.0 ra rb below lv.2 lv.3 in (lv.0, lv.1, r.0, r.1)) may h
 
-  pub body : (most : Levels) (a b : List DRule) (avps : List PlainAvp) → AreRules a → AreRules b → Below a b → Placed a (map key_of avps) → AllFit da u most avps → Placed b (map key_of avps) × AllFit db u most avps
+  pub body : (most : Levels) (a b : List DRule) (avps : List PlainAvp) → AreRules a → AreRules b → Below a b → Placed a (map key_of avps) → AllFit da u most avps
+      → Placed b (map key_of avps) × AllFit db u most avps
   body levels.Any a b avps ra rb below placed (n, all) = let r = level_at n (fits n) a b avps ra rb below placed all in (r.0, (n, r.1))
   body (levels.AtMost n) a b avps ra rb below placed all = level_at n (fits n) a b avps ra rb below placed all

@@ -12,7 +12,8 @@ mapped_at h [] i x y at e = absurd (none-some x at)
 mapped_at {X} {Y} h (z ∷ xs) zero x y at e = ap (λ (o : Option Y). slice_get (cons_option o (filter_map h xs)) 0) (ap h (same_Some z x at) ∙ e)
 mapped_at {X} {Y} h (z ∷ xs) (suc i) x y at e = by (h z) (mapped_at h xs i x y at e)
   where
-    by : (o : Option Y) → slice_get (filter_map h xs) (length (filter_map h (take i xs))) ≡ Some y → slice_get (cons_option o (filter_map h xs)) (length (cons_option o (filter_map h (take i xs)))) ≡ Some y
+    by : (o : Option Y) → slice_get (filter_map h xs) (length (filter_map h (take i xs))) ≡ Some y → slice_get (cons_option o (filter_map h xs))
+        (length (cons_option o (filter_map h (take i xs)))) ≡ Some y
     by None k = k
     by (Some w) k = k
 
@@ -22,7 +23,8 @@ number_of d i = length (filter_map (λ (e : DictEntry). e.group) (take i d.entri
 numbered : (d : Dictionary) (i : ℕ) (e : DictEntry) → slice_get d.entries i ≡ Some e → group_of d i ≡ option_map (λ _. number_of d i) e.group
 numbered d i e at = ap (λ (o : Option DictEntry). option_and_then (λ (x : DictEntry). option_map (λ _. number_of d i) x.group) o) at
 
-pub group_there : (d : Dictionary) (i : ℕ) (e : DictEntry) (g : PlainDefinition) → slice_get d.entries i ≡ Some e → e.group ≡ Some g → (group_of d i ≡ Some (number_of d i)) × (slice_get (definitions d) (number_of d i) ≡ Some g)
+pub group_there : (d : Dictionary) (i : ℕ) (e : DictEntry) (g : PlainDefinition) → slice_get d.entries i ≡ Some e → e.group ≡ Some g
+    → (group_of d i ≡ Some (number_of d i)) × (slice_get (definitions d) (number_of d i) ≡ Some g)
 group_there d i e g at is = (
   numbered d i e at ∙ ap (option_map (λ _. number_of d i)) is,
   into_left (groups d) d.commands (number_of d i) g (mapped_at (λ (x : DictEntry). x.group) d.entries i e g at is),

@@ -59,7 +59,8 @@ module _ (da db : Dictionary) (sa : IsDictionary da) (sb : IsDictionary db) (u :
         beside = beside;
         are = are;
         is_one = subst (λ (n : List ℕ). IsIn n beside) (sym (ap (λ (q : Names). q.1) e)) i;
-        all = λ x j. subst (λ (n : List ℕ). IsIn (n, x) (map (λ y. (name, y)) beside ++ rest)) (sym same) (in_left (map (λ (y : List ℕ). (name, y)) beside) rest (name, x) (into_map (λ (y : List ℕ). (name, y)) beside x j));
+        all = λ x j. subst (λ (n : List ℕ). IsIn (n, x) (map (λ y. (name, y)) beside ++ rest)) (sym same)
+            (in_left (map (λ (y : List ℕ). (name, y)) beside) rest (name, x) (into_map (λ (y : List ℕ). (name, y)) beside x j));
       }
 
   later_one : (name : List ℕ) (names : List (List ℕ)) (front pairs : List Names) (p : Names) → IsOne names pairs p → IsOne (name ∷ names) (front ++ pairs) p
@@ -77,7 +78,8 @@ module _ (da db : Dictionary) (sa : IsDictionary da) (sb : IsDictionary db) (u :
   command_pair [] earlier pairs p h i = absurd (subst (λ (ps : List Names). IsIn p ps) h i)
   command_pair (name ∷ names) earlier pairs p (inl (again, more)) i = later_one name names [] pairs p (command_pair names earlier pairs p more i)
   command_pair (name ∷ names) earlier pairs p (inr (new, c, beside, rest, is, are, parts, more)) i =
-      subst (λ (ps : List Names). IsOne (name ∷ names) ps p) (sym parts) (by (in_append (map (λ (x : List ℕ). (name, x)) beside) rest p (subst (λ (ps : List Names). IsIn p ps) parts i)) (λ h. command_pair names (earlier ++ name ∷ []) rest p more h))
+      subst (λ (ps : List Names). IsOne (name ∷ names) ps p) (sym parts)
+      (by (in_append (map (λ (x : List ℕ). (name, x)) beside) rest p (subst (λ (ps : List Names). IsIn p ps) parts i)) (λ h. command_pair names (earlier ++ name ∷ []) rest p more h))
     where
       by : IsIn p (map (λ (x : List ℕ). (name, x)) beside) ⊎ IsIn p rest → (IsIn p rest → IsOne names rest p) → IsOne (name ∷ names) (map (λ (x : List ℕ). (name, x)) beside ++ rest) p
       by (inl h) ih = let r = in_map (λ (x : List ℕ). (name, x)) beside p h in one_of_these name names c beside rest p is are r.0 r.1 r.2
@@ -91,7 +93,8 @@ module _ (da db : Dictionary) (sa : IsDictionary da) (sb : IsDictionary db) (u :
   abbrev Lists : List (List ℕ) → List Names → List ℕ → Type 0
   Lists earlier pairs name = IsIn name earlier ⊎ ((p : Names) × IsIn p pairs × (p.0 ≡ name))
 
-  first_pair : (name n : List ℕ) (c : PlainDefinition) (earlier beside : List (List ℕ)) (rest : List Names) → AreBeside da db c beside → name ≡ n → Lists earlier (map (λ x. (n, x)) beside ++ rest) name
+  first_pair : (name n : List ℕ) (c : PlainDefinition) (earlier beside : List (List ℕ)) (rest : List Names) → AreBeside da db c beside → name ≡ n
+      → Lists earlier (map (λ x. (n, x)) beside ++ rest) name
   first_pair name n c earlier beside rest are e =
       let b = some_beside c beside are in
       inr ((n, b.0), in_left (map (λ (x : List ℕ). (n, x)) beside) rest (n, b.0) (into_map (λ (x : List ℕ). (n, x)) beside b.0 b.1), sym e)
@@ -187,14 +190,17 @@ module _ (da db : Dictionary) (sa : IsDictionary da) (sb : IsDictionary db) (u :
         covered group.rules g.0.rules key below wants
 
     -- two pairs of one key have the same names
-    same_names : (p q : Names) (e f e' f' : DictEntry) (key : Key) → NamesEntry da p.0 e → NamesEntry db p.1 f → e.key ≡ key → f.key ≡ key → NamesEntry da q.0 e' → NamesEntry db q.1 f' → e'.key ≡ key → f'.key ≡ key → q ≡ p
+    same_names : (p q : Names) (e f e' f' : DictEntry) (key : Key) → NamesEntry da p.0 e → NamesEntry db p.1 f → e.key ≡ key → f.key ≡ key → NamesEntry da q.0 e' → NamesEntry db q.1 f'
+        → e'.key ≡ key → f'.key ≡ key → q ≡ p
     same_names p q e f e' f' key n m k l n' m' k' l' = ap (λ (x : List ℕ). (x, q.1)) first ∙ ap (λ (x : List ℕ). (p.0, x)) second
       where
         first : q.0 ≡ p.0
-        first = sym n'.1 ∙ ap (λ (x : DictEntry). x.name) (same_some (known da key) e' e (entry_known da key e' sa (in_contains da.entries e' n'.0) k') (entry_known da key e sa (in_contains da.entries e n.0) k)) ∙ n.1
+        first = sym n'.1 ∙ ap (λ (x : DictEntry). x.name) (same_some (known da key) e' e (entry_known da key e' sa (in_contains da.entries e' n'.0) k')
+            (entry_known da key e sa (in_contains da.entries e n.0) k)) ∙ n.1
 
         second : q.1 ≡ p.1
-        second = sym m'.1 ∙ ap (λ (x : DictEntry). x.name) (same_some (known db key) f' f (entry_known db key f' sb (in_contains db.entries f' m'.0) l') (entry_known db key f sb (in_contains db.entries f m.0) l)) ∙ m.1
+        second = sym m'.1 ∙ ap (λ (x : DictEntry). x.name) (same_some (known db key) f' f (entry_known db key f' sb (in_contains db.entries f' m'.0) l')
+            (entry_known db key f sb (in_contains db.entries f m.0) l)) ∙ m.1
 
     avp_in_other : (p : Names) → Contains table.avps p → Contains other.avps p
     avp_in_other p i =
@@ -220,7 +226,8 @@ module _ (da db : Dictionary) (sa : IsDictionary da) (sb : IsDictionary db) (u :
     moved a key wants why (inl paired) = inl (into_table key paired (wants key (record { wanted = why; not_alone = not_alone_too key paired; known_too = known_too key paired })))
     moved a key wants why (inr solo) = inr solo
 
-    below_too : (a b : List DRule) (test : Test) → ((key : Key) → WantsPair da db u a key → IsProposed da db u table.commands key) → Passes test da db u (IsPairKey da db other) a b → Passes test da db u (IsPairKey da db table) a b
+    below_too : (a b : List DRule) (test : Test) → ((key : Key) → WantsPair da db u a key → IsProposed da db u table.commands key) → Passes test da db u (IsPairKey da db other) a b
+        → Passes test da db u (IsPairKey da db table) a b
     below_too a b N1 wants h = h
     below_too a b N2 wants h = h
     below_too a b N3 wants h = h
@@ -272,7 +279,8 @@ module _ (da db : Dictionary) (sa : IsDictionary da) (sb : IsDictionary db) (u :
         let ea = one_entry da h.0 e sa (in_contains da.entries h.0 h.2.0) (in_contains da.entries e n.0) (h.2.1 ∙ sym n.1) in
         let eb = one_entry db h.1 f sb (in_contains db.entries h.1 h.3.0) (in_contains db.entries f m.0) (h.3.1 ∙ sym m.1) in
         let keys : f.key ≡ e.key = ap (λ (x : DictEntry). x.key) (sym eb) ∙ sym h.4 ∙ ap (λ (x : DictEntry). x.key) ea in
-        by_group e.key key e f a (subst (λ (x : DictEntry). IsProposed da db u table.commands x.key) ea h.5) (entry_known da e.key e sa (in_contains da.entries e n.0) refl) (entry_known db e.key f sb (in_contains db.entries f m.0) keys) both is w
+        by_group e.key key e f a (subst (λ (x : DictEntry). IsProposed da db u table.commands x.key) ea h.5) (entry_known da e.key e sa (in_contains da.entries e n.0) refl)
+        (entry_known db e.key f sb (in_contains db.entries f m.0) keys) both is w
 
     avps_pass : (p : Names) (test : Test) → Contains table.avps p → AvpTest da db other u test p → AvpTest da db table u test p
     avps_pass p N10 i t = t

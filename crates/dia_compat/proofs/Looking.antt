@@ -34,10 +34,12 @@ no_rule None = refl
 no_rule (Some i) = refl
 
 -- what stands at the slot of a key is its rule
-pub rule_at : (d : Dictionary) (def : ℕ) (key : Key) (s : Slot) → IfSome (slice_get (definitions d) def) (λ x. s ≡ slot_of x.rules key) → option_and_then (slice_get (rules_in d def)) (place_in s) ≡ rule_of (rules_in d def) key
+pub rule_at : (d : Dictionary) (def : ℕ) (key : Key) (s : Slot) → IfSome (slice_get (definitions d) def) (λ x. s ≡ slot_of x.rules key)
+    → option_and_then (slice_get (rules_in d def)) (place_in s) ≡ rule_of (rules_in d def) key
 rule_at d def key s is = by (slice_get (definitions d) def) is
   where
-    by : (o : Option PlainDefinition) → IfSome o (λ x. s ≡ slot_of x.rules key) → option_and_then (slice_get (option_map_or (λ x. x.rules) o [])) (place_in s) ≡ rule_of (option_map_or (λ x. x.rules) o []) key
+    by : (o : Option PlainDefinition) → IfSome o (λ x. s ≡ slot_of x.rules key) → option_and_then (slice_get (option_map_or (λ x. x.rules) o [])) (place_in s) ≡ rule_of
+        (option_map_or (λ x. x.rules) o []) key
     by None h = no_rule (place_in s)
     by (Some x) h = ap (λ (t : Slot). option_and_then (slice_get x.rules) (place_in t)) h ∙ slot_place x.rules (position (lists_key key) x.rules) ∙ sym (find-place (lists_key key) x.rules)
 

@@ -1,5 +1,6 @@
 -- The named commands, one after the other.
-use Rattle.std.proofs.Common.{◌≡◌, ℕ, zero, suc, ◌+◌, ◌<◌, Bool, true, false, cond, List, [], ◌∷◌, ◌++◌, length, map, take, drop, get_or, Option, Some, None, refl, sym, ap, subst, ◌∙◌, arith, inl, inr}
+use Rattle.std.proofs.Common.{◌≡◌, ℕ, zero, suc, ◌+◌, ◌<◌, Bool, true, false, cond, List, [], ◌∷◌, ◌++◌, length}
+use Rattle.std.proofs.Common.{map, take, drop, get_or, Option, Some, None, refl, sym, ap, subst, ◌∙◌, arith, inl, inr}
 use Rattle.std.specs.Prelude.{◌⊎◌, nat_eq, Contains, slice_get, is_some}
 use Rattle.std.specs.Option.{option_map, option_map_or}
 use Rattle.std.specs.List.{filter_map, list_any}
@@ -79,7 +80,8 @@ no_command d name c e n =
     let some = position-is_some (λ (x : PlainDefinition). bytes_eq name x.name) d.commands p.place c p.at passes in
     absurd (let f : false ≡ true = ap (λ (o : Option ℕ). is_some o) (sym e) ∙ some in cc)
 
-pub next_item : {X : Type 0} (f : X → List ℕ) (xs : List X) (i : ℕ) (x : X) → i < length xs → x ≡ get_or xs i x → (map f (drop i xs) ≡ f x ∷ map f (drop (i + 1) xs)) × (map f (take (i + 1) xs) ≡ map f (take i xs) ++ f x ∷ [])
+pub next_item : {X : Type 0} (f : X → List ℕ) (xs : List X) (i : ℕ) (x : X) → i < length xs → x ≡ get_or xs i x
+    → (map f (drop i xs) ≡ f x ∷ map f (drop (i + 1) xs)) × (map f (take (i + 1) xs) ≡ map f (take i xs) ++ f x ∷ [])
 next_item {X} f xs i x within is = (
   ap (map f) (drop_more xs i x within) ∙ ap (λ (y : X). f y ∷ map f (drop (i + 1) xs)) (sym is),
   map_more f xs i x within ∙ ap (λ (y : X). map f (take i xs) ++ f y ∷ []) (sym is),
@@ -93,7 +95,8 @@ item_at f (y ∷ xs) (suc i) x within is = item_at f xs i x (omega arith) is
 -- ---- one name more
 
 module _ (da db : Dictionary) (sa : IsDictionary da) (sb : IsDictionary db) where
-  known_more : (gone : List (List ℕ)) (c : PlainDefinition) → Contains da.commands c → ((name : List ℕ) → Contains gone name → (x : PlainDefinition) × NamesCommand da name x) → (name : List ℕ) → Contains (gone ++ c.name ∷ []) name → (x : PlainDefinition) × NamesCommand da name x
+  known_more : (gone : List (List ℕ)) (c : PlainDefinition) → Contains da.commands c → ((name : List ℕ) → Contains gone name → (x : PlainDefinition) × NamesCommand da name x)
+      → (name : List ℕ) → Contains (gone ++ c.name ∷ []) name → (x : PlainDefinition) × NamesCommand da name x
   known_more gone c inside before name i = by (in_append gone (c.name ∷ []) name (in_contains (gone ++ c.name ∷ []) name i))
     where
       by : IsIn name gone ⊎ IsIn name (c.name ∷ []) → (x : PlainDefinition) × NamesCommand da name x
@@ -101,7 +104,8 @@ module _ (da db : Dictionary) (sa : IsDictionary da) (sb : IsDictionary db) wher
       by (inr (inl e)) = (c, (inside, sym e))
       by (inr (inr none)) = absurd none
 
-  pub named_again : (gone left : List (List ℕ)) (place : ℕ) (c : PlainDefinition) (old new : Named) → slice_get da.commands place ≡ Some c → NamedSoFar da db gone (c.name ∷ left) old → Contains old.places.keys place → Same old new
+  pub named_again : (gone left : List (List ℕ)) (place : ℕ) (c : PlainDefinition) (old new : Named) → slice_get da.commands place ≡ Some c → NamedSoFar da db gone (c.name ∷ left) old
+      → Contains old.places.keys place → Same old new
       → NamedSoFar da db (gone ++ c.name ∷ []) left new
   named_again gone left place c old new at so again same = record {
     owed = λ more h.
@@ -120,7 +124,8 @@ module _ (da db : Dictionary) (sa : IsDictionary da) (sb : IsDictionary db) wher
   some_name name [] = (name, inl refl)
   some_name name (n ∷ ns) = (n, inl refl)
 
-  module _ (gone left : List (List ℕ)) (place : ℕ) (c : PlainDefinition) (old new : Named) (at : slice_get da.commands place ≡ Some c) (so : NamedSoFar da db gone (c.name ∷ left) old) (fresh : ¬ Contains old.places.keys place) (adds : Adds da db place c old new) where
+  module _ (gone left : List (List ℕ)) (place : ℕ) (c : PlainDefinition) (old new : Named) (at : slice_get da.commands place ≡ Some c) (so : NamedSoFar da db gone (c.name ∷ left) old)
+      (fresh : ¬ Contains old.places.keys place) (adds : Adds da db place c old new) where
     abbrev pairs_of_c : Pairs
     pairs_of_c = map (λ (name : List ℕ). (c.name, name)) (names_beside da db c)
 
@@ -149,7 +154,8 @@ module _ (da db : Dictionary) (sa : IsDictionary da) (sb : IsDictionary db) wher
         let h2 = subst (λ (ns : List (List ℕ)). AreCommandPairs da db ns left more) names_now h in
         let all = so.owed (pairs_of_c ++ more) (inr (not_listed, c, names_beside da db c, more, (inside, refl), are_beside da db sa sb c inside, refl, h2)) in
         let grouped : before ++ (pairs_of_c ++ more) ≡ after ++ more = sym (append_assoc before pairs_of_c more) ∙ ap (λ (ps : Pairs). ps ++ more) (sym adds.pairs) in
-        subst (λ (ns : List (List ℕ)). AreCommandPairs da db [] ns (after ++ more)) (sym (append_assoc gone (c.name ∷ []) left)) (subst (λ (ps : Pairs). AreCommandPairs da db [] (gone ++ (c.name ∷ left)) ps) grouped all)
+        subst (λ (ns : List (List ℕ)). AreCommandPairs da db [] ns (after ++ more)) (sym (append_assoc gone (c.name ∷ []) left))
+        (subst (λ (ps : Pairs). AreCommandPairs da db [] (gone ++ (c.name ∷ left)) ps) grouped all)
 
     split_pair : (p : List ℕ × List ℕ) → Contains after p → Contains before p ⊎ (p.0 ≡ c.name)
     split_pair p i = by (in_append before pairs_of_c p (in_contains (before ++ pairs_of_c) p (subst (λ (ps : Pairs). Contains ps p) adds.pairs i)))
@@ -170,7 +176,8 @@ module _ (da db : Dictionary) (sa : IsDictionary da) (sb : IsDictionary db) wher
           refl,
         )
 
-    each : (key : Key) → (has old.reached key ≡ true) ⊎ (Admits c.rules key × IsShared da db key) → (p : List ℕ × List ℕ) × (x : PlainDefinition) × Contains after p × NamesCommand da p.0 x × Wants da db x.rules key
+    each : (key : Key) → (has old.reached key ≡ true) ⊎ (Admits c.rules key × IsShared da db key) → (p : List ℕ × List ℕ) × (x : PlainDefinition) × Contains after p × NamesCommand da p.0 x
+        × Wants da db x.rules key
     each key (inl h) = let r = so.roots.each key h in (r.0, r.1, kept_pair r.0 r.2, r.3, r.4)
     each key (inr w) = (own_pair.0, c, own_pair.1, (inside, sym own_pair.2), w)
 
@@ -195,7 +202,8 @@ module _ (da db : Dictionary) (sa : IsDictionary da) (sb : IsDictionary db) wher
     within k (inr (inr none)) = absurd none
 
     listed : (p : List ℕ × List ℕ) → Contains before p ⊎ (p.0 ≡ c.name) → Contains (map (name_at da) old.places.keys ++ c.name ∷ []) p.0
-    listed p (inl i) = contains_in (map (name_at da) old.places.keys ++ c.name ∷ []) p.0 (in_left (map (name_at da) old.places.keys) (c.name ∷ []) p.0 (in_contains (map (name_at da) old.places.keys) p.0 (so.listed p i)))
+    listed p (inl i) = contains_in (map (name_at da) old.places.keys ++ c.name ∷ []) p.0
+        (in_left (map (name_at da) old.places.keys) (c.name ∷ []) p.0 (in_contains (map (name_at da) old.places.keys) p.0 (so.listed p i)))
     listed p (inr e) = contains_in (map (name_at da) old.places.keys ++ c.name ∷ []) p.0 (in_right (map (name_at da) old.places.keys) (c.name ∷ []) p.0 (inl e))
 
     pub named_new : NamedSoFar da db (gone ++ c.name ∷ []) left new
@@ -212,7 +220,8 @@ module _ (da db : Dictionary) (sa : IsDictionary da) (sb : IsDictionary db) wher
       known = known_more gone c inside so.known;
     }
 
-  pub named_more : (gone left : List (List ℕ)) (place : ℕ) (c : PlainDefinition) (old new : Named) → slice_get da.commands place ≡ Some c → NamedSoFar da db gone (c.name ∷ left) old → Names da db place c old new → NamedSoFar da db (gone ++ c.name ∷ []) left new
+  pub named_more : (gone left : List (List ℕ)) (place : ℕ) (c : PlainDefinition) (old new : Named) → slice_get da.commands place ≡ Some c → NamedSoFar da db gone (c.name ∷ left) old
+      → Names da db place c old new → NamedSoFar da db (gone ++ c.name ∷ []) left new
   named_more gone left place c old new at so (inl (again, same)) = named_again gone left place c old new at so again same
   named_more gone left place c old new at so (inr (fresh, adds)) = named_new gone left place c old new at so fresh adds
 
@@ -263,7 +272,8 @@ module _ (da db : Dictionary) (sa : IsDictionary da) (sb : IsDictionary db) wher
       inner None g k = absurd (let f : None ≡ Some p = k in cc)
       inner (Some f) g k = (f, g, sym (same_Some (e.name, f.name) p k))
 
-      by : (b : Bool) → has r e.key ≡ b → cond b (option_map (λ (f : DictEntry). (e.name, f.name)) (known db e.key)) None ≡ Some p → (has r e.key ≡ true) × ((f : DictEntry) × (known db e.key ≡ Some f) × (p ≡ (e.name, f.name)))
+      by : (b : Bool) → has r e.key ≡ b → cond b (option_map (λ (f : DictEntry). (e.name, f.name)) (known db e.key)) None ≡ Some p
+          → (has r e.key ≡ true) × ((f : DictEntry) × (known db e.key ≡ Some f) × (p ≡ (e.name, f.name)))
       by true g k = (g, inner (known db e.key) refl k)
       by false g k = absurd (let f : None ≡ Some p = k in cc)
 
@@ -271,7 +281,8 @@ module _ (da db : Dictionary) (sa : IsDictionary da) (sb : IsDictionary db) wher
   shared_is r e f h k =
       ap (λ (b : Bool). cond b (option_map (λ (x : DictEntry). (e.name, x.name)) (known db e.key)) None) h ∙ ap (λ (o : Option DictEntry). option_map (λ (x : DictEntry). (e.name, x.name)) o) k
 
-  pub are_avp_pairs : (r : Reached) (wanted : Key → Type 0) → ((key : Key) → has r key ≡ true → wanted key) → ((key : Key) → wanted key → has r key ≡ true) → AreAvpPairs da db wanted (filter_map (shared_pair db r) da.entries)
+  pub are_avp_pairs : (r : Reached) (wanted : Key → Type 0) → ((key : Key) → has r key ≡ true → wanted key) → ((key : Key) → wanted key → has r key ≡ true)
+      → AreAvpPairs da db wanted (filter_map (shared_pair db r) da.entries)
   are_avp_pairs r wanted to from = record {
     each = λ p. (there p, back p);
     in_order = λ i j k l p q e f less at_i at_j at_k at_l first second.
@@ -302,4 +313,5 @@ module _ (da db : Dictionary) (sa : IsDictionary da) (sb : IsDictionary db) wher
           let k = entry_known db e.key f sb (in_contains db.entries f m.0) (sym same) in
           let is : (e.name, f.name) ≡ p = ap (λ (x : List ℕ). (x, f.name)) n.1 ∙ ap (λ (y : List ℕ). (p.0, y)) m.1 in
           subst (Contains (filter_map (shared_pair db r) da.entries)) is
-          (contains_in (filter_map (shared_pair db r) da.entries) (e.name, f.name) (in_filter_map (shared_pair db r) da.entries e (e.name, f.name) (in_contains da.entries e n.0) (shared_is r e f (from e.key w) k)))
+          (contains_in (filter_map (shared_pair db r) da.entries) (e.name, f.name)
+          (in_filter_map (shared_pair db r) da.entries e (e.name, f.name) (in_contains da.entries e n.0) (shared_is r e f (from e.key w) k)))

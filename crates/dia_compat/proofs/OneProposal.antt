@@ -21,11 +21,13 @@ abbrev InOrder : {X : Type 0} → (X → ℕ → Type 0) → List X → Type 0
 InOrder {X} At xs = (i j k l : ℕ) (x y : X) → i < j → slice_get xs i ≡ Some x → slice_get xs j ≡ Some y → At x k → At y l → k < l
 
 -- two lists of the same items in one order are one list
-same_ordered : {X : Type 0} (At : X → ℕ → Type 0) (xs ys : List X) → InOrder At xs → InOrder At ys → ((x : X) → IsIn x xs → (k : ℕ) × At x k) → ((x : X) → IsIn x xs → IsIn x ys) → ((x : X) → IsIn x ys → IsIn x xs) → xs ≡ ys
+same_ordered : {X : Type 0} (At : X → ℕ → Type 0) (xs ys : List X) → InOrder At xs → InOrder At ys → ((x : X) → IsIn x xs → (k : ℕ) × At x k) → ((x : X) → IsIn x xs → IsIn x ys)
+    → ((x : X) → IsIn x ys → IsIn x xs) → xs ≡ ys
 same_ordered At [] [] a b places to from = refl
 same_ordered At [] (y ∷ ys) a b places to from = absurd (from y (inl refl))
 same_ordered At (x ∷ xs) [] a b places to from = absurd (to x (inl refl))
-same_ordered {X} At (x ∷ xs) (y ∷ ys) a b places to from = both first (same_ordered At xs ys (λ i j k l u v less. a (suc i) (suc j) k l u v (omega arith)) (λ i j k l u v less. b (suc i) (suc j) k l u v (omega arith)) (λ u i. places u (inr i)) into back)
+same_ordered {X} At (x ∷ xs) (y ∷ ys) a b places to from = both first (same_ordered At xs ys (λ i j k l u v less. a (suc i) (suc j) k l u v (omega arith))
+    (λ i j k l u v less. b (suc i) (suc j) k l u v (omega arith)) (λ u i. places u (inr i)) into back)
   where
     both : x ≡ y → xs ≡ ys → x ∷ xs ≡ y ∷ ys
     both e f = ap (λ (z : X). z ∷ xs) e ∙ ap (λ (zs : List X). y ∷ zs) f

@@ -34,7 +34,8 @@ or_false true = refl
 or_false false = refl
 
 -- a key more, or one that is there
-inserted : (keys : List Texts) (k : Texts) (x y : List ℕ) → list_any (is_pair x y) (map plain_names (insert_key same_texts keys k)) ≡ (list_any (is_pair x y) (map plain_names keys) || is_pair x y (plain_names k))
+inserted : (keys : List Texts) (k : Texts) (x y : List ℕ) → list_any (is_pair x y) (map plain_names (insert_key same_texts keys k)) ≡
+    (list_any (is_pair x y) (map plain_names keys) || is_pair x y (plain_names k))
 inserted keys k x y = by (list_any (same_texts k) keys) refl
   where
     there : list_any (same_texts k) keys ≡ true → (b : Bool) → is_pair x y (plain_names k) ≡ b → list_any (is_pair x y) (map plain_names keys) ≡ (list_any (is_pair x y) (map plain_names keys) || b)
@@ -58,17 +59,20 @@ pub one_pair_more : (pairs : List (String Global × String Global)) (keys more :
 one_pair_more pairs keys more i k p within item first second before made x y =
     ap (λ (ks : List Texts). list_any (is_pair x y) (map plain_names ks)) made ∙ inserted keys k x y
     ∙ ap (λ (b : Bool). b || is_pair x y (plain_names k)) (before x y)
-    ∙ ap (λ (b : Bool). list_any (is_pair x y) (map plain_pair (take i pairs)) || b) (ap (λ (z : List ℕ). bytes_eq x z && bytes_eq y k.1.now) first ∙ ap (λ (z : List ℕ). bytes_eq x (string_bytes p.0) && bytes_eq y z) second ∙ sym (or_false (is_pair x y (plain_pair p))))
+    ∙ ap (λ (b : Bool). list_any (is_pair x y) (map plain_pair (take i pairs)) || b)
+    (ap (λ (z : List ℕ). bytes_eq x z && bytes_eq y k.1.now) first ∙ ap (λ (z : List ℕ). bytes_eq x (string_bytes p.0) && bytes_eq y z) second ∙ sym (or_false (is_pair x y (plain_pair p))))
     ∙ sym (list_any-append (is_pair x y) (map plain_pair (take i pairs)) (plain_pair p ∷ []))
     ∙ ap (list_any (is_pair x y)) (sym (map-append plain_pair (take i pairs) (p ∷ [])))
-    ∙ ap (λ (ps : List (String Global × String Global)). list_any (is_pair x y) (map plain_pair ps)) (ap (λ (z : String Global × String Global). take i pairs ++ z ∷ []) item ∙ sym (take_more pairs i p within))
+    ∙ ap (λ (ps : List (String Global × String Global)). list_any (is_pair x y) (map plain_pair ps))
+    (ap (λ (z : String Global × String Global). take i pairs ++ z ∷ []) item ∙ sym (take_more pairs i p within))
 
 -- ---- pairs that were gone through
 
 pub named_pair : (P : Names → Type 0) (p : String Global × String Global) (x y : List ℕ) → x ≡ string_bytes p.0 → y ≡ string_bytes p.1 → P (x, y) → P (plain_pair p)
 named_pair P p x y e f h = subst (λ (z : List ℕ). P (string_bytes p.0, z)) f (subst (λ (z : List ℕ). P (z, y)) e h)
 
-pair_at : (pairs : List (String Global × String Global)) (i : ℕ) (p : String Global × String Global) → i < length pairs → p ≡ get_or pairs i p → slice_get (map plain_pair pairs) i ≡ Some (plain_pair p)
+pair_at : (pairs : List (String Global × String Global)) (i : ℕ) (p : String Global × String Global) → i < length pairs → p ≡ get_or pairs i p
+    → slice_get (map plain_pair pairs) i ≡ Some (plain_pair p)
 pair_at pairs i p within item = into_map plain_pair pairs i p (slice_get-get_or pairs i p within ∙ ap (λ (z : String Global × String Global). Some z) (sym item))
 
 module _ (P : Names → Test → Type 0) (pairs : List (String Global × String Global)) (i : ℕ) (p : String Global × String Global) (within : i < length pairs) (item : p ≡ get_or pairs i p)
@@ -110,7 +114,8 @@ module _ (P : Names → Test → Type 0) (pairs : List (String Global × String 
         one_more_passes (λ t. subst (λ (z : List ℕ). P (string_bytes p.0, z) t) (sym two ∙ second) (subst (λ (z : List ℕ). P (z, r.0.1) t) (sym one ∙ first) (before j.place r.0 t earlier.0 at)))
 
 -- a pair that isn't new is among those before
-pub is_old : (keys : List Texts) (k : Texts) (pairs : List (String Global × String Global)) (i : ℕ) → ((x y : List ℕ) → list_any (is_pair x y) (map plain_names keys) ≡ list_any (is_pair x y) (map plain_pair (take i pairs)))
+pub is_old : (keys : List Texts) (k : Texts) (pairs : List (String Global × String Global)) (i : ℕ)
+    → ((x y : List ℕ) → list_any (is_pair x y) (map plain_names keys) ≡ list_any (is_pair x y) (map plain_pair (take i pairs)))
     → (b : Bool) → b ≡ not (list_any (same_texts k) keys) → b ≡ false → list_any (is_pair k.0.now k.1.now) (map plain_pair (take i pairs)) ≡ true
 is_old keys k pairs i seen b e f = sym (seen k.0.now k.1.now) ∙ list_any-map plain_names (is_pair k.0.now k.1.now) keys ∙ by (list_any (same_texts k) keys) (sym e ∙ f)
   where

@@ -18,7 +18,8 @@ use Rattle.dia_check.proofs.Greedy.{AreDistinct}
 use Rattle.dia_compat.specs.declared.inclusion.Test.TheVariants.{N1, N2, N3, N5, N6, N7, N8}
 use Rattle.dia_compat.specs.Below.{MaxWithin, FixedWithin, IsAboveZero, HasRule, HasWildcard, IsKnown, DefBelow}
 use Rattle.dia_compat.proofs.Placing.{IsIn, in_all, all_map, in_bounds, max_within, IsRunKey, Split, split, all_middle}
-use Rattle.dia_compat.proofs.Counts.{at_in, in_contains, contains_in, all_in, in_filter, into_filter, any_in, in_any, in_right, in_append, count_append, count_none, count_all, count_mono, count_in, none_or_some}
+use Rattle.dia_compat.proofs.Counts.{at_in, in_contains, contains_in, all_in, in_filter, into_filter, any_in, in_any}
+use Rattle.dia_compat.proofs.Counts.{in_right, in_append, count_append, count_none, count_all, count_mono, count_in, none_or_some}
 
 -- ---- rules
 
@@ -127,7 +128,8 @@ runs_none (r ∷ rules) keys rest k (run, after, parts, all, bounds, more) none 
     let ih = runs_none rules after rest k more none.1 in
     omega (arith, here, both, zeros, ih)
 
-pub runs_some : (rules : List DRule) (keys rest : List Key) (k : Key) (r : DRule) → Runs rules keys rest → AreDistinct rules → IsIn r rules → r.key ≡ Some k → (n : ℕ) × (times k keys ≡ n + times k rest) × InBounds r n
+pub runs_some : (rules : List DRule) (keys rest : List Key) (k : Key) (r : DRule) → Runs rules keys rest → AreDistinct rules → IsIn r rules → r.key ≡ Some k
+    → (n : ℕ) × (times k keys ≡ n + times k rest) × InBounds r n
 runs_some [] keys rest k r h distinct i e = absurd i
 runs_some (s ∷ rules) keys rest k r (run, after, parts, all, bounds, more) distinct (inl same) e =
     let here = ap (times k) parts in
@@ -230,7 +232,8 @@ module _ (a : List DRule) (ra : AreRules a) (keys : List Key) (placed : Placed a
 
 -- ---- what stands as a says stands as b says
 
-module _ (da db : Dictionary) (u : Unknown) (paired : (Key → Type 0)) (a b : List DRule) (ra : AreRules a) (rb : AreRules b) (below : DefBelow da db u paired a b) (keys : List Key) (placed : Placed a keys)
+module _ (da db : Dictionary) (u : Unknown) (paired : (Key → Type 0)) (a b : List DRule) (ra : AreRules a) (rb : AreRules b) (below : DefBelow da db u paired a b) (keys : List Key)
+    (placed : Placed a keys)
     (can : ((q : Key) → IsIn q keys → (u ≡ Kept) ⊎ IsKnown da q)) where
   abbrev parts : Split (fixed_rules a) (fixed_rules b) keys placed.rest
   parts = split (fixed_rules a) (fixed_rules b) keys placed.rest (below N1) (fixed_distinct a ra) placed.runs
@@ -330,7 +333,8 @@ module _ (da db : Dictionary) (u : Unknown) (paired : (Key → Type 0)) (a b : L
       not_false (is_listed a x) (ap (λ (y : Key). is_listed a y) (same_key-true x k e) ∙ f)) in
       max_within w.wild.max s.max (times k placed.rest) within (at_most w.wild.max (times k placed.rest) (strangers a placed.rest) le bounds.1)
 
-  new_max : (s : DRule) (k : Key) → HasRule b k s → is_listed a k ≡ false → ((q : Key) → IsIn q placed.rest → same_key q k ≡ false) ⊎ ((q : Key) × IsIn q placed.rest × (same_key q k ≡ true)) → IfSome s.max (λ m. times k placed.rest ≤ m)
+  new_max : (s : DRule) (k : Key) → HasRule b k s → is_listed a k ≡ false → ((q : Key) → IsIn q placed.rest → same_key q k ≡ false) ⊎
+      ((q : Key) × IsIn q placed.rest × (same_key q k ≡ true)) → IfSome s.max (λ m. times k placed.rest ≤ m)
   new_max s k h f (inl none) = none_at_all s.max (times k placed.rest) (count_none (λ (q : Key). same_key q k) placed.rest none)
   new_max s k h f (inr (q, i, e)) = through_wild s k q h f i (same_key-true q k e) (loose_at q i)
 
@@ -363,10 +367,12 @@ module _ (da db : Dictionary) (u : Unknown) (paired : (Key → Type 0)) (a b : L
   within_some (Some l) max n w h = omega (arith, w, h)
 
   still_unlisted : (w : DRule) (max : ℕ) (q : Key) → HasWildcard b w → w.max ≡ Some max → is_listed b q ≡ false → LooseBy a q → ByWild a q
-  still_unlisted w max q h e f (inl r) = absurd (not_both (is_listed b q) (listed_too w max q h e (record { rule = r.rule; is_rule = (loose_part a r.rule r.is_rule).0; is_key = r.is_key; allowed = r.allowed })) f)
+  still_unlisted w max q h e f (inl r) = absurd (not_both (is_listed b q)
+      (listed_too w max q h e (record { rule = r.rule; is_rule = (loose_part a r.rule r.is_rule).0; is_key = r.is_key; allowed = r.allowed })) f)
   still_unlisted w max q h e f (inr v) = v
 
-  some_strangers : (w : DRule) (max : ℕ) → HasWildcard b w → w.max ≡ Some max → ((q : Key) → IsIn q placed.rest → not (is_listed b q) ≡ false) ⊎ ((q : Key) × IsIn q placed.rest × (not (is_listed b q) ≡ true)) → strangers b placed.rest ≤ max
+  some_strangers : (w : DRule) (max : ℕ) → HasWildcard b w → w.max ≡ Some max → ((q : Key) → IsIn q placed.rest → not (is_listed b q) ≡ false) ⊎
+      ((q : Key) × IsIn q placed.rest × (not (is_listed b q) ≡ true)) → strangers b placed.rest ≤ max
   some_strangers w max h e (inl none) = let z = count_none (λ (q : Key). not (is_listed b q)) placed.rest none in omega (arith, z)
   some_strangers w max h e (inr (q, i, f)) =
       let v = still_unlisted w max q h e (not_true (is_listed b q) f) (loose_at q i) in

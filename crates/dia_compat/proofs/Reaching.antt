@@ -1,5 +1,6 @@
 -- What a proposal comes to, step by step.
-use Rattle.std.proofs.Common.{◌≡◌, ℕ, zero, suc, ◌+◌, ◌<◌, ◌≤◌, Bool, true, false, not, cond, List, [], ◌∷◌, ◌++◌, length, map, filter, take, get_or, Option, Some, None, refl, sym, ap, subst, ◌∙◌, arith, inl, inr}
+use Rattle.std.proofs.Common.{◌≡◌, ℕ, zero, suc, ◌+◌, ◌<◌, ◌≤◌, Bool, true, false, not, cond, List, [], ◌∷◌, ◌++◌}
+use Rattle.std.proofs.Common.{length, map, filter, take, get_or, Option, Some, None, refl, sym, ap, subst, ◌∙◌, arith, inl, inr}
 use Rattle.std.specs.Prelude.{◌⊎◌, ◌↔◌, is_some, IsSome, IfSome, Contains, slice_get, count_by, option_and_then}
 use Rattle.std.specs.Option.{option_map, option_map_or}
 use Rattle.std.specs.List.{filter_map, cons_option}
@@ -16,7 +17,8 @@ use Rattle.dia_dict.specs.Dictionary.{Dictionary, DictEntry, PlainDefinition, de
 use Rattle.dia_check.specs.Valid.{known}
 use Rattle.dia_compat.specs.declared.proposing.reaching.Reached.{Reached}
 use Rattle.dia_compat.specs.Below.{IsListed, HasWildcard, IsAboveZero, IsKnown}
-use Rattle.dia_compat.specs.Reaching.{has, Waits, IsShared, IsAllowedBy, IsAllowed, Admits, Wants, Inserts, potential, Grew, ComesTo, ComesToAll, Follows, root, in_group, IsSharedGroup, AllWait, AreRest, Sorts}
+use Rattle.dia_compat.specs.Reaching.{has, Waits, IsShared, IsAllowedBy, IsAllowed, Admits, Wants, Inserts, potential, Grew}
+use Rattle.dia_compat.specs.Reaching.{ComesTo, ComesToAll, Follows, root, in_group, IsSharedGroup, AllWait, AreRest, Sorts}
 use Rattle.dia_compat.proofs.Placing.{IsIn}
 use Rattle.dia_compat.proofs.Counts.{in_at, at_in, in_contains, contains_in, in_left, in_right, in_append, into_filter, count_cons, count_mono}
 use Rattle.dia_compat.proofs.Fitting.{known_entry}
@@ -31,7 +33,8 @@ some_of (Some x) h = (x, refl)
 pub known_by_entry : (d : Dictionary) (key : Key) (i : ℕ) → entry_of d key ≡ Some i → (e : DictEntry) × (slice_get d.entries i ≡ Some e) × (known d key ≡ Some e)
 known_by_entry d key i at = by (found_or_not (λ (e : DictEntry). same_key key e.key) d.entries)
   where
-    by : Found (λ (e : DictEntry). same_key key e.key) d.entries ⊎ NotFound (λ (e : DictEntry). same_key key e.key) d.entries → (e : DictEntry) × (slice_get d.entries i ≡ Some e) × (known d key ≡ Some e)
+    by : Found (λ (e : DictEntry). same_key key e.key) d.entries ⊎ NotFound (λ (e : DictEntry). same_key key e.key) d.entries
+        → (e : DictEntry) × (slice_get d.entries i ≡ Some e) × (known d key ≡ Some e)
     by (inl f) =
         let same : f.place ≡ i = same_Some f.place i (sym f.is_place ∙ at) in
         let there = ap (slice_get d.entries) (sym same) ∙ f.at in
@@ -136,7 +139,8 @@ module _ (key : Key) (old new : Reached) (ins : Inserts key old new) where
           record {
             grows = has_more;
             only = only;
-            still = λ other w. subst (λ (xs : List Key). Contains xs other) (sym same) (contains_in (old.waiting.items ++ key ∷ []) other (in_left old.waiting.items (key ∷ []) other (in_contains old.waiting.items other w)));
+            still = λ other w. subst (λ (xs : List Key). Contains xs other) (sym same)
+                (contains_in (old.waiting.items ++ key ∷ []) other (in_left old.waiting.items (key ∷ []) other (in_contains old.waiting.items other w)));
             waits = λ other w. left other (in_append old.waiting.items (key ∷ []) other (in_contains (old.waiting.items ++ key ∷ []) other (subst (λ (xs : List Key). Contains xs other) same w)));
             queued = λ other h. last other (had_or_is other h) same;
             nearer = omega (arith, ap length same, length-append old.waiting.items (key ∷ []));
@@ -149,7 +153,8 @@ module _ (key : Key) (old new : Reached) (ins : Inserts key old new) where
 
           last : (other : Key) → (has old other ≡ true) ⊎ (other ≡ key) → new.waiting.items ≡ old.waiting.items ++ key ∷ [] → (has old other ≡ true) ⊎ Waits new other
           last other (inl g) same = inl g
-          last other (inr is) same = inr (subst (λ (xs : List Key). Contains xs other) (sym same) (contains_in (old.waiting.items ++ key ∷ []) other (in_right old.waiting.items (key ∷ []) other (inl is))))
+          last other (inr is) same = inr (subst (λ (xs : List Key). Contains xs other) (sym same)
+              (contains_in (old.waiting.items ++ key ∷ []) other (in_right old.waiting.items (key ∷ []) other (inl is))))
 
   pub came_to : (da db : Dictionary) → IsShared da db key → ComesTo da db key old new
   came_to da db shared = record { grew = grew_by_one da db shared; there = λ _. has_it; rest = λ other _ i. inr (subst (λ (xs : List Key). Contains xs other) (sym ins.rest) i) }
@@ -204,7 +209,8 @@ grew_then da P Q R x y z one two first second = record {
 pub all_then : (da db : Dictionary) (P Q R : Key → Type 0) (x y z : Reached) → ComesToAll da db P x y → ComesToAll da db Q y z
     → ((key : Key) → P key → R key) → ((key : Key) → Q key → R key) → ((key : Key) → R key → P key ⊎ Q key) → ComesToAll da db R x z
 all_then da db P Q R x y z one two first second either = record {
-  grew = grew_then da (λ key. P key × IsShared da db key) (λ key. Q key × IsShared da db key) (λ key. R key × IsShared da db key) x y z one.grew two.grew (λ key p. (first key p.0, p.1)) (λ key q. (second key q.0, q.1));
+  grew = grew_then da (λ key. P key × IsShared da db key) (λ key. Q key × IsShared da db key) (λ key. R key × IsShared da db key) x y z one.grew two.grew (λ key p. (first key p.0, p.1))
+      (λ key q. (second key q.0, q.1));
   there = λ key r shared. by key shared (either key r);
   rest = λ key shared i. rest key shared (one.rest key shared i);
 }
@@ -218,9 +224,11 @@ all_then da db P Q R x y z one two first second either = record {
     by key shared (inr q) = two.there key q shared
 
 -- the same keys in other words
-pub all_same : (da db : Dictionary) (P Q : Key → Type 0) (x y : Reached) → ComesToAll da db P x y → ((key : Key) → P key → Q key) → ((key : Key) → Q key → IsShared da db key → P key) → ComesToAll da db Q x y
+pub all_same : (da db : Dictionary) (P Q : Key → Type 0) (x y : Reached) → ComesToAll da db P x y → ((key : Key) → P key → Q key) → ((key : Key) → Q key → IsShared da db key → P key)
+    → ComesToAll da db Q x y
 all_same da db P Q x y all first second = record {
-  grew = grew_then da (λ key. P key × IsShared da db key) (λ _. ⊥) (λ key. Q key × IsShared da db key) x y y all.grew (grew_none da (λ _. ⊥) y) (λ key p. (first key p.0, p.1)) (λ key none. absurd none);
+  grew = grew_then da (λ key. P key × IsShared da db key) (λ _. ⊥) (λ key. Q key × IsShared da db key) x y y all.grew (grew_none da (λ _. ⊥) y) (λ key p. (first key p.0, p.1))
+      (λ key none. absurd none);
   there = λ key q shared. all.there key (second key q shared) shared;
   rest = all.rest;
 }
@@ -230,7 +238,8 @@ all_none da db P r none = record { grew = grew_none da (λ key. P key × IsShare
 
 pub all_one : (da db : Dictionary) (P : Key → Type 0) (key : Key) (x y : Reached) → ComesTo da db key x y → P key → ((other : Key) → P other → other ≡ key) → ComesToAll da db P x y
 all_one da db P key x y one p only = record {
-  grew = grew_then da (λ other. (other ≡ key) × IsShared da db other) (λ _. ⊥) (λ other. P other × IsShared da db other) x y y one.grew (grew_none da (λ _. ⊥) y) (λ other h. (subst P (sym h.0) p, h.1)) (λ other none. absurd none);
+  grew = grew_then da (λ other. (other ≡ key) × IsShared da db other) (λ _. ⊥) (λ other. P other × IsShared da db other) x y y one.grew (grew_none da (λ _. ⊥) y)
+      (λ other h. (subst P (sym h.0) p, h.1)) (λ other none. absurd none);
   there = λ other q shared. ap (has y) (only other q) ∙ one.there (subst (IsShared da db) (only other q) shared);
   rest = one.rest;
 }
@@ -252,7 +261,8 @@ in_last : {X : Type 0} (xs : List X) (i : ℕ) (d : X) → i < length xs → IsI
 in_last {X} xs i d within = subst (IsIn (get_or xs i d)) (sym (take_more xs i d within)) (in_right (take i xs) (get_or xs i d ∷ []) (get_or xs i d) (inl refl))
 
 -- one rule more
-pub listed_more : (da db : Dictionary) (rules : List DRule) (i : ℕ) (d : DRule) (x y z : Reached) → i < length rules → ComesToAll da db (IsAllowed (take i rules)) x y → ComesToAll da db (IsAllowedBy (get_or rules i d)) y z → ComesToAll da db (IsAllowed (take (i + 1) rules)) x z
+pub listed_more : (da db : Dictionary) (rules : List DRule) (i : ℕ) (d : DRule) (x y z : Reached) → i < length rules → ComesToAll da db (IsAllowed (take i rules)) x y
+    → ComesToAll da db (IsAllowedBy (get_or rules i d)) y z → ComesToAll da db (IsAllowed (take (i + 1) rules)) x z
 listed_more da db rules i d x y z within one two = all_then da db (IsAllowed (take i rules)) (IsAllowedBy r) (IsAllowed (take (i + 1) rules)) x y z one two
     (λ key p. (p.0, (contains_in (take (i + 1) rules) p.0 (in_front_too rules i p.0 d within (in_contains (take i rules) p.0 p.1.0)), p.1.1), p.2))
     (λ key q. (r, (contains_in (take (i + 1) rules) r (in_last rules i d within), q.0), q.1))
@@ -266,7 +276,8 @@ listed_more da db rules i d x y z within one two = all_then da db (IsAllowed (ta
     by key p (inr same) = inr (ap (λ (s : DRule). s.key) (sym same) ∙ p.1.1, subst (λ (s : DRule). IsAboveZero s.max) same p.2)
 
 -- all rules, and the AVPs that are not listed
-pub admitted : (da db : Dictionary) (rules : List DRule) (x y z : Reached) → ((w : DRule) × HasWildcard rules w × IsAboveZero w.max) → ComesToAll da db (IsAllowed rules) x y → ComesToAll da db (λ key. ¬ IsListed rules key) y z → ComesToAll da db (Admits rules) x z
+pub admitted : (da db : Dictionary) (rules : List DRule) (x y z : Reached) → ((w : DRule) × HasWildcard rules w × IsAboveZero w.max) → ComesToAll da db (IsAllowed rules) x y
+    → ComesToAll da db (λ key. ¬ IsListed rules key) y z → ComesToAll da db (Admits rules) x z
 admitted da db rules x y z w one two = all_then da db (IsAllowed rules) (λ key. ¬ IsListed rules key) (Admits rules) x y z one two (λ key p. inl p) (λ key q. inr (w, q)) either
   where
     either : (key : Key) → Admits rules key → IsAllowed rules key ⊎ (¬ IsListed rules key)
@@ -351,13 +362,15 @@ sorts_new da db rules key x y new one = record {
   left = λ shared. inl (one.there shared);
 }
 
-pub sorts_listed : (da db : Dictionary) (rules : List DRule) (key : Key) (x y : Reached) → (¬ ¬ IsListed rules key) → ((other : Key) → has y other ≡ has x other) → y.waiting.items ≡ x.waiting.items → potential da y ≡ potential da x
+pub sorts_listed : (da db : Dictionary) (rules : List DRule) (key : Key) (x y : Reached) → (¬ ¬ IsListed rules key) → ((other : Key) → has y other ≡ has x other)
+    → y.waiting.items ≡ x.waiting.items → potential da y ≡ potential da x
     → y.rest.items ≡ x.rest.items ++ key ∷ [] → Sorts da db rules key x y
 sorts_listed da db rules key x y listed same waits near pushed = record {
   comes = record {
     grew = grew_same da (λ other. ((other ≡ key) × ¬ IsListed rules other) × IsShared da db other) x y same waits near;
     there = λ other q _. absurd (listed (subst (λ (k : Key). ¬ IsListed rules k) q.0 q.1));
-    rest = λ other _ i. inr (subst (λ (ks : List Key). Contains ks other) (sym pushed) (contains_in (x.rest.items ++ key ∷ []) other (in_left x.rest.items (key ∷ []) other (in_contains x.rest.items other i))));
+    rest = λ other _ i. inr (subst (λ (ks : List Key). Contains ks other) (sym pushed)
+        (contains_in (x.rest.items ++ key ∷ []) other (in_left x.rest.items (key ∷ []) other (in_contains x.rest.items other i))));
   };
   left = λ _. inr (subst (λ (ks : List Key). Contains ks key) (sym pushed) (contains_in (x.rest.items ++ key ∷ []) key (in_right x.rest.items (key ∷ []) key (inl refl))));
 }
@@ -374,7 +387,8 @@ pub record SortsAll (da db : Dictionary) (rules : List DRule) (keys : List Key) 
 pub sorts_none : (da db : Dictionary) (rules : List DRule) (x : Reached) → SortsAll da db rules [] x x
 sorts_none da db rules x = record { comes = all_none da db (IsUnlistedOf [] rules) x (λ key p. p.0); left = λ key i _. absurd i }
 
-pub sorts_more : (da db : Dictionary) (rules : List DRule) (keys : List Key) (i : ℕ) (d : Key) (x y z : Reached) → i < length keys → SortsAll da db rules (take i keys) x y → Sorts da db rules (get_or keys i d) y z
+pub sorts_more : (da db : Dictionary) (rules : List DRule) (keys : List Key) (i : ℕ) (d : Key) (x y z : Reached) → i < length keys → SortsAll da db rules (take i keys) x y
+    → Sorts da db rules (get_or keys i d) y z
     → SortsAll da db rules (take (i + 1) keys) x z
 sorts_more da db rules keys i d x y z within one two = record {
   comes = all_then da db (IsUnlistedOf (take i keys) rules) (λ other. (other ≡ k) × ¬ IsListed rules other) (IsUnlistedOf (take (i + 1) keys) rules) x y z one.comes two.comes
@@ -400,10 +414,12 @@ sorts_more da db rules keys i d x y z within one two = record {
     left key shared (inr same) = subst (λ (w : Key). (has z w ≡ true) ⊎ Contains z.rest.items w) (sym same) (two.left (subst (IsShared da db) same shared))
 
 -- all of the rest
-pub sorts_all : (da db : Dictionary) (rules : List DRule) (x mid y : Reached) → AreRest da db x → ((key : Key) → has mid key ≡ has x key) → mid.waiting.items ≡ x.waiting.items → potential da mid ≡ potential da x
+pub sorts_all : (da db : Dictionary) (rules : List DRule) (x mid y : Reached) → AreRest da db x → ((key : Key) → has mid key ≡ has x key) → mid.waiting.items ≡ x.waiting.items
+    → potential da mid ≡ potential da x
     → SortsAll da db rules x.rest.items mid y → ComesToAll da db (λ key. ¬ IsListed rules key) x y
 sorts_all da db rules x mid y rest same waits near all = record {
-  grew = grew_then da (λ _. ⊥) (λ key. IsUnlistedOf x.rest.items rules key × IsShared da db key) (λ key. (¬ IsListed rules key) × IsShared da db key) x mid y (grew_same da (λ _. ⊥) x mid same waits near) all.comes.grew
+  grew = grew_then da (λ _. ⊥) (λ key. IsUnlistedOf x.rest.items rules key × IsShared da db key) (λ key. (¬ IsListed rules key) × IsShared da db key) x mid y
+      (grew_same da (λ _. ⊥) x mid same waits near) all.comes.grew
       (λ key none. absurd none) (λ key q. (q.0.1, q.1));
   there = λ key q shared. there key q shared (rest key shared);
   rest = λ key shared i. all.left key (in_contains x.rest.items key i) shared;
@@ -418,7 +434,8 @@ sorts_all da db rules x mid y rest same waits near all = record {
 group_there : (xs : List DictEntry) (i : ℕ) (e : DictEntry) (g : PlainDefinition) → slice_get xs i ≡ Some e → e.group ≡ Some g
     → slice_get (filter_map (λ x. x.group) xs) (length (filter_map (λ x. x.group) (take i xs))) ≡ Some g
 group_there [] i e g at is = absurd (none-some e at)
-group_there (x ∷ xs) zero e g at is = ap (λ (o : Option PlainDefinition). slice_get (cons_option o (filter_map (λ (y : DictEntry). y.group) xs)) 0) (ap (λ (y : DictEntry). y.group) (same_Some x e at) ∙ is)
+group_there (x ∷ xs) zero e g at is = ap (λ (o : Option PlainDefinition). slice_get (cons_option o (filter_map (λ (y : DictEntry). y.group) xs)) 0)
+    (ap (λ (y : DictEntry). y.group) (same_Some x e at) ∙ is)
 group_there (x ∷ xs) (suc i) e g at is = by x.group (group_there xs i e g at is)
   where
     by : (o : Option PlainDefinition) → slice_get (filter_map (λ y. y.group) xs) (length (filter_map (λ y. y.group) (take i xs))) ≡ Some g
@@ -427,7 +444,8 @@ group_there (x ∷ xs) (suc i) e g at is = by x.group (group_there xs i e g at i
     by (Some d) h = h
 
 -- the number of an entry's group is that of its definition
-pub group_number : (d : Dictionary) (i n : ℕ) (e : DictEntry) → slice_get d.entries i ≡ Some e → group_of d i ≡ Some n → (g : PlainDefinition) × (e.group ≡ Some g) × (slice_get (definitions d) n ≡ Some g)
+pub group_number : (d : Dictionary) (i n : ℕ) (e : DictEntry) → slice_get d.entries i ≡ Some e → group_of d i ≡ Some n
+    → (g : PlainDefinition) × (e.group ≡ Some g) × (slice_get (definitions d) n ≡ Some g)
 group_number d i n e at is = by e.group refl
   where
     number : ℕ
@@ -465,7 +483,8 @@ following_none da db roots all rest = record {
 }
 
 -- a key is taken, and its group, if both have one, is gone through
-pub following_more : (da db : Dictionary) (roots old mid new : Reached) (key : Key) → Following da db roots old → ((other : Key) → has mid other ≡ has old other) → old.waiting.items ≡ mid.waiting.items ++ key ∷ []
+pub following_more : (da db : Dictionary) (roots old mid new : Reached) (key : Key) → Following da db roots old → ((other : Key) → has mid other ≡ has old other)
+    → old.waiting.items ≡ mid.waiting.items ++ key ∷ []
     → (P : Key → Type 0) → Grew da P mid new → ((other : Key) → P other → Follows da db roots other) → IsDone da db new key → AreRest da db new → Following da db roots new
 following_more da db roots old mid new key f same popped P grew follows is_done rest = record {
   sound = λ other h. sound other (grew.only other h);
@@ -480,7 +499,8 @@ following_more da db roots old mid new key f same popped P grew follows is_done 
     sound other (inr p) = follows other p
 
     waits_old : (other : Key) → Waits mid other → Waits old other
-    waits_old other w = subst (λ (xs : List Key). Contains xs other) (sym popped) (contains_in (mid.waiting.items ++ key ∷ []) other (in_left mid.waiting.items (key ∷ []) other (in_contains mid.waiting.items other w)))
+    waits_old other w = subst (λ (xs : List Key). Contains xs other) (sym popped)
+        (contains_in (mid.waiting.items ++ key ∷ []) other (in_left mid.waiting.items (key ∷ []) other (in_contains mid.waiting.items other w)))
 
     waiting : (other : Key) → Waits mid other ⊎ (has new other ≡ true) → has new other ≡ true
     waiting other (inl w) = grew.grows other (same other ∙ f.waiting other (waits_old other w))
@@ -524,16 +544,19 @@ last_waits : (r : Reached) (front : List Key) (key : Key) → r.waiting.items �
 last_waits r front key popped = subst (λ (xs : List Key). Contains xs key) (sym popped) (contains_in (front ++ key ∷ []) key (in_right front (key ∷ []) key (inl refl)))
 
 -- a key is taken, and the group that both have is gone through
-pub follow_group : (da db : Dictionary) (roots old mid new : Reached) (key : Key) (group : PlainDefinition) → Following da db roots old → ((other : Key) → has mid other ≡ has old other) → old.waiting.items ≡ mid.waiting.items ++ key ∷ []
+pub follow_group : (da db : Dictionary) (roots old mid new : Reached) (key : Key) (group : PlainDefinition) → Following da db roots old → ((other : Key) → has mid other ≡ has old other)
+    → old.waiting.items ≡ mid.waiting.items ++ key ∷ []
     → IsSharedGroup da db key group → AreRest da db mid → ComesToAll da db (Admits group.rules) mid new → Following da db roots new
 follow_group da db roots old mid new key group f same popped is rest all =
     following_more da db roots old mid new key f same popped (Wants da db group.rules) all.grew
     (λ other w. in_group key other is.e is.f group (f.sound key (f.waiting key (last_waits old mid.waiting.items key popped))) is.at_a is.at_b is.both is.is_group w)
-    (λ other_group other_is other w. let e = one_shared_group da db key other_group group other_is is in let v = subst (λ (x : PlainDefinition). Wants da db x.rules other) e w in all.there other v.0 v.1)
+    (λ other_group other_is other w. let e = one_shared_group da db key other_group group other_is is in let v = subst (λ (x : PlainDefinition). Wants da db x.rules other) e w in
+    all.there other v.0 v.1)
     (rest_then da db (Admits group.rules) mid new rest all)
 
 -- a key is taken that has no such group
-pub follow_none : (da db : Dictionary) (roots old mid : Reached) (key : Key) → Following da db roots old → ((other : Key) → has mid other ≡ has old other) → old.waiting.items ≡ mid.waiting.items ++ key ∷ []
+pub follow_none : (da db : Dictionary) (roots old mid : Reached) (key : Key) → Following da db roots old → ((other : Key) → has mid other ≡ has old other)
+    → old.waiting.items ≡ mid.waiting.items ++ key ∷ []
     → ((group : PlainDefinition) → ¬ IsSharedGroup da db key group) → AreRest da db mid → Following da db roots mid
 follow_none da db roots old mid key f same popped none rest =
     following_more da db roots old mid mid key f same popped (λ _. ⊥) (grew_none da (λ _. ⊥) mid) (λ other h. absurd h) (λ group is. absurd (none group is)) rest

@@ -20,7 +20,8 @@ use Rattle.dia_compat.specs.declared.inclusion.PairKind.TheVariants as kind
 use Rattle.dia_compat.specs.declared.inclusion.Test.{Test}
 use Rattle.dia_compat.specs.declared.inclusion.Test.TheVariants.{N1, N2, N3, N4, N5, N6, N7, N8, N9, N10}
 use Rattle.dia_compat.specs.Below.{DefBelow}
-use Rattle.dia_compat.specs.Closed.{NamesCommand, IsPairKey, HasCode, IsError, IsBeside, NamesApp, IsWanted, error, same_app, no_app, both_none, other_app, IsServed, CommandPair, CommandTest, IsClosed, IsIncluded}
+use Rattle.dia_compat.specs.Closed.{NamesCommand, IsPairKey, HasCode, IsError, IsBeside, NamesApp, IsWanted, error, same_app}
+use Rattle.dia_compat.specs.Closed.{no_app, both_none, other_app, IsServed, CommandPair, CommandTest, IsClosed, IsIncluded}
 use Rattle.dia_compat.proofs.Placing.{IsIn}
 use Rattle.dia_compat.proofs.Counts.{in_at, at_in, in_contains, contains_in, in_right}
 use Rattle.dia_compat.proofs.Fitting.{all_of, body}
@@ -62,7 +63,8 @@ pub record Choice (d : Dictionary) (code : ℕ) (class : Class) (app : ℕ) : Ty
   pub command : PlainDefinition
   pub at : slice_get d.commands place ≡ Some command
   pub is_selected : selected d code class app ≡ Some (length (groups d) + place)
-  pub how : (is_command code class (Some app) command.head ≡ true) ⊎ ((is_command code class None command.head ≡ true) × ((x : PlainDefinition) → IsIn x d.commands → is_command code class (Some app) x.head ≡ false))
+  pub how : (is_command code class (Some app) command.head ≡ true) ⊎ ((is_command code class None command.head ≡ true) ×
+      ((x : PlainDefinition) → IsIn x d.commands → is_command code class (Some app) x.head ≡ false))
 
 pub record NoChoice (d : Dictionary) (code : ℕ) (class : Class) (app : ℕ) : Type 0 where
   pub is_none : selected d code class app ≡ None
@@ -143,7 +145,8 @@ pub reads : (d : Dictionary) (c : PlainDefinition) (code : ℕ) (class : Class) 
 reads d c code class app sound i h = read_head c code class app c.head refl (all_of (λ (x : PlainDefinition). IsCommandHead x.head) d.commands c sound.command_heads i) h
 
 pub is_of_code : (c : PlainDefinition) (code : ℕ) (class : Class) (app : Option ℕ) → HasCode c code class app → is_command code class app c.head ≡ true
-is_of_code c code class app h = ap (is_command code class app) h.head ∙ and_from ((code == code) && same_class class class) (option_eq nat_eq app app) (and_from (code == code) (same_class class class) (eq-eqb code code refl) (same_class_self class)) (same_app_self app)
+is_of_code c code class app h = ap (is_command code class app) h.head ∙ and_from ((code == code) && same_class class class) (option_eq nat_eq app app)
+    (and_from (code == code) (same_class class class) (eq-eqb code code refl) (same_class_self class)) (same_app_self app)
 
 pub is_of_errors : (c : PlainDefinition) (code : ℕ) (class : Class) (app : Option ℕ) → IsError c → class ≡ classes.Error → is_command code class app c.head ≡ true
 is_of_errors c code class app (p, h) e = ap (is_command code class app) h ∙ ap (λ (k : Class). same_class k classes.Error) e
@@ -185,7 +188,8 @@ module _ (da db : Dictionary) (sa : IsDictionary da) (sb : IsDictionary db) (cod
       second none (inl h) = inl h
       second none (inr h) = inr (inr (h.0, h.1, no_app_named d code class (Some app) none))
 
-      by : (is_command code class (Some app) ch.command.head ≡ true) ⊎ ((is_command code class None ch.command.head ≡ true) × ((x : PlainDefinition) → IsIn x d.commands → is_command code class (Some app) x.head ≡ false)) → Chosen d ch.command
+      by : (is_command code class (Some app) ch.command.head ≡ true) ⊎
+          ((is_command code class None ch.command.head ≡ true) × ((x : PlainDefinition) → IsIn x d.commands → is_command code class (Some app) x.head ≡ false)) → Chosen d ch.command
       by (inl h) = first (reads d ch.command code class (Some app) sound inside h)
       by (inr h) = second h.1 (reads d ch.command code class None sound inside h.0)
 
@@ -220,7 +224,8 @@ module _ (da db : Dictionary) (sa : IsDictionary da) (sb : IsDictionary db) (cod
 
 module _ (da db : Dictionary) (sa : IsDictionary da) (sb : IsDictionary db) (u : Unknown) (table : PlainTable) (closed : IsClosed da db u table) where
   passes : (p : List ℕ × List ℕ) → Contains table.commands p → (test : Test) → CommandTest da db table u test p
-  passes p inside test = let here = at_Contains table.commands p inside in subst (λ (o : Option (List ℕ × List ℕ)). IfSome o (CommandTest da db table u test)) here.at (closed kind.Command here.place test)
+  passes p inside test = let here = at_Contains table.commands p inside in
+      subst (λ (o : Option (List ℕ × List ℕ)). IfSome o (CommandTest da db table u test)) here.at (closed kind.Command here.place test)
 
   -- two commands whose names stand in the table
   pub pair_tests : (p : List ℕ × List ℕ) (c d : PlainDefinition) → Contains table.commands p → NamesCommand da p.0 c → NamesCommand db p.1 d → DefBelow da db u (IsPairKey da db table) c.rules d.rules
@@ -242,7 +247,8 @@ module _ (da db : Dictionary) (sa : IsDictionary da) (sb : IsDictionary db) (u :
       let same = one_command da t.0 c sa (in_contains da.commands t.0 t.2.0) (in_contains da.commands c n.0) (t.2.1 ∙ sym n.1) in
       (t.1, t.3, subst (λ (x : PlainDefinition). CommandPair da db table x t.1) same t.4)
 
-  valid_beside : (most : Levels) (bytes : List ℕ) (n : ℕ) (c : PlainDefinition) (v : IsValidOf da u most bytes n) → v.command ≡ c → IsIn c da.commands → (ch : Choice db v.header.code (class_of v.header.flags) v.header.app)
+  valid_beside : (most : Levels) (bytes : List ℕ) (n : ℕ) (c : PlainDefinition) (v : IsValidOf da u most bytes n) → v.command ≡ c → IsIn c da.commands
+      → (ch : Choice db v.header.code (class_of v.header.flags) v.header.app)
       → IsBeside table c ch.command → IsValidOf db u most bytes (length (groups db) + ch.place)
   valid_beside most bytes n c v same inside ch beside =
       let other = in_at db.commands ch.place ch.command ch.at in
@@ -271,7 +277,8 @@ module _ (da db : Dictionary) (sa : IsDictionary da) (sb : IsDictionary db) (u :
   Beside most bytes c = (d : ℕ) × (other : PlainDefinition) × (slice_get (definitions db) d ≡ Some other) × IsBeside table c other × IsValidOf db u most bytes d
 
   in_b : (most : Levels) (bytes : List ℕ) (n : ℕ) (c : PlainDefinition) (p : List ℕ × List ℕ) → Contains table.commands p → c.name ≡ p.0 → (v : IsValidOf da u most bytes n) → v.command ≡ c
-      → (own : Choice da v.header.code (class_of v.header.flags) v.header.app) → own.command ≡ c → Choice db v.header.code (class_of v.header.flags) v.header.app ⊎ NoChoice db v.header.code (class_of v.header.flags) v.header.app → Beside most bytes c
+      → (own : Choice da v.header.code (class_of v.header.flags) v.header.app) → own.command ≡ c → Choice db v.header.code (class_of v.header.flags) v.header.app ⊎ NoChoice db v.header.code
+      (class_of v.header.flags) v.header.app → Beside most bytes c
   in_b most bytes n c p listed name v same own is found = by found
     where
       inside : IsIn c da.commands
@@ -286,12 +293,14 @@ module _ (da db : Dictionary) (sa : IsDictionary da) (sb : IsDictionary db) (u :
       by : Choice db v.header.code (class_of v.header.flags) v.header.app ⊎ NoChoice db v.header.code (class_of v.header.flags) v.header.app → Beside most bytes c
       by (inl ch) =
           let other = contains_in db.commands ch.command (in_at db.commands ch.place ch.command ch.at) in
-          let wanted = wants da db sa sb v.header.code (class_of v.header.flags) v.header.app c ch.command other how (chosen da db sa sb v.header.code (class_of v.header.flags) v.header.app db sb ch) in
+          let wanted = wants da db sa sb v.header.code (class_of v.header.flags) v.header.app c ch.command other how
+          (chosen da db sa sb v.header.code (class_of v.header.flags) v.header.app db sb ch) in
           let beside = pair.selection ch.command wanted in
           (length (groups db) + ch.place, ch.command, into_right (groups db) db.commands ch.place ch.command ch.at, beside, valid_beside most bytes n c v same inside ch beside)
       by (inr none) = absurd (served_clash da db sa sb v.header.code (class_of v.header.flags) v.header.app c pair.served how none)
 
-  in_a : (most : Levels) (bytes : List ℕ) (n : ℕ) (c : PlainDefinition) (p : List ℕ × List ℕ) → slice_get (definitions da) n ≡ Some c → Contains table.commands p → c.name ≡ p.0 → (v : IsValidOf da u most bytes n)
+  in_a : (most : Levels) (bytes : List ℕ) (n : ℕ) (c : PlainDefinition) (p : List ℕ × List ℕ) → slice_get (definitions da) n ≡ Some c → Contains table.commands p → c.name ≡ p.0
+      → (v : IsValidOf da u most bytes n)
       → Choice da v.header.code (class_of v.header.flags) v.header.app ⊎ NoChoice da v.header.code (class_of v.header.flags) v.header.app → Beside most bytes c
   in_a most bytes n c p at listed name v (inl own) =
       let number = same_Some (length (groups da) + own.place) n (sym own.is_selected ∙ v.select) in

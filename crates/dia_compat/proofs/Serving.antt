@@ -54,7 +54,8 @@ module _ (d : Dictionary) (code : ℕ) (class : Class) (app : ℕ) where
   pub names_own : (x : PlainDefinition) (n : ℕ) → slice_get (definitions d) n ≡ Some x → Some n ≡ selected d code class app → is_of_app x.head app ≡ names_app d code class app
   names_own x n at found = by (position own d.commands) (position open_to d.commands) refl refl found
     where
-      by : (o p : Option ℕ) → position own d.commands ≡ o → position open_to d.commands ≡ p → Some n ≡ option_map (λ i. length (groups d) + i) (option_or o p) → is_of_app x.head app ≡ names_app d code class app
+      by : (o p : Option ℕ) → position own d.commands ≡ o → position open_to d.commands ≡ p → Some n ≡ option_map (λ i. length (groups d) + i) (option_or o p)
+          → is_of_app x.head app ≡ names_app d code class app
       by None None e f h = absurd (none-some n (sym h))
       by (Some i) p e f h =
           let here = command_at d i n x (same_Some n (length (groups d) + i) h) at in

@@ -11,7 +11,8 @@ use Rattle.std.proofs.lemmas.List.Sums.{count_by-le-length}
 use Rattle.std.proofs.lemmas.List.Splits.{length-slice_split}
 use Rattle.dia_compat.specs.declared.table.TableFault.{TableFault}
 use Rattle.dia_compat.specs.declared.table.TableFault.TheVariants as fault
-use Rattle.dia_compat.specs.TableText.{PlainTable, Line, Blank, Command, Avp, command_of, avp_of, table_of, with_line, IsLine, HasForm, AreLines, HasShortNames, IsWithinLimits, IsTableOf, IsTable, IsFirstFault, IsTableFault}
+use Rattle.dia_compat.specs.TableText.{PlainTable, Line, Blank, Command, Avp, command_of, avp_of, table_of, with_line}
+use Rattle.dia_compat.specs.TableText.{IsLine, HasForm, AreLines, HasShortNames, IsWithinLimits, IsTableOf, IsTable, IsFirstFault, IsTableFault}
 use Rattle.dia_compat.specs.Words.{first_word, behind_word, ArePairWords}
 use Rattle.dia_compat.specs.Lines.{Adds, PassesLimit, HasRoom}
 use Rattle.dia_compat.proofs.Words.{IsWord, pair_words, tail_has_no_word}
@@ -138,7 +139,8 @@ adds_blank line t limits is = record {
   limits = limits;
 }
 
-pub adds_command : (line a b : List ℕ) (old new : PlainTable) → IsWithinLimits old → IsLine (Command a b) line → HasRoom old (a, b) → new.commands ≡ old.commands ++ (a, b) ∷ [] → new.avps ≡ old.avps → Adds line old new
+pub adds_command : (line a b : List ℕ) (old new : PlainTable) → IsWithinLimits old → IsLine (Command a b) line → HasRoom old (a, b) → new.commands ≡ old.commands ++ (a, b) ∷ []
+    → new.avps ≡ old.avps → Adds line old new
 adds_command line a b old new limits is room commands avps = record {
   said = Command a b;
   is_line = is;
@@ -150,7 +152,8 @@ adds_command line a b old new limits is room commands avps = record {
   );
 }
 
-pub adds_avp : (line a b : List ℕ) (old new : PlainTable) → IsWithinLimits old → IsLine (Avp a b) line → HasRoom old (a, b) → new.commands ≡ old.commands → new.avps ≡ old.avps ++ (a, b) ∷ [] → Adds line old new
+pub adds_avp : (line a b : List ℕ) (old new : PlainTable) → IsWithinLimits old → IsLine (Avp a b) line → HasRoom old (a, b) → new.commands ≡ old.commands
+    → new.avps ≡ old.avps ++ (a, b) ∷ [] → Adds line old new
 adds_avp line a b old new limits is room commands avps = record {
   said = Avp a b;
   is_line = is;
@@ -166,14 +169,22 @@ pub passes_command : (line a b : List ℕ) (t : PlainTable) → IsLine (Command 
 passes_command line a b t is none = record {
   said = Command a b;
   is_line = is;
-  passed = λ limits. let few = limits.0 in none (omega (arith, few, length-append t.commands ((a, b) ∷ []), length-append {A = List ℕ × List ℕ} t.avps []), all_last HasShortNames t.commands (a, b) limits.1);
+  passed = λ limits. let few = limits.0 in none (
+    omega (arith, few, length-append t.commands ((a, b) ∷ []), length-append {A = List ℕ × List ℕ} t.avps []),
+    all_last HasShortNames t.commands
+        (a, b) limits.1,
+  );
 }
 
 pub passes_avp : (line a b : List ℕ) (t : PlainTable) → IsLine (Avp a b) line → ¬ HasRoom t (a, b) → PassesLimit line t
 passes_avp line a b t is none = record {
   said = Avp a b;
   is_line = is;
-  passed = λ limits. let few = limits.0 in none (omega (arith, few, length-append {A = List ℕ × List ℕ} t.commands [], length-append t.avps ((a, b) ∷ [])), all_last HasShortNames t.avps (a, b) limits.2);
+  passed = λ limits. let few = limits.0 in none (
+    omega (arith, few, length-append {A = List ℕ × List ℕ} t.commands [], length-append t.avps ((a, b) ∷ [])),
+    all_last HasShortNames t.avps
+        (a, b) limits.2,
+  );
 }
 
 -- the front of a table's text is one's too
@@ -214,7 +225,8 @@ last_line ts k line t at (ls, are, same, limits) =
     let r = split_lines ls (take k ts) (line ∷ []) (subst (AreLines ls) (take_more_at ts k line at) are) in
     by r.0 r.1 (same ∙ ap table_of r.2) r.3 r.4
   where
-    by : (fs gs : List Line) → t ≡ table_of (fs ++ gs) → AreLines fs (take k ts) → AreLines gs (line ∷ []) → (ls : List Line) × (l : Line) × AreLines ls (take k ts) × IsLine l line × (t ≡ with_line (table_of ls) l) × IsWithinLimits t
+    by : (fs gs : List Line) → t ≡ table_of (fs ++ gs) → AreLines fs (take k ts) → AreLines gs (line ∷ []) → (ls : List Line) × (l : Line) × AreLines ls (take k ts) × IsLine l line ×
+        (t ≡ with_line (table_of ls) l) × IsWithinLimits t
     by fs [] e a b = absurd b
     by fs (l ∷ []) e a b = (fs, l, a, b.0, e ∙ sym (with_line-append fs l), limits)
     by fs (l ∷ m ∷ gs) e a b = absurd b.1

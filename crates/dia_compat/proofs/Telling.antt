@@ -53,7 +53,8 @@ module _ (da db : Dictionary) (sa : IsDictionary da) (sb : IsDictionary db) (u :
   no_command : (p : Names) → ((c d : PlainDefinition) → NamesCommand da p.0 c → NamesCommand db p.1 d → ⊥) → IsFirstFailed (λ t. CommandTest da db table u t p) (Some N10)
   no_command p none = tenth_failed (λ t. CommandTest da db table u t p) (λ h. none h.0 h.1 h.2 h.3)
 
-  command_tests : (p : Names) (c d : PlainDefinition) → ((x : PlainDefinition) → NamesCommand da p.0 x → x ≡ c) → ((y : PlainDefinition) → NamesCommand db p.1 y → y ≡ d) → NamesCommand da p.0 c → NamesCommand db p.1 d
+  command_tests : (p : Names) (c d : PlainDefinition) → ((x : PlainDefinition) → NamesCommand da p.0 x → x ≡ c) → ((y : PlainDefinition) → NamesCommand db p.1 y → y ≡ d)
+      → NamesCommand da p.0 c → NamesCommand db p.1 d
       → CommandPair da db table c d → AreRules c.rules → AreRules d.rules → (t : Test) → Decides (pass t c.rules d.rules) (CommandTest da db table u t p)
   command_tests p c d one two nc nd pair ra rb = by
     where
@@ -80,7 +81,8 @@ module _ (da db : Dictionary) (sa : IsDictionary da) (sb : IsDictionary db) (u :
       P : Test → Type 0
       P t = CommandTest da db table u t p
 
-      pair_of : (i j : ℕ) (c d : PlainDefinition) → command_named da p.0 ≡ Some i → command_named db p.1 ≡ Some j → slice_get da.commands i ≡ Some c → slice_get db.commands j ≡ Some d → NamesCommand da p.0 c → NamesCommand db p.1 d
+      pair_of : (i j : ℕ) (c d : PlainDefinition) → command_named da p.0 ≡ Some i → command_named db p.1 ≡ Some j → slice_get da.commands i ≡ Some c → slice_get db.commands j ≡ Some d
+          → NamesCommand da p.0 c → NamesCommand db p.1 d
           → (b : Bool) → is_command_pair da db pairs c d ≡ b → IsFirstFailed (λ t. CommandTest da db table u t p) (if b then failed_rules u da db keys uncovered fit c.rules d.rules else Some N10)
       pair_of i j c d f g at at' nc nd true e =
           let ic = in_at da.commands i c at in
@@ -101,11 +103,14 @@ module _ (da db : Dictionary) (sa : IsDictionary da) (sb : IsDictionary db) (u :
           cc)
 
       numbers : (i j : ℕ) (c d : PlainDefinition) → slice_get da.commands i ≡ Some c → slice_get db.commands j ≡ Some d
-          → failed_commands u da db keys uncovered fit pairs (length (groups da) + i) (length (groups db) + j) ≡ (if is_command_pair da db pairs c d then failed_rules u da db keys uncovered fit c.rules d.rules else Some N10)
+          → failed_commands u da db keys uncovered fit pairs (length (groups da) + i) (length (groups db) + j) ≡
+          (if is_command_pair da db pairs c d then failed_rules u da db keys uncovered fit c.rules d.rules else Some N10)
       numbers i j c d at at' =
-          ap (λ (o : Option PlainDefinition). option_map_or (λ x. option_map_or (λ y. if is_command_pair da db pairs x y then failed_rules u da db keys uncovered fit x.rules y.rules else Some N10) (slice_get (definitions db) (length (groups db) + j)) None) o None)
+          ap (λ (o : Option PlainDefinition). option_map_or (λ x. option_map_or
+          (λ y. if is_command_pair da db pairs x y then failed_rules u da db keys uncovered fit x.rules y.rules else Some N10) (slice_get (definitions db) (length (groups db) + j)) None) o None)
           (into_right (groups da) da.commands i c at)
-          ∙ ap (λ (o : Option PlainDefinition). option_map_or (λ y. if is_command_pair da db pairs c y then failed_rules u da db keys uncovered fit c.rules y.rules else Some N10) o None) (into_right (groups db) db.commands j d at')
+          ∙ ap (λ (o : Option PlainDefinition). option_map_or (λ y. if is_command_pair da db pairs c y then failed_rules u da db keys uncovered fit c.rules y.rules else Some N10) o None)
+          (into_right (groups db) db.commands j d at')
 
       second : (i : ℕ) → command_named da p.0 ≡ Some i → (o : Option ℕ) → command_named db p.1 ≡ o
           → IsFirstFailed (λ t. CommandTest da db table u t p) (option_map_or (λ j. failed_commands u da db keys uncovered fit pairs (length (groups da) + i) (length (groups db) + j)) o (Some N10))
@@ -116,7 +121,8 @@ module _ (da db : Dictionary) (sa : IsDictionary da) (sb : IsDictionary db) (u :
           subst (IsFirstFailed (λ t. CommandTest da db table u t p)) (sym (numbers i j c.0 d.0 c.1 d.1)) (pair_of i j c.0 d.0 f g c.1 d.1 c.2 d.2 (is_command_pair da db pairs c.0 d.0) refl)
 
       by : (o : Option ℕ) → command_named da p.0 ≡ o
-          → IsFirstFailed (λ t. CommandTest da db table u t p) (option_map_or (λ i. option_map_or (λ j. failed_commands u da db keys uncovered fit pairs (length (groups da) + i) (length (groups db) + j)) (command_named db p.1) (Some N10)) o (Some N10))
+          → IsFirstFailed (λ t. CommandTest da db table u t p) (option_map_or
+          (λ i. option_map_or (λ j. failed_commands u da db keys uncovered fit pairs (length (groups da) + i) (length (groups db) + j)) (command_named db p.1) (Some N10)) o (Some N10))
       by None f = no_command p (λ c d nc nd. let r = command_found da p.0 c sa nc in none-some r.0 (sym f ∙ r.1))
       by (Some i) f = second i f (command_named db p.1) refl
 
@@ -145,11 +151,13 @@ module _ (da db : Dictionary) (sa : IsDictionary da) (sb : IsDictionary db) (u :
       by N9 = of N9
       by N10 = (e, f, ne, nf, pair)
 
-  group_tests : (p : Names) (e f : DictEntry) (a b : PlainDefinition) → ((x : DictEntry) → NamesEntry da p.0 x → x ≡ e) → ((y : DictEntry) → NamesEntry db p.1 y → y ≡ f) → NamesEntry da p.0 e → NamesEntry db p.1 f
+  group_tests : (p : Names) (e f : DictEntry) (a b : PlainDefinition) → ((x : DictEntry) → NamesEntry da p.0 x → x ≡ e) → ((y : DictEntry) → NamesEntry db p.1 y → y ≡ f)
+      → NamesEntry da p.0 e → NamesEntry db p.1 f
       → AvpPair e f → BothGrouped e f → e.group ≡ Some a → f.group ≡ Some b → AreRules a.rules → AreRules b.rules → (t : Test) → Decides (pass t a.rules b.rules) (AvpTest da db table u t p)
   group_tests p e f a b one two ne nf pair both ga gb ra rb = by
     where
-      of : (t : Test) → Decides (pass t a.rules b.rules) ((x y : DictEntry) (k l : PlainDefinition) → NamesEntry da p.0 x → NamesEntry db p.1 y → BothGrouped x y → x.group ≡ Some k → y.group ≡ Some l → Pass t k.rules l.rules)
+      of : (t : Test) → Decides (pass t a.rules b.rules) ((x y : DictEntry) (k l : PlainDefinition) → NamesEntry da p.0 x → NamesEntry db p.1 y → BothGrouped x y → x.group ≡ Some k
+          → y.group ≡ Some l → Pass t k.rules l.rules)
       of t = Decides-like (pass t a.rules b.rules)
           (λ h x y k l nx ny both_of gx gy.
           let sk = same_Some k a (sym gx ∙ ap (λ (z : DictEntry). z.group) (one x nx) ∙ ga) in
@@ -172,7 +180,8 @@ module _ (da db : Dictionary) (sa : IsDictionary da) (sb : IsDictionary db) (u :
   rules_at : (d : Dictionary) (n : ℕ) (g : PlainDefinition) → slice_get (definitions d) n ≡ Some g → rules_in d n ≡ g.rules
   rules_at d n g at = ap (λ (o : Option PlainDefinition). option_map_or (λ x. x.rules) o []) at
 
-  entries_of : (p : Names) (i j : ℕ) (e f : DictEntry) → entry_named da p.0 ≡ Some i → entry_named db p.1 ≡ Some j → slice_get da.entries i ≡ Some e → slice_get db.entries j ≡ Some f → NamesEntry da p.0 e → NamesEntry db p.1 f → AvpPair e f
+  entries_of : (p : Names) (i j : ℕ) (e f : DictEntry) → entry_named da p.0 ≡ Some i → entry_named db p.1 ≡ Some j → slice_get da.entries i ≡ Some e → slice_get db.entries j ≡ Some f
+      → NamesEntry da p.0 e → NamesEntry db p.1 f → AvpPair e f
       → IsFirstFailed (λ t. AvpTest da db table u t p) (failed_groups u da db keys uncovered fit (group_of da i) (group_of db j))
   entries_of p i j e f en fn at at' ne nf pair = by e.group f.group refl refl
     where
@@ -198,13 +207,16 @@ module _ (da db : Dictionary) (sa : IsDictionary da) (sb : IsDictionary db) (u :
           let here = group_there da i e a at ga in
           let there = group_there db j f b at' gb in
           let both : BothGrouped e f = (is_grouped da e a sa ie ga, is_grouped db f b sb jf gb) in
-          let first = first_failed (λ t. pass t a.rules b.rules) (λ t. AvpTest da db table u t p) (group_tests p e f a b (λ x nx. one x nx) (λ y ny. two y ny) ne nf pair both ga gb (group_rules da e a sa ie ga) (group_rules db f b sb jf gb)) refl in
+          let first = first_failed (λ t. pass t a.rules b.rules) (λ t. AvpTest da db table u t p)
+          (group_tests p e f a b (λ x nx. one x nx) (λ y ny. two y ny) ne nf pair both ga gb (group_rules da e a sa ie ga) (group_rules db f b sb jf gb)) refl in
           subst (λ (x : Option ℕ). IsFirstFailed (λ t. AvpTest da db table u t p) (failed_groups u da db keys uncovered fit x (group_of db j))) (sym here.0)
           (subst (λ (y : Option ℕ). IsFirstFailed (λ t. AvpTest da db table u t p) (failed_groups u da db keys uncovered fit (Some (number_of da i)) y)) (sym there.0)
-          (subst (λ (z : List DRule). IsFirstFailed (λ t. AvpTest da db table u t p) (failed_rules u da db keys uncovered fit z (rules_in db (number_of db j)))) (sym (rules_at da (number_of da i) a here.1))
+          (subst (λ (z : List DRule). IsFirstFailed (λ t. AvpTest da db table u t p) (failed_rules u da db keys uncovered fit z (rules_in db (number_of db j))))
+          (sym (rules_at da (number_of da i) a here.1))
           (subst (λ (z : List DRule). IsFirstFailed (λ t. AvpTest da db table u t p) (failed_rules u da db keys uncovered fit a.rules z)) (sym (rules_at db (number_of db j) b there.1)) first)))
 
-  avp_at : (p : Names) (i j : ℕ) (found : Option Test) → entry_named da p.0 ≡ Some i → entry_named db p.1 ≡ Some j → FailsEntries u da db keys uncovered fit i j found → IsFirstFailed (λ t. AvpTest da db table u t p) found
+  avp_at : (p : Names) (i j : ℕ) (found : Option Test) → entry_named da p.0 ≡ Some i → entry_named db p.1 ≡ Some j → FailsEntries u da db keys uncovered fit i j found
+      → IsFirstFailed (λ t. AvpTest da db table u t p) found
   avp_at p i j found en fn h = by (h e.0 f.0 e.1 f.1)
     where
       e : (x : DictEntry) × (slice_get da.entries i ≡ Some x) × NamesEntry da p.0 x
@@ -231,11 +243,13 @@ module _ (da db : Dictionary) (sa : IsDictionary da) (sb : IsDictionary db) (u :
   pub first_avp : (p : Names) (found : Option Test) → FailsAvp u da db keys uncovered fit p found → IsFirstFailed (λ t. AvpTest da db table u t p) found
   first_avp p found h = by (entry_named da p.0) refl h
     where
-      second : (i : ℕ) → entry_named da p.0 ≡ Some i → (o : Option ℕ) → entry_named db p.1 ≡ o → MatchOption o (found ≡ Some N10) (λ j. FailsEntries u da db keys uncovered fit i j found) → IsFirstFailed (λ t. AvpTest da db table u t p) found
+      second : (i : ℕ) → entry_named da p.0 ≡ Some i → (o : Option ℕ) → entry_named db p.1 ≡ o → MatchOption o (found ≡ Some N10) (λ j. FailsEntries u da db keys uncovered fit i j found)
+          → IsFirstFailed (λ t. AvpTest da db table u t p) found
       second i en None fn k = subst (IsFirstFailed (λ t. AvpTest da db table u t p)) (sym k) (no_avp p (λ x y nx ny. let r = entry_found db p.1 y sb ny in none-some r.0 (sym fn ∙ r.1)))
       second i en (Some j) fn k = avp_at p i j found en fn k
 
-      by : (o : Option ℕ) → entry_named da p.0 ≡ o → MatchOption o (found ≡ Some N10) (λ i. MatchOption (entry_named db p.1) (found ≡ Some N10) (λ j. FailsEntries u da db keys uncovered fit i j found)) → IsFirstFailed (λ t. AvpTest da db table u t p) found
+      by : (o : Option ℕ) → entry_named da p.0 ≡ o → MatchOption o (found ≡ Some N10)
+          (λ i. MatchOption (entry_named db p.1) (found ≡ Some N10) (λ j. FailsEntries u da db keys uncovered fit i j found)) → IsFirstFailed (λ t. AvpTest da db table u t p) found
       by None en k = subst (IsFirstFailed (λ t. AvpTest da db table u t p)) (sym k) (no_avp p (λ x y nx ny. let r = entry_found da p.0 x sa nx in none-some r.0 (sym en ∙ r.1)))
       by (Some i) en k = second i en (entry_named db p.1) refl k
 
@@ -246,7 +260,8 @@ module _ (da db : Dictionary) (u : Unknown) (table : PlainTable) where
   found_all kind.Command h i t = if_some (CommandTest da db table u t) (slice_get table.commands i) (λ p at. h i p t at)
   found_all kind.Avp h i t = if_some (AvpTest da db table u t) (slice_get table.avps i) (λ p at. h i p t at)
 
-  pub closed_where : ((i : ℕ) (p : Names) (t : Test) → slice_get table.commands i ≡ Some p → CommandTest da db table u t p) → ((i : ℕ) (p : Names) (t : Test) → slice_get table.avps i ≡ Some p → AvpTest da db table u t p) → IsClosed da db u table
+  pub closed_where : ((i : ℕ) (p : Names) (t : Test) → slice_get table.commands i ≡ Some p → CommandTest da db table u t p)
+      → ((i : ℕ) (p : Names) (t : Test) → slice_get table.avps i ≡ Some p → AvpTest da db table u t p) → IsClosed da db u table
   closed_where cs vs = by
     where
       by : (k : PairKind) (i : ℕ) (t : Test) → PassesAt da db u table k i t
@@ -269,7 +284,8 @@ module _ (da db : Dictionary) (u : Unknown) (table : PlainTable) where
       before kind.Command j s lt = if_some (CommandTest da db table u s) (slice_get table.commands j) (λ p at. f.before j p s lt at)
       before kind.Avp j s lt = absurd lt
 
-  pub avp_fails : (i : ℕ) (t : Test) → ((k : ℕ) (p : Names) (s : Test) → slice_get table.commands k ≡ Some p → CommandTest da db table u s p) → IsFirstPair (λ p s. AvpTest da db table u s p) table.avps i t → IsFirstFailure da db u table kind.Avp i t
+  pub avp_fails : (i : ℕ) (t : Test) → ((k : ℕ) (p : Names) (s : Test) → slice_get table.commands k ≡ Some p → CommandTest da db table u s p)
+      → IsFirstPair (λ p s. AvpTest da db table u s p) table.avps i t → IsFirstFailure da db u table kind.Avp i t
   avp_fails i t cs f = record {
     within = slice_get_within table.avps i f.pair f.at;
     fails = λ h. f.fails.0 (at_some (AvpTest da db table u t) (slice_get table.avps i) f.pair f.at h);
@@ -282,11 +298,14 @@ module _ (da db : Dictionary) (u : Unknown) (table : PlainTable) where
       before kind.Avp j s lt = if_some (AvpTest da db table u s) (slice_get table.avps j) (λ p at. f.before j p s lt at)
 
   -- what was found of the pairs is the answer
-  pub told_command : (pairs : List Names) (found : Option (ℕ × Test)) (f : ℕ × Test) → pairs ≡ table.commands → found ≡ Some f → IsFound (PairTest da db u table kind.Command) pairs found → IsFirstFailure da db u table kind.Command f.0 f.1
+  pub told_command : (pairs : List Names) (found : Option (ℕ × Test)) (f : ℕ × Test) → pairs ≡ table.commands → found ≡ Some f → IsFound (PairTest da db u table kind.Command) pairs found
+      → IsFirstFailure da db u table kind.Command f.0 f.1
   told_command pairs found f e g h =
-      command_fails f.0 f.1 (subst (λ (o : Option (ℕ × Test)). IsFound (PairTest da db u table kind.Command) table.commands o) g (subst (λ (ps : List Names). IsFound (PairTest da db u table kind.Command) ps found) e h))
+      command_fails f.0 f.1 (subst (λ (o : Option (ℕ × Test)). IsFound (PairTest da db u table kind.Command) table.commands o) g
+      (subst (λ (ps : List Names). IsFound (PairTest da db u table kind.Command) ps found) e h))
 
-  all_pass : (k : PairKind) (pairs others : List Names) (found : Option (ℕ × Test)) → pairs ≡ others → found ≡ None → IsFound (PairTest da db u table k) pairs found → (i : ℕ) (p : Names) (t : Test) → slice_get others i ≡ Some p → PairTest da db u table k p t
+  all_pass : (k : PairKind) (pairs others : List Names) (found : Option (ℕ × Test)) → pairs ≡ others → found ≡ None → IsFound (PairTest da db u table k) pairs found
+      → (i : ℕ) (p : Names) (t : Test) → slice_get others i ≡ Some p → PairTest da db u table k p t
   all_pass k pairs others found e g h = subst (λ (o : Option (ℕ × Test)). IsFound (PairTest da db u table k) others o) g (subst (λ (ps : List Names). IsFound (PairTest da db u table k) ps found) e h)
 
   pub told_avp : (pairs others : List Names) (found later : Option (ℕ × Test)) (f : ℕ × Test) → pairs ≡ table.commands → others ≡ table.avps → found ≡ None → later ≡ Some f

@@ -24,7 +24,8 @@ use Rattle.dia_compat.specs.declared.inclusion.Test.{Test}
 use Rattle.dia_compat.specs.declared.inclusion.Test.TheVariants.{N1, N2, N3, N4, N5, N6, N7, N8, N9, N10}
 use Rattle.dia_compat.specs.TableText.{PlainTable}
 use Rattle.dia_compat.specs.Below.{MaxWithin, Within, IsAboveZero, IsListed, HasWildcard, IsCoveredAlone, IsCovered, FixedWithin, IsKnown, Passes}
-use Rattle.dia_compat.specs.Closed.{NamesEntry, NamesCommand, IsPairKey, BothGrouped, IsBeside, IsWanted, error, same_app, no_app, both_none, other_app, CommandTest, AvpTest, IsClosed, NamesApp, IsServed, CommandPair, PassesAt, PairBefore, test_number}
+use Rattle.dia_compat.specs.Closed.{NamesEntry, NamesCommand, IsPairKey, BothGrouped, IsBeside, IsWanted, error, same_app, no_app, both_none}
+use Rattle.dia_compat.specs.Closed.{other_app, CommandTest, AvpTest, IsClosed, NamesApp, IsServed, CommandPair, PassesAt, PairBefore, test_number}
 use Rattle.dia_compat.proofs.Placing.{IsIn, in_all}
 use Rattle.dia_compat.proofs.Counts.{in_at, in_contains, contains_in, any_in, in_any}
 use Rattle.dia_compat.proofs.Fitting.{known_entry}
@@ -286,7 +287,8 @@ module _ (da db : Dictionary) (u : Unknown) (keys : List Key) (a b : List DRule)
             let p = and_parts (nat_eq s.min 0) (each (n5_max s key) a) t in (
               eqb-true s.min 0 p.0,
               λ w hw which. max_sound w.max s.max (implied (is_kept u || is_some (known da key)) (is_max_within w.max s.max)
-                  (implied (is_wildcard w) (implies (is_kept u || is_some (known da key)) (is_max_within w.max s.max)) (each_in (n5_max s key) a w p.1 (in_contains a w hw.0)) (wild_is w hw.1)) (counts key which)),
+                  (implied (is_wildcard w) (implies (is_kept u || is_some (known da key)) (is_max_within w.max s.max)) (each_in (n5_max s key) a w p.1 (in_contains a w hw.0))
+                  (wild_is w hw.1)) (counts key which)),
             )
 
     s6 : passes N6 ≡ true → Passes N6 da db u paired a b
@@ -319,7 +321,8 @@ module _ (da db : Dictionary) (u : Unknown) (keys : List Key) (a b : List DRule)
     s9 : passes N9 ≡ true → Passes N9 da db u paired a b
     s9 h = λ v hv up.
         let t = implied (is_above_zero v.max) (each n9_known da.entries && implies (is_kept u) (each n9_new db.entries))
-        (implied (is_wildcard v) (implies (is_above_zero v.max) (each n9_known da.entries && implies (is_kept u) (each n9_new db.entries))) (each_in n9_of a v h (in_contains a v hv.0)) (wild_is v hv.1)) (above v.max up) in
+        (implied (is_wildcard v) (implies (is_above_zero v.max) (each n9_known da.entries && implies (is_kept u) (each n9_new db.entries))) (each_in n9_of a v h (in_contains a v hv.0))
+        (wild_is v hv.1)) (above v.max up) in
         let p = and_parts (each n9_known da.entries) (implies (is_kept u) (each n9_new db.entries)) t in
         record { known_keys = old p.0; new_keys = new p.1 }
       where
@@ -410,7 +413,8 @@ module _ (da db : Dictionary) (u : Unknown) (table : PlainTable) (keys : List Ke
   command_pass p t h c d nc nd = shown da db u keys c.rules d.rules (IsPairKey da db table) all t
       (implied (same_name d.name p.1) (passes da db u keys c.rules d.rules t)
       (implied (same_name c.name p.0) (implies (same_name d.name p.1) (passes da db u keys c.rules d.rules t))
-      (each_in (pair_passes p t c) db.commands d (each_in (λ (x : PlainDefinition). each (pair_passes p t x) db.commands) da.commands c h (in_contains da.commands c nc.0)) (in_contains db.commands d nd.0))
+      (each_in (pair_passes p t c) db.commands d (each_in (λ (x : PlainDefinition). each (pair_passes p t x) db.commands) da.commands c h (in_contains da.commands c nc.0))
+      (in_contains db.commands d nd.0))
       (names_same c.name p.0 nc.1))
       (names_same d.name p.1 nd.1))
 
@@ -432,8 +436,10 @@ module _ (da db : Dictionary) (u : Unknown) (table : PlainTable) (keys : List Ke
   abbrev pub is_earlier : Names → Test → Test → Bool
   is_earlier p test t = implies (nat_lt (test_number t) (test_number test)) (command_passes p t)
 
-  pub earlier_tests : (p : Names) (test : Test) → CommandTest da db table u N10 p → each (is_earlier p test) tests ≡ true → (t : Test) → test_number t < test_number test → CommandTest da db table u t p
-  earlier_tests p test ten h t lt = command_test p t ten (implied (nat_lt (test_number t) (test_number test)) (command_passes p t) (each_in (is_earlier p test) tests t h (in_tests t)) (lt-ltb (test_number t) (test_number test) lt))
+  pub earlier_tests : (p : Names) (test : Test) → CommandTest da db table u N10 p → each (is_earlier p test) tests ≡ true → (t : Test) → test_number t < test_number test
+      → CommandTest da db table u t p
+  earlier_tests p test ten h t lt = command_test p t ten (implied (nat_lt (test_number t) (test_number test)) (command_passes p t) (each_in (is_earlier p test) tests t h (in_tests t))
+      (lt-ltb (test_number t) (test_number test) lt))
 
   abbrev pub groups_pass : Test → DictEntry → DictEntry → Bool
   groups_pass t e f = with_some (λ x. with_some (λ y. passes da db u keys x.rules y.rules t) f.group) e.group
@@ -444,7 +450,8 @@ module _ (da db : Dictionary) (u : Unknown) (table : PlainTable) (keys : List Ke
   abbrev pub avp_passes : Names → Test → Bool
   avp_passes p t = each (λ e. each (entries_pass p t e) db.entries) da.entries
 
-  avp_pass : (p : Names) (t : Test) → avp_passes p t ≡ true → (e f : DictEntry) (x y : PlainDefinition) → NamesEntry da p.0 e → NamesEntry db p.1 f → BothGrouped e f → e.group ≡ Some x → f.group ≡ Some y
+  avp_pass : (p : Names) (t : Test) → avp_passes p t ≡ true → (e f : DictEntry) (x y : PlainDefinition) → NamesEntry da p.0 e → NamesEntry db p.1 f → BothGrouped e f → e.group ≡ Some x
+      → f.group ≡ Some y
       → Passes t da db u (IsPairKey da db table) x.rules y.rules
   avp_pass p t h e f x y ne nf both ex fy = shown da db u keys x.rules y.rules (IsPairKey da db table) all t
       (at_some (λ z. passes da db u keys x.rules z.rules t) f.group y (at_some (λ w. with_some (λ z. passes da db u keys w.rules z.rules t) f.group) e.group x
@@ -476,7 +483,8 @@ module _ (da db : Dictionary) (u : Unknown) (table : PlainTable) where
   closed cs vs = by
     where
       by : (k : PairKind) (i : ℕ) (t : Test) → PassesAt da db u table k i t
-      by kind.Command i t = if_some (CommandTest da db table u t) (slice_get table.commands i) (λ p at. in_all (λ (q : Names). (s : Test) → CommandTest da db table u s q) p table.commands cs (in_at table.commands i p at) t)
+      by kind.Command i t = if_some (CommandTest da db table u t) (slice_get table.commands i)
+          (λ p at. in_all (λ (q : Names). (s : Test) → CommandTest da db table u s q) p table.commands cs (in_at table.commands i p at) t)
       by kind.Avp i t = if_some (AvpTest da db table u t) (slice_get table.avps i) (λ p at. in_all (λ (q : Names). (s : Test) → AvpTest da db table u s q) p table.avps vs (in_at table.avps i p at) t)
 
   pub nothing_before : (l : PairKind) (j : ℕ) (other : Test) → PairBefore l j kind.Command 0 → PassesAt da db u table l j other

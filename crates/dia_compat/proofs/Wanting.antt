@@ -1,5 +1,6 @@
 -- The tests on definitions of B show which of them a command of A wants.
-use Rattle.std.proofs.Common.{◌≡◌, ◌≢◌, ℕ, zero, suc, ◌+◌, ◌<◌, Bool, true, false, not, cond, ◌&&◌, ◌==◌, List, [], ◌∷◌, ◌++◌, length, map, take, Option, Some, None, option_to_list, get_or, refl, sym, ap, subst, ◌∙◌, arith, inl, inr}
+use Rattle.std.proofs.Common.{◌≡◌, ◌≢◌, ℕ, zero, suc, ◌+◌, ◌<◌, Bool, true, false, not, cond, ◌&&◌, ◌==◌, List, [], ◌∷◌}
+use Rattle.std.proofs.Common.{◌++◌, length, map, take, Option, Some, None, option_to_list, get_or, refl, sym, ap, subst, ◌∙◌, arith, inl, inr}
 use Rattle.std.specs.Prelude.{◌⊎◌, Contains, slice_get}
 use Rattle.std.specs.List.{list_any, filter_map, cons_option}
 use Rattle.std.proofs.lemmas.Bool.{and_parts, and_from, eqb-true, eq-eqb, not-true}
@@ -30,7 +31,8 @@ any_false p xs none = by (list_any p xs) refl
     by false e = refl
     by true e = let r = any_in p xs e in absurd (let f : true ≡ false = sym r.2 ∙ none r.0 r.1 in cc)
 
-pub names_app_selected : (d : Dictionary) (code : ℕ) (class : Class) (app : ℕ) → IsDictionary d → class ≢ classes.Error → (n : ℕ) (c : PlainDefinition) → selected d code class app ≡ Some n → slice_get (definitions d) n ≡ Some c
+pub names_app_selected : (d : Dictionary) (code : ℕ) (class : Class) (app : ℕ) → IsDictionary d → class ≢ classes.Error → (n : ℕ) (c : PlainDefinition) → selected d code class app ≡ Some n
+    → slice_get (definitions d) n ≡ Some c
     → has_app c.head ≡ names_app d code class app
 names_app_selected d code class app sound other n c at there = by (choose d code class app)
   where
@@ -41,11 +43,13 @@ names_app_selected d code class app sound other n c at there = by (choose d code
     own x i e (inl h) = absurd (other h.1)
     own x i e (inr h) = ap has_app h.0.head ∙ sym (in_any (λ (y : PlainDefinition). is_command code class (Some app) y.head) d.commands x i e)
 
-    common : (x : PlainDefinition) → ((y : PlainDefinition) → IsIn y d.commands → is_command code class (Some app) y.head ≡ false) → Reads x code class None → has_app x.head ≡ names_app d code class app
+    common : (x : PlainDefinition) → ((y : PlainDefinition) → IsIn y d.commands → is_command code class (Some app) y.head ≡ false) → Reads x code class None
+        → has_app x.head ≡ names_app d code class app
     common x none (inl h) = absurd (other h.1)
     common x none (inr h) = ap has_app h.0.head ∙ sym (any_false (λ (y : PlainDefinition). is_command code class (Some app) y.head) d.commands none)
 
-    chosen : (x : Choice d code class app) → (is_command code class (Some app) x.command.head ≡ true) ⊎ ((is_command code class None x.command.head ≡ true) × ((y : PlainDefinition) → IsIn y d.commands → is_command code class (Some app) y.head ≡ false))
+    chosen : (x : Choice d code class app) → (is_command code class (Some app) x.command.head ≡ true) ⊎
+        ((is_command code class None x.command.head ≡ true) × ((y : PlainDefinition) → IsIn y d.commands → is_command code class (Some app) y.head ≡ false))
         → has_app x.command.head ≡ names_app d code class app
     chosen x (inl e) = let i = in_at d.commands x.place x.command x.at in own x.command i e (reads d x.command code class (Some app) sound i e)
     chosen x (inr (e, none)) = let i = in_at d.commands x.place x.command x.at in common x.command none (reads d x.command code class None sound i e)
@@ -172,7 +176,8 @@ module _ (da db : Dictionary) (sa : IsDictionary da) (sb : IsDictionary db) (c :
       by None (Some n) e g r = other_app code n class i (record { p = p; head = e }) (record { p = q; head = g }) (not_named da code class n r)
   wanted_by_test d i h k e f t = absurd cc
 
-  same_codes : (d : PlainDefinition) (code : ℕ) (class : Class) (x y : Option ℕ) → HasCode c code class x → HasCode d code class y → reaches da db code class x y ≡ true → is_wanted da db c.head d.head ≡ true
+  same_codes : (d : PlainDefinition) (code : ℕ) (class : Class) (x y : Option ℕ) → HasCode c code class x → HasCode d code class y → reaches da db code class x y ≡ true
+      → is_wanted da db c.head d.head ≡ true
   same_codes d code class x y u v r =
       ap (λ (h : DefHead). is_wanted da db h d.head) u.head ∙ ap (λ (h : DefHead). is_wanted da db (Command code class x u.p) h) v.head
       ∙ and_from ((code == code) && same_class class class) (reaches da db code class x y) (and_from (code == code) (same_class class class) (eq-eqb code code refl) (class_self class)) r
@@ -239,7 +244,8 @@ module _ (da db : Dictionary) (sa : IsDictionary da) (sb : IsDictionary db) (c :
         only = λ name i. inl (of_name name (subst (IsIn name) (sym e) (in_contains (n ∷ ns) name i)));
         alone = λ none. let r = of_name n (subst (IsIn n) (sym e) (inl refl)) in absurd (none r.0 r.1);
         in_order = λ i j k l d f less at there x y.
-            let r = filter_map_order (wanted_name da db c.head) db.commands i j d.name f.name less (ap (λ (xs : List (List ℕ)). slice_get xs i) e ∙ at) (ap (λ (xs : List (List ℕ)). slice_get xs j) e ∙ there) in
+            let r = filter_map_order (wanted_name da db c.head) db.commands i j d.name f.name less (ap (λ (xs : List (List ℕ)). slice_get xs i) e ∙ at)
+            (ap (λ (xs : List (List ℕ)). slice_get xs j) e ∙ there) in
             let first = one_named_place k r.k d.name (d, x, refl) (r.x, r.at_k, (wanted_of_name r.x d.name r.gives_y).1) in
             let second = one_named_place l r.l f.name (f, y, refl) (r.w, r.at_l, (wanted_of_name r.w f.name r.gives_z).1) in
             let lt = r.before in omega arith;

@@ -1,5 +1,6 @@
 -- A line is read word by word: which words a pair's line has, and that these words make it one.
-use Rattle.std.proofs.Common.{◌≡◌, ℕ, zero, suc, add-one, ◌+◌, ◌<◌, ◌≤◌, Bool, true, false, not, ◌==◌, ◌&&◌, ◌||◌, List, [], ◌∷◌, ◌++◌, length, take, drop, codes, IsCharBoundary, refl, sym, ap, subst, ◌∙◌, inl, inr, arith, get_or}
+use Rattle.std.proofs.Common.{◌≡◌, ℕ, zero, suc, add-one, ◌+◌, ◌<◌, ◌≤◌, Bool, true, false, not, ◌==◌, ◌&&◌, ◌||◌, List, []}
+use Rattle.std.proofs.Common.{◌∷◌, ◌++◌, length, take, drop, codes, IsCharBoundary, refl, sym, ap, subst, ◌∙◌, inl, inr, arith, get_or}
 use Rattle.std.specs.Prelude.{◌⊎◌}
 use Rattle.std.specs.List.{list_all, list_any, prefix_len, take_while}
 use Rattle.std.specs.Char.{is_ascii_alphanumeric, is_ascii_alphabetic}
@@ -49,7 +50,8 @@ prefix_ends p (c ∷ xs) =
 pub word_is : (gap word rest : List ℕ) → list_all is_blank gap ≡ true → begins is_blank (word ++ rest) ≡ false → list_all is_word_byte word ≡ true → begins is_word_byte rest ≡ false
     → (first_word (gap ++ (word ++ rest)) ≡ word) × (behind_word (gap ++ (word ++ rest)) ≡ rest)
 word_is gap word rest blank ends word_bytes stops =
-    let same : unblanked (gap ++ (word ++ rest)) ≡ word ++ rest = ap (λ n. drop n (gap ++ (word ++ rest))) (prefix_len-all is_blank gap (word ++ rest) blank ends) ∙ drop_at gap (word ++ rest) (length gap) refl in
+    let same : unblanked (gap ++ (word ++ rest)) ≡ word ++ rest = ap (λ n. drop n (gap ++ (word ++ rest))) (prefix_len-all is_blank gap (word ++ rest) blank ends)
+    ∙ drop_at gap (word ++ rest) (length gap) refl in
     let long : prefix_len is_word_byte (word ++ rest) ≡ length word = prefix_len-all is_word_byte word rest word_bytes stops in (
       ap (take_while is_word_byte) same ∙ take_at word rest (prefix_len is_word_byte (word ++ rest)) (sym long),
       ap (λ (t : List ℕ). drop (prefix_len is_word_byte t) t) same ∙ drop_at word rest (prefix_len is_word_byte (word ++ rest)) (sym long),
@@ -187,7 +189,8 @@ gap_between : (text word : List ℕ) → begins is_word_byte text ≡ false → 
 gap_between text word stops e is = by (gap_of text) refl
   where
     by : (gap : List ℕ) → gap_of text ≡ gap → IsGap gap
-    by [] none = absurd (clash word (behind_word text) is (sym (ap (begins is_word_byte) (parts_of text ∙ ap (λ (g : List ℕ). g ++ (first_word text ++ behind_word text)) none ∙ ap (λ (w : List ℕ). w ++ behind_word text) e)) ∙ stops))
+    by [] none = absurd (clash word (behind_word text) is (sym (ap (begins is_word_byte)
+        (parts_of text ∙ ap (λ (g : List ℕ). g ++ (first_word text ++ behind_word text)) none ∙ ap (λ (w : List ℕ). w ++ behind_word text) e)) ∙ stops))
       where
         clash : (w rest : List ℕ) → IsWord w → begins is_word_byte (w ++ rest) ≡ false → ⊥
         clash [] rest is f = let h : 0 < length {A = ℕ} [] = is.some in omega arith

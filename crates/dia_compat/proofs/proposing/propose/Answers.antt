@@ -29,5 +29,6 @@ returns-clause-proposal g c =
 
 pub returns-clause-least : goal.returns-clause-least
 returns-clause-least g c =
-    proposal_is_least (g.A.Book.meaning c.args.a.now) (g.B.Book.meaning c.args.b.now) c.entries.ensures.sound c.entries-2.ensures.sound c.args.unknown (map (λ (n : String Global). string_bytes n) c.args.names.now)
+    proposal_is_least (g.A.Book.meaning c.args.a.now) (g.B.Book.meaning c.args.b.now) c.entries.ensures.sound c.entries-2.ensures.sound c.args.unknown
+    (map (λ (n : String Global). string_bytes n) c.args.names.now)
     (plain (record { commands = c.add_all.new.self.pairs; avps = c.in_ok-avps.avps })) (returns-clause-proposal g c)

@@ -17,7 +17,8 @@ loop-line-preserved c =
     let next : suc k ≡ length (c.loop-line.yielded ++ c.in-Some.line ∷ []) = omega arith in
     record {
       number = omega arith;
-      read = subst (λ (n : ℕ). IsTableOf (take n ts) (plain c.add.new.self)) next (table_more ts k c.in-Some.line.now (plain c.loop-line.table) (plain c.add.new.self) at c.loop-line.invariant.read c.in-Ok.ensures.ok);
+      read = subst (λ (n : ℕ). IsTableOf (take n ts) (plain c.add.new.self)) next
+          (table_more ts k c.in-Some.line.now (plain c.loop-line.table) (plain c.add.new.self) at c.loop-line.invariant.read c.in-Ok.ensures.ok);
     }
 
 pub returns-in-Err-Syntax-clause-fault : goal.returns-in-Err-Syntax-clause-fault

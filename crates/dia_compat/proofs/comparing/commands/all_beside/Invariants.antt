@@ -7,5 +7,6 @@ use Rattle.dia_compat.proofs.comparing.commands.all_beside.Given as goal
 
 abbrev pub invariant-loop-index : goal.invariant-loop-index
 invariant-loop-index g l =
-    list_all (λ (d : PlainDefinition). not (is_wanted (g.A.Book.meaning l.a) (g.B.Book.meaning l.b) (plain l.command).head d.head) || list_any (is_pair (plain l.command).name d.name) (map plain_names l.beside.keys))
+    list_all (λ (d : PlainDefinition). not (is_wanted (g.A.Book.meaning l.a) (g.B.Book.meaning l.b) (plain l.command).head d.head) || list_any (is_pair (plain l.command).name d.name)
+    (map plain_names l.beside.keys))
     (take l.index (g.B.Book.meaning l.b).commands) ≡ true

@@ -7,4 +7,5 @@ use Rattle.dia_compat.proofs.comparing.covers.uncovered_keys.Given as goal
 
 abbrev pub invariant-loop-index : goal.invariant-loop-index
 invariant-loop-index g l =
-    l.keys.items ≡ filter (λ (key : Key). not (is_covered l.unknown (g.A.Book.meaning l.a) (g.B.Book.meaning l.b) l.paired.keys key)) (take l.index (map (λ (e : DictEntry). e.key) (g.A.Book.meaning l.a).entries))
+    l.keys.items ≡ filter (λ (key : Key). not (is_covered l.unknown (g.A.Book.meaning l.a) (g.B.Book.meaning l.b) l.paired.keys key))
+    (take l.index (map (λ (e : DictEntry). e.key) (g.A.Book.meaning l.a).entries))

@@ -18,5 +18,6 @@ loop-index-preserved g c =
     let d = there_is db.commands i (omega arith) in
     let there : slice_get (definitions db) c.command_at.result ≡ Some d.0 = ap (slice_get (definitions db)) c.command_at.ensures ∙ into_right (groups db) db.commands i d.0 d.1 in
     let same = same_Some (plain c.def.result.now) d.0 (sym c.def.ensures ∙ there) in
-    pairs_more (wanted_name da db c.args.command.now.head) (λ (name : List ℕ). ((plain c.args.command.now).name, name)) (map plain_pair c.args.pairs.now.items) (map plain_pair c.loop-index.pairs.items) (map plain_pair c.push_if_wanted.new.pairs.items) db.commands i (plain c.def.result.now)
+    pairs_more (wanted_name da db c.args.command.now.head) (λ (name : List ℕ). ((plain c.args.command.now).name, name)) (map plain_pair c.args.pairs.now.items)
+    (map plain_pair c.loop-index.pairs.items) (map plain_pair c.push_if_wanted.new.pairs.items) db.commands i (plain c.def.result.now)
     (d.1 ∙ ap (λ (x : PlainDefinition). Some x) (sym same)) c.loop-index.invariant c.in_ok-push_if_wanted.ensures

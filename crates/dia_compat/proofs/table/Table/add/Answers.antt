@@ -18,5 +18,6 @@ returns-in_ok-push_pair-in-Some-Avp-clause-ok c =
     let old = c.args.self.now in
     let is = rw found.field-0-is at found.ensures.some in
     let room : IsTrue c.has_room_for-in-Some-Avp.result = search rules in
-    adds_avp c.args.line.now found.a.now found.b.now (plain old) (plain (record { commands = old.commands; avps = c.push_pair-in-Some-Avp.new.pairs })) c.requires is (c.has_room_for-in-Some-Avp.ensures.0 room) refl
+    adds_avp c.args.line.now found.a.now found.b.now (plain old) (plain (record { commands = old.commands; avps = c.push_pair-in-Some-Avp.new.pairs })) c.requires is
+    (c.has_room_for-in-Some-Avp.ensures.0 room) refl
     c.in_ok-push_pair-in-Some-Avp.ensures

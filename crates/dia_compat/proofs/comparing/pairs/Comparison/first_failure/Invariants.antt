@@ -13,5 +13,6 @@ invariant-loop-place g l = record {
   seen : (x y : List ℕ) → list_any (is_pair x y) (map plain_names l.seen.keys) ≡ list_any (is_pair x y) (map plain_pair (take l.place l.pairs));
   passed : (table : PlainTable) → IsDictionary (g.A.Book.meaning l.self.a.book.now) → IsDictionary (g.B.Book.meaning l.self.b.book.now)
       → IsLookedUp (g.A.Book.meaning l.self.a.book.now) (g.B.Book.meaning l.self.b.book.now) l.self.cover.unknown table l.self.cover.paired.keys l.self.cover.uncovered.items l.self.cover.strangers_fit (map plain_names l.self.beside.keys)
-      → (k : ℕ) (p : Names) (t : Test) → k < l.place → slice_get (map plain_pair l.pairs) k ≡ Some p → PairTest (g.A.Book.meaning l.self.a.book.now) (g.B.Book.meaning l.self.b.book.now) l.self.cover.unknown table l.kind p t;
+      → (k : ℕ) (p : Names) (t : Test) → k < l.place → slice_get (map plain_pair l.pairs) k ≡ Some p → PairTest (g.A.Book.meaning l.self.a.book.now)
+      (g.B.Book.meaning l.self.b.book.now) l.self.cover.unknown table l.kind p t;
 }

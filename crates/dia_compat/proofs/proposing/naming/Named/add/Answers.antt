@@ -19,7 +19,8 @@ returns g c = λ d at.
       not_among places c.args.place c.if-contains.ensures,
       record {
         places = one_place_more places c.insert.new.self.keys c.args.place c.if-contains.ensures c.in_ok-insert.ensures.keys;
-        pairs = subst (λ (x : PlainDefinition). map plain_pair c.push_pairs.new.pairs.items ≡ map plain_pair c.args.self.now.pairs.items ++ map (λ (name : List ℕ). (x.name, name)) (names_beside da db x)) same c.in_ok-push_pairs.ensures;
+        pairs = subst (λ (x : PlainDefinition). map plain_pair c.push_pairs.new.pairs.items ≡ map plain_pair c.args.self.now.pairs.items ++ map (λ (name : List ℕ). (x.name, name))
+            (names_beside da db x)) same c.in_ok-push_pairs.ensures;
         reached = c.in_ok-come_to_admitted.ensures d there;
       },
     )

@@ -22,8 +22,10 @@ loop-name-preserved g c =
     let place = place_by_name (λ (x : PlainDefinition). x.name) da.commands c.args.commands.now.keys c.as_str-text.result.now c.requires.commands in
     let d = command_found da c.as_str-text.result.now c.in-Some.place (sym place ∙ sym c.in-Some.ensures) in
     let is : d.0.name ≡ string_bytes c.name-item.result = d.2 ∙ c.as_str-text.ensures.value in
-    let so = subst (λ (ns : List (List ℕ)). NamedSoFar da db (map bytes (take i names)) ns c.loop-name.self) (next.0 ∙ ap (λ (n : List ℕ). n ∷ map bytes (drop (i + 1) names)) (sym is)) c.loop-name.invariant in
-    let more = named_more da db c.requires.sound_a c.requires.sound_b (map bytes (take i names)) (map bytes (drop (i + 1) names)) c.in-Some.place d.0 c.loop-name.self c.add.new.self d.1 so (c.in_ok-add.ensures d.0 d.1) in
+    let so = subst (λ (ns : List (List ℕ)). NamedSoFar da db (map bytes (take i names)) ns c.loop-name.self)
+    (next.0 ∙ ap (λ (n : List ℕ). n ∷ map bytes (drop (i + 1) names)) (sym is)) c.loop-name.invariant in
+    let more = named_more da db c.requires.sound_a c.requires.sound_b (map bytes (take i names)) (map bytes (drop (i + 1) names)) c.in-Some.place d.0 c.loop-name.self c.add.new.self d.1 so
+    (c.in_ok-add.ensures d.0 d.1) in
     subst (λ (ns : List (List ℕ)). NamedSoFar da db ns (map bytes (drop (i + 1) names)) c.add.new.self) (ap (λ (n : List ℕ). map bytes (take i names) ++ n ∷ []) is ∙ sym next.1) more
 
 pub returns-in_default-clause-refusal : goal.returns-in_default-clause-refusal
@@ -36,6 +38,7 @@ returns-in_default-clause-refusal g c =
     record {
       place = i;
       is_name = item_at bytes names i c.name-item.result (omega arith) c.name-item.is ∙ ap (λ n. Some n) (sym same);
-      unknown = λ d n. no_command da c.as_str-text.result.now d (sym place ∙ sym c.place_of_name.ensures ∙ c.in_default.is) (subst (λ (name : List ℕ). NamesCommand da name d) c.in_ok-name.ensures.ok n);
+      unknown = λ d n. no_command da c.as_str-text.result.now d (sym place ∙ sym c.place_of_name.ensures ∙ c.in_default.is)
+          (subst (λ (name : List ℕ). NamesCommand da name d) c.in_ok-name.ensures.ok n);
       before = λ other h. c.loop-name.invariant.known other (subst (λ (ns : List (List ℕ)). Contains ns other) (take-map bytes i names) h);
     }

@@ -18,4 +18,5 @@ returns-in_ok-come_to_unlisted g c = λ d at.
 
 pub come_to_unlisted-requires-clause-rest : goal.come_to_unlisted-requires-clause-rest
 come_to_unlisted-requires-clause-rest g c =
-    rest_then (g.A.Book.meaning c.args.a.now) (g.B.Book.meaning c.args.b.now) (IsAllowed c.as_slice-rules.result.now) c.args.self.now c.come_to_listed.new.self c.requires.rest c.in_ok-come_to_listed.ensures
+    rest_then (g.A.Book.meaning c.args.a.now) (g.B.Book.meaning c.args.b.now)
+    (IsAllowed c.as_slice-rules.result.now) c.args.self.now c.come_to_listed.new.self c.requires.rest c.in_ok-come_to_listed.ensures

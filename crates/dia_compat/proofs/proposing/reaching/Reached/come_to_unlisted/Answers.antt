@@ -12,7 +12,8 @@ loop-key-init g c = λ d at.
 pub loop-key-preserved : goal.loop-key-preserved
 loop-key-preserved g c = λ d at.
     let mid : Reached = record { keys = c.args.self.now.keys; waiting = c.args.self.now.waiting; rest = c.replace-rest.new.dest } in
-    sorts_more (g.A.Book.meaning c.args.a.now) (g.B.Book.meaning c.args.b.now) d.rules c.as_slice-key-items.result.now c.loop-key.key-index _ mid c.loop-key.self c.come_to_or_leave.new.self (omega arith)
+    sorts_more (g.A.Book.meaning c.args.a.now) (g.B.Book.meaning c.args.b.now) d.rules c.as_slice-key-items.result.now c.loop-key.key-index _ mid c.loop-key.self c.come_to_or_leave.new.self
+    (omega arith)
     (c.loop-key.invariant d at) (c.in_ok-come_to_or_leave.ensures d at)
 
 pub returns : goal.returns

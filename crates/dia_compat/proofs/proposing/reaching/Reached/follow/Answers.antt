@@ -14,7 +14,8 @@ loop-key-smaller-in-Continue-1 g c =
     let db = g.B.Book.meaning c.args.b.now in
     let group = c.in-Some-shared_group.ensures.some in
     let all = c.in_ok-come_to_admitted.ensures group.0 group.1 in
-    taken_nearer da (λ (key : Key). Admits group.0.rules key × IsShared da db key) c.loop-key.self (record { keys = c.loop-key.self.keys; waiting = c.pop.new.self; rest = c.loop-key.self.rest }) c.come_to_admitted.new.self c.in-Some.key refl c.in-Some.ensures.items all.grew
+    taken_nearer da (λ (key : Key). Admits group.0.rules key × IsShared da db key) c.loop-key.self
+    (record { keys = c.loop-key.self.keys; waiting = c.pop.new.self; rest = c.loop-key.self.rest }) c.come_to_admitted.new.self c.in-Some.key refl c.in-Some.ensures.items all.grew
 
 pub loop-key-preserved-in-Continue-1 : goal.loop-key-preserved-in-Continue-1
 loop-key-preserved-in-Continue-1 g c =
@@ -28,7 +29,8 @@ pub loop-key-preserved : goal.loop-key-preserved
 loop-key-preserved g c =
     let da = g.A.Book.meaning c.args.a.now in
     let db = g.B.Book.meaning c.args.b.now in
-    follow_none da db c.args.self.now c.loop-key.self (record { keys = c.loop-key.self.keys; waiting = c.pop.new.self; rest = c.loop-key.self.rest }) c.in-Some.key c.loop-key.invariant (λ other. refl) c.in-Some.ensures.items
+    follow_none da db c.args.self.now c.loop-key.self (record { keys = c.loop-key.self.keys; waiting = c.pop.new.self; rest = c.loop-key.self.rest }) c.in-Some.key c.loop-key.invariant
+    (λ other. refl) c.in-Some.ensures.items
     (c.shared_group.ensures.none c.in_default-shared_group.is) c.loop-key.invariant.rest
 
 pub returns : goal.returns
