@@ -19,3 +19,4 @@ pub mod Formats
 pub mod Quiet
 pub mod Answering
 pub mod Sized
+pub mod FixedFirst

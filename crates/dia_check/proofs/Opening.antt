@@ -125,12 +125,6 @@ body_opened defs definition new rules end is_definition is_rules is_end base cou
   innermost = record { definition = definition; is_definition = is_definition; is_rules = is_rules; is_end = is_end; counted = counted };
 }
 
--- counts that are filled up with zeros
-pub resized : (old : List ℕ) (n many more : ℕ) → many ≡ length old → n ≡ many + more → take n old ++ replicate (n - many) 0 ≡ old ++ replicate more 0
-resized old n many more size e =
-    ap (λ (t : List ℕ). t ++ replicate (n - many) 0) (take_all n old (omega (arith, e, size)))
-    ∙ ap (λ (k : ℕ). old ++ replicate k 0) (let d : n - many ≡ more = omega (arith, e) in d)
-
 -- counts of which a part from a place on is written
 pub rewritten : (old counts new post : List ℕ) (a many : ℕ) → many ≡ length old → counts ≡ old → length new ≡ length counts - a → a ≤ length counts → post ≡ drop (length counts - a) (drop a counts)
     → take many ((take a counts ++ (new ++ post)) ++ drop (length (take a counts ++ (new ++ post))) old) ≡ take a old ++ new

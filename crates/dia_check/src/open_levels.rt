@@ -3,7 +3,7 @@
 ghost use Rattle.std.specs.Prelude.{◌≡◌, ◌<◌, ◌≤◌, ◌++◌, ◌∷◌, [], ℕ, List, Option, Some, length, position, slice_get, MatchOption, OnOk, IfOk, IsTrue, IsFalse, replicate};
 ghost use Rattle.dia_wire.specs.declared.Key.{Key as AnyKey};
 ghost use Rattle.dia_dict.specs.declared.DRule.{DRule as AnyRule};
-ghost use Rattle.dia_dict.specs.Dictionary.{AreRules, PlainDefinition, slot_of};
+ghost use Rattle.dia_dict.specs.Dictionary.{AreRules, PlainDefinition, is_fixed, slot_of};
 ghost use Rattle.dia_check.specs.Valid.{fixed_rules, is_wildcard};
 ghost use Rattle.dia_check.specs.Faults.{subject_of};
 ghost use Rattle.dia_check.specs.OpenLevels.{AreMet, IsFirstUnmet, IsCounted, Leads, IsMet, IsWellPlaced, IsFirstMisplaced, IsMetAtEnd, IsMissingAtEnd, SoFar, begun, and_key, HasRoom, AreOpen};
@@ -159,8 +159,8 @@ impl OpenLevels {
             → slice_get defs def ≡ Some definition → definition.rules ≡ rules.now
             → IfOk result (λ levels. AreOpen defs levels [] (begun rules.now end)) }
     {
-        let mut counts = Vec::new(alloc);
-        counts.resize(rules.len(), 0)?;
+        let mut counts = Vec::with_capacity(alloc, rules.len())?;
+        add_zeros(&mut counts, rules.len())?;
         Ok(OpenLevels {
             innermost: OpenLevel::new(def, rules, end, 0),
             outer: Vec::new(alloc),
@@ -177,7 +177,7 @@ impl OpenLevels {
     {
         let base = self.counts.len();
         self.outer.push(self.innermost)?;
-        self.counts.resize(base + rules.len(), 0)?;
+        add_zeros(&mut self.counts, rules.len())?;
         self.innermost = OpenLevel::new(def, rules, end, base);
         Ok(())
     }
@@ -247,6 +247,16 @@ impl OpenLevels {
     }
 }
 
+/// Adds counts of 0. A level has few rules, so one after the other is faster than `resize`.
+fn add_zeros(counts: &mut Vec<u32>, many: usize) -> Result<(), AllocError>
+    ensures { OnOk result (counts.new.items ≡ counts.old.items ++ replicate many 0) }
+{
+    for _place in 0..many {
+        counts.push(0)?;
+    }
+    Ok(())
+}
+
 /// The place of the wildcard's rule.
 fn wildcard_place(rules: &[DRule]) -> Option<usize>
     ensures { result ≡ position is_wildcard rules.now }
@@ -265,8 +275,16 @@ fn fixed_count(rules: &[DRule]) -> usize
     requires { AreRules rules.now }
     ensures { result ≡ length (fixed_rules rules.now) }
 {
-    rules
-        .iter()
-        .filter(|rule| rule.kind == RuleKind::Fixed)
-        .count()
+    for place in 0..rules.len() {
+        if !is_fixed(&rules[place]) {
+            return place;
+        }
+    }
+    rules.len()
+}
+
+fn is_fixed(rule: &DRule) -> bool
+    ensures { result ≡ is_fixed rule.now }
+{
+    rule.kind == RuleKind::Fixed
 }
