@@ -4,7 +4,9 @@ pub mod Texts
 pub mod Refusals
 pub mod Listing
 pub mod Verdict
+pub mod Pairs
 pub mod Outcome
+pub mod Inclusion
 pub mod Writing
 pub mod Ending
 pub mod Origins

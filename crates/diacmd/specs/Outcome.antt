@@ -1,5 +1,5 @@
 -- What the program writes for its inputs, and how it ends.
-use Rattle.std.specs.Prelude.{◌≡◌, ◌≢◌, ℕ, ◌<◌, ◌≤◌, Bool, true, false, List, ◌++◌, length, take, drop, slice_index, codes, string_bytes, Result, Ok, Err, ⊤}
+use Rattle.std.specs.Prelude.{◌≡◌, ◌≢◌, ℕ, ◌<◌, ◌≤◌, Bool, true, false, List, ◌++◌, length, take, drop, slice_index, map, codes, string_bytes, Result, Ok, Err, ⊤}
 use Rattle.dia_dict.specs.Dictionary.{Dictionary}
 use Rattle.dia_wire.specs.declared.Header.{Header}
 use Rattle.dia_wire.specs.Number.{number}
@@ -11,17 +11,24 @@ use Rattle.dia_check.specs.declared.Levels.{Levels}
 use Rattle.dia_check.specs.declared.Selected.{Selected}
 use Rattle.dia_check.specs.declared.Refusal.{Refusal}
 use Rattle.dia_check.specs.Faults.{IsAnswer as IsChecked}
+use Rattle.dia_check.specs.Valid.{IsValid}
+use Rattle.dia_compat.specs.declared.Answer.{Answer}
+use Rattle.dia_compat.specs.TableText.{PlainTable}
+use Rattle.dia_compat.specs.Closed.{IsAnswer as IsCompared}
+use Rattle.dia_compat.specs.Proposed.{IsProposal, IsFirstUnknown}
 use Rattle.diacmd.specs.declared.commands.Outcome.{Outcome}
 use Rattle.diacmd.specs.declared.inputs.Refused.{Refused}
 use Rattle.diacmd.specs.declared.inputs.Refused.TheVariants.{Bad as BadInput, NoMemory}
 use Rattle.diacmd.specs.declared.command.Command.{Command}
-use Rattle.diacmd.specs.declared.command.Command.TheVariants.{Show, Render, Check}
+use Rattle.diacmd.specs.declared.command.Command.TheVariants.{Show, Render, Check, Compare, Refute, Propose}
+use Rattle.diacmd.specs.declared.command.Input.{Input}
 use Rattle.diacmd.specs.declared.command.Inputs.{Inputs}
 use Rattle.diacmd.specs.declared.command.Exit.{Exit}
 use Rattle.diacmd.specs.declared.command.Exit.TheVariants.{Yes, No, Bad}
 use Rattle.diacmd.specs.Texts.{line, dictionary_line, IsSourceText, IsNoSourceText, IsDictionaryText, IsNoDictionaryText, IsMessageText, IsNoMessageText}
 use Rattle.diacmd.specs.Refusals.{bad_input_text}
 use Rattle.diacmd.specs.Verdict.{IsVerdict}
+use Rattle.diacmd.specs.Pairs.{IsTableText, IsNoTableText, IsAnswerText, table_text}
 use Rattle.diacmd.specs.Listing.{header_line, IsListing}
 
 -- an input is refused in one line
@@ -66,11 +73,56 @@ pub data IsRenderOutcome (inputs : Inputs) (text : List ℕ) (exit : Exit) : Typ
   rendered : (source : PlainSource) → IsSourceText inputs.first source → text ≡ canonical source → exit ≡ Yes → IsRenderOutcome inputs text exit
   no_source : (why : List ℕ) → IsNoSourceText inputs.first why → Refuses (dictionary_line 1 why) text exit → IsRenderOutcome inputs text exit
 
+-- a command of two dictionaries, where P says how it ends for them: the first is judged first, and both before what else P reads
+pub data IsPairOutcome (P : Dictionary → Dictionary → List ℕ → Exit → Type 0) (inputs : Inputs) (text : List ℕ) (exit : Exit) : Type 0 where
+  ended : (a b : Dictionary) → IsDictionaryText inputs.first a → IsDictionaryText inputs.second b → P a b text exit → IsPairOutcome P inputs text exit
+  no_first : (why : List ℕ) → IsNoDictionaryText inputs.first why → Refuses (dictionary_line 1 why) text exit → IsPairOutcome P inputs text exit
+  no_second : (a : Dictionary) (why : List ℕ) → IsDictionaryText inputs.first a → IsNoDictionaryText inputs.second why → Refuses (dictionary_line 2 why) text exit → IsPairOutcome P inputs text exit
+
+-- `compare` of two dictionaries
+pub data IsComparison (u : Unknown) (input : Input) (a b : Dictionary) (text : List ℕ) (exit : Exit) : Type 0 where
+  compared : (table : PlainTable) (answer : Answer) → IsTableText input table → IsCompared a b u table answer → IsAnswerText table answer text exit → IsComparison u input a b text exit
+  no_table : (told : List ℕ) → IsNoTableText input told → Refuses told text exit → IsComparison u input a b text exit
+
+-- `compare` of the inputs
+abbrev pub IsCompareOutcome : Unknown → Inputs → List ℕ → Exit → Type 0
+IsCompareOutcome u inputs text exit = IsPairOutcome (IsComparison u inputs.table) inputs text exit
+
+-- the message is valid under the first dictionary, and not under the second
+abbrev pub IsRefuted : Unknown → Levels → Dictionary → Dictionary → List ℕ → Type 0
+IsRefuted u most a b bytes = IsValid a u most bytes × ¬ IsValid b u most bytes
+
+-- `refute` of two dictionaries
+pub data IsRefutation (u : Unknown) (most : Levels) (input : Input) (a b : Dictionary) (text : List ℕ) (exit : Exit) : Type 0 where
+  refutes : (bytes : List ℕ) → IsMessageText input bytes → IsRefuted u most a b bytes → text ≡ line (codes "refutes") → exit ≡ Yes → IsRefutation u most input a b text exit
+  does_not : (bytes : List ℕ) → IsMessageText input bytes → ¬ IsRefuted u most a b bytes → text ≡ line (codes "does not refute") → exit ≡ No → IsRefutation u most input a b text exit
+  no_message : (told : List ℕ) → IsNoMessageText input told → Refuses told text exit → IsRefutation u most input a b text exit
+
+-- `refute` of the inputs
+abbrev pub IsRefuteOutcome : Unknown → Levels → Inputs → List ℕ → Exit → Type 0
+IsRefuteOutcome u most inputs text exit = IsPairOutcome (IsRefutation u most inputs.message) inputs text exit
+
+-- what is told of a name that is no command's
+abbrev pub no_command_line : List ℕ → List ℕ
+no_command_line name = codes "propose: no command " ++ name
+
+-- `propose` of two dictionaries, for the named commands
+pub data IsProposed (u : Unknown) (names : List (List ℕ)) (a b : Dictionary) (text : List ℕ) (exit : Exit) : Type 0 where
+  proposed : (table : PlainTable) → IsProposal a b u names table → text ≡ table_text table → exit ≡ Yes → IsProposed u names a b text exit
+  no_command : (name : List ℕ) → IsFirstUnknown a names name → Refuses (no_command_line name) text exit → IsProposed u names a b text exit
+
+-- `propose` of the inputs
+abbrev pub IsProposeOutcome : Unknown → List (List ℕ) → Inputs → List ℕ → Exit → Type 0
+IsProposeOutcome u names inputs text exit = IsPairOutcome (IsProposed u names) inputs text exit
+
 -- the text for a command and its inputs, and how the program ends
 abbrev pub IsOutcome : Command → Inputs → List ℕ → Exit → Type 0
 IsOutcome Show inputs text exit = IsShowOutcome inputs text exit
 IsOutcome Render inputs text exit = IsRenderOutcome inputs text exit
 IsOutcome (Check u most) inputs text exit = IsCheckOutcome u most inputs text exit
+IsOutcome (Compare u) inputs text exit = IsCompareOutcome u inputs text exit
+IsOutcome (Refute u most) inputs text exit = IsRefuteOutcome u most inputs text exit
+IsOutcome (Propose u names) inputs text exit = IsProposeOutcome u (map (λ name. string_bytes name) names.items) inputs text exit
 
 -- what was made holds: an outcome, or the line of a refusal
 abbrev pub Ends : (List ℕ → Exit → Type 0) → Result Outcome Refused → Type 0

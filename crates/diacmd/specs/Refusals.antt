@@ -4,12 +4,15 @@ use Rattle.dia_dict.specs.Resolution.{wrong}
 use Rattle.diacmd.specs.declared.inputs.Refused.{Refused}
 use Rattle.diacmd.specs.declared.inputs.Refused.TheVariants.{Bad, NoMemory}
 use Rattle.diacmd.specs.declared.inputs.bad_input.BadInput.{BadInput}
-use Rattle.diacmd.specs.declared.inputs.bad_input.BadInput.TheVariants.{Dictionary, Message}
+use Rattle.diacmd.specs.declared.inputs.bad_input.BadInput.TheVariants.{Dictionary, Table, Message, NoCommand}
 use Rattle.diacmd.specs.declared.inputs.bad_input.BadDictionary.{BadDictionary}
 use Rattle.diacmd.specs.declared.inputs.bad_input.BadDictionary.TheVariants as dictionary
+use Rattle.diacmd.specs.declared.inputs.bad_input.BadTable.{BadTable}
+use Rattle.diacmd.specs.declared.inputs.bad_input.BadTable.TheVariants as table
 use Rattle.diacmd.specs.declared.inputs.bad_input.BadMessage.{BadMessage}
 use Rattle.diacmd.specs.declared.inputs.bad_input.BadMessage.TheVariants as message
 use Rattle.diacmd.specs.Texts.{dictionary_line, fault_at, wrong_text}
+use Rattle.diacmd.specs.Pairs.{table_line}
 
 abbrev pub bad_dictionary_text : BadDictionary → List ℕ
 bad_dictionary_text dictionary.TooLong = codes "too long"
@@ -18,6 +21,12 @@ bad_dictionary_text (dictionary.Syntax n) = fault_at (codes "syntax") n
 bad_dictionary_text (dictionary.Number n) = fault_at (codes "number") n
 bad_dictionary_text (dictionary.Limit n) = fault_at (codes "limit") n
 bad_dictionary_text (dictionary.Wrong kind name slot) = wrong_text (wrong kind (string_bytes name) (string_bytes slot))
+
+abbrev pub bad_table_text : BadTable → List ℕ
+bad_table_text table.TooLong = codes "too long"
+bad_table_text table.NotText = codes "not text"
+bad_table_text (table.Syntax n) = fault_at (codes "syntax") n
+bad_table_text (table.Limit n) = fault_at (codes "limit") n
 
 abbrev pub bad_message_word : BadMessage → List ℕ
 bad_message_word message.TooLong = codes "too long"
@@ -31,6 +40,8 @@ bad_message_word message.Trailing = codes "trailing"
 -- the line, without its line feed
 abbrev pub bad_input_text : BadInput → List ℕ
 bad_input_text (Dictionary number why) = dictionary_line number (bad_dictionary_text why)
+bad_input_text (Table why) = table_line (bad_table_text why)
+bad_input_text (NoCommand name) = codes "propose: no command " ++ string_bytes name
 bad_input_text (Message why) = codes "message: " ++ bad_message_word why
 
 -- what is told holds, unless memory was refused

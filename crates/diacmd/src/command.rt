@@ -7,7 +7,7 @@ use std::alloc::AllocError;
 use thiserror::Error;
 
 /// What the program is to do.
-#[derive(Clone, Copy, Debug, PartialEq, Eq)]
+#[derive(Debug, PartialEq, Eq, Drop)]
 pub enum Command {
     /// Prints a message, an AVP a line.
     Show,
@@ -15,6 +15,15 @@ pub enum Command {
     Render,
     /// Tells whether a message is valid, or its first fault.
     Check { unknown: Unknown, levels: Levels },
+    /// Tells whether a table of pairs shows that each valid message of the first dictionary is valid under the second.
+    Compare { unknown: Unknown },
+    /// Tells whether a message is valid under the first dictionary and not under the second.
+    Refute { unknown: Unknown, levels: Levels },
+    /// Prints the least table of pairs for these commands of the first dictionary.
+    Propose {
+        unknown: Unknown,
+        names: Vec<String>,
+    },
 }
 
 /// A text that was read whole.

@@ -11,6 +11,9 @@ use crate::inputs::bad_input::BadInput;
 use std::alloc::{AllocError, Global};
 
 pub mod check;
+pub mod compare;
+pub mod propose;
+pub mod refute;
 pub mod render;
 pub mod show;
 
@@ -19,6 +22,15 @@ pub mod show;
 pub struct Outcome {
     pub text: String,
     pub exit: Exit,
+}
+
+/// The outcome of this text.
+fn told(alloc: Global, text: &str, exit: Exit) -> Result<Outcome, AllocError>
+    ensures text { IfOk result (λ outcome. string_bytes outcome.text ≡ text.now) }
+    ensures exit { IfOk result (λ outcome. outcome.exit ≡ exit) }
+{
+    let text = String::from_str(alloc, text)?;
+    Ok(Outcome { text, exit })
 }
 
 /// The outcome of an input that is refused: one line.

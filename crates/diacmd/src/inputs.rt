@@ -10,6 +10,7 @@ use std::alloc::AllocError;
 pub mod bad_input;
 pub mod dictionary;
 pub mod message;
+pub mod table;
 
 /// Why an input gives nothing.
 #[derive(Debug, Drop)]

@@ -4,13 +4,18 @@ ghost use Rattle.std.specs.Prelude.{◌≡◌, ◌↔◌, List, ℕ, IfOk, OnOk,
 ghost use Rattle.std.specs.Io.KnownBytes.{Appends};
 ghost use Rattle.diacmd.specs.declared.command.Exit.{Exit as AnyExit};
 ghost use Rattle.diacmd.specs.Writing.{AppendsFront};
-ghost use Rattle.diacmd.specs.Outcome.{IsOutcome};
+ghost use Rattle.diacmd.specs.Outcome.{Ends, IsOutcome};
+ghost use Rattle.diacmd.specs.Inclusion.{ShowsInclusion};
 
 use crate::command::{Command, Exit, Inputs, RunFault};
 use crate::commands::check::check;
+use crate::commands::compare::compare;
+use crate::commands::propose::propose;
+use crate::commands::refute::refute;
 use crate::commands::render::render;
 use crate::commands::show::show;
 use crate::commands::{Outcome, outcome_of};
+use crate::inputs::Refused;
 use crate::streams::{Failed, Sink};
 use std::alloc::{AllocError, Global};
 
@@ -27,6 +32,8 @@ pub fn run<S: Sink>(
     ensures text { IfOk result (λ exit. (text : List ℕ) × IsOutcome command.now inputs.now text exit × Appends (S.written sink.old) (S.written sink.new) text) }
     // For these inputs there is one text, and one end.
     ensures one { (a b : List ℕ) (x y : AnyExit) → IsOutcome command.now inputs.now a x → IsOutcome command.now inputs.now b y → (a ≡ b) × (x ≡ y) }
+    // Where `compare` answers yes, what is valid under the first dictionary is valid under the second.
+    ensures inclusion { IfOk result (λ exit. ShowsInclusion command.now inputs.now exit) }
     ensures device { (result ≡ Err RunFault.Device) ↔ IsTrue (S.has_failed sink.new) }
     ensures front { result ≡ Err RunFault.Device
         → (text : List ℕ) × (exit : AnyExit) × IsOutcome command.now inputs.now text exit × AppendsFront (S.written sink.old) (S.written sink.new) text }
@@ -41,12 +48,21 @@ pub fn run<S: Sink>(
 fn perform(alloc: Global, command: &Command, inputs: &Inputs) -> Result<Outcome, AllocError>
     ensures { IfOk result (λ outcome. IsOutcome command.now inputs.now (string_bytes outcome.text) outcome.exit) }
 {
-    let made = match command {
+    outcome_of(alloc, attempt(alloc, command, inputs))
+}
+
+/// The outcome of a command, or why an input of it is refused.
+fn attempt(alloc: Global, command: &Command, inputs: &Inputs) -> Result<Outcome, Refused>
+    ensures { Ends (IsOutcome command.now inputs.now) result }
+{
+    match command {
         Command::Show => show(alloc, inputs),
         Command::Render => render(alloc, inputs),
         Command::Check { unknown, levels } => check(alloc, *unknown, *levels, inputs),
-    };
-    outcome_of(alloc, made)
+        Command::Compare { unknown } => compare(alloc, *unknown, inputs),
+        Command::Refute { unknown, levels } => refute(alloc, *unknown, *levels, inputs),
+        Command::Propose { unknown, names } => propose(alloc, *unknown, names.as_slice(), inputs),
+    }
 }
 
 /// Puts all of a text into a sink, or what it takes of it before it fails.

@@ -9,10 +9,13 @@ use std::process::Abort;
 use std::test::Fail;
 
 mod checks;
+mod comparisons;
 mod depths;
 mod dictionaries;
 mod listings;
 mod messages;
+mod proposals;
+mod refutations;
 mod renderings;
 
 /// A device watchdog request of the smallest kind: Origin-Host `a.b` and Origin-Realm `b`.
@@ -33,10 +36,35 @@ pub fn inputs(alloc: Global, dictionary: &[u8], message: &[u8]) -> Result<Inputs
     })
 }
 
+/// Inputs with two dictionary texts and a table's text, each in pieces, and this message text.
+pub fn two(
+    alloc: Global,
+    first: &[&str],
+    second: &[&str],
+    table: &[&str],
+    message: &str,
+) -> Result<Inputs, AllocError> {
+    Ok(Inputs {
+        first: text_of(alloc, first)?,
+        second: text_of(alloc, second)?,
+        table: text_of(alloc, table)?,
+        message: text_of(alloc, &[message])?,
+    })
+}
+
+/// The text of these pieces.
+fn text_of(alloc: Global, pieces: &[&str]) -> Result<Input, AllocError> {
+    let mut text = Vec::new(alloc);
+    for piece in pieces {
+        text.extend_from_slice(piece.as_bytes())?;
+    }
+    Ok(Input::Bytes(text))
+}
+
 /// What a command writes for its inputs, and how it ends.
-pub fn outcome(alloc: Global, command: Command, inputs: &Inputs) -> Result<(String, Exit), Fail> {
+pub fn outcome(alloc: Global, command: &Command, inputs: &Inputs) -> Result<(String, Exit), Fail> {
     let mut sink = ToWriter::new(Vec::new(alloc));
-    let exit = run(alloc, &command, inputs, &mut sink)?;
+    let exit = run(alloc, command, inputs, &mut sink)?;
     let text = str::from_utf8(sink.writer.as_slice())?;
     Ok((String::from_str(alloc, text)?, exit))
 }
@@ -44,14 +72,25 @@ pub fn outcome(alloc: Global, command: Command, inputs: &Inputs) -> Result<(Stri
 /// Checks what a command writes for a dictionary and a message, and how it ends.
 pub fn check(
     rt: &(impl AllocGlobal + Abort),
-    command: Command,
+    command: &Command,
     dictionary: &[u8],
     message: &[u8],
     text: &str,
     exit: Exit,
 ) -> Result<(), Fail> {
     let inputs = inputs(rt.alloc(), dictionary, message)?;
-    let (written, end) = outcome(rt.alloc(), command, &inputs)?;
+    check_inputs(rt, command, &inputs, text, exit)
+}
+
+/// Checks what a command writes for its inputs, and how it ends.
+pub fn check_inputs(
+    rt: &(impl AllocGlobal + Abort),
+    command: &Command,
+    inputs: &Inputs,
+    text: &str,
+    exit: Exit,
+) -> Result<(), Fail> {
+    let (written, end) = outcome(rt.alloc(), command, inputs)?;
     assert_eq!(rt; written.as_str(), text, "{command:?} of {inputs:?}");
     assert_eq!(rt; end, exit, "{command:?} of {inputs:?}");
     Ok(())

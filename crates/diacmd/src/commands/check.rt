@@ -7,7 +7,7 @@ ghost use Rattle.diacmd.specs.Texts.{line};
 ghost use Rattle.diacmd.specs.Verdict.{IsVerdict, fault_line, reason_word, subject_text};
 
 use crate::command::{Exit, Inputs};
-use crate::commands::Outcome;
+use crate::commands::{Outcome, told};
 use crate::inputs::Refused;
 use crate::inputs::dictionary::read_dictionary;
 use crate::inputs::message::read_message;
@@ -43,8 +43,8 @@ fn verdict<B: Book>(
     match answer {
         Ok(found) => valid(alloc, book, found.def),
         Err(Refusal::Fault(fault)) => faulty(alloc, book, &fault),
-        Err(Refusal::Truncated) => invalid(alloc, "truncated\n"),
-        Err(Refusal::Trailing) => invalid(alloc, "trailing\n"),
+        Err(Refusal::Truncated) => told(alloc, "truncated\n", Exit::No),
+        Err(Refusal::Trailing) => told(alloc, "trailing\n", Exit::No),
         Err(Refusal::NoMemory) => Err(AllocError),
         Err(Refusal::Spent) => Err(AllocError),
     }
@@ -59,16 +59,6 @@ fn valid<B: Book>(alloc: Global, book: &B, def: DefId) -> Result<Outcome, AllocE
     let name = book.def(def).name.as_str();
     let text = format!(in alloc; "valid {name}\n")?;
     let exit = Exit::Yes;
-    Ok(Outcome { text, exit })
-}
-
-/// The outcome of a message that is not valid, told by a line.
-fn invalid(alloc: Global, told: &str) -> Result<Outcome, AllocError>
-    ensures text { IfOk result (λ outcome. string_bytes outcome.text ≡ told.now) }
-    ensures exit { IfOk result (λ outcome. outcome.exit ≡ Exit.No) }
-{
-    let text = String::from_str(alloc, told)?;
-    let exit = Exit::No;
     Ok(Outcome { text, exit })
 }
 

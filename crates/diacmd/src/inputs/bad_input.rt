@@ -11,7 +11,10 @@ use std::fmt;
 pub enum BadInput {
     /// A dictionary, by its number in the command, from 1.
     Dictionary { number: u8, why: BadDictionary },
+    Table(BadTable),
     Message(BadMessage),
+    /// The first dictionary has no command of this name.
+    NoCommand { name: String },
 }
 
 /// Why a text names no dictionary.
@@ -35,6 +38,21 @@ pub enum BadDictionary {
         kind: DictKind,
         name: String,
         slot: String,
+    },
+}
+
+/// Why a text is no table of pairs.
+#[derive(Clone, Copy, Debug, PartialEq, Eq)]
+pub enum BadTable {
+    /// More bytes than the text of a table may have.
+    TooLong,
+    /// Bytes that are no UTF-8.
+    NotText,
+    Syntax {
+        line: u32,
+    },
+    Limit {
+        line: u32,
     },
 }
 
@@ -64,7 +82,9 @@ impl fmt::Display for BadInput {
     fn fmt<W: fmt::Write>(&self, f: &mut fmt::Formatter<W>) -> fmt::Result {
         match self {
             BadInput::Dictionary { number, why } => write!(f, "dictionary {number}: {why}"),
+            BadInput::Table(why) => write!(f, "table: {why}"),
             BadInput::Message(why) => write!(f, "message: {why}"),
+            BadInput::NoCommand { name } => write!(f, "propose: no command {name}"),
         }
     }
 }
@@ -88,6 +108,22 @@ impl fmt::Display for BadDictionary {
                 let slot = or_dash(slot.as_str());
                 write!(f, "{kind} {name} {slot}")
             }
+        }
+    }
+}
+
+impl fmt::Display for BadTable {
+    ghost use Rattle.std.specs.Prelude.{Some};
+    ghost use Rattle.diacmd.specs.Refusals.{bad_table_text};
+
+    ghost output = { λ why. Some (bad_table_text why) };
+
+    fn fmt<W: fmt::Write>(&self, f: &mut fmt::Formatter<W>) -> fmt::Result {
+        match self {
+            BadTable::TooLong => write!(f, "too long"),
+            BadTable::NotText => write!(f, "not text"),
+            BadTable::Syntax { line } => write!(f, "syntax at line {line}"),
+            BadTable::Limit { line } => write!(f, "limit at line {line}"),
         }
     }
 }

@@ -88,7 +88,7 @@ fn reads_the_words(rt: HostRuntime) -> Result<(), Fail> {
         ),
     ];
     for (words, command, origins) in rows.iter() {
-        are_read(&rt, words, *command, *origins)?;
+        are_read(&rt, words, command, *origins)?;
     }
     Ok(())
 }
@@ -97,13 +97,13 @@ fn reads_the_words(rt: HostRuntime) -> Result<(), Fail> {
 fn are_read(
     rt: &(impl AllocGlobal + Abort),
     words: &[&str],
-    command: Command,
+    command: &Command,
     origins: Origins<'_>,
 ) -> Result<(), Fail> {
     let Ok(request) = parse_words(rt.alloc(), words) else {
         return Err(Fail::new(format_args!("the words are refused: {words:?}")));
     };
-    assert_eq!(rt; request.command(), command);
+    assert_eq!(rt; request.command(), *command);
     assert_eq!(rt; request.origins(), origins);
     Ok(())
 }
@@ -145,7 +145,7 @@ fn reads_the_words_of_check(rt: HostRuntime) -> Result<(), Fail> {
         are_read(
             &rt,
             &words,
-            command,
+            &command,
             origins_of(dictionary_file("d.txt"), message),
         )?;
     }
@@ -179,7 +179,7 @@ fn reads_the_inputs_of_check(rt: HostRuntime) -> Result<(), Fail> {
         ),
     ];
     for (words, origins) in rows.iter() {
-        are_read(&rt, words, command, *origins)?;
+        are_read(&rt, words, &command, *origins)?;
     }
     Ok(())
 }

@@ -53,7 +53,7 @@ pub fn verdicts(
         let command = Command::Check { unknown, levels };
         check(
             rt,
-            command,
+            &command,
             dictionary.as_bytes(),
             text.as_bytes(),
             line,
@@ -358,7 +358,7 @@ fn judges_the_dictionary_before_the_message(rt: HostRuntime) -> Result<(), Fail>
     for (dictionary, message, line) in rows.iter() {
         check(
             &rt,
-            command,
+            &command,
             dictionary.as_bytes(),
             message.as_bytes(),
             line,

@@ -35,7 +35,7 @@ fn tells_each_length_of_an_avp(rt: HostRuntime) -> Result<(), Fail> {
             )?;
             check(
                 &rt,
-                Command::Check {
+                &Command::Check {
                     unknown: Unknown::Kept,
                     levels: Levels::Any,
                 },

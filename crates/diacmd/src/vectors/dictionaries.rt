@@ -43,7 +43,7 @@ fn tells_the_first_fault_of_a_dictionary(rt: HostRuntime) -> Result<(), Fail> {
     for (text, line) in rows.iter() {
         check(
             &rt,
-            Command::Show,
+            &Command::Show,
             text.as_bytes(),
             REQUEST.as_bytes(),
             line,
@@ -57,7 +57,7 @@ fn tells_the_first_fault_of_a_dictionary(rt: HostRuntime) -> Result<(), Fail> {
 fn tells_bytes_that_are_no_text(rt: HostRuntime) -> Result<(), Fail> {
     check(
         &rt,
-        Command::Show,
+        &Command::Show,
         &[0xff],
         REQUEST.as_bytes(),
         "dictionary 1: not text\n",
@@ -69,7 +69,7 @@ fn tells_bytes_that_are_no_text(rt: HostRuntime) -> Result<(), Fail> {
 fn judges_the_dictionary_before_the_message(rt: HostRuntime) -> Result<(), Fail> {
     check(
         &rt,
-        Command::Show,
+        &Command::Show,
         b"%avp",
         b"0",
         "dictionary 1: syntax at line 1\n",

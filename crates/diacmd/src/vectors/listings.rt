@@ -24,7 +24,7 @@ fn names_the_avps_of_the_base_dictionary(rt: HostRuntime) -> Result<(), Fail> {
     for (text, lines) in rows.iter() {
         check(
             &rt,
-            Command::Show,
+            &Command::Show,
             base_text().as_bytes(),
             text.as_bytes(),
             lines,
@@ -56,7 +56,7 @@ fn goes_into_groups(rt: HostRuntime) -> Result<(), Fail> {
     for (text, lines, end) in rows.iter() {
         check(
             &rt,
-            Command::Show,
+            &Command::Show,
             NODES.as_bytes(),
             text.as_bytes(),
             lines,
@@ -75,7 +75,7 @@ fn goes_down_a_hundred_thousand_levels(rt: HostRuntime) -> Result<(), Fail> {
         write!(text, "0000232900{length:06x}")?;
     }
     let inputs = inputs(alloc, NODES.as_bytes(), text.as_bytes())?;
-    let (written, exit) = outcome(alloc, Command::Show, &inputs)?;
+    let (written, exit) = outcome(alloc, &Command::Show, &inputs)?;
     assert_eq!(rt; exit, Exit::Yes);
     assert!(rt;
         written

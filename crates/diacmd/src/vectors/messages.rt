@@ -18,7 +18,7 @@ fn shows_messages(rt: HostRuntime) -> Result<(), Fail> {
         ),
     ];
     for (text, lines) in rows.iter() {
-        check(&rt, Command::Show, b"", text.as_bytes(), lines, Exit::Yes)?;
+        check(&rt, &Command::Show, b"", text.as_bytes(), lines, Exit::Yes)?;
     }
     Ok(())
 }
@@ -29,7 +29,7 @@ fn stops_at_a_bad_length(rt: HostRuntime) -> Result<(), Fail> {
         "0100002c800001180000000000000001000000020000010840000007612e6200000001284000000962000000";
     let lines =
         "header flags 80 code 280 app 0 hop 1 end 2 length 44\nfault 5014 at 20 avp-length -\n";
-    check(&rt, Command::Show, b"", text.as_bytes(), lines, Exit::No)
+    check(&rt, &Command::Show, b"", text.as_bytes(), lines, Exit::No)
 }
 
 #[test]
@@ -57,7 +57,7 @@ fn refuses_what_is_no_message(rt: HostRuntime) -> Result<(), Fail> {
         ("0g", "message: not hexadecimal\n"),
     ];
     for (text, line) in rows.iter() {
-        check(&rt, Command::Show, b"", text.as_bytes(), line, Exit::Bad)?;
+        check(&rt, &Command::Show, b"", text.as_bytes(), line, Exit::Bad)?;
     }
     Ok(())
 }
@@ -78,7 +78,7 @@ fn takes_white_space_and_both_cases(rt: HostRuntime) -> Result<(), Fail> {
     }
     check(
         &rt,
-        Command::Show,
+        &Command::Show,
         b"",
         text.as_slice(),
         REQUEST_LINES,
@@ -91,7 +91,7 @@ fn tells_a_text_that_is_too_long(rt: HostRuntime) -> Result<(), Fail> {
     let alloc = rt.alloc();
     let mut inputs = inputs(alloc, b"", REQUEST.as_bytes())?;
     inputs.message = Input::TooLong;
-    let (written, exit) = outcome(alloc, Command::Show, &inputs)?;
+    let (written, exit) = outcome(alloc, &Command::Show, &inputs)?;
     assert_eq!(rt; written.as_str(), "message: too long\n");
     assert_eq!(rt; exit, Exit::Bad);
     Ok(())

@@ -15,7 +15,7 @@ fn renders_canonically(rt: HostRuntime) -> Result<(), Fail> {
         (base_text(), base_text()),
     ];
     for (text, lines) in rows.iter() {
-        check(&rt, Command::Render, text.as_bytes(), b"", lines, Exit::Yes)?;
+        check(&rt, &Command::Render, text.as_bytes(), b"", lines, Exit::Yes)?;
     }
     Ok(())
 }
@@ -38,7 +38,7 @@ fn tells_why_a_text_is_no_dictionary(rt: HostRuntime) -> Result<(), Fail> {
         ),
     ];
     for (text, line) in rows.iter() {
-        check(&rt, Command::Render, text.as_bytes(), b"", line, Exit::Bad)?;
+        check(&rt, &Command::Render, text.as_bytes(), b"", line, Exit::Bad)?;
     }
     Ok(())
 }
@@ -47,11 +47,11 @@ fn tells_why_a_text_is_no_dictionary(rt: HostRuntime) -> Result<(), Fail> {
 fn keeps_the_limits_of_a_text(rt: HostRuntime) -> Result<(), Fail> {
     let alloc = rt.alloc();
     let mut text = vec![in alloc; b' '; 1_048_576]?;
-    check(&rt, Command::Render, text.as_slice(), b"", "", Exit::Yes)?;
+    check(&rt, &Command::Render, text.as_slice(), b"", "", Exit::Yes)?;
     text.push(b' ')?;
     check(
         &rt,
-        Command::Render,
+        &Command::Render,
         text.as_slice(),
         b"",
         "dictionary 1: too long\n",
@@ -64,7 +64,7 @@ fn keeps_the_limits_of_a_text(rt: HostRuntime) -> Result<(), Fail> {
     long.push_str(" 1 Time any")?;
     check(
         &rt,
-        Command::Render,
+        &Command::Render,
         long.as_bytes(),
         b"",
         "dictionary 1: limit at line 1\n",

@@ -1,3 +1,4 @@
+use Rattle.diacmd.proofs.Including.{shows_inclusion}
 use Rattle.diacmd.proofs.OneOutcome.{one_outcome}
 use Rattle.diacmd.proofs.running.run.Goals as goal
 
@@ -9,3 +10,6 @@ returns-in_err-put_all-clause-one g c = one_outcome c.args.command.now c.args.in
 
 pub returns-clause-one : goal.returns-clause-one
 returns-clause-one g c = one_outcome c.args.command.now c.args.inputs.now
+
+pub returns-clause-inclusion : goal.returns-clause-inclusion
+returns-clause-inclusion g c = shows_inclusion c.args.command.now c.args.inputs.now _ _ c.in_ok-outcome.ensures
