@@ -14,6 +14,9 @@ origin_within word limit = if bytes_eq word.now (codes "-") then StandardInput l
 abbrev pub dictionary_origin : Bor (List ℕ) → Origin
 dictionary_origin word = if bytes_eq word.now (codes "@base") then Base else origin_within word 1048576
 
+abbrev pub table_origin : Bor (List ℕ) → Origin
+table_origin word = origin_within word 33554432
+
 abbrev pub message_origin : Bor (List ℕ) → Origin
 message_origin word = origin_within word 67108864
 

@@ -1,11 +1,13 @@
 //! The words of the command line.
 
-ghost use Rattle.std.specs.Prelude.{◌≡◌, IfOk, IfSome, IsSomeAnd, codes, false, map, option_map};
+ghost use Rattle.std.specs.Prelude.{◌≡◌, IfOk, IfSome, IsSomeAnd, codes, false, map, option_map, string_bytes};
+ghost use Rattle.clap.specs.Walk.{texts};
 ghost use Rattle.clap.specs.Words.{app_of, found_of, rows_of, rule_of, subcommand_rows_of};
 ghost use Rattle.diacmd.specs.Origins.{reads_twice};
 ghost use Rattle.diacmd.specs.Request.{origins_of, read_once};
-ghost use Rattle.diacmd.specs.Words.{IsAskedBy, IsLimitOf, IsLine, IsRequestOf, check_shape, dict_rule, levels_rule};
-ghost use Rattle.diacmd.specs.Words.{line_shape, policy_word, render_shape, show_shape, unknown_rule, word_rule};
+ghost use Rattle.diacmd.specs.Words.{ArePair, IsAskedBy, IsLimitOf, IsLine, IsRequestOf, check_shape, compare_shape, dict_rule};
+ghost use Rattle.diacmd.specs.Words.{levels_rule, line_shape, pair_app, policy_word, program_app, propose_shape};
+ghost use Rattle.diacmd.specs.Words.{refute_shape, render_shape, show_shape, unknown_rule, word_rule, words_rule};
 
 use crate::ending::Ending;
 use crate::origin::BASE_DICTIONARY;
@@ -22,8 +24,8 @@ const VERSION: &str = "0.1.0";
 
 /// What the statuses of the process mean.
 const STATUSES: &str = "Status:
-  0  done; for check, the message is valid
-  1  for show, a bad AVP length in the message; for check, the message isn't valid
+  0  done; for check, valid; for compare, yes; for refute, refutes
+  1  for check, not valid; for compare, no; for refute, does not refute; for show, a bad AVP length
   2  bad input, or a bad command line
   3  a file or a device failed, or memory was refused";
 
@@ -31,6 +33,12 @@ const STATUSES: &str = "Status:
 static POLICIES: [&str; 2] = ["kept", "refused"];
 
 const DICTIONARY: &str = "A dictionary text: a file, @base, or - for standard input";
+
+const FIRST: &str = "The first dictionary text: a file, @base, or - for standard input";
+
+const SECOND: &str = "The second dictionary text: a file, @base, or - for standard input";
+
+const TABLE: &str = "A table of pairs of names: a file, or - for standard input";
 
 const MESSAGE: &str = "A file of hexadecimal text, white space ignored; - for standard input";
 
@@ -41,8 +49,11 @@ pub fn parse_words<'a, S: AsStr>(alloc: Global, words: &'a [S]) -> Result<Reques
 {
     let mut line = command_line(alloc, POLICIES.as_slice())?;
     let matches = line.try_get_matches_from_mut(words)?;
-    match request_of(&matches) {
-        Some(request) => read_once(request),
+    match request_of(alloc, &matches) {
+        Some(made) => {
+            let request = made?;
+            read_once(request)
+        }
         // It never comes to this: the line requires a subcommand, and each subcommand its words, with values that it can read.
         None => {
             let error = line.error(ErrorKind::MissingSubcommand, "the words ask for nothing")?;
@@ -62,19 +73,25 @@ fn read_once(request: Request<'_>) -> Result<Request<'_>, Ending<'_>>
     }
 }
 
-/// The request of what the command line read, where that is one of the subcommands with its words.
-fn request_of<'a>(matches: &ArgMatches<'a>) -> Option<Request<'a>>
-    ensures { IfSome result (λ request. IsSomeAnd (subcommand_rows_of matches.now) (IsRequestOf request)) }
+/// The request of what the command line read, where that is one of the subcommands with its words, or out of memory.
+fn request_of<'a>(
+    alloc: Global,
+    matches: &ArgMatches<'a>,
+) -> Option<Result<Request<'a>, AllocError>>
+    ensures { IfSome result (λ made. IfOk made (λ request. IsSomeAnd (subcommand_rows_of matches.now) (IsRequestOf request))) }
 {
     match matches.subcommand()? {
-        ("show", inner) => Some(Request::Show {
+        ("show", inner) => Some(Ok(Request::Show {
             dictionary: inner.get_str("dict")?,
             message: inner.get_str("MESSAGE")?,
-        }),
-        ("check", inner) => check_request(inner),
-        ("render", inner) => Some(Request::Render {
+        })),
+        ("check", inner) => Some(Ok(check_request(inner)?)),
+        ("render", inner) => Some(Ok(Request::Render {
             dictionary: inner.get_str("D")?,
-        }),
+        })),
+        ("compare", inner) => Some(Ok(compare_request(inner)?)),
+        ("refute", inner) => Some(Ok(refute_request(inner)?)),
+        ("propose", inner) => propose_request(alloc, inner),
         _ => None,
     }
 }
@@ -89,6 +106,70 @@ fn check_request<'a>(found: &ArgMatches<'a>) -> Option<Request<'a>>
         dictionary: found.get_str("D")?,
         message: found.get_str("MESSAGE")?,
     })
+}
+
+/// The request of `compare`, by what was found for its words.
+fn compare_request<'a>(found: &ArgMatches<'a>) -> Option<Request<'a>>
+    ensures { IfSome result (λ request. IsRequestOf request (codes "compare", rows_of (found_of found.now))) }
+{
+    let (unknown, first, second) = pair_of(found)?;
+    Some(Request::Compare {
+        unknown,
+        first,
+        second,
+        table: found.get_str("TABLE")?,
+    })
+}
+
+/// The request of `refute`, by what was found for its words.
+fn refute_request<'a>(found: &ArgMatches<'a>) -> Option<Request<'a>>
+    ensures { IfSome result (λ request. IsRequestOf request (codes "refute", rows_of (found_of found.now))) }
+{
+    let (unknown, first, second) = pair_of(found)?;
+    Some(Request::Refute {
+        unknown,
+        levels: limit_of(found.get_str("levels"))?,
+        first,
+        second,
+        message: found.get_str("MESSAGE")?,
+    })
+}
+
+/// The request of `propose`, by what was found for its words.
+fn propose_request<'a>(
+    alloc: Global,
+    found: &ArgMatches<'a>,
+) -> Option<Result<Request<'a>, AllocError>>
+    ensures { IfSome result (λ made. IfOk made (λ request. IsRequestOf request (codes "propose", rows_of (found_of found.now)))) }
+{
+    let (unknown, first, second) = pair_of(found)?;
+    match copies_of(alloc, found.get_strs("COMMAND")?) {
+        Ok(names) => Some(Ok(Request::Propose {
+            unknown,
+            first,
+            second,
+            names,
+        })),
+        Err(error) => Some(Err(error)),
+    }
+}
+
+fn copies_of(alloc: Global, words: &[&str]) -> Result<Vec<String>, AllocError>
+    ensures { IfOk result (λ copies. map string_bytes copies.items ≡ texts words.now) }
+{
+    let mut copies = Vec::with_capacity(alloc, words.len())?;
+    for word in words {
+        copies.push(String::from_str(alloc, word)?)?;
+    }
+    Ok(copies)
+}
+
+/// The policy and the words of two dictionaries.
+fn pair_of<'a>(found: &ArgMatches<'a>) -> Option<(Unknown, &'a str, &'a str)>
+    ensures { IfSome result (λ pair. ArePair pair.0 pair.1 pair.2 (rows_of (found_of found.now))) }
+{
+    let unknown = policy_of(found.get_str("unknown")?)?;
+    Some((unknown, found.get_str("A")?, found.get_str("B")?))
 }
 
 /// The policy that a word names.
@@ -116,14 +197,24 @@ fn limit_of(word: Option<&str>) -> Option<Levels>
 fn command_line<'a>(alloc: Global, policies: &'a [&'a str]) -> Result<clap::Command<'a>, AllocError>
     ensures { IfOk result (λ line. app_of line ≡ line_shape policies.entry) }
 {
+    program_line(alloc)
+        .subcommand(show_line(alloc)?)?
+        .subcommand(check_line(alloc, policies)?)?
+        .subcommand(render_line(alloc)?)?
+        .subcommand(compare_line(alloc, policies)?)?
+        .subcommand(refute_line(alloc, policies)?)?
+        .subcommand(propose_line(alloc, policies)?)
+}
+
+/// The program's line without its subcommands, of which one has to be given.
+fn program_line<'a>(alloc: Global) -> clap::Command<'a>
+    ensures { app_of result ≡ program_app }
+{
     clap::Command::new(alloc, "diacmd")
         .about("A workbench for Diameter (RFC 6733) dictionaries and messages")
         .version(VERSION)
         .after_help(STATUSES)
         .subcommand_required(true)
-        .subcommand(show_line(alloc)?)?
-        .subcommand(check_line(alloc, policies)?)?
-        .subcommand(render_line(alloc)?)
 }
 
 fn show_line<'a>(alloc: Global) -> Result<clap::Command<'a>, AllocError>
@@ -152,6 +243,45 @@ fn render_line<'a>(alloc: Global) -> Result<clap::Command<'a>, AllocError>
     clap::Command::new(alloc, "render")
         .about("Prints the canonical text of a dictionary")
         .arg(word(alloc, "D", DICTIONARY))
+}
+
+fn compare_line<'a>(alloc: Global, policies: &'a [&'a str]) -> Result<clap::Command<'a>, AllocError>
+    ensures { IfOk result (IsLine (compare_shape policies.entry)) }
+{
+    pair_line(alloc, "compare", policies)?
+        .about("Tells whether a table of pairs shows that what is valid for A is valid for B")
+        .arg(word(alloc, "TABLE", TABLE))
+}
+
+fn refute_line<'a>(alloc: Global, policies: &'a [&'a str]) -> Result<clap::Command<'a>, AllocError>
+    ensures { IfOk result (IsLine (refute_shape policies.entry)) }
+{
+    pair_line(alloc, "refute", policies)?
+        .about("Tells whether a message is valid for A and not for B")
+        .arg(levels_option(alloc))?
+        .arg(word(alloc, "MESSAGE", MESSAGE))
+}
+
+fn propose_line<'a>(alloc: Global, policies: &'a [&'a str]) -> Result<clap::Command<'a>, AllocError>
+    ensures { IfOk result (IsLine (propose_shape policies.entry)) }
+{
+    pair_line(alloc, "propose", policies)?
+        .about("Prints the least table of pairs for commands of A")
+        .arg(words(alloc, "COMMAND", "The name of a command of A"))
+}
+
+/// The beginning of the line of a subcommand of two dictionaries.
+fn pair_line<'a>(
+    alloc: Global,
+    name: &'a str,
+    policies: &'a [&'a str],
+) -> Result<clap::Command<'a>, AllocError>
+    ensures { IfOk result (IsLine (pair_app name.entry.now policies.entry).top) }
+{
+    clap::Command::new(alloc, name)
+        .arg(unknown_option(alloc, policies))?
+        .arg(word(alloc, "A", FIRST))?
+        .arg(word(alloc, "B", SECOND))
 }
 
 fn dictionary_option<'a>(alloc: Global) -> Arg<'a>
@@ -196,4 +326,12 @@ fn word<'a>(alloc: Global, id: &'a str, help: &'a str) -> Arg<'a>
     ensures local { result.global ≡ false }
 {
     Arg::new(alloc, id).required(true).help(help)
+}
+
+/// One or more words that have to be given.
+fn words<'a>(alloc: Global, id: &'a str, help: &'a str) -> Arg<'a>
+    ensures rule { rule_of result ≡ words_rule id.entry.now }
+    ensures local { result.global ≡ false }
+{
+    word(alloc, id, help).num_args(1..)
 }

@@ -56,7 +56,7 @@ where
     let request = parse_words(rt.alloc(), words)?;
     let inputs = open_inputs(rt, &request.origins())?;
     let mut sink = ToWriter::new(io::writer(rt));
-    match run(rt.alloc(), &request.command(), &inputs, &mut sink) {
+    match run(rt.alloc(), &request.into_command(), &inputs, &mut sink) {
         Ok(exit) => Ok(exit),
         Err(fault) => Err(Ending::of_run(fault, "standard output", sink.failure())),
     }

@@ -1,10 +1,11 @@
 //! Where the text of each input comes from.
 
 ghost use Rattle.std.specs.Prelude.{◌≡◌, count_by};
-ghost use Rattle.diacmd.specs.Origins.{dictionary_origin, is_standard_input, message_origin, origin_within, reads_twice};
+ghost use Rattle.diacmd.specs.Origins.{dictionary_origin, is_standard_input, message_origin, origin_within, reads_twice, table_origin};
 
 use crate::inputs::message::MAX_MESSAGE_TEXT;
 use dia_ccf::MAX_TEXT;
+use dia_compat::MAX_TABLE;
 
 /// The word for standard input.
 pub const STANDARD_INPUT: &str = "-";
@@ -33,6 +34,13 @@ impl<'a> Origin<'a> {
         } else {
             Origin::within(word, MAX_TEXT)
         }
+    }
+
+    /// Of a word where a table of pairs stands.
+    pub fn of_table(word: &'a str) -> Origin<'a>
+        ensures { result ≡ table_origin word.entry }
+    {
+        Origin::within(word, MAX_TABLE)
     }
 
     /// Of a word where a message stands.

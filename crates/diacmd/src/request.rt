@@ -8,7 +8,7 @@ use crate::origin::{Origin, Origins};
 use dia_check::{Levels, Unknown};
 
 /// A subcommand, with the words of its inputs.
-#[derive(Clone, Copy, Debug, PartialEq, Eq)]
+#[derive(Debug, PartialEq, Eq, Drop)]
 pub enum Request<'a> {
     /// `show [--dict D] MESSAGE`
     Show {
@@ -26,14 +26,36 @@ pub enum Request<'a> {
     Render {
         dictionary: &'a str,
     },
+    /// `compare [--unknown kept|refused] A B TABLE`
+    Compare {
+        unknown: Unknown,
+        first: &'a str,
+        second: &'a str,
+        table: &'a str,
+    },
+    /// `refute [--unknown kept|refused] [--levels N] A B MESSAGE`
+    Refute {
+        unknown: Unknown,
+        levels: Levels,
+        first: &'a str,
+        second: &'a str,
+        message: &'a str,
+    },
+    /// `propose [--unknown kept|refused] A B COMMAND..`
+    Propose {
+        unknown: Unknown,
+        first: &'a str,
+        second: &'a str,
+        names: Vec<String>,
+    },
 }
 
 impl<'a> Request<'a> {
     /// What the program is to do with the inputs.
-    pub fn command(&self) -> Command
-        ensures { result ≡ command_of self.now }
+    pub fn into_command(self) -> Command
+        ensures { result ≡ command_of self.entry }
     {
-        match *self {
+        match self {
             Request::Show { .. } => Command::Show,
             Request::Check {
                 unknown,
@@ -41,6 +63,13 @@ impl<'a> Request<'a> {
                 ..
             } => Command::Check { unknown, levels },
             Request::Render { .. } => Command::Render,
+            Request::Compare { unknown, .. } => Command::Compare { unknown },
+            Request::Refute {
+                unknown,
+                levels,
+                ..
+            } => Command::Refute { unknown, levels },
+            Request::Propose { unknown, names, .. } => Command::Propose { unknown, names },
         }
     }
 
@@ -72,6 +101,34 @@ impl<'a> Request<'a> {
             Request::Render { dictionary } => Origins {
                 first: Origin::of_dictionary(dictionary),
                 second: nowhere,
+                table: nowhere,
+                message: nowhere,
+            },
+            Request::Compare {
+                first,
+                second,
+                table,
+                ..
+            } => Origins {
+                first: Origin::of_dictionary(first),
+                second: Origin::of_dictionary(second),
+                table: Origin::of_table(table),
+                message: nowhere,
+            },
+            Request::Refute {
+                first,
+                second,
+                message,
+                ..
+            } => Origins {
+                first: Origin::of_dictionary(first),
+                second: Origin::of_dictionary(second),
+                table: nowhere,
+                message: Origin::of_message(message),
+            },
+            Request::Propose { first, second, .. } => Origins {
+                first: Origin::of_dictionary(first),
+                second: Origin::of_dictionary(second),
                 table: nowhere,
                 message: nowhere,
             },

@@ -20,6 +20,14 @@ const fn dictionary_file(path: &str) -> Origin<'_> {
     }
 }
 
+/// A table's file, with the limit of its text.
+const fn table_file(path: &str) -> Origin<'_> {
+    Origin::File {
+        path,
+        limit: 33_554_432,
+    }
+}
+
 /// The inputs of a subcommand that reads a dictionary and a message.
 fn origins_of<'a>(first: Origin<'a>, message: Origin<'a>) -> Origins<'a> {
     Origins {
@@ -103,8 +111,8 @@ fn are_read(
     let Ok(request) = parse_words(rt.alloc(), words) else {
         return Err(Fail::new(format_args!("the words are refused: {words:?}")));
     };
-    assert_eq!(rt; request.command(), *command);
     assert_eq!(rt; request.origins(), origins);
+    assert_eq!(rt; request.into_command(), *command);
     Ok(())
 }
 
@@ -180,6 +188,201 @@ fn reads_the_inputs_of_check(rt: HostRuntime) -> Result<(), Fail> {
     ];
     for (words, origins) in rows.iter() {
         are_read(&rt, words, &command, *origins)?;
+    }
+    Ok(())
+}
+
+/// The inputs of a subcommand that reads two dictionaries and a table.
+fn compared<'a>(first: Origin<'a>, second: Origin<'a>, table: Origin<'a>) -> Origins<'a> {
+    Origins {
+        first,
+        second,
+        table,
+        message: Origin::Nowhere,
+    }
+}
+
+#[test]
+fn reads_the_words_of_compare(rt: HostRuntime) -> Result<(), Fail> {
+    let (a, b) = (dictionary_file("a.txt"), dictionary_file("b.txt"));
+    let input = Origin::StandardInput { limit: 1_048_576 };
+    let table_input = Origin::StandardInput { limit: 33_554_432 };
+    let table = table_file("t.txt");
+    let rows: [(&[&str], Unknown, Origins); 7] = [
+        (
+            &["a.txt", "b.txt", "t.txt"],
+            Unknown::Kept,
+            compared(a, b, table),
+        ),
+        (
+            &["--unknown", "refused", "a.txt", "b.txt", "t.txt"],
+            Unknown::Refused,
+            compared(a, b, table),
+        ),
+        (
+            &["a.txt", "b.txt", "--unknown=kept", "t.txt"],
+            Unknown::Kept,
+            compared(a, b, table),
+        ),
+        (
+            &["@base", "@base", "@base"],
+            Unknown::Kept,
+            compared(Origin::Base, Origin::Base, table_file("@base")),
+        ),
+        (
+            &["@base", "b.txt", "-"],
+            Unknown::Kept,
+            compared(Origin::Base, b, table_input),
+        ),
+        (
+            &["a.txt", "-", "t.txt"],
+            Unknown::Kept,
+            compared(a, input, table),
+        ),
+        (
+            &["--", "-", "-b", "-t"],
+            Unknown::Kept,
+            compared(input, dictionary_file("-b"), table_file("-t")),
+        ),
+    ];
+    for (options, unknown, origins) in rows.iter() {
+        let mut words: Vec<&str> = Vec::from_slice(rt.alloc(), &["diacmd", "compare"])?;
+        words.extend_from_slice(options)?;
+        are_read(
+            &rt,
+            &words,
+            &Command::Compare { unknown: *unknown },
+            *origins,
+        )?;
+    }
+    Ok(())
+}
+
+/// The inputs of a subcommand that reads two dictionaries and a message.
+fn refuted<'a>(first: Origin<'a>, second: Origin<'a>, message: Origin<'a>) -> Origins<'a> {
+    Origins {
+        first,
+        second,
+        table: Origin::Nowhere,
+        message,
+    }
+}
+
+#[test]
+fn reads_the_words_of_refute(rt: HostRuntime) -> Result<(), Fail> {
+    let limit = 67_108_864;
+    let (a, b) = (dictionary_file("a.txt"), dictionary_file("b.txt"));
+    let input = Origin::StandardInput { limit: 1_048_576 };
+    let message = Origin::File {
+        path: "m.hex",
+        limit,
+    };
+    let rows: [(&[&str], Unknown, Levels, Origins); 5] = [
+        (
+            &["a.txt", "b.txt", "m.hex"],
+            Unknown::Kept,
+            Levels::Any,
+            refuted(a, b, message),
+        ),
+        (
+            &[
+                "--unknown",
+                "refused",
+                "--levels",
+                "0",
+                "a.txt",
+                "b.txt",
+                "m.hex",
+            ],
+            Unknown::Refused,
+            Levels::AtMost(0),
+            refuted(a, b, message),
+        ),
+        (
+            &["a.txt", "@base", "-", "--levels=+5"],
+            Unknown::Kept,
+            Levels::AtMost(5),
+            refuted(a, Origin::Base, Origin::StandardInput { limit }),
+        ),
+        (
+            &["-", "b.txt", "m.hex"],
+            Unknown::Kept,
+            Levels::Any,
+            refuted(input, b, message),
+        ),
+        (
+            &["--", "-a", "-", "m.hex"],
+            Unknown::Kept,
+            Levels::Any,
+            refuted(dictionary_file("-a"), input, message),
+        ),
+    ];
+    for (options, unknown, levels, origins) in rows.iter() {
+        let command = Command::Refute {
+            unknown: *unknown,
+            levels: *levels,
+        };
+        let mut words: Vec<&str> = Vec::from_slice(rt.alloc(), &["diacmd", "refute"])?;
+        words.extend_from_slice(options)?;
+        are_read(&rt, &words, &command, *origins)?;
+    }
+    Ok(())
+}
+
+#[test]
+fn reads_the_words_of_propose(rt: HostRuntime) -> Result<(), Fail> {
+    let (a, b) = (dictionary_file("a.txt"), dictionary_file("b.txt"));
+    let input = Origin::StandardInput { limit: 1_048_576 };
+    let rows: [(&[&str], Unknown, &[&str], Origins); 6] = [
+        (
+            &["a.txt", "b.txt", "T"],
+            Unknown::Kept,
+            &["T"],
+            compared(a, b, Origin::Nowhere),
+        ),
+        (
+            &["--unknown", "refused", "a.txt", "b.txt", "T", "Q", "T"],
+            Unknown::Refused,
+            &["T", "Q", "T"],
+            compared(a, b, Origin::Nowhere),
+        ),
+        (
+            &["a.txt", "@base", "T", "Q", "--unknown=refused"],
+            Unknown::Refused,
+            &["T", "Q"],
+            compared(a, Origin::Base, Origin::Nowhere),
+        ),
+        (
+            &["a.txt", "b.txt", "T", "--unknown", "refused", "Q"],
+            Unknown::Refused,
+            &["T", "Q"],
+            compared(a, b, Origin::Nowhere),
+        ),
+        (
+            &["-", "b.txt", "-", "-"],
+            Unknown::Kept,
+            &["-", "-"],
+            compared(input, b, Origin::Nowhere),
+        ),
+        (
+            &["a.txt", "b.txt", "--", "--unknown", "@base", ""],
+            Unknown::Kept,
+            &["--unknown", "@base", ""],
+            compared(a, b, Origin::Nowhere),
+        ),
+    ];
+    for (options, unknown, wanted, origins) in rows.iter() {
+        let mut names = Vec::new(rt.alloc());
+        for name in wanted.iter() {
+            names.push(String::from_str(rt.alloc(), name)?)?;
+        }
+        let command = Command::Propose {
+            unknown: *unknown,
+            names,
+        };
+        let mut words: Vec<&str> = Vec::from_slice(rt.alloc(), &["diacmd", "propose"])?;
+        words.extend_from_slice(options)?;
+        are_read(&rt, &words, &command, *origins)?;
     }
     Ok(())
 }
@@ -281,7 +484,7 @@ fn ending_of<'a>(alloc: Global, words: &'a [&'a str]) -> Result<Ending<'a>, Fail
 }
 
 const NO_WORDS: &str = "error: 'diacmd' requires a subcommand but one was not provided
-  [subcommands: show, check, render, help]
+  [subcommands: show, check, render, compare, refute, propose, help]
 
 Usage: diacmd <COMMAND>
 
@@ -376,6 +579,40 @@ const NEGATIVE_ZERO: &str =
 For more information, try '--help'.
 ";
 
+const NO_TABLE: &str = "error: the following required arguments were not provided:
+  <TABLE>
+
+Usage: diacmd compare <A> <B> <TABLE>
+
+For more information, try '--help'.
+";
+
+const NO_LEVELS: &str = "error: unexpected argument '--levels' found
+
+  tip: to pass '--levels' as a value, use '-- --levels'
+
+Usage: diacmd compare [OPTIONS] <A> <B> <TABLE>
+
+For more information, try '--help'.
+";
+
+const NO_SECOND: &str = "error: the following required arguments were not provided:
+  <B>
+  <MESSAGE>
+
+Usage: diacmd refute <A> <B> <MESSAGE>
+
+For more information, try '--help'.
+";
+
+const NO_COMMAND: &str = "error: the following required arguments were not provided:
+  <COMMAND>...
+
+Usage: diacmd propose <A> <B> <COMMAND>...
+
+For more information, try '--help'.
+";
+
 const READ_TWICE: &str =
     "error: '-' is given twice, and standard input can be read once: name a file for one of the two
 
@@ -384,7 +621,7 @@ For more information, try '--help'.
 
 #[test]
 fn faults_of_the_words_go_to_standard_error(rt: HostRuntime) -> Result<(), Fail> {
-    let rows: [(&[&str], &str); 15] = [
+    let rows: [(&[&str], &str); 24] = [
         (&["diacmd"], NO_WORDS),
         (&["diacmd", "show"], NO_MESSAGE),
         (
@@ -434,6 +671,20 @@ fn faults_of_the_words_go_to_standard_error(rt: HostRuntime) -> Result<(), Fail>
             NEGATIVE_ZERO,
         ),
         (&["diacmd", "check", "-", "-"], READ_TWICE),
+        (&["diacmd", "compare", "a.txt", "b.txt"], NO_TABLE),
+        (
+            &[
+                "diacmd", "compare", "--levels", "1", "a.txt", "b.txt", "t.txt",
+            ],
+            NO_LEVELS,
+        ),
+        (&["diacmd", "compare", "-", "-", "t.txt"], READ_TWICE),
+        (&["diacmd", "compare", "-", "b.txt", "-"], READ_TWICE),
+        (&["diacmd", "compare", "a.txt", "-", "-"], READ_TWICE),
+        (&["diacmd", "refute", "a.txt"], NO_SECOND),
+        (&["diacmd", "refute", "-", "b.txt", "-"], READ_TWICE),
+        (&["diacmd", "propose", "a.txt", "b.txt"], NO_COMMAND),
+        (&["diacmd", "propose", "-", "-", "T"], READ_TWICE),
     ];
     for (words, told) in rows.iter() {
         let streams = Streams::new(rt.alloc());
@@ -450,18 +701,21 @@ const HELP: &str = "A workbench for Diameter (RFC 6733) dictionaries and message
 Usage: diacmd <COMMAND>
 
 Commands:
-  show    Prints a message: its header, and a line for each AVP
-  check   Tells whether a message is valid for a dictionary, or its first fault
-  render  Prints the canonical text of a dictionary
-  help    Print this message or the help of the given subcommand(s)
+  show     Prints a message: its header, and a line for each AVP
+  check    Tells whether a message is valid for a dictionary, or its first fault
+  render   Prints the canonical text of a dictionary
+  compare  Tells whether a table of pairs shows that what is valid for A is valid for B
+  refute   Tells whether a message is valid for A and not for B
+  propose  Prints the least table of pairs for commands of A
+  help     Print this message or the help of the given subcommand(s)
 
 Options:
   -h, --help     Print help
   -V, --version  Print version
 
 Status:
-  0  done; for check, the message is valid
-  1  for show, a bad AVP length in the message; for check, the message isn't valid
+  0  done; for check, valid; for compare, yes; for refute, refutes
+  1  for check, not valid; for compare, no; for refute, does not refute; for show, a bad AVP length
   2  bad input, or a bad command line
   3  a file or a device failed, or memory was refused
 ";
@@ -503,14 +757,61 @@ Options:
   -h, --help  Print help
 ";
 
+const COMPARE_HELP: &str =
+    "Tells whether a table of pairs shows that what is valid for A is valid for B
+
+Usage: diacmd compare [OPTIONS] <A> <B> <TABLE>
+
+Arguments:
+  <A>      The first dictionary text: a file, @base, or - for standard input
+  <B>      The second dictionary text: a file, @base, or - for standard input
+  <TABLE>  A table of pairs of names: a file, or - for standard input
+
+Options:
+      --unknown <POLICY>  Whether an AVP that isn't in the dictionary, with its M flag clear, is kept or refused [default: kept] [possible values: kept, refused]
+  -h, --help              Print help
+";
+
+const REFUTE_HELP: &str = "Tells whether a message is valid for A and not for B
+
+Usage: diacmd refute [OPTIONS] <A> <B> <MESSAGE>
+
+Arguments:
+  <A>        The first dictionary text: a file, @base, or - for standard input
+  <B>        The second dictionary text: a file, @base, or - for standard input
+  <MESSAGE>  A file of hexadecimal text, white space ignored; - for standard input
+
+Options:
+      --unknown <POLICY>  Whether an AVP that isn't in the dictionary, with its M flag clear, is kept or refused [default: kept] [possible values: kept, refused]
+      --levels <N>        How many levels of Grouped AVPs may stand in one another; without it, any number
+  -h, --help              Print help
+";
+
+const PROPOSE_HELP: &str = "Prints the least table of pairs for commands of A
+
+Usage: diacmd propose [OPTIONS] <A> <B> <COMMAND>...
+
+Arguments:
+  <A>           The first dictionary text: a file, @base, or - for standard input
+  <B>           The second dictionary text: a file, @base, or - for standard input
+  <COMMAND>...  The name of a command of A
+
+Options:
+      --unknown <POLICY>  Whether an AVP that isn't in the dictionary, with its M flag clear, is kept or refused [default: kept] [possible values: kept, refused]
+  -h, --help              Print help
+";
+
 #[test]
 fn what_is_asked_for_goes_to_standard_output(rt: HostRuntime) -> Result<(), Fail> {
-    let rows: [(&[&str], &str); 5] = [
+    let rows: [(&[&str], &str); 8] = [
         (&["diacmd", "--version"], "diacmd 0.1.0\n"),
         (&["diacmd", "--help"], HELP),
         (&["diacmd", "show", "--help"], SHOW_HELP),
         (&["diacmd", "check", "--help"], CHECK_HELP),
         (&["diacmd", "render", "--help"], RENDER_HELP),
+        (&["diacmd", "compare", "--help"], COMPARE_HELP),
+        (&["diacmd", "refute", "--help"], REFUTE_HELP),
+        (&["diacmd", "propose", "--help"], PROPOSE_HELP),
     ];
     for (words, told) in rows.iter() {
         let streams = Streams::new(rt.alloc());

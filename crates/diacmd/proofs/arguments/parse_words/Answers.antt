@@ -9,8 +9,8 @@ pub returns-in-Some-clause-words : goal.returns-in-Some-clause-words
 returns-in-Some-clause-words g c =
     let line = c.in_ok-line.ensures in
     let found = (c.in_ok-matches.ensures.ok.2 (ap is_simple line)).1 ∙ ap (λ app. subcommand_of app (map g.S.AsStr.text c.args.words.now)) line in
-    let asked = subst (λ sub. IsSomeAnd sub (IsRequestOf c.in-Some.request)) found c.in-Some.ensures in
-    read_keeps c.in-Some.request c.read_once.result _ c.read_once.ensures (c.as_slice.result, search rules, asked)
+    let asked = subst (λ sub. IsSomeAnd sub (IsRequestOf c.in_ok-request-in-Some.request)) found c.in_ok-request-in-Some.in_ok-request-in-Some-ensures in
+    read_keeps c.in_ok-request-in-Some.request c.read_once.result _ c.read_once.ensures (c.as_slice.result, search rules, asked)
 
 pub returns-in-Some-clause-once : goal.returns-in-Some-clause-once
-returns-in-Some-clause-once g c = read_is_once c.in-Some.request c.read_once.result c.read_once.ensures
+returns-in-Some-clause-once g c = read_is_once c.in_ok-request-in-Some.request c.read_once.result c.read_once.ensures
