@@ -50,10 +50,8 @@ pub fn parse_words<'a, S: AsStr>(alloc: Global, words: &'a [S]) -> Result<Reques
     let mut line = command_line(alloc, POLICIES.as_slice())?;
     let matches = line.try_get_matches_from_mut(words)?;
     match request_of(alloc, &matches) {
-        Some(made) => {
-            let request = made?;
-            read_once(request)
-        }
+        Some(Ok(request)) => read_once(request),
+        Some(Err(error)) => Err(Ending::from(error)),
         // It never comes to this: the line requires a subcommand, and each subcommand its words, with values that it can read.
         None => {
             let error = line.error(ErrorKind::MissingSubcommand, "the words ask for nothing")?;
