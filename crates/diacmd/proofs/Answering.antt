@@ -1,6 +1,6 @@
 -- The line of a pair that fails a test.
-use Rattle.std.proofs.Common.{◌≡◌, ℕ, ◌<◌, List, length, map, Some, Result, Ok, Err, refl, sym, subst, ap, ◌∙◌, get_or, codes, arith}
-use Rattle.std.specs.Prelude.{IfOk, String, slice_get, string_bytes, option_map}
+use Rattle.std.proofs.Common.{◌≡◌, ℕ, ◌<◌, List, length, map, Result, Ok, Err, refl, sym, subst, ap, ◌∙◌, get_or, codes, arith}
+use Rattle.std.specs.Prelude.{IfOk, String, string_bytes, option_map}
 use Rattle.std.specs.Global.{Global}
 use Rattle.std.proofs.lemmas.Option.{slice_get-map, slice_get_read}
 use Rattle.std.proofs.lemmas.List.{length-map}

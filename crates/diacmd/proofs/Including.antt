@@ -15,7 +15,7 @@ use Rattle.diacmd.specs.declared.command.Exit.{Exit}
 use Rattle.diacmd.specs.declared.command.Exit.TheVariants.{Yes, No, Bad}
 use Rattle.diacmd.specs.Texts.{IsDictionaryText}
 use Rattle.diacmd.specs.Pairs.{IsTableText, IsAnswerText}
-use Rattle.diacmd.specs.Outcome.{IsPairOutcome, ended, no_first, no_second, IsComparison, compared, no_table, IsCompareOutcome, IsOutcome}
+use Rattle.diacmd.specs.Outcome.{ended, no_first, no_second, compared, no_table, IsCompareOutcome, IsOutcome}
 use Rattle.diacmd.specs.Inclusion.{IsIncluded, ShowsInclusion}
 
 not_no : (exit : Exit) → exit ≡ No → exit ≡ Yes → ⊥

@@ -1,5 +1,5 @@
 -- A command of two dictionaries has one text and one end for its inputs.
-use Rattle.std.proofs.Common.{◌≡◌, ◌≢◌, ℕ, zero, suc, ◌<◌, List, [], ◌∷◌, ◌++◌, length, take, refl, sym, ap, subst, ◌∙◌, arith, codes, inl, inr, Option, Some}
+use Rattle.std.proofs.Common.{◌≡◌, ℕ, zero, suc, ◌<◌, List, [], ◌∷◌, ◌++◌, take, sym, ap, subst, ◌∙◌, arith, codes, inl, inr, Some}
 use Rattle.std.specs.Prelude.{◌⊎◌, Contains, slice_get}
 use Rattle.std.proofs.lemmas.Bool.{cases_order}
 use Rattle.std.proofs.lemmas.Option.{none-some, same_Some}
@@ -12,7 +12,7 @@ use Rattle.dia_compat.specs.declared.Answer.TheVariants as answer
 use Rattle.dia_compat.specs.declared.PairKind.TheVariants as pair
 use Rattle.dia_compat.specs.declared.Test.{Test}
 use Rattle.dia_compat.specs.TableText.{PlainTable, IsTable}
-use Rattle.dia_compat.specs.Closed.{NamesCommand, IsAnswer as IsCompared}
+use Rattle.dia_compat.specs.Closed.{NamesCommand}
 use Rattle.dia_compat.specs.Proposed.{AreCommandPairs, IsProposal, IsFirstUnknown}
 use Rattle.dia_compat.proofs.Placing.{IsIn}
 use Rattle.dia_compat.proofs.Counts.{contains_in}
@@ -25,7 +25,7 @@ use Rattle.diacmd.specs.declared.command.Inputs.{Inputs}
 use Rattle.diacmd.specs.declared.command.Exit.{Exit}
 use Rattle.diacmd.specs.Texts.{dictionary_line}
 use Rattle.diacmd.specs.Pairs.{IsTableText, IsNoTableText, too_long, not_text, fault, table_line, table_fault_text, IsFailureText, failure_line, IsAnswerText, most_table_text, table_text}
-use Rattle.diacmd.specs.Outcome.{Refuses, IsPairOutcome, ended, no_first, no_second, IsComparison, compared, no_table, IsCompareOutcome, IsRefuted, IsRefutation, refutes, does_not, no_message, IsRefuteOutcome, IsProposed, proposed, no_command, no_command_line, IsProposeOutcome}
+use Rattle.diacmd.specs.Outcome.{IsPairOutcome, ended, no_first, no_second, IsComparison, compared, no_table, IsCompareOutcome, IsRefutation, refutes, does_not, no_message, IsRefuteOutcome, IsProposed, proposed, no_command, no_command_line, IsProposeOutcome}
 use Rattle.diacmd.proofs.OneInput.{Same, refused_once, held_once, not_over, one_dictionary, dictionary_or_not, one_reason_for_dictionary, one_message, message_or_not, one_message_reason}
 
 -- an end of two dictionaries is one

@@ -23,7 +23,7 @@ use Rattle.dia_dict.specs.Dictionary.{Dictionary}
 use Rattle.dia_check.specs.declared.Unknown.{Unknown}
 use Rattle.dia_check.specs.declared.Levels.{Levels}
 use Rattle.diacmd.specs.declared.command.Inputs.{Inputs}
-use Rattle.diacmd.specs.Outcome.{Ends, IsRenderOutcome, no_source, IsMessageOutcome, no_dictionary, no_message, IsPairOutcome, ended, no_first, no_second, IsComparison, no_table, IsRefutation, IsProposed, no_command, no_command_line}
+use Rattle.diacmd.specs.Outcome.{Ends, IsRenderOutcome, no_source, IsMessageOutcome, no_dictionary, no_message, IsPairOutcome, ended, no_first, no_second, IsComparison, no_table, IsRefutation}
 
 pub TellsOf-map : (P Q : List ℕ → Type 0) (r : Refused) → ((told : List ℕ) → P told → Q told) → TellsOf P r → TellsOf Q r
 TellsOf-map P Q (Bad bad) f h = f (bad_input_text bad) h

@@ -14,11 +14,19 @@ pub enum Command {
     /// Prints the canonical text of a dictionary.
     Render,
     /// Tells whether a message is valid, or its first fault.
-    Check { unknown: Unknown, levels: Levels },
+    Check {
+        unknown: Unknown,
+        levels: Levels,
+    },
     /// Tells whether a table of pairs shows that each valid message of the first dictionary is valid under the second.
-    Compare { unknown: Unknown },
+    Compare {
+        unknown: Unknown,
+    },
     /// Tells whether a message is valid under the first dictionary and not under the second.
-    Refute { unknown: Unknown, levels: Levels },
+    Refute {
+        unknown: Unknown,
+        levels: Levels,
+    },
     /// Prints the least table of pairs for these commands of the first dictionary.
     Propose {
         unknown: Unknown,

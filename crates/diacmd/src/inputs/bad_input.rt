@@ -48,12 +48,8 @@ pub enum BadTable {
     TooLong,
     /// Bytes that are no UTF-8.
     NotText,
-    Syntax {
-        line: u32,
-    },
-    Limit {
-        line: u32,
-    },
+    Syntax { line: u32 },
+    Limit { line: u32 },
 }
 
 /// Why a text is no message, or bytes are none that can be shown.

@@ -9,6 +9,7 @@ use std::test::Fail;
 
 /// A number, and another one.
 pub const X: &str = "%avp X 9002 Unsigned32 any ";
+
 pub const Y: &str = "%avp Y 9003 Unsigned32 any ";
 
 /// The head of a request.
@@ -19,6 +20,7 @@ pub const T5: &str = "<T5> ::= < Diameter Header: 302, REQ, 5 > { X }";
 
 /// Groups that hold each other, under their names in each dictionary.
 pub const P_AND_Q: &str = "<P> ::= < AVP Header: 9100 > { Q } <Q> ::= < AVP Header: 9101 > { P } ";
+
 pub const P2_AND_Q2: &str =
     "<P2> ::= < AVP Header: 9100 > { Q2 } <Q2> ::= < AVP Header: 9101 > { P2 } ";
 
@@ -35,11 +37,7 @@ const E_PAIRS: &str = "command T = T\navp E = E\n";
 type Row<'a> = (&'a [&'a str], &'a [&'a str], &'a [&'a str], &'a str);
 
 /// Checks the line of each comparison.
-fn lines(
-    rt: &(impl AllocGlobal + Abort),
-    unknown: Unknown,
-    rows: &[Row<'_>],
-) -> Result<(), Fail> {
+fn lines(rt: &(impl AllocGlobal + Abort), unknown: Unknown, rows: &[Row<'_>]) -> Result<(), Fail> {
     for (first, second, table, line) in rows.iter() {
         let inputs = two(rt.alloc(), first, second, table, "")?;
         let exit = match *line {
@@ -56,29 +54,94 @@ fn lines(
 fn compares_rules(rt: HostRuntime) -> Result<(), Fail> {
     let rows: [Row<'_>; 14] = [
         (&[X, T, "{ X }"], &[X, T, "1*3 { X }"], &[PAIRS], "yes\n"),
-        (&[X, T, "1*3 { X }"], &[X, T, "{ X }"], &[PAIRS], "no command T = T N2\n"),
-        (&[X, T, "*0 [ X ]"], &[X, T, "{ X }"], &[PAIRS], "no command T = T N2\n"),
-        (&[X, T, "{ X } * [ AVP ]"], &[X, T, "{ X }"], &[PAIRS], "no command T = T N6\n"),
-        (&[X, T, "{ X } * [ AVP ]"], &[X, Y, T, "{ X } * [ AVP ]"], &[PAIRS], "no command T = T N9\n"),
-        (&[X, T, "{ X } * [ AVP ]"], &[X, Y, T, "{ X } [ Y ] * [ AVP ]"], &[PAIRS], "no command T = T N5\n"),
-        (&[X, T, "{ X }"], &[X, T, "< X >"], &[PAIRS], "no command T = T N1\n"),
+        (
+            &[X, T, "1*3 { X }"],
+            &[X, T, "{ X }"],
+            &[PAIRS],
+            "no command T = T N2\n",
+        ),
+        (
+            &[X, T, "*0 [ X ]"],
+            &[X, T, "{ X }"],
+            &[PAIRS],
+            "no command T = T N2\n",
+        ),
+        (
+            &[X, T, "{ X } * [ AVP ]"],
+            &[X, T, "{ X }"],
+            &[PAIRS],
+            "no command T = T N6\n",
+        ),
+        (
+            &[X, T, "{ X } * [ AVP ]"],
+            &[X, Y, T, "{ X } * [ AVP ]"],
+            &[PAIRS],
+            "no command T = T N9\n",
+        ),
+        (
+            &[X, T, "{ X } * [ AVP ]"],
+            &[X, Y, T, "{ X } [ Y ] * [ AVP ]"],
+            &[PAIRS],
+            "no command T = T N5\n",
+        ),
+        (
+            &[X, T, "{ X }"],
+            &[X, T, "< X >"],
+            &[PAIRS],
+            "no command T = T N1\n",
+        ),
         (&[X, T, "< X >"], &[X, T, "{ X }"], &[PAIRS], "yes\n"),
-        (&[X, Y, T, "{ X } [ Y ]"], &[X, Y, T, "{ X }"], &[PAIRS, "avp Y = Y"], "no command T = T N3\n"),
-        (&[X, T, "{ X } *2 [ AVP ]"], &[X, T, "{ X } *1 [ AVP ]"], &[PAIRS], "no command T = T N7\n"),
-        (&[X, T, "{ X } * [ AVP ]"], &[X, T, "{ X } 1* { AVP }"], &[PAIRS], "no command T = T N8\n"),
-        (&[X, T, "{ X }"], &["%avp X 9003 Unsigned32 any ", T, "{ X }"], &[PAIRS], "no command T = T N3\n"),
+        (
+            &[X, Y, T, "{ X } [ Y ]"],
+            &[X, Y, T, "{ X }"],
+            &[PAIRS, "avp Y = Y"],
+            "no command T = T N3\n",
+        ),
+        (
+            &[X, T, "{ X } *2 [ AVP ]"],
+            &[X, T, "{ X } *1 [ AVP ]"],
+            &[PAIRS],
+            "no command T = T N7\n",
+        ),
+        (
+            &[X, T, "{ X } * [ AVP ]"],
+            &[X, T, "{ X } 1* { AVP }"],
+            &[PAIRS],
+            "no command T = T N8\n",
+        ),
+        (
+            &[X, T, "{ X }"],
+            &["%avp X 9003 Unsigned32 any ", T, "{ X }"],
+            &[PAIRS],
+            "no command T = T N3\n",
+        ),
         (
             &[X, T, "{ X } * [ AVP ]"],
             &["%avp X 9003 Unsigned32 any ", T, "{ X } * [ AVP ]"],
             &[PAIRS],
             "no command T = T N4\n",
         ),
-        (&["%avp X 9002 Unsigned32 mustnot ", T, "{ X } * [ AVP ]"], &[T, "* [ AVP ]"], &[REQUESTS], "yes\n"),
+        (
+            &["%avp X 9002 Unsigned32 mustnot ", T, "{ X } * [ AVP ]"],
+            &[T, "* [ AVP ]"],
+            &[REQUESTS],
+            "yes\n",
+        ),
     ];
     lines(&rt, Unknown::Kept, &rows)?;
     let refused: [Row<'_>; 3] = [
-        (&[X, T, "{ X } * [ AVP ]"], &[X, Y, T, "{ X } * [ AVP ]"], &[PAIRS], "yes\n"),
-        (&[X, T, "{ X } * [ AVP ]"], &[X, Y, T, "{ X } [ Y ] * [ AVP ]"], &[PAIRS], "yes\n"),
+        (
+            &[X, T, "{ X } * [ AVP ]"],
+            &[X, Y, T, "{ X } * [ AVP ]"],
+            &[PAIRS],
+            "yes\n",
+        ),
+        (
+            &[X, T, "{ X } * [ AVP ]"],
+            &[X, Y, T, "{ X } [ Y ] * [ AVP ]"],
+            &[PAIRS],
+            "yes\n",
+        ),
         (
             &["%avp X 9002 Unsigned32 mustnot ", T, "{ X } * [ AVP ]"],
             &[T, "* [ AVP ]"],
@@ -91,21 +154,67 @@ fn compares_rules(rt: HostRuntime) -> Result<(), Fail> {
 
 #[test]
 fn compares_pairs(rt: HostRuntime) -> Result<(), Fail> {
-    let nodes = "<Node> ::= < AVP Header: 9001 > * [ Node ] <T> ::= < Diameter Header: 301, REQ > * [ Node ]";
+    let nodes =
+        "<Node> ::= < AVP Header: 9001 > * [ Node ] <T> ::= < Diameter Header: 301, REQ > * [ Node ]";
     let e = "%avp E 9004 Enumerated any ";
     let rows: [Row<'_>; 12] = [
-        (&[X, T, "{ X }"], &[X, T, "{ X } ", T5], &[PAIRS], "no command T = T N10\n"),
-        (&[X, T, "{ X }"], &[X, T, "{ X } ", T5], &[PAIRS, "command T = T5"], "yes\n"),
+        (
+            &[X, T, "{ X }"],
+            &[X, T, "{ X } ", T5],
+            &[PAIRS],
+            "no command T = T N10\n",
+        ),
+        (
+            &[X, T, "{ X }"],
+            &[X, T, "{ X } ", T5],
+            &[PAIRS, "command T = T5"],
+            "yes\n",
+        ),
         (&[nodes], &[nodes], &[REQUESTS, "avp Node = Node"], "yes\n"),
         (&[nodes], &[nodes], &[REQUESTS], "no command T = T N4\n"),
-        (&[P_AND_Q, T, "{ P }"], &[P2_AND_Q2, T, "{ P2 }"], &[REQUESTS, "avp P = P2\navp Q = Q2"], "yes\n"),
+        (
+            &[P_AND_Q, T, "{ P }"],
+            &[P2_AND_Q2, T, "{ P2 }"],
+            &[REQUESTS, "avp P = P2\navp Q = Q2"],
+            "yes\n",
+        ),
         (&[X, T, "{ X }"], &[X, T, "1*3 { X }"], &[""], "yes\n"),
-        (&[X, T, "{ X }"], &[X, T, "1*3 { X }"], &[PAIRS, "avp Z = Z"], "no avp Z = Z N10\n"),
-        (&[e, "( 0..3 ) ", T, "{ E }"], &[e, "( 2..3 0..1 ) ", T, "{ E }"], &[E_PAIRS], "yes\n"),
-        (&[e, "( 2..3 0..1 ) ", T, "{ E }"], &[e, "( 0..3 ) ", T, "{ E }"], &[E_PAIRS], "yes\n"),
-        (&[e, "( 0..3 ) ", T, "{ E }"], &[e, "( 0..1 3 ) ", T, "{ E }"], &[E_PAIRS], "no avp E = E N10\n"),
-        (&[e, "( 0..1 3 ) ", T, "{ E }"], &[e, "( 0..3 ) ", T, "{ E }"], &[E_PAIRS], "yes\n"),
-        (&[e, T, "{ E }"], &[e, "( 0..2147483647 ) ", T, "{ E }"], &[E_PAIRS], "no avp E = E N10\n"),
+        (
+            &[X, T, "{ X }"],
+            &[X, T, "1*3 { X }"],
+            &[PAIRS, "avp Z = Z"],
+            "no avp Z = Z N10\n",
+        ),
+        (
+            &[e, "( 0..3 ) ", T, "{ E }"],
+            &[e, "( 2..3 0..1 ) ", T, "{ E }"],
+            &[E_PAIRS],
+            "yes\n",
+        ),
+        (
+            &[e, "( 2..3 0..1 ) ", T, "{ E }"],
+            &[e, "( 0..3 ) ", T, "{ E }"],
+            &[E_PAIRS],
+            "yes\n",
+        ),
+        (
+            &[e, "( 0..3 ) ", T, "{ E }"],
+            &[e, "( 0..1 3 ) ", T, "{ E }"],
+            &[E_PAIRS],
+            "no avp E = E N10\n",
+        ),
+        (
+            &[e, "( 0..1 3 ) ", T, "{ E }"],
+            &[e, "( 0..3 ) ", T, "{ E }"],
+            &[E_PAIRS],
+            "yes\n",
+        ),
+        (
+            &[e, T, "{ E }"],
+            &[e, "( 0..2147483647 ) ", T, "{ E }"],
+            &[E_PAIRS],
+            "no avp E = E N10\n",
+        ),
     ];
     lines(&rt, Unknown::Kept, &rows)
 }
@@ -146,7 +255,12 @@ avp Experimental-Result = Experimental-Result
 ";
     let base: &[&str] = &[base_text()];
     let rows: [Row<'_>; 2] = [
-        (base, base, &[commands, avps, "avp User-Name = User-Name"], "yes\n"),
+        (
+            base,
+            base,
+            &[commands, avps, "avp User-Name = User-Name"],
+            "yes\n",
+        ),
         (base, base, &[commands, avps], "no command CER = CER N9\n"),
     ];
     lines(&rt, Unknown::Kept, &rows)
@@ -156,11 +270,31 @@ avp Experimental-Result = Experimental-Result
 fn refuses_inputs_in_the_order_of_the_words(rt: HostRuntime) -> Result<(), Fail> {
     let good: &[&str] = &[X, T, "{ X }"];
     let rows: [Row<'_>; 5] = [
-        (good, good, &["command T = T\navp X X"], "table: syntax at line 2\n"),
+        (
+            good,
+            good,
+            &["command T = T\navp X X"],
+            "table: syntax at line 2\n",
+        ),
         (good, good, &["avp X=X"], "table: syntax at line 1\n"),
-        (good, &["%avp"], &["avp X=X"], "dictionary 2: syntax at line 1\n"),
-        (good, &[T, "{ X }"], &["avp X=X"], "dictionary 2: undefined-name T X\n"),
-        (&["%avp"], &["%avp"], &["avp X=X"], "dictionary 1: syntax at line 1\n"),
+        (
+            good,
+            &["%avp"],
+            &["avp X=X"],
+            "dictionary 2: syntax at line 1\n",
+        ),
+        (
+            good,
+            &[T, "{ X }"],
+            &["avp X=X"],
+            "dictionary 2: undefined-name T X\n",
+        ),
+        (
+            &["%avp"],
+            &["%avp"],
+            &["avp X=X"],
+            "dictionary 1: syntax at line 1\n",
+        ),
     ];
     lines(&rt, Unknown::Kept, &rows)?;
     let mut inputs = two(rt.alloc(), good, good, &[], "")?;
@@ -184,7 +318,12 @@ fn keeps_the_limits_of_a_table(rt: HostRuntime) -> Result<(), Fail> {
     let second: &[&str] = &[X, T, "1*3 { X }"];
     let rows: [Row<'_>; 2] = [
         (first, second, &[table.as_str()], "yes\n"),
-        (first, second, &[table.as_str(), "avp X = X"], "table: limit at line 65537\n"),
+        (
+            first,
+            second,
+            &[table.as_str(), "avp X = X"],
+            "table: limit at line 65537\n",
+        ),
     ];
     lines(&rt, Unknown::Kept, &rows)?;
     let mut name = String::new(alloc);

@@ -15,7 +15,14 @@ fn renders_canonically(rt: HostRuntime) -> Result<(), Fail> {
         (base_text(), base_text()),
     ];
     for (text, lines) in rows.iter() {
-        check(&rt, &Command::Render, text.as_bytes(), b"", lines, Exit::Yes)?;
+        check(
+            &rt,
+            &Command::Render,
+            text.as_bytes(),
+            b"",
+            lines,
+            Exit::Yes,
+        )?;
     }
     Ok(())
 }
