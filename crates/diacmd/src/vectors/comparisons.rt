@@ -12,6 +12,12 @@ pub const X: &str = "%avp X 9002 Unsigned32 any ";
 
 pub const Y: &str = "%avp Y 9003 Unsigned32 any ";
 
+const E: &str = "%avp E 9004 Enumerated any ";
+
+/// Groups of one kind that hold each other.
+const NODES: &str =
+    "<Node> ::= < AVP Header: 9001 > * [ Node ] <T> ::= < Diameter Header: 301, REQ > * [ Node ]";
+
 /// The head of a request.
 pub const T: &str = "<T> ::= < Diameter Header: 302, REQ > ";
 
@@ -39,15 +45,27 @@ type Row<'a> = (&'a [&'a str], &'a [&'a str], &'a [&'a str], &'a str);
 /// Checks the line of each comparison.
 fn lines(rt: &(impl AllocGlobal + Abort), unknown: Unknown, rows: &[Row<'_>]) -> Result<(), Fail> {
     for (first, second, table, line) in rows.iter() {
-        let inputs = two(rt.alloc(), first, second, table, "")?;
-        let exit = match *line {
-            "yes\n" => Exit::Yes,
-            line if line.starts_with("no ") => Exit::No,
-            _ => Exit::Bad,
-        };
-        check_inputs(rt, &Command::Compare { unknown }, &inputs, line, exit)?;
+        compares(rt, unknown, first, second, table, line)?;
     }
     Ok(())
+}
+
+/// Checks the line of a comparison.
+fn compares(
+    rt: &(impl AllocGlobal + Abort),
+    unknown: Unknown,
+    first: &[&str],
+    second: &[&str],
+    table: &[&str],
+    line: &str,
+) -> Result<(), Fail> {
+    let inputs = two(rt.alloc(), first, second, table, "")?;
+    let exit = match line {
+        "yes\n" => Exit::Yes,
+        line if line.starts_with("no ") => Exit::No,
+        _ => Exit::Bad,
+    };
+    check_inputs(rt, &Command::Compare { unknown }, &inputs, line, exit)
 }
 
 #[test]
@@ -154,9 +172,6 @@ fn compares_rules(rt: HostRuntime) -> Result<(), Fail> {
 
 #[test]
 fn compares_pairs(rt: HostRuntime) -> Result<(), Fail> {
-    let nodes =
-        "<Node> ::= < AVP Header: 9001 > * [ Node ] <T> ::= < Diameter Header: 301, REQ > * [ Node ]";
-    let e = "%avp E 9004 Enumerated any ";
     let rows: [Row<'_>; 12] = [
         (
             &[X, T, "{ X }"],
@@ -170,8 +185,8 @@ fn compares_pairs(rt: HostRuntime) -> Result<(), Fail> {
             &[PAIRS, "command T = T5"],
             "yes\n",
         ),
-        (&[nodes], &[nodes], &[REQUESTS, "avp Node = Node"], "yes\n"),
-        (&[nodes], &[nodes], &[REQUESTS], "no command T = T N4\n"),
+        (&[NODES], &[NODES], &[REQUESTS, "avp Node = Node"], "yes\n"),
+        (&[NODES], &[NODES], &[REQUESTS], "no command T = T N4\n"),
         (
             &[P_AND_Q, T, "{ P }"],
             &[P2_AND_Q2, T, "{ P2 }"],
@@ -186,32 +201,32 @@ fn compares_pairs(rt: HostRuntime) -> Result<(), Fail> {
             "no avp Z = Z N10\n",
         ),
         (
-            &[e, "( 0..3 ) ", T, "{ E }"],
-            &[e, "( 2..3 0..1 ) ", T, "{ E }"],
+            &[E, "( 0..3 ) ", T, "{ E }"],
+            &[E, "( 2..3 0..1 ) ", T, "{ E }"],
             &[E_PAIRS],
             "yes\n",
         ),
         (
-            &[e, "( 2..3 0..1 ) ", T, "{ E }"],
-            &[e, "( 0..3 ) ", T, "{ E }"],
+            &[E, "( 2..3 0..1 ) ", T, "{ E }"],
+            &[E, "( 0..3 ) ", T, "{ E }"],
             &[E_PAIRS],
             "yes\n",
         ),
         (
-            &[e, "( 0..3 ) ", T, "{ E }"],
-            &[e, "( 0..1 3 ) ", T, "{ E }"],
+            &[E, "( 0..3 ) ", T, "{ E }"],
+            &[E, "( 0..1 3 ) ", T, "{ E }"],
             &[E_PAIRS],
             "no avp E = E N10\n",
         ),
         (
-            &[e, "( 0..1 3 ) ", T, "{ E }"],
-            &[e, "( 0..3 ) ", T, "{ E }"],
+            &[E, "( 0..1 3 ) ", T, "{ E }"],
+            &[E, "( 0..3 ) ", T, "{ E }"],
             &[E_PAIRS],
             "yes\n",
         ),
         (
-            &[e, T, "{ E }"],
-            &[e, "( 0..2147483647 ) ", T, "{ E }"],
+            &[E, T, "{ E }"],
+            &[E, "( 0..2147483647 ) ", T, "{ E }"],
             &[E_PAIRS],
             "no avp E = E N10\n",
         ),
@@ -253,17 +268,23 @@ avp Failed-AVP = Failed-AVP
 avp Proxy-Info = Proxy-Info
 avp Experimental-Result = Experimental-Result
 ";
-    let base: &[&str] = &[base_text()];
-    let rows: [Row<'_>; 2] = [
-        (
-            base,
-            base,
-            &[commands, avps, "avp User-Name = User-Name"],
-            "yes\n",
-        ),
-        (base, base, &[commands, avps], "no command CER = CER N9\n"),
-    ];
-    lines(&rt, Unknown::Kept, &rows)
+    let base = base_text();
+    compares(
+        &rt,
+        Unknown::Kept,
+        &[base],
+        &[base],
+        &[commands, avps, "avp User-Name = User-Name"],
+        "yes\n",
+    )?;
+    compares(
+        &rt,
+        Unknown::Kept,
+        &[base],
+        &[base],
+        &[commands, avps],
+        "no command CER = CER N9\n",
+    )
 }
 
 #[test]
@@ -314,27 +335,26 @@ fn keeps_the_limits_of_a_table(rt: HostRuntime) -> Result<(), Fail> {
     for _ in 0..65_535 {
         table.push_str("avp X = X\n")?;
     }
-    let first: &[&str] = &[X, T, "{ X }"];
-    let second: &[&str] = &[X, T, "1*3 { X }"];
-    let rows: [Row<'_>; 2] = [
-        (first, second, &[table.as_str()], "yes\n"),
-        (
-            first,
-            second,
-            &[table.as_str(), "avp X = X"],
-            "table: limit at line 65537\n",
-        ),
-    ];
-    lines(&rt, Unknown::Kept, &rows)?;
+    keeps_limit(&rt, &[table.as_str()], "yes\n")?;
+    keeps_limit(
+        &rt,
+        &[table.as_str(), "avp X = X"],
+        "table: limit at line 65537\n",
+    )?;
     let mut name = String::new(alloc);
     for _ in 0..129 {
         name.push('N')?;
     }
-    let long: [Row<'_>; 1] = [(
-        first,
-        second,
+    keeps_limit(
+        &rt,
         &["avp ", name.as_str(), " = X"],
         "table: limit at line 1\n",
-    )];
-    lines(&rt, Unknown::Kept, &long)
+    )
+}
+
+/// Checks the line of a comparison of two dictionaries that differ in the counts of X.
+fn keeps_limit(rt: &(impl AllocGlobal + Abort), table: &[&str], line: &str) -> Result<(), Fail> {
+    let first = &[X, T, "{ X }"];
+    let second = &[X, T, "1*3 { X }"];
+    compares(rt, Unknown::Kept, first, second, table, line)
 }
