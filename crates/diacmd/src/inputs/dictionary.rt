@@ -63,7 +63,7 @@ fn tell(number: u8, why: BadDictionary) -> Refused
     Refused::Bad(BadInput::Dictionary { number, why })
 }
 
-/// What is told of a fault of the text, but for want of memory.
+/// What is told of a fault of the text, unless memory was refused.
 fn tell_fault(number: u8, fault: CcfFault) -> Refused
     ensures { TellsOf (λ told. (fault ≢ CcfFault.NoMemory) × (told ≡ dictionary_line number (fault_text fault))) result }
 {
