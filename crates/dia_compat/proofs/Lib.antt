@@ -22,6 +22,7 @@ pub mod Testing
 pub mod Rows
 pub mod Words
 pub mod TableLines
+pub mod Rendering
 pub mod Reaching
 pub mod Wanting
 pub mod NamedCommands

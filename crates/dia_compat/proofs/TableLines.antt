@@ -72,7 +72,7 @@ one_line l m text x y = by l m (in_words l text x) (in_words m text y)
 
 -- ---- lists of lines
 
-append_lines : (ls ms : List Line) (ts us : List (List ℕ)) → AreLines ls ts → AreLines ms us → AreLines (ls ++ ms) (ts ++ us)
+pub append_lines : (ls ms : List Line) (ts us : List (List ℕ)) → AreLines ls ts → AreLines ms us → AreLines (ls ++ ms) (ts ++ us)
 append_lines [] ms [] us a b = b
 append_lines [] ms (t ∷ ts) us a b = absurd a
 append_lines (l ∷ ls) ms [] us a b = absurd a

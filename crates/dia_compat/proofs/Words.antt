@@ -94,7 +94,7 @@ pub record IsWord (word : List ℕ) : Type 0 where
   pub some : 0 < length word
   pub bytes : list_all is_word_byte word ≡ true
 
-name_is_word : (name : List ℕ) → is_name_run name ≡ true → IsWord name
+pub name_is_word : (name : List ℕ) → is_name_run name ≡ true → IsWord name
 name_is_word [] named = cc
 name_is_word (c ∷ cs) named =
     let parts = and_parts (is_ascii_alphanumeric c && list_all is_run_byte cs) (list_any is_ascii_alphabetic (c ∷ cs)) named in
@@ -150,7 +150,7 @@ no_word_is_tail text none =
 
 -- ---- a pair's line
 
-regroup : (a b c d e f g h i : List ℕ) → a ++ b ++ c ++ d ++ e ++ f ++ g ++ h ++ i ≡ a ++ (b ++ (c ++ (d ++ (e ++ (f ++ (g ++ (h ++ i)))))))
+pub regroup : (a b c d e f g h i : List ℕ) → a ++ b ++ c ++ d ++ e ++ f ++ g ++ h ++ i ≡ a ++ (b ++ (c ++ (d ++ (e ++ (f ++ (g ++ (h ++ i)))))))
 regroup a b c d e f g h i = simp append_assoc
 
 sign_is_word : IsWord (codes "=")

@@ -1,4 +1,5 @@
 pub mod TableText
+pub mod Rendering
 pub mod Below
 pub mod Closed
 pub mod Proposed

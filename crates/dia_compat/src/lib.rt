@@ -12,4 +12,5 @@ pub use inclusion::{
 pub use proposing::{ProposeFault, one_proposal, propose};
 pub use table::{
     MAX_NAME, MAX_PAIRS, MAX_TABLE, Table, TableFault, one_table, one_table_fault, parse_table,
+    read_tables_are_writable, render_table,
 };

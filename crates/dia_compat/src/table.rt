@@ -6,11 +6,13 @@ ghost use Rattle.dia_compat.specs.TableText.{PlainTable, plain, plain_pair, IsTa
 ghost use Rattle.dia_compat.specs.Lines.{Adds, PassesLimit, HasRoom};
 
 mod line;
+mod rendering;
 #[cfg(test)]
 mod tests;
 mod words;
 
 use line::{Line, read_line};
+pub use rendering::{read_tables_are_writable, render_table};
 use std::alloc::{AllocError, Global};
 use std::fmt;
 use thiserror::Error;
