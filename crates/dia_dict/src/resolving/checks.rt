@@ -4,7 +4,7 @@ ghost use Rattle.std.specs.List.{list_all};
 ghost use Rattle.std.specs.Option.{option_copied};
 ghost use Rattle.dia_ccf.specs.Names.{is_group};
 ghost use Rattle.dia_ccf.specs.Plain.{plain, plain_decl, plain_def};
-ghost use Rattle.dia_dict.specs.Resolution.{wrong_limits, wrong_entries, too_many_rules, is_long, no_groups, lacks_group, header_mismatches, is_mismatched, is_grouped, agrees_with, avp_names, is_bare, key_of_decl, group_key, head_of, duplicate_keys, duplicate_commands};
+ghost use Rattle.dia_dict.specs.Resolution.{wrong_limits, wrong_entries, too_many_rules, is_long, no_groups, lacks_group, header_mismatches, is_mismatched, is_grouped, avp_names, is_bare, key_of_decl, group_key, head_of, duplicate_keys, duplicate_commands};
 ghost use Rattle.dia_dict.specs.Refusing.{IsRefused, named};
 ghost use Rattle.dia_dict.specs.Selecting.{selector_of};
 
@@ -14,7 +14,7 @@ use super::names::{Names, key_of_declaration, key_of_group};
 use super::refusal::Refusal;
 use crate::fault::DictKind;
 use crate::hashed::Selector;
-use dia_ccf::{Decl, Def, FormatName, Head, Source};
+use dia_ccf::{Decl, Def, FormatName, Source};
 use dia_wire::Key;
 use std::alloc::{AllocError, Global};
 
@@ -22,16 +22,16 @@ use std::alloc::{AllocError, Global};
 const MAX_RULES: usize = 1024;
 
 /// The most declarations, groups and commands together.
-const MAX_ENTRIES: usize = 16384;
+const MAX_PARTS: usize = 16384;
 
-/// No definition has too many rules, and the source not too many entries.
+/// No definition has too many rules, and the source has not too many declarations, groups and commands.
 pub(super) fn limits(source: &Source) -> Result<(), Refusal<'_>>
     ensures ok { OnOk result (wrong_limits (plain source.now) ≡ []) }
     ensures err { IfErr result (IsRefused (wrong_limits (plain source.now))) }
 {
     lengths(&source.groups)?;
     lengths(&source.commands)?;
-    if source.avps.len() + source.groups.len() + source.commands.len() > MAX_ENTRIES {
+    if source.avps.len() + source.groups.len() + source.commands.len() > MAX_PARTS {
         return Err(Refusal::at(DictKind::Limit, ""));
     }
     Ok(())
@@ -50,10 +50,10 @@ fn lengths(defs: &[Def]) -> Result<(), Refusal<'_>>
 fn first_long(defs: &[Def]) -> Option<&Def>
     ensures { option_copied result ≡ find (λ d. is_long (plain_def d)) defs.now }
 {
-    defs.iter().find(|def| has_many_rules(def))
+    defs.iter().find(|def| is_long(def))
 }
 
-fn has_many_rules(def: &Def) -> bool
+fn is_long(def: &Def) -> bool
     ensures { result ≡ is_long (plain_def def.now) }
 {
     def.rules.len() > MAX_RULES
@@ -114,15 +114,11 @@ fn is_mismatch(names: &Names<'_>, group: &Def) -> bool
     ensures { result ≡ is_mismatched (plain names.now.source.now) (plain_def group.now) }
 {
     match names.declaration(&group.name) {
-        Some(decl) => !agrees(group, decl),
+        Some(decl) => {
+            !is_grouped(decl.format) || key_of_group(group) != key_of_declaration(decl)
+        }
         None => false,
     }
-}
-
-fn agrees(group: &Def, decl: &Decl) -> bool
-    ensures { result ≡ agrees_with (plain_def group.now) (plain_decl decl.now) }
-{
-    is_grouped(decl.format) && key_of_group(group) == key_of_declaration(decl)
 }
 
 /// An AVP by its name and key.
@@ -209,15 +205,7 @@ fn selectors_of(alloc: Global, commands: &[Def]) -> Result<Vec<Selector>, AllocE
 {
     let mut selectors = Vec::new(alloc);
     for command in commands {
-        selectors.push(selector(command.head))?;
+        selectors.push(Selector::of(head(command.head)))?;
     }
     Ok(selectors)
-}
-
-/// Which messages a command's header selects.
-fn selector(header: Head) -> Selector
-    requires { IsTrue (not (is_group header)) }
-    ensures { result ≡ selector_of (head_of header) }
-{
-    Selector::of(head(header))
 }
