@@ -40,18 +40,11 @@ guarded false x y h = absurd cc
 
 -- ---- bytes
 
-take_same : (a b : List ℕ) → length a ≡ length b → take (length b) a ≡ a
-take_same a b n = take_all (length b) a (omega arith)
-
 pub same_bytes-is : (a b : List ℕ) → same_bytes a b ≡ true → a ≡ b
-same_bytes-is a b h =
-    let k = both (length a == length b) (starts_with nat_eq a b) h in
-    let n = eqb-true (length a) (length b) k.0 in
-    let p : pointwise eqb b a ≡ true = rw (← take_same a b n) k.1 in
-    sym ((bytes_decides b a).0 p)
+same_bytes-is a b = (bytes_decides a b).0
 
 pub same_bytes-refl : (a : List ℕ) → same_bytes a a ≡ true
-same_bytes-refl a = rw (eq-eqb (length a) (length a) refl, take-length a) ((bytes_decides a a).1 refl)
+same_bytes-refl a = (bytes_decides a a).1 refl
 
 -- ---- tokens
 

@@ -1,6 +1,7 @@
 -- Names, and the other facts that each value of a source keeps.
-use Rattle.std.specs.Prelude.{ℕ, ◌+◌, nat_lt, nat_le, nat_eq, Bool, true, false, not, ◌&&◌, ◌||◌, ◌==◌, if◌then◌else◌, List, [], ◌∷◌, length, Option, Some, None, codes, String, string_bytes}
-use Rattle.std.specs.List.{list_all, list_any, starts_with}
+use Rattle.std.specs.Prelude.{ℕ, ◌+◌, nat_lt, nat_le, Bool, true, false, not, ◌&&◌, ◌||◌, ◌==◌, if◌then◌else◌, List, [], ◌∷◌, length, Option, Some, None, codes, String, string_bytes}
+use Rattle.std.specs.List.{list_all, list_any}
+use Rattle.std.specs.Str.{bytes_eq}
 use Rattle.std.specs.Char.{is_ascii_alphanumeric, is_ascii_alphabetic}
 use Rattle.std.specs.Global.{Vec, Global}
 use Rattle.dia_ccf.specs.Limits.{max_name, max_number, max_command_code, max_value}
@@ -16,8 +17,9 @@ use Rattle.dia_ccf.specs.declared.source.Qual.{Qual}
 abbrev pub is_run_byte : ℕ → Bool
 is_run_byte c = is_ascii_alphanumeric c || c == 45
 
+-- the test of two texts by `==`
 abbrev pub same_bytes : List ℕ → List ℕ → Bool
-same_bytes a b = (length a == length b) && starts_with nat_eq a b
+same_bytes = bytes_eq
 
 -- a run that begins with a letter or a digit and holds a letter
 abbrev pub is_name_run : List ℕ → Bool

@@ -1,4 +1,18 @@
 //! The text of Diameter dictionaries (the Command Code Format of RFC 6733 section 3.2).
+//!
+//! `parse` reads a text, and `render` writes what was read in one form:
+//!
+//! ```text
+//! let text = "%avp Origin-Host 264 DiameterIdentity must <DWR> ::= <Diameter-Header:280,REQ> {Origin-Host}";
+//! let source = parse(alloc, text)?;
+//! assert_eq!(rt; source.avps.len(), 1);
+//! assert_eq!(rt; source.commands.len(), 1);
+//! let canonical = "%avp Origin-Host 264 DiameterIdentity must\n<DWR> ::= < Diameter Header: 280, REQ >\n  { Origin-Host }\n";
+//! assert_eq!(rt; render(alloc, &source)?.as_str(), canonical);
+//!
+//! let fault = parse(alloc, "%avp Origin-Host\nDiameterIdentity").err();
+//! assert_eq!(rt; fault, Some(CcfFault::Syntax { token: 3, line: 2 }));
+//! ```
 #![tactic(auto)]
 
 mod fault;

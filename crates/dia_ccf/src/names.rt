@@ -16,7 +16,6 @@ pub fn is_name(text: &str) -> bool
 }
 
 /// Whether two texts are the same.
-#[tactic(auto, using(crate::proofs::Looking::same_bytes_eq))]
 pub(crate) fn is_same(a: &str, b: &str) -> bool
     ensures { result ≡ same_bytes a.now b.now }
 {

@@ -10,6 +10,24 @@ use crate::rendering::render;
 use std::alloc::Global;
 use std::test::Fail;
 
+/// The example of the crate's docs.
+#[test]
+fn reads_and_renders_a_text(rt: HostRuntime) -> Result<(), Fail> {
+    let alloc = rt.alloc();
+    let text =
+        "%avp Origin-Host 264 DiameterIdentity must <DWR> ::= <Diameter-Header:280,REQ> {Origin-Host}";
+    let source = parse(alloc, text)?;
+    assert_eq!(rt; source.avps.len(), 1);
+    assert_eq!(rt; source.commands.len(), 1);
+    let canonical =
+        "%avp Origin-Host 264 DiameterIdentity must\n<DWR> ::= < Diameter Header: 280, REQ >\n  { Origin-Host }\n";
+    assert_eq!(rt; render(alloc, &source)?.as_str(), canonical);
+
+    let fault = parse(alloc, "%avp Origin-Host\nDiameterIdentity").err();
+    assert_eq!(rt; fault, Some(CcfFault::Syntax { token: 3, line: 2 }));
+    Ok(())
+}
+
 /// The fault of a text, or `None` where it is read.
 fn fault(alloc: Global, text: &str) -> Option<CcfFault> {
     parse(alloc, text).err()

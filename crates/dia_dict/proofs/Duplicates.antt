@@ -20,7 +20,6 @@ use Rattle.dia_dict.specs.declared.fault.DictKind.TheVariants as kind
 use Rattle.dia_dict.specs.Resolution.{Wrong, wrong, repeats, duplicate_names, duplicate_keys, avp_names, same_selector, same_slot, slot_name, repeated_in, head_of}
 use Rattle.dia_dict.specs.Refusing.{IsFirstRepeat, named}
 use Rattle.dia_dict.specs.Selecting.{selector_of}
-use Rattle.dia_dict.proofs.Named.{bytes_eq-same}
 use Rattle.dia_dict.proofs.Repeats.{repeats-none, repeats-first, repeats-map, repeats-none_from_map, first_repeat_from_map, first_repeat-map, slice_get-repeats}
 use Rattle.dia_dict.proofs.Lists.{list_any-agree}
 
@@ -34,13 +33,13 @@ abbrev duplicate : List ℕ → Wrong
 duplicate name = wrong kind.DuplicateName name []
 
 pub duplicate_names-none : (names : List (Bor (List ℕ))) → repeats same_text [] names ≡ [] → duplicate_names (map text_of names) ≡ []
-duplicate_names-none names none = ap (map duplicate) (repeats-none text_of same_bytes same_text (λ a b. bytes_eq-same a.now b.now) names none)
+duplicate_names-none names none = ap (map duplicate) (repeats-none text_of same_bytes same_text (λ a b. refl) names none)
 
 pub duplicate_names-first : (names : List (Bor (List ℕ))) (place : ℕ) (name : Bor (List ℕ)) → IsFirstRepeat same_text names place → slice_get names place ≡ Some name
     → slice_get (duplicate_names (map text_of names)) 0 ≡ Some (duplicate name.now)
 duplicate_names-first names place name r at =
     slice_get-map duplicate (repeats same_bytes [] (map text_of names)) 0
-    ∙ ap (option_map duplicate) (repeats-first text_of same_bytes same_text (λ a b. bytes_eq-same a.now b.now) names place name r at)
+    ∙ ap (option_map duplicate) (repeats-first text_of same_bytes same_text (λ a b. refl) names place name r at)
 
 -- ---- keys of AVPs
 
@@ -109,11 +108,11 @@ module _ (d : PlainDef) (names : List (Bor (List ℕ))) (all : map text_of names
 
   pub repeated_in-none : repeats same_text [] names ≡ [] → repeated_in d ≡ []
   repeated_in-none none =
-      ap (map repeated) (repeats-none_from_map slot_name same_bytes d.rules (ap (repeats same_bytes []) (sym all) ∙ repeats-none text_of same_bytes same_text (λ a b. bytes_eq-same a.now b.now) names none))
+      ap (map repeated) (repeats-none_from_map slot_name same_bytes d.rules (ap (repeats same_bytes []) (sym all) ∙ repeats-none text_of same_bytes same_text (λ a b. refl) names none))
 
   pub repeated_in-first : (place : ℕ) (name : Bor (List ℕ)) → IsFirstRepeat same_text names place → slice_get names place ≡ Some name → slice_get (repeated_in d) 0 ≡ Some (wrong kind.RepeatedSlot d.name name.now)
   repeated_in-first place name r at =
-      let texts = first_repeat-map text_of same_bytes same_text (λ a b. bytes_eq-same a.now b.now) names place r in
+      let texts = first_repeat-map text_of same_bytes same_text (λ a b. refl) names place r in
       let rules = first_repeat_from_map slot_name same_bytes d.rules place (subst (λ ts. IsFirstRepeat same_bytes ts place) all texts) in
       let found = slice_get-repeats same_slot d.rules place rules in
       let named : slot_name rules.item ≡ name.now =

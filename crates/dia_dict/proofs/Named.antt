@@ -13,21 +13,14 @@ use Rattle.std.proofs.lemmas.Slice.Eq.{bytes_eq-Decides}
 use Rattle.dia_ccf.specs.Names.{same_bytes}
 use Rattle.dia_dict.proofs.Lists.{position-map, list_any-map}
 
+pub same_bytes-Decides : (a b : List ℕ) → Decides (same_bytes a b) (a ≡ b)
+same_bytes-Decides = bytes_eq-Decides
+
 pub same_bytes-true : (a b : List ℕ) → same_bytes a b ≡ true → a ≡ b
-same_bytes-true a b e =
-    let parts = and_parts (length a == length b) (starts_with nat_eq a b) e in
-    let long = eqb-true (length a) (length b) parts.0 in
-    sym ((bytes_eq-Decides b (take (length b) a)).0 parts.1 ∙ take_all (length b) a (omega arith))
+same_bytes-true a b = (same_bytes-Decides a b).0
 
 pub same_bytes-refl : (a : List ℕ) → same_bytes a a ≡ true
-same_bytes-refl a = and_from (length a == length a) (starts_with nat_eq a a) (eq-eqb (length a) (length a) refl)
-    ((bytes_eq-Decides a (take (length a) a)).1 (sym (take_all (length a) a (omega arith))))
-
-pub same_bytes-Decides : (a b : List ℕ) → Decides (same_bytes a b) (a ≡ b)
-same_bytes-Decides a b = (same_bytes-true a b, λ e. subst (λ c. same_bytes a c ≡ true) e (same_bytes-refl a))
-
-pub bytes_eq-same : (a b : List ℕ) → bytes_eq a b ≡ same_bytes a b
-bytes_eq-same a b = same_from_decides (bytes_eq a b) (same_bytes a b) (bytes_eq-Decides a b) (same_bytes-Decides a b)
+same_bytes-refl a = (same_bytes-Decides a a).1 refl
 
 pub find-place : {X : Type 0} (p : X → Bool) (xs : List X) → find p xs ≡ option_and_then (slice_get xs) (position p xs)
 find-place {X} p xs = find_at p xs ∙ by (nat_lt (position_or_len p xs) (length xs)) refl
@@ -49,7 +42,6 @@ pub place_of_name : {X : Type 0} (name : X → List ℕ) (xs : List X) (keys : L
     → (text : List ℕ) → position (λ (k : Bor (List ℕ)). bytes_eq text k.now) keys ≡ position (λ x. same_bytes text (name x)) xs
 place_of_name name xs keys all text =
     sym (position-map (λ (k : Bor (List ℕ)). k.now) (bytes_eq text) keys) ∙ ap (position (bytes_eq text)) all ∙ position-map name (bytes_eq text) xs
-    ∙ ap (λ p. position p xs) (λ i x. bytes_eq-same text (name x) i)
 
 -- what is found by a name is what stands at its place
 pub found_by_name : {X Y : Type 0} (f : X → Y) (name : Y → List ℕ) (xs : List X) (keys : List (Bor (List ℕ))) → map (λ (k : Bor (List ℕ)). k.now) keys ≡ map (λ x. name (f x)) xs
@@ -65,4 +57,4 @@ pub list_any_by_name : {X Y : Type 0} (f : X → Y) (name : Y → List ℕ) (xs 
     → (text : List ℕ) → list_any (λ (k : Bor (List ℕ)). bytes_eq text k.now) keys ≡ list_any (λ y. same_bytes text (name y)) (map f xs)
 list_any_by_name f name xs keys all text =
     sym (list_any-map (λ (k : Bor (List ℕ)). k.now) (bytes_eq text) keys) ∙ ap (list_any (bytes_eq text)) all ∙ list_any-map (λ x. name (f x)) (bytes_eq text) xs
-    ∙ (λ i. list_any (λ x. bytes_eq-same text (name (f x)) i) xs) ∙ sym (list_any-map f (λ y. same_bytes text (name y)) xs)
+    ∙ sym (list_any-map f (λ y. same_bytes text (name y)) xs)

@@ -1,7 +1,21 @@
 //! Dictionaries of AVPs, groups and commands (RFC 6733 sections 3.2 and 4).
 //!
 //! A `Source` is what a dictionary text says. `resolve` makes a `PlainBook` of it, or tells what is wrong with it.
-//! Everything that reads a dictionary goes through the trait `Book`.
+//! Everything that reads a dictionary goes through the trait `Book`. An `IndexedBook` answers the same faster.
+//!
+//! ```text
+//! let text = "%avp Origin-Host 264 DiameterIdentity must <DWR> ::= <Diameter-Header:280,REQ> {Origin-Host}";
+//! let book = IndexedBook::new(alloc, resolve(alloc, parse(alloc, text)?)?)?;
+//! let key = Key { code: 264, vendor: 0 };
+//! let host = book.avp(key).ok_or("Origin-Host")?;
+//! assert_eq!(rt; book.entry_name(host), "Origin-Host");
+//! assert_eq!(rt; *book.format(host), Format::DiameterIdentity);
+//! let dwr = book.select(280, Class::Request, 0).ok_or("DWR")?;
+//! assert_eq!(rt; book.slot(dwr, key), Slot::Loose(0));
+//!
+//! let fault = resolve(alloc, parse(alloc, "%avp X 9001 Grouped any")?).err().ok_or("a fault")?;
+//! assert_eq!(rt; format!(in alloc; "{fault}")?.as_str(), "no-group-format: X");
+//! ```
 #![tactic(auto)]
 
 mod base;

@@ -1,6 +1,9 @@
 //! Dictionaries out of texts.
 
-use crate::{DictFault, PlainBook, base_book, base_text, named_is_sound, resolve};
+use crate::{
+    Book, Class, DictFault, Format, IndexedBook, Key, PlainBook, Slot, base_book, base_text,
+    named_is_sound, resolve,
+};
 use answers::same_answers;
 use dia_ccf::parse;
 use std::alloc::Global;
@@ -22,6 +25,33 @@ fn fault_of(alloc: Global, text: &str) -> Result<DictFault, Fail> {
         Err(fault) => Ok(fault),
         Ok(_) => Err(Fail::new(format_args!("no fault: {text}"))),
     }
+}
+
+/// The example of the crate's docs.
+#[test]
+fn resolves_and_looks_up(rt: HostRuntime) -> Result<(), Fail> {
+    let alloc = rt.alloc();
+    let text =
+        "%avp Origin-Host 264 DiameterIdentity must <DWR> ::= <Diameter-Header:280,REQ> {Origin-Host}";
+    let book = IndexedBook::new(alloc, resolve(alloc, parse(alloc, text)?)?)?;
+    let key = Key {
+        code: 264,
+        vendor: 0,
+    };
+    let host = book.avp(key).ok_or("Origin-Host")?;
+    assert_eq!(rt; book.entry_name(host), "Origin-Host");
+    assert_eq!(rt; *book.format(host), Format::DiameterIdentity);
+    let dwr = book.select(280, Class::Request, 0).ok_or("DWR")?;
+    assert_eq!(rt; book.slot(dwr, key), Slot::Loose(0));
+
+    let fault = resolve(alloc, parse(alloc, "%avp X 9001 Grouped any")?)
+        .err()
+        .ok_or("a fault")?;
+    assert_eq!(rt;
+        format!(in alloc; "{fault}")?.as_str(),
+        "no-group-format: X"
+    );
+    Ok(())
 }
 
 #[test]

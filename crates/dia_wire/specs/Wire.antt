@@ -6,6 +6,7 @@ use Rattle.dia_wire.specs.declared.avp.Avp.{Avp}
 use Rattle.dia_wire.specs.declared.avp_key.Key.{Key}
 use Rattle.dia_wire.specs.declared.avp.AvpHead.{AvpHead}
 use Rattle.dia_wire.specs.Number.{IsField}
+use Rattle.dia_wire.specs.Lengths.{header_length, avp_head_length, vendor_avp_head_length, three_bytes}
 
 -- ---- AVPs (RFC 6733 section 4.1)
 
@@ -31,10 +32,10 @@ HasM flags = IsBitSet flags 6
 abbrev pub Agrees : PlainAvp → Type 0
 Agrees v = HasVendorFlag v.flags ↔ IsSome v.vendor
 
--- 8 bytes, and 4 more of a Vendor-ID
+-- the bytes in front of the data
 abbrev pub head_length : Option ℕ → ℕ
-head_length None = 8
-head_length (Some vendor) = 12
+head_length None = avp_head_length
+head_length (Some vendor) = vendor_avp_head_length
 
 -- AVP Length: the header, the Vendor-ID and the data, and no padding
 abbrev pub avp_length : PlainAvp → ℕ
@@ -98,10 +99,10 @@ HasT flags = IsBitSet flags 4
 
 -- what a Message Length can be
 pub record IsMessageLength (n : ℕ) : Type 0 where
-  pub no_less : 20 ≤ n
+  pub no_less : header_length ≤ n
   pub aligned : n % 4 ≡ 0
 
--- the 20 bytes of a header with this Message Length
+-- the bytes of a header with this Message Length
 pub record IsHead (h : Header) (n : ℕ) (b : List ℕ) : Type 0 where
   pub len : List ℕ
   pub code : List ℕ
@@ -117,7 +118,7 @@ pub record IsHead (h : Header) (n : ℕ) (b : List ℕ) : Type 0 where
 
 -- the bytes begin with the header of a message of n bytes
 abbrev pub BeginsMessage : List ℕ → ℕ → Type 0
-BeginsMessage bytes n = (h : Header) × IsHead h n (take 20 bytes) × IsMessageLength n
+BeginsMessage bytes n = (h : Header) × IsHead h n (take header_length bytes) × IsMessageLength n
 
 -- the bytes are the message of this header and these AVPs
 pub record IsMessage (h : Header) (vs : List PlainAvp) (b : List ℕ) : Type 0 where
@@ -146,11 +147,11 @@ Heads bytes head = (more : List ℕ) (v : PlainAvp) (rest : List ℕ) → Begins
 
 -- a Length that no AVP can have with these flags, or that is too long for the room
 abbrev pub IsBadLength : ℕ → ℕ → ℕ → Type 0
-IsBadLength flags len room = (len < 8) ⊎ (HasVendorFlag flags × (len < 12)) ⊎ (room < (len + 3) / 4 * 4)
+IsBadLength flags len room = (len < avp_head_length) ⊎ (HasVendorFlag flags × (len < vendor_avp_head_length)) ⊎ (room < (len + 3) / 4 * 4)
 
--- the bytes hold all of the head: 8 bytes, and 12 where the V flag is set
+-- the bytes hold all of the head
 abbrev pub HasWholeHead : List ℕ → Type 0
-HasWholeHead bytes = (8 ≤ length bytes) × (HasVendorFlag (slice_index bytes 4) → 12 ≤ length bytes)
+HasWholeHead bytes = (avp_head_length ≤ length bytes) × (HasVendorFlag (slice_index bytes 4) → vendor_avp_head_length ≤ length bytes)
 
 -- ---- writing
 
@@ -170,4 +171,4 @@ padded_length v = (avp_length v + 3) / 4 * 4
 
 -- an AVP or the whole is longer than its length field can say
 abbrev pub IsTooLong : List PlainAvp → Type 0
-IsTooLong vs = Any (λ v. 2 ^ 24 ≤ avp_length v) vs ⊎ (2 ^ 24 ≤ 20 + sum_by padded_length vs)
+IsTooLong vs = Any (λ v. three_bytes ≤ avp_length v) vs ⊎ (three_bytes ≤ header_length + sum_by padded_length vs)

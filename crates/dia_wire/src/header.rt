@@ -1,10 +1,14 @@
-ghost use Rattle.std.specs.Prelude.{◌<◌, ◌^◌, ◌↔◌, IsTrue};
+ghost use Rattle.std.specs.Prelude.{◌<◌, ◌↔◌, IsTrue};
+ghost use Rattle.dia_wire.specs.Lengths.{three_bytes};
 ghost use Rattle.dia_wire.specs.Wire.{HasR, HasP, HasE, HasT};
 
 use thiserror::Error;
 
 /// The bytes of a message's header (RFC 6733 section 3).
 pub const HEADER_LENGTH: usize = 20;
+
+/// The first number that a field of three bytes can't say.
+pub(crate) const THREE_BYTES: u32 = 1 << 24;
 
 /// The R flag of the Command Flags (RFC 6733 section 3): the message is a request.
 pub const COMMAND_REQUEST: u8 = 0x80;
@@ -110,8 +114,8 @@ impl Header {
 
     /// Whether the Command Code fits its three bytes, as `put_message` asks.
     pub fn fits(&self) -> bool
-        ensures { IsTrue result ↔ (self.now.code < 2 ^ 24) }
+        ensures { IsTrue result ↔ (self.now.code < three_bytes) }
     {
-        self.code < 1 << 24
+        self.code < THREE_BYTES
     }
 }

@@ -2,6 +2,7 @@
 
 ghost use Rattle.std.specs.Prelude.{◌≡◌, ◌≢◌, ◌<◌, ◌≤◌, ◌↔◌, length, take, drop, slice_index, IfOk, IfSome, IsSome, IsErr, OnErr, ◌⊎◌, Ok, Err, None, ℕ, List, ◌++◌};
 ghost use Rattle.dia_wire.specs.declared.header.Header.{Header as AnyHeader};
+ghost use Rattle.dia_wire.specs.Lengths.{avp_head_length, header_length};
 ghost use Rattle.dia_wire.specs.Number.{number};
 ghost use Rattle.dia_wire.specs.Wire.{IsHead, IsMessageLength, BeginsMessage, PlainAvp, Spells, BeginsWith, BeginsWithNone, HasWholeHead, Heads, CannotBegin, IsBadLength, plain};
 
@@ -15,13 +16,13 @@ use byteorder::{BigEndian, ByteOrder};
 ///
 /// The first fault that stands is told: `Short`, then `Version`, then `Length`.
 pub fn read_header(bytes: &[u8]) -> Result<(Header, u32), HeadFault>
-    ensures head { IfOk result (λ found. IsHead found.0 found.1 (take 20 bytes.now)) }
+    ensures head { IfOk result (λ found. IsHead found.0 found.1 (take header_length bytes.now)) }
     ensures long { IfOk result (λ found. IsMessageLength found.1) }
 
     // The faults, the first that stands.
-    ensures short { (result ≡ Err HeadFault.Short) ↔ (length bytes.now < 20) }
-    ensures version { (result ≡ Err HeadFault.Version) ↔ ((20 ≤ length bytes.now) × (slice_index bytes.now 0 ≢ 1)) }
-    ensures length_fault { (result ≡ Err HeadFault.Length) ↔ ((20 ≤ length bytes.now) × (slice_index bytes.now 0 ≡ 1) × ¬ IsMessageLength (number (take 3 (drop 1 bytes.now)))) }
+    ensures short { (result ≡ Err HeadFault.Short) ↔ (length bytes.now < header_length) }
+    ensures version { (result ≡ Err HeadFault.Version) ↔ ((header_length ≤ length bytes.now) × (slice_index bytes.now 0 ≢ 1)) }
+    ensures length_fault { (result ≡ Err HeadFault.Length) ↔ ((header_length ≤ length bytes.now) × (slice_index bytes.now 0 ≡ 1) × ¬ IsMessageLength (number (take 3 (drop 1 bytes.now)))) }
 {
     if bytes.len() < HEADER_LENGTH {
         return Err(HeadFault::Short);
@@ -48,14 +49,14 @@ pub fn read_header(bytes: &[u8]) -> Result<(Header, u32), HeadFault>
 ///
 /// The first fault that stands is told: `Short`, then `Version`, then `Length`, then `Truncated` or `Trailing`.
 pub fn split_message(bytes: &[u8]) -> Result<(Header, &[u8]), MessageFault>
-    ensures head { IfOk result (λ found. IsHead found.0 (length bytes.now) (take 20 bytes.now)) }
+    ensures head { IfOk result (λ found. IsHead found.0 (length bytes.now) (take header_length bytes.now)) }
     ensures long { IfOk result (λ found. IsMessageLength (length bytes.now)) }
-    ensures body { IfOk result (λ found. found.1.now ≡ drop 20 bytes.now) }
+    ensures body { IfOk result (λ found. found.1.now ≡ drop header_length bytes.now) }
 
     // The faults, the first that stands.
-    ensures short { (result ≡ Err MessageFault.Short) ↔ (length bytes.now < 20) }
-    ensures version { (result ≡ Err MessageFault.Version) ↔ ((20 ≤ length bytes.now) × (slice_index bytes.now 0 ≢ 1)) }
-    ensures length_fault { (result ≡ Err MessageFault.Length) ↔ ((20 ≤ length bytes.now) × (slice_index bytes.now 0 ≡ 1) × ¬ IsMessageLength (number (take 3 (drop 1 bytes.now)))) }
+    ensures short { (result ≡ Err MessageFault.Short) ↔ (length bytes.now < header_length) }
+    ensures version { (result ≡ Err MessageFault.Version) ↔ ((header_length ≤ length bytes.now) × (slice_index bytes.now 0 ≢ 1)) }
+    ensures length_fault { (result ≡ Err MessageFault.Length) ↔ ((header_length ≤ length bytes.now) × (slice_index bytes.now 0 ≡ 1) × ¬ IsMessageLength (number (take 3 (drop 1 bytes.now)))) }
     ensures truncated { (result ≡ Err MessageFault.Truncated) ↔ ((n : ℕ) × BeginsMessage bytes.now n × (length bytes.now < n)) }
     ensures trailing { (result ≡ Err MessageFault.Trailing) ↔ ((n : ℕ) × BeginsMessage bytes.now n × (n < length bytes.now)) }
 {
@@ -114,7 +115,7 @@ pub fn avp_head(bytes: &[u8], room: usize) -> Result<Option<AvpHead>, AvpFault>
     ensures head { IfOk result (λ o. IfSome o (λ head. HasWholeHead bytes.now × Heads bytes.now head)) }
     ensures none { result ≡ Ok None → ¬ HasWholeHead bytes.now }
     ensures fault { OnErr result (CannotBegin bytes.now room) }
-    ensures refused { IsErr result ↔ ((room < 8) ⊎ ((8 ≤ length bytes.now) × IsBadLength (slice_index bytes.now 4) (number (take 3 (drop 5 bytes.now))) room)) }
+    ensures refused { IsErr result ↔ ((room < avp_head_length) ⊎ ((avp_head_length ≤ length bytes.now) × IsBadLength (slice_index bytes.now 4) (number (take 3 (drop 5 bytes.now))) room)) }
 {
     if room < AVP_HEAD_LENGTH {
         return Err(AvpFault::Length);

@@ -1,13 +1,14 @@
 //! AVPs and messages written as bytes.
 
-ghost use Rattle.std.specs.Prelude.{◌≡◌, ◌<◌, ◌≤◌, ◌^◌, ◌+◌, ◌-◌, ◌*◌, ◌/◌, ◌%◌, ◌++◌, ◌↔◌, List, ℕ, OnOk, OnErr, All, IsNone, IfSome, Err, length, map, sum_by, vec_len, vec_capacity};
+ghost use Rattle.std.specs.Prelude.{◌≡◌, ◌<◌, ◌≤◌, ◌+◌, ◌-◌, ◌*◌, ◌/◌, ◌%◌, ◌++◌, ◌↔◌, List, ℕ, OnOk, OnErr, All, IsNone, IfSome, Err, length, map, sum_by, vec_len, vec_capacity};
 ghost use Rattle.byteorder.specs.Endian.{big_bytes};
+ghost use Rattle.dia_wire.specs.Lengths.{header_length, three_bytes};
 ghost use Rattle.dia_wire.specs.Number.{IsField};
 ghost use Rattle.dia_wire.specs.Wire.{plain, Agrees, avp_length, padded_length, IsHead, IsVendorField, SpellsWithZeros, MessageWithZeros, IsTooLong};
 ghost use Rattle.dia_wire.specs.Written.{avp_bytes, header_bytes, padding, vendor_bytes};
 
 use crate::avp::{Avp, padded};
-use crate::header::{HEADER_LENGTH, Header};
+use crate::header::{HEADER_LENGTH, Header, THREE_BYTES};
 use byteorder::{BigEndian, ByteOrder};
 use std::alloc::AllocError;
 use thiserror::Error;
@@ -32,20 +33,17 @@ impl From<AllocError> for PutFault {
     }
 }
 
-/// The first length that a field of three bytes can't say.
-const LENGTH_LIMIT: usize = 1 << 24;
-
 /// Appends an AVP (RFC 6733 section 4.1), padded with zero bytes to a multiple of four.
 ///
 /// `TooLong` is looked for before anything is appended. On a refusal nothing was appended.
 pub fn put_avp(out: &mut Vec<u8>, avp: &Avp<'_>) -> Result<(), PutFault>
     requires { Agrees (plain avp.now) }
     ensures ok { OnOk result ((b : List ℕ) × SpellsWithZeros (plain avp.now) b × (out.new.items ≡ out.old.items ++ b)) }
-    ensures too_long { (result ≡ Err PutFault.TooLong) ↔ (2 ^ 24 ≤ avp_length (plain avp.now)) }
+    ensures too_long { (result ≡ Err PutFault.TooLong) ↔ (three_bytes ≤ avp_length (plain avp.now)) }
     ensures err { OnErr result (out.new.items ≡ out.old.items) }
 {
     let length = avp.length();
-    if length >= LENGTH_LIMIT {
+    if length >= THREE_BYTES as usize {
         return Err(PutFault::TooLong);
     }
     let length = length as u32;
@@ -58,7 +56,7 @@ pub fn put_avp(out: &mut Vec<u8>, avp: &Avp<'_>) -> Result<(), PutFault>
 ///
 /// `TooLong` is looked for before anything is appended. On a refusal nothing was appended.
 pub fn put_message(out: &mut Vec<u8>, header: &Header, avps: &[Avp<'_>]) -> Result<(), PutFault>
-    requires fits { header.now.code < 2 ^ 24 }
+    requires fits { header.now.code < three_bytes }
     requires agree { All (λ avp. Agrees (plain avp)) avps.now }
     ensures ok { OnOk result ((b : List ℕ) × MessageWithZeros header.now (map plain avps.now) b × (out.new.items ≡ out.old.items ++ b)) }
     ensures too_long { (result ≡ Err PutFault.TooLong) ↔ IsTooLong (map plain avps.now) }
@@ -79,17 +77,17 @@ pub fn put_message(out: &mut Vec<u8>, header: &Header, avps: &[Avp<'_>]) -> Resu
 /// The Message Length of a header and these AVPs, where the fields can say it and each AVP Length.
 fn message_length(avps: &[Avp<'_>]) -> Option<u32>
     ensures none { IsNone result ↔ IsTooLong (map plain avps.now) }
-    ensures some { IfSome result (λ total. total ≡ 20 + sum_by padded_length (map plain avps.now)) }
-    ensures small { IfSome result (λ total. total < 2 ^ 24) }
+    ensures some { IfSome result (λ total. total ≡ header_length + sum_by padded_length (map plain avps.now)) }
+    ensures small { IfSome result (λ total. total < three_bytes) }
 {
     let mut total = HEADER_LENGTH;
     for avp in avps {
         let length = avp.length();
-        if length >= LENGTH_LIMIT {
+        if length >= THREE_BYTES as usize {
             return None;
         }
         total += padded(length as u32);
-        if total >= LENGTH_LIMIT {
+        if total >= THREE_BYTES as usize {
             return None;
         }
     }
@@ -97,12 +95,12 @@ fn message_length(avps: &[Avp<'_>]) -> Option<u32>
 }
 
 fn push_header(out: &mut Vec<u8>, header: &Header, length: u32)
-    requires fits { header.now.code < 2 ^ 24 }
-    requires small { length < 2 ^ 24 }
-    requires room { vec_len out.old + 20 ≤ vec_capacity out.old }
+    requires fits { header.now.code < three_bytes }
+    requires small { length < three_bytes }
+    requires room { vec_len out.old + header_length ≤ vec_capacity out.old }
     ensures bytes { out.new.items ≡ out.old.items ++ header_bytes header.now length }
     ensures head { IsHead header.now length (header_bytes header.now length) }
-    ensures len { vec_len out.new ≡ vec_len out.old + 20 }
+    ensures len { vec_len out.new ≡ vec_len out.old + header_length }
     ensures capacity { vec_capacity out.old ≤ vec_capacity out.new }
 {
     push(out, &[1]);
@@ -115,7 +113,7 @@ fn push_header(out: &mut Vec<u8>, header: &Header, length: u32)
 }
 
 fn push_avp(out: &mut Vec<u8>, avp: &Avp<'_>, length: u32)
-    requires small { length < 2 ^ 24 }
+    requires small { length < three_bytes }
     requires length { length ≡ avp_length (plain avp.now) }
     requires agrees { Agrees (plain avp.now) }
     requires room { vec_len out.old + (length + 3) / 4 * 4 ≤ vec_capacity out.old }
@@ -169,7 +167,7 @@ fn push_u32(out: &mut Vec<u8>, number: u32)
 }
 
 fn push_u24(out: &mut Vec<u8>, number: u32)
-    requires small { number < 2 ^ 24 }
+    requires small { number < three_bytes }
     requires room { vec_len out.old + 3 ≤ vec_capacity out.old }
     ensures bytes { out.new.items ≡ out.old.items ++ big_bytes 3 number }
     ensures len { vec_len out.new ≡ vec_len out.old + 3 }
