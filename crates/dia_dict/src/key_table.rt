@@ -11,8 +11,8 @@ use dia_wire::Key;
 use rows::KeyRow;
 use std::alloc::{AllocError, Global};
 
-/// Places of keys, in the order of the keys' ranks, which are cut into buckets. A bucket holds one row on average, and a
-/// look-up searches the rows of one bucket only.
+/// Places of keys, in the order of the keys' ranks, which are cut into buckets, more than four for each row. A
+/// look-up searches the rows of one bucket only: none or one for most keys.
 #[derive(Debug, Drop)]
 pub(crate) struct KeyTable {
     pub rows: Vec<KeyRow>,
@@ -31,13 +31,13 @@ impl KeyTable {
 
     /// The places of distinct keys, each from 0. n keys take n log n steps.
     pub fn new(alloc: Global, keys: &[Option<Key>]) -> Result<Self, AllocError>
-        requires few { length keys.now < 2 ^ 31 }
+        requires few { length keys.now < 2 ^ 30 }
         requires distinct { AreDistinct keys.now }
         ensures { IfOk result (λ table. IsIndexOf table.rows.items (place_among keys.now)) }
     {
         let mut rows = rows::rows_of(alloc, keys)?;
         rows.sort_unstable_by_key(|row| row.rank);
-        let buckets = rows.len() as u32 + 1;
+        let buckets = rows.len() as u32 * 4 + 1;
         let starts = starts::starts_of(alloc, &rows, buckets)?;
         Ok(KeyTable {
             rows,

@@ -13,7 +13,7 @@ use std::alloc::{AllocError, Global};
 
 /// The places of the keys of entries.
 pub(super) fn avp_table(alloc: Global, rows: &[Row]) -> Result<KeyTable, AllocError>
-    requires few { length rows.now < 2 ^ 31 }
+    requires few { length rows.now < 2 ^ 30 }
     requires distinct { AreDistinct (row_keys rows.now) }
     ensures { IfOk result (λ table. IsIndexOf table.rows.items (place_among (row_keys rows.now))) }
 {

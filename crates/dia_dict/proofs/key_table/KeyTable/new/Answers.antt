@@ -1,4 +1,4 @@
-use Rattle.std.proofs.Common.{List, ◌+◌, sym, subst, rules, arith}
+use Rattle.std.proofs.Common.{List, ◌+◌, ◌*◌, sym, subst, rules, arith}
 use Rattle.std.specs.List.Sorted.{IsNonDecreasingBy}
 use Rattle.std.proofs.lemmas.List.Sorted.{IsNonDecreasingBy-from_sort_by_key}
 use Rattle.dia_dict.specs.declared.key_table.rows.KeyRow.{KeyRow}
@@ -15,7 +15,7 @@ invariant_of-result c = record {
   sorted = IsNonDecreasingBy-from_sort_by_key (λ r. r.rank) _ c.sort_unstable_by_key.ensures.sorted (λ a r q k. search rules);
   some = omega arith;
   many = c.in_ok-starts.ensures.many;
-  started = subst (λ (rows : List KeyRow). AreStarts rows (c.len.result + 1) c.in_ok-starts.starts.items) c.deref.ensures.value c.in_ok-starts.ensures.starts;
+  started = subst (λ (rows : List KeyRow). AreStarts rows (c.len.result * 4 + 1) c.in_ok-starts.starts.items) c.deref.ensures.value c.in_ok-starts.ensures.starts;
 }
 
 pub returns : goal.returns
