@@ -20,3 +20,4 @@ pub mod Quiet
 pub mod Answering
 pub mod Sized
 pub mod FixedFirst
+pub mod Wildcards

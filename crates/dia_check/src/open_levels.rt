@@ -13,21 +13,21 @@ use dia_dict::{DRule, DefId, RuleKind, Slot};
 use dia_wire::Key;
 use std::alloc::{AllocError, Global};
 
-/// An open level.
+/// An open level. A definition has 1,024 rules at most, so 16 bits are enough for their places.
 #[derive(Clone, Copy, Debug)]
 pub(crate) struct OpenLevel {
     /// Its definition.
     pub(crate) def: DefId,
+    /// The fixed rule in whose run the level is; behind the last run, the number of fixed rules.
+    run: u16,
+    /// How many fixed rules there are.
+    fixed: u16,
     /// The place behind its last byte.
     pub(crate) end: usize,
     /// Where its counts begin: one for each rule.
     base: usize,
-    /// The fixed rule in whose run the level is; behind the last run, the number of fixed rules.
-    run: usize,
-    /// How many fixed rules there are.
-    fixed: usize,
     /// The place of the wildcard's rule.
-    wildcard: Option<usize>,
+    wildcard: Option<u16>,
 }
 
 /// The levels that are open, and the counts of their rules, one level behind the other.
@@ -67,10 +67,10 @@ impl OpenLevel {
     {
         OpenLevel {
             def,
-            end,
-            base,
             run: 0,
             fixed: fixed_count(rules),
+            end,
+            base,
             wildcard: wildcard_place(rules),
         }
     }
@@ -81,11 +81,12 @@ impl OpenLevel {
             → AreRules rules → IsCounted rules keys self.now counts
             → slot ≡ slot_of rules key → Leads rules keys key self.now.run result.0 result.1 }
     {
+        let fixed = self.fixed as usize;
         match slot {
-            Slot::Fixed(rule) if rule >= self.run => (rule, Some(rule)),
-            Slot::Fixed(_) => (self.fixed, None),
-            Slot::Loose(rule) => (self.fixed, Some(rule)),
-            Slot::Unlisted => (self.fixed, self.wildcard),
+            Slot::Fixed(rule) if rule >= self.run as usize => (rule, Some(rule)),
+            Slot::Fixed(_) => (fixed, None),
+            Slot::Loose(rule) => (fixed, Some(rule)),
+            Slot::Unlisted => (fixed, place_of(self.wildcard)),
         }
     }
 
@@ -101,7 +102,7 @@ impl OpenLevel {
             (λ wrong. IsFirstMisplaced rules.now keys key wrong) }
     {
         let (run, rule) = self.lead(slot);
-        if let Some(place) = first_unmet(rules, counts, self.run, run) {
+        if let Some(place) = first_unmet(rules, counts, self.run as usize, run) {
             let rule = rules[place];
             return Some(missing(rule));
         }
@@ -113,7 +114,7 @@ impl OpenLevel {
             return Some(Wrong::avp(Reason::TooMany, key));
         }
         counts[rule] = count + 1;
-        self.run = run;
+        self.run = run as u16;
         None
     }
 }
@@ -227,7 +228,8 @@ impl OpenLevels {
             → MatchOption result (IsMetAtEnd rules.now level.keys) (IsMissingAtEnd rules.now level.keys) }
     {
         let base = self.innermost.base;
-        let place = first_unmet(rules, &self.counts[base..], 0, rules.len())?;
+        let run = self.innermost.run as usize;
+        let place = first_unmet(rules, &self.counts[base..], run, rules.len())?;
         Some(missing(rules[place]))
     }
 
@@ -257,11 +259,29 @@ fn add_zeros(counts: &mut Vec<u32>, many: usize) -> Result<(), AllocError>
     Ok(())
 }
 
-/// The place of the wildcard's rule.
-fn wildcard_place(rules: &[DRule]) -> Option<usize>
+/// The place of the wildcard's rule, which is the last one mostly.
+fn wildcard_place(rules: &[DRule]) -> Option<u16>
+    requires { AreRules rules.now }
     ensures { result ≡ position is_wildcard rules.now }
 {
-    rules.iter().position(|rule| is_wildcard(rule))
+    let mut place = rules.len();
+    while place > 0 {
+        place -= 1;
+        if is_wildcard(&rules[place]) {
+            return Some(place as u16);
+        }
+    }
+    None
+}
+
+/// A place that is kept in 16 bits.
+fn place_of(kept: Option<u16>) -> Option<usize>
+    ensures { result ≡ kept }
+{
+    match kept {
+        Some(place) => Some(place as usize),
+        None => None,
+    }
 }
 
 fn is_wildcard(rule: &DRule) -> bool
@@ -271,16 +291,16 @@ fn is_wildcard(rule: &DRule) -> bool
 }
 
 /// How many fixed rules there are: they come first.
-fn fixed_count(rules: &[DRule]) -> usize
+fn fixed_count(rules: &[DRule]) -> u16
     requires { AreRules rules.now }
     ensures { result ≡ length (fixed_rules rules.now) }
 {
     for place in 0..rules.len() {
         if !is_fixed(&rules[place]) {
-            return place;
+            return place as u16;
         }
     }
-    rules.len()
+    rules.len() as u16
 }
 
 fn is_fixed(rule: &DRule) -> bool

@@ -87,5 +87,5 @@ impl Avp<'_> {
 pub(crate) fn padded(length: u32) -> usize
     ensures { result ≡ (length + 3) / 4 * 4 }
 {
-    (length as usize).next_multiple_of(4)
+    (length as usize + 3) / 4 * 4
 }
