@@ -23,6 +23,8 @@
 //! assert_eq!(rt; initiator.state(), State::Closed);
 //! assert_eq!(rt; responder.state(), State::Closed);
 //! ```
+//!
+//! The whole program is the test `src/tests/example.rt`.
 #![tactic(auto)]
 
 mod applications;
@@ -41,6 +43,8 @@ mod named;
 mod node;
 mod reading;
 mod receiving;
+#[cfg(test)]
+mod tests;
 
 pub use config::{App, Config, ConfigFault, Ip, Kind, Role};
 pub use connection::Core;

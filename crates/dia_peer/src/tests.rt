@@ -1,0 +1,122 @@
+//! Two ends that send messages to each other: the messages byte for byte, and schedules that a generator draws.
+
+ghost use Rattle.std.specs.Prelude.{◌<◌};
+
+use crate::config::{App, Config, ConfigFault, Ip, Kind, Role};
+use crate::connection::Core;
+use crate::event::{Event, Output};
+use std::alloc::{AllocError, Global};
+use std::process::Abort;
+
+mod bytes;
+mod connections;
+mod drawing;
+mod example;
+mod faults;
+mod schedules;
+
+const fn auth(id: u32) -> App {
+    App {
+        kind: Kind::Auth,
+        id,
+        vendor: None,
+    }
+}
+
+const fn acct(id: u32) -> App {
+    App {
+        kind: Kind::Acct,
+        id,
+        vendor: None,
+    }
+}
+
+/// The two ends of a connection.
+#[derive(Drop)]
+struct Ends {
+    initiator: Core,
+    responder: Core,
+}
+
+impl Ends {
+    fn new(alloc: Global, first: Config, second: Config) -> Result<Ends, ConfigFault> {
+        let initiator = Core::new(alloc, first, Role::Initiator)?;
+        Ends::with(initiator, alloc, second)
+    }
+
+    fn with(initiator: Core, alloc: Global, second: Config) -> Result<Ends, ConfigFault> {
+        let responder = Core::new(alloc, second, Role::Responder)?;
+        Ok(Ends {
+            initiator,
+            responder,
+        })
+    }
+}
+
+/// What a core does at an event. Where memory is refused nothing has changed, and the core is told again.
+fn tell(rt: &impl Abort, core: &mut Core, event: Event<'_>) -> Result<Vec<Output>, AllocError> {
+    let before = (core.state(), core.common().len());
+    if let Ok(outputs) = core.step(event) {
+        return Ok(outputs);
+    }
+    assert_eq!(rt; (core.state(), core.common().len()), before);
+    core.step(event)
+}
+
+/// The end `a.b`, which sends the CER.
+fn first(alloc: Global, apps: &[App]) -> Result<Config, AllocError> {
+    config(alloc, "a.b", "b", "p", [127, 0, 0, 1], apps)
+}
+
+/// The end `c.d`, which answers it.
+fn second(alloc: Global, apps: &[App]) -> Result<Config, AllocError> {
+    config(alloc, "c.d", "d", "q", [127, 0, 0, 2], apps)
+}
+
+fn config(
+    alloc: Global,
+    host: &str,
+    realm: &str,
+    product: &str,
+    address: [u8; 4],
+    apps: &[App],
+) -> Result<Config, AllocError> {
+    Ok(Config {
+        host: String::from_str(alloc, host)?,
+        realm: String::from_str(alloc, realm)?,
+        product: String::from_str(alloc, product)?,
+        addresses: vec![in alloc; Ip::V4(address)]?,
+        vendor: 0,
+        apps: Vec::from_slice(alloc, apps)?,
+        state_id: None,
+        hop: 1,
+        e2e: 1,
+    })
+}
+
+/// The bytes that hexadecimal digits are; blanks between them count for nothing.
+fn bytes_of(alloc: Global, text: &str) -> Result<Vec<u8>, AllocError> {
+    let mut digits = Vec::new(alloc);
+    for byte in text.as_bytes() {
+        if *byte != b' ' {
+            digits.push(*byte)?;
+        }
+    }
+    let mut bytes = Vec::new(alloc);
+    for pair in digits.chunks(2) {
+        if let [high, low] = pair {
+            bytes.push(digit(*high) * 16 + digit(*low))?;
+        }
+    }
+    Ok(bytes)
+}
+
+fn digit(byte: u8) -> u8
+    ensures { result < 16 }
+{
+    match byte {
+        b'0'..=b'9' => byte - b'0',
+        b'a'..=b'f' => byte - b'a' + 10,
+        _ => 0,
+    }
+}
