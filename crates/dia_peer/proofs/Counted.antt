@@ -1,7 +1,6 @@
 -- How often our messages have each AVP, and that they stand as the rules of the base dictionary say.
-use Rattle.std.proofs.Common.{◌≡◌, ℕ, zero, suc, ◌+◌, ◌<◌, ◌≤◌, Bool, true, false, cond, List, [], ◌∷◌, ◌++◌, length, map, Option, Some, None, inl, inr, refl, sym, ap, subst, ◌∙◌, arith}
-use Rattle.std.specs.Prelude.{count_by, slice_get, ⊤, IsTrue, ◌==◌, ◌&&◌}
-use Rattle.std.specs.Option.{option_map}
+use Rattle.std.proofs.Common.{◌≡◌, ℕ, zero, suc, ◌+◌, ◌≤◌, Bool, true, false, cond, List, [], ◌∷◌, ◌++◌, length, map, Option, Some, None, inl, inr, refl, ap, ◌∙◌, arith}
+use Rattle.std.specs.Prelude.{count_by, slice_get, ⊤, IsTrue}
 use Rattle.std.specs.List.{AllByRecursion}
 use Rattle.std.proofs.lemmas.List.{map-append}
 use Rattle.std.proofs.lemmas.List.Sums.{sum_by-cons, sum_by-append}
@@ -21,7 +20,7 @@ use Rattle.dia_peer.specs.declared.config.Kind.{Kind}
 use Rattle.dia_peer.specs.declared.config.Kind.TheVariants.{Auth, Acct}
 use Rattle.dia_peer.specs.Messages.{avp, avp32, app_code, address, origin, capabilities, applications, if_some, cause_number}
 use Rattle.dia_peer.proofs.Fitting.{the_key}
-use Rattle.dia_peer.proofs.Sending.{OfApps, all_applications}
+use Rattle.dia_peer.proofs.Sending.{all_applications}
 
 -- ---- counts
 

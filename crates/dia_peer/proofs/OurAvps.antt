@@ -1,5 +1,5 @@
 -- Each AVP of our messages fits the base dictionary.
-use Rattle.std.proofs.Common.{ℕ, zero, suc, List, [], ◌∷◌, arith, inl, refl}
+use Rattle.std.proofs.Common.{ℕ, List, [], ◌∷◌, arith, inl, refl}
 use Rattle.dia_dict.specs.Base.{base}
 use Rattle.dia_dict.specs.declared.DRule.{DRule}
 use Rattle.dia_check.specs.declared.Unknown.TheVariants.{Kept}
@@ -10,10 +10,10 @@ use Rattle.dia_peer.specs.declared.config.Ip.{Ip}
 use Rattle.dia_peer.specs.declared.config.Ip.TheVariants.{V4, V6}
 use Rattle.dia_peer.specs.declared.event.Cause.{Cause}
 use Rattle.dia_peer.specs.declared.event.Cause.TheVariants.{Rebooting, Busy, DoNotWant}
-use Rattle.dia_peer.specs.Core.{PlainConfig, IsConfig, IsIdentity, IsIp}
+use Rattle.dia_peer.specs.Core.{PlainConfig, IsConfig, IsIp}
 use Rattle.dia_peer.specs.Messages.{avp, avp32, app_code, cause_number, address}
 use Rattle.dia_peer.proofs.Advertised.{vendor_spells}
-use Rattle.dia_peer.proofs.Sending.{OfApps, OfEach, vendor_data}
+use Rattle.dia_peer.proofs.Sending.{OfEach, vendor_data}
 
 -- whatever a group may hold
 module _ (Inner : List DRule → List ℕ → Type 0) where

@@ -6,11 +6,8 @@ ghost use Rattle.dia_peer.specs.Messages.{avp, avp32, header_of};
 ghost use Rattle.dia_peer.specs.Drafts.{drafted, drafted_avp};
 
 use crate::kept::Ids;
-use dia_wire::{Avp, Header, PutFault, put_message};
+use dia_wire::{AVP_MANDATORY, Avp, Header, PutFault, put_message};
 use std::alloc::{AllocError, Global};
-
-/// The M flag of an AVP (RFC 6733 section 4.1).
-const MANDATORY: u8 = 0x40;
 
 /// An AVP without Vendor-ID that owns its data.
 #[derive(Debug, Drop)]
@@ -27,7 +24,7 @@ impl OwnAvp {
     {
         Avp {
             code: self.code,
-            flags: if self.must { MANDATORY } else { 0 },
+            flags: if self.must { AVP_MANDATORY } else { 0 },
             vendor: None,
             bytes: &self.bytes,
         }

@@ -11,11 +11,10 @@ use crate::draft::Draft;
 use crate::event::Cause;
 use crate::kept::Ids;
 use crate::node::{Node, put_applications, put_capabilities, put_origin, put_state_id};
+use dia_wire::COMMAND_REQUEST;
 use std::alloc::AllocError;
 
-/// The R flag (RFC 6733 section 3): the message is a request.
-const REQUEST: u8 = 0x80;
-
+/// The Command Flags of an answer: none.
 const ANSWER: u8 = 0;
 
 impl Node {
@@ -26,7 +25,7 @@ impl Node {
         put_origin(&mut draft, &self.config)?;
         put_capabilities(self.alloc, &mut draft, &self.config)?;
         put_applications(self.alloc, &mut draft, &self.config)?;
-        draft.message(REQUEST, CAPABILITIES_EXCHANGE, ids)
+        draft.message(COMMAND_REQUEST, CAPABILITIES_EXCHANGE, ids)
     }
 
     pub(crate) fn cea(&self, ids: Ids, result_code: u32) -> Result<Vec<u8>, AllocError>
@@ -46,7 +45,7 @@ impl Node {
         let mut draft = Draft::new(self.alloc);
         put_origin(&mut draft, &self.config)?;
         put_state_id(&mut draft, &self.config)?;
-        draft.message(REQUEST, DEVICE_WATCHDOG, ids)
+        draft.message(COMMAND_REQUEST, DEVICE_WATCHDOG, ids)
     }
 
     pub(crate) fn dwa(&self, ids: Ids) -> Result<Vec<u8>, AllocError>
@@ -65,7 +64,7 @@ impl Node {
         let mut draft = Draft::new(self.alloc);
         put_origin(&mut draft, &self.config)?;
         draft.put_number(DISCONNECT_CAUSE, cause_number(cause))?;
-        draft.message(REQUEST, DISCONNECT_PEER, ids)
+        draft.message(COMMAND_REQUEST, DISCONNECT_PEER, ids)
     }
 
     pub(crate) fn dpa(&self, ids: Ids) -> Result<Vec<u8>, AllocError>

@@ -16,16 +16,8 @@ use crate::kept::Ids;
 use crate::node::Node;
 use crate::reading::{named_in, result_code};
 use dia_dict::Class;
-use dia_wire::{HeadFault, Header, read_header};
+use dia_wire::{COMMAND_ERROR, COMMAND_REQUEST, HEADER_LENGTH, Header, split_message};
 use std::alloc::{AllocError, Global};
-
-/// The bytes of a header (RFC 6733 section 3).
-const HEADER_LENGTH: usize = 20;
-
-/// The flags R and E (RFC 6733 section 3).
-const REQUEST_FLAG: u8 = 0x80;
-
-const ERROR_FLAG: u8 = 0x20;
 
 impl Node {
     /// What the bytes are. They are checked once, and the AVPs of a CER and a CEA are gone through.
@@ -52,17 +44,9 @@ fn whole_header(bytes: &[u8]) -> Option<Header>
         × HasLength bytes.now (length bytes.now)) }
     ensures none { IsNone result → ¬ HasLength bytes.now (length bytes.now) }
 {
-    match read_header(bytes) {
-        Ok((header, length)) => {
-            if length as usize == bytes.len() {
-                Some(header)
-            } else {
-                None
-            }
-        }
-        Err(HeadFault::Short) => None,
-        Err(HeadFault::Version) => None,
-        Err(HeadFault::Length) => None,
+    match split_message(bytes) {
+        Ok((header, _)) => Some(header),
+        Err(_) => None,
     }
 }
 
@@ -159,9 +143,9 @@ fn ids_of(header: &Header) -> Ids
 fn class_of(flags: u8) -> Class
     ensures { result ≡ class_of flags }
 {
-    if flags & REQUEST_FLAG != 0 {
+    if flags & COMMAND_REQUEST != 0 {
         Class::Request
-    } else if flags & ERROR_FLAG != 0 {
+    } else if flags & COMMAND_ERROR != 0 {
         Class::Error
     } else {
         Class::Answer

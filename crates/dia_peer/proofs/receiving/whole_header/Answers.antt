@@ -1,15 +1,31 @@
-use Rattle.std.proofs.Common.{ℕ, length, take, sym, subst, ◌∙◌}
-use Rattle.dia_wire.specs.Wire.{IsHead, IsMessageLength}
+use Rattle.std.proofs.Common.{◌≡◌, ◌≢◌, ℕ, ◌<◌, ◌≤◌, Err, List, length, take, drop, refl, sym, subst, ap, arith, ◌∙◌}
+use Rattle.std.specs.Prelude.{slice_index}
+use Rattle.dia_wire.specs.Number.{number}
+use Rattle.dia_wire.specs.Wire.{IsMessageLength, BeginsMessage}
+use Rattle.dia_wire.specs.declared.header.MessageFault.{MessageFault}
+use Rattle.dia_wire.specs.declared.header.MessageFault.TheVariants.{Short, Version, Length, Truncated, Trailing}
 use Rattle.dia_wire.proofs.OneHeader.{head_says}
+use Rattle.dia_check.specs.Faults.{HasLength}
 use Rattle.dia_peer.proofs.receiving.whole_header.Goals as goal
 
-pub returns-then-length-bytes-clause-some : goal.returns-then-length-bytes-clause-some
-returns-then-length-bytes-clause-some c =
-    let b = c.args.bytes.now in
-    let head : IsHead c.in-Ok.header (length b) (take 20 b) = subst (λ (n : ℕ). IsHead c.in-Ok.header n (take 20 b)) c.if-length-bytes.true c.in-Ok.ensures.head in
-    let says = head_says c.in-Ok.header (length b) b head in
-    (head, record { long = says.0; version = says.1; is_length = sym says.2; sound = subst IsMessageLength c.if-length-bytes.true c.in-Ok.ensures.long })
+-- bytes of which a fault is told are not as many as a Message Length
+no_length : (b : List ℕ) (e : MessageFault) → (e ≡ Short → length b < 20) → (e ≡ Version → (20 ≤ length b) × (slice_index b 0 ≢ 1))
+    → (e ≡ Length → (20 ≤ length b) × (slice_index b 0 ≡ 1) × ¬ IsMessageLength (number (take 3 (drop 1 b))))
+    → (e ≡ Truncated → (n : ℕ) × BeginsMessage b n × (length b < n)) → (e ≡ Trailing → (n : ℕ) × BeginsMessage b n × (n < length b)) → ¬ HasLength b (length b)
+no_length b Short short version long less more has = let few = short refl in let many = has.long in absurd (omega (arith, few, many))
+no_length b Version short version long less more has = (version refl).1 has.version
+no_length b Length short version long less more has = (long refl).2 (subst IsMessageLength has.is_length has.sound)
+no_length b Truncated short version long less more has =
+    let (n, (h, head, sound), few) = less refl in let same : length b ≡ n = has.is_length ∙ (head_says h n b head).2 in absurd (omega (arith, same, few))
+no_length b Trailing short version long less more has =
+    let (n, (h, head, sound), many) = more refl in let same : length b ≡ n = has.is_length ∙ (head_says h n b head).2 in absurd (omega (arith, same, many))
 
-pub returns-else-length-bytes-clause-none : goal.returns-else-length-bytes-clause-none
-returns-else-length-bytes-clause-none c e has =
-    c.if-length-bytes.false (sym (head_says c.in-Ok.header c.in-Ok.length c.args.bytes.now c.in-Ok.ensures.head).2 ∙ sym has.is_length)
+pub returns-in-Ok-clause-some : goal.returns-in-Ok-clause-some
+returns-in-Ok-clause-some c =
+    let b = c.args.bytes.now in let says = head_says c.in-Ok.header (length b) b c.in-Ok.ensures.head in
+    (c.in-Ok.ensures.head, record { long = says.0; version = says.1; is_length = sym says.2; sound = c.in-Ok.ensures.long })
+
+pub returns-in-Err-clause-none : goal.returns-in-Err-clause-none
+returns-in-Err-clause-none c is =
+    let told = c.in-Err.ensures in
+    no_length c.args.bytes.now c.in-Err.field-0 (λ e. told.short.0 (ap Err e)) (λ e. told.version.0 (ap Err e)) (λ e. told.length_fault.0 (ap Err e)) (λ e. told.truncated.0 (ap Err e)) (λ e. told.trailing.0 (ap Err e))
