@@ -1,5 +1,9 @@
 //! What the clauses say nothing of: devices of std that fail, files, and the words of the command line.
 
 mod devices;
+mod endings;
+mod help;
 mod opening;
+mod printed;
+mod refused_words;
 mod words;
