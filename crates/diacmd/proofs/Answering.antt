@@ -43,7 +43,8 @@ fails_at : {E : Type 0} (word : List ℕ) (pairs : Pairs) (p : String Global × 
 fails_at word pairs p i test (Ok o) within is is_text is_exit = failed_at word pairs p i test (string_bytes o.text) o.exit within is is_text is_exit
 fails_at word pairs p i test (Err e) within is is_text is_exit = tt
 
-pub command_fails : {E : Type 0} (table : Table) (answer : Answer) (k : PairKind) (i : ℕ) (test : Test) (p : String Global × String Global) (r : Result Outcome E) → answer ≡ No k i test → k ≡ pair.Command
+pub command_fails : {E : Type 0} (table : Table) (answer : Answer) (k : PairKind) (i : ℕ) (test : Test) (p : String Global × String Global) (r : Result Outcome E) → answer ≡ No k i test
+    → k ≡ pair.Command
     → NamesPair (plain table) answer → p ≡ get_or table.commands.items i p → IfOk r (λ o. string_bytes o.text ≡ failure_line (codes "command") (plain_pair p) test) → IfOk r (λ o. o.exit ≡ exits.No)
     → IfOk r (λ o. IsAnswerText (plain table) answer (string_bytes o.text) o.exit)
 command_fails table answer k i test p r is is_k names at is_text is_exit =

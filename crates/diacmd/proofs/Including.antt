@@ -24,7 +24,8 @@ not_no exit is_no is_yes = cc
 not_bad : (exit : Exit) → exit ≡ Bad → exit ≡ Yes → ⊥
 not_bad exit is_bad is_yes = cc
 
-yes_includes : (u : Unknown) (inputs : Inputs) (a b : Dictionary) (table : PlainTable) (answer : Answer) (text : List ℕ) (exit : Exit) → IsDictionaryText inputs.first a → IsDictionaryText inputs.second b
+yes_includes : (u : Unknown) (inputs : Inputs) (a b : Dictionary) (table : PlainTable) (answer : Answer) (text : List ℕ) (exit : Exit) → IsDictionaryText inputs.first a
+    → IsDictionaryText inputs.second b
     → IsTableText inputs.table table → IsAnswer a b u table answer → IsAnswerText table answer text exit → exit ≡ Yes → IsIncluded u inputs
 yes_includes u inputs a b table answer.Yes text exit is_a is_b is_table closed told is_yes = record {
   a = a;
@@ -41,7 +42,8 @@ yes_includes u inputs a b table (answer.No pair.Command i test) text exit is_a i
 yes_includes u inputs a b table (answer.No pair.Avp i test) text exit is_a is_b is_table failed told is_yes = absurd (not_no exit told.3 is_yes)
 
 compare_includes : (u : Unknown) (inputs : Inputs) (text : List ℕ) (exit : Exit) → IsCompareOutcome u inputs text exit → exit ≡ Yes → IsIncluded u inputs
-compare_includes u inputs text exit (ended a b is_a is_b (compared table answer is_table is_answer told)) is_yes = yes_includes u inputs a b table answer text exit is_a is_b is_table is_answer told is_yes
+compare_includes u inputs text exit (ended a b is_a is_b (compared table answer is_table is_answer told)) is_yes =
+    yes_includes u inputs a b table answer text exit is_a is_b is_table is_answer told is_yes
 compare_includes u inputs text exit (ended a b is_a is_b (no_table told none refuses)) is_yes = absurd (not_bad exit refuses.1 is_yes)
 compare_includes u inputs text exit (no_first why none refuses) is_yes = absurd (not_bad exit refuses.1 is_yes)
 compare_includes u inputs text exit (no_second a why is_a none refuses) is_yes = absurd (not_bad exit refuses.1 is_yes)

@@ -23,12 +23,19 @@ joined old columns name value = simp append_assoc
 group_joined : (old columns name : List ℕ) → ((old ++ columns) ++ name) ++ codes " group\n" ≡ old ++ line (columns ++ name ++ codes " " ++ codes "group")
 group_joined old columns name = simp append_assoc
 
-pub unknown_added : (d : Dictionary) (place depth : ℕ) (v : PlainAvp) (old front new : List ℕ) → None ≡ entry_of d (key_of v) → front ≡ old ++ avp_columns place depth v → AddsNameAndValue (codes "?") OctetString v.bytes front new
+pub unknown_added : (d : Dictionary) (place depth : ℕ) (v : PlainAvp) (old front new : List ℕ) → None ≡ entry_of d (key_of v) → front ≡ old ++ avp_columns place depth v
+    → AddsNameAndValue (codes "?") OctetString v.bytes front new
     → AddsAvp d place depth v old new false
-unknown_added d place depth v old front new none is_front (value, shown, is_new) =
-    (codes "?", value, unknown (ap (λ (o : Option ℕ). option_and_then (slice_get d.entries) o) (sym none)) refl (shown.accepted tt), is_new ∙ ap (λ (f : List ℕ). f ++ line (codes "?" ++ codes " " ++ value)) is_front ∙ joined old (avp_columns place depth v) (codes "?") value)
+unknown_added d place depth v old front new none is_front (value, shown, is_new) = (
+  codes "?",
+  value,
+  unknown (ap (λ (o : Option ℕ). option_and_then (slice_get d.entries) o) (sym none)) refl (shown.accepted tt),
+  is_new
+      ∙ ap (λ (f : List ℕ). f ++ line (codes "?" ++ codes " " ++ value)) is_front ∙ joined old (avp_columns place depth v) (codes "?") value,
+)
 
-pub group_added : (d : Dictionary) (place depth : ℕ) (v : PlainAvp) (old front named new name : List ℕ) (e : DictEntry) → IsGroup d v e → front ≡ old ++ avp_columns place depth v → named ≡ front ++ name → name ≡ e.name
+pub group_added : (d : Dictionary) (place depth : ℕ) (v : PlainAvp) (old front named new name : List ℕ) (e : DictEntry) → IsGroup d v e → front ≡ old ++ avp_columns place depth v
+    → named ≡ front ++ name → name ≡ e.name
     → new ≡ named ++ codes " group\n" → AddsAvp d place depth v old new true
 group_added d place depth v old front named new name e is_group is_front is_named is_name is_new = (
   e,

@@ -3,6 +3,7 @@ use Rattle.std.proofs.Common.{◌≡◌, ℕ, List, length, refl, sym, ap, subst
 use Rattle.std.specs.Prelude.{Ok}
 use Rattle.std.proofs.lemmas.Option.{none-some, same_Some}
 use Rattle.hex.specs.Hex.{decode_of}
+use Rattle.dia_ccf.specs.Limits.{max_text}
 use Rattle.dia_ccf.specs.Plain.{PlainSource}
 use Rattle.dia_ccf.specs.Tokens.{tokens}
 use Rattle.dia_ccf.specs.Grammar.{Derives}
@@ -14,7 +15,9 @@ use Rattle.diacmd.specs.declared.command.Input.{Input}
 use Rattle.diacmd.specs.declared.command.Input.TheVariants.{Bytes, TooLong}
 use Rattle.diacmd.specs.declared.command.Exit.{Exit}
 use Rattle.diacmd.specs.Inputs.{Holds, IsOver}
-use Rattle.diacmd.specs.Texts.{line, fault_text, wrong_text, IsSourceText, IsNoSourceText, too_long, not_text, fault, IsDictionaryText, IsNoDictionaryText, IsMessageText, IsNoMessageText, not_hexadecimal, digits_of}
+use Rattle.diacmd.specs.Limits.{max_message_text}
+use Rattle.diacmd.specs.Texts.{line, fault_text, wrong_text, IsSourceText, IsNoSourceText, too_long, not_text, fault, IsDictionaryText, IsNoDictionaryText, IsMessageText, IsNoMessageText}
+use Rattle.diacmd.specs.Texts.{not_hexadecimal, digits_of}
 use Rattle.diacmd.specs.Outcome.{Refuses}
 
 -- one text and one end
@@ -34,25 +37,25 @@ not_over TooLong limit a h over = h
 
 pub one_source_text : (input : Input) (s t : PlainSource) → IsSourceText input s → IsSourceText input t → s ≡ t
 one_source_text input s t (a, held, utf8, derives) (b, held', utf8', derives') =
-    one_source (tokens a) s t derives (subst (λ (text : List ℕ). Derives (tokens text) t) (sym (held_once input 1048576 a b held held')) derives')
+    one_source (tokens a) s t derives (subst (λ (text : List ℕ). Derives (tokens text) t) (sym (held_once input max_text a b held held')) derives')
 
 pub source_or_not : (input : Input) (s : PlainSource) (why : List ℕ) → IsSourceText input s → IsNoSourceText input why → ⊥
-source_or_not input s why (a, held, utf8, derives) (too_long over is_why) = not_over input 1048576 a held over
-source_or_not input s why (a, held, utf8, derives) (not_text b held' no_utf8 is_why) = no_utf8 (rw (held_once input 1048576 b a held' held) utf8)
+source_or_not input s why (a, held, utf8, derives) (too_long over is_why) = not_over input max_text a held over
+source_or_not input s why (a, held, utf8, derives) (not_text b held' no_utf8 is_why) = no_utf8 (rw (held_once input max_text b a held' held) utf8)
 source_or_not input s why (a, held, utf8, derives) (fault b f held' utf8' is_fault no_memory is_why) =
-    no_text_of b f is_fault no_memory s (rw (held_once input 1048576 b a held' held) derives)
+    no_text_of b f is_fault no_memory s (rw (held_once input max_text b a held' held) derives)
 
 pub one_reason : (input : Input) (m n : List ℕ) → IsNoSourceText input m → IsNoSourceText input n → m ≡ n
 one_reason input m n (too_long over is_m) (too_long over' is_n) = is_m ∙ sym is_n
-one_reason input m n (too_long over is_m) (not_text b held no_utf8 is_n) = absurd (not_over input 1048576 b held over)
-one_reason input m n (too_long over is_m) (fault b f held utf8 is_fault no_memory is_n) = absurd (not_over input 1048576 b held over)
-one_reason input m n (not_text a held no_utf8 is_m) (too_long over is_n) = absurd (not_over input 1048576 a held over)
+one_reason input m n (too_long over is_m) (not_text b held no_utf8 is_n) = absurd (not_over input max_text b held over)
+one_reason input m n (too_long over is_m) (fault b f held utf8 is_fault no_memory is_n) = absurd (not_over input max_text b held over)
+one_reason input m n (not_text a held no_utf8 is_m) (too_long over is_n) = absurd (not_over input max_text a held over)
 one_reason input m n (not_text a held no_utf8 is_m) (not_text b held' no_utf8' is_n) = is_m ∙ sym is_n
-one_reason input m n (not_text a held no_utf8 is_m) (fault b f held' utf8 is_fault no_memory is_n) = absurd (no_utf8 (rw (held_once input 1048576 a b held held') utf8))
-one_reason input m n (fault a f held utf8 is_fault no_memory is_m) (too_long over is_n) = absurd (not_over input 1048576 a held over)
-one_reason input m n (fault a f held utf8 is_fault no_memory is_m) (not_text b held' no_utf8 is_n) = absurd (no_utf8 (rw (held_once input 1048576 b a held' held) utf8))
+one_reason input m n (not_text a held no_utf8 is_m) (fault b f held' utf8 is_fault no_memory is_n) = absurd (no_utf8 (rw (held_once input max_text a b held held') utf8))
+one_reason input m n (fault a f held utf8 is_fault no_memory is_m) (too_long over is_n) = absurd (not_over input max_text a held over)
+one_reason input m n (fault a f held utf8 is_fault no_memory is_m) (not_text b held' no_utf8 is_n) = absurd (no_utf8 (rw (held_once input max_text b a held' held) utf8))
 one_reason input m n (fault a f held utf8 is_fault no_memory is_m) (fault b g held' utf8' is_fault' no_memory' is_n) =
-    is_m ∙ ap fault_text (one_fault a f g is_fault (rw (held_once input 1048576 a b held held') is_fault') no_memory no_memory') ∙ sym is_n
+    is_m ∙ ap fault_text (one_fault a f g is_fault (rw (held_once input max_text a b held held') is_fault') no_memory no_memory') ∙ sym is_n
 
 pub one_dictionary : (input : Input) (d e : Dictionary) → IsDictionaryText input d → IsDictionaryText input e → d ≡ e
 one_dictionary input d e (s, is_s, sound, is_d, well) (t, is_t, sound', is_e, well') = is_d ∙ ap resolved (one_source_text input s t is_s is_t) ∙ sym is_e
@@ -70,14 +73,14 @@ one_reason_for_dictionary input m n (inr (s, w, is_s, wrong, is_m)) (inr (t, x, 
 
 pub one_message : (input : Input) (a b : List ℕ) → IsMessageText input a → IsMessageText input b → a ≡ b
 one_message input a b (t, held, is_a) (u, held', is_b) =
-    let same : Ok a ≡ Ok b = sym is_a ∙ ap (λ (text : List ℕ). decode_of (digits_of text)) (held_once input 67108864 t u held held') ∙ is_b in cc
+    let same : Ok a ≡ Ok b = sym is_a ∙ ap (λ (text : List ℕ). decode_of (digits_of text)) (held_once input max_message_text t u held held') ∙ is_b in cc
 
 pub message_or_not : (input : Input) (a told : List ℕ) → IsMessageText input a → IsNoMessageText input told → ⊥
-message_or_not input a told (t, held, is_a) (too_long over is_told) = not_over input 67108864 t held over
-message_or_not input a told (t, held, is_a) (not_hexadecimal u held' none is_told) = none (rw (held_once input 67108864 u t held' held, is_a) refl)
+message_or_not input a told (t, held, is_a) (too_long over is_told) = not_over input max_message_text t held over
+message_or_not input a told (t, held, is_a) (not_hexadecimal u held' none is_told) = none (rw (held_once input max_message_text u t held' held, is_a) refl)
 
 pub one_message_reason : (input : Input) (m n : List ℕ) → IsNoMessageText input m → IsNoMessageText input n → m ≡ n
 one_message_reason input m n (too_long over is_m) (too_long over' is_n) = is_m ∙ sym is_n
-one_message_reason input m n (too_long over is_m) (not_hexadecimal u held none is_n) = absurd (not_over input 67108864 u held over)
-one_message_reason input m n (not_hexadecimal t held none is_m) (too_long over is_n) = absurd (not_over input 67108864 t held over)
+one_message_reason input m n (too_long over is_m) (not_hexadecimal u held none is_n) = absurd (not_over input max_message_text u held over)
+one_message_reason input m n (not_hexadecimal t held none is_m) (too_long over is_n) = absurd (not_over input max_message_text t held over)
 one_message_reason input m n (not_hexadecimal t held none is_m) (not_hexadecimal u held' none' is_n) = is_m ∙ sym is_n

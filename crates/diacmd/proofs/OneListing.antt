@@ -75,7 +75,8 @@ at_bad_length d level t b (bad_group v e rest members begins is_group inner is_t
 abbrev AvpThen : Dictionary → Level → PlainAvp → List ℕ → List ℕ → List ℕ → List ℕ → Bool → Type 0
 AvpThen d level v rest name value t b = (more : List ℕ) × IsListing d (behind level v rest) more b × (t ≡ avp_line level.place level.depth v name value ++ more)
 
-at_avp : (d : Dictionary) (level : Level) (t : List ℕ) (b : Bool) (v : PlainAvp) (rest name value : List ℕ) → IsListing d level t b → BeginsWith v level.bytes rest → IsLeafText d v name value → AvpThen d level v rest name value t b
+at_avp : (d : Dictionary) (level : Level) (t : List ℕ) (b : Bool) (v : PlainAvp) (rest name value : List ℕ) → IsListing d level t b → BeginsWith v level.bytes rest → IsLeafText d v name value
+    → AvpThen d level v rest name value t b
 at_avp d level t b v rest name value (end none is_t is_b) begins text = absurd (omega (arith, begins_some v level.bytes rest begins, ap length none))
 at_avp d level t b v rest name value (bad_length some none is_t is_b) begins text = absurd (none v rest begins)
 at_avp d level t b v rest name value (avp w behind_it n u more begins' text' listing is_t) begins text =
@@ -90,10 +91,12 @@ at_avp d level t b v rest name value (bad_group w e behind_it members begins' is
 -- the line of a group, the listing of its members, and that of what is behind it, unless the members end at a bad length
 abbrev GroupThen : Dictionary → Level → PlainAvp → DictEntry → List ℕ → List ℕ → Bool → Type 0
 GroupThen d level v e rest t b =
-    ((members : List ℕ) × (more : List ℕ) × IsListing d (inside level v) members false × IsListing d (behind level v rest) more b × (t ≡ avp_line level.place level.depth v e.name (codes "group") ++ members ++ more))
+    ((members : List ℕ) × (more : List ℕ) × IsListing d (inside level v) members false × IsListing d (behind level v rest) more b
+    × (t ≡ avp_line level.place level.depth v e.name (codes "group") ++ members ++ more))
     ⊎ ((members : List ℕ) × IsListing d (inside level v) members true × (t ≡ avp_line level.place level.depth v e.name (codes "group") ++ members) × (b ≡ true))
 
-at_group : (d : Dictionary) (level : Level) (t : List ℕ) (b : Bool) (v : PlainAvp) (e : DictEntry) (rest : List ℕ) → IsListing d level t b → BeginsWith v level.bytes rest → IsGroup d v e → GroupThen d level v e rest t b
+at_group : (d : Dictionary) (level : Level) (t : List ℕ) (b : Bool) (v : PlainAvp) (e : DictEntry) (rest : List ℕ) → IsListing d level t b → BeginsWith v level.bytes rest → IsGroup d v e
+    → GroupThen d level v e rest t b
 at_group d level t b v e rest (end none is_t is_b) begins is_group = absurd (omega (arith, begins_some v level.bytes rest begins, ap length none))
 at_group d level t b v e rest (bad_length some none is_t is_b) begins is_group = absurd (none v rest begins)
 at_group d level t b v e rest (avp w behind_it n u more begins' text listing is_t) begins is_group =

@@ -21,9 +21,11 @@ use Rattle.diacmd.specs.declared.command.Exit.{Exit}
 use Rattle.diacmd.specs.Texts.{line, dictionary_line}
 use Rattle.diacmd.specs.Verdict.{IsVerdict}
 use Rattle.diacmd.specs.Listing.{Level, IsListing, header_line}
-use Rattle.diacmd.specs.Outcome.{Refuses, IsShown, listing, short, version, bad_length, truncated, trailing, IsMessageOutcome, ended, no_dictionary, no_message, IsJudged, IsRenderOutcome, rendered, no_source, IsOutcome, listing_exit}
+use Rattle.diacmd.specs.Outcome.{Refuses, IsShown, listing, short, version, bad_length, truncated, trailing, IsMessageOutcome, ended, no_dictionary, no_message, IsJudged, IsRenderOutcome, rendered}
+use Rattle.diacmd.specs.Outcome.{no_source, IsOutcome, listing_exit}
 use Rattle.diacmd.proofs.OneListing.{one_listing}
-use Rattle.diacmd.proofs.OneInput.{Same, refused_once, one_source_text, source_or_not, one_reason, one_dictionary, dictionary_or_not, one_reason_for_dictionary, one_message, message_or_not, one_message_reason}
+use Rattle.diacmd.proofs.OneInput.{Same, refused_once, one_source_text, source_or_not, one_reason, one_dictionary, dictionary_or_not, one_reason_for_dictionary, one_message, message_or_not}
+use Rattle.diacmd.proofs.OneInput.{one_message_reason}
 use Rattle.diacmd.proofs.OnePairOutcome.{compare_once, refute_once, propose_once}
 
 -- ---- the text of a message, by what is wrong with it
@@ -58,46 +60,47 @@ at_short d bytes t x (listing h lines bad is_head is_length lists is_t is_x) is_
 at_short d bytes t x (short is_short' refuses) is_short = refuses
 at_short d bytes t x (version long other refuses) is_short = absurd (omega (arith, is_short, long))
 at_short d bytes t x (bad_length long is_one bad refuses) is_short = absurd (omega (arith, is_short, long))
-at_short d bytes t x (truncated h len is_head is_length less refuses) is_short = absurd (short_or_head bytes h len is_short (is_head, is_length))
-at_short d bytes t x (trailing h len is_head is_length more refuses) is_short = absurd (short_or_head bytes h len is_short (is_head, is_length))
+at_short d bytes t x (truncated len (h, is_head, is_length) less refuses) is_short = absurd (short_or_head bytes h len is_short (is_head, is_length))
+at_short d bytes t x (trailing len (h, is_head, is_length) more refuses) is_short = absurd (short_or_head bytes h len is_short (is_head, is_length))
 
 at_version : (d : Dictionary) (bytes t : List ℕ) (x : Exit) → IsShown d bytes t x → HasOtherVersion bytes → Refuses (codes "message: version") t x
 at_version d bytes t x (listing h lines bad is_head is_length lists is_t is_x) other = absurd (version_or_head bytes h (length bytes) other (is_head, is_length))
 at_version d bytes t x (short is_short refuses) other = absurd (omega (arith, is_short, other.0))
 at_version d bytes t x (version long other' refuses) other = refuses
 at_version d bytes t x (bad_length long is_one bad refuses) other = absurd (other.1 is_one)
-at_version d bytes t x (truncated h len is_head is_length less refuses) other = absurd (version_or_head bytes h len other (is_head, is_length))
-at_version d bytes t x (trailing h len is_head is_length more refuses) other = absurd (version_or_head bytes h len other (is_head, is_length))
+at_version d bytes t x (truncated len (h, is_head, is_length) less refuses) other = absurd (version_or_head bytes h len other (is_head, is_length))
+at_version d bytes t x (trailing len (h, is_head, is_length) more refuses) other = absurd (version_or_head bytes h len other (is_head, is_length))
 
 at_bad_length : (d : Dictionary) (bytes t : List ℕ) (x : Exit) → IsShown d bytes t x → HasBadLength bytes → Refuses (codes "message: length") t x
 at_bad_length d bytes t x (listing h lines bad is_head is_length lists is_t is_x) wrong = absurd (length_or_head bytes h (length bytes) wrong (is_head, is_length))
 at_bad_length d bytes t x (short is_short refuses) wrong = absurd (omega (arith, is_short, wrong.0))
 at_bad_length d bytes t x (version long other refuses) wrong = absurd (other wrong.1)
 at_bad_length d bytes t x (bad_length long is_one bad refuses) wrong = refuses
-at_bad_length d bytes t x (truncated h len is_head is_length less refuses) wrong = absurd (length_or_head bytes h len wrong (is_head, is_length))
-at_bad_length d bytes t x (trailing h len is_head is_length more refuses) wrong = absurd (length_or_head bytes h len wrong (is_head, is_length))
+at_bad_length d bytes t x (truncated len (h, is_head, is_length) less refuses) wrong = absurd (length_or_head bytes h len wrong (is_head, is_length))
+at_bad_length d bytes t x (trailing len (h, is_head, is_length) more refuses) wrong = absurd (length_or_head bytes h len wrong (is_head, is_length))
 
 at_truncated : (d : Dictionary) (bytes t : List ℕ) (x : Exit) (k : Header) (n : ℕ) → IsShown d bytes t x → HasHead bytes k n → length bytes < n → Refuses (codes "message: truncated") t x
 at_truncated d bytes t x k n (listing h lines bad is_head is_length lists is_t is_x) head less = absurd (omega (arith, less, same_length bytes h k (length bytes) n (is_head, is_length) head))
 at_truncated d bytes t x k n (short is_short refuses) head less = absurd (short_or_head bytes k n is_short head)
 at_truncated d bytes t x k n (version long other refuses) head less = absurd (version_or_head bytes k n (long, other) head)
 at_truncated d bytes t x k n (bad_length long is_one bad refuses) head less = absurd (length_or_head bytes k n (long, is_one, bad) head)
-at_truncated d bytes t x k n (truncated h len is_head is_length less' refuses) head less = refuses
-at_truncated d bytes t x k n (trailing h len is_head is_length more refuses) head less = absurd (omega (arith, less, more, same_length bytes h k len n (is_head, is_length) head))
+at_truncated d bytes t x k n (truncated len (h, is_head, is_length) less' refuses) head less = refuses
+at_truncated d bytes t x k n (trailing len (h, is_head, is_length) more refuses) head less = absurd (omega (arith, less, more, same_length bytes h k len n (is_head, is_length) head))
 
 at_trailing : (d : Dictionary) (bytes t : List ℕ) (x : Exit) (k : Header) (n : ℕ) → IsShown d bytes t x → HasHead bytes k n → n < length bytes → Refuses (codes "message: trailing") t x
 at_trailing d bytes t x k n (listing h lines bad is_head is_length lists is_t is_x) head more = absurd (omega (arith, more, same_length bytes h k (length bytes) n (is_head, is_length) head))
 at_trailing d bytes t x k n (short is_short refuses) head more = absurd (short_or_head bytes k n is_short head)
 at_trailing d bytes t x k n (version long other refuses) head more = absurd (version_or_head bytes k n (long, other) head)
 at_trailing d bytes t x k n (bad_length long is_one bad refuses) head more = absurd (length_or_head bytes k n (long, is_one, bad) head)
-at_trailing d bytes t x k n (truncated h len is_head is_length less refuses) head more = absurd (omega (arith, more, less, same_length bytes h k len n (is_head, is_length) head))
-at_trailing d bytes t x k n (trailing h len is_head is_length more' refuses) head more = refuses
+at_trailing d bytes t x k n (truncated len (h, is_head, is_length) less refuses) head more = absurd (omega (arith, more, less, same_length bytes h k len n (is_head, is_length) head))
+at_trailing d bytes t x k n (trailing len (h, is_head, is_length) more' refuses) head more = refuses
 
 -- the body of a message as a level
 abbrev body_of : List ℕ → Level
 body_of bytes = record { depth = 0; place = 20; bytes = drop 20 bytes }
 
-listed_once : (d : Dictionary) (bytes t u lines : List ℕ) (x y : Exit) (h : Header) (bad : Bool) → HasHead bytes h (length bytes) → IsListing d (body_of bytes) lines bad → t ≡ header_line h (length bytes) ++ lines
+listed_once : (d : Dictionary) (bytes t u lines : List ℕ) (x y : Exit) (h : Header) (bad : Bool) → HasHead bytes h (length bytes) → IsListing d (body_of bytes) lines bad
+    → t ≡ header_line h (length bytes) ++ lines
     → x ≡ listing_exit bad → IsShown d bytes u y → Same t u x y
 listed_once d bytes t u lines x y h bad head lists is_t is_x (listing k others bad' is_head is_length lists' is_u is_y) =
     let same_head = (one_header h k (length bytes) (length bytes) (take 20 bytes) head.0 is_head).0 in
@@ -106,16 +109,21 @@ listed_once d bytes t u lines x y h bad head lists is_t is_x (listing k others b
 listed_once d bytes t u lines x y h bad head lists is_t is_x (short is_short refuses) = absurd (short_or_head bytes h (length bytes) is_short head)
 listed_once d bytes t u lines x y h bad head lists is_t is_x (version long other refuses) = absurd (version_or_head bytes h (length bytes) (long, other) head)
 listed_once d bytes t u lines x y h bad head lists is_t is_x (bad_length long is_one wrong refuses) = absurd (length_or_head bytes h (length bytes) (long, is_one, wrong) head)
-listed_once d bytes t u lines x y h bad head lists is_t is_x (truncated k len is_head is_length less refuses) = absurd (omega (arith, less, same_length bytes k h len (length bytes) (is_head, is_length) head))
-listed_once d bytes t u lines x y h bad head lists is_t is_x (trailing k len is_head is_length more refuses) = absurd (omega (arith, more, same_length bytes k h len (length bytes) (is_head, is_length) head))
+listed_once d bytes t u lines x y h bad head lists is_t is_x (truncated len (k, is_head, is_length) less refuses) =
+    absurd (omega (arith, less, same_length bytes k h len (length bytes) (is_head, is_length) head))
+listed_once d bytes t u lines x y h bad head lists is_t is_x (trailing len (k, is_head, is_length) more refuses) =
+    absurd (omega (arith, more, same_length bytes k h len (length bytes) (is_head, is_length) head))
 
 shown_once : (d : Dictionary) (bytes t u : List ℕ) (x y : Exit) → IsShown d bytes t x → IsShown d bytes u y → Same t u x y
 shown_once d bytes t u x y (listing h lines bad is_head is_length lists is_t is_x) second = listed_once d bytes t u lines x y h bad (is_head, is_length) lists is_t is_x second
 shown_once d bytes t u x y (short is_short refuses) second = refused_once (codes "message: short") (codes "message: short") t u x y refl refuses (at_short d bytes u y second is_short)
 shown_once d bytes t u x y (version long other refuses) second = refused_once (codes "message: version") (codes "message: version") t u x y refl refuses (at_version d bytes u y second (long, other))
-shown_once d bytes t u x y (bad_length long is_one bad refuses) second = refused_once (codes "message: length") (codes "message: length") t u x y refl refuses (at_bad_length d bytes u y second (long, is_one, bad))
-shown_once d bytes t u x y (truncated h len is_head is_length less refuses) second = refused_once (codes "message: truncated") (codes "message: truncated") t u x y refl refuses (at_truncated d bytes u y h len second (is_head, is_length) less)
-shown_once d bytes t u x y (trailing h len is_head is_length more refuses) second = refused_once (codes "message: trailing") (codes "message: trailing") t u x y refl refuses (at_trailing d bytes u y h len second (is_head, is_length) more)
+shown_once d bytes t u x y (bad_length long is_one bad refuses) second =
+    refused_once (codes "message: length") (codes "message: length") t u x y refl refuses (at_bad_length d bytes u y second (long, is_one, bad))
+shown_once d bytes t u x y (truncated len (h, is_head, is_length) less refuses) second =
+    refused_once (codes "message: truncated") (codes "message: truncated") t u x y refl refuses (at_truncated d bytes u y h len second (is_head, is_length) less)
+shown_once d bytes t u x y (trailing len (h, is_head, is_length) more refuses) second =
+    refused_once (codes "message: trailing") (codes "message: trailing") t u x y refl refuses (at_trailing d bytes u y h len second (is_head, is_length) more)
 
 -- ---- commands
 
@@ -123,7 +131,8 @@ shown_once d bytes t u x y (trailing h len is_head is_length more refuses) secon
 abbrev HasOne : (Dictionary → List ℕ → List ℕ → Exit → Type 0) → Type 0
 HasOne P = (d : Dictionary) (bytes t u : List ℕ) (x y : Exit) → IsDictionary d → P d bytes t x → P d bytes u y → Same t u x y
 
-of_message_once : (P : Dictionary → List ℕ → List ℕ → Exit → Type 0) → HasOne P → (inputs : Inputs) (t u : List ℕ) (x y : Exit) → IsMessageOutcome P inputs t x → IsMessageOutcome P inputs u y → Same t u x y
+of_message_once : (P : Dictionary → List ℕ → List ℕ → Exit → Type 0) → HasOne P → (inputs : Inputs) (t u : List ℕ) (x y : Exit) → IsMessageOutcome P inputs t x → IsMessageOutcome P inputs u y
+    → Same t u x y
 of_message_once P one inputs t u x y (ended d a is_d is_a made) (ended e b is_e is_b made') =
     let same_book = one_dictionary inputs.first d e is_d is_e in
     let same_bytes = one_message inputs.message a b is_a is_b in
@@ -136,7 +145,8 @@ of_message_once P one inputs t u x y (no_dictionary why none refuses) (no_dictio
 of_message_once P one inputs t u x y (no_dictionary why none refuses) (no_message e told is_e none' refuses') = absurd (dictionary_or_not inputs.first e why is_e none)
 of_message_once P one inputs t u x y (no_message d told is_d none refuses) (ended e b is_e is_b made) = absurd (message_or_not inputs.message b told is_b none)
 of_message_once P one inputs t u x y (no_message d told is_d none refuses) (no_dictionary why none' refuses') = absurd (dictionary_or_not inputs.first d why is_d none')
-of_message_once P one inputs t u x y (no_message d told is_d none refuses) (no_message e told' is_e none' refuses') = refused_once told told' t u x y (one_message_reason inputs.message told told' none none') refuses refuses'
+of_message_once P one inputs t u x y (no_message d told is_d none refuses) (no_message e told' is_e none' refuses') =
+    refused_once told told' t u x y (one_message_reason inputs.message told told' none none') refuses refuses'
 
 verdict_once : (d : Dictionary) (answer : Result Selected Refusal) (t u : List ℕ) (x y : Exit) → IsVerdict d answer t x → IsVerdict d answer u y → Same t u x y
 verdict_once d (Ok found) t u x y (c, is_c, is_t, is_x) (e, is_e, is_u, is_y) =
@@ -160,7 +170,8 @@ render_once : (inputs : Inputs) (t u : List ℕ) (x y : Exit) → IsRenderOutcom
 render_once inputs t u x y (rendered s is_s is_t is_x) (rendered r is_r is_u is_y) = (is_t ∙ ap canonical (one_source_text inputs.first s r is_s is_r) ∙ sym is_u, is_x ∙ sym is_y)
 render_once inputs t u x y (rendered s is_s is_t is_x) (no_source why none refuses) = absurd (source_or_not inputs.first s why is_s none)
 render_once inputs t u x y (no_source why none refuses) (rendered r is_r is_u is_y) = absurd (source_or_not inputs.first r why is_r none)
-render_once inputs t u x y (no_source why none refuses) (no_source why' none' refuses') = refused_once (dictionary_line 1 why) (dictionary_line 1 why') t u x y (ap (dictionary_line 1) (one_reason inputs.first why why' none none')) refuses refuses'
+render_once inputs t u x y (no_source why none refuses) (no_source why' none' refuses') =
+    refused_once (dictionary_line 1 why) (dictionary_line 1 why') t u x y (ap (dictionary_line 1) (one_reason inputs.first why why' none none')) refuses refuses'
 
 pub one_outcome : (c : Command) (inputs : Inputs) (t u : List ℕ) (x y : Exit) → IsOutcome c inputs t x → IsOutcome c inputs u y → (t ≡ u) × (x ≡ y)
 one_outcome command.Show inputs t u x y first second = of_message_once IsShown (λ d bytes t u x y sound. shown_once d bytes t u x y) inputs t u x y first second

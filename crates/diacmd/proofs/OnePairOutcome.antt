@@ -24,15 +24,18 @@ use Rattle.diacmd.specs.declared.command.Input.{Input}
 use Rattle.diacmd.specs.declared.command.Inputs.{Inputs}
 use Rattle.diacmd.specs.declared.command.Exit.{Exit}
 use Rattle.diacmd.specs.Texts.{dictionary_line}
-use Rattle.diacmd.specs.Pairs.{IsTableText, IsNoTableText, too_long, not_text, fault, table_line, table_fault_text, IsFailureText, failure_line, IsAnswerText, most_table_text, table_text}
-use Rattle.diacmd.specs.Outcome.{IsPairOutcome, ended, no_first, no_second, IsComparison, compared, no_table, IsCompareOutcome, IsRefutation, refutes, does_not, no_message, IsRefuteOutcome, IsProposed, proposed, no_command, no_command_line, IsProposeOutcome}
+use Rattle.diacmd.specs.Limits.{max_table_text}
+use Rattle.diacmd.specs.Pairs.{IsTableText, IsNoTableText, too_long, not_text, fault, table_line, table_fault_text, IsFailureText, failure_line, IsAnswerText, table_text}
+use Rattle.diacmd.specs.Outcome.{IsPairOutcome, ended, no_first, no_second, IsComparison, compared, no_table, IsCompareOutcome, IsRefutation, refutes, does_not, no_message, IsRefuteOutcome}
+use Rattle.diacmd.specs.Outcome.{IsProposed, proposed, no_command, no_command_line, IsProposeOutcome}
 use Rattle.diacmd.proofs.OneInput.{Same, refused_once, held_once, not_over, one_dictionary, dictionary_or_not, one_reason_for_dictionary, one_message, message_or_not, one_message_reason}
 
 -- an end of two dictionaries is one
 abbrev HasOneOfPair : (Dictionary → Dictionary → List ℕ → Exit → Type 0) → Type 0
 HasOneOfPair P = (a b : Dictionary) (t u : List ℕ) (x y : Exit) → IsDictionary a → IsDictionary b → P a b t x → P a b u y → Same t u x y
 
-of_pair_once : (P : Dictionary → Dictionary → List ℕ → Exit → Type 0) → HasOneOfPair P → (inputs : Inputs) (t u : List ℕ) (x y : Exit) → IsPairOutcome P inputs t x → IsPairOutcome P inputs u y → Same t u x y
+of_pair_once : (P : Dictionary → Dictionary → List ℕ → Exit → Type 0) → HasOneOfPair P → (inputs : Inputs) (t u : List ℕ) (x y : Exit) → IsPairOutcome P inputs t x → IsPairOutcome P inputs u y
+    → Same t u x y
 of_pair_once P one inputs t u x y (ended a b is_a is_b made) (ended c d is_c is_d made') =
     let same_first = one_dictionary inputs.first a c is_a is_c in
     let same_second = one_dictionary inputs.second b d is_b is_d in
@@ -52,29 +55,30 @@ of_pair_once P one inputs t u x y (no_second a why is_a none refuses) (no_second
 
 one_table_text : (input : Input) (s t : PlainTable) → IsTableText input s → IsTableText input t → s ≡ t
 one_table_text input s t (a, held, utf8, is_s) (b, held', utf8', is_t) =
-    one_table_of (lines a) s t is_s (subst (λ (text : List ℕ). IsTable text t) (sym (held_once input most_table_text a b held held')) is_t)
+    one_table_of (lines a) s t is_s (subst (λ (text : List ℕ). IsTable text t) (sym (held_once input max_table_text a b held held')) is_t)
 
 table_or_not : (input : Input) (t : PlainTable) (told : List ℕ) → IsTableText input t → IsNoTableText input told → ⊥
-table_or_not input t told (a, held, utf8, is_t) (too_long over is_told) = not_over input most_table_text a held over
-table_or_not input t told (a, held, utf8, is_t) (not_text b held' no_utf8 is_told) = no_utf8 (rw (held_once input most_table_text b a held' held) utf8)
+table_or_not input t told (a, held, utf8, is_t) (too_long over is_told) = not_over input max_table_text a held over
+table_or_not input t told (a, held, utf8, is_t) (not_text b held' no_utf8 is_told) = no_utf8 (rw (held_once input max_table_text b a held' held) utf8)
 table_or_not input t told (a, held, utf8, is_t) (fault b f held' utf8' is_fault no_memory is_told) =
-    fault_or_table b f t is_fault no_memory (rw (held_once input most_table_text b a held' held) is_t)
+    fault_or_table b f t is_fault no_memory (rw (held_once input max_table_text b a held' held) is_t)
 
 one_table_reason : (input : Input) (m n : List ℕ) → IsNoTableText input m → IsNoTableText input n → m ≡ n
 one_table_reason input m n (too_long over is_m) (too_long over' is_n) = is_m ∙ sym is_n
-one_table_reason input m n (too_long over is_m) (not_text b held no_utf8 is_n) = absurd (not_over input most_table_text b held over)
-one_table_reason input m n (too_long over is_m) (fault b f held utf8 is_fault no_memory is_n) = absurd (not_over input most_table_text b held over)
-one_table_reason input m n (not_text a held no_utf8 is_m) (too_long over is_n) = absurd (not_over input most_table_text a held over)
+one_table_reason input m n (too_long over is_m) (not_text b held no_utf8 is_n) = absurd (not_over input max_table_text b held over)
+one_table_reason input m n (too_long over is_m) (fault b f held utf8 is_fault no_memory is_n) = absurd (not_over input max_table_text b held over)
+one_table_reason input m n (not_text a held no_utf8 is_m) (too_long over is_n) = absurd (not_over input max_table_text a held over)
 one_table_reason input m n (not_text a held no_utf8 is_m) (not_text b held' no_utf8' is_n) = is_m ∙ sym is_n
-one_table_reason input m n (not_text a held no_utf8 is_m) (fault b f held' utf8 is_fault no_memory is_n) = absurd (no_utf8 (rw (held_once input most_table_text a b held held') utf8))
-one_table_reason input m n (fault a f held utf8 is_fault no_memory is_m) (too_long over is_n) = absurd (not_over input most_table_text a held over)
-one_table_reason input m n (fault a f held utf8 is_fault no_memory is_m) (not_text b held' no_utf8 is_n) = absurd (no_utf8 (rw (held_once input most_table_text b a held' held) utf8))
+one_table_reason input m n (not_text a held no_utf8 is_m) (fault b f held' utf8 is_fault no_memory is_n) = absurd (no_utf8 (rw (held_once input max_table_text a b held held') utf8))
+one_table_reason input m n (fault a f held utf8 is_fault no_memory is_m) (too_long over is_n) = absurd (not_over input max_table_text a held over)
+one_table_reason input m n (fault a f held utf8 is_fault no_memory is_m) (not_text b held' no_utf8 is_n) = absurd (no_utf8 (rw (held_once input max_table_text b a held' held) utf8))
 one_table_reason input m n (fault a f held utf8 is_fault no_memory is_m) (fault b g held' utf8' is_fault' no_memory' is_n) =
-    is_m ∙ ap (λ k. table_line (table_fault_text k)) (one_fault a f g is_fault (rw (held_once input most_table_text a b held held') is_fault') no_memory no_memory') ∙ sym is_n
+    is_m ∙ ap (λ k. table_line (table_fault_text k)) (one_fault a f g is_fault (rw (held_once input max_table_text a b held held') is_fault') no_memory no_memory') ∙ sym is_n
 
 -- ---- `compare`
 
-failure_once : (word : List ℕ) (pairs : List (List ℕ × List ℕ)) (i : ℕ) (test : Test) (t u : List ℕ) (x y : Exit) → IsFailureText word pairs i test t x → IsFailureText word pairs i test u y → Same t u x y
+failure_once : (word : List ℕ) (pairs : List (List ℕ × List ℕ)) (i : ℕ) (test : Test) (t u : List ℕ) (x y : Exit) → IsFailureText word pairs i test t x → IsFailureText word pairs i test u y
+    → Same t u x y
 failure_once word pairs i test t u x y (p, is_p, is_t, is_x) (q, is_q, is_u, is_y) =
     (is_t ∙ ap (λ (r : List ℕ × List ℕ). failure_line word r test) (same_Some p q (sym is_p ∙ is_q)) ∙ sym is_u, is_x ∙ sym is_y)
 
@@ -106,7 +110,8 @@ refuted_once policy most input a b t u x y sa sb (does_not m is_m fails is_t is_
 refuted_once policy most input a b t u x y sa sb (does_not m is_m fails is_t is_x) (no_message told none refuses) = absurd (message_or_not input m told is_m none)
 refuted_once policy most input a b t u x y sa sb (no_message told none refuses) (refutes n is_n holds is_u is_y) = absurd (message_or_not input n told is_n none)
 refuted_once policy most input a b t u x y sa sb (no_message told none refuses) (does_not n is_n fails is_u is_y) = absurd (message_or_not input n told is_n none)
-refuted_once policy most input a b t u x y sa sb (no_message told none refuses) (no_message told' none' refuses') = refused_once told told' t u x y (one_message_reason input told told' none none') refuses refuses'
+refuted_once policy most input a b t u x y sa sb (no_message told none refuses) (no_message told' none' refuses') =
+    refused_once told told' t u x y (one_message_reason input told told' none none') refuses refuses'
 
 pub refute_once : (policy : Unknown) (most : Levels) (inputs : Inputs) (t u : List ℕ) (x y : Exit) → IsRefuteOutcome policy most inputs t x → IsRefuteOutcome policy most inputs u y → Same t u x y
 refute_once policy most inputs = of_pair_once (IsRefutation policy most inputs.message) (refuted_once policy most inputs.message) inputs
@@ -158,11 +163,13 @@ one_unknown a names m n first second = by (cases_order first.place second.place)
     by (inr (inr more)) = absurd (no_earlier a names n m second first more)
 
 proposed_once : (policy : Unknown) (names : List (List ℕ)) → HasOneOfPair (IsProposed policy names)
-proposed_once policy names a b t u x y sa sb (proposed s is_s is_t is_x) (proposed r is_r is_u is_y) = (is_t ∙ ap table_text (one_proposal a b sa sb policy names s r is_s is_r) ∙ sym is_u, is_x ∙ sym is_y)
+proposed_once policy names a b t u x y sa sb (proposed s is_s is_t is_x) (proposed r is_r is_u is_y) =
+    (is_t ∙ ap table_text (one_proposal a b sa sb policy names s r is_s is_r) ∙ sym is_u, is_x ∙ sym is_y)
 proposed_once policy names a b t u x y sa sb (proposed s is_s is_t is_x) (no_command name first refuses) = absurd (proposal_or_not policy names a b s name is_s first)
 proposed_once policy names a b t u x y sa sb (no_command name first refuses) (proposed r is_r is_u is_y) = absurd (proposal_or_not policy names a b r name is_r first)
 proposed_once policy names a b t u x y sa sb (no_command name first refuses) (no_command name' first' refuses') =
     refused_once (no_command_line name) (no_command_line name') t u x y (ap no_command_line (one_unknown a names name name' first first')) refuses refuses'
 
-pub propose_once : (policy : Unknown) (names : List (List ℕ)) (inputs : Inputs) (t u : List ℕ) (x y : Exit) → IsProposeOutcome policy names inputs t x → IsProposeOutcome policy names inputs u y → Same t u x y
+pub propose_once : (policy : Unknown) (names : List (List ℕ)) (inputs : Inputs) (t u : List ℕ) (x y : Exit) → IsProposeOutcome policy names inputs t x → IsProposeOutcome policy names inputs u y
+    → Same t u x y
 propose_once policy names inputs = of_pair_once (IsProposed policy names) (proposed_once policy names) inputs

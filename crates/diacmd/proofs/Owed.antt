@@ -99,7 +99,8 @@ started d whole before r within same = record {
   goes_on = λ more bad h. subst (λ (l : Level). IsListing d l more bad) same h;
 }
 
-pub leaf_added : (d : Dictionary) (whole : Level) (before now new : List ℕ) (rs : List Rest) (r next : Rest) (depth : ℕ) (v : PlainAvp) → IsUnderWay d whole before now rs r → BeginsWith v r.bytes.now next.bytes.now → next.end ≡ r.end
+pub leaf_added : (d : Dictionary) (whole : Level) (before now new : List ℕ) (rs : List Rest) (r next : Rest) (depth : ℕ) (v : PlainAvp) → IsUnderWay d whole before now rs r
+    → BeginsWith v r.bytes.now next.bytes.now → next.end ≡ r.end
     → depth ≡ length rs → AddsAvp d (r.end - length r.bytes.now) depth v now new false → IsUnderWay d whole before new rs next
 leaf_added d whole before now new rs r next depth v u begins same_end deep (name, value, is_leaf, added) =
     let size = length-level v r.bytes.now next.bytes.now begins in
@@ -117,7 +118,8 @@ leaf_added d whole before now new rs r next depth v u begins same_end deep (name
           (λ t b k. avp v next.bytes.now name value t begins is_leaf (subst (λ (l : Level). IsListing d l t b) same k) refl) h));
     }
 
-pub group_entered : (d : Dictionary) (whole : Level) (before now new : List ℕ) (rs : List Rest) (r next inner : Rest) (depth : ℕ) (v : PlainAvp) → IsUnderWay d whole before now rs r → BeginsWith v r.bytes.now next.bytes.now → next.end ≡ r.end
+pub group_entered : (d : Dictionary) (whole : Level) (before now new : List ℕ) (rs : List Rest) (r next inner : Rest) (depth : ℕ) (v : PlainAvp) → IsUnderWay d whole before now rs r
+    → BeginsWith v r.bytes.now next.bytes.now → next.end ≡ r.end
     → inner.bytes.now ≡ v.bytes → inner.end ≡ r.end - length r.bytes.now + avp_length v
     → depth ≡ length rs → AddsAvp d (r.end - length r.bytes.now) depth v now new true
     → IsUnderWay d whole before new (rs ++ next ∷ []) inner
@@ -148,7 +150,8 @@ no_bytes : (bytes : List ℕ) → length bytes ≡ 0 → bytes ≡ []
 no_bytes [] h = refl
 no_bytes (b ∷ bytes) h = absurd (omega arith)
 
-pub level_ended : (d : Dictionary) (whole : Level) (before now : List ℕ) (all rs : List Rest) (r next : Rest) → IsUnderWay d whole before now all r → all ≡ rs ++ next ∷ [] → length r.bytes.now ≡ 0 → IsUnderWay d whole before now rs next
+pub level_ended : (d : Dictionary) (whole : Level) (before now : List ℕ) (all rs : List Rest) (r next : Rest) → IsUnderWay d whole before now all r → all ≡ rs ++ next ∷ [] → length r.bytes.now ≡ 0
+    → IsUnderWay d whole before now rs next
 level_ended d whole before now all rs r next u is_all none =
     let left = AllByRecursion-pop rs next (subst (AllByRecursion IsWithin) is_all u.all_within) in
     record {
@@ -162,7 +165,8 @@ level_ended d whole before now all rs r next u is_all none =
           u.goes_on more bad (subst (λ (qs : List Rest). Owes d 0 qs (level_of (length all) r) more bad) (sym is_all) made);
     }
 
-pub all_ended : (d : Dictionary) (whole : Level) (before now : List ℕ) (rs : List Rest) (r : Rest) → IsUnderWay d whole before now rs r → length rs ≡ 0 → length r.bytes.now ≡ 0 → AddsLevel d whole before now false
+pub all_ended : (d : Dictionary) (whole : Level) (before now : List ℕ) (rs : List Rest) (r : Rest) → IsUnderWay d whole before now rs r → length rs ≡ 0 → length r.bytes.now ≡ 0
+    → AddsLevel d whole before now false
 all_ended d whole before now (q ∷ rs) r u no_more none = absurd (omega arith)
 all_ended d whole before now [] r u no_more none =
     (u.lines, subst (λ (t : List ℕ). IsListing d whole t false) (append-nil u.lines) (u.goes_on [] false (end (no_bytes r.bytes.now none) refl refl)), u.text)

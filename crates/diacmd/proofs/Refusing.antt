@@ -1,27 +1,40 @@
 -- An outcome, from what is known of its parts.
-use Rattle.std.proofs.Common.{◌≡◌, ℕ, ◌≤◌, List, [], ◌++◌, Bool, Err, length, take, drop, ap, subst, ◌∙◌, arith}
+use Rattle.std.proofs.Common.{◌≡◌, ◌≢◌, ℕ, ◌<◌, ◌≤◌, List, [], ◌++◌, Bool, Result, Err, length, take, drop, slice_index, refl, ap, ◌∙◌}
 use Rattle.dia_wire.specs.declared.Header.{Header}
-use Rattle.dia_wire.specs.Wire.{IsHead, IsMessageLength}
+use Rattle.dia_wire.specs.declared.header.MessageFault.{MessageFault}
+use Rattle.dia_wire.specs.declared.header.MessageFault.TheVariants as faults
+use Rattle.dia_wire.specs.Number.{number}
+use Rattle.dia_wire.specs.Wire.{BeginsMessage, IsHead, IsMessageLength}
 use Rattle.dia_dict.specs.Dictionary.{Dictionary}
 use Rattle.diacmd.specs.declared.inputs.Refused.{Refused}
 use Rattle.diacmd.specs.declared.inputs.Refused.TheVariants.{Bad}
 use Rattle.diacmd.specs.declared.inputs.bad_input.BadInput.TheVariants.{Message}
-use Rattle.diacmd.specs.declared.inputs.bad_input.BadMessage.{BadMessage}
+use Rattle.diacmd.specs.declared.inputs.bad_input.BadMessage.TheVariants.{NoMessage}
 use Rattle.diacmd.specs.declared.command.Exit.{Exit}
 use Rattle.diacmd.specs.declared.command.Exit.TheVariants as exits
 use Rattle.diacmd.specs.Texts.{line}
 use Rattle.diacmd.specs.Refusals.{bad_input_text}
 use Rattle.diacmd.specs.Listing.{header_line, AddsLevel}
-use Rattle.diacmd.specs.Outcome.{Ends, IsShown, listing, listing_exit}
+use Rattle.diacmd.specs.Outcome.{Ends, IsShown, listing, short, version, bad_length, truncated, trailing, listing_exit}
 
--- a message that is refused ends the command
-pub Ends-bad_message : (P : List ℕ → Exit → Type 0) (r : Refused) (why : BadMessage) → r ≡ Bad (Message why) → P (line (bad_input_text (Message why))) exits.Bad → Ends P (Err r)
-Ends-bad_message P r why same h = rw same h
+-- bytes that are no single message, by what each fault says of them
+pub Ends-unsplit : {A : Type 0} (d : Dictionary) (bytes : List ℕ) (r : Result A MessageFault) (why : MessageFault) (refused : Refused) → r ≡ Err why → refused ≡ Bad (Message (NoMessage why))
+    → (r ≡ Err faults.Short → length bytes < 20) → (r ≡ Err faults.Version → (20 ≤ length bytes) × (slice_index bytes 0 ≢ 1))
+    → (r ≡ Err faults.Length → (20 ≤ length bytes) × (slice_index bytes 0 ≡ 1) × ¬ IsMessageLength (number (take 3 (drop 1 bytes))))
+    → (r ≡ Err faults.Truncated → (n : ℕ) × BeginsMessage bytes n × (length bytes < n)) → (r ≡ Err faults.Trailing → (n : ℕ) × BeginsMessage bytes n × (n < length bytes))
+    → Ends (IsShown d bytes) (Err refused)
+Ends-unsplit d bytes r faults.Short refused is same on_short on_version on_length on_truncated on_trailing = rw same (short (on_short is) (refl, refl))
+Ends-unsplit d bytes r faults.Version refused is same on_short on_version on_length on_truncated on_trailing = let (long, other) = on_version is in rw same (version long other (refl, refl))
+Ends-unsplit d bytes r faults.Length refused is same on_short on_version on_length on_truncated on_trailing = let (long, is_one, bad) = on_length is in
+    rw same (bad_length long is_one bad (refl, refl))
+Ends-unsplit d bytes r faults.Truncated refused is same on_short on_version on_length on_truncated on_trailing = let (n, begins, less) = on_truncated is in
+    rw same (truncated n begins less (refl, refl))
+Ends-unsplit d bytes r faults.Trailing refused is same on_short on_version on_length on_truncated on_trailing = let (n, begins, more) = on_trailing is in rw same (trailing n begins more (refl, refl))
 
 -- the text of a message whose length is its Message Length
-pub listed : (d : Dictionary) (bytes body begun headed all : List ℕ) (h : Header) (len : ℕ) (bad : Bool) (exit : Exit) → begun ≡ [] → headed ≡ begun ++ header_line h len → IsHead h len (take 20 bytes) → IsMessageLength len
-    → len ≤ length bytes → length bytes ≤ len → body ≡ drop 20 bytes → AddsLevel d (record { depth = 0; place = 20; bytes = body }) headed all bad → exit ≡ listing_exit bad → IsShown d bytes all exit
-listed d bytes body begun headed all h len bad exit none is_headed is_head is_length low high is_body (lines, is_listing, is_all) is_exit =
-    let same : len ≡ length bytes = omega (arith, low, high) in
-    listing h lines bad (subst (λ (n : ℕ). IsHead h n (take 20 bytes)) same is_head) (subst IsMessageLength same is_length) (rw (← is_body) is_listing)
-    (is_all ∙ ap (λ (f : List ℕ). f ++ lines) (is_headed ∙ ap (λ (f : List ℕ). f ++ header_line h len) none ∙ ap (λ (n : ℕ). header_line h n) same)) is_exit
+pub listed : (d : Dictionary) (bytes body begun headed all : List ℕ) (h : Header) (bad : Bool) (exit : Exit) → begun ≡ [] → headed ≡ begun ++ header_line h (length bytes)
+    → IsHead h (length bytes) (take 20 bytes) → IsMessageLength (length bytes) → body ≡ drop 20 bytes → AddsLevel d (record { depth = 0; place = 20; bytes = body }) headed all bad
+    → exit ≡ listing_exit bad → IsShown d bytes all exit
+listed d bytes body begun headed all h bad exit none is_headed is_head is_length is_body (lines, is_listing, is_all) is_exit =
+    listing h lines bad is_head is_length (rw (← is_body) is_listing)
+    (is_all ∙ ap (λ (f : List ℕ). f ++ lines) (is_headed ∙ ap (λ (f : List ℕ). f ++ header_line h (length bytes)) none)) is_exit

@@ -10,12 +10,14 @@ use Rattle.std.specs.Str.{IsUtf8}
 use Rattle.dia_ccf.specs.declared.CcfFault.{CcfFault}
 use Rattle.dia_ccf.specs.declared.CcfFault.TheVariants as ccf
 use Rattle.dia_ccf.specs.Faults.{IsFault}
+use Rattle.dia_ccf.specs.Limits.{max_text}
 use Rattle.diacmd.specs.declared.command.Input.{Input}
 use Rattle.diacmd.specs.declared.command.Input.TheVariants.{Bytes, TooLong}
 use Rattle.diacmd.specs.Inputs.{Holds}
-use Rattle.diacmd.specs.Texts.{line, dictionary_line, fault_text, most_dictionary_text, IsNoSourceText, fault, IsDictionaryText, IsNoDictionaryText, IsNoMessageText}
+use Rattle.diacmd.specs.Limits.{max_table_text}
+use Rattle.diacmd.specs.Texts.{line, dictionary_line, fault_text, IsNoSourceText, fault, IsDictionaryText, IsNoDictionaryText, IsNoMessageText}
 use Rattle.diacmd.specs.Refusals.{TellsOf, bad_input_text}
-use Rattle.diacmd.specs.Pairs.{IsNoTableText, fault as table_fault, most_table_text, table_line, table_fault_text}
+use Rattle.diacmd.specs.Pairs.{IsNoTableText, fault as table_fault, table_line, table_fault_text}
 use Rattle.dia_compat.specs.declared.TableFault.{TableFault}
 use Rattle.dia_compat.specs.declared.TableFault.TheVariants as tables
 use Rattle.dia_compat.specs.TableText.{IsTableFault}
@@ -35,18 +37,18 @@ pub told_why : (P : List ℕ → Type 0) (number : ℕ) (why : List ℕ) (r : Re
 told_why P number why (Bad bad) h e = (why, h, e)
 told_why P number why NoMemory h e = tt
 
-pub told_fault : (input : Input) (text : List ℕ) (number : ℕ) (f : CcfFault) (r : Refused) → Holds input most_dictionary_text text → IsUtf8 text → IsFault text f
+pub told_fault : (input : Input) (text : List ℕ) (number : ℕ) (f : CcfFault) (r : Refused) → Holds input max_text text → IsUtf8 text → IsFault text f
     → TellsOf (λ told. (f ≢ ccf.NoMemory) × (told ≡ dictionary_line number (fault_text f))) r → TellsOf (λ told. (w : List ℕ) × IsNoSourceText input w × (told ≡ dictionary_line number w)) r
 told_fault input text number f (Bad bad) holds utf8 is_fault (some, e) = (fault_text f, fault text f holds utf8 is_fault some refl, e)
 told_fault input text number f NoMemory holds utf8 is_fault e = tt
 
-pub most_bytes : (input : Input) (text : List ℕ) → Holds input most_dictionary_text text → length text ≤ most_dictionary_text
+pub most_bytes : (input : Input) (text : List ℕ) → Holds input max_text text → length text ≤ max_text
 most_bytes (Bytes v) text h = h.1
 most_bytes TooLong text h = absurd h
 
 -- a fault of a text within the limit, of the same text by another name
-pub is_fault_of : (read text : List ℕ) (f : CcfFault) → read ≡ text → length text ≤ most_dictionary_text → (length read ≤ most_dictionary_text → IsFault read f) → IsFault text f
-is_fault_of read text f same short h = subst (λ (t : List ℕ). (length t ≤ most_dictionary_text → IsFault t f)) same h short
+pub is_fault_of : (read text : List ℕ) (f : CcfFault) → read ≡ text → length text ≤ max_text → (length read ≤ max_text → IsFault read f) → IsFault text f
+is_fault_of read text f same short h = subst (λ (t : List ℕ). (length t ≤ max_text → IsFault t f)) same h short
 
 pub Ends-map : (P Q : List ℕ → Exit → Type 0) (r : Result Outcome Refused) → ((text : List ℕ) (exit : Exit) → P text exit → Q text exit) → Ends P r → Ends Q r
 Ends-map P Q (Ok o) f h = f (string_bytes o.text) o.exit h
@@ -54,7 +56,8 @@ Ends-map P Q (Err (Bad bad)) f h = f (line (bad_input_text bad)) exits.Bad h
 Ends-map P Q (Err NoMemory) f h = tt
 
 -- what was made is written: an outcome as it is, a refusal as its line
-pub outcome_is : {E : Type 0} (P : List ℕ → Exit → Type 0) (made : Result Outcome Refused) (r : Result Outcome E) → IfOk made (λ o. r ≡ Ok o) → IfErr made (TellsOf (λ told. IfOk r (λ o. string_bytes o.text ≡ line told)))
+pub outcome_is : {E : Type 0} (P : List ℕ → Exit → Type 0) (made : Result Outcome Refused) (r : Result Outcome E) → IfOk made (λ o. r ≡ Ok o)
+    → IfErr made (TellsOf (λ told. IfOk r (λ o. string_bytes o.text ≡ line told)))
     → (IsErr made → IfOk r (λ o. o.exit ≡ exits.Bad)) → IfErr made (λ refused. refused ≡ NoMemory → IsErr r) → Ends P made → IfOk r (λ o. P (string_bytes o.text) o.exit)
 outcome_is P (Ok o) r done text exit memory ends = rw done ends
 outcome_is P (Err (Bad bad)) (Ok o) done text exit memory ends = rw (text, exit refl) ends
@@ -67,12 +70,14 @@ pub Ends-no_source : (inputs : Inputs) (r : Refused) → TellsOf (λ told. (why 
 Ends-no_source inputs (Bad bad) (why, h, e) = no_source why h (ap line e, refl)
 Ends-no_source inputs NoMemory h = tt
 
-pub Ends-no_dictionary : (P : Dictionary → List ℕ → List ℕ → Exit → Type 0) (inputs : Inputs) (r : Refused) → TellsOf (λ told. (why : List ℕ) × IsNoDictionaryText inputs.first why × (told ≡ dictionary_line 1 why)) r
+pub Ends-no_dictionary : (P : Dictionary → List ℕ → List ℕ → Exit → Type 0) (inputs : Inputs) (r : Refused)
+    → TellsOf (λ told. (why : List ℕ) × IsNoDictionaryText inputs.first why × (told ≡ dictionary_line 1 why)) r
     → Ends (IsMessageOutcome P inputs) (Err r)
 Ends-no_dictionary P inputs (Bad bad) (why, h, e) = no_dictionary why h (ap line e, refl)
 Ends-no_dictionary P inputs NoMemory h = tt
 
-pub Ends-no_message : (P : Dictionary → List ℕ → List ℕ → Exit → Type 0) (inputs : Inputs) (d : Dictionary) (r : Refused) → IsDictionaryText inputs.first d → TellsOf (IsNoMessageText inputs.message) r → Ends (IsMessageOutcome P inputs) (Err r)
+pub Ends-no_message : (P : Dictionary → List ℕ → List ℕ → Exit → Type 0) (inputs : Inputs) (d : Dictionary) (r : Refused) → IsDictionaryText inputs.first d → TellsOf (IsNoMessageText inputs.message) r
+    → Ends (IsMessageOutcome P inputs) (Err r)
 Ends-no_message P inputs d (Bad bad) is_d h = no_message d (bad_input_text bad) is_d h (refl, refl)
 Ends-no_message P inputs d NoMemory is_d h = tt
 
@@ -84,7 +89,8 @@ told_of_source input number NoMemory h = tt
 
 -- ---- commands of two dictionaries
 
-pub Ends-no_first : (P : Dictionary → Dictionary → List ℕ → Exit → Type 0) (inputs : Inputs) (r : Refused) → TellsOf (λ told. (why : List ℕ) × IsNoDictionaryText inputs.first why × (told ≡ dictionary_line 1 why)) r
+pub Ends-no_first : (P : Dictionary → Dictionary → List ℕ → Exit → Type 0) (inputs : Inputs) (r : Refused)
+    → TellsOf (λ told. (why : List ℕ) × IsNoDictionaryText inputs.first why × (told ≡ dictionary_line 1 why)) r
     → Ends (IsPairOutcome P inputs) (Err r)
 Ends-no_first P inputs (Bad bad) (why, h, e) = no_first why h (ap line e, refl)
 Ends-no_first P inputs NoMemory h = tt
@@ -99,7 +105,8 @@ pub Ends-no_table : (u : Unknown) (inputs : Inputs) (a b : Dictionary) (r : Refu
 Ends-no_table u inputs a b (Bad bad) is_a is_b h = ended a b is_a is_b (no_table (bad_input_text bad) h (refl, refl))
 Ends-no_table u inputs a b NoMemory is_a is_b h = tt
 
-pub Ends-nothing_to_refute : (u : Unknown) (most : Levels) (inputs : Inputs) (a b : Dictionary) (r : Refused) → IsDictionaryText inputs.first a → IsDictionaryText inputs.second b → TellsOf (IsNoMessageText inputs.message) r
+pub Ends-nothing_to_refute : (u : Unknown) (most : Levels) (inputs : Inputs) (a b : Dictionary) (r : Refused) → IsDictionaryText inputs.first a → IsDictionaryText inputs.second b
+    → TellsOf (IsNoMessageText inputs.message) r
     → Ends (IsPairOutcome (IsRefutation u most inputs.message) inputs) (Err r)
 Ends-nothing_to_refute u most inputs a b (Bad bad) is_a is_b h = ended a b is_a is_b (no_message (bad_input_text bad) h (refl, refl))
 Ends-nothing_to_refute u most inputs a b NoMemory is_a is_b h = tt
@@ -109,15 +116,15 @@ pub told_table : (input : Input) (why : List ℕ) (r : Refused) → IsNoTableTex
 told_table input why (Bad bad) h e = subst (IsNoTableText input) (sym e) h
 told_table input why NoMemory h e = tt
 
-pub told_table_fault : (input : Input) (text : List ℕ) (f : TableFault) (r : Refused) → Holds input most_table_text text → IsUtf8 text → IsTableFault text f
+pub told_table_fault : (input : Input) (text : List ℕ) (f : TableFault) (r : Refused) → Holds input max_table_text text → IsUtf8 text → IsTableFault text f
     → TellsOf (λ told. (f ≢ tables.NoMemory) × (told ≡ table_line (table_fault_text f))) r → TellsOf (IsNoTableText input) r
 told_table_fault input text f (Bad bad) holds utf8 is_fault (some, e) = table_fault text f holds utf8 is_fault some e
 told_table_fault input text f NoMemory holds utf8 is_fault e = tt
 
-pub most_table_bytes : (input : Input) (text : List ℕ) → Holds input most_table_text text → length text ≤ most_table_text
+pub most_table_bytes : (input : Input) (text : List ℕ) → Holds input max_table_text text → length text ≤ max_table_text
 most_table_bytes (Bytes v) text h = h.1
 most_table_bytes TooLong text h = absurd h
 
 -- a fault of a text within the limit, of the same text by another name
-pub is_table_fault_of : (read text : List ℕ) (f : TableFault) → read ≡ text → length text ≤ most_table_text → (length read ≤ most_table_text → IsTableFault read f) → IsTableFault text f
-is_table_fault_of read text f same short h = subst (λ (t : List ℕ). (length t ≤ most_table_text → IsTableFault t f)) same h short
+pub is_table_fault_of : (read text : List ℕ) (f : TableFault) → read ≡ text → length text ≤ max_table_text → (length read ≤ max_table_text → IsTableFault read f) → IsTableFault text f
+is_table_fault_of read text f same short h = subst (λ (t : List ℕ). (length t ≤ max_table_text → IsTableFault t f)) same h short

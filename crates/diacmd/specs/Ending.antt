@@ -52,7 +52,8 @@ try_help = 10 ∷ 10 ∷ codes "For more information, try '--help'." ++ 10 ∷ [
 abbrev pub ending_text : Ending → Option (List ℕ)
 ending_text (ending.Told error) = None
 ending_text ending.NotText = Some (codes "error: a word of the command line isn't UTF-8" ++ try_help)
-ending_text ending.ReadTwice = Some (codes "error: '-' is given twice, and standard input can be read once: name a file for one of the two" ++ try_help)
+ending_text ending.ReadTwice =
+    Some (codes "error: '-' is given twice, and standard input can be read once: name a file for one of the two" ++ try_help)
 ending_text (ending.Device name (Some error)) = None
 ending_text (ending.Device name None) = Some (codes "device failed" ++ 10 ∷ [])
 ending_text ending.NoMemory = Some (codes "no memory" ++ 10 ∷ [])

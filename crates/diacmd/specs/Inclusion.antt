@@ -30,7 +30,8 @@ pub record IsIncluded (u : Unknown) (inputs : Inputs) : Type 0 where
   pub is_first : IsDictionaryText inputs.first a
   pub is_second : IsDictionaryText inputs.second b
   pub is_table : IsTableText inputs.table table
-  pub inclusion : (most : Levels) (bytes : List ℕ) (command : PlainDefinition) (name : List ℕ) → Lists table command name → IsMessageOf a u most command bytes
+  pub inclusion : (most : Levels) (bytes : List ℕ) (command : PlainDefinition) (name : List ℕ) → Lists table command name
+      → IsMessageOf a u most command bytes
       → (other : PlainDefinition) × Lists table command other.name × IsMessageOf b u most other bytes
 
 -- a yes of `compare` shows it

@@ -1,3 +1,4 @@
+pub mod Limits
 pub mod Inputs
 pub mod Exit
 pub mod Texts

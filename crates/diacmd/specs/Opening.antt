@@ -58,4 +58,5 @@ IsUnread (File path limit) made = IsFaultOf path.now made
 IsUnread origin made = made ≡ ending.NoMemory
 
 abbrev pub IsAnyUnread : Origins → Ending → Type 0
-IsAnyUnread origins made = IsUnread origins.first made ⊎ IsUnread origins.second made ⊎ IsUnread origins.table made ⊎ IsUnread origins.message made
+IsAnyUnread origins made = IsUnread origins.first made ⊎ IsUnread origins.second made ⊎ IsUnread origins.table made
+    ⊎ IsUnread origins.message made

@@ -15,17 +15,14 @@ use Rattle.diacmd.specs.declared.command.Input.{Input}
 use Rattle.diacmd.specs.declared.command.Exit.{Exit}
 use Rattle.diacmd.specs.declared.command.Exit.TheVariants.{Yes, No}
 use Rattle.diacmd.specs.Inputs.{Holds, IsOver}
+use Rattle.diacmd.specs.Limits.{max_table_text}
 use Rattle.diacmd.specs.Texts.{line, fault_at}
 
 -- ---- a table that is read
 
--- the most bytes of a table's text
-abbrev pub most_table_text : ℕ
-most_table_text = 33554432
-
 -- the input is the text of this table
 abbrev pub IsTableText : Input → PlainTable → Type 0
-IsTableText input t = (text : List ℕ) × Holds input most_table_text text × IsUtf8 text × IsTable text t
+IsTableText input t = (text : List ℕ) × Holds input max_table_text text × IsUtf8 text × IsTable text t
 
 abbrev pub table_fault_text : TableFault → List ℕ
 table_fault_text (table.Syntax n) = fault_at (codes "syntax") n
@@ -38,9 +35,11 @@ table_line why = codes "table: " ++ why
 
 -- the input is no table's text, and this is told
 pub data IsNoTableText (input : Input) (told : List ℕ) : Type 0 where
-  too_long : IsOver input most_table_text → told ≡ table_line (codes "too long") → IsNoTableText input told
-  not_text : (text : List ℕ) → Holds input most_table_text text → ¬ IsUtf8 text → told ≡ table_line (codes "not text") → IsNoTableText input told
-  fault : (text : List ℕ) (f : TableFault) → Holds input most_table_text text → IsUtf8 text → IsTableFault text f → f ≢ table.NoMemory → told ≡ table_line (table_fault_text f) → IsNoTableText input told
+  too_long : IsOver input max_table_text → told ≡ table_line (codes "too long") → IsNoTableText input told
+  not_text : (text : List ℕ) → Holds input max_table_text text → ¬ IsUtf8 text → told ≡ table_line (codes "not text")
+      → IsNoTableText input told
+  fault : (text : List ℕ) (f : TableFault) → Holds input max_table_text text → IsUtf8 text → IsTableFault text f
+      → f ≢ table.NoMemory → told ≡ table_line (table_fault_text f) → IsNoTableText input told
 
 -- ---- what is written of pairs
 
@@ -66,7 +65,8 @@ failure_line word p test = line (codes "no " ++ pair_text word p ++ codes " " ++
 
 -- the pair at this place fails the test
 abbrev pub IsFailureText : List ℕ → List (List ℕ × List ℕ) → ℕ → Test → List ℕ → Exit → Type 0
-IsFailureText word pairs i test text exit = (p : List ℕ × List ℕ) × (slice_get pairs i ≡ Some p) × (text ≡ failure_line word p test) × (exit ≡ No)
+IsFailureText word pairs i test text exit =
+    (p : List ℕ × List ℕ) × (slice_get pairs i ≡ Some p) × (text ≡ failure_line word p test) × (exit ≡ No)
 
 -- the line of an answer, and how the program ends
 abbrev pub IsAnswerText : PlainTable → Answer → List ℕ → Exit → Type 0

@@ -1,6 +1,8 @@
 -- What is told of an input that is refused.
 use Rattle.std.specs.Prelude.{ℕ, List, ◌++◌, codes, string_bytes, ⊤}
 use Rattle.dia_dict.specs.Resolution.{wrong}
+use Rattle.dia_wire.specs.declared.header.MessageFault.{MessageFault}
+use Rattle.dia_wire.specs.declared.header.MessageFault.TheVariants.{Short, Version, Length, Truncated, Trailing}
 use Rattle.diacmd.specs.declared.inputs.Refused.{Refused}
 use Rattle.diacmd.specs.declared.inputs.Refused.TheVariants.{Bad, NoMemory}
 use Rattle.diacmd.specs.declared.inputs.bad_input.BadInput.{BadInput}
@@ -28,14 +30,17 @@ bad_table_text table.NotText = codes "not text"
 bad_table_text (table.Syntax n) = fault_at (codes "syntax") n
 bad_table_text (table.Limit n) = fault_at (codes "limit") n
 
+abbrev pub message_fault_word : MessageFault → List ℕ
+message_fault_word Short = codes "short"
+message_fault_word Version = codes "version"
+message_fault_word Length = codes "length"
+message_fault_word Truncated = codes "truncated"
+message_fault_word Trailing = codes "trailing"
+
 abbrev pub bad_message_word : BadMessage → List ℕ
 bad_message_word message.TooLong = codes "too long"
 bad_message_word message.NotHexadecimal = codes "not hexadecimal"
-bad_message_word message.Short = codes "short"
-bad_message_word message.Version = codes "version"
-bad_message_word message.Length = codes "length"
-bad_message_word message.Truncated = codes "truncated"
-bad_message_word message.Trailing = codes "trailing"
+bad_message_word (message.NoMessage fault) = message_fault_word fault
 
 -- the line, without its line feed
 abbrev pub bad_input_text : BadInput → List ℕ

@@ -19,13 +19,31 @@ command_of (Refute unknown levels first second message) = command.Refute unknown
 command_of (Propose unknown first second names) = command.Propose unknown names
 
 abbrev pub origins_of : Request → Origins
-origins_of (Show dictionary message) = record { first = dictionary_origin dictionary; second = Nowhere; table = Nowhere; message = message_origin message }
-origins_of (Check unknown levels dictionary message) = record { first = dictionary_origin dictionary; second = Nowhere; table = Nowhere; message = message_origin message }
-origins_of (Render dictionary) = record { first = dictionary_origin dictionary; second = Nowhere; table = Nowhere; message = Nowhere }
-origins_of (Compare unknown first second table) = record { first = dictionary_origin first; second = dictionary_origin second; table = table_origin table; message = Nowhere }
+origins_of (Show dictionary message) = record {
+  first = dictionary_origin dictionary;
+  second = Nowhere;
+  table = Nowhere;
+  message = message_origin message;
+}
+origins_of (Check unknown levels dictionary message) =
+    record { first = dictionary_origin dictionary; second = Nowhere; table = Nowhere; message = message_origin message }
+origins_of (Render dictionary) = record {
+  first = dictionary_origin dictionary;
+  second = Nowhere;
+  table = Nowhere;
+  message = Nowhere;
+}
+origins_of (Compare unknown first second table) =
+    record { first = dictionary_origin first; second = dictionary_origin second; table = table_origin table; message = Nowhere }
 origins_of (Refute unknown levels first second message) =
-    record { first = dictionary_origin first; second = dictionary_origin second; table = Nowhere; message = message_origin message }
-origins_of (Propose unknown first second names) = record { first = dictionary_origin first; second = dictionary_origin second; table = Nowhere; message = Nowhere }
+    record {
+      first = dictionary_origin first;
+      second = dictionary_origin second;
+      table = Nowhere;
+      message = message_origin message;
+    }
+origins_of (Propose unknown first second names) =
+    record { first = dictionary_origin first; second = dictionary_origin second; table = Nowhere; message = Nowhere }
 
 -- the request itself, unless it reads standard input twice
 abbrev pub read_once : Request → Result Request Ending

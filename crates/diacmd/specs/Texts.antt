@@ -5,16 +5,17 @@ use Rattle.std.specs.Fmt.{decimal}
 use Rattle.hex.specs.Hex.{decode_of}
 use Rattle.dia_ccf.specs.declared.CcfFault.{CcfFault}
 use Rattle.dia_ccf.specs.declared.CcfFault.TheVariants as ccf
+use Rattle.dia_ccf.specs.Limits.{max_text}
 use Rattle.dia_ccf.specs.Plain.{PlainSource}
 use Rattle.dia_ccf.specs.Tokens.{tokens, is_white}
 use Rattle.dia_ccf.specs.Grammar.{Derives}
 use Rattle.dia_ccf.specs.Faults.{IsFault}
-use Rattle.dia_dict.specs.declared.DictKind.{DictKind}
-use Rattle.dia_dict.specs.declared.DictKind.TheVariants as kind
 use Rattle.dia_dict.specs.Dictionary.{Dictionary, IsDictionary}
 use Rattle.dia_dict.specs.Resolution.{resolved, first_wrong, Wrong}
+use Rattle.dia_dict.specs.Words.{kind_word}
 use Rattle.diacmd.specs.declared.command.Input.{Input}
 use Rattle.diacmd.specs.Inputs.{Holds, IsOver}
+use Rattle.diacmd.specs.Limits.{max_message_text}
 
 -- a text and its line feed
 abbrev pub line : List ℕ → List ℕ
@@ -22,13 +23,9 @@ line text = text ++ 10 ∷ []
 
 -- ---- dictionaries
 
--- the most bytes of a dictionary's text
-abbrev pub most_dictionary_text : ℕ
-most_dictionary_text = 1048576
-
 -- the input is the text of this source
 abbrev pub IsSourceText : Input → PlainSource → Type 0
-IsSourceText input source = (text : List ℕ) × Holds input most_dictionary_text text × IsUtf8 text × Derives (tokens text) source
+IsSourceText input source = (text : List ℕ) × Holds input max_text text × IsUtf8 text × Derives (tokens text) source
 
 abbrev pub fault_at : List ℕ → ℕ → List ℕ
 fault_at what n = what ++ codes " at line " ++ decimal n
@@ -41,22 +38,10 @@ fault_text ccf.NoMemory = []
 
 -- the input is no dictionary text, and this is why
 pub data IsNoSourceText (input : Input) (why : List ℕ) : Type 0 where
-  too_long : IsOver input most_dictionary_text → why ≡ codes "too long" → IsNoSourceText input why
-  not_text : (text : List ℕ) → Holds input most_dictionary_text text → ¬ IsUtf8 text → why ≡ codes "not text" → IsNoSourceText input why
-  fault : (text : List ℕ) (f : CcfFault) → Holds input most_dictionary_text text → IsUtf8 text → IsFault text f → f ≢ ccf.NoMemory → why ≡ fault_text f → IsNoSourceText input why
-
-abbrev pub kind_word : DictKind → List ℕ
-kind_word kind.Limit = codes "limit"
-kind_word kind.DuplicateName = codes "duplicate-name"
-kind_word kind.NoGroupFormat = codes "no-group-format"
-kind_word kind.HeaderMismatch = codes "header-mismatch"
-kind_word kind.DuplicateKey = codes "duplicate-key"
-kind_word kind.DuplicateCommand = codes "duplicate-command"
-kind_word kind.UndefinedName = codes "undefined-name"
-kind_word kind.RepeatedSlot = codes "repeated-slot"
-kind_word kind.MinOverMax = codes "min-over-max"
-kind_word kind.RequiredMin = codes "required-min"
-kind_word kind.OptionalMin = codes "optional-min"
+  too_long : IsOver input max_text → why ≡ codes "too long" → IsNoSourceText input why
+  not_text : (text : List ℕ) → Holds input max_text text → ¬ IsUtf8 text → why ≡ codes "not text" → IsNoSourceText input why
+  fault : (text : List ℕ) (f : CcfFault) → Holds input max_text text → IsUtf8 text → IsFault text f → f ≢ ccf.NoMemory
+      → why ≡ fault_text f → IsNoSourceText input why
 
 -- a name, or a dash for none
 abbrev pub or_dash : List ℕ → List ℕ
@@ -68,11 +53,13 @@ wrong_text w = kind_word w.kind ++ codes " " ++ or_dash w.name ++ codes " " ++ o
 
 -- the input is the text of a source that names this dictionary
 abbrev pub IsDictionaryText : Input → Dictionary → Type 0
-IsDictionaryText input d = (source : PlainSource) × IsSourceText input source × (first_wrong source ≡ None) × (d ≡ resolved source) × IsDictionary d
+IsDictionaryText input d = (source : PlainSource) × IsSourceText input source × (first_wrong source ≡ None)
+    × (d ≡ resolved source) × IsDictionary d
 
 -- the input names no dictionary, and this is why
 abbrev pub IsNoDictionaryText : Input → List ℕ → Type 0
-IsNoDictionaryText input why = IsNoSourceText input why ⊎ ((source : PlainSource) × (wrong : Wrong) × IsSourceText input source × (first_wrong source ≡ Some wrong) × (why ≡ wrong_text wrong))
+IsNoDictionaryText input why = IsNoSourceText input why ⊎ ((source : PlainSource) × (wrong : Wrong) × IsSourceText input source
+    × (first_wrong source ≡ Some wrong) × (why ≡ wrong_text wrong))
 
 -- what is told of a dictionary by its number
 abbrev pub dictionary_line : ℕ → List ℕ → List ℕ
@@ -80,19 +67,16 @@ dictionary_line number why = codes "dictionary " ++ decimal number ++ codes ": "
 
 -- ---- messages
 
--- the most bytes of a message's text
-abbrev pub most_message_text : ℕ
-most_message_text = 67108864
-
 -- the text without its white space
 abbrev pub digits_of : List ℕ → List ℕ
 digits_of text = filter (λ c. not (is_white c)) text
 
 -- the input is hexadecimal text of these bytes
 abbrev pub IsMessageText : Input → List ℕ → Type 0
-IsMessageText input bytes = (text : List ℕ) × Holds input most_message_text text × (decode_of (digits_of text) ≡ Ok bytes)
+IsMessageText input bytes = (text : List ℕ) × Holds input max_message_text text × (decode_of (digits_of text) ≡ Ok bytes)
 
 -- the input is no hexadecimal text within the limit, and this is told
 pub data IsNoMessageText (input : Input) (told : List ℕ) : Type 0 where
-  too_long : IsOver input most_message_text → told ≡ codes "message: too long" → IsNoMessageText input told
-  not_hexadecimal : (text : List ℕ) → Holds input most_message_text text → ¬ IsOk (decode_of (digits_of text)) → told ≡ codes "message: not hexadecimal" → IsNoMessageText input told
+  too_long : IsOver input max_message_text → told ≡ codes "message: too long" → IsNoMessageText input told
+  not_hexadecimal : (text : List ℕ) → Holds input max_message_text text → ¬ IsOk (decode_of (digits_of text))
+      → told ≡ codes "message: not hexadecimal" → IsNoMessageText input told

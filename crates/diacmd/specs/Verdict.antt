@@ -44,11 +44,13 @@ subject_text d (Avp key) = known_name key (known d key)
 subject_text d Wildcard = codes "AVP"
 
 abbrev pub fault_line : Dictionary → Fault → List ℕ
-fault_line d f = line (codes "fault " ++ decimal f.code ++ codes " at " ++ decimal f.place ++ codes " " ++ reason_word f.reason ++ codes " " ++ subject_text d f.subject)
+fault_line d f = line (codes "fault " ++ decimal f.code ++ codes " at " ++ decimal f.place ++ codes " " ++ reason_word f.reason
+    ++ codes " " ++ subject_text d f.subject)
 
 -- the line of an answer, and how the program ends. Where memory was refused there is none
 abbrev pub IsVerdict : Dictionary → Result Selected Refusal → List ℕ → Exit → Type 0
-IsVerdict d (Ok s) text exit = (c : PlainDefinition) × (slice_get (definitions d) s.def ≡ Some c) × (text ≡ line (codes "valid " ++ c.name)) × (exit ≡ Yes)
+IsVerdict d (Ok s) text exit = (c : PlainDefinition) × (slice_get (definitions d) s.def ≡ Some c)
+    × (text ≡ line (codes "valid " ++ c.name)) × (exit ≡ Yes)
 IsVerdict d (Err (refusal.Fault f)) text exit = (text ≡ fault_line d f) × (exit ≡ No)
 IsVerdict d (Err refusal.Truncated) text exit = (text ≡ line (codes "truncated")) × (exit ≡ No)
 IsVerdict d (Err refusal.Trailing) text exit = (text ≡ line (codes "trailing")) × (exit ≡ No)

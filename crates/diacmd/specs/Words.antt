@@ -22,11 +22,20 @@ dict_rule = record (new_rule (codes "dict")) { long = Some (codes "dict"); value
 -- `--unknown POLICY`, one of these words, which is `kept` where it isn't given
 abbrev pub unknown_rule : Bor (List (Bor Text)) → Rule
 unknown_rule policies =
-    record (new_rule (codes "unknown")) { long = Some (codes "unknown"); value_names = 1; defaults = codes "kept" ∷ []; parser = Some (Names policies) }
+    record (new_rule (codes "unknown")) {
+      long = Some (codes "unknown");
+      value_names = 1;
+      defaults = codes "kept" ∷ [];
+      parser = Some (Names policies);
+    }
 
 -- `--levels N`, a number of 32 bits
 abbrev pub levels_rule : Rule
-levels_rule = record (new_rule (codes "levels")) { long = Some (codes "levels"); value_names = 1; parser = Some (Unsigned 0 4294967295) }
+levels_rule = record (new_rule (codes "levels")) {
+  long = Some (codes "levels");
+  value_names = 1;
+  parser = Some (Unsigned 0 4294967295);
+}
 
 -- a word that has to be given
 abbrev pub word_rule : Text → Rule
@@ -49,7 +58,8 @@ render_shape = (with_rule (new_app (codes "render")) (word_rule (codes "D"))).to
 
 -- `--unknown POLICY A B`, with which the line of a subcommand of two dictionaries begins
 abbrev pub pair_app : Text → Bor (List (Bor Text)) → App
-pair_app name policies = with_rule (with_rule (with_rule (new_app name) (unknown_rule policies)) (word_rule (codes "A"))) (word_rule (codes "B"))
+pair_app name policies = with_rule (with_rule (with_rule (new_app name) (unknown_rule policies)) (word_rule (codes "A")))
+    (word_rule (codes "B"))
 
 abbrev pub compare_shape : Bor (List (Bor Text)) → Shape
 compare_shape policies = (with_rule (pair_app (codes "compare") policies) (word_rule (codes "TABLE"))).top
@@ -71,7 +81,8 @@ program_app = on_top (λ shape. record shape { has_version = true; subcommand_re
 abbrev pub line_shape : Bor (List (Bor Text)) → App
 line_shape policies =
     let one = with_subcommand (with_subcommand (with_subcommand program_app show_shape) (check_shape policies)) render_shape in
-    with_subcommand (with_subcommand (with_subcommand one (compare_shape policies)) (refute_shape policies)) (propose_shape policies)
+    with_subcommand (with_subcommand (with_subcommand one (compare_shape policies)) (refute_shape policies))
+    (propose_shape policies)
 
 abbrev pub policy_word : Unknown → Text
 policy_word Kept = codes "kept"
@@ -80,19 +91,23 @@ policy_word Refused = codes "refused"
 -- there is no limit without a word, and a word is a decimal number, which a `+` may begin
 abbrev pub IsLimitOf : Option Text → Levels → Type 0
 IsLimitOf None levels = levels ≡ Any
-IsLimitOf (Some word) levels = IsNumeral 10 (without_leading_plus word) × (levels ≡ AtMost (digits_value 10 (without_leading_plus word)))
+IsLimitOf (Some word) levels = IsNumeral 10 (without_leading_plus word)
+    × (levels ≡ AtMost (digits_value 10 (without_leading_plus word)))
 
 -- what was found for `--unknown POLICY A B`
 abbrev pub ArePair : Unknown → Bor Text → Bor Text → List Row → Type 0
 ArePair unknown first second rows =
-    (first_of (codes "unknown") rows ≡ Some (policy_word unknown)) × (first_of (codes "A") rows ≡ Some first.now) × (first_of (codes "B") rows ≡ Some second.now)
+    (first_of (codes "unknown") rows ≡ Some (policy_word unknown)) × (first_of (codes "A") rows ≡ Some first.now)
+    × (first_of (codes "B") rows ≡ Some second.now)
 
 -- the request of a subcommand that was found, with the first values of its arguments, and all names of commands
 abbrev pub IsRequestOf : Request → Text × List Row → Type 0
 IsRequestOf (Show dictionary message) found =
-    (found.0 ≡ codes "show") × (first_of (codes "dict") found.1 ≡ Some dictionary.now) × (first_of (codes "MESSAGE") found.1 ≡ Some message.now)
+    (found.0 ≡ codes "show") × (first_of (codes "dict") found.1 ≡ Some dictionary.now)
+    × (first_of (codes "MESSAGE") found.1 ≡ Some message.now)
 IsRequestOf (Check unknown levels dictionary message) found =
-    (found.0 ≡ codes "check") × (first_of (codes "unknown") found.1 ≡ Some (policy_word unknown)) × IsLimitOf (first_of (codes "levels") found.1) levels
+    (found.0 ≡ codes "check") × (first_of (codes "unknown") found.1 ≡ Some (policy_word unknown))
+    × IsLimitOf (first_of (codes "levels") found.1) levels
     × (first_of (codes "D") found.1 ≡ Some dictionary.now) × (first_of (codes "MESSAGE") found.1 ≡ Some message.now)
 IsRequestOf (Render dictionary) found = (found.0 ≡ codes "render") × (first_of (codes "D") found.1 ≡ Some dictionary.now)
 IsRequestOf (Compare unknown first second table) found =
@@ -101,7 +116,8 @@ IsRequestOf (Refute unknown levels first second message) found =
     (found.0 ≡ codes "refute") × ArePair unknown first second found.1 × IsLimitOf (first_of (codes "levels") found.1) levels
     × (first_of (codes "MESSAGE") found.1 ≡ Some message.now)
 IsRequestOf (Propose unknown first second names) found =
-    (found.0 ≡ codes "propose") × ArePair unknown first second found.1 × (all_of (codes "COMMAND") found.1 ≡ Some (map string_bytes names.items))
+    (found.0 ≡ codes "propose") × ArePair unknown first second found.1
+    × (all_of (codes "COMMAND") found.1 ≡ Some (map string_bytes names.items))
 
 -- the request that clap's specification gives for the words, where `--unknown` is one of the two policies
 abbrev pub IsAskedBy : List Text → Request → Type 0

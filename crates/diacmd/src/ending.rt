@@ -146,11 +146,16 @@ impl fmt::Display for Ending<'_> {
     }
 }
 
-const NOT_TEXT: &str =
-    "error: a word of the command line isn't UTF-8\n\nFor more information, try '--help'.\n";
+const NOT_TEXT: &str = "error: a word of the command line isn't UTF-8
+
+For more information, try '--help'.
+";
 
 const READ_TWICE: &str =
-    "error: '-' is given twice, and standard input can be read once: name a file for one of the two\n\nFor more information, try '--help'.\n";
+    "error: '-' is given twice, and standard input can be read once: name a file for one of the two
+
+For more information, try '--help'.
+";
 
 impl<'a> From<clap::Error> for Ending<'a> {
     ghost use Rattle.std.specs.Prelude.{◌≡◌, ◌≢◌};
@@ -158,7 +163,8 @@ impl<'a> From<clap::Error> for Ending<'a> {
     ghost use Rattle.diacmd.specs.declared.ending.Ending.TheVariants.{Told, NoMemory};
     ghost use Rattle.clap.specs.declared.error.kind.ErrorKind.TheVariants.{OutOfMemory};
 
-    ghost from_gives = { λ error ending. (kind_of error ≡ OutOfMemory → ending ≡ NoMemory) × (kind_of error ≢ OutOfMemory → ending ≡ Told error) };
+    ghost from_gives = { λ error ending. (kind_of error ≡ OutOfMemory → ending ≡ NoMemory)
+        × (kind_of error ≢ OutOfMemory → ending ≡ Told error) };
 
     fn from(error: clap::Error) -> Ending<'a> {
         match error.kind() {

@@ -5,6 +5,7 @@ ghost use Rattle.diacmd.specs.Inputs.{Holds, IsOver};
 
 use crate::command::Input;
 use crate::inputs::bad_input::{BadInput, BadMessage};
+use dia_wire::MessageFault;
 use std::alloc::AllocError;
 
 pub mod bad_input;
@@ -28,6 +29,19 @@ impl From<BadMessage> for Refused {
 
     fn from(why: BadMessage) -> Refused {
         Refused::Bad(BadInput::Message(why))
+    }
+}
+
+impl From<MessageFault> for Refused {
+    ghost use Rattle.std.specs.Prelude.{◌≡◌};
+    ghost use Rattle.diacmd.specs.declared.inputs.Refused.TheVariants.{Bad};
+    ghost use Rattle.diacmd.specs.declared.inputs.bad_input.BadInput.TheVariants.{Message};
+    ghost use Rattle.diacmd.specs.declared.inputs.bad_input.BadMessage.TheVariants.{NoMessage};
+
+    ghost from_gives = { λ fault refused. refused ≡ Bad (Message (NoMessage fault)) };
+
+    fn from(fault: MessageFault) -> Refused {
+        Refused::from(BadMessage::NoMessage(fault))
     }
 }
 

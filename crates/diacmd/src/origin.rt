@@ -1,7 +1,8 @@
 //! Where the text of each input comes from.
 
 ghost use Rattle.std.specs.Prelude.{◌≡◌, count_by};
-ghost use Rattle.diacmd.specs.Origins.{dictionary_origin, is_standard_input, message_origin, origin_within, reads_twice, table_origin};
+ghost use Rattle.diacmd.specs.Origins.{dictionary_origin, message_origin, origin_within, table_origin};
+ghost use Rattle.diacmd.specs.Origins.{is_standard_input, reads_twice};
 
 use crate::inputs::message::MAX_MESSAGE_TEXT;
 use dia_ccf::MAX_TEXT;

@@ -29,14 +29,17 @@ pub fn run<S: Sink>(
     sink: &mut S,
 ) -> Result<Exit, RunFault>
     requires { ¬ IsTrue (S.has_failed sink.old) }
-    ensures text { IfOk result (λ exit. (text : List ℕ) × IsOutcome command.now inputs.now text exit × Appends (S.written sink.old) (S.written sink.new) text) }
+    ensures text { IfOk result (λ exit. (text : List ℕ) × IsOutcome command.now inputs.now text exit
+        × Appends (S.written sink.old) (S.written sink.new) text) }
     // For these inputs there is one text, and one end.
-    ensures one { (a b : List ℕ) (x y : AnyExit) → IsOutcome command.now inputs.now a x → IsOutcome command.now inputs.now b y → (a ≡ b) × (x ≡ y) }
+    ensures one { (a b : List ℕ) (x y : AnyExit) → IsOutcome command.now inputs.now a x → IsOutcome command.now inputs.now b y
+        → (a ≡ b) × (x ≡ y) }
     // Where `compare` answers yes, what is valid under the first dictionary is valid under the second.
     ensures inclusion { IfOk result (λ exit. ShowsInclusion command.now inputs.now exit) }
     ensures device { (result ≡ Err RunFault.Device) ↔ IsTrue (S.has_failed sink.new) }
     ensures front { result ≡ Err RunFault.Device
-        → (text : List ℕ) × (exit : AnyExit) × IsOutcome command.now inputs.now text exit × AppendsFront (S.written sink.old) (S.written sink.new) text }
+        → (text : List ℕ) × (exit : AnyExit) × IsOutcome command.now inputs.now text exit
+        × AppendsFront (S.written sink.old) (S.written sink.new) text }
     ensures no_memory { result ≡ Err RunFault.NoMemory → S.written sink.new ≡ S.written sink.old }
 {
     let outcome = perform(alloc, command, inputs)?;

@@ -53,7 +53,8 @@ fn verdict<B: Book>(
 /// The outcome of a valid message of this command.
 fn valid<B: Book>(alloc: Global, book: &B, def: DefId) -> Result<Outcome, AllocError>
     requires { def < length (definitions (B.meaning book.now)) }
-    ensures text { IfOk result (λ outcome. (c : PlainDefinition) × (slice_get (definitions (B.meaning book.now)) def ≡ Some c) × (string_bytes outcome.text ≡ line (codes "valid " ++ c.name))) }
+    ensures text { IfOk result (λ outcome. (c : PlainDefinition) × (slice_get (definitions (B.meaning book.now)) def ≡ Some c)
+        × (string_bytes outcome.text ≡ line (codes "valid " ++ c.name))) }
     ensures exit { IfOk result (λ outcome. outcome.exit ≡ Exit.Yes) }
 {
     let name = book.def(def).name.as_str();

@@ -8,18 +8,14 @@ use crate::command::{Exit, Inputs};
 use crate::commands::Outcome;
 use crate::commands::show::listing::push_level;
 use crate::inputs::Refused;
-use crate::inputs::bad_input::BadMessage;
 use crate::inputs::dictionary::read_dictionary;
 use crate::inputs::message::read_message;
 use dia_data::push_hex_byte;
 use dia_dict::Book;
-use dia_wire::{HeadFault, Header, read_header};
+use dia_wire::{HEADER_LENGTH, Header, split_message};
 use std::alloc::{AllocError, Global};
 
 mod listing;
-
-/// The bytes of a header.
-const HEADER_LENGTH: usize = 20;
 
 /// The lines of the message, with the names of the first dictionary.
 pub fn show(alloc: Global, inputs: &Inputs) -> Result<Outcome, Refused>
@@ -34,28 +30,16 @@ pub fn show(alloc: Global, inputs: &Inputs) -> Result<Outcome, Refused>
 fn show_message<B: Book>(alloc: Global, book: &B, bytes: &[u8]) -> Result<Outcome, Refused>
     ensures { Ends (IsShown (B.meaning book.now) bytes.now) result }
 {
-    let (header, length) = match read_header(bytes) {
-        Ok(found) => found,
-        Err(HeadFault::Short) => return Err(Refused::from(BadMessage::Short)),
-        Err(HeadFault::Version) => return Err(Refused::from(BadMessage::Version)),
-        Err(HeadFault::Length) => return Err(Refused::from(BadMessage::Length)),
-    };
-    if bytes.len() < length as usize {
-        return Err(Refused::from(BadMessage::Truncated));
-    }
-    if bytes.len() > length as usize {
-        return Err(Refused::from(BadMessage::Trailing));
-    }
+    let (header, body) = split_message(bytes)?;
     let mut text = String::new(alloc);
-    push_header(&mut text, &header, length)?;
-    let body = &bytes[HEADER_LENGTH..];
+    push_header(&mut text, &header, bytes.len())?;
     let bad = push_level(alloc, &mut text, book, body, HEADER_LENGTH)?;
     let exit = listing_exit(bad);
     Ok(Outcome { text, exit })
 }
 
-/// Adds the line of a header.
-fn push_header(text: &mut String, header: &Header, length: u32) -> Result<(), AllocError>
+/// Adds the line of a header. `length` is the Message Length.
+fn push_header(text: &mut String, header: &Header, length: usize) -> Result<(), AllocError>
     ensures { OnOk result (string_bytes text.new ≡ string_bytes text.old ++ header_line header.now length) }
 {
     let code = header.code;

@@ -1,9 +1,11 @@
 //! Inputs that are refused, and what is told of them.
 
 ghost use Rattle.std.specs.Prelude.{◌≡◌};
-ghost use Rattle.diacmd.specs.Texts.{kind_word, or_dash};
+ghost use Rattle.diacmd.specs.Refusals.{message_fault_word};
+ghost use Rattle.diacmd.specs.Texts.{or_dash};
 
 use dia_dict::DictKind;
+use dia_wire::MessageFault;
 use std::fmt;
 
 /// An input that is refused, and why.
@@ -52,21 +54,14 @@ pub enum BadTable {
     Limit { line: u32 },
 }
 
-/// Why a text is no message, or bytes are none that can be shown.
+/// Why a text is no message.
 #[derive(Clone, Copy, Debug, PartialEq, Eq)]
 pub enum BadMessage {
     /// More bytes than the text of a message may have.
     TooLong,
     NotHexadecimal,
-    /// Fewer bytes than a header has.
-    Short,
-    Version,
-    /// A Message Length that no message has.
-    Length,
-    /// Fewer bytes than Message Length.
-    Truncated,
-    /// More bytes than Message Length.
-    Trailing,
+    /// Its bytes are no single message.
+    NoMessage(MessageFault),
 }
 
 impl fmt::Display for BadInput {
@@ -99,7 +94,6 @@ impl fmt::Display for BadDictionary {
             BadDictionary::Number { line } => write!(f, "number at line {line}"),
             BadDictionary::Limit { line } => write!(f, "limit at line {line}"),
             BadDictionary::Wrong { kind, name, slot } => {
-                let kind = kind_word(*kind);
                 let name = or_dash(name.as_str());
                 let slot = or_dash(slot.as_str());
                 write!(f, "{kind} {name} {slot}")
@@ -134,11 +128,7 @@ impl fmt::Display for BadMessage {
         match self {
             BadMessage::TooLong => write!(f, "too long"),
             BadMessage::NotHexadecimal => write!(f, "not hexadecimal"),
-            BadMessage::Short => write!(f, "short"),
-            BadMessage::Version => write!(f, "version"),
-            BadMessage::Length => write!(f, "length"),
-            BadMessage::Truncated => write!(f, "truncated"),
-            BadMessage::Trailing => write!(f, "trailing"),
+            BadMessage::NoMessage(fault) => f.write_str(fault_word(*fault)),
         }
     }
 }
@@ -149,20 +139,14 @@ fn or_dash(name: &str) -> &str
     if name.is_empty() { "-" } else { name }
 }
 
-fn kind_word(kind: DictKind) -> &'static str
-    ensures { result.now ≡ kind_word kind }
+fn fault_word(fault: MessageFault) -> &'static str
+    ensures { result.now ≡ message_fault_word fault }
 {
-    match kind {
-        DictKind::Limit => "limit",
-        DictKind::DuplicateName => "duplicate-name",
-        DictKind::NoGroupFormat => "no-group-format",
-        DictKind::HeaderMismatch => "header-mismatch",
-        DictKind::DuplicateKey => "duplicate-key",
-        DictKind::DuplicateCommand => "duplicate-command",
-        DictKind::UndefinedName => "undefined-name",
-        DictKind::RepeatedSlot => "repeated-slot",
-        DictKind::MinOverMax => "min-over-max",
-        DictKind::RequiredMin => "required-min",
-        DictKind::OptionalMin => "optional-min",
+    match fault {
+        MessageFault::Short => "short",
+        MessageFault::Version => "version",
+        MessageFault::Length => "length",
+        MessageFault::Truncated => "truncated",
+        MessageFault::Trailing => "trailing",
     }
 }

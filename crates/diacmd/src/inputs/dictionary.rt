@@ -4,7 +4,8 @@ ghost use Rattle.std.specs.Prelude.{◌≡◌, ◌≢◌, List, ℕ, IfOk, IfErr
 ghost use Rattle.dia_dict.specs.Resolution.{wrong};
 ghost use Rattle.dia_ccf.specs.Plain.{plain};
 ghost use Rattle.dia_dict.specs.Dictionary.{IsDictionary};
-ghost use Rattle.diacmd.specs.Texts.{IsSourceText, IsNoSourceText, IsDictionaryText, IsNoDictionaryText, dictionary_line, fault_text, wrong_text};
+ghost use Rattle.diacmd.specs.Texts.{IsSourceText, IsNoSourceText, IsDictionaryText, IsNoDictionaryText};
+ghost use Rattle.diacmd.specs.Texts.{dictionary_line, fault_text, wrong_text};
 ghost use Rattle.diacmd.specs.Refusals.{TellsOf, bad_dictionary_text};
 
 use crate::command::Input;
@@ -17,7 +18,8 @@ use std::alloc::{AllocError, Global};
 /// The source that a text is. `number` says which dictionary of the command it is, from 1.
 pub fn read_source(alloc: Global, number: u8, input: &Input) -> Result<Source, Refused>
     ensures source { IfOk result (λ source. IsSourceText input.now (plain source)) }
-    ensures told { IfErr result (TellsOf (λ told. (why : List ℕ) × IsNoSourceText input.now why × (told ≡ dictionary_line number why))) }
+    ensures told { IfErr result (TellsOf (λ told. (why : List ℕ) × IsNoSourceText input.now why
+        × (told ≡ dictionary_line number why))) }
 {
     let Some(bytes) = bytes_within(input, MAX_TEXT) else {
         return Err(tell(number, BadDictionary::TooLong));
@@ -34,7 +36,8 @@ pub fn read_source(alloc: Global, number: u8, input: &Input) -> Result<Source, R
 /// The dictionary that a text names.
 pub fn read_dictionary(alloc: Global, number: u8, input: &Input) -> Result<IndexedBook, Refused>
     ensures book { IfOk result (λ book. IsDictionaryText input.now (⟦<IndexedBook as Book>⟧.meaning book)) }
-    ensures told { IfErr result (TellsOf (λ told. (why : List ℕ) × IsNoDictionaryText input.now why × (told ≡ dictionary_line number why))) }
+    ensures told { IfErr result (TellsOf (λ told. (why : List ℕ) × IsNoDictionaryText input.now why
+        × (told ≡ dictionary_line number why))) }
 {
     let source = read_source(alloc, number, input)?;
     match resolve(alloc, source) {
@@ -49,7 +52,8 @@ pub fn read_dictionary(alloc: Global, number: u8, input: &Input) -> Result<Index
 
 /// The book with its look-ups. That it is a dictionary is what `entries` says of every book.
 fn indexed(alloc: Global, book: PlainBook) -> Result<IndexedBook, Refused>
-    ensures ok { IfOk result (λ indexed. (⟦<IndexedBook as Book>⟧.meaning indexed ≡ ⟦<PlainBook as Book>⟧.meaning book) × IsDictionary (⟦<IndexedBook as Book>⟧.meaning indexed)) }
+    ensures ok { IfOk result (λ indexed. (⟦<IndexedBook as Book>⟧.meaning indexed ≡ ⟦<PlainBook as Book>⟧.meaning book)
+        × IsDictionary (⟦<IndexedBook as Book>⟧.meaning indexed)) }
     ensures no_memory { IfErr result (λ refused. refused ≡ Refused.NoMemory) }
 {
     let indexed = IndexedBook::new(alloc, book)?;

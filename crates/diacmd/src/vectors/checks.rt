@@ -26,8 +26,8 @@ pub const FAILED: &str = "0000011740000008";
 const RESULT: &str = "0000010c4000000c00000bb9";
 
 /// A session that is fixed at the front.
-const SESSIONS: &str =
-    "%avp Session-Id 263 UTF8String any %avp Origin-Host 264 DiameterIdentity any <T> ::= < Diameter Header: 300, REQ > < Session-Id > { Origin-Host }";
+const SESSIONS: &str = "%avp Session-Id 263 UTF8String any %avp Origin-Host 264 DiameterIdentity any
+<T> ::= < Diameter Header: 300, REQ > < Session-Id > { Origin-Host }";
 
 /// One required number.
 const NUMBER: &str = "%avp X 9002 Unsigned32 any <T> ::= < Diameter Header: 302, REQ > { X }";

@@ -14,11 +14,16 @@ fn names_the_avps_of_the_base_dictionary(rt: HostRuntime) -> Result<(), Fail> {
     let rows = [
         (
             REQUEST,
-            "header flags 80 code 280 app 0 hop 1 end 2 length 44\n20 0 264 - 40 11 Origin-Host \"a.b\"\n32 0 296 - 40 9 Origin-Realm \"b\"\n",
+            "header flags 80 code 280 app 0 hop 1 end 2 length 44\n\
+             20 0 264 - 40 11 Origin-Host \"a.b\"\n\
+             32 0 296 - 40 9 Origin-Realm \"b\"\n",
         ),
         (
             "0100003480000118000000000000000100000002000001084000000b612e62000000012840000009620000000000011740000008",
-            "header flags 80 code 280 app 0 hop 1 end 2 length 52\n20 0 264 - 40 11 Origin-Host \"a.b\"\n32 0 296 - 40 9 Origin-Realm \"b\"\n44 0 279 - 40 8 Failed-AVP group\n",
+            "header flags 80 code 280 app 0 hop 1 end 2 length 52\n\
+             20 0 264 - 40 11 Origin-Host \"a.b\"\n\
+             32 0 296 - 40 9 Origin-Realm \"b\"\n\
+             44 0 279 - 40 8 Failed-AVP group\n",
         ),
     ];
     for (text, lines) in rows.iter() {
@@ -39,17 +44,26 @@ fn goes_into_groups(rt: HostRuntime) -> Result<(), Fail> {
     let rows = [
         (
             "0100002c8000012d000000000000000100000002000023290000001800002329000000100000232900000008",
-            "header flags 80 code 301 app 0 hop 1 end 2 length 44\n20 0 9001 - 00 24 Node group\n28 1 9001 - 00 16 Node group\n36 2 9001 - 00 8 Node group\n",
+            "header flags 80 code 301 app 0 hop 1 end 2 length 44\n\
+             20 0 9001 - 00 24 Node group\n\
+             28 1 9001 - 00 16 Node group\n\
+             36 2 9001 - 00 8 Node group\n",
             Exit::Yes,
         ),
         (
             "0100002c8000012d000000000000000100000002000023290000001000002329000000080000232900000008",
-            "header flags 80 code 301 app 0 hop 1 end 2 length 44\n20 0 9001 - 00 16 Node group\n28 1 9001 - 00 8 Node group\n36 0 9001 - 00 8 Node group\n",
+            "header flags 80 code 301 app 0 hop 1 end 2 length 44\n\
+             20 0 9001 - 00 16 Node group\n\
+             28 1 9001 - 00 8 Node group\n\
+             36 0 9001 - 00 8 Node group\n",
             Exit::Yes,
         ),
         (
             "0100002c8000012d000000000000000100000002000023290000001800002329000000100000232900000007",
-            "header flags 80 code 301 app 0 hop 1 end 2 length 44\n20 0 9001 - 00 24 Node group\n28 1 9001 - 00 16 Node group\nfault 5014 at 36 avp-length -\n",
+            "header flags 80 code 301 app 0 hop 1 end 2 length 44\n\
+             20 0 9001 - 00 24 Node group\n\
+             28 1 9001 - 00 16 Node group\n\
+             fault 5014 at 36 avp-length -\n",
             Exit::No,
         ),
     ];

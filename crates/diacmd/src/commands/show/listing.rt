@@ -9,6 +9,7 @@ ghost use Rattle.diacmd.specs.Listing.{avp_columns, bad_length_line, vendor_text
 use dia_data::{push_hex_byte, push_value};
 use dia_dict::{Book, Format};
 use dia_wire::{Avp, AvpFault, key, next_avp};
+use itoa::Buffer;
 use std::alloc::{AllocError, Global};
 
 /// What is left of a level, and the place of the level's end.
@@ -30,7 +31,8 @@ pub fn push_level<B: Book>(
     place: usize,
 ) -> Result<bool, AllocError>
     requires { place + length bytes.now < 2 ^ 63 }
-    ensures { IfOk result (λ bad. AddsLevel (B.meaning book.now) (record { depth = 0; place = place; bytes = bytes.now }) (string_bytes text.old) (string_bytes text.new) bad) }
+    ensures { IfOk result (AddsLevel (B.meaning book.now) (record { depth = 0; place = place; bytes = bytes.now })
+        (string_bytes text.old) (string_bytes text.new)) }
 {
     let mut outer = Vec::new(alloc);
     let mut rest = Rest {
@@ -71,7 +73,8 @@ fn push_avp<B: Book>(
     depth: usize,
     avp: &Avp<'_>,
 ) -> Result<bool, AllocError>
-    ensures { IfOk result (AddsAvp (B.meaning book.now) place depth (plain avp.now) (string_bytes text.old) (string_bytes text.new)) }
+    ensures { IfOk result (AddsAvp (B.meaning book.now) place depth (plain avp.now)
+        (string_bytes text.old) (string_bytes text.new)) }
 {
     push_columns(text, place, depth, avp)?;
     let Some(entry) = book.avp(key(avp)) else {
@@ -115,19 +118,8 @@ fn push_columns(
 fn push_number(text: &mut String, number: u64) -> Result<(), AllocError>
     ensures { OnOk result (string_bytes text.new ≡ string_bytes text.old ++ decimal number ++ codes " ") }
 {
-    push_decimal(text, number)?;
+    text.push_str(Buffer::new().format(number))?;
     text.push(' ')
-}
-
-/// Adds a number. Most depths have one digit, which needs no formatter.
-fn push_decimal(text: &mut String, number: u64) -> Result<(), AllocError>
-    ensures { OnOk result (string_bytes text.new ≡ string_bytes text.old ++ decimal number) }
-{
-    if number < 10 {
-        text.push(char::from(b'0' + number as u8))
-    } else {
-        write!(text, "{number}")
-    }
 }
 
 /// Adds the Vendor-ID, or a dash.
@@ -135,7 +127,7 @@ fn push_vendor(text: &mut String, vendor: Option<u32>) -> Result<(), AllocError>
     ensures { OnOk result (string_bytes text.new ≡ string_bytes text.old ++ vendor_text vendor) }
 {
     match vendor {
-        Some(vendor) => write!(text, "{vendor}"),
+        Some(vendor) => text.push_str(Buffer::new().format(vendor)),
         None => text.push('-'),
     }
 }
@@ -147,7 +139,8 @@ fn push_name_and_value(
     format: &Format,
     bytes: &[u8],
 ) -> Result<(), AllocError>
-    ensures { OnOk result (AddsNameAndValue name.now (plain_format format.now) bytes.now (string_bytes text.old) (string_bytes text.new)) }
+    ensures { OnOk result (AddsNameAndValue name.now (plain_format format.now) bytes.now
+        (string_bytes text.old) (string_bytes text.new)) }
 {
     text.push_str(name)?;
     text.push(' ')?;

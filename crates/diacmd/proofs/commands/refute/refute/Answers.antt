@@ -37,5 +37,6 @@ returns-then-branch c =
 pub returns : goal.returns
 returns c =
     ended _ _ c.in_ok-first.ensures.book c.in_ok-second.ensures.book
-    (does_not c.as_slice.result.now (rw c.as_slice.ensures.value c.in_ok-bytes.ensures.message) (λ yes. false≢true (sym c.if-branch.false ∙ c.in_ok-refutes.ensures.1 yes)) c.in_ok-outcome-2.ensures.text
+    (does_not c.as_slice.result.now (rw c.as_slice.ensures.value c.in_ok-bytes.ensures.message) (λ yes. false≢true
+    (sym c.if-branch.false ∙ c.in_ok-refutes.ensures.1 yes)) c.in_ok-outcome-2.ensures.text
     c.in_ok-outcome-2.ensures.exit)

@@ -13,8 +13,10 @@ returns-in_default g c =
 pub returns-in_ok-push_str-in-Grouped-2 : goal.returns-in_ok-push_str-in-Grouped-2
 returns-in_ok-push_str-in-Grouped-2 g c =
     let is_entry = c.in-Some.ensures ∙ ap (λ (key : Key). entry_of (g.B.Book.meaning c.args.book.now) key) c.key.ensures in
-    let (e, is_group, is_name) = group_known (g.B.Book.meaning c.args.book.now) (plain c.args.avp.now) c.in-Some.entry c.format.result.now _ is_entry c.entry_name-name.ensures c.format.ensures c.in-Grouped.is in
-    group_added (g.B.Book.meaning c.args.book.now) _ _ (plain c.args.avp.now) _ _ _ _ _ e is_group c.in_ok-push_columns.ensures c.in_ok-push_str-in-Grouped.ensures.bytes is_name c.in_ok-push_str-in-Grouped-2.ensures.bytes
+    let (e, is_group, is_name) = group_known (g.B.Book.meaning c.args.book.now)
+    (plain c.args.avp.now) c.in-Some.entry c.format.result.now _ is_entry c.entry_name-name.ensures c.format.ensures c.in-Grouped.is in
+    group_added (g.B.Book.meaning c.args.book.now) _ _
+    (plain c.args.avp.now) _ _ _ _ _ e is_group c.in_ok-push_columns.ensures c.in_ok-push_str-in-Grouped.ensures.bytes is_name c.in_ok-push_str-in-Grouped-2.ensures.bytes
 
 pub returns-in_ok-push_name_and_value-in_default-format : goal.returns-in_ok-push_name_and_value-in_default-format
 returns-in_ok-push_name_and_value-in_default-format g c =

@@ -1,6 +1,0 @@
-use Rattle.std.proofs.Common.{rules, arith}
-use Rattle.std.proofs.lemmas.Fmt.{decimal_digit}
-use Rattle.diacmd.proofs.commands.show.listing.push_decimal.Goals as goal
-
-pub returns-then-number-lt10 : goal.returns-then-number-lt10
-returns-then-number-lt10 c = rw (decimal_digit c.args.number (omega arith)) (search rules)
