@@ -19,15 +19,18 @@ begins_whole reader text same none =
     all_left reader.text.now reader.at (ap (λ (n : ℕ). drop n (placed_tokens reader.text.now)) (sym none) ∙ reader.counted) ∙ ap (λ (bytes : List ℕ). map capped (tokens bytes)) same
 
 -- where the reader's course ends so does the machine's
-pub outcome_of : (reader : Reader) (text other : List ℕ) (o : Outcome) → reader.text.now ≡ text → reader.taken ≡ 0 → course (nothing_read, Between) reader ≡ (other, o) → (other ≡ text) × (outcome (nothing_read, Between) (map capped (tokens text)) ≡ o)
+pub outcome_of : (reader : Reader) (text other : List ℕ) (o : Outcome) → reader.text.now ≡ text → reader.taken ≡ 0
+    → course (nothing_read, Between) reader ≡ (other, o) → (other ≡ text) × (outcome (nothing_read, Between) (map capped (tokens text)) ≡ o)
 outcome_of reader text other o same none h =
     (sym (ap (λ (c : Course). c.0) h) ∙ same, ap (outcome (nothing_read, Between)) (sym (begins_whole reader text same none)) ∙ ap (λ (c : Course). c.1) h)
 
 -- a text that the machine does not read has no source
-never_derived : (reader end : Reader) (text : List ℕ) (k : Refusal) (s : PlainSource) → reader.text.now ≡ text → reader.taken ≡ 0 → course (nothing_read, Between) reader ≡ (end.text.now, Stops k (left end)) → Derives (tokens text) s → ⊥
+never_derived : (reader end : Reader) (text : List ℕ) (k : Refusal) (s : PlainSource) → reader.text.now ≡ text → reader.taken ≡ 0
+    → course (nothing_read, Between) reader ≡ (end.text.now, Stops k (left end)) → Derives (tokens text) s → ⊥
 never_derived reader end text k s same none h d = never text s k (left end) (outcome_of reader text end.text.now (Stops k (left end)) same none h).1 d
 
-pub only_memory : (reader end : Reader) (text : List ℕ) (k : Refusal) (fault : CcfFault) (s : PlainSource) → reader.text.now ≡ text → reader.taken ≡ 0 → StopsAt (course (nothing_read, Between) reader) k end → IsToldAt k end fault → Derives (tokens text) s → fault ≡ faults.NoMemory
+pub only_memory : (reader end : Reader) (text : List ℕ) (k : Refusal) (fault : CcfFault) (s : PlainSource) → reader.text.now ≡ text → reader.taken ≡ 0
+    → StopsAt (course (nothing_read, Between) reader) k end → IsToldAt k end fault → Derives (tokens text) s → fault ≡ faults.NoMemory
 only_memory reader end text refusal.NoMemory fault s same none h told d = told
 only_memory reader end text refusal.Syntax fault s same none h told d = absurd (never_derived reader end text refusal.Syntax s same none h d)
 only_memory reader end text refusal.Number fault s same none h told d = absurd (never_derived reader end text refusal.Number s same none h d)
@@ -35,7 +38,8 @@ only_memory reader end text refusal.Limit fault s same none h told d = absurd (n
 
 module _ (reader end : Reader) (text : List ℕ) (same : reader.text.now ≡ text) (none : reader.taken ≡ 0) where
   -- the machine's end over the text that the reader ended with
-  stopped_at : (k : Refusal) → course (nothing_read, Between) reader ≡ (end.text.now, Stops k (left end)) → (end.text.now ≡ text) × (outcome (nothing_read, Between) (map capped (tokens end.text.now)) ≡ Stops k (left end))
+  stopped_at : (k : Refusal) → course (nothing_read, Between) reader ≡ (end.text.now, Stops k (left end))
+      → (end.text.now ≡ text) × (outcome (nothing_read, Between) (map capped (tokens end.text.now)) ≡ Stops k (left end))
   stopped_at k h =
       let o = outcome_of reader text end.text.now (Stops k (left end)) same none h in
       (o.0, ap (λ (bytes : List ℕ). outcome (nothing_read, Between) (map capped (tokens bytes))) o.0 ∙ o.1)

@@ -9,7 +9,8 @@ use Rattle.dia_ccf.specs.Plain.{PlainSource}
 use Rattle.dia_ccf.specs.Tokens.{Token, Number}
 use Rattle.dia_ccf.specs.Limits.{max_number, max_command_code, max_value}
 use Rattle.dia_ccf.specs.Lexing.{capped}
-use Rattle.dia_ccf.specs.Machine.{State, Place, HeadPlace, number_at, next, step, next_in_head, whole, refused, outcome, Outcome, Reads, Stops, gone_on, ended, Decl_code, Decl_number, In_values, After_value, After_dots, In_head, Rules, Qual_star, After_angle, Loose_close, sign_at, closing_sign, Command_code, Group_code, Flags, Group_vendor}
+use Rattle.dia_ccf.specs.Machine.{State, Place, HeadPlace, number_at, next, step, next_in_head, whole, refused, outcome, Outcome, Reads, Stops, gone_on, ended, Decl_code, Decl_number, In_values}
+use Rattle.dia_ccf.specs.Machine.{After_value, After_dots, In_head, Rules, Qual_star, After_angle, Loose_close, sign_at, closing_sign, Command_code, Group_code, Flags, Group_vendor}
 use Rattle.dia_ccf.proofs.Complete.{and_false}
 
 cap_size : (least most n m : ℕ) (b c : Bool) → nat_le n most ≡ b → nat_le m most ≡ c → m ≡ min n 4294967296 → most < 4294967296 → number_at least most (Number m) ≡ number_at least most (Number n)
@@ -90,5 +91,6 @@ uncapped_stops (Stops l whole_rest) k rest h = let e : l ≡ k = cc in (whole_re
 pub reads_uncapped : (state : State) (ts : List Token) (s : PlainSource) → outcome state (map capped ts) ≡ Reads s → outcome state ts ≡ Reads s
 reads_uncapped state ts s h = uncapped_reads (outcome state ts) s (sym (outcome_capped ts state) ∙ h)
 
-pub stops_uncapped : (state : State) (ts : List Token) (k : Refusal) (rest : List Token) → outcome state (map capped ts) ≡ Stops k rest → (whole_rest : List Token) × (outcome state ts ≡ Stops k whole_rest) × (map capped whole_rest ≡ rest)
+pub stops_uncapped : (state : State) (ts : List Token) (k : Refusal) (rest : List Token) → outcome state (map capped ts) ≡ Stops k rest
+    → (whole_rest : List Token) × (outcome state ts ≡ Stops k whole_rest) × (map capped whole_rest ≡ rest)
 stops_uncapped state ts k rest h = uncapped_stops (outcome state ts) k rest (sym (outcome_capped ts state) ∙ h)

@@ -14,9 +14,13 @@ use Rattle.dia_ccf.specs.declared.source.Qual.{Qual}
 use Rattle.dia_ccf.specs.Names.{is_name, is_name_run, is_fixed, same_bytes}
 use Rattle.dia_ccf.specs.Plain.{PlainDecl, PlainRule, PlainDef, PlainSource}
 use Rattle.dia_ccf.specs.Tokens.{Token, Less, Greater, Open_brace, Open_bracket, Open_parenthesis, Close_parenthesis, Star, Dots, Assign, Declares, Number, Name}
-use Rattle.dia_ccf.specs.Grammar.{Tokens, ◌then◌, one, word, name, number, each, either, nothing, format_word, rule_word, vendor, range, values, declaration, head, count, qualifier, slot, bracketed, rule, Item, Declaration, Definition, item, Derives}
+use Rattle.dia_ccf.specs.Grammar.{Tokens, ◌then◌, one, word, name, number, each, either, nothing, format_word, rule_word, vendor, range, values}
+use Rattle.dia_ccf.specs.Grammar.{declaration, head, count, qualifier, slot, bracketed, rule, Item, Declaration, Definition, item, Derives}
 use Rattle.dia_ccf.specs.Limits.{max_number, max_value}
-use Rattle.dia_ccf.specs.Machine.{State, Between, Decl_name, Decl_code, Decl_vendor, Decl_number, Decl_format, Decl_rule, Decl_values, In_values, After_value, After_dots, Def_name, Def_close, Def_assign, Head_open, In_head, Head_word, Rules, Qual_min, Qual_star, Qual_done, Fixed_name, Fixed_close, Angle_name, Angle_close, After_angle, Loose_name, Loose_close, next, on_item, add_decl, add_def, with_values, with_rule, fixed_rule, all_fixed, is_enumerated, is_none, closing_sign, same_sign, is_word, format_at, Reads, outcome}
+use Rattle.dia_ccf.specs.Machine.{State, Between, Decl_name, Decl_code, Decl_vendor, Decl_number, Decl_format, Decl_rule, Decl_values, In_values, After_value, After_dots, Def_name, Def_close}
+use Rattle.dia_ccf.specs.Machine.{Def_assign, Head_open, In_head, Head_word, Rules, Qual_min, Qual_star, Qual_done, Fixed_name, Fixed_close, Angle_name, Angle_close, After_angle, Loose_name}
+use Rattle.dia_ccf.specs.Machine.{Loose_close, next, on_item, add_decl, add_def, with_values, with_rule, fixed_rule, all_fixed, is_enumerated, is_none, closing_sign, same_sign, is_word, format_at}
+use Rattle.dia_ccf.specs.Machine.{Reads, outcome}
 use Rattle.dia_ccf.specs.Reading.{nothing_read, begins_with}
 use Rattle.dia_ccf.proofs.Recognized.{both, format_named-word, rule_named-word}
 use Rattle.dia_ccf.proofs.Following.{after, add_item, after-source, in_order, with_rules, fixed-in_order}
@@ -37,8 +41,10 @@ taken_name text p q h front us (named, is) = ap (λ (f : List Token). outcome p 
 
 -- ---- values
 
-pub value_alone : (done : PlainSource) (d : PlainDecl) (ranges : List (ℕ × ℕ)) (n : ℕ) (us : List Token) → begins_with (same_sign Dots) us ≡ false → outcome (done, After_value d ranges n) us ≡ outcome (done, In_values d (ranges ++ (n, n) ∷ [])) us
-value_alone done d ranges n us h = outcome_same (done, After_value d ranges n) (done, In_values d (ranges ++ (n, n) ∷ [])) us (λ t vs e. (rw (ahead_not (same_sign Dots) t vs us h e) refl, refl)) (λ e. refl)
+pub value_alone : (done : PlainSource) (d : PlainDecl) (ranges : List (ℕ × ℕ)) (n : ℕ) (us : List Token) → begins_with (same_sign Dots) us ≡ false
+    → outcome (done, After_value d ranges n) us ≡ outcome (done, In_values d (ranges ++ (n, n) ∷ [])) us
+value_alone done d ranges n us h = outcome_same (done, After_value d ranges n) (done, In_values d (ranges ++ (n, n) ∷ [])) us
+    (λ t vs e. (rw (ahead_not (same_sign Dots) t vs us h e) refl, refl)) (λ e. refl)
 
 number_in_values : (done : PlainSource) (d : PlainDecl) (ranges : List (ℕ × ℕ)) (n : ℕ) → n ≤ max_value → next (done, In_values d ranges) (Number n) ≡ Some (done, After_value d ranges n)
 number_in_values done d ranges n small = rw (and_false (not (is_none ranges)), number_at-some 0 max_value n (omega arith) small) refl
@@ -48,7 +54,8 @@ ahead_values [] ws us h = rw h refl
 ahead_values (r ∷ rs) ws us (xs, ys, parts, (ordered, h), k) =
     ⊎_elim (λ (e, (small, is)). rw (parts, is) refl) (λ (cs, bs, inner, (small, is), l). rw (parts, inner, is) refl) h
 
-range_taken : (done : PlainSource) (d : PlainDecl) (ranges : List (ℕ × ℕ)) (r : ℕ × ℕ) (xs us : List Token) → range r xs → begins_with (same_sign Dots) us ≡ false → outcome (done, In_values d ranges) (xs ++ us) ≡ outcome (done, In_values d (ranges ++ r ∷ [])) us
+range_taken : (done : PlainSource) (d : PlainDecl) (ranges : List (ℕ × ℕ)) (r : ℕ × ℕ) (xs us : List Token) → range r xs
+    → begins_with (same_sign Dots) us ≡ false → outcome (done, In_values d ranges) (xs ++ us) ≡ outcome (done, In_values d (ranges ++ r ∷ [])) us
 range_taken done d ranges r xs us (ordered, h) free =
     ⊎_elim (λ (e, (small, is)).
     ap (λ (f : List Token). outcome (done, In_values d ranges) (f ++ us)) is
@@ -121,18 +128,33 @@ abbrev unlisted : PlainDecl → PlainDecl
 unlisted d = record d { values = None }
 
 rule_of_decl : (done : PlainSource) (d : PlainDecl) → Taken (word (rule_word d.rule)) (done, Decl_rule d.name d.code d.vendor d.format) (done, Decl_values (unlisted d))
-rule_of_decl done d = taken_one (Name (rule_word d.rule)) (done, Decl_rule d.name d.code d.vendor d.format) (done, Decl_values (unlisted d)) (ap (λ (o : Option MRule). option_map (λ rule. (done, Decl_values (record { name = d.name; code = d.code; vendor = d.vendor; format = d.format; values = None; rule = rule }))) o) (rule_named-word d.rule))
+rule_of_decl done d = taken_one (Name (rule_word d.rule)) (done, Decl_rule d.name d.code d.vendor d.format) (done, Decl_values (unlisted d))
+    (ap (λ (o : Option MRule). option_map (λ rule. (done, Decl_values (record { name = d.name; code = d.code; vendor = d.vendor; format = d.format; values = None; rule = rule }))) o)
+    (rule_named-word d.rule))
 
-decl_taken : (done : PlainSource) (d : PlainDecl) (us : List Token) (q : State) → Taken_before us (values d.format d.values) (done, Decl_values (unlisted d)) q → Taken_before us (declaration d) (done, Between) q
+decl_taken : (done : PlainSource) (d : PlainDecl) (us : List Token) (q : State)
+    → Taken_before us (values d.format d.values) (done, Decl_values (unlisted d)) q → Taken_before us (declaration d) (done, Between) q
 decl_taken done d us q h =
-    before_then us (one Declares) (name d.name then number max_number d.code then vendor d.vendor then word (format_word d.format) then word (rule_word d.rule) then values d.format d.values) (done, Between) (done, Decl_name) q
+    before_then us (one Declares) (name d.name then number max_number d.code then vendor d.vendor then word (format_word d.format) then word (rule_word d.rule) then values d.format d.values) (
+      done,
+      Between,
+    ) (done, Decl_name) q
     (taken_one Declares (done, Between) (done, Decl_name) refl)
-    (before_then us (name d.name) (number max_number d.code then vendor d.vendor then word (format_word d.format) then word (rule_word d.rule) then values d.format d.values) (done, Decl_name) (done, Decl_code d.name) q
+    (before_then us (name d.name) (number max_number d.code then vendor d.vendor then word (format_word d.format) then word (rule_word d.rule) then values d.format d.values) (
+      done,
+      Decl_name,
+    ) (done, Decl_code d.name) q
     (taken_name d.name (done, Decl_name) (done, Decl_code d.name) (λ named. rw named refl))
-    (before_then us (number max_number d.code) (vendor d.vendor then word (format_word d.format) then word (rule_word d.rule) then values d.format d.values) (done, Decl_code d.name) (done, Decl_vendor d.name d.code) q
+    (before_then us (number max_number d.code) (vendor d.vendor then word (format_word d.format) then word (rule_word d.rule) then values d.format d.values) (
+      done,
+      Decl_code d.name,
+    ) (done, Decl_vendor d.name d.code) q
     (taken_number max_number d.code (done, Decl_code d.name) (done, Decl_vendor d.name d.code) (λ small. rw (number_at-some 0 max_number d.code (omega arith) small) refl))
     (λ front (xs, ys, parts, of_vendor, (cs, bs, inner, of_format, k)).
-    before_then us (vendor d.vendor then word (format_word d.format)) (word (rule_word d.rule) then values d.format d.values) (done, Decl_vendor d.name d.code) (done, Decl_rule d.name d.code d.vendor d.format) q
+    before_then us (vendor d.vendor then word (format_word d.format)) (word (rule_word d.rule) then values d.format d.values) (
+      done,
+      Decl_vendor d.name d.code,
+    ) (done, Decl_rule d.name d.code d.vendor d.format) q
     (vendor_taken done d.name d.code d.vendor d.format)
     (before_then us (word (rule_word d.rule)) (values d.format d.values) (done, Decl_rule d.name d.code d.vendor d.format) (done, Decl_values (unlisted d)) q (rule_of_decl done d) h)
     front (xs ++ cs, bs, parts ∙ ap (λ (f : List Token). xs ++ f) inner ∙ sym (append_assoc xs cs bs), (xs, cs, refl, of_vendor, of_format), k))))
@@ -140,7 +162,8 @@ decl_taken done d us q h =
 past_list : (done : PlainSource) (d : PlainDecl) (t : Token) → same_sign Open_parenthesis t ≡ false → next (done, Decl_values d) t ≡ on_item (add_decl done d) t
 past_list done d t h = rw (h, and_false (is_enumerated d.format)) refl
 
-pub decl_settled : (done : PlainSource) (d : PlainDecl) (us : List Token) → begins_with (same_sign Open_parenthesis) us ≡ false → outcome (done, Decl_values d) us ≡ outcome (add_decl done d, Between) us
+pub decl_settled : (done : PlainSource) (d : PlainDecl) (us : List Token) → begins_with (same_sign Open_parenthesis) us ≡ false
+    → outcome (done, Decl_values d) us ≡ outcome (add_decl done d, Between) us
 decl_settled done d us h =
     outcome_same (done, Decl_values d) (add_decl done d, Between) us
     (λ t vs e. (past_list done d t (ahead_not (same_sign Open_parenthesis) t vs us h e), rw (past_list done d (Number 0) refl, past_list done d (Name (codes "a")) refl) refl))
@@ -156,7 +179,8 @@ no_fixed [] ys r h = by_test (is_fixed r.kind) (both (not (is_fixed r.kind)) (li
     by_test false e = refl
 no_fixed (x ∷ xs) ys r h = no_fixed xs ys r (both (not (is_fixed x.kind)) (list_all (λ j. not (is_fixed j)) (map (λ r. r.kind) (xs ++ r ∷ ys))) h).1
 
-order_step : (x r : PlainRule) (xs ys : List PlainRule) (b : Bool) → cond b (in_order (xs ++ r ∷ ys)) (list_all (λ j. not (is_fixed j)) (map (λ r. r.kind) (xs ++ r ∷ ys))) ≡ true → is_fixed r.kind ≡ true → (in_order (xs ++ r ∷ ys) ≡ true → all_fixed xs ≡ true) → (b && all_fixed xs) ≡ true
+order_step : (x r : PlainRule) (xs ys : List PlainRule) (b : Bool) → cond b (in_order (xs ++ r ∷ ys)) (list_all (λ j. not (is_fixed j)) (map (λ r. r.kind) (xs ++ r ∷ ys))) ≡ true
+    → is_fixed r.kind ≡ true → (in_order (xs ++ r ∷ ys) ≡ true → all_fixed xs ≡ true) → (b && all_fixed xs) ≡ true
 order_step x r xs ys true h k before = before h
 order_step x r xs ys false h k before = absurd (let never = no_fixed xs ys r h in cc)
 
@@ -179,9 +203,13 @@ name_is_free text h = by_test (same_bytes text (codes "AVP")) (both (is_name_run
     by_test true e = absurd cc
     by_test false e = refl
 
-slot_taken : (done : PlainSource) (d : PlainDef) (kind : RuleKind) (qual : Option Qual) (text : Option (List ℕ)) → Taken (slot text) (done, Loose_name d kind qual) (done, Loose_close d (record { kind = kind; name = text; qual = qual }))
+slot_taken : (done : PlainSource) (d : PlainDef) (kind : RuleKind) (qual : Option Qual) (text : Option (List ℕ))
+    → Taken (slot text) (done, Loose_name d kind qual) (done, Loose_close d (record { kind = kind; name = text; qual = qual }))
 slot_taken done d kind qual None = taken_one (Name (codes "AVP")) (done, Loose_name d kind qual) (done, Loose_close d (record { kind = kind; name = None; qual = qual })) refl
-slot_taken done d kind qual (Some text) = taken_name text (done, Loose_name d kind qual) (done, Loose_close d (record { kind = kind; name = Some text; qual = qual })) (λ named. rw (name_at-some text named, name_is_free text named) refl)
+slot_taken done d kind qual (Some text) = taken_name text (done, Loose_name d kind qual) (
+  done,
+  Loose_close d (record { kind = kind; name = Some text; qual = qual }),
+) (λ named. rw (name_at-some text named, name_is_free text named) refl)
 
 -- a rule that is not fixed, from its bracket on
 loose_taken : (done : PlainSource) (d : PlainDef) (kind : RuleKind) (qual : Option Qual) (text : Option (List ℕ)) (opener : Token) (p : State) → next p opener ≡ Some (done, Loose_name d kind qual)
@@ -189,17 +217,25 @@ loose_taken : (done : PlainSource) (d : PlainDef) (kind : RuleKind) (qual : Opti
 loose_taken done d kind qual text opener p h =
     taken_then (one opener) (slot text then one (closing_sign kind)) p (done, Loose_name d kind qual) (done, Rules (with_rule d (record { kind = kind; name = text; qual = qual })))
     (taken_one opener p (done, Loose_name d kind qual) h)
-    (taken_then (slot text) (one (closing_sign kind)) (done, Loose_name d kind qual) (done, Loose_close d (record { kind = kind; name = text; qual = qual })) (done, Rules (with_rule d (record { kind = kind; name = text; qual = qual })))
+    (taken_then (slot text) (one (closing_sign kind)) (done, Loose_name d kind qual) (done, Loose_close d (record { kind = kind; name = text; qual = qual })) (
+      done,
+      Rules (with_rule d (record { kind = kind; name = text; qual = qual })),
+    )
     (slot_taken done d kind qual text)
-    (taken_one (closing_sign kind) (done, Loose_close d (record { kind = kind; name = text; qual = qual })) (done, Rules (with_rule d (record { kind = kind; name = text; qual = qual }))) (closes kind)))
+    (taken_one (closing_sign kind) (done, Loose_close d (record { kind = kind; name = text; qual = qual })) (
+      done,
+      Rules (with_rule d (record { kind = kind; name = text; qual = qual })),
+    ) (closes kind)))
   where
-    closes : (k : RuleKind) → next (done, Loose_close d (record { kind = k; name = text; qual = qual })) (closing_sign k) ≡ Some (done, Rules (with_rule d (record { kind = k; name = text; qual = qual })))
+    closes : (k : RuleKind) → next (done, Loose_close d (record { kind = k; name = text; qual = qual })) (closing_sign k)
+        ≡ Some (done, Rules (with_rule d (record { kind = k; name = text; qual = qual })))
     closes Fixed = refl
     closes Required = refl
     closes Optional = refl
 
 -- `< name >` behind a qualifier
-fixed_taken : (done : PlainSource) (d : PlainDef) (qual : Qual) (text : List ℕ) → all_fixed d.rules ≡ true → Taken (one Less then name text then one Greater) (done, Qual_done d qual) (done, Rules (with_rule d (fixed_rule text (Some qual))))
+fixed_taken : (done : PlainSource) (d : PlainDef) (qual : Qual) (text : List ℕ) → all_fixed d.rules ≡ true
+    → Taken (one Less then name text then one Greater) (done, Qual_done d qual) (done, Rules (with_rule d (fixed_rule text (Some qual))))
 fixed_taken done d qual text fixed =
     taken_then (one Less) (name text then one Greater) (done, Qual_done d qual) (done, Fixed_name d qual) (done, Rules (with_rule d (fixed_rule text (Some qual))))
     (taken_one Less (done, Qual_done d qual) (done, Fixed_name d qual) (rw fixed refl))
@@ -232,7 +268,8 @@ star_settled done d min Required text front us (xs, ys, parts, first, k) = rw (p
 star_settled done d min Optional text front us (xs, ys, parts, first, k) = rw (parts, first) refl
 
 min_taken : (done : PlainSource) (d : PlainDef) (min : Option ℕ) → Taken (count min then one Star) (done, Rules d) (done, Qual_star d min)
-min_taken done d None = taken_then nothing (one Star) (done, Rules d) (done, Rules d) (done, Qual_star d None) (taken_nothing (done, Rules d)) (taken_one Star (done, Rules d) (done, Qual_star d None) refl)
+min_taken done d None = taken_then nothing (one Star) (done, Rules d) (done, Rules d) (done, Qual_star d None)
+    (taken_nothing (done, Rules d)) (taken_one Star (done, Rules d) (done, Qual_star d None) refl)
 min_taken done d (Some n) =
     taken_then (number max_number n) (one Star) (done, Rules d) (done, Qual_min d n) (done, Qual_star d (Some n))
     (taken_number max_number n (done, Rules d) (done, Qual_min d n) (λ small. rw (number_at-some 0 max_number n (omega arith) small) refl))
@@ -245,12 +282,16 @@ max_taken done d min None kind text fixed front us (xs, ys, parts, first, k) =
     ∙ star_settled done d min kind text ys us k
     ∙ bracket_taken done d kind (record { min = min; max = None }) text fixed ys us k
 max_taken done d min (Some n) kind text fixed front us h =
-    taken_then (number max_number n) (bracketed kind text) (done, Qual_star d min) (done, Qual_done d (record { min = min; max = Some n })) (done, Rules (with_rule d (record { kind = kind; name = text; qual = Some (record { min = min; max = Some n }) })))
+    taken_then (number max_number n) (bracketed kind text) (done, Qual_star d min) (done, Qual_done d (record { min = min; max = Some n })) (
+      done,
+      Rules (with_rule d (record { kind = kind; name = text; qual = Some (record { min = min; max = Some n }) })),
+    )
     (taken_number max_number n (done, Qual_star d min) (done, Qual_done d (record { min = min; max = Some n })) (λ small. rw (number_at-some 0 max_number n (omega arith) small) refl))
     (bracket_taken done d kind (record { min = min; max = Some n }) text fixed)
     front us h
 
-rule_taken : (done : PlainSource) (d : PlainDef) (kind : RuleKind) (text : Option (List ℕ)) (qual : Option Qual) (front us : List Token) → (qualifier qual then bracketed kind text) front → (kind ≡ Fixed → all_fixed d.rules ≡ true) → begins_with (same_sign Assign) us ≡ false
+rule_taken : (done : PlainSource) (d : PlainDef) (kind : RuleKind) (text : Option (List ℕ)) (qual : Option Qual) (front us : List Token)
+    → (qualifier qual then bracketed kind text) front → (kind ≡ Fixed → all_fixed d.rules ≡ true) → begins_with (same_sign Assign) us ≡ false
     → outcome (done, Rules d) (front ++ us) ≡ outcome (done, Rules (with_rule d (record { kind = kind; name = text; qual = qual }))) us
 rule_taken done d Fixed (Some text) None front us (xs, ys, parts, first, k) fixed free =
     ap (λ (f : List Token). outcome (done, Rules d) (f ++ us)) (parts ∙ ap (λ (f : List Token). f ++ ys) first) ∙ angle_taken done d text ys us k ∙ angle_settled done d text us (fixed refl) free
@@ -260,7 +301,10 @@ rule_taken done d Required text None front us (xs, ys, parts, first, k) fixed fr
 rule_taken done d Optional text None front us (xs, ys, parts, first, k) fixed free =
     ap (λ (f : List Token). outcome (done, Rules d) (f ++ us)) (parts ∙ ap (λ (f : List Token). f ++ ys) first) ∙ loose_taken done d Optional None text Open_bracket (done, Rules d) refl ys us k
 rule_taken done d kind text (Some q) front us (xs, ys, parts, (as2, bs, inner, low, (cs, ds, more, star, high)), k) fixed free =
-    taken_then (count q.min then one Star) (count q.max then bracketed kind text) (done, Rules d) (done, Qual_star d q.min) (done, Rules (with_rule d (record { kind = kind; name = text; qual = Some q })))
+    taken_then (count q.min then one Star) (count q.max then bracketed kind text) (done, Rules d) (
+      done,
+      Qual_star d q.min,
+    ) (done, Rules (with_rule d (record { kind = kind; name = text; qual = Some q })))
     (min_taken done d q.min)
     (max_taken done d q.min q.max kind text fixed)
     front us (
@@ -307,20 +351,25 @@ rules_taken done (r ∷ rs) d front us (xs, ys, parts, h, k) ordered free =
 abbrev naming : List ℕ → Tokens
 naming text = either (one Less then name text then one Greater) (name text)
 
-item_ahead : (i : Item) (front us : List Token) (test : Token → Bool) → item i front → test Declares ≡ false → test Less ≡ false → ((n : List ℕ) → test (Name n) ≡ false) → begins_with test (front ++ us) ≡ false
+item_ahead : (i : Item) (front us : List Token) (test : Token → Bool) → item i front → test Declares ≡ false
+    → test Less ≡ false → ((n : List ℕ) → test (Name n) ≡ false) → begins_with test (front ++ us) ≡ false
 item_ahead (Declaration d) front us test (xs, ys, parts, first, k) a b c = rw (parts, first) a
 item_ahead (Definition d) front us test (ordered, (xs, ys, parts, first, k)) a b c =
     ⊎_elim (λ (cs, ds, inner, less, l). rw (parts, inner, less) b) (λ (named, is). rw (parts, is) (c d.name)) first
 
-pub items_ahead : (items : List Item) (us : List Token) (test : Token → Bool) → each item items us → test Declares ≡ false → test Less ≡ false → ((n : List ℕ) → test (Name n) ≡ false) → begins_with test us ≡ false
+pub items_ahead : (items : List Item) (us : List Token) (test : Token → Bool) → each item items us → test Declares ≡ false
+    → test Less ≡ false → ((n : List ℕ) → test (Name n) ≡ false) → begins_with test us ≡ false
 items_ahead [] us test h a b c = rw h refl
 items_ahead (i ∷ items) us test (xs, ys, parts, h, k) a b c = rw parts (item_ahead i xs ys test h a b c)
 
 -- a definition from its `::=` on
-definition_taken : (done : PlainSource) (text : List ℕ) (h : Head) (rs : List PlainRule) (front us : List Token) → (one Assign then one Less then head h then one Greater then each rule rs) front → in_order rs ≡ true → begins_with (same_sign Assign) us ≡ false
+definition_taken : (done : PlainSource) (text : List ℕ) (h : Head) (rs : List PlainRule) (front us : List Token)
+    → (one Assign then one Less then head h then one Greater then each rule rs) front → in_order rs ≡ true → begins_with (same_sign Assign) us ≡ false
     → outcome (done, Def_assign text) (front ++ us) ≡ outcome (done, Rules (record { name = text; head = h; rules = rs })) us
 definition_taken done text h rs front us (xs, ys, parts, assign, (cs, ds, inner, less, (es, fs, more, of_head, (gs, rest, last, greater, of_rules)))) ordered free =
-    ap (λ (f : List Token). outcome (done, Def_assign text) (f ++ us)) (parts ∙ ap (λ (f : List Token). f ++ ys) assign ∙ ap (λ (f : List Token). Assign ∷ f) (inner ∙ ap (λ (f : List Token). f ++ ds) less ∙ ap (λ (f : List Token). Less ∷ f) (more ∙ ap (λ (f : List Token). es ++ f) last ∙ sym (append_assoc es gs rest))))
+    ap (λ (f : List Token). outcome (done, Def_assign text) (f ++ us)) (parts ∙ ap (λ (f : List Token). f ++ ys) assign
+    ∙ ap (λ (f : List Token). Assign ∷ f) (inner ∙ ap (λ (f : List Token). f ++ ds) less
+    ∙ ap (λ (f : List Token). Less ∷ f) (more ∙ ap (λ (f : List Token). es ++ f) last ∙ sym (append_assoc es gs rest))))
     ∙ take_one (done, Def_assign text) Assign (done, Head_open text) (Less ∷ (((es ++ gs) ++ rest) ++ us)) refl
     ∙ take_one (done, Head_open text) Less (done, In_head text Head_word) (((es ++ gs) ++ rest) ++ us) refl
     ∙ ap (outcome (done, In_head text Head_word)) (append_assoc (es ++ gs) rest us)
@@ -340,7 +389,8 @@ named_taken done text front us h =
 behind_bare : (done : PlainSource) (d : PlainDef) (text : List ℕ) (us : List Token) → outcome (done, Rules d) (Name text ∷ us) ≡ outcome (add_def done d, Between) (Name text ∷ us)
 behind_bare done d text us = refl
 
-behind_angle : (done : PlainSource) (d : PlainDef) (text : List ℕ) (us : List Token) → is_name text ≡ true → outcome (done, Rules d) (Less ∷ Name text ∷ Greater ∷ Assign ∷ us) ≡ outcome (add_def done d, Between) (Less ∷ Name text ∷ Greater ∷ Assign ∷ us)
+behind_angle : (done : PlainSource) (d : PlainDef) (text : List ℕ) (us : List Token) → is_name text ≡ true
+    → outcome (done, Rules d) (Less ∷ Name text ∷ Greater ∷ Assign ∷ us) ≡ outcome (add_def done d, Between) (Less ∷ Name text ∷ Greater ∷ Assign ∷ us)
 behind_angle done d text us named =
     take_one (done, Rules d) Less (done, Angle_name d) (Name text ∷ Greater ∷ Assign ∷ us) refl
     ∙ take_one (done, Angle_name d) (Name text) (done, Angle_close d text) (Greater ∷ Assign ∷ us) (rw named refl)
@@ -363,7 +413,8 @@ items_settled done d (i ∷ items) us (xs, ys, parts, h, k) = rw parts (item_set
 
 -- the list of a declaration, or none
 list_cases : (f : FormatName) (vs : Option (List (ℕ × ℕ))) (front : List Token) → values f vs front
-    → ((vs ≡ None) × (front ≡ [])) ⊎ ((f ≡ format.Enumerated) × ((r : ℕ × ℕ) × (rs : List (ℕ × ℕ)) × (vs ≡ Some (r ∷ rs)) × (one Open_parenthesis then each range (r ∷ rs) then one Close_parenthesis) front))
+    → ((vs ≡ None) × (front ≡ []))
+    ⊎ ((f ≡ format.Enumerated) × ((r : ℕ × ℕ) × (rs : List (ℕ × ℕ)) × (vs ≡ Some (r ∷ rs)) × (one Open_parenthesis then each range (r ∷ rs) then one Close_parenthesis) front))
 list_cases f None front h = inl (refl, h)
 list_cases format.Enumerated (Some (r ∷ rs)) front h = inr (refl, (r, rs, refl, h))
 list_cases format.Enumerated (Some []) front h = absurd h
@@ -372,14 +423,16 @@ list_cases f (Some rs) front h = absurd h
 with_list : (d : PlainDecl) (vs : Option (List (ℕ × ℕ))) → d.values ≡ vs → record d { values = vs } ≡ d
 with_list d vs e = ap (λ (o : Option (List (ℕ × ℕ))). record d { values = o }) (sym e)
 
-list_taken : (done : PlainSource) (d : PlainDecl) (front us : List Token) → values d.format d.values front → begins_with (same_sign Open_parenthesis) us ≡ false → outcome (done, Decl_values (unlisted d)) (front ++ us) ≡ outcome (add_decl done d, Between) us
+list_taken : (done : PlainSource) (d : PlainDecl) (front us : List Token) → values d.format d.values front → begins_with (same_sign Open_parenthesis) us ≡ false
+    → outcome (done, Decl_values (unlisted d)) (front ++ us) ≡ outcome (add_decl done d, Between) us
 list_taken done d front us h free =
     ⊎_elim (λ (e, is).
     ap (λ (f : List Token). outcome (done, Decl_values (unlisted d)) (f ++ us)) is
     ∙ decl_settled done (unlisted d) us free
     ∙ ap (λ (x : PlainDecl). outcome (add_decl done x, Between) us) (with_list d None e))
     (λ (listed, (r, rs, e, (xs, ys, parts, opened, (ws, zs, inner, of_ranges, closed)))).
-    ap (λ (f : List Token). outcome (done, Decl_values (unlisted d)) (f ++ us)) (parts ∙ ap (λ (f : List Token). f ++ ys) opened ∙ ap (λ (f : List Token). Open_parenthesis ∷ f) (inner ∙ ap (λ (f : List Token). ws ++ f) closed))
+    ap (λ (f : List Token). outcome (done, Decl_values (unlisted d)) (f ++ us)) (parts ∙ ap (λ (f : List Token). f ++ ys) opened
+    ∙ ap (λ (f : List Token). Open_parenthesis ∷ f) (inner ∙ ap (λ (f : List Token). ws ++ f) closed))
     ∙ take_one (done, Decl_values (unlisted d)) Open_parenthesis (done, In_values (unlisted d) []) ((ws ++ Close_parenthesis ∷ []) ++ us) (rw listed refl)
     ∙ ap (outcome (done, In_values (unlisted d) [])) (append_assoc ws (Close_parenthesis ∷ []) us)
     ∙ values_taken done (unlisted d) (r ∷ rs) [] ws us of_ranges refl
@@ -387,7 +440,8 @@ list_taken done d front us h free =
     (list_cases d.format d.values front h)
 
 -- one item, with what is ahead of it
-item_taken : (done : PlainSource) (i : Item) (items : List Item) (front us : List Token) → item i front → each item items us → outcome (done, Between) (front ++ us) ≡ outcome (add_item done i, Between) us
+item_taken : (done : PlainSource) (i : Item) (items : List Item) (front us : List Token) → item i front
+    → each item items us → outcome (done, Between) (front ++ us) ≡ outcome (add_item done i, Between) us
 item_taken done (Declaration d) items front us h k =
     decl_taken done d us (add_decl done d, Between) (λ list l. list_taken done d list us l (items_ahead items us (same_sign Open_parenthesis) k refl refl (λ n. refl))) front h
 item_taken done (Definition d) items front us (ordered, (xs, ys, parts, first, rest)) k =

@@ -10,7 +10,8 @@ use Rattle.dia_ccf.specs.Plain.{PlainSource}
 use Rattle.dia_ccf.specs.Tokens.{Token, Greater, Open_bracket, Close_bracket, Comma, Colon, Number, Name}
 use Rattle.dia_ccf.specs.Grammar.{Tokens, ◌then◌, one, keyword, number, either, nothing, comma, flag, application, group_vendor, error_proxy, head, diameter_header, avp_header}
 use Rattle.dia_ccf.specs.Limits.{max_number, max_command_code}
-use Rattle.dia_ccf.specs.Machine.{State, HeadPlace, In_head, Rules, Head_word, Diameter_word, Avp_word, Diameter_colon, Avp_colon, Command_code, Group_code, Flags, Group_vendor, Error_word, Error_flags, Error_either, Error_close, Head_end, next, outcome}
+use Rattle.dia_ccf.specs.Machine.{State, HeadPlace, In_head, Rules, Head_word, Diameter_word, Avp_word, Diameter_colon, Avp_colon, Command_code}
+use Rattle.dia_ccf.specs.Machine.{Group_code, Flags, Group_vendor, Error_word, Error_flags, Error_either, Error_close, Head_end, next, outcome}
 use Rattle.dia_ccf.proofs.Running.{take_one, number_at-some}
 
 -- ---- one class after another
@@ -39,7 +40,10 @@ taken_either a b p q first second front us h = ⊎_elim (λ k. first front us k)
 
 avp_header_taken : (done : PlainSource) (text : List ℕ) → Taken avp_header (done, In_head text Head_word) (done, In_head text Group_code)
 avp_header_taken done text =
-    taken_then (either (keyword (codes "avp") then keyword (codes "header")) (keyword (codes "avp-header"))) (one Colon) (done, In_head text Head_word) (done, In_head text Avp_colon) (done, In_head text Group_code)
+    taken_then (either (keyword (codes "avp") then keyword (codes "header")) (keyword (codes "avp-header"))) (one Colon) (
+      done,
+      In_head text Head_word,
+    ) (done, In_head text Avp_colon) (done, In_head text Group_code)
     (taken_either (keyword (codes "avp") then keyword (codes "header")) (keyword (codes "avp-header")) (done, In_head text Head_word) (done, In_head text Avp_colon)
     (taken_then (keyword (codes "avp")) (keyword (codes "header")) (done, In_head text Head_word) (done, In_head text Avp_word) (done, In_head text Avp_colon)
     (taken_keyword (codes "avp") (done, In_head text Head_word) (done, In_head text Avp_word) (λ w e. rw e refl))
@@ -49,7 +53,10 @@ avp_header_taken done text =
 
 diameter_header_taken : (done : PlainSource) (text : List ℕ) → Taken diameter_header (done, In_head text Head_word) (done, In_head text Command_code)
 diameter_header_taken done text =
-    taken_then (either (keyword (codes "diameter") then keyword (codes "header")) (keyword (codes "diameter-header"))) (one Colon) (done, In_head text Head_word) (done, In_head text Diameter_colon) (done, In_head text Command_code)
+    taken_then (either (keyword (codes "diameter") then keyword (codes "header")) (keyword (codes "diameter-header"))) (one Colon) (
+      done,
+      In_head text Head_word,
+    ) (done, In_head text Diameter_colon) (done, In_head text Command_code)
     (taken_either (keyword (codes "diameter") then keyword (codes "header")) (keyword (codes "diameter-header")) (done, In_head text Head_word) (done, In_head text Diameter_colon)
     (taken_then (keyword (codes "diameter")) (keyword (codes "header")) (done, In_head text Head_word) (done, In_head text Diameter_word) (done, In_head text Diameter_colon)
     (taken_keyword (codes "diameter") (done, In_head text Head_word) (done, In_head text Diameter_word) (λ w e. rw e refl))
@@ -81,49 +88,71 @@ proxiable_taken done text c r true =
 
 -- a number that ends a head, behind a comma or none
 ending_number : (done : PlainSource) (text : List ℕ) (at behind_comma : HeadPlace) (n : ℕ) (h : Head) → next (done, In_head text at) Comma ≡ Some (done, In_head text behind_comma)
-    → (n ≤ max_number → next (done, In_head text at) (Number n) ≡ Some (done, In_head text (Head_end h))) → (n ≤ max_number → next (done, In_head text behind_comma) (Number n) ≡ Some (done, In_head text (Head_end h)))
+    → (n ≤ max_number → next (done, In_head text at) (Number n) ≡ Some (done, In_head text (Head_end h)))
+    → (n ≤ max_number → next (done, In_head text behind_comma) (Number n) ≡ Some (done, In_head text (Head_end h)))
     → Taken (comma then number max_number n) (done, In_head text at) (done, In_head text (Head_end h))
 ending_number done text at behind_comma n h step bare behind =
     taken_comma (number max_number n) (done, In_head text at) (done, In_head text behind_comma) (done, In_head text (Head_end h)) step
     (taken_number max_number n (done, In_head text at) (done, In_head text (Head_end h)) bare)
     (taken_number max_number n (done, In_head text behind_comma) (done, In_head text (Head_end h)) behind)
 
-application_ended : (done : PlainSource) (text : List ℕ) (c : ℕ) (r p : Bool) (app : Option ℕ) → Taken (application app then one Greater) (done, In_head text (Flags c r p false)) (done, Rules (record { name = text; head = Command c r p app; rules = [] }))
+application_ended : (done : PlainSource) (text : List ℕ) (c : ℕ) (r p : Bool) (app : Option ℕ)
+    → Taken (application app then one Greater) (done, In_head text (Flags c r p false)) (done, Rules (record { name = text; head = Command c r p app; rules = [] }))
 application_ended done text c r p None =
     taken_then nothing (one Greater) (done, In_head text (Flags c r p false)) (done, In_head text (Flags c r p false)) (done, Rules (record { name = text; head = Command c r p None; rules = [] }))
     (taken_nothing (done, In_head text (Flags c r p false)))
     (taken_one Greater (done, In_head text (Flags c r p false)) (done, Rules (record { name = text; head = Command c r p None; rules = [] })) refl)
 application_ended done text c r p (Some n) =
-    taken_then (comma then number max_number n) (one Greater) (done, In_head text (Flags c r p false)) (done, In_head text (Head_end (Command c r p (Some n)))) (done, Rules (record { name = text; head = Command c r p (Some n); rules = [] }))
-    (ending_number done text (Flags c r p false) (Flags c r p true) n (Command c r p (Some n)) refl (λ small. rw (number_at-some 0 max_number n (omega arith) small) refl) (λ small. rw (number_at-some 0 max_number n (omega arith) small) refl))
+    taken_then (comma then number max_number n) (one Greater) (done, In_head text (Flags c r p false)) (
+      done,
+      In_head text (Head_end (Command c r p (Some n))),
+    ) (done, Rules (record { name = text; head = Command c r p (Some n); rules = [] }))
+    (ending_number done text (Flags c r p false) (Flags c r p true) n (Command c r p (Some n)) refl
+    (λ small. rw (number_at-some 0 max_number n (omega arith) small) refl) (λ small. rw (number_at-some 0 max_number n (omega arith) small) refl))
     (taken_one Greater (done, In_head text (Head_end (Command c r p (Some n)))) (done, Rules (record { name = text; head = Command c r p (Some n); rules = [] })) refl)
 
 -- ---- groups
 
-group_ended : (done : PlainSource) (text : List ℕ) (c n : ℕ) → Taken (group_vendor n then one Greater) (done, In_head text (Group_vendor c false)) (done, Rules (record { name = text; head = Group c n; rules = [] }))
+group_ended : (done : PlainSource) (text : List ℕ) (c n : ℕ)
+    → Taken (group_vendor n then one Greater) (done, In_head text (Group_vendor c false)) (done, Rules (record { name = text; head = Group c n; rules = [] }))
 group_ended done text c n front us (xs, ys, parts, h, k) =
-    ⊎_elim (λ (e, zero_is). subst (λ (m : ℕ). outcome (done, In_head text (Group_vendor c false)) (front ++ us) ≡ outcome (done, Rules (record { name = text; head = Group c m; rules = [] })) us) (sym zero_is)
+    ⊎_elim (λ (e, zero_is). subst (λ (m : ℕ). outcome (done, In_head text (Group_vendor c false)) (front ++ us)
+    ≡ outcome (done, Rules (record { name = text; head = Group c m; rules = [] })) us) (sym zero_is)
     (taken_one Greater (done, In_head text (Group_vendor c false)) (done, Rules (record { name = text; head = Group c 0; rules = [] })) refl front us (parts ∙ ap (λ (f : List Token). f ++ ys) e ∙ k)))
-    (λ numbered. taken_then (comma then number max_number n) (one Greater) (done, In_head text (Group_vendor c false)) (done, In_head text (Head_end (Group c n))) (done, Rules (record { name = text; head = Group c n; rules = [] }))
-    (ending_number done text (Group_vendor c false) (Group_vendor c true) n (Group c n) refl (λ small. rw (number_at-some 0 max_number n (omega arith) small) refl) (λ small. rw (number_at-some 0 max_number n (omega arith) small) refl))
+    (λ numbered. taken_then (comma then number max_number n) (one Greater) (done, In_head text (Group_vendor c false)) (
+      done,
+      In_head text (Head_end (Group c n)),
+    ) (done, Rules (record { name = text; head = Group c n; rules = [] }))
+    (ending_number done text (Group_vendor c false) (Group_vendor c true) n (Group c n) refl (λ small. rw (number_at-some 0 max_number n (omega arith) small) refl)
+    (λ small. rw (number_at-some 0 max_number n (omega arith) small) refl))
     (taken_one Greater (done, In_head text (Head_end (Group c n))) (done, Rules (record { name = text; head = Group c n; rules = [] })) refl) front us (xs, ys, parts, numbered, k)) h
 
 -- ---- the answer with errors
 
-error_ended : (done : PlainSource) (text : List ℕ) (p : Pxy) → Taken (error_proxy p then one Greater) (done, In_head text (Error_flags false)) (done, Rules (record { name = text; head = Error p; rules = [] }))
+error_ended : (done : PlainSource) (text : List ℕ) (p : Pxy)
+    → Taken (error_proxy p then one Greater) (done, In_head text (Error_flags false)) (done, Rules (record { name = text; head = Error p; rules = [] }))
 error_ended done text Clear =
     taken_then nothing (one Greater) (done, In_head text (Error_flags false)) (done, In_head text (Error_flags false)) (done, Rules (record { name = text; head = Error Clear; rules = [] }))
     (taken_nothing (done, In_head text (Error_flags false)))
     (taken_one Greater (done, In_head text (Error_flags false)) (done, Rules (record { name = text; head = Error Clear; rules = [] })) refl)
 error_ended done text Set =
-    taken_then (comma then keyword (codes "pxy")) (one Greater) (done, In_head text (Error_flags false)) (done, In_head text (Head_end (Error Set))) (done, Rules (record { name = text; head = Error Set; rules = [] }))
+    taken_then (comma then keyword (codes "pxy")) (one Greater) (done, In_head text (Error_flags false)) (
+      done,
+      In_head text (Head_end (Error Set)),
+    ) (done, Rules (record { name = text; head = Error Set; rules = [] }))
     (taken_comma (keyword (codes "pxy")) (done, In_head text (Error_flags false)) (done, In_head text (Error_flags true)) (done, In_head text (Head_end (Error Set))) refl
     (taken_keyword (codes "pxy") (done, In_head text (Error_flags false)) (done, In_head text (Head_end (Error Set))) (λ w e. rw e refl))
     (taken_keyword (codes "pxy") (done, In_head text (Error_flags true)) (done, In_head text (Head_end (Error Set))) (λ w e. rw e refl)))
     (taken_one Greater (done, In_head text (Head_end (Error Set))) (done, Rules (record { name = text; head = Error Set; rules = [] })) refl)
 error_ended done text Either =
-    taken_then (one Open_bracket then comma then keyword (codes "pxy") then one Close_bracket) (one Greater) (done, In_head text (Error_flags false)) (done, In_head text (Head_end (Error Either))) (done, Rules (record { name = text; head = Error Either; rules = [] }))
-    (taken_then (one Open_bracket) (comma then keyword (codes "pxy") then one Close_bracket) (done, In_head text (Error_flags false)) (done, In_head text (Error_either false)) (done, In_head text (Head_end (Error Either)))
+    taken_then (one Open_bracket then comma then keyword (codes "pxy") then one Close_bracket) (one Greater) (done, In_head text (Error_flags false)) (
+      done,
+      In_head text (Head_end (Error Either)),
+    ) (done, Rules (record { name = text; head = Error Either; rules = [] }))
+    (taken_then (one Open_bracket) (comma then keyword (codes "pxy") then one Close_bracket) (done, In_head text (Error_flags false)) (
+      done,
+      In_head text (Error_either false),
+    ) (done, In_head text (Head_end (Error Either)))
     (taken_one Open_bracket (done, In_head text (Error_flags false)) (done, In_head text (Error_either false)) refl)
     (taken_comma (keyword (codes "pxy") then one Close_bracket) (done, In_head text (Error_either false)) (done, In_head text (Error_either true)) (done, In_head text (Head_end (Error Either))) refl
     (closed false) (closed true)))
@@ -148,21 +177,37 @@ headed done text h = (done, Rules (record { name = text; head = h; rules = [] })
 pub head_taken : (done : PlainSource) (text : List ℕ) (h : Head) → Taken (head h then one Greater) (done, In_head text Head_word) (done, Rules (record { name = text; head = h; rules = [] }))
 head_taken done text (Group c n) =
     taken_left avp_header (number max_number c then group_vendor n) (one Greater) (done, In_head text Head_word) (done, Rules (record { name = text; head = Group c n; rules = [] }))
-    (taken_then avp_header ((number max_number c then group_vendor n) then one Greater) (done, In_head text Head_word) (done, In_head text Group_code) (done, Rules (record { name = text; head = Group c n; rules = [] }))
+    (taken_then avp_header ((number max_number c then group_vendor n) then one Greater) (done, In_head text Head_word) (
+      done,
+      In_head text Group_code,
+    ) (done, Rules (record { name = text; head = Group c n; rules = [] }))
     (avp_header_taken done text)
     (taken_left (number max_number c) (group_vendor n) (one Greater) (done, In_head text Group_code) (done, Rules (record { name = text; head = Group c n; rules = [] }))
-    (taken_then (number max_number c) (group_vendor n then one Greater) (done, In_head text Group_code) (done, In_head text (Group_vendor c false)) (done, Rules (record { name = text; head = Group c n; rules = [] }))
+    (taken_then (number max_number c) (group_vendor n then one Greater) (done, In_head text Group_code) (
+      done,
+      In_head text (Group_vendor c false),
+    ) (done, Rules (record { name = text; head = Group c n; rules = [] }))
     (taken_number max_number c (done, In_head text Group_code) (done, In_head text (Group_vendor c false)) (λ small. rw (number_at-some 0 max_number c (omega arith) small) refl))
     (group_ended done text c n))))
 head_taken done text (Command c r p app) =
-    taken_left diameter_header (number max_command_code c then flag r (codes "req") then flag p (codes "pxy") then application app) (one Greater) (done, In_head text Head_word) (headed done text (Command c r p app))
-    (taken_then diameter_header ((number max_command_code c then flag r (codes "req") then flag p (codes "pxy") then application app) then one Greater) (done, In_head text Head_word) (done, In_head text Command_code) (headed done text (Command c r p app))
+    taken_left diameter_header (number max_command_code c then flag r (codes "req") then flag p (codes "pxy") then application app)
+    (one Greater) (done, In_head text Head_word) (headed done text (Command c r p app))
+    (taken_then diameter_header ((number max_command_code c then flag r (codes "req") then flag p (codes "pxy") then application app) then one Greater) (
+      done,
+      In_head text Head_word,
+    ) (done, In_head text Command_code) (headed done text (Command c r p app))
     (diameter_header_taken done text)
     (taken_left (number max_command_code c) (flag r (codes "req") then flag p (codes "pxy") then application app) (one Greater) (done, In_head text Command_code) (headed done text (Command c r p app))
-    (taken_then (number max_command_code c) ((flag r (codes "req") then flag p (codes "pxy") then application app) then one Greater) (done, In_head text Command_code) (done, In_head text (Flags c false false false)) (headed done text (Command c r p app))
+    (taken_then (number max_command_code c) ((flag r (codes "req") then flag p (codes "pxy") then application app) then one Greater) (
+      done,
+      In_head text Command_code,
+    ) (done, In_head text (Flags c false false false)) (headed done text (Command c r p app))
     (taken_number max_command_code c (done, In_head text Command_code) (done, In_head text (Flags c false false false)) (λ small. rw (number_at-some 0 max_command_code c (omega arith) small) refl))
     (taken_left (flag r (codes "req")) (flag p (codes "pxy") then application app) (one Greater) (done, In_head text (Flags c false false false)) (headed done text (Command c r p app))
-    (taken_then (flag r (codes "req")) ((flag p (codes "pxy") then application app) then one Greater) (done, In_head text (Flags c false false false)) (done, In_head text (Flags c r false false)) (headed done text (Command c r p app))
+    (taken_then (flag r (codes "req")) ((flag p (codes "pxy") then application app) then one Greater) (
+      done,
+      In_head text (Flags c false false false),
+    ) (done, In_head text (Flags c r false false)) (headed done text (Command c r p app))
     (request_taken done text c r)
     (taken_left (flag p (codes "pxy")) (application app) (one Greater) (done, In_head text (Flags c r false false)) (headed done text (Command c r p app))
     (taken_then (flag p (codes "pxy")) (application app then one Greater) (done, In_head text (Flags c r false false)) (done, In_head text (Flags c r p false)) (headed done text (Command c r p app))
@@ -170,10 +215,16 @@ head_taken done text (Command c r p app) =
     (application_ended done text c r p app))))))))
 head_taken done text (Error p) =
     taken_left diameter_header (keyword (codes "code") then comma then keyword (codes "err") then error_proxy p) (one Greater) (done, In_head text Head_word) (headed done text (Error p))
-    (taken_then diameter_header ((keyword (codes "code") then comma then keyword (codes "err") then error_proxy p) then one Greater) (done, In_head text Head_word) (done, In_head text Command_code) (headed done text (Error p))
+    (taken_then diameter_header ((keyword (codes "code") then comma then keyword (codes "err") then error_proxy p) then one Greater) (
+      done,
+      In_head text Head_word,
+    ) (done, In_head text Command_code) (headed done text (Error p))
     (diameter_header_taken done text)
     (taken_left (keyword (codes "code")) (comma then keyword (codes "err") then error_proxy p) (one Greater) (done, In_head text Command_code) (headed done text (Error p))
-    (taken_then (keyword (codes "code")) ((comma then keyword (codes "err") then error_proxy p) then one Greater) (done, In_head text Command_code) (done, In_head text (Error_word false)) (headed done text (Error p))
+    (taken_then (keyword (codes "code")) ((comma then keyword (codes "err") then error_proxy p) then one Greater) (
+      done,
+      In_head text Command_code,
+    ) (done, In_head text (Error_word false)) (headed done text (Error p))
     (taken_keyword (codes "code") (done, In_head text Command_code) (done, In_head text (Error_word false)) (λ w e. rw e refl))
     (taken_left comma (keyword (codes "err") then error_proxy p) (one Greater) (done, In_head text (Error_word false)) (headed done text (Error p))
     (taken_comma ((keyword (codes "err") then error_proxy p) then one Greater) (done, In_head text (Error_word false)) (done, In_head text (Error_word true)) (headed done text (Error p)) refl

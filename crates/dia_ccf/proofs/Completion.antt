@@ -9,7 +9,12 @@ use Rattle.dia_ccf.specs.declared.source.Qual.{Qual}
 use Rattle.dia_ccf.specs.Plain.{PlainDecl, PlainRule, PlainDef, PlainSource}
 use Rattle.dia_ccf.specs.Tokens.{Token, Less, Greater, Open_brace, Close_brace, Open_bracket, Close_bracket, Open_parenthesis, Close_parenthesis, Star, Dots, Assign, Colon, Declares, Number, Name}
 use Rattle.dia_ccf.specs.Limits.{max_number, max_value}
-use Rattle.dia_ccf.specs.Machine.{State, Place, Between, Decl_name, Decl_code, Decl_vendor, Decl_number, Decl_format, Decl_rule, Decl_values, In_values, After_value, After_dots, Def_name, Def_close, Def_assign, Head_open, In_head, HeadPlace, Head_word, Diameter_word, Avp_word, Diameter_colon, Avp_colon, Command_code, Group_code, Flags, Group_vendor, Error_word, Error_flags, Error_either, Error_close, Head_end, Rules, Qual_min, Qual_star, Qual_done, Fixed_name, Fixed_close, Angle_name, Angle_close, After_angle, Loose_name, Loose_close, next, step, on_item, on_values, on_loose, on_bracket, on_qualifier, on_rules, begins_qualifier, begins_loose, add_decl, add_def, with_values, with_rule, fixed_rule, all_fixed, is_enumerated, is_none, closing_sign, head_at, next_in_head, same_sign, is_word, is_number, sign_at, number_at, name_at, format_at, rule_at, slot_at, Outcome, Reads, Stops, outcome}
+use Rattle.dia_ccf.specs.Machine.{State, Place, Between, Decl_name, Decl_code, Decl_vendor, Decl_number, Decl_format, Decl_rule, Decl_values, In_values, After_value, After_dots, Def_name, Def_close}
+use Rattle.dia_ccf.specs.Machine.{Def_assign, Head_open, In_head, HeadPlace, Head_word, Diameter_word, Avp_word, Diameter_colon, Avp_colon, Command_code, Group_code, Flags, Group_vendor, Error_word}
+use Rattle.dia_ccf.specs.Machine.{Error_flags, Error_either, Error_close, Head_end, Rules, Qual_min, Qual_star, Qual_done, Fixed_name, Fixed_close, Angle_name, Angle_close, After_angle, Loose_name}
+use Rattle.dia_ccf.specs.Machine.{Loose_close, next, step, on_item, on_values, on_loose, on_bracket, on_qualifier, on_rules, begins_qualifier, begins_loose, add_decl, add_def, with_values, with_rule}
+use Rattle.dia_ccf.specs.Machine.{fixed_rule, all_fixed, is_enumerated, is_none, closing_sign, head_at, next_in_head, same_sign, is_word, is_number, sign_at, number_at, name_at, format_at, rule_at}
+use Rattle.dia_ccf.specs.Machine.{slot_at, Outcome, Reads, Stops, outcome}
 use Rattle.dia_ccf.proofs.Recognized.{number_at-is}
 use Rattle.dia_ccf.proofs.Running.{take_one, number_at-some}
 use Rattle.dia_ccf.proofs.Complete.{and_false}
@@ -34,17 +39,21 @@ sound_map to None h = refl
 sound_map to (Some x) h = h x
 
 sound_item : (done : PlainSource) (t : Token) → leads_soundly (on_item done t) ≡ true
-sound_item done t = sound_cond (same_sign Declares t) (Some (done, Decl_name)) _ refl (sound_cond (same_sign Less t) (Some (done, Def_name)) _ refl (sound_map (λ n. (done, Def_assign n)) (name_at t) (λ n. refl)))
+sound_item done t = sound_cond (same_sign Declares t) (Some (done, Decl_name)) _ refl
+    (sound_cond (same_sign Less t) (Some (done, Def_name)) _ refl (sound_map (λ n. (done, Def_assign n)) (name_at t) (λ n. refl)))
 
-sound_number : (done : PlainSource) (d : PlainDecl) (ranges : List (ℕ × ℕ)) (t : Token) (o : Option ℕ) → number_at 0 max_value t ≡ o → leads_soundly (option_map (λ n. (done, After_value d ranges n)) o) ≡ true
+sound_number : (done : PlainSource) (d : PlainDecl) (ranges : List (ℕ × ℕ)) (t : Token) (o : Option ℕ)
+    → number_at 0 max_value t ≡ o → leads_soundly (option_map (λ n. (done, After_value d ranges n)) o) ≡ true
 sound_number done d ranges t None h = refl
 sound_number done d ranges t (Some n) h = le-leb n max_value (number_at-is 0 max_value t n h).2
 
 sound_values : (done : PlainSource) (d : PlainDecl) (ranges : List (ℕ × ℕ)) (t : Token) → leads_soundly (on_values done d ranges t) ≡ true
-sound_values done d ranges t = sound_cond (not (is_none ranges) && same_sign Close_parenthesis t) (Some (add_decl done (with_values d ranges), Between)) _ refl (sound_number done d ranges t (number_at 0 max_value t) refl)
+sound_values done d ranges t = sound_cond (not (is_none ranges) && same_sign Close_parenthesis t)
+    (Some (add_decl done (with_values d ranges), Between)) _ refl (sound_number done d ranges t (number_at 0 max_value t) refl)
 
 sound_loose : (done : PlainSource) (d : PlainDef) (qual : Option Qual) (t : Token) → leads_soundly (on_loose done d qual t) ≡ true
-sound_loose done d qual t = sound_cond (same_sign Open_brace t) (Some (done, Loose_name d Required qual)) _ refl (sound_map (λ u. (done, Loose_name d Optional qual)) (sign_at Open_bracket t) (λ u. refl))
+sound_loose done d qual t = sound_cond (same_sign Open_brace t) (Some (done, Loose_name d Required qual)) _ refl
+    (sound_map (λ u. (done, Loose_name d Optional qual)) (sign_at Open_bracket t) (λ u. refl))
 
 sound_bracket : (done : PlainSource) (d : PlainDef) (qual : Qual) (t : Token) → leads_soundly (on_bracket done d qual t) ≡ true
 sound_bracket done d qual t = sound_cond (all_fixed d.rules && same_sign Less t) (Some (done, Fixed_name d qual)) _ refl (sound_loose done d (Some qual) t)
@@ -53,7 +62,8 @@ sound_rules : (done : PlainSource) (d : PlainDef) (t : Token) → leads_soundly 
 sound_rules done d t =
     sound_cond (same_sign Less t) (Some (done, Angle_name d)) _ refl
     (sound_cond (begins_qualifier t) (on_qualifier done d t) _
-    (sound_cond (is_number t) (option_map (λ n. (done, Qual_min d n)) (number_at 0 max_number t)) _ (sound_map (λ n. (done, Qual_min d n)) (number_at 0 max_number t) (λ n. refl)) (sound_map (λ u. (done, Qual_star d None)) (sign_at Star t) (λ u. refl)))
+    (sound_cond (is_number t) (option_map (λ n. (done, Qual_min d n)) (number_at 0 max_number t)) _
+    (sound_map (λ n. (done, Qual_min d n)) (number_at 0 max_number t) (λ n. refl)) (sound_map (λ u. (done, Qual_star d None)) (sign_at Star t) (λ u. refl)))
     (sound_cond (begins_loose t) (on_loose done d None t) (on_item (add_def done d) t) (sound_loose done d None t) (sound_item (add_def done d) t)))
 
 sound_step : (done : PlainSource) (p : Place) (t : Token) → is_sound p ≡ true → leads_soundly (step done p t) ≡ true
@@ -83,7 +93,8 @@ sound_step done (Fixed_name d qual) t h = sound_map (λ n. (done, Fixed_close d 
 sound_step done (Fixed_close d qual n) t h = sound_map (λ u. (done, Rules (with_rule d (fixed_rule n (Some qual))))) (sign_at Greater t) (λ u. refl)
 sound_step done (Angle_name d) t h = sound_map (λ n. (done, Angle_close d n)) (name_at t) (λ n. refl)
 sound_step done (Angle_close d n) t h = sound_map (λ u. (done, After_angle d n)) (sign_at Greater t) (λ u. refl)
-sound_step done (After_angle d n) t h = sound_cond (same_sign Assign t) (Some (add_def done d, Head_open n)) _ refl (sound_cond (all_fixed d.rules) (on_rules done (with_rule d (fixed_rule n None)) t) None (sound_rules done (with_rule d (fixed_rule n None)) t) refl)
+sound_step done (After_angle d n) t h = sound_cond (same_sign Assign t) (Some (add_def done d, Head_open n)) _ refl
+    (sound_cond (all_fixed d.rules) (on_rules done (with_rule d (fixed_rule n None)) t) None (sound_rules done (with_rule d (fixed_rule n None)) t) refl)
 sound_step done (Loose_name d kind qual) t h = sound_map (λ n. (done, Loose_close d (record { kind = kind; name = n; qual = qual }))) (slot_at t) (λ n. refl)
 sound_step done (Loose_close d r) t h = sound_map (λ u. (done, Rules (with_rule d r))) (sign_at (closing_sign r.kind) t) (λ u. refl)
 
@@ -165,9 +176,11 @@ bracket_completed : (done : PlainSource) (d : PlainDef) (qual : Qual) → Comple
 bracket_completed done d qual = goes_to (done, Qual_done d qual) (done, Loose_name d Required (Some qual)) Open_brace (Name (codes "a") ∷ Close_brace ∷ []) (rw (and_false (all_fixed d.rules)) refl) tt
 
 star_completed : (done : PlainSource) (d : PlainDef) (min : Option ℕ) → Completes (done, Qual_star d min) (Open_brace ∷ Name (codes "a") ∷ Close_brace ∷ [])
-star_completed done d min = goes_to (done, Qual_star d min) (done, Loose_name d Required (Some (record { min = min; max = None }))) Open_brace (Name (codes "a") ∷ Close_brace ∷ []) (rw (and_false (all_fixed d.rules)) refl) tt
+star_completed done d min = goes_to (done, Qual_star d min) (done, Loose_name d Required (Some (record { min = min; max = None }))) Open_brace
+    (Name (codes "a") ∷ Close_brace ∷ []) (rw (and_false (all_fixed d.rules)) refl) tt
 
-close_completed : (done : PlainSource) (d : PlainDef) (r : PlainRule) (kind : RuleKind) → next (done, Loose_close d r) (closing_sign kind) ≡ Some (done, Rules (with_rule d r)) → Completes (done, Loose_close d r) (closing_sign kind ∷ [])
+close_completed : (done : PlainSource) (d : PlainDef) (r : PlainRule) (kind : RuleKind)
+    → next (done, Loose_close d r) (closing_sign kind) ≡ Some (done, Rules (with_rule d r)) → Completes (done, Loose_close d r) (closing_sign kind ∷ [])
 close_completed done d r kind h = goes_to (done, Loose_close d r) (done, Rules (with_rule d r)) (closing_sign kind) [] h tt
 
 closes : (kind : RuleKind) → same_sign (closing_sign kind) (closing_sign kind) ≡ true
@@ -200,10 +213,12 @@ completed done (Decl_number n c) h = tt
 completed done (Decl_format n c v) h = tt
 completed done (Decl_rule n c v f) h = tt
 completed done (Decl_values d) h = tt
-completed done (In_values d ranges) h = goes_to (done, In_values d ranges) (done, After_value d ranges 0) (Number 0) (Close_parenthesis ∷ []) (rw (and_false (not (is_none ranges))) refl) (value_completed done d ranges 0)
+completed done (In_values d ranges) h = goes_to (done, In_values d ranges) (done, After_value d ranges 0) (Number 0)
+    (Close_parenthesis ∷ []) (rw (and_false (not (is_none ranges))) refl) (value_completed done d ranges 0)
 completed done (After_value d ranges n) h = value_completed done d ranges n
 completed done (After_dots d ranges low) h =
-    goes_to (done, After_dots d ranges low) (done, In_values d (ranges ++ (low, low) ∷ [])) (Number low) (Close_parenthesis ∷ []) (rw (number_at-some low max_value low (omega arith) (leb-true low max_value h)) refl) (values_completed done d ranges (low, low))
+    goes_to (done, After_dots d ranges low) (done, In_values d (ranges ++ (low, low) ∷ [])) (Number low) (Close_parenthesis ∷ [])
+    (rw (number_at-some low max_value low (omega arith) (leb-true low max_value h)) refl) (values_completed done d ranges (low, low))
 completed done Def_name h = tt
 completed done (Def_close n) h = tt
 completed done (Def_assign n) h = tt
@@ -218,7 +233,10 @@ completed done (Fixed_close d qual n) h = tt
 completed done (Angle_name d) h = tt
 completed done (Angle_close d n) h = tt
 completed done (After_angle d n) h = tt
-completed done (Loose_name d kind qual) h = goes_to (done, Loose_name d kind qual) (done, Loose_close d (record { kind = kind; name = Some (codes "a"); qual = qual })) (Name (codes "a")) (closing_sign kind ∷ []) refl
+completed done (Loose_name d kind qual) h = goes_to (done, Loose_name d kind qual) (
+  done,
+  Loose_close d (record { kind = kind; name = Some (codes "a"); qual = qual }),
+) (Name (codes "a")) (closing_sign kind ∷ []) refl
     (close_completed done d (record { kind = kind; name = Some (codes "a"); qual = qual }) kind (rw (closes kind) refl))
 completed done (Loose_close d r) h = close_completed done d r r.kind (rw (closes r.kind) refl)
 

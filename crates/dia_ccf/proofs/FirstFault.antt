@@ -14,7 +14,9 @@ use Rattle.dia_ccf.specs.Tokens.{Token, Number, Name}
 use Rattle.dia_ccf.specs.Grammar.{Derives}
 use Rattle.dia_ccf.specs.Limits.{max_value}
 use Rattle.dia_ccf.specs.Faults.{CanBegin, IsFirstFault, Fits, IsNumberFault, IsLimitFault}
-use Rattle.dia_ccf.specs.Machine.{State, Place, Between, In_values, After_value, After_dots, In_head, Flags, Group_vendor, Error_flags, Loose_close, with_rule, closing_sign, sign_at, Command_code, Group_code, Rules, Qual_star, Qual_done, After_angle, Decl_code, Decl_number, Decl_values, HeadPlace, is_none, all_fixed, is_enumerated, number_at, next, step, whole, refused, least_at, outcome, Reads, Stops, gone_on, ended}
+use Rattle.dia_ccf.specs.Machine.{State, Place, Between, In_values, After_value, After_dots, In_head, Flags, Group_vendor, Error_flags, Loose_close, with_rule, closing_sign}
+use Rattle.dia_ccf.specs.Machine.{sign_at, Command_code, Group_code, Rules, Qual_star, Qual_done, After_angle, Decl_code, Decl_number, Decl_values, HeadPlace}
+use Rattle.dia_ccf.specs.Machine.{is_none, all_fixed, is_enumerated, number_at, next, step, whole, refused, least_at, outcome, Reads, Stops, gone_on, ended}
 use Rattle.dia_ccf.specs.Reading.{nothing_read}
 use Rattle.dia_ccf.proofs.Sound.{sound}
 use Rattle.dia_ccf.proofs.Complete.{complete}
@@ -42,7 +44,8 @@ stopped_end start (Some s) k rest w h e = absurd cc
 stopped_end start None k [] w h e = record { front = []; state = start; parts = refl; goes = λ more. refl; sound = h; stands = (w, cc) }
 stopped_end start None k (t ∷ us) w h e = absurd cc
 
-stopped_here : (start : State) (t : Token) (ts : List Token) (k : Refusal) (rest : List Token) → is_sound start.1 ≡ true → next start t ≡ None → Stops (refused start t) (t ∷ ts) ≡ Stops k rest → Stopped start (t ∷ ts) k rest
+stopped_here : (start : State) (t : Token) (ts : List Token) (k : Refusal) (rest : List Token) → is_sound start.1 ≡ true
+    → next start t ≡ None → Stops (refused start t) (t ∷ ts) ≡ Stops k rest → Stopped start (t ∷ ts) k rest
 stopped_here start t ts k [] h e s = absurd cc
 stopped_here start t ts k (u ∷ us) h e s =
     let same : t ≡ u = cc in
@@ -57,12 +60,20 @@ stopped_here start t ts k (u ∷ us) h e s =
       stands = (ap (next start) (sym same) ∙ e, sym why_is ∙ ap (refused start) same);
     }
 
-stopped_step : (start : State) (t : Token) (ts : List Token) (k : Refusal) (rest : List Token) (o : Option State) → next start t ≡ o → is_sound start.1 ≡ true → gone_on o (Stops (refused start t) (t ∷ ts)) (λ q. outcome q ts) ≡ Stops k rest
+stopped_step : (start : State) (t : Token) (ts : List Token) (k : Refusal) (rest : List Token) (o : Option State) → next start t ≡ o
+    → is_sound start.1 ≡ true → gone_on o (Stops (refused start t) (t ∷ ts)) (λ q. outcome q ts) ≡ Stops k rest
     → ((q : State) → is_sound q.1 ≡ true → outcome q ts ≡ Stops k rest → Stopped q ts k rest) → Stopped start (t ∷ ts) k rest
 stopped_step start t ts k rest None e h s before = stopped_here start t ts k rest h e s
 stopped_step start t ts k rest (Some q) e h s before =
     let r = before q (sound_next start q t h e) s in
-    record { front = t ∷ r.front; state = r.state; parts = ap (λ (f : List Token). t ∷ f) r.parts; goes = λ more. take_one start t q (r.front ++ more) e ∙ r.goes more; sound = r.sound; stands = r.stands }
+    record {
+      front = t ∷ r.front;
+      state = r.state;
+      parts = ap (λ (f : List Token). t ∷ f) r.parts;
+      goes = λ more. take_one start t q (r.front ++ more) e ∙ r.goes more;
+      sound = r.sound;
+      stands = r.stands;
+    }
 
 stopped : (ts : List Token) (start : State) (k : Refusal) (rest : List Token) → is_sound start.1 ≡ true → outcome start ts ≡ Stops k rest → Stopped start ts k rest
 stopped [] start k rest h e = stopped_end start (whole start) k rest refl h e
@@ -107,7 +118,8 @@ low_number low m (Some n) to e h = let k = number_at-is low max_value (Number m)
 number_witness : (done : PlainSource) (p : Place) (m : ℕ) → is_some (step done p (Number m)) ≡ true → is_some (step done p (Number (least_at p))) ≡ true
 number_witness done (Decl_code n) m h = refl
 number_witness done (Decl_number n c) m h = refl
-number_witness done (Decl_values d) m h = absurd (let k : is_some (cond (is_enumerated d.format && false) (Some (done, In_values d [])) None) ≡ true = h in none_past (is_enumerated d.format) (Some (done, In_values d [])) k)
+number_witness done (Decl_values d) m h = absurd (let k : is_some (cond (is_enumerated d.format && false) (Some (done, In_values d [])) None) ≡ true = h
+    in none_past (is_enumerated d.format) (Some (done, In_values d [])) k)
 number_witness done (In_values d ranges) m h = rw (and_false (not (is_none ranges))) refl
 number_witness done (After_value d ranges n) m h = rw (and_false (not (is_none (ranges ++ (n, n) ∷ [])))) refl
 number_witness done (After_dots d ranges low) m h =
@@ -127,7 +139,8 @@ get_seam : {X : Type 0} (xs ys : List X) → slice_get (xs ++ ys) (length xs) �
 get_seam [] ys = refl
 get_seam (x ∷ xs) ys = get_seam xs ys
 
-begins : (start : State) (front : List Token) (q : State) → start ≡ (nothing_read, Between) → ((more : List Token) → outcome start (front ++ more) ≡ outcome q more) → is_sound q.1 ≡ true → CanBegin front
+begins : (start : State) (front : List Token) (q : State) → start ≡ (nothing_read, Between)
+    → ((more : List Token) → outcome start (front ++ more) ≡ outcome q more) → is_sound q.1 ≡ true → CanBegin front
 begins start front q e goes h =
     let c = can_complete q h in
     (c.0, c.1, sound (front ++ c.0) c.1 (ap (λ (s : State). outcome s (front ++ c.0)) (sym e) ∙ goes c.0 ∙ c.2))
@@ -138,10 +151,12 @@ begun front q t goes (rest, s, derived) =
     read_next q t rest s (sym (goes (t ∷ rest)) ∙ ap (outcome (nothing_read, Between)) (sym (append_assoc front (t ∷ []) rest)) ∙ complete ((front ++ t ∷ []) ++ rest) s derived)
 
 -- a token that is taken can be gone on with
-fitting : (front : List Token) (q : State) (t : Token) (o : Option State) → ((more : List Token) → outcome (nothing_read, Between) (front ++ more) ≡ outcome q more) → is_sound q.1 ≡ true → next q t ≡ o → is_some o ≡ true → CanBegin (front ++ t ∷ [])
+fitting : (front : List Token) (q : State) (t : Token) (o : Option State) → ((more : List Token) → outcome (nothing_read, Between) (front ++ more) ≡ outcome q more)
+    → is_sound q.1 ≡ true → next q t ≡ o → is_some o ≡ true → CanBegin (front ++ t ∷ [])
 fitting front q t None goes h e s = absurd cc
 fitting front q t (Some p) goes h e s =
-    begins (nothing_read, Between) (front ++ t ∷ []) p refl (λ more. ap (outcome (nothing_read, Between)) (append_assoc front (t ∷ []) more) ∙ goes (t ∷ more) ∙ take_one q t p more e) (sound_next q p t h e)
+    begins (nothing_read, Between) (front ++ t ∷ []) p refl (λ more. ap (outcome (nothing_read, Between)) (append_assoc front (t ∷ []) more)
+    ∙ goes (t ∷ more) ∙ take_one q t p more e) (sound_next q p t h e)
 
 module _ (front : List Token) (q : State) (k : Refusal) (goes : (more : List Token) → outcome (nothing_read, Between) (front ++ more) ≡ outcome q more) (h : is_sound q.1 ≡ true) where
   front_of : (rest : List Token) → take (length front) (front ++ rest) ≡ front

@@ -12,7 +12,8 @@ use Rattle.dia_ccf.specs.declared.source.RuleKind.TheVariants.{Fixed, Required, 
 use Rattle.dia_ccf.specs.Names.{is_name, is_fixed, fixed_first}
 use Rattle.dia_ccf.specs.Plain.{PlainDecl, PlainRule, PlainDef, PlainSource}
 use Rattle.dia_ccf.specs.Tokens.{Token, Open_parenthesis, Close_parenthesis, Declares, Number, Name}
-use Rattle.dia_ccf.specs.Grammar.{Tokens, ◌then◌, each, format_word, rule_word, vendor, range, values, rule, FixedFirst, IsFixed, Item, Declaration, Definition, item, group_of_head, command_of_head, source_of}
+use Rattle.dia_ccf.specs.Grammar.{Tokens, ◌then◌, each, format_word, rule_word, vendor, range, values, rule, FixedFirst, IsFixed}
+use Rattle.dia_ccf.specs.Grammar.{Item, Declaration, Definition, item, group_of_head, command_of_head, source_of}
 use Rattle.dia_ccf.specs.Limits.{max_number}
 use Rattle.dia_ccf.specs.Machine.{add_decl, add_def, add_by_head, with_values, with_rule, all_fixed}
 use Rattle.dia_ccf.specs.Reading.{nothing_read}
@@ -45,14 +46,26 @@ Ends done s ts = (items : List Item) × each item items ts × (s ≡ after done 
 abbrev joined : PlainSource → PlainSource → PlainSource
 joined a b = record { avps = a.avps ++ b.avps; groups = a.groups ++ b.groups; commands = a.commands ++ b.commands }
 
-joined_by_head : (done : PlainSource) (d : PlainDef) (h : Head) (rest : PlainSource) → joined (add_by_head done d h) rest ≡ joined done (record { avps = rest.avps; groups = cons_option (group_of_head h d) rest.groups; commands = cons_option (command_of_head h d) rest.commands })
-joined_by_head done d (Group code n) rest = ap (λ (xs : List PlainDef). record { avps = done.avps ++ rest.avps; groups = xs; commands = done.commands ++ rest.commands }) (append_assoc done.groups (d ∷ []) rest.groups)
-joined_by_head done d (Command code request pxy app) rest = ap (λ (xs : List PlainDef). record { avps = done.avps ++ rest.avps; groups = done.groups ++ rest.groups; commands = xs }) (append_assoc done.commands (d ∷ []) rest.commands)
-joined_by_head done d (Error pxy) rest = ap (λ (xs : List PlainDef). record { avps = done.avps ++ rest.avps; groups = done.groups ++ rest.groups; commands = xs }) (append_assoc done.commands (d ∷ []) rest.commands)
+joined_by_head : (done : PlainSource) (d : PlainDef) (h : Head) (rest : PlainSource)
+    → joined (add_by_head done d h) rest ≡ joined done (record { avps = rest.avps; groups = cons_option (group_of_head h d) rest.groups; commands = cons_option (command_of_head h d) rest.commands })
+joined_by_head done d (Group code n) rest = ap (λ (xs : List PlainDef). record {
+  avps = done.avps ++ rest.avps;
+  groups = xs;
+  commands = done.commands ++ rest.commands;
+}) (append_assoc done.groups (d ∷ []) rest.groups)
+joined_by_head done d (Command code request pxy app) rest = ap (λ (xs : List PlainDef). record {
+  avps = done.avps ++ rest.avps;
+  groups = done.groups ++ rest.groups;
+  commands = xs;
+}) (append_assoc done.commands (d ∷ []) rest.commands)
+joined_by_head done d (Error pxy) rest = ap (λ (xs : List PlainDef). record { avps = done.avps ++ rest.avps; groups = done.groups ++ rest.groups; commands = xs })
+    (append_assoc done.commands (d ∷ []) rest.commands)
 
 after-joined : (done : PlainSource) (items : List Item) → after done items ≡ joined done (source_of items)
 after-joined done [] = simp append-nil
-after-joined done (Declaration d ∷ is) = after-joined (add_decl done d) is ∙ ap (λ (xs : List PlainDecl). record { avps = xs; groups = done.groups ++ (source_of is).groups; commands = done.commands ++ (source_of is).commands }) (append_assoc done.avps (d ∷ []) (source_of is).avps)
+after-joined done (Declaration d ∷ is) = after-joined (add_decl done d) is
+    ∙ ap (λ (xs : List PlainDecl). record { avps = xs; groups = done.groups ++ (source_of is).groups; commands = done.commands ++ (source_of is).commands })
+    (append_assoc done.avps (d ∷ []) (source_of is).avps)
 after-joined done (Definition d ∷ is) = after-joined (add_def done d) is ∙ joined_by_head done d d.head (source_of is)
 
 pub after-source : (items : List Item) → after nothing_read items ≡ source_of items
@@ -114,20 +127,24 @@ pub record Sound_decl (d : PlainDecl) : Type 0 where
 
 -- in a list of values
 abbrev pub Values_follow : PlainSource → PlainSource → PlainDecl → List (ℕ × ℕ) → Tokens
-Values_follow done s d ranges ts = Sound_decl d → d.format ≡ format.Enumerated → (vs ws : List Token) → vendor d.vendor vs → each range ranges ws → Ends done s (decl_front d vs (Open_parenthesis ∷ (ws ++ ts)))
+Values_follow done s d ranges ts = Sound_decl d → d.format ≡ format.Enumerated → (vs ws : List Token) → vendor d.vendor vs
+    → each range ranges ws → Ends done s (decl_front d vs (Open_parenthesis ∷ (ws ++ ts)))
 
-pub range_more : (done s : PlainSource) (d : PlainDecl) (ranges : List (ℕ × ℕ)) (r : ℕ × ℕ) (front ts : List Token) → range r front → Values_follow done s d (ranges ++ r ∷ []) ts → Values_follow done s d ranges (front ++ ts)
+pub range_more : (done s : PlainSource) (d : PlainDecl) (ranges : List (ℕ × ℕ)) (r : ℕ × ℕ) (front ts : List Token)
+    → range r front → Values_follow done s d (ranges ++ r ∷ []) ts → Values_follow done s d ranges (front ++ ts)
 range_more done s d ranges r front ts h follows sound listed vs ws of_vendor of_ranges =
     subst (λ (f : List Token). Ends done s (decl_front d vs (Open_parenthesis ∷ f))) (append_assoc ws front ts)
     (follows sound listed vs (ws ++ front) of_vendor (each-append range ranges (r ∷ []) ws front of_ranges (each-one range r front h)))
 
-values_some : (d : PlainDecl) (ranges : List (ℕ × ℕ)) (r : ℕ × ℕ) (rs : List (ℕ × ℕ)) (ws : List Token) → d.format ≡ format.Enumerated → ranges ≡ r ∷ rs → each range ranges ws → values d.format (Some ranges) (Open_parenthesis ∷ (ws ++ Close_parenthesis ∷ []))
+values_some : (d : PlainDecl) (ranges : List (ℕ × ℕ)) (r : ℕ × ℕ) (rs : List (ℕ × ℕ)) (ws : List Token) → d.format ≡ format.Enumerated
+    → ranges ≡ r ∷ rs → each range ranges ws → values d.format (Some ranges) (Open_parenthesis ∷ (ws ++ Close_parenthesis ∷ []))
 values_some d ranges r rs ws listed is h =
     subst (λ (f : FormatName). values f (Some ranges) (Open_parenthesis ∷ (ws ++ Close_parenthesis ∷ []))) (sym listed)
     (subst (λ (k : List (ℕ × ℕ)). values format.Enumerated (Some k) (Open_parenthesis ∷ (ws ++ Close_parenthesis ∷ []))) (sym is)
     (Open_parenthesis ∷ [], ws ++ Close_parenthesis ∷ [], refl, refl, (ws, Close_parenthesis ∷ [], refl, subst (λ (k : List (ℕ × ℕ)). each range k ws) is h, refl)))
 
-pub values_closed : (done s : PlainSource) (d : PlainDecl) (ranges : List (ℕ × ℕ)) (r : ℕ × ℕ) (rs : List (ℕ × ℕ)) (ts : List Token) → ranges ≡ r ∷ rs → Ends (add_decl done (with_values d ranges)) s ts → Values_follow done s d ranges (Close_parenthesis ∷ ts)
+pub values_closed : (done s : PlainSource) (d : PlainDecl) (ranges : List (ℕ × ℕ)) (r : ℕ × ℕ) (rs : List (ℕ × ℕ)) (ts : List Token)
+    → ranges ≡ r ∷ rs → Ends (add_decl done (with_values d ranges)) s ts → Values_follow done s d ranges (Close_parenthesis ∷ ts)
 values_closed done s d ranges r rs ts is h sound listed vs ws of_vendor of_ranges =
     subst (λ (f : List Token). Ends done s (decl_front d vs (Open_parenthesis ∷ f))) (append_assoc ws (Close_parenthesis ∷ []) ts)
     (decl_made done s (with_values d ranges) vs (Open_parenthesis ∷ (ws ++ Close_parenthesis ∷ [])) ts sound.named sound.small of_vendor (values_some d ranges r rs ws listed is of_ranges) h)
@@ -176,7 +193,8 @@ none_fixed (r ∷ rules) h =
     not_fixed Required e h = absurd cc
     not_fixed Optional e h = absurd cc
 
-in_order_split : (r : PlainRule) (rules : List PlainRule) (kind : RuleKind) → r.kind ≡ kind → cond (is_fixed kind) (in_order rules) (list_all (λ j. not (is_fixed j)) (map (λ r. r.kind) rules)) ≡ true → (in_order rules ≡ true → FixedFirst rules) → FixedFirst (r ∷ rules)
+in_order_split : (r : PlainRule) (rules : List PlainRule) (kind : RuleKind) → r.kind ≡ kind
+    → cond (is_fixed kind) (in_order rules) (list_all (λ j. not (is_fixed j)) (map (λ r. r.kind) rules)) ≡ true → (in_order rules ≡ true → FixedFirst rules) → FixedFirst (r ∷ rules)
 in_order_split r rules Fixed e h before = let k = before h in (r ∷ k.0, k.1, ap (λ (rs : List PlainRule). r ∷ rs) k.2, (e, k.3), k.4)
 in_order_split r rules Required e h before = ([], r ∷ rules, refl, tt, (λ fixed. absurd cc, none_fixed rules h))
 in_order_split r rules Optional e h before = ([], r ∷ rules, refl, tt, (λ fixed. absurd cc, none_fixed rules h))
@@ -198,7 +216,8 @@ loose_in_order : (rules : List PlainRule) → list_all (λ j. not (is_fixed j)) 
 loose_in_order [] h = refl
 loose_in_order (r ∷ rules) h = let k = both (not (is_fixed r.kind)) (list_all (λ j. not (is_fixed j)) (map (λ r. r.kind) rules)) h in by_test (is_fixed r.kind) k.0 k.1
   where
-    by_test : (b : Bool) → not b ≡ true → list_all (λ j. not (is_fixed j)) (map (λ r. r.kind) rules) ≡ true → cond b (in_order rules) (list_all (λ j. not (is_fixed j)) (map (λ r. r.kind) rules)) ≡ true
+    by_test : (b : Bool) → not b ≡ true → list_all (λ j. not (is_fixed j)) (map (λ r. r.kind) rules) ≡ true
+        → cond b (in_order rules) (list_all (λ j. not (is_fixed j)) (map (λ r. r.kind) rules)) ≡ true
     by_test true e h = absurd cc
     by_test false e h = h
 
@@ -213,11 +232,13 @@ pub still_fixed : (rules : List PlainRule) (r : PlainRule) → all_fixed rules �
 still_fixed [] r h k = rw k refl
 still_fixed (x ∷ rules) r h k = let b = both (is_fixed x.kind) (all_fixed rules) h in rw b.0 (still_fixed rules r b.1 k)
 
-loose_more : (rules : List PlainRule) (r : PlainRule) → is_fixed r.kind ≡ false → list_all (λ j. not (is_fixed j)) (map (λ r. r.kind) rules) ≡ true → list_all (λ j. not (is_fixed j)) (map (λ r. r.kind) (rules ++ r ∷ [])) ≡ true
+loose_more : (rules : List PlainRule) (r : PlainRule) → is_fixed r.kind ≡ false → list_all (λ j. not (is_fixed j)) (map (λ r. r.kind) rules) ≡ true
+    → list_all (λ j. not (is_fixed j)) (map (λ r. r.kind) (rules ++ r ∷ [])) ≡ true
 loose_more [] r h k = rw h refl
 loose_more (x ∷ rules) r h k = let b = both (not (is_fixed x.kind)) (list_all (λ j. not (is_fixed j)) (map (λ r. r.kind) rules)) k in rw b.0 (loose_more rules r h b.1)
 
-loose_step : (x r : PlainRule) (rules : List PlainRule) (fixed : Bool) → is_fixed r.kind ≡ false → cond fixed (in_order rules) (list_all (λ j. not (is_fixed j)) (map (λ r. r.kind) rules)) ≡ true → (in_order rules ≡ true → in_order (rules ++ r ∷ []) ≡ true)
+loose_step : (x r : PlainRule) (rules : List PlainRule) (fixed : Bool) → is_fixed r.kind ≡ false
+    → cond fixed (in_order rules) (list_all (λ j. not (is_fixed j)) (map (λ r. r.kind) rules)) ≡ true → (in_order rules ≡ true → in_order (rules ++ r ∷ []) ≡ true)
     → cond fixed (in_order (rules ++ r ∷ [])) (list_all (λ j. not (is_fixed j)) (map (λ r. r.kind) (rules ++ r ∷ []))) ≡ true
 loose_step x r rules true h k before = before k
 loose_step x r rules false h k before = loose_more rules r h k

@@ -10,7 +10,8 @@ use Rattle.dia_ccf.specs.declared.source.Head.TheVariants.{Group, Command, Error
 use Rattle.dia_ccf.specs.Tokens.{Token, Open_bracket, Close_bracket, Comma, Colon, Number, Name}
 use Rattle.dia_ccf.specs.Grammar.{Tokens, ◌then◌, one, keyword, number, either, nothing, comma, flag, application, group_vendor, error_proxy, head}
 use Rattle.dia_ccf.specs.Limits.{max_number, max_command_code}
-use Rattle.dia_ccf.specs.Machine.{HeadPlace, Head_word, Diameter_word, Avp_word, Diameter_colon, Avp_colon, Command_code, Group_code, Flags, Group_vendor, Error_word, Error_flags, Error_either, Error_close, Head_end, next_in_head, next_flag, on_comma, head_at, same_sign, is_keyword, keyword_at, sign_at, number_at}
+use Rattle.dia_ccf.specs.Machine.{HeadPlace, Head_word, Diameter_word, Avp_word, Diameter_colon, Avp_colon, Command_code, Group_code, Flags, Group_vendor, Error_word, Error_flags}
+use Rattle.dia_ccf.specs.Machine.{Error_either, Error_close, Head_end, next_in_head, next_flag, on_comma, head_at, same_sign, is_keyword, keyword_at, sign_at, number_at}
 use Rattle.dia_ccf.proofs.Recognized.{chosen, mapped, some_is, same_sign-is, sign_at-is, keyword-is, keyword_at-is, number_at-is}
 
 -- behind the flags of a command
@@ -141,7 +142,8 @@ behind_wider a b false ts go h = go ts h
 nothing_then : (c : Tokens) (ts : List Token) → c ts → (nothing then c) ts
 nothing_then c ts h = ([], ts, refl, refl, h)
 
-request_back : (c : ℕ) (request pxy read : Bool) (w : List ℕ) (q : HeadPlace) (h : Head) (ts : List Token) → map to_ascii_lowercase w ≡ codes "req" → cond (request || pxy) None (Some (Flags c true pxy false)) ≡ Some q → head_rest q h ts
+request_back : (c : ℕ) (request pxy read : Bool) (w : List ℕ) (q : HeadPlace) (h : Head) (ts : List Token) → map to_ascii_lowercase w ≡ codes "req"
+    → cond (request || pxy) None (Some (Flags c true pxy false)) ≡ Some q → head_rest q h ts
     → behind_comma read (after_code c request pxy h) (Name w ∷ ts)
 request_back c true pxy read w q h ts e k f = absurd cc
 request_back c false true read w q h ts e k f = absurd cc
@@ -156,9 +158,11 @@ request_back c false false read w q (Error p) ts e k f = absurd (subst (λ (at :
 -- what the proxiable flag says of the flags before it
 proxiable_wider : (request r p : Bool) (app : Option ℕ) (us : List Token) → r ≡ request → (flag p (codes "pxy") then application app) us → flags_rest request false r p app us
 proxiable_wider true r p app us e h = (e, h)
-proxiable_wider false r p app us e h = subst (λ (b : Bool). (flag b (codes "req") then flag p (codes "pxy") then application app) us) (sym e) (nothing_then (flag p (codes "pxy") then application app) us h)
+proxiable_wider false r p app us e h = subst (λ (b : Bool). (flag b (codes "req") then flag p (codes "pxy") then application app) us)
+    (sym e) (nothing_then (flag p (codes "pxy") then application app) us h)
 
-proxiable_back : (c : ℕ) (request pxy read : Bool) (w : List ℕ) (q : HeadPlace) (h : Head) (ts : List Token) → map to_ascii_lowercase w ≡ codes "pxy" → cond pxy None (Some (Flags c request true false)) ≡ Some q → head_rest q h ts
+proxiable_back : (c : ℕ) (request pxy read : Bool) (w : List ℕ) (q : HeadPlace) (h : Head) (ts : List Token)
+    → map to_ascii_lowercase w ≡ codes "pxy" → cond pxy None (Some (Flags c request true false)) ≡ Some q → head_rest q h ts
     → behind_comma read (after_code c request pxy h) (Name w ∷ ts)
 proxiable_back c request true read w q h ts e k f = absurd cc
 proxiable_back c request false read w q (Group code n) ts e k f = absurd (subst (λ (p : HeadPlace). head_rest p (Group code n) ts) (sym (some_is (Flags c request true false) q k)) f)
@@ -179,19 +183,25 @@ application_wider false false app us h = nothing_then (flag false (codes "pxy") 
 application_wider true false app us h = (refl, nothing_then (application app) us h)
 application_wider request true app us h = (refl, refl, h)
 
-application_back : (c : ℕ) (request pxy read : Bool) (n : ℕ) (h : Head) (ts : List Token) → n ≤ max_number → head_rest (Head_end (Command c request pxy (Some n))) h ts → behind_comma read (after_code c request pxy h) (Number n ∷ ts)
+application_back : (c : ℕ) (request pxy read : Bool) (n : ℕ) (h : Head) (ts : List Token) → n ≤ max_number
+    → head_rest (Head_end (Command c request pxy (Some n))) h ts → behind_comma read (after_code c request pxy h) (Number n ∷ ts)
 application_back c request pxy read n h ts small (is, none) =
     let P : Head → List Token → Type 0 = λ k us. behind_comma read (after_code c request pxy k) (Number n ∷ us) in
     subst (λ (us : List Token). P h us) (sym none) (subst (λ (k : Head). P k []) is
-    (behind_wider (application (Some n)) (after_code c request pxy (Command c request pxy (Some n))) read (Number n ∷ []) (λ us wide. (refl, application_wider request pxy (Some n) us wide)) (behind_number n max_number read small)))
+    (behind_wider (application (Some n)) (after_code c request pxy (Command c request pxy (Some n))) read (Number n ∷ [])
+    (λ us wide. (refl, application_wider request pxy (Some n) us wide)) (behind_number n max_number read small)))
 
-flag_back : (c : ℕ) (request pxy read : Bool) (t : Token) (q : HeadPlace) (h : Head) (ts : List Token) → next_flag c request pxy t ≡ Some q → head_rest q h ts → behind_comma read (after_code c request pxy h) (t ∷ ts)
+flag_back : (c : ℕ) (request pxy read : Bool) (t : Token) (q : HeadPlace) (h : Head) (ts : List Token)
+    → next_flag c request pxy t ≡ Some q → head_rest q h ts → behind_comma read (after_code c request pxy h) (t ∷ ts)
 flag_back c request pxy read t q h ts k f =
-    ⊎_elim (λ (e, k1). (let w = keyword-is (codes "req") t e in subst (λ (u : Token). behind_comma read (after_code c request pxy h) (u ∷ ts)) (sym w.2) (request_back c request pxy read w.0 q h ts w.1 k1 f)))
-    (λ (e, k1). ⊎_elim (λ (e2, k2). (let w = keyword-is (codes "pxy") t e2 in subst (λ (u : Token). behind_comma read (after_code c request pxy h) (u ∷ ts)) (sym w.2) (proxiable_back c request pxy read w.0 q h ts w.1 k2 f)))
+    ⊎_elim (λ (e, k1). (let w = keyword-is (codes "req") t e
+    in subst (λ (u : Token). behind_comma read (after_code c request pxy h) (u ∷ ts)) (sym w.2) (request_back c request pxy read w.0 q h ts w.1 k1 f)))
+    (λ (e, k1). ⊎_elim (λ (e2, k2). (let w = keyword-is (codes "pxy") t e2
+    in subst (λ (u : Token). behind_comma read (after_code c request pxy h) (u ∷ ts)) (sym w.2) (proxiable_back c request pxy read w.0 q h ts w.1 k2 f)))
     (λ (e2, k2). (let m = mapped (λ n. Head_end (Command c request pxy (Some n))) (number_at 0 max_number t) q k2 in
     let n = number_at-is 0 max_number t m.0 m.1 in
-    subst (λ (u : Token). behind_comma read (after_code c request pxy h) (u ∷ ts)) (sym n.0) (application_back c request pxy read m.0 h ts n.2 (subst (λ (at : HeadPlace). head_rest at h ts) (sym m.2) f))))
+    subst (λ (u : Token). behind_comma read (after_code c request pxy h) (u ∷ ts)) (sym n.0)
+    (application_back c request pxy read m.0 h ts n.2 (subst (λ (at : HeadPlace). head_rest at h ts) (sym m.2) f))))
     (chosen (is_keyword (codes "pxy") t) (cond pxy None (Some (Flags c request true false))) (option_map (λ n. Head_end (Command c request pxy (Some n))) (number_at 0 max_number t)) (Some q) k1))
     (chosen (is_keyword (codes "req") t) (cond (request || pxy) None (Some (Flags c true pxy false))) _ (Some q) k)
 
@@ -238,11 +248,13 @@ code_back w (Error p) ts e f = then_one (keyword (codes "code")) (comma then key
 
 number_back : (n : ℕ) (h : Head) (ts : List Token) → n ≤ max_command_code → head_rest (Flags n false false false) h ts → diameter_rest h (Number n ∷ ts)
 number_back n (Group code m) ts small f = absurd f
-number_back n (Command code r p app) ts small f = subst (λ (k : ℕ). (number max_command_code k then flags_rest false false r p app) (Number n ∷ ts)) f.0 (then_one (number max_command_code n) (flags_rest false false r p app) (Number n) ts (small, refl) f.1)
+number_back n (Command code r p app) ts small f = subst (λ (k : ℕ). (number max_command_code k then flags_rest false false r p app) (Number n ∷ ts)) f.0
+    (then_one (number max_command_code n) (flags_rest false false r p app) (Number n) ts (small, refl) f.1)
 number_back n (Error p) ts small f = absurd f
 
 group_back : (n : ℕ) (h : Head) (ts : List Token) → n ≤ max_number → head_rest (Group_vendor n false) h ts → group_rest h (Number n ∷ ts)
-group_back n (Group code m) ts small f = subst (λ (k : ℕ). (number max_number k then group_vendor m) (Number n ∷ ts)) f.0 (then_one (number max_number n) (group_vendor m) (Number n) ts (small, refl) f.1)
+group_back n (Group code m) ts small f = subst (λ (k : ℕ). (number max_number k then group_vendor m) (Number n ∷ ts)) f.0
+    (then_one (number max_number n) (group_vendor m) (Number n) ts (small, refl) f.1)
 group_back n (Command code r p app) ts small f = absurd f
 group_back n (Error p) ts small f = absurd f
 
@@ -282,9 +294,13 @@ word_back : (t : Token) (q : HeadPlace) (h : Head) (ts : List Token) → next_in
 word_back t q h ts k f =
     let to : (w : List ℕ) → t ≡ Name w → head h (Name w ∷ ts) → head h (t ∷ ts) = λ w e g. subst (λ (u : Token). head h (u ∷ ts)) (sym e) g in
     let at : (p : HeadPlace) → p ≡ q → head_rest p h ts = λ p e. subst (λ (r : HeadPlace). head_rest r h ts) (sym e) f in
-    ⊎_elim (λ (e, k1). (let w = keyword-is (codes "avp") t e in to w.0 w.2 (avp_head h (Name w.0 ∷ ts) (two_words (codes "avp") (codes "header") (codes "avp-header") (group_rest h) w.0 ts w.1 (at Avp_word (some_is Avp_word q k1))))))
-    (λ (e, k1). ⊎_elim (λ (e2, k2). (let w = keyword-is (codes "avp-header") t e2 in to w.0 w.2 (avp_head h (Name w.0 ∷ ts) (one_word (codes "avp") (codes "header") (codes "avp-header") (group_rest h) w.0 ts w.1 (at Avp_colon (some_is Avp_colon q k2))))))
-    (λ (e2, k2). ⊎_elim (λ (e3, k3). (let w = keyword-is (codes "diameter") t e3 in to w.0 w.2 (diameter_head h (Name w.0 ∷ ts) (two_words (codes "diameter") (codes "header") (codes "diameter-header") (diameter_rest h) w.0 ts w.1 (at Diameter_word (some_is Diameter_word q k3))))))
+    ⊎_elim (λ (e, k1). (let w = keyword-is (codes "avp") t e
+    in to w.0 w.2 (avp_head h (Name w.0 ∷ ts) (two_words (codes "avp") (codes "header") (codes "avp-header") (group_rest h) w.0 ts w.1 (at Avp_word (some_is Avp_word q k1))))))
+    (λ (e, k1). ⊎_elim (λ (e2, k2). (let w = keyword-is (codes "avp-header") t e2
+    in to w.0 w.2 (avp_head h (Name w.0 ∷ ts) (one_word (codes "avp") (codes "header") (codes "avp-header") (group_rest h) w.0 ts w.1 (at Avp_colon (some_is Avp_colon q k2))))))
+    (λ (e2, k2). ⊎_elim (λ (e3, k3). (let w = keyword-is (codes "diameter") t e3
+    in to w.0 w.2 (diameter_head h (Name w.0 ∷ ts) (two_words (codes "diameter") (codes "header") (codes "diameter-header")
+    (diameter_rest h) w.0 ts w.1 (at Diameter_word (some_is Diameter_word q k3))))))
     (λ (e3, k3). (let m = mapped (λ u. Diameter_colon) (keyword_at (codes "diameter-header") t) q k3 in
     let w = keyword_at-is (codes "diameter-header") t m.0 m.1 in
     to w.0 w.2 (diameter_head h (Name w.0 ∷ ts) (one_word (codes "diameter") (codes "header") (codes "diameter-header") (diameter_rest h) w.0 ts w.1 (at Diameter_colon m.2)))))
@@ -307,10 +323,12 @@ head_back Avp_word t q h ts k f =
     (then_one (keyword (codes "header")) (one Colon then group_rest h) (Name w.0) ts (spelled (codes "header") w.0 w.1) (subst (λ (p : HeadPlace). head_rest p h ts) (sym m.2) f))
 head_back Diameter_colon t q h ts k f =
     let m = mapped (λ u. Command_code) (sign_at Colon t) q k in
-    subst (λ (u : Token). head_rest Diameter_colon h (u ∷ ts)) (sym (sign_at-is Colon t m.0 m.1)) (then_one (one Colon) (diameter_rest h) Colon ts refl (subst (λ (p : HeadPlace). head_rest p h ts) (sym m.2) f))
+    subst (λ (u : Token). head_rest Diameter_colon h (u ∷ ts)) (sym (sign_at-is Colon t m.0 m.1))
+    (then_one (one Colon) (diameter_rest h) Colon ts refl (subst (λ (p : HeadPlace). head_rest p h ts) (sym m.2) f))
 head_back Avp_colon t q h ts k f =
     let m = mapped (λ u. Group_code) (sign_at Colon t) q k in
-    subst (λ (u : Token). head_rest Avp_colon h (u ∷ ts)) (sym (sign_at-is Colon t m.0 m.1)) (then_one (one Colon) (group_rest h) Colon ts refl (subst (λ (p : HeadPlace). head_rest p h ts) (sym m.2) f))
+    subst (λ (u : Token). head_rest Avp_colon h (u ∷ ts)) (sym (sign_at-is Colon t m.0 m.1))
+    (then_one (one Colon) (group_rest h) Colon ts refl (subst (λ (p : HeadPlace). head_rest p h ts) (sym m.2) f))
 head_back Command_code t q h ts k f =
     ⊎_elim (λ (e, k1). (let w = keyword-is (codes "code") t e in
     subst (λ (u : Token). diameter_rest h (u ∷ ts)) (sym w.2) (code_back w.0 h ts w.1 (subst (λ (p : HeadPlace). head_rest p h ts) (sym (some_is (Error_word false) q k1)) f))))
@@ -341,7 +359,8 @@ head_back (Error_word read) t q h ts k f =
 head_back (Error_flags read) t q h ts k f =
     ⊎_elim (λ (e, e2, e3). comma_read (of_error error_proxy h) read t ts e e2 (subst (λ (p : HeadPlace). head_rest p h ts) (sym e3) f))
     (λ k1. ⊎_elim (λ (e, k2). (let w = keyword-is (codes "pxy") t e in
-    subst (λ (u : Token). head_rest (Error_flags read) h (u ∷ ts)) (sym w.2) (proxied_back read w.0 h ts w.1 (subst (λ (p : HeadPlace). head_rest p h ts) (sym (some_is (Head_end (Error Set)) q k2)) f))))
+    subst (λ (u : Token). head_rest (Error_flags read) h (u ∷ ts)) (sym w.2)
+    (proxied_back read w.0 h ts w.1 (subst (λ (p : HeadPlace). head_rest p h ts) (sym (some_is (Head_end (Error Set)) q k2)) f))))
     (λ (e, k2). opened read k2)
     (chosen (is_keyword (codes "pxy") t) (Some (Head_end (Error Set))) (cond read None (option_map (λ u. Error_either false) (sign_at Open_bracket t))) (Some q) k1))
     (comma_back read (Error_flags true) q _ t k)

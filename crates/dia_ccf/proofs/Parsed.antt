@@ -45,7 +45,8 @@ never text t k rest h d =
 
 -- ---- faults
 
-module _ (text : List ℕ) (taken at : ℕ) (counted : drop taken (placed_tokens text) ≡ tokens_from text at) (reached : taken ≤ length (placed_tokens text)) (lined : token_line text (slice_get (tokens_from text at) 0) ≡ line_at text at) where
+module _ (text : List ℕ) (taken at : ℕ) (counted : drop taken (placed_tokens text) ≡ tokens_from text at)
+    (reached : taken ≤ length (placed_tokens text)) (lined : token_line text (slice_get (tokens_from text at) 0) ≡ line_at text at) where
   line_is : line_at text at ≡ line_of text taken
   line_is = sym lined ∙ ap (token_line text) (ap (λ (ps : List Placed). slice_get ps 0) (sym counted) ∙ get_dropped taken (placed_tokens text))
 

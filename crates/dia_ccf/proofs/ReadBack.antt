@@ -21,7 +21,8 @@ pub record Reads (May : List ℕ → Type 0) (class : Tokens) (text : List ℕ) 
   pub derived : class tokens
   pub read : (rest : List ℕ) → May rest → lexed 0 (text ++ rest) ≡ tokens ++ lexed 0 rest
 
-pub reads_then : {May MayToo : List ℕ → Type 0} {first second : Tokens} {a b : List ℕ} → Reads May first a → Reads MayToo second b → ((rest : List ℕ) → MayToo rest → May (b ++ rest)) → Reads MayToo (first then second) (a ++ b)
+pub reads_then : {May MayToo : List ℕ → Type 0} {first second : Tokens} {a b : List ℕ} → Reads May first a → Reads MayToo second b
+    → ((rest : List ℕ) → MayToo rest → May (b ++ rest)) → Reads MayToo (first then second) (a ++ b)
 reads_then {a = a} {b = b} p q follows = record {
   tokens = p.tokens ++ q.tokens;
   derived = (p.tokens, q.tokens, refl, p.derived, q.derived);
@@ -78,7 +79,8 @@ reads_nothing = record { tokens = []; derived = refl; read = λ rest may. refl }
 
 -- ---- lists
 
-pub reads_each : {X Y Z : Type 0} (class : Y → Tokens) (text : Z → List ℕ) (f : X → Y) (g : X → Z) → ((x : X) → Reads Anything (class (f x)) (text (g x))) → (xs : List X) → Reads Anything (each class (map f xs)) (flat_map text (map g xs))
+pub reads_each : {X Y Z : Type 0} (class : Y → Tokens) (text : Z → List ℕ) (f : X → Y) (g : X → Z) → ((x : X) → Reads Anything (class (f x)) (text (g x)))
+    → (xs : List X) → Reads Anything (each class (map f xs)) (flat_map text (map g xs))
 reads_each class text f g all [] = record { tokens = []; derived = refl; read = λ rest may. refl }
 reads_each class text f g all (x ∷ xs) = reads_then (all x) (reads_each class text f g all xs) (λ rest may. tt)
 
@@ -87,7 +89,8 @@ each-append class [] ys ts us first second = rw first second
 each-append class (x ∷ xs) ys ts us first second =
     (first.0, first.1 ++ us, ap (λ l. l ++ us) first.2 ∙ append_assoc first.0 first.1 us, first.3, each-append class xs ys first.1 us first.4 second)
 
-pub reads_each-append : {X : Type 0} (class : X → Tokens) (xs ys : List X) {a b : List ℕ} → Reads Anything (each class xs) a → Reads Anything (each class ys) b → Reads Anything (each class (xs ++ ys)) (a ++ b)
+pub reads_each-append : {X : Type 0} (class : X → Tokens) (xs ys : List X) {a b : List ℕ} → Reads Anything (each class xs) a
+    → Reads Anything (each class ys) b → Reads Anything (each class (xs ++ ys)) (a ++ b)
 reads_each-append class xs ys {a = a} {b = b} p q = record {
   tokens = p.tokens ++ q.tokens;
   derived = each-append class xs ys p.tokens q.tokens p.derived q.derived;

@@ -13,7 +13,8 @@ use Rattle.dia_ccf.specs.declared.source.FormatName.TheVariants as format
 use Rattle.dia_ccf.specs.declared.source.MRule.{MRule}
 use Rattle.dia_ccf.specs.declared.source.MRule.TheVariants.{Must, MustNot, Any}
 use Rattle.dia_ccf.specs.Names.{is_name, same_bytes}
-use Rattle.dia_ccf.specs.Tokens.{Token, Less, Greater, Open_brace, Close_brace, Open_bracket, Close_bracket, Open_parenthesis, Close_parenthesis, Star, Comma, Dots, Assign, Colon, Declares, Number, Name}
+use Rattle.dia_ccf.specs.Tokens.{Token, Less, Greater, Open_brace, Close_brace, Open_bracket, Close_bracket, Open_parenthesis}
+use Rattle.dia_ccf.specs.Tokens.{Close_parenthesis, Star, Comma, Dots, Assign, Colon, Declares, Number, Name}
 use Rattle.dia_ccf.specs.Grammar.{format_word, rule_word}
 use Rattle.dia_ccf.specs.Machine.{same_sign, is_word, is_keyword, sign_at, keyword_at, number_at, name_at, format_at, formats, format_named, rule_at, rule_named, slot_at}
 
@@ -91,7 +92,8 @@ word-is text (Name name) h = ap Name (same_bytes-is name text h)
 word-is text token h = absurd cc
 
 -- one test of a chain: the word is the one tested for, or the rest of the chain answers
-first_word : {X : Type 0} (spelled : X → List ℕ) (word : List ℕ) (x : X) (rest : Option X) (y : X) → cond (same_bytes word (spelled x)) (Some x) rest ≡ Some y → (rest ≡ Some y → word ≡ spelled y) → word ≡ spelled y
+first_word : {X : Type 0} (spelled : X → List ℕ) (word : List ℕ) (x : X) (rest : Option X) (y : X)
+    → cond (same_bytes word (spelled x)) (Some x) rest ≡ Some y → (rest ≡ Some y → word ≡ spelled y) → word ≡ spelled y
 first_word spelled word x rest y h go = by_test (same_bytes word (spelled x)) refl h
   where
     by_test : (b : Bool) → same_bytes word (spelled x) ≡ b → cond b (Some x) rest ≡ Some y → word ≡ spelled y

@@ -1,5 +1,6 @@
 -- The canonical text of each part is read as that part.
-use Rattle.std.proofs.Common.{◌≡◌, ℕ, ◌<◌, Bool, true, false, not, cond, nat_lt, nat_le, eqb, ◌&&◌, List, [], ◌∷◌, ◌++◌, length, map, Option, Some, None, codes, string_bytes, Vec, String, inl, inr, refl, sym, ap, subst, ◌∙◌, append_assoc, arith, rules}
+use Rattle.std.proofs.Common.{◌≡◌, ℕ, ◌<◌, Bool, true, false, not, cond, nat_lt, nat_le, eqb, ◌&&◌, List, [], ◌∷◌, ◌++◌, length, map, Option}
+use Rattle.std.proofs.Common.{Some, None, codes, string_bytes, Vec, String, inl, inr, refl, sym, ap, subst, ◌∙◌, append_assoc, arith, rules}
 use Rattle.std.specs.List.{flat_map, list_all, AllByRecursion, filter_map}
 use Rattle.std.specs.Option.{option_map}
 use Rattle.std.specs.Global.{Global}
@@ -25,11 +26,15 @@ use Rattle.dia_ccf.specs.declared.source.Source.{Source}
 use Rattle.dia_ccf.specs.Names.{is_name, is_name_run, is_rule_name, is_number, is_number_or_none, is_qualifier, is_range, fits_values, is_head, is_fixed, fixed_first, is_group, same_bytes}
 use Rattle.dia_ccf.specs.Plain.{PlainDef, plain, plain_decl, plain_rule, plain_def}
 use Rattle.dia_ccf.specs.Tokens.{Less, Greater, Open_brace, Close_brace, Open_bracket, Close_bracket, Open_parenthesis, Close_parenthesis, Star, Comma, Dots, Assign, Colon, Declares, Name, tokens}
-use Rattle.dia_ccf.specs.Grammar.{◌then◌, one, either, word, name, number, each, format_word, rule_word, vendor, range, values, declaration, diameter_header, avp_header, comma, flag, application, group_vendor, error_proxy, head, count, qualifier, slot, bracketed, rule, IsFixed, FixedFirst, definition, Item, Declaration, Definition, item, declared, group_of, command_of, group_of_head, command_of_head, source_of, Derives}
+use Rattle.dia_ccf.specs.Grammar.{◌then◌, one, either, word, name, number, each, format_word, rule_word, vendor, range, values, declaration, diameter_header, avp_header}
+use Rattle.dia_ccf.specs.Grammar.{comma, flag, application, group_vendor, error_proxy, head, count, qualifier, slot, bracketed, rule, IsFixed, FixedFirst, definition}
+use Rattle.dia_ccf.specs.Grammar.{Item, Declaration, Definition, item, declared, group_of, command_of, group_of_head, command_of_head, source_of, Derives}
 use Rattle.dia_ccf.specs.Limits.{max_number, max_command_code, max_value}
-use Rattle.dia_ccf.specs.Rendering.{line_feed, range_text, values_text, vendor_text, declaration_line, flag_text, application_text, error_proxy_text, head_text, count_text, qualifier_text, slot_text, bracketed_text, rule_line, definition_lines, canonical}
+use Rattle.dia_ccf.specs.Rendering.{line_feed, range_text, values_text, vendor_text, declaration_line, flag_text, application_text, error_proxy_text}
+use Rattle.dia_ccf.specs.Rendering.{head_text, count_text, qualifier_text, slot_text, bracketed_text, rule_line, definition_lines, canonical}
 use Rattle.dia_ccf.proofs.Lexing.{lexed, tokens_after-lexed, starts_run}
-use Rattle.dia_ccf.proofs.ReadBack.{Reads, Anything, NoRun, reads_then, reads_after_space, reads_before_space, reads_before_feed, reads_after_feed, reads_narrower, reads_wider, reads_same, reads_number, reads_word, reads_keyword, reads_nothing, reads_each, reads_each-append}
+use Rattle.dia_ccf.proofs.ReadBack.{Reads, Anything, NoRun, reads_then, reads_after_space, reads_before_space, reads_before_feed, reads_after_feed, reads_narrower}
+use Rattle.dia_ccf.proofs.ReadBack.{reads_wider, reads_same, reads_number, reads_word, reads_keyword, reads_nothing, reads_each, reads_each-append}
 
 -- ---- names and numbers
 
@@ -134,7 +139,8 @@ pub reads_declaration : (d : Decl) → Reads Anything (declaration (plain_decl d
 reads_declaration d =
     let p = plain_decl d in
     let numbers = and_parts (is_number d.code) (is_number d.vendor) d.numbered in
-    reads_same (declaration_line p) (declaration-regroup (codes "%avp ") p.name (codes " ") (decimal p.code) (vendor_text p.vendor) (format_word p.format) (rule_word p.rule) (values_text p.values) line_feed)
+    reads_same (declaration_line p) (declaration-regroup (codes "%avp ") p.name (codes " ") (decimal p.code)
+    (vendor_text p.vendor) (format_word p.format) (rule_word p.rule) (values_text p.values) line_feed)
     (reads_then reads_declares
     (reads_then (reads_name p.name d.named)
     (reads_after_space (reads_then (reads_number_32 p.code numbers.0)
@@ -154,14 +160,26 @@ reads_declaration d =
 reads_avp_header : Reads Anything avp_header (codes "AVP Header: ")
 reads_avp_header = record {
   tokens = Name (codes "AVP") ∷ Name (codes "Header") ∷ Colon ∷ [];
-  derived = (Name (codes "AVP") ∷ Name (codes "Header") ∷ [], Colon ∷ [], refl, inl (Name (codes "AVP") ∷ [], Name (codes "Header") ∷ [], refl, (codes "AVP", refl, refl), (codes "Header", refl, refl)), refl);
+  derived = (
+    Name (codes "AVP") ∷ Name (codes "Header") ∷ [],
+    Colon ∷ [],
+    refl,
+    inl (Name (codes "AVP") ∷ [], Name (codes "Header") ∷ [], refl, (codes "AVP", refl, refl), (codes "Header", refl, refl)),
+    refl,
+  );
   read = λ rest may. refl;
 }
 
 reads_diameter_header : Reads Anything diameter_header (codes "Diameter Header: ")
 reads_diameter_header = record {
   tokens = Name (codes "Diameter") ∷ Name (codes "Header") ∷ Colon ∷ [];
-  derived = (Name (codes "Diameter") ∷ Name (codes "Header") ∷ [], Colon ∷ [], refl, inl (Name (codes "Diameter") ∷ [], Name (codes "Header") ∷ [], refl, (codes "Diameter", refl, refl), (codes "Header", refl, refl)), refl);
+  derived = (
+    Name (codes "Diameter") ∷ Name (codes "Header") ∷ [],
+    Colon ∷ [],
+    refl,
+    inl (Name (codes "Diameter") ∷ [], Name (codes "Header") ∷ [], refl, (codes "Diameter", refl, refl), (codes "Header", refl, refl)),
+    refl,
+  );
   read = λ rest may. refl;
 }
 
@@ -300,7 +318,8 @@ reads_slot : (kind : RuleKind) (n : Option (String Global)) → is_rule_name kin
 reads_slot kind None named = reads_word (codes "AVP") refl
 reads_slot kind (Some n) named = reads_name (string_bytes n) named
 
-reads_bracketed : (kind : RuleKind) (n : Option (String Global)) → is_rule_name kind n ≡ true → Reads Anything (bracketed kind (option_map (λ s. string_bytes s) n)) (bracketed_text kind (slot_text (option_map (λ s. string_bytes s) n)))
+reads_bracketed : (kind : RuleKind) (n : Option (String Global)) → is_rule_name kind n ≡ true
+    → Reads Anything (bracketed kind (option_map (λ s. string_bytes s) n)) (bracketed_text kind (slot_text (option_map (λ s. string_bytes s) n)))
 reads_bracketed Fixed None named = cc
 reads_bracketed Fixed (Some n) named =
     reads_same (bracketed_text Fixed (string_bytes n)) (append_assoc (codes "< ") (string_bytes n) (codes " >"))
@@ -394,7 +413,8 @@ list_all_true : {X : Type 0} (xs : List X) → list_all (λ x. true) xs ≡ true
 list_all_true [] = refl
 list_all_true (x ∷ xs) = list_all_true xs
 
-filter_map-map_some : {X Y Z : Type 0} (h : Y → Option Z) (f : X → Y) (g : X → Z) (p : X → Bool) → ((x : X) → p x ≡ true → h (f x) ≡ Some (g x)) → (xs : List X) → list_all p xs ≡ true → filter_map h (map f xs) ≡ map g xs
+filter_map-map_some : {X Y Z : Type 0} (h : Y → Option Z) (f : X → Y) (g : X → Z) (p : X → Bool)
+    → ((x : X) → p x ≡ true → h (f x) ≡ Some (g x)) → (xs : List X) → list_all p xs ≡ true → filter_map h (map f xs) ≡ map g xs
 filter_map-map_some h f g p some [] all = refl
 filter_map-map_some h f g p some (x ∷ xs) all =
     let parts = and_parts (p x) (list_all p xs) all in

@@ -18,10 +18,12 @@ use Rattle.dia_ccf.proofs.Leading.{takes_sign}
 
 -- ---- behind a qualifier
 
-pub fixed_opened : (done : PlainSource) (d : PlainDef) (qual : Qual) (fixed : Bool) (old new : Reader) → all_fixed d.rules ≡ fixed → fixed ≡ true → Takes (same_sign Less) old true new → course (done, Qual_done d qual) old ≡ course (done, Fixed_name d qual) new
+pub fixed_opened : (done : PlainSource) (d : PlainDef) (qual : Qual) (fixed : Bool) (old new : Reader) → all_fixed d.rules ≡ fixed → fixed ≡ true
+    → Takes (same_sign Less) old true new → course (done, Qual_done d qual) old ≡ course (done, Fixed_name d qual) new
 fixed_opened done d qual fixed old new e f taken = takes_sign (done, Qual_done d qual) (done, Fixed_name d qual) Less old new taken (rw (e ∙ f) refl)
 
-pub loose_wanted : (done : PlainSource) (d : PlainDef) (qual : Qual) (fixed : Bool) (ts : List Token) → all_fixed d.rules ≡ fixed → (fixed && begins_with (same_sign Less) ts) ≡ false → Wants false false (on_loose done d (Some qual)) (done, Qual_done d qual) ts
+pub loose_wanted : (done : PlainSource) (d : PlainDef) (qual : Qual) (fixed : Bool) (ts : List Token) → all_fixed d.rules ≡ fixed
+    → (fixed && begins_with (same_sign Less) ts) ≡ false → Wants false false (on_loose done d (Some qual)) (done, Qual_done d qual) ts
 loose_wanted done d qual fixed [] e h = refl
 loose_wanted done d qual fixed (t ∷ us) e h =
     let f : (all_fixed d.rules && same_sign Less t) ≡ false = ap (λ (b : Bool). b && same_sign Less t) e ∙ h in
@@ -38,7 +40,8 @@ bare_wanted done d (t ∷ us) h = absurd cc
 -- ---- a name in angle brackets
 
 -- it begins a definition
-pub angle_defines : (done : PlainSource) (d : PlainDef) (n : List ℕ) (fixed : Bool) (ts : List Token) → all_fixed d.rules ≡ fixed → (not fixed || begins_with (same_sign Assign) ts) ≡ true → outcome (done, After_angle d n) ts ≡ outcome (add_def done d, Def_assign n) ts
+pub angle_defines : (done : PlainSource) (d : PlainDef) (n : List ℕ) (fixed : Bool) (ts : List Token) → all_fixed d.rules ≡ fixed
+    → (not fixed || begins_with (same_sign Assign) ts) ≡ true → outcome (done, After_angle d n) ts ≡ outcome (add_def done d, Def_assign n) ts
 angle_defines done d n true [] e h = absurd cc
 angle_defines done d n true (Assign ∷ us) e h = refl
 angle_defines done d n true (t ∷ us) e h = absurd cc
@@ -73,18 +76,22 @@ all_fixed_more (x ∷ rules) r = ap (λ (b : Bool). is_fixed x.kind && b) (all_f
     by_test true b c = refl
     by_test false b c = refl
 
-pub fixed_more : (items more : List Rule) (r : Rule) (fixed now : Bool) → more ≡ items ++ r ∷ [] → all_fixed (map plain_rule items) ≡ fixed → (fixed && is_fixed r.kind) ≡ now → all_fixed (map plain_rule more) ≡ now
-fixed_more items more r fixed now grown e h = ap (λ (rs : List Rule). all_fixed (map plain_rule rs)) grown ∙ ap all_fixed (rules_append items r) ∙ all_fixed_more (map plain_rule items) (plain_rule r) ∙ ap (λ (b : Bool). b && is_fixed r.kind) e ∙ h
+pub fixed_more : (items more : List Rule) (r : Rule) (fixed now : Bool) → more ≡ items ++ r ∷ []
+    → all_fixed (map plain_rule items) ≡ fixed → (fixed && is_fixed r.kind) ≡ now → all_fixed (map plain_rule more) ≡ now
+fixed_more items more r fixed now grown e h = ap (λ (rs : List Rule). all_fixed (map plain_rule rs)) grown ∙ ap all_fixed (rules_append items r)
+    ∙ all_fixed_more (map plain_rule items) (plain_rule r) ∙ ap (λ (b : Bool). b && is_fixed r.kind) e ∙ h
 
 fixed_kind : (kind : RuleKind) → is_fixed kind ≡ true → kind ≡ Fixed
 fixed_kind Fixed h = refl
 fixed_kind Required h = absurd cc
 fixed_kind Optional h = absurd cc
 
-pub order_more : (items more : List Rule) (r : Rule) (fixed : Bool) → more ≡ items ++ r ∷ [] → all_fixed (map plain_rule items) ≡ fixed → IsTrue (fixed_first (map (λ x. x.kind) items)) → (r.kind ≡ Fixed → fixed ≡ true) → IsTrue (fixed_first (map (λ x. x.kind) more))
+pub order_more : (items more : List Rule) (r : Rule) (fixed : Bool) → more ≡ items ++ r ∷ [] → all_fixed (map plain_rule items) ≡ fixed
+    → IsTrue (fixed_first (map (λ x. x.kind) items)) → (r.kind ≡ Fixed → fixed ≡ true) → IsTrue (fixed_first (map (λ x. x.kind) more))
 order_more items more r fixed grown e h k =
     let before : in_order (map plain_rule items) ≡ true = ap fixed_first (sym (kinds_plain items)) ∙ h in
-    ap (λ (rs : List Rule). fixed_first (map (λ x. x.kind) rs)) grown ∙ ap fixed_first (kinds_plain (items ++ r ∷ [])) ∙ ap (λ (rules : List PlainRule). in_order rules) (rules_append items r) ∙ by_kind (is_fixed r.kind) refl before
+    ap (λ (rs : List Rule). fixed_first (map (λ x. x.kind) rs)) grown ∙ ap fixed_first (kinds_plain (items ++ r ∷ []))
+    ∙ ap (λ (rules : List PlainRule). in_order rules) (rules_append items r) ∙ by_kind (is_fixed r.kind) refl before
   where
     by_kind : (b : Bool) → is_fixed r.kind ≡ b → in_order (map plain_rule items) ≡ true → in_order (map plain_rule items ++ plain_rule r ∷ []) ≡ true
     by_kind true f before = let is = fixed_kind r.kind f in still_fixed (map plain_rule items) (plain_rule r) (e ∙ k is) is

@@ -15,7 +15,8 @@ pub stop_at : (state : State) (t : Token) (ts : List Token) → next state t ≡
 stop_at state t ts h = ap (λ (o : Option State). gone_on o (Stops (refused state t) (t ∷ ts)) (λ q. outcome q ts)) h
 
 -- two states that do the same with what is ahead
-pub outcome_same : (p q : State) (ts : List Token) → ((t : Token) (us : List Token) → ts ≡ t ∷ us → (next p t ≡ next q t) × (refused p t ≡ refused q t)) → (ts ≡ [] → whole p ≡ whole q) → outcome p ts ≡ outcome q ts
+pub outcome_same : (p q : State) (ts : List Token) → ((t : Token) (us : List Token) → ts ≡ t ∷ us → (next p t ≡ next q t) × (refused p t ≡ refused q t))
+    → (ts ≡ [] → whole p ≡ whole q) → outcome p ts ≡ outcome q ts
 outcome_same p q [] ahead end = ap ended (end refl)
 outcome_same p q (t ∷ ts) ahead end =
     let k = ahead t ts refl in

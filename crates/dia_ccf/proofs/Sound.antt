@@ -13,10 +13,15 @@ use Rattle.dia_ccf.specs.Plain.{PlainDecl, PlainRule, PlainDef, PlainSource}
 use Rattle.dia_ccf.specs.Tokens.{Token, Less, Greater, Open_brace, Close_brace, Open_bracket, Close_bracket, Open_parenthesis, Close_parenthesis, Star, Dots, Assign, Declares, Number, Name}
 use Rattle.dia_ccf.specs.Grammar.{Tokens, ◌then◌, one, name, either, format_word, vendor, values, count, qualifier, slot, bracketed, rule, definition, Definition, Derives}
 use Rattle.dia_ccf.specs.Limits.{max_number, max_value}
-use Rattle.dia_ccf.specs.Machine.{State, Place, Between, Decl_name, Decl_code, Decl_vendor, Decl_number, Decl_format, Decl_rule, Decl_values, In_values, After_value, After_dots, Def_name, Def_close, Def_assign, Head_open, In_head, HeadPlace, Head_word, Rules, Qual_min, Qual_star, Qual_done, Fixed_name, Fixed_close, Angle_name, Angle_close, After_angle, Loose_name, Loose_close, next, step, whole, whole_at, on_item, on_values, on_loose, on_bracket, on_star, on_qualifier, on_rules, begins_qualifier, begins_loose, add_decl, add_def, with_values, with_rule, fixed_rule, all_fixed, is_enumerated, is_none, closing_sign, head_at, next_in_head, same_sign, is_word, is_number, sign_at, number_at, name_at, format_at, rule_at, slot_at, Outcome, Reads, outcome, ended, gone_on}
+use Rattle.dia_ccf.specs.Machine.{State, Place, Between, Decl_name, Decl_code, Decl_vendor, Decl_number, Decl_format, Decl_rule, Decl_values, In_values, After_value, After_dots, Def_name, Def_close}
+use Rattle.dia_ccf.specs.Machine.{Def_assign, Head_open, In_head, HeadPlace, Head_word, Rules, Qual_min, Qual_star, Qual_done, Fixed_name, Fixed_close, Angle_name, Angle_close, After_angle}
+use Rattle.dia_ccf.specs.Machine.{Loose_name, Loose_close, next, step, whole, whole_at, on_item, on_values, on_loose, on_bracket, on_star, on_qualifier, on_rules, begins_qualifier, begins_loose}
+use Rattle.dia_ccf.specs.Machine.{add_decl, add_def, with_values, with_rule, fixed_rule, all_fixed, is_enumerated, is_none, closing_sign, head_at, next_in_head, same_sign, is_word, is_number}
+use Rattle.dia_ccf.specs.Machine.{sign_at, number_at, name_at, format_at, rule_at, slot_at, Outcome, Reads, outcome, ended, gone_on}
 use Rattle.dia_ccf.specs.Reading.{nothing_read}
 use Rattle.dia_ccf.proofs.Recognized.{slot_tokens, Is_slot, slot_at-is, both, chosen, mapped, guarded, some_is, same_sign-is, sign_at-is, name_at-is, number_at-is, word-is, format_at-is, rule_at-is}
-use Rattle.dia_ccf.proofs.Following.{Ends, ends_none, ends_more, after-source, decl_front, decl_made, Sound_decl, Values_follow, range_more, values_closed, Rules_follow, rules_end, rule_made, in_order-fixed, still_fixed, still_loose}
+use Rattle.dia_ccf.proofs.Following.{Ends, ends_none, ends_more, after-source, decl_front, decl_made, Sound_decl, Values_follow, range_more}
+use Rattle.dia_ccf.proofs.Following.{values_closed, Rules_follow, rules_end, rule_made, in_order-fixed, still_fixed, still_loose}
 use Rattle.dia_ccf.proofs.Heading.{head_rest, head_ends, head_back}
 
 -- ---- definitions
@@ -57,7 +62,8 @@ named_by text = either (one Less then name text then one Greater) (name text)
 
 def_tokens : (front rf er hs ls ts : List Token) → hs ++ Greater ∷ ls ≡ ts → ls ≡ rf ++ er → front ++ Assign ∷ Less ∷ ts ≡ (front ++ Assign ∷ Less ∷ (hs ++ Greater ∷ rf)) ++ er
 def_tokens front rf er hs ls ts e k =
-    ap (λ (f : List Token). front ++ Assign ∷ Less ∷ f) (sym e ∙ ap (λ (f : List Token). hs ++ Greater ∷ f) k ∙ sym (append_assoc hs (Greater ∷ rf) er)) ∙ sym (append_assoc front (Assign ∷ Less ∷ (hs ++ Greater ∷ rf)) er)
+    ap (λ (f : List Token). front ++ Assign ∷ Less ∷ f) (sym e ∙ ap (λ (f : List Token). hs ++ Greater ∷ f) k ∙ sym (append_assoc hs (Greater ∷ rf) er))
+    ∙ sym (append_assoc front (Assign ∷ Less ∷ (hs ++ Greater ∷ rf)) er)
 
 def_made : (done s : PlainSource) (text : List ℕ) (front ts : List Token) → named_by text front → Assign_follows done s text ts → Ends done s (front ++ ts)
 def_made done s text front ts of_name a =
@@ -100,7 +106,8 @@ angle_made : (done s : PlainSource) (ts : List Token) → Name_follows done s ts
 angle_made done s ts n =
     let c = n.closes in
     subst (λ (f : List Token). Ends done s (Less ∷ f)) (sym (n.parts ∙ ap (λ (f : List Token). Name n.text ∷ f) c.parts))
-    (def_made done s n.text (Less ∷ Name n.text ∷ Greater ∷ []) c.rest (inl (Less ∷ [], Name n.text ∷ Greater ∷ [], refl, refl, (Name n.text ∷ [], Greater ∷ [], refl, (n.named, refl), refl))) c.assigns)
+    (def_made done s n.text (Less ∷ Name n.text ∷ Greater ∷ []) c.rest
+    (inl (Less ∷ [], Name n.text ∷ Greater ∷ [], refl, refl, (Name n.text ∷ [], Greater ∷ [], refl, (n.named, refl), refl))) c.assigns)
 
 bare_made : (done s : PlainSource) (text : List ℕ) (ts : List Token) → is_name text ≡ true → Assign_follows done s text ts → Ends done s (Name text ∷ ts)
 bare_made done s text ts named a = def_made done s text (Name text ∷ []) ts (inr (named, refl)) a
@@ -180,7 +187,8 @@ nonempty : {X : Type 0} (xs : List X) → not (is_none xs) ≡ true → (x : X) 
 nonempty [] h = absurd cc
 nonempty (x ∷ xs) h = (x, xs, refl)
 
-values_back : (done s : PlainSource) (d : PlainDecl) (ranges : List (ℕ × ℕ)) (t : Token) (q : State) (ts : List Token) → on_values done d ranges t ≡ Some q → Follows_state q s ts → Values_follow done s d ranges (t ∷ ts)
+values_back : (done s : PlainSource) (d : PlainDecl) (ranges : List (ℕ × ℕ)) (t : Token) (q : State) (ts : List Token)
+    → on_values done d ranges t ≡ Some q → Follows_state q s ts → Values_follow done s d ranges (t ∷ ts)
 values_back done s d ranges t q ts h f =
     ⊎_elim (λ (e, k). (let b = both (not (is_none ranges)) (same_sign Close_parenthesis t) e in
     let r = nonempty ranges b.0 in
@@ -189,23 +197,29 @@ values_back done s d ranges t q ts h f =
     (λ (e, k). (let m = mapped (λ n. (done, After_value d ranges n)) (number_at 0 max_value t) q k in
     let n = number_at-is 0 max_value t m.0 m.1 in
     subst (λ (u : Token). Values_follow done s d ranges (u ∷ ts)) (sym n.0) (moved (done, After_value d ranges m.0) q s ts m.2 f n.2)))
-    (chosen (not (is_none ranges) && same_sign Close_parenthesis t) (Some (add_decl done (with_values d ranges), Between)) (option_map (λ n. (done, After_value d ranges n)) (number_at 0 max_value t)) (Some q) h)
+    (chosen (not (is_none ranges) && same_sign Close_parenthesis t) (Some (add_decl done (with_values d ranges), Between))
+    (option_map (λ n. (done, After_value d ranges n)) (number_at 0 max_value t)) (Some q) h)
 
-loose_back : (done s : PlainSource) (d : PlainDef) (qual : Option Qual) (t : Token) (q : State) (ts : List Token) → on_loose done d qual t ≡ Some q → Follows_state q s ts → Small_qual qual → Rules_follow done s d (qual_tokens qual ++ t ∷ ts)
+loose_back : (done s : PlainSource) (d : PlainDef) (qual : Option Qual) (t : Token) (q : State) (ts : List Token)
+    → on_loose done d qual t ≡ Some q → Follows_state q s ts → Small_qual qual → Rules_follow done s d (qual_tokens qual ++ t ∷ ts)
 loose_back done s d qual t q ts h f small =
-    ⊎_elim (λ (e, k). subst (λ (u : Token). Rules_follow done s d (qual_tokens qual ++ u ∷ ts)) (same_sign-is Open_brace t e) (moved (done, Loose_name d Required qual) q s ts (some_is (done, Loose_name d Required qual) q k) f small refl))
+    ⊎_elim (λ (e, k). subst (λ (u : Token). Rules_follow done s d (qual_tokens qual ++ u ∷ ts)) (same_sign-is Open_brace t e)
+    (moved (done, Loose_name d Required qual) q s ts (some_is (done, Loose_name d Required qual) q k) f small refl))
     (λ (e, k). (let m = mapped (λ u. (done, Loose_name d Optional qual)) (sign_at Open_bracket t) q k in
     subst (λ (u : Token). Rules_follow done s d (qual_tokens qual ++ u ∷ ts)) (sym (sign_at-is Open_bracket t m.0 m.1)) (moved (done, Loose_name d Optional qual) q s ts m.2 f small refl)))
     (chosen (same_sign Open_brace t) (Some (done, Loose_name d Required qual)) (option_map (λ u. (done, Loose_name d Optional qual)) (sign_at Open_bracket t)) (Some q) h)
 
-bracket_back : (done s : PlainSource) (d : PlainDef) (qual : Qual) (t : Token) (q : State) (ts : List Token) → on_bracket done d qual t ≡ Some q → Follows_state q s ts → Small_qual (Some qual) → Rules_follow done s d (qual_tokens (Some qual) ++ t ∷ ts)
+bracket_back : (done s : PlainSource) (d : PlainDef) (qual : Qual) (t : Token) (q : State) (ts : List Token) → on_bracket done d qual t ≡ Some q
+    → Follows_state q s ts → Small_qual (Some qual) → Rules_follow done s d (qual_tokens (Some qual) ++ t ∷ ts)
 bracket_back done s d qual t q ts h f small =
     ⊎_elim (λ (e, k). (let b = both (all_fixed d.rules) (same_sign Less t) e in
-    subst (λ (u : Token). Rules_follow done s d (qual_tokens (Some qual) ++ u ∷ ts)) (same_sign-is Less t b.1) (moved (done, Fixed_name d qual) q s ts (some_is (done, Fixed_name d qual) q k) f small b.0)))
+    subst (λ (u : Token). Rules_follow done s d (qual_tokens (Some qual) ++ u ∷ ts)) (same_sign-is Less t b.1)
+    (moved (done, Fixed_name d qual) q s ts (some_is (done, Fixed_name d qual) q k) f small b.0)))
     (λ (e, k). loose_back done s d (Some qual) t q ts k f small)
     (chosen (all_fixed d.rules && same_sign Less t) (Some (done, Fixed_name d qual)) (on_loose done d (Some qual) t) (Some q) h)
 
-star_back : (done s : PlainSource) (d : PlainDef) (min : Option ℕ) (t : Token) (q : State) (ts : List Token) → on_star done d min t ≡ Some q → Follows_state q s ts → Small_count min → Rules_follow done s d (count_tokens min ++ Star ∷ t ∷ ts)
+star_back : (done s : PlainSource) (d : PlainDef) (min : Option ℕ) (t : Token) (q : State) (ts : List Token) → on_star done d min t ≡ Some q
+    → Follows_state q s ts → Small_count min → Rules_follow done s d (count_tokens min ++ Star ∷ t ∷ ts)
 star_back done s d min t q ts h f small =
     ⊎_elim (λ (e, k). (let m = mapped (λ n. (done, Qual_done d (record { min = min; max = Some n }))) (number_at 0 max_number t) q k in
     let n = number_at-is 0 max_number t m.0 m.1 in
@@ -256,11 +270,13 @@ fixed_made : (text : List ℕ) (qual : Option Qual) → is_name text ≡ true �
 fixed_made text qual named small =
     (qual_tokens qual, Less ∷ Name text ∷ Greater ∷ [], refl, qual_made qual small, (Less ∷ [], Name text ∷ Greater ∷ [], refl, refl, (Name text ∷ [], Greater ∷ [], refl, (named, refl), refl)))
 
-fixed_back : (done s : PlainSource) (d : PlainDef) (text : List ℕ) (qual : Option Qual) (ts : List Token) → is_name text ≡ true → Small_qual qual → all_fixed d.rules ≡ true → Rules_follow done s (with_rule d (fixed_rule text qual)) ts
+fixed_back : (done s : PlainSource) (d : PlainDef) (text : List ℕ) (qual : Option Qual) (ts : List Token) → is_name text ≡ true
+    → Small_qual qual → all_fixed d.rules ≡ true → Rules_follow done s (with_rule d (fixed_rule text qual)) ts
     → Rules_follow done s d (qual_tokens qual ++ Less ∷ Name text ∷ Greater ∷ ts)
 fixed_back done s d text qual ts named small fixed f =
     subst (Rules_follow done s d) (append_assoc (qual_tokens qual) (Less ∷ Name text ∷ Greater ∷ []) ts)
-    (rule_made done s d (fixed_rule text qual) (qual_tokens qual ++ Less ∷ Name text ∷ Greater ∷ []) ts (fixed_made text qual named small) (λ ordered. still_fixed d.rules (fixed_rule text qual) fixed refl) f)
+    (rule_made done s d (fixed_rule text qual) (qual_tokens qual ++ Less ∷ Name text ∷ Greater ∷ []) ts
+    (fixed_made text qual named small) (λ ordered. still_fixed d.rules (fixed_rule text qual) fixed refl) f)
 
 close_tokens : (a b ts : List Token) (o c : Token) → (a ++ o ∷ (b ++ c ∷ [])) ++ ts ≡ a ++ o ∷ (b ++ c ∷ ts)
 close_tokens a b ts o c = append_assoc a (o ∷ (b ++ c ∷ [])) ts ∙ ap (λ (f : List Token). a ++ o ∷ f) (append_assoc b (c ∷ []) ts)
@@ -279,9 +295,11 @@ enumerated : (f : FormatName) → is_enumerated f ≡ true → f ≡ format.Enum
 enumerated format.Enumerated h = refl
 enumerated f h = absurd cc
 
-vendor_back : (done s : PlainSource) (n : List ℕ) (c : ℕ) (t : Token) (q : State) (ts : List Token) → step done (Decl_vendor n c) t ≡ Some q → Follows_state q s ts → Follows done (Decl_vendor n c) s (t ∷ ts)
+vendor_back : (done s : PlainSource) (n : List ℕ) (c : ℕ) (t : Token) (q : State) (ts : List Token)
+    → step done (Decl_vendor n c) t ≡ Some q → Follows_state q s ts → Follows done (Decl_vendor n c) s (t ∷ ts)
 vendor_back done s n c t q ts h f named small =
-    ⊎_elim (λ (e, k). subst (λ (u : Token). Ends done s (Declares ∷ Name n ∷ Number c ∷ u ∷ ts)) (sym (word-is (codes "vendor") t e)) (moved (done, Decl_number n c) q s ts (some_is (done, Decl_number n c) q k) f named small))
+    ⊎_elim (λ (e, k). subst (λ (u : Token). Ends done s (Declares ∷ Name n ∷ Number c ∷ u ∷ ts)) (sym (word-is (codes "vendor") t e))
+    (moved (done, Decl_number n c) q s ts (some_is (done, Decl_number n c) q k) f named small))
     (λ (e, k). (let m = mapped (λ v. (done, Decl_rule n c 0 v)) (format_at t) q k in
     subst (λ (u : Token). Ends done s (Declares ∷ Name n ∷ Number c ∷ u ∷ ts)) (sym (format_at-is t m.0 m.1)) (moved (done, Decl_rule n c 0 m.0) q s ts m.2 f named small [] (inl (refl, refl)))))
     (chosen (is_word (codes "vendor") t) (Some (done, Decl_number n c)) (option_map (λ v. (done, Decl_rule n c 0 v)) (format_at t)) (Some q) h)
@@ -297,13 +315,16 @@ list_back done s d t q ts h f sound vs of_vendor =
     (λ (e, k). decl_made done s d vs [] (t ∷ ts) sound.named sound.small of_vendor (none_values d.format d.values sound.unlisted) (item_back (add_decl done d) s t q ts k f))
     (chosen (is_enumerated d.format && same_sign Open_parenthesis t) (Some (done, In_values d [])) (on_item (add_decl done d) t) (Some q) h)
 
-range_back : (done s : PlainSource) (d : PlainDecl) (ranges : List (ℕ × ℕ)) (n : ℕ) (t : Token) (q : State) (ts : List Token) → step done (After_value d ranges n) t ≡ Some q → Follows_state q s ts → Follows done (After_value d ranges n) s (t ∷ ts)
+range_back : (done s : PlainSource) (d : PlainDecl) (ranges : List (ℕ × ℕ)) (n : ℕ) (t : Token) (q : State) (ts : List Token)
+    → step done (After_value d ranges n) t ≡ Some q → Follows_state q s ts → Follows done (After_value d ranges n) s (t ∷ ts)
 range_back done s d ranges n t q ts h f small =
-    ⊎_elim (λ (e, k). subst (λ (u : Token). Values_follow done s d ranges (Number n ∷ u ∷ ts)) (same_sign-is Dots t e) (moved (done, After_dots d ranges n) q s ts (some_is (done, After_dots d ranges n) q k) f small))
+    ⊎_elim (λ (e, k). subst (λ (u : Token). Values_follow done s d ranges (Number n ∷ u ∷ ts)) (same_sign-is Dots t e)
+    (moved (done, After_dots d ranges n) q s ts (some_is (done, After_dots d ranges n) q k) f small))
     (λ (e, k). range_more done s d ranges (n, n) (Number n ∷ []) (t ∷ ts) (omega arith, inl (refl, (small, refl))) (values_back done s d (ranges ++ (n, n) ∷ []) t q ts k f))
     (chosen (same_sign Dots t) (Some (done, After_dots d ranges n)) (on_values done d (ranges ++ (n, n) ∷ []) t) (Some q) h)
 
-head_step : (done s : PlainSource) (n : List ℕ) (at : HeadPlace) (t : Token) (q : State) (ts : List Token) → step done (In_head n at) t ≡ Some q → Follows_state q s ts → Follows done (In_head n at) s (t ∷ ts)
+head_step : (done s : PlainSource) (n : List ℕ) (at : HeadPlace) (t : Token) (q : State) (ts : List Token)
+    → step done (In_head n at) t ≡ Some q → Follows_state q s ts → Follows done (In_head n at) s (t ∷ ts)
 head_step done s n at t q ts h f =
     ⊎_elim (λ (e, k). (let m = mapped (λ h. (done, Rules (record { name = n; head = h; rules = [] }))) (head_at at) q k in
     record {
@@ -319,11 +340,22 @@ head_step done s n at t q ts h f =
     record { head = r.head; front = t ∷ r.front; rest = r.rest; parts = ap (λ (us : List Token). t ∷ us) r.parts; heads = head_back at t m.0 r.head r.front m.1 r.heads; rules = r.rules }))
     (chosen (same_sign Greater t) (option_map (λ h. (done, Rules (record { name = n; head = h; rules = [] }))) (head_at at)) (option_map (λ to. (done, In_head n to)) (next_in_head at t)) (Some q) h)
 
-angle_step : (done s : PlainSource) (d : PlainDef) (n : List ℕ) (t : Token) (q : State) (ts : List Token) → step done (After_angle d n) t ≡ Some q → Follows_state q s ts → Follows done (After_angle d n) s (t ∷ ts)
+angle_step : (done s : PlainSource) (d : PlainDef) (n : List ℕ) (t : Token) (q : State) (ts : List Token)
+    → step done (After_angle d n) t ≡ Some q → Follows_state q s ts → Follows done (After_angle d n) s (t ∷ ts)
 angle_step done s d n t q ts h f named =
     ⊎_elim (λ (e, k). subst (λ (u : Token). Rules_follow done s d (Less ∷ Name n ∷ Greater ∷ u ∷ ts)) (same_sign-is Assign t e)
     (rules_end done s d (Less ∷ Name n ∷ Greater ∷ Assign ∷ ts) (angle_made (add_def done d) s (Name n ∷ Greater ∷ Assign ∷ ts)
-    (record { text = n; rest = Greater ∷ Assign ∷ ts; parts = refl; named = named; closes = record { rest = Assign ∷ ts; parts = refl; assigns = record { rest = ts; parts = refl; opens = moved (add_def done d, Head_open n) q s ts (some_is (add_def done d, Head_open n) q k) f } } }))))
+    (record {
+      text = n;
+      rest = Greater ∷ Assign ∷ ts;
+      parts = refl;
+      named = named;
+      closes = record {
+        rest = Assign ∷ ts;
+        parts = refl;
+        assigns = record { rest = ts; parts = refl; opens = moved (add_def done d, Head_open n) q s ts (some_is (add_def done d, Head_open n) q k) f };
+      };
+    }))))
     (λ (e, k). ⊎_elim (λ (fixed, k2). fixed_back done s d n None (t ∷ ts) named tt fixed (rules_back done s (with_rule d (fixed_rule n None)) t q ts k2 f))
     (λ (loose, k2). absurd cc)
     (chosen (all_fixed d.rules) (on_rules done (with_rule d (fixed_rule n None)) t) None (Some q) k))
@@ -413,12 +445,14 @@ step_back done (Loose_close d r) s t q ts h f = λ small free named.
 angle_ends : (done s : PlainSource) (d : PlainDef) (n : List ℕ) → whole_at done (After_angle d n) ≡ Some s → is_name n ≡ true → Rules_follow done s d (Less ∷ Name n ∷ Greater ∷ [])
 angle_ends done s d n h named =
     let g = guarded (all_fixed d.rules) (add_def done (with_rule d (fixed_rule n None))) s h in
-    fixed_back done s d n None [] named tt g.0 (rules_end done s (with_rule d (fixed_rule n None)) [] (subst (λ (x : PlainSource). Ends (add_def done (with_rule d (fixed_rule n None))) x []) g.1 (ends_none (add_def done (with_rule d (fixed_rule n None))))))
+    fixed_back done s d n None [] named tt g.0 (rules_end done s (with_rule d (fixed_rule n None)) []
+    (subst (λ (x : PlainSource). Ends (add_def done (with_rule d (fixed_rule n None))) x []) g.1 (ends_none (add_def done (with_rule d (fixed_rule n None))))))
 
 ends_at : (done : PlainSource) (p : Place) (s : PlainSource) → whole_at done p ≡ Some s → Follows done p s []
 ends_at done Between s h = subst (λ (x : PlainSource). Ends done x []) (some_is done s h) (ends_none done)
 ends_at done (Decl_values d) s h = λ sound vs of_vendor.
-    decl_made done s d vs [] [] sound.named sound.small of_vendor (none_values d.format d.values sound.unlisted) (subst (λ (x : PlainSource). Ends (add_decl done d) x []) (some_is (add_decl done d) s h) (ends_none (add_decl done d)))
+    decl_made done s d vs [] [] sound.named sound.small of_vendor (none_values d.format d.values sound.unlisted)
+    (subst (λ (x : PlainSource). Ends (add_decl done d) x []) (some_is (add_decl done d) s h) (ends_none (add_decl done d)))
 ends_at done (Rules d) s h = rules_end done s d [] (subst (λ (x : PlainSource). Ends (add_def done d) x []) (some_is (add_def done d) s h) (ends_none (add_def done d)))
 ends_at done (After_angle d n) s h = angle_ends done s d n h
 ends_at done p s h = absurd cc
@@ -427,7 +461,8 @@ ended_at : (o : Option PlainSource) (s : PlainSource) → ended o ≡ Reads s �
 ended_at None s h = absurd cc
 ended_at (Some x) s h = cc
 
-read_on : (o : Option State) (stopped : Outcome) (on : State → Outcome) (s : PlainSource) → gone_on o stopped on ≡ Reads s → ((x : PlainSource) → stopped ≡ Reads x → ⊥) → (q : State) × (o ≡ Some q) × (on q ≡ Reads s)
+read_on : (o : Option State) (stopped : Outcome) (on : State → Outcome) (s : PlainSource) → gone_on o stopped on ≡ Reads s
+    → ((x : PlainSource) → stopped ≡ Reads x → ⊥) → (q : State) × (o ≡ Some q) × (on q ≡ Reads s)
 read_on None stopped on s h never = absurd (never s h)
 read_on (Some q) stopped on s h never = (q, refl, h)
 

@@ -1,7 +1,8 @@
 -- The piece at the front of a text, one test after the other.
 use Rattle.std.specs.Prelude.{ℕ, ◌+◌, Bool, false, ◌||◌, ◌==◌, if◌then◌else◌, List, [], ◌∷◌, length, Option, Some, None, take_while}
 use Rattle.dia_ccf.specs.Names.{is_run_byte}
-use Rattle.dia_ccf.specs.Tokens.{Piece, Less, Greater, Open_brace, Close_brace, Open_bracket, Close_bracket, Open_parenthesis, Close_parenthesis, Star, Comma, Colon, Other, is_white, sign, run_token, piece}
+use Rattle.dia_ccf.specs.Tokens.{Piece, Less, Greater, Open_brace, Close_brace, Open_bracket, Close_bracket, Open_parenthesis}
+use Rattle.dia_ccf.specs.Tokens.{Close_parenthesis, Star, Comma, Colon, Other, is_white, sign, run_token, piece}
 
 -- the piece at the front, if the text is not empty
 abbrev pub front : List ℕ → Option Piece

@@ -17,7 +17,8 @@ use Rattle.dia_ccf.specs.declared.source.Qual.{Qual}
 use Rattle.dia_ccf.specs.Limits.{max_number, max_command_code, max_value}
 use Rattle.dia_ccf.specs.Names.{is_name}
 use Rattle.dia_ccf.specs.Plain.{PlainDecl, PlainRule, PlainDef, PlainSource}
-use Rattle.dia_ccf.specs.Tokens.{Token, Less, Greater, Open_brace, Close_brace, Open_bracket, Close_bracket, Open_parenthesis, Close_parenthesis, Star, Comma, Dots, Assign, Colon, Declares, Number, Name}
+use Rattle.dia_ccf.specs.Tokens.{Token, Less, Greater, Open_brace, Close_brace, Open_bracket, Close_bracket, Open_parenthesis}
+use Rattle.dia_ccf.specs.Tokens.{Close_parenthesis, Star, Comma, Dots, Assign, Colon, Declares, Number, Name}
 
 abbrev pub Tokens : Type 1
 Tokens = List Token → Type 0

@@ -6,7 +6,8 @@ use Rattle.dia_ccf.specs.declared.lexer.Token.TheVariants as lexer
 use Rattle.dia_ccf.specs.declared.lexer.Sign.{Sign}
 use Rattle.dia_ccf.specs.declared.lexer.Sign.TheVariants as signs
 use Rattle.dia_ccf.specs.declared.lexer.Lexed.{Lexed}
-use Rattle.dia_ccf.specs.Tokens.{Token, Less, Greater, Open_brace, Close_brace, Open_bracket, Close_bracket, Open_parenthesis, Close_parenthesis, Star, Comma, Dots, Assign, Colon, Declares, Number, Name, Other, Placed, tokens_after}
+use Rattle.dia_ccf.specs.Tokens.{Token, Less, Greater, Open_brace, Close_brace, Open_bracket, Close_bracket, Open_parenthesis, Close_parenthesis}
+use Rattle.dia_ccf.specs.Tokens.{Star, Comma, Dots, Assign, Colon, Declares, Number, Name, Other, Placed, tokens_after}
 
 -- a number above the limit counts as the first such number
 abbrev pub capped : Token → Token

@@ -18,7 +18,8 @@ use Rattle.dia_ccf.specs.declared.reading.reasons.Refusal.{Refusal}
 use Rattle.dia_ccf.specs.declared.reading.reasons.Refusal.TheVariants as refusal
 use Rattle.dia_ccf.specs.Names.{is_name, is_fixed, same_bytes}
 use Rattle.dia_ccf.specs.Plain.{PlainDecl, PlainRule, PlainDef, PlainSource}
-use Rattle.dia_ccf.specs.Tokens.{Token, Less, Greater, Open_brace, Close_brace, Open_bracket, Close_bracket, Open_parenthesis, Close_parenthesis, Star, Comma, Dots, Assign, Colon, Declares, Number, Name}
+use Rattle.dia_ccf.specs.Tokens.{Token, Less, Greater, Open_brace, Close_brace, Open_bracket, Close_bracket, Open_parenthesis}
+use Rattle.dia_ccf.specs.Tokens.{Close_parenthesis, Star, Comma, Dots, Assign, Colon, Declares, Number, Name}
 use Rattle.dia_ccf.specs.Grammar.{format_word, rule_word}
 use Rattle.dia_ccf.specs.Limits.{max_name, max_number, max_command_code, max_value}
 

@@ -26,7 +26,8 @@ abbrev pub vendor_text : ℕ → List ℕ
 vendor_text vendor = if vendor == 0 then [] else codes " vendor " ++ decimal vendor
 
 abbrev pub declaration_line : PlainDecl → List ℕ
-declaration_line d = codes "%avp " ++ d.name ++ codes " " ++ decimal d.code ++ vendor_text d.vendor ++ codes " " ++ format_word d.format ++ codes " " ++ rule_word d.rule ++ values_text d.values ++ line_feed
+declaration_line d = codes "%avp " ++ d.name ++ codes " " ++ decimal d.code ++ vendor_text d.vendor ++ codes " "
+    ++ format_word d.format ++ codes " " ++ rule_word d.rule ++ values_text d.values ++ line_feed
 
 abbrev pub flag_text : Bool → List ℕ → List ℕ
 flag_text true text = text

@@ -1,5 +1,6 @@
 //! The tokens of a dictionary text.
-ghost use Rattle.std.specs.Prelude.{◌≡◌, ◌≤◌, ◌<◌, ◌+◌, ◌==◌, ◌↔◌, ℕ, not, false, true, List, [], length, drop, MatchOption, IfSome, IsNone, None, Some};
+ghost use Rattle.std.specs.Prelude.{◌≡◌, ◌≤◌, ◌<◌, ◌+◌, ◌==◌, ◌↔◌, ℕ, not, false, true, List, []};
+ghost use Rattle.std.specs.Prelude.{length, drop, MatchOption, IfSome, IsNone, None, Some};
 ghost use Rattle.std.specs.List.{prefix_len, list_all, list_any};
 ghost use Rattle.std.specs.Char.{is_ascii_digit, is_ascii_alphabetic};
 ghost use Rattle.std.specs.Str.Parse.{digits_value};
@@ -109,7 +110,8 @@ fn comment_len(bytes: &[u8]) -> usize
 fn token_at(text: &str, at: usize) -> (Token<'_>, usize)
     requires within { at < length text.now }
     requires begins { begins_blank (drop at text.now) ≡ false }
-    ensures token { (token : AnyToken) × (capped token ≡ shown result.0) × (front (drop at text.now) ≡ Some (sign token result.1)) }
+    ensures token { (token : AnyToken) × (capped token ≡ shown result.0)
+        × (front (drop at text.now) ≡ Some (sign token result.1)) }
     ensures long { 0 < result.1 }
     ensures within { at + result.1 ≤ length text.now }
 {
@@ -147,7 +149,8 @@ fn sign_at_front(bytes: &[u8]) -> Option<(Sign, usize)>
 
 /// The sign that a byte is.
 fn sign_of(b: u8) -> Option<Sign>
-    ensures { MatchOption result ((rest : List ℕ) → byte_piece b rest ≡ run_piece b rest) (λ found. (rest : List ℕ) → byte_piece b rest ≡ sign (shown_sign found) 1) }
+    ensures { MatchOption result ((rest : List ℕ) → byte_piece b rest ≡ run_piece b rest) (λ found. (rest : List ℕ)
+        → byte_piece b rest ≡ sign (shown_sign found) 1) }
 {
     let sign = match b {
         b':' => Sign::Colon,

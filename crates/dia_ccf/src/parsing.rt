@@ -24,7 +24,8 @@ pub fn parse(alloc: Global, text: &str) -> Result<Source, CcfFault>
     // What is read is derived from the text's tokens.
     ensures found { IfOk result (λ source. Derives (tokens text.now) (plain source)) }
     // No other source is, and one that is derived is read, unless memory runs out.
-    ensures only { (source : PlainSource) → length text.now ≤ max_text → Derives (tokens text.now) source → MatchResult result (λ found. plain found ≡ source) (λ e. e ≡ CcfFault.NoMemory) }
+    ensures only { (source : PlainSource) → length text.now ≤ max_text → Derives (tokens text.now) source
+        → MatchResult result (λ found. plain found ≡ source) (λ e. e ≡ CcfFault.NoMemory) }
 
     ensures too_long { max_text < length text.now → result ≡ Err (CcfFault.Limit 0) }
     ensures fault { length text.now ≤ max_text → IfErr result (IsFault text.now) }
@@ -41,7 +42,8 @@ pub fn parse(alloc: Global, text: &str) -> Result<Source, CcfFault>
 
 /// A text has one fault at most, so that `parse` can tell no other.
 pub fn one_fault()
-    ensures { (text : List ℕ) (a b : AnyFault) → IsFault text a → IsFault text b → ¬ (a ≡ CcfFault.NoMemory) → ¬ (b ≡ CcfFault.NoMemory) → a ≡ b }
+    ensures { (text : List ℕ) (a b : AnyFault) → IsFault text a → IsFault text b
+        → ¬ (a ≡ CcfFault.NoMemory) → ¬ (b ≡ CcfFault.NoMemory) → a ≡ b }
 {}
 
 /// No tokens are derived for two sources.

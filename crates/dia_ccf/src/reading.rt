@@ -47,7 +47,8 @@ pub(crate) struct Reader<'a> {
 impl<'a> Reader<'a> {
     ghost use Rattle.std.specs.Prelude.{true, false, IsSome, string_bytes};
     ghost use Rattle.dia_ccf.specs.Lexing.{shown_sign};
-    ghost use Rattle.dia_ccf.specs.Machine.{Between, same_sign, is_word, is_keyword, is_number, number_at, name_at, sign_at, keyword_at};
+    ghost use Rattle.dia_ccf.specs.Machine.{Between, same_sign, is_word, is_keyword, is_number};
+    ghost use Rattle.dia_ccf.specs.Machine.{number_at, name_at, sign_at, keyword_at};
     ghost use Rattle.dia_ccf.specs.Reading.{left, Passes, Takes, Accepts, Finishes, IsToldAt, course, begins_with, nothing_read};
 
     /// A reader that stands at the first token.

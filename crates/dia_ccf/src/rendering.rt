@@ -6,7 +6,9 @@ ghost use Rattle.std.specs.Fmt.{decimal};
 ghost use Rattle.dia_ccf.specs.Plain.{plain, plain_decl, plain_rule, plain_def};
 ghost use Rattle.dia_ccf.specs.Tokens.{tokens};
 ghost use Rattle.dia_ccf.specs.Grammar.{Derives, format_word, rule_word};
-ghost use Rattle.dia_ccf.specs.Rendering.{canonical, declaration_line, vendor_text, values_text, range_text, definition_lines, head_text, flag_text, application_text, error_proxy_text, rule_line, qualifier_text, count_text, bracketed_text};
+ghost use Rattle.dia_ccf.specs.Rendering.{canonical, declaration_line, vendor_text, values_text, range_text, definition_lines};
+ghost use Rattle.dia_ccf.specs.Rendering.{head_text, flag_text, application_text, error_proxy_text, rule_line, qualifier_text};
+ghost use Rattle.dia_ccf.specs.Rendering.{count_text, bracketed_text};
 
 use crate::source::{Decl, Def, Head, Pxy, Qual, Rule, RuleKind, Source};
 use crate::words::{format_name, rule_name};
@@ -29,7 +31,8 @@ pub fn render(alloc: Global, source: &Source) -> Result<String, AllocError>
 }
 
 fn put_declarations(text: &mut String, decls: &[Decl]) -> Result<(), AllocError>
-    ensures { OnOk result (string_bytes text.new ≡ string_bytes text.old ++ flat_map declaration_line (map plain_decl decls.now)) }
+    ensures { OnOk result (string_bytes text.new ≡ string_bytes text.old
+        ++ flat_map declaration_line (map plain_decl decls.now)) }
 {
     for decl in decls {
         put_declaration(text, decl)?;
@@ -46,14 +49,16 @@ fn put_declaration(text: &mut String, decl: &Decl) -> Result<(), AllocError>
 }
 
 fn put_key(text: &mut String, decl: &Decl) -> Result<(), AllocError>
-    ensures { OnOk result (string_bytes text.new ≡ string_bytes text.old ++ (codes "%avp " ++ string_bytes decl.now.name ++ codes " " ++ decimal decl.now.code ++ vendor_text decl.now.vendor)) }
+    ensures { OnOk result (string_bytes text.new ≡ string_bytes text.old
+        ++ (codes "%avp " ++ string_bytes decl.now.name ++ codes " " ++ decimal decl.now.code ++ vendor_text decl.now.vendor)) }
 {
     write!(text, "%avp {} {}", decl.name, decl.code)?;
     put_vendor(text, decl.vendor)
 }
 
 fn put_type(text: &mut String, decl: &Decl) -> Result<(), AllocError>
-    ensures { OnOk result (string_bytes text.new ≡ string_bytes text.old ++ (codes " " ++ format_word decl.now.format ++ codes " " ++ rule_word decl.now.rule ++ values_text (plain_decl decl.now).values)) }
+    ensures { OnOk result (string_bytes text.new ≡ string_bytes text.old
+        ++ (codes " " ++ format_word decl.now.format ++ codes " " ++ rule_word decl.now.rule ++ values_text (plain_decl decl.now).values)) }
 {
     write!(
         text,
@@ -85,7 +90,8 @@ fn put_values(text: &mut String, decl: &Decl) -> Result<(), AllocError>
 }
 
 fn put_ranges(text: &mut String, ranges: &[(u32, u32)]) -> Result<(), AllocError>
-    ensures { OnOk result (string_bytes text.new ≡ string_bytes text.old ++ flat_map (λ r. range_text r ++ codes " ") ranges.now) }
+    ensures { OnOk result (string_bytes text.new ≡ string_bytes text.old
+        ++ flat_map (λ r. range_text r ++ codes " ") ranges.now) }
 {
     for range in ranges {
         put_range(text, *range)?;
@@ -146,7 +152,8 @@ fn put_head(text: &mut String, head: Head) -> Result<(), AllocError>
 }
 
 fn put_group_vendor(text: &mut String, vendor: u32) -> Result<(), AllocError>
-    ensures { OnOk result (string_bytes text.new ≡ string_bytes text.old ++ (if vendor == 0 then [] else codes " " ++ decimal vendor)) }
+    ensures { OnOk result (string_bytes text.new ≡ string_bytes text.old
+        ++ (if vendor == 0 then [] else codes " " ++ decimal vendor)) }
 {
     if vendor == 0 {
         return Ok(());

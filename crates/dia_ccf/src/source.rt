@@ -1,7 +1,8 @@
 //! What a dictionary text says.
 ghost use Rattle.std.specs.Prelude.{◌&&◌, IsTrue, not, map, string_bytes};
 ghost use Rattle.std.specs.List.{list_all};
-ghost use Rattle.dia_ccf.specs.Names.{is_name, is_rule_name, is_number, is_qualifier, fits_values, is_head, fixed_first, is_group};
+ghost use Rattle.dia_ccf.specs.Names.{is_name, is_rule_name, is_number, is_qualifier};
+ghost use Rattle.dia_ccf.specs.Names.{fits_values, is_head, fixed_first, is_group};
 
 /// The formats by their names (RFC 6733 sections 4.2 and 4.3, and QoSFilterRule of RFC 3588 section 4.3).
 #[derive(Clone, Copy, Debug, PartialEq, Eq)]

@@ -12,7 +12,8 @@ graphic_behind : (bytes piece : List ℕ) → All IsGraphic (bytes ++ piece) →
 graphic_behind bytes piece all = subst (All IsGraphic) (drop-append_seam bytes piece) (All-drop IsGraphic (length bytes) (bytes ++ piece) all)
 
 -- all are graphic where those before and those of the piece are
-pub graphic_fed : (before of_piece after : Bool) (bytes piece : List ℕ) → (IsTrue before ↔ All IsGraphic bytes) → before ≡ true → (IsTrue of_piece ↔ All IsGraphic piece) → after ≡ of_piece → IsTrue after ↔ All IsGraphic (bytes ++ piece)
+pub graphic_fed : (before of_piece after : Bool) (bytes piece : List ℕ) → (IsTrue before ↔ All IsGraphic bytes) → before ≡ true
+    → (IsTrue of_piece ↔ All IsGraphic piece) → after ≡ of_piece → IsTrue after ↔ All IsGraphic (bytes ++ piece)
 graphic_fed before of_piece after bytes piece was t of_it is =
     (λ u. All-append IsGraphic bytes piece (was.0 (search rules)) (of_it.0 (search rules)), λ all. let w = of_it.1 (graphic_behind bytes piece all) in search rules)
 

@@ -26,7 +26,8 @@ take_two : (bytes : List ℕ) (i : ℕ) → 2 * i + 1 < length bytes → take (2
 take_two bytes i lt =
     let n : 2 * (i + 1) ≡ 2 * i + 1 + 1 = omega arith in
     let b : ℕ = get_or bytes (2 * i + 1) 0 in
-    ap (λ (k : ℕ). take k bytes) n ∙ take_more bytes (2 * i + 1) 0 lt ∙ ap (λ (f : List ℕ). f ++ b ∷ []) (take_more bytes (2 * i) 0 (omega arith)) ∙ append_assoc (take (2 * i) bytes) (get_or bytes (2 * i) 0 ∷ []) (b ∷ [])
+    ap (λ (k : ℕ). take k bytes) n ∙ take_more bytes (2 * i + 1) 0 lt ∙ ap (λ (f : List ℕ). f ++ b ∷ []) (take_more bytes (2 * i) 0 (omega arith))
+    ∙ append_assoc (take (2 * i) bytes) (get_or bytes (2 * i) 0 ∷ []) (b ∷ [])
 
 -- the groups of the first i pairs of bytes
 abbrev pub grouped : List ℕ → ℕ → List ℕ
@@ -38,12 +39,14 @@ grouped_once (a ∷ []) lt = absurd (omega arith)
 grouped_once (a ∷ b ∷ bytes) lt = refl
 
 -- the first group stands alone
-pub grouped_first : (bytes : List ℕ) (i : ℕ) → i ≡ 0 → 2 * i + 1 < length bytes → (grouped bytes i ++ hex_byte (get_or bytes (2 * i) 0)) ++ hex_byte (get_or bytes (2 * i + 1) 0) ≡ grouped bytes (i + 1)
+pub grouped_first : (bytes : List ℕ) (i : ℕ) → i ≡ 0 → 2 * i + 1 < length bytes
+    → (grouped bytes i ++ hex_byte (get_or bytes (2 * i) 0)) ++ hex_byte (get_or bytes (2 * i + 1) 0) ≡ grouped bytes (i + 1)
 grouped_first bytes i zero_ lt =
     subst (λ (k : ℕ). (grouped bytes k ++ hex_byte (get_or bytes (2 * k) 0)) ++ hex_byte (get_or bytes (2 * k + 1) 0) ≡ grouped bytes (k + 1)) (sym zero_) (grouped_once bytes (omega arith))
 
 -- each later one stands behind a colon
-pub grouped_more : (bytes : List ℕ) (i : ℕ) → 0 < i → 2 * i + 1 < length bytes → ((grouped bytes i ++ 58 ∷ []) ++ hex_byte (get_or bytes (2 * i) 0)) ++ hex_byte (get_or bytes (2 * i + 1) 0) ≡ grouped bytes (i + 1)
+pub grouped_more : (bytes : List ℕ) (i : ℕ) → 0 < i → 2 * i + 1 < length bytes
+    → ((grouped bytes i ++ 58 ∷ []) ++ hex_byte (get_or bytes (2 * i) 0)) ++ hex_byte (get_or bytes (2 * i + 1) 0) ≡ grouped bytes (i + 1)
 grouped_more bytes i some lt =
     let a : List ℕ = hex_byte (get_or bytes (2 * i) 0) in
     let b : List ℕ = hex_byte (get_or bytes (2 * i + 1) 0) in

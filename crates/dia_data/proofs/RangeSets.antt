@@ -92,7 +92,8 @@ AreApart-more rs r x apart some past = AreApart-push (rs ++ r ∷ []) x apart so
 
 -- a range that goes on where the last one ends
 pub AreApart-grown : (rs : List (ℕ × ℕ)) (first last high : ℕ) → AreApart (rs ++ (first, last) ∷ []) → AreApart (rs ++ (first, max last high) ∷ [])
-AreApart-grown rs first last high apart = AreApart-push rs (first, max last high) (AreApart-front rs (first, last) apart) (omega (arith, AreApart-last rs (first, last) apart)) (AreApart-before rs (first, last) apart)
+AreApart-grown rs first last high apart = AreApart-push rs (first, max last high) (AreApart-front rs (first, last) apart)
+    (omega (arith, AreApart-last rs (first, last) apart)) (AreApart-before rs (first, last) apart)
 
 pub later_grown : (rs : List (ℕ × ℕ)) (first last high low : ℕ) → All (λ r. r.0 ≤ low) (rs ++ (first, last) ∷ []) → All (λ r. r.0 ≤ low) (rs ++ (first, max last high) ∷ [])
 later_grown rs first last high low all = All-push (λ (r : ℕ × ℕ). r.0 ≤ low) rs (first, max last high)
@@ -226,7 +227,8 @@ same_any set list same n = (
   λ a. (any_within n set).0 (same n ∙ (any_within n list).1 a),
 )
 
-pub values_below : (set list set' list' : List (ℕ × ℕ)) (below : Bool) → HoldSame set list → HoldSame set' list' → IsTrue below ↔ RangesBelow set set' → IsTrue below ↔ ValuesBelow (Some list) (Some list')
+pub values_below : (set list set' list' : List (ℕ × ℕ)) (below : Bool) → HoldSame set list → HoldSame set' list'
+    → IsTrue below ↔ RangesBelow set set' → IsTrue below ↔ ValuesBelow (Some list) (Some list')
 values_below set list set' list' below same same' is = (
   λ t. inr (refl, λ n listed. (same_any set' list' same' n).0 (is.0 t n ((same_any set list same n).1 listed))),
   λ h. ⊎_elim (λ none. absurd cc) (λ each. is.1 (λ n any. (same_any set' list' same' n).1 (each.1 n ((same_any set list same n).0 any)))) h,

@@ -39,7 +39,8 @@ IsSeenOfText-past t pending bytes piece n seen most front held rest =
     take-take n 4 (pending ++ piece) most ∙ ap (λ (m : ℕ). take m (pending ++ piece)) (let e : n ≡ length pending + k = omega arith in e) ∙ take-append-add pending piece k in
     let whole : IsUtf8 (seen.whole ++ (pending ++ take k piece)) = IsUtf8-append seen.whole _ seen.text (subst IsUtf8 joined front) in
     let parts : (seen.whole ++ (pending ++ take k piece)) ++ drop k piece ≡ bytes ++ piece =
-    ap (λ (f : List ℕ). f ++ drop k piece) (sym (append_assoc seen.whole pending (take k piece)) ∙ ap (λ (f : List ℕ). f ++ take k piece) (sym seen.parts)) ∙ append_assoc bytes (take k piece) (drop k piece) ∙ ap (λ (r : List ℕ). bytes ++ r) (take-append-drop k piece) in
+    ap (λ (f : List ℕ). f ++ drop k piece) (sym (append_assoc seen.whole pending (take k piece)) ∙ ap (λ (f : List ℕ). f ++ take k piece) (sym seen.parts))
+    ∙ append_assoc bytes (take k piece) (drop k piece) ∙ ap (λ (r : List ℕ). bytes ++ r) (take-append-drop k piece) in
     subst (IsSeenOfText t) parts (IsSeenOfText-behind t _ (drop k piece) whole rest)
 
 -- a piece with which they begin none

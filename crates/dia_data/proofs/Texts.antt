@@ -27,7 +27,8 @@ StartsWithNoChar-empty bs empty c rest s e = omega (arith, ap length e, length-a
 -- no character begins what is behind the longest front that is a text
 pub StartsWithNoChar-behind : (bs : List ℕ) (n : ℕ) → IsValidUpTo bs n → StartsWithNoChar (drop n bs)
 StartsWithNoChar-behind bs n v c rest s e =
-    let more : take (n + length (encode_utf8 c)) bs ≡ take n bs ++ encode_utf8 c = take-add n (length (encode_utf8 c)) bs ∙ ap (λ (r : List ℕ). take n bs ++ take (length (encode_utf8 c)) r) e ∙ ap (λ (r : List ℕ). take n bs ++ r) (take-append_seam (encode_utf8 c) rest) in
+    let more : take (n + length (encode_utf8 c)) bs ≡ take n bs ++ encode_utf8 c = take-add n (length (encode_utf8 c)) bs
+    ∙ ap (λ (r : List ℕ). take n bs ++ take (length (encode_utf8 c)) r) e ∙ ap (λ (r : List ℕ). take n bs ++ r) (take-append_seam (encode_utf8 c) rest) in
     v.longest (n + length (encode_utf8 c)) (omega (arith, length-encode c, len_utf8_bounds c)) (subst IsUtf8 (sym more) (IsUtf8-append (take n bs) (encode_utf8 c) v.front (IsUtf8-encode c s)))
 
 StartsWithNoChar-take : (n : ℕ) (bs : List ℕ) → StartsWithNoChar bs → StartsWithNoChar (take n bs)

@@ -8,7 +8,7 @@ use Rattle.dia_data.specs.declared.state.Seen.TheVariants.{Nothing, Graphic, Cha
 use Rattle.dia_data.specs.declared.text.Text.{Text}
 use Rattle.dia_data.specs.declared.text.Text.TheVariants.{Open, Broken}
 use Rattle.dia_data.specs.Leaf.{IsGraphic}
-use Rattle.dia_data.specs.Front.{front_bytes}
+use Rattle.dia_data.specs.Front.{front_bytes, front_length}
 
 -- the bytes are whole characters, and then these few, which no character begins
 pub record IsOpen (pending bytes : List ℕ) : Type 0 where
@@ -32,5 +32,5 @@ IsSeen (Characters text) kind bytes = (kind ≡ Utf8String) × IsSeenOfText text
 -- the state has been fed these bytes, in whatever pieces
 pub record StandsFor (state : LeafState) (kind : PlainFormat) (bytes : List ℕ) : Type 0 where
   pub format : plain state.format.now ≡ kind
-  pub front : front_bytes state.front ≡ take 20 bytes
+  pub front : front_bytes state.front ≡ take front_length bytes
   pub seen : IsSeen state.seen kind bytes

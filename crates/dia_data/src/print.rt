@@ -3,7 +3,8 @@ ghost use Rattle.std.specs.Prelude.{◌≡◌, ◌<◌, ◌++◌, IfOk, OnOk, le
 ghost use Rattle.std.specs.Fmt.{decimal};
 ghost use Rattle.std.specs.List.{join_with_byte};
 ghost use Rattle.dia_data.specs.Leaf.{IsAddress, IsAnswer};
-ghost use Rattle.dia_data.specs.Shown.{IsShown, AddsShown, address, groups, hex_byte, hex_digit, hexadecimal, quoted, quoted_byte, value_text};
+ghost use Rattle.dia_data.specs.Shown.{IsShown, AddsShown, address, groups, hex_byte, hex_digit};
+ghost use Rattle.dia_data.specs.Shown.{hexadecimal, quoted, quoted_byte, value_text};
 ghost use Rattle.dia_data.specs.Plain.{plain};
 
 use crate::accept::{Leaf, accepts};

@@ -6,6 +6,9 @@ use crate::format::Format;
 use crate::front::Front;
 use crate::text::Text;
 
+/// How many bytes of the data are kept.
+const FRONT_LENGTH: usize = 20;
+
 /// What is kept of all bytes, for the formats whose front alone does not decide.
 #[derive(Clone, Copy, Debug)]
 enum Seen {
@@ -19,12 +22,12 @@ enum Seen {
 
 /// What has been seen of the data of a format so far, in whatever pieces it came.
 ///
-/// It keeps a fixed number of bytes: each length that a format fixes, and each scheme of a URI, is below 20, so that one
-/// byte too many is still seen.
+/// It keeps the first [`FRONT_LENGTH`] bytes. Each length that a format fixes, and each scheme of a URI, is shorter, so
+/// that one byte too many is still seen.
 #[derive(Clone, Copy, Debug)]
 pub struct LeafState<'a> {
     format: &'a Format,
-    front: Front<20>,
+    front: Front<FRONT_LENGTH>,
     seen: Seen,
 }
 

@@ -31,7 +31,8 @@ duplicate_commands-base_source = refl
 wrong_rules-base_source : wrong_rules base_source ≡ []
 wrong_rules-base_source = refl
 
-none_wrong : (s : PlainSource) → wrong_limits s ≡ [] → wrong_names s ≡ [] → no_groups s ≡ [] → header_mismatches s ≡ [] → duplicate_keys s ≡ [] → duplicate_commands s ≡ [] → wrong_rules s ≡ [] → first_wrong s ≡ None
+none_wrong : (s : PlainSource) → wrong_limits s ≡ [] → wrong_names s ≡ [] → no_groups s ≡ [] → header_mismatches s ≡ []
+    → duplicate_keys s ≡ [] → duplicate_commands s ≡ [] → wrong_rules s ≡ [] → first_wrong s ≡ None
 none_wrong s a b c d e f g = rw (a, b, c, d, e, f, g) refl
 
 pub first_wrong-base_source : first_wrong base_source ≡ None

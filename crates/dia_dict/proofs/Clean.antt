@@ -15,7 +15,9 @@ use Rattle.dia_ccf.specs.Plain.{PlainSource, PlainDecl, PlainDef, PlainRule, pla
 use Rattle.dia_dict.specs.Limits.{max_rules, max_parts}
 use Rattle.dia_dict.specs.declared.fault.DictKind.TheVariants as kind
 use Rattle.dia_dict.specs.declared.fault.DictKind.{DictKind}
-use Rattle.dia_dict.specs.Resolution.{Wrong, wrong, all_wrong, wrong_limits, wrong_names, wrong_entries, wrong_rules, too_many, duplicate_names, no_groups, header_mismatches, duplicate_keys, duplicate_commands, bad_rules, bad_in, repeated_slots, repeated_in, slot_name, all_defs, avp_names as names_of, lacks_group, is_mismatched, is_long, is_bad, repeats, same_slot}
+use Rattle.dia_dict.specs.Resolution.{Wrong, wrong, all_wrong, wrong_limits, wrong_names, wrong_entries, wrong_rules, too_many, duplicate_names, no_groups, header_mismatches, duplicate_keys}
+use Rattle.dia_dict.specs.Resolution.{duplicate_commands, bad_rules, bad_in, repeated_slots, repeated_in, slot_name, all_defs, avp_names as names_of, lacks_group, is_mismatched, is_long, is_bad}
+use Rattle.dia_dict.specs.Resolution.{repeats, same_slot}
 use Rattle.dia_dict.proofs.Duplicates.{same_named, same_command}
 use Rattle.dia_dict.proofs.Members.{append-none, map-none, filter-none_at, flat_map-none_at, list_all_at, at_map, at_append}
 
@@ -58,7 +60,8 @@ fixed_named Optional None named fixed = absurd (let p : false ≡ true = fixed i
 pub formed : (s : Source) → IsFormed (plain s)
 formed s = record {
   groups = λ i g at. let r = at_map plain_def s.groups.items i g at in ap (λ (d : PlainDef). is_group d.head) (sym r.2) ∙ list_all_at (λ (d : Def). is_group d.head) s.groups.items s.grouped i r.0 r.1;
-  commands = λ i c at. let r = at_map plain_def s.commands.items i c at in ap (λ (d : PlainDef). not (is_group d.head)) (sym r.2) ∙ list_all_at (λ (d : Def). not (is_group d.head)) s.commands.items s.commanded i r.0 r.1;
+  commands = λ i c at. let r = at_map plain_def s.commands.items i c at in ap (λ (d : PlainDef). not (is_group d.head)) (sym r.2)
+      ∙ list_all_at (λ (d : Def). not (is_group d.head)) s.commands.items s.commanded i r.0 r.1;
   ordered = λ i d at. let r = definition_in s i d at in
       ap (λ (e : PlainDef). fixed_first (map (λ (x : PlainRule). x.kind) e.rules)) (sym r.1) ∙ ap fixed_first (map-map (λ (x : PlainRule). x.kind) plain_rule r.0.rules.items) ∙ r.0.ordered;
   named = λ i j d r at at' fixed.
@@ -89,7 +92,8 @@ clean s none =
     let each = λ (k : DictKind) (fine : bad_rules k s (all_defs s) ≡ []) (i j : ℕ) (d : PlainDef) (r : PlainRule) (at : slice_get (all_defs s) i ≡ Some d) (at' : slice_get d.rules j ≡ Some r).
     filter-none_at (is_bad k s) d.rules (map-none (λ (x : PlainRule). wrong k d.name (slot_name x)) (filter (is_bad k s) d.rules) (flat_map-none_at (bad_in k s) (all_defs s) fine i d at)) j r at' in
     record {
-      short = λ i d at. ltb-false max_rules (length d.rules) (filter-none_at is_long (all_defs s) (map-none (λ (x : PlainDef). wrong kind.Limit x.name []) (filter is_long (all_defs s)) limits.0) i d at);
+      short = λ i d at. ltb-false max_rules (length d.rules)
+          (filter-none_at is_long (all_defs s) (map-none (λ (x : PlainDef). wrong kind.Limit x.name []) (filter is_long (all_defs s)) limits.0) i d at);
       few = below_limit (nat_lt max_parts (length s.avps + length s.groups + length s.commands)) _ (wrong kind.Limit [] []) refl limits.1;
       avps = map-none (λ (n : List ℕ). wrong kind.DuplicateName n []) (repeats same_bytes [] (map (λ (d : PlainDecl). d.name) s.avps)) avp_names.0;
       groups = map-none (λ (n : List ℕ). wrong kind.DuplicateName n []) (repeats same_bytes [] (map (λ (d : PlainDef). d.name) s.groups)) avp_names.1;

@@ -55,7 +55,8 @@ module _ (s : PlainSource) (avps : List Named) (all : map named avps ≡ avp_nam
       ap (λ ns. map duplicate_key (repeats same_named [] ns)) (sym all)
       ∙ ap (map duplicate_key) (repeats-none named same_named (λ a b. same_key a.key b.key) (λ a b. refl) avps (repeats-none_from_map (λ (n : Named). n.key) same_key avps none))
 
-  pub duplicate_keys-first : (place : ℕ) (n : Named) → IsFirstRepeat same_key (map (λ (n : Named). n.key) avps) place → slice_get avps place ≡ Some n → slice_get (duplicate_keys s) 0 ≡ Some (duplicate_key (named n))
+  pub duplicate_keys-first : (place : ℕ) (n : Named) → IsFirstRepeat same_key (map (λ (n : Named). n.key) avps) place
+      → slice_get avps place ≡ Some n → slice_get (duplicate_keys s) 0 ≡ Some (duplicate_key (named n))
   duplicate_keys-first place n r at =
       ap (λ ns. slice_get (map duplicate_key (repeats same_named [] ns)) 0) (sym all)
       ∙ slice_get-map duplicate_key (repeats same_named [] (map named avps)) 0
@@ -77,7 +78,8 @@ repeats-agree p same like agree earlier (x ∷ xs) before all =
     let parts = and_parts (p x) (list_all p xs) all in
     let here : list_all p (earlier ++ x ∷ []) ≡ true = list_all-append p earlier (x ∷ []) ∙ and_from _ _ before (and_from _ _ parts.0 refl) in
     let rest = repeats-agree p same like agree (earlier ++ x ∷ []) xs here parts.1 in
-    ap (λ ys. cond (list_any (same x) earlier) (x ∷ ys) ys) rest ∙ ap (λ b. cond b (x ∷ repeats like (earlier ++ x ∷ []) xs) (repeats like (earlier ++ x ∷ []) xs)) (list_any-agree p (same x) (like x) (λ y h. agree x y parts.0 h) earlier before)
+    ap (λ ys. cond (list_any (same x) earlier) (x ∷ ys) ys) rest
+    ∙ ap (λ b. cond b (x ∷ repeats like (earlier ++ x ∷ []) xs) (repeats like (earlier ++ x ∷ []) xs)) (list_any-agree p (same x) (like x) (λ y h. agree x y parts.0 h) earlier before)
 
 abbrev pub is_command : Def → Bool
 is_command d = not (is_group d.head)
@@ -85,7 +87,8 @@ is_command d = not (is_group d.head)
 module _ (eq : Selector → Selector → Bool) (alike : (a b : Head) → not (is_group a) ≡ true → not (is_group b) ≡ true → eq (selector_of (head_of a)) (selector_of (head_of b)) ≡ same_selector a b)
     (commands : List Def) (all : list_all is_command commands ≡ true) where
   alike_all : repeats (λ (a b : Def). eq (selector_of (head_of a.head)) (selector_of (head_of b.head))) [] commands ≡ repeats (λ (a b : Def). same_selector a.head b.head) [] commands
-  alike_all = repeats-agree is_command (λ (a b : Def). eq (selector_of (head_of a.head)) (selector_of (head_of b.head))) (λ (a b : Def). same_selector a.head b.head) (λ a b p q. alike a.head b.head p q) [] commands refl all
+  alike_all = repeats-agree is_command (λ (a b : Def). eq (selector_of (head_of a.head)) (selector_of (head_of b.head)))
+      (λ (a b : Def). same_selector a.head b.head) (λ a b p q. alike a.head b.head p q) [] commands refl all
 
   pub duplicate_commands-none : repeats eq [] (map (λ (d : Def). selector_of (head_of d.head)) commands) ≡ [] → map duplicate_command (repeats same_command [] (map plain_def commands)) ≡ []
   duplicate_commands-none none =
@@ -95,9 +98,11 @@ module _ (eq : Selector → Selector → Bool) (alike : (a b : Head) → not (is
   pub duplicate_commands-first : (place : ℕ) (d : Def) → IsFirstRepeat eq (map (λ (d : Def). selector_of (head_of d.head)) commands) place → slice_get commands place ≡ Some d
       → slice_get (map duplicate_command (repeats same_command [] (map plain_def commands))) 0 ≡ Some (duplicate_command (plain_def d))
   duplicate_commands-first place d r at =
-      let found = slice_get-repeats (λ (a b : Def). eq (selector_of (head_of a.head)) (selector_of (head_of b.head))) commands place (first_repeat_from_map (λ (d : Def). selector_of (head_of d.head)) eq commands place r) in
+      let found = slice_get-repeats (λ (a b : Def). eq (selector_of (head_of a.head)) (selector_of (head_of b.head))) commands place
+      (first_repeat_from_map (λ (d : Def). selector_of (head_of d.head)) eq commands place r) in
       slice_get-map duplicate_command (repeats same_command [] (map plain_def commands)) 0
-      ∙ ap (option_map duplicate_command) (ap (λ ys. slice_get ys 0) (repeats-map plain_def same_command [] commands) ∙ slice_get-map plain_def (repeats (λ (a b : Def). same_selector a.head b.head) [] commands) 0
+      ∙ ap (option_map duplicate_command) (ap (λ ys. slice_get ys 0) (repeats-map plain_def same_command [] commands)
+      ∙ slice_get-map plain_def (repeats (λ (a b : Def). same_selector a.head b.head) [] commands) 0
       ∙ ap (option_map plain_def) (ap (λ ys. slice_get ys 0) (sym alike_all) ∙ found ∙ sym (first_repeat_from_map (λ (d : Def). selector_of (head_of d.head)) eq commands place r).at ∙ at))
 
 -- ---- names of slots
@@ -110,11 +115,13 @@ module _ (d : PlainDef) (names : List (Bor (List ℕ))) (all : map text_of names
   repeated_in-none none =
       ap (map repeated) (repeats-none_from_map slot_name same_bytes d.rules (ap (repeats same_bytes []) (sym all) ∙ repeats-none text_of same_bytes same_text (λ a b. refl) names none))
 
-  pub repeated_in-first : (place : ℕ) (name : Bor (List ℕ)) → IsFirstRepeat same_text names place → slice_get names place ≡ Some name → slice_get (repeated_in d) 0 ≡ Some (wrong kind.RepeatedSlot d.name name.now)
+  pub repeated_in-first : (place : ℕ) (name : Bor (List ℕ)) → IsFirstRepeat same_text names place → slice_get names place ≡ Some name
+      → slice_get (repeated_in d) 0 ≡ Some (wrong kind.RepeatedSlot d.name name.now)
   repeated_in-first place name r at =
       let texts = first_repeat-map text_of same_bytes same_text (λ a b. refl) names place r in
       let rules = first_repeat_from_map slot_name same_bytes d.rules place (subst (λ ts. IsFirstRepeat same_bytes ts place) all texts) in
       let found = slice_get-repeats same_slot d.rules place rules in
       let named : slot_name rules.item ≡ name.now =
-      same_Some _ _ (ap (option_map slot_name) (sym rules.at) ∙ sym (slice_get-map slot_name d.rules place) ∙ ap (λ ts. slice_get ts place) (sym all) ∙ slice_get-map text_of names place ∙ ap (option_map text_of) at) in
+      same_Some _ _ (ap (option_map slot_name) (sym rules.at) ∙ sym (slice_get-map slot_name d.rules place)
+      ∙ ap (λ ts. slice_get ts place) (sym all) ∙ slice_get-map text_of names place ∙ ap (option_map text_of) at) in
       slice_get-map repeated (repeats same_slot [] d.rules) 0 ∙ ap (option_map repeated) found ∙ ap (λ t. Some (wrong kind.RepeatedSlot d.name t)) named

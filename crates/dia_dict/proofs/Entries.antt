@@ -23,7 +23,8 @@ module _ (rows : List Row) (groups : List Definition) (row : Row) where
       filter_map-append (λ (r : Row). r.group) rows (row ∷ []) ∙ ap (λ o. numbers rows ++ cons_option o []) none ∙ append-nil (numbers rows) ∙ numbered
 
   -- the row was added, or there was no memory
-  pub numbers-pushed : (b : Bool) (next : List Row) → next ≡ (if b then rows ++ row ∷ [] else rows) → row.group ≡ None → numbers rows ≡ range_with_len 0 (length groups) → numbers next ≡ range_with_len 0 (length groups)
+  pub numbers-pushed : (b : Bool) (next : List Row) → next ≡ (if b then rows ++ row ∷ [] else rows) → row.group ≡ None
+      → numbers rows ≡ range_with_len 0 (length groups) → numbers next ≡ range_with_len 0 (length groups)
   numbers-pushed true next e none numbered = ap numbers e ∙ numbers-push_none none numbered
   numbers-pushed false next e none numbered = ap numbers e ∙ numbered
 
@@ -43,13 +44,16 @@ module _ (rows : List Row) (groups : List Definition) (row : Row) where
         by (Some k) here =
             let within = (number_at (λ (x : Row). x.group) rows 0 (length groups) i k r numbered at here).1 in
             ap (λ (p : Option PlainDefinition). record (entry_of_row [] r) { group = p })
-            (ap (option_and_then (slice_get (map plain groups ++ plain definition ∷ []))) here ∙ slice_get-append_left (map plain groups) (plain definition ∷ []) k (omega (arith, within, length-map groups plain))
+            (ap (option_and_then (slice_get (map plain groups ++ plain definition ∷ []))) here
+            ∙ slice_get-append_left (map plain groups) (plain definition ∷ []) k (omega (arith, within, length-map groups plain))
             ∙ sym (ap (option_and_then (slice_get (map plain groups))) here))
 
     pub entries_of-push_some : entries_of (rows ++ row ∷ []) (groups ++ definition ∷ []) ≡ entries_of rows groups ++ record (entry_of_row [] row) { group = Some (plain definition) } ∷ []
     entries_of-push_some =
         ap (λ gs. map (entry_of_row gs) (rows ++ row ∷ [])) (map_push plain groups definition)
         ∙ map_push (entry_of_row (map plain groups ++ plain definition ∷ [])) rows row
-        ∙ ap (λ es. es ++ entry_of_row (map plain groups ++ plain definition ∷ []) row ∷ []) (map-agree (entry_of_row (map plain groups ++ plain definition ∷ [])) (entry_of_row (map plain groups)) rows grown)
+        ∙ ap (λ es. es ++ entry_of_row (map plain groups ++ plain definition ∷ []) row ∷ [])
+        (map-agree (entry_of_row (map plain groups ++ plain definition ∷ [])) (entry_of_row (map plain groups)) rows grown)
         ∙ ap (λ (p : Option PlainDefinition). entries_of rows groups ++ record (entry_of_row [] row) { group = p } ∷ [])
-        (ap (option_and_then (slice_get (map plain groups ++ plain definition ∷ []))) (some ∙ ap (λ (n : ℕ). Some n) (sym (length-map groups plain))) ∙ slice_get-append_at (map plain groups) [] (plain definition))
+        (ap (option_and_then (slice_get (map plain groups ++ plain definition ∷ []))) (some ∙ ap (λ (n : ℕ). Some n) (sym (length-map groups plain)))
+        ∙ slice_get-append_at (map plain groups) [] (plain definition))

@@ -1,5 +1,6 @@
 -- What holds of each member of a list, by its place.
-use Rattle.std.proofs.Common.{◌≡◌, ℕ, zero, suc, ◌+◌, ◌<◌, Bool, true, false, cond, List, [], ◌∷◌, ◌++◌, length, map, filter, find, get_or, Option, Some, None, ◌⊎◌, inl, inr, ⊎_elim, refl, sym, ap, ◌∙◌, arith}
+use Rattle.std.proofs.Common.{◌≡◌, ℕ, zero, suc, ◌+◌, ◌<◌, Bool, true, false, cond, List, [], ◌∷◌, ◌++◌, length, map, filter}
+use Rattle.std.proofs.Common.{find, get_or, Option, Some, None, ◌⊎◌, inl, inr, ⊎_elim, refl, sym, ap, ◌∙◌, arith}
 use Rattle.std.specs.Prelude.{slice_get, position, is_some, IsSome, All, Contains, option_and_then, ◌||◌}
 use Rattle.std.specs.List.{filter_map, flat_map, list_any, list_all, cons_option}
 use Rattle.std.specs.Option.{option_map}
@@ -105,7 +106,8 @@ AreApart-filter {X} f p (z ∷ zs) apart = by (p z) (AreApart-filter f p zs (Are
 
 -- ---- searches
 
-find_later : {X : Type 0} (p : X → Bool) (y : X) (xs : List X) (b : Bool) → p y ≡ b → (x : X) → cond b (Some y) (find p xs) ≡ Some x → (find p xs ≡ Some x → (i : ℕ) × (slice_get xs i ≡ Some x) × (p x ≡ true))
+find_later : {X : Type 0} (p : X → Bool) (y : X) (xs : List X) (b : Bool) → p y ≡ b → (x : X) → cond b (Some y) (find p xs) ≡ Some x
+    → (find p xs ≡ Some x → (i : ℕ) × (slice_get xs i ≡ Some x) × (p x ≡ true))
     → (i : ℕ) × (slice_get (y ∷ xs) i ≡ Some x) × (p x ≡ true)
 find_later p y xs true here x e rest = (zero, e, ap p (sym (same_Some y x e)) ∙ here)
 find_later p y xs false here x e rest = let r = rest e in (suc r.0, r.1, r.2)
@@ -183,7 +185,8 @@ fresh_and_rest same earlier z zs true here none = absurd (let p : z ∷ repeats 
 fresh_and_rest same earlier z zs false here none = (here, none)
 
 -- no member is like an earlier one
-pub repeats-none_at : {X : Type 0} (same : X → X → Bool) (earlier xs : List X) → repeats same earlier xs ≡ [] → (i j : ℕ) (x y : X) → slice_get (earlier ++ xs) i ≡ Some x → slice_get xs j ≡ Some y → i < length earlier + j → same y x ≡ false
+pub repeats-none_at : {X : Type 0} (same : X → X → Bool) (earlier xs : List X) → repeats same earlier xs ≡ [] → (i j : ℕ) (x y : X)
+    → slice_get (earlier ++ xs) i ≡ Some x → slice_get xs j ≡ Some y → i < length earlier + j → same y x ≡ false
 repeats-none_at same earlier [] none i j x y at at' below = absurd (none-some y at')
 repeats-none_at same earlier (z ∷ zs) none i zero x y at at' below =
     let fresh = (fresh_and_rest same earlier z zs (list_any (same z) earlier) refl none).0 in
@@ -194,7 +197,8 @@ repeats-none_at same earlier (z ∷ zs) none i (suc j) x y at at' below =
     repeats-none_at same (earlier ++ z ∷ []) zs rest i j x y (ap (λ ys. slice_get ys i) (append_assoc earlier (z ∷ []) zs) ∙ at) at' (omega (arith, length_push earlier z))
 
 -- so two places with members that are like one another are one
-pub repeats-distinct : {X : Type 0} (same : X → X → Bool) (xs : List X) → repeats same [] xs ≡ [] → (i j : ℕ) (x y : X) → slice_get xs i ≡ Some x → slice_get xs j ≡ Some y → same x y ≡ true → same y x ≡ true → i ≡ j
+pub repeats-distinct : {X : Type 0} (same : X → X → Bool) (xs : List X) → repeats same [] xs ≡ [] → (i j : ℕ) (x y : X)
+    → slice_get xs i ≡ Some x → slice_get xs j ≡ Some y → same x y ≡ true → same y x ≡ true → i ≡ j
 repeats-distinct same xs none i j x y at at' e e' =
     ⊎_elim (λ s. s) (⊎_elim
     (λ below. absurd (both_ways (same y x) (repeats-none_at same [] xs none i j x y at at' (omega arith)) e'))

@@ -48,7 +48,8 @@ pub found_by_name : {X Y : Type 0} (f : X → Y) (name : Y → List ℕ) (xs : L
     → (text : List ℕ) (place : Option ℕ) → place ≡ position (λ (k : Bor (List ℕ)). bytes_eq text k.now) keys
     → find (λ y. same_bytes text (name y)) (map f xs) ≡ option_map f (option_and_then (slice_get xs) place)
 found_by_name f name xs keys all text place e =
-    find-map f (λ y. same_bytes text (name y)) xs ∙ ap (option_map f) (find-place (λ x. same_bytes text (name (f x))) xs ∙ ap (option_and_then (slice_get xs)) (sym (e ∙ place_of_name (λ x. name (f x)) xs keys all text)))
+    find-map f (λ y. same_bytes text (name y)) xs ∙ ap (option_map f) (find-place (λ x. same_bytes text (name (f x))) xs
+    ∙ ap (option_and_then (slice_get xs)) (sym (e ∙ place_of_name (λ x. name (f x)) xs keys all text)))
 
 pub length_by_name : {X : Type 0} (name : X → List ℕ) (xs : List X) (keys : List (Bor (List ℕ))) → map (λ (k : Bor (List ℕ)). k.now) keys ≡ map name xs → length keys ≡ length xs
 length_by_name name xs keys all = omega (arith, ap length all, length-map keys (λ (k : Bor (List ℕ)). k.now), length-map xs name)

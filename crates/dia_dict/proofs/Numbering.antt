@@ -37,7 +37,8 @@ filter_map-option_and_then f h [] = refl
 filter_map-option_and_then f h (x ∷ xs) = joined f (h x) _ _ (filter_map-option_and_then f h xs)
 
 -- the members that the numbers name, where the numbers count up
-pub filter_map-numbered : {X Y : Type 0} (number : X → Option ℕ) (xs : List X) (ys : List Y) → filter_map number xs ≡ range_with_len 0 (length ys) → filter_map (λ x. option_and_then (slice_get ys) (number x)) xs ≡ ys
+pub filter_map-numbered : {X Y : Type 0} (number : X → Option ℕ) (xs : List X) (ys : List Y)
+    → filter_map number xs ≡ range_with_len 0 (length ys) → filter_map (λ x. option_and_then (slice_get ys) (number x)) xs ≡ ys
 filter_map-numbered number xs ys h =
     filter_map-option_and_then (slice_get ys) number xs ∙ ap (filter_map (slice_get ys)) h ∙ filter_map-slice_get [] ys
 

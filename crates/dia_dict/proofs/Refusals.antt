@@ -38,7 +38,8 @@ IsRefused-told ws w NoMemory first tells = absurd tells
 pub IsRefused-at : (ws : List Wrong) (kind : DictKind) (name read : List ℕ) (e : Refusal) → slice_get ws 0 ≡ Some (wrong kind name []) → read ≡ name → Tells e (wrong kind read []) → IsRefused ws e
 IsRefused-at ws kind name read e first same tells = IsRefused-told ws (wrong kind name []) e first (subst (λ text. Tells e (wrong kind text [])) same tells)
 
-pub IsRefused-at_rule : (ws : List Wrong) (kind : DictKind) (name slot read read_slot : List ℕ) (e : Refusal) → slice_get ws 0 ≡ Some (wrong kind name slot) → read ≡ name → read_slot ≡ slot → Tells e (wrong kind read read_slot) → IsRefused ws e
+pub IsRefused-at_rule : (ws : List Wrong) (kind : DictKind) (name slot read read_slot : List ℕ) (e : Refusal)
+    → slice_get ws 0 ≡ Some (wrong kind name slot) → read ≡ name → read_slot ≡ slot → Tells e (wrong kind read read_slot) → IsRefused ws e
 IsRefused-at_rule ws kind name slot read read_slot e first same same_slot tells =
     IsRefused-told ws (wrong kind name slot) e first (subst (λ text. Tells e (wrong kind name text)) same_slot (subst (λ text. Tells e (wrong kind text read_slot)) same tells))
 

@@ -50,7 +50,8 @@ first_repeat_from_map f same xs place r =
     record {
       item = found.0;
       at = found.1;
-      repeated = sym (list_any-map f (same (f found.0)) (take place xs)) ∙ ap (list_any (same (f found.0))) (sym (take-map f place xs)) ∙ ap (λ y. list_any (same y) (take place (map f xs))) found.2 ∙ r.repeated;
+      repeated = sym (list_any-map f (same (f found.0)) (take place xs)) ∙ ap (list_any (same (f found.0))) (sym (take-map f place xs))
+          ∙ ap (λ y. list_any (same y) (take place (map f xs))) found.2 ∙ r.repeated;
       first = repeats-none_from_map f same (take place xs) (ap (repeats same []) (sym (take-map f place xs)) ∙ r.first);
     }
 
@@ -86,7 +87,8 @@ module _ {X Y : Type 0} (f : X → Y) (same : Y → Y → Bool) (eq : X → X �
       ap (λ ys. slice_get ys 0) (repeats-map f same [] xs) ∙ slice_get-map f (repeats (λ a b. same (f a) (f b)) [] xs) 0
       ∙ ap (λ (e : X → X → Bool). option_map f (slice_get (repeats e [] xs) 0)) alike_all ∙ ap (option_map f) (slice_get-repeats eq xs place r ∙ sym r.at ∙ at)
 
-pub first_repeat-map : {X Y : Type 0} (f : X → Y) (same : Y → Y → Bool) (eq : X → X → Bool) (alike : (a b : X) → eq a b ≡ same (f a) (f b)) (xs : List X) (place : ℕ) → IsFirstRepeat eq xs place → IsFirstRepeat same (map f xs) place
+pub first_repeat-map : {X Y : Type 0} (f : X → Y) (same : Y → Y → Bool) (eq : X → X → Bool) (alike : (a b : X) → eq a b ≡ same (f a) (f b)) (xs : List X) (place : ℕ)
+    → IsFirstRepeat eq xs place → IsFirstRepeat same (map f xs) place
 first_repeat-map f same eq alike xs place r = record {
   item = f r.item;
   at = slice_get-map f xs place ∙ ap (option_map f) r.at;

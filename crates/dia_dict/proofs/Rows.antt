@@ -32,7 +32,8 @@ module _ (rows : List Row) (gs cs : List PlainDefinition) (numbered : numbers ro
       ∙ length-filter_map-numbered (λ r. r.group) rows gs i numbered
 
   group_of-at : (i : ℕ) (row : Row) → slice_get rows i ≡ Some row
-      → group_of (dictionary_of rows gs cs) i ≡ option_map (λ (_ : PlainDefinition). length (filter_map (λ (e : DictEntry). e.group) (take i (map (entry_of_row gs) rows)))) (option_and_then (slice_get gs) row.group)
+      → group_of (dictionary_of rows gs cs) i ≡ option_map (λ (_ : PlainDefinition). length (filter_map (λ (e : DictEntry). e.group) (take i (map (entry_of_row gs) rows))))
+      (option_and_then (slice_get gs) row.group)
   group_of-at i row at =
       ap (option_and_then (λ (x : DictEntry). option_map (λ (_ : PlainDefinition). length (filter_map (λ (e : DictEntry). e.group) (take i (map (entry_of_row gs) rows)))) x.group))
       (slice_get-map (entry_of_row gs) rows i ∙ ap (option_map (entry_of_row gs)) at)
@@ -46,8 +47,11 @@ module _ (rows : List Row) (gs cs : List PlainDefinition) (numbered : numbers ro
       let within : k < length gs = omega (arith, named.1) in
       let d = first_member gs k within in
       let number : length (filter_map (λ (e : DictEntry). e.group) (take i (map (entry_of_row gs) rows))) ≡ k = omega (arith, groups_before i, named.0) in
-      let group : option_and_then (slice_get gs) row.group ≡ Some d.0 = ap (option_and_then (slice_get gs)) some ∙ d.1 in
-      (group_of-at i row at ∙ ap (option_map (λ (_ : PlainDefinition). length (filter_map (λ (e : DictEntry). e.group) (take i (map (entry_of_row gs) rows))))) group ∙ ap (λ (n : ℕ). Some n) number, within)
+      let group : option_and_then (slice_get gs) row.group ≡ Some d.0 = ap (option_and_then (slice_get gs)) some ∙ d.1 in (
+        group_of-at i row at ∙ ap (option_map (λ (_ : PlainDefinition). length (filter_map (λ (e : DictEntry). e.group) (take i (map (entry_of_row gs) rows))))) group
+            ∙ ap (λ (n : ℕ). Some n) number,
+        within,
+      )
 
 -- the dictionary of what a book holds
 abbrev pub held : List Row → List Definition → List Definition → Dictionary
@@ -71,13 +75,19 @@ module _ (rows : List Row) (groups commands : List Definition) where
     length-groups-held = ap length groups-held ∙ length-map groups plain
 
     pub selected-held : (code : ℕ) (class : Class) (app : ℕ) → selected (held rows groups commands) code class app
-        ≡ option_map (λ (i : ℕ). length groups + i) (option_or (position (λ (d : Definition). is_command code class (Some app) d.head) commands) (position (λ (d : Definition). is_command code class None d.head) commands))
+        ≡ option_map (λ (i : ℕ). length groups + i) (option_or (position (λ (d : Definition). is_command code class (Some app) d.head) commands)
+        (position (λ (d : Definition). is_command code class None d.head) commands))
     selected-held code class app =
-        ap (λ (n : ℕ). option_map (λ (i : ℕ). n + i) (option_or (position (λ (c : PlainDefinition). is_command code class (Some app) c.head) (map plain commands)) (position (λ (c : PlainDefinition). is_command code class None c.head) (map plain commands)))) length-groups-held
-        ∙ rw (position-map plain (λ (c : PlainDefinition). is_command code class (Some app) c.head) commands, position-map plain (λ (c : PlainDefinition). is_command code class None c.head) commands) refl
+        ap (λ (n : ℕ). option_map (λ (i : ℕ). n + i) (option_or (position (λ (c : PlainDefinition). is_command code class (Some app) c.head) (map plain commands))
+        (position (λ (c : PlainDefinition). is_command code class None c.head) (map plain commands)))) length-groups-held
+        ∙ rw (
+          position-map plain (λ (c : PlainDefinition). is_command code class (Some app) c.head) commands,
+          position-map plain (λ (c : PlainDefinition). is_command code class None c.head) commands,
+        ) refl
 
     pub definitions-held : (k : ℕ) → slice_get (definitions (held rows groups commands)) k ≡ option_map plain (slice_get (groups ++ commands) k)
-    definitions-held k = ap (λ (ds : List PlainDefinition). slice_get (ds ++ map plain commands) k) groups-held ∙ ap (λ (ds : List PlainDefinition). slice_get ds k) (sym (map-append plain groups commands)) ∙ slice_get-map plain (groups ++ commands) k
+    definitions-held k = ap (λ (ds : List PlainDefinition). slice_get (ds ++ map plain commands) k) groups-held
+        ∙ ap (λ (ds : List PlainDefinition). slice_get ds k) (sym (map-append plain groups commands)) ∙ slice_get-map plain (groups ++ commands) k
 
 -- each group is that of a row
 pub groups_fit : (rows : List Row) (groups : List Definition) → numbers rows ≡ range_with_len 0 (length groups) → length groups ≤ length rows
@@ -93,13 +103,15 @@ group_of-held rows groups commands numbered i row at = by row.group refl
         let found = group_of-some rows (map plain groups) (map plain commands) (plainly rows groups commands numbered) i j row at some in
         (found.0, λ k e. omega (arith, same_Some j k e, found.1, length-map groups plain))
 
-pub length-definitions-held : (rows : List Row) (groups commands : List Definition) → numbers rows ≡ range_with_len 0 (length groups) → length (definitions (held rows groups commands)) ≡ length groups + length commands
+pub length-definitions-held : (rows : List Row) (groups commands : List Definition) → numbers rows ≡ range_with_len 0 (length groups)
+    → length (definitions (held rows groups commands)) ≡ length groups + length commands
 length-definitions-held rows groups commands numbered =
     omega (arith, length-append (groups_of (held rows groups commands)) (map plain commands), length-groups-held rows groups commands numbered, length-map commands plain)
 
 -- ---- what a read of a list gives
 
-pub read_row : (rows : List Row) (groups : List Definition) (entry i : ℕ) (row : Row) → i ≡ entry → entry < length (map (entry_of_row (map plain groups)) rows) → row ≡ get_or rows i row → slice_get rows entry ≡ Some row
+pub read_row : (rows : List Row) (groups : List Definition) (entry i : ℕ) (row : Row) → i ≡ entry
+    → entry < length (map (entry_of_row (map plain groups)) rows) → row ≡ get_or rows i row → slice_get rows entry ≡ Some row
 read_row rows groups entry i row same within read =
     slice_get_read rows (length rows) entry row refl (omega (arith, within, length-map rows (entry_of_row (map plain groups)))) (subst (λ (k : ℕ). row ≡ get_or rows k row) same read)
 
@@ -107,7 +119,8 @@ pub group_at : (groups commands : List Definition) (def i : ℕ) (d : Definition
 group_at groups commands def i d same within read =
     ap (slice_get (groups ++ commands)) (sym same) ∙ slice_get-append_left groups commands i within ∙ slice_get_read groups (length groups) i d refl within read
 
-pub command_at : (groups commands : List Definition) (def i : ℕ) (d : Definition) → length groups + i ≡ def → def < length groups + length commands → d ≡ get_or commands i d → slice_get (groups ++ commands) def ≡ Some d
+pub command_at : (groups commands : List Definition) (def i : ℕ) (d : Definition) → length groups + i ≡ def
+    → def < length groups + length commands → d ≡ get_or commands i d → slice_get (groups ++ commands) def ≡ Some d
 command_at groups commands def i d same within read =
     let inside : i < length commands = omega arith in
     ap (slice_get (groups ++ commands)) (sym same) ∙ slice_get-append_right groups commands i ∙ slice_get_read commands (length commands) i d refl inside read

@@ -23,7 +23,8 @@ use Rattle.dia_dict.specs.declared.definition.Class.TheVariants as classes
 use Rattle.dia_dict.specs.declared.definition.DefHead.{DefHead}
 use Rattle.dia_dict.specs.declared.definition.DefHead.TheVariants.{Group, Command, Error}
 use Rattle.dia_dict.specs.Dictionary.{PlainDefinition, DictEntry, IsDictionary, AreRules, IsSameSelector, IsCommandHead, IsLeast, is_fixed, groups as groups_of, definitions, entry_of}
-use Rattle.dia_dict.specs.Resolution.{resolved, declared_entry, bare_entry, bare_groups, definition_of, rule_of, head_of, key_of_name, key_of_decl, group_key, names_decl, names_def, avp_names, all_defs, is_bare, repeats, same_selector, agrees_with, is_grouped, format_of, class_of, is_bad, least, greatest, slot_name, same_slot}
+use Rattle.dia_dict.specs.Resolution.{resolved, declared_entry, bare_entry, bare_groups, definition_of, rule_of, head_of, key_of_name, key_of_decl, group_key, names_decl, names_def, avp_names}
+use Rattle.dia_dict.specs.Resolution.{all_defs, is_bare, repeats, same_selector, agrees_with, is_grouped, format_of, class_of, is_bad, least, greatest, slot_name, same_slot}
 use Rattle.std.proofs.lemmas.Bool.{and_from, and_parts, eq-eqb, both_ways, not-false, not-true, or_from, ltb-false, eqb-false}
 use Rattle.std.proofs.lemmas.List.{map-append, length-map, length-append}
 use Rattle.std.proofs.lemmas.List.Filters.{length-filter_both}
@@ -31,7 +32,8 @@ use Rattle.std.proofs.lemmas.Option.{none-some, same_Some}
 use Rattle.std.proofs.lemmas.Simd.{map-map}
 use Rattle.dia_dict.proofs.Named.{same_bytes-true, same_bytes-refl, same_bytes-Decides}
 use Rattle.dia_dict.proofs.Duplicates.{same_named, same_command}
-use Rattle.dia_dict.proofs.Members.{AreApart, into_left, into_right, into_map, All-from_places, at_map, at_append, at_filter, into_filter, at_find, find-found, find-is_some, at_Contains, at_filter_map, position-is_some, list_any-none_at, AreApart-filter, repeats-distinct}
+use Rattle.dia_dict.proofs.Members.{AreApart, into_left, into_right, into_map, All-from_places, at_map, at_append, at_filter, into_filter, at_find, find-found}
+use Rattle.dia_dict.proofs.Members.{find-is_some, at_Contains, at_filter_map, position-is_some, list_any-none_at, AreApart-filter, repeats-distinct}
 use Rattle.dia_dict.proofs.Lists.{front, rest, front-append-rest, list_all-front}
 use Rattle.dia_dict.proofs.Clean.{IsFormed, IsClean}
 use Rattle.dia_dict.proofs.Keys.{same_key-refl, same_key-equal, same_key-true}
@@ -162,7 +164,8 @@ bounded_rule s r fine = by (greatest r.qual) refl
 least_rule : (s : PlainSource) (r : PlainRule) → is_bad kind.RequiredMin s r ≡ false → is_bad kind.OptionalMin s r ≡ false → IsLeast r.kind (least r.kind r.qual)
 least_rule s r required optional = by r.kind r.qual required optional
   where
-    by : (k : RuleKind) (q : Option Qual) → (elim k [ Fixed ↦ false | Required ↦ least Required q == 0 | Optional ↦ false ]) ≡ false → (elim k [ Fixed ↦ false | Required ↦ false | Optional ↦ nat_lt 0 (least Optional q) ]) ≡ false → IsLeast k (least k q)
+    by : (k : RuleKind) (q : Option Qual) → (elim k [ Fixed ↦ false | Required ↦ least Required q == 0 | Optional ↦ false ]) ≡ false
+        → (elim k [ Fixed ↦ false | Required ↦ false | Optional ↦ nat_lt 0 (least Optional q) ]) ≡ false → IsLeast k (least k q)
     by Fixed q e f = tt
     by Required q e f = let p = eqb-false (least Required q) 0 e in omega arith
     by Optional q e f = let p = ltb-false 0 (least Optional q) f in omega arith
@@ -170,7 +173,8 @@ least_rule s r required optional = by r.kind r.qual required optional
 -- names that are distinct tell members apart
 apart_by_name : {X : Type 0} (name : X → List ℕ) (xs : List X) → repeats same_bytes [] (map name xs) ≡ [] → AreApart name xs
 apart_by_name name xs none i j x y at at' same =
-    repeats-distinct same_bytes (map name xs) none i j (name x) (name y) (into_map name xs i x at) (into_map name xs j y at') (same_bytes-equal (name x) (name y) same) (same_bytes-equal (name y) (name x) (sym same))
+    repeats-distinct same_bytes (map name xs) none i j (name x) (name y) (into_map name xs i x at) (into_map name xs j y at')
+    (same_bytes-equal (name x) (name y) same) (same_bytes-equal (name y) (name x) (sym same))
 
 abbrev name_and_key : DictEntry → List ℕ × Key
 name_and_key x = (x.name, x.key)
@@ -197,7 +201,8 @@ module _ (s : PlainSource) (formed : IsFormed s) (clean : IsClean s) where
                 ∙ named_as (key_of_decl d) (sym (same_bytes-true text d.name r.2)) (same_Some _ _ same),
           )
 
-      bare : (g : PlainDef) → find (names_decl text) s.avps ≡ None → find (names_def text) s.groups ≡ Some g → Some (group_key g.head) ≡ Some key → (k : ℕ) × (slice_get (avp_names s) k ≡ Some (text, key))
+      bare : (g : PlainDef) → find (names_decl text) s.avps ≡ None → find (names_def text) s.groups ≡ Some g
+          → Some (group_key g.head) ≡ Some key → (k : ℕ) × (slice_get (avp_names s) k ≡ Some (text, key))
       bare g none here same =
           let r = at_find (names_def text) s.groups g here in
           let named = sym (same_bytes-true text g.name r.2) in
@@ -209,12 +214,14 @@ module _ (s : PlainSource) (formed : IsFormed s) (clean : IsClean s) where
                 ∙ named_as (group_key g.head) named (same_Some _ _ same),
           )
 
-      by : (o : Option PlainDecl) → find (names_decl text) s.avps ≡ o → option_or (option_map key_of_decl o) (option_map (λ (g : PlainDef). group_key g.head) (find (names_def text) s.groups)) ≡ Some key
+      by : (o : Option PlainDecl) → find (names_decl text) s.avps ≡ o
+          → option_or (option_map key_of_decl o) (option_map (λ (g : PlainDef). group_key g.head) (find (names_def text) s.groups)) ≡ Some key
           → (k : ℕ) × (slice_get (avp_names s) k ≡ Some (text, key))
       by (Some d) here same = declared d here same
       by None here same = undeclared (find (names_def text) s.groups) refl same
         where
-          undeclared : (o : Option PlainDef) → find (names_def text) s.groups ≡ o → option_map (λ (g : PlainDef). group_key g.head) o ≡ Some key → (k : ℕ) × (slice_get (avp_names s) k ≡ Some (text, key))
+          undeclared : (o : Option PlainDef) → find (names_def text) s.groups ≡ o → option_map (λ (g : PlainDef). group_key g.head) o ≡ Some key
+              → (k : ℕ) × (slice_get (avp_names s) k ≡ Some (text, key))
           undeclared None there e' = absurd (none-some key e')
           undeclared (Some g) there e' = bare g here there e'
 
@@ -229,7 +236,8 @@ module _ (s : PlainSource) (formed : IsFormed s) (clean : IsClean s) where
 
   distinct_keys : (i j : ℕ) (x y : DictEntry) → slice_get (resolved s).entries i ≡ Some x → slice_get (resolved s).entries j ≡ Some y → x.key ≡ y.key → i ≡ j
   distinct_keys i j x y at at' same =
-      repeats-distinct same_named (avp_names s) clean.keys i j (x.name, x.key) (y.name, y.key) (entry_named i x at) (entry_named j y at') (same_key-equal x.key y.key same) (same_key-equal y.key x.key (sym same))
+      repeats-distinct same_named (avp_names s) clean.keys i j (x.name, x.key) (y.name, y.key) (entry_named i x at)
+      (entry_named j y at') (same_key-equal x.key y.key same) (same_key-equal y.key x.key (sym same))
 
   decls_apart : AreApart (λ (d : PlainDecl). d.name) s.avps
   decls_apart = apart_by_name (λ (d : PlainDecl). d.name) s.avps clean.avps
@@ -278,7 +286,8 @@ module _ (s : PlainSource) (formed : IsFormed s) (clean : IsClean s) where
       let d = at_map (definition_of s) s.commands j y at' in
       let e : IsSameSelector (head_of c.0.head) (head_of d.0.head) =
       subst (λ (z : PlainDefinition). IsSameSelector (head_of c.0.head) z.head) (sym d.2) (subst (λ (z : PlainDefinition). IsSameSelector z.head y.head) (sym c.2) same) in
-      repeats-distinct same_command s.commands clean.selectors i j c.0 d.0 c.1 d.1 (same_selector-true c.0.head d.0.head e) (same_selector-true d.0.head c.0.head (IsSameSelector-sym (head_of c.0.head) (head_of d.0.head) e))
+      repeats-distinct same_command s.commands clean.selectors i j c.0 d.0 c.1 d.1 (same_selector-true c.0.head d.0.head e)
+      (same_selector-true d.0.head c.0.head (IsSameSelector-sym (head_of c.0.head) (head_of d.0.head) e))
 
   found_decl : (i : ℕ) (d : PlainDecl) → slice_get s.avps i ≡ Some d → find (names_decl d.name) s.avps ≡ Some d
   found_decl i d at =
@@ -340,7 +349,8 @@ module _ (s : PlainSource) (formed : IsFormed s) (clean : IsClean s) where
   group_on : (i : ℕ) (x : DictEntry) (d : PlainDefinition) → Side i x → x.group ≡ Some d → (j : ℕ) × (e : PlainDef) × (slice_get (all_defs s) j ≡ Some e) × (definition_of s e ≡ d)
   group_on i x d (declared_at e at same) has = by (find (names_def e.name) s.groups) refl (ap (λ (z : DictEntry). z.group) same ∙ has)
     where
-      by : (o : Option PlainDef) → find (names_def e.name) s.groups ≡ o → option_map (definition_of s) o ≡ Some d → (j : ℕ) × (f : PlainDef) × (slice_get (all_defs s) j ≡ Some f) × (definition_of s f ≡ d)
+      by : (o : Option PlainDef) → find (names_def e.name) s.groups ≡ o → option_map (definition_of s) o ≡ Some d
+          → (j : ℕ) × (f : PlainDef) × (slice_get (all_defs s) j ≡ Some f) × (definition_of s f ≡ d)
       by None here h = absurd (none-some d h)
       by (Some g) here h = let r = at_find (names_def e.name) s.groups g here in (r.0, g, into_left s.groups s.commands r.0 g r.1, same_Some (definition_of s g) d h)
   group_on i x d (bare_at k g p at same) has =
@@ -378,14 +388,17 @@ module _ (s : PlainSource) (formed : IsFormed s) (clean : IsClean s) where
       known_key key n.0 named.0 n.1
 
   -- the key of a rule that names an AVP is known
-  defined_rule : (i : ℕ) (d : PlainDef) → slice_get (all_defs s) i ≡ Some d → (j : ℕ) (r : PlainRule) → slice_get d.rules j ≡ Some r → (text : List ℕ) → r.name ≡ Some text → (key : Key) × (key_of_name s text ≡ Some key)
+  defined_rule : (i : ℕ) (d : PlainDef) → slice_get (all_defs s) i ≡ Some d → (j : ℕ) (r : PlainRule) → slice_get d.rules j ≡ Some r
+      → (text : List ℕ) → r.name ≡ Some text → (key : Key) × (key_of_name s text ≡ Some key)
   defined_rule i d at j r at' text named = by (key_of_name s text) refl
     where
       by : (o : Option Key) → key_of_name s text ≡ o → (key : Key) × (o ≡ Some key)
-      by None here = absurd (let p : true ≡ false = ap (λ (k : Option Key). not (is_some k)) (sym here) ∙ ap (λ (n : Option (List ℕ)). option_map_or (λ t. not (is_some (key_of_name s t))) n false) (sym named) ∙ clean.defined i j d r at at' in cc)
+      by None here = absurd (let p : true ≡ false = ap (λ (k : Option Key). not (is_some k)) (sym here)
+          ∙ ap (λ (n : Option (List ℕ)). option_map_or (λ t. not (is_some (key_of_name s t))) n false) (sym named) ∙ clean.defined i j d r at at' in cc)
       by (Some key) here = (key, refl)
 
-  one_slot : (i : ℕ) (d : PlainDef) → slice_get (all_defs s) i ≡ Some d → (j k : ℕ) (x y : PlainRule) → slice_get d.rules j ≡ Some x → slice_get d.rules k ≡ Some y → (rule_of s x).key ≡ (rule_of s y).key → j ≡ k
+  one_slot : (i : ℕ) (d : PlainDef) → slice_get (all_defs s) i ≡ Some d → (j k : ℕ) (x y : PlainRule)
+      → slice_get d.rules j ≡ Some x → slice_get d.rules k ≡ Some y → (rule_of s x).key ≡ (rule_of s y).key → j ≡ k
   one_slot i d at j k x y p q same = by x.name y.name refl refl
     where
       alike : slot_name x ≡ slot_name y → j ≡ k
@@ -425,8 +438,10 @@ module _ (s : PlainSource) (formed : IsFormed s) (clean : IsClean s) where
         let y = at_map (rule_of s) d.rules k b q in
         one_slot i d at j k x.0 y.0 x.1 y.1 (ap (λ (r : DRule). r.key) x.2 ∙ same ∙ sym (ap (λ (r : DRule). r.key) y.2));
     fixed_keys = All-from_places _ _ (λ j a p. let x = at_map (rule_of s) d.rules j a p in subst (λ (r : DRule). IsTrue (is_fixed r) → IsSome r.key) x.2 (fixed_key i d at j x.0 x.1));
-    bounds = All-from_places _ _ (λ j a p. let x = at_map (rule_of s) d.rules j a p in subst (λ (r : DRule). IfSome r.max (λ max. r.min ≤ max)) x.2 (bounded_rule s x.0 (clean.bounded i j d x.0 at x.1)));
-    least = All-from_places _ _ (λ j a p. let x = at_map (rule_of s) d.rules j a p in subst (λ (r : DRule). IsLeast r.kind r.min) x.2 (least_rule s x.0 (clean.required i j d x.0 at x.1) (clean.optional i j d x.0 at x.1)));
+    bounds = All-from_places _ _ (λ j a p. let x = at_map (rule_of s) d.rules j a p
+        in subst (λ (r : DRule). IfSome r.max (λ max. r.min ≤ max)) x.2 (bounded_rule s x.0 (clean.bounded i j d x.0 at x.1)));
+    least = All-from_places _ _ (λ j a p. let x = at_map (rule_of s) d.rules j a p
+        in subst (λ (r : DRule). IsLeast r.kind r.min) x.2 (least_rule s x.0 (clean.required i j d x.0 at x.1) (clean.optional i j d x.0 at x.1)));
     few = omega (arith, clean.short i d at, length-map d.rules (rule_of s));
   }
     where
@@ -435,7 +450,15 @@ module _ (s : PlainSource) (formed : IsFormed s) (clean : IsClean s) where
 
   pub few : length (resolved s).entries + length (resolved s).commands ≤ max_parts
   few =
-      omega (arith, clean.few, length-append (map (declared_entry s) s.avps) (map (bare_entry s) (bare_groups s)), length-map s.avps (declared_entry s), length-map (bare_groups s) (bare_entry s), length-map s.commands (definition_of s), length-filter_both (is_bare s) (λ g. not (is_bare s g)) (λ g. refl) s.groups)
+      omega (
+        arith,
+        clean.few,
+        length-append (map (declared_entry s) s.avps) (map (bare_entry s) (bare_groups s)),
+        length-map s.avps (declared_entry s),
+        length-map (bare_groups s) (bare_entry s),
+        length-map s.commands (definition_of s),
+        length-filter_both (is_bare s) (λ g. not (is_bare s g)) (λ g. refl) s.groups,
+      )
 
   pub sound : IsDictionary (resolved s)
   sound = record {

@@ -1,5 +1,6 @@
 -- Dictionaries: finite maps of keys to entries, of Grouped entries to definitions, and of selectors to definitions.
-use Rattle.std.specs.Prelude.{◌≡◌, ◌≢◌, ℕ, ◌+◌, ◌≤◌, nat_eq, Bool, true, false, ◌==◌, ◌&&◌, if◌then◌else◌, List, ◌++◌, length, Option, Some, None, slice_get, position, take, option_and_then, IsTrue, IsSome, IfSome, ⊤, string_bytes, All, Contains, ◌↔◌}
+use Rattle.std.specs.Prelude.{◌≡◌, ◌≢◌, ℕ, ◌+◌, ◌≤◌, nat_eq, Bool, true, false, ◌==◌, ◌&&◌, if◌then◌else◌, List, ◌++◌, length, Option, Some, None}
+use Rattle.std.specs.Prelude.{slice_get, position, take, option_and_then, IsTrue, IsSome, IfSome, ⊤, string_bytes, All, Contains, ◌↔◌}
 use Rattle.std.specs.List.{filter_map, list_any, list_all}
 use Rattle.std.specs.Option.{option_eq, option_map, option_map_or, option_or}
 use Rattle.dia_wire.specs.declared.Key.{Key}

@@ -20,8 +20,8 @@ pub use soundness::base_is_sound;
 use std::alloc::{AllocError, Global};
 use text::TEXT;
 
-/// The text of the base dictionary (after RFC 6733 sections 5 to 8; which rules and counts it lists is our profile), in canonical form:
-/// the declarations by code, the groups by code, and the commands. Takes no memory.
+/// The text of the base dictionary (after RFC 6733 sections 5 to 8; which rules and counts it lists is our profile), in
+/// canonical form: the declarations by code, the groups by code, and the commands. Takes no memory.
 pub fn base_text() -> &'static str
     ensures { result.now ≡ canonical base_source }
 {

@@ -1,5 +1,6 @@
 ghost use Rattle.std.specs.Prelude.{◌≡◌, ◌<◌, ◌+◌, ◌↔◌, IsTrue, IfSome, length, slice_get, Option};
-ghost use Rattle.dia_dict.specs.Dictionary.{Dictionary, IsDictionary, plain, entry_of, group_of, selected, has_command, slot_of, groups, definitions};
+ghost use Rattle.dia_dict.specs.Dictionary.{Dictionary, IsDictionary, plain, entry_of, group_of, selected};
+ghost use Rattle.dia_dict.specs.Dictionary.{has_command, slot_of, groups, definitions};
 ghost use Rattle.dia_data.specs.Plain.{plain as plain_format};
 
 use crate::definition::{Class, Definition, Slot};
@@ -15,8 +16,7 @@ use dia_wire::Key;
 /// distinct. An AVP is Grouped exactly where it has a definition. Rules name known AVPs, each once in its definition,
 /// fixed ones first, with counts that can be met. The clause `sound` of `entries` hands all that out.
 ///
-/// No call takes memory. A call that asks for an entry or a definition by its number asks for one of this book's own,
-/// as the other calls answer them.
+/// No call takes memory. An `Entry` or a `DefId` is passed only to the book that answered it.
 pub trait Book {
     ghost meaning: { Self → Dictionary };
 
@@ -49,8 +49,9 @@ pub trait Book {
         requires { entry < length (meaning self.now).entries }
         ensures { result ≡ group_of (meaning self.now) entry };
 
-    /// The definition of a message of this command code, class and application (RFC 6733 section 3.2): the application's own, else the
-    /// one without application. For an error it is the one of the header `code, ERR`, whatever the code and the application.
+    /// The definition of a message of this command code, class and application (RFC 6733 section 3.2): the application's
+    /// own, else the one without application. For an error it is the one of the header `code, ERR`, whatever the code and
+    /// the application.
     fn select(&self, code: u32, class: Class, app: u32) -> Option<DefId>
         ensures { result ≡ selected (meaning self.now) code class app };
 

@@ -50,7 +50,8 @@ impl EntryList {
         format: Format,
         rule: MRule,
     ) -> Result<(), AllocError>
-        ensures { OnOk result (entries_of self.new.rows.items self.new.groups.items ≡ entries_of self.old.rows.items self.old.groups.items
+        ensures { OnOk result (entries_of self.new.rows.items self.new.groups.items
+            ≡ entries_of self.old.rows.items self.old.groups.items
             ++ record { name = string_bytes name; key = key; format = plain_format format; rule = rule; group = None } ∷ []) }
     {
         self.rows.push(Row {
@@ -72,8 +73,15 @@ impl EntryList {
         rule: MRule,
         definition: Definition,
     ) -> Result<(), AllocError>
-        ensures { OnOk result (entries_of self.new.rows.items self.new.groups.items ≡ entries_of self.old.rows.items self.old.groups.items
-            ++ record { name = string_bytes name; key = key; format = plain_format format; rule = rule; group = Some (plain definition) } ∷ []) }
+        ensures { OnOk result (entries_of self.new.rows.items self.new.groups.items
+            ≡ entries_of self.old.rows.items self.old.groups.items
+            ++ record {
+              name = string_bytes name;
+              key = key;
+              format = plain_format format;
+              rule = rule;
+              group = Some (plain definition);
+            } ∷ []) }
     {
         let number = self.groups.len();
         self.rows.reserve(1)?;

@@ -24,13 +24,13 @@ pub enum DictKind {
     RepeatedSlot,
     /// A rule's least count is above its greatest (RFC 6733 section 3.2).
     MinOverMax,
-    /// A required rule may be met by no AVP (RFC 6733 section 3.2).
+    /// A required rule allows that the AVP is absent (RFC 6733 section 3.2).
     RequiredMin,
-    /// An optional rule cannot be met by no AVP (RFC 6733 section 3.2).
+    /// An optional rule demands the AVP (RFC 6733 section 3.2).
     OptionalMin,
 }
 
-/// Prints the kind's word, `required-min` for one (our profile).
+/// Prints the kind's word, such as `required-min` (our profile).
 impl fmt::Display for DictKind {
     ghost use Rattle.std.specs.Prelude.{Some};
     ghost use Rattle.dia_dict.specs.Words.{kind_word};
@@ -57,9 +57,9 @@ impl fmt::Display for DictKind {
 /// Why a source is no dictionary. It prints as `required-min: DEFINITION AVP`, with the names that there are.
 #[derive(Debug, Drop, PartialEq, Eq, Error)]
 pub enum DictFault {
-    /// The first fault, by kind and then in the order declarations, groups, commands, each in the order of the text. `name`
-    /// is that of a definition or an AVP, `slot` that of a rule's AVP, `AVP` for the wildcard; either is empty where there
-    /// is none.
+    /// The first fault, by kind and then in the order declarations, groups, commands, each in the order of the text.
+    /// `name` names a definition or an AVP. `slot` names the AVP of a rule, with `AVP` for the wildcard. Either is empty
+    /// where there is none.
     #[error(fmt = tell_stands)]
     Stands {
         kind: DictKind,

@@ -1,4 +1,4 @@
-//! Keys of maps: what commands are looked up by.
+//! The keys by which commands are looked up.
 use crate::definition::{Class, DefHead};
 
 /// Which messages a command is for.
@@ -10,7 +10,7 @@ pub(crate) enum Selector {
         request: bool,
         app: Option<u32>,
     },
-    /// Messages of the class Error.
+    /// All messages of the class Error.
     Error,
 }
 
@@ -19,7 +19,7 @@ impl Selector {
     ghost use Rattle.dia_dict.specs.Dictionary.{IsCommandHead};
     ghost use Rattle.dia_dict.specs.Selecting.{selector, selector_of};
 
-    /// That of the messages of a code and a class, for an application or for all that no other command names.
+    /// The selector of messages of a code and a class, for an application or for all that no other command names.
     pub fn new(code: u32, class: Class, app: Option<u32>) -> Self
         ensures { result ≡ selector code class app }
     {
@@ -38,7 +38,7 @@ impl Selector {
         }
     }
 
-    /// That of a command.
+    /// The selector of a command.
     pub fn of(head: DefHead) -> Self
         requires { IsCommandHead head }
         ensures { result ≡ selector_of head }
@@ -56,7 +56,7 @@ impl Selector {
     }
 }
 
-/// Which messages a command is for, where its application is left out.
+/// Which messages a command is for, whatever the application.
 #[derive(Clone, Copy, Debug, PartialEq, Eq, Hash)]
 pub(crate) enum Service {
     /// Requests or answers of a command code.
@@ -70,7 +70,7 @@ impl Service {
     ghost use Rattle.dia_dict.specs.Dictionary.{IsCommandHead};
     ghost use Rattle.dia_dict.specs.Selecting.{service, service_of};
 
-    /// That of the messages of a code and a class.
+    /// The service of messages of a code and a class.
     pub fn new(code: u32, class: Class) -> Self
         ensures { result ≡ service code class }
     {
@@ -87,7 +87,7 @@ impl Service {
         }
     }
 
-    /// That of a command.
+    /// The service of a command.
     pub fn of(head: DefHead) -> Self
         requires { IsCommandHead head }
         ensures { result ≡ service_of head }

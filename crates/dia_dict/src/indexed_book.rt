@@ -35,7 +35,9 @@ pub struct IndexedBook {
     ghost placed: { IsIndexOf avps.rows.items (place_among (row_keys book.entries.rows.items)) },
     ghost slotted: { ∥ AreSlotTables slots.items (book.entries.groups.items ++ book.commands.items) ∥₁ },
     ghost selected: { ∥ selectors.keys ≡ map (λ d. selector_of d.head) book.commands.items ∥₁ },
-    ghost served: { (s : AnyService) → list_any (same_service s) services.keys ≡ list_any (same_service s) (map (λ d. service_of d.head) book.commands.items) },
+    ghost served: { (s : AnyService)
+        → list_any (same_service s) services.keys ≡ list_any (same_service s)
+        (map (λ d. service_of d.head) book.commands.items) },
 }
 
 impl IndexedBook {

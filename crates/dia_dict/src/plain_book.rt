@@ -20,14 +20,17 @@ pub struct PlainBook {
     pub(crate) entries: EntryList,
     pub(crate) commands: Vec<Definition>,
     ghost few: { length entries.rows.items + length commands.items ≤ max_parts },
-    ghost sound: { ∥ IsDictionary (dictionary_of entries.rows.items (map plain entries.groups.items) (map plain commands.items)) ∥₁ },
+    ghost sound: { ∥ IsDictionary
+        (dictionary_of entries.rows.items (map plain entries.groups.items) (map plain commands.items)) ∥₁ },
 }
 
 impl PlainBook {
     pub(crate) fn new(entries: EntryList, commands: Vec<Definition>) -> Self
         requires few { length entries.rows.items + length commands.items ≤ max_parts }
-        requires sound { IsDictionary (dictionary_of entries.rows.items (map plain entries.groups.items) (map plain commands.items)) }
-        ensures { ⟦<PlainBook as Book>⟧.meaning result ≡ dictionary_of entries.rows.items (map plain entries.groups.items) (map plain commands.items) }
+        requires sound { IsDictionary
+            (dictionary_of entries.rows.items (map plain entries.groups.items) (map plain commands.items)) }
+        ensures { ⟦<PlainBook as Book>⟧.meaning result ≡ dictionary_of entries.rows.items
+            (map plain entries.groups.items) (map plain commands.items) }
     {
         PlainBook { entries, commands }
     }

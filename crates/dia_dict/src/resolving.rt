@@ -23,11 +23,13 @@ use std::alloc::Global;
 
 /// The dictionary that a source names.
 ///
-/// Entries stand in the order of the declarations, then of the groups without one; such a group has the M rule `Any`. `Stands` tells the
-/// first fault, by the order of `DictKind` and then by the order declarations, groups, commands, each in the order of the text; for
-/// two alike it is the later one. `NoMemory` comes only where memory was refused. The source is given up.
+/// Entries stand in the order of the declarations, then of the groups without one; such a group has the M rule `Any`.
+/// `Stands` tells the first fault: the first in the order of `DictKind`, and among faults of one kind the first in the
+/// order declarations, groups, commands, each in the order of the text. Of two items that are alike the later one has the
+/// fault. `NoMemory` comes only where memory was refused. The source is consumed.
 pub fn resolve(alloc: Global, source: Source) -> Result<PlainBook, DictFault>
-    ensures ok { IfOk result (λ book. (first_wrong (plain source) ≡ None) × (⟦<PlainBook as Book>⟧.meaning book ≡ resolved (plain source))) }
+    ensures ok { IfOk result (λ book. (first_wrong (plain source) ≡ None)
+        × (⟦<PlainBook as Book>⟧.meaning book ≡ resolved (plain source))) }
     ensures err { IfErr result (IsToldOf (plain source)) }
 {
     match checked(alloc, &source) {
@@ -39,7 +41,8 @@ pub fn resolve(alloc: Global, source: Source) -> Result<PlainBook, DictFault>
 
 /// The dictionary, where nothing is wrong.
 fn checked(alloc: Global, source: &Source) -> Result<PlainBook, Refusal<'_>>
-    ensures ok { IfOk result (λ book. (first_wrong (plain source.now) ≡ None) × (⟦<PlainBook as Book>⟧.meaning book ≡ resolved (plain source.now))) }
+    ensures ok { IfOk result (λ book. (first_wrong (plain source.now) ≡ None)
+        × (⟦<PlainBook as Book>⟧.meaning book ≡ resolved (plain source.now))) }
     ensures err { IfErr result (IsRefused (all_wrong (plain source.now))) }
 {
     checks::limits(source)?;
@@ -47,11 +50,12 @@ fn checked(alloc: Global, source: &Source) -> Result<PlainBook, Refusal<'_>>
     named(alloc, &names)
 }
 
-/// The same of a source within its limits, whose names are distinct.
+/// The dictionary of a source that is within its limits and has distinct names, where nothing else is wrong.
 fn named<'a>(alloc: Global, names: &Names<'a>) -> Result<PlainBook, Refusal<'a>>
     requires within { wrong_limits (plain names.now.source.now) ≡ [] }
     requires distinct { wrong_names (plain names.now.source.now) ≡ [] }
-    ensures ok { IfOk result (λ book. (first_wrong (plain names.now.source.now) ≡ None) × (⟦<PlainBook as Book>⟧.meaning book ≡ resolved (plain names.now.source.now))) }
+    ensures ok { IfOk result (λ book. (first_wrong (plain names.now.source.now) ≡ None)
+        × (⟦<PlainBook as Book>⟧.meaning book ≡ resolved (plain names.now.source.now))) }
     ensures err { IfErr result (IsRefused (all_wrong (plain names.now.source.now))) }
 {
     checks::entries(alloc, names)?;

@@ -27,12 +27,14 @@ cannot_begin xs room start len h8 is_len is_start bad more whole =
     (start_from (get_or (xs ++ more) 4 0) start (rw (flags_before xs more h8) is_start))
     (elim bad [ inl short ↦ inl short | inr long ↦ inr (omega (arith, long, whole)) ])
 
-moved_vendor : (xs more : List ℕ) (vendor : Option ℕ) → 8 ≤ length xs → (HasVendorFlag (get_or xs 4 0) × (12 ≤ length xs) × (vendor ≡ Some (big_from 0 4 (drop 8 xs)))) ⊎ ((¬ HasVendorFlag (get_or xs 4 0)) × (vendor ≡ None))
+moved_vendor : (xs more : List ℕ) (vendor : Option ℕ) → 8 ≤ length xs
+    → (HasVendorFlag (get_or xs 4 0) × (12 ≤ length xs) × (vendor ≡ Some (big_from 0 4 (drop 8 xs)))) ⊎ ((¬ HasVendorFlag (get_or xs 4 0)) × (vendor ≡ None))
     → (HasVendorFlag (get_or (xs ++ more) 4 0) × (vendor ≡ Some (big_from 0 4 (drop 8 (xs ++ more))))) ⊎ ((¬ HasVendorFlag (get_or (xs ++ more) 4 0)) × (vendor ≡ None))
 moved_vendor xs more vendor h8 (inl h) = inl (rw (flags_before xs more h8) h.0, h.2 ∙ ap (λ (n : ℕ). Some n) (sym (field_before 8 4 xs more (omega (arith, h.1)))))
 moved_vendor xs more vendor h8 (inr h) = inr (rw (flags_before xs more h8) h.0, h.1)
 
-head_room : (xs more : List ℕ) (vendor : Option ℕ) → 8 ≤ length xs → (HasVendorFlag (get_or xs 4 0) × (12 ≤ length xs) × (vendor ≡ Some (big_from 0 4 (drop 8 xs)))) ⊎ ((¬ HasVendorFlag (get_or xs 4 0)) × (vendor ≡ None)) → head_length vendor ≤ length (xs ++ more)
+head_room : (xs more : List ℕ) (vendor : Option ℕ) → 8 ≤ length xs → (HasVendorFlag (get_or xs 4 0) × (12 ≤ length xs) × (vendor ≡ Some (big_from 0 4 (drop 8 xs))))
+    ⊎ ((¬ HasVendorFlag (get_or xs 4 0)) × (vendor ≡ None)) → head_length vendor ≤ length (xs ++ more)
 head_room xs more vendor h8 (inl h) = rw h.2 (omega (arith, length-append xs more, h.1))
 head_room xs more vendor h8 (inr h) = rw h.1 (omega (arith, length-append xs more, h8))
 

@@ -73,14 +73,16 @@ pub good_begins : (xs : List ℕ) → is_bad xs ≡ false → BeginsWith (avp_of
 good_begins xs h =
     let a = or_false (nat_lt (length xs) 8 || nat_lt (len_of xs) (head_length (vendor_of xs))) (nat_lt (length xs) (rounded (len_of xs))) h in
     let b = or_false (nat_lt (length xs) 8) (nat_lt (len_of xs) (head_length (vendor_of xs))) a.0 in
-    let made = begins_at xs (big_from 0 4 xs) (len_of xs) (head_length (vendor_of xs)) (big_from 0 4 (drop 8 xs)) (vendor_of xs) refl refl refl (starts xs) (vendors xs) (ltb-false _ _ b.0) (ltb-false _ _ b.1) (ltb-false _ _ a.1) in
+    let made = begins_at xs (big_from 0 4 xs) (len_of xs) (head_length (vendor_of xs)) (big_from 0 4 (drop 8 xs))
+    (vendor_of xs) refl refl refl (starts xs) (vendors xs) (ltb-false _ _ b.0) (ltb-false _ _ b.1) (ltb-false _ _ a.1) in
     subst (BeginsWith (avp_of xs) xs) (take_rest xs (rounded (len_of xs))) made
 
 same_rest : (a b x y : List ℕ) → a ≡ b → a ++ x ≡ b ++ y → x ≡ y
 same_rest a b x y e h =
     sym (drop_at a x (length a) refl) ∙ ap (λ (f : List ℕ). drop (length a) f) h ∙ drop_at b y (length a) (ap length (sym e))
 
-decided : (xs : List ℕ) (v : PlainAvp) (rest : List ℕ) → BeginsWith v xs rest → (b : Bool) → is_bad xs ≡ b → cond {A = Option (PlainAvp × List ℕ)} b None (Some (avp_of xs, drop (rounded (len_of xs)) xs)) ≡ Some (v, rest)
+decided : (xs : List ℕ) (v : PlainAvp) (rest : List ℕ) → BeginsWith v xs rest → (b : Bool) → is_bad xs ≡ b
+    → cond {A = Option (PlainAvp × List ℕ)} b None (Some (avp_of xs, drop (rounded (len_of xs)) xs)) ≡ Some (v, rest)
 decided xs v rest h true e = absurd (bad_none xs e v rest h)
 decided xs v rest (front, s, parts) false e =
     let g = good_begins xs e in
@@ -97,7 +99,8 @@ none_decided xs h false e = absurd (h (avp_of xs) (drop (rounded (len_of xs)) xs
 pub decode-none : (xs : List ℕ) → BeginsWithNone xs → decode xs ≡ None
 decode-none xs h = none_decided xs h (is_bad xs) refl
 
-some_decided : (xs : List ℕ) (next : PlainAvp × List ℕ) (b : Bool) → is_bad xs ≡ b → cond {A = Option (PlainAvp × List ℕ)} b None (Some (avp_of xs, drop (rounded (len_of xs)) xs)) ≡ Some next → BeginsWith next.0 xs next.1
+some_decided : (xs : List ℕ) (next : PlainAvp × List ℕ) (b : Bool) → is_bad xs ≡ b
+    → cond {A = Option (PlainAvp × List ℕ)} b None (Some (avp_of xs, drop (rounded (len_of xs)) xs)) ≡ Some next → BeginsWith next.0 xs next.1
 some_decided xs next true e h = absurd cc
 some_decided xs next false e h =
     let made : PlainAvp × List ℕ = (avp_of xs, drop (rounded (len_of xs)) xs) in

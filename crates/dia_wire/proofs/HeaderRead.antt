@@ -12,15 +12,19 @@ use Rattle.dia_wire.proofs.Fields.{field}
 field_from : (i n x : ℕ) (xs : List ℕ) → i + n ≤ length xs → x ≡ big_from 0 n (take (length xs - i) (drop i xs)) → IsField n x (take n (drop i xs))
 field_from i n x xs h e = rw (e, take_rest) (field n (drop i xs) (omega (arith, length-drop i xs)))
 
-head_parts : (xs : List ℕ) → 20 ≤ length xs → take 20 xs ≡ (get_or xs 0 0 ∷ take 3 (drop 1 xs)) ++ (get_or xs 4 0 ∷ take 3 (drop 5 xs)) ++ take 4 (drop 8 xs) ++ take 4 (drop 12 xs) ++ take 4 (drop 16 xs)
+head_parts : (xs : List ℕ) → 20 ≤ length xs
+    → take 20 xs ≡ (get_or xs 0 0 ∷ take 3 (drop 1 xs)) ++ (get_or xs 4 0 ∷ take 3 (drop 5 xs)) ++ take 4 (drop 8 xs) ++ take 4 (drop 12 xs) ++ take 4 (drop 16 xs)
 head_parts xs h =
     take-add 16 4 xs ∙ ap (λ (f : List ℕ). f ++ take 4 (drop 16 xs)) (
     take-add 12 4 xs ∙ ap (λ (f : List ℕ). f ++ take 4 (drop 12 xs)) (
     take-add 8 4 xs ∙ ap (λ (f : List ℕ). f ++ take 4 (drop 8 xs)) (
-    take-add 4 4 xs ∙ ap (λ (f : List ℕ). take 4 xs ++ take 4 f) (drop_more xs 4 0 (omega arith)) ∙ ap (λ (f : List ℕ). take 4 f ++ (get_or xs 4 0 ∷ take 3 (drop 5 xs))) (drop_more xs 0 0 (omega arith)))))
+    take-add 4 4 xs ∙ ap (λ (f : List ℕ). take 4 xs ++ take 4 f) (drop_more xs 4 0 (omega arith))
+    ∙ ap (λ (f : List ℕ). take 4 f ++ (get_or xs 4 0 ∷ take 3 (drop 5 xs))) (drop_more xs 0 0 (omega arith)))))
 
-pub head_at : (xs : List ℕ) (h : Header) (n : ℕ) → 20 ≤ length xs → get_or xs 0 0 ≡ 1 → n ≡ big_from 0 3 (take (length xs - 1) (drop 1 xs)) → h.flags ≡ get_or xs 4 0 → h.code ≡ big_from 0 3 (take (length xs - 5) (drop 5 xs))
-    → h.app ≡ big_from 0 4 (take (length xs - 8) (drop 8 xs)) → h.hop ≡ big_from 0 4 (take (length xs - 12) (drop 12 xs)) → h.e2e ≡ big_from 0 4 (take (length xs - 16) (drop 16 xs)) → IsHead h n (take 20 xs)
+pub head_at : (xs : List ℕ) (h : Header) (n : ℕ) → 20 ≤ length xs → get_or xs 0 0 ≡ 1 → n ≡ big_from 0 3 (take (length xs - 1) (drop 1 xs))
+    → h.flags ≡ get_or xs 4 0 → h.code ≡ big_from 0 3 (take (length xs - 5) (drop 5 xs))
+    → h.app ≡ big_from 0 4 (take (length xs - 8) (drop 8 xs)) → h.hop ≡ big_from 0 4 (take (length xs - 12) (drop 12 xs))
+    → h.e2e ≡ big_from 0 4 (take (length xs - 16) (drop 16 xs)) → IsHead h n (take 20 xs)
 head_at xs h n long one is_len is_flags is_code is_app is_hop is_e2e = record {
   len = take 3 (drop 1 xs);
   code = take 3 (drop 5 xs);

@@ -40,8 +40,10 @@ one_header h k n m b s t =
     let code_same : h.code ≡ k.code = sym s.code_field.value ∙ ap (λ (f : List ℕ). number (drop 1 f)) code.1 ∙ t.code_field.value in
     let app_same : h.app ≡ k.app = sym s.app_field.value ∙ ap number app.1 ∙ t.app_field.value in
     let hop_same : h.hop ≡ k.hop = sym s.hop_field.value ∙ ap number hop.1 ∙ t.hop_field.value in
-    let e2e_same : h.e2e ≡ k.e2e = sym s.e2e_field.value ∙ ap number e2e.1 ∙ t.e2e_field.value in
-    (λ i. record { flags = flags_same i; code = code_same i; app = app_same i; hop = hop_same i; e2e = e2e_same i }, sym s.length_field.value ∙ ap (λ (f : List ℕ). number (drop 1 f)) code.0 ∙ t.length_field.value)
+    let e2e_same : h.e2e ≡ k.e2e = sym s.e2e_field.value ∙ ap number e2e.1 ∙ t.e2e_field.value in (
+      λ i. record { flags = flags_same i; code = code_same i; app = app_same i; hop = hop_same i; e2e = e2e_same i },
+      sym s.length_field.value ∙ ap (λ (f : List ℕ). number (drop 1 f)) code.0 ∙ t.length_field.value,
+    )
 
 -- the first n bytes
 abbrev Front : ℕ → List ℕ → List ℕ → Type 0
@@ -54,9 +56,12 @@ Front-more n front xs ys (long, same) = (omega (arith, long, length-append xs ys
 pub head_says : (h : Header) (n : ℕ) (bytes : List ℕ) → IsHead h n (take 20 bytes) → (20 ≤ length bytes) × (slice_index bytes 0 ≡ 1) × (number (take 3 (drop 1 bytes)) ≡ n)
 head_says h n bytes s =
     let begun : Front 4 (1 ∷ s.len) (1 ∷ s.len) = (let w = s.length_field.width in omega arith, take_all 4 (1 ∷ s.len) (let w = s.length_field.width in omega arith)) in
-    let front : Front 4 (1 ∷ s.len) (take 20 bytes) = rw s.parts (Front-more 4 (1 ∷ s.len) (to_hop_of s) s.e2e (Front-more 4 (1 ∷ s.len) (to_app_of s) s.hop (Front-more 4 (1 ∷ s.len) (to_code_of s) s.app (Front-more 4 (1 ∷ s.len) (1 ∷ s.len) (h.flags ∷ s.code) begun)))) in
+    let front : Front 4 (1 ∷ s.len) (take 20 bytes) = rw s.parts
+    (Front-more 4 (1 ∷ s.len) (to_hop_of s) s.e2e
+    (Front-more 4 (1 ∷ s.len) (to_app_of s) s.hop (Front-more 4 (1 ∷ s.len) (to_code_of s) s.app (Front-more 4 (1 ∷ s.len) (1 ∷ s.len) (h.flags ∷ s.code) begun)))) in
     let to_app = length-append (1 ∷ s.len) (h.flags ∷ s.code) in
-    let size : length (take 20 bytes) ≡ 20 = ap length s.parts ∙ (let a = length-append (to_hop_of s) s.e2e in let b = length-append (to_app_of s) s.hop in let c = length-append (to_code_of s) s.app in
+    let size : length (take 20 bytes) ≡ 20 = ap length s.parts
+    ∙ (let a = length-append (to_hop_of s) s.e2e in let b = length-append (to_app_of s) s.hop in let c = length-append (to_code_of s) s.app in
     omega (arith, a, b, c, to_app, s.length_field.width, s.code_field.width, s.app_field.width, s.hop_field.width, s.e2e_field.width)) in
     let long : 20 ≤ length bytes = omega (arith, length-take 20 bytes, size) in
     let four : take 4 bytes ≡ 1 ∷ s.len = sym (take-take 4 20 bytes (omega arith)) ∙ front.1 in

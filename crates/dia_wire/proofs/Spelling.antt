@@ -51,7 +51,12 @@ spelled xs vendor len is_vendor agrees is_len h8 hstart hwhole = record {
       ap (λ (k : ℕ). take k xs) e ∙ fields xs (head_length vendor - 8) h8));
   code_field = field 4 xs (omega arith);
   length_field =
-      let size : head_length vendor + length (take (len - head_length vendor) (drop (head_length vendor) xs)) ≡ len = omega (arith, length-take (len - head_length vendor) (drop (head_length vendor) xs), length-drop (head_length vendor) xs, rounded-le len) in
+      let size : head_length vendor + length (take (len - head_length vendor) (drop (head_length vendor) xs)) ≡ len = omega (
+        arith,
+        length-take (len - head_length vendor) (drop (head_length vendor) xs),
+        length-drop (head_length vendor) xs,
+        rounded-le len,
+      ) in
       subst (λ (n : ℕ). IsField 3 n (take 3 (drop 5 xs))) (is_len ∙ sym size) (field 3 (drop 5 xs) (omega (arith, length-drop 5 xs)));
   vendor_field = is_vendor;
   agrees = agrees;
@@ -74,7 +79,13 @@ drop_five xs a ys h = sym (drop-drop 1 4 xs) ∙ ap (λ (f : List ℕ). drop 1 f
 sizes : (code len vendor bytes padding : List ℕ) (flags n : ℕ) → length code ≡ 4 → length len ≡ 3 → 8 + length vendor ≡ n
     → length (code ++ (flags ∷ len) ++ vendor ++ bytes ++ padding) ≡ (n + length bytes) + length padding
 sizes code len vendor bytes padding flags n hc hl hv =
-    omega (arith, length-append (code ++ (flags ∷ len) ++ vendor ++ bytes) padding, length-append (code ++ (flags ∷ len) ++ vendor) bytes, length-append (code ++ (flags ∷ len)) vendor, length-append code (flags ∷ len))
+    omega (
+      arith,
+      length-append (code ++ (flags ∷ len) ++ vendor ++ bytes) padding,
+      length-append (code ++ (flags ∷ len) ++ vendor) bytes,
+      length-append (code ++ (flags ∷ len)) vendor,
+      length-append code (flags ∷ len),
+    )
 
 -- what the first bytes of a spelling say of it
 pub record Opened (v : PlainAvp) (front xs : List ℕ) : Type 0 where
@@ -102,10 +113,12 @@ opened v front rest s =
     let front_length : length front ≡ rounded (avp_length v) = omega (arith, size, s.short_padding, s.aligned) in
     let eight : drop 8 (front ++ rest) ≡ z = sym (drop-drop 3 5 (front ++ rest)) ∙ ap (λ (f : List ℕ). drop 3 f) five ∙ drop_at s.len z 3 s.length_field.width in
     let width : length s.vendor ≡ head_length v.vendor - 8 = omega (arith, length-vendor v.vendor s.vendor s.vendor_field) in
-    let at_vendor : take (head_length v.vendor - 8) (drop 8 (front ++ rest)) ≡ s.vendor = ap (λ (f : List ℕ). take (head_length v.vendor - 8) f) eight ∙ take_at s.vendor (v.bytes ++ (s.padding ++ rest)) (head_length v.vendor - 8) width in
+    let at_vendor : take (head_length v.vendor - 8) (drop 8 (front ++ rest)) ≡ s.vendor = ap (λ (f : List ℕ). take (head_length v.vendor - 8) f) eight
+    ∙ take_at s.vendor (v.bytes ++ (s.padding ++ rest)) (head_length v.vendor - 8) width in
     let back : 8 + (head_length v.vendor - 8) ≡ head_length v.vendor = omega (arith, at_least_8 v.vendor) in
     let at_bytes : drop (head_length v.vendor) (front ++ rest) ≡ v.bytes ++ (s.padding ++ rest) =
-    ap (λ (k : ℕ). drop k (front ++ rest)) (sym back) ∙ sym (drop-drop (head_length v.vendor - 8) 8 (front ++ rest)) ∙ ap (λ (f : List ℕ). drop (head_length v.vendor - 8) f) eight ∙ drop_at s.vendor (v.bytes ++ (s.padding ++ rest)) (head_length v.vendor - 8) width in
+    ap (λ (k : ℕ). drop k (front ++ rest)) (sym back) ∙ sym (drop-drop (head_length v.vendor - 8) 8 (front ++ rest))
+    ∙ ap (λ (f : List ℕ). drop (head_length v.vendor - 8) f) eight ∙ drop_at s.vendor (v.bytes ++ (s.padding ++ rest)) (head_length v.vendor - 8) width in
     record {
       flags = sym (get_or-drop 4 (front ++ rest) 0 0) ∙ ap (λ (f : List ℕ). get_or f 0 0) after;
       code = ap (λ (f : List ℕ). big_from 0 4 f) regrouped ∙ front_field 4 v.code s.code ((v.flags ∷ s.len) ++ z) s.code_field;
@@ -143,7 +156,8 @@ pub vendor_agrees : (flags n : ℕ) (v : Option ℕ) → (HasVendorFlag flags ×
 vendor_agrees flags n v (inl h) = rw h.1 (λ _. refl, λ _. h.0)
 vendor_agrees flags n v (inr h) = rw h.1 (λ k. absurd (h.0 k), λ k. absurd cc)
 
-pub vendor_field_at : (xs : List ℕ) (flags : ℕ) (v : Option ℕ) → (HasVendorFlag flags × (v ≡ Some (big_from 0 4 (drop 8 xs)))) ⊎ ((¬ HasVendorFlag flags) × (v ≡ None)) → head_length v ≤ length xs → IsVendorField v (vendor_at v xs)
+pub vendor_field_at : (xs : List ℕ) (flags : ℕ) (v : Option ℕ) → (HasVendorFlag flags × (v ≡ Some (big_from 0 4 (drop 8 xs))))
+    ⊎ ((¬ HasVendorFlag flags) × (v ≡ None)) → head_length v ≤ length xs → IsVendorField v (vendor_at v xs)
 vendor_field_at xs flags v (inl h) long =
     let room : 12 ≤ length xs = let k = rw h.1 at long in k in
     rw h.1 (field 4 (drop 8 xs) (omega (arith, length-drop 8 xs, room)))

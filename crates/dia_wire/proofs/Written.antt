@@ -1,5 +1,6 @@
 -- What is written is a spelling, and a message of them.
-use Rattle.std.proofs.Common.{◌≡◌, ℕ, suc, zero, ◌+◌, ◌-◌, ◌*◌, ◌/◌, ◌%◌, ◌^◌, ◌<◌, ◌≤◌, List, [], ◌∷◌, ◌++◌, Option, Some, None, map, length, take, get_or, refl, sym, ap, subst, ◌∙◌, append_assoc, arith, inl, inr}
+use Rattle.std.proofs.Common.{◌≡◌, ℕ, suc, zero, ◌+◌, ◌-◌, ◌*◌, ◌/◌, ◌%◌, ◌^◌, ◌<◌, ◌≤◌, List, [], ◌∷◌, ◌++◌, Option, Some}
+use Rattle.std.proofs.Common.{None, map, length, take, get_or, refl, sym, ap, subst, ◌∙◌, append_assoc, arith, inl, inr}
 use Rattle.std.specs.Prelude.{sum_by}
 use Rattle.std.specs.List.{AllByRecursion}
 use Rattle.std.proofs.lemmas.List.{append-nil, length-append, length-take, take_all, take_more}
@@ -92,7 +93,8 @@ avp_spelled v agrees small code vendor = record {
 
 -- ---- headers
 
-pub header_spelled : (h : Header) (len : ℕ) → len < 2 ^ 24 → h.code < 2 ^ 24 → IsField 4 h.app (big_bytes 4 h.app) → IsField 4 h.hop (big_bytes 4 h.hop) → IsField 4 h.e2e (big_bytes 4 h.e2e) → IsHead h len (header_bytes h len)
+pub header_spelled : (h : Header) (len : ℕ) → len < 2 ^ 24 → h.code < 2 ^ 24 → IsField 4 h.app (big_bytes 4 h.app)
+    → IsField 4 h.hop (big_bytes 4 h.hop) → IsField 4 h.e2e (big_bytes 4 h.e2e) → IsHead h len (header_bytes h len)
 header_spelled h len small code app hop e2e = record {
   len = big_bytes 3 len;
   code = big_bytes 3 h.code;
@@ -107,7 +109,8 @@ header_spelled h len small code app hop e2e = record {
   e2e_field = e2e;
 }
 
-pub header_chain : (t t1 t2 t3 t4 t5 t6 t7 len code app hop e2e : List ℕ) (flags : ℕ) → t1 ≡ t ++ 1 ∷ [] → t2 ≡ t1 ++ len → t3 ≡ t2 ++ flags ∷ [] → t4 ≡ t3 ++ code → t5 ≡ t4 ++ app → t6 ≡ t5 ++ hop → t7 ≡ t6 ++ e2e
+pub header_chain : (t t1 t2 t3 t4 t5 t6 t7 len code app hop e2e : List ℕ) (flags : ℕ) → t1 ≡ t ++ 1 ∷ [] → t2 ≡ t1 ++ len
+    → t3 ≡ t2 ++ flags ∷ [] → t4 ≡ t3 ++ code → t5 ≡ t4 ++ app → t6 ≡ t5 ++ hop → t7 ≡ t6 ++ e2e
     → t7 ≡ t ++ ((1 ∷ len) ++ (flags ∷ code) ++ app ++ hop ++ e2e)
 header_chain t t1 t2 t3 t4 t5 t6 t7 len code app hop e2e flags e1 e2 e3 e4 e5 e6 e7 = rw (e7, e6, e5, e4, e3, e2, e1) (simp append_assoc)
 
@@ -157,14 +160,21 @@ made_avp h len before avps i d bytes new m within is_new spells =
           (SpellsAllWithZeros-push (map plain (take i avps)) v m.body (avp_bytes v) m.all spells);
     }
 
-pub made_all : (h : Header) (len i : ℕ) (before : List ℕ) (avps : List Avp) (bytes : List ℕ) → IsMade h len before (take i avps) bytes → length avps ≤ i → len ≡ 20 + sum_by padded_length (map plain avps)
+pub made_all : (h : Header) (len i : ℕ) (before : List ℕ) (avps : List Avp) (bytes : List ℕ)
+    → IsMade h len before (take i avps) bytes → length avps ≤ i → len ≡ 20 + sum_by padded_length (map plain avps)
     → (b : List ℕ) × MessageWithZeros h (map plain avps) b × (bytes ≡ before ++ b)
 made_all h len i before avps bytes m end is_len =
     let written : List ℕ = header_bytes h len ++ m.body in
     let all : SpellsAllWithZeros (map plain avps) m.body = subst (λ (xs : List Avp). SpellsAllWithZeros (map plain xs) m.body) (take_all i avps end) m.all in
     let size : len ≡ length written = is_len ∙ ap (λ (n : ℕ). 20 + n) (sym (length-all (map plain avps) m.body all)) ∙ sym (length-append (header_bytes h len) m.body) in
     let message : MessageWithZeros h (map plain avps) written = record {
-      message = record { head = header_bytes h len; body = m.body; parts = refl; is_head = subst (λ (n : ℕ). IsHead h n (header_bytes h len)) size m.is_head; is_body = any_padding (map plain avps) m.body all };
+      message = record {
+        head = header_bytes h len;
+        body = m.body;
+        parts = refl;
+        is_head = subst (λ (n : ℕ). IsHead h n (header_bytes h len)) size m.is_head;
+        is_body = any_padding (map plain avps) m.body all;
+      };
       zeros = all;
     } in
     (written, message, m.parts)
@@ -174,7 +184,16 @@ pub next_room : (xs : List Avp) (i : ℕ) (d : Avp) (before filled room total n 
     → total ≡ 20 + sum_by padded_length (map plain xs) → i < length xs → n ≡ avp_length (plain (get_or xs i d)) → filled + (n + 3) / 4 * 4 ≤ room
 next_room xs i d before filled room total n is_filled fits is_total within is_n =
     let part : (n + 3) / 4 * 4 ≡ padded_length (plain (get_or xs i d)) = ap (λ (k : ℕ). (k + 3) / 4 * 4) is_n in
-    omega (arith, part, is_filled, fits, is_total, sum_by_more (λ (x : Avp). padded_length (plain x)) xs i d within, sum_by-take-le (λ (x : Avp). padded_length (plain x)) xs (i + 1), sum_by-map padded_length plain xs)
+    omega (
+      arith,
+      part,
+      is_filled,
+      fits,
+      is_total,
+      sum_by_more (λ (x : Avp). padded_length (plain x)) xs i d within,
+      sum_by-take-le (λ (x : Avp). padded_length (plain x)) xs (i + 1),
+      sum_by-map padded_length plain xs,
+    )
 
 pub next_filled : (xs : List Avp) (i : ℕ) (d : Avp) (before filled new n : ℕ) → filled ≡ before + 20 + sum_by (λ x. padded_length (plain x)) (take i xs) → i < length xs
     → n ≡ avp_length (plain (get_or xs i d)) → new ≡ filled + (n + 3) / 4 * 4 → new ≡ before + 20 + sum_by (λ x. padded_length (plain x)) (take (i + 1) xs)

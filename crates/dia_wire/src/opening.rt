@@ -1,6 +1,7 @@
 //! The first bytes of an AVP.
 
-ghost use Rattle.std.specs.Prelude.{◌≡◌, ◌≤◌, ◌+◌, ◌*◌, ◌/◌, ◌⊎◌, ◌↔◌, length, take, drop, slice_index, IfOk, IsErr, OnErr, Some, None};
+ghost use Rattle.std.specs.Prelude.{◌≡◌, ◌≤◌, ◌+◌, ◌*◌, ◌/◌, ◌⊎◌, ◌↔◌, length, take, drop};
+ghost use Rattle.std.specs.Prelude.{slice_index, IfOk, IsErr, OnErr, Some, None};
 ghost use Rattle.byteorder.specs.Endian.{big_from};
 ghost use Rattle.dia_wire.specs.Lengths.{avp_head_length, vendor_avp_head_length};
 ghost use Rattle.dia_wire.specs.Number.{number};
@@ -28,7 +29,8 @@ impl Opening {
         ensures code { IfOk result (λ o. o.code ≡ big_from 0 4 bytes.now) }
         ensures flags { IfOk result (λ o. o.flags ≡ slice_index bytes.now 4) }
         ensures length { IfOk result (λ o. o.length ≡ big_from 0 3 (drop 5 bytes.now)) }
-        ensures start { IfOk result (λ o. (HasVendorFlag o.flags × (o.start ≡ vendor_avp_head_length)) ⊎ ((¬ HasVendorFlag o.flags) × (o.start ≡ avp_head_length))) }
+        ensures start { IfOk result (λ o. (HasVendorFlag o.flags × (o.start ≡ vendor_avp_head_length))
+            ⊎ ((¬ HasVendorFlag o.flags) × (o.start ≡ avp_head_length))) }
         ensures header_fits { IfOk result (λ o. o.start ≤ o.length) }
         ensures room { IfOk result (λ o. (o.length + 3) / 4 * 4 ≤ room) }
         ensures fault { OnErr result (CannotBegin bytes.now room) }
@@ -57,7 +59,8 @@ impl Opening {
     /// The Vendor-ID behind the first 8 bytes of an AVP, where the V flag says that it is there.
     pub(crate) fn vendor(&self, bytes: &[u8]) -> Option<u32>
         requires { HasVendorFlag self.now.flags → vendor_avp_head_length ≤ length bytes.now }
-        ensures { (HasVendorFlag self.now.flags × (result ≡ Some (big_from 0 4 (drop avp_head_length bytes.now)))) ⊎ ((¬ HasVendorFlag self.now.flags) × (result ≡ None)) }
+        ensures { (HasVendorFlag self.now.flags × (result ≡ Some (big_from 0 4 (drop avp_head_length bytes.now))))
+            ⊎ ((¬ HasVendorFlag self.now.flags) × (result ≡ None)) }
     {
         if self.flags & AVP_VENDOR != 0 {
             Some(BigEndian::read_u32(&bytes[AVP_HEAD_LENGTH..]))

@@ -1,10 +1,12 @@
 //! Headers and AVPs read from bytes.
 
-ghost use Rattle.std.specs.Prelude.{◌≡◌, ◌≢◌, ◌<◌, ◌≤◌, ◌↔◌, length, take, drop, slice_index, IfOk, IfSome, IsSome, IsErr, OnErr, ◌⊎◌, Ok, Err, None, ℕ, List, ◌++◌};
+ghost use Rattle.std.specs.Prelude.{◌≡◌, ◌≢◌, ◌<◌, ◌≤◌, ◌↔◌, length, take, drop, slice_index, IfOk, IfSome};
+ghost use Rattle.std.specs.Prelude.{IsSome, IsErr, OnErr, ◌⊎◌, Ok, Err, None, ℕ, List, ◌++◌};
 ghost use Rattle.dia_wire.specs.declared.header.Header.{Header as AnyHeader};
 ghost use Rattle.dia_wire.specs.Lengths.{avp_head_length, header_length};
 ghost use Rattle.dia_wire.specs.Number.{number};
-ghost use Rattle.dia_wire.specs.Wire.{IsHead, IsMessageLength, BeginsMessage, PlainAvp, Spells, BeginsWith, BeginsWithNone, HasWholeHead, Heads, CannotBegin, IsBadLength, plain};
+ghost use Rattle.dia_wire.specs.Wire.{IsHead, IsMessageLength, BeginsMessage, PlainAvp, Spells, BeginsWith, BeginsWithNone};
+ghost use Rattle.dia_wire.specs.Wire.{HasWholeHead, Heads, CannotBegin, IsBadLength, plain};
 
 use crate::avp::{AVP_HEAD_LENGTH, Avp, AvpFault, AvpHead, padded};
 use crate::header::{HEADER_LENGTH, HeadFault, Header, MessageFault};
@@ -22,7 +24,9 @@ pub fn read_header(bytes: &[u8]) -> Result<(Header, u32), HeadFault>
     // The faults, the first that stands.
     ensures short { (result ≡ Err HeadFault.Short) ↔ (length bytes.now < header_length) }
     ensures version { (result ≡ Err HeadFault.Version) ↔ ((header_length ≤ length bytes.now) × (slice_index bytes.now 0 ≢ 1)) }
-    ensures length_fault { (result ≡ Err HeadFault.Length) ↔ ((header_length ≤ length bytes.now) × (slice_index bytes.now 0 ≡ 1) × ¬ IsMessageLength (number (take 3 (drop 1 bytes.now)))) }
+    ensures length_fault { (result ≡ Err HeadFault.Length)
+        ↔ ((header_length ≤ length bytes.now) × (slice_index bytes.now 0 ≡ 1)
+        × ¬ IsMessageLength (number (take 3 (drop 1 bytes.now)))) }
 {
     if bytes.len() < HEADER_LENGTH {
         return Err(HeadFault::Short);
@@ -56,7 +60,9 @@ pub fn split_message(bytes: &[u8]) -> Result<(Header, &[u8]), MessageFault>
     // The faults, the first that stands.
     ensures short { (result ≡ Err MessageFault.Short) ↔ (length bytes.now < header_length) }
     ensures version { (result ≡ Err MessageFault.Version) ↔ ((header_length ≤ length bytes.now) × (slice_index bytes.now 0 ≢ 1)) }
-    ensures length_fault { (result ≡ Err MessageFault.Length) ↔ ((header_length ≤ length bytes.now) × (slice_index bytes.now 0 ≡ 1) × ¬ IsMessageLength (number (take 3 (drop 1 bytes.now)))) }
+    ensures length_fault { (result ≡ Err MessageFault.Length)
+        ↔ ((header_length ≤ length bytes.now) × (slice_index bytes.now 0 ≡ 1)
+        × ¬ IsMessageLength (number (take 3 (drop 1 bytes.now)))) }
     ensures truncated { (result ≡ Err MessageFault.Truncated) ↔ ((n : ℕ) × BeginsMessage bytes.now n × (length bytes.now < n)) }
     ensures trailing { (result ≡ Err MessageFault.Trailing) ↔ ((n : ℕ) × BeginsMessage bytes.now n × (n < length bytes.now)) }
 {
@@ -115,7 +121,10 @@ pub fn avp_head(bytes: &[u8], room: usize) -> Result<Option<AvpHead>, AvpFault>
     ensures head { IfOk result (λ o. IfSome o (λ head. HasWholeHead bytes.now × Heads bytes.now head)) }
     ensures none { result ≡ Ok None → ¬ HasWholeHead bytes.now }
     ensures fault { OnErr result (CannotBegin bytes.now room) }
-    ensures refused { IsErr result ↔ ((room < avp_head_length) ⊎ ((avp_head_length ≤ length bytes.now) × IsBadLength (slice_index bytes.now 4) (number (take 3 (drop 5 bytes.now))) room)) }
+    ensures refused { IsErr result
+        ↔ ((room < avp_head_length)
+        ⊎ ((avp_head_length ≤ length bytes.now)
+        × IsBadLength (slice_index bytes.now 4) (number (take 3 (drop 5 bytes.now))) room)) }
 {
     if room < AVP_HEAD_LENGTH {
         return Err(AvpFault::Length);

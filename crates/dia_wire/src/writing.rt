@@ -1,10 +1,12 @@
 //! AVPs and messages written as bytes.
 
-ghost use Rattle.std.specs.Prelude.{◌≡◌, ◌<◌, ◌≤◌, ◌+◌, ◌-◌, ◌*◌, ◌/◌, ◌%◌, ◌++◌, ◌↔◌, List, ℕ, OnOk, OnErr, All, IsNone, IfSome, Err, length, map, sum_by, vec_len, vec_capacity};
+ghost use Rattle.std.specs.Prelude.{◌≡◌, ◌<◌, ◌≤◌, ◌+◌, ◌-◌, ◌*◌, ◌/◌, ◌%◌, ◌++◌, ◌↔◌, List, ℕ, OnOk, OnErr};
+ghost use Rattle.std.specs.Prelude.{All, IsNone, IfSome, Err, length, map, sum_by, vec_len, vec_capacity};
 ghost use Rattle.byteorder.specs.Endian.{big_bytes};
 ghost use Rattle.dia_wire.specs.Lengths.{header_length, three_bytes};
 ghost use Rattle.dia_wire.specs.Number.{IsField};
-ghost use Rattle.dia_wire.specs.Wire.{plain, Agrees, avp_length, padded_length, IsHead, IsVendorField, SpellsWithZeros, MessageWithZeros, IsTooLong};
+ghost use Rattle.dia_wire.specs.Wire.{plain, Agrees, avp_length, padded_length, IsHead, IsVendorField};
+ghost use Rattle.dia_wire.specs.Wire.{SpellsWithZeros, MessageWithZeros, IsTooLong};
 ghost use Rattle.dia_wire.specs.Written.{avp_bytes, header_bytes, padding, vendor_bytes};
 
 use crate::avp::{Avp, padded};
@@ -58,7 +60,8 @@ pub fn put_avp(out: &mut Vec<u8>, avp: &Avp<'_>) -> Result<(), PutFault>
 pub fn put_message(out: &mut Vec<u8>, header: &Header, avps: &[Avp<'_>]) -> Result<(), PutFault>
     requires fits { header.now.code < three_bytes }
     requires agree { All (λ avp. Agrees (plain avp)) avps.now }
-    ensures ok { OnOk result ((b : List ℕ) × MessageWithZeros header.now (map plain avps.now) b × (out.new.items ≡ out.old.items ++ b)) }
+    ensures ok { OnOk result ((b : List ℕ) × MessageWithZeros header.now (map plain avps.now) b
+        × (out.new.items ≡ out.old.items ++ b)) }
     ensures too_long { (result ≡ Err PutFault.TooLong) ↔ IsTooLong (map plain avps.now) }
     ensures err { OnErr result (out.new.items ≡ out.old.items) }
 {

@@ -13,12 +13,14 @@ impl<'a> Reader<'a> {
     ghost use Rattle.dia_ccf.specs.Names.{fits_values, is_number, is_range};
     ghost use Rattle.dia_ccf.specs.Tokens.{Close_parenthesis};
     ghost use Rattle.dia_ccf.specs.Plain.{PlainDecl, PlainSource, plain_decl};
-    ghost use Rattle.dia_ccf.specs.Machine.{Between, Decl_name, Decl_vendor, Decl_format, Decl_values, In_values, add_decl, with_values, format_at, rule_at, is_none, same_sign};
+    ghost use Rattle.dia_ccf.specs.Machine.{Between, Decl_name, Decl_vendor, Decl_format, Decl_values, In_values};
+    ghost use Rattle.dia_ccf.specs.Machine.{add_decl, with_values, format_at, rule_at, is_none, same_sign};
     ghost use Rattle.dia_ccf.specs.Reading.{Accepts, Leads, course, begins_with, left};
 
-    /// A declaration behind its `%avp`.
+    /// A declaration, where its `%avp` was read.
     pub(super) fn declaration(&mut self) -> Result<Decl, Refusal>
-        ensures read { (done : PlainSource) → Leads (course (done, Decl_name) self.old) (λ d. (add_decl done (plain_decl d), Between)) result self.new }
+        ensures read { (done : PlainSource)
+            → Leads (course (done, Decl_name) self.old) (λ d. (add_decl done (plain_decl d), Between)) result self.new }
         ensures farther { OnOk result (self.old.taken ≤ self.new.taken) }
     {
         let name = self.name()?;
@@ -39,7 +41,9 @@ impl<'a> Reader<'a> {
 
     /// The vendor, which is 0 where none stands.
     fn vendor(&mut self) -> Result<u32, Refusal>
-        ensures read { (done : PlainSource) (name : List ℕ) (code : ℕ) → Leads (course (done, Decl_vendor name code) self.old) (λ vendor. (done, Decl_format name code vendor)) result self.new }
+        ensures read { (done : PlainSource) (name : List ℕ) (code : ℕ)
+            → Leads (course (done, Decl_vendor name code) self.old)
+            (λ vendor. (done, Decl_format name code vendor)) result self.new }
         ensures farther { OnOk result (self.old.taken ≤ self.new.taken) }
         ensures small { IfOk result (λ vendor. IsTrue (is_number vendor)) }
     {
@@ -78,7 +82,9 @@ impl<'a> Reader<'a> {
 
     /// The list of values, which stands only behind Enumerated.
     fn values(&mut self, format: FormatName) -> Result<Option<Vec<(u32, u32)>>, Refusal>
-        ensures read { (done : PlainSource) (d : PlainDecl) → d.format ≡ format → d.values ≡ None → Leads (course (done, Decl_values d) self.old) (λ values. (add_decl done (record d { values = option_map (λ v. v.items) values }), Between)) result self.new }
+        ensures read { (done : PlainSource) (d : PlainDecl) → d.format ≡ format → d.values ≡ None
+            → Leads (course (done, Decl_values d) self.old)
+            (λ values. (add_decl done (record d { values = option_map (λ v. v.items) values }), Between)) result self.new }
         ensures listed { IfOk result (λ values. IsTrue (fits_values format values)) }
         ensures farther { OnOk result (self.old.taken ≤ self.new.taken) }
     {
@@ -91,7 +97,9 @@ impl<'a> Reader<'a> {
 
     /// Ranges of values up to the closing parenthesis.
     fn ranges(&mut self) -> Result<Vec<(u32, u32)>, Refusal>
-        ensures read { (done : PlainSource) (d : PlainDecl) → Leads (course (done, In_values d []) self.old) (λ ranges. (add_decl done (with_values d ranges.items), Between)) result self.new }
+        ensures read { (done : PlainSource) (d : PlainDecl)
+            → Leads (course (done, In_values d []) self.old)
+            (λ ranges. (add_decl done (with_values d ranges.items), Between)) result self.new }
         ensures some { IfOk result (λ ranges. is_none ranges.items ≡ false) }
         ensures listed { IfOk result (λ ranges. IsTrue (list_all is_range ranges.items)) }
         ensures farther { OnOk result (self.old.taken ≤ self.new.taken) }
@@ -108,7 +116,10 @@ impl<'a> Reader<'a> {
 
     /// A range, or a number alone, which is a range of one.
     fn range(&mut self) -> Result<(u32, u32), Refusal>
-        ensures read { (done : PlainSource) (d : PlainDecl) (ranges : List (ℕ × ℕ)) → (not (is_none ranges) && begins_with (same_sign Close_parenthesis) (left self.old)) ≡ false → Leads (course (done, In_values d ranges) self.old) (λ range. (done, In_values d (ranges ++ range ∷ []))) result self.new }
+        ensures read { (done : PlainSource) (d : PlainDecl) (ranges : List (ℕ × ℕ))
+            → (not (is_none ranges) && begins_with (same_sign Close_parenthesis) (left self.old)) ≡ false
+            → Leads (course (done, In_values d ranges) self.old)
+            (λ range. (done, In_values d (ranges ++ range ∷ []))) result self.new }
         ensures listed { IfOk result (λ range. IsTrue (is_range range)) }
         ensures farther { OnOk result (self.old.taken < self.new.taken) }
     {

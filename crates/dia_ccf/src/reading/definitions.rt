@@ -19,20 +19,25 @@ enum Behind {
 }
 
 impl<'a> Reader<'a> {
-    ghost use Rattle.std.specs.Prelude.{◌<◌, ◌≤◌, ◌≢◌, ℕ, List, [], ◌&&◌, ◌||◌, not, map, true, false, IfOk, OnOk, IfSome, IsSome, IsTrue, MatchBool, string_bytes};
+    ghost use Rattle.std.specs.Prelude.{◌<◌, ◌≤◌, ◌≢◌, ℕ, List, [], ◌&&◌, ◌||◌, not, map, true, false};
+    ghost use Rattle.std.specs.Prelude.{IfOk, OnOk, IfSome, IsSome, IsTrue, MatchBool, string_bytes};
     ghost use Rattle.std.specs.Option.{option_map};
     ghost use Rattle.dia_ccf.specs.declared.source.Head.{Head as AnyHead};
     ghost use Rattle.dia_ccf.specs.Names.{is_name, fixed_first, is_number_or_none, is_qualifier};
     ghost use Rattle.dia_ccf.specs.Tokens.{Less, Greater, Assign, Declares};
     ghost use Rattle.dia_ccf.specs.Plain.{PlainSource, PlainDef, plain_def, plain_rule};
-    ghost use Rattle.dia_ccf.specs.Machine.{State, Between, Def_assign, Rules, Qual_done, add_def, with_rule, all_fixed, name_at, sign_at, slot_at, number_at, same_sign, is_number, begins_qualifier, begins_loose, on_loose};
+    ghost use Rattle.dia_ccf.specs.Machine.{State, Between, Def_assign, Rules, Qual_done, add_def, with_rule, all_fixed, name_at};
+    ghost use Rattle.dia_ccf.specs.Machine.{sign_at, slot_at, number_at, same_sign, is_number, begins_qualifier, begins_loose};
+    ghost use Rattle.dia_ccf.specs.Machine.{on_loose};
     ghost use Rattle.dia_ccf.specs.Limits.{max_number};
-    ghost use Rattle.dia_ccf.specs.Reading.{Accepts, Leads, Takes, Wants, Reads_by, course, begins_with, left, behind, after_rules, KeepsOrder, NamesNext, Goes};
+    ghost use Rattle.dia_ccf.specs.Reading.{Accepts, Leads, Takes, Wants, Reads_by, course, begins_with};
+    ghost use Rattle.dia_ccf.specs.Reading.{left, behind, after_rules, KeepsOrder, NamesNext, Goes};
 
     /// The name of a definition, in angle brackets or bare.
     pub(super) fn defined_name(&mut self) -> Result<String, Refusal>
         requires { IsSome self.old.token }
-        ensures read { (done : PlainSource) → begins_with (same_sign Declares) (left self.old) ≡ false → Leads (course (done, Between) self.old) (λ name. (done, Def_assign (string_bytes name))) result self.new }
+        ensures read { (done : PlainSource) → begins_with (same_sign Declares) (left self.old) ≡ false
+            → Leads (course (done, Between) self.old) (λ name. (done, Def_assign (string_bytes name))) result self.new }
         ensures named { IfOk result (λ name. IsTrue (is_name (string_bytes name))) }
         ensures farther { OnOk result (self.old.taken < self.new.taken) }
     {
@@ -43,9 +48,11 @@ impl<'a> Reader<'a> {
         }
     }
 
-    /// A name behind its `<`, with its `>`.
+    /// A name and its `>`, where the `<` was read.
     fn name_in_angles(&mut self) -> Result<String, Refusal>
-        ensures read { (state : State) (mid to : List ℕ → State) → Reads_by false true name_at mid state → ((name : List ℕ) → Reads_by false false (sign_at Greater) (λ u. to name) (mid name)) → Leads (course state self.old) (λ name. to (string_bytes name)) result self.new }
+        ensures read { (state : State) (mid to : List ℕ → State) → Reads_by false true name_at mid state
+            → ((name : List ℕ) → Reads_by false false (sign_at Greater) (λ u. to name) (mid name))
+            → Leads (course state self.old) (λ name. to (string_bytes name)) result self.new }
         ensures named { IfOk result (λ name. IsTrue (is_name (string_bytes name))) }
         ensures farther { OnOk result (self.old.taken ≤ self.new.taken) }
     {
@@ -54,10 +61,12 @@ impl<'a> Reader<'a> {
         Ok(name)
     }
 
-    /// A definition behind its name, and the name in angle brackets behind it, which begins the next one.
+    /// The definition whose name was read, and the name in angle brackets that follows it and begins the next definition.
     pub(super) fn definition(&mut self, name: String) -> Result<(Def, Option<String>), Refusal>
         requires { IsTrue (is_name (string_bytes name)) }
-        ensures read { (done : PlainSource) → Leads (course (done, Def_assign (string_bytes name)) self.old) (λ found. (add_def done (plain_def found.0), behind found.1)) result self.new }
+        ensures read { (done : PlainSource)
+            → Leads (course (done, Def_assign (string_bytes name)) self.old)
+            (λ found. (add_def done (plain_def found.0), behind found.1)) result self.new }
         ensures named { IfOk result (λ found. IfSome found.1 (λ next. IsTrue (is_name (string_bytes next)))) }
         ensures farther { OnOk result (self.old.taken < self.new.taken) }
     {
@@ -69,9 +78,14 @@ impl<'a> Reader<'a> {
         Ok((Def { name, head, rules }, next))
     }
 
-    /// The rules of a definition, and the name in angle brackets behind them, which is no rule.
+    /// The rules of a definition, and the name in angle brackets that follows them and is no rule.
     fn rules(&mut self) -> Result<(Vec<Rule>, Option<String>), Refusal>
-        ensures read { (done : PlainSource) (name : List ℕ) (head : AnyHead) → Leads (course (done, Rules (record { name = name; head = head; rules = [] })) self.old) (λ found. (add_def done (record { name = name; head = head; rules = map plain_rule found.0.items }), behind found.1)) result self.new }
+        ensures read { (done : PlainSource) (name : List ℕ) (head : AnyHead)
+            → Leads (course (done, Rules (record { name = name; head = head; rules = [] })) self.old)
+            (λ found. (
+              add_def done (record { name = name; head = head; rules = map plain_rule found.0.items }),
+              behind found.1,
+            )) result self.new }
         ensures ordered { IfOk result (λ found. IsTrue (fixed_first (map (λ r. r.kind) found.0.items))) }
         ensures named { IfOk result (λ found. IfSome found.1 (λ next. IsTrue (is_name (string_bytes next)))) }
         ensures farther { OnOk result (self.old.taken ≤ self.new.taken) }
@@ -90,9 +104,10 @@ impl<'a> Reader<'a> {
         }
     }
 
-    /// What stands behind the rules so far, which are all fixed or not.
+    /// What stands behind the rules that were read; `only_fixed` tells whether all of them are fixed.
     fn behind_rules(&mut self, only_fixed: bool) -> Result<Behind, Refusal>
-        ensures read { (done : PlainSource) (d : PlainDef) → all_fixed d.rules ≡ only_fixed → Leads (course (done, Rules d) self.old) (after_rules done d) result self.new }
+        ensures read { (done : PlainSource) (d : PlainDef) → all_fixed d.rules ≡ only_fixed
+            → Leads (course (done, Rules d) self.old) (after_rules done d) result self.new }
         ensures ordered { IfOk result (λ found. KeepsOrder found only_fixed) }
         ensures named { IfOk result NamesNext }
         ensures farther { IfOk result (λ found. Goes found self.old.taken self.new.taken) }
@@ -129,7 +144,8 @@ impl<'a> Reader<'a> {
 
     /// Goes past the `<` of a fixed rule, if one may come and it stands ahead.
     fn takes_fixed(&mut self, fixed: bool) -> bool
-        ensures read { MatchBool result ((fixed ≡ true) × Takes (same_sign Less) self.old true self.new) (((fixed && begins_with (same_sign Less) (left self.old)) ≡ false) × (self.new ≡ self.old)) }
+        ensures read { MatchBool result ((fixed ≡ true) × Takes (same_sign Less) self.old true self.new)
+            (((fixed && begins_with (same_sign Less) (left self.old)) ≡ false) × (self.new ≡ self.old)) }
         ensures farther { self.old.taken ≤ self.new.taken }
     {
         fixed && self.takes(Sign::Less)
@@ -149,10 +165,11 @@ impl<'a> Reader<'a> {
         self.is_at(Sign::OpenBrace) || self.is_at(Sign::OpenBracket)
     }
 
-    /// A rule with a qualifier, which is a fixed one only where `fixed` says that it may be.
+    /// A rule with a qualifier; it may be a fixed one only where `fixed` is true.
     fn qualified(&mut self, fixed: bool) -> Result<Rule, Refusal>
         requires { begins_with begins_qualifier (left self.old) ≡ true }
-        ensures read { (done : PlainSource) (d : PlainDef) → all_fixed d.rules ≡ fixed → Leads (course (done, Rules d) self.old) (λ rule. (done, Rules (with_rule d (plain_rule rule)))) result self.new }
+        ensures read { (done : PlainSource) (d : PlainDef) → all_fixed d.rules ≡ fixed
+            → Leads (course (done, Rules d) self.old) (λ rule. (done, Rules (with_rule d (plain_rule rule)))) result self.new }
         ensures ordered { IfOk result (λ rule. rule.kind ≡ RuleKind.Fixed → fixed ≡ true) }
         ensures farther { OnOk result (self.old.taken < self.new.taken) }
     {
@@ -171,7 +188,9 @@ impl<'a> Reader<'a> {
     /// A rule that is not fixed, behind its qualifier.
     fn loose(&mut self, qual: Option<Qual>) -> Result<Rule, Refusal>
         requires { IsTrue (is_qualifier qual) }
-        ensures read { (done : PlainSource) (d : PlainDef) (state : State) → Wants false false (on_loose done d qual) state (left self.old) → Leads (course state self.old) (λ rule. (done, Rules (with_rule d (plain_rule rule)))) result self.new }
+        ensures read { (done : PlainSource) (d : PlainDef) (state : State)
+            → Wants false false (on_loose done d qual) state (left self.old)
+            → Leads (course state self.old) (λ rule. (done, Rules (with_rule d (plain_rule rule)))) result self.new }
         ensures ordered { IfOk result (λ rule. rule.kind ≢ RuleKind.Fixed) }
         ensures farther { OnOk result (self.old.taken < self.new.taken) }
     {
@@ -196,7 +215,8 @@ impl<'a> Reader<'a> {
 
     fn qualifier(&mut self) -> Result<Qual, Refusal>
         requires { begins_with begins_qualifier (left self.old) ≡ true }
-        ensures read { (done : PlainSource) (d : PlainDef) → Leads (course (done, Rules d) self.old) (λ qual. (done, Qual_done d qual)) result self.new }
+        ensures read { (done : PlainSource) (d : PlainDef)
+            → Leads (course (done, Rules d) self.old) (λ qual. (done, Qual_done d qual)) result self.new }
         ensures farther { OnOk result (self.old.taken < self.new.taken) }
         ensures small { IfOk result (λ qual. IsTrue (is_qualifier (Some qual))) }
     {
@@ -208,7 +228,9 @@ impl<'a> Reader<'a> {
 
     /// A number, if one stands here.
     fn count(&mut self) -> Result<Option<u32>, Refusal>
-        ensures read { MatchBool (begins_with is_number (left self.old)) (Accepts true false (λ token. option_map (λ n. Some n) (number_at 0 max_number token)) (λ n. n) self.old result self.new) ((result ≡ Ok None) × (self.new ≡ self.old)) }
+        ensures read { MatchBool (begins_with is_number (left self.old))
+            (Accepts true false (λ token. option_map (λ n. Some n) (number_at 0 max_number token))
+            (λ n. n) self.old result self.new) ((result ≡ Ok None) × (self.new ≡ self.old)) }
         ensures small { IfOk result (λ n. IsTrue (is_number_or_none n)) }
         ensures farther { OnOk result (self.old.taken ≤ self.new.taken) }
     {

@@ -11,12 +11,15 @@ impl<'a> Reader<'a> {
     ghost use Rattle.std.specs.Char.{to_ascii_lowercase};
     ghost use Rattle.dia_ccf.specs.Names.{is_head};
     ghost use Rattle.dia_ccf.specs.Plain.{PlainSource};
-    ghost use Rattle.dia_ccf.specs.Machine.{In_head, Head_word, Avp_colon, Diameter_colon, Command_code, Group_code, Error_word, Error_flags, Error_either, Head_end, is_keyword, is_number};
+    ghost use Rattle.dia_ccf.specs.Machine.{In_head, Head_word, Avp_colon, Diameter_colon, Command_code, Group_code};
+    ghost use Rattle.dia_ccf.specs.Machine.{Error_word, Error_flags, Error_either, Head_end, is_keyword, is_number};
     ghost use Rattle.dia_ccf.specs.Reading.{Flags_read, Leads, course, begins_with, left};
 
-    /// A head, behind its `<` and up to its `>`.
+    /// A head up to its `>`, where its `<` was read.
     pub(super) fn head(&mut self) -> Result<Head, Refusal>
-        ensures read { (done : PlainSource) (name : List ℕ) → Leads (course (done, In_head name Head_word) self.old) (λ head. (done, In_head name (Head_end head))) result self.new }
+        ensures read { (done : PlainSource) (name : List ℕ)
+            → Leads (course (done, In_head name Head_word) self.old)
+            (λ head. (done, In_head name (Head_end head))) result self.new }
         ensures sound { IfOk result (λ head. IsTrue (is_head head)) }
         ensures farther { OnOk result (self.old.taken ≤ self.new.taken) }
     {
@@ -34,7 +37,9 @@ impl<'a> Reader<'a> {
 
     /// The words `AVP Header` or `Diameter Header`: whether it is the first.
     fn is_avp_header(&mut self) -> Result<bool, Refusal>
-        ensures read { (done : PlainSource) (name : List ℕ) → Leads (course (done, In_head name Head_word) self.old) (λ avp. (done, In_head name (cond avp Avp_colon Diameter_colon))) result self.new }
+        ensures read { (done : PlainSource) (name : List ℕ)
+            → Leads (course (done, In_head name Head_word) self.old)
+            (λ avp. (done, In_head name (cond avp Avp_colon Diameter_colon))) result self.new }
         ensures farther { OnOk result (self.old.taken ≤ self.new.taken) }
     {
         if self.takes_keyword("avp") {
@@ -54,7 +59,9 @@ impl<'a> Reader<'a> {
 
     /// The numbers of a group.
     fn group(&mut self) -> Result<Head, Refusal>
-        ensures read { (done : PlainSource) (name : List ℕ) → Leads (course (done, In_head name Group_code) self.old) (λ head. (done, In_head name (Head_end head))) result self.new }
+        ensures read { (done : PlainSource) (name : List ℕ)
+            → Leads (course (done, In_head name Group_code) self.old)
+            (λ head. (done, In_head name (Head_end head))) result self.new }
         ensures sound { IfOk result (λ head. IsTrue (is_head head)) }
         ensures farther { OnOk result (self.old.taken ≤ self.new.taken) }
     {
@@ -69,7 +76,10 @@ impl<'a> Reader<'a> {
 
     /// The numbers and flags of a command.
     fn command(&mut self) -> Result<Head, Refusal>
-        ensures read { (done : PlainSource) (name : List ℕ) → begins_with (is_keyword (codes "code")) (left self.old) ≡ false → Leads (course (done, In_head name Command_code) self.old) (λ head. (done, In_head name (Head_end head))) result self.new }
+        ensures read { (done : PlainSource) (name : List ℕ)
+            → begins_with (is_keyword (codes "code")) (left self.old) ≡ false
+            → Leads (course (done, In_head name Command_code) self.old)
+            (λ head. (done, In_head name (Head_end head))) result self.new }
         ensures sound { IfOk result (λ head. IsTrue (is_head head)) }
         ensures farther { OnOk result (self.old.taken ≤ self.new.taken) }
     {
@@ -94,15 +104,15 @@ impl<'a> Reader<'a> {
         })
     }
 
-    /// Whether a number comes next: one stands ahead, or has to behind a comma.
+    /// Whether a number is to be read: one stands ahead, or a comma was read, behind which a number has to stand.
     fn wants_number(&self, comma: bool) -> bool
         ensures { result ≡ (comma || begins_with is_number (left self.now)) }
     {
         comma || self.is_at_number()
     }
 
-    /// Whether the flag stands ahead, and whether a comma then was read: one behind the flag, or else the one
-    /// that was read before.
+    /// Takes the flag and a comma behind it, where they stand ahead. Tells whether the flag was there, and whether a comma
+    /// was the last token that was read.
     fn flag(&mut self, word: &str, comma: bool) -> (bool, bool)
         ensures read { Flags_read (map to_ascii_lowercase word.now) comma self.old result self.new }
         ensures farther { self.old.taken ≤ self.new.taken }
@@ -114,9 +124,11 @@ impl<'a> Reader<'a> {
         (false, comma)
     }
 
-    /// The flags of the answer with errors, behind its `code`.
+    /// The flags of the head for errors, where its `code` was read.
     fn error(&mut self) -> Result<Head, Refusal>
-        ensures read { (done : PlainSource) (name : List ℕ) → Leads (course (done, In_head name (Error_word false)) self.old) (λ head. (done, In_head name (Head_end head))) result self.new }
+        ensures read { (done : PlainSource) (name : List ℕ)
+            → Leads (course (done, In_head name (Error_word false)) self.old)
+            (λ head. (done, In_head name (Head_end head))) result self.new }
         ensures sound { IfOk result (λ head. IsTrue (is_head head)) }
         ensures farther { OnOk result (self.old.taken ≤ self.new.taken) }
     {
@@ -128,7 +140,9 @@ impl<'a> Reader<'a> {
 
     /// The proxiable flag behind `ERR`.
     fn error_proxy(&mut self) -> Result<Pxy, Refusal>
-        ensures read { (done : PlainSource) (name : List ℕ) → Leads (course (done, In_head name (Error_flags false)) self.old) (λ pxy. (done, In_head name (Head_end (Head.Error pxy)))) result self.new }
+        ensures read { (done : PlainSource) (name : List ℕ)
+            → Leads (course (done, In_head name (Error_flags false)) self.old)
+            (λ pxy. (done, In_head name (Head_end (Head.Error pxy)))) result self.new }
         ensures farther { OnOk result (self.old.taken ≤ self.new.taken) }
     {
         if self.takes(Sign::OpenBracket) {
@@ -146,7 +160,9 @@ impl<'a> Reader<'a> {
 
     /// The proxiable flag behind its `[`.
     fn proxy_in_brackets(&mut self) -> Result<Pxy, Refusal>
-        ensures read { (done : PlainSource) (name : List ℕ) → Leads (course (done, In_head name (Error_either false)) self.old) (λ pxy. (done, In_head name (Head_end (Head.Error pxy)))) result self.new }
+        ensures read { (done : PlainSource) (name : List ℕ)
+            → Leads (course (done, In_head name (Error_either false)) self.old)
+            (λ pxy. (done, In_head name (Head_end (Head.Error pxy)))) result self.new }
         ensures farther { OnOk result (self.old.taken ≤ self.new.taken) }
     {
         self.takes(Sign::Comma);

@@ -25,7 +25,8 @@ never : (b : Bool) → (b ≡ true → ⊥) → b ≡ false
 never true absent = absurd (absent refl)
 never false absent = refl
 
-module _ (commands : List Definition) (heads : All (λ (d : Definition). IsCommandHead d.head) commands) (n : ℕ) (command : Definition) (within : n < length commands) (read : command ≡ get_or commands n command) where
+module _ (commands : List Definition) (heads : All (λ (d : Definition). IsCommandHead d.head) commands) (n : ℕ)
+    (command : Definition) (within : n < length commands) (read : command ≡ get_or commands n command) where
   here : slice_get commands n ≡ Some command
   here = slice_get_read commands (length commands) n command refl within read
 

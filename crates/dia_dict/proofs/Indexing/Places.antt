@@ -8,7 +8,8 @@ use Rattle.std.proofs.lemmas.Option.{slice_get-map, none-some, same_Some}
 
 -- ---- the first place, with one more member
 
-position_from-push : {X : Type 0} (p : X → Bool) (start : ℕ) (xs : List X) (x : X) → position_from p start (xs ++ x ∷ []) ≡ option_or (position_from p start xs) (cond (p x) (Some (start + length xs)) None)
+position_from-push : {X : Type 0} (p : X → Bool) (start : ℕ) (xs : List X) (x : X)
+    → position_from p start (xs ++ x ∷ []) ≡ option_or (position_from p start xs) (cond (p x) (Some (start + length xs)) None)
 position_from-push p start [] x = ap (λ k. cond (p x) (Some k) None) (let e : start ≡ start + 0 = omega arith in e)
 position_from-push {X} p start (y ∷ ys) x = by (p y) (position_from-push p (start + 1) ys x)
   where

@@ -44,7 +44,8 @@ module _ (rows : List Row) (groups commands : List Definition) (sound : IsDictio
 
   module _ (numbered : numbers rows ≡ range_with_len 0 (length groups)) where
     rules-held : (k : ℕ) (d : Definition) → slice_get (groups ++ commands) k ≡ Some d → AreRules d.rules.items
-    rules-held k d at = All-at (λ (p : PlainDefinition). AreRules p.rules) (definitions (held rows groups commands)) k (plain d) sound.rules (definitions-held rows groups commands numbered k ∙ ap (option_map plain) at)
+    rules-held k d at = All-at (λ (p : PlainDefinition). AreRules p.rules) (definitions (held rows groups commands)) k
+        (plain d) sound.rules (definitions-held rows groups commands numbered k ∙ ap (option_map plain) at)
 
     pub rules_of_groups-held : All (λ (d : Definition). AreRules d.rules.items) groups
     rules_of_groups-held k d short = rules-held k (get_or groups k d) (slice_get-append_left groups commands k short ∙ slice_get-get_or groups k d short)

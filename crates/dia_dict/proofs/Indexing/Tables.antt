@@ -33,7 +33,8 @@ at_push : {X : Type 0} (xs : List X) (x : X) (i : ℕ) (y : X) → slice_get (xs
 at_push xs x i y at = ⊎_elim (λ a. inl a) (λ b. let l = at_last x y b.0 b.2 in inr ((let e : i ≡ length xs = omega (arith, b.1, l.0) in e), l.1)) (at_append xs (x ∷ []) i y at)
 
 -- one definition and its table more
-pub AreSlotTables-more : (tables : List KeyTable) (ds : List Definition) (table : KeyTable) (d : Definition) → AreSlotTables tables ds → IsSlotTable table d → AreSlotTables (tables ++ table ∷ []) (ds ++ d ∷ [])
+pub AreSlotTables-more : (tables : List KeyTable) (ds : List Definition) (table : KeyTable) (d : Definition)
+    → AreSlotTables tables ds → IsSlotTable table d → AreSlotTables (tables ++ table ∷ []) (ds ++ d ∷ [])
 AreSlotTables-more tables ds table d known own = (
   omega (arith, known.0, length_push tables table, length_push ds d),
   λ i t e at on. elim (at_push tables table i t at) [
@@ -60,7 +61,8 @@ pub place-of_rule : (rules : List DRule) (key : Key) → place_among (rule_keys 
 place-of_rule rules key = position-map (λ (rule : DRule). rule.key) (is_key key) rules
 
 -- the table with a definition's number is that definition's
-module _ (rows : List Row) (groups commands : List Definition) (numbered : numbers rows ≡ range_with_len 0 (length groups)) (tables : List KeyTable) (slotted : ∥ AreSlotTables tables (groups ++ commands) ∥₁) where
+module _ (rows : List Row) (groups commands : List Definition) (numbered : numbers rows ≡ range_with_len 0 (length groups))
+    (tables : List KeyTable) (slotted : ∥ AreSlotTables tables (groups ++ commands) ∥₁) where
   pub length-tables : length tables ≡ length groups + length commands
   length-tables = ∥∥₁_elim slotted (hlevel props) (λ s. s.0) ∙ length-append groups commands
 

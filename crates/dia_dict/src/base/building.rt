@@ -4,7 +4,8 @@ ghost use Rattle.std.specs.List.{list_all};
 ghost use Rattle.std.specs.Option.{option_map};
 ghost use Rattle.dia_ccf.specs.Plain.{plain, plain_decl, plain_def, plain_rule};
 ghost use Rattle.dia_dict.specs.Base.{base_source};
-ghost use Rattle.dia_dict.specs.BaseTables.{kind_of_row, name_of_row, qual_of_row, decl_of_row, def_of_row, rule_of_row, is_avp_row, is_def_row, is_rule_row};
+ghost use Rattle.dia_dict.specs.BaseTables.{kind_of_row, name_of_row, qual_of_row, decl_of_row, def_of_row};
+ghost use Rattle.dia_dict.specs.BaseTables.{rule_of_row, is_avp_row, is_def_row, is_rule_row};
 
 use super::tables::{AVPS, AvpRow, COMMANDS, DefRow, GROUPS, RuleRow};
 use dia_ccf::{Decl, Def, MRule, Qual, Rule, RuleKind, Source};

@@ -1,6 +1,7 @@
 //! The text of the base dictionary.
 
-/// The text of the base dictionary (after RFC 6733 sections 5 to 8; which rules and counts it lists is our profile), in canonical form.
+/// The text of the base dictionary (after RFC 6733 sections 5 to 8; which rules and counts it lists is our profile), in
+/// canonical form.
 pub(super) const TEXT: &str = "\
 %avp User-Name 1 UTF8String any
 %avp Proxy-State 33 OctetString any

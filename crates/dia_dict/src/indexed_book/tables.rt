@@ -50,7 +50,8 @@ fn push_tables(
     definitions: &[Definition],
 ) -> Result<(), AllocError>
     requires { All (λ d. AreRules d.rules.items) definitions.now }
-    ensures { OnOk result ((ds : List AnyDefinition) → AreSlotTables tables.old.items ds → AreSlotTables tables.new.items (ds ++ definitions.now)) }
+    ensures { OnOk result ((ds : List AnyDefinition) → AreSlotTables tables.old.items ds
+        → AreSlotTables tables.new.items (ds ++ definitions.now)) }
 {
     for definition in definitions {
         tables.push(slot_table(alloc, definition)?)?;

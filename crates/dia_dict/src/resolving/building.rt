@@ -4,7 +4,8 @@ ghost use Rattle.dia_data.specs.Plain.{plain as plain_format, ranges_of};
 ghost use Rattle.dia_ccf.specs.Plain.{plain as plain_source, plain_decl, plain_def, plain_rule};
 ghost use Rattle.dia_dict.specs.Dictionary.{plain};
 ghost use Rattle.dia_dict.specs.PlainMeaning.{entries_of};
-ghost use Rattle.dia_dict.specs.Resolution.{resolved, all_wrong, declared_entry, bare_entry, is_bare, definition_of, rule_of, head_of, class_of, proxy_of, format_of};
+ghost use Rattle.dia_dict.specs.Resolution.{resolved, all_wrong, declared_entry, bare_entry, is_bare, definition_of};
+ghost use Rattle.dia_dict.specs.Resolution.{rule_of, head_of, class_of, proxy_of, format_of};
 
 use super::names::{Names, key_of_declaration, key_of_group};
 use super::rules;
@@ -35,7 +36,8 @@ fn push_declarations(
     decls: &[Decl],
     entries: &mut EntryList,
 ) -> Result<(), AllocError>
-    ensures { OnOk result (entries_of entries.new.rows.items entries.new.groups.items ≡ entries_of entries.old.rows.items entries.old.groups.items
+    ensures { OnOk result (entries_of entries.new.rows.items entries.new.groups.items
+        ≡ entries_of entries.old.rows.items entries.old.groups.items
         ++ map (declared_entry (plain_source names.now.source.now)) (map plain_decl decls.now)) }
 {
     for decl in decls {
@@ -51,7 +53,8 @@ fn push_declared(
     decl: &Decl,
     entries: &mut EntryList,
 ) -> Result<(), AllocError>
-    ensures { OnOk result (entries_of entries.new.rows.items entries.new.groups.items ≡ entries_of entries.old.rows.items entries.old.groups.items
+    ensures { OnOk result (entries_of entries.new.rows.items entries.new.groups.items
+        ≡ entries_of entries.old.rows.items entries.old.groups.items
         ++ declared_entry (plain_source names.now.source.now) (plain_decl decl.now) ∷ []) }
 {
     let name = String::from_str(alloc, &decl.name)?;
@@ -73,8 +76,10 @@ fn push_groups(
     groups: &[Def],
     entries: &mut EntryList,
 ) -> Result<(), AllocError>
-    ensures { OnOk result (entries_of entries.new.rows.items entries.new.groups.items ≡ entries_of entries.old.rows.items entries.old.groups.items
-        ++ map (bare_entry (plain_source names.now.source.now)) (filter (is_bare (plain_source names.now.source.now)) (map plain_def groups.now))) }
+    ensures { OnOk result (entries_of entries.new.rows.items entries.new.groups.items
+        ≡ entries_of entries.old.rows.items entries.old.groups.items
+        ++ map (bare_entry (plain_source names.now.source.now))
+        (filter (is_bare (plain_source names.now.source.now)) (map plain_def groups.now))) }
 {
     for group in groups {
         if !names.is_declared(&group.name) {
@@ -90,7 +95,8 @@ fn push_bare(
     group: &Def,
     entries: &mut EntryList,
 ) -> Result<(), AllocError>
-    ensures { OnOk result (entries_of entries.new.rows.items entries.new.groups.items ≡ entries_of entries.old.rows.items entries.old.groups.items
+    ensures { OnOk result (entries_of entries.new.rows.items entries.new.groups.items
+        ≡ entries_of entries.old.rows.items entries.old.groups.items
         ++ bare_entry (plain_source names.now.source.now) (plain_def group.now) ∷ []) }
 {
     let name = String::from_str(alloc, &group.name)?;
@@ -109,7 +115,8 @@ fn definitions(
     names: &Names<'_>,
     defs: &[Def],
 ) -> Result<Vec<Definition>, AllocError>
-    ensures { IfOk result (λ ds. map plain ds.items ≡ map (definition_of (plain_source names.now.source.now)) (map plain_def defs.now)) }
+    ensures { IfOk result
+        (λ ds. map plain ds.items ≡ map (definition_of (plain_source names.now.source.now)) (map plain_def defs.now)) }
 {
     let mut definitions = Vec::new(alloc);
     for def in defs {

@@ -4,7 +4,9 @@ ghost use Rattle.std.specs.List.{list_all};
 ghost use Rattle.std.specs.Option.{option_copied};
 ghost use Rattle.dia_ccf.specs.Names.{is_group};
 ghost use Rattle.dia_ccf.specs.Plain.{plain, plain_decl, plain_def};
-ghost use Rattle.dia_dict.specs.Resolution.{wrong_limits, wrong_entries, too_many_rules, is_long, no_groups, lacks_group, header_mismatches, is_mismatched, is_grouped, avp_names, is_bare, key_of_decl, group_key, head_of, duplicate_keys, duplicate_commands};
+ghost use Rattle.dia_dict.specs.Resolution.{wrong_limits, wrong_entries, too_many_rules, is_long, no_groups, lacks_group};
+ghost use Rattle.dia_dict.specs.Resolution.{header_mismatches, is_mismatched, is_grouped, avp_names, is_bare};
+ghost use Rattle.dia_dict.specs.Resolution.{key_of_decl, group_key, head_of, duplicate_keys, duplicate_commands};
 ghost use Rattle.dia_dict.specs.Refusing.{IsRefused, named};
 ghost use Rattle.dia_dict.specs.Selecting.{selector_of};
 
@@ -158,7 +160,8 @@ fn named_avps<'a>(alloc: Global, names: &Names<'a>) -> Result<Vec<Named<'a>>, Al
 }
 
 fn push_declared<'a>(avps: &mut Vec<Named<'a>>, decls: &'a [Decl]) -> Result<(), AllocError>
-    ensures { OnOk result (map named avps.new.items ≡ map named avps.old.items ++ map (λ d. (d.name, key_of_decl d)) (map plain_decl decls.now)) }
+    ensures { OnOk result (map named avps.new.items ≡ map named avps.old.items
+        ++ map (λ d. (d.name, key_of_decl d)) (map plain_decl decls.now)) }
 {
     for decl in decls {
         avps.push(Named {
@@ -174,7 +177,8 @@ fn push_bare<'a>(
     names: &Names<'_>,
     groups: &'a [Def],
 ) -> Result<(), AllocError>
-    ensures { OnOk result (map named avps.new.items ≡ map named avps.old.items ++ map (λ g. (g.name, group_key g.head)) (filter (is_bare (plain names.now.source.now)) (map plain_def groups.now))) }
+    ensures { OnOk result (map named avps.new.items ≡ map named avps.old.items ++ map (λ g. (g.name, group_key g.head))
+        (filter (is_bare (plain names.now.source.now)) (map plain_def groups.now))) }
 {
     for group in groups {
         if !names.is_declared(&group.name) {

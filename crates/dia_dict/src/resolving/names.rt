@@ -4,7 +4,8 @@ ghost use Rattle.std.specs.Option.{option_map};
 ghost use Rattle.std.proofs.Props.{props};
 ghost use Rattle.dia_ccf.specs.Plain.{plain, plain_decl, plain_def};
 ghost use Rattle.dia_dict.specs.Refusing.{IsRefused};
-ghost use Rattle.dia_dict.specs.Resolution.{names_decl, names_def, key_of_name, key_of_decl, group_key, duplicate_names, wrong_names};
+ghost use Rattle.dia_dict.specs.Resolution.{names_decl, names_def, key_of_name, key_of_decl};
+ghost use Rattle.dia_dict.specs.Resolution.{group_key, duplicate_names, wrong_names};
 
 use super::distinct::distinct;
 use super::refusal::Refusal;
@@ -20,8 +21,10 @@ pub(super) struct Names<'a> {
     pub source: &'a Source,
     avps: IndexSet<&'a str>,
     groups: IndexSet<&'a str>,
-    ghost all_avps: { map (λ n. n.now) avps.keys ≡ map (λ d. string_bytes d.name) source.now.avps.items } by { Prim.hlevel props },
-    ghost all_groups: { map (λ n. n.now) groups.keys ≡ map (λ d. string_bytes d.name) source.now.groups.items } by { Prim.hlevel props },
+    ghost all_avps: { map (λ n. n.now) avps.keys
+        ≡ map (λ d. string_bytes d.name) source.now.avps.items } by { Prim.hlevel props },
+    ghost all_groups: { map (λ n. n.now) groups.keys
+        ≡ map (λ d. string_bytes d.name) source.now.groups.items } by { Prim.hlevel props },
 }
 
 impl<'a> Names<'a> {

@@ -5,7 +5,7 @@ ghost use Rattle.dia_dict.specs.Refusing.{told, wrong_of, Tells};
 use crate::fault::{DictFault, DictKind};
 use std::alloc::{AllocError, Global};
 
-/// What is wrong with a source, in the source's words.
+/// What is wrong with a source. The names are parts of the source.
 #[derive(Clone, Copy, Debug)]
 pub(super) struct Told<'a> {
     pub kind: DictKind,
@@ -21,7 +21,7 @@ pub(super) enum Refusal<'a> {
 }
 
 impl<'a> Told<'a> {
-    /// The same in words of its own.
+    /// The fault, with copies of the names.
     pub(super) fn fault(self, alloc: Global) -> Result<DictFault, AllocError>
         ensures { IfOk result (λ fault. wrong_of fault ≡ Some (told self.entry)) }
     {

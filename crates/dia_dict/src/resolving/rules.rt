@@ -2,7 +2,9 @@
 ghost use Rattle.std.specs.Prelude.{◌≡◌, [], IfOk, OnOk, IfErr, map, find};
 ghost use Rattle.std.specs.Option.{option_copied};
 ghost use Rattle.dia_ccf.specs.Plain.{plain, plain_def, plain_rule};
-ghost use Rattle.dia_dict.specs.Resolution.{wrong_rules, bad_rules, bad_in, is_bad, is_undefined, is_min_over_max, is_required_min, is_optional_min, repeated_slots, repeated_in, all_defs, slot_name, least, greatest, rule_of};
+ghost use Rattle.dia_dict.specs.Resolution.{wrong_rules, bad_rules, bad_in, is_bad, is_undefined, is_min_over_max};
+ghost use Rattle.dia_dict.specs.Resolution.{is_required_min, is_optional_min, repeated_slots, repeated_in, all_defs, slot_name};
+ghost use Rattle.dia_dict.specs.Resolution.{least, greatest, rule_of};
 ghost use Rattle.dia_dict.specs.Refusing.{IsRefused};
 
 use super::distinct::distinct;
@@ -149,7 +151,8 @@ fn slot_names(alloc: Global, rules: &[Rule]) -> Result<Vec<&str>, AllocError>
     rules.iter().map(Rule::slot_name).collect(alloc)
 }
 
-/// The least count. Without a qualifier it is 1, and 0 for an optional rule; a qualifier without one means 1 for a required rule, else 0.
+/// The least count. Without a qualifier it is 0 for an optional rule, else 1. A qualifier that names none means 1 for a
+/// required rule, else 0.
 fn least(kind: RuleKind, qual: Option<Qual>) -> u32
     ensures { result ≡ least kind qual }
 {
@@ -165,7 +168,7 @@ fn least(kind: RuleKind, qual: Option<Qual>) -> u32
     }
 }
 
-/// The greatest count: 1 without a qualifier, and none for a qualifier without one.
+/// The greatest count: 1 without a qualifier, and no bound where a qualifier names none.
 fn greatest(qual: Option<Qual>) -> Option<u32>
     ensures { result ≡ greatest qual }
 {

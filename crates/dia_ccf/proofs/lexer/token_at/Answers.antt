@@ -28,9 +28,11 @@ range-requires-clause-end_boundary c =
     let at = c.args.at in
     let rest = rest_of_bytes text c.as_bytes.result.now at c.as_bytes.ensures.value in
     let same = c.run_len-len.ensures.len ∙ ap (prefix_len is_run_byte) rest in
-    subst (λ n. IsCharBoundary text (at + n)) (sym same) (IsCharBoundary-after_run text at c.utf8.text (omega arith) (omega (arith, same, c.run_len-len.ensures.within, ap length rest, length-drop at text)))
+    subst (λ n. IsCharBoundary text (at + n)) (sym same) (IsCharBoundary-after_run text at c.utf8.text (omega arith)
+    (omega (arith, same, c.run_len-len.ensures.within, ap length rest, length-drop at text)))
 
 pub returns-clause-token : goal.returns-clause-token
 returns-clause-token c =
-    let there = front-run c.args.text.now c.as_bytes.result.now c.args.at c.run_len-len.result c.as_bytes.ensures.value (c.sign_at_front.ensures.none c.in_default.is) c.run_len-len.ensures.len (omega arith) in
+    let there = front-run c.args.text.now c.as_bytes.result.now c.args.at c.run_len-len.result c.as_bytes.ensures.value
+    (c.sign_at_front.ensures.none c.in_default.is) c.run_len-len.ensures.len (omega arith) in
     (run_token c.range.result.now, c.run_token.ensures, there ∙ ap (λ run. Some (sign (run_token run) c.run_len-len.result)) (sym c.range.ensures.value))

@@ -3,7 +3,8 @@ use Rattle.dia_wire.proofs.writing.push_header.Goals as goal
 
 pub returns-clause-bytes : goal.returns-clause-bytes
 returns-clause-bytes c =
-    header_chain _ _ _ _ _ _ _ _ _ _ _ _ _ _ c.push.ensures.bytes c.push_u24.ensures.bytes c.push-2.ensures.bytes c.push_u24-2.ensures.bytes c.push_u32.ensures.bytes c.push_u32-2.ensures.bytes c.push_u32-3.ensures.bytes
+    header_chain _ _ _ _ _ _ _ _ _ _ _ _ _ _ c.push.ensures.bytes c.push_u24.ensures.bytes c.push-2.ensures.bytes
+    c.push_u24-2.ensures.bytes c.push_u32.ensures.bytes c.push_u32-2.ensures.bytes c.push_u32-3.ensures.bytes
 
 pub returns-clause-head : goal.returns-clause-head
 returns-clause-head c =

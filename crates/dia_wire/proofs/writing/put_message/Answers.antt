@@ -6,7 +6,11 @@ pub loop-avp-init : goal.loop-avp-init
 loop-avp-init c =
     let same = c.in_ok-reserve.ensures.items in
     let bytes = c.push_header.ensures.bytes in
-    record { made = made_head _ _ _ _ c.args.avps.now (rw same at bytes) c.push_header.ensures.head; len = omega (arith, c.in_ok-reserve.ensures.len); room = omega (arith, c.in_ok-reserve.ensures.ok, c.in_ok-reserve.ensures.len) }
+    record {
+      made = made_head _ _ _ _ c.args.avps.now (rw same at bytes) c.push_header.ensures.head;
+      len = omega (arith, c.in_ok-reserve.ensures.len);
+      room = omega (arith, c.in_ok-reserve.ensures.ok, c.in_ok-reserve.ensures.len);
+    }
 
 pub overflow_cast-length : goal.overflow_cast-length
 overflow_cast-length c =

@@ -22,7 +22,8 @@ returns-then-is_at_definition-clause-read c = λ done d e.
     takes_sign (done, Rules d) (done, Angle_name d) Less c.args.self.now c.takes.new.self c.if-takes.ensures refl
     ∙ c.in_ok-name.ensures.read (done, Angle_name d) (λ n. (done, Angle_close d n)) (λ n. (done, After_angle d n))
     (record { next_is = λ t. refl; refused_is = λ t. refl; unfinished = refl }) (λ n. record { next_is = λ t. refl; refused_is = λ t. refl; unfinished = refl })
-    ∙ ap (λ (o : Outcome). (c.name_in_angles.new.self.text.now, o)) (angle_defines done d n c.args.only_fixed (left c.name_in_angles.new.self) e (sym c.is_at_definition.ensures ∙ c.if-is_at_definition.true)))
+    ∙ ap (λ (o : Outcome). (c.name_in_angles.new.self.text.now, o))
+    (angle_defines done d n c.args.only_fixed (left c.name_in_angles.new.self) e (sym c.is_at_definition.ensures ∙ c.if-is_at_definition.true)))
 
 pub returns-then-takes-clause-read : goal.returns-then-takes-clause-read
 returns-then-takes-clause-read c = λ done d e.
@@ -36,5 +37,7 @@ returns-then-takes-clause-read c = λ done d e.
 pub returns-in_err-rule-2-clause-read : goal.returns-in_err-rule-2-clause-read
 returns-in_err-rule-2-clause-read c = λ done d e.
     (let stops = c.in_err-rule-2.ensures.read done d (done, Rules d) (bare_wanted done d (left c.takes.new.self) (sym c.is_at_loose.ensures ∙ c.if-is_at_loose.true)) in
-    leads_along (course (done, Rules d) c.args.self.now) (course (done, Rules d) c.takes.new.self) (after_rules done d) c.from_residual-in_err-rule-2.result c.loose.new.self (ap (course (done, Rules d)) (sym c.if-takes.ensures.1))
-    (exits (course (done, Rules d) c.takes.new.self) (after_rules done d) c.in_err-rule-2.field-0.0 c.from_residual-in_err-rule-2.result c.loose.new.self c.from_residual-in_err-rule-2.ensures.1 stops))
+    leads_along (course (done, Rules d) c.args.self.now) (course (done, Rules d) c.takes.new.self)
+    (after_rules done d) c.from_residual-in_err-rule-2.result c.loose.new.self (ap (course (done, Rules d)) (sym c.if-takes.ensures.1))
+    (exits (course (done, Rules d) c.takes.new.self)
+    (after_rules done d) c.in_err-rule-2.field-0.0 c.from_residual-in_err-rule-2.result c.loose.new.self c.from_residual-in_err-rule-2.ensures.1 stops))

@@ -13,28 +13,43 @@ returns-in_err-app-clause-read c = λ done name free.
     (let code = c.in_ok-code.code in
     let rq = c.flag-request.result.0 in
     let px = c.flag-pxy.result.0 in
-    let begun = command_begun done name code c.args.self.now c.number.new.self c.takes-comma.new.self c.flag-request.new.self c.flag-pxy.new.self c.takes-comma.result c.flag-request.result c.flag-pxy.result c.in_ok-code.ensures c.takes-comma.ensures c.flag-request.ensures.read c.flag-pxy.ensures.read in
+    let begun = command_begun done name code c.args.self.now c.number.new.self c.takes-comma.new.self c.flag-request.new.self c.flag-pxy.new.self
+    c.takes-comma.result c.flag-request.result c.flag-pxy.result c.in_ok-code.ensures c.takes-comma.ensures c.flag-request.ensures.read c.flag-pxy.ensures.read in
     let wanted = number_wanted done name code rq px c.flag-pxy.result.1 (left c.flag-pxy.new.self) begun.1 (sym c.wants_number.ensures ∙ c.if-not-wants_number.false) in
-    let stops = accepted true false (number_at 0 max_number) (λ n. n) (λ n. command_at done name code rq px (Some n)) (flags_at done name code rq px c.flag-pxy.result.1) c.flag-pxy.new.self c.number-2.new.self (Err c.in_err-app.field-0.0) wanted c.in_err-app.ensures in
-    leads_along (course (done, In_head name Command_code) c.args.self.now) (course (flags_at done name code rq px c.flag-pxy.result.1) c.flag-pxy.new.self) (λ head. (done, In_head name (Head_end head))) c.from_residual-in_err-app.result c.number-2.new.self begun.0
-    (exits (course (flags_at done name code rq px c.flag-pxy.result.1) c.flag-pxy.new.self) (λ head. (done, In_head name (Head_end head))) c.in_err-app.field-0.0 c.from_residual-in_err-app.result c.number-2.new.self c.from_residual-in_err-app.ensures.1 stops))
+    let stops = accepted true false (number_at 0 max_number) (λ n. n) (λ n. command_at done name code rq px (Some n))
+    (flags_at done name code rq px c.flag-pxy.result.1) c.flag-pxy.new.self c.number-2.new.self (Err c.in_err-app.field-0.0) wanted c.in_err-app.ensures in
+    leads_along (course (done, In_head name Command_code) c.args.self.now) (course (flags_at done name code rq px c.flag-pxy.result.1) c.flag-pxy.new.self)
+    (λ head. (done, In_head name (Head_end head))) c.from_residual-in_err-app.result c.number-2.new.self begun.0
+    (exits (course (flags_at done name code rq px c.flag-pxy.result.1) c.flag-pxy.new.self)
+    (λ head. (done, In_head name (Head_end head))) c.in_err-app.field-0.0 c.from_residual-in_err-app.result c.number-2.new.self c.from_residual-in_err-app.ensures.1 stops))
 
 pub returns-then-not-wants_number-clause-read : goal.returns-then-not-wants_number-clause-read
 returns-then-not-wants_number-clause-read c = λ done name free.
     (let code = c.in_ok-code.code in
     let rq = c.flag-request.result.0 in
     let px = c.flag-pxy.result.0 in
-    let begun = command_begun done name code c.args.self.now c.number.new.self c.takes-comma.new.self c.flag-request.new.self c.flag-pxy.new.self c.takes-comma.result c.flag-request.result c.flag-pxy.result c.in_ok-code.ensures c.takes-comma.ensures c.flag-request.ensures.read c.flag-pxy.ensures.read in
-    begun.0 ∙ ap (λ (o : Outcome). (c.flag-pxy.new.self.text.now, o)) (command_ends done name code rq px c.flag-pxy.result.1 (left c.flag-pxy.new.self) begun.1 (sym c.wants_number.ensures ∙ c.if-not-wants_number.true)))
+    let begun = command_begun done name code c.args.self.now c.number.new.self c.takes-comma.new.self c.flag-request.new.self c.flag-pxy.new.self
+    c.takes-comma.result c.flag-request.result c.flag-pxy.result c.in_ok-code.ensures c.takes-comma.ensures c.flag-request.ensures.read c.flag-pxy.ensures.read in
+    begun.0 ∙ ap (λ (o : Outcome). (c.flag-pxy.new.self.text.now, o))
+    (command_ends done name code rq px c.flag-pxy.result.1 (left c.flag-pxy.new.self) begun.1 (sym c.wants_number.ensures ∙ c.if-not-wants_number.true)))
 
 pub returns-clause-read : goal.returns-clause-read
 returns-clause-read c = λ done name free.
     (let code = c.in_ok-code.code in
     let rq = c.flag-request.result.0 in
     let px = c.flag-pxy.result.0 in
-    let begun = command_begun done name code c.args.self.now c.number.new.self c.takes-comma.new.self c.flag-request.new.self c.flag-pxy.new.self c.takes-comma.result c.flag-request.result c.flag-pxy.result c.in_ok-code.ensures c.takes-comma.ensures c.flag-request.ensures.read c.flag-pxy.ensures.read in
+    let begun = command_begun done name code c.args.self.now c.number.new.self c.takes-comma.new.self c.flag-request.new.self c.flag-pxy.new.self
+    c.takes-comma.result c.flag-request.result c.flag-pxy.result c.in_ok-code.ensures c.takes-comma.ensures c.flag-request.ensures.read c.flag-pxy.ensures.read in
     let wanted = number_wanted done name code rq px c.flag-pxy.result.1 (left c.flag-pxy.new.self) begun.1 (sym c.wants_number.ensures ∙ c.if-not-wants_number.false) in
-    begun.0 ∙ accepted true false (number_at 0 max_number) (λ n. n) (λ n. command_at done name code rq px (Some n)) (flags_at done name code rq px c.flag-pxy.result.1) c.flag-pxy.new.self c.number-2.new.self (Ok c.in_ok-app.app) wanted c.in_ok-app.ensures)
+    begun.0 ∙ accepted true false (number_at 0 max_number) (λ n. n) (λ n. command_at done name code rq px (Some n))
+    (flags_at done name code rq px c.flag-pxy.result.1) c.flag-pxy.new.self c.number-2.new.self (Ok c.in_ok-app.app) wanted c.in_ok-app.ensures)
 
 pub returns-clause-farther : goal.returns-clause-farther
-returns-clause-farther c = omega (arith, c.in_ok-code.ensures.2.2, takes_farther (same_sign Comma) c.number.new.self c.takes-comma.new.self c.takes-comma.result c.takes-comma.ensures, c.flag-request.ensures.farther, c.flag-pxy.ensures.farther, c.in_ok-app.ensures.2.2)
+returns-clause-farther c = omega (
+  arith,
+  c.in_ok-code.ensures.2.2,
+  takes_farther (same_sign Comma) c.number.new.self c.takes-comma.new.self c.takes-comma.result c.takes-comma.ensures,
+  c.flag-request.ensures.farther,
+  c.flag-pxy.ensures.farther,
+  c.in_ok-app.ensures.2.2,
+)

@@ -26,8 +26,10 @@ returns-in_err-rule-clause-read c = λ done.
     let to : MRule → State = λ r. (done, Decl_values (record { name = n; code = code; vendor = v; format = f; values = None; rule = r })) in
     let stops = accepted false false rule_at (λ r. r) to (done, Decl_rule n code v f) c.format.new.self c.m_rule.new.self (Err c.in_err-rule.field-0.0)
     (wants_all false false rule_at to (done, Decl_rule n code v f) (λ t. refl) (λ t. refl) refl (left c.format.new.self)) c.in_err-rule.ensures in
-    leads_along (course (done, Decl_name) c.args.self.now) (course (done, Decl_rule n code v f) c.format.new.self) (λ d. (add_decl done (plain_decl d), Between)) c.from_residual-in_err-rule.result c.m_rule.new.self first
-    (exits (course (done, Decl_rule n code v f) c.format.new.self) (λ d. (add_decl done (plain_decl d), Between)) c.in_err-rule.field-0.0 c.from_residual-in_err-rule.result c.m_rule.new.self c.from_residual-in_err-rule.ensures.1 stops))
+    leads_along (course (done, Decl_name) c.args.self.now) (course (done, Decl_rule n code v f) c.format.new.self)
+    (λ d. (add_decl done (plain_decl d), Between)) c.from_residual-in_err-rule.result c.m_rule.new.self first
+    (exits (course (done, Decl_rule n code v f) c.format.new.self)
+    (λ d. (add_decl done (plain_decl d), Between)) c.in_err-rule.field-0.0 c.from_residual-in_err-rule.result c.m_rule.new.self c.from_residual-in_err-rule.ensures.1 stops))
 
 pub invariant_of-result : goal.invariant_of-result
 invariant_of-result c =

@@ -8,6 +8,10 @@ use Rattle.dia_ccf.proofs.reading.Reader.error.Goals as goal
 
 pub returns-in_err-pxy-clause-read : goal.returns-in_err-pxy-clause-read
 returns-in_err-pxy-clause-read c = λ done name.
-    (let first = comma_then (λ b. (done, In_head name (Error_word b))) (done, In_head name (Error_flags false)) (codes "err") c.args.self.now c.takes.new.self c.expect_keyword.new.self c.takes.result c.takes.ensures c.in_ok-expect_keyword.ensures refl (λ b w e. rw e refl) in
-    leads_along (course (done, In_head name (Error_word false)) c.args.self.now) (course (done, In_head name (Error_flags false)) c.expect_keyword.new.self) (λ head. (done, In_head name (Head_end head))) c.from_residual-in_err-pxy.result c.error_proxy.new.self first
-    (exits (course (done, In_head name (Error_flags false)) c.expect_keyword.new.self) (λ head. (done, In_head name (Head_end head))) c.in_err-pxy.field-0.0 c.from_residual-in_err-pxy.result c.error_proxy.new.self c.from_residual-in_err-pxy.ensures.1 (c.in_err-pxy.ensures.read done name)))
+    (let first = comma_then (λ b. (done, In_head name (Error_word b))) (done, In_head name (Error_flags false))
+    (codes "err") c.args.self.now c.takes.new.self c.expect_keyword.new.self c.takes.result c.takes.ensures c.in_ok-expect_keyword.ensures refl (λ b w e. rw e refl) in
+    leads_along (course (done, In_head name (Error_word false)) c.args.self.now) (course (done, In_head name (Error_flags false)) c.expect_keyword.new.self)
+    (λ head. (done, In_head name (Head_end head))) c.from_residual-in_err-pxy.result c.error_proxy.new.self first
+    (exits (course (done, In_head name (Error_flags false)) c.expect_keyword.new.self)
+    (λ head. (done, In_head name (Head_end head))) c.in_err-pxy.field-0.0 c.from_residual-in_err-pxy.result c.error_proxy.new.self c.from_residual-in_err-pxy.ensures.1
+    (c.in_err-pxy.ensures.read done name)))

@@ -12,8 +12,10 @@ returns-in_err-name-clause-read c = λ done d e.
     let first = c.in_ok-qual.ensures.read done d ∙ fixed_opened done d q c.args.fixed c.qualifier.new.self c.takes_fixed.new.self e c.if-takes_fixed.ensures.read.0 c.if-takes_fixed.ensures.read.1 in
     let stops = c.in_err-name.ensures.read (done, Fixed_name d q) (λ n. (done, Fixed_close d q n)) (λ n. (done, Rules (with_rule d (fixed_rule n (Some q)))))
     (record { next_is = λ t. refl; refused_is = λ t. refl; unfinished = refl }) (λ n. record { next_is = λ t. refl; refused_is = λ t. refl; unfinished = refl }) in
-    leads_along (course (done, Rules d) c.args.self.now) (course (done, Fixed_name d q) c.takes_fixed.new.self) (λ rule. (done, Rules (with_rule d (plain_rule rule)))) c.from_residual-in_err-name.result c.name_in_angles.new.self first
-    (exits (course (done, Fixed_name d q) c.takes_fixed.new.self) (λ rule. (done, Rules (with_rule d (plain_rule rule)))) c.in_err-name.field-0.0 c.from_residual-in_err-name.result c.name_in_angles.new.self c.from_residual-in_err-name.ensures.1 stops))
+    leads_along (course (done, Rules d) c.args.self.now) (course (done, Fixed_name d q) c.takes_fixed.new.self)
+    (λ rule. (done, Rules (with_rule d (plain_rule rule)))) c.from_residual-in_err-name.result c.name_in_angles.new.self first
+    (exits (course (done, Fixed_name d q) c.takes_fixed.new.self)
+    (λ rule. (done, Rules (with_rule d (plain_rule rule)))) c.in_err-name.field-0.0 c.from_residual-in_err-name.result c.name_in_angles.new.self c.from_residual-in_err-name.ensures.1 stops))
 
 pub returns-then-takes_fixed-clause-read : goal.returns-then-takes_fixed-clause-read
 returns-then-takes_fixed-clause-read c = λ done d e.

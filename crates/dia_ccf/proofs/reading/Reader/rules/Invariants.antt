@@ -9,7 +9,8 @@ use Rattle.dia_ccf.proofs.reading.Reader.rules.Given as goal
 
 abbrev pub invariant-loop-rules : goal.invariant-loop-rules
 invariant-loop-rules l = record {
-  read : (done : PlainSource) (name : List ℕ) (head : Head) → course (done, Rules (record { name = name; head = head; rules = [] })) l.initial.self ≡ course (done, Rules (record { name = name; head = head; rules = map plain_rule l.rules.items })) l.self;
+  read : (done : PlainSource) (name : List ℕ) (head : Head) → course (done, Rules (record { name = name; head = head; rules = [] })) l.initial.self
+      ≡ course (done, Rules (record { name = name; head = head; rules = map plain_rule l.rules.items })) l.self;
   fixed : all_fixed (map plain_rule l.rules.items) ≡ l.only_fixed;
   ordered : IsTrue (fixed_first (map (λ r. r.kind) l.rules.items));
   farther : l.initial.self.taken ≤ l.self.taken;

@@ -17,4 +17,5 @@ joined-requires-clause-sorted c =
     subst (IsNonDecreasingBy (λ (r : ℕ × ℕ). r.0)) (sym c.deref.ensures.value) (IsNonDecreasingBy-from_sort_by_key (λ r. r.0) _ c.sort_unstable_by_key.ensures.sorted (λ a r q k. search rules))
 
 pub returns : goal.returns
-returns c = λ n. c.in_ok-ranges.ensures.same n ∙ ap (list_any (covers n)) c.deref.ensures.value ∙ sym (list_any-IsPermutation (covers n) _ _ c.sort_unstable_by_key.ensures.permutation) ∙ ap (list_any (covers n)) c.in_ok-sorted.ensures ∙ any_filled n c.args.ranges.now
+returns c = λ n. c.in_ok-ranges.ensures.same n ∙ ap (list_any (covers n)) c.deref.ensures.value ∙ sym (list_any-IsPermutation (covers n) _ _ c.sort_unstable_by_key.ensures.permutation)
+    ∙ ap (list_any (covers n)) c.in_ok-sorted.ensures ∙ any_filled n c.args.ranges.now

@@ -18,7 +18,8 @@ returns-in_ok-push-in-Some-clause-apart c =
 
 pub returns-in_ok-push-in-Some-clause-later : goal.returns-in_ok-push-in-Some-clause-later
 returns-in_ok-push-in-Some-clause-later c =
-    subst (All (λ r. r.0 ≤ c.args.low)) (sym (new_items c)) (later_grown c.pop.new.self.items c.in-Some.first c.in-Some.last c.args.high c.args.low (subst (All (λ r. r.0 ≤ c.args.low)) (old_items c) c.requires.later))
+    subst (All (λ r. r.0 ≤ c.args.low)) (sym (new_items c))
+    (later_grown c.pop.new.self.items c.in-Some.first c.in-Some.last c.args.high c.args.low (subst (All (λ r. r.0 ≤ c.args.low)) (old_items c) c.requires.later))
 
 pub returns-in_ok-push-in-Some-clause-both : goal.returns-in_ok-push-in-Some-clause-both
 returns-in_ok-push-in-Some-clause-both c = λ n.
@@ -34,6 +35,7 @@ returns-in_ok-push-in-Some-2-2-clause-apart c =
     let K = c.pop.new.self.items in
     let r : ℕ × ℕ = (c.in-Some.first, c.in-Some.last) in
     let old : c.args.ranges.now.items ≡ K ++ r ∷ [] = c.in-Some.ensures.items in
-    let new : c.push-in-Some-2-2.new.self.items ≡ (K ++ r ∷ []) ++ (c.args.low, c.args.high) ∷ [] = c.in_ok-push-in-Some-2-2.ensures.items ∙ ap (λ (rs : List (ℕ × ℕ)). rs ++ (c.args.low, c.args.high) ∷ []) c.in_ok-push-in-Some-2.ensures.items in
+    let new : c.push-in-Some-2-2.new.self.items ≡ (K ++ r ∷ []) ++ (c.args.low, c.args.high) ∷ [] = c.in_ok-push-in-Some-2-2.ensures.items
+    ∙ ap (λ (rs : List (ℕ × ℕ)). rs ++ (c.args.low, c.args.high) ∷ []) c.in_ok-push-in-Some-2.ensures.items in
     let past : r.1 + 1 < c.args.low = omega (arith, c.saturating_add.ensures, c.if-low-saturating_add.false, c.ranges.low) in
     subst AreApart (sym new) (AreApart-more K r (c.args.low, c.args.high) (subst AreApart old c.requires.apart) c.requires.range past)

@@ -20,7 +20,8 @@ returns-then-held-whole c = λ bytes seen.
     let joined : c.as_slice.result.now ≡ take 4 (pending ++ piece) = c.as_slice.ensures ∙ c.take_from.ensures in
     let held = ap length c.as_slice-held.ensures in
     let most = ap length joined in
-    IsSeenOfText-past c.of.result pending bytes piece n opened (omega (arith, length-take 4 (pending ++ piece))) (subst (λ l. IsUtf8 (take n l)) joined c.whole_len-whole.ensures.text) (omega arith) (rw (c.as_slice-held.ensures, take_rest) at c.of.ensures)
+    IsSeenOfText-past c.of.result pending bytes piece n opened (omega (arith, length-take 4 (pending ++ piece)))
+    (subst (λ l. IsUtf8 (take n l)) joined c.whole_len-whole.ensures.text) (omega arith) (rw (c.as_slice-held.ensures, take_rest) at c.of.ensures)
 
 pub returns-else-held-whole : goal.returns-else-held-whole
 returns-else-held-whole c = λ bytes seen.
@@ -30,5 +31,6 @@ returns-else-held-whole c = λ bytes seen.
     let opened : IsOpen pending bytes = subst (λ t. IsSeenOfText t bytes) c.in-Open.is seen in
     let joined : c.as_slice.result.now ≡ take 4 (pending ++ piece) = c.as_slice.ensures ∙ c.take_from.ensures in
     let held = ap length c.as_slice-held.ensures in
-    let none : StartsWithNoChar (pending ++ piece) = StartsWithNoChar-within pending bytes piece n opened (omega arith) (subst (λ l. IsUtf8 (take n l)) joined c.whole_len-whole.ensures.text) (subst (λ l. StartsWithNoChar (drop n l)) joined c.whole_len-whole.ensures.rest) in
+    let none : StartsWithNoChar (pending ++ piece) = StartsWithNoChar-within pending bytes piece n opened (omega arith)
+    (subst (λ l. IsUtf8 (take n l)) joined c.whole_len-whole.ensures.text) (subst (λ l. StartsWithNoChar (drop n l)) joined c.whole_len-whole.ensures.rest) in
     IsSeenOfText-within c.unfinished.result pending bytes piece opened (c.unfinished.ensures (pending ++ piece) c.take_from.ensures none)

@@ -11,7 +11,8 @@ returns-in_err-place c =
     let rows = b.book.entries.rows.items in
     let groups = b.book.entries.groups.items in
     let commands = b.book.commands.items in
-    c.from_residual.ensures ∙ ap (option_map (λ (i : ℕ). length (groups_of (held rows groups commands)) + i)) c.in_err-place.ensures ∙ sym (selected-places rows groups commands c.args.code c.args.class c.args.app)
+    c.from_residual.ensures ∙ ap (option_map (λ (i : ℕ). length (groups_of (held rows groups commands)) + i)) c.in_err-place.ensures
+    ∙ sym (selected-places rows groups commands c.args.code c.args.class c.args.app)
 
 pub returns : goal.returns
 returns c =

@@ -24,7 +24,8 @@ slot_at-requires c =
     let groups = b.book.entries.groups.items in
     let commands = b.book.commands.items in
     let d = c.def-definition.result.now in
-    let found = found_slot rows groups commands b.book.entries.numbered b.slots.items b.slotted c.args.def c.index.result c.index-2.result.now d c.index.ensures c.requires c.index-2.ensures c.def-definition.ensures c.args.key (Some c.in-Some.place) c.in-Some.ensures in
+    let found = found_slot rows groups commands b.book.entries.numbered b.slots.items b.slotted c.args.def c.index.result c.index-2.result.now d
+    c.index.ensures c.requires c.index-2.ensures c.def-definition.ensures c.args.key (Some c.in-Some.place) c.in-Some.ensures in
     position-within (lists_key c.args.key) d.rules.items c.in-Some.place (sym found)
 
 pub returns-in-Some : goal.returns-in-Some
@@ -34,7 +35,8 @@ returns-in-Some c =
     let groups = b.book.entries.groups.items in
     let commands = b.book.commands.items in
     let d = c.def-definition.result.now in
-    let found = found_slot rows groups commands b.book.entries.numbered b.slots.items b.slotted c.args.def c.index.result c.index-2.result.now d c.index.ensures c.requires c.index-2.ensures c.def-definition.ensures c.args.key (Some c.in-Some.place) c.in-Some.ensures in
+    let found = found_slot rows groups commands b.book.entries.numbered b.slots.items b.slotted c.args.def c.index.result c.index-2.result.now d
+    c.index.ensures c.requires c.index-2.ensures c.def-definition.ensures c.args.key (Some c.in-Some.place) c.in-Some.ensures in
     subst (λ (o : Option PlainDefinition). IfSome o (λ p. c.slot_at.result ≡ slot_of p.rules c.args.key)) (sym c.def-definition.ensures)
     (c.slot_at.ensures ∙ ap (λ (o : Option ℕ). option_map_or (slot_at d.rules.items) o Unlisted) found)
 
@@ -45,6 +47,7 @@ returns-in-None c =
     let groups = b.book.entries.groups.items in
     let commands = b.book.commands.items in
     let d = c.def-definition.result.now in
-    let found = found_slot rows groups commands b.book.entries.numbered b.slots.items b.slotted c.args.def c.index.result c.index-2.result.now d c.index.ensures c.requires c.index-2.ensures c.def-definition.ensures c.args.key None c.in-None.ensures in
+    let found = found_slot rows groups commands b.book.entries.numbered b.slots.items b.slotted c.args.def c.index.result c.index-2.result.now d
+    c.index.ensures c.requires c.index-2.ensures c.def-definition.ensures c.args.key None c.in-None.ensures in
     subst (λ (o : Option PlainDefinition). IfSome o (λ p. Unlisted ≡ slot_of p.rules c.args.key)) (sym c.def-definition.ensures)
     (ap (λ (o : Option ℕ). option_map_or (slot_at d.rules.items) o Unlisted) found)

@@ -11,10 +11,13 @@ loop-definition-preserved c = λ ds known.
     let all = c.args.definitions.now in
     let i = c.loop-definition.definition-index in
     let d = c.definition-item.result in
-    let front = ap (λ (es : List Definition). ds ++ es) (take_more all i d c.loop-definition-test.true ∙ ap (λ (e : Definition). take i all ++ e ∷ []) (sym c.definition-item.is)) ∙ sym (append_assoc ds (take i all) (d ∷ [])) in
+    let front = ap (λ (es : List Definition). ds ++ es) (take_more all i d c.loop-definition-test.true ∙ ap (λ (e : Definition). take i all ++ e ∷ []) (sym c.definition-item.is))
+    ∙ sym (append_assoc ds (take i all) (d ∷ [])) in
     subst (λ (tables : List KeyTable). AreSlotTables tables (ds ++ take (i + 1) all)) (sym c.in_ok-push.ensures.items)
-    (subst (AreSlotTables _) (sym front) (AreSlotTables-more c.loop-definition.tables.items (ds ++ take i all) c.in_ok-slot_table.field-0 d (c.loop-definition.invariant ds known) c.in_ok-slot_table.ensures))
+    (subst (AreSlotTables _) (sym front) (AreSlotTables-more c.loop-definition.tables.items
+    (ds ++ take i all) c.in_ok-slot_table.field-0 d (c.loop-definition.invariant ds known) c.in_ok-slot_table.ensures))
 
 pub returns : goal.returns
 returns c = λ ds known.
-    subst (λ (es : List Definition). AreSlotTables c.loop-definition.tables.items (ds ++ es)) (take_all c.loop-definition.definition-index c.args.definitions.now c.loop-definition-test.false) (c.loop-definition.invariant ds known)
+    subst (λ (es : List Definition). AreSlotTables c.loop-definition.tables.items (ds ++ es))
+    (take_all c.loop-definition.definition-index c.args.definitions.now c.loop-definition-test.false) (c.loop-definition.invariant ds known)

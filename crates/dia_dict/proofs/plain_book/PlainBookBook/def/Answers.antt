@@ -13,12 +13,18 @@ pub returns-then-index-len : goal.returns-then-index-len
 returns-then-index-len c =
     let b = c.args.self.now in
     definitions-held b.entries.rows.items b.entries.groups.items b.commands.items b.entries.numbered c.args.def
-    ∙ ap (option_map plain) (group_at b.entries.groups.items b.commands.items c.args.def c.index-index.result c.index.result.now c.index-index.ensures (omega (arith, b.entries.groups.ok.0)) c.index.ensures)
+    ∙ ap (option_map plain) (group_at b.entries.groups.items b.commands.items c.args.def c.index-index.result c.index.result.now c.index-index.ensures
+    (omega (arith, b.entries.groups.ok.0)) c.index.ensures)
 
 pub returns-else-index-len : goal.returns-else-index-len
 returns-else-index-len c =
     let b = c.args.self.now in
     let n : c.len-else-index-len.result ≡ length b.entries.groups.items = omega (arith, b.entries.groups.ok.0) in
-    let within : c.args.def < length b.entries.groups.items + length b.commands.items = omega (arith, length-definitions-held b.entries.rows.items b.entries.groups.items b.commands.items b.entries.numbered, c.requires) in
+    let within : c.args.def < length b.entries.groups.items + length b.commands.items = omega (
+      arith,
+      length-definitions-held b.entries.rows.items b.entries.groups.items b.commands.items b.entries.numbered,
+      c.requires,
+    ) in
     definitions-held b.entries.rows.items b.entries.groups.items b.commands.items b.entries.numbered c.args.def
-    ∙ ap (option_map plain) (command_at b.entries.groups.items b.commands.items c.args.def (c.index-index.result - c.len-else-index-len.result) c.index-else-index-len.result.now (omega (arith, n)) within c.index-else-index-len.ensures)
+    ∙ ap (option_map plain) (command_at b.entries.groups.items b.commands.items c.args.def
+    (c.index-index.result - c.len-else-index-len.result) c.index-else-index-len.result.now (omega (arith, n)) within c.index-else-index-len.ensures)

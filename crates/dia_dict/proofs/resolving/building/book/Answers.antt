@@ -11,7 +11,8 @@ use Rattle.dia_dict.proofs.Sound.{sound, few}
 use Rattle.dia_dict.proofs.resolving.building.book.Goals as goal
 use Rattle.dia_dict.proofs.resolving.building.book.Goals.{In_ok-commands}
 
-meant : (c : In_ok-commands) → dictionary_of c.push_groups.new.entries.rows.items (map plain c.push_groups.new.entries.groups.items) (map plain c.in_ok-commands.commands.items) ≡ resolved (plain_source c.args.names.now.source.now)
+meant : (c : In_ok-commands) → dictionary_of c.push_groups.new.entries.rows.items (map plain c.push_groups.new.entries.groups.items)
+    (map plain c.in_ok-commands.commands.items) ≡ resolved (plain_source c.args.names.now.source.now)
 meant c =
     let s = plain_source c.args.names.now.source.now in
     let declared = c.in_ok-push_declarations.ensures ∙ ap (λ (es : List DictEntry). es ++ map (declared_entry s) (map plain_decl c.deref.result.now)) c.new-entries.ensures

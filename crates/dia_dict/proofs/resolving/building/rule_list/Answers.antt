@@ -6,4 +6,5 @@ use Rattle.dia_dict.specs.Resolution.{rule_of}
 use Rattle.dia_dict.proofs.resolving.building.rule_list.Goals as goal
 
 pub returns : goal.returns
-returns c = rw map-map (items_from_collect _ c.collect.ensures.ran (YieldsList-from_map _ (λ r. rule_of (plain c.args.names.now.source.now) (plain_rule r)) (YieldsList-from_slice c.args.rules.now cc) c.map.ensures.closure (λ x r q k. search (rules, tests))))
+returns c = rw map-map (items_from_collect _ c.collect.ensures.ran (YieldsList-from_map _ (λ r. rule_of (plain c.args.names.now.source.now) (plain_rule r))
+    (YieldsList-from_slice c.args.rules.now cc) c.map.ensures.closure (λ x r q k. search (rules, tests))))

@@ -46,7 +46,15 @@ index-requires c =
     let source = c.args.source.now in
     let r = rw c.in-Err.is at c.in_ok-distinct.ensures.repeat in
     let within = slice_get_within c.deref-2.result.now c.in-Err.place r.item r.at in
-    omega (arith, within, ap length c.deref-2.ensures.value, ap length c.in_ok-selectors.ensures, length-map c.deref.result.now (λ (d : Def). selector_of (head_of d.head)), ap length c.deref.ensures.value, source.commands.ok.0)
+    omega (
+      arith,
+      within,
+      ap length c.deref-2.ensures.value,
+      ap length c.in_ok-selectors.ensures,
+      length-map c.deref.result.now (λ (d : Def). selector_of (head_of d.head)),
+      ap length c.deref.ensures.value,
+      source.commands.ok.0,
+    )
 
 pub returns-clause-err : goal.returns-clause-err
 returns-clause-err c =
@@ -55,4 +63,5 @@ returns-clause-err c =
     let r = rw c.in-Err.is at c.in_ok-distinct.ensures.repeat in
     let first = subst (λ (xs : List Selector). IsFirstRepeat eq xs c.in-Err.place) all r in
     let at = first_repeat_read (λ (d : Def). selector_of (head_of d.head)) eq source.commands.items c.in-Err.place c.index.result.now first c.index.ensures in
-    IsRefused-at _ DuplicateCommand _ _ c.at.result (duplicate_commands-first eq same_answers source.commands.items source.commanded c.in-Err.place c.index.result.now first at) c.deref-in-Err.ensures c.at.ensures
+    IsRefused-at _ DuplicateCommand _ _ c.at.result
+    (duplicate_commands-first eq same_answers source.commands.items source.commanded c.in-Err.place c.index.result.now first at) c.deref-in-Err.ensures c.at.ensures

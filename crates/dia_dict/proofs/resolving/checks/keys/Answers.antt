@@ -23,7 +23,15 @@ pub index-requires : goal.index-requires
 index-requires c =
     let r = rw c.in-Err.is at c.in_ok-distinct.ensures.repeat in
     let within = slice_get_within c.deref-2.result.now c.in-Err.place r.item r.at in
-    omega (arith, within, ap length c.deref-2.ensures.value, ap length c.in_ok-keys.ensures, length-map c.deref.result.now (λ (n : Named). n.key), ap length c.deref.ensures.value, c.in_ok-avps.avps.ok.0)
+    omega (
+      arith,
+      within,
+      ap length c.deref-2.ensures.value,
+      ap length c.in_ok-keys.ensures,
+      length-map c.deref.result.now (λ (n : Named). n.key),
+      ap length c.deref.ensures.value,
+      c.in_ok-avps.avps.ok.0,
+    )
 
 pub returns-clause-err : goal.returns-clause-err
 returns-clause-err c =

@@ -13,7 +13,8 @@ returns-in_err-lengths-clause-err c =
     let e = c.in_err-lengths.field-0.0 in
     let p = err_from_is_err_and c.from_residual.result c.from_residual.ensures.1 in
     let groups = subst (λ (ds : List Def). IsRefused (too_many_rules (map plain_def ds)) e) c.deref.ensures.value c.in_err-lengths.ensures.err in
-    rw (p.1, p.2) (IsRefused-left _ (too_many s) e (subst (λ (ws : List Wrong). IsRefused ws e) (sym (too_many_rules-append s.groups s.commands)) (IsRefused-left _ (too_many_rules s.commands) e groups)))
+    rw (p.1, p.2) (IsRefused-left _ (too_many s) e
+    (subst (λ (ws : List Wrong). IsRefused ws e) (sym (too_many_rules-append s.groups s.commands)) (IsRefused-left _ (too_many_rules s.commands) e groups)))
 
 pub returns-in_err-lengths-2-clause-err : goal.returns-in_err-lengths-2-clause-err
 returns-in_err-lengths-2-clause-err c =

@@ -5,4 +5,5 @@ use Rattle.dia_dict.specs.Refusing.{named}
 use Rattle.dia_dict.proofs.resolving.checks.push_bare.Given as goal
 
 abbrev pub invariant-loop-group : goal.invariant-loop-group
-invariant-loop-group l = map named l.avps.items ≡ map named l.initial.avps.items ++ map (λ g. (g.name, group_key g.head)) (filter (is_bare (plain l.names.source.now)) (map plain_def (take l.group-index l.groups)))
+invariant-loop-group l = map named l.avps.items ≡ map named l.initial.avps.items ++ map (λ g. (g.name, group_key g.head))
+    (filter (is_bare (plain l.names.source.now)) (map plain_def (take l.group-index l.groups)))

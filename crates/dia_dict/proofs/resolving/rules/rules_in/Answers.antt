@@ -10,12 +10,14 @@ pub returns-in-None-clause-ok : goal.returns-in-None-clause-ok
 returns-in-None-clause-ok c =
     let bad = is_bad c.args.kind (plain c.args.names.now.source.now) in
     let def = c.args.def.now in
-    picked-none plain_rule bad (λ (r : PlainRule). wrong c.args.kind (string_bytes def.name) (slot_name r)) def.rules.items (c.in-None.ensures ∙ ap (λ (rs : List Rule). find (λ (r : Rule). bad (plain_rule r)) rs) c.deref.ensures.value)
+    picked-none plain_rule bad (λ (r : PlainRule). wrong c.args.kind (string_bytes def.name) (slot_name r)) def.rules.items
+    (c.in-None.ensures ∙ ap (λ (rs : List Rule). find (λ (r : Rule). bad (plain_rule r)) rs) c.deref.ensures.value)
 
 pub returns-in-Some-clause-err : goal.returns-in-Some-clause-err
 returns-in-Some-clause-err c =
     let bad = is_bad c.args.kind (plain c.args.names.now.source.now) in
     let def = c.args.def.now in
     IsRefused-at_rule _ c.args.kind _ _ _ _ c.at_rule.result
-    (picked-some plain_rule bad (λ (r : PlainRule). wrong c.args.kind (string_bytes def.name) (slot_name r)) def.rules.items _ (c.in-Some.ensures ∙ ap (λ (rs : List Rule). find (λ (r : Rule). bad (plain_rule r)) rs) c.deref.ensures.value))
+    (picked-some plain_rule bad (λ (r : PlainRule). wrong c.args.kind (string_bytes def.name) (slot_name r)) def.rules.items _
+    (c.in-Some.ensures ∙ ap (λ (rs : List Rule). find (λ (r : Rule). bad (plain_rule r)) rs) c.deref.ensures.value))
     c.deref-in-Some.ensures c.slot_name.ensures c.at_rule.ensures

@@ -14,9 +14,12 @@ pub returns-in_err-rules_in-clause-err : goal.returns-in_err-rules_in-clause-err
 returns-in_err-rules_in-clause-err c =
     let e = c.in_err-rules_in.field-0.0 in
     let p = err_from_is_err_and c.from_residual.result c.from_residual.ensures.1 in
-    let refused = IsRefused-flat_map (λ (d : Def). (bad_in c.args.kind (plain c.args.names.now.source.now)) (plain_def d)) c.args.defs.now c.loop-def.def-index c.def-item.result c.loop-def-test.true c.def-item.is c.loop-def.invariant e c.in_err-rules_in.ensures.err in
+    let refused = IsRefused-flat_map (λ (d : Def). (bad_in c.args.kind (plain c.args.names.now.source.now))
+    (plain_def d)) c.args.defs.now c.loop-def.def-index c.def-item.result c.loop-def-test.true c.def-item.is c.loop-def.invariant e c.in_err-rules_in.ensures.err in
     rw (p.1, p.2) (subst (λ (ws : List Wrong). IsRefused ws e) (sym (flat_map-map (bad_in c.args.kind (plain c.args.names.now.source.now)) plain_def c.args.defs.now)) refused)
 
 pub returns-clause-ok : goal.returns-clause-ok
 returns-clause-ok c =
-    flat_map-map (bad_in c.args.kind (plain c.args.names.now.source.now)) plain_def c.args.defs.now ∙ ap (flat_map (λ (d : Def). (bad_in c.args.kind (plain c.args.names.now.source.now)) (plain_def d))) (sym (take_all c.loop-def.def-index c.args.defs.now c.loop-def-test.false)) ∙ c.loop-def.invariant
+    flat_map-map (bad_in c.args.kind (plain c.args.names.now.source.now)) plain_def c.args.defs.now
+    ∙ ap (flat_map (λ (d : Def). (bad_in c.args.kind (plain c.args.names.now.source.now)) (plain_def d)))
+    (sym (take_all c.loop-def.def-index c.args.defs.now c.loop-def-test.false)) ∙ c.loop-def.invariant

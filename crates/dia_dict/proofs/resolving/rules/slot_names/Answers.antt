@@ -6,4 +6,5 @@ use Rattle.dia_dict.specs.Resolution.{slot_name}
 use Rattle.dia_dict.proofs.resolving.rules.slot_names.Goals as goal
 
 pub returns : goal.returns
-returns c = map_from_collect _ c.collect.ensures.ran (YieldsList-from_map_by _ (λ n. n.now) (λ r. slot_name (plain_rule r)) (YieldsList-from_slice c.args.rules.now cc) c.map.ensures.closure (λ x r q k. search (rules, tests)))
+returns c = map_from_collect _ c.collect.ensures.ran (YieldsList-from_map_by _ (λ n. n.now) (λ r. slot_name (plain_rule r))
+    (YieldsList-from_slice c.args.rules.now cc) c.map.ensures.closure (λ x r q k. search (rules, tests)))

@@ -20,13 +20,20 @@ images_before {X} {Y} h (z ∷ zs) (suc i) x y at here = by (h z) (images_before
 group-within : (d : Dictionary) (entry k : ℕ) → group_of d entry ≡ Some k → k < length (definitions d)
 group-within d entry k found = at (slice_get d.entries entry) refl found
   where
-    grouped : (e : DictEntry) (o : Option PlainDefinition) → slice_get d.entries entry ≡ Some e → e.group ≡ o → option_map (λ (_ : PlainDefinition). length (filter_map (λ (e : DictEntry). e.group) (take entry d.entries))) o ≡ Some k → k < length (definitions d)
+    grouped : (e : DictEntry) (o : Option PlainDefinition) → slice_get d.entries entry ≡ Some e → e.group ≡ o
+        → option_map (λ (_ : PlainDefinition). length (filter_map (λ (e : DictEntry). e.group) (take entry d.entries))) o ≡ Some k → k < length (definitions d)
     grouped e None here none same = absurd (none-some k same)
     grouped e (Some g) here some same =
-        omega (arith, images_before (λ (e : DictEntry). e.group) d.entries entry e g here some, same_Some (length (filter_map (λ (e : DictEntry). e.group) (take entry d.entries))) k same, length-append (groups d) d.commands)
+        omega (
+          arith,
+          images_before (λ (e : DictEntry). e.group) d.entries entry e g here some,
+          same_Some (length (filter_map (λ (e : DictEntry). e.group) (take entry d.entries))) k same,
+          length-append (groups d) d.commands,
+        )
 
     at : (o : Option DictEntry) → slice_get d.entries entry ≡ o
-        → option_and_then (λ (x : DictEntry). option_map (λ (_ : PlainDefinition). length (filter_map (λ (e : DictEntry). e.group) (take entry d.entries))) x.group) o ≡ Some k → k < length (definitions d)
+        → option_and_then (λ (x : DictEntry). option_map (λ (_ : PlainDefinition). length (filter_map (λ (e : DictEntry). e.group) (take entry d.entries))) x.group) o ≡ Some k
+        → k < length (definitions d)
     at None here same = absurd (none-some k same)
     at (Some e) here same = grouped e e.group here refl same
 
