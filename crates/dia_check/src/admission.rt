@@ -55,8 +55,8 @@ pub(crate) fn check_avp<B: Book>(
 /// What is missing at the end of the innermost level.
 pub(crate) fn missing_at_end<B: Book>(book: &B, open_levels: &OpenLevels) -> Option<Wrong>
     requires sound { IsDictionary (B.meaning book.now) }
-    requires open_levels { (outer : List SoFar) × (level : SoFar)
-        × AreOpenUnder (B.meaning book.now) open_levels.now outer level }
+    requires open_levels { ∥ ((outer : List SoFar) × (level : SoFar)
+        × AreOpenUnder (B.meaning book.now) open_levels.now outer level) ∥₁ }
     ensures { (outer : List SoFar) (level : SoFar)
         → AreOpenUnder (B.meaning book.now) open_levels.now outer level
         → MatchOption result (IsMetAtEnd level.rules level.keys) (IsMissingAtEnd level.rules level.keys) }
@@ -108,8 +108,8 @@ pub(crate) fn admit<B: Book>(
     flags: u8,
 ) -> Option<Wrong>
     requires sound { IsDictionary (B.meaning book.now) }
-    requires open_levels { (outer : List SoFar) × (level : SoFar)
-        × AreOpenUnder (B.meaning book.now) open_levels.old outer level × HasRoom level }
+    requires open_levels { ∥ ((outer : List SoFar) × (level : SoFar)
+        × AreOpenUnder (B.meaning book.now) open_levels.old outer level × HasRoom level) ∥₁ }
     requires known { known.now ≡ entry_of (B.meaning book.now) key }
     ensures { (outer : List SoFar) (level : SoFar)
         → AreOpenUnder (B.meaning book.now) open_levels.old outer level

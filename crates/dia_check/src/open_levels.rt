@@ -94,8 +94,8 @@ impl OpenLevel {
     fn meet(&mut self, counts: &mut [u32], rules: &[DRule], slot: Slot, key: Key) -> Option<Wrong>
         requires rules { AreRules rules.now }
         requires slot { slot ≡ slot_of rules.now key }
-        requires counted { (keys : List AnyKey) × IsCounted rules.now keys self.old counts.old
-            × (length keys < 4294967295) }
+        requires counted { ∥ ((keys : List AnyKey) × IsCounted rules.now keys self.old counts.old
+            × (length keys < 4294967295)) ∥₁ }
         ensures { (keys : List AnyKey) → IsCounted rules.now keys self.old counts.old
             → MatchOption result
             (IsMet rules.now keys key self.new counts.new × (self.new ≡ record self.old { run = self.new.run }))
@@ -206,8 +206,8 @@ impl OpenLevels {
     pub(crate) fn meet(&mut self, rules: &[DRule], slot: Slot, key: Key) -> Option<Wrong>
         requires rules { AreRules rules.now }
         requires slot { slot ≡ slot_of rules.now key }
-        requires open { (defs : List PlainDefinition) × (outer : List SoFar) × (level : SoFar)
-            × AreOpen defs self.old outer level × (level.rules ≡ rules.now) × HasRoom level }
+        requires open { ∥ ((defs : List PlainDefinition) × (outer : List SoFar) × (level : SoFar)
+            × AreOpen defs self.old outer level × (level.rules ≡ rules.now) × HasRoom level) ∥₁ }
         ensures { (defs : List PlainDefinition) (outer : List SoFar) (level : SoFar)
             → AreOpen defs self.old outer level → level.rules ≡ rules.now
             → MatchOption result (IsWellPlaced rules.now level.keys key
@@ -221,8 +221,8 @@ impl OpenLevels {
 
     /// What is missing at the end of the innermost level.
     pub(crate) fn missing(&self, rules: &[DRule]) -> Option<Wrong>
-        requires { (defs : List PlainDefinition) × (outer : List SoFar) × (level : SoFar)
-            × AreOpen defs self.now outer level × (level.rules ≡ rules.now) }
+        requires { ∥ ((defs : List PlainDefinition) × (outer : List SoFar) × (level : SoFar)
+            × AreOpen defs self.now outer level × (level.rules ≡ rules.now)) ∥₁ }
         ensures { (defs : List PlainDefinition) (outer : List SoFar) (level : SoFar)
             → AreOpen defs self.now outer level → level.rules ≡ rules.now
             → MatchOption result (IsMetAtEnd rules.now level.keys) (IsMissingAtEnd rules.now level.keys) }

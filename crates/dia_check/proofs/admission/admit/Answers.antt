@@ -4,6 +4,8 @@ use Rattle.dia_dict.specs.declared.DRule.{DRule}
 use Rattle.dia_dict.specs.Dictionary.{definitions}
 use Rattle.dia_check.specs.declared.open_levels.Wrong.{Wrong}
 use Rattle.dia_check.specs.OpenLevels.{IsFirstMisplaced, IsWellPlaced}
+use Rattle.std.proofs.Math.Logic.{∥∥₁_elim, ∥∥₁_map}
+use Rattle.std.proofs.Props.{props}
 use Rattle.dia_check.proofs.Admitting.{refused_by_flags, refused_by_place, admitted, def_within, rules_here, are_rules_here}
 use Rattle.dia_check.proofs.admission.admit.Goals as goal
 
@@ -16,12 +18,12 @@ pub returns-in-Some : goal.returns-in-Some
 returns-in-Some g c outer level now = refused_by_flags (g.B.Book.meaning c.args.book.now) c.args.unknown c.args.key c.args.flags level.rules level.keys c.in-Some.wrong c.in-Some.ensures
 
 pub def-requires : goal.def-requires
-def-requires g c = let (outer, level, now, few) = c.requires.open_levels in
-    def_within (g.B.Book.meaning c.args.book.now) c.args.open_levels.now outer level c.innermost-def.result now c.innermost-def.ensures
+def-requires g c = ∥∥₁_elim c.requires.open_levels (search props) (λ x. let (outer, level, now, few) = x in
+    def_within (g.B.Book.meaning c.args.book.now) c.args.open_levels.now outer level c.innermost-def.result now c.innermost-def.ensures)
 
 pub slot-requires : goal.slot-requires
-slot-requires g c = let (outer, level, now, few) = c.requires.open_levels in
-    def_within (g.B.Book.meaning c.args.book.now) c.args.open_levels.now outer level c.innermost-def.result now c.innermost-def.ensures
+slot-requires g c = ∥∥₁_elim c.requires.open_levels (search props) (λ x. let (outer, level, now, few) = x in
+    def_within (g.B.Book.meaning c.args.book.now) c.args.open_levels.now outer level c.innermost-def.result now c.innermost-def.ensures)
 
 pub meet-requires-clause-rules : goal.meet-requires-clause-rules
 meet-requires-clause-rules g c = are_rules_here (g.B.Book.meaning c.args.book.now) c.innermost-def.result.def _ c.deref.result.now c.requires.sound c.def.ensures c.deref.ensures.value
@@ -37,3 +39,13 @@ returns g c outer level now =
     ))
     (λ w first. refused_by_place d c.args.unknown c.args.key c.args.flags level.rules level.keys w c.in_default.ensures
     (subst (λ (rs : List DRule). IsFirstMisplaced rs level.keys c.args.key w) (sym same) first))
+
+pub meet-requires-clause-open : goal.meet-requires-clause-open
+meet-requires-clause-open g c = ∥∥₁_map c.requires.open_levels (λ x. let (outer, level, now, few) = x in (
+  definitions (g.B.Book.meaning c.args.book.now),
+  outer,
+  level,
+  now,
+  rules_here (g.B.Book.meaning c.args.book.now) c.args.open_levels.now outer level c.innermost-def.result _ c.deref.result.now now c.innermost-def.ensures c.def.ensures c.deref.ensures.value,
+  few,
+))

@@ -3,7 +3,9 @@ use Rattle.std.specs.Prelude.{MatchOption}
 use Rattle.dia_dict.specs.declared.DRule.{DRule}
 use Rattle.dia_dict.specs.Dictionary.{definitions}
 use Rattle.dia_check.specs.OpenLevels.{IsMetAtEnd, IsMissingAtEnd}
-use Rattle.dia_check.proofs.Admitting.{rules_here}
+use Rattle.std.proofs.Math.Logic.{∥∥₁_elim, ∥∥₁_map}
+use Rattle.std.proofs.Props.{props}
+use Rattle.dia_check.proofs.Admitting.{rules_here, def_within}
 use Rattle.dia_check.proofs.admission.missing_at_end.Goals as goal
 
 pub returns : goal.returns
@@ -11,3 +13,16 @@ returns g c outer level now =
     let d = g.B.Book.meaning c.args.book.now in
     let same = rules_here d c.args.open_levels.now outer level c.innermost-def.result _ c.deref.result.now now c.innermost-def.ensures c.def.ensures c.deref.ensures.value in
     subst (λ (rs : List DRule). MatchOption c.missing.result (IsMetAtEnd rs level.keys) (IsMissingAtEnd rs level.keys)) (sym same) (c.missing.ensures (definitions d) outer level now same)
+
+pub def-requires : goal.def-requires
+def-requires g c = ∥∥₁_elim c.requires.open_levels (search props) (λ x. let (outer, level, now) = x in
+    def_within (g.B.Book.meaning c.args.book.now) c.args.open_levels.now outer level c.innermost-def.result now c.innermost-def.ensures)
+
+pub missing-requires : goal.missing-requires
+missing-requires g c = ∥∥₁_map c.requires.open_levels (λ x. let (outer, level, now) = x in (
+  definitions (g.B.Book.meaning c.args.book.now),
+  outer,
+  level,
+  now,
+  rules_here (g.B.Book.meaning c.args.book.now) c.args.open_levels.now outer level c.innermost-def.result _ c.deref.result.now now c.innermost-def.ensures c.def.ensures c.deref.ensures.value,
+))

@@ -104,7 +104,7 @@ returns-in-Err g c good is =
     (c.in-Err.ensures (map so_far w.rests) (so_far w.s) w.stands))
 
 pub missing_at_end-requires-clause-open_levels : goal.missing_at_end-requires-clause-open_levels
-missing_at_end-requires-clause-open_levels g c = let (good, is) = c.requires.header in let w = c.loop-avp.invariant good is in (map so_far w.rests, so_far w.s, w.stands)
+missing_at_end-requires-clause-open_levels g c = let (good, is) = c.requires.header in let w = c.loop-avp.invariant good is in ∣ (map so_far w.rests, so_far w.s, w.stands) ∣₁
 
 pub fault-requires-in-Some : goal.fault-requires-in-Some
 fault-requires-in-Some g c = let (good, is) = c.requires.header in

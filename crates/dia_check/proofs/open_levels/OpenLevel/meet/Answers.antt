@@ -1,5 +1,9 @@
 use Rattle.std.proofs.Common.{◌<◌, None, length, refl, arith}
 use Rattle.std.proofs.lemmas.Option.{slice_get-get_or}
+use Rattle.std.proofs.Math.Logic.{∥∥₁_elim}
+use Rattle.std.proofs.Props.{props}
+use Rattle.std.specs.Coded.{le_prop}
+use Rattle.std.specs.Prelude.{slice_index, ◌≤◌}
 use Rattle.dia_check.proofs.Meeting.{to_within, rule_within, count_few, missing_first, not_allowed_first, too_many_first, met_now, is_max_of, no_max_of}
 use Rattle.dia_dict.specs.declared.DRule.{DRule}
 use Rattle.dia_dict.specs.declared.RuleKind.TheVariants.{Fixed}
@@ -9,30 +13,26 @@ no_rule : DRule
 no_rule = record { kind = Fixed; key = None; min = 0; max = None }
 
 pub first_unmet-requires : goal.first_unmet-requires
-first_unmet-requires c = let (keys, counted, few) = c.requires.counted in (
-  counted.many,
-  to_within c.args.rules.now c.requires.rules keys c.args.key c.args.self.now c.args.counts.now counted c.lead-run.result.0 c.lead-run.result.1
-      (c.lead-run.ensures c.args.rules.now keys c.args.key c.args.counts.now c.requires.rules counted c.requires.slot),
+first_unmet-requires c = (
+  ∥∥₁_elim c.requires.counted (search props) (λ x. x.1.many),
+  ∥∥₁_elim c.requires.counted le_prop (λ x. let (keys, counted, few) = x in
+      to_within c.args.rules.now c.requires.rules keys c.args.key c.args.self.now c.args.counts.now counted c.lead-run.result.0 c.lead-run.result.1
+      (c.lead-run.ensures c.args.rules.now keys c.args.key c.args.counts.now c.requires.rules counted c.requires.slot)),
 )
 
 pub bounds-rules-place : goal.bounds-rules-place
-bounds-rules-place c = let (keys, counted, few) = c.requires.counted in
-    omega (
-      arith,
-      c.in-Some.ensures.inside,
-      to_within c.args.rules.now c.requires.rules keys c.args.key c.args.self.now c.args.counts.now counted c.lead-run.result.0 c.lead-run.result.1
-          (c.lead-run.ensures c.args.rules.now keys c.args.key c.args.counts.now c.requires.rules counted c.requires.slot),
-    )
+bounds-rules-place c =
+    let within : c.lead-run.result.0 ≤ length c.args.rules.now = ∥∥₁_elim c.requires.counted le_prop (λ x. let (keys, counted, few) = x in
+    to_within c.args.rules.now c.requires.rules keys c.args.key c.args.self.now c.args.counts.now counted c.lead-run.result.0 c.lead-run.result.1
+    (c.lead-run.ensures c.args.rules.now keys c.args.key c.args.counts.now c.requires.rules counted c.requires.slot)) in
+    omega (arith, c.in-Some.ensures.inside, within)
 
 pub offset_bounds-rules-place : goal.offset_bounds-rules-place
-offset_bounds-rules-place c = let (keys, counted, few) = c.requires.counted in
-    omega (
-      arith,
-      c.in-Some.ensures.inside,
-      to_within c.args.rules.now c.requires.rules keys c.args.key c.args.self.now c.args.counts.now counted c.lead-run.result.0 c.lead-run.result.1
-          (c.lead-run.ensures c.args.rules.now keys c.args.key c.args.counts.now c.requires.rules counted c.requires.slot),
-      c.requires.rules.few,
-    )
+offset_bounds-rules-place c =
+    let within : c.lead-run.result.0 ≤ length c.args.rules.now = ∥∥₁_elim c.requires.counted le_prop (λ x. let (keys, counted, few) = x in
+    to_within c.args.rules.now c.requires.rules keys c.args.key c.args.self.now c.args.counts.now counted c.lead-run.result.0 c.lead-run.result.1
+    (c.lead-run.ensures c.args.rules.now keys c.args.key c.args.counts.now c.requires.rules counted c.requires.slot)) in
+    omega (arith, c.in-Some.ensures.inside, within, c.requires.rules.few)
 
 pub returns-in-Some : goal.returns-in-Some
 returns-in-Some c keys counted =
@@ -49,56 +49,43 @@ returns-in_default-rule c keys counted = rw c.avp.ensures (not_allowed_first c.a
     c.lead-run.result.1 (c.lead-run.ensures c.args.rules.now keys c.args.key c.args.counts.now c.requires.rules counted c.requires.slot) c.in_default.ensures c.in_default-rule.is)
 
 pub bounds-counts-rule : goal.bounds-counts-rule
-bounds-counts-rule c = let (keys, counted, few) = c.requires.counted in
+bounds-counts-rule c = ∥∥₁_elim c.requires.counted le_prop (λ x. let (keys, counted, few) = x in
     (rule_within c.args.rules.now c.requires.rules keys c.args.key c.args.self.now c.args.counts.now counted c.lead-run.result.0 c.lead-run.result.1
-    (c.lead-run.ensures c.args.rules.now keys c.args.key c.args.counts.now c.requires.rules counted c.requires.slot) c.in-Some-rule.rule c.in-Some-rule.is).1
+    (c.lead-run.ensures c.args.rules.now keys c.args.key c.args.counts.now c.requires.rules counted c.requires.slot) c.in-Some-rule.rule c.in-Some-rule.is).1)
 
 pub offset_bounds-counts-rule : goal.offset_bounds-counts-rule
-offset_bounds-counts-rule c = let (keys, counted, few) = c.requires.counted in
-    omega (
-      arith,
-      rule_within c.args.rules.now c.requires.rules keys c.args.key c.args.self.now c.args.counts.now counted c.lead-run.result.0 c.lead-run.result.1
-          (c.lead-run.ensures c.args.rules.now keys c.args.key c.args.counts.now c.requires.rules counted c.requires.slot) c.in-Some-rule.rule c.in-Some-rule.is,
-    )
+offset_bounds-counts-rule c = let within : c.in-Some-rule.rule < length c.args.rules.now = ∥∥₁_elim c.requires.counted le_prop (λ x. let (keys, counted, few) = x in
+    (rule_within c.args.rules.now c.requires.rules keys c.args.key c.args.self.now c.args.counts.now counted c.lead-run.result.0 c.lead-run.result.1
+    (c.lead-run.ensures c.args.rules.now keys c.args.key c.args.counts.now c.requires.rules counted c.requires.slot) c.in-Some-rule.rule c.in-Some-rule.is).0) in omega (arith, within, c.requires.rules.few)
 
 pub bounds-rules-rule : goal.bounds-rules-rule
-bounds-rules-rule c = let (keys, counted, few) = c.requires.counted in
+bounds-rules-rule c = ∥∥₁_elim c.requires.counted le_prop (λ x. let (keys, counted, few) = x in
     (rule_within c.args.rules.now c.requires.rules keys c.args.key c.args.self.now c.args.counts.now counted c.lead-run.result.0 c.lead-run.result.1
-    (c.lead-run.ensures c.args.rules.now keys c.args.key c.args.counts.now c.requires.rules counted c.requires.slot) c.in-Some-rule.rule c.in-Some-rule.is).0
+    (c.lead-run.ensures c.args.rules.now keys c.args.key c.args.counts.now c.requires.rules counted c.requires.slot) c.in-Some-rule.rule c.in-Some-rule.is).0)
 
 pub offset_bounds-rules-rule : goal.offset_bounds-rules-rule
-offset_bounds-rules-rule c = let (keys, counted, few) = c.requires.counted in
-    omega (
-      arith,
-      rule_within c.args.rules.now c.requires.rules keys c.args.key c.args.self.now c.args.counts.now counted c.lead-run.result.0 c.lead-run.result.1
-          (c.lead-run.ensures c.args.rules.now keys c.args.key c.args.counts.now c.requires.rules counted c.requires.slot) c.in-Some-rule.rule c.in-Some-rule.is,
-    )
+offset_bounds-rules-rule c = let within : c.in-Some-rule.rule < length c.args.rules.now = ∥∥₁_elim c.requires.counted le_prop (λ x. let (keys, counted, few) = x in
+    (rule_within c.args.rules.now c.requires.rules keys c.args.key c.args.self.now c.args.counts.now counted c.lead-run.result.0 c.lead-run.result.1
+    (c.lead-run.ensures c.args.rules.now keys c.args.key c.args.counts.now c.requires.rules counted c.requires.slot) c.in-Some-rule.rule c.in-Some-rule.is).0) in omega (arith, within, c.requires.rules.few)
 
 pub bounds-counts-rule-2 : goal.bounds-counts-rule-2
-bounds-counts-rule-2 c = let (keys, counted, few) = c.requires.counted in
+bounds-counts-rule-2 c = ∥∥₁_elim c.requires.counted le_prop (λ x. let (keys, counted, few) = x in
     (rule_within c.args.rules.now c.requires.rules keys c.args.key c.args.self.now c.args.counts.now counted c.lead-run.result.0 c.lead-run.result.1
-    (c.lead-run.ensures c.args.rules.now keys c.args.key c.args.counts.now c.requires.rules counted c.requires.slot) c.in-Some-rule.rule c.in-Some-rule.is).1
+    (c.lead-run.ensures c.args.rules.now keys c.args.key c.args.counts.now c.requires.rules counted c.requires.slot) c.in-Some-rule.rule c.in-Some-rule.is).1)
 
 pub offset_bounds-counts-rule-2 : goal.offset_bounds-counts-rule-2
-offset_bounds-counts-rule-2 c = let (keys, counted, few) = c.requires.counted in
-    omega (
-      arith,
-      rule_within c.args.rules.now c.requires.rules keys c.args.key c.args.self.now c.args.counts.now counted c.lead-run.result.0 c.lead-run.result.1
-          (c.lead-run.ensures c.args.rules.now keys c.args.key c.args.counts.now c.requires.rules counted c.requires.slot) c.in-Some-rule.rule c.in-Some-rule.is,
-    )
+offset_bounds-counts-rule-2 c = let within : c.in-Some-rule.rule < length c.args.rules.now = ∥∥₁_elim c.requires.counted le_prop (λ x. let (keys, counted, few) = x in
+    (rule_within c.args.rules.now c.requires.rules keys c.args.key c.args.self.now c.args.counts.now counted c.lead-run.result.0 c.lead-run.result.1
+    (c.lead-run.ensures c.args.rules.now keys c.args.key c.args.counts.now c.requires.rules counted c.requires.slot) c.in-Some-rule.rule c.in-Some-rule.is).0) in omega (arith, within, c.requires.rules.few)
 
 pub overflow_add-counts : goal.overflow_add-counts
 overflow_add-counts c =
-    let (keys, counted, few) = c.requires.counted in
+    let few : slice_index c.args.counts.now c.in-Some-rule.rule < 4294967295 = ∥∥₁_elim c.requires.counted le_prop (λ x. let (keys, counted, few) = x in
     let lt = (rule_within c.args.rules.now c.requires.rules keys c.args.key c.args.self.now c.args.counts.now counted c.lead-run.result.0 c.lead-run.result.1
     (c.lead-run.ensures c.args.rules.now keys c.args.key c.args.counts.now c.requires.rules counted c.requires.slot) c.in-Some-rule.rule c.in-Some-rule.is).0 in
-    omega (
-      arith,
-      few,
-      count_few c.args.rules.now c.requires.rules keys c.args.key c.args.self.now c.args.counts.now counted c.lead-run.result.0 c.lead-run.result.1
-          (c.lead-run.ensures c.args.rules.now keys c.args.key c.args.counts.now c.requires.rules counted c.requires.slot) c.in-Some-rule.rule _
-          (slice_get-get_or c.args.rules.now c.in-Some-rule.rule no_rule lt),
-    )
+    let most = count_few c.args.rules.now c.requires.rules keys c.args.key c.args.self.now c.args.counts.now counted c.lead-run.result.0 c.lead-run.result.1
+    (c.lead-run.ensures c.args.rules.now keys c.args.key c.args.counts.now c.requires.rules counted c.requires.slot) c.in-Some-rule.rule _ (slice_get-get_or c.args.rules.now c.in-Some-rule.rule no_rule lt) in omega (arith, few, most)) in
+    omega (arith, few)
 
 pub returns-then-eq : goal.returns-then-eq
 returns-then-eq c keys counted =

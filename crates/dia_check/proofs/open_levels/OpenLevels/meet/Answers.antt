@@ -6,6 +6,10 @@ use Rattle.dia_check.specs.declared.open_levels.OpenLevel.{OpenLevel}
 use Rattle.dia_check.specs.declared.open_levels.OpenLevels.{OpenLevels}
 use Rattle.dia_check.specs.OpenLevels.{IsCounted}
 use Rattle.dia_check.specs.declared.open_levels.Wrong.{Wrong}
+use Rattle.std.proofs.Common.{rules}
+use Rattle.std.proofs.Math.Logic.{∥∥₁_elim, ∥∥₁_map}
+use Rattle.std.specs.Coded.{le_prop}
+use Rattle.std.specs.Prelude.{◌≤◌}
 use Rattle.dia_check.proofs.Opening.{own_counted, own_size, rewritten, met_further}
 use Rattle.dia_check.proofs.open_levels.OpenLevels.meet.Goals as goal
 
@@ -28,3 +32,25 @@ returns c defs outer level now same =
       met_further defs before after outer level c.args.rules.now c.args.key c.meet.new.self.run c.meet.new.counts now same (subst (λ (k : OpenLevel). IsCounted c.args.rules.now (level.keys ++ c.args.key ∷ []) k c.meet.new.counts) met.1 met.0.counted) met.1 refl
           (rewritten before.counts.items counts c.meet.new.counts _ base before.counts.len before.counts.ok.0 c.deref_mut.ensures.value (c.meet.auto.counts ∙ size.0) size.1 refl),
     ))
+
+pub offset_bounds-deref_mut-base : goal.offset_bounds-deref_mut-base
+offset_bounds-deref_mut-base c =
+    let within : c.args.self.now.innermost.base ≤ length c.args.self.now.counts.items = ∥∥₁_elim c.requires.open le_prop (λ x. let (defs, outer, level, now, same, few) = x in
+    (own_size defs c.args.self.now outer level c.args.self.now.counts.items now refl).1) in
+    search rules
+
+pub slice_bounds-meet-count : goal.slice_bounds-meet-count
+slice_bounds-meet-count c =
+    let within : c.args.self.now.innermost.base ≤ length c.args.self.now.counts.items = ∥∥₁_elim c.requires.open le_prop (λ x. let (defs, outer, level, now, same, few) = x in
+    (own_size defs c.args.self.now outer level c.args.self.now.counts.items now refl).1) in
+    search rules
+
+pub slice_bounds-meet-start : goal.slice_bounds-meet-start
+slice_bounds-meet-start c =
+    let within : c.args.self.now.innermost.base ≤ length c.args.self.now.counts.items = ∥∥₁_elim c.requires.open le_prop (λ x. let (defs, outer, level, now, same, few) = x in
+    (own_size defs c.args.self.now outer level c.args.self.now.counts.items now refl).1) in
+    search rules
+
+pub meet-requires-clause-counted : goal.meet-requires-clause-counted
+meet-requires-clause-counted c = ∥∥₁_map c.requires.open (λ x. let (defs, outer, level, now, same, few) = x in
+    (level.keys, own_counted defs c.args.self.now outer level c.args.rules.now _ now same c.deref_mut.ensures.value, few))

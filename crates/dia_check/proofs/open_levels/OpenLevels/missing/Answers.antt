@@ -1,6 +1,11 @@
-use Rattle.std.proofs.Common.{refl}
+use Rattle.std.proofs.Common.{refl, rules}
+use Rattle.std.proofs.Math.Logic.{∥∥₁_elim}
+use Rattle.std.proofs.Props.{props}
+use Rattle.std.specs.Coded.{le_prop}
+use Rattle.std.specs.Prelude.{◌≤◌, length}
+use Rattle.std.proofs.Common.{arith}
 use Rattle.std.proofs.lemmas.Option.{slice_get-get_or}
-use Rattle.dia_check.proofs.Opening.{own_counted, all_met, one_missing}
+use Rattle.dia_check.proofs.Opening.{own_counted, own_size, all_met, one_missing}
 use Rattle.dia_check.proofs.open_levels.OpenLevels.missing.Goals as goal
 
 pub returns-in_err-place : goal.returns-in_err-place
@@ -20,3 +25,28 @@ returns c defs outer level now same =
       refl,
       refl,
     )
+
+pub offset_bounds-deref-base : goal.offset_bounds-deref-base
+offset_bounds-deref-base c =
+    let within : c.args.self.now.innermost.base ≤ length c.args.self.now.counts.items = ∥∥₁_elim c.requires le_prop (λ x. let (defs, outer, level, now, same) = x in
+    (own_size defs c.args.self.now outer level c.args.self.now.counts.items now refl).1) in
+    search rules
+
+pub slice_bounds-first_unmet-count : goal.slice_bounds-first_unmet-count
+slice_bounds-first_unmet-count c =
+    let within : c.args.self.now.innermost.base ≤ length c.args.self.now.counts.items = ∥∥₁_elim c.requires le_prop (λ x. let (defs, outer, level, now, same) = x in
+    (own_size defs c.args.self.now outer level c.args.self.now.counts.items now refl).1) in
+    search rules
+
+pub slice_bounds-first_unmet-start : goal.slice_bounds-first_unmet-start
+slice_bounds-first_unmet-start c =
+    let within : c.args.self.now.innermost.base ≤ length c.args.self.now.counts.items = ∥∥₁_elim c.requires le_prop (λ x. let (defs, outer, level, now, same) = x in
+    (own_size defs c.args.self.now outer level c.args.self.now.counts.items now refl).1) in
+    search rules
+
+pub first_unmet-requires : goal.first_unmet-requires
+first_unmet-requires c = (
+  ∥∥₁_elim c.requires (search props) (λ x. let (defs, outer, level, now, same) = x in
+      (own_counted defs c.args.self.now outer level c.args.rules.now c.deref.result.now now same c.deref.ensures.value).many),
+  omega arith,
+)
