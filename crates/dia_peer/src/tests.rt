@@ -53,7 +53,7 @@ impl Ends {
     }
 }
 
-/// What a core does at an event. Where memory is refused nothing has changed, and the core is told again.
+/// What a core does at an event. Where memory is refused, nothing has changed, and the event is given again.
 fn tell(rt: &impl Abort, core: &mut Core, event: Event<'_>) -> Result<Vec<Output>, AllocError> {
     let before = (core.state(), core.common().len());
     if let Ok(outputs) = core.step(event) {

@@ -34,7 +34,7 @@ const OPENING: [Row; 4] = [
     (Initiator, Comes(CEA), "", None, Open),
 ];
 
-/// The ends with Auth 1 and 4, and with Auth 4 and Acct 3, and the first Hop-by-Hop Identifier of the initiator.
+/// An initiator with Auth 1 and 4 that begins with this Hop-by-Hop Identifier, and a responder with Auth 4 and Acct 3.
 fn usual_ends(rt: &impl AllocGlobal, hop: u32) -> Result<Ends, Fail> {
     ends(rt, hop, &[auth(1), auth(4)], &[auth(4), acct(3)])
 }
@@ -96,7 +96,7 @@ impl Ends {
     }
 }
 
-/// Whether the outputs are this message, where it isn't empty, and then the end of the connection, where there is a reason.
+/// Whether the outputs are this message (empty: none), and then the end of the connection where there is a reason.
 fn are(outputs: &[Output], message: &[u8], why: Option<Why>) -> bool {
     match (outputs, why) {
         ([], None) => message.is_empty(),
@@ -109,13 +109,13 @@ fn are(outputs: &[Output], message: &[u8], why: Option<Why>) -> bool {
     }
 }
 
-/// The rows from the first event on.
+/// New ends play the rows.
 fn play_new(rt: &(impl AllocGlobal + Abort), hop: u32, rows: &[Row]) -> Result<(), Fail> {
     let mut ends = usual_ends(rt, hop)?;
     ends.play(rt, rows)
 }
 
-/// The rows are played once both ends are open.
+/// New ends open, and then play the rows.
 fn play_open(rt: &(impl AllocGlobal + Abort), rows: &[Row]) -> Result<(), Fail> {
     let mut ends = usual_ends(rt, 1)?;
     ends.open_and_play(rt, rows)

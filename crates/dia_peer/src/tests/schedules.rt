@@ -269,7 +269,7 @@ fn ends_agree_whatever_is_delivered(rt: HostRuntime) -> Result<(), Fail> {
 fn check_sent(rt: &(impl AllocGlobal + Abort), book: &IndexedBook, sent: &[Vec<u8>]) {
     for bytes in sent {
         let found = check(rt.alloc(), book, Unknown::Kept, Levels::Any, bytes);
-        assert!(rt; found.is_ok(), "{found:?} for {bytes:?}");
+        assert_eq!(rt; found.err(), None, "{bytes:?}");
     }
 }
 
