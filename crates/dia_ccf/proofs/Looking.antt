@@ -1,5 +1,5 @@
 -- Tests of words, in the code's terms and in the machine's.
-use Rattle.std.proofs.Common.{◌≡◌, ℕ, Bool, true, false, List, refl, sym, subst}
+use Rattle.std.proofs.Common.{◌≡◌, ℕ, Bool, true, false, List, refl}
 use Rattle.std.specs.Prelude.{IsTrue}
 use Rattle.dia_ccf.specs.Names.{same_bytes}
 use Rattle.dia_ccf.proofs.Recognized.{same_bytes-is}

@@ -1,13 +1,11 @@
 -- What a test of one token says of the token.
-use Rattle.std.proofs.Common.{◌≡◌, ℕ, ◌≤◌, Bool, true, false, cond, List, [], ◌∷◌, length, take, map, Option, Some, None, refl, sym, ap, subst, ◌∙◌, arith, inl, inr, ◌⊎◌, ⊎_elim, eqb}
-use Rattle.std.specs.Prelude.{nat_le, nat_eq, codes, ◌&&◌, ◌==◌, ⊤}
-use Rattle.std.specs.List.{find, starts_with}
+use Rattle.std.proofs.Common.{◌≡◌, ℕ, ◌≤◌, Bool, true, false, cond, List, [], ◌∷◌, map, Option, Some, None, refl, sym, ap, subst, ◌∙◌, inl, inr, ◌⊎◌, ⊎_elim}
+use Rattle.std.specs.Prelude.{nat_le, codes, ◌&&◌, ⊤}
+use Rattle.std.specs.List.{find}
 use Rattle.std.specs.Option.{option_map}
 use Rattle.std.specs.Char.{to_ascii_lowercase}
-use Rattle.std.proofs.lemmas.Bool.{leb-true, eqb-true, eq-eqb}
-use Rattle.std.proofs.lemmas.List.{take_all}
-use Rattle.std.proofs.Math.Seq.{take-length}
-use lib.Pointwise.{pointwise, bytes_decides}
+use Rattle.std.proofs.lemmas.Bool.{leb-true}
+use lib.Pointwise.{bytes_decides}
 use Rattle.dia_ccf.specs.declared.source.FormatName.{FormatName}
 use Rattle.dia_ccf.specs.declared.source.FormatName.TheVariants as format
 use Rattle.dia_ccf.specs.declared.source.MRule.{MRule}

@@ -1,12 +1,11 @@
 -- Look-ups by name: two texts are one where their bytes are.
-use Rattle.std.proofs.Common.{◌≡◌, ℕ, Bool, true, false, cond, List, [], ◌∷◌, length, map, take, nat_eq, Option, Some, None, refl, sym, ap, ◌∙◌, subst, arith, Bor, Decides, nat_lt}
-use Rattle.std.specs.Prelude.{slice_get, position, find, option_and_then, ◌==◌}
-use Rattle.std.specs.List.{starts_with, position_or_len, list_any}
+use Rattle.std.proofs.Common.{◌≡◌, ℕ, Bool, true, false, cond, List, [], ◌∷◌, length, map, Option, Some, None, refl, sym, ap, ◌∙◌, arith, Bor, Decides, nat_lt}
+use Rattle.std.specs.Prelude.{slice_get, position, find, option_and_then}
+use Rattle.std.specs.List.{position_or_len, list_any}
 use Rattle.std.specs.Option.{option_map}
 use Rattle.std.specs.Str.{bytes_eq}
-use Rattle.std.proofs.lemmas.Bool.{and_parts, and_from, eqb-true, eq-eqb, ltb-false}
-use Rattle.std.proofs.lemmas.Bool.Decides.{same_from_decides}
-use Rattle.std.proofs.lemmas.List.{take_all, length-map}
+use Rattle.std.proofs.lemmas.Bool.{ltb-false}
+use Rattle.std.proofs.lemmas.List.{length-map}
 use Rattle.std.proofs.lemmas.List.Folds.{find_at}
 use Rattle.std.proofs.lemmas.Option.{slice_get_past}
 use Rattle.std.proofs.lemmas.Slice.Eq.{bytes_eq-Decides}

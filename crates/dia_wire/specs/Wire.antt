@@ -1,5 +1,5 @@
 -- Messages and AVPs on the wire (RFC 6733 sections 3 and 4.1).
-use Rattle.std.specs.Prelude.{◌≡◌, ℕ, ◌+◌, ◌*◌, ◌/◌, ◌%◌, ◌^◌, ◌<◌, ◌≤◌, ◌↔◌, ◌⊎◌, List, [], ◌∷◌, ◌++◌, length, take, Option, Some, None, IsSome, All, Any, sum_by, unwrap_or, slice_index}
+use Rattle.std.specs.Prelude.{◌≡◌, ℕ, ◌+◌, ◌*◌, ◌/◌, ◌%◌, ◌<◌, ◌≤◌, ◌↔◌, ◌⊎◌, List, [], ◌∷◌, ◌++◌, length, take, Option, Some, None, IsSome, All, Any, sum_by, unwrap_or, slice_index}
 use Rattle.std.specs.Int.{IsBitSet}
 use Rattle.dia_wire.specs.declared.header.Header.{Header}
 use Rattle.dia_wire.specs.declared.avp.Avp.{Avp}
