@@ -1,5 +1,5 @@
 -- Tables of keys: what their rows say, and where a search among them goes.
-use Rattle.std.proofs.Common.{◌≡◌, ℕ, ◌+◌, ◌-◌, ◌*◌, ◌/◌, ◌%◌, ◌^◌, ◌<◌, ◌≤◌, Bool, true, false, cond, List, [], ◌∷◌, ◌++◌, length, take, get_or, Option, Some, None, refl, sym, ap, ◌∙◌, subst, inl, inr, arith}
+use Rattle.std.proofs.Common.{◌≡◌, ℕ, ◌+◌, ◌-◌, ◌*◌, ◌%◌, ◌^◌, ◌<◌, ◌≤◌, Bool, true, false, cond, List, [], ◌∷◌, ◌++◌, length, take, get_or, Option, Some, None, refl, sym, ap, ◌∙◌, subst, inl, inr, arith}
 use Rattle.std.specs.Prelude.{slice_get, position}
 use Rattle.std.specs.List.Sorted.{IsNonDecreasingBy, IsPermutation, IsPartitionPoint}
 use Rattle.std.specs.Option.{option_or}
@@ -137,15 +137,14 @@ module _ (rows : List KeyRow) (sorted : IsNonDecreasingBy (λ (row : KeyRow). ro
 pub bucket_of-within : (buckets rank : ℕ) → 0 < buckets → rank < 2 ^ 64 → bucket_of buckets rank < buckets
 unfolding bucket_of
 bucket_of-within buckets rank some fits =
-    let top : rank / 2 ^ 32 ≤ 2 ^ 32 - 1 = omega (arith, fits) in
-    let most : rank / 2 ^ 32 * buckets ≤ (2 ^ 32 - 1) * buckets = mul-le-mul_right buckets top in
+    let top : rank ≤ 2 ^ 64 - 1 = omega (arith, fits) in
+    let most : rank * buckets ≤ (2 ^ 64 - 1) * buckets = mul-le-mul_right buckets top in
     omega (arith, most, some)
 
 pub bucket_of-rises : (buckets one other : ℕ) → one ≤ other → bucket_of buckets one ≤ bucket_of buckets other
 unfolding bucket_of
 bucket_of-rises buckets one other le =
-    let tops : one / 2 ^ 32 ≤ other / 2 ^ 32 = omega (arith, le) in
-    let products : one / 2 ^ 32 * buckets ≤ other / 2 ^ 32 * buckets = mul-le-mul_right buckets tops in
+    let products : one * buckets ≤ other * buckets = mul-le-mul_right buckets le in
     omega (arith, products)
 
 module _ (rows : List KeyRow) (buckets : ℕ) where

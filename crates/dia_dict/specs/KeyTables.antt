@@ -37,7 +37,7 @@ IsFound rows rank (Some place) = Any (λ row. (row.rank ≡ rank) × (row.place 
 
 -- the bucket of a rank, from 0: the ranks below 2 ^ 64 are cut into so many ranges
 unfoldable pub bucket_of : ℕ → ℕ → ℕ
-bucket_of buckets rank = rank / 2 ^ 32 * buckets / 2 ^ 32
+bucket_of buckets rank = rank * buckets / 2 ^ 64
 
 -- the rows before the place are in lower buckets, and those from there on are not
 abbrev pub IsStart : List KeyRow → ℕ → ℕ → ℕ → Type 0

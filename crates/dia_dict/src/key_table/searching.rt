@@ -17,14 +17,15 @@ pub(super) fn search(rows: &[KeyRow], low: usize, high: usize, rank: u64) -> Opt
     let mut low = low;
     let mut high = high;
     while low < high {
-        let middle = low + (high - low) / 2;
+        let middle = (low + high) / 2;
         let row = rows[middle];
+        if row.rank == rank {
+            return Some(row.place as usize);
+        }
         if row.rank < rank {
             low = middle + 1;
-        } else if rank < row.rank {
-            high = middle;
         } else {
-            return Some(row.place as usize);
+            high = middle;
         }
     }
     None

@@ -11,7 +11,7 @@ pub(super) fn bucket_of(rank: u64, buckets: u32) -> usize
     ensures bucket { result ≡ bucket_of buckets rank }
     ensures within { 0 < buckets → result < buckets }
 {
-    ((rank >> 32) * u64::from(buckets) >> 32) as usize
+    ((rank as u128 * buckets as u128) >> 64) as usize
 }
 
 /// Where the rows of each bucket start, and then where those of the last one end.
