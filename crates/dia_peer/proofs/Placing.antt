@@ -5,6 +5,7 @@ use Rattle.std.proofs.Common.{
   zero,
   suc,
   ◌+◌,
+  ◌<◌,
   ◌≤◌,
   Bool,
   true,
@@ -15,6 +16,8 @@ use Rattle.std.proofs.Common.{
   ◌∷◌,
   length,
   map,
+  drop,
+  get_or,
   Option,
   Some,
   None,
@@ -32,6 +35,7 @@ use Rattle.std.proofs.Common.{
 }
 use Rattle.std.specs.Prelude.{position, unwrap_or, slice_get, nat_lt, not, ◌||◌, ◌↔◌, ⊤}
 use Rattle.std.specs.List.{fold, insert, list_any, position_or_len}
+use Rattle.std.proofs.Math.Seq.{drop-cons}
 use Rattle.std.proofs.lemmas.Bool.{cond_both, ltb-false}
 use Rattle.std.proofs.lemmas.List.Sums.{prefix_len-le-length}
 use Rattle.std.proofs.lemmas.Option.{same_Some, none-some}
@@ -64,26 +68,22 @@ module _ (x : Kind × ℕ) where
   put_in_place items =
       ap (λ (n : ℕ). pairs_of (insert items n x)) (or_length (position_or_len behind items) (length items) (prefix_len-le-length (λ y. not (behind y)) items)) ∙ put items
 
-any_pairs : (p : Pair) (items : List (Kind × ℕ)) → list_any (λ other. same_pair p (the_pair other)) items ≡ list_any (same_pair p) (pairs_of items)
-any_pairs p [] = refl
-any_pairs p (y ∷ ys) = ap (λ (b : Bool). same_pair p (the_pair y) || b) (any_pairs p ys)
-
-pub among : (p : Pair) (items : List (Kind × ℕ)) → true ≡ list_any (λ other. same_pair p (the_pair other)) items → IsIn (pairs_of items) p
-among p items e = any_in p (pairs_of items) (sym (any_pairs p items) ∙ sym e)
-
-pub not_among : (p : Pair) (items : List (Kind × ℕ)) → false ≡ list_any (λ other. same_pair p (the_pair other)) items → ¬ IsIn (pairs_of items) p
-not_among p items e m = let t : false ≡ true = e ∙ any_pairs p items ∙ in_any p (pairs_of items) m in absurd cc
-
 -- ---- pairs that stand once
 
-abbrev pub Apart : List Pair → List Pair → Type 0
-Apart sorted [] = ⊤
-Apart sorted (p ∷ ps) = (¬ IsIn sorted p) × Apart (insert_pair p sorted) ps
+any_apps : (p : Pair) (apps : List App) → list_any (λ other. same_pair p (pair_of other)) apps ≡ list_any (same_pair p) (map pair_of apps)
+any_apps p [] = refl
+any_apps p (y ∷ ys) = ap (λ (b : Bool). same_pair p (pair_of y) || b) (any_apps p ys)
 
-apart_out : (sorted ps : List Pair) → Apart sorted ps → (q : Pair) → IsIn sorted q → IsIn ps q → ⊥
-apart_out sorted [] a q m k = k
-apart_out sorted (p ∷ ps) (fresh, a) q m (inl e) = fresh (subst (IsIn sorted) (sym e) m)
-apart_out sorted (p ∷ ps) (fresh, a) q m (inr k) = apart_out (insert_pair p sorted) ps a q (into_insert p sorted q (inr m)) k
+among : (p : Pair) (apps : List App) → true ≡ list_any (λ other. same_pair p (pair_of other)) apps → IsIn (map pair_of apps) p
+among p apps e = any_in p (map pair_of apps) (sym (any_apps p apps) ∙ sym e)
+
+not_among : (p : Pair) (apps : List App) → false ≡ list_any (λ other. same_pair p (pair_of other)) apps → ¬ IsIn (map pair_of apps) p
+not_among p apps e m = let t : false ≡ true = e ∙ any_apps p apps ∙ in_any p (map pair_of apps) m in absurd cc
+
+-- each is of another kind and number than those behind it
+abbrev pub StandOnce : List App → Type 0
+StandOnce [] = ⊤
+StandOnce (a ∷ apps) = (¬ IsIn (map pair_of apps) (pair_of a)) × StandOnce apps
 
 at_pair : (apps : List App) (k : ℕ) (b : App) → slice_get apps k ≡ Some b → IsIn (map pair_of apps) (pair_of b)
 at_pair [] k b e = absurd (none-some b e)
@@ -95,44 +95,38 @@ in_at [] b m = absurd m
 in_at (a ∷ apps) b (inl e) = (zero, ap (λ (x : App). Some x) e)
 in_at (a ∷ apps) b (inr m) = let r = in_at apps b m in (suc r.0, r.1)
 
-apart_index : (sorted : List Pair) (apps : List App) → Apart sorted (map pair_of apps) → AreDistinct apps
-apart_index sorted [] h i j a b p q e = absurd (none-some a p)
-apart_index sorted (x ∷ apps) h zero zero a b p q e = refl
-apart_index sorted (x ∷ apps) (fresh, h) zero (suc j) a b p q e =
-    absurd (apart_out (insert_pair (pair_of x) sorted) (map pair_of apps) h (pair_of b) (into_insert (pair_of x) sorted (pair_of b) (inl (ap pair_of (same_Some x a p) ∙ e))) (at_pair apps j b q))
-apart_index sorted (x ∷ apps) (fresh, h) (suc i) zero a b p q e =
-    absurd (apart_out (insert_pair (pair_of x) sorted) (map pair_of apps) h (pair_of a) (into_insert (pair_of x) sorted (pair_of a) (inl (ap pair_of (same_Some x b q) ∙ sym e))) (at_pair apps i a p))
-apart_index sorted (x ∷ apps) (fresh, h) (suc i) (suc j) a b p q e = ap (λ (n : ℕ). suc n) (apart_index (insert_pair (pair_of x) sorted) apps h i j a b p q e)
+once_index : (apps : List App) → StandOnce apps → AreDistinct apps
+once_index [] h i j a b p q e = absurd (none-some a p)
+once_index (x ∷ apps) h zero zero a b p q e = refl
+once_index (x ∷ apps) (fresh, h) zero (suc j) a b p q e = absurd (fresh (subst (IsIn (map pair_of apps)) (sym e ∙ sym (ap pair_of (same_Some x a p))) (at_pair apps j b q)))
+once_index (x ∷ apps) (fresh, h) (suc i) zero a b p q e = absurd (fresh (subst (IsIn (map pair_of apps)) (e ∙ sym (ap pair_of (same_Some x b q))) (at_pair apps i a p)))
+once_index (x ∷ apps) (fresh, h) (suc i) (suc j) a b p q e = ap (λ (n : ℕ). suc n) (once_index apps h i j a b p q e)
 
-into_apart : (sorted : List Pair) (apps : List App) → ((q : Pair) → IsIn sorted q → IsIn (map pair_of apps) q → ⊥) → AreDistinct apps → Apart sorted (map pair_of apps)
-into_apart sorted [] out d = tt
-into_apart sorted (x ∷ apps) out d = (
-  λ m. out (pair_of x) m (inl refl),
-  into_apart (insert_pair (pair_of x) sorted) apps
-      (λ q m k. ⊎_elim (λ e. (let (b, in_apps, same) = in_map pair_of apps q k in let (j, at) = in_at apps b in_apps in let z : zero ≡ suc j = d zero (suc j) x b refl at (e ∙ sym same) in
-      absurd (omega (arith, z))))
-      (λ l. out q l (inr k)) (in_insert (pair_of x) sorted q m))
-      (λ i j a b p q e. (let s : suc i ≡ suc j = d (suc i) (suc j) a b p q e in omega (arith, s))),
+into_once : (apps : List App) → AreDistinct apps → StandOnce apps
+into_once [] d = tt
+into_once (x ∷ apps) d = (
+  λ m. (let (b, in_apps, same) = in_map pair_of apps (pair_of x) m in let (j, at) = in_at apps b in_apps in let z : zero ≡ suc j = d zero (suc j) x b refl at (sym same) in absurd (omega (arith, z))),
+  into_once apps (λ i j a b p q e. (let s : suc i ≡ suc j = d (suc i) (suc j) a b p q e in omega (arith, s))),
 )
 
-pub apart_distinct : (apps : List App) → Apart [] (map pair_of apps) → AreDistinct apps
-apart_distinct apps h = apart_index [] apps h
+-- what is to be looked at decides
+pub record Decides (apps rest : List App) : Type 0 where
+  pub now : StandOnce apps ↔ StandOnce rest
 
-pub distinct_apart : (apps : List App) → AreDistinct apps → Apart [] (map pair_of apps)
-distinct_apart apps d = into_apart [] apps (λ q m k. m) d
+pub decides_more : (apps rest : List App) (a : App) → Decides apps (a ∷ rest) → false ≡ list_any (λ other. same_pair (pair_of a) (pair_of other)) rest → Decides apps rest
+decides_more apps rest a d fresh = record { now = ((λ h. (d.now.0 h).1), (λ h. d.now.1 (not_among (pair_of a) rest fresh, h))) }
+
+pub decides_none : (apps rest : List App) (a : App) → Decides apps (a ∷ rest) → true ≡ list_any (λ other. same_pair (pair_of a) (pair_of other)) rest → ¬ AreDistinct apps
+decides_none apps rest a d twice distinct = (d.now.0 (into_once apps distinct)).0 (among (pair_of a) rest twice)
+
+pub decides_at : (apps : List App) (i : ℕ) (a : App) → i < length apps → Decides apps (drop i apps) → Decides apps (get_or apps i a ∷ drop (i + 1) apps)
+decides_at apps i a lt d = subst (λ (rest : List App). Decides apps rest) (drop-cons apps i a lt ∙ (λ k. get_or apps i a ∷ drop (sym (add-one i) k) apps)) d
+
+pub decides_all : (apps : List App) → Decides apps [] → AreDistinct apps
+decides_all apps d = once_index apps (d.now.1 tt)
 
 -- ---- the applications so far
 
 -- the pairs in order of the applications up to some place, where they go on with these
-pub record Sorts (all : List Pair) (sorted rest : List Pair) : Type 0 where
-  pub pairs : fold put_onto sorted rest ≡ sorted_pairs all
-  pub apart : Apart [] all ↔ Apart sorted rest
-
-pub sorts_more : (all sorted rest : List Pair) (p : Pair) → Sorts all sorted (p ∷ rest) → ¬ IsIn sorted p → Sorts all (insert_pair p sorted) rest
-sorts_more all sorted rest p s fresh = record { pairs = s.pairs; apart = ((λ a. (s.apart.0 a).1), (λ a. s.apart.1 (fresh, a))) }
-
-pub sorts_none : (apps : List App) (sorted rest : List Pair) (p : Pair) → Sorts (map pair_of apps) sorted (p ∷ rest) → IsIn sorted p → ¬ AreDistinct apps
-sorts_none apps sorted rest p s m d = (s.apart.0 (distinct_apart apps d)).0 m
-
-pub sorts_all : (apps : List App) (sorted : List Pair) → Sorts (map pair_of apps) sorted [] → AreDistinct apps × (sorted ≡ sorted_pairs (map pair_of apps))
-sorts_all apps sorted s = (apart_distinct apps (s.apart.1 tt), s.pairs)
+abbrev pub Sorts : List Pair → List Pair → List Pair → Type 0
+Sorts all sorted rest = fold put_onto sorted rest ≡ sorted_pairs all

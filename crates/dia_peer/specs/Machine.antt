@@ -14,7 +14,7 @@ use Rattle.dia_peer.specs.declared.event.Event.{Event}
 use Rattle.dia_peer.specs.declared.event.Event.TheVariants as event
 use Rattle.dia_peer.specs.declared.event.Output.{Output}
 use Rattle.dia_peer.specs.declared.event.Output.TheVariants as output
-use Rattle.dia_peer.specs.Core.{PlainConfig, PlainCore, PlainTaken, IsIdentity, AreApps, plain, pairs_of}
+use Rattle.dia_peer.specs.Core.{PlainConfig, PlainCore, PlainTaken, IsConfig, IsIdentity, AreApps, plain, pairs_of}
 use Rattle.dia_peer.specs.Messages.{Received, IsReceived}
 use Rattle.dia_peer.specs.Table.{Happening, Starts, Gets, Ticks, Stops, Breaks, Deed, Sends, Closes, Outcome, happens}
 
@@ -72,4 +72,5 @@ IsRefusedAs c fault.Realm = IsIdentity c.host × ¬ IsIdentity c.realm
 IsRefusedAs c fault.Product = IsIdentity c.host × IsIdentity c.realm × (255 < length c.product)
 IsRefusedAs c fault.Address = IsIdentity c.host × IsIdentity c.realm × (length c.product ≤ 255) × ((c.addresses ≡ []) ⊎ (64 < length c.addresses))
 IsRefusedAs c fault.Application = IsIdentity c.host × IsIdentity c.realm × (length c.product ≤ 255) × (0 < length c.addresses) × (length c.addresses ≤ 64) × (¬ AreApps c.apps)
-IsRefusedAs c fault.NoMemory = ⊤
+-- memory is taken where nothing else is wrong
+IsRefusedAs c fault.NoMemory = IsConfig c

@@ -1,7 +1,8 @@
 //! The applications of a configuration, in order.
 
-ghost use Rattle.std.specs.Prelude.{◌≡◌, ◌<◌, ◌↔◌, IsTrue, IfOk, IfSome, MatchOption, length, map, position};
+ghost use Rattle.std.specs.Prelude.{◌≡◌, ◌<◌, ◌+◌, ◌↔◌, IsTrue, IfOk, IfSome, Some, length, map, drop, position, slice_get};
 ghost use Rattle.std.specs.List.{AllByRecursion, list_any};
+ghost use Rattle.dia_peer.specs.declared.config.App.{App as AnyApp};
 ghost use Rattle.dia_peer.specs.Core.{AreDistinct, pair_of, the_pair, pairs_of, comes_before, same_pair, sorted_pairs};
 
 use crate::config::{App, Kind};
@@ -25,30 +26,47 @@ fn is_relay(id: u32) -> bool
     id == u32::MAX
 }
 
-/// The applications, Auth first and then by number, or `None` where one of a kind and number stands twice.
-///
-/// Each is put into its place by a scan of those before it: at most 1,024 times 1,024 steps, once for each core.
-pub(crate) fn sorted(alloc: Global, apps: &[App]) -> Result<Option<Vec<(Kind, u32)>>, AllocError>
-    ensures { IfOk result
-        (λ found. MatchOption found (¬ AreDistinct apps.now) (λ pairs. AreDistinct apps.now
-        × (pairs_of pairs.items ≡ sorted_pairs (map pair_of apps.now)))) }
+/// Whether no two applications are of one kind and number. It takes no memory, and at most 1,024 times 1,024 steps, once for
+/// each core.
+pub(crate) fn are_distinct(apps: &[App]) -> bool
+    ensures { IsTrue result ↔ AreDistinct apps.now }
+{
+    for place in 0..apps.len() {
+        if stands_again(apps, place) {
+            return false;
+        }
+    }
+    true
+}
+
+/// Whether an application behind the one at a place is of its kind and number.
+fn stands_again(apps: &[App], place: usize) -> bool
+    requires { place < length apps.now }
+    ensures { (app : AnyApp) → slice_get apps.now place ≡ Some app
+        → result ≡ list_any (λ other. same_pair (pair_of app) (pair_of other)) (drop (place + 1) apps.now) }
+{
+    let app = apps[place];
+    is_among((app.kind, app.id), &apps[place + 1..])
+}
+
+fn is_among(pair: (Kind, u32), apps: &[App]) -> bool
+    ensures { result ≡ list_any (λ other. same_pair (the_pair pair) (pair_of other)) apps.now }
+{
+    apps.iter()
+        .any(|other| is_same(pair, (other.kind, other.id)))
+}
+
+/// The applications, Auth first and then by number. Each is put into its place by a scan of those before it.
+pub(crate) fn sorted(alloc: Global, apps: &[App]) -> Result<Vec<(Kind, u32)>, AllocError>
+    ensures { IfOk result (λ pairs. pairs_of pairs.items ≡ sorted_pairs (map pair_of apps.now)) }
 {
     let mut pairs = Vec::new(alloc);
     for app in apps {
         let pair = (app.kind, app.id);
-        if is_among(pair, &pairs) {
-            return Ok(None);
-        }
         let place = place_of(pair, &pairs).unwrap_or(pairs.len());
         pairs.insert(place, pair)?;
     }
-    Ok(Some(pairs))
-}
-
-fn is_among(pair: (Kind, u32), pairs: &[(Kind, u32)]) -> bool
-    ensures { result ≡ list_any (λ other. same_pair (the_pair pair) (the_pair other)) pairs.now }
-{
-    pairs.iter().any(|other| is_same(pair, *other))
+    Ok(pairs)
 }
 
 /// The place of the first application that comes behind this one.

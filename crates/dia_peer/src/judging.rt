@@ -1,13 +1,12 @@
 //! What is asked of a configuration.
 
-ghost use Rattle.std.specs.Prelude.{◌≡◌, ◌↔◌, IfOk, IfErr, IsTrue, map, length, All};
-ghost use Rattle.dia_peer.specs.Core.{IsConfig, IsIdentity, IsIp, plain, pair_of, pairs_of, sorted_pairs};
+ghost use Rattle.std.specs.Prelude.{◌≡◌, ◌↔◌, IfOk, IfErr, IsTrue, length, All};
+ghost use Rattle.dia_peer.specs.Core.{IsConfig, IsIdentity, IsIp, plain};
 ghost use Rattle.dia_peer.specs.Machine.{IsRefusedAs};
 
-use crate::applications::{may_be_used, sorted};
-use crate::config::{App, Config, ConfigFault, Ip, Kind};
+use crate::applications::{are_distinct, may_be_used};
+use crate::config::{Config, ConfigFault, Ip};
 use dia_dict::{Format, Leaf, accepts};
-use std::alloc::Global;
 
 /// The greatest count of bytes of a host, a realm and a product's name.
 const NAME_LIMIT: usize = 255;
@@ -16,11 +15,9 @@ const ADDRESS_LIMIT: usize = 64;
 
 const APP_LIMIT: usize = 1024;
 
-/// The applications of a configuration in order, where nothing is wrong with it.
-pub(crate) fn judged(alloc: Global, config: &Config) -> Result<Vec<(Kind, u32)>, ConfigFault>
-    ensures ok { IfOk result
-        (λ pairs. IsConfig (plain config.now)
-        × (pairs_of pairs.items ≡ sorted_pairs (map pair_of config.now.apps.items))) }
+/// Tells the first thing that is wrong with a configuration. It takes no memory.
+pub(crate) fn judge(config: &Config) -> Result<(), ConfigFault>
+    ensures ok { IfOk result (λ _. IsConfig (plain config.now)) }
     ensures err { IfErr result (IsRefusedAs (plain config.now)) }
 {
     if !is_identity(&config.host) {
@@ -40,9 +37,10 @@ pub(crate) fn judged(alloc: Global, config: &Config) -> Result<Vec<(Kind, u32)>,
     if config.apps.is_empty() || config.apps.len() > APP_LIMIT || !may_be_used(&config.apps) {
         return Err(ConfigFault::Application);
     }
-    match sorted(alloc, &config.apps)? {
-        Some(pairs) => Ok(pairs),
-        None => Err(ConfigFault::Application),
+    if are_distinct(&config.apps) {
+        Ok(())
+    } else {
+        Err(ConfigFault::Application)
     }
 }
 

@@ -20,6 +20,7 @@ ghost use Rattle.dia_peer.specs.Messages.{
   if_some,
 };
 
+use crate::applications::sorted;
 use crate::base::BaseBook;
 use crate::codes::{
     ACCT_APPLICATION_ID, AUTH_APPLICATION_ID, HOST_IP_ADDRESS, ORIGIN_HOST, ORIGIN_REALM,
@@ -27,7 +28,7 @@ use crate::codes::{
 };
 use crate::config::{App, Config, ConfigFault, Ip, Kind};
 use crate::draft::Draft;
-use crate::judging::judged;
+use crate::judging::judge;
 use crate::named::Named;
 use std::alloc::{AllocError, Global};
 
@@ -49,7 +50,8 @@ impl Node {
         ensures ok { IfOk result (λ node. IsConfig (plain config) × (plain node.config ≡ plain config)) }
         ensures err { IfErr result (IsRefusedAs (plain config)) }
     {
-        let apps = judged(alloc, &config)?;
+        judge(&config)?;
+        let apps = sorted(alloc, &config.apps)?;
         let base = BaseBook::new(alloc)?;
         Ok(Node {
             alloc,

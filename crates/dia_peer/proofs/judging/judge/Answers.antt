@@ -6,36 +6,31 @@ use Rattle.std.proofs.lemmas.List.Elements.{recursion_from_All}
 use Rattle.dia_peer.specs.declared.config.Ip.{Ip}
 use Rattle.dia_peer.specs.declared.config.App.{App}
 use Rattle.dia_peer.specs.Core.{IsIp, AreDistinct, pair_of, sorted_pairs}
-use Rattle.dia_peer.proofs.judging.judged.Goals as goal
+use Rattle.dia_peer.proofs.judging.judge.Goals as goal
 
 some : (n m : ℕ) → false ≡ (n == 0) → n ≡ m → 0 < m
 some zero m h e = absurd cc
 some (suc n) m h e = omega (arith, e)
 
-pub returns-in-Some-clause-ok : goal.returns-in-Some-clause-ok
-returns-in-Some-clause-ok c =
-    let config = c.args.config.now in
-    let found = rw c.in-Some.is at c.in_ok-pairs.ensures in
-    let is_apps = c.deref-4.ensures.value in (
-      record {
-        host = search rules;
-        realm = search rules;
-        product = (
-          subst IsUtf8 c.as_str-product.ensures.value c.as_str-product.utf8,
-          (let size = ap length c.as_str-product.ensures.value in let f = c.if-product-gt-NAME_LIMIT.false in
-              omega (arith, size, f)),
-        );
-        addresses = (
-          some _ _ c.if-is_empty.ensures config.addresses.ok.0,
-          (let size = config.addresses.ok.0 in let e = c.len.ensures in let f = c.if-len-gt-ADDRESS_LIMIT.false in omega (arith, size, e, f)),
-          recursion_from_All IsIp config.addresses.items (subst (λ (xs : List Ip). All IsIp xs) c.deref-3.ensures.value c.know_their_lengths.ensures),
-        );
-        apps = record {
-          some = some _ _ c.if-is_empty-2.ensures config.apps.ok.0;
-          few = (let size = config.apps.ok.0 in let e = c.len-else-is_empty-2.ensures in let f = c.if-len-gt-APP_LIMIT.false in omega (arith, size, e, f));
-          numbers = subst (λ (xs : List App). AllByRecursion (λ (a : App). a.id < 4294967295) xs) c.deref-else-len-gt-APP_LIMIT.ensures.value (c.if-not-may_be_used.ensures.0 refl);
-          distinct = subst AreDistinct is_apps found.0;
-        };
-      },
-      found.1 ∙ ap (λ (xs : List App). sorted_pairs (map pair_of xs)) is_apps,
-    )
+pub returns-then-are_distinct-clause-ok : goal.returns-then-are_distinct-clause-ok
+returns-then-are_distinct-clause-ok c =
+    let config = c.args.config.now in record {
+      host = search rules;
+      realm = search rules;
+      product = (
+        subst IsUtf8 c.as_str-product.ensures.value c.as_str-product.utf8,
+        (let size = ap length c.as_str-product.ensures.value in let f = c.if-product-gt-NAME_LIMIT.false in
+            omega (arith, size, f)),
+      );
+      addresses = (
+        some _ _ c.if-is_empty.ensures config.addresses.ok.0,
+        (let size = config.addresses.ok.0 in let e = c.len.ensures in let f = c.if-len-gt-ADDRESS_LIMIT.false in omega (arith, size, e, f)),
+        recursion_from_All IsIp config.addresses.items (subst (λ (xs : List Ip). All IsIp xs) c.deref-3.ensures.value c.know_their_lengths.ensures),
+      );
+      apps = record {
+        some = some _ _ c.if-is_empty-2.ensures config.apps.ok.0;
+        few = (let size = config.apps.ok.0 in let e = c.len-else-is_empty-2.ensures in let f = c.if-len-gt-APP_LIMIT.false in omega (arith, size, e, f));
+        numbers = subst (λ (xs : List App). AllByRecursion (λ (a : App). a.id < 4294967295) xs) c.deref-else-len-gt-APP_LIMIT.ensures.value (c.if-not-may_be_used.ensures.0 refl);
+        distinct = subst AreDistinct c.deref-4.ensures.value (c.if-are_distinct.ensures.0 refl);
+      };
+    }
