@@ -3,6 +3,8 @@
 //! A `Source` is what a dictionary text says. `resolve` makes a `PlainBook` of it, or tells what is wrong with it.
 //! Everything that reads a dictionary goes through the trait `Book`. An `IndexedBook` answers the same faster.
 //!
+//! Here `slot_in_request` asks `select` for the command and then `slot` for the rule:
+//!
 //! ```text
 //! let text = "%avp Origin-Host 264 DiameterIdentity must <DWR> ::= <Diameter-Header:280,REQ> {Origin-Host}";
 //! let book = IndexedBook::new(alloc, resolve(alloc, parse(alloc, text)?)?)?;
@@ -10,8 +12,7 @@
 //! let host = book.avp(key).ok_or("Origin-Host")?;
 //! assert_eq!(rt; book.entry_name(host), "Origin-Host");
 //! assert_eq!(rt; *book.format(host), Format::DiameterIdentity);
-//! let dwr = book.select(280, Class::Request, 0).ok_or("DWR")?;
-//! assert_eq!(rt; book.slot(dwr, key), Slot::Loose(0));
+//! assert_eq!(rt; slot_in_request(&book, 280, key), Some(Slot::Loose(0)));
 //!
 //! let fault = resolve(alloc, parse(alloc, "%avp X 9001 Grouped any")?).err().ok_or("a fault")?;
 //! assert_eq!(rt; format!(in alloc; "{fault}")?.as_str(), "no-group-format: X");

@@ -27,6 +27,12 @@ fn fault_of(alloc: Global, text: &str) -> Result<DictFault, Fail> {
     }
 }
 
+/// Where an AVP stands among the rules of a command's requests.
+fn slot_in_request<B: Book>(book: &B, code: u32, key: Key) -> Option<Slot> {
+    let def = book.select(code, Class::Request, 0)?;
+    Some(book.slot(def, key))
+}
+
 /// The example of the crate's docs.
 #[test]
 fn resolves_and_looks_up(rt: HostRuntime) -> Result<(), Fail> {
@@ -41,8 +47,7 @@ fn resolves_and_looks_up(rt: HostRuntime) -> Result<(), Fail> {
     let host = book.avp(key).ok_or("Origin-Host")?;
     assert_eq!(rt; book.entry_name(host), "Origin-Host");
     assert_eq!(rt; *book.format(host), Format::DiameterIdentity);
-    let dwr = book.select(280, Class::Request, 0).ok_or("DWR")?;
-    assert_eq!(rt; book.slot(dwr, key), Slot::Loose(0));
+    assert_eq!(rt; slot_in_request(&book, 280, key), Some(Slot::Loose(0)));
 
     let fault = resolve(alloc, parse(alloc, "%avp X 9001 Grouped any")?)
         .err()
