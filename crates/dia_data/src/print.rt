@@ -10,6 +10,7 @@ ghost use Rattle.dia_data.specs.Plain.{plain};
 use crate::accept::{Leaf, accepts};
 use crate::format::Format;
 use byteorder::{BigEndian, ByteOrder};
+use itoa::{Buffer, Integer};
 use std::alloc::{AllocError, Global};
 
 /// The data as text (our profile).
@@ -45,12 +46,10 @@ fn push_accepted(out: &mut String, format: &Format, bytes: &[u8]) -> Result<(), 
     ensures { OnOk result (string_bytes out.new ≡ string_bytes out.old ++ value_text (plain format.now) bytes.now) }
 {
     match format {
-        Format::Integer32 | Format::Enumerated(_) => {
-            write!(out, "{}", BigEndian::read_i32(bytes))
-        }
-        Format::Integer64 => write!(out, "{}", BigEndian::read_i64(bytes)),
-        Format::Unsigned32 | Format::Time => write!(out, "{}", BigEndian::read_u32(bytes)),
-        Format::Unsigned64 => write!(out, "{}", BigEndian::read_u64(bytes)),
+        Format::Integer32 | Format::Enumerated(_) => push_number(out, BigEndian::read_i32(bytes)),
+        Format::Integer64 => push_number(out, BigEndian::read_i64(bytes)),
+        Format::Unsigned32 | Format::Time => push_number(out, BigEndian::read_u32(bytes)),
+        Format::Unsigned64 => push_number(out, BigEndian::read_u64(bytes)),
         Format::Address => push_address(out, bytes),
         Format::Utf8String | Format::DiameterIdentity | Format::DiameterUri => push_quoted(
             out, bytes,
@@ -84,7 +83,19 @@ fn push_ipv4(out: &mut String, bytes: &[u8]) -> Result<(), AllocError>
     requires { length bytes.now ≡ 4 }
     ensures { OnOk result (string_bytes out.new ≡ string_bytes out.old ++ join_with_byte 46 (map decimal bytes.now)) }
 {
-    write!(out, "{}.{}.{}.{}", bytes[0], bytes[1], bytes[2], bytes[3])
+    push_number(out, bytes[0])?;
+    out.push('.')?;
+    push_number(out, bytes[1])?;
+    out.push('.')?;
+    push_number(out, bytes[2])?;
+    out.push('.')?;
+    push_number(out, bytes[3])
+}
+
+fn push_number<I: Integer>(out: &mut String, number: I) -> Result<(), AllocError>
+    ensures { OnOk result (string_bytes out.new ≡ string_bytes out.old ++ I.text number) }
+{
+    out.push_str(Buffer::new().format(number))
 }
 
 /// Every group with its leading zeros.

@@ -18,7 +18,7 @@ returns-in-Integer64 c =
     let eight : length bytes ≡ 8 = leaf_from_fine Fine Integer64 bytes refl (λ e. absurd (cc)) said in
     let n : c.read_i64.result ≡ cast_signed w64 (number bytes) = c.read_i64.ensures ∙ ap (cast_signed w64) (number_of_all 8 bytes eight) in
     let fits : FitsSigned w64 c.read_i64.result = search rules in
-    rw kind (rw (ap signed_decimal (to_z-of_z w64 c.read_i64.result fits ∙ n)) at c.write.ensures.bytes)
+    rw kind (rw (ap signed_decimal (to_z-of_z w64 c.read_i64.result fits ∙ n)) at c.push_number.ensures)
 
 pub returns-in-Unsigned64 : goal.returns-in-Unsigned64
 returns-in-Unsigned64 c =
@@ -26,4 +26,4 @@ returns-in-Unsigned64 c =
     let kind : plain c.args.format.now ≡ Unsigned64 = ap plain c.in-Unsigned64.is in
     let said : IsAnswer Fine Unsigned64 bytes = subst (λ k. IsAnswer Fine k bytes) kind c.requires in
     let eight : length bytes ≡ 8 = leaf_from_fine Fine Unsigned64 bytes refl (λ e. absurd (cc)) said in
-    rw kind (rw (ap decimal (c.read_u64.ensures ∙ number_of_all 8 bytes eight)) at c.write-in-Unsigned64.ensures.bytes)
+    rw kind (rw (ap decimal (c.read_u64.ensures ∙ number_of_all 8 bytes eight)) at c.push_number-in-Unsigned64.ensures)
