@@ -10,3 +10,4 @@ pub mod Leaves
 pub mod BelowLemmas
 pub mod Groups
 pub mod ShownValues
+pub mod Decimals

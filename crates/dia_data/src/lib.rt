@@ -29,6 +29,6 @@ mod values;
 pub use accept::{Leaf, accepts};
 pub use below::{format_below, inclusion};
 pub use format::Format;
-pub use print::{print_value, push_hex_byte, push_value};
+pub use print::{print_value, push_decimal, push_hex_byte, push_value};
 pub use state::LeafState;
 pub use values::Values;

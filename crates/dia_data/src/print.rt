@@ -83,19 +83,58 @@ fn push_ipv4(out: &mut String, bytes: &[u8]) -> Result<(), AllocError>
     requires { length bytes.now ≡ 4 }
     ensures { OnOk result (string_bytes out.new ≡ string_bytes out.old ++ join_with_byte 46 (map decimal bytes.now)) }
 {
-    push_number(out, bytes[0])?;
+    push_byte(out, bytes[0])?;
     out.push('.')?;
-    push_number(out, bytes[1])?;
+    push_byte(out, bytes[1])?;
     out.push('.')?;
-    push_number(out, bytes[2])?;
+    push_byte(out, bytes[2])?;
     out.push('.')?;
-    push_number(out, bytes[3])
+    push_byte(out, bytes[3])
 }
 
 fn push_number<I: Integer>(out: &mut String, number: I) -> Result<(), AllocError>
     ensures { OnOk result (string_bytes out.new ≡ string_bytes out.old ++ I.text number) }
 {
     out.push_str(Buffer::new().format(number))
+}
+
+fn push_byte(out: &mut String, byte: u8) -> Result<(), AllocError>
+    ensures { OnOk result (string_bytes out.new ≡ string_bytes out.old ++ decimal byte) }
+{
+    push_decimal(out, u64::from(byte))
+}
+
+/// Adds a number in decimal. The error comes only where memory was refused; some of the digits may have been added then.
+pub fn push_decimal(out: &mut String, number: u64) -> Result<(), AllocError>
+    ensures { OnOk result (string_bytes out.new ≡ string_bytes out.old ++ decimal number) }
+{
+    if number < 100 {
+        push_two_digits(out, number)
+    } else if number < 1000 {
+        push_two_digits(out, number / 10)?;
+        push_digit(out, number % 10)
+    } else {
+        push_number(out, number)
+    }
+}
+
+fn push_two_digits(out: &mut String, number: u64) -> Result<(), AllocError>
+    requires { number < 100 }
+    ensures { OnOk result (string_bytes out.new ≡ string_bytes out.old ++ decimal number) }
+{
+    if number >= 10 {
+        push_digit(out, number / 10)?;
+        push_digit(out, number % 10)
+    } else {
+        push_digit(out, number)
+    }
+}
+
+fn push_digit(out: &mut String, digit: u64) -> Result<(), AllocError>
+    requires { digit < 10 }
+    ensures { OnOk result (string_bytes out.new ≡ string_bytes out.old ++ decimal digit) }
+{
+    out.push(char::from(b'0' + digit as u8))
 }
 
 /// Every group with its leading zeros.
@@ -211,6 +250,21 @@ mod tests {
             let printed = print_value(rt.alloc(), &format, data)?;
             assert_eq!(rt; printed.as_str(), text, "{format:?} of {data:?}");
         }
+        Ok(())
+    }
+
+    #[test]
+    fn adds_a_number(rt: HostRuntime) -> Result<(), Fail> {
+        let numbers = [0, 9, 10, 99, 100, 999, 1000, 65_536, u64::MAX];
+        let mut line = String::new(rt.alloc());
+        for number in numbers {
+            push_decimal(&mut line, number)?;
+            line.push(' ')?;
+        }
+        assert_eq!(rt;
+            line.as_str(),
+            "0 9 10 99 100 999 1000 65536 18446744073709551615 "
+        );
         Ok(())
     }
 
