@@ -29,7 +29,7 @@ const STATUSES: &str = "Status:
   2  bad input, or a bad command line
   3  a file or a device failed, or memory was refused";
 
-/// The words of the policies on AVPs that the dictionary doesn't know.
+/// The values of `--unknown`, the policies for AVPs that the dictionary doesn't know.
 static POLICIES: [&str; 2] = ["kept", "refused"];
 
 const DICTIONARY: &str = "A dictionary text: a file, @base, or - for standard input";
@@ -52,7 +52,7 @@ pub fn parse_words<'a, S: AsStr>(alloc: Global, words: &'a [S]) -> Result<Reques
     match request_of(alloc, &matches) {
         Some(Ok(request)) => read_once(request),
         Some(Err(error)) => Err(Ending::from(error)),
-        // It never comes to this: the line requires a subcommand, and each subcommand its words, with values that it can read.
+        // Never reached: the command line requires a subcommand, and each subcommand requires its arguments.
         None => {
             let error = line.error(ErrorKind::MissingSubcommand, "the words ask for nothing")?;
             Err(Ending::from(error))
@@ -71,7 +71,7 @@ fn read_once(request: Request<'_>) -> Result<Request<'_>, Ending<'_>>
     }
 }
 
-/// The request of what the command line read, where that is one of the subcommands with its words, or out of memory.
+/// The request of the arguments that clap found, or out of memory. `None` where they are no subcommand with its arguments.
 fn request_of<'a>(
     alloc: Global,
     matches: &ArgMatches<'a>,
@@ -94,7 +94,7 @@ fn request_of<'a>(
     }
 }
 
-/// The request of `check`, by what was found for its words.
+/// The request of the arguments found for `check`.
 fn check_request<'a>(found: &ArgMatches<'a>) -> Option<Request<'a>>
     ensures { IfSome result (λ request. IsRequestOf request (codes "check", rows_of (found_of found.now))) }
 {
@@ -106,7 +106,7 @@ fn check_request<'a>(found: &ArgMatches<'a>) -> Option<Request<'a>>
     })
 }
 
-/// The request of `compare`, by what was found for its words.
+/// The request of the arguments found for `compare`.
 fn compare_request<'a>(found: &ArgMatches<'a>) -> Option<Request<'a>>
     ensures { IfSome result (λ request. IsRequestOf request (codes "compare", rows_of (found_of found.now))) }
 {
@@ -119,7 +119,7 @@ fn compare_request<'a>(found: &ArgMatches<'a>) -> Option<Request<'a>>
     })
 }
 
-/// The request of `refute`, by what was found for its words.
+/// The request of the arguments found for `refute`.
 fn refute_request<'a>(found: &ArgMatches<'a>) -> Option<Request<'a>>
     ensures { IfSome result (λ request. IsRequestOf request (codes "refute", rows_of (found_of found.now))) }
 {
@@ -133,7 +133,7 @@ fn refute_request<'a>(found: &ArgMatches<'a>) -> Option<Request<'a>>
     })
 }
 
-/// The request of `propose`, by what was found for its words.
+/// The request of the arguments found for `propose`.
 fn propose_request<'a>(
     alloc: Global,
     found: &ArgMatches<'a>,
@@ -162,7 +162,7 @@ fn copies_of(alloc: Global, words: &[&str]) -> Result<Vec<String>, AllocError>
     Ok(copies)
 }
 
-/// The policy and the words of two dictionaries.
+/// The policy, and where the two dictionaries come from.
 fn pair_of<'a>(found: &ArgMatches<'a>) -> Option<(Unknown, &'a str, &'a str)>
     ensures { IfSome result (λ pair. ArePair pair.0 pair.1 pair.2 (rows_of (found_of found.now))) }
 {
@@ -181,7 +181,7 @@ fn policy_of(word: &str) -> Option<Unknown>
     }
 }
 
-/// The limit that a word gives, which is a decimal number. Without the word there is no limit.
+/// The limit on levels, a decimal number. Without a word there is no limit.
 fn limit_of(word: Option<&str>) -> Option<Levels>
     ensures { IfSome result (IsLimitOf (option_map (λ text. text.now) word.entry)) }
 {
@@ -191,7 +191,7 @@ fn limit_of(word: Option<&str>) -> Option<Levels>
     }
 }
 
-/// The program's line. `policies` are the words of the policies.
+/// The definition of the command line. `policies` are the values of `--unknown`.
 fn command_line<'a>(alloc: Global, policies: &'a [&'a str]) -> Result<clap::Command<'a>, AllocError>
     ensures { IfOk result (λ line. app_of line ≡ line_shape policies.entry) }
 {
@@ -204,7 +204,7 @@ fn command_line<'a>(alloc: Global, policies: &'a [&'a str]) -> Result<clap::Comm
         .subcommand(propose_line(alloc, policies)?)
 }
 
-/// The program's line without its subcommands, of which one has to be given.
+/// The definition of the command line without its subcommands. One of them is required.
 fn program_line<'a>(alloc: Global) -> clap::Command<'a>
     ensures { app_of result ≡ program_app }
 {
@@ -268,7 +268,7 @@ fn propose_line<'a>(alloc: Global, policies: &'a [&'a str]) -> Result<clap::Comm
         .arg(words(alloc, "COMMAND", "The name of a command of A"))
 }
 
-/// The beginning of the line of a subcommand of two dictionaries.
+/// A subcommand of two dictionaries, with the arguments that all of these have.
 fn pair_line<'a>(
     alloc: Global,
     name: &'a str,
@@ -318,7 +318,7 @@ fn levels_option<'a>(alloc: Global) -> Arg<'a>
         .help("How many levels of Grouped AVPs may stand in one another; without it, any number")
 }
 
-/// A word that has to be given.
+/// A required argument.
 fn word<'a>(alloc: Global, id: &'a str, help: &'a str) -> Arg<'a>
     ensures rule { rule_of result ≡ word_rule id.entry.now }
     ensures local { result.global ≡ false }
@@ -326,7 +326,7 @@ fn word<'a>(alloc: Global, id: &'a str, help: &'a str) -> Arg<'a>
     Arg::new(alloc, id).required(true).help(help)
 }
 
-/// One or more words that have to be given.
+/// A required argument of one value or more.
 fn words<'a>(alloc: Global, id: &'a str, help: &'a str) -> Arg<'a>
     ensures rule { rule_of result ≡ words_rule id.entry.now }
     ensures local { result.global ≡ false }

@@ -24,7 +24,7 @@ pub struct Outcome {
     pub exit: Exit,
 }
 
-/// The outcome of this text.
+/// The outcome that writes this text.
 fn told(alloc: Global, text: &str, exit: Exit) -> Result<Outcome, AllocError>
     ensures text { IfOk result (λ outcome. string_bytes outcome.text ≡ text.now) }
     ensures exit { IfOk result (λ outcome. outcome.exit ≡ exit) }
@@ -33,7 +33,7 @@ fn told(alloc: Global, text: &str, exit: Exit) -> Result<Outcome, AllocError>
     Ok(Outcome { text, exit })
 }
 
-/// The outcome of an input that is refused: one line.
+/// The outcome of an input that is refused, which is one line.
 fn refuse(alloc: Global, bad: &BadInput) -> Result<Outcome, AllocError>
     ensures text { IfOk result (λ outcome. string_bytes outcome.text ≡ line (bad_input_text bad.now)) }
     ensures exit { IfOk result (λ outcome. outcome.exit ≡ Exit.Bad) }
@@ -43,7 +43,7 @@ fn refuse(alloc: Global, bad: &BadInput) -> Result<Outcome, AllocError>
     Ok(Outcome { text, exit })
 }
 
-/// The outcome of a command, where a refusal of an input is one too.
+/// The outcome of a command. An input that is refused has one, too.
 pub fn outcome_of(alloc: Global, made: Result<Outcome, Refused>) -> Result<Outcome, AllocError>
     ensures done { IfOk made (λ outcome. result ≡ Ok outcome) }
     ensures text { IfErr made (TellsOf (λ told. IfOk result (λ outcome. string_bytes outcome.text ≡ line told))) }

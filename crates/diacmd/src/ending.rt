@@ -1,4 +1,4 @@
-//! How the program ends where there is nothing to run, or a run didn't end.
+//! How the program ends where nothing ran, or a run failed.
 
 ghost use Rattle.std.specs.Prelude.{◌≡◌, ◌⊎◌, IfOk, IfErr};
 ghost use Rattle.diacmd.specs.Ending.{EndsWith};
@@ -9,18 +9,18 @@ use clap::error::ErrorKind;
 use std::alloc::AllocError;
 use std::{fmt, io};
 
-/// Why there is no outcome.
+/// Why the program ends without an outcome.
 #[derive(Debug, Drop)]
 pub enum Ending<'a> {
-    /// What the reader of the words tells: help or the version, with status 0, or a command-line fault, with status 2.
+    /// What clap tells: help or the version, with status 0, or a fault of the command line, with status 2.
     Told(clap::Error),
-    /// A word is no text: a command-line fault, status 2.
+    /// A word of the command line isn't UTF-8: status 2.
     NotText,
-    /// Standard input is to be read twice: a command-line fault, status 2.
+    /// The command line names standard input twice: status 2.
     ReadTwice,
     /// A file couldn't be opened, or a device failed: status 3.
     Device {
-        /// The word of the input, or what is no input by its own name.
+        /// The input as the command line names it, or a stream by its name.
         name: &'a str,
         /// What the system said.
         error: Option<io::Error>,
@@ -29,7 +29,7 @@ pub enum Ending<'a> {
     NoMemory,
 }
 
-/// The status that the process ends with. An ending is told first, on the stream where it belongs.
+/// The status of the process. An ending is printed first, on the stream where it belongs.
 pub fn finish(rt: &(impl Print + Eprint), ended: Result<Exit, Ending<'_>>) -> u8
     ensures exit { IfOk ended.entry (λ exit. result ≡ status_of exit) }
     ensures ending { IfErr ended.entry (λ ending. EndsWith ending result ⊎ (result ≡ 3)) }
@@ -44,7 +44,7 @@ impl<'a> Ending<'a> {
     ghost use Rattle.std.specs.Prelude.{◌≡◌, ◌⊎◌, ◌↔◌, IfOk, IsErr, IsTrue};
     ghost use Rattle.diacmd.specs.Ending.{EndsWith, IsEndingOfIo, IsShown, ending_of_run};
 
-    /// The ending where the words of the process can't be read.
+    /// The ending where the command line can't be read.
     pub fn of_words(error: io::Error) -> Ending<'static>
         ensures { IsEndingOfIo error result }
     {
@@ -58,7 +58,7 @@ impl<'a> Ending<'a> {
         }
     }
 
-    /// The ending where a run didn't end. `name` and `error` are those of its sink.
+    /// The ending where a run failed. `name` and `error` are those of its sink.
     pub fn of_run(fault: RunFault, name: &'a str, error: Option<io::Error>) -> Ending<'a>
         ensures { result ≡ ending_of_run fault name.entry error }
     {
@@ -68,8 +68,8 @@ impl<'a> Ending<'a> {
         }
     }
 
-    /// Says why, on the stream where it belongs, and answers the status. Where that stream fails, this is told on
-    /// standard error instead.
+    /// Prints the ending on the stream where it belongs, and answers the status. Where that stream fails, its failure is
+    /// printed on standard error.
     pub fn tell(&self, rt: &(impl Print + Eprint)) -> u8
         ensures { EndsWith self.now result ⊎ (result ≡ 3) }
     {
@@ -84,7 +84,7 @@ impl<'a> Ending<'a> {
         self.status(printed)
     }
 
-    /// The status that the process ends with, once the ending was printed or its stream failed.
+    /// The status of the process, by whether the ending was printed or its stream failed.
     fn status(&self, printed: io::Result<()>) -> u8
         ensures printed { IfOk printed (λ _. EndsWith self.now result) }
         ensures failed { IsErr printed → result ≡ 3 }
@@ -98,7 +98,7 @@ impl<'a> Ending<'a> {
         }
     }
 
-    /// Whether it is what was asked for: help, or the version.
+    /// Whether this is help or the version.
     fn is_shown(&self) -> bool
         ensures { IsTrue result ↔ IsShown self.now }
     {
@@ -108,7 +108,7 @@ impl<'a> Ending<'a> {
         }
     }
 
-    /// What the stream is called on which this is told.
+    /// The name of the stream on which this is printed.
     fn stream(&self) -> &'static str {
         if self.is_shown() {
             "standard output"

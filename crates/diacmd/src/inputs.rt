@@ -13,7 +13,7 @@ pub mod dictionary;
 pub mod message;
 pub mod table;
 
-/// Why an input gives nothing.
+/// Why an input can't be used.
 #[derive(Debug, Drop)]
 pub enum Refused {
     Bad(BadInput),
@@ -56,7 +56,7 @@ impl From<AllocError> for Refused {
     }
 }
 
-/// The bytes of an input that has no more than the limit.
+/// The bytes of an input that is within the limit.
 fn bytes_within(input: &Input, limit: usize) -> Option<&[u8]>
     ensures some { IfSome result (λ bytes. Holds input.entry.now limit bytes.now) }
     ensures none { IsNone result → IsOver input.entry.now limit }

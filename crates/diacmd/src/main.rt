@@ -1,8 +1,7 @@
 //! `diacmd`: the workbench for Diameter dictionaries and messages, on the command line.
 //!
-//! `main` reads the words, opens the inputs, calls `run` with standard output and ends with the
-//! status. What is written for the inputs, and how it ends, is decided in `run`, over values; what the
-//! shell around it decides, in functions over values too.
+//! `main` reads the command line and the inputs, calls `run` with standard output, and returns the status. `run` decides
+//! what is written and how the program ends. It is a function over values, and so are those that decide the rest.
 #![tactic(auto)]
 
 mod arguments;
@@ -48,7 +47,7 @@ fn read_words<R: AllocGlobal + Env>(rt: &R) -> Result<Vec<String>, Ending<'stati
     Ok(words)
 }
 
-/// Does what the words ask for.
+/// Runs what the command line asks for.
 fn perform<'a, R>(rt: &R, words: &'a [String]) -> Result<Exit, Ending<'a>>
 where
     R: AllocGlobal + Files + Input + Print,

@@ -60,7 +60,7 @@ fn open_input<'a, R: AllocGlobal + Files + Input>(
     }
 }
 
-/// All bytes of a reader, or that they are too many. `name` is the word of the input.
+/// All bytes of a reader, or `TooLong` above the limit. `name` is the word that names the input.
 fn read_text<'a, R: Read + Drop>(
     alloc: Global,
     reader: R,
@@ -76,7 +76,7 @@ fn read_text<'a, R: Read + Drop>(
     input_of(read, name, feed.failure())
 }
 
-/// The input that was read, or how the program ends. `name` is the word of the input, and `error` what its reader said.
+/// The input that was read, or how the program ends. `name` is the word that names it, `error` what its reader said.
 fn input_of<'a>(
     read: Result<Vec<u8>, InputFault>,
     name: &'a str,

@@ -17,7 +17,7 @@ pub const BASE_DICTIONARY: &str = "@base";
 /// Where the text of an input comes from. A limit is the most bytes that the text may have.
 #[derive(Clone, Copy, Debug, PartialEq, Eq)]
 pub enum Origin<'a> {
-    /// The command looks at no such text.
+    /// The command takes no such input.
     Nowhere,
     /// The base dictionary.
     Base,
@@ -26,7 +26,7 @@ pub enum Origin<'a> {
 }
 
 impl<'a> Origin<'a> {
-    /// Of a word where a dictionary stands.
+    /// The origin of a dictionary that this word names.
     pub fn of_dictionary(word: &'a str) -> Origin<'a>
         ensures { result ≡ dictionary_origin word.entry }
     {
@@ -37,14 +37,14 @@ impl<'a> Origin<'a> {
         }
     }
 
-    /// Of a word where a table of pairs stands.
+    /// The origin of a table of pairs that this word names.
     pub fn of_table(word: &'a str) -> Origin<'a>
         ensures { result ≡ table_origin word.entry }
     {
         Origin::within(word, MAX_TABLE)
     }
 
-    /// Of a word where a message stands.
+    /// The origin of a message that this word names.
     pub fn of_message(word: &'a str) -> Origin<'a>
         ensures { result ≡ message_origin word.entry }
     {
@@ -68,7 +68,7 @@ impl<'a> Origin<'a> {
     }
 }
 
-/// Where the texts of a command come from, by the fields of `Inputs`.
+/// Where each input of a command comes from, by the fields of `Inputs`.
 #[derive(Clone, Copy, Debug, PartialEq, Eq)]
 pub struct Origins<'a> {
     pub first: Origin<'a>,
@@ -78,7 +78,7 @@ pub struct Origins<'a> {
 }
 
 impl Origins<'_> {
-    /// Whether two of the texts are standard input.
+    /// Whether standard input is named more than once.
     pub fn reads_twice(&self) -> bool
         ensures { result ≡ reads_twice self.now }
     {

@@ -15,7 +15,7 @@ pub enum InputFault {
     /// The feed failed.
     #[error("device failed")]
     Device,
-    /// Some front of the input was read.
+    /// Memory was refused.
     #[error("no memory")]
     NoMemory,
 }
@@ -45,7 +45,7 @@ const PIECE: usize = 4096;
 
 /// Reads all that a feed still gives, at most `limit` bytes of it.
 ///
-/// After a refusal some front of the feed's bytes is gone.
+/// After an error some of the feed's bytes have been taken.
 pub fn read_input<F: Feed>(alloc: Global, feed: &mut F, limit: usize) -> Result<Vec<u8>, InputFault>
     requires { ¬ IsTrue (F.has_failed feed.old) }
     ensures within { IfOk result (λ bytes. length bytes.items ≤ limit) }

@@ -68,7 +68,7 @@ fn attempt(alloc: Global, command: &Command, inputs: &Inputs) -> Result<Outcome,
     }
 }
 
-/// Puts all of a text into a sink, or what it takes of it before it fails.
+/// Writes a text to a sink, up to the call that fails.
 fn put_all<S: Sink>(sink: &mut S, text: &[u8]) -> Result<(), Failed>
     requires { ¬ IsTrue (S.has_failed sink.old) }
     ensures ok { OnOk result (Appends (S.written sink.old) (S.written sink.new) text.now) }

@@ -15,7 +15,7 @@ use dia_ccf::{CcfFault, MAX_TEXT, Source, parse};
 use dia_dict::{Book, DictFault, DictKind, IndexedBook, PlainBook, resolve};
 use std::alloc::{AllocError, Global};
 
-/// The source that a text is. `number` says which dictionary of the command it is, from 1.
+/// The source that an input's text spells. `number` says which dictionary of the command it is, from 1.
 pub fn read_source(alloc: Global, number: u8, input: &Input) -> Result<Source, Refused>
     ensures source { IfOk result (λ source. IsSourceText input.now (plain source)) }
     ensures told { IfErr result (TellsOf (λ told. (why : List ℕ) × IsNoSourceText input.now why
@@ -33,7 +33,7 @@ pub fn read_source(alloc: Global, number: u8, input: &Input) -> Result<Source, R
     }
 }
 
-/// The dictionary that a text names.
+/// The dictionary that an input's text names.
 pub fn read_dictionary(alloc: Global, number: u8, input: &Input) -> Result<IndexedBook, Refused>
     ensures book { IfOk result (λ book. IsDictionaryText input.now (⟦<IndexedBook as Book>⟧.meaning book)) }
     ensures told { IfErr result (TellsOf (λ told. (why : List ℕ) × IsNoDictionaryText input.now why
@@ -50,7 +50,7 @@ pub fn read_dictionary(alloc: Global, number: u8, input: &Input) -> Result<Index
     }
 }
 
-/// The book with its look-ups. That it is a dictionary is what `entries` says of every book.
+/// The book with an index. The contract of `entries` says that every book is a sound dictionary's.
 fn indexed(alloc: Global, book: PlainBook) -> Result<IndexedBook, Refused>
     ensures ok { IfOk result (λ indexed. (⟦<IndexedBook as Book>⟧.meaning indexed ≡ ⟦<PlainBook as Book>⟧.meaning book)
         × IsDictionary (⟦<IndexedBook as Book>⟧.meaning indexed)) }
@@ -67,7 +67,7 @@ fn tell(number: u8, why: BadDictionary) -> Refused
     Refused::Bad(BadInput::Dictionary { number, why })
 }
 
-/// What is told of a fault of the text, unless memory was refused.
+/// The refusal of a text with this fault, or out of memory.
 fn tell_fault(number: u8, fault: CcfFault) -> Refused
     ensures { TellsOf (λ told. (fault ≢ CcfFault.NoMemory) × (told ≡ dictionary_line number (fault_text fault))) result }
 {

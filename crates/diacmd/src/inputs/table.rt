@@ -11,7 +11,7 @@ use crate::inputs::{Refused, bytes_within};
 use dia_compat::{MAX_TABLE, Table, TableFault, parse_table};
 use std::alloc::Global;
 
-/// The table that a text is.
+/// The table that an input's text spells.
 pub fn read_table(alloc: Global, input: &Input) -> Result<Table, Refused>
     ensures table { IfOk result (λ table. IsTableText input.now (plain table)) }
     ensures told { IfErr result (TellsOf (IsNoTableText input.now)) }
@@ -34,7 +34,7 @@ fn tell(why: BadTable) -> Refused
     Refused::Bad(BadInput::Table(why))
 }
 
-/// What is told of a fault of the text, but for want of memory.
+/// The refusal of a text with this fault, or out of memory.
 fn tell_fault(fault: TableFault) -> Refused
     ensures { TellsOf (λ told. (fault ≢ TableFault.NoMemory) × (told ≡ table_line (table_fault_text fault))) result }
 {

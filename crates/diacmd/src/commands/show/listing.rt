@@ -6,10 +6,9 @@ ghost use Rattle.dia_wire.specs.Wire.{plain};
 ghost use Rattle.dia_data.specs.Plain.{plain as plain_format};
 ghost use Rattle.diacmd.specs.Listing.{avp_columns, bad_length_line, vendor_text, AddsAvp, AddsLevel, AddsNameAndValue};
 
-use dia_data::{push_hex_byte, push_value};
+use dia_data::{push_decimal, push_hex_byte, push_value};
 use dia_dict::{Book, Format};
 use dia_wire::{Avp, AvpFault, key, next_avp};
-use itoa::Buffer;
 use std::alloc::{AllocError, Global};
 
 /// What is left of a level, and the place of the level's end.
@@ -19,10 +18,10 @@ struct Rest<'a> {
     end: usize,
 }
 
-/// Adds the lines of the level that the bytes from a place on are, and of the known groups in it. Answers whether they
-/// end at a bad length.
+/// Adds the lines of a level, and of the groups in it that the dictionary knows. `bytes` are the level, which begins at
+/// `place`. Answers whether the lines end at a bad length.
 ///
-/// Levels that are not done wait in a list, so the depth of a message costs memory and no stack.
+/// The levels around the current one wait in a list, so depth takes memory and no stack.
 pub fn push_level<B: Book>(
     alloc: Global,
     text: &mut String,
@@ -95,7 +94,7 @@ fn push_avp<B: Book>(
     }
 }
 
-/// Adds what stands in front of an AVP's name in its line.
+/// Adds the columns in front of an AVP's name.
 fn push_columns(
     text: &mut String,
     place: usize,
@@ -118,7 +117,7 @@ fn push_columns(
 fn push_number(text: &mut String, number: u64) -> Result<(), AllocError>
     ensures { OnOk result (string_bytes text.new ≡ string_bytes text.old ++ decimal number ++ codes " ") }
 {
-    text.push_str(Buffer::new().format(number))?;
+    push_decimal(text, number)?;
     text.push(' ')
 }
 
@@ -127,7 +126,7 @@ fn push_vendor(text: &mut String, vendor: Option<u32>) -> Result<(), AllocError>
     ensures { OnOk result (string_bytes text.new ≡ string_bytes text.old ++ vendor_text vendor) }
 {
     match vendor {
-        Some(vendor) => text.push_str(Buffer::new().format(vendor)),
+        Some(vendor) => push_decimal(text, u64::from(vendor)),
         None => text.push('-'),
     }
 }
