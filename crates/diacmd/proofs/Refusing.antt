@@ -12,8 +12,6 @@ use Rattle.diacmd.specs.declared.inputs.bad_input.BadInput.TheVariants.{Message}
 use Rattle.diacmd.specs.declared.inputs.bad_input.BadMessage.TheVariants.{NoMessage}
 use Rattle.diacmd.specs.declared.command.Exit.{Exit}
 use Rattle.diacmd.specs.declared.command.Exit.TheVariants as exits
-use Rattle.diacmd.specs.Texts.{line}
-use Rattle.diacmd.specs.Refusals.{bad_input_text}
 use Rattle.diacmd.specs.Listing.{header_line, AddsLevel}
 use Rattle.diacmd.specs.Outcome.{Ends, IsShown, listing, short, version, bad_length, truncated, trailing, listing_exit}
 
