@@ -20,4 +20,3 @@ pub mod Quiet
 pub mod Answering
 pub mod Sized
 pub mod FixedFirst
-pub mod Wildcards

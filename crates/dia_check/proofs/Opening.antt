@@ -1,8 +1,7 @@
 -- The levels that are kept, where one is opened, met further, or ended.
-use Rattle.std.proofs.Common.{◌≡◌, ℕ, zero, suc, ◌+◌, ◌-◌, ◌<◌, ◌≤◌, Bool, true, false, List, [], ◌∷◌, ◌++◌, length, take, drop, replicate, Some, refl, sym, ap, subst, ◌∙◌, append_assoc, arith}
-use Rattle.std.specs.Prelude.{slice_get, slice_index, position, nat_lt}
+use Rattle.std.proofs.Common.{◌≡◌, ℕ, zero, suc, ◌+◌, ◌-◌, ◌<◌, ◌≤◌, List, [], ◌∷◌, ◌++◌, length, take, drop, replicate, Some, refl, sym, ap, subst, ◌∙◌, append_assoc, arith}
+use Rattle.std.specs.Prelude.{slice_get, slice_index, position}
 use Rattle.std.proofs.Math.Seq.{take-append_seam, drop-append_seam, take-length, drop-length}
-use Rattle.std.proofs.lemmas.Bool.{ltb-true, ltb-false}
 use Rattle.std.proofs.lemmas.List.{append-nil, length-append, length-replicate, take_all, length-drop, length-take-le}
 use Rattle.dia_wire.specs.declared.Key.{Key}
 use Rattle.dia_dict.specs.declared.DRule.{DRule}
@@ -209,21 +208,13 @@ met_further defs old new outer level rules key run counts now same counted is_in
 
 -- ---- the end of a level
 
--- rules that are met from the present run on are met from the first one
-met_to : (rules : List DRule) (keys : List Key) (level : OpenLevel) (counts : List ℕ) → IsCounted rules keys level counts → (to : ℕ) → AreMet rules counts level.run to → AreMet rules counts 0 to
-met_to rules keys level counts c to more i rule from lt at = by (nat_lt i level.run) refl
-  where
-    by : (b : Bool) → nat_lt i level.run ≡ b → rule.min ≤ slice_index counts i
-    by true e = c.met_before i rule from (ltb-true i level.run e) at
-    by false e = more i rule (ltb-false i level.run e) lt at
-
-pub all_met : (rules : List DRule) (keys : List Key) (level : OpenLevel) (counts : List ℕ) → IsCounted rules keys level counts → AreMet rules counts level.run (length rules) → IsMetAtEnd rules keys
+pub all_met : (rules : List DRule) (keys : List Key) (level : OpenLevel) (counts : List ℕ) → IsCounted rules keys level counts → AreMet rules counts 0 (length rules) → IsMetAtEnd rules keys
 all_met rules keys level counts c enough i rule first =
-    let at = met_to rules keys level counts c (length rules) enough i rule (omega arith) (slice_get_within rules i rule first.is_rule) first.is_rule in
+    let at = enough i rule (omega arith) (slice_get_within rules i rule first.is_rule) first.is_rule in
     omega (arith, at, c.counted i rule first.is_rule, first.short)
 
 pub one_missing : (rules : List DRule) (keys : List Key) (level : OpenLevel) (counts : List ℕ) (i : ℕ) (rule : DRule) → IsCounted rules keys level counts
-    → IsFirstUnmet rules counts level.run (length rules) i → slice_get rules i ≡ Some rule
+    → IsFirstUnmet rules counts 0 (length rules) i → slice_get rules i ≡ Some rule
     → IsFirstMissing rules keys i rule
 one_missing rules keys level counts i rule c unmet at = record {
   is_rule = at;
@@ -231,7 +222,7 @@ one_missing rules keys level counts i rule c unmet at = record {
       let same : unmet.rule ≡ rule = same_Some unmet.rule rule (sym unmet.is_rule ∙ at) in
       let less : slice_index counts i < rule.min = subst (λ (r : DRule). slice_index counts i < r.min) same lt in
       omega (arith, less, c.counted i rule at);
-  first = λ j other lt here. let enough = met_to rules keys level counts c i unmet.met_before j other (omega arith) lt here in omega (arith, enough, c.counted j other here);
+  first = λ j other lt here. let enough = unmet.met_before j other (omega arith) lt here in omega (arith, enough, c.counted j other here);
 }
 
 pub own_size : (defs : List PlainDefinition) (o : OpenLevels) (outer : List SoFar) (level : SoFar) (counts : List ℕ) (now : AreOpen defs o outer level) → counts ≡ o.counts.items

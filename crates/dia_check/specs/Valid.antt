@@ -1,7 +1,6 @@
 -- Valid messages (RFC 6733 sections 3, 3.2, 4.1 and 4.4).
 use Rattle.std.specs.Prelude.{◌≡◌, ℕ, zero, suc, ◌≤◌, ◌⊎◌, ◌==◌, bit_and, Bool, false, not, if◌then◌else◌, List, [], ◌∷◌, ◌++◌, length, map, filter, count_by, Option, Some, is_some, slice_get, IfSome, MatchOption, IsTrue, option_and_then, ⊤}
 use Rattle.std.specs.List.{list_any, AllByRecursion}
-use Rattle.std.specs.Int.{IsBitSet}
 use Rattle.dia_wire.specs.declared.Header.{Header}
 use Rattle.dia_wire.specs.declared.Key.{Key}
 use Rattle.dia_wire.specs.Wire.{PlainAvp, key_of, SpellsAll, IsMessage}
@@ -20,23 +19,9 @@ use Rattle.dia_check.specs.declared.policy.Unknown.{Unknown}
 use Rattle.dia_check.specs.declared.policy.Unknown.TheVariants.{Kept, Refused}
 use Rattle.dia_check.specs.declared.policy.Levels.{Levels}
 use Rattle.dia_check.specs.declared.policy.Levels.TheVariants as levels
-
 -- ---- flags
 
-abbrev pub HasM : ℕ → Type 0
-HasM flags = IsBitSet flags 6
-
-abbrev pub HasR : ℕ → Type 0
-HasR flags = IsBitSet flags 7
-
-abbrev pub HasP : ℕ → Type 0
-HasP flags = IsBitSet flags 6
-
-abbrev pub HasE : ℕ → Type 0
-HasE flags = IsBitSet flags 5
-
-abbrev pub HasT : ℕ → Type 0
-HasT flags = IsBitSet flags 4
+pub use Rattle.dia_wire.specs.Wire.{HasM, HasR, HasP, HasE, HasT}
 
 -- a request by its R flag, and else an error by its E flag
 abbrev pub class_of : ℕ → Class

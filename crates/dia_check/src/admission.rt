@@ -13,11 +13,8 @@ use crate::fault::Reason;
 use crate::open_levels::{OpenLevels, Wrong};
 use crate::policy::{Levels, Unknown};
 use dia_dict::{Book, DefId, Entry, Leaf, MRule, accepts};
-use dia_wire::{Avp, Key, key};
+use dia_wire::{AVP_MANDATORY, Avp, Key, key};
 use std::alloc::{AllocError, Global};
-
-/// The M flag of an AVP (RFC 6733 section 4.1).
-const MANDATORY: u8 = 0x40;
 
 /// Checks an AVP of the innermost level. Answers the definition of a known group, whose data is a level to open.
 pub(crate) fn check_avp<B: Book>(
@@ -159,7 +156,7 @@ fn wrong_flags<B: Book>(
 fn m_holds(rule: MRule, flags: u8) -> bool
     ensures { IsTrue result ↔ MHolds rule flags }
 {
-    let set = flags & MANDATORY != 0;
+    let set = flags & AVP_MANDATORY != 0;
     match rule {
         MRule::Must => set,
         MRule::MustNot => !set,
@@ -172,7 +169,7 @@ fn is_accepted(unknown: Unknown, flags: u8) -> bool
     ensures { IsTrue result ↔ IsAccepted unknown flags }
 {
     match unknown {
-        Unknown::Kept => flags & MANDATORY == 0,
+        Unknown::Kept => flags & AVP_MANDATORY == 0,
         Unknown::Refused => false,
     }
 }

@@ -10,11 +10,8 @@ use crate::fault::{Fault, Reason, Refusal, Subject};
 use crate::open_levels::Wrong;
 use crate::policy::{Levels, Unknown};
 use dia_dict::{Book, DefId};
-use dia_wire::{AvpFault, next_avp};
+use dia_wire::{AvpFault, HEADER_LENGTH, next_avp};
 use std::alloc::{AllocError, Global};
-
-/// The bytes of a header (RFC 6733 section 3).
-const HEADER_LENGTH: usize = 20;
 
 /// Checks the body of a message with a good header, whose command has this definition: each AVP, and the members of a
 /// group before what is behind it.

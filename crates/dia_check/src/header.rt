@@ -11,16 +11,10 @@ use crate::body::fault;
 use crate::fault::{Reason, Refusal, Subject};
 use crate::open_levels::Wrong;
 use dia_dict::{Book, Class, DefHead, DefId, Pxy};
-use dia_wire::{HeadFault, Header, read_header};
-
-/// The Command Flags (RFC 6733 section 3).
-const REQUEST: u8 = 0x80;
-
-const PROXIABLE: u8 = 0x40;
-
-const ERROR: u8 = 0x20;
-
-const RETRANSMITTED: u8 = 0x10;
+use dia_wire::{
+    COMMAND_ERROR, COMMAND_PROXIABLE, COMMAND_REQUEST, COMMAND_RETRANSMITTED, HeadFault, Header,
+    read_header,
+};
 
 /// The header of a message that is all of the bytes.
 pub(crate) fn whole_header(bytes: &[u8]) -> Result<Header, Refusal>
@@ -94,10 +88,10 @@ fn has_good_bits(flags: u8) -> bool
     ensures good { IsTrue result → (HasR flags → ¬ HasE flags) × (HasT flags → HasR flags) }
     ensures bad { IsFalse result → (HasR flags × HasE flags) ⊎ (HasT flags × (¬ HasR flags)) }
 {
-    if flags & REQUEST != 0 {
-        flags & ERROR == 0
+    if flags & COMMAND_REQUEST != 0 {
+        flags & COMMAND_ERROR == 0
     } else {
-        flags & RETRANSMITTED == 0
+        flags & COMMAND_RETRANSMITTED == 0
     }
 }
 
@@ -105,9 +99,9 @@ fn has_good_bits(flags: u8) -> bool
 fn class_of(flags: u8) -> Class
     ensures { result ≡ class_of flags }
 {
-    if flags & REQUEST != 0 {
+    if flags & COMMAND_REQUEST != 0 {
         Class::Request
-    } else if flags & ERROR != 0 {
+    } else if flags & COMMAND_ERROR != 0 {
         Class::Error
     } else {
         Class::Answer
@@ -129,7 +123,7 @@ fn allows_p(head: DefHead, flags: u8) -> bool
 fn p_holds(p: Pxy, flags: u8) -> bool
     ensures { IsTrue result ↔ PHolds p flags }
 {
-    let set = flags & PROXIABLE != 0;
+    let set = flags & COMMAND_PROXIABLE != 0;
     match p {
         Pxy::Clear => !set,
         Pxy::Set => set,

@@ -13,21 +13,21 @@ use dia_dict::{DRule, DefId, RuleKind, Slot};
 use dia_wire::Key;
 use std::alloc::{AllocError, Global};
 
-/// An open level. A definition has 1,024 rules at most, so 16 bits are enough for their places.
+/// An open level.
 #[derive(Clone, Copy, Debug)]
 pub(crate) struct OpenLevel {
     /// Its definition.
     pub(crate) def: DefId,
-    /// The fixed rule in whose run the level is; behind the last run, the number of fixed rules.
-    run: u16,
-    /// How many fixed rules there are.
-    fixed: u16,
     /// The place behind its last byte.
     pub(crate) end: usize,
     /// Where its counts begin: one for each rule.
     base: usize,
+    /// The fixed rule in whose run the level is; behind the last run, the number of fixed rules.
+    run: usize,
+    /// How many fixed rules there are.
+    fixed: usize,
     /// The place of the wildcard's rule.
-    wildcard: Option<u16>,
+    wildcard: Option<usize>,
 }
 
 /// The levels that are open, and the counts of their rules, one level behind the other.
@@ -67,10 +67,10 @@ impl OpenLevel {
     {
         OpenLevel {
             def,
-            run: 0,
-            fixed: fixed_count(rules),
             end,
             base,
+            run: 0,
+            fixed: fixed_count(rules),
             wildcard: wildcard_place(rules),
         }
     }
@@ -81,12 +81,11 @@ impl OpenLevel {
             → AreRules rules → IsCounted rules keys self.now counts
             → slot ≡ slot_of rules key → Leads rules keys key self.now.run result.0 result.1 }
     {
-        let fixed = self.fixed as usize;
         match slot {
-            Slot::Fixed(rule) if rule >= self.run as usize => (rule, Some(rule)),
-            Slot::Fixed(_) => (fixed, None),
-            Slot::Loose(rule) => (fixed, Some(rule)),
-            Slot::Unlisted => (fixed, place_of(self.wildcard)),
+            Slot::Fixed(rule) if rule >= self.run => (rule, Some(rule)),
+            Slot::Fixed(_) => (self.fixed, None),
+            Slot::Loose(rule) => (self.fixed, Some(rule)),
+            Slot::Unlisted => (self.fixed, self.wildcard),
         }
     }
 
@@ -102,7 +101,7 @@ impl OpenLevel {
             (λ wrong. IsFirstMisplaced rules.now keys key wrong) }
     {
         let (run, rule) = self.lead(slot);
-        if let Some(place) = first_unmet(rules, counts, self.run as usize, run) {
+        if let Some(place) = first_unmet(rules, counts, self.run, run) {
             let rule = rules[place];
             return Some(missing(rule));
         }
@@ -114,7 +113,7 @@ impl OpenLevel {
             return Some(Wrong::avp(Reason::TooMany, key));
         }
         counts[rule] = count + 1;
-        self.run = run as u16;
+        self.run = run;
         None
     }
 }
@@ -228,8 +227,7 @@ impl OpenLevels {
             → MatchOption result (IsMetAtEnd rules.now level.keys) (IsMissingAtEnd rules.now level.keys) }
     {
         let base = self.innermost.base;
-        let run = self.innermost.run as usize;
-        let place = first_unmet(rules, &self.counts[base..], run, rules.len())?;
+        let place = first_unmet(rules, &self.counts[base..], 0, rules.len())?;
         Some(missing(rules[place]))
     }
 
@@ -259,29 +257,11 @@ fn add_zeros(counts: &mut Vec<u32>, many: usize) -> Result<(), AllocError>
     Ok(())
 }
 
-/// The place of the wildcard's rule, which is the last one mostly.
-fn wildcard_place(rules: &[DRule]) -> Option<u16>
-    requires { AreRules rules.now }
+/// The place of the wildcard's rule.
+fn wildcard_place(rules: &[DRule]) -> Option<usize>
     ensures { result ≡ position is_wildcard rules.now }
 {
-    let mut place = rules.len();
-    while place > 0 {
-        place -= 1;
-        if is_wildcard(&rules[place]) {
-            return Some(place as u16);
-        }
-    }
-    None
-}
-
-/// A place that is kept in 16 bits.
-fn place_of(kept: Option<u16>) -> Option<usize>
-    ensures { result ≡ kept }
-{
-    match kept {
-        Some(place) => Some(place as usize),
-        None => None,
-    }
+    rules.iter().position(|rule| is_wildcard(rule))
 }
 
 fn is_wildcard(rule: &DRule) -> bool
@@ -291,16 +271,16 @@ fn is_wildcard(rule: &DRule) -> bool
 }
 
 /// How many fixed rules there are: they come first.
-fn fixed_count(rules: &[DRule]) -> u16
+fn fixed_count(rules: &[DRule]) -> usize
     requires { AreRules rules.now }
     ensures { result ≡ length (fixed_rules rules.now) }
 {
     for place in 0..rules.len() {
         if !is_fixed(&rules[place]) {
-            return place as u16;
+            return place;
         }
     }
-    rules.len() as u16
+    rules.len()
 }
 
 fn is_fixed(rule: &DRule) -> bool

@@ -12,4 +12,4 @@ pub returns-in-Loose : goal.returns-in-Loose
 returns-in-Loose c rules keys key counts are counted is = leads_loose rules are keys key c.args.self.now counts counted c.in-Loose.rule (sym c.in-Loose.is ∙ is)
 
 pub returns-in-Unlisted : goal.returns-in-Unlisted
-returns-in-Unlisted c rules keys key counts are counted is = rw c.place_of.ensures (leads_unlisted rules are keys key c.args.self.now counts counted (sym c.in-Unlisted.is ∙ is))
+returns-in-Unlisted c rules keys key counts are counted is = leads_unlisted rules are keys key c.args.self.now counts counted (sym c.in-Unlisted.is ∙ is)

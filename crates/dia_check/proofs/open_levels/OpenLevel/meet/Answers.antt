@@ -104,10 +104,3 @@ returns c keys counted =
           (slice_get-get_or c.args.rules.now c.in-Some-rule.rule _ lt) (no_max_of _ _ c.if-eq.ensures),
       refl,
     )
-
-pub overflow_cast-self-2 : goal.overflow_cast-self-2
-overflow_cast-self-2 c =
-    let within = ∥∥₁_elim c.requires.counted le_prop (λ x. let (keys, counted, few) = x in
-    to_within c.args.rules.now c.requires.rules keys c.args.key c.args.self.now c.args.counts.now counted c.lead-run.result.0 c.lead-run.result.1
-    (c.lead-run.ensures c.args.rules.now keys c.args.key c.args.counts.now c.requires.rules counted c.requires.slot)) in
-    omega (arith, within, c.requires.rules.few)
