@@ -24,6 +24,7 @@ pub mod Words
 pub mod TableLines
 pub mod Rendering
 pub mod Reaching
+pub mod ByCode
 pub mod Wanting
 pub mod NamedCommands
 pub mod OneProposal

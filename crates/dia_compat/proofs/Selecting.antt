@@ -100,7 +100,7 @@ choose d code class app = by (found_or_not own d.commands) (found_or_not common 
 
 -- ---- headers
 
-class_same : (a b : Class) → same_class a b ≡ true → a ≡ b
+pub class_same : (a b : Class) → same_class a b ≡ true → a ≡ b
 class_same classes.Request classes.Request h = refl
 class_same classes.Answer classes.Answer h = refl
 class_same classes.Error classes.Error h = refl

@@ -16,58 +16,12 @@ use Rattle.dia_dict.specs.Dictionary.{Dictionary, PlainDefinition, IsDictionary,
 use Rattle.dia_dict.proofs.Members.{into_right, at_filter_map}
 use Rattle.dia_compat.specs.Closed.{HasCode, NamesApp, IsWanted, error, same_app, no_app, both_none, other_app}
 use Rattle.dia_compat.specs.Proposed.{AreBeside}
-use Rattle.dia_compat.specs.Wanting.{has_app, names_app, reaches, is_wanted, wanted_name, wanted_names, or_alone, names_beside}
+use Rattle.dia_compat.specs.Comparing.{names_app, wants_app, is_wanted}
+use Rattle.dia_compat.specs.Wanting.{wanted_name, wanted_names, or_alone, names_beside}
 use Rattle.dia_compat.proofs.Placing.{IsIn}
 use Rattle.dia_compat.proofs.Counts.{in_at, at_in, in_contains, contains_in, any_in, in_any}
 use Rattle.dia_compat.proofs.Fitting.{all_of, in_filter_map}
 use Rattle.dia_compat.proofs.Selecting.{Choice, NoChoice, choose, Reads, reads, is_of_code}
-
--- ---- applications
-
-any_false : {X : Type 0} (p : X → Bool) (xs : List X) → ((x : X) → IsIn x xs → p x ≡ false) → list_any p xs ≡ false
-any_false p xs none = by (list_any p xs) refl
-  where
-    by : (b : Bool) → list_any p xs ≡ b → b ≡ false
-    by false e = refl
-    by true e = let r = any_in p xs e in absurd (let f : true ≡ false = sym r.2 ∙ none r.0 r.1 in cc)
-
-pub names_app_selected : (d : Dictionary) (code : ℕ) (class : Class) (app : ℕ) → IsDictionary d → class ≢ classes.Error → (n : ℕ) (c : PlainDefinition) → selected d code class app ≡ Some n
-    → slice_get (definitions d) n ≡ Some c
-    → has_app c.head ≡ names_app d code class app
-names_app_selected d code class app sound other n c at there = by (choose d code class app)
-  where
-    none_true : (b : Bool) → b ≡ true → b ≡ false → ⊥
-    none_true b e f = let g : true ≡ false = sym e ∙ f in cc
-
-    own : (x : PlainDefinition) → IsIn x d.commands → is_command code class (Some app) x.head ≡ true → Reads x code class (Some app) → has_app x.head ≡ names_app d code class app
-    own x i e (inl h) = absurd (other h.1)
-    own x i e (inr h) = ap has_app h.0.head ∙ sym (in_any (λ (y : PlainDefinition). is_command code class (Some app) y.head) d.commands x i e)
-
-    common : (x : PlainDefinition) → ((y : PlainDefinition) → IsIn y d.commands → is_command code class (Some app) y.head ≡ false) → Reads x code class None
-        → has_app x.head ≡ names_app d code class app
-    common x none (inl h) = absurd (other h.1)
-    common x none (inr h) = ap has_app h.0.head ∙ sym (any_false (λ (y : PlainDefinition). is_command code class (Some app) y.head) d.commands none)
-
-    chosen : (x : Choice d code class app) → (is_command code class (Some app) x.command.head ≡ true) ⊎
-        ((is_command code class None x.command.head ≡ true) × ((y : PlainDefinition) → IsIn y d.commands → is_command code class (Some app) y.head ≡ false))
-        → has_app x.command.head ≡ names_app d code class app
-    chosen x (inl e) = let i = in_at d.commands x.place x.command x.at in own x.command i e (reads d x.command code class (Some app) sound i e)
-    chosen x (inr (e, none)) = let i = in_at d.commands x.place x.command x.at in common x.command none (reads d x.command code class None sound i e)
-
-    by : Choice d code class app ⊎ NoChoice d code class app → has_app c.head ≡ names_app d code class app
-    by (inl x) =
-        let place : length (groups d) + x.place ≡ n = same_Some (length (groups d) + x.place) n (sym x.is_selected ∙ at) in
-        let here : slice_get (definitions d) n ≡ Some x.command = ap (slice_get (definitions d)) (sym place) ∙ into_right (groups d) d.commands x.place x.command x.at in
-        let same : c ≡ x.command = same_Some c x.command (sym there ∙ here) in
-        ap (λ (y : PlainDefinition). has_app y.head) same ∙ chosen x x.how
-    by (inr x) = absurd (let e : None ≡ Some n = sym x.is_none ∙ at in cc)
-
-pub names_app_none : (d : Dictionary) (code : ℕ) (class : Class) (app : ℕ) → selected d code class app ≡ None → false ≡ names_app d code class app
-names_app_none d code class app at = by (choose d code class app)
-  where
-    by : Choice d code class app ⊎ NoChoice d code class app → false ≡ names_app d code class app
-    by (inl x) = absurd (let e : Some (length (groups d) + x.place) ≡ None = sym x.is_selected ∙ at in cc)
-    by (inr x) = sym (any_false (λ (y : PlainDefinition). is_command code class (Some app) y.head) d.commands x.no_own)
 
 -- ---- lists of pairs
 
@@ -162,25 +116,25 @@ module _ (da db : Dictionary) (sa : IsDictionary da) (sb : IsDictionary db) (c :
   pub wanted_by_test : (d : PlainDefinition) → Contains db.commands d → (h k : DefHead) → c.head ≡ h → d.head ≡ k → is_wanted da db h k ≡ true → IsWanted da db c d
   wanted_by_test d i (Error p) (Error q) e f t = error i (p, e) (q, f)
   wanted_by_test d i (Command code class x p) (Command other other_class y q) e f t =
-      let outer = and_parts ((code == other) && same_class class other_class) (reaches da db code class x y) t in
+      let outer = and_parts ((code == other) && same_class class other_class) (wants_app da db code class x y) t in
       let inner = and_parts (code == other) (same_class class other_class) outer.0 in
       let same_code = eqb-true code other inner.0 in
       let same = same_classes class other_class inner.1 in
       let g : d.head ≡ Command code class y q = f ∙ ap (λ (n : ℕ). Command n other_class y q) (sym same_code) ∙ ap (λ (k : Class). Command code k y q) (sym same) in
       by x y e g outer.1
     where
-      by : (x y : Option ℕ) → c.head ≡ Command code class x p → d.head ≡ Command code class y q → reaches da db code class x y ≡ true → IsWanted da db c d
+      by : (x y : Option ℕ) → c.head ≡ Command code class x p → d.head ≡ Command code class y q → wants_app da db code class x y ≡ true → IsWanted da db c d
       by (Some m) (Some n) e g r = same_app code m class i (record { p = p; head = e }) (record { p = q; head = g ∙ ap (λ (k : ℕ). Command code class (Some k) q) (sym (eqb-true m n r)) })
       by (Some m) None e g r = no_app code m class i (record { p = p; head = e }) (record { p = q; head = g }) (not_named db code class m r)
       by None None e g r = both_none code class i (record { p = p; head = e }) (record { p = q; head = g })
       by None (Some n) e g r = other_app code n class i (record { p = p; head = e }) (record { p = q; head = g }) (not_named da code class n r)
   wanted_by_test d i h k e f t = absurd cc
 
-  same_codes : (d : PlainDefinition) (code : ℕ) (class : Class) (x y : Option ℕ) → HasCode c code class x → HasCode d code class y → reaches da db code class x y ≡ true
+  same_codes : (d : PlainDefinition) (code : ℕ) (class : Class) (x y : Option ℕ) → HasCode c code class x → HasCode d code class y → wants_app da db code class x y ≡ true
       → is_wanted da db c.head d.head ≡ true
   same_codes d code class x y u v r =
       ap (λ (h : DefHead). is_wanted da db h d.head) u.head ∙ ap (λ (h : DefHead). is_wanted da db (Command code class x u.p) h) v.head
-      ∙ and_from ((code == code) && same_class class class) (reaches da db code class x y) (and_from (code == code) (same_class class class) (eq-eqb code code refl) (class_self class)) r
+      ∙ and_from ((code == code) && same_class class class) (wants_app da db code class x y) (and_from (code == code) (same_class class class) (eq-eqb code code refl) (class_self class)) r
 
   -- and what is wanted passes it
   pub test_of_wanted : (d : PlainDefinition) → IsWanted da db c d → is_wanted da db c.head d.head ≡ true

@@ -133,9 +133,13 @@ p_of (Error p) = Some p
 abbrev pub is_proxiable : DefHead → DefHead → Bool
 is_proxiable x y = option_map_or (λ p. option_map_or (λ q. p_within p q) (p_of y) false) (p_of x) true
 
+-- the pairs have this definition of B, if it may be selected for a message of the command
+abbrev pub is_ready : Dictionary → Dictionary → List Names → PlainDefinition → PlainDefinition → Bool
+is_ready da db pairs c d = not (is_wanted da db c.head d.head) || list_any (is_pair c.name d.name) pairs
+
 -- the pairs have what may be selected for a message of the command
 abbrev pub is_selected : Dictionary → Dictionary → List Names → PlainDefinition → Bool
-is_selected da db pairs c = list_any (λ d. serves c.head d.head) db.commands && list_all (λ d. not (is_wanted da db c.head d.head) || list_any (is_pair c.name d.name) pairs) db.commands
+is_selected da db pairs c = list_any (λ d. serves c.head d.head) db.commands && list_all (is_ready da db pairs c) db.commands
 
 abbrev pub is_command_pair : Dictionary → Dictionary → List Names → PlainDefinition → PlainDefinition → Bool
 is_command_pair da db pairs c d = same_selector c.head d.head && is_proxiable c.head d.head && is_selected da db pairs c

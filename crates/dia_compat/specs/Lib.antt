@@ -4,6 +4,7 @@ pub mod Below
 pub mod Closed
 pub mod Proposed
 pub mod Tests
+pub mod ByCode
 pub mod Comparing
 pub mod Failing
 pub mod Words

@@ -1,5 +1,6 @@
 //! What the tests of a table's pairs are made of.
 mod bounds;
+mod by_code;
 mod commands;
 mod covers;
 mod heads;
@@ -12,5 +13,7 @@ mod testing;
 mod tests;
 mod wildcards;
 
+pub(crate) use by_code::{Commands, open_code};
+pub(crate) use commands::is_wanted;
 pub(crate) use named::names_of_commands;
 pub(crate) use pairs::Comparison;

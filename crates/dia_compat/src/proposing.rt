@@ -1,11 +1,11 @@
-ghost use Rattle.std.specs.Prelude.{◌≡◌, ◌<◌, ◌++◌, IfOk, IfErr, OnOk, List};
+ghost use Rattle.std.specs.Prelude.{◌≡◌, ◌<◌, ◌++◌, [], IfOk, IfErr, OnOk, List};
 ghost use Rattle.std.specs.Prelude.{ℕ, Some, length, map, option_to_list, slice_get, string_bytes};
 ghost use Rattle.std.specs.List.{filter_map};
 ghost use Rattle.dia_dict.specs.Dictionary.{DictEntry, Dictionary, IsDictionary};
 ghost use Rattle.dia_check.specs.declared.policy.Unknown.{Unknown as AnyPolicy};
 ghost use Rattle.dia_compat.specs.TableText.{PlainTable, plain, plain_pair};
 ghost use Rattle.dia_compat.specs.Proposed.{IsProposal, IsLeast, IsRefusal};
-ghost use Rattle.dia_compat.specs.Naming.{shared_pair};
+ghost use Rattle.dia_compat.specs.Naming.{shared_pair, NamedSoFar};
 
 mod naming;
 mod reaching;
@@ -13,7 +13,7 @@ mod reaching;
 mod tests;
 mod wanting;
 
-use crate::comparing::names_of_commands;
+use crate::comparing::{Commands, names_of_commands};
 use crate::table::{Table, push_pair};
 use dia_check::Unknown;
 use dia_dict::{Book, Entry};
@@ -40,9 +40,9 @@ pub enum ProposeFault {
 /// those of the keys that both know and that these commands, and the groups that the pairs lead to, let in, in the first
 /// dictionary's order. So where no table that lists the commands passes, neither does this one.
 ///
-/// It takes time in proportion to the names, to both dictionaries and to the definitions that it comes to, and it goes over
-/// the second dictionary's commands once for each command that is named. `UnknownCommand` has the first name of which the
-/// first dictionary has no command. `NoMemory` comes only where memory was refused.
+/// It takes time in proportion to the names, to both dictionaries and to the definitions that it comes to, up to a
+/// logarithm: a command of the first dictionary is compared only with those of its code in the second. `UnknownCommand` has
+/// the first name of which the first dictionary has no command. `NoMemory` comes only where memory was refused.
 pub fn propose<A: Book, B: Book>(
     alloc: Global,
     a: &A,
@@ -56,9 +56,7 @@ pub fn propose<A: Book, B: Book>(
         (map (λ n. string_bytes n) names.now) (plain table)) }
     ensures refusal { IfErr result (IsRefusal (A.meaning a.now) (map (λ n. string_bytes n) names.now)) }
 {
-    let commands = names_of_commands(alloc, a)?;
-    let mut named = Named::new(alloc, a, b, a.entries().min(b.entries()))?;
-    named.add_all(alloc, a, b, &commands, names)?;
+    let named = named_commands(alloc, a, b, names)?;
     let Named {
         pairs: commands,
         mut reached,
@@ -67,6 +65,27 @@ pub fn propose<A: Book, B: Book>(
     reached.follow(alloc, a, b)?;
     let avps = shared_pairs(alloc, a, b, &reached)?;
     Ok(Table { commands, avps })
+}
+
+/// The commands of these names, with what stands beside them and the AVPs that they let in.
+fn named_commands<A: Book, B: Book>(
+    alloc: Global,
+    a: &A,
+    b: &B,
+    names: &[String],
+) -> Result<Named, ProposeFault>
+    ensures sound_a { IsDictionary (A.meaning a.now) }
+    ensures sound_b { IsDictionary (B.meaning b.now) }
+    ensures ok { IfOk result (NamedSoFar (A.meaning a.now) (B.meaning b.now)
+        (map (λ n. string_bytes n) names.now) []) }
+    ensures refusal { IfErr result (IsRefusal (A.meaning a.now) (map (λ n. string_bytes n) names.now)) }
+{
+    let most = a.entries().min(b.entries());
+    let commands = names_of_commands(alloc, a)?;
+    let others = Commands::new(alloc, b)?;
+    let mut named = Named::new(alloc, a, b, most)?;
+    named.add_all(alloc, a, &others, &commands, names)?;
+    Ok(named)
 }
 
 /// There is one proposal.

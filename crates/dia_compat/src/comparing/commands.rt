@@ -1,12 +1,13 @@
 //! The test of a pair of commands.
-ghost use Rattle.std.specs.Prelude.{◌≡◌, ◌||◌, not, IfOk, map, ℕ, List};
+ghost use Rattle.std.specs.Prelude.{◌≡◌, ◌||◌, ◌&&◌, not, IfOk, map, ℕ, List};
 ghost use Rattle.std.specs.List.{list_any, list_all};
-ghost use Rattle.dia_dict.specs.Dictionary.{plain};
+ghost use Rattle.dia_dict.specs.Dictionary.{plain, IsDictionary, IsCommandHead};
 ghost use Rattle.dia_dict.specs.declared.definition.Class.TheVariants as classes;
 ghost use Rattle.dia_compat.specs.TableText.{plain_pair};
 ghost use Rattle.dia_compat.specs.Comparing.{plain_names, is_pair, names_app, wants_app};
-ghost use Rattle.dia_compat.specs.Comparing.{is_of_app, is_wanted, serves, is_command_pair};
+ghost use Rattle.dia_compat.specs.Comparing.{is_of_app, is_wanted, serves, same_selector, is_proxiable, is_ready, is_selected};
 
+use super::by_code::{Commands, open_code};
 use super::heads::{is_proxiable, same_selector, serves};
 use dia_dict::{Book, Class, DefHead, Definition};
 use indexmap::IndexSet;
@@ -36,54 +37,118 @@ fn is_beside(beside: &IndexSet<(&str, &str)>, first: &str, second: &str) -> bool
     beside.contains(&(first, second))
 }
 
-/// Whether the commands are of one code and class, the second allows each value of P that the first does, and the table has
-/// each definition of `b` that may be selected for a message of the first.
-pub(super) fn is_command_pair<A: Book, B: Book>(
+/// Whether the commands are of one code and class, and the second allows each value of P that the first does.
+pub(super) fn may_stand_for(first: &Definition, second: &Definition) -> bool
+    ensures { result ≡ (same_selector (plain first.now).head (plain second.now).head &&
+        is_proxiable (plain first.now).head (plain second.now).head) }
+{
+    same_selector(&first.head, &second.head) && is_proxiable(&first.head, &second.head)
+}
+
+/// Of each command of `a`, in order, whether the table has each definition of `b` that may be selected for its messages, and
+/// there is one.
+pub(super) fn all_selected<A: Book, B: Book>(
+    alloc: Global,
     a: &A,
     b: &B,
     beside: &IndexSet<(&str, &str)>,
-    first: &Definition,
-    second: &Definition,
-) -> bool
-    ensures { result ≡ is_command_pair (A.meaning a.now) (B.meaning b.now) (map plain_names beside.now.keys)
-        (plain first.now) (plain second.now) }
+) -> Result<Vec<bool>, AllocError>
+    ensures { IfOk result
+        (λ all. all.items ≡ map (is_selected (A.meaning a.now) (B.meaning b.now) (map plain_names beside.now.keys))
+        (A.meaning a.now).commands) }
 {
-    same_selector(&first.head, &second.head)
-        && is_proxiable(&first.head, &second.head)
-        && is_served(b, &first.head)
-        && all_beside(a, b, beside, first)
+    let commands = Commands::new(alloc, b)?;
+    selected_among(alloc, a, &commands, beside)
 }
 
-/// Whether some command of `b` is selected for the messages of a command.
-fn is_served<B: Book>(b: &B, head: &DefHead) -> bool
-    ensures { result ≡ list_any (λ d. serves head.now d.head) (B.meaning b.now).commands }
+fn selected_among<A: Book, B: Book>(
+    alloc: Global,
+    a: &A,
+    b: &Commands<'_, B>,
+    beside: &IndexSet<(&str, &str)>,
+) -> Result<Vec<bool>, AllocError>
+    ensures { IfOk result
+        (λ all. all.items ≡ map
+        (is_selected (A.meaning a.now) (B.meaning b.now.book.now) (map plain_names beside.now.keys))
+        (A.meaning a.now).commands) }
 {
-    for index in 0..b.commands() {
-        if serves(head, &b.def(b.command_at(index)).head) {
-            return true;
-        }
+    let _sound = (a.entries(), b.book.entries());
+    let mut all = Vec::new(alloc);
+    for index in 0..a.commands() {
+        all.push(is_selected(a, b, beside, a.def(a.command_at(index))))?;
     }
-    false
+    Ok(all)
 }
 
-/// Whether each command of `b` that may be selected for messages of this one stands beside it.
+/// Whether some command of `b` is selected for messages of this one, and each that may be stands beside it.
+fn is_selected<A: Book, B: Book>(
+    a: &A,
+    b: &Commands<'_, B>,
+    beside: &IndexSet<(&str, &str)>,
+    command: &Definition,
+) -> bool
+    requires sound { IsDictionary (B.meaning b.now.book.now) }
+    requires is_command { IsCommandHead command.now.head }
+    ensures { result ≡ is_selected (A.meaning a.now) (B.meaning b.now.book.now) (map plain_names beside.now.keys)
+        (plain command.now) }
+{
+    match open_code(command.head) {
+        Some(code) => match b.by_code.get(&code) {
+            Some(others) => has_all(a, b.book, beside, command, others.as_slice()),
+            None => false,
+        },
+        None => match b.only_for(command.head) {
+            Some(other) => stands_beside(beside, command, other),
+            None => false,
+        },
+    }
+}
+
+/// Whether one of these definitions of `b` is selected for messages of the command, and each that may be stands beside it.
+fn has_all<A: Book, B: Book>(
+    a: &A,
+    b: &B,
+    beside: &IndexSet<(&str, &str)>,
+    command: &Definition,
+    others: &[&Definition],
+) -> bool
+    ensures { result ≡ (list_any (λ d. serves command.now.head d.now.head) others.now && list_all
+        (λ d. is_ready (A.meaning a.now) (B.meaning b.now) (map plain_names beside.now.keys)
+        (plain command.now) (plain d.now)) others.now) }
+{
+    is_served(others, &command.head) && all_beside(a, b, beside, command, others)
+}
+
+/// Whether the definitions stand in the table as a pair.
+fn stands_beside(beside: &IndexSet<(&str, &str)>, command: &Definition, other: &Definition) -> bool
+    ensures { result ≡ list_any (is_pair (plain command.now).name (plain other.now).name)
+        (map plain_names beside.now.keys) }
+{
+    is_beside(beside, command.name.as_str(), other.name.as_str())
+}
+
+/// Whether one of these definitions is selected for the messages of a command.
+fn is_served(others: &[&Definition], head: &DefHead) -> bool
+    ensures { result ≡ list_any (λ d. serves head.now d.now.head) others.now }
+{
+    others.iter().any(|other| serves(head, &other.head))
+}
+
+/// Whether each of these definitions of `b` that may be selected for messages of the command stands beside it.
 fn all_beside<A: Book, B: Book>(
     a: &A,
     b: &B,
     beside: &IndexSet<(&str, &str)>,
     command: &Definition,
+    others: &[&Definition],
 ) -> bool
     ensures { result ≡ list_all
-        (λ d. not (is_wanted (A.meaning a.now) (B.meaning b.now) (plain command.now).head d.head) || list_any
-        (is_pair (plain command.now).name d.name) (map plain_names beside.now.keys))
-        (B.meaning b.now).commands }
+        (λ d. is_ready (A.meaning a.now) (B.meaning b.now) (map plain_names beside.now.keys)
+        (plain command.now) (plain d.now)) others.now }
 {
-    for index in 0..b.commands() {
-        if !is_ready(a, b, beside, command, b.def(b.command_at(index))) {
-            return false;
-        }
-    }
-    true
+    others
+        .iter()
+        .all(|other| is_ready(a, b, beside, command, other))
 }
 
 /// Whether a command of `b` isn't selected for messages of this one, or stands beside it.
@@ -94,17 +159,14 @@ fn is_ready<A: Book, B: Book>(
     command: &Definition,
     other: &Definition,
 ) -> bool
-    ensures { result ≡ (not
-        (is_wanted (A.meaning a.now) (B.meaning b.now) (plain command.now).head (plain other.now).head) ||
-        list_any (is_pair (plain command.now).name (plain other.now).name)
-        (map plain_names beside.now.keys)) }
+    ensures { result ≡ is_ready (A.meaning a.now) (B.meaning b.now) (map plain_names beside.now.keys)
+        (plain command.now) (plain other.now) }
 {
-    !is_wanted(a, b, &command.head, &other.head)
-        || is_beside(beside, command.name.as_str(), other.name.as_str())
+    !is_wanted(a, b, &command.head, &other.head) || stands_beside(beside, command, other)
 }
 
 /// Whether a command of `b` may be selected for messages of one of `a`.
-fn is_wanted<A: Book, B: Book>(a: &A, b: &B, head: &DefHead, other: &DefHead) -> bool
+pub(crate) fn is_wanted<A: Book, B: Book>(a: &A, b: &B, head: &DefHead, other: &DefHead) -> bool
     ensures { result ≡ is_wanted (A.meaning a.now) (B.meaning b.now) head.now other.now }
 {
     match head {

@@ -1,11 +1,10 @@
 //! Look-up by name.
-ghost use Rattle.std.specs.Prelude.{◌≡◌, ◌+◌, IfOk, length, map};
-ghost use Rattle.std.specs.Option.{option_map};
+ghost use Rattle.std.specs.Prelude.{◌≡◌, IfOk, map};
 ghost use Rattle.std.proofs.Props.{props};
-ghost use Rattle.dia_dict.specs.Dictionary.{IsDictionary, groups};
+ghost use Rattle.dia_dict.specs.Dictionary.{IsDictionary};
 ghost use Rattle.dia_compat.specs.Comparing.{entry_named, command_named, key_named};
 
-use dia_dict::{Book, DefId, Entry, Key};
+use dia_dict::{Book, Entry, Key};
 use indexmap::IndexSet;
 use std::alloc::{AllocError, Global};
 
@@ -50,13 +49,11 @@ impl<'a, B: Book> Named<'a, B> {
         }
     }
 
-    /// The definition of the command of a name.
-    pub fn command(&self, name: &str) -> Option<DefId>
-        ensures { result ≡ option_map (λ i. length (groups (B.meaning self.now.book.now)) + i)
-            (command_named (B.meaning self.now.book.now) name.now) }
+    /// The place of the command of a name.
+    pub fn command(&self, name: &str) -> Option<usize>
+        ensures { result ≡ command_named (B.meaning self.now.book.now) name.now }
     {
-        let place = self.commands.get_index_of(&name)?;
-        Some(self.book.command_at(place))
+        self.commands.get_index_of(&name)
     }
 }
 

@@ -1,14 +1,15 @@
 //! The tests of a table's pairs.
-ghost use Rattle.std.specs.Prelude.{◌≡◌, ◌<◌, ◌↔◌, ◌⊎◌, IfOk, OnOk, IfSome, IsTrue, length, map, slice_get};
+ghost use Rattle.std.specs.Prelude.{◌≡◌, ◌<◌, ◌+◌, ◌↔◌, ◌⊎◌, IfOk, OnOk, IfSome, IsTrue, length, map, slice_get};
 ghost use Rattle.dia_data.specs.Plain.{Grouped, plain as plain_format};
 ghost use Rattle.dia_data.specs.Below.{FormatBelow};
-ghost use Rattle.dia_dict.specs.Dictionary.{DictEntry, IsDictionary, definitions};
+ghost use Rattle.std.proofs.Props.{props};
+ghost use Rattle.dia_dict.specs.Dictionary.{DictEntry, IsDictionary, definitions, groups};
 ghost use Rattle.dia_compat.specs.TableText.{PlainTable, plain, plain_pair};
-ghost use Rattle.dia_compat.specs.Comparing.{plain_names, failed_commands, failed_groups};
+ghost use Rattle.dia_compat.specs.Comparing.{plain_names, is_selected, failed_commands, failed_groups};
 ghost use Rattle.dia_compat.specs.Closed.{AvpPair, IsAnswer};
 ghost use Rattle.dia_compat.specs.Failing.{IsLookedUp, IsFirstFailed, IsFound, PairTest, failed_command, FailsEntries, FailsAvp};
 
-use super::commands::{is_command_pair, set_of_pairs};
+use super::commands::{all_selected, may_stand_for, set_of_pairs};
 use super::covers::Cover;
 use super::named::Named;
 use super::rules::Rules;
@@ -28,6 +29,11 @@ pub(crate) struct Comparison<'a, A: Book, B: Book> {
     pub b: Named<'a, B>,
     pub cover: Cover,
     pub beside: IndexSet<(&'a str, &'a str)>,
+    /// Of each command of `a`, whether the table has what may be selected for its messages.
+    selected: Vec<bool>,
+    ghost all_selected: { selected.items
+        ≡ map (is_selected (A.meaning a.book.now) (B.meaning b.book.now) (map plain_names beside.keys))
+        (A.meaning a.book.now).commands } by { Prim.hlevel props },
 }
 
 impl<'a, A: Book, B: Book> Comparison<'a, A, B> {
@@ -52,11 +58,13 @@ impl<'a, A: Book, B: Book> Comparison<'a, A, B> {
         let b = Named::new(alloc, b)?;
         let cover = Cover::new(alloc, &a, &b, unknown, &table.avps)?;
         let beside = set_of_pairs(alloc, &table.commands)?;
+        let selected = all_selected(alloc, a.book, b.book, &beside)?;
         Ok(Comparison {
             a,
             b,
             cover,
             beside,
+            selected,
         })
     }
 
@@ -160,30 +168,29 @@ impl<'a, A: Book, B: Book> Comparison<'a, A, B> {
         }
     }
 
-    fn failed_commands(&self, first: DefId, second: DefId) -> Option<Test>
-        requires first { first < length (definitions (A.meaning self.now.a.book.now)) }
-        requires second { second < length (definitions (B.meaning self.now.b.book.now)) }
+    /// The first test that a pair of commands fails, by their places.
+    fn failed_commands(&self, first: usize, second: usize) -> Option<Test>
+        requires first { first < length (A.meaning self.now.a.book.now).commands }
+        requires second { second < length (B.meaning self.now.b.book.now).commands }
         ensures { result ≡ failed_commands self.now.cover.unknown (A.meaning self.now.a.book.now)
             (B.meaning self.now.b.book.now) self.now.cover.paired.keys self.now.cover.uncovered.items
             self.now.cover.strangers_fit
-            (map plain_names self.now.beside.keys) first second }
+            (map plain_names self.now.beside.keys) (length (groups (A.meaning self.now.a.book.now)) + first)
+            (length (groups (B.meaning self.now.b.book.now)) + second) }
     {
-        let a = self.a.book;
-        let b = self.b.book;
-        if !is_command_pair(a, b, &self.beside, a.def(first), b.def(second)) {
-            return Some(Test::N10);
+        let a = Rules {
+            book: self.a.book,
+            def: self.a.book.command_at(first),
+        };
+        let b = Rules {
+            book: self.b.book,
+            def: self.b.book.command_at(second),
+        };
+        if may_stand_for(a.book.def(a.def), b.book.def(b.def)) && self.selected[first] {
+            failed_rules(&a, &b, &self.cover)
+        } else {
+            Some(Test::N10)
         }
-        failed_rules(
-            &Rules {
-                book: a,
-                def: first,
-            },
-            &Rules {
-                book: b,
-                def: second,
-            },
-            &self.cover,
-        )
     }
 
     /// The first test that a pair of AVPs fails.

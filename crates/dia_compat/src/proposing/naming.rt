@@ -7,6 +7,7 @@ ghost use Rattle.dia_compat.specs.Proposed.{IsRefusal};
 ghost use Rattle.dia_compat.specs.Naming.{Names, NamedSoFar};
 ghost use Rattle.dia_compat.specs.Reaching.{has, AreRest};
 
+use crate::comparing::Commands;
 use crate::proposing::ProposeFault;
 use crate::proposing::reaching::Reached;
 use crate::proposing::wanting::push_pairs;
@@ -49,15 +50,15 @@ impl Named {
         &mut self,
         alloc: Global,
         a: &A,
-        b: &B,
+        b: &Commands<'_, B>,
         commands: &IndexSet<&str>,
         names: &[String],
     ) -> Result<(), ProposeFault>
         requires commands { map (λ n. n.now) commands.now.keys ≡ map (λ c. c.name) (A.meaning a.now).commands }
         requires sound_a { IsDictionary (A.meaning a.now) }
-        requires sound_b { IsDictionary (B.meaning b.now) }
-        requires new { NamedSoFar (A.meaning a.now) (B.meaning b.now) [] (map (λ n. string_bytes n) names.now) self.old }
-        ensures ok { OnOk result (NamedSoFar (A.meaning a.now) (B.meaning b.now)
+        requires sound_b { IsDictionary (B.meaning b.now.book.now) }
+        requires new { NamedSoFar (A.meaning a.now) (B.meaning b.now.book.now) [] (map (λ n. string_bytes n) names.now) self.old }
+        ensures ok { OnOk result (NamedSoFar (A.meaning a.now) (B.meaning b.now.book.now)
             (map (λ n. string_bytes n) names.now) [] self.new) }
         ensures refusal { IfErr result (IsRefusal (A.meaning a.now) (map (λ n. string_bytes n) names.now)) }
     {
@@ -77,22 +78,22 @@ impl Named {
         &mut self,
         alloc: Global,
         a: &A,
-        b: &B,
+        b: &Commands<'_, B>,
         place: usize,
     ) -> Result<(), AllocError>
         requires sound_a { IsDictionary (A.meaning a.now) }
-        requires sound_b { IsDictionary (B.meaning b.now) }
+        requires sound_b { IsDictionary (B.meaning b.now.book.now) }
         requires within { place < length (A.meaning a.now).commands }
-        requires rest { AreRest (A.meaning a.now) (B.meaning b.now) self.old.reached }
+        requires rest { AreRest (A.meaning a.now) (B.meaning b.now.book.now) self.old.reached }
         ensures { (c : PlainDefinition) → slice_get (A.meaning a.now).commands place ≡ Some c
-            → OnOk result (Names (A.meaning a.now) (B.meaning b.now) place c self.old self.new) }
+            → OnOk result (Names (A.meaning a.now) (B.meaning b.now.book.now) place c self.old self.new) }
     {
         if self.places.contains(&place) {
             return Ok(());
         }
         let def = a.command_at(place);
         push_pairs(alloc, a, b, a.def(def), &mut self.pairs)?;
-        self.reached.come_to_admitted(alloc, a, b, def)?;
+        self.reached.come_to_admitted(alloc, a, b.book, def)?;
         self.places.insert(place)?;
         Ok(())
     }

@@ -11,12 +11,12 @@ pub returns-clause-proposal : goal.returns-clause-proposal
 returns-clause-proposal g c =
     let da = g.A.Book.meaning c.args.a.now in
     let db = g.B.Book.meaning c.args.b.now in
-    let sa = c.entries.ensures.sound in
-    let sb = c.entries-2.ensures.sound in
+    let sa = c.named_commands.ensures.sound_a in
+    let sb = c.named_commands.ensures.sound_b in
     let u = c.args.unknown in
     let names = map (λ (n : String Global). string_bytes n) c.args.names.now in
-    let named = c.add_all.new.self in
-    let so = c.in_ok-add_all.ensures.ok in
+    let named = c.in_ok-named.named in
+    let so = c.in_ok-named.ensures.ok in
     let pairs = map plain_pair named.pairs.items in
     let r = c.follow.new.self in
     let all = are_avp_pairs da db sa sb r (IsProposed da db u pairs)
@@ -29,6 +29,6 @@ returns-clause-proposal g c =
 
 pub returns-clause-least : goal.returns-clause-least
 returns-clause-least g c =
-    proposal_is_least (g.A.Book.meaning c.args.a.now) (g.B.Book.meaning c.args.b.now) c.entries.ensures.sound c.entries-2.ensures.sound c.args.unknown
+    proposal_is_least (g.A.Book.meaning c.args.a.now) (g.B.Book.meaning c.args.b.now) c.named_commands.ensures.sound_a c.named_commands.ensures.sound_b c.args.unknown
     (map (λ (n : String Global). string_bytes n) c.args.names.now)
-    (plain (record { commands = c.add_all.new.self.pairs; avps = c.in_ok-avps.avps })) (returns-clause-proposal g c)
+    (plain (record { commands = c.in_ok-named.named.pairs; avps = c.in_ok-avps.avps })) (returns-clause-proposal g c)

@@ -1,23 +1,50 @@
-use Rattle.std.proofs.Common.{◌≡◌, ℕ, List, map, arith, sym, ap, ◌∙◌, Some}
-use Rattle.std.specs.Prelude.{slice_get}
-use Rattle.std.proofs.lemmas.Option.{same_Some}
-use Rattle.dia_dict.specs.Dictionary.{PlainDefinition, plain, definitions, groups}
-use Rattle.dia_dict.proofs.Members.{into_right}
+use Rattle.std.proofs.Common.{◌≡◌, ℕ, List, [], ◌∷◌, ◌++◌, map, Option, None, option_to_list, OnOk, sym, ap, subst, ◌∙◌}
+use Rattle.std.specs.Option.{option_map}
+use Rattle.std.proofs.lemmas.List.{append-nil}
+use Rattle.dia_dict.specs.Dictionary.{PlainDefinition, plain}
+use Rattle.dia_dict.specs.declared.Definition.{Definition}
+use Rattle.std.specs.Borrow.{Bor}
 use Rattle.dia_compat.specs.TableText.{plain_pair}
-use Rattle.dia_compat.specs.Wanting.{wanted_name}
-use Rattle.dia_compat.proofs.Reaching.{there_is}
-use Rattle.dia_compat.proofs.Wanting.{pairs_more}
+use Rattle.dia_compat.specs.ByCode.{listed}
+use Rattle.dia_compat.proofs.ByCode.{names_listed, names_unlisted, names_only}
 use Rattle.dia_compat.proofs.proposing.wanting.push_wanted.Goals as goal
 
-pub loop-index-preserved : goal.loop-index-preserved
-loop-index-preserved g c =
+pub returns-in-Some-get : goal.returns-in-Some-get
+returns-in-Some-get g c =
     let da = g.A.Book.meaning c.args.a.now in
-    let db = g.B.Book.meaning c.args.b.now in
-    let i = c.loop-index.index in
-    let count = c.commands-index-end.ensures in
-    let d = there_is db.commands i (omega arith) in
-    let there : slice_get (definitions db) c.command_at.result ≡ Some d.0 = ap (slice_get (definitions db)) c.command_at.ensures ∙ into_right (groups db) db.commands i d.0 d.1 in
-    let same = same_Some (plain c.def.result.now) d.0 (sym c.def.ensures ∙ there) in
-    pairs_more (wanted_name da db c.args.command.now.head) (λ (name : List ℕ). ((plain c.args.command.now).name, name)) (map plain_pair c.args.pairs.now.items)
-    (map plain_pair c.loop-index.pairs.items) (map plain_pair c.push_if_wanted.new.pairs.items) db.commands i (plain c.def.result.now)
-    (d.1 ∙ ap (λ (x : PlainDefinition). Some x) (sym same)) c.loop-index.invariant c.in_ok-push_if_wanted.ensures
+    let db = g.B.Book.meaning c.args.b.now.book.now in
+    let command = plain c.args.command.now in
+    let same = ap (map (λ (d : Bor Definition). plain d.now)) c.as_slice.ensures.value ∙ ap listed (ap (option_map (λ v. v.items)) c.in-Some-get.ensures.value) ∙ c.args.b.now.all c.in-Some.code in
+    subst (λ (ns : List (List ℕ)). OnOk c.push_all_wanted.result (map plain_pair c.push_all_wanted.new.pairs.items ≡ map plain_pair c.args.pairs.now.items ++ map (λ (name : List ℕ). (command.name, name)) ns))
+    (names_listed da db c.requires.sound_b command.head c.in-Some.code c.as_slice.result.now (sym c.in-Some.ensures) same) c.push_all_wanted.ensures
+
+pub returns-in-None-get : goal.returns-in-None-get
+returns-in-None-get g c =
+    let da = g.A.Book.meaning c.args.a.now in
+    let db = g.B.Book.meaning c.args.b.now.book.now in
+    let command = plain c.args.command.now in
+    let old = map plain_pair c.args.pairs.now.items in
+    let none = ap listed (ap (option_map (λ v. v.items)) c.in-None-get.ensures.value) ∙ c.args.b.now.all c.in-Some.code in
+    sym (append-nil old) ∙ ap (λ (ns : List (List ℕ)). old ++ map (λ (name : List ℕ). (command.name, name)) ns) (names_unlisted da db c.requires.sound_b command.head c.in-Some.code (sym c.in-Some.ensures) none)
+
+pub returns-in-Some-only_for : goal.returns-in-Some-only_for
+returns-in-Some-only_for g c =
+    let da = g.A.Book.meaning c.args.a.now in
+    let db = g.B.Book.meaning c.args.b.now.book.now in
+    let command = plain c.args.command.now in
+    let names = names_only da db c.requires.sound_b command.head c.requires.is_command (sym c.in-None.ensures)
+    ∙ ap (λ (o : Option PlainDefinition). map (λ (d : PlainDefinition). d.name) (option_to_list o)) (sym c.in-Some-only_for.ensures) in
+    subst (λ (ps : List (List ℕ × List ℕ)). OnOk c.push_pair.result (map plain_pair c.push_pair.new.pairs.items ≡ map plain_pair c.args.pairs.now.items ++ ps))
+    (ap (λ (z : List ℕ). (z, c.as_str-in-Some-only_for.result.now) ∷ []) c.as_str.ensures.value ∙ ap (λ (z : List ℕ). (command.name, z) ∷ []) c.as_str-in-Some-only_for.ensures.value
+    ∙ ap (map (λ (name : List ℕ). (command.name, name))) (sym names))
+    c.push_pair.ensures
+
+pub returns-in-None-only_for : goal.returns-in-None-only_for
+returns-in-None-only_for g c =
+    let da = g.A.Book.meaning c.args.a.now in
+    let db = g.B.Book.meaning c.args.b.now.book.now in
+    let command = plain c.args.command.now in
+    let old = map plain_pair c.args.pairs.now.items in
+    let names = names_only da db c.requires.sound_b command.head c.requires.is_command (sym c.in-None.ensures)
+    ∙ ap (λ (o : Option PlainDefinition). map (λ (d : PlainDefinition). d.name) (option_to_list o)) (sym c.in-None-only_for.ensures) in
+    sym (append-nil old) ∙ ap (λ (ns : List (List ℕ)). old ++ map (λ (name : List ℕ). (command.name, name)) ns) (sym names)

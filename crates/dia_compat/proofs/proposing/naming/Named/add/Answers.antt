@@ -11,7 +11,7 @@ use Rattle.dia_compat.proofs.proposing.naming.Named.add.Goals as goal
 pub returns : goal.returns
 returns g c = λ d at.
     let da = g.A.Book.meaning c.args.a.now in
-    let db = g.B.Book.meaning c.args.b.now in
+    let db = g.B.Book.meaning c.args.b.now.book.now in
     let there : slice_get (definitions da) c.command_at-def.result ≡ Some d = ap (slice_get (definitions da)) c.command_at-def.ensures ∙ into_right (groups da) da.commands c.args.place d at in
     let same = same_Some (plain c.def.result.now) d (sym c.def.ensures ∙ there) in
     let places = c.args.self.now.places.keys in

@@ -15,7 +15,7 @@ bytes s = string_bytes s
 pub loop-name-preserved : goal.loop-name-preserved
 loop-name-preserved g c =
     let da = g.A.Book.meaning c.args.a.now in
-    let db = g.B.Book.meaning c.args.b.now in
+    let db = g.B.Book.meaning c.args.b.now.book.now in
     let names = c.args.names.now in
     let i = c.loop-name.name-index in
     let next = next_item bytes names i c.name-item.result (omega arith) c.name-item.is in
