@@ -1,8 +1,8 @@
 -- Which commands of B may be selected for messages of a command of A: those of its code, or the one that is selected.
 use Rattle.std.proofs.Common.{◌≡◌, ◌≢◌, ℕ, zero, suc, ◌+◌, ◌<◌, arith, get_or, Bool, true, false, not, cond, ◌&&◌, ◌==◌, List, [], ◌∷◌, ◌++◌, length, map, filter, take, Option, Some, None, option_to_list, refl, sym, ap, subst, ◌∙◌, inl, inr}
-use Rattle.std.specs.Prelude.{◌⊎◌, ◌||◌, nat_eq, slice_get, is_some, option_and_then}
+use Rattle.std.specs.Prelude.{◌⊎◌, ◌||◌, slice_get, is_some, option_and_then}
 use Rattle.std.specs.List.{list_all, list_any, filter_map, cons_option}
-use Rattle.std.specs.Option.{option_eq, option_map_or}
+use Rattle.std.specs.Option.{option_map_or}
 use Rattle.std.proofs.lemmas.Bool.{and_parts, and_from, not-true, false_from_ne_true}
 use Rattle.std.proofs.lemmas.Option.{same_Some, get_or_from_slice_get, slice_get-get_or}
 use Rattle.std.proofs.lemmas.List.{map-append}
@@ -18,7 +18,7 @@ use Rattle.dia_dict.specs.declared.DefHead.{DefHead}
 use Rattle.dia_dict.specs.declared.DefHead.TheVariants.{Group, Command, Error}
 use Rattle.dia_dict.specs.Dictionary.{Dictionary, PlainDefinition, IsDictionary, IsCommandHead, IsSameSelector, definitions, groups, selected, is_command, same_class, plain}
 use Rattle.dia_dict.proofs.Members.{into_right, into_map}
-use Rattle.dia_compat.specs.ByCode.{has_code, commands_of, only_number, only_for, open_code}
+use Rattle.dia_compat.specs.ByCode.{has_code, commands_of, only_for, open_code}
 use Rattle.dia_compat.specs.Closed.{IsError}
 use Rattle.dia_compat.specs.Comparing.{Names, names_app, wants_app, is_wanted, serves, serves_app, is_pair, is_ready, is_selected, is_command_pair, failed_rules, failed_commands}
 use Rattle.dia_compat.specs.declared.inclusion.Test.TheVariants.{N10}
@@ -28,7 +28,6 @@ use Rattle.dia_check.specs.declared.policy.Unknown.{Unknown}
 use Rattle.dia_compat.specs.Wanting.{wanted_name, wanted_names}
 use Rattle.dia_compat.proofs.Placing.{IsIn}
 use Rattle.dia_compat.proofs.Counts.{in_at, at_in, any_in, in_any}
-use Rattle.dia_compat.proofs.Fitting.{all_of}
 use Rattle.dia_compat.proofs.Selecting.{Choice, NoChoice, choose, Reads, reads, class_same}
 use Rattle.dia_compat.proofs.Covering.{taken}
 

@@ -1,7 +1,7 @@
 -- The text of a table is read back: each line says its pair, and nothing else stands between the line feeds.
-use Rattle.std.proofs.Common.{◌≡◌, ℕ, ◌+◌, ◌-◌, ◌*◌, ◌<◌, ◌≤◌, Bool, true, false, not, ◌==◌, ◌&&◌, ◌||◌, List, [], ◌∷◌, ◌++◌, length, map, codes, refl, sym, ap, subst, ◌∙◌, inl, arith}
+use Rattle.std.proofs.Common.{◌≡◌, ℕ, ◌-◌, ◌*◌, ◌≤◌, Bool, true, false, not, ◌==◌, ◌&&◌, ◌||◌, List, [], ◌∷◌, ◌++◌, length, map, codes, refl, sym, ap, subst, ◌∙◌, inl, arith}
 use Rattle.std.specs.Prelude.{slice_index}
-use Rattle.std.specs.List.{list_all, list_any, flat_map, filter_map, slice_split, AllByRecursion}
+use Rattle.std.specs.List.{list_all, list_any, filter_map, slice_split, AllByRecursion}
 use Rattle.std.specs.Char.{is_ascii_alphanumeric, is_ascii_alphabetic}
 use Rattle.std.specs.Str.Lines.{lines, lines_of_parts, strip_carriage_return}
 use Rattle.std.proofs.lemmas.Bool.{and_parts, and_from, or_left, or_parts, not-true}
@@ -11,8 +11,8 @@ use Rattle.std.proofs.lemmas.List.Concat.{flat_map-cons}
 use Rattle.std.proofs.lemmas.List.Folds.{list_all-append}
 use Rattle.std.proofs.lemmas.List.Sums.{AllPass-from_list_all}
 use Rattle.std.proofs.lemmas.List.Splits.{slice_split_at, length-slice_split}
-use Rattle.dia_compat.specs.TableText.{PlainTable, Line, Blank, Command, Avp, command_of, avp_of, table_of, is_run_byte, is_name_run, most_pairs, most_name}
-use Rattle.dia_compat.specs.TableText.{IsPair, IsLine, AreLines, HasShortNames, IsWithinLimits, IsTable}
+use Rattle.dia_compat.specs.TableText.{PlainTable, Line, Blank, Command, Avp, command_of, avp_of, is_run_byte, is_name_run}
+use Rattle.dia_compat.specs.TableText.{IsPair, IsLine, AreLines, HasShortNames, IsTable}
 use Rattle.dia_compat.specs.Rendering.{pair_text, pair_lines, table_text, AreNames, IsWritable}
 use Rattle.dia_compat.proofs.Words.{regroup}
 use Rattle.dia_compat.proofs.TableLines.{append_lines}

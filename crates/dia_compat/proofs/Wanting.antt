@@ -1,8 +1,8 @@
 -- The tests on definitions of B show which of them a command of A wants.
 use Rattle.std.proofs.Common.{◌≡◌, ◌≢◌, ℕ, zero, suc, ◌+◌, ◌<◌, Bool, true, false, not, cond, ◌&&◌, ◌==◌, List, [], ◌∷◌}
-use Rattle.std.proofs.Common.{◌++◌, length, map, take, Option, Some, None, option_to_list, get_or, refl, sym, ap, subst, ◌∙◌, arith, inl, inr}
-use Rattle.std.specs.Prelude.{◌⊎◌, Contains, slice_get}
-use Rattle.std.specs.List.{list_any, filter_map, cons_option}
+use Rattle.std.proofs.Common.{◌++◌, map, take, Option, Some, None, option_to_list, get_or, refl, sym, ap, subst, ◌∙◌, arith, inl, inr}
+use Rattle.std.specs.Prelude.{Contains, slice_get}
+use Rattle.std.specs.List.{filter_map, cons_option}
 use Rattle.std.proofs.lemmas.Bool.{and_parts, and_from, eqb-true, eq-eqb, not-true}
 use Rattle.std.proofs.lemmas.List.{append_assoc, map-append, take_more}
 use Rattle.std.proofs.lemmas.List.Elements.{filter_map-append}
@@ -12,8 +12,8 @@ use Rattle.dia_dict.specs.declared.Class.TheVariants as classes
 use Rattle.dia_dict.specs.declared.Pxy.{Pxy}
 use Rattle.dia_dict.specs.declared.DefHead.{DefHead}
 use Rattle.dia_dict.specs.declared.DefHead.TheVariants.{Command, Error}
-use Rattle.dia_dict.specs.Dictionary.{Dictionary, PlainDefinition, IsDictionary, IsCommandHead, definitions, groups, selected, is_command, same_class}
-use Rattle.dia_dict.proofs.Members.{into_right, at_filter_map}
+use Rattle.dia_dict.specs.Dictionary.{Dictionary, PlainDefinition, IsDictionary, IsCommandHead, is_command, same_class}
+use Rattle.dia_dict.proofs.Members.{at_filter_map}
 use Rattle.dia_compat.specs.Closed.{HasCode, NamesApp, IsWanted, error, same_app, no_app, both_none, other_app}
 use Rattle.dia_compat.specs.Proposed.{AreBeside}
 use Rattle.dia_compat.specs.Comparing.{names_app, wants_app, is_wanted}
@@ -21,7 +21,7 @@ use Rattle.dia_compat.specs.Wanting.{wanted_name, wanted_names, or_alone, names_
 use Rattle.dia_compat.proofs.Placing.{IsIn}
 use Rattle.dia_compat.proofs.Counts.{in_at, at_in, in_contains, contains_in, any_in, in_any}
 use Rattle.dia_compat.proofs.Fitting.{all_of, in_filter_map}
-use Rattle.dia_compat.proofs.Selecting.{Choice, NoChoice, choose, Reads, reads, is_of_code}
+use Rattle.dia_compat.proofs.Selecting.{Reads, reads, is_of_code}
 
 -- ---- lists of pairs
 

@@ -1,5 +1,5 @@
 -- The commands of a dictionary, found by their codes.
-use Rattle.std.specs.Prelude.{ℕ, ◌+◌, ◌==◌, Bool, true, false, List, [], map, filter, Option, Some, None, length, slice_get, option_and_then}
+use Rattle.std.specs.Prelude.{ℕ, ◌==◌, Bool, false, List, [], map, filter, Option, Some, None, slice_get, option_and_then}
 use Rattle.std.specs.Borrow.{Bor}
 use Rattle.std.specs.Option.{option_map_or}
 use Rattle.dia_dict.specs.declared.Class.TheVariants as classes

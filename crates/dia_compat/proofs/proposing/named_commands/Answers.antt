@@ -1,4 +1,4 @@
-use Rattle.std.proofs.Common.{rules, ◌≡◌, [], map, String, string_bytes, sym, ap, subst}
+use Rattle.std.proofs.Common.{rules, [], map, String, string_bytes, sym, ap, subst}
 use Rattle.std.specs.Global.{Global}
 use Rattle.dia_dict.specs.Dictionary.{Dictionary}
 use Rattle.dia_compat.specs.Naming.{NamedSoFar}

@@ -1,4 +1,4 @@
-use Rattle.std.proofs.Common.{◌+◌, ◌<◌, ℕ, List, map, arith}
+use Rattle.std.proofs.Common.{ℕ, List, map, arith}
 use Rattle.dia_dict.specs.Dictionary.{plain}
 use Rattle.dia_dict.specs.declared.Definition.{Definition}
 use Rattle.std.specs.Borrow.{Bor}
