@@ -56,7 +56,7 @@ group_at_number (x ∷ es) (suc i) e g at is = by x.group (group_at_number es i 
     by None h = h
     by (Some f) h = h
 
-group_of_entry : (d : Dictionary) (i : ℕ) (e : DictEntry) → slice_get d.entries i ≡ Some e → group_of d i ≡ option_map (λ _. length (filter_map (λ y. y.group) (take i d.entries))) e.group
+pub group_of_entry : (d : Dictionary) (i : ℕ) (e : DictEntry) → slice_get d.entries i ≡ Some e → group_of d i ≡ option_map (λ _. length (filter_map (λ y. y.group) (take i d.entries))) e.group
 group_of_entry d i e at = ap (λ (o : Option DictEntry). option_and_then (λ x. option_map (λ _. length (filter_map (λ y. y.group) (take i d.entries))) x.group) o) at
 
 -- the definition of a level that is kept has rules

@@ -22,7 +22,8 @@ use Rattle.dia_check.specs.Levels as levels
 use Rattle.dia_check.specs.Faults.{Row, End, At, Sooner, Spot, spot, row_of, IsBefore, runs, met, subject_of, keys_to, IsFirstShort, IsFirstMissing, IsWrong, Stands, HasGoodHeader, HasHeader}
 use Rattle.dia_check.specs.Faults as faults
 use Rattle.dia_check.specs.Walks.{Found, Rest, behind, inside, whole, group_at, Walks, ended, missing, broken, wrong, leaf, group, bad_group}
-use Rattle.dia_check.proofs.Found.{walks_stands, Lies, lies_behind, lies_inside, between-split, second_part, length-between, nothing_between}
+use Rattle.dia_check.specs.UnderWay.{Lies}
+use Rattle.dia_check.proofs.Found.{walks_stands, lies_behind, lies_inside, between-split, second_part, length-between, nothing_between}
 use Rattle.dia_check.proofs.Uniqueness.{le_split, one_reason, missing_unique, one_subject, begins_some, found_at, Goes, goes, UpTo, up_more, up_later, up_row, up_end, before_both, selected_command, stops, passes, finds}
 
 -- what stands is what is found, or stands behind it

@@ -13,6 +13,7 @@ use Rattle.dia_check.specs.declared.policy.Levels.{Levels}
 use Rattle.dia_check.specs.Levels.{Level, IsMember, IsOpen, MayOpen, between}
 use Rattle.dia_check.specs.Levels as levels
 use Rattle.dia_check.specs.Faults.{Stands, Looks, HasGoodHeader, avp_length as bad_length, avp as at_avp, missing_at_end}
+use Rattle.dia_check.specs.UnderWay.{Lies}
 use Rattle.dia_check.specs.Walks.{Found, Rest, behind, inside, whole, group_at, IsFine, Walks, ended, missing, broken, wrong, leaf, group, bad_group}
 
 -- ---- parts of bytes
@@ -62,22 +63,13 @@ data_in v front s = (
 )
 
 module _ (d : Dictionary) (u : Unknown) (most : Levels) (bytes : List ℕ) (good : HasGoodHeader d bytes) where
-  -- the rest of a level lies in the message
-  pub record Lies (s : Rest) : Type 0 where
-    pub open_level : IsOpen d most bytes s.level
-    pub from : s.level.start ≤ s.at
-    pub before : SpellsAll s.earlier (between bytes s.level.start s.at)
-    pub here : between bytes s.at s.level.end ≡ s.bytes
-    pub size : s.at + length s.bytes ≡ s.level.end
-    pub within : s.level.end ≤ length bytes
-
-  pub looks : (s : Rest) → Lies s → Looks d most bytes s.level
+  pub looks : (s : Rest) → Lies d u most bytes good s → Looks d most bytes s.level
   looks s l = record { good = good; open_level = l.open_level }
 
-  pub member : (s : Rest) (v : PlainAvp) (rest : List ℕ) → Lies s → BeginsWith v s.bytes rest → IsMember bytes s.level s.earlier v s.at
+  pub member : (s : Rest) (v : PlainAvp) (rest : List ℕ) → Lies d u most bytes good s → BeginsWith v s.bytes rest → IsMember bytes s.level s.earlier v s.at
   member s v rest l begins = record { inside = l.from; before = l.before; rest = rest; here = subst (λ (t : List ℕ). BeginsWith v t rest) (sym l.here) begins }
 
-  pub lies_behind : (s : Rest) (v : PlainAvp) (rest : List ℕ) → Lies s → BeginsWith v s.bytes rest → Lies (behind s v rest)
+  pub lies_behind : (s : Rest) (v : PlainAvp) (rest : List ℕ) → Lies d u most bytes good s → BeginsWith v s.bytes rest → Lies d u most bytes good (behind s v rest)
   lies_behind s v rest l (front, spells, parts) =
       let o = opened v front [] spells in
       let whole : length s.bytes ≡ length front + length rest = ap length parts ∙ length-append front rest in
@@ -97,7 +89,7 @@ module _ (d : Dictionary) (u : Unknown) (most : Levels) (bytes : List ℕ) (good
         within = l.within;
       }
 
-  pub lies_inside : (s : Rest) (v : PlainAvp) (rest : List ℕ) (g : PlainDefinition) → Lies s → BeginsWith v s.bytes rest → group_at d v ≡ Some g → MayOpen most s.level.depth → Lies (inside s v g)
+  pub lies_inside : (s : Rest) (v : PlainAvp) (rest : List ℕ) (g : PlainDefinition) → Lies d u most bytes good s → BeginsWith v s.bytes rest → group_at d v ≡ Some g → MayOpen most s.level.depth → Lies d u most bytes good (inside s v g)
   lies_inside s v rest g l begins is_group may =
       let (front, spells, parts) = begins in
       let o = opened v front [] spells in
@@ -124,7 +116,7 @@ module _ (d : Dictionary) (u : Unknown) (most : Levels) (bytes : List ℕ) (good
   at_some P f g h is same p = subst P (same_Some h g (sym is ∙ same)) p
 
   pub found_stands : (may : (s : Rest) (v : PlainAvp) (g : PlainDefinition) → IsFine d u most s v → group_at d v ≡ Some g
-      → MayOpen most s.level.depth) (s : Rest) (f : Option Found) (g : Found) → Walks d u most s f → f ≡ Some g → Lies s
+      → MayOpen most s.level.depth) (s : Rest) (f : Option Found) (g : Found) → Walks d u most s f → f ≡ Some g → Lies d u most bytes good s
       → Stands d u most bytes g.spot g.reason g.subject
   found_stands may s f g (ended done none is) same l = absurd (none-some g (sym is ∙ same))
   found_stands may s f g (missing i rule done first is) same l =

@@ -20,3 +20,6 @@ pub mod Quiet
 pub mod Answering
 pub mod Sized
 pub mod FixedFirst
+pub mod Reading
+pub mod ReadingData
+pub mod ReadingHead

@@ -22,15 +22,12 @@ use Rattle.dia_check.specs.Faults.{row_of, code_of, subject_of, spot, End, IsWro
 use Rattle.dia_check.specs.Faults as faults
 use Rattle.dia_check.specs.OpenLevels.{missing, not_allowed, too_many}
 use Rattle.dia_check.specs.Admission.{IsRefused, unknown, m_bit, misplaced, IsFineData, IsWrongData, IsFineAvp, IsWrongAvp}
+use Rattle.dia_check.specs.UnderWay.{Owes}
 use Rattle.dia_check.specs.Walks.{Found, Rest, behind, inside, group_at, IsFine, IsFirstWrong, Walks, group, bad_group}
 use Rattle.dia_check.proofs.Admitting.{no_number}
 use Rattle.dia_check.proofs.Messages.{leaf_fits}
 
 -- ---- what is owed
-
-abbrev pub Owes : Dictionary → Unknown → Levels → List Rest → Rest → Option Found → Type 0
-Owes d u most [] s f = Walks d u most s f
-Owes d u most (r ∷ rs) s f = (Owes d u most rs s None × Walks d u most r f) ⊎ ((g : Found) × Owes d u most rs s (Some g) × (f ≡ Some g))
 
 module _ (d : Dictionary) (u : Unknown) (most : Levels) where
   -- an AVP that is passed

@@ -30,7 +30,8 @@ use Rattle.dia_check.specs.Faults.{Spot, spot, IsWrong, Stands, HasGoodHeader, H
 use Rattle.dia_check.specs.Faults as faults
 use Rattle.dia_check.specs.Walks.{Rest, behind, inside, whole, group_at, IsFine, Walks, ended, leaf, group}
 use Rattle.dia_check.proofs.Level.{opens}
-use Rattle.dia_check.proofs.Found.{Lies, looks, member, lies_behind, lies_inside, body_lies}
+use Rattle.dia_check.specs.UnderWay.{Lies}
+use Rattle.dia_check.proofs.Found.{looks, member, lies_behind, lies_inside, body_lies}
 use Rattle.dia_check.proofs.First.{begun_room}
 use Rattle.dia_check.proofs.Messages.{valid_stands, walk_valid}
 use Rattle.dia_check.proofs.OneAnswer.{leaf_at}

@@ -27,15 +27,12 @@ use Rattle.dia_check.specs.Walks as walks
 use Rattle.dia_check.proofs.Level.{more_keys, opens}
 use Rattle.dia_check.proofs.Uniqueness.{begins_some}
 use Rattle.dia_check.proofs.First.{begun_room}
-use Rattle.dia_check.proofs.Found.{Lies, lies_behind, lies_inside, body_lies}
+use Rattle.dia_check.specs.UnderWay.{so_far, Owes, IsRestAt, AreNested, IsUnderWay}
+use Rattle.dia_check.proofs.Found.{lies_behind, lies_inside, body_lies}
 use Rattle.dia_check.proofs.Opening.{kept_many}
-use Rattle.dia_check.proofs.Owing.{Owes, Owes-passed, Owes-entered, Owes-done, Owes-found, is_fine, group_is, no_group, first_wrong}
+use Rattle.dia_check.proofs.Owing.{Owes-passed, Owes-entered, Owes-done, Owes-found, is_fine, group_is, no_group, first_wrong}
 
 -- ---- the levels in one another
-
--- what is met of a level so far
-abbrev pub so_far : Rest → SoFar
-so_far r = record { rules = r.level.rules; end = r.level.end; keys = map key_of r.earlier }
 
 same_head : (a b : SoFar) (xs ys : List SoFar) → a ∷ xs ≡ b ∷ ys → (a ≡ b) × (xs ≡ ys)
 same_head a b xs ys e = (cc, cc)
@@ -53,43 +50,30 @@ last_of (r ∷ rs) (o ∷ others) next e =
     (r ∷ qs, last, ap (λ (t : List Rest). r ∷ t) is, ap (λ (t : List SoFar). so_far r ∷ t) same ∙ ap (λ (a : SoFar). a ∷ others) parts.0, here)
 
 module _ (d : Dictionary) (u : Unknown) (most : Levels) (bytes : List ℕ) (good : HasGoodHeader d bytes) where
-  -- what is left of a level of this depth, behind whose end the level round it goes on at a place
-  pub record IsRestAt (depth next : ℕ) (r : Rest) : Type 0 where
-    pub lies : Lies d u most bytes good r
-    pub deep : r.level.depth ≡ depth
-    pub ends : (r.level.end + 3) / 4 * 4 ≡ next
-    pub aligned : r.at % 4 ≡ 0
-    pub few : 8 * length r.earlier ≤ r.at
-
-  -- the levels from the outermost to the innermost
-  abbrev pub AreNested : ℕ → ℕ → List Rest → Rest → Type 0
-  AreNested depth next [] s = IsRestAt depth next s
-  AreNested depth next (r ∷ rs) s = IsRestAt depth next r × AreNested (suc depth) r.at rs s
-
-  nested_push : (depth next : ℕ) (rs : List Rest) (s t : Rest) → AreNested depth next rs s → IsRestAt (suc (depth + length rs)) s.at t → AreNested depth next (rs ++ s ∷ []) t
-  nested_push depth next [] s t h inner = (h, subst (λ (n : ℕ). IsRestAt n s.at t) (let e : suc (depth + length {A = Rest} []) ≡ suc depth = omega arith in e) inner)
+  nested_push : (depth next : ℕ) (rs : List Rest) (s t : Rest) → AreNested d u most bytes good depth next rs s → IsRestAt d u most bytes good (suc (depth + length rs)) s.at t → AreNested d u most bytes good depth next (rs ++ s ∷ []) t
+  nested_push depth next [] s t h inner = (h, subst (λ (n : ℕ). IsRestAt d u most bytes good n s.at t) (let e : suc (depth + length {A = Rest} []) ≡ suc depth = omega arith in e) inner)
   nested_push depth next (r ∷ rs) s t (here, h) inner =
-      (here, nested_push (suc depth) r.at rs s t h (subst (λ (n : ℕ). IsRestAt n s.at t) (let e : suc (depth + length (r ∷ rs)) ≡ suc (suc depth + length rs) = omega arith in e) inner))
+      (here, nested_push (suc depth) r.at rs s t h (subst (λ (n : ℕ). IsRestAt d u most bytes good n s.at t) (let e : suc (depth + length (r ∷ rs)) ≡ suc (suc depth + length rs) = omega arith in e) inner))
 
-  nested_pop : (depth next : ℕ) (rs : List Rest) (r s : Rest) → AreNested depth next (rs ++ r ∷ []) s → AreNested depth next rs r × IsRestAt (suc (depth + length rs)) r.at s
-  nested_pop depth next [] r s (here, inner) = (here, subst (λ (n : ℕ). IsRestAt n r.at s) (let e : suc depth ≡ suc (depth + length {A = Rest} []) = omega arith in e) inner)
+  nested_pop : (depth next : ℕ) (rs : List Rest) (r s : Rest) → AreNested d u most bytes good depth next (rs ++ r ∷ []) s → AreNested d u most bytes good depth next rs r × IsRestAt d u most bytes good (suc (depth + length rs)) r.at s
+  nested_pop depth next [] r s (here, inner) = (here, subst (λ (n : ℕ). IsRestAt d u most bytes good n r.at s) (let e : suc depth ≡ suc (depth + length {A = Rest} []) = omega arith in e) inner)
   nested_pop depth next (q ∷ rs) r s (here, h) =
       let (others, inner) = nested_pop (suc depth) q.at rs r s h in
-      ((here, others), subst (λ (n : ℕ). IsRestAt n r.at s) (let e : suc (suc depth + length rs) ≡ suc (depth + length (q ∷ rs)) = omega arith in e) inner)
+      ((here, others), subst (λ (n : ℕ). IsRestAt d u most bytes good n r.at s) (let e : suc (suc depth + length rs) ≡ suc (depth + length (q ∷ rs)) = omega arith in e) inner)
 
-  nested_last : (depth next : ℕ) (rs : List Rest) (s : Rest) → AreNested depth next rs s → (n : ℕ) × IsRestAt (depth + length rs) n s
-  nested_last depth next [] s h = (next, subst (λ (n : ℕ). IsRestAt n next s) (let e : depth ≡ depth + length {A = Rest} [] = omega arith in e) h)
+  nested_last : (depth next : ℕ) (rs : List Rest) (s : Rest) → AreNested d u most bytes good depth next rs s → (n : ℕ) × IsRestAt d u most bytes good (depth + length rs) n s
+  nested_last depth next [] s h = (next, subst (λ (n : ℕ). IsRestAt d u most bytes good n next s) (let e : depth ≡ depth + length {A = Rest} [] = omega arith in e) h)
   nested_last depth next (r ∷ rs) s (here, h) =
       let (n, last) = nested_last (suc depth) r.at rs s h in
-      (n, subst (λ (k : ℕ). IsRestAt k n s) (let e : suc depth + length rs ≡ depth + length (r ∷ rs) = omega arith in e) last)
+      (n, subst (λ (k : ℕ). IsRestAt d u most bytes good k n s) (let e : suc depth + length rs ≡ depth + length (r ∷ rs) = omega arith in e) last)
 
-  nested_new : (depth next : ℕ) (rs : List Rest) (s t : Rest) → AreNested depth next rs s → ((k n : ℕ) → IsRestAt k n s → IsRestAt k n t) → AreNested depth next rs t
+  nested_new : (depth next : ℕ) (rs : List Rest) (s t : Rest) → AreNested d u most bytes good depth next rs s → ((k n : ℕ) → IsRestAt d u most bytes good k n s → IsRestAt d u most bytes good k n t) → AreNested d u most bytes good depth next rs t
   nested_new depth next [] s t h new = new depth next h
   nested_new depth next (r ∷ rs) s t (here, h) new = (here, nested_new (suc depth) r.at rs s t h new)
 
   -- ---- one AVP more
 
-  rest_behind : (s : Rest) (v : PlainAvp) (rest : List ℕ) (k n : ℕ) → BeginsWith v s.bytes rest → IsRestAt k n s → IsRestAt k n (behind s v rest)
+  rest_behind : (s : Rest) (v : PlainAvp) (rest : List ℕ) (k n : ℕ) → BeginsWith v s.bytes rest → IsRestAt d u most bytes good k n s → IsRestAt d u most bytes good k n (behind s v rest)
   rest_behind s v rest k n begins h = record {
     lies = lies_behind d u most bytes good s v rest h.lies begins;
     deep = h.deep;
@@ -101,17 +85,6 @@ module _ (d : Dictionary) (u : Unknown) (most : Levels) (bytes : List ℕ) (good
       head_least : (o : Option ℕ) → 8 ≤ head_length o
       head_least None = omega arith
       head_least (Some x) = omega arith
-
-  -- ---- the loop
-
-  -- what is owed of the levels that are open, with this place reached, is owed of the whole body
-  pub record IsUnderWay (open_levels : OpenLevels) (at : ℕ) : Type 0 where
-    pub rests : List Rest
-    pub s : Rest
-    pub stands : AreOpen (definitions d) open_levels (map so_far rests) (so_far s)
-    pub nested : AreNested 0 ((length bytes + 3) / 4 * 4) rests s
-    pub here : s.at ≡ at
-    pub goes_on : (f : Option Found) → Owes d u most rests s f → Walks d u most (whole good.command.rules bytes) f
 
 module _ (d : Dictionary) (sound : IsDictionary d) (u : Unknown) (most : Levels) (bytes : List ℕ) (good : HasGoodHeader d bytes) where
   rest_inside : (s : Rest) (v : PlainAvp) (rest : List ℕ) (g : PlainDefinition) (k n : ℕ) → BeginsWith v s.bytes rest → IsFine d u most s v → group_at d v ≡ Some g → IsRestAt d u most bytes good k n s
@@ -153,7 +126,7 @@ module _ (d : Dictionary) (sound : IsDictionary d) (u : Unknown) (most : Levels)
     pub few : 8 * length (map key_of w.s.earlier) ≤ length bytes
     few = let l = last.1.lies in let m = length-map w.s.earlier key_of in omega (arith, m, last.1.few, l.size, l.within)
 
-    deep : length (map so_far w.rests) ≡ w.s.level.depth
+    pub deep : length (map so_far w.rests) ≡ w.s.level.depth
     deep = length-map w.rests so_far ∙ sym last.1.deep
 
     fine_here : (v : PlainAvp) (n : Option ℕ) → IsFineAvp d u most (length (map so_far w.rests)) w.s.level.rules (map key_of w.s.earlier) v n

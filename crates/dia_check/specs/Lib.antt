@@ -4,3 +4,6 @@ pub mod Faults
 pub mod Walks
 pub mod OpenLevels
 pub mod Admission
+pub mod UnderWay
+pub mod Front
+pub mod Reading

@@ -8,6 +8,7 @@ mod fault;
 mod header;
 mod open_levels;
 mod policy;
+mod stream;
 #[cfg(test)]
 mod tests;
 

@@ -4,7 +4,8 @@ use Rattle.dia_wire.specs.Wire.{plain, key_of, BeginsWithNone}
 use Rattle.dia_dict.specs.Dictionary.{definitions}
 use Rattle.dia_check.specs.declared.open_levels.OpenLevel.{OpenLevel}
 use Rattle.dia_check.specs.OpenLevels.{and_key}
-use Rattle.dia_check.proofs.UnderWay.{so_far, started, place_of, few, passed, entered, done, all_done, found_wrong, found_missing, found_broken, left_of, nothing_left, begins_here, next_place, number_within, smaller_passed, smaller_entered, smaller_done}
+use Rattle.dia_check.specs.UnderWay.{so_far}
+use Rattle.dia_check.proofs.UnderWay.{started, place_of, few, passed, entered, done, all_done, found_wrong, found_missing, found_broken, left_of, nothing_left, begins_here, next_place, number_within, smaller_passed, smaller_entered, smaller_done}
 use Rattle.dia_check.proofs.body.check_body.Goals as goal
 
 pub loop-avp-init : goal.loop-avp-init

@@ -1,6 +1,6 @@
 use Rattle.std.proofs.Common.{◌≡◌, ◌+◌, ◌-◌, ◌*◌, length}
 use Rattle.dia_check.specs.Faults.{HasGoodHeader}
-use Rattle.dia_check.proofs.UnderWay.{IsUnderWay}
+use Rattle.dia_check.specs.UnderWay.{IsUnderWay}
 use Rattle.dia_check.proofs.body.check_body.Given as goal
 
 abbrev pub invariant-loop-avp : goal.invariant-loop-avp

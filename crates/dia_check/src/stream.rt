@@ -1,0 +1,4 @@
+//! Messages that come in pieces.
+
+mod front;
+mod parts;

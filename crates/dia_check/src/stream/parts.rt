@@ -1,0 +1,365 @@
+//! The parts of a body as they come: the head of an AVP, and its data.
+
+ghost use Rattle.std.specs.Prelude.{◌≡◌, ◌≢◌, ◌+◌, ◌<◌, ◌≤◌, ◌^◌, ◌++◌, [], ℕ, List, Some, length, IfOk, MatchOption, MatchResult};
+ghost use Rattle.dia_wire.specs.declared.Key.{Key as AnyKey};
+ghost use Rattle.dia_wire.specs.Wire.{head_length};
+ghost use Rattle.dia_data.specs.Plain.{Grouped};
+ghost use Rattle.dia_dict.specs.Dictionary.{Dictionary, DictEntry, IsDictionary, entry_of};
+ghost use Rattle.dia_check.specs.declared.policy.Unknown.{Unknown as AnyPolicy};
+ghost use Rattle.dia_check.specs.declared.policy.Levels.{Levels as AnyLevels};
+ghost use Rattle.dia_check.specs.Valid.{known};
+ghost use Rattle.dia_check.specs.Faults.{HasGoodHeader};
+ghost use Rattle.dia_check.specs.UnderWay.{IsUnderWay};
+ghost use Rattle.dia_check.specs.Reading.{
+  AreSound,
+  BeginsLevel,
+  BeginsLevelAt,
+  GoesOn,
+  HasSeen,
+  IsAtAvp,
+  IsAtSomeAvp,
+  IsBadLeaf,
+  IsGoodLeaf,
+  IsInData,
+  IsInHead,
+  IsInPart,
+  IsNext,
+  IsReadData,
+  IsStop,
+  LiesAt,
+  MayEnter,
+  MayNotEnter,
+};
+
+use crate::admission::{admit, check_data, missing_at_end, open_group};
+use crate::body::fault;
+use crate::fault::{Reason, Refusal, Subject};
+use crate::open_levels::{OpenLevels, Wrong};
+use crate::policy::{Levels, Unknown};
+use crate::stream::front::Front;
+use dia_data::LeafState;
+use dia_dict::{Book, DefId, Entry, Leaf};
+use dia_wire::{AVP_HEAD_LENGTH, AvpFault, AvpHead, Key, VENDOR_AVP_HEAD_LENGTH, avp_head};
+use std::alloc::{AllocError, Global};
+
+/// The part of a body that is being read.
+#[derive(Clone, Copy, Debug)]
+pub(crate) enum Part<'a> {
+    Head(HeadPart),
+    Data(DataPart<'a>),
+}
+
+/// The head of an AVP at a place, which isn't whole yet.
+#[derive(Clone, Copy, Debug)]
+pub(crate) struct HeadPart {
+    pub(crate) at: usize,
+    pub(crate) front: Front,
+}
+
+/// The data and the padding of an AVP that is no known group, as far as they weren't read yet.
+#[derive(Clone, Copy, Debug)]
+pub(crate) struct DataPart<'a> {
+    pub(crate) at: usize,
+    pub(crate) key: Key,
+    /// The place behind the data.
+    pub(crate) end: usize,
+    /// The place behind the padding.
+    pub(crate) next: usize,
+    /// What was seen of the data of a known AVP.
+    pub(crate) leaf: Option<LeafState<'a>>,
+}
+
+/// The bytes of a piece that belong to the part, and the part that follows them; none where they end the body.
+#[derive(Clone, Copy, Debug)]
+pub(crate) struct Done<'a> {
+    pub(crate) taken: usize,
+    pub(crate) next: Option<Part<'a>>,
+}
+
+/// Goes on at a place, where an AVP begins or levels end.
+pub(crate) fn go_on<'a, B: Book>(
+    book: &'a B,
+    open_levels: &mut OpenLevels,
+    at: usize,
+) -> Result<Option<Part<'a>>, Refusal>
+    requires sound { IsDictionary (B.meaning book.now) }
+    requires levels { ∥ AreSound (B.meaning book.now) open_levels.old at ∥₁ }
+    ensures { (u : AnyPolicy) (most : AnyLevels) (bytes : List ℕ) (good : HasGoodHeader (B.meaning book.now) bytes)
+        → IsUnderWay (B.meaning book.now) u most bytes good open_levels.old at
+        → MatchResult result (λ next. IsNext (B.meaning book.now) u most bytes good open_levels.new next at)
+        (IsStop (B.meaning book.now) u most bytes good ⊥) }
+{
+    loop {
+        let end = open_levels.innermost().end;
+        if at < end {
+            if end - at < AVP_HEAD_LENGTH {
+                return Err(broken(at));
+            }
+            let front = Front::new();
+            return Ok(Some(Part::Head(HeadPart { at, front })));
+        }
+        if let Some(wrong) = missing_at_end(book, open_levels) {
+            return Err(fault(end, wrong));
+        }
+        if !open_levels.close() {
+            return Ok(None);
+        }
+    }
+}
+
+/// No AVP begins at the place, by its Length.
+fn broken(at: usize) -> Refusal
+    requires { at < 2 ^ 32 }
+    ensures { result ≡ Refusal.Fault (record {
+      place = at;
+      code = 5014;
+      reason = Reason.AvpLength;
+      subject = Subject.Nothing;
+    }) }
+{
+    fault(
+        at,
+        Wrong {
+            reason: Reason::AvpLength,
+            subject: Subject::Nothing,
+        },
+    )
+}
+
+/// Reads on in a part. The piece begins at a place and doesn't go past the end of the message.
+pub(crate) fn read_part<'a, B: Book>(
+    book: &'a B,
+    unknown: Unknown,
+    levels: Levels,
+    open_levels: &mut OpenLevels,
+    part: Part<'a>,
+    from: usize,
+    piece: &[u8],
+) -> Result<Done<'a>, Refusal>
+    requires sound { IsDictionary (B.meaning book.now) }
+    requires part { ∥ GoesOn (B.meaning book.now) unknown levels open_levels.old part from piece.now ∥₁ }
+    requires some { 0 < length piece.now }
+    ensures count { IfOk result (λ done. (0 < done.taken) × (done.taken ≤ length piece.now)) }
+    ensures next { (bytes : List ℕ) (good : HasGoodHeader (B.meaning book.now) bytes)
+        → IsInPart (B.meaning book.now) unknown levels bytes good open_levels.old part.entry from
+        → LiesAt bytes from piece.now
+        → MatchResult result
+        (λ done. IsNext (B.meaning book.now) unknown levels bytes good open_levels.new done.next (from + done.taken))
+        (IsStop (B.meaning book.now) unknown levels bytes good
+        (BeginsLevel (B.meaning book.now) levels bytes from (from + length piece.now))) }
+{
+    match part {
+        Part::Head(part) => read_head(book, unknown, levels, open_levels, part, from, piece),
+        Part::Data(part) => read_data(book, open_levels, part, from, piece),
+    }
+}
+
+/// Reads on in the head of an AVP.
+fn read_head<'a, B: Book>(
+    book: &'a B,
+    unknown: Unknown,
+    levels: Levels,
+    open_levels: &mut OpenLevels,
+    part: HeadPart,
+    from: usize,
+    piece: &[u8],
+) -> Result<Done<'a>, Refusal>
+    requires sound { IsDictionary (B.meaning book.now) }
+    requires part { ∥ GoesOn (B.meaning book.now) unknown levels open_levels.old (Part.Head part) from piece.now ∥₁ }
+    requires some { 0 < length piece.now }
+    ensures count { IfOk result (λ done. (0 < done.taken) × (done.taken ≤ length piece.now)) }
+    ensures next { (bytes : List ℕ) (good : HasGoodHeader (B.meaning book.now) bytes)
+        → IsInHead (B.meaning book.now) unknown levels bytes good open_levels.old part from
+        → LiesAt bytes from piece.now
+        → MatchResult result
+        (λ done. IsNext (B.meaning book.now) unknown levels bytes good open_levels.new done.next (from + done.taken))
+        (IsStop (B.meaning book.now) unknown levels bytes good
+        (BeginsLevel (B.meaning book.now) levels bytes from (from + length piece.now))) }
+{
+    let at = part.at;
+    let mut front = part.front;
+    front.take_from(piece);
+    match avp_head(front.as_slice(), open_levels.innermost().end - at) {
+        Ok(Some(head)) => {
+            let taken = head_length(&head) - part.front.len();
+            let next = begin_data(book, unknown, levels, open_levels, at, &head)?;
+            Ok(Done { taken, next })
+        }
+        Ok(None) => Ok(Done {
+            taken: piece.len(),
+            next: Some(Part::Head(HeadPart { at, front })),
+        }),
+        Err(AvpFault::Length) => Err(broken(at)),
+    }
+}
+
+/// The bytes of an AVP in front of its data.
+fn head_length(head: &AvpHead) -> usize
+    ensures { result ≡ head_length head.now.vendor }
+{
+    match head.vendor {
+        Some(_) => VENDOR_AVP_HEAD_LENGTH,
+        None => AVP_HEAD_LENGTH,
+    }
+}
+
+/// Goes on behind the head of an AVP.
+fn begin_data<'a, B: Book>(
+    book: &'a B,
+    unknown: Unknown,
+    levels: Levels,
+    open_levels: &mut OpenLevels,
+    at: usize,
+    head: &AvpHead,
+) -> Result<Option<Part<'a>>, Refusal>
+    requires sound { IsDictionary (B.meaning book.now) }
+    requires avp { ∥ IsAtSomeAvp (B.meaning book.now) unknown levels open_levels.old at head.now ∥₁ }
+    ensures { (bytes : List ℕ) (good : HasGoodHeader (B.meaning book.now) bytes)
+        → IsAtAvp (B.meaning book.now) unknown levels bytes good open_levels.old at head.now
+        → MatchResult result
+        (λ next. IsNext (B.meaning book.now) unknown levels bytes good open_levels.new next (at + head_length head.now.vendor))
+        (IsStop (B.meaning book.now) unknown levels bytes good
+        (BeginsLevelAt (B.meaning book.now) levels bytes (at + head_length head.now.vendor))) }
+{
+    let key = Key {
+        code: head.code,
+        vendor: head.vendor.unwrap_or(0),
+    };
+    let known = book.avp(key);
+    let depth = open_levels.depth();
+    if let Some(wrong) = admit(book, unknown, open_levels, key, &known, head.flags) {
+        return Err(fault(at, wrong));
+    }
+    let start = at + head_length(head);
+    let end = at + head.length as usize;
+    match group_to_enter(book, levels, depth, key, &known) {
+        Ok(Some(group)) => {
+            open_group(book, open_levels, group, end)?;
+            go_on(book, open_levels, start)
+        }
+        Ok(None) => {
+            let part = DataPart {
+                at,
+                key,
+                end,
+                next: end.next_multiple_of(4),
+                leaf: start_leaf(book, key, &known),
+            };
+            if start < part.next {
+                Ok(Some(Part::Data(part)))
+            } else {
+                end_data(book, open_levels, part)
+            }
+        }
+        Err(reason) => Err(fault(at, Wrong::avp(reason, key))),
+    }
+}
+
+/// The definition of a known group, whose data is a level to open in one of this depth.
+fn group_to_enter<B: Book>(
+    book: &B,
+    levels: Levels,
+    depth: usize,
+    key: Key,
+    entry: &Option<Entry>,
+) -> Result<Option<DefId>, Reason>
+    requires sound { IsDictionary (B.meaning book.now) }
+    requires entry { entry.now ≡ entry_of (B.meaning book.now) key }
+    ensures { MatchResult result (MayEnter (B.meaning book.now) levels depth key)
+        (MayNotEnter (B.meaning book.now) levels depth key) }
+{
+    match entry {
+        Some(entry) => match book.group(*entry) {
+            // The data of a group is a level, so that nothing is looked at here.
+            Some(_group) => check_data(book, levels, depth, *entry, &[]),
+            None => Ok(None),
+        },
+        None => Ok(None),
+    }
+}
+
+/// Before any data of an AVP; nothing is to be seen of an unknown one.
+fn start_leaf<'a, B: Book>(book: &'a B, key: Key, entry: &Option<Entry>) -> Option<LeafState<'a>>
+    requires { entry.now ≡ entry_of (B.meaning book.now) key }
+    ensures { ((e : DictEntry) → known (B.meaning book.now) key ≡ Some e → e.format ≢ Grouped)
+        → HasSeen (B.meaning book.now) result key [] }
+{
+    match entry {
+        Some(entry) => Some(LeafState::start(book.format(*entry))),
+        None => None,
+    }
+}
+
+/// Reads on in the data and the padding of an AVP.
+fn read_data<'a, B: Book>(
+    book: &'a B,
+    open_levels: &mut OpenLevels,
+    part: DataPart<'a>,
+    from: usize,
+    piece: &[u8],
+) -> Result<Done<'a>, Refusal>
+    requires sound { IsDictionary (B.meaning book.now) }
+    requires part { ∥ ((u : AnyPolicy) × (most : AnyLevels)
+        × GoesOn (B.meaning book.now) u most open_levels.old (Part.Data part) from piece.now) ∥₁ }
+    requires some { 0 < length piece.now }
+    ensures count { IfOk result (λ done. (0 < done.taken) × (done.taken ≤ length piece.now)) }
+    ensures next { (u : AnyPolicy) (most : AnyLevels) (bytes : List ℕ) (good : HasGoodHeader (B.meaning book.now) bytes)
+        → IsInData (B.meaning book.now) u most bytes good open_levels.old part.entry from → from < part.entry.next
+        → LiesAt bytes from piece.now
+        → MatchResult result
+        (λ done. IsNext (B.meaning book.now) u most bytes good open_levels.new done.next (from + done.taken))
+        (IsStop (B.meaning book.now) u most bytes good ⊥) }
+{
+    let taken = piece.len().min(part.next - from);
+    let mut part = part;
+    let count = taken.min(part.end.saturating_sub(from));
+    feed_leaf(&mut part.leaf, &piece[..count]);
+    if from + taken < part.next {
+        return Ok(Done {
+            taken,
+            next: Some(Part::Data(part)),
+        });
+    }
+    let next = end_data(book, open_levels, part)?;
+    Ok(Done { taken, next })
+}
+
+fn feed_leaf(leaf: &mut Option<LeafState<'_>>, data: &[u8])
+    ensures { (d : Dictionary) (key : AnyKey) (read : List ℕ) → HasSeen d leaf.old key read
+        → HasSeen d leaf.new key (read ++ data.now) }
+{
+    if let Some(state) = leaf {
+        state.feed(data);
+    }
+}
+
+/// Judges the data of an AVP that was read wholly, and goes on behind its padding.
+fn end_data<'a, B: Book>(
+    book: &'a B,
+    open_levels: &mut OpenLevels,
+    part: DataPart<'a>,
+) -> Result<Option<Part<'a>>, Refusal>
+    requires sound { IsDictionary (B.meaning book.now) }
+    requires part { ∥ IsReadData (B.meaning book.now) open_levels.old part ∥₁ }
+    ensures { (u : AnyPolicy) (most : AnyLevels) (bytes : List ℕ) (good : HasGoodHeader (B.meaning book.now) bytes) (n : ℕ)
+        → IsInData (B.meaning book.now) u most bytes good open_levels.old part.entry n → part.entry.next ≤ n
+        → MatchResult result (λ next. IsNext (B.meaning book.now) u most bytes good open_levels.new next part.entry.next)
+        (IsStop (B.meaning book.now) u most bytes good ⊥) }
+{
+    if let Some(reason) = wrong_leaf(part.leaf) {
+        return Err(fault(part.at, Wrong::avp(reason, part.key)));
+    }
+    go_on(book, open_levels, part.next)
+}
+
+/// What is wrong with data that was seen wholly.
+fn wrong_leaf(leaf: Option<LeafState<'_>>) -> Option<Reason>
+    ensures { (d : Dictionary) (key : AnyKey) (read : List ℕ) → HasSeen d leaf.entry key read
+        → MatchOption result (IsGoodLeaf d key read) (IsBadLeaf d key read) }
+{
+    match leaf?.finish() {
+        Leaf::Fine => None,
+        Leaf::BadLength => Some(Reason::LeafLength),
+        Leaf::BadValue => Some(Reason::LeafValue),
+    }
+}
