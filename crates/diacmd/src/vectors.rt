@@ -12,6 +12,7 @@ mod checks;
 mod comparisons;
 mod depths;
 mod dictionaries;
+mod faults;
 mod listings;
 mod messages;
 mod proposals;
