@@ -1,9 +1,13 @@
-ghost use Rattle.std.specs.Prelude.{◌≡◌, ◌↔◌, IfOk, IsTrue, List, ℕ};
-ghost use Rattle.dia_dict.specs.Dictionary.{Dictionary, IsDictionary};
+ghost use Rattle.std.specs.Prelude.{◌≡◌, ◌↔◌, IfOk, IsTrue, List, ℕ, map};
+ghost use Rattle.dia_wire.specs.Wire.{PlainAvp, key_of};
+ghost use Rattle.dia_dict.specs.declared.DRule.{DRule as AnyRule};
+ghost use Rattle.dia_dict.specs.Dictionary.{AreRules, Dictionary, IsDictionary};
 ghost use Rattle.dia_check.specs.declared.policy.Unknown.{Unknown as AnyPolicy};
-ghost use Rattle.dia_check.specs.Valid.{IsValid};
+ghost use Rattle.dia_check.specs.declared.policy.Levels.{Levels as AnyLevels};
+ghost use Rattle.dia_check.specs.Valid.{AllFit, IsValid, Placed};
 ghost use Rattle.dia_compat.specs.TableText.{PlainTable, plain};
-ghost use Rattle.dia_compat.specs.Closed.{IsClosed, IsIncluded, IsAnswer};
+ghost use Rattle.dia_compat.specs.Below.{DefBelow};
+ghost use Rattle.dia_compat.specs.Closed.{IsClosed, IsIncluded, IsAnswer, IsPairKey};
 ghost use Rattle.dia_compat.specs.declared.inclusion.Answer.{Answer as AnyAnswer};
 
 use crate::comparing::Comparison;
@@ -64,6 +68,15 @@ pub fn check_table<A: Book, B: Book>(
 pub fn closed_is_included()
     ensures { (da db : Dictionary) (u : AnyPolicy) (table : PlainTable) → IsDictionary da → IsDictionary db
         → IsClosed da db u table → IsIncluded da db u table }
+{}
+
+/// Where a table is closed, and a definition of the first dictionary passes each test against one of the second, a level that
+/// is right by the first is right by the second: its AVPs stand as the rules say, and each fits, at every depth of groups.
+pub fn level_is_included()
+    ensures { (da db : Dictionary) (u : AnyPolicy) (table : PlainTable) (most : AnyLevels) (a b : List AnyRule)
+        (avps : List PlainAvp) → IsDictionary da → IsDictionary db → IsClosed da db u table → AreRules a → AreRules b
+        → DefBelow da db u (IsPairKey da db table) a b → Placed a (map key_of avps) → AllFit da u most avps
+        → Placed b (map key_of avps) × AllFit db u most avps }
 {}
 
 /// Two dictionaries and a table have one answer.
