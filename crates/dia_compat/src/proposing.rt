@@ -36,9 +36,10 @@ pub enum ProposeFault {
 /// The least table for the named commands of the first dictionary, as `compare` asks for it under this policy.
 ///
 /// Each named command stands in it at its first mention, with the definitions of the second dictionary that may be
-/// selected for its messages, in that dictionary's order, or with its own name where there is none. The AVP pairs are
-/// those of the keys that both know and that these commands, and the groups that the pairs lead to, let in, in the first
-/// dictionary's order. So where no table that lists the commands passes, neither does this one.
+/// selected for its messages, in that dictionary's order, or with its own name where there is none. An AVP
+/// has a pair where both dictionaries know it, and a named command, or a group that has a pair, lets it in and asks for the
+/// pair. These stand in the first dictionary's order. So where no table that lists the commands passes, neither does this
+/// one.
 ///
 /// It takes time in proportion to the names, to both dictionaries and to the definitions that it comes to, up to a
 /// logarithm: a command of the first dictionary is compared only with those of its code in the second. `UnknownCommand` has
