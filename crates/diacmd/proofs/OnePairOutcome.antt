@@ -14,6 +14,7 @@ use Rattle.dia_compat.specs.declared.Test.{Test}
 use Rattle.dia_compat.specs.TableText.{PlainTable, IsTable}
 use Rattle.dia_compat.specs.Closed.{NamesCommand}
 use Rattle.dia_compat.specs.Proposed.{AreCommandPairs, IsProposal, IsFirstUnknown}
+use Rattle.dia_compat.specs.Rendering.{table_text}
 use Rattle.dia_compat.proofs.Placing.{IsIn}
 use Rattle.dia_compat.proofs.Counts.{contains_in}
 use Rattle.dia_compat.proofs.TableLines.{one_table_of, one_fault, fault_or_table}
@@ -25,7 +26,7 @@ use Rattle.diacmd.specs.declared.command.Inputs.{Inputs}
 use Rattle.diacmd.specs.declared.command.Exit.{Exit}
 use Rattle.diacmd.specs.Texts.{dictionary_line}
 use Rattle.diacmd.specs.Limits.{max_table_text}
-use Rattle.diacmd.specs.Pairs.{IsTableText, IsNoTableText, too_long, not_text, fault, table_line, table_fault_text, IsFailureText, failure_line, IsAnswerText, table_text}
+use Rattle.diacmd.specs.Pairs.{IsTableText, IsNoTableText, too_long, not_text, fault, table_line, table_fault_text, IsFailureText, failure_line, IsAnswerText}
 use Rattle.diacmd.specs.Outcome.{IsPairOutcome, ended, no_first, no_second, IsComparison, compared, no_table, IsCompareOutcome, IsRefutation, refutes, does_not, no_message, IsRefuteOutcome}
 use Rattle.diacmd.specs.Outcome.{IsProposed, proposed, no_command, no_command_line, IsProposeOutcome}
 use Rattle.diacmd.proofs.OneInput.{Same, refused_once, held_once, not_over, one_dictionary, dictionary_or_not, one_reason_for_dictionary, one_message, message_or_not, one_message_reason}

@@ -17,6 +17,7 @@ use Rattle.dia_compat.specs.declared.Answer.{Answer}
 use Rattle.dia_compat.specs.TableText.{PlainTable}
 use Rattle.dia_compat.specs.Closed.{IsAnswer as IsCompared}
 use Rattle.dia_compat.specs.Proposed.{IsProposal, IsFirstUnknown}
+use Rattle.dia_compat.specs.Rendering.{table_text}
 use Rattle.diacmd.specs.declared.commands.Outcome.{Outcome}
 use Rattle.diacmd.specs.declared.inputs.Refused.{Refused}
 use Rattle.diacmd.specs.declared.inputs.Refused.TheVariants.{Bad as BadInput, NoMemory}
@@ -30,7 +31,7 @@ use Rattle.diacmd.specs.Texts.{line, dictionary_line, IsSourceText, IsNoSourceTe
 use Rattle.diacmd.specs.Texts.{IsMessageText, IsNoMessageText}
 use Rattle.diacmd.specs.Refusals.{bad_input_text}
 use Rattle.diacmd.specs.Verdict.{IsVerdict}
-use Rattle.diacmd.specs.Pairs.{IsTableText, IsNoTableText, IsAnswerText, table_text}
+use Rattle.diacmd.specs.Pairs.{IsTableText, IsNoTableText, IsAnswerText}
 use Rattle.diacmd.specs.Listing.{header_line, IsListing}
 
 -- an input is refused in one line

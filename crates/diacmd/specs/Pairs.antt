@@ -1,6 +1,5 @@
 -- Tables of pairs as texts, and what is told of a pair.
 use Rattle.std.specs.Prelude.{◌≡◌, ◌≢◌, ℕ, ◌<◌, List, [], ◌++◌, Some, codes, slice_get, ⊤}
-use Rattle.std.specs.List.{flat_map}
 use Rattle.std.specs.Str.{IsUtf8}
 use Rattle.dia_compat.specs.declared.Answer.{Answer}
 use Rattle.dia_compat.specs.declared.Answer.TheVariants.{Yes as Passed, No as Failed}
@@ -11,6 +10,7 @@ use Rattle.dia_compat.specs.declared.TableFault.{TableFault}
 use Rattle.dia_compat.specs.declared.TableFault.TheVariants as table
 use Rattle.dia_compat.specs.TableText.{PlainTable, IsTable, IsTableFault}
 use Rattle.dia_compat.specs.Closed.{pairs_of}
+use Rattle.dia_compat.specs.Rendering.{pair_text}
 use Rattle.diacmd.specs.declared.command.Input.{Input}
 use Rattle.diacmd.specs.declared.command.Exit.{Exit}
 use Rattle.diacmd.specs.declared.command.Exit.TheVariants.{Yes, No}
@@ -55,10 +55,6 @@ test_word N8 = codes "N8"
 test_word N9 = codes "N9"
 test_word N10 = codes "N10"
 
--- a pair behind the word for its kind
-abbrev pub pair_text : List ℕ → List ℕ × List ℕ → List ℕ
-pair_text word p = word ++ codes " " ++ p.0 ++ codes " = " ++ p.1
-
 -- the line of a pair that fails a test
 abbrev pub failure_line : List ℕ → List ℕ × List ℕ → Test → List ℕ
 failure_line word p test = line (codes "no " ++ pair_text word p ++ codes " " ++ test_word test)
@@ -78,11 +74,3 @@ IsAnswerText t (Failed pair.Avp i test) text exit = IsFailureText (codes "avp") 
 abbrev pub NamesPair : PlainTable → Answer → Type 0
 NamesPair t Passed = ⊤
 NamesPair t (Failed k i test) = i < pairs_of k t
-
--- a line for each pair
-abbrev pub pair_lines : List ℕ → List (List ℕ × List ℕ) → List ℕ
-pair_lines word pairs = flat_map (λ p. line (pair_text word p)) pairs
-
--- the text of a table, commands first
-abbrev pub table_text : PlainTable → List ℕ
-table_text t = pair_lines (codes "command") t.commands ++ pair_lines (codes "avp") t.avps

@@ -1,11 +1,10 @@
 //! `propose`: the least table of pairs for some commands of the first dictionary.
 
-ghost use Rattle.std.specs.Prelude.{◌≡◌, ◌++◌, map, IfOk, OnOk, string_bytes};
-ghost use Rattle.dia_compat.specs.TableText.{plain, plain_pair};
+ghost use Rattle.std.specs.Prelude.{◌≡◌, map, IfOk, string_bytes};
+ghost use Rattle.dia_compat.specs.Rendering.{table_text};
+ghost use Rattle.dia_compat.specs.TableText.{plain};
 ghost use Rattle.diacmd.specs.Outcome.{Ends, IsProposeOutcome, no_command_line};
-ghost use Rattle.diacmd.specs.Pairs.{pair_lines, pair_text, table_text};
 ghost use Rattle.diacmd.specs.Refusals.{bad_input_text};
-ghost use Rattle.diacmd.specs.Texts.{line};
 
 use crate::command::{Exit, Inputs};
 use crate::commands::Outcome;
@@ -13,7 +12,7 @@ use crate::inputs::Refused;
 use crate::inputs::bad_input::BadInput;
 use crate::inputs::dictionary::read_dictionary;
 use dia_check::Unknown;
-use dia_compat::{ProposeFault, Table};
+use dia_compat::{ProposeFault, Table, render_table};
 use std::alloc::{AllocError, Global};
 
 /// The table for the named commands of the first dictionary.
@@ -53,28 +52,7 @@ fn listed(alloc: Global, table: &Table) -> Result<Outcome, AllocError>
     ensures text { IfOk result (λ outcome. string_bytes outcome.text ≡ table_text (plain table.now)) }
     ensures exit { IfOk result (λ outcome. outcome.exit ≡ Exit.Yes) }
 {
-    let mut text = String::new(alloc);
-    push_pairs(&mut text, "command", &table.commands)?;
-    push_pairs(&mut text, "avp", &table.avps)?;
+    let text = render_table(alloc, table)?;
     let exit = Exit::Yes;
     Ok(Outcome { text, exit })
-}
-
-/// Adds a line for each pair.
-fn push_pairs(text: &mut String, word: &str, pairs: &[(String, String)]) -> Result<(), AllocError>
-    ensures { OnOk result (string_bytes text.new ≡ string_bytes text.old ++ pair_lines word.now (map plain_pair pairs.now)) }
-{
-    for pair in pairs {
-        push_pair(text, word, pair)?;
-    }
-    Ok(())
-}
-
-/// Adds the line of a pair.
-fn push_pair(text: &mut String, word: &str, pair: &(String, String)) -> Result<(), AllocError>
-    ensures { OnOk result (string_bytes text.new ≡ string_bytes text.old ++ line (pair_text word.now (plain_pair pair.now))) }
-{
-    let left = pair.0.as_str();
-    let right = pair.1.as_str();
-    writeln!(text, "{word} {left} = {right}")
 }
