@@ -12,7 +12,7 @@ use Rattle.std.proofs.lemmas.List.Folds.{list_all-append}
 use Rattle.std.proofs.lemmas.List.Sums.{AllPass-from_list_all}
 use Rattle.std.proofs.lemmas.List.Splits.{slice_split_at, length-slice_split}
 use Rattle.dia_compat.specs.TableText.{PlainTable, Line, Blank, Command, Avp, command_of, avp_of, is_run_byte, is_name_run}
-use Rattle.dia_compat.specs.TableText.{IsPair, IsLine, AreLines, HasShortNames, IsTable}
+use Rattle.dia_compat.specs.TableText.{max_table, IsPair, IsLine, AreLines, HasShortNames, IsTable}
 use Rattle.dia_compat.specs.Rendering.{pair_text, pair_lines, table_text, AreNames, IsWritable}
 use Rattle.dia_compat.proofs.Words.{regroup}
 use Rattle.dia_compat.proofs.TableLines.{append_lines}
@@ -170,7 +170,7 @@ pairs_short word (p ∷ ps) short names =
     let d = pairs_short word ps short names.1 in
     omega (arith, a, b, c, d)
 
-pub text_fits : (t : PlainTable) → IsWritable t → length (table_text t) ≤ 33554432
+pub text_fits : (t : PlainTable) → IsWritable t → length (table_text t) ≤ max_table
 text_fits t w =
     let few = w.limits.0 in
     let a = pairs_short (codes "command") t.commands (omega arith) w.limits.1 in

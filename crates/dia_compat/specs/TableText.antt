@@ -19,6 +19,10 @@ plain_pair p = (string_bytes p.0, string_bytes p.1)
 abbrev pub plain : Table → PlainTable
 plain t = record { commands = map plain_pair t.commands.items; avps = map plain_pair t.avps.items }
 
+-- the most bytes of a table's text
+abbrev pub max_table : ℕ
+max_table = 33554432
+
 -- the most pairs of a table, and the most bytes of a name
 abbrev pub most_pairs : ℕ
 most_pairs = 65536

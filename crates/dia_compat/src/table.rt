@@ -2,7 +2,7 @@
 ghost use Rattle.std.specs.Prelude.{◌≡◌, ◌<◌, ◌≤◌, length, Err, IfOk, IfErr, MatchResult, List};
 ghost use Rattle.std.specs.Prelude.{ℕ, ◌≢◌, OnOk, ◌↔◌, ◌++◌, ◌∷◌, [], map, IsTrue};
 ghost use Rattle.dia_compat.specs.declared.table.TableFault.{TableFault as AnyFault};
-ghost use Rattle.dia_compat.specs.TableText.{PlainTable, plain, plain_pair, IsTable, IsTableFault, IsWithinLimits, HasForm};
+ghost use Rattle.dia_compat.specs.TableText.{PlainTable, plain, plain_pair, max_table, IsTable, IsTableFault, IsWithinLimits, HasForm};
 ghost use Rattle.dia_compat.specs.Lines.{Adds, PassesLimit, HasRoom};
 
 mod line;
@@ -70,10 +70,10 @@ pub fn parse_table(alloc: Global, text: &str) -> Result<Table, TableFault>
     // What is read is what the text says.
     ensures found { IfOk result (λ table. IsTable text.now (plain table)) }
     // It says nothing else, and a text that says something is read, unless memory runs out.
-    ensures only { (table : PlainTable) → length text.now ≤ MAX_TABLE → IsTable text.now table
+    ensures only { (table : PlainTable) → length text.now ≤ max_table → IsTable text.now table
         → MatchResult result (λ found. plain found ≡ table) (λ e. e ≡ TableFault.NoMemory) }
-    ensures too_long { MAX_TABLE < length text.now → result ≡ Err (TableFault.Limit 0) }
-    ensures fault { length text.now ≤ MAX_TABLE → IfErr result (IsTableFault text.now) }
+    ensures too_long { max_table < length text.now → result ≡ Err (TableFault.Limit 0) }
+    ensures fault { length text.now ≤ max_table → IfErr result (IsTableFault text.now) }
 {
     if text.len() > MAX_TABLE {
         return Err(TableFault::Limit { line: 0 });

@@ -1,9 +1,9 @@
 //! The text of a table.
 ghost use Rattle.std.specs.Prelude.{◌≡◌, ◌≤◌, ◌++◌, ◌∷◌, [], ℕ, List, IfOk, OnOk, length, map, string_bytes};
-ghost use Rattle.dia_compat.specs.TableText.{PlainTable, plain, plain_pair, IsTable};
+ghost use Rattle.dia_compat.specs.TableText.{PlainTable, plain, plain_pair, max_table, IsTable};
 ghost use Rattle.dia_compat.specs.Rendering.{pair_lines, pair_text, table_text, IsWritable};
 
-use crate::table::{MAX_TABLE, Table};
+use crate::table::Table;
 use std::alloc::{AllocError, Global};
 
 /// The text of a table: a line `command A = B` for each pair of commands, and then a line `avp A = B` for each pair of AVPs.
@@ -15,7 +15,7 @@ pub fn render_table(alloc: Global, table: &Table) -> Result<String, AllocError>
     ensures read_back { IsWritable (plain table.now)
         → IfOk result (λ text. IsTable (string_bytes text) (plain table.now)) }
     ensures fits { IsWritable (plain table.now)
-        → IfOk result (λ text. length (string_bytes text) ≤ MAX_TABLE) }
+        → IfOk result (λ text. length (string_bytes text) ≤ max_table) }
 {
     let mut text = String::new(alloc);
     push_lines(&mut text, "command", &table.commands)?;

@@ -1,5 +1,5 @@
 use Rattle.std.proofs.Common.{rules, ◌≡◌, ◌≤◌, length, string_bytes, sym, subst}
-use Rattle.dia_compat.specs.TableText.{plain, IsTable}
+use Rattle.dia_compat.specs.TableText.{plain, max_table, IsTable}
 use Rattle.dia_compat.specs.Rendering.{table_text}
 use Rattle.dia_compat.proofs.Rendering.{text_is_table, text_fits}
 use Rattle.dia_compat.proofs.table.rendering.render_table.Goals as goal
@@ -12,4 +12,4 @@ returns-clause-read_back c = λ w.
 pub returns-clause-fits : goal.returns-clause-fits
 returns-clause-fits c = λ w.
     let text : string_bytes c.push_lines-2.new.text ≡ table_text (plain c.args.table.now) = search rules in
-    subst (λ bytes. length bytes ≤ 33554432) (sym text) (text_fits (plain c.args.table.now) w)
+    subst (λ bytes. length bytes ≤ max_table) (sym text) (text_fits (plain c.args.table.now) w)
