@@ -1,6 +1,9 @@
 //! Texts and the tables that they are.
 
-use crate::table::{MAX_TABLE, Table, TableFault, one_table, one_table_fault, parse_table};
+use crate::table::{
+    MAX_TABLE, Table, TableFault, one_table, one_table_fault, parse_table,
+    read_tables_are_writable, render_table,
+};
 use std::alloc::{AllocError, Global};
 use std::test::Fail;
 
@@ -93,5 +96,22 @@ fn keeps_the_limit_of_texts(rt: HostRuntime) -> Result<(), Fail> {
     assert_eq!(rt; text.len(), MAX_TABLE);
     text.push_str("x")?;
     assert_eq!(rt; answer(rt.alloc(), &text)?.as_str(), "limit 0");
+    Ok(())
+}
+
+#[test]
+fn writes_a_table(rt: HostRuntime) -> Result<(), Fail> {
+    read_tables_are_writable();
+    let table = parse_table(
+        rt.alloc(),
+        "avp X = Y ; of T\r\n\n\tcommand 3-a = AVP\ncommand T = T\navp X = Y",
+    )?;
+    let text = render_table(rt.alloc(), &table)?;
+    assert_eq!(rt;
+        text.as_str(),
+        "command 3-a = AVP\ncommand T = T\navp X = Y\navp X = Y\n"
+    );
+    let read = parse_table(rt.alloc(), text.as_str())?;
+    assert!(rt; read == table);
     Ok(())
 }
