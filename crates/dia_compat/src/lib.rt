@@ -10,7 +10,7 @@ pub use inclusion::{
     Answer, PairKind, Test, check_table, closed_is_included, level_is_included, one_comparison,
     refutes,
 };
-pub use proposing::{ProposeFault, one_proposal, propose};
+pub use proposing::{ProposeFault, no_table_passes, one_proposal, propose};
 pub use table::{
     MAX_NAME, MAX_PAIRS, MAX_TABLE, Table, TableFault, one_table, one_table_fault, parse_table,
     read_tables_are_writable, render_table,

@@ -4,7 +4,10 @@ ghost use Rattle.std.specs.List.{filter_map};
 ghost use Rattle.dia_dict.specs.Dictionary.{DictEntry, Dictionary, IsDictionary};
 ghost use Rattle.dia_check.specs.declared.policy.Unknown.{Unknown as AnyPolicy};
 ghost use Rattle.dia_compat.specs.TableText.{PlainTable, plain, plain_pair};
-ghost use Rattle.dia_compat.specs.Proposed.{IsProposal, IsLeast, IsRefusal};
+ghost use Rattle.dia_compat.specs.Proposed.{IsProposal, IsLeast, ListsAll, IsRefusal};
+ghost use Rattle.dia_compat.specs.Closed.{IsClosed, IsAnswer};
+ghost use Rattle.dia_compat.specs.declared.inclusion.PairKind.{PairKind as AnyKind};
+ghost use Rattle.dia_compat.specs.declared.inclusion.Test.{Test as AnyTest};
 ghost use Rattle.dia_compat.specs.Naming.{shared_pair, NamedSoFar};
 
 mod naming;
@@ -14,6 +17,7 @@ mod tests;
 mod wanting;
 
 use crate::comparing::{Commands, names_of_commands};
+use crate::inclusion::Answer;
 use crate::table::{Table, push_pair};
 use dia_check::Unknown;
 use dia_dict::{Book, Entry};
@@ -88,6 +92,14 @@ fn named_commands<A: Book, B: Book>(
     named.add_all(alloc, a, &others, &commands, names)?;
     Ok(named)
 }
+
+/// Where the least table does not pass, no table that lists the named commands passes.
+pub fn no_table_passes()
+    ensures { (da db : Dictionary) (u : AnyPolicy) (names : List (List ℕ)) (table other : PlainTable)
+        (kind : AnyKind) (pair : ℕ) (reason : AnyTest) → IsLeast da db u names table
+        → IsAnswer da db u table (Answer.No kind pair reason) → ListsAll names other
+        → ¬ IsClosed da db u other }
+{}
 
 /// There is one proposal.
 pub fn one_proposal()
