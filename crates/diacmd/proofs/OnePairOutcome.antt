@@ -25,7 +25,7 @@ use Rattle.diacmd.specs.declared.command.Input.{Input}
 use Rattle.diacmd.specs.declared.command.Inputs.{Inputs}
 use Rattle.diacmd.specs.declared.command.Exit.{Exit}
 use Rattle.diacmd.specs.Texts.{dictionary_line}
-use Rattle.diacmd.specs.Limits.{max_table_text}
+use Rattle.dia_compat.specs.TableText.{max_table}
 use Rattle.diacmd.specs.Pairs.{IsTableText, IsNoTableText, too_long, not_text, fault, table_line, table_fault_text, IsFailureText, failure_line, IsAnswerText}
 use Rattle.diacmd.specs.Outcome.{IsPairOutcome, ended, no_first, no_second, IsComparison, compared, no_table, IsCompareOutcome, IsRefutation, refutes, does_not, no_message, IsRefuteOutcome}
 use Rattle.diacmd.specs.Outcome.{IsProposed, proposed, no_command, no_command_line, IsProposeOutcome}
@@ -56,25 +56,25 @@ of_pair_once P one inputs t u x y (no_second a why is_a none refuses) (no_second
 
 one_table_text : (input : Input) (s t : PlainTable) → IsTableText input s → IsTableText input t → s ≡ t
 one_table_text input s t (a, held, utf8, is_s) (b, held', utf8', is_t) =
-    one_table_of (lines a) s t is_s (subst (λ (text : List ℕ). IsTable text t) (sym (held_once input max_table_text a b held held')) is_t)
+    one_table_of (lines a) s t is_s (subst (λ (text : List ℕ). IsTable text t) (sym (held_once input max_table a b held held')) is_t)
 
 table_or_not : (input : Input) (t : PlainTable) (told : List ℕ) → IsTableText input t → IsNoTableText input told → ⊥
-table_or_not input t told (a, held, utf8, is_t) (too_long over is_told) = not_over input max_table_text a held over
-table_or_not input t told (a, held, utf8, is_t) (not_text b held' no_utf8 is_told) = no_utf8 (rw (held_once input max_table_text b a held' held) utf8)
+table_or_not input t told (a, held, utf8, is_t) (too_long over is_told) = not_over input max_table a held over
+table_or_not input t told (a, held, utf8, is_t) (not_text b held' no_utf8 is_told) = no_utf8 (rw (held_once input max_table b a held' held) utf8)
 table_or_not input t told (a, held, utf8, is_t) (fault b f held' utf8' is_fault no_memory is_told) =
-    fault_or_table b f t is_fault no_memory (rw (held_once input max_table_text b a held' held) is_t)
+    fault_or_table b f t is_fault no_memory (rw (held_once input max_table b a held' held) is_t)
 
 one_table_reason : (input : Input) (m n : List ℕ) → IsNoTableText input m → IsNoTableText input n → m ≡ n
 one_table_reason input m n (too_long over is_m) (too_long over' is_n) = is_m ∙ sym is_n
-one_table_reason input m n (too_long over is_m) (not_text b held no_utf8 is_n) = absurd (not_over input max_table_text b held over)
-one_table_reason input m n (too_long over is_m) (fault b f held utf8 is_fault no_memory is_n) = absurd (not_over input max_table_text b held over)
-one_table_reason input m n (not_text a held no_utf8 is_m) (too_long over is_n) = absurd (not_over input max_table_text a held over)
+one_table_reason input m n (too_long over is_m) (not_text b held no_utf8 is_n) = absurd (not_over input max_table b held over)
+one_table_reason input m n (too_long over is_m) (fault b f held utf8 is_fault no_memory is_n) = absurd (not_over input max_table b held over)
+one_table_reason input m n (not_text a held no_utf8 is_m) (too_long over is_n) = absurd (not_over input max_table a held over)
 one_table_reason input m n (not_text a held no_utf8 is_m) (not_text b held' no_utf8' is_n) = is_m ∙ sym is_n
-one_table_reason input m n (not_text a held no_utf8 is_m) (fault b f held' utf8 is_fault no_memory is_n) = absurd (no_utf8 (rw (held_once input max_table_text a b held held') utf8))
-one_table_reason input m n (fault a f held utf8 is_fault no_memory is_m) (too_long over is_n) = absurd (not_over input max_table_text a held over)
-one_table_reason input m n (fault a f held utf8 is_fault no_memory is_m) (not_text b held' no_utf8 is_n) = absurd (no_utf8 (rw (held_once input max_table_text b a held' held) utf8))
+one_table_reason input m n (not_text a held no_utf8 is_m) (fault b f held' utf8 is_fault no_memory is_n) = absurd (no_utf8 (rw (held_once input max_table a b held held') utf8))
+one_table_reason input m n (fault a f held utf8 is_fault no_memory is_m) (too_long over is_n) = absurd (not_over input max_table a held over)
+one_table_reason input m n (fault a f held utf8 is_fault no_memory is_m) (not_text b held' no_utf8 is_n) = absurd (no_utf8 (rw (held_once input max_table b a held' held) utf8))
 one_table_reason input m n (fault a f held utf8 is_fault no_memory is_m) (fault b g held' utf8' is_fault' no_memory' is_n) =
-    is_m ∙ ap (λ k. table_line (table_fault_text k)) (one_fault a f g is_fault (rw (held_once input max_table_text a b held held') is_fault') no_memory no_memory') ∙ sym is_n
+    is_m ∙ ap (λ k. table_line (table_fault_text k)) (one_fault a f g is_fault (rw (held_once input max_table a b held held') is_fault') no_memory no_memory') ∙ sym is_n
 
 -- ---- `compare`
 

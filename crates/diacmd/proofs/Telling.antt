@@ -14,7 +14,7 @@ use Rattle.dia_ccf.specs.Limits.{max_text}
 use Rattle.diacmd.specs.declared.command.Input.{Input}
 use Rattle.diacmd.specs.declared.command.Input.TheVariants.{Bytes, TooLong}
 use Rattle.diacmd.specs.Inputs.{Holds}
-use Rattle.diacmd.specs.Limits.{max_table_text}
+use Rattle.dia_compat.specs.TableText.{max_table}
 use Rattle.diacmd.specs.Texts.{line, dictionary_line, fault_text, IsNoSourceText, fault, IsDictionaryText, IsNoDictionaryText, IsNoMessageText}
 use Rattle.diacmd.specs.Refusals.{TellsOf, bad_input_text}
 use Rattle.diacmd.specs.Pairs.{IsNoTableText, fault as table_fault, table_line, table_fault_text}
@@ -116,15 +116,15 @@ pub told_table : (input : Input) (why : List ℕ) (r : Refused) → IsNoTableTex
 told_table input why (Bad bad) h e = subst (IsNoTableText input) (sym e) h
 told_table input why NoMemory h e = tt
 
-pub told_table_fault : (input : Input) (text : List ℕ) (f : TableFault) (r : Refused) → Holds input max_table_text text → IsUtf8 text → IsTableFault text f
+pub told_table_fault : (input : Input) (text : List ℕ) (f : TableFault) (r : Refused) → Holds input max_table text → IsUtf8 text → IsTableFault text f
     → TellsOf (λ told. (f ≢ tables.NoMemory) × (told ≡ table_line (table_fault_text f))) r → TellsOf (IsNoTableText input) r
 told_table_fault input text f (Bad bad) holds utf8 is_fault (some, e) = table_fault text f holds utf8 is_fault some e
 told_table_fault input text f NoMemory holds utf8 is_fault e = tt
 
-pub most_table_bytes : (input : Input) (text : List ℕ) → Holds input max_table_text text → length text ≤ max_table_text
+pub most_table_bytes : (input : Input) (text : List ℕ) → Holds input max_table text → length text ≤ max_table
 most_table_bytes (Bytes v) text h = h.1
 most_table_bytes TooLong text h = absurd h
 
 -- a fault of a text within the limit, of the same text by another name
-pub is_table_fault_of : (read text : List ℕ) (f : TableFault) → read ≡ text → length text ≤ max_table_text → (length read ≤ max_table_text → IsTableFault read f) → IsTableFault text f
-is_table_fault_of read text f same short h = subst (λ (t : List ℕ). (length t ≤ max_table_text → IsTableFault t f)) same h short
+pub is_table_fault_of : (read text : List ℕ) (f : TableFault) → read ≡ text → length text ≤ max_table → (length read ≤ max_table → IsTableFault read f) → IsTableFault text f
+is_table_fault_of read text f same short h = subst (λ (t : List ℕ). (length t ≤ max_table → IsTableFault t f)) same h short

@@ -1,9 +1,5 @@
--- The limits of the texts of inputs (our profile). That of a dictionary's text is dia_ccf's `max_text`.
+-- The limit of a message's text (our profile). That of a dictionary's text is dia_ccf's `max_text`, of a table's dia_compat's `max_table`.
 use Rattle.std.specs.Prelude.{ℕ}
-
--- the bytes of a table's text
-abbrev pub max_table_text : ℕ
-max_table_text = 33554432
 
 -- the bytes of a message's text, white space included
 abbrev pub max_message_text : ℕ

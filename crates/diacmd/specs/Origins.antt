@@ -3,7 +3,8 @@ use Rattle.std.specs.Prelude.{ℕ, nat_lt, Bool, true, false, if◌then◌else�
 use Rattle.std.specs.Borrow.{Bor}
 use Rattle.std.specs.Str.{bytes_eq}
 use Rattle.dia_ccf.specs.Limits.{max_text}
-use Rattle.diacmd.specs.Limits.{max_message_text, max_table_text}
+use Rattle.dia_compat.specs.TableText.{max_table}
+use Rattle.diacmd.specs.Limits.{max_message_text}
 use Rattle.diacmd.specs.declared.origin.Origin.{Origin}
 use Rattle.diacmd.specs.declared.origin.Origin.TheVariants.{Base, StandardInput, File}
 use Rattle.diacmd.specs.declared.origin.Origins.{Origins}
@@ -17,7 +18,7 @@ abbrev pub dictionary_origin : Bor (List ℕ) → Origin
 dictionary_origin word = if bytes_eq word.now (codes "@base") then Base else origin_within word max_text
 
 abbrev pub table_origin : Bor (List ℕ) → Origin
-table_origin word = origin_within word max_table_text
+table_origin word = origin_within word max_table
 
 abbrev pub message_origin : Bor (List ℕ) → Origin
 message_origin word = origin_within word max_message_text

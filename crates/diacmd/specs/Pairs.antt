@@ -15,14 +15,14 @@ use Rattle.diacmd.specs.declared.command.Input.{Input}
 use Rattle.diacmd.specs.declared.command.Exit.{Exit}
 use Rattle.diacmd.specs.declared.command.Exit.TheVariants.{Yes, No}
 use Rattle.diacmd.specs.Inputs.{Holds, IsOver}
-use Rattle.diacmd.specs.Limits.{max_table_text}
+use Rattle.dia_compat.specs.TableText.{max_table}
 use Rattle.diacmd.specs.Texts.{line, fault_at}
 
 -- ---- a table that is read
 
 -- the input is the text of this table
 abbrev pub IsTableText : Input → PlainTable → Type 0
-IsTableText input t = (text : List ℕ) × Holds input max_table_text text × IsUtf8 text × IsTable text t
+IsTableText input t = (text : List ℕ) × Holds input max_table text × IsUtf8 text × IsTable text t
 
 abbrev pub table_fault_text : TableFault → List ℕ
 table_fault_text (table.Syntax n) = fault_at (codes "syntax") n
@@ -35,10 +35,10 @@ table_line why = codes "table: " ++ why
 
 -- the input is no table's text, and this is told
 pub data IsNoTableText (input : Input) (told : List ℕ) : Type 0 where
-  too_long : IsOver input max_table_text → told ≡ table_line (codes "too long") → IsNoTableText input told
-  not_text : (text : List ℕ) → Holds input max_table_text text → ¬ IsUtf8 text → told ≡ table_line (codes "not text")
+  too_long : IsOver input max_table → told ≡ table_line (codes "too long") → IsNoTableText input told
+  not_text : (text : List ℕ) → Holds input max_table text → ¬ IsUtf8 text → told ≡ table_line (codes "not text")
       → IsNoTableText input told
-  fault : (text : List ℕ) (f : TableFault) → Holds input max_table_text text → IsUtf8 text → IsTableFault text f
+  fault : (text : List ℕ) (f : TableFault) → Holds input max_table text → IsUtf8 text → IsTableFault text f
       → f ≢ table.NoMemory → told ≡ table_line (table_fault_text f) → IsNoTableText input told
 
 -- ---- what is written of pairs
