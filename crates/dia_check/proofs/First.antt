@@ -67,7 +67,7 @@ module _ (d : Dictionary) (u : Unknown) (most : Levels) where
     abbrev pos : Level → List PlainAvp → ℕ → Rest
     pos l earlier at = record { level = l; earlier = earlier; at = at; bytes = between bytes at l.end }
 
-    open_bounds : (l : Level) → IsOpen d most bytes l → (l.start ≤ l.end) × (l.end ≤ length bytes)
+    pub open_bounds : (l : Level) → IsOpen d most bytes l → (l.start ≤ l.end) × (l.end ≤ length bytes)
     open_bounds l (levels.body c command is) = let says = head_says good.header (length bytes) bytes good.is_header in (says.0, omega arith)
     open_bounds l (levels.group level earlier v at definition may_be_open member is_group may) =
         let bounds = open_bounds level may_be_open in

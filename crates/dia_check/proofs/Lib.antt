@@ -23,3 +23,9 @@ pub mod FixedFirst
 pub mod Reading
 pub mod ReadingData
 pub mod ReadingHead
+pub mod ReadingAll
+pub mod Feeding
+pub mod FeedingBody
+pub mod FeedingStream
+pub mod Counted
+pub mod CountedLevels

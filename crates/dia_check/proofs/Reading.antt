@@ -10,6 +10,8 @@ use Rattle.dia_dict.specs.Dictionary.{Dictionary, IsDictionary, definitions}
 use Rattle.dia_check.specs.declared.policy.Unknown.{Unknown}
 use Rattle.dia_check.specs.declared.policy.Levels.{Levels}
 use Rattle.dia_check.specs.declared.open_levels.OpenLevels.{OpenLevels}
+use Rattle.dia_check.specs.Levels.{Level, IsOpen}
+use Rattle.dia_check.specs.Levels as levels
 use Rattle.dia_check.specs.Faults.{HasGoodHeader}
 use Rattle.dia_check.specs.OpenLevels.{SoFar, AreOpen, AreOpenUnder}
 use Rattle.dia_check.specs.UnderWay.{so_far, IsUnderWay}
@@ -17,7 +19,7 @@ use Rattle.dia_check.specs.Reading.{AreSound}
 use Rattle.dia_check.proofs.Found.{length-between}
 use Rattle.dia_check.proofs.First.{begun_room}
 use Rattle.dia_check.proofs.Opening.{kept_many}
-use Rattle.dia_check.proofs.UnderWay.{place, left}
+use Rattle.dia_check.proofs.UnderWay.{deep, last, place, left}
 
 -- ---- what is known of sound levels, whatever the message
 
@@ -25,13 +27,17 @@ module _ (d : Dictionary) (sound : IsDictionary d) (o : OpenLevels) (at : ℕ) (
   pub at_within : at ≤ o.innermost.end
   at_within = ∥∥₁_elim levels le_prop (λ x. let (u, most, bytes, good, few, w) = x in (place d sound u most bytes good o at w).0)
 
-  pub end_few : o.innermost.end < 2 ^ 24
+  pub end_few : o.innermost.end < 2 ^ 32
   end_few = ∥∥₁_elim levels le_prop (λ x. let (u, most, bytes, good, few, w) = x in let p = (place d sound u most bytes good o at w).1 in omega (arith, p, few))
 
   pub are_open : ∥ ((outer : List SoFar) × (level : SoFar) × AreOpenUnder d o outer level) ∥₁
   are_open = ∥∥₁_map levels (λ x. let (u, most, bytes, good, few, w) = x in (map so_far w.rests, so_far w.s, w.stands))
 
 -- ---- one message
+
+body_end : (d : Dictionary) (most : Levels) (bytes : List ℕ) (l : Level) → IsOpen d most bytes l → l.depth ≡ 0 → l.end ≡ length bytes
+body_end d most bytes l (levels.body c command is) depth = refl
+body_end d most bytes l (levels.group p e v start g op m is may) depth = absurd (omega (arith, depth))
 
 module _ (d : Dictionary) (sound : IsDictionary d) (u : Unknown) (most : Levels) (bytes : List ℕ) (good : HasGoodHeader d bytes) (o : OpenLevels) (at : ℕ) (w : IsUnderWay d u most bytes good o at) where
   pub size_left : length w.s.bytes ≡ o.innermost.end - at
@@ -46,6 +52,15 @@ module _ (d : Dictionary) (sound : IsDictionary d) (u : Unknown) (most : Levels)
       by : (xs : List ℕ) → length xs ≡ 0 → xs ≡ []
       by [] e = refl
       by (x ∷ xs) e = absurd (omega (arith, e))
+
+  -- behind the outermost level nothing of the message is left
+  pub all_reached : w.s.bytes ≡ [] → map so_far w.rests ≡ [] → at ≡ length bytes
+  all_reached none alone =
+      let l = (last d sound u most bytes good o at w).1.lies in
+      let depth : w.s.level.depth ≡ 0 = sym (deep d sound u most bytes good o at w) ∙ ap length alone in
+      let end = body_end d most bytes w.s.level l.open_level depth in
+      let size = l.size in let empty = ap length none in let here = w.here in
+      omega (arith, size, empty, here, end)
 
   pub fewer : (next : OpenLevels) (others : List SoFar) (level : SoFar) → map so_far w.rests ≡ others ++ level ∷ [] → AreOpen (definitions d) next others level
       → length next.outer.items < length o.outer.items

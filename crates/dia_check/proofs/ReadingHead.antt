@@ -97,7 +97,7 @@ bad_begins_none xs long bad v rest begins = by (first_says xs v rest long begins
 
 -- ---- parts of the front of some bytes
 
-prefix : (n : ℕ) (xs : List ℕ) → take n xs ≡ take (length (take n xs)) xs
+pub prefix : (n : ℕ) (xs : List ℕ) → take n xs ≡ take (length (take n xs)) xs
 prefix n xs = by (nat_cases n (length xs))
   where
     short : n ≤ length xs → take n xs ≡ take (length (take n xs)) xs

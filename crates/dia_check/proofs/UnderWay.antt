@@ -112,7 +112,7 @@ module _ (d : Dictionary) (sound : IsDictionary d) (u : Unknown) (most : Levels)
   }
 
   module _ (open_levels : OpenLevels) (at : ℕ) (w : IsUnderWay d u most bytes good open_levels at) where
-    last : (n : ℕ) × IsRestAt d u most bytes good (length w.rests) n w.s
+    pub last : (n : ℕ) × IsRestAt d u most bytes good (length w.rests) n w.s
     last = let (n, h) = nested_last d u most bytes good 0 ((length bytes + 3) / 4 * 4) w.rests w.s w.nested in
         (n, subst (λ (k : ℕ). IsRestAt d u most bytes good k n w.s) (let e : 0 + length w.rests ≡ length w.rests = omega arith in e) h)
 

@@ -7,3 +7,5 @@ pub mod Admission
 pub mod UnderWay
 pub mod Front
 pub mod Reading
+pub mod Streaming
+pub mod Streams

@@ -108,9 +108,9 @@ module _ (d : Dictionary) (u : Unknown) (most : Levels) (bytes : List ℕ) (good
   IsInPart open_levels (Head part) n = IsInHead open_levels part n
   IsInPart open_levels (Data part) n = IsInData open_levels part n × (n < part.next)
 
-  -- a part of the body, or none where it ended and nothing was found in it
+  -- a part of the body, or none where the message ended with it and nothing was found
   abbrev pub IsNext : OpenLevels → Option Part → ℕ → Type 0
-  IsNext open_levels next n = MatchOption next (Walks d u most (whole good.command.rules bytes) None) (λ part. IsInPart open_levels part n)
+  IsNext open_levels next n = MatchOption next (Walks d u most (whole good.command.rules bytes) None × (n ≡ length bytes)) (λ part. IsInPart open_levels part n)
 
   -- the body has a fault, or memory was refused where something is so
   abbrev pub IsStop : Type 0 → Refusal → Type 0
@@ -124,16 +124,16 @@ module _ (d : Dictionary) (u : Unknown) (most : Levels) (bytes : List ℕ) (good
 
 abbrev pub AreSound : Dictionary → OpenLevels → ℕ → Type 0
 AreSound d open_levels at = (u : Unknown) × (most : Levels) × (bytes : List ℕ) × (good : HasGoodHeader d bytes)
-    × (length bytes < 2 ^ 24) × IsUnderWay d u most bytes good open_levels at
+    × (length bytes < 2 ^ 32) × IsUnderWay d u most bytes good open_levels at
 
 abbrev pub IsReadData : Dictionary → OpenLevels → DataPart → Type 0
 IsReadData d open_levels part = (u : Unknown) × (most : Levels) × (bytes : List ℕ) × (good : HasGoodHeader d bytes)
-    × (length bytes < 2 ^ 24) × (n : ℕ) × IsInData d u most bytes good open_levels part n × (part.next ≤ n)
+    × (length bytes < 2 ^ 32) × (n : ℕ) × IsInData d u most bytes good open_levels part n × (part.next ≤ n)
 
 abbrev pub IsAtSomeAvp : Dictionary → Unknown → Levels → OpenLevels → ℕ → AvpHead → Type 0
 IsAtSomeAvp d u most open_levels at head = (bytes : List ℕ) × (good : HasGoodHeader d bytes)
-    × (length bytes < 2 ^ 24) × IsAtAvp d u most bytes good open_levels at head
+    × (length bytes < 2 ^ 32) × IsAtAvp d u most bytes good open_levels at head
 
 abbrev pub GoesOn : Dictionary → Unknown → Levels → OpenLevels → Part → ℕ → List ℕ → Type 0
 GoesOn d u most open_levels part from piece = (bytes : List ℕ) × (good : HasGoodHeader d bytes)
-    × (length bytes < 2 ^ 24) × IsInPart d u most bytes good open_levels part from × LiesAt bytes from piece
+    × (length bytes < 2 ^ 32) × IsInPart d u most bytes good open_levels part from × LiesAt bytes from piece

@@ -15,3 +15,4 @@ mod tests;
 pub use checking::{check, one_answer, validity};
 pub use fault::{Fault, Reason, Refusal, Selected, Subject};
 pub use policy::{Levels, Unknown};
+pub use stream::{Progress, Stream, StreamFault};

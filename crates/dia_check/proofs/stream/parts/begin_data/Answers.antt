@@ -18,7 +18,7 @@ admit-requires-clause-open_levels g c = ∥∥₁_map c.requires.avp (λ x. let 
 
 pub fault-requires : goal.fault-requires
 fault-requires g c =
-    let small : c.args.at + c.args.head.now.length < 2 ^ 24 = ∥∥₁_elim c.requires.avp le_prop (λ x. let (bytes, good, small, h) = x in
+    let small : c.args.at + c.args.head.now.length < 2 ^ 32 = ∥∥₁_elim c.requires.avp le_prop (λ x. let (bytes, good, small, h) = x in
     let p = avp_within (g.B.Book.meaning c.args.book.now) c.requires.sound c.args.unknown c.args.levels bytes good c.args.open_levels.now c.args.at c.args.head.now h in omega (arith, p, small)) in
     omega (arith, small)
 
@@ -31,20 +31,20 @@ returns-in-Some g c bytes good h =
 
 pub overflow_add-start : goal.overflow_add-start
 overflow_add-start g c =
-    let small : c.args.at + c.args.head.now.length < 2 ^ 24 = ∥∥₁_elim c.requires.avp le_prop (λ x. let (bytes, good, small, h) = x in
+    let small : c.args.at + c.args.head.now.length < 2 ^ 32 = ∥∥₁_elim c.requires.avp le_prop (λ x. let (bytes, good, small, h) = x in
     let p = avp_within (g.B.Book.meaning c.args.book.now) c.requires.sound c.args.unknown c.args.levels bytes good c.args.open_levels.now c.args.at c.args.head.now h in omega (arith, p, small)) in
     let head = head_few c.args.head.now.vendor in let e = c.head_length.ensures in
     omega (arith, small, head, e)
 
 pub overflow_add-end : goal.overflow_add-end
 overflow_add-end g c =
-    let small : c.args.at + c.args.head.now.length < 2 ^ 24 = ∥∥₁_elim c.requires.avp le_prop (λ x. let (bytes, good, small, h) = x in
+    let small : c.args.at + c.args.head.now.length < 2 ^ 32 = ∥∥₁_elim c.requires.avp le_prop (λ x. let (bytes, good, small, h) = x in
     let p = avp_within (g.B.Book.meaning c.args.book.now) c.requires.sound c.args.unknown c.args.levels bytes good c.args.open_levels.now c.args.at c.args.head.now h in omega (arith, p, small)) in
     omega (arith, small)
 
 pub next_multiple_of-requires-clause-fits : goal.next_multiple_of-requires-clause-fits
 next_multiple_of-requires-clause-fits g c =
-    let small : c.args.at + c.args.head.now.length < 2 ^ 24 = ∥∥₁_elim c.requires.avp le_prop (λ x. let (bytes, good, small, h) = x in
+    let small : c.args.at + c.args.head.now.length < 2 ^ 32 = ∥∥₁_elim c.requires.avp le_prop (λ x. let (bytes, good, small, h) = x in
     let p = avp_within (g.B.Book.meaning c.args.book.now) c.requires.sound c.args.unknown c.args.levels bytes good c.args.open_levels.now c.args.at c.args.head.now h in omega (arith, p, small)) in
     omega (arith, small)
 
@@ -105,7 +105,7 @@ end_data-requires-clause-part g c =
 
 pub fault-requires-in-Err : goal.fault-requires-in-Err
 fault-requires-in-Err g c =
-    let small : c.args.at + c.args.head.now.length < 2 ^ 24 = ∥∥₁_elim c.requires.avp le_prop (λ x. let (bytes, good, small, h) = x in
+    let small : c.args.at + c.args.head.now.length < 2 ^ 32 = ∥∥₁_elim c.requires.avp le_prop (λ x. let (bytes, good, small, h) = x in
     let p = avp_within (g.B.Book.meaning c.args.book.now) c.requires.sound c.args.unknown c.args.levels bytes good c.args.open_levels.now c.args.at c.args.head.now h in omega (arith, p, small)) in
     omega (arith, small)
 

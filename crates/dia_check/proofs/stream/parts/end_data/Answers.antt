@@ -7,7 +7,7 @@ use Rattle.dia_check.proofs.stream.parts.end_data.Goals as goal
 
 pub fault-requires : goal.fault-requires
 fault-requires g c =
-    let few : c.args.part.at < 2 ^ 24 = ∥∥₁_elim c.requires.part le_prop (λ x. let (u, most, bytes, good, few, n, h, over) = x in
+    let few : c.args.part.at < 2 ^ 32 = ∥∥₁_elim c.requires.part le_prop (λ x. let (u, most, bytes, good, few, n, h, over) = x in
     let p = place_few (g.B.Book.meaning c.args.book.now) c.requires.sound u most bytes good c.args.open_levels.now c.args.part n h over in omega (arith, few, p)) in
     omega (arith, few)
 

@@ -8,7 +8,7 @@ use Rattle.dia_check.specs.declared.policy.Levels.{Levels}
 use Rattle.dia_check.specs.Faults.{HasGoodHeader}
 use Rattle.dia_check.specs.UnderWay.{so_far, IsUnderWay}
 use Rattle.dia_check.proofs.UnderWay.{done, all_done, found_missing, found_broken}
-use Rattle.dia_check.proofs.Reading.{at_within, end_few, are_open, size_left, too_few, all_read, fewer}
+use Rattle.dia_check.proofs.Reading.{at_within, end_few, are_open, size_left, too_few, all_read, all_reached, fewer}
 use Rattle.dia_check.proofs.stream.parts.go_on.Goals as goal
 
 pub broken-requires : goal.broken-requires
@@ -54,8 +54,10 @@ returns-then-not-close g c u most bytes good from =
     let within = at_within d c.requires.sound c.loop-at.open_levels c.args.at c.loop-at.invariant.0 in
     let same = ap (λ (k : OpenLevel). k.end) c.innermost-end.ensures in
     let none = all_read d c.requires.sound u most bytes good c.loop-at.open_levels c.args.at w (omega (arith, within, same, c.if-at-end.false)) in
-    all_done d c.requires.sound u most bytes good c.loop-at.open_levels c.args.at w none (c.in_default.ensures (map so_far w.rests) (so_far w.s) w.stands)
-    (c.if-not-close.ensures.last refl (definitions d) (map so_far w.rests) (so_far w.s) w.stands)
+    let alone = c.if-not-close.ensures.last refl (definitions d) (map so_far w.rests) (so_far w.s) w.stands in (
+      all_done d c.requires.sound u most bytes good c.loop-at.open_levels c.args.at w none (c.in_default.ensures (map so_far w.rests) (so_far w.s) w.stands) alone,
+      all_reached d c.requires.sound u most bytes good c.loop-at.open_levels c.args.at w none alone,
+    )
 
 pub loop-at-smaller : goal.loop-at-smaller
 loop-at-smaller g c =

@@ -37,7 +37,7 @@ begin_data-requires-clause-avp g c =
 
 pub broken-requires : goal.broken-requires
 broken-requires g c =
-    let e : c.args.part.at < 2 ^ 24 = ∥∥₁_elim c.requires.part le_prop (λ x. let (bytes, good, few, h, lies) = x in
+    let e : c.args.part.at < 2 ^ 32 = ∥∥₁_elim c.requires.part le_prop (λ x. let (bytes, good, few, h, lies) = x in
     let p = place (g.B.Book.meaning c.args.book.now) c.requires.sound c.args.unknown c.args.levels bytes good c.args.open_levels.now c.args.part.at h.under_way in omega (arith, p.0, p.1, few)) in
     omega (arith, e)
 

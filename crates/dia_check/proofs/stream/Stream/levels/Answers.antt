@@ -1,0 +1,32 @@
+use Rattle.std.proofs.Common.{◌+◌, ◌<◌, refl, subst, arith}
+use Rattle.std.proofs.Math.Logic.{∥∥₁_elim}
+use Rattle.std.specs.Coded.{le_prop}
+use Rattle.std.specs.Prelude.{◌^◌}
+use Rattle.dia_dict.specs.Dictionary.{definitions}
+use Rattle.dia_check.specs.declared.stream.Stage.{Stage}
+use Rattle.dia_check.specs.Streaming.{HasTaken, IsStage}
+use Rattle.dia_check.proofs.CountedLevels.{counts_body, counts_zero, few_levels}
+use Rattle.dia_check.proofs.stream.Stream.levels.Goals as goal
+
+pub overflow_add-result : goal.overflow_add-result
+overflow_add-result g c =
+    let s = c.args.self.now in
+    let d = g.B.Book.meaning s.book.now in
+    let small : c.depth.result + 1 < 2 ^ 32 = ∥∥₁_elim s.holds le_prop (λ x.
+    let (bytes, h) = subst (λ (t : Stage). IsStage d s.unknown s.levels s.taken s.wanted t) c.in-InBody.is x in
+    few_levels d h.sound s.unknown s.levels bytes c.in-InBody.body s.taken s.wanted h c.depth.result (λ message good outer level now. c.depth.ensures (definitions d) outer level now)) in
+    omega (arith, small)
+
+pub returns-in-InBody-clause-count : goal.returns-in-InBody-clause-count
+returns-in-InBody-clause-count g c live d u most bytes stands =
+    let s = c.args.self.now in
+    counts_body d stands.taken.sound u most bytes c.in-InBody.body s.taken s.wanted (subst (λ (t : Stage). HasTaken d u most s.taken s.wanted t bytes) c.in-InBody.is stands.taken)
+    c.depth.result (λ message good outer level now. c.depth.ensures (definitions d) outer level now)
+
+pub returns-in_default : goal.returns-in_default
+returns-in_default g c =
+    let s = c.args.self.now in
+    record {
+      count = λ live d u most bytes stands. counts_zero d stands.taken.sound u most bytes s.stage c.in_default.not-InBody live s.taken s.wanted stands.taken;
+      spent = λ x. refl;
+    }

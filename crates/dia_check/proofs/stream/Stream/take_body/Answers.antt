@@ -1,0 +1,104 @@
+use Rattle.std.proofs.Common.{◌+◌, ◌<◌, ◌≤◌, ◌++◌, length, take, drop, refl, sym, arith, inl, inr, ⊎_elim}
+use Rattle.std.proofs.Math.Logic.{∥∥₁_elim, ∥∥₁_map}
+use Rattle.std.proofs.lemmas.Bool.{both_ways, cases_lt}
+use Rattle.std.specs.Coded.{le_prop}
+use Rattle.std.specs.Prelude.{◌^◌}
+use Rattle.dia_dict.specs.Dictionary.{Dictionary}
+use Rattle.dia_check.specs.declared.policy.Unknown.{Unknown}
+use Rattle.dia_check.specs.declared.policy.Levels.{Levels}
+use Rattle.dia_check.specs.Streaming.{HasTaken, OpensBehind, OpensLevel, taken_of}
+use Rattle.dia_check.proofs.FeedingStream.{body_opens, body_taken, has_taken, is_stage, may_read, memory_of, moved, taken_within}
+use Rattle.dia_check.proofs.stream.Stream.take_body.Goals as goal
+
+pub overflow_sub-self : goal.overflow_sub-self
+overflow_sub-self g c =
+    let s = c.args.self.now in
+    let d = g.B.Book.meaning s.book.now in
+    let e : s.taken ≤ s.wanted = ∥∥₁_elim s.holds le_prop (λ x.
+    let (bytes, h) = has_taken d s.unknown s.levels s.taken s.wanted s.stage c.requires.not_spent x in
+    taken_within d s.unknown s.levels s.taken s.wanted s.stage bytes c.args.piece.now h) in
+    e
+
+pub read_stage-requires-clause-read : goal.read_stage-requires-clause-read
+read_stage-requires-clause-read g c =
+    let s = c.args.self.now in
+    let d = g.B.Book.meaning s.book.now in
+    let m = c.min-count.ensures in
+    ∥∥₁_map s.holds (λ x.
+    let (bytes, h) = has_taken d s.unknown s.levels s.taken s.wanted s.stage c.requires.not_spent x in
+    (bytes, may_read d s.unknown s.levels s.taken s.wanted s.stage bytes c.args.piece.now h c.requires.header c.min-count.result (omega (arith, m)) (omega (arith, m))))
+
+pub overflow_add-self : goal.overflow_add-self
+overflow_add-self g c =
+    let s = c.args.self.now in
+    let d = g.B.Book.meaning s.book.now in
+    let m = c.min-count.ensures in
+    let small : s.taken + c.min-count.result < 2 ^ 32 = ∥∥₁_elim s.holds le_prop (λ x.
+    let (bytes, h) = has_taken d s.unknown s.levels s.taken s.wanted s.stage c.requires.not_spent x in
+    let w = taken_within d s.unknown s.levels s.taken s.wanted s.stage bytes c.args.piece.now h in let f = h.few in omega (arith, m, w, f)) in
+    omega (arith, small)
+
+pub invariant_of-self : goal.invariant_of-self
+invariant_of-self g c =
+    let s = c.args.self.now in
+    let d = g.B.Book.meaning s.book.now in
+    let n = c.min-count.result in
+    let m = c.min-count.ensures in
+    record {
+      holds = ∥∥₁_map s.holds (λ x.
+          let (bytes, h) = has_taken d s.unknown s.levels s.taken s.wanted s.stage c.requires.not_spent x in
+          let may = may_read d s.unknown s.levels s.taken s.wanted s.stage bytes c.args.piece.now h c.requires.header n (omega (arith, m)) (omega (arith, m)) in
+          is_stage d s.unknown s.levels (s.taken + n) s.wanted c.read_stage.new.stage (bytes ++ take n c.args.piece.now) (λ live.
+          body_taken d s.unknown s.levels s.taken s.wanted s.stage bytes c.args.piece.now h c.requires.header n (omega (arith, m)) (omega (arith, m))
+          (OpensBehind d s.levels s.taken (bytes ++ take n c.args.piece.now)) c.read_stage.new.stage (c.read_stage.ensures bytes may) live));
+    }
+
+pub returns-clause-within : goal.returns-clause-within
+returns-clause-within g c = let m = c.min-count.ensures in omega (arith, m)
+
+pub returns-clause-taken : goal.returns-clause-taken
+returns-clause-taken g c d u most bytes stands =
+    let s = c.args.self.now in
+    let e = g.B.Book.meaning s.book.now in
+    let n = c.min-count.result in
+    let m = c.min-count.ensures in
+    let h = moved (λ (x : Dictionary) (y : Unknown) (z : Levels). HasTaken x y z s.taken s.wanted s.stage bytes) d e u s.unknown most s.levels (sym stands.book) (sym stands.unknown) (sym stands.levels) stands.taken in
+    let may = may_read e s.unknown s.levels s.taken s.wanted s.stage bytes c.args.piece.now h c.requires.header n (omega (arith, m)) (omega (arith, m)) in
+    let new = body_taken e s.unknown s.levels s.taken s.wanted s.stage bytes c.args.piece.now h c.requires.header n (omega (arith, m)) (omega (arith, m))
+    (OpensBehind e s.levels s.taken (bytes ++ take n c.args.piece.now)) c.read_stage.new.stage (c.read_stage.ensures bytes may) (λ spent. both_ways c.is_spent.result c.if-is_spent.false (c.is_spent.ensures.1 spent)) in
+    record {
+      book = stands.book;
+      unknown = stands.unknown;
+      levels = stands.levels;
+      taken = moved (λ (x : Dictionary) (y : Unknown) (z : Levels). HasTaken x y z (s.taken + n) s.wanted c.read_stage.new.stage (bytes ++ take n c.args.piece.now))
+          e d s.unknown u s.levels most stands.book stands.unknown stands.levels new;
+    }
+
+pub returns-clause-all : goal.returns-clause-all
+returns-clause-all g c =
+    let s = c.args.self.now in
+    let d = g.B.Book.meaning s.book.now in
+    let m = c.min-count.ensures in
+    let w : s.taken ≤ s.wanted = ∥∥₁_elim s.holds le_prop (λ x.
+    let (bytes, h) = has_taken d s.unknown s.levels s.taken s.wanted s.stage c.requires.not_spent x in
+    taken_within d s.unknown s.levels s.taken s.wanted s.stage bytes c.args.piece.now h) in
+    ⊎_elim (λ less. inr (omega (arith, m, w, less))) (λ more. inl (omega (arith, m, more))) (cases_lt c.min-count.result (length c.args.piece.now))
+
+pub returns-clause-goes_on : goal.returns-clause-goes_on
+returns-clause-goes_on g c = λ spent. both_ways c.is_spent.result c.if-is_spent.false (c.is_spent.ensures.1 spent)
+
+pub returns-then-is_spent-clause-no_memory : goal.returns-then-is_spent-clause-no_memory
+returns-then-is_spent-clause-no_memory g c d u most bytes stands =
+    let s = c.args.self.now in
+    let e = g.B.Book.meaning s.book.now in
+    let n = c.min-count.result in
+    let m = c.min-count.ensures in
+    let h = moved (λ (x : Dictionary) (y : Unknown) (z : Levels). HasTaken x y z s.taken s.wanted s.stage bytes) d e u s.unknown most s.levels (sym stands.book) (sym stands.unknown) (sym stands.levels) stands.taken in
+    let may = may_read e s.unknown s.levels s.taken s.wanted s.stage bytes c.args.piece.now h c.requires.header n (omega (arith, m)) (omega (arith, m)) in
+    let memory = memory_of (OpensBehind e s.levels s.taken (bytes ++ take n c.args.piece.now)) e s.unknown s.levels (bytes ++ take n c.args.piece.now) c.read_stage.new.stage (c.is_spent.ensures.0 c.if-is_spent.true) (c.read_stage.ensures bytes may) in
+    moved (λ (x : Dictionary) (y : Unknown) (z : Levels). OpensLevel x z bytes (drop (length bytes) (taken_of (bytes ++ c.args.piece.now))))
+    e d s.unknown u s.levels most stands.book stands.unknown stands.levels
+    (body_opens e s.unknown s.levels s.taken s.wanted s.stage bytes c.args.piece.now h c.requires.header n (omega (arith, m)) (omega (arith, m)) (λ less. omega (arith, m, less)) memory)
+
+pub returns-then-is_spent-clause-err : goal.returns-then-is_spent-clause-err
+returns-then-is_spent-clause-err g c = (refl, c.is_spent.ensures.0 c.if-is_spent.true)

@@ -1,0 +1,95 @@
+use Rattle.std.proofs.Common.{◌≡◌, ℕ, ◌-◌, ◌≤◌, List, ◌++◌, length, take, refl, sym, subst, arith}
+use Rattle.std.proofs.Math.Logic.{∥∥₁_elim, ∥∥₁_map}
+use Rattle.std.proofs.lemmas.Bool.{both_ways}
+use Rattle.std.proofs.lemmas.List.{append-nil}
+use Rattle.std.specs.Coded.{le_prop}
+use Rattle.dia_dict.specs.Dictionary.{Dictionary}
+use Rattle.dia_check.specs.declared.policy.Unknown.{Unknown}
+use Rattle.dia_check.specs.declared.policy.Levels.{Levels}
+use Rattle.dia_check.specs.declared.stream.Stage.{Stage}
+use Rattle.dia_check.specs.declared.stream.Stage.TheVariants.{Header}
+use Rattle.dia_check.specs.Front.{front_bytes}
+use Rattle.dia_check.specs.Streaming.{HasTaken, IsStage}
+use Rattle.dia_check.specs.Streams.{StandsFor}
+use Rattle.dia_check.proofs.FeedingStream.{behind_header, front_grows, front_size, front_taken, front_takes_all, has_taken, header_now, is_stage, moved}
+use Rattle.dia_check.proofs.stream.Stream.take_header.Goals as goal
+
+pub overflow_sub-count : goal.overflow_sub-count
+overflow_sub-count g c =
+    let grows = front_grows c.in-Header.front c.take_from.new.self c.args.piece.now c.take_from.ensures (front_size c.in-Header.front c.in-Header.front.within) in
+    let a = c.len.ensures in let b = c.len-2.ensures in omega (arith, grows, a, b)
+
+pub invariant_of-self : goal.invariant_of-self
+invariant_of-self g c =
+    let s = c.args.self.now in
+    let d = g.B.Book.meaning s.book.now in
+    let front = c.in-Header.front in
+    let after = c.take_from.new.self in
+    record {
+      holds = ∥∥₁_map s.holds (λ x.
+          let (bytes, h) = subst (λ (t : Stage). IsStage d s.unknown s.levels s.taken s.wanted t) c.in-Header.is x in
+          let k = length (front_bytes after) - length (front_bytes front) in
+          is_stage d s.unknown s.levels c.len-self.result c.read_front-wanted.result.0 c.read_front-wanted.result.1 (bytes ++ take k c.args.piece.now) (λ live.
+          header_now front after c.args.piece.now c.take_from.ensures (front_size front front.within) d s.unknown s.levels s.taken s.wanted bytes h
+          k c.len-self.result c.read_front-wanted.result.0 c.read_front-wanted.result.1 refl c.len-self.ensures c.read_front-wanted.ensures.wants (c.read_front-wanted.ensures.read s.unknown s.levels) live));
+    }
+
+pub returns-clause-within : goal.returns-clause-within
+returns-clause-within g c =
+    let le = front_taken c.in-Header.front c.take_from.new.self c.args.piece.now c.take_from.ensures (front_size c.in-Header.front c.in-Header.front.within) in
+    let a = c.len.ensures in let b = c.len-2.ensures in omega (arith, le, a, b)
+
+pub returns-clause-taken : goal.returns-clause-taken
+returns-clause-taken g c d u most bytes stands =
+    let s = c.args.self.now in
+    let e = g.B.Book.meaning s.book.now in
+    let front = c.in-Header.front in
+    let after = c.take_from.new.self in
+    let there = subst (λ (t : Stage). HasTaken d u most s.taken s.wanted t bytes) c.in-Header.is stands.taken in
+    let own = moved (λ (x : Dictionary) (y : Unknown) (z : Levels). HasTaken x y z s.taken s.wanted (Header front) bytes) d e u s.unknown most s.levels (sym stands.book) (sym stands.unknown) (sym stands.levels) there in
+    let k = c.len.result - c.len-2.result in
+    let a = c.len.ensures in let b = c.len-2.ensures in
+    let is_k : k ≡ length (front_bytes after) - length (front_bytes front) = omega (arith, a, b) in
+    let new = header_now front after c.args.piece.now c.take_from.ensures (front_size front front.within) e s.unknown s.levels s.taken s.wanted bytes own
+    k c.len-self.result c.read_front-wanted.result.0 c.read_front-wanted.result.1 is_k c.len-self.ensures c.read_front-wanted.ensures.wants (c.read_front-wanted.ensures.read s.unknown s.levels)
+    (λ spent. both_ways c.is_spent.result c.if-is_spent.false (c.is_spent.ensures.1 spent)) in (
+      record {
+        book = stands.book;
+        unknown = stands.unknown;
+        levels = stands.levels;
+        taken = moved (λ (x : Dictionary) (y : Unknown) (z : Levels). HasTaken x y z c.len-self.result c.read_front-wanted.result.0 c.read_front-wanted.result.1 (bytes ++ take k c.args.piece.now))
+            e d s.unknown u s.levels most stands.book stands.unknown stands.levels new;
+      },
+      λ long. let (short, kept) = there.read in absurd (omega (arith, short, long)),
+    )
+
+pub returns-clause-all : goal.returns-clause-all
+returns-clause-all g c less =
+    let a = c.len.ensures in let b = c.len-2.ensures in let n = c.len-self.ensures in
+    let all = front_takes_all c.in-Header.front c.take_from.new.self c.args.piece.now c.take_from.ensures (front_size c.in-Header.front c.in-Header.front.within) (omega (arith, less, n)) in
+    omega (arith, a, b, all)
+
+pub returns-clause-goes_on : goal.returns-clause-goes_on
+returns-clause-goes_on g c = λ spent. both_ways c.is_spent.result c.if-is_spent.false (c.is_spent.ensures.1 spent)
+
+pub returns-then-is_spent-clause-header : goal.returns-then-is_spent-clause-header
+returns-then-is_spent-clause-header g c d u most bytes stands =
+    let s = c.args.self.now in
+    let there = subst (λ (t : Stage). HasTaken d u most s.taken s.wanted t bytes) c.in-Header.is stands.taken in
+    let (short, kept) = there.read in short
+
+pub returns-then-is_spent-clause-err : goal.returns-then-is_spent-clause-err
+returns-then-is_spent-clause-err g c = (refl, c.is_spent.ensures.0 c.if-is_spent.true)
+
+pub returns-in_default-clause-taken : goal.returns-in_default-clause-taken
+returns-in_default-clause-taken g c d u most bytes stands =
+    (subst (λ (b : List ℕ). StandsFor g.B.Book.meaning c.args.self.now d u most b) (sym (append-nil bytes)) stands, λ long. refl)
+
+pub returns-in_default-clause-all : goal.returns-in_default-clause-all
+returns-in_default-clause-all g c less =
+    let s = c.args.self.now in
+    let d = g.B.Book.meaning s.book.now in
+    let long : 20 ≤ s.taken = ∥∥₁_elim s.holds le_prop (λ x.
+    let (bytes, h) = has_taken d s.unknown s.levels s.taken s.wanted s.stage c.requires x in
+    behind_header d s.unknown s.levels s.taken s.wanted s.stage bytes c.in_default.not-Header c.requires h) in
+    absurd (omega (arith, long, less))
