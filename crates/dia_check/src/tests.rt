@@ -11,6 +11,7 @@ use std::test::Fail;
 
 mod cut;
 mod deep;
+mod pieces;
 mod rows;
 
 /// The Application-ID and the identifiers of a header: application 0, Hop-by-Hop 1, End-to-End 2.
@@ -83,6 +84,9 @@ fn check_one<B: Book>(
     wanted: Wanted,
 ) {
     let answer = check(rt.alloc(), book, unknown, levels, bytes);
+    if bytes.len() < 400 {
+        pieces::check_pieces(rt, book, unknown, levels, bytes);
+    }
     match (answer, wanted) {
         (Ok(found), Wanted::Valid(code, class)) => {
             assert_eq!(rt; Some(found.def), book.select(code, class, 0));
