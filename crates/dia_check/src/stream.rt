@@ -124,7 +124,8 @@ impl<'a, B: Book> Stream<'a, B> {
         ensures within { IfOk result (λ progress. progress.taken ≤ length piece.now) }
         ensures goes_on { OnOk result (¬ IsSpent self.new) }
         // Memory is taken only for a level that begins in the piece, once the header is there.
-        ensures no_memory { result ≡ Err StreamFault.NoMemory → (d : Dictionary) (u : AnyPolicy) (most : AnyLevels) (bytes : List ℕ)
+        ensures no_memory { result ≡ Err StreamFault.NoMemory
+            → (d : Dictionary) (u : AnyPolicy) (most : AnyLevels) (bytes : List ℕ)
             → StandsFor B.meaning self.old d u most bytes → 20 ≤ length bytes
             → OpensLevel d most bytes (drop (length bytes) (taken_of (bytes ++ piece.now))) }
         ensures spent { (result ≡ Err StreamFault.Spent) ↔ IsSpent self.old }
@@ -256,14 +257,15 @@ fn read_all<'a, B: Book>(
     piece: &[u8],
 ) -> Result<bool, Refusal>
     requires sound { IsDictionary (B.meaning book.now) }
-    requires body { ∥ ((bytes : List ℕ) × (length bytes < 2 ^ 32) × IsReading (B.meaning book.now) unknown levels body.old from bytes
-        × LiesAt bytes from piece.now) ∥₁ }
+    requires body { ∥ ((bytes : List ℕ) × (length bytes < 2 ^ 32)
+        × IsReading (B.meaning book.now) unknown levels body.old from bytes × LiesAt bytes from piece.now) ∥₁ }
     ensures next { (bytes : List ℕ) (good : HasGoodHeader (B.meaning book.now) bytes)
         → IsInPart (B.meaning book.now) unknown levels bytes good body.old.open_levels body.old.part from
         → LiesAt bytes from piece.now
         → MatchResult result
         (λ ended. MatchBool ended
-        (Walks (B.meaning book.now) unknown levels (whole good.command.rules bytes) None × (from + length piece.now ≡ length bytes))
+        (Walks (B.meaning book.now) unknown levels (whole good.command.rules bytes) None
+        × (from + length piece.now ≡ length bytes))
         (IsInPart (B.meaning book.now) unknown levels bytes good body.new.open_levels body.new.part (from + length piece.now)))
         (IsStop (B.meaning book.now) unknown levels bytes good
         (BeginsLevel (B.meaning book.now) levels bytes from (from + length piece.now))) }
