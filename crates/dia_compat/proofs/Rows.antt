@@ -512,7 +512,7 @@ row_26_five = closed (book x_alone one) overriding Kept with_five (
   tt,
 )
 
--- ---- inclusion used: a message of T with one X, valid under row 21's first dictionary, is valid under its second
+-- ---- inclusion used: a message of T with one X, valid under the first of the two dictionaries, is valid under the second
 
 only_place : {X : Type 0} (x y : X) (i : ℕ) → slice_get (x ∷ []) i ≡ Some y → i ≡ 0
 only_place x y zero e = refl
@@ -728,7 +728,7 @@ in_x_alone f (inr h) k = absurd h
 abbrev tt_names : List (List ℕ)
 tt_names = t_name ∷ []
 
--- row 24's texts: the same table under both policies, which passes only where unknown AVPs are refused
+-- two dictionaries of open requests: the same table under both policies, which passes only where unknown AVPs are refused
 proposal_24 : (u : Unknown) → IsProposal (book x_alone open_x) (book x_and_y open_x) u tt_names (with xx)
 proposal_24 u = record {
   commands = inr ((λ h. in_contains [] t_name h), t open_x, t_name ∷ [], [], named x_alone open_x, one_beside (book x_alone open_x) x_and_y (t open_x) open_x refl, refl, refl);
@@ -902,7 +902,7 @@ row_15c_back = e_yes (Some halves) (Some whole) (inr (refl, λ n h. by n h))
     by : (n : ℕ) → HoldsNumber (Some halves) n → HoldsNumber (Some whole) n
     by n (k, r, lt, at, p) = (0, (0, 3), omega arith, refl, (omega arith, bound n r (in_contains halves r (k, lt, at)) p.1))
 
--- row 26's texts, the command named twice: its two pairs once, in the second's order
+-- a request, and a second one of its code for one application; the command named twice: its two pairs once, in the second's order
 both_beside : AreBeside (book x_alone one) overriding (t one) (t_name ∷ t5_name ∷ [])
 both_beside = record {
   each = λ d w. by d (in_contains (t one ∷ t5 ∷ []) d (wanted_in (book x_alone one) overriding (t one) d w));
