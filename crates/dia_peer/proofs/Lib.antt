@@ -18,3 +18,5 @@ pub mod Walking
 pub mod Telling
 pub mod ResultCode
 pub mod Keeping
+pub mod OneResult
+pub mod OneStep

@@ -5,3 +5,4 @@ pub mod World
 pub mod Machine
 pub mod Drafts
 pub mod Incoming
+pub mod Outputs

@@ -1,15 +1,19 @@
 //! What holds of every connection.
 
-ghost use Rattle.std.specs.Prelude.{ℕ, List};
+ghost use Rattle.std.specs.Prelude.{◌≡◌, ℕ, List, map, All};
 ghost use Rattle.dia_wire.specs.Wire.{IsMessage};
 ghost use Rattle.dia_dict.specs.Base.{base};
 ghost use Rattle.dia_check.specs.declared.Unknown.TheVariants.{Kept};
 ghost use Rattle.dia_check.specs.declared.Levels.TheVariants.{Any};
 ghost use Rattle.dia_check.specs.Valid.{IsValid};
-ghost use Rattle.dia_peer.specs.Core.{PlainConfig, IsConfig, Sent};
+ghost use Rattle.dia_peer.specs.Core.{PlainConfig, PlainCore, IsConfig, Sent};
 ghost use Rattle.dia_peer.specs.Messages.{IsOurs};
 ghost use Rattle.dia_peer.specs.World.{World, Event as AnyEvent, Run, start, Agrees};
+ghost use Rattle.dia_peer.specs.Machine.{IsStep};
+ghost use Rattle.dia_peer.specs.Outputs.{plain_output, SendsBytes};
 ghost use Rattle.dia_peer.specs.declared.config.Role.{Role as AnyRole};
+ghost use Rattle.dia_peer.specs.declared.event.Event.{Event as CoreEvent};
+ghost use Rattle.dia_peer.specs.declared.event.Output.{Output as CoreOutput};
 
 /// However the messages of two ends are lost, repeated or reordered, each end that is open holds the
 /// applications that both advertise.
@@ -23,4 +27,11 @@ pub fn agreement()
 pub fn our_messages_are_valid()
     ensures { (c : PlainConfig) (m : Sent) (bytes : List ℕ) → IsConfig c → IsOurs c m
         → IsMessage m.header m.avps bytes → IsValid base Kept Any bytes }
+{}
+
+/// A step has one outcome: a core and an event have one core afterwards and one list of what is done, the bytes of
+/// each message and each reason to close, in their order.
+pub fn one_step()
+    ensures { (old new other : PlainCore) (e : CoreEvent) (a b : List CoreOutput) → IsStep old e a new → IsStep old e b other
+        → All SendsBytes a → All SendsBytes b → (new ≡ other) × (map plain_output a ≡ map plain_output b) }
 {}

@@ -49,4 +49,4 @@ mod tests;
 pub use config::{App, Config, ConfigFault, Ip, Kind, Role};
 pub use connection::Core;
 pub use event::{Cause, Event, Output, State, Why};
-pub use laws::{agreement, our_messages_are_valid};
+pub use laws::{agreement, one_step, our_messages_are_valid};

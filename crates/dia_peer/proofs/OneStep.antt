@@ -1,0 +1,290 @@
+-- Bytes are received in one way, up to the order of applications, and a step has one outcome.
+use Rattle.std.proofs.Common.{◌≡◌, ℕ, Bool, true, false, cond, List, [], ◌∷◌, length, map, filter, take, drop, inl, inr, refl, sym, ap, subst, ◌∙◌}
+use Rattle.std.specs.Prelude.{◌==◌, ◌↔◌, IsTrue, All, Contains}
+use Rattle.std.specs.List.{AllByRecursion, list_any}
+use Rattle.std.proofs.lemmas.List.Elements.{recursion_from_All}
+use Rattle.dia_wire.specs.declared.Header.{Header}
+use Rattle.dia_wire.specs.Number.{number}
+use Rattle.dia_wire.specs.Wire.{PlainAvp}
+use Rattle.dia_dict.specs.Base.{base}
+use Rattle.dia_check.specs.declared.Unknown.TheVariants.{Kept}
+use Rattle.dia_check.specs.declared.Levels.TheVariants.{Any}
+use Rattle.dia_check.specs.Valid.{IsValid, HasR, HasE}
+use Rattle.dia_check.specs.Faults.{HasLength}
+use Rattle.dia_peer.specs.declared.kept.Ids.{Ids}
+use Rattle.dia_peer.specs.declared.event.Event.{Event}
+use Rattle.dia_peer.specs.declared.event.Event.TheVariants as event
+use Rattle.dia_peer.specs.declared.event.Output.{Output}
+use Rattle.dia_peer.specs.declared.event.Output.TheVariants as output
+use Rattle.dia_peer.specs.declared.event.State.{State}
+use Rattle.dia_peer.specs.declared.event.State.TheVariants.{Idle, WaitCea, WaitCer, Open, WaitDpa, Closed}
+use Rattle.dia_peer.specs.declared.event.Why.{Why}
+use Rattle.dia_peer.specs.declared.event.Why.TheVariants as why
+use Rattle.dia_peer.specs.Core.{PlainConfig, PlainCore, Pair, pair_of, same_pair, sorted_pairs, common_of}
+use Rattle.dia_peer.specs.Messages.{
+  Received,
+  Unreadable,
+  Foreign,
+  Invalid,
+  Cer,
+  Dwr,
+  Dpr,
+  Cea,
+  Refusal,
+  Dwa,
+  Dpa,
+  Other,
+  AreAdvertised,
+  HasResult,
+  IsOurCode,
+  IsGood,
+  IsReceived,
+}
+use Rattle.dia_peer.specs.Table.{Happening, Gets, Deed, Sends, Closes, Outcome, nothing, closes, same_ids, opens, accepts, happens_in, happens}
+use Rattle.dia_peer.specs.Machine.{IsHappening, IsOutput, AreOutputs, IsStep}
+use Rattle.dia_peer.specs.Outputs.{SentBytes, ClosedFor, plain_output, SendsBytes}
+use Rattle.dia_peer.proofs.Sets.{to_in, of_in, any_in, in_any, eq_same}
+use Rattle.dia_peer.proofs.Spelled.{one_message, has_length, one_writing}
+use Rattle.dia_peer.proofs.Delivered.{code_at}
+use Rattle.dia_peer.proofs.OneResult.{never, one_result}
+
+both_true : (a b : Bool) → (a ≡ true → b ≡ true) → (b ≡ true → a ≡ true) → a ≡ b
+both_true true true f g = refl
+both_true true false f g = sym (f refl)
+both_true false true f g = g refl
+both_true false false f g = refl
+
+-- ---- lists of the same applications
+
+abbrev Alike : List Pair → List Pair → Type 0
+Alike apps others = (p : Pair) → Contains apps p ↔ Contains others p
+
+alike : (avps : List PlainAvp) (apps others : List Pair) → AreAdvertised avps apps → AreAdvertised avps others → Alike apps others
+alike avps apps others f g p = ((λ m. (g p).1 ((f p).0 m)), (λ m. (f p).1 ((g p).0 m)))
+
+any_same : (p : Pair) (apps others : List Pair) → (Contains apps p ↔ Contains others p) → list_any (same_pair p) apps ≡ list_any (same_pair p) others
+any_same p apps others h =
+    both_true (list_any (same_pair p) apps) (list_any (same_pair p) others) (λ e. in_any p others (to_in others p (h.0 (of_in apps p (any_in p apps e)))))
+    (λ e. in_any p apps (to_in apps p (h.1 (of_in others p (any_in p others e)))))
+
+common_same : (c : PlainConfig) (apps others : List Pair) → Alike apps others → common_of c apps ≡ common_of c others
+common_same c apps others same = λ i. filter (λ (p : Pair). any_same p apps others (same p) i) (sorted_pairs (map pair_of c.apps))
+
+cer_same : (c : PlainCore) (state : State) (ids : Ids) (b : List ℕ) (apps others : List Pair) → Alike apps others
+    → happens_in state c (Gets (Cer ids b apps)) ≡ happens_in state c (Gets (Cer ids b others))
+cer_same c Idle ids b apps others same = refl
+cer_same c WaitCea ids b apps others same = refl
+cer_same c WaitCer ids b apps others same = ap (λ (common : List Pair). accepts c ids b common) (common_same c.config apps others same)
+cer_same c Open ids b apps others same = refl
+cer_same c WaitDpa ids b apps others same = refl
+cer_same c Closed ids b apps others same = refl
+
+cea_same : (c : PlainCore) (state : State) (ids : Ids) (n m : ℕ) (apps others : List Pair) → n ≡ m → Alike apps others
+    → happens_in state c (Gets (Cea ids n apps)) ≡ happens_in state c (Gets (Cea ids m others))
+cea_same c Idle ids n m apps others result same = refl
+cea_same c WaitCea ids n m apps others result same =
+    let common = common_same c.config apps others same in
+    λ i. cond (same_ids ids c.last_cer) (cond (result i == 2001) (opens c (common i)) (cond (result i == 5010) (closes c [] why.NoCommon) (closes c [] why.Refused))) (nothing c)
+cea_same c WaitCer ids n m apps others result same = refl
+cea_same c Open ids n m apps others result same = refl
+cea_same c WaitDpa ids n m apps others result same = refl
+cea_same c Closed ids n m apps others result same = refl
+
+-- ---- what a valid message is to a core
+
+-- by the E flag, whether the code is 257, the R flag, and whether the code is 280
+abbrev told : List ℕ → Bool → Bool → Bool → Bool → Ids → ℕ → List Pair → Received
+told b true true request watchdog ids result apps = Refusal ids
+told b true false request watchdog ids result apps = Other
+told b false true true watchdog ids result apps = Cer ids b apps
+told b false true false watchdog ids result apps = Cea ids result apps
+told b false false true true ids result apps = Dwr ids
+told b false false true false ids result apps = Dpr ids
+told b false false false true ids result apps = Dwa ids
+told b false false false false ids result apps = Dpa ids
+
+told_same : (c : PlainCore) (b : List ℕ) (error capabilities request watchdog : Bool) (ids : Ids) (n m : ℕ) (apps others : List Pair) → (error ≡ false → capabilities ≡ true → Alike apps others)
+    → (error ≡ false → capabilities ≡ true → request ≡ false → n ≡ m)
+    → happens c (Gets (told b error capabilities request watchdog ids n apps)) ≡ happens c (Gets (told b error capabilities request watchdog ids m others))
+told_same c b true true request watchdog ids n m apps others lists results = refl
+told_same c b true false request watchdog ids n m apps others lists results = refl
+told_same c b false true true watchdog ids n m apps others lists results = cer_same c c.state ids b apps others (lists refl refl)
+told_same c b false true false watchdog ids n m apps others lists results = cea_same c c.state ids n m apps others (results refl refl refl) (lists refl refl)
+told_same c b false false true true ids n m apps others lists results = refl
+told_same c b false false true false ids n m apps others lists results = refl
+told_same c b false false false true ids n m apps others lists results = refl
+told_same c b false false false false ids n m apps others lists results = refl
+
+record Reading (b : List ℕ) (what : Received) : Type 0 where
+  code : ℕ
+  request : Bool
+  error : Bool
+  ids : Ids
+  avps : List PlainAvp
+  result : ℕ
+  apps : List Pair
+  good : IsGood b code request error ids avps
+  ours : IsOurCode code
+  advertised : error ≡ false → (code == 257) ≡ true → AreAdvertised avps apps
+  resulted : error ≡ false → (code == 257) ≡ true → request ≡ false → HasResult avps result
+  is : what ≡ told b error (code == 257) request (code == 280) ids result apps
+
+reading_long : (b : List ℕ) (what : Received) → Reading b what → HasLength b (length b)
+reading_long b what r = has_length r.good.header r.avps b r.good.message
+
+reading_ours : (b : List ℕ) (what : Received) → Reading b what → IsOurCode (number (take 3 (drop 5 b)))
+reading_ours b what r = subst IsOurCode (sym (code_at r.good.header r.avps b r.good.message ∙ r.good.code_is)) r.ours
+
+flag_same : (P : ℕ → Type 0) (h k : Header) (x y : Bool) → h ≡ k → (IsTrue x ↔ P h.flags) → (IsTrue y ↔ P k.flags) → x ≡ y
+flag_same P h k x y same f g =
+    both_true x y (λ t. g.1 (subst (λ (z : Header). P z.flags) same (f.0 t))) (λ t. f.1 (subst (λ (z : Header). P z.flags) (sym same) (g.0 t)))
+
+ids_same : (x y : Ids) → x.hop ≡ y.hop → x.e2e ≡ y.e2e → x ≡ y
+ids_same x y hop e2e = λ i. record { hop = hop i; e2e = e2e i }
+
+reading_same : (c : PlainCore) (b : List ℕ) (what again : Received) → Reading b what → Reading b again → happens c (Gets what) ≡ happens c (Gets again)
+reading_same c b what again r s =
+    let g = r.good in let k = s.good in
+    let one = one_message g.header k.header r.avps s.avps b g.message k.message in
+    let code : r.code ≡ s.code = sym g.code_is ∙ ap (λ (h : Header). h.code) one.0 ∙ k.code_is in
+    let request : r.request ≡ s.request = flag_same (λ (n : ℕ). HasR n) g.header k.header r.request s.request one.0 g.request_is k.request_is in
+    let error : r.error ≡ s.error = flag_same (λ (n : ℕ). HasE n) g.header k.header r.error s.error one.0 g.error_is k.error_is in
+    let hop : r.ids.hop ≡ s.ids.hop = sym g.ids_are.0 ∙ ap (λ (h : Header). h.hop) one.0 ∙ k.ids_are.0 in
+    let e2e : r.ids.e2e ≡ s.ids.e2e = sym g.ids_are.1 ∙ ap (λ (h : Header). h.e2e) one.0 ∙ k.ids_are.1 in
+    let ids : r.ids ≡ s.ids = ids_same r.ids s.ids hop e2e in
+    let is_code : (r.code == 257) ≡ (s.code == 257) = ap (λ (n : ℕ). n == 257) code in
+    let moved : happens c (Gets (told b r.error (r.code == 257) r.request (r.code == 280) r.ids r.result r.apps))
+    ≡ happens c (Gets (told b s.error (s.code == 257) s.request (s.code == 280) s.ids r.result r.apps)) =
+    λ i. happens c (Gets (told b (error i) (code i == 257) (request i) (code i == 280) (ids i) r.result r.apps)) in
+    let lists : s.error ≡ false → (s.code == 257) ≡ true → Alike r.apps s.apps =
+    λ e t. alike s.avps r.apps s.apps (subst (λ (vs : List PlainAvp). AreAdvertised vs r.apps) one.1 (r.advertised (error ∙ e) (is_code ∙ t))) (s.advertised e t) in
+    let results : s.error ≡ false → (s.code == 257) ≡ true → s.request ≡ false → r.result ≡ s.result =
+    λ e t q. one_result b s.code s.request s.error s.ids s.avps r.result s.result k (eq_same s.code 257 t) q e
+    (subst (λ (vs : List PlainAvp). HasResult vs r.result) one.1 (r.resulted (error ∙ e) (is_code ∙ t) (request ∙ q))) (s.resulted e t q) in
+    ap (λ (w : Received). happens c (Gets w)) r.is ∙ moved
+    ∙ told_same c b s.error (s.code == 257) s.request (s.code == 280) s.ids r.result s.result r.apps s.apps lists results
+    ∙ sym (ap (λ (w : Received). happens c (Gets w)) s.is)
+
+-- ---- what bytes are to a core
+
+data Status (b : List ℕ) (what : Received) : Type 0 where
+  unreadable : what ≡ Unreadable → ¬ HasLength b (length b) → Status b what
+  foreign : what ≡ Foreign → HasLength b (length b) → ¬ IsOurCode (number (take 3 (drop 5 b))) → Status b what
+  invalid : what ≡ Invalid → HasLength b (length b) → IsOurCode (number (take 3 (drop 5 b))) → ¬ IsValid base Kept Any b → Status b what
+  is_good : Reading b what → Status b what
+
+-- a valid message that tells no applications
+simple : (b : List ℕ) (what : Received) (code : ℕ) (request error : Bool) (ids : Ids) (avps : List PlainAvp) → IsGood b code request error ids avps → IsOurCode code
+    → (error ≡ false → (code == 257) ≡ true → ⊥) → what ≡ told b error (code == 257) request (code == 280) ids 0 [] → Status b what
+simple b what code request error ids avps g ours none is = is_good (record {
+  code = code;
+  request = request;
+  error = error;
+  ids = ids;
+  avps = avps;
+  result = 0;
+  apps = [];
+  good = g;
+  ours = ours;
+  advertised = λ e t. absurd (none e t);
+  resulted = λ e t q. absurd (none e t);
+  is = is;
+})
+
+status : (b : List ℕ) (what : Received) → IsReceived b what → Status b what
+status b Unreadable u = unreadable refl u
+status b Foreign (long, u) = foreign refl long u
+status b Invalid (long, ours, u) = invalid refl long ours u
+status b (Cer ids same apps) (avps, g, is, are) = is_good (record {
+  code = 257;
+  request = true;
+  error = false;
+  ids = ids;
+  avps = avps;
+  result = 0;
+  apps = apps;
+  good = g;
+  ours = inl refl;
+  advertised = λ e t. are;
+  resulted = λ e t q. never (sym q);
+  is = ap (λ (y : List ℕ). Cer ids y apps) is;
+})
+status b (Cea ids result apps) (avps, g, has, are) = is_good (record {
+  code = 257;
+  request = false;
+  error = false;
+  ids = ids;
+  avps = avps;
+  result = result;
+  apps = apps;
+  good = g;
+  ours = inl refl;
+  advertised = λ e t. are;
+  resulted = λ e t q. has;
+  is = refl;
+})
+status b (Dwr ids) (avps, g) = simple b (Dwr ids) 280 true false ids avps g (inr (inl refl)) (λ e t. never t) refl
+status b (Dpr ids) (avps, g) = simple b (Dpr ids) 282 true false ids avps g (inr (inr refl)) (λ e t. never t) refl
+status b (Refusal ids) (avps, g) = simple b (Refusal ids) 257 false true ids avps g (inl refl) (λ e t. never (sym e)) refl
+status b (Dwa ids) (avps, g) = simple b (Dwa ids) 280 false false ids avps g (inr (inl refl)) (λ e t. never t) refl
+status b (Dpa ids) (avps, g) = simple b (Dpa ids) 282 false false ids avps g (inr (inr refl)) (λ e t. never t) refl
+status b Other (code, ids, avps, inl is, g) =
+    simple b Other 280 false true ids avps (subst (λ (n : ℕ). IsGood b n false true ids avps) is g) (inr (inl refl)) (λ e t. never t) refl
+status b Other (code, ids, avps, inr is, g) =
+    simple b Other 282 false true ids avps (subst (λ (n : ℕ). IsGood b n false true ids avps) is g) (inr (inr refl)) (λ e t. never t) refl
+
+status_same : (c : PlainCore) (b : List ℕ) (what again : Received) → Status b what → Status b again → happens c (Gets what) ≡ happens c (Gets again)
+status_same c b what again (unreadable x u) (unreadable y v) = ap (λ (w : Received). happens c (Gets w)) (x ∙ sym y)
+status_same c b what again (unreadable x u) (foreign y long v) = absurd (u long)
+status_same c b what again (unreadable x u) (invalid y long ours v) = absurd (u long)
+status_same c b what again (unreadable x u) (is_good s) = absurd (u (reading_long b again s))
+status_same c b what again (foreign x long u) (unreadable y v) = absurd (v long)
+status_same c b what again (foreign x long u) (foreign y same v) = ap (λ (w : Received). happens c (Gets w)) (x ∙ sym y)
+status_same c b what again (foreign x long u) (invalid y same ours v) = absurd (u ours)
+status_same c b what again (foreign x long u) (is_good s) = absurd (u (reading_ours b again s))
+status_same c b what again (invalid x long ours u) (unreadable y v) = absurd (v long)
+status_same c b what again (invalid x long ours u) (foreign y same v) = absurd (v ours)
+status_same c b what again (invalid x long ours u) (invalid y same also v) = ap (λ (w : Received). happens c (Gets w)) (x ∙ sym y)
+status_same c b what again (invalid x long ours u) (is_good s) = absurd (u s.good.valid)
+status_same c b what again (is_good r) (unreadable y v) = absurd (v (reading_long b what r))
+status_same c b what again (is_good r) (foreign y long v) = absurd (v (reading_ours b what r))
+status_same c b what again (is_good r) (invalid y long ours v) = absurd (v r.good.valid)
+status_same c b what again (is_good r) (is_good s) = reading_same c b what again r s
+
+-- ---- one step
+
+happening_same : (c : PlainCore) (e : Event) (h k : Happening) → IsHappening e h → IsHappening e k → happens c h ≡ happens c k
+happening_same c event.Start h k x y = ap (λ (z : Happening). happens c z) (x ∙ sym y)
+happening_same c (event.Bytes bytes) h k (what, is, x) (again, are, y) =
+    ap (λ (z : Happening). happens c z) x
+    ∙ status_same c bytes.now what again (status bytes.now what is) (status bytes.now again are)
+    ∙ sym (ap (λ (z : Happening). happens c z) y)
+happening_same c event.Tick h k x y = ap (λ (z : Happening). happens c z) (x ∙ sym y)
+happening_same c (event.Stop cause) h k x y = ap (λ (z : Happening). happens c z) (x ∙ sym y)
+happening_same c event.Lost h k x y = ap (λ (z : Happening). happens c z) (x ∙ sym y)
+
+output_same : (d : Deed) (o p : Output) → IsOutput d o → IsOutput d p → SendsBytes o → SendsBytes p → plain_output o ≡ plain_output p
+output_same (Sends m) (output.Send s) (output.Send t) is also x y = ap (λ (b : List ℕ). SentBytes b) (one_writing m.header m.avps s.items t.items x y is also)
+output_same (Sends m) (output.Send s) (output.Close v) is also x y = absurd also
+output_same (Sends m) (output.Close v) p is also x y = absurd is
+output_same (Closes reason) (output.Send s) p is also x y = absurd is
+output_same (Closes reason) (output.Close v) (output.Send s) is also x y = absurd also
+output_same (Closes reason) (output.Close v) (output.Close w) is also x y = ap (λ (r : Why). ClosedFor r) (sym is ∙ also)
+
+outputs_same : (deeds : List Deed) (a b : List Output) → AreOutputs deeds a → AreOutputs deeds b → AllByRecursion SendsBytes a → AllByRecursion SendsBytes b → map plain_output a ≡ map plain_output b
+outputs_same [] [] [] are more x y = refl
+outputs_same [] [] (p ∷ b) are more x y = absurd more
+outputs_same [] (o ∷ a) b are more x y = absurd are
+outputs_same (d ∷ deeds) [] b are more x y = absurd are
+outputs_same (d ∷ deeds) (o ∷ a) [] are more x y = absurd more
+outputs_same (d ∷ deeds) (o ∷ a) (p ∷ b) (is, are) (also, more) (x, xs) (y, ys) =
+    let first = output_same d o p is also x y in let later = outputs_same deeds a b are more xs ys in
+    λ i. first i ∷ later i
+
+pub same_outcome : (old new other : PlainCore) (e : Event) (a b : List Output) → IsStep old e a new → IsStep old e b other → All SendsBytes a → All SendsBytes b
+    → (new ≡ other) × (map plain_output a ≡ map plain_output b)
+same_outcome old new other e a b (h, is, x, are) (k, also, y, more) u v =
+    let same : happens old h ≡ happens old k = happening_same old e h k is also in (
+      x ∙ ap (λ (o : Outcome). o.core) same ∙ sym y,
+      outputs_same (happens old k).deeds a b (subst (λ (o : Outcome). AreOutputs o.deeds a) same are) more (recursion_from_All SendsBytes a u) (recursion_from_All SendsBytes b v),
+    )
