@@ -2,7 +2,7 @@
 
 ghost use Rattle.std.specs.Prelude.{◌<◌};
 
-use crate::{Fault, Levels, Reason, Refusal, Subject, Unknown, check};
+use crate::{Fault, Levels, Reason, Refusal, Selected, Subject, Unknown, check};
 use dia_dict::{Book, Class, IndexedBook, base_book};
 use dia_wire::Key;
 use std::alloc::{AllocError, Global};
@@ -11,8 +11,10 @@ use std::test::Fail;
 
 mod cut;
 mod deep;
+mod long;
 mod pieces;
 mod rows;
+mod taking;
 
 /// The Application-ID and the identifiers of a header: application 0, Hop-by-Hop 1, End-to-End 2.
 const IDS: &str = "000000000000000100000002";
@@ -22,6 +24,12 @@ const REQUEST: &str =
     "0100002c80000118000000000000000100000002000001084000000b612e6200000001284000000962000000";
 
 const ORIGIN_HOST: u32 = 264;
+
+/// Its Origin-Host and its Origin-Realm.
+const AVPS: &str = "000001084000000b612e6200000001284000000962000000";
+
+/// The answer for it.
+const WATCHDOG: Wanted = Wanted::Valid(280, Class::Request);
 
 /// What a check is to answer.
 #[derive(Clone, Copy, Debug)]
@@ -48,6 +56,12 @@ fn bytes_of(alloc: Global, text: &str) -> Result<Vec<u8>, AllocError> {
         }
     }
     Ok(bytes)
+}
+
+/// An AVP's first eight bytes, with no flags.
+fn push_head(bytes: &mut Vec<u8>, code: u32, length: u32) -> Result<(), AllocError> {
+    bytes.extend_from_slice(&code.to_be_bytes())?;
+    bytes.extend_from_slice(&length.to_be_bytes())
 }
 
 fn digit(byte: u8) -> u8
@@ -87,6 +101,15 @@ fn check_one<B: Book>(
     if bytes.len() < 400 {
         pieces::check_pieces(rt, book, unknown, levels, bytes);
     }
+    assert_answer(rt, book, answer, wanted);
+}
+
+fn assert_answer<B: Book>(
+    rt: &impl Abort,
+    book: &B,
+    answer: Result<Selected, Refusal>,
+    wanted: Wanted,
+) {
     match (answer, wanted) {
         (Ok(found), Wanted::Valid(code, class)) => {
             assert_eq!(rt; Some(found.def), book.select(code, class, 0));

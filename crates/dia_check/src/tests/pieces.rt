@@ -1,15 +1,15 @@
 //! Messages that come in pieces.
 
-ghost use Rattle.std.specs.Prelude.{◌≤◌, length};
+ghost use Rattle.std.specs.Prelude.{◌<◌, ◌≤◌, length};
 
-use super::bytes_of;
+use super::{Wanted, assert_answer, bytes_of};
 use crate::{Levels, Progress, Refusal, Selected, Stream, Unknown, check};
 use dia_dict::{Book, base_book};
 use std::process::Abort;
 use std::test::Fail;
 
 /// The bytes that a message has, as far as a stream takes them: none behind it.
-fn wanted(bytes: &[u8]) -> usize {
+fn message_length(bytes: &[u8]) -> usize {
     match bytes {
         [1, high, middle, low, ..] if bytes.len() >= 20 => {
             let length = *high as usize * 65536 + *middle as usize * 256 + *low as usize;
@@ -31,7 +31,7 @@ fn checked<B: Book>(
     levels: Levels,
     bytes: &[u8],
 ) -> Result<Selected, Refusal> {
-    let count = bytes.len().min(wanted(bytes));
+    let count = bytes.len().min(message_length(bytes));
     check(rt.alloc(), book, unknown, levels, &bytes[..count])
 }
 
@@ -60,7 +60,7 @@ fn check_cut<B: Book>(
     requires { cut ≤ length bytes.now }
 {
     let mut stream = Stream::new(rt.alloc(), book, unknown, levels);
-    let all = wanted(bytes);
+    let all = message_length(bytes);
     let first = stream.feed(&bytes[..cut]);
     let taken = cut.min(all);
     assert_eq!(rt;
@@ -91,7 +91,7 @@ fn check_bytes<B: Book>(
     bytes: &[u8],
 ) {
     let mut stream = Stream::new(rt.alloc(), book, unknown, levels);
-    let all = wanted(bytes);
+    let all = message_length(bytes);
     for place in 0..bytes.len() {
         let progress = stream.feed(&bytes[place..place + 1]);
         let taken = usize::from(place < all);
@@ -102,12 +102,54 @@ fn check_bytes<B: Book>(
                 done: place + 1 >= all
             })
         );
-        let count = all.min(place + 1);
-        let bound = if count < 20 { 0 } else { 1 + (count - 20) / 8 };
-        assert!(rt; stream.levels() <= bound);
+        assert!(rt; stream.levels() <= most_levels(levels, all.min(place + 1)));
     }
     let answer = checked(rt, book, unknown, levels, bytes);
     assert_eq!(rt; stream.finish(), answer, "byte by byte");
+}
+
+/// The most levels that are open after so many bytes.
+fn most_levels(levels: Levels, count: usize) -> usize {
+    if count < 20 {
+        return 0;
+    }
+    let most = 1 + (count - 20) / 8;
+    match levels {
+        Levels::Any => most,
+        Levels::AtMost(depth) => most.min(depth as usize + 1),
+    }
+}
+
+/// A stream that is fed a whole message in pieces of a size takes each, and answers as is wanted.
+pub(super) fn feed_pieces<B: Book>(
+    rt: &(impl AllocGlobal + Abort),
+    book: &B,
+    levels: Levels,
+    bytes: &[u8],
+    size: usize,
+    wanted: Wanted,
+)
+    requires { 0 < size }
+{
+    let mut stream = Stream::new(rt.alloc(), book, Unknown::Kept, levels);
+    let mut count: usize = 0;
+    for piece in bytes.chunks(size) {
+        let progress = stream.feed(piece);
+        count = count.saturating_add(piece.len());
+        assert_eq!(rt;
+            progress,
+            Ok(Progress {
+                taken: piece.len(),
+                done: count == bytes.len()
+            }),
+            "after {count} bytes"
+        );
+        assert!(rt;
+            stream.levels() <= most_levels(levels, count),
+            "after {count} bytes"
+        );
+    }
+    assert_answer(rt, book, stream.finish(), wanted);
 }
 
 /// A watchdog request with three Failed-AVPs in one another, and an unknown AVP in the innermost.
@@ -130,15 +172,15 @@ const LEVELS: [(usize, usize); 11] = [
     (76, 0),
 ];
 
-fn check_levels<B: Book>(
+/// So many levels are open after so many bytes of a message.
+pub(super) fn check_levels<B: Book>(
     rt: &(impl AllocGlobal + Abort),
     book: &B,
     bytes: &[u8],
     count: usize,
     levels: usize,
-)
-    requires { count ≤ length bytes.now }
-{
+) {
+    assert!(rt; count <= bytes.len());
     let mut stream = Stream::new(rt.alloc(), book, Unknown::Kept, Levels::Any);
     let progress = stream.feed(&bytes[..count]);
     assert_eq!(rt; progress.is_ok(), true);
@@ -150,9 +192,7 @@ fn counts_the_open_levels(rt: HostRuntime) -> Result<(), Fail> {
     let book = base_book(rt.alloc())?;
     let bytes = bytes_of(rt.alloc(), NESTED)?;
     for (count, levels) in LEVELS {
-        if count <= bytes.len() {
-            check_levels(&rt, &book, &bytes, count, levels);
-        }
+        check_levels(&rt, &book, &bytes, count, levels);
     }
     Ok(())
 }

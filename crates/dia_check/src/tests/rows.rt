@@ -1,10 +1,8 @@
-use super::{IDS, ORIGIN_HOST, REQUEST, Wanted, avp, bytes_of, check_in_both};
+use super::{AVPS, IDS, ORIGIN_HOST, REQUEST, WATCHDOG, Wanted, avp, bytes_of, check_in_both};
 use crate::{Levels, Reason, Subject, Unknown};
 use dia_dict::Class;
 use std::process::Abort;
 use std::test::Fail;
-
-const WATCHDOG: Wanted = Wanted::Valid(280, Class::Request);
 
 const ERROR: Wanted = Wanted::Valid(280, Class::Error);
 
@@ -72,40 +70,39 @@ fn accepts_valid_messages(rt: HostRuntime) -> Result<(), Fail> {
 
 #[test]
 fn tells_the_faults_of_headers(rt: HostRuntime) -> Result<(), Fail> {
-    let avps = "000001084000000b612e6200000001284000000962000000";
     let rows = [
         (
             "0100002e80000118",
-            avps,
+            AVPS,
             Wanted::Fault(1, 5015, Reason::Length, Subject::Nothing),
         ),
         (
             "0200002c80000118",
-            avps,
+            AVPS,
             Wanted::Fault(0, 5011, Reason::Version, Subject::Nothing),
         ),
         (
             "0100002cc0000118",
-            avps,
+            AVPS,
             Wanted::Fault(4, 3008, Reason::Proxiable, Subject::Nothing),
         ),
         (
             "0100002ca0000118",
-            avps,
+            AVPS,
             Wanted::Fault(4, 5013, Reason::Bits, Subject::Nothing),
         ),
         (
             "0100002c10000118",
-            avps,
+            AVPS,
             Wanted::Fault(4, 5013, Reason::Bits, Subject::Nothing),
         ),
         (
             "0100002c8000012e",
-            avps,
+            AVPS,
             Wanted::Fault(5, 3001, Reason::Command, Subject::Nothing),
         ),
-        ("0100003080000118", avps, Wanted::Truncated),
-        ("0100002880000118", avps, Wanted::Trailing),
+        ("0100003080000118", AVPS, Wanted::Truncated),
+        ("0100002880000118", AVPS, Wanted::Trailing),
     ];
     check_rows(&rt, Unknown::Kept, Levels::Any, &rows)
 }

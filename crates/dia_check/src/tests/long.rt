@@ -1,0 +1,88 @@
+//! Messages of the greatest length.
+
+use super::pieces::{check_levels, feed_pieces};
+use super::{AVPS, IDS, WATCHDOG, bytes_of, check_in_both, push_head};
+use crate::{Levels, Unknown};
+use dia_dict::{Book, IndexedBook, base_book};
+use std::alloc::{AllocError, Global};
+use std::process::Abort;
+use std::test::Fail;
+
+/// The greatest Message Length that is a multiple of four.
+const LENGTH: usize = 16_777_212;
+
+/// The heads of a Failed-AVP that fills the rest of the message, and of an unknown AVP that fills the Failed-AVP.
+const HEADS: &str = "0000011700ffffd00000270f00ffffc8";
+
+/// How many unknown AVPs without data fill the rest of the message.
+const COUNT: u32 = 2_097_146;
+
+/// The first bytes of a watchdog request of the greatest length, whose AVPs begin with an Origin-Host and an Origin-Realm.
+fn front(alloc: Global, behind: &str) -> Result<Vec<u8>, AllocError> {
+    let text = format!(in alloc; "01fffffc80000118{IDS}{AVPS}{behind}")?;
+    bytes_of(alloc, text.as_str())
+}
+
+/// The message with the Failed-AVP.
+fn filled(alloc: Global) -> Result<Vec<u8>, AllocError> {
+    let mut bytes = front(alloc, HEADS)?;
+    bytes.resize(LENGTH, 0)?;
+    Ok(bytes)
+}
+
+/// The message with many unknown AVPs.
+fn repeated(alloc: Global) -> Result<Vec<u8>, AllocError> {
+    let mut bytes = front(alloc, "")?;
+    for _ in 0..COUNT {
+        push_head(&mut bytes, 9999, 8)?;
+    }
+    Ok(bytes)
+}
+
+fn feed_sizes<B: Book>(rt: &(impl AllocGlobal + Abort), book: &B, bytes: &[u8], sizes: [usize; 3]) {
+    for size in sizes {
+        assert!(rt; size > 0);
+        feed_pieces(rt, book, Levels::Any, bytes, size, WATCHDOG);
+    }
+}
+
+#[test]
+fn takes_one_avp_that_fills_the_message(rt: HostRuntime) -> Result<(), Fail> {
+    let bytes = filled(rt.alloc())?;
+    assert_eq!(rt; bytes.len(), LENGTH);
+    check_in_both(&rt, Unknown::Kept, Levels::Any, &bytes, WATCHDOG)?;
+    let book = base_book(rt.alloc())?;
+    feed_sizes(&rt, &book, &bytes, [61, 4_096, LENGTH]);
+    Ok(())
+}
+
+#[test]
+fn takes_many_avps(rt: HostRuntime) -> Result<(), Fail> {
+    let bytes = repeated(rt.alloc())?;
+    assert_eq!(rt; bytes.len(), LENGTH);
+    let book = IndexedBook::new(rt.alloc(), base_book(rt.alloc())?)?;
+    feed_pieces(&rt, &book, Levels::Any, &bytes, 4_099, WATCHDOG);
+    Ok(())
+}
+
+/// How many levels are open after so many bytes of the message with the Failed-AVP.
+const LEVELS: [(usize, usize); 8] = [
+    (19, 0),
+    (20, 1),
+    (51, 1),
+    (52, 2),
+    (60, 2),
+    (8_000_001, 2),
+    (16_777_211, 2),
+    (16_777_212, 0),
+];
+
+#[test]
+fn keeps_a_group_open_to_its_end(rt: HostRuntime) -> Result<(), Fail> {
+    let bytes = filled(rt.alloc())?;
+    let book = IndexedBook::new(rt.alloc(), base_book(rt.alloc())?)?;
+    for (count, levels) in LEVELS {
+        check_levels(&rt, &book, &bytes, count, levels);
+    }
+    Ok(())
+}
