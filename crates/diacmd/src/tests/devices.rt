@@ -125,7 +125,7 @@ fn keeps_the_limit_of_an_input(rt: HostRuntime) -> Result<(), Fail> {
     Ok(())
 }
 
-/// Is interrupted once, and gives `a` for ever after.
+/// Is interrupted at the first call, and gives `a` at each later one.
 #[derive(Drop)]
 struct Interrupted {
     once: bool,
