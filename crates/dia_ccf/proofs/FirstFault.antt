@@ -5,8 +5,8 @@ use Rattle.std.specs.Option.{option_map}
 use Rattle.std.proofs.lemmas.Bool.{lt-ltb, ltb-true}
 use Rattle.std.proofs.lemmas.List.{append-nil}
 use Rattle.std.proofs.Math.Seq.{take-append_seam, take-append-add}
-use Rattle.dia_ccf.specs.declared.reading.reasons.Refusal.{Refusal}
-use Rattle.dia_ccf.specs.declared.reading.reasons.Refusal.TheVariants as refusal
+use Rattle.dia_ccf.specs.declared.reading.refusal.Refusal.{Refusal}
+use Rattle.dia_ccf.specs.declared.reading.refusal.Refusal.TheVariants as refusal
 use Rattle.dia_ccf.specs.declared.source.RuleKind.{RuleKind}
 use Rattle.dia_ccf.specs.declared.source.RuleKind.TheVariants.{Fixed, Required, Optional}
 use Rattle.dia_ccf.specs.Plain.{PlainSource}
@@ -17,13 +17,13 @@ use Rattle.dia_ccf.specs.Faults.{CanBegin, IsFirstFault, Fits, IsNumberFault, Is
 use Rattle.dia_ccf.specs.Machine.{State, Place, Between, In_values, After_value, After_dots, In_head, Flags, Group_vendor, Error_flags, Loose_close, with_rule, closing_sign}
 use Rattle.dia_ccf.specs.Machine.{sign_at, Command_code, Group_code, Rules, Qual_star, Qual_done, After_angle, Decl_code, Decl_number, Decl_values, HeadPlace}
 use Rattle.dia_ccf.specs.Machine.{is_none, all_fixed, is_enumerated, number_at, next, step, whole, refused, least_at, outcome, Reads, Stops, gone_on, ended}
-use Rattle.dia_ccf.specs.Reading.{nothing_read}
-use Rattle.dia_ccf.proofs.Sound.{sound}
-use Rattle.dia_ccf.proofs.Complete.{complete}
-use Rattle.dia_ccf.proofs.Completion.{is_sound, sound_next, can_complete}
-use Rattle.dia_ccf.proofs.Recognized.{some_is, number_at-is}
-use Rattle.dia_ccf.proofs.Complete.{and_false}
-use Rattle.dia_ccf.proofs.Running.{take_one, number_at-some}
+use Rattle.dia_ccf.specs.ReaderFunctions.{nothing_read}
+use Rattle.dia_ccf.proofs.MachineSoundness.{sound}
+use Rattle.dia_ccf.proofs.MachineCompleteness.{complete}
+use Rattle.dia_ccf.proofs.Completions.{is_sound, sound_next, can_complete}
+use Rattle.dia_ccf.proofs.TokenTests.{some_is, number_at-is}
+use Rattle.dia_ccf.proofs.MachineCompleteness.{and_false}
+use Rattle.dia_ccf.proofs.MachineRuns.{take_one, number_at-some}
 
 -- why the machine stops in a state
 abbrev Stands : State → Refusal → List Token → Type 0

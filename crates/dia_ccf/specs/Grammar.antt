@@ -193,17 +193,17 @@ command_of_head (Group code n) d = None
 command_of_head (Command code request pxy app) d = Some d
 command_of_head (Error pxy) d = Some d
 
-abbrev pub group_of : Item → Option PlainDef
-group_of (Declaration d) = None
-group_of (Definition d) = group_of_head d.head d
+abbrev pub item_group : Item → Option PlainDef
+item_group (Declaration d) = None
+item_group (Definition d) = group_of_head d.head d
 
-abbrev pub command_of : Item → Option PlainDef
-command_of (Declaration d) = None
-command_of (Definition d) = command_of_head d.head d
+abbrev pub item_command : Item → Option PlainDef
+item_command (Declaration d) = None
+item_command (Definition d) = command_of_head d.head d
 
 -- the declarations, the groups and the commands, each in the order of the text
 abbrev pub source_of : List Item → PlainSource
-source_of items = record { avps = filter_map declared items; groups = filter_map group_of items; commands = filter_map command_of items }
+source_of items = record { avps = filter_map declared items; groups = filter_map item_group items; commands = filter_map item_command items }
 
 -- the grammar derives the tokens for the source
 abbrev pub Derives : List Token → PlainSource → Type 0

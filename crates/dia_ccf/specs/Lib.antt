@@ -2,10 +2,10 @@ pub mod Limits
 pub mod Names
 pub mod Tokens
 pub mod Front
-pub mod Lexing
+pub mod LexerTokens
 pub mod Plain
 pub mod Grammar
 pub mod Faults
-pub mod Rendering
+pub mod CanonicalText
 pub mod Machine
-pub mod Reading
+pub mod ReaderFunctions

@@ -14,8 +14,8 @@ use Rattle.dia_ccf.specs.declared.source.Head.TheVariants.{Group, Command, Error
 use Rattle.dia_ccf.specs.declared.source.RuleKind.{RuleKind}
 use Rattle.dia_ccf.specs.declared.source.RuleKind.TheVariants.{Fixed, Required, Optional}
 use Rattle.dia_ccf.specs.declared.source.Qual.{Qual}
-use Rattle.dia_ccf.specs.declared.reading.reasons.Refusal.{Refusal}
-use Rattle.dia_ccf.specs.declared.reading.reasons.Refusal.TheVariants as refusal
+use Rattle.dia_ccf.specs.declared.reading.refusal.Refusal.{Refusal}
+use Rattle.dia_ccf.specs.declared.reading.refusal.Refusal.TheVariants as refusal
 use Rattle.dia_ccf.specs.Names.{is_name, is_fixed, same_bytes}
 use Rattle.dia_ccf.specs.Plain.{PlainDecl, PlainRule, PlainDef, PlainSource}
 use Rattle.dia_ccf.specs.Tokens.{Token, Less, Greater, Open_brace, Close_brace, Open_bracket, Close_bracket, Open_parenthesis}

@@ -43,5 +43,5 @@ plain_rule r = record { kind = r.kind; name = option_map (λ n. string_bytes n) 
 abbrev pub plain_def : Def → PlainDef
 plain_def d = record { name = string_bytes d.name; head = d.head; rules = map plain_rule d.rules.items }
 
-abbrev pub plain : Source → PlainSource
-plain s = record { avps = map plain_decl s.avps.items; groups = map plain_def s.groups.items; commands = map plain_def s.commands.items }
+abbrev pub plain_source : Source → PlainSource
+plain_source s = record { avps = map plain_decl s.avps.items; groups = map plain_def s.groups.items; commands = map plain_def s.commands.items }

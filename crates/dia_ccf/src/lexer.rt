@@ -7,7 +7,7 @@ ghost use Rattle.std.specs.Str.Parse.{digits_value};
 ghost use Rattle.dia_ccf.specs.Names.{is_run_byte, is_name_run};
 ghost use Rattle.dia_ccf.specs.Tokens.{Token as AnyToken, Number, sign, run_token};
 ghost use Rattle.dia_ccf.specs.Front.{front, begins_blank, blank, run_piece, byte_piece, run_front};
-ghost use Rattle.dia_ccf.specs.Lexing.{tokens_from, IsNext, capped, shown, shown_sign};
+ghost use Rattle.dia_ccf.specs.LexerTokens.{tokens_from, IsNext, capped, shown, shown_sign};
 
 /// A sign of the text.
 #[derive(Clone, Copy, Debug, PartialEq, Eq)]
@@ -129,7 +129,8 @@ fn token_at(text: &str, at: usize) -> (Token<'_>, usize)
 /// The sign at the front, and its length.
 fn sign_at_front(bytes: &[u8]) -> Option<(Sign, usize)>
     requires { begins_blank bytes.now ≡ false }
-    ensures some { IfSome result (λ found. front bytes.now ≡ Some (sign (shown_sign found.0) found.1)) }
+    ensures some { IfSome result
+        (λ found. front bytes.now ≡ Some (sign (shown_sign found.0) found.1)) }
     ensures none { result ≡ None → front bytes.now ≡ run_front bytes.now }
     ensures long { IfSome result (λ found. 0 < found.1) }
     ensures within { IfSome result (λ found. found.1 ≤ length bytes.now) }
@@ -149,7 +150,8 @@ fn sign_at_front(bytes: &[u8]) -> Option<(Sign, usize)>
 
 /// The sign that a byte is.
 fn sign_of(b: u8) -> Option<Sign>
-    ensures { MatchOption result ((rest : List ℕ) → byte_piece b rest ≡ run_piece b rest) (λ found. (rest : List ℕ)
+    ensures { MatchOption result ((rest : List ℕ) → byte_piece b rest ≡ run_piece b rest)
+        (λ found. (rest : List ℕ)
         → byte_piece b rest ≡ sign (shown_sign found) 1) }
 {
     let sign = match b {

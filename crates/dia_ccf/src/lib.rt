@@ -16,6 +16,7 @@
 #![tactic(auto)]
 
 mod fault;
+mod format_words;
 mod lexer;
 mod limits;
 mod names;
@@ -25,7 +26,6 @@ mod rendering;
 mod source;
 #[cfg(test)]
 mod tests;
-mod words;
 
 pub use fault::CcfFault;
 pub use limits::{MAX_NAME, MAX_TEXT};

@@ -3,7 +3,7 @@
 ghost use Rattle.std.specs.Prelude.{◌≡◌, ◌<◌, ◌≤◌, ℕ, List, length, Err, MatchResult, IfOk, IfErr};
 ghost use Rattle.dia_ccf.specs.declared.fault.CcfFault.{CcfFault as AnyFault};
 ghost use Rattle.dia_ccf.specs.Limits.{max_text};
-ghost use Rattle.dia_ccf.specs.Plain.{PlainSource, plain};
+ghost use Rattle.dia_ccf.specs.Plain.{PlainSource, plain_source};
 ghost use Rattle.dia_ccf.specs.Tokens.{Token, tokens};
 ghost use Rattle.dia_ccf.specs.Grammar.{Derives};
 ghost use Rattle.dia_ccf.specs.Faults.{IsFault};
@@ -22,10 +22,11 @@ use std::alloc::Global;
 /// was refused.
 pub fn parse(alloc: Global, text: &str) -> Result<Source, CcfFault>
     // What is read is derived from the text's tokens.
-    ensures found { IfOk result (λ source. Derives (tokens text.now) (plain source)) }
+    ensures found { IfOk result (λ source. Derives (tokens text.now) (plain_source source)) }
     // No other source is, and one that is derived is read, unless memory runs out.
-    ensures only { (source : PlainSource) → length text.now ≤ max_text → Derives (tokens text.now) source
-        → MatchResult result (λ found. plain found ≡ source) (λ e. e ≡ CcfFault.NoMemory) }
+    ensures only { (source : PlainSource) → length text.now ≤ max_text
+        → Derives (tokens text.now) source
+        → MatchResult result (λ found. plain_source found ≡ source) (λ e. e ≡ CcfFault.NoMemory) }
 
     ensures too_long { max_text < length text.now → result ≡ Err (CcfFault.Limit 0) }
     ensures fault { length text.now ≤ max_text → IfErr result (IsFault text.now) }

@@ -2,23 +2,23 @@
 ghost use Rattle.std.specs.Prelude.{◌≡◌, ◌+◌, ◌≤◌, drop, length, map, slice_get, OnOk, IfErr};
 ghost use Rattle.std.specs.Char.{to_ascii_lowercase};
 ghost use Rattle.dia_ccf.specs.Limits.{max_text};
-ghost use Rattle.dia_ccf.specs.Plain.{plain, plain_decl, plain_def};
+ghost use Rattle.dia_ccf.specs.Plain.{plain_source, plain_decl, plain_def};
 ghost use Rattle.dia_ccf.specs.Machine.{add_decl, add_def};
 ghost use Rattle.dia_ccf.specs.Tokens.{placed_tokens, line_at};
 ghost use Rattle.dia_ccf.specs.Faults.{token_line};
-ghost use Rattle.dia_ccf.specs.Lexing.{tokens_from, left_from, ahead, sees};
+ghost use Rattle.dia_ccf.specs.LexerTokens.{tokens_from, left_from, ahead, sees};
 
 mod declarations;
 mod definitions;
 mod heads;
-mod reasons;
+mod refusal;
 
 use crate::fault::CcfFault;
 use crate::lexer::{Sign, Token, next_token};
 use crate::limits::MAX_NAME;
 use crate::names::{is_name, is_same, is_same_word};
 use crate::source::{Decl, Def, Head, Source};
-use reasons::Refusal;
+use refusal::Refusal;
 use std::alloc::Global;
 
 /// A text, and how far it has been read.
@@ -39,17 +39,20 @@ pub(crate) struct Reader<'a> {
     ghost few: { taken ≤ at },
     ghost reached: { taken ≤ length (placed_tokens text.now) },
     ghost counted: { drop taken (placed_tokens text.now) ≡ tokens_from text.now at },
-    ghost rest: { drop (length (ahead token)) (tokens_from text.now at) ≡ tokens_from text.now end },
-    ghost lined: { token_line text.now (slice_get (tokens_from text.now at) 0) ≡ line_at text.now at },
+    ghost rest: { drop (length (ahead token)) (tokens_from text.now at)
+        ≡ tokens_from text.now end },
+    ghost lined: { token_line text.now (slice_get (tokens_from text.now at) 0)
+        ≡ line_at text.now at },
     ghost begins: { left_from text.now at ≡ sees token (left_from text.now end) },
 }
 
 impl<'a> Reader<'a> {
     ghost use Rattle.std.specs.Prelude.{true, false, IsSome, string_bytes};
-    ghost use Rattle.dia_ccf.specs.Lexing.{shown_sign};
+    ghost use Rattle.dia_ccf.specs.LexerTokens.{shown_sign};
     ghost use Rattle.dia_ccf.specs.Machine.{Between, same_sign, is_word, is_keyword, is_number};
     ghost use Rattle.dia_ccf.specs.Machine.{number_at, name_at, sign_at, keyword_at};
-    ghost use Rattle.dia_ccf.specs.Reading.{left, Passes, Takes, Accepts, Finishes, IsToldAt, course, begins_with, nothing_read};
+    ghost use Rattle.dia_ccf.specs.ReaderFunctions.{left, Passes, Takes, Accepts, Finishes};
+    ghost use Rattle.dia_ccf.specs.ReaderFunctions.{IsToldAt, course, begins_with, nothing_read};
 
     /// A reader that stands at the first token.
     pub(crate) fn new(alloc: Global, text: &'a str) -> Self
@@ -109,7 +112,8 @@ impl<'a> Reader<'a> {
 
     /// Goes past the sign.
     fn expect(&mut self, sign: Sign) -> Result<(), Refusal>
-        ensures { Accepts false false (sign_at (shown_sign sign)) (λ u. tt) self.old result self.new }
+        ensures { Accepts false false (sign_at (shown_sign sign))
+            (λ u. tt) self.old result self.new }
     {
         if self.takes(sign) {
             Ok(())
@@ -148,7 +152,8 @@ impl<'a> Reader<'a> {
 
     /// Goes past the word in either letter case.
     fn expect_keyword(&mut self, word: &str) -> Result<(), Refusal>
-        ensures { Accepts false false (keyword_at (map to_ascii_lowercase word.now)) (λ u. tt) self.old result self.new }
+        ensures { Accepts false false (keyword_at (map to_ascii_lowercase word.now))
+            (λ u. tt) self.old result self.new }
     {
         if self.takes_keyword(word) {
             Ok(())
@@ -237,10 +242,13 @@ impl<'a> Reader<'a> {
 /// The token from a place on, where it begins and where it ends.
 fn look(text: &str, from: usize) -> (Option<Token<'_>>, usize, usize)
     requires { from ≤ length text.now }
-    ensures within { (from ≤ result.1) × (result.1 + length (ahead result.0) ≤ result.2) × (result.2 ≤ length text.now) }
+    ensures within { (from ≤ result.1) × (result.1 + length (ahead result.0) ≤ result.2)
+        × (result.2 ≤ length text.now) }
     ensures same { tokens_from text.now from ≡ tokens_from text.now result.1 }
-    ensures rest { drop (length (ahead result.0)) (tokens_from text.now result.1) ≡ tokens_from text.now result.2 }
-    ensures lined { token_line text.now (slice_get (tokens_from text.now result.1) 0) ≡ line_at text.now result.1 }
+    ensures rest { drop (length (ahead result.0)) (tokens_from text.now result.1)
+        ≡ tokens_from text.now result.2 }
+    ensures lined { token_line text.now (slice_get (tokens_from text.now result.1) 0)
+        ≡ line_at text.now result.1 }
     ensures begins { left_from text.now result.1 ≡ sees result.0 (left_from text.now result.2) }
 {
     match next_token(text, from) {
@@ -266,7 +274,8 @@ fn line_of(text: &str, at: usize) -> u32
 
 /// Adds a declaration.
 fn keep_declaration(source: &mut Source, decl: Decl) -> Result<(), Refusal>
-    ensures kept { OnOk result (plain source.new ≡ add_decl (plain source.old) (plain_decl decl)) }
+    ensures kept { OnOk result
+        (plain_source source.new ≡ add_decl (plain_source source.old) (plain_decl decl)) }
     ensures err { IfErr result (λ e. e ≡ Refusal.NoMemory) }
 {
     source.avps.push(decl)?;
@@ -275,7 +284,8 @@ fn keep_declaration(source: &mut Source, decl: Decl) -> Result<(), Refusal>
 
 /// Adds a definition to the groups or to the commands.
 fn keep_definition(source: &mut Source, def: Def) -> Result<(), Refusal>
-    ensures kept { OnOk result (plain source.new ≡ add_def (plain source.old) (plain_def def)) }
+    ensures kept { OnOk result
+        (plain_source source.new ≡ add_def (plain_source source.old) (plain_def def)) }
     ensures err { IfErr result (λ e. e ≡ Refusal.NoMemory) }
 {
     match def.head {

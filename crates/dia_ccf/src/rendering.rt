@@ -1,17 +1,20 @@
 //! The canonical text.
 
-ghost use Rattle.std.specs.Prelude.{◌≡◌, ◌++◌, ℕ, List, [], ◌∷◌, map, codes, ◌==◌, if◌then◌else◌, Some, OnOk, IfOk, string_bytes};
+ghost use Rattle.std.specs.Prelude.{◌≡◌, ◌++◌, ℕ, List, [], ◌∷◌, map, codes, ◌==◌};
+ghost use Rattle.std.specs.Prelude.{if◌then◌else◌, Some, OnOk, IfOk, string_bytes};
 ghost use Rattle.std.specs.List.{flat_map};
 ghost use Rattle.std.specs.Fmt.{decimal};
-ghost use Rattle.dia_ccf.specs.Plain.{plain, plain_decl, plain_rule, plain_def};
+ghost use Rattle.dia_ccf.specs.Plain.{plain_source, plain_decl, plain_rule, plain_def};
 ghost use Rattle.dia_ccf.specs.Tokens.{tokens};
 ghost use Rattle.dia_ccf.specs.Grammar.{Derives, format_word, rule_word};
-ghost use Rattle.dia_ccf.specs.Rendering.{canonical, declaration_line, vendor_text, values_text, range_text, definition_lines};
-ghost use Rattle.dia_ccf.specs.Rendering.{head_text, flag_text, application_text, error_proxy_text, rule_line, qualifier_text};
-ghost use Rattle.dia_ccf.specs.Rendering.{count_text, bracketed_text};
+ghost use Rattle.dia_ccf.specs.CanonicalText.{canonical, declaration_line, vendor_text};
+ghost use Rattle.dia_ccf.specs.CanonicalText.{values_text, range_text, definition_lines};
+ghost use Rattle.dia_ccf.specs.CanonicalText.{head_text, flag_text, application_text};
+ghost use Rattle.dia_ccf.specs.CanonicalText.{error_proxy_text, rule_line, qualifier_text};
+ghost use Rattle.dia_ccf.specs.CanonicalText.{count_text, bracketed_text};
 
+use crate::format_words::{format_name, rule_name};
 use crate::source::{Decl, Def, Head, Pxy, Qual, Rule, RuleKind, Source};
-use crate::words::{format_name, rule_name};
 use std::alloc::{AllocError, Global};
 
 /// The canonical text of a source: a line for each declaration, then a line for the head and one for each rule of each
@@ -20,8 +23,9 @@ use std::alloc::{AllocError, Global};
 /// The text may be longer than the limit of texts that are read: where it is not, it is read as the source again.
 /// The error comes only where memory was refused.
 pub fn render(alloc: Global, source: &Source) -> Result<String, AllocError>
-    ensures text { IfOk result (λ text. string_bytes text ≡ canonical (plain source.now)) }
-    ensures read_again { Derives (tokens (canonical (plain source.now))) (plain source.now) }
+    ensures text { IfOk result (λ text. string_bytes text ≡ canonical (plain_source source.now)) }
+    ensures read_again { Derives (tokens (canonical (plain_source source.now)))
+        (plain_source source.now) }
 {
     let mut text = String::new(alloc);
     put_declarations(&mut text, &source.avps)?;
@@ -41,7 +45,8 @@ fn put_declarations(text: &mut String, decls: &[Decl]) -> Result<(), AllocError>
 }
 
 fn put_declaration(text: &mut String, decl: &Decl) -> Result<(), AllocError>
-    ensures { OnOk result (string_bytes text.new ≡ string_bytes text.old ++ declaration_line (plain_decl decl.now)) }
+    ensures { OnOk result (string_bytes text.new
+        ≡ string_bytes text.old ++ declaration_line (plain_decl decl.now)) }
 {
     put_key(text, decl)?;
     put_type(text, decl)?;
@@ -50,7 +55,8 @@ fn put_declaration(text: &mut String, decl: &Decl) -> Result<(), AllocError>
 
 fn put_key(text: &mut String, decl: &Decl) -> Result<(), AllocError>
     ensures { OnOk result (string_bytes text.new ≡ string_bytes text.old
-        ++ (codes "%avp " ++ string_bytes decl.now.name ++ codes " " ++ decimal decl.now.code ++ vendor_text decl.now.vendor)) }
+        ++ (codes "%avp " ++ string_bytes decl.now.name
+        ++ codes " " ++ decimal decl.now.code ++ vendor_text decl.now.vendor)) }
 {
     write!(text, "%avp {} {}", decl.name, decl.code)?;
     put_vendor(text, decl.vendor)
@@ -58,7 +64,8 @@ fn put_key(text: &mut String, decl: &Decl) -> Result<(), AllocError>
 
 fn put_type(text: &mut String, decl: &Decl) -> Result<(), AllocError>
     ensures { OnOk result (string_bytes text.new ≡ string_bytes text.old
-        ++ (codes " " ++ format_word decl.now.format ++ codes " " ++ rule_word decl.now.rule ++ values_text (plain_decl decl.now).values)) }
+        ++ (codes " " ++ format_word decl.now.format
+        ++ codes " " ++ rule_word decl.now.rule ++ values_text (plain_decl decl.now).values)) }
 {
     write!(
         text,
@@ -79,7 +86,8 @@ fn put_vendor(text: &mut String, vendor: u32) -> Result<(), AllocError>
 }
 
 fn put_values(text: &mut String, decl: &Decl) -> Result<(), AllocError>
-    ensures { OnOk result (string_bytes text.new ≡ string_bytes text.old ++ values_text (plain_decl decl.now).values) }
+    ensures { OnOk result (string_bytes text.new
+        ≡ string_bytes text.old ++ values_text (plain_decl decl.now).values) }
 {
     let Some(ranges) = &decl.values else {
         return Ok(());
@@ -100,7 +108,8 @@ fn put_ranges(text: &mut String, ranges: &[(u32, u32)]) -> Result<(), AllocError
 }
 
 fn put_range(text: &mut String, range: (u32, u32)) -> Result<(), AllocError>
-    ensures { OnOk result (string_bytes text.new ≡ string_bytes text.old ++ range_text range ++ codes " ") }
+    ensures { OnOk result (string_bytes text.new
+        ≡ string_bytes text.old ++ range_text range ++ codes " ") }
 {
     let (low, high) = range;
     if low == high {
@@ -111,7 +120,8 @@ fn put_range(text: &mut String, range: (u32, u32)) -> Result<(), AllocError>
 }
 
 fn put_definitions(text: &mut String, defs: &[Def]) -> Result<(), AllocError>
-    ensures { OnOk result (string_bytes text.new ≡ string_bytes text.old ++ flat_map definition_lines (map plain_def defs.now)) }
+    ensures { OnOk result (string_bytes text.new
+        ≡ string_bytes text.old ++ flat_map definition_lines (map plain_def defs.now)) }
 {
     for def in defs {
         put_definition(text, def)?;
@@ -120,7 +130,8 @@ fn put_definitions(text: &mut String, defs: &[Def]) -> Result<(), AllocError>
 }
 
 fn put_definition(text: &mut String, def: &Def) -> Result<(), AllocError>
-    ensures { OnOk result (string_bytes text.new ≡ string_bytes text.old ++ definition_lines (plain_def def.now)) }
+    ensures { OnOk result (string_bytes text.new
+        ≡ string_bytes text.old ++ definition_lines (plain_def def.now)) }
 {
     write!(text, "<{}> ::= < ", def.name)?;
     put_head(text, def.head)?;
@@ -162,7 +173,8 @@ fn put_group_vendor(text: &mut String, vendor: u32) -> Result<(), AllocError>
 }
 
 fn put_flag(text: &mut String, is_set: bool, flag: &str) -> Result<(), AllocError>
-    ensures { OnOk result (string_bytes text.new ≡ string_bytes text.old ++ flag_text is_set flag.now) }
+    ensures { OnOk result (string_bytes text.new
+        ≡ string_bytes text.old ++ flag_text is_set flag.now) }
 {
     if is_set {
         text.push_str(flag)?;
@@ -190,7 +202,8 @@ fn error_proxy(pxy: Pxy) -> &'static str
 }
 
 fn put_rules(text: &mut String, rules: &[Rule]) -> Result<(), AllocError>
-    ensures { OnOk result (string_bytes text.new ≡ string_bytes text.old ++ flat_map rule_line (map plain_rule rules.now)) }
+    ensures { OnOk result (string_bytes text.new
+        ≡ string_bytes text.old ++ flat_map rule_line (map plain_rule rules.now)) }
 {
     for rule in rules {
         put_rule(text, rule)?;
@@ -199,7 +212,8 @@ fn put_rules(text: &mut String, rules: &[Rule]) -> Result<(), AllocError>
 }
 
 fn put_rule(text: &mut String, rule: &Rule) -> Result<(), AllocError>
-    ensures { OnOk result (string_bytes text.new ≡ string_bytes text.old ++ rule_line (plain_rule rule.now)) }
+    ensures { OnOk result (string_bytes text.new
+        ≡ string_bytes text.old ++ rule_line (plain_rule rule.now)) }
 {
     text.push_str("  ")?;
     put_qualifier(text, rule.qual)?;
@@ -208,7 +222,8 @@ fn put_rule(text: &mut String, rule: &Rule) -> Result<(), AllocError>
 }
 
 fn put_bracketed(text: &mut String, kind: RuleKind, name: &str) -> Result<(), AllocError>
-    ensures { OnOk result (string_bytes text.new ≡ string_bytes text.old ++ bracketed_text kind name.now) }
+    ensures { OnOk result (string_bytes text.new
+        ≡ string_bytes text.old ++ bracketed_text kind name.now) }
 {
     match kind {
         RuleKind::Fixed => write!(text, "< {name} >"),

@@ -116,7 +116,7 @@ pub struct Rule {
 impl Rule {
     ghost use Rattle.std.specs.Prelude.{◌≡◌};
     ghost use Rattle.dia_ccf.specs.Plain.{plain_rule};
-    ghost use Rattle.dia_ccf.specs.Rendering.{slot_text};
+    ghost use Rattle.dia_ccf.specs.CanonicalText.{slot_text};
 
     /// The name of the rule's AVP, and `AVP` for the wildcard (RFC 6733 section 3.2).
     pub fn slot_name(&self) -> &str

@@ -6,8 +6,8 @@ use Rattle.std.proofs.lemmas.Option.{same_Some, slice_get_cases, slice_get_withi
 use Rattle.dia_dict.specs.declared.DRule.{DRule}
 use Rattle.dia_dict.specs.Dictionary.{AreRules, is_fixed}
 use Rattle.dia_check.specs.Valid.{fixed_rules}
-use Rattle.dia_check.proofs.Fronts.{into_fixed}
-use Rattle.dia_check.proofs.Meeting.{fixed_at, fixed_few}
+use Rattle.dia_check.proofs.FaultlessFronts.{into_fixed}
+use Rattle.dia_check.proofs.KeysByCounts.{fixed_at, fixed_few}
 
 -- the rules in front of a place are fixed
 abbrev pub AllFixed : List DRule → ℕ → Type 0

@@ -9,7 +9,8 @@ use Rattle.std.proofs.lemmas.Bool.{ltb-false, ltb-true, both_ways}
 use Rattle.std.proofs.lemmas.List.{length-append, length-map, length-take, length-drop, take_at, drop_at, take-append-drop}
 use Rattle.std.proofs.lemmas.List.Folds.{Any-from_list_any, list_any-from_Any}
 use Rattle.dia_data.specs.Number.{number}
-use Rattle.dia_data.specs.Plain.{PlainFormat, OctetString, Integer32, Integer64, Unsigned32, Unsigned64, Float32, Float64, Grouped, Address, Time, Utf8String, DiameterIdentity, DiameterUri, Enumerated, IpFilterRule, QosFilterRule}
+use Rattle.dia_data.specs.Plain.{PlainFormat, OctetString, Integer32, Integer64, Unsigned32, Unsigned64, Float32, Float64, Grouped}
+use Rattle.dia_data.specs.Plain.{Address, Time, Utf8String, DiameterIdentity, DiameterUri, Enumerated, IpFilterRule, QosFilterRule}
 use Rattle.dia_data.specs.Leaf.{IsLeaf, IsAddress, IsIdentity, IsGraphic, IsUri, NamesScheme, IsListed, IsWithin}
 use Rattle.dia_check.proofs.OneAnswer.{one_number}
 

@@ -26,10 +26,10 @@ use Rattle.dia_check.specs.Valid.{known, IsValidOf}
 use Rattle.dia_check.specs.Faults.{Row, End, At, Spot, spot, row_of, code_of, IsBefore, IsFirstMissing, IsWrong, Stands, HasGoodHeader, HasLength, IsFirst, IsTold, IsAnswer, simple}
 use Rattle.dia_check.specs.Faults as faults
 use Rattle.dia_check.specs.Walks.{Found, Rest, behind, inside, whole, group_at, IsFine, IsFirstWrong, Walks, ended, missing, broken, wrong, leaf, group, bad_group}
-use Rattle.dia_check.proofs.Found.{walks_stands}
+use Rattle.dia_check.proofs.FoundFaultsStand.{walks_stands}
 use Rattle.dia_check.proofs.Uniqueness.{nat_cases, one_reason, found_at}
-use Rattle.dia_check.proofs.First.{begun_room, StandsBehind, least}
-use Rattle.dia_check.proofs.Messages.{head_size, valid_good, valid_stands, valid_command}
+use Rattle.dia_check.proofs.FirstFaults.{begun_room, StandsBehind, least}
+use Rattle.dia_check.proofs.FaultlessMessages.{head_size, valid_good, valid_stands, valid_command}
 
 -- ---- any rest has a walk, but for a double negation
 

@@ -24,13 +24,13 @@ use Rattle.dia_check.specs.OpenLevels.{SoFar, begun, and_key, AreOpen, IsMetAtEn
 use Rattle.dia_check.specs.Admission.{IsFineAvp, IsWrongAvp}
 use Rattle.dia_check.specs.Walks.{Found, Rest, behind, inside, whole, fault_of, IsFoundIn, group_at, IsFine, IsFirstWrong, Walks, ended, broken, wrong, leaf, group, bad_group}
 use Rattle.dia_check.specs.Walks as walks
-use Rattle.dia_check.proofs.Level.{more_keys, opens}
+use Rattle.dia_check.proofs.FaultlessLevels.{more_keys, opens}
 use Rattle.dia_check.proofs.Uniqueness.{begins_some}
-use Rattle.dia_check.proofs.First.{begun_room}
+use Rattle.dia_check.proofs.FirstFaults.{begun_room}
 use Rattle.dia_check.specs.UnderWay.{so_far, Owes, IsRestAt, AreNested, IsUnderWay}
-use Rattle.dia_check.proofs.Found.{lies_behind, lies_inside, body_lies}
-use Rattle.dia_check.proofs.Opening.{kept_many}
-use Rattle.dia_check.proofs.Owing.{Owes-passed, Owes-entered, Owes-done, Owes-found, is_fine, group_is, no_group, first_wrong}
+use Rattle.dia_check.proofs.FoundFaultsStand.{lies_behind, lies_inside, body_lies}
+use Rattle.dia_check.proofs.KeptLevels.{kept_many}
+use Rattle.dia_check.proofs.RestOfLevels.{Owes-passed, Owes-entered, Owes-done, Owes-found, is_fine, group_is, no_group, first_wrong}
 
 -- ---- the levels in one another
 
@@ -50,12 +50,17 @@ last_of (r ∷ rs) (o ∷ others) next e =
     (r ∷ qs, last, ap (λ (t : List Rest). r ∷ t) is, ap (λ (t : List SoFar). so_far r ∷ t) same ∙ ap (λ (a : SoFar). a ∷ others) parts.0, here)
 
 module _ (d : Dictionary) (u : Unknown) (most : Levels) (bytes : List ℕ) (good : HasGoodHeader d bytes) where
-  nested_push : (depth next : ℕ) (rs : List Rest) (s t : Rest) → AreNested d u most bytes good depth next rs s → IsRestAt d u most bytes good (suc (depth + length rs)) s.at t → AreNested d u most bytes good depth next (rs ++ s ∷ []) t
+  nested_push : (depth next : ℕ) (rs : List Rest) (s t : Rest) → AreNested d u most bytes good depth next rs s
+      → IsRestAt d u most bytes good (suc (depth + length rs)) s.at t → AreNested d u most bytes good depth next (rs ++ s ∷ []) t
   nested_push depth next [] s t h inner = (h, subst (λ (n : ℕ). IsRestAt d u most bytes good n s.at t) (let e : suc (depth + length {A = Rest} []) ≡ suc depth = omega arith in e) inner)
-  nested_push depth next (r ∷ rs) s t (here, h) inner =
-      (here, nested_push (suc depth) r.at rs s t h (subst (λ (n : ℕ). IsRestAt d u most bytes good n s.at t) (let e : suc (depth + length (r ∷ rs)) ≡ suc (suc depth + length rs) = omega arith in e) inner))
+  nested_push depth next (r ∷ rs) s t (here, h) inner = (
+    here,
+    nested_push (suc depth) r.at rs s t h (subst (λ (n : ℕ). IsRestAt d u most bytes good n s.at t)
+        (let e : suc (depth + length (r ∷ rs)) ≡ suc (suc depth + length rs) = omega arith in e) inner),
+  )
 
-  nested_pop : (depth next : ℕ) (rs : List Rest) (r s : Rest) → AreNested d u most bytes good depth next (rs ++ r ∷ []) s → AreNested d u most bytes good depth next rs r × IsRestAt d u most bytes good (suc (depth + length rs)) r.at s
+  nested_pop : (depth next : ℕ) (rs : List Rest) (r s : Rest) → AreNested d u most bytes good depth next (rs ++ r ∷ []) s
+      → AreNested d u most bytes good depth next rs r × IsRestAt d u most bytes good (suc (depth + length rs)) r.at s
   nested_pop depth next [] r s (here, inner) = (here, subst (λ (n : ℕ). IsRestAt d u most bytes good n r.at s) (let e : suc depth ≡ suc (depth + length {A = Rest} []) = omega arith in e) inner)
   nested_pop depth next (q ∷ rs) r s (here, h) =
       let (others, inner) = nested_pop (suc depth) q.at rs r s h in
@@ -67,7 +72,8 @@ module _ (d : Dictionary) (u : Unknown) (most : Levels) (bytes : List ℕ) (good
       let (n, last) = nested_last (suc depth) r.at rs s h in
       (n, subst (λ (k : ℕ). IsRestAt d u most bytes good k n s) (let e : suc depth + length rs ≡ depth + length (r ∷ rs) = omega arith in e) last)
 
-  nested_new : (depth next : ℕ) (rs : List Rest) (s t : Rest) → AreNested d u most bytes good depth next rs s → ((k n : ℕ) → IsRestAt d u most bytes good k n s → IsRestAt d u most bytes good k n t) → AreNested d u most bytes good depth next rs t
+  nested_new : (depth next : ℕ) (rs : List Rest) (s t : Rest) → AreNested d u most bytes good depth next rs s
+      → ((k n : ℕ) → IsRestAt d u most bytes good k n s → IsRestAt d u most bytes good k n t) → AreNested d u most bytes good depth next rs t
   nested_new depth next [] s t h new = new depth next h
   nested_new depth next (r ∷ rs) s t (here, h) new = (here, nested_new (suc depth) r.at rs s t h new)
 

@@ -1,5 +1,6 @@
 -- What is wrong with a message, and which of it is told (RFC 6733 section 7.1; places and order are this project's).
-use Rattle.std.specs.Prelude.{◌≡◌, ◌≢◌, ℕ, suc, ◌<◌, ◌≤◌, ◌⊎◌, true, false, List, [], ◌∷◌, ◌++◌, length, map, take, drop, sum, Option, Some, None, Result, Ok, Err, slice_get, slice_index, if◌then◌else◌, IsTrue, ⊤}
+use Rattle.std.specs.Prelude.{◌≡◌, ◌≢◌, ℕ, suc, ◌<◌, ◌≤◌, ◌⊎◌, true, false, List, [], ◌∷◌, ◌++◌, length, map, take, drop}
+use Rattle.std.specs.Prelude.{sum, Option, Some, None, Result, Ok, Err, slice_get, slice_index, if◌then◌else◌, IsTrue, ⊤}
 use Rattle.std.specs.List.{prefix_len}
 use Rattle.dia_wire.specs.declared.Header.{Header}
 use Rattle.dia_wire.specs.declared.Key.{Key}

@@ -1,5 +1,5 @@
 -- How far a stream has read a body, for each way in which its message may go on.
-use Rattle.std.specs.Prelude.{◌≡◌, ◌≢◌, ℕ, ◌+◌, ◌-◌, ◌<◌, ◌≤◌, List, length, take, drop, map, Option, Some, None, MatchOption, slice_index, ◌^◌}
+use Rattle.std.specs.Prelude.{◌≡◌, ◌≢◌, ℕ, ◌+◌, ◌-◌, ◌<◌, ◌≤◌, List, length, take, drop, map, Option, Some, None, MatchOption, IfSome, slice_index, ◌^◌}
 use Rattle.dia_wire.specs.declared.Key.{Key}
 use Rattle.dia_wire.specs.Number.{number}
 use Rattle.dia_wire.specs.Wire.{PlainAvp, key_of, head_length, avp_length, padded_length, BeginsWith, HasWholeHead, HasHead, IsBadLength}
@@ -120,6 +120,15 @@ module _ (d : Dictionary) (u : Unknown) (most : Levels) (bytes : List ℕ) (good
   IsStop Memory refusal.Trailing = ⊥
   IsStop Memory refusal.Spent = ⊥
 
+  -- the AVPs of a piece that ends at a place were read: up to an AVP that goes on behind it, or to the end of the message
+  abbrev pub IsReadTo : OpenLevels → ℕ → Option ℕ → Type 0
+  IsReadTo open_levels stop next = MatchOption next (Walks d u most (whole good.command.rules bytes) None × (stop ≡ length bytes))
+      (λ at. IsUnderWay d u most bytes good open_levels at)
+
+-- the place, if there is one, lies in a piece that begins at another, or at its end
+abbrev pub IsInPiece : ℕ → List ℕ → Option ℕ → Type 0
+IsInPiece from piece next = IfSome next (λ at. (from ≤ at) × (at ≤ from + length piece))
+
 -- ---- some message, of which nothing is known but what was read
 
 abbrev pub AreSound : Dictionary → OpenLevels → ℕ → Type 0
@@ -137,3 +146,8 @@ IsAtSomeAvp d u most open_levels at head = (bytes : List ℕ) × (good : HasGood
 abbrev pub GoesOn : Dictionary → Unknown → Levels → OpenLevels → Part → ℕ → List ℕ → Type 0
 GoesOn d u most open_levels part from piece = (bytes : List ℕ) × (good : HasGoodHeader d bytes)
     × (length bytes < 2 ^ 32) × IsInPart d u most bytes good open_levels part from × LiesAt bytes from piece
+
+-- a piece is read up to a place
+abbrev pub ReadsOn : Dictionary → Unknown → Levels → OpenLevels → ℕ → ℕ → List ℕ → Type 0
+ReadsOn d u most open_levels from at piece = (bytes : List ℕ) × (good : HasGoodHeader d bytes)
+    × (length bytes < 2 ^ 32) × IsUnderWay d u most bytes good open_levels at × LiesAt bytes from piece

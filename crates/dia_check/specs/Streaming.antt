@@ -1,5 +1,6 @@
 -- What a stream has taken, and what it stands for.
-use Rattle.std.specs.Prelude.{◌≡◌, ℕ, ◌+◌, ◌-◌, ◌/◌, ◌%◌, ◌<◌, ◌≤◌, ◌↔◌, ◌==◌, ◌&&◌, ◌^◌, nat_lt, nat_le, Bool, if◌then◌else◌, List, ◌++◌, length, take, drop, Some, Result, Ok, Err, slice_get, slice_index, Contains, IsTrue, ⊤}
+use Rattle.std.specs.Prelude.{◌≡◌, ℕ, ◌+◌, ◌-◌, ◌/◌, ◌%◌, ◌<◌, ◌≤◌, ◌↔◌, ◌==◌, ◌&&◌, ◌^◌, nat_lt, nat_le, Bool, if◌then◌else◌}
+use Rattle.std.specs.Prelude.{List, ◌++◌, length, take, drop, Some, Result, Ok, Err, slice_get, slice_index, Contains, IsTrue, ⊤}
 use Rattle.dia_wire.specs.Number.{number}
 use Rattle.dia_dict.specs.Dictionary.{Dictionary, IsDictionary}
 use Rattle.dia_check.specs.declared.policy.Unknown.{Unknown}
@@ -8,9 +9,9 @@ use Rattle.dia_check.specs.declared.policy.Levels.TheVariants.{Any, AtMost}
 use Rattle.dia_check.specs.declared.fault.Selected.{Selected}
 use Rattle.dia_check.specs.declared.fault.Refusal.{Refusal}
 use Rattle.dia_check.specs.declared.fault.Refusal.TheVariants as refusal
-use Rattle.dia_check.specs.declared.stream.Stage.{Stage}
-use Rattle.dia_check.specs.declared.stream.Stage.TheVariants.{Header, InBody, Over, Spent}
-use Rattle.dia_check.specs.declared.stream.Body.{Body}
+use Rattle.dia_check.specs.declared.stream.stages.Stage.{Stage}
+use Rattle.dia_check.specs.declared.stream.stages.Stage.TheVariants.{Header, InBody, Over, Spent}
+use Rattle.dia_check.specs.declared.stream.stages.Body.{Body}
 use Rattle.dia_check.specs.declared.stream.Progress.{Progress}
 use Rattle.dia_check.specs.Valid.{IsValid}
 use Rattle.dia_check.specs.Levels.{Level, IsOpen, filled}

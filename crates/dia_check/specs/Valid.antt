@@ -1,5 +1,6 @@
 -- Valid messages (RFC 6733 sections 3, 3.2, 4.1 and 4.4).
-use Rattle.std.specs.Prelude.{◌≡◌, ℕ, zero, suc, ◌≤◌, ◌⊎◌, ◌==◌, bit_and, Bool, false, not, if◌then◌else◌, List, [], ◌∷◌, ◌++◌, length, map, filter, count_by, Option, Some, is_some, slice_get, IfSome, MatchOption, IsTrue, option_and_then, ⊤}
+use Rattle.std.specs.Prelude.{◌≡◌, ℕ, zero, suc, ◌≤◌, ◌⊎◌, ◌==◌, bit_and, Bool, false, not, if◌then◌else◌, List, [], ◌∷◌, ◌++◌, length}
+use Rattle.std.specs.Prelude.{map, filter, count_by, Option, Some, is_some, slice_get, IfSome, MatchOption, IsTrue, option_and_then, ⊤}
 use Rattle.std.specs.List.{list_any, AllByRecursion}
 use Rattle.dia_wire.specs.declared.Header.{Header}
 use Rattle.dia_wire.specs.declared.Key.{Key}

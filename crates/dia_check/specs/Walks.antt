@@ -8,7 +8,6 @@ use Rattle.dia_dict.specs.declared.DRule.{DRule}
 use Rattle.dia_dict.specs.Dictionary.{Dictionary, DictEntry, PlainDefinition}
 use Rattle.dia_check.specs.declared.policy.Unknown.{Unknown}
 use Rattle.dia_check.specs.declared.policy.Levels.{Levels}
-use Rattle.dia_check.specs.declared.policy.Levels.TheVariants.{Any, AtMost}
 use Rattle.dia_check.specs.declared.fault.Reason.{Reason}
 use Rattle.dia_check.specs.declared.fault.Reason.TheVariants as reason
 use Rattle.dia_check.specs.declared.fault.Subject.{Subject}
@@ -86,8 +85,3 @@ IsFoundIn d u most s refusal.NoMemory = ⊤
 IsFoundIn d u most s refusal.Truncated = ⊥
 IsFoundIn d u most s refusal.Trailing = ⊥
 IsFoundIn d u most s refusal.Spent = ⊥
-
--- so many levels are enough for a level of these bytes at a depth
-abbrev pub AreEnough : Levels → ℕ → ℕ → List ℕ → Type 0
-AreEnough Any n depth bytes = length bytes ≤ n
-AreEnough (AtMost most) n depth bytes = depth + n ≡ most

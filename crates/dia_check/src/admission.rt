@@ -2,12 +2,15 @@
 
 ghost use Rattle.std.specs.Prelude.{◌≡◌, ◌<◌, ◌↔◌, ◌++◌, ◌∷◌, [], IfOk, OnOk, List, Option, Some};
 ghost use Rattle.std.specs.Prelude.{length, slice_get, MatchOption, MatchResult, IsTrue};
-ghost use Rattle.dia_wire.specs.Wire.{plain, key_of};
-ghost use Rattle.dia_dict.specs.Dictionary.{Dictionary, DictEntry, IsDictionary, PlainDefinition, definitions, entry_of};
+ghost use Rattle.dia_wire.specs.Wire.{plain_avp, key_of};
+ghost use Rattle.dia_dict.specs.Dictionary.{Dictionary, DictEntry, IsDictionary};
+ghost use Rattle.dia_dict.specs.Dictionary.{PlainDefinition, definitions, entry_of};
 ghost use Rattle.dia_check.specs.Valid.{MHolds, IsAccepted};
 ghost use Rattle.dia_check.specs.Levels.{MayOpen};
-ghost use Rattle.dia_check.specs.OpenLevels.{SoFar, begun, and_key, HasRoom, AreOpenUnder, IsMetAtEnd, IsMissingAtEnd};
-ghost use Rattle.dia_check.specs.Admission.{HasFlags, IsWrongFlags, IsAdmitted, IsFirstRefused, IsFineData, IsWrongData, IsFineAvp, IsWrongAvp};
+ghost use Rattle.dia_check.specs.OpenLevels.{SoFar, begun, and_key, HasRoom};
+ghost use Rattle.dia_check.specs.OpenLevels.{AreOpenUnder, IsMetAtEnd, IsMissingAtEnd};
+ghost use Rattle.dia_check.specs.Admission.{HasFlags, IsWrongFlags, IsAdmitted, IsFirstRefused};
+ghost use Rattle.dia_check.specs.Admission.{IsFineData, IsWrongData, IsFineAvp, IsWrongAvp};
 
 use crate::fault::Reason;
 use crate::open_levels::{OpenLevels, Wrong};
@@ -17,6 +20,7 @@ use dia_wire::{AVP_MANDATORY, Avp, Key, key};
 use std::alloc::{AllocError, Global};
 
 /// Checks an AVP of the innermost level. Answers the definition of a known group, whose data is a level to open.
+#[inline(always)]
 pub(crate) fn check_avp<B: Book>(
     book: &B,
     unknown: Unknown,
@@ -25,14 +29,17 @@ pub(crate) fn check_avp<B: Book>(
     avp: &Avp<'_>,
 ) -> Result<Option<DefId>, Wrong>
     requires sound { IsDictionary (B.meaning book.now) }
-    requires open_levels { (outer : List SoFar) × (level : SoFar)
-        × AreOpenUnder (B.meaning book.now) open_levels.old outer level × HasRoom level }
+    requires open_levels { ∥ ((outer : List SoFar) × (level : SoFar)
+        × AreOpenUnder (B.meaning book.now) open_levels.old outer level × HasRoom level) ∥₁ }
     ensures { (outer : List SoFar) (level : SoFar)
         → AreOpenUnder (B.meaning book.now) open_levels.old outer level
         → MatchResult result
-        (λ group. IsFineAvp (B.meaning book.now) unknown levels (length outer) level.rules level.keys (plain avp.now) group
-        × AreOpenUnder (B.meaning book.now) open_levels.new outer (and_key level (key_of (plain avp.now))))
-        (λ wrong. IsWrongAvp (B.meaning book.now) unknown levels (length outer) level.rules level.keys (plain avp.now) wrong) }
+        (λ group. IsFineAvp (B.meaning book.now) unknown levels
+        (length outer) level.rules level.keys (plain_avp avp.now) group
+        × AreOpenUnder (B.meaning book.now) open_levels.new outer
+        (and_key level (key_of (plain_avp avp.now))))
+        (λ wrong. IsWrongAvp (B.meaning book.now) unknown levels
+        (length outer) level.rules level.keys (plain_avp avp.now) wrong) }
 {
     let key = key(avp);
     let depth = open_levels.depth();
@@ -50,13 +57,15 @@ pub(crate) fn check_avp<B: Book>(
 }
 
 /// What is missing at the end of the innermost level.
+#[inline(always)]
 pub(crate) fn missing_at_end<B: Book>(book: &B, open_levels: &OpenLevels) -> Option<Wrong>
     requires sound { IsDictionary (B.meaning book.now) }
     requires open_levels { ∥ ((outer : List SoFar) × (level : SoFar)
         × AreOpenUnder (B.meaning book.now) open_levels.now outer level) ∥₁ }
     ensures { (outer : List SoFar) (level : SoFar)
         → AreOpenUnder (B.meaning book.now) open_levels.now outer level
-        → MatchOption result (IsMetAtEnd level.rules level.keys) (IsMissingAtEnd level.rules level.keys) }
+        → MatchOption result (IsMetAtEnd level.rules level.keys)
+        (IsMissingAtEnd level.rules level.keys) }
 {
     let def = open_levels.innermost().def;
     open_levels.missing(&book.def(def).rules)
@@ -73,12 +82,14 @@ pub(crate) fn open_body<B: Book>(
     requires def { def < length (definitions (B.meaning book.now)) }
     ensures { (definition : PlainDefinition)
         → slice_get (definitions (B.meaning book.now)) def ≡ Some definition
-        → IfOk result (λ open_levels. AreOpenUnder (B.meaning book.now) open_levels [] (begun definition.rules end)) }
+        → IfOk result (λ open_levels. AreOpenUnder
+        (B.meaning book.now) open_levels [] (begun definition.rules end)) }
 {
     OpenLevels::new(alloc, def, &book.def(def).rules, end)
 }
 
 /// Opens the data of a group, which ends at a place. This alone takes memory.
+#[inline(always)]
 pub(crate) fn open_group<B: Book>(
     book: &B,
     open_levels: &mut OpenLevels,
@@ -90,12 +101,14 @@ pub(crate) fn open_group<B: Book>(
     ensures { (definition : PlainDefinition) (outer : List SoFar) (level : SoFar)
         → slice_get (definitions (B.meaning book.now)) def ≡ Some definition
         → AreOpenUnder (B.meaning book.now) open_levels.old outer level
-        → OnOk result (AreOpenUnder (B.meaning book.now) open_levels.new (outer ++ level ∷ []) (begun definition.rules end)) }
+        → OnOk result (AreOpenUnder (B.meaning book.now) open_levels.new
+        (outer ++ level ∷ []) (begun definition.rules end)) }
 {
     open_levels.open(def, &book.def(def).rules, end)
 }
 
 /// Admits an AVP of this key, entry and flags to the innermost level, or says what is wrong.
+#[inline(always)]
 pub(crate) fn admit<B: Book>(
     book: &B,
     unknown: Unknown,
@@ -113,7 +126,8 @@ pub(crate) fn admit<B: Book>(
         → MatchOption result
         (IsAdmitted (B.meaning book.now) unknown level.rules level.keys key flags
         × AreOpenUnder (B.meaning book.now) open_levels.new outer (and_key level key))
-        (λ wrong. IsFirstRefused (B.meaning book.now) unknown level.rules level.keys key flags wrong) }
+        (λ wrong. IsFirstRefused
+        (B.meaning book.now) unknown level.rules level.keys key flags wrong) }
 {
     if let Some(wrong) = wrong_flags(book, unknown, key, known, flags) {
         return Some(wrong);
@@ -123,6 +137,7 @@ pub(crate) fn admit<B: Book>(
 }
 
 /// What is wrong with the flags of an AVP of this key and entry.
+#[inline(always)]
 fn wrong_flags<B: Book>(
     book: &B,
     unknown: Unknown,
@@ -175,6 +190,7 @@ fn is_accepted(unknown: Unknown, flags: u8) -> bool
 }
 
 /// Checks the data of a known AVP in a level of this depth: the definition of a group, whose data is a level to open.
+#[inline(always)]
 pub(crate) fn check_data<B: Book>(
     book: &B,
     levels: Levels,
@@ -185,7 +201,8 @@ pub(crate) fn check_data<B: Book>(
     requires sound { IsDictionary (B.meaning book.now) }
     requires entry { entry < length (B.meaning book.now).entries }
     ensures { (e : DictEntry) → slice_get (B.meaning book.now).entries entry ≡ Some e
-        → MatchResult result (λ group. IsFineData (B.meaning book.now) levels depth e bytes.now group)
+        → MatchResult result (λ group. IsFineData
+        (B.meaning book.now) levels depth e bytes.now group)
         (λ reason. IsWrongData levels depth e bytes.now reason) }
 {
     match accepts(book.format(entry), bytes) {

@@ -1,70 +1,103 @@
 //! The AVPs of a message, and of the groups in it.
 
-ghost use Rattle.std.specs.Prelude.{◌≡◌, ◌<◌, ◌^◌, length, MatchResult, Some, None};
+ghost use Rattle.std.specs.Prelude.{◌≡◌, ◌<◌, ◌+◌, ◌^◌, ℕ, List, length, IfOk, IfSome, MatchResult};
 ghost use Rattle.dia_dict.specs.Dictionary.{IsDictionary};
 ghost use Rattle.dia_check.specs.Faults.{HasGoodHeader, code_of};
-ghost use Rattle.dia_check.specs.Walks.{Walks, IsFoundIn, whole};
+ghost use Rattle.dia_check.specs.UnderWay.{IsUnderWay};
+ghost use Rattle.dia_check.specs.Reading.{BeginsLevel, IsInPiece, IsReadTo};
+ghost use Rattle.dia_check.specs.Reading.{IsStop, LiesAt, ReadsOn};
 
-use crate::admission::{check_avp, missing_at_end, open_body, open_group};
+use crate::admission::{check_avp, missing_at_end, open_group};
 use crate::fault::{Fault, Reason, Refusal, Subject};
-use crate::open_levels::Wrong;
+use crate::open_levels::{OpenLevels, Wrong};
 use crate::policy::{Levels, Unknown};
-use dia_dict::{Book, DefId};
-use dia_wire::{AvpFault, HEADER_LENGTH, next_avp};
-use std::alloc::{AllocError, Global};
+use dia_dict::Book;
+use dia_wire::{AvpFault, next_avp};
 
-/// Checks the body of a message with a good header, whose command has this definition: each AVP, and the members of a
-/// group before what is behind it.
+/// Goes over the AVPs that lie whole in a piece of a body, which begins at a place: each AVP where it lies, and the
+/// members of a group before what is behind it. `None` where the body ends with the piece, and else the place at which the
+/// AVP begins that goes on behind the piece, or where the piece ends.
 ///
 /// The levels that are open wait in a list, so the depth of a message costs memory and no stack.
-pub(crate) fn check_body<B: Book>(
-    alloc: Global,
+#[inline(never)]
+pub(crate) fn read_avps<B: Book>(
     book: &B,
     unknown: Unknown,
     levels: Levels,
-    def: DefId,
-    bytes: &[u8],
-) -> Result<(), Refusal>
+    open_levels: &mut OpenLevels,
+    from: usize,
+    piece: &[u8],
+) -> Result<Option<usize>, Refusal>
     requires sound { IsDictionary (B.meaning book.now) }
-    requires header { (good : HasGoodHeader (B.meaning book.now) bytes.now) × (good.c ≡ def) }
-    requires few { length bytes.now < 2 ^ 32 }
-    ensures { (good : HasGoodHeader (B.meaning book.now) bytes.now) → good.c ≡ def
-        → MatchResult result (λ _. Walks (B.meaning book.now) unknown levels (whole good.command.rules bytes.now) None)
-        (IsFoundIn (B.meaning book.now) unknown levels (whole good.command.rules bytes.now)) }
+    requires under_way { ∥ ReadsOn
+        (B.meaning book.now) unknown levels open_levels.old from from piece.now ∥₁ }
+    ensures within { IfOk result (IsInPiece from piece.now) }
+    ensures goes_on { IfOk result (λ next. IfSome next (λ at.
+        from + length piece.now < open_levels.new.innermost.end)) }
+    ensures next { (bytes : List ℕ) (good : HasGoodHeader (B.meaning book.now) bytes)
+        → IsUnderWay (B.meaning book.now) unknown levels bytes good open_levels.old from
+        → LiesAt bytes from piece.now
+        → MatchResult result
+        (IsReadTo (B.meaning book.now) unknown levels bytes good open_levels.new
+        (from + length piece.now))
+        (IsStop (B.meaning book.now) unknown levels bytes good
+        (BeginsLevel (B.meaning book.now) levels bytes from (from + length piece.now))) }
 {
-    let mut open_levels = open_body(alloc, book, def, bytes.len())?;
-    let mut at = HEADER_LENGTH;
+    let stop = from + piece.len();
+    let mut at = from;
     loop {
         let end = open_levels.innermost().end;
-        match next_avp(&bytes[at..end]) {
+        let until = end.min(stop);
+        match next_avp(&piece[at - from..until - from]) {
             Ok(Some((avp, rest))) => {
-                match check_avp(book, unknown, levels, &mut open_levels, &avp) {
+                match check_avp(book, unknown, levels, open_levels, &avp) {
                     Ok(Some(group)) => {
                         let length = avp.length();
-                        open_group(book, &mut open_levels, group, at + length)?;
+                        open_group(book, open_levels, group, at + length)?;
                         at += length - avp.bytes.len();
                     }
-                    Ok(None) => at = end - rest.len(),
+                    Ok(None) => at = until - rest.len(),
                     Err(wrong) => return Err(fault(at, wrong)),
                 }
             }
             Ok(None) => {
-                if let Some(wrong) = missing_at_end(book, &open_levels) {
+                if stop < end {
+                    return Ok(Some(at));
+                }
+                if let Some(wrong) = missing_at_end(book, open_levels) {
                     return Err(fault(end, wrong));
                 }
                 if !open_levels.close() {
-                    return Ok(());
+                    return Ok(None);
                 }
             }
             Err(AvpFault::Length) => {
-                let wrong = Wrong {
-                    reason: Reason::AvpLength,
-                    subject: Subject::Nothing,
-                };
-                return Err(fault(at, wrong));
+                if stop < end {
+                    return Ok(Some(at));
+                }
+                return Err(broken(at));
             }
         }
     }
+}
+
+/// No AVP begins at the place, by its Length.
+pub(crate) fn broken(at: usize) -> Refusal
+    requires { at < 2 ^ 32 }
+    ensures { result ≡ Refusal.Fault (record {
+      place = at;
+      code = 5014;
+      reason = Reason.AvpLength;
+      subject = Subject.Nothing;
+    }) }
+{
+    fault(
+        at,
+        Wrong {
+            reason: Reason::AvpLength,
+            subject: Subject::Nothing,
+        },
+    )
 }
 
 /// The fault at a place of the message.

@@ -9,10 +9,10 @@ ghost use Rattle.dia_check.specs.declared.fault.Refusal.{Refusal as AnyRefusal};
 ghost use Rattle.dia_check.specs.Valid.{IsValid, IsValidOf};
 ghost use Rattle.dia_check.specs.Faults.{IsAnswer, HasLength, Stands, Spot};
 
-use crate::body::check_body;
 use crate::fault::{Refusal, Selected};
-use crate::header::{good_command, whole_header};
+use crate::header::whole_header;
 use crate::policy::{Levels, Unknown};
+use crate::stream::Stream;
 use dia_dict::Book;
 use std::alloc::Global;
 
@@ -39,10 +39,12 @@ pub fn check<B: Book>(
 {
     // Called for its clause `sound`: the rules of the book's dictionary can be met.
     let _count = book.entries();
-    let header = whole_header(bytes)?;
-    let def = good_command(book, &header)?;
-    check_body(alloc, book, unknown, levels, def, bytes)?;
-    Ok(Selected { def })
+    whole_header(bytes)?;
+    let mut stream = Stream::new(alloc, book, unknown, levels);
+    match stream.feed(bytes) {
+        Ok(_) => stream.finish(),
+        Err(_) => Err(Refusal::NoMemory),
+    }
 }
 
 /// A whole message, with a sound version and Message Length, is valid exactly where no fault stands.
@@ -50,7 +52,8 @@ pub fn validity()
     ensures { (d : Dictionary) (u : AnyPolicy) (most : AnyLevels) (bytes : List ℕ) → IsDictionary d
         → HasLength bytes (length bytes)
         → IsValid d u most bytes
-        ↔ ((spot : Spot) (reason : AnyReason) (subject : AnySubject) → ¬ Stands d u most bytes spot reason subject) }
+        ↔ ((spot : Spot) (reason : AnyReason) (subject : AnySubject)
+        → ¬ Stands d u most bytes spot reason subject) }
 {}
 
 /// Bytes have one answer, unless memory runs out.

@@ -1,6 +1,7 @@
 //! The header of a message (RFC 6733 section 3).
 
-ghost use Rattle.std.specs.Prelude.{◌≡◌, ◌<◌, ◌^◌, ◌↔◌, ◌⊎◌, ℕ, List, length, Err, MatchResult, IsTrue, IsFalse};
+ghost use Rattle.std.specs.Prelude.{◌≡◌, ◌<◌, ◌^◌, ◌↔◌, ◌⊎◌, ℕ, List, length};
+ghost use Rattle.std.specs.Prelude.{Err, MatchResult, IsTrue, IsFalse};
 ghost use Rattle.dia_dict.specs.Dictionary.{Dictionary, IsDictionary};
 ghost use Rattle.dia_check.specs.declared.policy.Unknown.{Unknown as AnyPolicy};
 ghost use Rattle.dia_check.specs.declared.policy.Levels.{Levels as AnyLevels};
@@ -19,7 +20,8 @@ use dia_wire::{
 /// The header of a message that is all of the bytes.
 pub(crate) fn whole_header(bytes: &[u8]) -> Result<Header, Refusal>
     ensures { (d : Dictionary) (u : AnyPolicy) (most : AnyLevels)
-        → MatchResult result (λ header. HasHeader bytes.now header × HasLength bytes.now (length bytes.now)
+        → MatchResult result (λ header. HasHeader bytes.now header
+        × HasLength bytes.now (length bytes.now)
         × (length bytes.now < 2 ^ 32)) (λ refusal. IsAnswer d u most bytes.now (Err refusal)) }
 {
     match read_header(bytes) {
@@ -44,7 +46,8 @@ pub(crate) fn good_command<B: Book>(book: &B, header: &Header) -> Result<DefId, 
     requires { IsDictionary (B.meaning book.now) }
     ensures { (u : AnyPolicy) (most : AnyLevels) (bytes : List ℕ) → HasLength bytes (length bytes)
         → HasHeader bytes header.now
-        → MatchResult result (λ def. (good : HasGoodHeader (B.meaning book.now) bytes) × (good.c ≡ def))
+        → MatchResult result (λ def. (good : HasGoodHeader (B.meaning book.now) bytes)
+        × (good.c ≡ def))
         (λ refusal. IsAnswer (B.meaning book.now) u most bytes (Err refusal)) }
 {
     if !has_good_bits(header.flags) {

@@ -1,12 +1,17 @@
 //! The levels that are open, and how often each of their rules was met.
 
-ghost use Rattle.std.specs.Prelude.{◌≡◌, ◌<◌, ◌≤◌, ◌++◌, ◌∷◌, [], ℕ, List, Option, Some, length, position, slice_get, MatchOption, OnOk, IfOk, IsTrue, IsFalse, replicate};
+ghost use Rattle.std.specs.Prelude.{◌≡◌, ◌<◌, ◌≤◌, ◌++◌, ◌∷◌, [], ℕ, List, Option};
+ghost use Rattle.std.specs.Prelude.{Some, length, position, slice_get, MatchOption};
+ghost use Rattle.std.specs.Prelude.{OnOk, IfOk, IsTrue, IsFalse, replicate};
 ghost use Rattle.dia_wire.specs.declared.Key.{Key as AnyKey};
 ghost use Rattle.dia_dict.specs.declared.DRule.{DRule as AnyRule};
 ghost use Rattle.dia_dict.specs.Dictionary.{AreRules, PlainDefinition, is_fixed, slot_of};
 ghost use Rattle.dia_check.specs.Valid.{fixed_rules, is_wildcard};
 ghost use Rattle.dia_check.specs.Faults.{subject_of};
-ghost use Rattle.dia_check.specs.OpenLevels.{AreMet, IsFirstUnmet, IsCounted, Leads, IsMet, IsWellPlaced, IsFirstMisplaced, IsMetAtEnd, IsMissingAtEnd, SoFar, begun, and_key, HasRoom, AreOpen};
+ghost use Rattle.dia_check.specs.OpenLevels.{AreMet, IsFirstUnmet, IsCounted, Leads};
+ghost use Rattle.dia_check.specs.OpenLevels.{IsMet, IsWellPlaced, IsFirstMisplaced};
+ghost use Rattle.dia_check.specs.OpenLevels.{IsMetAtEnd, IsMissingAtEnd, SoFar};
+ghost use Rattle.dia_check.specs.OpenLevels.{begun, and_key, HasRoom, AreOpen};
 
 use crate::fault::{Reason, Subject};
 use dia_dict::{DRule, DefId, RuleKind, Slot};
@@ -76,6 +81,7 @@ impl OpenLevel {
     }
 
     /// The run into which an AVP of this slot leads, and the rule that counts it.
+    #[inline(always)]
     fn lead(&self, slot: Slot) -> (usize, Option<usize>)
         ensures { (rules : List AnyRule) (keys : List AnyKey) (key : AnyKey) (counts : List ℕ)
             → AreRules rules → IsCounted rules keys self.now counts
@@ -90,6 +96,7 @@ impl OpenLevel {
     }
 
     /// Meets an AVP of this key and slot, or says what is wrong.
+    #[inline(always)]
     fn meet(&mut self, counts: &mut [u32], rules: &[DRule], slot: Slot, key: Key) -> Option<Wrong>
         requires rules { AreRules rules.now }
         requires slot { slot ≡ slot_of rules.now key }
@@ -97,7 +104,8 @@ impl OpenLevel {
             × (length keys < 4294967295)) ∥₁ }
         ensures { (keys : List AnyKey) → IsCounted rules.now keys self.old counts.old
             → MatchOption result
-            (IsMet rules.now keys key self.new counts.new × (self.new ≡ record self.old { run = self.new.run }))
+            (IsMet rules.now keys key self.new counts.new
+            × (self.new ≡ record self.old { run = self.new.run }))
             (λ wrong. IsFirstMisplaced rules.now keys key wrong) }
     {
         let (run, rule) = self.lead(slot);
@@ -169,10 +177,13 @@ impl OpenLevels {
     }
 
     /// Opens a level in the innermost one. This alone takes memory.
+    #[inline(always)]
     pub(crate) fn open(&mut self, def: DefId, rules: &[DRule], end: usize) -> Result<(), AllocError>
         requires { AreRules rules.now }
-        ensures { (defs : List PlainDefinition) (definition : PlainDefinition) (outer : List SoFar) (level : SoFar)
-            → slice_get defs def ≡ Some definition → definition.rules ≡ rules.now → AreOpen defs self.old outer level
+        ensures { (defs : List PlainDefinition)
+            (definition : PlainDefinition) (outer : List SoFar) (level : SoFar)
+            → slice_get defs def ≡ Some definition
+            → definition.rules ≡ rules.now → AreOpen defs self.old outer level
             → OnOk result (AreOpen defs self.new (outer ++ level ∷ []) (begun rules.now end)) }
     {
         let base = self.counts.len();
@@ -183,12 +194,15 @@ impl OpenLevels {
     }
 
     /// Ends the innermost level. Answers whether it lay in another, which is the innermost then.
+    #[inline(always)]
     pub(crate) fn close(&mut self) -> bool
-        ensures inner { IsTrue result → (defs : List PlainDefinition) (outer : List SoFar) (level : SoFar)
+        ensures inner { IsTrue result
+            → (defs : List PlainDefinition) (outer : List SoFar) (level : SoFar)
             → AreOpen defs self.old outer level
             → (others : List SoFar) × (next : SoFar) × (outer ≡ others ++ next ∷ [])
             × AreOpen defs self.new others next }
-        ensures last { IsFalse result → (defs : List PlainDefinition) (outer : List SoFar) (level : SoFar)
+        ensures last { IsFalse result
+            → (defs : List PlainDefinition) (outer : List SoFar) (level : SoFar)
             → AreOpen defs self.old outer level → outer ≡ [] }
     {
         match self.outer.pop() {
@@ -202,6 +216,7 @@ impl OpenLevels {
     }
 
     /// Meets an AVP of this key and slot in the innermost level, or says what is wrong.
+    #[inline(always)]
     pub(crate) fn meet(&mut self, rules: &[DRule], slot: Slot, key: Key) -> Option<Wrong>
         requires rules { AreRules rules.now }
         requires slot { slot ≡ slot_of rules.now key }
@@ -224,7 +239,8 @@ impl OpenLevels {
             × AreOpen defs self.now outer level × (level.rules ≡ rules.now)) ∥₁ }
         ensures { (defs : List PlainDefinition) (outer : List SoFar) (level : SoFar)
             → AreOpen defs self.now outer level → level.rules ≡ rules.now
-            → MatchOption result (IsMetAtEnd rules.now level.keys) (IsMissingAtEnd rules.now level.keys) }
+            → MatchOption result (IsMetAtEnd rules.now level.keys)
+            (IsMissingAtEnd rules.now level.keys) }
     {
         let base = self.innermost.base;
         let place = first_unmet(rules, &self.counts[base..], 0, rules.len())?;
@@ -232,6 +248,7 @@ impl OpenLevels {
     }
 
     /// The innermost level.
+    #[inline(always)]
     pub(crate) fn innermost(&self) -> OpenLevel
         ensures { result ≡ self.now.innermost }
     {
@@ -239,6 +256,7 @@ impl OpenLevels {
     }
 
     /// How many groups the innermost level lies in.
+    #[inline(always)]
     pub(crate) fn depth(&self) -> usize
         ensures { (defs : List PlainDefinition) (outer : List SoFar) (level : SoFar)
             → AreOpen defs self.now outer level → result ≡ length outer }

@@ -12,6 +12,7 @@ use std::test::Fail;
 mod cut;
 mod deep;
 mod long;
+mod memory;
 mod pieces;
 mod rows;
 mod taking;

@@ -16,22 +16,22 @@ use Rattle.dia_dict.specs.Dictionary.{Dictionary, DictEntry, PlainDefinition, Is
 use Rattle.dia_dict.proofs.Members.{at_filter_map, position-is_some}
 use Rattle.dia_check.specs.declared.policy.Unknown.{Unknown}
 use Rattle.dia_check.specs.Valid.{known}
-use Rattle.dia_compat.specs.declared.proposing.naming.Named.{Named}
+use Rattle.dia_compat.specs.declared.proposing.naming.NamedCommands.{NamedCommands}
 use Rattle.dia_compat.specs.declared.proposing.reaching.Reached.{Reached}
 use Rattle.dia_compat.specs.TableText.{plain_pair}
 use Rattle.dia_compat.specs.Below.{HasRule, IsListed, HasWildcard, IsAboveZero, IsKnown, IsCoveredAlone}
 use Rattle.dia_compat.specs.Closed.{NamesEntry, NamesCommand}
 use Rattle.dia_compat.specs.Proposed.{WantsPair, IsProposed, by_command, by_group, AreCommandPairs, AreAvpPairs}
-use Rattle.dia_compat.specs.Reaching.{has, Waits, IsShared, Admits, Wants, Follows, root, in_group}
-use Rattle.dia_compat.specs.Comparing.{command_named}
-use Rattle.dia_compat.specs.Wanting.{or_alone, wanted_names, names_beside}
-use Rattle.dia_compat.specs.Naming.{shared_pair, Same, Adds, Names, name_at, AreRoots, NamedSoFar}
-use Rattle.dia_compat.proofs.Placing.{IsIn}
-use Rattle.dia_compat.proofs.Counts.{in_at, at_in, in_contains, contains_in, in_left, in_right, in_append, in_any, any_in}
-use Rattle.dia_compat.proofs.Fitting.{known_entry, entry_known, in_filter_map}
-use Rattle.dia_compat.proofs.Selecting.{one_command, found_or_not, Found, NotFound}
-use Rattle.dia_compat.proofs.Reaching.{is_known, rest_then}
-use Rattle.dia_compat.proofs.Wanting.{are_beside, filter_map_order}
+use Rattle.dia_compat.specs.ReachedKeys.{has, Waits, IsShared, Admits, Wants, Follows, root, in_group}
+use Rattle.dia_compat.specs.PairTests.{command_named}
+use Rattle.dia_compat.specs.WantedNames.{or_alone, wanted_names, names_beside}
+use Rattle.dia_compat.specs.NamedCommands.{shared_pair, Same, Adds, AddsOnce, name_at, AreRoots, NamedSoFar}
+use Rattle.dia_compat.proofs.RunsOfFixedRules.{IsIn}
+use Rattle.dia_compat.proofs.MemberCounts.{in_at, at_in, in_contains, contains_in, in_left, in_right, in_append, in_any, any_in}
+use Rattle.dia_compat.proofs.FitInSecond.{known_entry, entry_known, in_filter_map}
+use Rattle.dia_compat.proofs.SelectedCommands.{one_command, found_or_not, Found, NotFound}
+use Rattle.dia_compat.proofs.ReachedKeys.{is_known, rest_then}
+use Rattle.dia_compat.proofs.WantedDefinitions.{are_beside, filter_map_order}
 
 abbrev Pairs : Type 0
 Pairs = List (List ℕ × List ℕ)
@@ -104,7 +104,7 @@ module _ (da db : Dictionary) (sa : IsDictionary da) (sb : IsDictionary db) wher
       by (inr (inl e)) = (c, (inside, sym e))
       by (inr (inr none)) = absurd none
 
-  pub named_again : (gone left : List (List ℕ)) (place : ℕ) (c : PlainDefinition) (old new : Named) → slice_get da.commands place ≡ Some c → NamedSoFar da db gone (c.name ∷ left) old
+  pub named_again : (gone left : List (List ℕ)) (place : ℕ) (c : PlainDefinition) (old new : NamedCommands) → slice_get da.commands place ≡ Some c → NamedSoFar da db gone (c.name ∷ left) old
       → Contains old.places.keys place → Same old new
       → NamedSoFar da db (gone ++ c.name ∷ []) left new
   named_again gone left place c old new at so again same = record {
@@ -124,7 +124,7 @@ module _ (da db : Dictionary) (sa : IsDictionary da) (sb : IsDictionary db) wher
   some_name name [] = (name, inl refl)
   some_name name (n ∷ ns) = (n, inl refl)
 
-  module _ (gone left : List (List ℕ)) (place : ℕ) (c : PlainDefinition) (old new : Named) (at : slice_get da.commands place ≡ Some c) (so : NamedSoFar da db gone (c.name ∷ left) old)
+  module _ (gone left : List (List ℕ)) (place : ℕ) (c : PlainDefinition) (old new : NamedCommands) (at : slice_get da.commands place ≡ Some c) (so : NamedSoFar da db gone (c.name ∷ left) old)
       (fresh : ¬ Contains old.places.keys place) (adds : Adds da db place c old new) where
     abbrev pairs_of_c : Pairs
     pairs_of_c = map (λ (name : List ℕ). (c.name, name)) (names_beside da db c)
@@ -220,12 +220,12 @@ module _ (da db : Dictionary) (sa : IsDictionary da) (sb : IsDictionary db) wher
       known = known_more gone c inside so.known;
     }
 
-  pub named_more : (gone left : List (List ℕ)) (place : ℕ) (c : PlainDefinition) (old new : Named) → slice_get da.commands place ≡ Some c → NamedSoFar da db gone (c.name ∷ left) old
-      → Names da db place c old new → NamedSoFar da db (gone ++ c.name ∷ []) left new
+  pub named_more : (gone left : List (List ℕ)) (place : ℕ) (c : PlainDefinition) (old new : NamedCommands) → slice_get da.commands place ≡ Some c → NamedSoFar da db gone (c.name ∷ left) old
+      → AddsOnce da db place c old new → NamedSoFar da db (gone ++ c.name ∷ []) left new
   named_more gone left place c old new at so (inl (again, same)) = named_again gone left place c old new at so again same
   named_more gone left place c old new at so (inr (fresh, adds)) = named_new gone left place c old new at so fresh adds
 
-  pub all_named : (names : List (List ℕ)) (named : Named) → NamedSoFar da db names [] named → AreCommandPairs da db [] names (map plain_pair named.pairs.items)
+  pub all_named : (names : List (List ℕ)) (named : NamedCommands) → NamedSoFar da db names [] named → AreCommandPairs da db [] names (map plain_pair named.pairs.items)
   all_named names named so =
       subst (λ (ns : List (List ℕ)). AreCommandPairs da db [] ns (map plain_pair named.pairs.items)) (append-nil names)
       (subst (λ (ps : Pairs). AreCommandPairs da db [] (names ++ []) ps) (append-nil (map plain_pair named.pairs.items)) (so.owed [] refl))

@@ -7,12 +7,12 @@ use Rattle.dia_check.specs.declared.policy.Unknown.{Unknown}
 use Rattle.dia_compat.specs.TableText.{PlainTable}
 use Rattle.dia_compat.specs.Closed.{IsWanted, error, same_app, no_app, both_none, other_app}
 use Rattle.dia_compat.specs.Proposed.{IsProposed, AreBeside, AreCommandPairs, AreAvpPairs, IsProposal}
-use Rattle.dia_compat.proofs.Placing.{IsIn}
-use Rattle.dia_compat.proofs.Counts.{at_in, in_contains, contains_in}
-use Rattle.dia_compat.proofs.Selecting.{one_command}
+use Rattle.dia_compat.proofs.RunsOfFixedRules.{IsIn}
+use Rattle.dia_compat.proofs.MemberCounts.{at_in, in_contains, contains_in}
+use Rattle.dia_compat.proofs.SelectedCommands.{one_command}
 
-abbrev Names : Type 0
-Names = List ℕ × List ℕ
+abbrev NamePair : Type 0
+NamePair = List ℕ × List ℕ
 
 -- ---- lists in one order
 
@@ -111,7 +111,7 @@ module _ (da db : Dictionary) (sa : IsDictionary da) (sb : IsDictionary db) wher
           from : (n : List ℕ) → IsIn n ys → IsIn n (x ∷ xs)
           from n i = let d = of ys b n i in subst (λ (m : List ℕ). IsIn m (x ∷ xs)) d.2 (in_contains (x ∷ xs) d.0.name (a.each d.0 d.1))
 
-  one_command_pairs : (names earlier : List (List ℕ)) (xs ys : List Names) → AreCommandPairs da db earlier names xs → AreCommandPairs da db earlier names ys → xs ≡ ys
+  one_command_pairs : (names earlier : List (List ℕ)) (xs ys : List NamePair) → AreCommandPairs da db earlier names xs → AreCommandPairs da db earlier names ys → xs ≡ ys
   one_command_pairs [] earlier xs ys a b = a ∙ sym b
   one_command_pairs (name ∷ names) earlier xs ys (inl (again, a)) (inl (too, b)) = one_command_pairs names earlier xs ys a b
   one_command_pairs (name ∷ names) earlier xs ys (inl (again, a)) (inr (fresh, c, beside, rest, is, are, parts, b)) = absurd (fresh again)
@@ -120,23 +120,23 @@ module _ (da db : Dictionary) (sa : IsDictionary da) (sb : IsDictionary db) wher
       let same : c ≡ d = one_command da c d sa (in_contains da.commands c is.0) (in_contains da.commands d named.0) (is.1 ∙ sym named.1) in
       let e : beside ≡ others = one_beside c beside others are (subst (λ (x : PlainDefinition). AreBeside da db x others) (sym same) be) in
       let f : rest ≡ more = one_command_pairs names (earlier ++ name ∷ []) rest more a b in
-      parts ∙ ap (λ (ns : List (List ℕ)). map (λ (n : List ℕ). (name, n)) ns ++ rest) e ∙ ap (λ (ps : List Names). map (λ (n : List ℕ). (name, n)) others ++ ps) f ∙ sym made
+      parts ∙ ap (λ (ns : List (List ℕ)). map (λ (n : List ℕ). (name, n)) ns ++ rest) e ∙ ap (λ (ps : List NamePair). map (λ (n : List ℕ). (name, n)) others ++ ps) f ∙ sym made
 
   -- ---- the AVP pairs
 
-  abbrev IsEntryAt : Names → ℕ → Type 0
+  abbrev IsEntryAt : NamePair → ℕ → Type 0
   IsEntryAt p k = (e : DictEntry) × (slice_get da.entries k ≡ Some e) × (e.name ≡ p.0)
 
-  one_avp_pairs : (wanted : Key → Type 0) (xs ys : List Names) → AreAvpPairs da db wanted xs → AreAvpPairs da db wanted ys → xs ≡ ys
+  one_avp_pairs : (wanted : Key → Type 0) (xs ys : List NamePair) → AreAvpPairs da db wanted xs → AreAvpPairs da db wanted ys → xs ≡ ys
   one_avp_pairs wanted xs ys a b = same_ordered IsEntryAt xs ys (order xs a) (order ys b) places (to xs ys a b) (to ys xs b a)
     where
-      order : (zs : List Names) → AreAvpPairs da db wanted zs → InOrder IsEntryAt zs
+      order : (zs : List NamePair) → AreAvpPairs da db wanted zs → InOrder IsEntryAt zs
       order zs are i j k l p q less at there (e, x, m) (f, y, n) = are.in_order i j k l p q e f less at there x y m n
 
-      to : (zs ws : List Names) → AreAvpPairs da db wanted zs → AreAvpPairs da db wanted ws → (p : Names) → IsIn p zs → IsIn p ws
+      to : (zs ws : List NamePair) → AreAvpPairs da db wanted zs → AreAvpPairs da db wanted ws → (p : NamePair) → IsIn p zs → IsIn p ws
       to zs ws s t p i = in_contains ws p ((t.each p).1 ((s.each p).0 (contains_in zs p i)))
 
-      places : (p : Names) → IsIn p xs → (k : ℕ) × IsEntryAt p k
+      places : (p : NamePair) → IsIn p xs → (k : ℕ) × IsEntryAt p k
       places p i =
           let h = (a.each p).0 (contains_in xs p i) in
           let s = at_in da.entries h.0 (in_contains da.entries h.0 h.2.0) in
@@ -145,5 +145,5 @@ module _ (da db : Dictionary) (sa : IsDictionary da) (sb : IsDictionary db) wher
   pub one_proposal : (u : Unknown) (names : List (List ℕ)) (a b : PlainTable) → IsProposal da db u names a → IsProposal da db u names b → a ≡ b
   one_proposal u names a b x y =
       let commands = one_command_pairs names [] a.commands b.commands x.commands y.commands in
-      let avps = one_avp_pairs (IsProposed da db u a.commands) a.avps b.avps x.avps (subst (λ (ps : List Names). AreAvpPairs da db (IsProposed da db u ps) b.avps) (sym commands) y.avps) in
+      let avps = one_avp_pairs (IsProposed da db u a.commands) a.avps b.avps x.avps (subst (λ (ps : List NamePair). AreAvpPairs da db (IsProposed da db u ps) b.avps) (sym commands) y.avps) in
       λ i. record { commands = commands i; avps = avps i }

@@ -15,7 +15,7 @@ use Rattle.dia_compat.specs.TableText.{PlainTable, Line, Blank, Command, Avp, co
 use Rattle.dia_compat.specs.TableText.{IsLine, HasForm, AreLines, HasShortNames, IsWithinLimits, IsTableOf, IsTable, IsFirstFault, IsTableFault}
 use Rattle.dia_compat.specs.Words.{first_word, behind_word, ArePairWords}
 use Rattle.dia_compat.specs.Lines.{Adds, PassesLimit, HasRoom}
-use Rattle.dia_compat.proofs.Words.{IsWord, pair_words, tail_has_no_word}
+use Rattle.dia_compat.proofs.WordsOfLines.{IsWord, pair_words, tail_has_no_word}
 
 -- ---- lines
 

@@ -97,7 +97,8 @@ CommandTest da db table u test p = (c d : PlainDefinition) → NamesCommand da p
 
 abbrev pub AvpTest : Dictionary → Dictionary → PlainTable → Unknown → Test → List ℕ × List ℕ → Type 0
 AvpTest da db table u N10 p = (e f : DictEntry) × NamesEntry da p.0 e × NamesEntry db p.1 f × AvpPair e f
-AvpTest da db table u test p = (e f : DictEntry) (a b : PlainDefinition) → NamesEntry da p.0 e → NamesEntry db p.1 f → BothGrouped e f → e.group ≡ Some a → f.group ≡ Some b → Passes test da db u (IsPairKey da db table) a.rules b.rules
+AvpTest da db table u test p = (e f : DictEntry) (a b : PlainDefinition) → NamesEntry da p.0 e
+    → NamesEntry db p.1 f → BothGrouped e f → e.group ≡ Some a → f.group ≡ Some b → Passes test da db u (IsPairKey da db table) a.rules b.rules
 
 -- a test of the pair at a place of the table
 abbrev pub PassesAt : Dictionary → Dictionary → Unknown → PlainTable → PairKind → ℕ → Test → Type 0

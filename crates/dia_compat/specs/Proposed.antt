@@ -28,7 +28,8 @@ pub record AreBeside (da db : Dictionary) (c : PlainDefinition) (names : List (L
   pub each : (d : PlainDefinition) → IsWanted da db c d → Contains names d.name
   pub only : (name : List ℕ) → Contains names name → ((d : PlainDefinition) × IsWanted da db c d × (d.name ≡ name)) ⊎ ((d : PlainDefinition) → ¬ IsWanted da db c d)
   pub alone : ((d : PlainDefinition) → ¬ IsWanted da db c d) → names ≡ c.name ∷ []
-  pub in_order : (i j k l : ℕ) (d e : PlainDefinition) → i < j → slice_get names i ≡ Some d.name → slice_get names j ≡ Some e.name → slice_get db.commands k ≡ Some d → slice_get db.commands l ≡ Some e → k < l
+  pub in_order : (i j k l : ℕ) (d e : PlainDefinition) → i < j → slice_get names i ≡ Some d.name
+      → slice_get names j ≡ Some e.name → slice_get db.commands k ≡ Some d → slice_get db.commands l ≡ Some e → k < l
 
 -- the pairs of the named commands, each at its first mention
 abbrev pub AreCommandPairs : Dictionary → Dictionary → List (List ℕ) → List (List ℕ) → List (List ℕ × List ℕ) → Type 0

@@ -1,5 +1,6 @@
 -- The text of a table of pairs (our profile).
-use Rattle.std.specs.Prelude.{◌≡◌, ℕ, suc, ◌+◌, ◌<◌, ◌≤◌, ◌⊎◌, ◌==◌, ◌||◌, ◌&&◌, Bool, false, IsTrue, List, [], ◌∷◌, ◌++◌, length, map, take, Option, Some, None, option_to_list, codes, string_bytes, String, slice_get, ⊤}
+use Rattle.std.specs.Prelude.{◌≡◌, ℕ, suc, ◌+◌, ◌<◌, ◌≤◌, ◌⊎◌, ◌==◌, ◌||◌, ◌&&◌, Bool, false, IsTrue, List, [], ◌∷◌, ◌++◌}
+use Rattle.std.specs.Prelude.{length, map, take, Option, Some, None, option_to_list, codes, string_bytes, String, slice_get, ⊤}
 use Rattle.std.specs.List.{filter_map, list_all, list_any, AllByRecursion}
 use Rattle.std.specs.Global.{Global}
 use Rattle.std.specs.Str.Lines.{lines}
@@ -16,8 +17,8 @@ pub record PlainTable : Type 0 where
 abbrev pub plain_pair : String Global × String Global → List ℕ × List ℕ
 plain_pair p = (string_bytes p.0, string_bytes p.1)
 
-abbrev pub plain : Table → PlainTable
-plain t = record { commands = map plain_pair t.commands.items; avps = map plain_pair t.avps.items }
+abbrev pub plain_table : Table → PlainTable
+plain_table t = record { commands = map plain_pair t.commands.items; avps = map plain_pair t.avps.items }
 
 -- the most bytes of a table's text
 abbrev pub max_table : ℕ

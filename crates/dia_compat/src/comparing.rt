@@ -5,7 +5,7 @@ mod commands;
 mod covers;
 mod heads;
 mod keys;
-mod named;
+mod named_book;
 mod pairs;
 mod rules;
 mod testing;
@@ -15,5 +15,5 @@ mod wildcards;
 
 pub(crate) use by_code::{Commands, open_code};
 pub(crate) use commands::is_wanted;
-pub(crate) use named::names_of_commands;
+pub(crate) use named_book::names_of_commands;
 pub(crate) use pairs::Comparison;

@@ -5,7 +5,7 @@ ghost use Rattle.dia_dict.specs.Dictionary.{AreRules, Dictionary, IsDictionary};
 ghost use Rattle.dia_check.specs.declared.policy.Unknown.{Unknown as AnyPolicy};
 ghost use Rattle.dia_check.specs.declared.policy.Levels.{Levels as AnyLevels};
 ghost use Rattle.dia_check.specs.Valid.{AllFit, IsValid, Placed};
-ghost use Rattle.dia_compat.specs.TableText.{PlainTable, plain};
+ghost use Rattle.dia_compat.specs.TableText.{PlainTable, plain_table};
 ghost use Rattle.dia_compat.specs.Below.{DefBelow};
 ghost use Rattle.dia_compat.specs.Closed.{IsClosed, IsIncluded, IsAnswer, IsPairKey};
 ghost use Rattle.dia_compat.specs.declared.inclusion.Answer.{Answer as AnyAnswer};
@@ -55,10 +55,11 @@ pub fn check_table<A: Book, B: Book>(
     unknown: Unknown,
     table: &Table,
 ) -> Result<Answer, AllocError>
-    ensures answer { IfOk result (IsAnswer (A.meaning a.now) (B.meaning b.now) unknown (plain table.now)) }
+    ensures answer { IfOk result
+        (IsAnswer (A.meaning a.now) (B.meaning b.now) unknown (plain_table table.now)) }
     ensures inclusion { IfOk result
         (λ answer. answer ≡ Answer.Yes
-        → IsIncluded (A.meaning a.now) (B.meaning b.now) unknown (plain table.now)) }
+        → IsIncluded (A.meaning a.now) (B.meaning b.now) unknown (plain_table table.now)) }
 {
     let comparison = Comparison::new(alloc, a, b, unknown, table)?;
     comparison.answer(alloc, table)
@@ -66,16 +67,19 @@ pub fn check_table<A: Book, B: Book>(
 
 /// A table in which every pair passes every test shows inclusion.
 pub fn closed_is_included()
-    ensures { (da db : Dictionary) (u : AnyPolicy) (table : PlainTable) → IsDictionary da → IsDictionary db
-        → IsClosed da db u table → IsIncluded da db u table }
+    ensures { (da db : Dictionary) (u : AnyPolicy) (table : PlainTable)
+        → IsDictionary da → IsDictionary db → IsClosed da db u table
+        → IsIncluded da db u table }
 {}
 
 /// Where a table is closed, and a definition of the first dictionary passes each test against one of the second, a level that
 /// is right by the first is right by the second: its AVPs stand as the rules say, and each fits, at every depth of groups.
 pub fn level_is_included()
-    ensures { (da db : Dictionary) (u : AnyPolicy) (table : PlainTable) (most : AnyLevels) (a b : List AnyRule)
-        (avps : List PlainAvp) → IsDictionary da → IsDictionary db → IsClosed da db u table → AreRules a → AreRules b
-        → DefBelow da db u (IsPairKey da db table) a b → Placed a (map key_of avps) → AllFit da u most avps
+    ensures { (da db : Dictionary) (u : AnyPolicy) (table : PlainTable) (most : AnyLevels)
+        (a b : List AnyRule) (avps : List PlainAvp) → IsDictionary da → IsDictionary db
+        → IsClosed da db u table → AreRules a → AreRules b
+        → DefBelow da db u (IsPairKey da db table) a b
+        → Placed a (map key_of avps) → AllFit da u most avps
         → Placed b (map key_of avps) × AllFit db u most avps }
 {}
 
@@ -109,7 +113,8 @@ fn is_valid<B: Book>(
     levels: Levels,
     bytes: &[u8],
 ) -> Result<bool, AllocError>
-    ensures { IfOk result (λ yes. IsTrue yes ↔ IsValid (B.meaning book.now) unknown levels bytes.now) }
+    ensures { IfOk result
+        (λ yes. IsTrue yes ↔ IsValid (B.meaning book.now) unknown levels bytes.now) }
 {
     match check(alloc, book, unknown, levels, bytes) {
         Ok(_) => Ok(true),

@@ -3,12 +3,12 @@ ghost use Rattle.std.specs.Prelude.{ℕ, Some, length, map, option_to_list, slic
 ghost use Rattle.std.specs.List.{filter_map};
 ghost use Rattle.dia_dict.specs.Dictionary.{DictEntry, Dictionary, IsDictionary};
 ghost use Rattle.dia_check.specs.declared.policy.Unknown.{Unknown as AnyPolicy};
-ghost use Rattle.dia_compat.specs.TableText.{PlainTable, plain, plain_pair};
+ghost use Rattle.dia_compat.specs.TableText.{PlainTable, plain_table, plain_pair};
 ghost use Rattle.dia_compat.specs.Proposed.{IsProposal, IsLeast, ListsAll, IsRefusal};
 ghost use Rattle.dia_compat.specs.Closed.{IsClosed, IsAnswer};
 ghost use Rattle.dia_compat.specs.declared.inclusion.PairKind.{PairKind as AnyKind};
 ghost use Rattle.dia_compat.specs.declared.inclusion.Test.{Test as AnyTest};
-ghost use Rattle.dia_compat.specs.Naming.{shared_pair, NamedSoFar};
+ghost use Rattle.dia_compat.specs.NamedCommands.{shared_pair, NamedSoFar};
 
 mod naming;
 mod reaching;
@@ -21,7 +21,7 @@ use crate::inclusion::Answer;
 use crate::table::{Table, push_pair};
 use dia_check::Unknown;
 use dia_dict::{Book, Entry};
-use naming::Named;
+use naming::NamedCommands;
 use reaching::Reached;
 use std::alloc::{AllocError, Global};
 use thiserror::Error;
@@ -56,13 +56,14 @@ pub fn propose<A: Book, B: Book>(
     names: &[String],
 ) -> Result<Table, ProposeFault>
     ensures proposal { IfOk result (λ table. IsProposal (A.meaning a.now) (B.meaning b.now) unknown
-        (map (λ n. string_bytes n) names.now) (plain table)) }
+        (map (λ n. string_bytes n) names.now) (plain_table table)) }
     ensures least { IfOk result (λ table. IsLeast (A.meaning a.now) (B.meaning b.now) unknown
-        (map (λ n. string_bytes n) names.now) (plain table)) }
-    ensures refusal { IfErr result (IsRefusal (A.meaning a.now) (map (λ n. string_bytes n) names.now)) }
+        (map (λ n. string_bytes n) names.now) (plain_table table)) }
+    ensures refusal { IfErr result
+        (IsRefusal (A.meaning a.now) (map (λ n. string_bytes n) names.now)) }
 {
     let named = named_commands(alloc, a, b, names)?;
-    let Named {
+    let NamedCommands {
         pairs: commands,
         mut reached,
         ..
@@ -78,24 +79,26 @@ fn named_commands<A: Book, B: Book>(
     a: &A,
     b: &B,
     names: &[String],
-) -> Result<Named, ProposeFault>
+) -> Result<NamedCommands, ProposeFault>
     ensures sound_a { IsDictionary (A.meaning a.now) }
     ensures sound_b { IsDictionary (B.meaning b.now) }
     ensures ok { IfOk result (NamedSoFar (A.meaning a.now) (B.meaning b.now)
         (map (λ n. string_bytes n) names.now) []) }
-    ensures refusal { IfErr result (IsRefusal (A.meaning a.now) (map (λ n. string_bytes n) names.now)) }
+    ensures refusal { IfErr result
+        (IsRefusal (A.meaning a.now) (map (λ n. string_bytes n) names.now)) }
 {
     let most = a.entries().min(b.entries());
     let commands = names_of_commands(alloc, a)?;
     let others = Commands::new(alloc, b)?;
-    let mut named = Named::new(alloc, a, b, most)?;
+    let mut named = NamedCommands::new(alloc, a, b, most)?;
     named.add_all(alloc, a, &others, &commands, names)?;
     Ok(named)
 }
 
 /// Where the least table does not pass, no table that lists the named commands passes.
 pub fn no_table_passes()
-    ensures { (da db : Dictionary) (u : AnyPolicy) (names : List (List ℕ)) (table other : PlainTable)
+    ensures { (da db : Dictionary) (u : AnyPolicy)
+        (names : List (List ℕ)) (table other : PlainTable)
         (kind : AnyKind) (pair : ℕ) (reason : AnyTest) → IsLeast da db u names table
         → IsAnswer da db u table (Answer.No kind pair reason) → ListsAll names other
         → ¬ IsClosed da db u other }

@@ -2,7 +2,8 @@
 ghost use Rattle.std.specs.Prelude.{◌≡◌, ◌<◌, ◌≤◌, length, Err, IfOk, IfErr, MatchResult, List};
 ghost use Rattle.std.specs.Prelude.{ℕ, ◌≢◌, OnOk, ◌↔◌, ◌++◌, ◌∷◌, [], map, IsTrue};
 ghost use Rattle.dia_compat.specs.declared.table.TableFault.{TableFault as AnyFault};
-ghost use Rattle.dia_compat.specs.TableText.{PlainTable, plain, plain_pair, max_table, IsTable, IsTableFault, IsWithinLimits, HasForm};
+ghost use Rattle.dia_compat.specs.TableText.{PlainTable, plain_table, plain_pair, max_table};
+ghost use Rattle.dia_compat.specs.TableText.{IsTable, IsTableFault, IsWithinLimits, HasForm};
 ghost use Rattle.dia_compat.specs.Lines.{Adds, PassesLimit, HasRoom};
 
 mod line;
@@ -68,10 +69,10 @@ fn tell_limit<W: fmt::Write>(line: &u32, f: &mut fmt::Formatter<W>) -> fmt::Resu
 /// names of any length, else `Limit`. `NoMemory` comes only where memory was refused.
 pub fn parse_table(alloc: Global, text: &str) -> Result<Table, TableFault>
     // What is read is what the text says.
-    ensures found { IfOk result (λ table. IsTable text.now (plain table)) }
+    ensures found { IfOk result (λ table. IsTable text.now (plain_table table)) }
     // It says nothing else, and a text that says something is read, unless memory runs out.
     ensures only { (table : PlainTable) → length text.now ≤ max_table → IsTable text.now table
-        → MatchResult result (λ found. plain found ≡ table) (λ e. e ≡ TableFault.NoMemory) }
+        → MatchResult result (λ found. plain_table found ≡ table) (λ e. e ≡ TableFault.NoMemory) }
     ensures too_long { max_table < length text.now → result ≡ Err (TableFault.Limit 0) }
     ensures fault { length text.now ≤ max_table → IfErr result (IsTableFault text.now) }
 {
@@ -130,10 +131,10 @@ impl From<AllocError> for LineFault {
 impl Table {
     /// Adds the pair of a line, if it has one.
     fn add(&mut self, alloc: Global, line: &str) -> Result<(), LineFault>
-        requires { IsWithinLimits (plain self.old) }
-        ensures ok { OnOk result (Adds line.now (plain self.old) (plain self.new)) }
+        requires { IsWithinLimits (plain_table self.old) }
+        ensures ok { OnOk result (Adds line.now (plain_table self.old) (plain_table self.new)) }
         ensures syntax { result ≡ Err LineFault.Syntax → ¬ HasForm line.now }
-        ensures limit { result ≡ Err LineFault.Limit → PassesLimit line.now (plain self.old) }
+        ensures limit { result ≡ Err LineFault.Limit → PassesLimit line.now (plain_table self.old) }
     {
         match read_line(line) {
             None => return Err(LineFault::Syntax),
@@ -156,8 +157,8 @@ impl Table {
 
     /// Whether one more pair, of these names, is within the limits.
     fn has_room_for(&self, a: &str, b: &str) -> bool
-        requires { IsWithinLimits (plain self.now) }
-        ensures { IsTrue result ↔ HasRoom (plain self.now) (a.now, b.now) }
+        requires { IsWithinLimits (plain_table self.now) }
+        ensures { IsTrue result ↔ HasRoom (plain_table self.now) (a.now, b.now) }
     {
         self.commands.len() + self.avps.len() < MAX_PAIRS
             && a.len() <= MAX_NAME
@@ -172,7 +173,8 @@ pub(crate) fn push_pair(
     a: &str,
     b: &str,
 ) -> Result<(), AllocError>
-    ensures { OnOk result (map plain_pair pairs.new.items ≡ map plain_pair pairs.old.items ++ (a.now, b.now) ∷ []) }
+    ensures { OnOk result (map plain_pair pairs.new.items
+        ≡ map plain_pair pairs.old.items ++ (a.now, b.now) ∷ []) }
 {
     let pair = (String::from_str(alloc, a)?, String::from_str(alloc, b)?);
     pairs.push(pair)?;

@@ -7,7 +7,7 @@ pub mod Addresses
 pub mod Schemes
 pub mod RangeSets
 pub mod Leaves
-pub mod BelowLemmas
-pub mod Groups
+pub mod FormatsBelow
+pub mod AddressGroups
 pub mod ShownValues
 pub mod Decimals

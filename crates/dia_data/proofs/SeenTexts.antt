@@ -4,8 +4,8 @@ use Rattle.std.specs.Str.{IsUtf8, StartsWithNoChar}
 use Rattle.std.proofs.Math.Seq.{take-append-add}
 use Rattle.std.proofs.lemmas.List.{take-append-drop, take-take, nil_from_length}
 use Rattle.std.proofs.lemmas.Str.{IsUtf8-append, IsUtf8-nil}
-use Rattle.dia_data.specs.declared.text.Text.{Text}
-use Rattle.dia_data.specs.declared.text.Text.TheVariants.{Open, Broken}
+use Rattle.dia_data.specs.declared.seen_text.Text.{Text}
+use Rattle.dia_data.specs.declared.seen_text.Text.TheVariants.{Open, Broken}
 use Rattle.dia_data.specs.State.{IsOpen, IsSeenOfText}
 use Rattle.dia_data.proofs.Texts.{IsUtf8-behind, length-no_char, StartsWithNoChar-from_take, no_text_within}
 

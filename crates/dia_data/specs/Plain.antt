@@ -29,20 +29,20 @@ abbrev pub ranges_of : Values → Option (List (ℕ × ℕ))
 ranges_of values = option_map (λ l. l.written.items) values.listed
 
 -- the format that a Rust value names
-abbrev pub plain : Format → PlainFormat
-plain format.OctetString = OctetString
-plain format.Integer32 = Integer32
-plain format.Integer64 = Integer64
-plain format.Unsigned32 = Unsigned32
-plain format.Unsigned64 = Unsigned64
-plain format.Float32 = Float32
-plain format.Float64 = Float64
-plain format.Grouped = Grouped
-plain format.Address = Address
-plain format.Time = Time
-plain format.Utf8String = Utf8String
-plain format.DiameterIdentity = DiameterIdentity
-plain format.DiameterUri = DiameterUri
-plain (format.Enumerated values) = Enumerated (ranges_of values)
-plain format.IpFilterRule = IpFilterRule
-plain format.QosFilterRule = QosFilterRule
+abbrev pub plain_format : Format → PlainFormat
+plain_format format.OctetString = OctetString
+plain_format format.Integer32 = Integer32
+plain_format format.Integer64 = Integer64
+plain_format format.Unsigned32 = Unsigned32
+plain_format format.Unsigned64 = Unsigned64
+plain_format format.Float32 = Float32
+plain_format format.Float64 = Float64
+plain_format format.Grouped = Grouped
+plain_format format.Address = Address
+plain_format format.Time = Time
+plain_format format.Utf8String = Utf8String
+plain_format format.DiameterIdentity = DiameterIdentity
+plain_format format.DiameterUri = DiameterUri
+plain_format (format.Enumerated values) = Enumerated (ranges_of values)
+plain_format format.IpFilterRule = IpFilterRule
+plain_format format.QosFilterRule = QosFilterRule

@@ -56,10 +56,10 @@ value_text DiameterUri bytes = quoted bytes
 value_text format bytes = hexadecimal bytes
 
 -- data that the format does not accept is shown in hexadecimal
-pub record IsShown (format : PlainFormat) (bytes text : List ℕ) : Type 0 where
+pub record IsValueText (format : PlainFormat) (bytes text : List ℕ) : Type 0 where
   pub accepted : IsLeaf format bytes → text ≡ value_text format bytes
   pub refused : ¬ IsLeaf format bytes → text ≡ hexadecimal bytes
 
 -- the text of the data was added
-abbrev pub AddsShown : PlainFormat → List ℕ → List ℕ → List ℕ → Type 0
-AddsShown format bytes old new = (text : List ℕ) × IsShown format bytes text × (new ≡ old ++ text)
+abbrev pub AddsValueText : PlainFormat → List ℕ → List ℕ → List ℕ → Type 0
+AddsValueText format bytes old new = (text : List ℕ) × IsValueText format bytes text × (new ≡ old ++ text)

@@ -1,12 +1,12 @@
 -- What a state of reading says of the bytes that it has been fed.
 use Rattle.std.specs.Prelude.{◌≡◌, ◌≢◌, ℕ, ◌<◌, ◌↔◌, ◌⊎◌, List, ◌++◌, length, take, All, IsTrue}
 use Rattle.std.specs.Str.{IsUtf8, StartsWithNoChar}
-use Rattle.dia_data.specs.Plain.{PlainFormat, plain, Utf8String, DiameterIdentity, DiameterUri}
-use Rattle.dia_data.specs.declared.state.LeafState.{LeafState}
-use Rattle.dia_data.specs.declared.state.Seen.{Seen}
-use Rattle.dia_data.specs.declared.state.Seen.TheVariants.{Nothing, Graphic, Characters}
-use Rattle.dia_data.specs.declared.text.Text.{Text}
-use Rattle.dia_data.specs.declared.text.Text.TheVariants.{Open, Broken}
+use Rattle.dia_data.specs.Plain.{PlainFormat, plain_format, Utf8String, DiameterIdentity, DiameterUri}
+use Rattle.dia_data.specs.declared.leaf_state.LeafState.{LeafState}
+use Rattle.dia_data.specs.declared.leaf_state.Seen.{Seen}
+use Rattle.dia_data.specs.declared.leaf_state.Seen.TheVariants.{Nothing, Graphic, Characters}
+use Rattle.dia_data.specs.declared.seen_text.Text.{Text}
+use Rattle.dia_data.specs.declared.seen_text.Text.TheVariants.{Open, Broken}
 use Rattle.dia_data.specs.Leaf.{IsGraphic}
 use Rattle.dia_data.specs.Front.{front_bytes, front_length}
 
@@ -31,6 +31,6 @@ IsSeen (Characters text) kind bytes = (kind ≡ Utf8String) × IsSeenOfText text
 
 -- the state has been fed these bytes, in whatever pieces
 pub record StandsFor (state : LeafState) (kind : PlainFormat) (bytes : List ℕ) : Type 0 where
-  pub format : plain state.format.now ≡ kind
+  pub format : plain_format state.format.now ≡ kind
   pub front : front_bytes state.front ≡ take front_length bytes
   pub seen : IsSeen state.seen kind bytes

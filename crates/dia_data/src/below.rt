@@ -1,7 +1,7 @@
 //! Which format accepts all that another accepts.
 ghost use Rattle.std.specs.Prelude.{◌↔◌, IsTrue};
 ghost use Rattle.dia_data.specs.Below.{FormatBelow, IsIncluded};
-ghost use Rattle.dia_data.specs.Plain.{PlainFormat, plain};
+ghost use Rattle.dia_data.specs.Plain.{PlainFormat, plain_format};
 
 use crate::format::Format;
 
@@ -13,7 +13,7 @@ use crate::format::Format;
 /// below another that has no list; or both have one, and the ranges of the second hold each number of the first. The sets
 /// of numbers are compared, however their ranges are cut, by one walk over both lists.
 pub fn format_below(f: &Format, g: &Format) -> bool
-    ensures { IsTrue result ↔ FormatBelow (plain f.now) (plain g.now) }
+    ensures { IsTrue result ↔ FormatBelow (plain_format f.now) (plain_format g.now) }
 {
     match (f, g) {
         (_, Format::OctetString)

@@ -44,9 +44,9 @@ pub enum Format {
 /// A copy is the same format.
 impl Clone for Format {
     ghost use Rattle.std.specs.Prelude.{◌≡◌};
-    ghost use Rattle.dia_data.specs.Plain.{plain};
+    ghost use Rattle.dia_data.specs.Plain.{plain_format};
 
-    ghost is_clone = { λ old new. plain new ≡ plain old };
+    ghost is_clone = { λ old new. plain_format new ≡ plain_format old };
 
     fn clone(&self) -> Result<Format, AllocError> {
         Ok(match self {

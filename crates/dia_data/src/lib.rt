@@ -18,17 +18,17 @@ mod accept;
 mod below;
 mod format;
 mod front;
+mod leaf_state;
 mod print;
 mod range_set;
-mod state;
+mod seen_text;
 #[cfg(test)]
 mod tests;
-mod text;
 mod values;
 
 pub use accept::{Leaf, accepts};
 pub use below::{format_below, inclusion};
 pub use format::Format;
+pub use leaf_state::LeafState;
 pub use print::{print_value, push_decimal, push_hex_byte, push_value};
-pub use state::LeafState;
 pub use values::Values;

@@ -3,9 +3,10 @@ ghost use Rattle.std.specs.Prelude.{◌≡◌, ◌<◌, ◌++◌, IfOk, OnOk, le
 ghost use Rattle.std.specs.Fmt.{decimal};
 ghost use Rattle.std.specs.List.{join_with_byte};
 ghost use Rattle.dia_data.specs.Leaf.{IsAddress, IsAnswer};
-ghost use Rattle.dia_data.specs.Shown.{IsShown, AddsShown, address, groups, hex_byte, hex_digit};
+ghost use Rattle.dia_data.specs.Shown.{IsValueText, AddsValueText, address};
+ghost use Rattle.dia_data.specs.Shown.{groups, hex_byte, hex_digit};
 ghost use Rattle.dia_data.specs.Shown.{hexadecimal, quoted, quoted_byte, value_text};
-ghost use Rattle.dia_data.specs.Plain.{plain};
+ghost use Rattle.dia_data.specs.Plain.{plain_format};
 
 use crate::accept::{Leaf, accepts};
 use crate::format::Format;
@@ -21,7 +22,8 @@ use std::alloc::{AllocError, Global};
 /// family `family N ` and the hexadecimal form of what follows. All else, and data that the format does not accept, has
 /// the hexadecimal form: `x` and two lower-case digits a byte. The error comes only where memory was refused.
 pub fn print_value(alloc: Global, format: &Format, bytes: &[u8]) -> Result<String, AllocError>
-    ensures { IfOk result (λ text. IsShown (plain format.now) bytes.now (string_bytes text)) }
+    ensures { IfOk result
+        (λ text. IsValueText (plain_format format.now) bytes.now (string_bytes text)) }
 {
     let mut text = String::new(alloc);
     push_value(&mut text, format, bytes)?;
@@ -31,7 +33,8 @@ pub fn print_value(alloc: Global, format: &Format, bytes: &[u8]) -> Result<Strin
 /// Adds the text of the data, as `print_value` prints it, and takes no memory but that of the growing text. The error comes
 /// only where memory was refused; some of the text of the data may have been added then.
 pub fn push_value(out: &mut String, format: &Format, bytes: &[u8]) -> Result<(), AllocError>
-    ensures { OnOk result (AddsShown (plain format.now) bytes.now (string_bytes out.old) (string_bytes out.new)) }
+    ensures { OnOk result (AddsValueText (plain_format format.now) bytes.now
+        (string_bytes out.old) (string_bytes out.new)) }
 {
     if accepts(format, bytes) == Leaf::Fine {
         push_accepted(out, format, bytes)
@@ -42,8 +45,9 @@ pub fn push_value(out: &mut String, format: &Format, bytes: &[u8]) -> Result<(),
 
 /// Adds the text of data that the format accepts.
 fn push_accepted(out: &mut String, format: &Format, bytes: &[u8]) -> Result<(), AllocError>
-    requires { IsAnswer Leaf.Fine (plain format.now) bytes.now }
-    ensures { OnOk result (string_bytes out.new ≡ string_bytes out.old ++ value_text (plain format.now) bytes.now) }
+    requires { IsAnswer Leaf.Fine (plain_format format.now) bytes.now }
+    ensures { OnOk result (string_bytes out.new
+        ≡ string_bytes out.old ++ value_text (plain_format format.now) bytes.now) }
 {
     match format {
         Format::Integer32 | Format::Enumerated(_) => push_number(out, BigEndian::read_i32(bytes)),
@@ -81,7 +85,8 @@ fn push_address(out: &mut String, bytes: &[u8]) -> Result<(), AllocError>
 
 fn push_ipv4(out: &mut String, bytes: &[u8]) -> Result<(), AllocError>
     requires { length bytes.now ≡ 4 }
-    ensures { OnOk result (string_bytes out.new ≡ string_bytes out.old ++ join_with_byte 46 (map decimal bytes.now)) }
+    ensures { OnOk result (string_bytes out.new
+        ≡ string_bytes out.old ++ join_with_byte 46 (map decimal bytes.now)) }
 {
     push_byte(out, bytes[0])?;
     out.push('.')?;
@@ -140,7 +145,8 @@ fn push_digit(out: &mut String, digit: u64) -> Result<(), AllocError>
 /// Every group with its leading zeros.
 fn push_ipv6(out: &mut String, bytes: &[u8]) -> Result<(), AllocError>
     requires { length bytes.now ≡ 16 }
-    ensures { OnOk result (string_bytes out.new ≡ string_bytes out.old ++ join_with_byte 58 (groups bytes.now)) }
+    ensures { OnOk result (string_bytes out.new
+        ≡ string_bytes out.old ++ join_with_byte 58 (groups bytes.now)) }
 {
     for i in 0..8 {
         if i > 0 {

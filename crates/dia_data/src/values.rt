@@ -81,7 +81,8 @@ impl Values {
 
     /// The ranges as they were written, or none where every number is one.
     pub fn list(&self) -> Option<&[(u32, u32)]>
-        ensures { MatchOption result (ranges_of self.now ≡ None) (λ list. ranges_of self.now ≡ Some list.now) }
+        ensures { MatchOption result (ranges_of self.now ≡ None)
+            (λ list. ranges_of self.now ≡ Some list.now) }
     {
         match &self.listed {
             Some(listed) => Some(&listed.written),

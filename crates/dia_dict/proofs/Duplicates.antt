@@ -10,16 +10,16 @@ use Rattle.dia_ccf.specs.declared.source.Head.{Head}
 use Rattle.dia_ccf.specs.Names.{is_group}
 use Rattle.dia_ccf.specs.Plain.{PlainSource, PlainDef, PlainRule, plain_def}
 use Rattle.dia_dict.specs.Keys.{same_key}
-use Rattle.dia_dict.specs.declared.hashed.Selector.{Selector}
-use Rattle.dia_dict.specs.declared.resolving.checks.Named.{Named}
+use Rattle.dia_dict.specs.declared.selectors.Selector.{Selector}
+use Rattle.dia_dict.specs.declared.resolving.checks.KeyedName.{KeyedName}
 use Rattle.std.specs.Option.{option_map}
 use Rattle.std.specs.Str.{bytes_eq}
 use Rattle.std.proofs.lemmas.Option.{slice_get-map, same_Some}
 use Rattle.dia_ccf.specs.Names.{same_bytes}
 use Rattle.dia_dict.specs.declared.fault.DictKind.TheVariants as kind
 use Rattle.dia_dict.specs.Resolution.{Wrong, wrong, repeats, duplicate_names, duplicate_keys, avp_names, same_selector, same_slot, slot_name, repeated_in, head_of}
-use Rattle.dia_dict.specs.Refusing.{IsFirstRepeat, named}
-use Rattle.dia_dict.specs.Selecting.{selector_of}
+use Rattle.dia_dict.specs.SourceChecks.{IsFirstRepeat, name_and_key}
+use Rattle.dia_dict.specs.Selectors.{selector_of}
 use Rattle.dia_dict.proofs.Repeats.{repeats-none, repeats-first, repeats-map, repeats-none_from_map, first_repeat_from_map, first_repeat-map, slice_get-repeats}
 use Rattle.dia_dict.proofs.Lists.{list_any-agree}
 
@@ -49,18 +49,19 @@ duplicate_key n = wrong kind.DuplicateKey n.0 []
 abbrev pub same_named : List ℕ × Key → List ℕ × Key → Bool
 same_named a b = same_key a.1 b.1
 
-module _ (s : PlainSource) (avps : List Named) (all : map named avps ≡ avp_names s) where
-  pub duplicate_keys-none : repeats same_key [] (map (λ (n : Named). n.key) avps) ≡ [] → duplicate_keys s ≡ []
+module _ (s : PlainSource) (avps : List KeyedName) (all : map name_and_key avps ≡ avp_names s) where
+  pub duplicate_keys-none : repeats same_key [] (map (λ (n : KeyedName). n.key) avps) ≡ [] → duplicate_keys s ≡ []
   duplicate_keys-none none =
       ap (λ ns. map duplicate_key (repeats same_named [] ns)) (sym all)
-      ∙ ap (map duplicate_key) (repeats-none named same_named (λ a b. same_key a.key b.key) (λ a b. refl) avps (repeats-none_from_map (λ (n : Named). n.key) same_key avps none))
+      ∙ ap (map duplicate_key) (repeats-none name_and_key same_named (λ a b. same_key a.key b.key) (λ a b. refl) avps (repeats-none_from_map (λ (n : KeyedName). n.key) same_key avps none))
 
-  pub duplicate_keys-first : (place : ℕ) (n : Named) → IsFirstRepeat same_key (map (λ (n : Named). n.key) avps) place
-      → slice_get avps place ≡ Some n → slice_get (duplicate_keys s) 0 ≡ Some (duplicate_key (named n))
+  pub duplicate_keys-first : (place : ℕ) (n : KeyedName) → IsFirstRepeat same_key (map (λ (n : KeyedName). n.key) avps) place
+      → slice_get avps place ≡ Some n → slice_get (duplicate_keys s) 0 ≡ Some (duplicate_key (name_and_key n))
   duplicate_keys-first place n r at =
       ap (λ ns. slice_get (map duplicate_key (repeats same_named [] ns)) 0) (sym all)
-      ∙ slice_get-map duplicate_key (repeats same_named [] (map named avps)) 0
-      ∙ ap (option_map duplicate_key) (repeats-first named same_named (λ a b. same_key a.key b.key) (λ a b. refl) avps place n (first_repeat_from_map (λ (n : Named). n.key) same_key avps place r) at)
+      ∙ slice_get-map duplicate_key (repeats same_named [] (map name_and_key avps)) 0
+      ∙ ap (option_map duplicate_key) (repeats-first name_and_key same_named
+      (λ a b. same_key a.key b.key) (λ a b. refl) avps place n (first_repeat_from_map (λ (n : KeyedName). n.key) same_key avps place r) at)
 
 -- ---- selectors of commands
 

@@ -1,5 +1,6 @@
 -- Tables of keys: what their rows say, and where a search among them goes.
-use Rattle.std.proofs.Common.{◌≡◌, ℕ, ◌+◌, ◌-◌, ◌*◌, ◌%◌, ◌^◌, ◌<◌, ◌≤◌, Bool, true, false, cond, List, [], ◌∷◌, ◌++◌, length, take, get_or, Option, Some, None, refl, sym, ap, ◌∙◌, subst, inl, inr, arith}
+use Rattle.std.proofs.Common.{◌≡◌, ℕ, ◌+◌, ◌-◌, ◌*◌, ◌%◌, ◌^◌, ◌<◌, ◌≤◌, Bool, true, false, cond, List, [], ◌∷◌, ◌++◌}
+use Rattle.std.proofs.Common.{length, take, get_or, Option, Some, None, refl, sym, ap, ◌∙◌, subst, inl, inr, arith}
 use Rattle.std.specs.Prelude.{slice_get, position}
 use Rattle.std.specs.List.Sorted.{IsNonDecreasingBy, IsPermutation, IsPartitionPoint}
 use Rattle.std.specs.Option.{option_or}
@@ -17,7 +18,7 @@ use Rattle.dia_wire.specs.declared.Key.{Key}
 use Rattle.dia_dict.specs.declared.key_table.rows.KeyRow.{KeyRow}
 use Rattle.dia_dict.specs.Keys.{same_key}
 use Rattle.dia_dict.specs.KeyTables.{IsKey, rank_of, is_key, place_among, AreDistinct, IsIndexOf, IsFound, bucket_of, IsStart, AreStarts}
-use Rattle.dia_dict.proofs.Keys.{same_key-true, same_key-equal}
+use Rattle.dia_dict.proofs.SameKeys.{same_key-true, same_key-equal}
 use Rattle.dia_dict.proofs.Indexing.Places.{slice_get-take, position-push}
 
 -- ---- no two keys have one rank
@@ -80,7 +81,8 @@ module _ (keys : List (Option Key)) (i : ℕ) (d : Option Key) (within : i < len
   -- the wildcard is no key's
   pub IsIndexOf-wildcard : (rows : List KeyRow) → get_or keys i d ≡ None → IsIndexOf rows (place_among (take i keys)) → IsIndexOf rows (place_among (take (i + 1) keys))
   IsIndexOf-wildcard rows none = IsIndexOf-same rows (place_among (take i keys)) (place_among (take (i + 1) keys)) (λ key.
-      sym (option_or-none (place_among (take i keys) key)) ∙ ap (λ (o : Option Key). option_or (place_among (take i keys) key) (cond (is_key key o) (Some i) None)) (sym none) ∙ sym (place_among-more key))
+      sym (option_or-none (place_among (take i keys) key)) ∙ ap (λ (o : Option Key). option_or
+      (place_among (take i keys) key) (cond (is_key key o) (Some i) None)) (sym none) ∙ sym (place_among-more key))
 
   module _ (distinct : AreDistinct keys) (own : Key) (here : get_or keys i d ≡ Some own) where
     -- it is not among the keys before it
@@ -152,7 +154,8 @@ module _ (rows : List KeyRow) (buckets : ℕ) where
   buckets_rise sorted i j d le short = bucket_of-rises buckets _ _ (sorted i j d le short)
 
   pub IsStart-point : (bucket start : ℕ) → start ≤ length rows
-      → IsPartitionPoint (λ (row : KeyRow). ltb (bucket_of buckets row.rank) bucket ≡ true) (λ (row : KeyRow). ltb (bucket_of buckets row.rank) bucket ≡ false) rows start → IsStart rows buckets bucket start
+      → IsPartitionPoint (λ (row : KeyRow). ltb (bucket_of buckets row.rank) bucket ≡ true)
+      (λ (row : KeyRow). ltb (bucket_of buckets row.rank) bucket ≡ false) rows start → IsStart rows buckets bucket start
   IsStart-point bucket start within point = (
     within,
     λ k d before. ltb-true (bucket_of buckets (get_or rows k d).rank) bucket (point.0 k d (omega arith) before),

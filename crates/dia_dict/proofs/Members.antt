@@ -8,8 +8,8 @@ use Rattle.std.proofs.lemmas.Bool.{or_parts, and_parts, both_ways, cases_order}
 use Rattle.std.proofs.lemmas.List.{append_assoc, length_push}
 use Rattle.std.proofs.lemmas.Option.{none-some, same_Some, slice_get-get_or, slice_get-map, slice_get_within}
 use Rattle.dia_dict.specs.Resolution.{repeats}
-use Rattle.dia_dict.proofs.Named.{find-place}
-use Rattle.dia_dict.proofs.Numbering.{slice_get-append_left, slice_get-append_right}
+use Rattle.dia_dict.proofs.LookUpsByName.{find-place}
+use Rattle.dia_dict.proofs.NumberedGroups.{slice_get-append_left, slice_get-append_right}
 
 -- ---- members
 

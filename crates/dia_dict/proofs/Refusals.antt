@@ -4,7 +4,7 @@ use Rattle.std.specs.Prelude.{slice_get}
 use Rattle.std.specs.List.{flat_map}
 use Rattle.std.specs.Option.{option_map}
 use Rattle.std.proofs.lemmas.Option.{none-some, slice_get-map}
-use Rattle.dia_dict.proofs.Named.{find-map}
+use Rattle.dia_dict.proofs.LookUpsByName.{find-map}
 use Rattle.dia_dict.specs.declared.resolving.refusal.Refusal.{Refusal}
 use Rattle.dia_dict.specs.declared.resolving.refusal.Refusal.TheVariants.{Stands, NoMemory}
 use Rattle.std.proofs.lemmas.List.{map-append, take-append-drop, drop_more}
@@ -14,7 +14,7 @@ use Rattle.dia_ccf.specs.Plain.{PlainDef}
 use Rattle.dia_dict.specs.declared.fault.DictKind.{DictKind}
 use Rattle.dia_dict.specs.declared.fault.DictKind.TheVariants as kind
 use Rattle.dia_dict.specs.Resolution.{Wrong, wrong, is_long, too_many_rules}
-use Rattle.dia_dict.specs.Refusing.{IsRefused, Tells}
+use Rattle.dia_dict.specs.SourceChecks.{IsRefused, Tells}
 
 first-append : {X : Type 0} (xs ys : List X) (x : X) → slice_get xs 0 ≡ Some x → slice_get (xs ++ ys) 0 ≡ Some x
 first-append [] ys x e = absurd (none-some x e)

@@ -25,8 +25,8 @@ pub record PlainDefinition : Type 0 where
   pub head : DefHead
   pub rules : List DRule
 
-abbrev pub plain : Definition → PlainDefinition
-plain d = record { name = string_bytes d.name; head = d.head; rules = d.rules.items }
+abbrev pub plain_definition : Definition → PlainDefinition
+plain_definition d = record { name = string_bytes d.name; head = d.head; rules = d.rules.items }
 
 -- an AVP that the dictionary knows; a Grouped one has a definition
 pub record DictEntry : Type 0 where
@@ -61,9 +61,6 @@ slot_at rules i = option_map_or (λ rule. if is_fixed rule then slot.Fixed i els
 abbrev pub slot_of : List DRule → Key → Slot
 slot_of rules key = option_map_or (slot_at rules) (position (lists_key key) rules) slot.Unlisted
 
-abbrev pub Lists : List DRule → Key → Type 0
-Lists rules key = IsTrue (list_any (lists_key key) rules)
-
 -- ---- look-ups
 
 -- the place of the entry with a key
@@ -78,8 +75,8 @@ abbrev pub definitions : Dictionary → List PlainDefinition
 definitions d = groups d ++ d.commands
 
 -- the number of a Grouped entry's definition: as many groups stand before it
-abbrev pub group_of : Dictionary → ℕ → Option ℕ
-group_of d e = option_and_then (λ x. option_map (λ _. length (filter_map (λ y. y.group) (take e d.entries))) x.group) (slice_get d.entries e)
+abbrev pub group_place : Dictionary → ℕ → Option ℕ
+group_place d e = option_and_then (λ x. option_map (λ _. length (filter_map (λ y. y.group) (take e d.entries))) x.group) (slice_get d.entries e)
 
 -- a command of this code and class, and of this application or none
 abbrev pub is_command : ℕ → Class → Option ℕ → DefHead → Bool

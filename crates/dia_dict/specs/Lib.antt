@@ -5,8 +5,8 @@ pub mod Words
 pub mod Dictionary
 pub mod PlainMeaning
 pub mod Resolution
-pub mod Refusing
+pub mod SourceChecks
 pub mod Base
 pub mod BaseTables
-pub mod Selecting
+pub mod Selectors
 pub mod Indexed

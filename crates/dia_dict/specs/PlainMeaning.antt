@@ -1,10 +1,10 @@
 -- What the lists of a plain book mean.
 use Rattle.std.specs.Prelude.{ℕ, List, map, slice_get, option_and_then, string_bytes}
 use Rattle.std.specs.List.{filter_map}
-use Rattle.dia_data.specs.Plain.{plain as plain_format}
+use Rattle.dia_data.specs.Plain.{plain_format}
 use Rattle.dia_dict.specs.declared.definition.Definition.{Definition}
 use Rattle.dia_dict.specs.declared.entry_list.Row.{Row}
-use Rattle.dia_dict.specs.Dictionary.{PlainDefinition, DictEntry, Dictionary, plain}
+use Rattle.dia_dict.specs.Dictionary.{PlainDefinition, DictEntry, Dictionary, plain_definition}
 
 abbrev pub entry_of_row : List PlainDefinition → Row → DictEntry
 entry_of_row groups row = record { name = string_bytes row.name; key = row.key; format = plain_format row.format; rule = row.rule; group = option_and_then (slice_get groups) row.group }
@@ -15,7 +15,7 @@ dictionary_of rows groups commands = record { entries = map (entry_of_row groups
 
 -- the entries of rows and groups as they lie in memory
 abbrev pub entries_of : List Row → List Definition → List DictEntry
-entries_of rows groups = map (entry_of_row (map plain groups)) rows
+entries_of rows groups = map (entry_of_row (map plain_definition groups)) rows
 
 -- the numbers of the groups that the rows name
 abbrev pub numbers : List Row → List ℕ

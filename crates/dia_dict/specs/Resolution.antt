@@ -19,7 +19,7 @@ use Rattle.dia_ccf.specs.declared.RuleKind.{RuleKind}
 use Rattle.dia_ccf.specs.declared.RuleKind.TheVariants.{Fixed, Required, Optional}
 use Rattle.dia_ccf.specs.Names.{same_bytes}
 use Rattle.dia_ccf.specs.Plain.{PlainDecl, PlainRule, PlainDef, PlainSource}
-use Rattle.dia_ccf.specs.Rendering.{slot_text}
+use Rattle.dia_ccf.specs.CanonicalText.{slot_text}
 use Rattle.dia_dict.specs.Keys.{same_key}
 use Rattle.dia_dict.specs.Limits.{max_rules, max_parts}
 use Rattle.dia_dict.specs.declared.definition.Class.{Class}

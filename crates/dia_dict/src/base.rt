@@ -1,7 +1,7 @@
 //! The base dictionary.
 ghost use Rattle.std.specs.Prelude.{◌≡◌, IfOk, OnOk};
 ghost use Rattle.dia_ccf.specs.Grammar.{Derives};
-ghost use Rattle.dia_ccf.specs.Rendering.{canonical};
+ghost use Rattle.dia_ccf.specs.CanonicalText.{canonical};
 ghost use Rattle.dia_ccf.specs.Tokens.{tokens};
 ghost use Rattle.dia_dict.specs.Base.{base, base_source};
 

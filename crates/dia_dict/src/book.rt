@@ -1,10 +1,11 @@
 ghost use Rattle.std.specs.Prelude.{◌≡◌, ◌<◌, ◌+◌, ◌↔◌, IsTrue, IfSome, length, slice_get, Option};
-ghost use Rattle.dia_dict.specs.Dictionary.{Dictionary, IsDictionary, plain, entry_of, group_of, selected};
+ghost use Rattle.dia_dict.specs.Dictionary.{Dictionary, IsDictionary, plain_definition};
+ghost use Rattle.dia_dict.specs.Dictionary.{entry_of, group_place, selected};
 ghost use Rattle.dia_dict.specs.Dictionary.{has_command, slot_of, groups, definitions};
-ghost use Rattle.dia_data.specs.Plain.{plain as plain_format};
+ghost use Rattle.dia_data.specs.Plain.{plain_format};
 
 use crate::definition::{Class, Definition, Slot};
-use crate::numbers::{DefId, Entry};
+use crate::indices::{DefId, Entry};
 use dia_ccf::MRule;
 use dia_data::Format;
 use dia_wire::Key;
@@ -37,7 +38,8 @@ pub trait Book {
     /// The AVP's data format (RFC 6733 sections 4.2 to 4.4).
     fn format(&self, entry: Entry) -> &Format
         requires { entry < length (meaning self.now).entries }
-        ensures { IfSome (slice_get (meaning self.now).entries entry) (λ e. plain_format result.now ≡ e.format) };
+        ensures { IfSome (slice_get (meaning self.now).entries entry)
+            (λ e. plain_format result.now ≡ e.format) };
 
     /// Whether the AVP's M flag has to be set, has to be clear, or may be either.
     fn rule(&self, entry: Entry) -> MRule
@@ -47,7 +49,7 @@ pub trait Book {
     /// The definition of a Grouped AVP, and none for other formats.
     fn group(&self, entry: Entry) -> Option<DefId>
         requires { entry < length (meaning self.now).entries }
-        ensures { result ≡ group_of (meaning self.now) entry };
+        ensures { result ≡ group_place (meaning self.now) entry };
 
     /// The definition of a message of this command code, class and application (RFC 6733 section 3.2): the application's
     /// own, else the one without application. For an error it is the one of the header `code, ERR`, whatever the code and
@@ -62,12 +64,14 @@ pub trait Book {
     /// The definition of a group or a command.
     fn def(&self, def: DefId) -> &Definition
         requires { def < length (definitions (meaning self.now)) }
-        ensures { slice_get (definitions (meaning self.now)) def ≡ Some (plain result.now) };
+        ensures { slice_get (definitions (meaning self.now)) def
+            ≡ Some (plain_definition result.now) };
 
     /// Where the key stands among the rules of a definition. Rules count from 0.
     fn slot(&self, def: DefId, key: Key) -> Slot
         requires { def < length (definitions (meaning self.now)) }
-        ensures { IfSome (slice_get (definitions (meaning self.now)) def) (λ d. result ≡ slot_of d.rules key) };
+        ensures { IfSome (slice_get (definitions (meaning self.now)) def)
+            (λ d. result ≡ slot_of d.rules key) };
 
     /// How many AVPs there are.
     fn entries(&self) -> usize

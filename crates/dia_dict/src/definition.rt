@@ -112,9 +112,9 @@ impl DRule {
 /// A copy says the same.
 impl Clone for Definition {
     ghost use Rattle.std.specs.Prelude.{◌≡◌};
-    ghost use Rattle.dia_dict.specs.Dictionary.{plain};
+    ghost use Rattle.dia_dict.specs.Dictionary.{plain_definition};
 
-    ghost is_clone = { λ old new. plain new ≡ plain old };
+    ghost is_clone = { λ old new. plain_definition new ≡ plain_definition old };
 
     fn clone(&self) -> Result<Definition, AllocError> {
         Ok(Definition {

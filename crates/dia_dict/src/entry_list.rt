@@ -29,8 +29,8 @@ pub(crate) struct EntryList {
 
 impl EntryList {
     ghost use Rattle.std.specs.Prelude.{[], ◌∷◌, ◌++◌, OnOk, Some, None, string_bytes};
-    ghost use Rattle.dia_data.specs.Plain.{plain as plain_format};
-    ghost use Rattle.dia_dict.specs.Dictionary.{plain};
+    ghost use Rattle.dia_data.specs.Plain.{plain_format};
+    ghost use Rattle.dia_dict.specs.Dictionary.{plain_definition};
     ghost use Rattle.dia_dict.specs.PlainMeaning.{entries_of};
 
     pub(crate) fn new(alloc: Global) -> Self
@@ -52,7 +52,13 @@ impl EntryList {
     ) -> Result<(), AllocError>
         ensures { OnOk result (entries_of self.new.rows.items self.new.groups.items
             ≡ entries_of self.old.rows.items self.old.groups.items
-            ++ record { name = string_bytes name; key = key; format = plain_format format; rule = rule; group = None } ∷ []) }
+            ++ record {
+              name = string_bytes name;
+              key = key;
+              format = plain_format format;
+              rule = rule;
+              group = None;
+            } ∷ []) }
     {
         self.rows.push(Row {
             name,
@@ -80,7 +86,7 @@ impl EntryList {
               key = key;
               format = plain_format format;
               rule = rule;
-              group = Some (plain definition);
+              group = Some (plain_definition definition);
             } ∷ []) }
     {
         let number = self.groups.len();

@@ -4,8 +4,8 @@ ghost use Rattle.std.specs.Option.{option_or};
 ghost use Rattle.dia_dict.specs.Dictionary.{is_command};
 ghost use Rattle.dia_dict.specs.Indexed.{AreSlotTables, row_keys};
 ghost use Rattle.dia_dict.specs.KeyTables.{IsIndexOf, place_among};
-ghost use Rattle.dia_dict.specs.Selecting.{selector_of, service_of, same_service};
-ghost use Rattle.dia_dict.specs.declared.hashed.Service.{Service as AnyService};
+ghost use Rattle.dia_dict.specs.Selectors.{selector_of, service_of, same_service};
+ghost use Rattle.dia_dict.specs.declared.selectors.Service.{Service as AnyService};
 
 mod commands;
 mod tables;
@@ -14,10 +14,10 @@ mod tests;
 
 use crate::book::Book;
 use crate::definition::{Class, Definition, Slot};
-use crate::hashed::{Selector, Service};
+use crate::indices::{DefId, Entry};
 use crate::key_table::KeyTable;
-use crate::numbers::{DefId, Entry};
 use crate::plain_book::PlainBook;
+use crate::selectors::{Selector, Service};
 use dia_ccf::MRule;
 use dia_data::Format;
 use dia_wire::Key;
@@ -33,7 +33,8 @@ pub struct IndexedBook {
     selectors: IndexSet<Selector>,
     services: IndexSet<Service>,
     ghost placed: { IsIndexOf avps.rows.items (place_among (row_keys book.entries.rows.items)) },
-    ghost slotted: { ∥ AreSlotTables slots.items (book.entries.groups.items ++ book.commands.items) ∥₁ },
+    ghost slotted: { ∥ AreSlotTables slots.items
+        (book.entries.groups.items ++ book.commands.items) ∥₁ },
     ghost selected: { ∥ selectors.keys ≡ map (λ d. selector_of d.head) book.commands.items ∥₁ },
     ghost served: { (s : AnyService)
         → list_any (same_service s) services.keys ≡ list_any (same_service s)
@@ -43,7 +44,8 @@ pub struct IndexedBook {
 impl IndexedBook {
     /// The dictionary with its tables: n keys or rules take n log n steps. The error comes only where memory was refused.
     pub fn new(alloc: Global, book: PlainBook) -> Result<IndexedBook, AllocError>
-        ensures { IfOk result (λ indexed. ⟦<IndexedBook as Book>⟧.meaning indexed ≡ ⟦<PlainBook as Book>⟧.meaning book) }
+        ensures { IfOk result (λ indexed. ⟦<IndexedBook as Book>⟧.meaning indexed
+            ≡ ⟦<PlainBook as Book>⟧.meaning book) }
     {
         let avps = tables::avp_table(alloc, &book.entries.rows)?;
         let slots = tables::slot_tables(alloc, &book.entries.groups, &book.commands)?;
@@ -60,7 +62,8 @@ impl IndexedBook {
 
     /// The place of the command for this application, else of the one without.
     fn place_of_selected(&self, code: u32, class: Class, app: u32) -> Option<usize>
-        ensures { result ≡ option_or (position (λ d. is_command code class (Some app) d.head) self.now.book.commands.items)
+        ensures { result ≡ option_or
+            (position (λ d. is_command code class (Some app) d.head) self.now.book.commands.items)
             (position (λ d. is_command code class None d.head) self.now.book.commands.items) }
     {
         match self.place_of_command(code, class, Some(app)) {
@@ -71,7 +74,8 @@ impl IndexedBook {
 
     /// The place of the command of this code and class, and of this application or of none.
     fn place_of_command(&self, code: u32, class: Class, app: Option<u32>) -> Option<usize>
-        ensures { result ≡ position (λ d. is_command code class app d.head) self.now.book.commands.items }
+        ensures { result ≡ position
+            (λ d. is_command code class app d.head) self.now.book.commands.items }
     {
         self.selectors
             .get_index_of(&Selector::new(code, class, app))
@@ -81,6 +85,7 @@ impl IndexedBook {
 impl Book for IndexedBook {
     ghost meaning = { λ b. ⟦<PlainBook as Book>⟧.meaning b.book };
 
+    #[inline(always)]
     fn avp(&self, key: Key) -> Option<Entry> {
         let place = self.avps.place(key)?;
         Some(Entry::new(place))
@@ -119,6 +124,7 @@ impl Book for IndexedBook {
         self.book.def(def)
     }
 
+    #[inline(always)]
     fn slot(&self, def: DefId, key: Key) -> Slot {
         let definition = self.book.def(def);
         match self.slots[def.index()].place(key) {

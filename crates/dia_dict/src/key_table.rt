@@ -47,8 +47,10 @@ impl KeyTable {
     }
 
     /// The place of a key, if it has one. Among n keys it takes log n steps at most, whichever they are.
+    #[inline(always)]
     pub fn place(&self, key: Key) -> Option<usize>
-        ensures { (place : AnyKey → Option ℕ) → IsIndexOf self.now.rows.items place → result ≡ place key }
+        ensures { (place : AnyKey → Option ℕ)
+            → IsIndexOf self.now.rows.items place → result ≡ place key }
     {
         let rank = rows::rank(key);
         let bucket = starts::bucket_of(rank, self.buckets);

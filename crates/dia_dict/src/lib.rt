@@ -24,12 +24,12 @@ mod book;
 mod definition;
 mod entry_list;
 mod fault;
-mod hashed;
 mod indexed_book;
+mod indices;
 mod key_table;
-mod numbers;
 mod plain_book;
 mod resolving;
+mod selectors;
 #[cfg(test)]
 mod tests;
 
@@ -41,6 +41,6 @@ pub use dia_data::{Format, Leaf, accepts};
 pub use dia_wire::Key;
 pub use fault::{DictFault, DictKind};
 pub use indexed_book::IndexedBook;
-pub use numbers::{DefId, Entry};
+pub use indices::{DefId, Entry};
 pub use plain_book::PlainBook;
 pub use resolving::{named_is_sound, resolve};

@@ -2,14 +2,14 @@ ghost use Rattle.std.specs.Prelude.{◌≡◌, ◌≤◌, ◌+◌, length, map, 
 ghost use Rattle.std.specs.List.{list_any};
 ghost use Rattle.std.specs.Option.{option_or};
 ghost use Rattle.dia_dict.specs.Keys.{same_key};
-ghost use Rattle.dia_dict.specs.Dictionary.{IsDictionary, plain, is_command, has_class};
+ghost use Rattle.dia_dict.specs.Dictionary.{IsDictionary, plain_definition, is_command, has_class};
 ghost use Rattle.dia_dict.specs.Limits.{max_parts};
 ghost use Rattle.dia_dict.specs.PlainMeaning.{dictionary_of};
 
 use crate::book::Book;
 use crate::definition::{Class, Definition, Slot};
 use crate::entry_list::{EntryList, Row};
-use crate::numbers::{DefId, Entry};
+use crate::indices::{DefId, Entry};
 use dia_ccf::MRule;
 use dia_data::Format;
 use dia_wire::Key;
@@ -21,23 +21,26 @@ pub struct PlainBook {
     pub(crate) commands: Vec<Definition>,
     ghost few: { length entries.rows.items + length commands.items ≤ max_parts },
     ghost sound: { ∥ IsDictionary
-        (dictionary_of entries.rows.items (map plain entries.groups.items) (map plain commands.items)) ∥₁ },
+        (dictionary_of entries.rows.items (map plain_definition entries.groups.items)
+        (map plain_definition commands.items)) ∥₁ },
 }
 
 impl PlainBook {
     pub(crate) fn new(entries: EntryList, commands: Vec<Definition>) -> Self
         requires few { length entries.rows.items + length commands.items ≤ max_parts }
         requires sound { IsDictionary
-            (dictionary_of entries.rows.items (map plain entries.groups.items) (map plain commands.items)) }
+            (dictionary_of entries.rows.items (map plain_definition entries.groups.items)
+            (map plain_definition commands.items)) }
         ensures { ⟦<PlainBook as Book>⟧.meaning result ≡ dictionary_of entries.rows.items
-            (map plain entries.groups.items) (map plain commands.items) }
+            (map plain_definition entries.groups.items) (map plain_definition commands.items) }
     {
         PlainBook { entries, commands }
     }
 }
 
 impl Book for PlainBook {
-    ghost meaning = { λ b. dictionary_of b.entries.rows.items (map plain b.entries.groups.items) (map plain b.commands.items) };
+    ghost meaning = { λ b. dictionary_of b.entries.rows.items
+        (map plain_definition b.entries.groups.items) (map plain_definition b.commands.items) };
 
     fn avp(&self, key: Key) -> Option<Entry> {
         let index = place_of_row(&self.entries.rows, key)?;
@@ -127,7 +130,8 @@ fn place_of_command(
 
 /// The place of the command for this application, else of the one without.
 fn place_of_selected(commands: &[Definition], code: u32, class: Class, app: u32) -> Option<usize>
-    ensures { result ≡ option_or (position (λ command. is_command code class (Some app) command.head) commands.now)
+    ensures { result ≡ option_or
+        (position (λ command. is_command code class (Some app) command.head) commands.now)
         (position (λ command. is_command code class None command.head) commands.now) }
 {
     match place_of_command(commands, code, class, Some(app)) {

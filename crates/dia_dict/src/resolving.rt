@@ -1,8 +1,9 @@
 //! A dictionary out of a source.
 ghost use Rattle.std.specs.Prelude.{◌≡◌, [], None, IfOk, IfErr};
-ghost use Rattle.dia_ccf.specs.Plain.{plain};
-ghost use Rattle.dia_dict.specs.Resolution.{resolved, all_wrong, wrong_limits, wrong_names, first_wrong, IsToldOf};
-ghost use Rattle.dia_dict.specs.Refusing.{IsRefused};
+ghost use Rattle.dia_ccf.specs.Plain.{plain_source};
+ghost use Rattle.dia_dict.specs.Resolution.{resolved, all_wrong, wrong_limits};
+ghost use Rattle.dia_dict.specs.Resolution.{wrong_names, first_wrong, IsToldOf};
+ghost use Rattle.dia_dict.specs.SourceChecks.{IsRefused};
 
 mod building;
 mod checks;
@@ -28,9 +29,9 @@ use std::alloc::Global;
 /// order declarations, groups, commands, each in the order of the text. Of two items that are alike the later one has the
 /// fault. `NoMemory` comes only where memory was refused. The source is consumed.
 pub fn resolve(alloc: Global, source: Source) -> Result<PlainBook, DictFault>
-    ensures ok { IfOk result (λ book. (first_wrong (plain source) ≡ None)
-        × (⟦<PlainBook as Book>⟧.meaning book ≡ resolved (plain source))) }
-    ensures err { IfErr result (IsToldOf (plain source)) }
+    ensures ok { IfOk result (λ book. (first_wrong (plain_source source) ≡ None)
+        × (⟦<PlainBook as Book>⟧.meaning book ≡ resolved (plain_source source))) }
+    ensures err { IfErr result (IsToldOf (plain_source source)) }
 {
     match checked(alloc, &source) {
         Ok(book) => Ok(book),
@@ -41,9 +42,9 @@ pub fn resolve(alloc: Global, source: Source) -> Result<PlainBook, DictFault>
 
 /// The dictionary, where nothing is wrong.
 fn checked(alloc: Global, source: &Source) -> Result<PlainBook, Refusal<'_>>
-    ensures ok { IfOk result (λ book. (first_wrong (plain source.now) ≡ None)
-        × (⟦<PlainBook as Book>⟧.meaning book ≡ resolved (plain source.now))) }
-    ensures err { IfErr result (IsRefused (all_wrong (plain source.now))) }
+    ensures ok { IfOk result (λ book. (first_wrong (plain_source source.now) ≡ None)
+        × (⟦<PlainBook as Book>⟧.meaning book ≡ resolved (plain_source source.now))) }
+    ensures err { IfErr result (IsRefused (all_wrong (plain_source source.now))) }
 {
     checks::limits(source)?;
     let names = Names::new(alloc, source)?;
@@ -52,11 +53,11 @@ fn checked(alloc: Global, source: &Source) -> Result<PlainBook, Refusal<'_>>
 
 /// The dictionary of a source that is within its limits and has distinct names, where nothing else is wrong.
 fn named<'a>(alloc: Global, names: &Names<'a>) -> Result<PlainBook, Refusal<'a>>
-    requires within { wrong_limits (plain names.now.source.now) ≡ [] }
-    requires distinct { wrong_names (plain names.now.source.now) ≡ [] }
-    ensures ok { IfOk result (λ book. (first_wrong (plain names.now.source.now) ≡ None)
-        × (⟦<PlainBook as Book>⟧.meaning book ≡ resolved (plain names.now.source.now))) }
-    ensures err { IfErr result (IsRefused (all_wrong (plain names.now.source.now))) }
+    requires within { wrong_limits (plain_source names.now.source.now) ≡ [] }
+    requires distinct { wrong_names (plain_source names.now.source.now) ≡ [] }
+    ensures ok { IfOk result (λ book. (first_wrong (plain_source names.now.source.now) ≡ None)
+        × (⟦<PlainBook as Book>⟧.meaning book ≡ resolved (plain_source names.now.source.now))) }
+    ensures err { IfErr result (IsRefused (all_wrong (plain_source names.now.source.now))) }
 {
     checks::entries(alloc, names)?;
     rules::check(alloc, names)?;

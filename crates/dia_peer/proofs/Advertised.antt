@@ -12,7 +12,7 @@ use Rattle.dia_peer.specs.declared.config.Ip.{Ip}
 use Rattle.dia_peer.specs.Core.{PlainConfig, Pair, pair_of}
 use Rattle.dia_peer.specs.Messages.{avp, avp32, app_code, spelled, address, origin, capabilities, applications, if_some, plain_app, vendor_app, NamesPair, Advertises}
 use Rattle.dia_peer.proofs.Sets.{IsIn, to_in, of_in, in_cases, in_left, in_right, in_map, into_map, in_filter_map, into_filter_map, same_fields}
-use Rattle.dia_peer.proofs.Spelled.{one_list}
+use Rattle.dia_peer.proofs.SpelledMessages.{one_list}
 
 -- ---- AVPs of other codes
 
@@ -102,18 +102,18 @@ vendor_spells n kind id =
 -- ---- names
 
 -- the AVP names the pair
-abbrev Names : PlainAvp → Pair → Type 0
-Names v p = (number v.bytes ≡ p.id) × (key_of v ≡ record { code = app_code p.kind; vendor = 0 })
+abbrev IsAppAvp : PlainAvp → Pair → Type 0
+IsAppAvp v p = (number v.bytes ≡ p.id) × (key_of v ≡ record { code = app_code p.kind; vendor = 0 })
 
-names_as : (avps : List PlainAvp) (kind : Kind) (id : ℕ) → NamesPair avps (record { kind = kind; id = id }) → (v : PlainAvp) × IsIn avps v × Names v (record { kind = kind; id = id })
+names_as : (avps : List PlainAvp) (kind : Kind) (id : ℕ) → NamesPair avps (record { kind = kind; id = id }) → (v : PlainAvp) × IsIn avps v × IsAppAvp v (record { kind = kind; id = id })
 names_as avps kind id (v, m, n, inl (k, key)) = (v, to_in avps v m, (n, subst (λ (x : Kind). key_of v ≡ record { code = app_code x; vendor = 0 }) (sym k) key))
 names_as avps kind id (v, m, n, inr (k, key)) = (v, to_in avps v m, (n, subst (λ (x : Kind). key_of v ≡ record { code = app_code x; vendor = 0 }) (sym k) key))
 
-as_names : (avps : List PlainAvp) (kind : Kind) (id : ℕ) (v : PlainAvp) → IsIn avps v → Names v (record { kind = kind; id = id }) → NamesPair avps (record { kind = kind; id = id })
+as_names : (avps : List PlainAvp) (kind : Kind) (id : ℕ) (v : PlainAvp) → IsIn avps v → IsAppAvp v (record { kind = kind; id = id }) → NamesPair avps (record { kind = kind; id = id })
 as_names avps Auth id v m (n, key) = (v, of_in avps v m, n, inl (refl, key))
 as_names avps Acct id v m (n, key) = (v, of_in avps v m, n, inr (refl, key))
 
-names_code : (v : PlainAvp) (p : Pair) → Names v p → v.code ≡ app_code p.kind
+names_code : (v : PlainAvp) (p : Pair) → IsAppAvp v p → v.code ≡ app_code p.kind
 names_code v p (n, key) = ap (λ (k : Key). k.code) key
 
 code_range : (k : Kind) → (258 ≤ app_code k) × (app_code k ≤ 259)
@@ -133,10 +133,10 @@ module _ (c : PlainConfig) (numbers : AllByRecursion (λ (a : App). a.id < 42949
   number_fits (b ∷ apps) all a (inr h) = number_fits apps all.1 a h
 
   -- the AVP of an application names its pair and no other
-  named_pair : (a : App) (p : Pair) → IsIn c.apps a → Names (avp32 (app_code a.kind) a.id) p → pair_of a ≡ p
+  named_pair : (a : App) (p : Pair) → IsIn c.apps a → IsAppAvp (avp32 (app_code a.kind) a.id) p → pair_of a ≡ p
   named_pair a p m names = same_fields (pair_of a) p (same_code a.kind p.kind (names_code (avp32 (app_code a.kind) a.id) p names)) (sym (number_fits c.apps numbers a m) ∙ names.0)
 
-  self_named : (a : App) → IsIn c.apps a → Names (avp32 (app_code a.kind) a.id) (pair_of a)
+  self_named : (a : App) → IsIn c.apps a → IsAppAvp (avp32 (app_code a.kind) a.id) (pair_of a)
   self_named a m = (number_fits c.apps numbers a m, refl)
 
   abbrev pub Held : Pair → Type 0
@@ -145,10 +145,10 @@ module _ (c : PlainConfig) (numbers : AllByRecursion (λ (a : App). a.id < 42949
   held : (a : App) (p : Pair) → IsIn c.apps a → pair_of a ≡ p → Held p
   held a p m e = subst Held e (into_map pair_of c.apps a m)
 
-  from_plain : (wanted : Kind) (v : PlainAvp) (p : Pair) → IsIn (filter_map (plain_app wanted) c.apps) v → Names v p → Held p
+  from_plain : (wanted : Kind) (v : PlainAvp) (p : Pair) → IsIn (filter_map (plain_app wanted) c.apps) v → IsAppAvp v p → Held p
   from_plain wanted v p h names =
       let (a, m, e) = in_filter_map (plain_app wanted) c.apps v h in
-      held a p m (named_pair a p m (subst (λ (x : PlainAvp). Names x p) (sym (plain_is wanted a.kind a.id a.vendor v e)) names))
+      held a p m (named_pair a p m (subst (λ (x : PlainAvp). IsAppAvp x p) (sym (plain_is wanted a.kind a.id a.vendor v e)) names))
 
   pub vendor_code : (v : PlainAvp) → IsIn (filter_map vendor_app c.apps) v → v.code ≡ 260
   vendor_code v h =
@@ -166,7 +166,7 @@ module _ (c : PlainConfig) (numbers : AllByRecursion (λ (a : App). a.id < 42949
       ⊎_elim (λ l. ⊎_elim (λ x. inl x) (λ y. inr (inl y)) (in_cases (filter_map (plain_app Auth) c.apps) (filter_map (plain_app Acct) c.apps) v l)) (λ r. inr (inr r))
       (in_cases (filter_map (plain_app Auth) c.apps ++ filter_map (plain_app Acct) c.apps) (filter_map vendor_app c.apps) v h)
 
-  from_applications : (v : PlainAvp) (p : Pair) → IsIn (applications c) v → Names v p → Held p
+  from_applications : (v : PlainAvp) (p : Pair) → IsIn (applications c) v → IsAppAvp v p → Held p
   from_applications v p h names =
       ⊎_elim (λ x. from_plain Auth v p x names) (λ t. ⊎_elim (λ y. from_plain Acct v p y names) (λ z. absurd (omega (arith, vendor_code v z, names_code v p names, (code_range p.kind).1))) t)
       (three_cases v h)
@@ -174,9 +174,9 @@ module _ (c : PlainConfig) (numbers : AllByRecursion (λ (a : App). a.id < 42949
   from_inner : (a : App) (n : ℕ) (p : Pair) → IsIn c.apps a → NamesPair (avp32 266 n ∷ avp32 (app_code a.kind) a.id ∷ []) p → Held p
   from_inner a n p m names = by (names_as (avp32 266 n ∷ avp32 (app_code a.kind) a.id ∷ []) p.kind p.id names)
     where
-      by : (v : PlainAvp) × IsIn (avp32 266 n ∷ avp32 (app_code a.kind) a.id ∷ []) v × Names v p → Held p
+      by : (v : PlainAvp) × IsIn (avp32 266 n ∷ avp32 (app_code a.kind) a.id ∷ []) v × IsAppAvp v p → Held p
       by (v, inl e, is) = absurd (omega (arith, code_same e, names_code v p is, (code_range p.kind).1))
-      by (v, inr (inl e), is) = held a p m (named_pair a p m (subst (λ (x : PlainAvp). Names x p) (sym e) is))
+      by (v, inr (inl e), is) = held a p m (named_pair a p m (subst (λ (x : PlainAvp). IsAppAvp x p) (sym e) is))
       by (v, inr (inr h), is) = absurd h
 
   from_vendor : (v : PlainAvp) (inner : List PlainAvp) (p : Pair) → IsIn (filter_map vendor_app c.apps) v → SpellsAll inner v.bytes → NamesPair inner p → Held p

@@ -39,7 +39,7 @@ use Rattle.dia_wire.specs.declared.Key.{Key}
 use Rattle.dia_wire.specs.Number.{number}
 use Rattle.dia_wire.specs.Wire.{PlainAvp, IsHead, IsMessage, MessageWithZeros}
 use Rattle.dia_check.specs.Valid.{HasR}
-use Rattle.dia_peer.specs.declared.kept.Ids.{Ids}
+use Rattle.dia_peer.specs.declared.kept_requests.Ids.{Ids}
 use Rattle.dia_peer.specs.declared.config.Ip.{Ip}
 use Rattle.dia_peer.specs.declared.config.App.{App}
 use Rattle.dia_peer.specs.declared.config.Kind.TheVariants.{Auth, Acct}
@@ -74,7 +74,7 @@ use Rattle.dia_peer.specs.Messages.{
 }
 use Rattle.dia_peer.specs.World.{AreBytes, IsPastOpen}
 use Rattle.dia_peer.proofs.Sets.{IsIn, to_in, of_in, in_cases}
-use Rattle.dia_peer.proofs.Spelled.{one_message, has_length}
+use Rattle.dia_peer.proofs.SpelledMessages.{one_message, has_length}
 use Rattle.dia_peer.proofs.Advertised.{Held, quiet_front, quiet_answer, from_advertised, into_advertised, vendor_code, plain_code, three_cases, code_same, byte_sum}
 use Rattle.dia_peer.proofs.Moves.{MaySend, asks, accepts_it, refuses_it, watches, is_there, leaves, lets_go}
 

@@ -3,7 +3,7 @@ use Rattle.std.specs.Prelude.{◌↔◌, nat_eq, slice_get}
 use Rattle.std.specs.List.{AllByRecursion, starts_with}
 use Rattle.std.proofs.lemmas.Option.{same_Some, none-some}
 use Rattle.dia_wire.specs.Wire.{PlainAvp, MessageWithZeros}
-use Rattle.dia_peer.specs.declared.kept.Ids.{Ids}
+use Rattle.dia_peer.specs.declared.kept_requests.Ids.{Ids}
 use Rattle.dia_peer.specs.declared.config.App.{App}
 use Rattle.dia_peer.specs.declared.config.Role.{Role}
 use Rattle.dia_peer.specs.declared.config.Role.TheVariants.{Initiator, Responder}
@@ -14,7 +14,7 @@ use Rattle.dia_peer.specs.Messages.{Received, Cer, Cea, cea, IsGood, IsReceived}
 use Rattle.dia_peer.specs.Table.{Happening, Starts, Gets, Ticks, Stops, Breaks, Deed, Sends, Closes, Outcome, nothing, same_bytes, repeated, only_responder, happens_in, happens}
 use Rattle.dia_peer.specs.World.{End, World, Event, Start, Tick, Stop, Lose, Deliver, AreBytes, AreSpelled, Goes, HappensAt, Happens, Run, start, AreShared, IsPastOpen, RepeatsAnswer, Agrees}
 use Rattle.dia_peer.proofs.Sets.{IsIn, to_in, of_in, in_cases, in_left, in_right, in_common, into_common, eq_self}
-use Rattle.dia_peer.proofs.Spelled.{one_writing}
+use Rattle.dia_peer.proofs.SpelledMessages.{one_writing}
 use Rattle.dia_peer.proofs.Moves.{Suits, may_later, AllMay, Opened, stays, by_answer, by_request, Moves, moves}
 use Rattle.dia_peer.proofs.Delivered.{IsSentBy, is_request, received_cer, received_cea}
 

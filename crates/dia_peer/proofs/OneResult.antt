@@ -15,11 +15,11 @@ use Rattle.dia_dict.specs.Dictionary.{PlainDefinition, definitions, selected}
 use Rattle.dia_check.specs.declared.Unknown.TheVariants.{Kept}
 use Rattle.dia_check.specs.declared.Levels.TheVariants.{Any}
 use Rattle.dia_check.specs.Valid.{IsValid, HasR, HasE, Placed, class_of}
-use Rattle.dia_peer.specs.declared.kept.Ids.{Ids}
+use Rattle.dia_peer.specs.declared.kept_requests.Ids.{Ids}
 use Rattle.dia_peer.specs.Messages.{HasResult, IsGood}
 use Rattle.dia_peer.specs.Incoming.{is_result_code}
 use Rattle.dia_peer.proofs.Sets.{IsIn, to_in}
-use Rattle.dia_peer.proofs.Spelled.{one_message}
+use Rattle.dia_peer.proofs.SpelledMessages.{one_message}
 
 pub never : {X : Type 0} → false ≡ true → X
 never e = absurd cc

@@ -11,7 +11,7 @@ use Rattle.dia_check.specs.declared.Unknown.TheVariants.{Kept}
 use Rattle.dia_check.specs.declared.Levels.TheVariants.{Any}
 use Rattle.dia_check.specs.Valid.{IsValid, HasR, HasE}
 use Rattle.dia_check.specs.Faults.{HasLength}
-use Rattle.dia_peer.specs.declared.kept.Ids.{Ids}
+use Rattle.dia_peer.specs.declared.kept_requests.Ids.{Ids}
 use Rattle.dia_peer.specs.declared.event.Event.{Event}
 use Rattle.dia_peer.specs.declared.event.Event.TheVariants as event
 use Rattle.dia_peer.specs.declared.event.Output.{Output}
@@ -44,7 +44,7 @@ use Rattle.dia_peer.specs.Table.{Happening, Gets, Deed, Sends, Closes, Outcome, 
 use Rattle.dia_peer.specs.Machine.{IsHappening, IsOutput, AreOutputs, IsStep}
 use Rattle.dia_peer.specs.Outputs.{SentBytes, ClosedFor, plain_output, SendsBytes}
 use Rattle.dia_peer.proofs.Sets.{to_in, of_in, any_in, in_any, eq_same}
-use Rattle.dia_peer.proofs.Spelled.{one_message, has_length, one_writing}
+use Rattle.dia_peer.proofs.SpelledMessages.{one_message, has_length, one_writing}
 use Rattle.dia_peer.proofs.Delivered.{code_at}
 use Rattle.dia_peer.proofs.OneResult.{never, one_result}
 

@@ -13,7 +13,7 @@ use Rattle.dia_peer.specs.declared.event.Cause.TheVariants.{Rebooting, Busy, DoN
 use Rattle.dia_peer.specs.Core.{PlainConfig, IsConfig, IsIp}
 use Rattle.dia_peer.specs.Messages.{avp, avp32, app_code, cause_number, address}
 use Rattle.dia_peer.proofs.Advertised.{vendor_spells}
-use Rattle.dia_peer.proofs.Sending.{OfEach, vendor_data}
+use Rattle.dia_peer.proofs.SentAvps.{OfEach, vendor_data}
 
 -- whatever a group may hold
 module _ (Inner : List DRule → List ℕ → Type 0) where

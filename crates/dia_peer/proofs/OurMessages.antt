@@ -8,12 +8,12 @@ use Rattle.dia_dict.specs.Dictionary.{definitions, selected}
 use Rattle.dia_check.specs.declared.Unknown.TheVariants.{Kept}
 use Rattle.dia_check.specs.declared.Levels.TheVariants.{Any}
 use Rattle.dia_check.specs.Valid.{IsValid, HasR, HasE, HasT, class_of, AllowsP, Placed, Fits}
-use Rattle.dia_peer.specs.declared.kept.Ids.{Ids}
+use Rattle.dia_peer.specs.declared.kept_requests.Ids.{Ids}
 use Rattle.dia_peer.specs.Core.{PlainConfig, IsConfig, Sent}
 use Rattle.dia_peer.specs.Messages.{header_of, IsOurs, is_cer, is_cea, is_dwr, is_dwa, is_dpr, is_dpa}
-use Rattle.dia_peer.proofs.Counted.{definition, cer_stands, cea_stands, dwr_stands, dwa_stands, dpr_stands, dpa_stands}
+use Rattle.dia_peer.proofs.AvpCounts.{definition, cer_stands, cea_stands, dwr_stands, dwa_stands, dpr_stands, dpa_stands}
 use Rattle.dia_peer.proofs.OurAvps.{each_fits}
-use Rattle.dia_peer.proofs.Sending.{all_ours}
+use Rattle.dia_peer.proofs.SentAvps.{all_ours}
 
 -- what a message is to have, for the definition of this number
 is_valid : (n flags code : ℕ) (ids : Ids) (avps : List PlainAvp) (bytes : List ℕ) → (HasR flags → ¬ HasE flags) → (HasT flags → HasR flags) → selected base code (class_of flags) 0 ≡ Some n

@@ -17,8 +17,8 @@ use Rattle.dia_check.specs.declared.Levels.TheVariants.{Any}
 use Rattle.dia_check.specs.Valid.{IsValid, Placed, class_of}
 use Rattle.dia_peer.specs.Incoming.{SaidBy, IsResult, is_result_code}
 use Rattle.dia_peer.proofs.Sets.{IsIn}
-use Rattle.dia_peer.proofs.Spelled.{one_message}
-use Rattle.dia_peer.proofs.Walking.{into_said}
+use Rattle.dia_peer.proofs.SpelledMessages.{one_message}
+use Rattle.dia_peer.proofs.LevelWalks.{into_said}
 
 found_first : (p : Key → Bool) (v : PlainAvp) (vs : List PlainAvp) (b : Bool) → p (key_of v) ≡ b → 1 ≤ count_by p (map key_of (v ∷ vs))
     → (1 ≤ count_by p (map key_of vs) → (w : PlainAvp) × IsIn vs w × (p (key_of w) ≡ true))

@@ -10,7 +10,7 @@ use Rattle.dia_peer.specs.declared.config.App.{App}
 use Rattle.dia_peer.specs.declared.config.Ip.{Ip}
 use Rattle.dia_peer.specs.declared.config.Config.{Config}
 use Rattle.dia_peer.specs.declared.event.State.{State}
-use Rattle.dia_peer.specs.declared.kept.Ids.{Ids}
+use Rattle.dia_peer.specs.declared.kept_requests.Ids.{Ids}
 use Rattle.std.specs.Str.{IsUtf8}
 use Rattle.dia_peer.specs.declared.config.Ip.TheVariants.{V4, V6}
 
@@ -25,8 +25,8 @@ pub record PlainConfig : Type 0 where
   pub hop : ℕ
   pub e2e : ℕ
 
-abbrev pub plain : Config → PlainConfig
-plain c = record {
+abbrev pub plain_config : Config → PlainConfig
+plain_config c = record {
   host = string_bytes c.host;
   realm = string_bytes c.realm;
   product = string_bytes c.product;

@@ -7,7 +7,7 @@ use Rattle.dia_wire.specs.Number.{number}
 use Rattle.dia_wire.specs.Wire.{PlainAvp, key_of, SpellsAll}
 use Rattle.dia_peer.specs.declared.config.Kind.{Kind}
 use Rattle.dia_peer.specs.declared.config.Kind.TheVariants.{Auth, Acct}
-use Rattle.dia_peer.specs.declared.named.Named.{Named}
+use Rattle.dia_peer.specs.declared.named_apps.NamedApps.{NamedApps}
 use Rattle.dia_peer.specs.declared.incoming.Incoming.{Incoming}
 use Rattle.dia_peer.specs.declared.incoming.Incoming.TheVariants as incoming
 use Rattle.dia_peer.specs.Core.{Pair}
@@ -18,13 +18,13 @@ pick auth acct Auth = auth
 pick auth acct Acct = acct
 
 -- the numbers of a kind that are named
-abbrev pub numbers_of : Named → Kind → List ℕ
+abbrev pub numbers_of : NamedApps → Kind → List ℕ
 numbers_of n kind = pick n.auth.keys n.acct.keys kind
 
-abbrev pub Has : Named → Pair → Type 0
+abbrev pub Has : NamedApps → Pair → Type 0
 Has n p = Contains (numbers_of n p.kind) p.id
 
-abbrev pub pairs_named : Named → List Pair
+abbrev pub pairs_named : NamedApps → List Pair
 pairs_named n = map (λ id. record { kind = Auth; id = id }) n.auth.keys ++ map (λ id. record { kind = Acct; id = id }) n.acct.keys
 
 -- the kind of application that an AVP of this key names (RFC 6733 sections 6.8 and 6.9)
@@ -38,8 +38,8 @@ named_by v = option_map (λ kind. record { kind = kind; id = number v.bytes }) (
 abbrev pub HasNumber : PlainAvp → Type 0
 HasNumber v = IsSome (kind_of (key_of v)) → length v.bytes ≡ 4
 
-abbrev pub Names : PlainAvp → Pair → Type 0
-Names v p = named_by v ≡ Some p
+abbrev pub NamesApplication : PlainAvp → Pair → Type 0
+NamesApplication v p = named_by v ≡ Some p
 
 -- one of the AVPs says so
 abbrev pub SaidBy : {Q : Type 0} → (PlainAvp → Q → Type 0) → List PlainAvp → Q → Type 0
@@ -52,7 +52,7 @@ is_vendor_specific key = (key.code == 260) && (key.vendor == 0)
 
 -- the AVP names the application, or one directly inside it does
 abbrev pub Tells : PlainAvp → Pair → Type 0
-Tells v p = Names v p ⊎ (IsTrue (is_vendor_specific (key_of v)) × ((inner : List PlainAvp) × SpellsAll inner v.bytes × SaidBy Names inner p))
+Tells v p = NamesApplication v p ⊎ (IsTrue (is_vendor_specific (key_of v)) × ((inner : List PlainAvp) × SpellsAll inner v.bytes × SaidBy NamesApplication inner p))
 
 abbrev pub IsReadable : PlainAvp → Type 0
 IsReadable v = HasNumber v × (IsTrue (is_vendor_specific (key_of v)) → (inner : List PlainAvp) × SpellsAll inner v.bytes × AllByRecursion HasNumber inner)

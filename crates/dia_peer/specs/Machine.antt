@@ -6,7 +6,7 @@ use Rattle.dia_dict.specs.Base.{base}
 use Rattle.dia_check.specs.declared.Unknown.TheVariants.{Kept}
 use Rattle.dia_check.specs.declared.Levels.TheVariants.{Any}
 use Rattle.dia_check.specs.Valid.{IsValid}
-use Rattle.dia_peer.specs.declared.kept.Taken.{Taken}
+use Rattle.dia_peer.specs.declared.kept_requests.Taken.{Taken}
 use Rattle.dia_peer.specs.declared.connection.Core.{Core}
 use Rattle.dia_peer.specs.declared.config.ConfigFault.{ConfigFault}
 use Rattle.dia_peer.specs.declared.config.ConfigFault.TheVariants as fault
@@ -14,7 +14,7 @@ use Rattle.dia_peer.specs.declared.event.Event.{Event}
 use Rattle.dia_peer.specs.declared.event.Event.TheVariants as event
 use Rattle.dia_peer.specs.declared.event.Output.{Output}
 use Rattle.dia_peer.specs.declared.event.Output.TheVariants as output
-use Rattle.dia_peer.specs.Core.{PlainConfig, PlainCore, PlainTaken, IsConfig, IsIdentity, AreApps, plain, pairs_of}
+use Rattle.dia_peer.specs.Core.{PlainConfig, PlainCore, PlainTaken, IsConfig, IsIdentity, AreApps, plain_config, pairs_of}
 use Rattle.dia_peer.specs.Messages.{Received, IsReceived}
 use Rattle.dia_peer.specs.Table.{Happening, Starts, Gets, Ticks, Stops, Breaks, Deed, Sends, Closes, Outcome, happens}
 
@@ -23,7 +23,7 @@ taken_of t = record { bytes = t.bytes.items; ids = t.ids }
 
 abbrev pub core_of : Core → PlainCore
 core_of c = record {
-  config = plain c.node.config;
+  config = plain_config c.node.config;
   role = c.role;
   state = c.state;
   common = pairs_of c.common.items;

@@ -17,7 +17,7 @@ use Rattle.dia_peer.specs.declared.config.Ip.{Ip}
 use Rattle.dia_peer.specs.declared.config.Ip.TheVariants.{V4, V6}
 use Rattle.dia_peer.specs.declared.event.Cause.{Cause}
 use Rattle.dia_peer.specs.declared.event.Cause.TheVariants.{Rebooting, Busy, DoNotWant}
-use Rattle.dia_peer.specs.declared.kept.Ids.{Ids}
+use Rattle.dia_peer.specs.declared.kept_requests.Ids.{Ids}
 use Rattle.dia_peer.specs.Core.{PlainConfig, Pair, Sent}
 
 -- an AVP of this project's messages

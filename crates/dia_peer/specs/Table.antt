@@ -2,7 +2,7 @@
 use Rattle.std.specs.Prelude.{ℕ, ◌==◌, ◌&&◌, Bool, true, false, if◌then◌else◌, List, [], ◌∷◌, ◌++◌, length, Option, Some, None, nat_eq}
 use Rattle.std.specs.Option.{option_map_or}
 use Rattle.std.specs.List.{starts_with}
-use Rattle.dia_peer.specs.declared.kept.Ids.{Ids}
+use Rattle.dia_peer.specs.declared.kept_requests.Ids.{Ids}
 use Rattle.dia_peer.specs.declared.config.Role.{Role}
 use Rattle.dia_peer.specs.declared.config.Role.TheVariants.{Initiator, Responder}
 use Rattle.dia_peer.specs.declared.event.State.{State}

@@ -1,9 +1,11 @@
 //! The applications of a configuration, in order.
 
-ghost use Rattle.std.specs.Prelude.{◌≡◌, ◌<◌, ◌+◌, ◌↔◌, IsTrue, IfOk, IfSome, Some, length, map, drop, position, slice_get};
+ghost use Rattle.std.specs.Prelude.{◌≡◌, ◌<◌, ◌+◌, ◌↔◌, IsTrue, IfOk, IfSome, Some};
+ghost use Rattle.std.specs.Prelude.{length, map, drop, position, slice_get};
 ghost use Rattle.std.specs.List.{AllByRecursion, list_any};
 ghost use Rattle.dia_peer.specs.declared.config.App.{App as AnyApp};
-ghost use Rattle.dia_peer.specs.Core.{AreDistinct, pair_of, the_pair, pairs_of, comes_before, same_pair, sorted_pairs};
+ghost use Rattle.dia_peer.specs.Core.{AreDistinct, pair_of, the_pair, pairs_of};
+ghost use Rattle.dia_peer.specs.Core.{comes_before, same_pair, sorted_pairs};
 
 use crate::config::{App, Kind};
 use std::alloc::{AllocError, Global};
@@ -43,7 +45,8 @@ pub(crate) fn are_distinct(apps: &[App]) -> bool
 fn stands_again(apps: &[App], place: usize) -> bool
     requires { place < length apps.now }
     ensures { (app : AnyApp) → slice_get apps.now place ≡ Some app
-        → result ≡ list_any (λ other. same_pair (pair_of app) (pair_of other)) (drop (place + 1) apps.now) }
+        → result ≡ list_any (λ other. same_pair (pair_of app) (pair_of other))
+        (drop (place + 1) apps.now) }
 {
     let app = apps[place];
     is_among((app.kind, app.id), &apps[place + 1..])
@@ -71,7 +74,8 @@ pub(crate) fn sorted(alloc: Global, apps: &[App]) -> Result<Vec<(Kind, u32)>, Al
 
 /// The place of the first application that comes behind this one.
 fn place_of(pair: (Kind, u32), pairs: &[(Kind, u32)]) -> Option<usize>
-    ensures place { result ≡ position (λ other. comes_before (the_pair pair) (the_pair other)) pairs.now }
+    ensures place { result ≡ position
+        (λ other. comes_before (the_pair pair) (the_pair other)) pairs.now }
     ensures inside { IfSome result (λ place. place < length pairs.now) }
 {
     pairs.iter().position(|other| is_before(pair, *other))

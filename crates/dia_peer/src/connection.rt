@@ -1,13 +1,13 @@
 ghost use Rattle.std.specs.Prelude.{◌≡◌, IfOk, IfErr, OnErr, All, List, [], ◌∷◌};
-ghost use Rattle.dia_peer.specs.Core.{IsConfig, plain, pairs_of};
+ghost use Rattle.dia_peer.specs.Core.{IsConfig, plain_config, pairs_of};
 ghost use Rattle.dia_peer.specs.Messages.{after};
 ghost use Rattle.dia_peer.specs.World.{idle};
 
-mod gets;
+mod on_message;
 
 use crate::config::{Config, ConfigFault, Kind, Role};
 use crate::event::{Cause, Event, Output, State, Why};
-use crate::kept::{Ids, Taken};
+use crate::kept_requests::{Ids, Taken};
 use crate::node::Node;
 use std::alloc::{AllocError, Global};
 
@@ -49,8 +49,9 @@ impl Core {
     /// The first of the faults of a configuration that stands is told. The error `NoMemory` comes only where memory was refused.
     pub fn new(alloc: Global, config: Config, role: Role) -> Result<Core, ConfigFault>
         ensures ok { IfOk result
-            (λ core. IsConfig (plain config) × (core_of core ≡ idle (plain config) role)) }
-        ensures err { IfErr result (IsRefusedAs (plain config)) }
+            (λ core. IsConfig (plain_config config)
+            × (core_of core ≡ idle (plain_config config) role)) }
+        ensures err { IfErr result (IsRefusedAs (plain_config config)) }
     {
         let node = Node::new(alloc, config)?;
         let next = Ids {
@@ -133,7 +134,8 @@ impl Core {
 
     fn begins(&mut self) -> Result<Vec<Output>, AllocError>
         ensures ok { IfOk result
-            (λ outputs. Does (starts (core_of self.old) self.old.role) outputs.items (core_of self.new)) }
+            (λ outputs. Does (starts (core_of self.old) self.old.role) outputs.items
+            (core_of self.new)) }
         ensures err { OnErr result (core_of self.new ≡ core_of self.old) }
     {
         match self.role {
@@ -186,7 +188,8 @@ impl Core {
 
     fn stops(&mut self, cause: Cause) -> Result<Vec<Output>, AllocError>
         ensures ok { IfOk result
-            (λ outputs. Does (happens (core_of self.old) (Stops cause)) outputs.items (core_of self.new)) }
+            (λ outputs. Does (happens (core_of self.old) (Stops cause)) outputs.items
+            (core_of self.new)) }
         ensures err { OnErr result (core_of self.new ≡ core_of self.old) }
     {
         match self.state {
@@ -201,7 +204,8 @@ impl Core {
 
     fn leaves(&mut self, cause: Cause) -> Result<Vec<Output>, AllocError>
         ensures ok { IfOk result
-            (λ outputs. Does (stops_open (core_of self.old) cause) outputs.items (core_of self.new)) }
+            (λ outputs. Does (stops_open (core_of self.old) cause) outputs.items
+            (core_of self.new)) }
         ensures err { OnErr result (core_of self.new ≡ core_of self.old) }
     {
         let ids = self.next;

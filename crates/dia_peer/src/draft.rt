@@ -1,11 +1,11 @@
 //! AVPs that are made for a message.
 
 ghost use Rattle.std.specs.Prelude.{◌≡◌, ◌++◌, ◌∷◌, [], ◌<◌, ◌^◌, IfOk, OnOk, map, All};
-ghost use Rattle.dia_wire.specs.Wire.{plain, Agrees, IsTooLong, MessageWithZeros};
+ghost use Rattle.dia_wire.specs.Wire.{plain_avp, Agrees, IsTooLong, MessageWithZeros};
 ghost use Rattle.dia_peer.specs.Messages.{avp, avp32, header_of};
 ghost use Rattle.dia_peer.specs.Drafts.{drafted, drafted_avp};
 
-use crate::kept::Ids;
+use crate::kept_requests::Ids;
 use dia_wire::{AVP_MANDATORY, Avp, Header, PutFault, put_message};
 use std::alloc::{AllocError, Global};
 
@@ -20,7 +20,7 @@ pub(crate) struct OwnAvp {
 
 impl OwnAvp {
     fn as_avp(&self) -> Avp<'_>
-        ensures { plain result ≡ drafted_avp self.now }
+        ensures { plain_avp result ≡ drafted_avp self.now }
     {
         Avp {
             code: self.code,
@@ -79,7 +79,8 @@ impl Draft {
     pub(crate) fn message(&self, flags: u8, code: u32, ids: Ids) -> Result<Vec<u8>, AllocError>
         requires fits { code < 2 ^ 24 }
         requires short { ¬ IsTooLong (drafted self.now) }
-        ensures { IfOk result (λ bytes. MessageWithZeros (header_of flags code ids) (drafted self.now) bytes.items) }
+        ensures { IfOk result
+            (λ bytes. MessageWithZeros (header_of flags code ids) (drafted self.now) bytes.items) }
     {
         let header = Header {
             flags,
@@ -99,8 +100,8 @@ impl Draft {
 }
 
 fn borrowed<'a>(alloc: Global, avps: &'a [OwnAvp]) -> Result<Vec<Avp<'a>>, AllocError>
-    ensures avps { IfOk result (λ found. map plain found.items ≡ map drafted_avp avps.now) }
-    ensures agree { IfOk result (λ found. All (λ v. Agrees (plain v)) found.items) }
+    ensures avps { IfOk result (λ found. map plain_avp found.items ≡ map drafted_avp avps.now) }
+    ensures agree { IfOk result (λ found. All (λ v. Agrees (plain_avp v)) found.items) }
 {
     let mut found = Vec::with_capacity(alloc, avps.len())?;
     for avp in avps {

@@ -1,7 +1,7 @@
 //! What a message is to a core.
 
-use crate::kept::Ids;
-use crate::named::Named;
+use crate::kept_requests::Ids;
+use crate::named_apps::NamedApps;
 
 #[derive(Debug, Drop)]
 pub(crate) enum Incoming {
@@ -13,14 +13,14 @@ pub(crate) enum Incoming {
     Invalid,
     Cer {
         ids: Ids,
-        named: Named,
+        named: NamedApps,
     },
     Dwr(Ids),
     Dpr(Ids),
     Cea {
         ids: Ids,
         result_code: u32,
-        named: Named,
+        named: NamedApps,
     },
     /// An error message of the command code 257 (RFC 6733 section 7.2).
     Refusal(Ids),

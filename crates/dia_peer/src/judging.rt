@@ -1,7 +1,7 @@
 //! What is asked of a configuration.
 
 ghost use Rattle.std.specs.Prelude.{◌≡◌, ◌↔◌, IfOk, IfErr, IsTrue, length, All};
-ghost use Rattle.dia_peer.specs.Core.{IsConfig, IsIdentity, IsIp, plain};
+ghost use Rattle.dia_peer.specs.Core.{IsConfig, IsIdentity, IsIp, plain_config};
 ghost use Rattle.dia_peer.specs.Machine.{IsRefusedAs};
 
 use crate::applications::{are_distinct, may_be_used};
@@ -17,8 +17,8 @@ const APP_LIMIT: usize = 1024;
 
 /// Tells the first thing that is wrong with a configuration. It takes no memory.
 pub(crate) fn judge(config: &Config) -> Result<(), ConfigFault>
-    ensures ok { IfOk result (λ _. IsConfig (plain config.now)) }
-    ensures err { IfErr result (IsRefusedAs (plain config.now)) }
+    ensures ok { IfOk result (λ _. IsConfig (plain_config config.now)) }
+    ensures err { IfErr result (IsRefusedAs (plain_config config.now)) }
 {
     if !is_identity(&config.host) {
         return Err(ConfigFault::Host);

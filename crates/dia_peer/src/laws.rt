@@ -18,7 +18,8 @@ ghost use Rattle.dia_peer.specs.declared.event.Output.{Output as CoreOutput};
 /// However the messages of two ends are lost, repeated or reordered, each end that is open holds the
 /// applications that both advertise.
 pub fn agreement()
-    ensures { (a b : PlainConfig) (events : List (AnyRole × AnyEvent)) (w : World) → IsConfig a → IsConfig b
+    ensures { (a b : PlainConfig) (events : List (AnyRole × AnyEvent)) (w : World)
+        → IsConfig a → IsConfig b
         → Run (start a b) events w → Agrees a b w }
 {}
 
@@ -32,6 +33,8 @@ pub fn our_messages_are_valid()
 /// A step has one outcome: a core and an event have one core afterwards and one list of what is done, the bytes of
 /// each message and each reason to close, in their order.
 pub fn one_step()
-    ensures { (old new other : PlainCore) (e : CoreEvent) (a b : List CoreOutput) → IsStep old e a new → IsStep old e b other
-        → All SendsBytes a → All SendsBytes b → (new ≡ other) × (map plain_output a ≡ map plain_output b) }
+    ensures { (old new other : PlainCore) (e : CoreEvent) (a b : List CoreOutput)
+        → IsStep old e a new → IsStep old e b other
+        → All SendsBytes a → All SendsBytes b
+        → (new ≡ other) × (map plain_output a ≡ map plain_output b) }
 {}

@@ -28,7 +28,7 @@
 #![tactic(auto)]
 
 mod applications;
-mod base;
+mod base_book;
 mod codes;
 mod config;
 mod connection;
@@ -36,10 +36,10 @@ mod draft;
 mod event;
 mod incoming;
 mod judging;
-mod kept;
+mod kept_requests;
 mod laws;
 mod messages;
-mod named;
+mod named_apps;
 mod node;
 mod reading;
 mod receiving;

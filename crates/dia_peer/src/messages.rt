@@ -1,7 +1,7 @@
 //! The messages that a core sends (RFC 6733 sections 5.3 to 5.5).
 
 ghost use Rattle.std.specs.Prelude.{◌≡◌, IfOk};
-ghost use Rattle.dia_peer.specs.Core.{plain};
+ghost use Rattle.dia_peer.specs.Core.{plain_config};
 ghost use Rattle.dia_peer.specs.Messages.{IsSent, cer, cea, dwr, dwa, dpr, dpa, cause_number};
 
 use crate::codes::{
@@ -9,7 +9,7 @@ use crate::codes::{
 };
 use crate::draft::Draft;
 use crate::event::Cause;
-use crate::kept::Ids;
+use crate::kept_requests::Ids;
 use crate::node::{Node, put_applications, put_capabilities, put_origin, put_state_id};
 use dia_wire::COMMAND_REQUEST;
 use std::alloc::AllocError;
@@ -19,7 +19,8 @@ const ANSWER: u8 = 0;
 
 impl Node {
     pub(crate) fn cer(&self, ids: Ids) -> Result<Vec<u8>, AllocError>
-        ensures { IfOk result (λ bytes. IsSent (cer (plain self.now.config) ids) bytes.items) }
+        ensures { IfOk result
+            (λ bytes. IsSent (cer (plain_config self.now.config) ids) bytes.items) }
     {
         let mut draft = Draft::new(self.alloc);
         put_origin(&mut draft, &self.config)?;
@@ -29,7 +30,8 @@ impl Node {
     }
 
     pub(crate) fn cea(&self, ids: Ids, result_code: u32) -> Result<Vec<u8>, AllocError>
-        ensures { IfOk result (λ bytes. IsSent (cea (plain self.now.config) ids result_code) bytes.items) }
+        ensures { IfOk result
+            (λ bytes. IsSent (cea (plain_config self.now.config) ids result_code) bytes.items) }
     {
         let mut draft = Draft::new(self.alloc);
         draft.put_number(RESULT_CODE, result_code)?;
@@ -40,7 +42,8 @@ impl Node {
     }
 
     pub(crate) fn dwr(&self, ids: Ids) -> Result<Vec<u8>, AllocError>
-        ensures { IfOk result (λ bytes. IsSent (dwr (plain self.now.config) ids) bytes.items) }
+        ensures { IfOk result
+            (λ bytes. IsSent (dwr (plain_config self.now.config) ids) bytes.items) }
     {
         let mut draft = Draft::new(self.alloc);
         put_origin(&mut draft, &self.config)?;
@@ -49,7 +52,8 @@ impl Node {
     }
 
     pub(crate) fn dwa(&self, ids: Ids) -> Result<Vec<u8>, AllocError>
-        ensures { IfOk result (λ bytes. IsSent (dwa (plain self.now.config) ids) bytes.items) }
+        ensures { IfOk result
+            (λ bytes. IsSent (dwa (plain_config self.now.config) ids) bytes.items) }
     {
         let mut draft = Draft::new(self.alloc);
         draft.put_number(RESULT_CODE, SUCCESS)?;
@@ -59,7 +63,8 @@ impl Node {
     }
 
     pub(crate) fn dpr(&self, ids: Ids, cause: Cause) -> Result<Vec<u8>, AllocError>
-        ensures { IfOk result (λ bytes. IsSent (dpr (plain self.now.config) ids cause) bytes.items) }
+        ensures { IfOk result
+            (λ bytes. IsSent (dpr (plain_config self.now.config) ids cause) bytes.items) }
     {
         let mut draft = Draft::new(self.alloc);
         put_origin(&mut draft, &self.config)?;
@@ -68,7 +73,8 @@ impl Node {
     }
 
     pub(crate) fn dpa(&self, ids: Ids) -> Result<Vec<u8>, AllocError>
-        ensures { IfOk result (λ bytes. IsSent (dpa (plain self.now.config) ids) bytes.items) }
+        ensures { IfOk result
+            (λ bytes. IsSent (dpa (plain_config self.now.config) ids) bytes.items) }
     {
         let mut draft = Draft::new(self.alloc);
         draft.put_number(RESULT_CODE, SUCCESS)?;

@@ -3,7 +3,8 @@
 ghost use Rattle.std.specs.Prelude.{◌≡◌, ◌++◌, IfOk, IfErr, OnOk, map, filter, ◌∷◌, []};
 ghost use Rattle.std.specs.Int.{w16, to_be_bytes};
 ghost use Rattle.std.specs.List.{filter_map, list_any};
-ghost use Rattle.dia_peer.specs.Core.{IsConfig, plain, pair_of, the_pair, pairs_of, same_pair, sorted_pairs, common_of};
+ghost use Rattle.dia_peer.specs.Core.{IsConfig, plain_config, pair_of, the_pair};
+ghost use Rattle.dia_peer.specs.Core.{pairs_of, same_pair, sorted_pairs, common_of};
 ghost use Rattle.dia_peer.specs.Incoming.{pairs_named};
 ghost use Rattle.dia_peer.specs.Drafts.{drafted};
 ghost use Rattle.dia_peer.specs.Messages.{
@@ -21,7 +22,7 @@ ghost use Rattle.dia_peer.specs.Messages.{
 };
 
 use crate::applications::sorted;
-use crate::base::BaseBook;
+use crate::base_book::BaseBook;
 use crate::codes::{
     ACCT_APPLICATION_ID, AUTH_APPLICATION_ID, HOST_IP_ADDRESS, ORIGIN_HOST, ORIGIN_REALM,
     ORIGIN_STATE_ID, PRODUCT_NAME, VENDOR_ID, VENDOR_SPECIFIC_APPLICATION_ID,
@@ -29,7 +30,7 @@ use crate::codes::{
 use crate::config::{App, Config, ConfigFault, Ip, Kind};
 use crate::draft::Draft;
 use crate::judging::judge;
-use crate::named::Named;
+use crate::named_apps::NamedApps;
 use std::alloc::{AllocError, Global};
 
 /// A configuration that is accepted, its applications in order, and the base dictionary.
@@ -39,7 +40,7 @@ pub(crate) struct Node {
     pub base: BaseBook,
     pub config: Config,
     pub apps: Vec<(Kind, u32)>,
-    pub ghost sound: { ∥ IsConfig (plain config) ∥₁ },
+    pub ghost sound: { ∥ IsConfig (plain_config config) ∥₁ },
     pub ghost in_order: { ∥ pairs_of apps.items ≡ sorted_pairs (map pair_of config.apps.items) ∥₁ },
 }
 
@@ -47,8 +48,9 @@ impl Node {
     ghost use Rattle.dia_peer.specs.Machine.{IsRefusedAs};
 
     pub(crate) fn new(alloc: Global, config: Config) -> Result<Node, ConfigFault>
-        ensures ok { IfOk result (λ node. IsConfig (plain config) × (plain node.config ≡ plain config)) }
-        ensures err { IfErr result (IsRefusedAs (plain config)) }
+        ensures ok { IfOk result (λ node. IsConfig (plain_config config)
+            × (plain_config node.config ≡ plain_config config)) }
+        ensures err { IfErr result (IsRefusedAs (plain_config config)) }
     {
         judge(&config)?;
         let apps = sorted(alloc, &config.apps)?;
@@ -62,8 +64,9 @@ impl Node {
     }
 
     /// The applications of the configuration that are also among these, in order.
-    pub(crate) fn common(&self, named: &Named) -> Result<Vec<(Kind, u32)>, AllocError>
-        ensures { IfOk result (λ pairs. pairs_of pairs.items ≡ common_of (plain self.now.config) (pairs_named named.now)) }
+    pub(crate) fn common(&self, named: &NamedApps) -> Result<Vec<(Kind, u32)>, AllocError>
+        ensures { IfOk result (λ pairs. pairs_of pairs.items
+            ≡ common_of (plain_config self.now.config) (pairs_named named.now)) }
     {
         let mut common = Vec::new(self.alloc);
         for pair in &self.apps {
@@ -76,7 +79,7 @@ impl Node {
 fn push_if_named(
     common: &mut Vec<(Kind, u32)>,
     app: (Kind, u32),
-    named: &Named,
+    named: &NamedApps,
 ) -> Result<(), AllocError>
     ensures { OnOk result
         (pairs_of common.new.items ≡ pairs_of common.old.items
@@ -90,7 +93,8 @@ fn push_if_named(
 
 /// Origin-Host and Origin-Realm (RFC 6733 sections 6.3 and 6.4).
 pub(crate) fn put_origin(draft: &mut Draft, config: &Config) -> Result<(), AllocError>
-    ensures { OnOk result (drafted draft.new ≡ drafted draft.old ++ origin (plain config.now)) }
+    ensures { OnOk result (drafted draft.new
+        ≡ drafted draft.old ++ origin (plain_config config.now)) }
 {
     draft.put(ORIGIN_HOST, config.host.as_bytes())?;
     draft.put(ORIGIN_REALM, config.realm.as_bytes())
@@ -98,7 +102,8 @@ pub(crate) fn put_origin(draft: &mut Draft, config: &Config) -> Result<(), Alloc
 
 /// Origin-State-Id (RFC 6733 section 8.16), where there is one.
 pub(crate) fn put_state_id(draft: &mut Draft, config: &Config) -> Result<(), AllocError>
-    ensures { OnOk result (drafted draft.new ≡ drafted draft.old ++ if_some (avp32 278) config.now.state_id) }
+    ensures { OnOk result (drafted draft.new
+        ≡ drafted draft.old ++ if_some (avp32 278) config.now.state_id) }
 {
     match config.state_id {
         Some(id) => draft.put_number(ORIGIN_STATE_ID, id),
@@ -112,7 +117,8 @@ pub(crate) fn put_capabilities(
     draft: &mut Draft,
     config: &Config,
 ) -> Result<(), AllocError>
-    ensures { OnOk result (drafted draft.new ≡ drafted draft.old ++ capabilities (plain config.now)) }
+    ensures { OnOk result (drafted draft.new
+        ≡ drafted draft.old ++ capabilities (plain_config config.now)) }
 {
     put_addresses(alloc, draft, &config.addresses)?;
     draft.put_number(VENDOR_ID, config.vendor)?;
@@ -122,7 +128,8 @@ pub(crate) fn put_capabilities(
 
 /// Host-IP-Address (RFC 6733 section 5.3.5), once for each address.
 fn put_addresses(alloc: Global, draft: &mut Draft, addresses: &[Ip]) -> Result<(), AllocError>
-    ensures { OnOk result (drafted draft.new ≡ drafted draft.old ++ map (λ ip. avp 257 64 (address ip)) addresses.now) }
+    ensures { OnOk result (drafted draft.new
+        ≡ drafted draft.old ++ map (λ ip. avp 257 64 (address ip)) addresses.now) }
 {
     for ip in addresses {
         let bytes = address_bytes(alloc, ip)?;
@@ -155,7 +162,8 @@ pub(crate) fn put_applications(
     draft: &mut Draft,
     config: &Config,
 ) -> Result<(), AllocError>
-    ensures { OnOk result (drafted draft.new ≡ drafted draft.old ++ applications (plain config.now)) }
+    ensures { OnOk result (drafted draft.new
+        ≡ drafted draft.old ++ applications (plain_config config.now)) }
 {
     put_plain(draft, Kind::Auth, &config.apps)?;
     put_plain(draft, Kind::Acct, &config.apps)?;
@@ -164,7 +172,8 @@ pub(crate) fn put_applications(
 
 /// The applications of a kind that have no vendor.
 fn put_plain(draft: &mut Draft, wanted: Kind, apps: &[App]) -> Result<(), AllocError>
-    ensures { OnOk result (drafted draft.new ≡ drafted draft.old ++ filter_map (plain_app wanted) apps.now) }
+    ensures { OnOk result (drafted draft.new
+        ≡ drafted draft.old ++ filter_map (plain_app wanted) apps.now) }
 {
     for app in apps {
         put_if_plain(draft, wanted, app)?;
@@ -173,7 +182,8 @@ fn put_plain(draft: &mut Draft, wanted: Kind, apps: &[App]) -> Result<(), AllocE
 }
 
 fn put_if_plain(draft: &mut Draft, wanted: Kind, app: &App) -> Result<(), AllocError>
-    ensures { OnOk result (drafted draft.new ≡ drafted draft.old ++ filter_map (plain_app wanted) (app.now ∷ [])) }
+    ensures { OnOk result (drafted draft.new
+        ≡ drafted draft.old ++ filter_map (plain_app wanted) (app.now ∷ [])) }
 {
     match (app.vendor, wanted, app.kind) {
         (None, Kind::Auth, Kind::Auth) => draft.put_number(AUTH_APPLICATION_ID, app.id),
@@ -185,7 +195,8 @@ fn put_if_plain(draft: &mut Draft, wanted: Kind, app: &App) -> Result<(), AllocE
 
 /// The applications of a vendor, each in a Vendor-Specific-Application-Id (RFC 6733 section 6.11).
 fn put_vendors(alloc: Global, draft: &mut Draft, apps: &[App]) -> Result<(), AllocError>
-    ensures { OnOk result (drafted draft.new ≡ drafted draft.old ++ filter_map vendor_app apps.now) }
+    ensures { OnOk result (drafted draft.new
+        ≡ drafted draft.old ++ filter_map vendor_app apps.now) }
 {
     for app in apps {
         put_if_vendor(alloc, draft, app)?;
@@ -194,7 +205,8 @@ fn put_vendors(alloc: Global, draft: &mut Draft, apps: &[App]) -> Result<(), All
 }
 
 fn put_if_vendor(alloc: Global, draft: &mut Draft, app: &App) -> Result<(), AllocError>
-    ensures { OnOk result (drafted draft.new ≡ drafted draft.old ++ filter_map vendor_app (app.now ∷ [])) }
+    ensures { OnOk result (drafted draft.new
+        ≡ drafted draft.old ++ filter_map vendor_app (app.now ∷ [])) }
 {
     let Some(vendor) = app.vendor else {
         return Ok(());

@@ -1,13 +1,14 @@
 //! What the AVPs of a message say: the applications that it names, and its result code.
 
-ghost use Rattle.std.specs.Prelude.{◌≡◌, ◌⊎◌, ◌↔◌, ℕ, List, IsTrue, IsNone, IfSome, IfOk, OnOk, MatchOption};
+ghost use Rattle.std.specs.Prelude.{◌≡◌, ◌⊎◌, ◌↔◌, ℕ, List, IsTrue, IsNone};
+ghost use Rattle.std.specs.Prelude.{IfSome, IfOk, OnOk, MatchOption};
 ghost use Rattle.std.specs.List.{AllByRecursion};
-ghost use Rattle.dia_wire.specs.Wire.{PlainAvp, plain, BeginsWith, BeginsWithNone, SpellsAll};
+ghost use Rattle.dia_wire.specs.Wire.{PlainAvp, plain_avp, BeginsWith, BeginsWithNone, SpellsAll};
 ghost use Rattle.dia_peer.specs.Core.{Pair};
 ghost use Rattle.dia_peer.specs.Incoming.{
   Has,
   HasNumber,
-  Names,
+  NamesApplication,
   SaidBy,
   Tells,
   IsReadable,
@@ -22,7 +23,7 @@ use crate::codes::{
     ACCT_APPLICATION_ID, AUTH_APPLICATION_ID, RESULT_CODE, VENDOR_SPECIFIC_APPLICATION_ID,
 };
 use crate::config::Kind;
-use crate::named::Named;
+use crate::named_apps::NamedApps;
 use dia_dict::Key;
 use dia_wire::{Avp, key, next_avp, number32};
 use std::alloc::{AllocError, Global};
@@ -30,12 +31,12 @@ use std::alloc::{AllocError, Global};
 /// The applications that the AVPs of a body name, and those directly inside its Vendor-Specific-Application-Ids.
 ///
 /// Each is put into an ordered set: a body of n AVPs takes n times log n steps.
-pub(crate) fn named_in(alloc: Global, body: &[u8]) -> Result<Named, AllocError>
+pub(crate) fn named_in(alloc: Global, body: &[u8]) -> Result<NamedApps, AllocError>
     ensures { IfOk result
         (λ named. (avps : List PlainAvp) → SpellsAll avps body.now → AllByRecursion IsReadable avps
         → (p : Pair) → Has named p ↔ SaidBy Tells avps p) }
 {
-    let mut named = Named::new(alloc);
+    let mut named = NamedApps::new(alloc);
     let mut rest = body;
     while let Some((avp, after)) = first_of(rest) {
         add_told(&mut named, &avp)?;
@@ -61,7 +62,7 @@ pub(crate) fn result_code(body: &[u8]) -> Option<u32>
 
 /// The first AVP of a level, and what follows it.
 fn first_of(level: &[u8]) -> Option<(Avp<'_>, &[u8])>
-    ensures some { IfSome result (λ found. BeginsWith (plain found.0) level.now found.1.now) }
+    ensures some { IfSome result (λ found. BeginsWith (plain_avp found.0) level.now found.1.now) }
     ensures none { IsNone result → BeginsWithNone level.now }
 {
     match next_avp(level) {
@@ -71,10 +72,10 @@ fn first_of(level: &[u8]) -> Option<(Avp<'_>, &[u8])>
 }
 
 /// Adds the application that an AVP names, and those that stand directly inside it.
-fn add_told(named: &mut Named, avp: &Avp<'_>) -> Result<(), AllocError>
+fn add_told(named: &mut NamedApps, avp: &Avp<'_>) -> Result<(), AllocError>
     ensures { OnOk result
-        (IsReadable (plain avp.now) → (p : Pair) → Has named.new p
-        ↔ (Has named.old p ⊎ Tells (plain avp.now) p)) }
+        (IsReadable (plain_avp avp.now) → (p : Pair) → Has named.new p
+        ↔ (Has named.old p ⊎ Tells (plain_avp avp.now) p)) }
 {
     add_named(named, avp)?;
     if is_vendor_specific(key(avp)) {
@@ -84,10 +85,11 @@ fn add_told(named: &mut Named, avp: &Avp<'_>) -> Result<(), AllocError>
 }
 
 /// Adds the applications that the AVPs of a group name.
-fn add_members(named: &mut Named, level: &[u8]) -> Result<(), AllocError>
+fn add_members(named: &mut NamedApps, level: &[u8]) -> Result<(), AllocError>
     ensures { OnOk result
-        ((avps : List PlainAvp) → SpellsAll avps level.now → AllByRecursion HasNumber avps → (p : Pair)
-        → Has named.new p ↔ (Has named.old p ⊎ SaidBy Names avps p)) }
+        ((avps : List PlainAvp) → SpellsAll avps level.now
+        → AllByRecursion HasNumber avps → (p : Pair)
+        → Has named.new p ↔ (Has named.old p ⊎ SaidBy NamesApplication avps p)) }
 {
     let mut rest = level;
     while let Some((avp, after)) = first_of(rest) {
@@ -98,10 +100,10 @@ fn add_members(named: &mut Named, level: &[u8]) -> Result<(), AllocError>
 }
 
 /// Adds the application that an AVP names.
-fn add_named(named: &mut Named, avp: &Avp<'_>) -> Result<(), AllocError>
+fn add_named(named: &mut NamedApps, avp: &Avp<'_>) -> Result<(), AllocError>
     ensures { OnOk result
-        (HasNumber (plain avp.now) → (p : Pair) → Has named.new p
-        ↔ (Has named.old p ⊎ Names (plain avp.now) p)) }
+        (HasNumber (plain_avp avp.now) → (p : Pair) → Has named.new p
+        ↔ (Has named.old p ⊎ NamesApplication (plain_avp avp.now) p)) }
 {
     let Some(kind) = kind_of(key(avp)) else {
         return Ok(());

@@ -12,7 +12,7 @@ ghost use Rattle.dia_peer.specs.Incoming.{received_of};
 
 use crate::codes::{CAPABILITIES_EXCHANGE, DEVICE_WATCHDOG, DISCONNECT_PEER};
 use crate::incoming::Incoming;
-use crate::kept::Ids;
+use crate::kept_requests::Ids;
 use crate::node::Node;
 use crate::reading::{named_in, result_code};
 use dia_dict::Class;

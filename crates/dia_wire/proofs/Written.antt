@@ -11,7 +11,7 @@ use Rattle.byteorder.specs.Numbers.{big_number-reads_back}
 use Rattle.dia_wire.specs.declared.avp.Avp.{Avp}
 use Rattle.dia_wire.specs.declared.header.Header.{Header}
 use Rattle.dia_wire.specs.Number.{number, IsField}
-use Rattle.dia_wire.specs.Wire.{PlainAvp, plain, Agrees, avp_length, head_length, padded_length, IsVendorField, IsTooLong, IsHead, SpellsAll, SpellsWithZeros, SpellsAllWithZeros, MessageWithZeros}
+use Rattle.dia_wire.specs.Wire.{PlainAvp, plain_avp, Agrees, avp_length, head_length, padded_length, IsVendorField, IsTooLong, IsHead, SpellsAll, SpellsWithZeros, SpellsAllWithZeros, MessageWithZeros}
 use Rattle.dia_wire.specs.Written.{avp_bytes, header_bytes, padding, vendor_bytes}
 use Rattle.dia_wire.proofs.Fields.{big_from-number}
 use Rattle.dia_wire.proofs.Spelling.{rounded-le, opened}
@@ -28,16 +28,16 @@ too_long_sum vs (inl (k, v, within, is_v, long)) =
     omega (arith, part, long, rounded-le (avp_length v))
 too_long_sum vs (inr h) = h
 
-pub fits_length : (xs : List Avp) (total : ℕ) → total ≡ 20 + sum_by (λ x. padded_length (plain x)) xs → total < 2 ^ 24 → ¬ IsTooLong (map plain xs)
+pub fits_length : (xs : List Avp) (total : ℕ) → total ≡ 20 + sum_by (λ x. padded_length (plain_avp x)) xs → total < 2 ^ 24 → ¬ IsTooLong (map plain_avp xs)
 fits_length xs total is_total small long =
-    let h = too_long_sum (map plain xs) long in
-    omega (arith, is_total, small, subst (λ (n : ℕ). 2 ^ 24 ≤ 20 + n) (sum_by-map padded_length plain xs) h)
+    let h = too_long_sum (map plain_avp xs) long in
+    omega (arith, is_total, small, subst (λ (n : ℕ). 2 ^ 24 ≤ 20 + n) (sum_by-map padded_length plain_avp xs) h)
 
 -- the part of one AVP is within the whole
-pub part_fits : (xs : List Avp) (total i : ℕ) (d : Avp) → total ≡ 20 + sum_by padded_length (map plain xs) → total < 2 ^ 24 → i < length xs → avp_length (plain (get_or xs i d)) < 2 ^ 24
+pub part_fits : (xs : List Avp) (total i : ℕ) (d : Avp) → total ≡ 20 + sum_by padded_length (map plain_avp xs) → total < 2 ^ 24 → i < length xs → avp_length (plain_avp (get_or xs i d)) < 2 ^ 24
 part_fits xs total i d is_total small within =
-    let part = get_or-le-sum_by (λ (x : Avp). padded_length (plain x)) xs i d within in
-    omega (arith, is_total, small, part, sum_by-map padded_length plain xs, rounded-le (avp_length (plain (get_or xs i d))))
+    let part = get_or-le-sum_by (λ (x : Avp). padded_length (plain_avp x)) xs i d within in
+    omega (arith, is_total, small, part, sum_by-map padded_length plain_avp xs, rounded-le (avp_length (plain_avp (get_or xs i d))))
 
 -- ---- fields
 
@@ -143,60 +143,60 @@ pub record IsMade (h : Header) (len : ℕ) (before : List ℕ) (taken : List Avp
   pub body : List ℕ
   pub parts : bytes ≡ before ++ (header_bytes h len ++ body)
   pub is_head : IsHead h len (header_bytes h len)
-  pub all : SpellsAllWithZeros (map plain taken) body
+  pub all : SpellsAllWithZeros (map plain_avp taken) body
 
 pub made_head : (h : Header) (len : ℕ) (before bytes : List ℕ) (avps : List Avp) → bytes ≡ before ++ header_bytes h len → IsHead h len (header_bytes h len) → IsMade h len before (take 0 avps) bytes
 made_head h len before bytes avps is_bytes is_head = record { body = []; parts = is_bytes ∙ ap (λ (f : List ℕ). before ++ f) (sym (append-nil (header_bytes h len))); is_head = is_head; all = refl }
 
 pub made_avp : (h : Header) (len : ℕ) (before : List ℕ) (avps : List Avp) (i : ℕ) (d : Avp) (bytes new : List ℕ) → IsMade h len before (take i avps) bytes → i < length avps
-    → new ≡ bytes ++ avp_bytes (plain (get_or avps i d)) → SpellsWithZeros (plain (get_or avps i d)) (avp_bytes (plain (get_or avps i d))) → IsMade h len before (take (i + 1) avps) new
+    → new ≡ bytes ++ avp_bytes (plain_avp (get_or avps i d)) → SpellsWithZeros (plain_avp (get_or avps i d)) (avp_bytes (plain_avp (get_or avps i d))) → IsMade h len before (take (i + 1) avps) new
 made_avp h len before avps i d bytes new m within is_new spells =
-    let v : PlainAvp = plain (get_or avps i d) in
+    let v : PlainAvp = plain_avp (get_or avps i d) in
     record {
       body = m.body ++ avp_bytes v;
       parts = is_new ∙ ap (λ (f : List ℕ). f ++ avp_bytes v) m.parts ∙ simp append_assoc;
       is_head = m.is_head;
-      all = subst (λ (vs : List PlainAvp). SpellsAllWithZeros vs (m.body ++ avp_bytes v)) (sym (ap (map plain) (take_more avps i d within) ∙ map-push plain (take i avps) (get_or avps i d)))
-          (SpellsAllWithZeros-push (map plain (take i avps)) v m.body (avp_bytes v) m.all spells);
+      all = subst (λ (vs : List PlainAvp). SpellsAllWithZeros vs (m.body ++ avp_bytes v)) (sym (ap (map plain_avp) (take_more avps i d within) ∙ map-push plain_avp (take i avps) (get_or avps i d)))
+          (SpellsAllWithZeros-push (map plain_avp (take i avps)) v m.body (avp_bytes v) m.all spells);
     }
 
 pub made_all : (h : Header) (len i : ℕ) (before : List ℕ) (avps : List Avp) (bytes : List ℕ)
-    → IsMade h len before (take i avps) bytes → length avps ≤ i → len ≡ 20 + sum_by padded_length (map plain avps)
-    → (b : List ℕ) × MessageWithZeros h (map plain avps) b × (bytes ≡ before ++ b)
+    → IsMade h len before (take i avps) bytes → length avps ≤ i → len ≡ 20 + sum_by padded_length (map plain_avp avps)
+    → (b : List ℕ) × MessageWithZeros h (map plain_avp avps) b × (bytes ≡ before ++ b)
 made_all h len i before avps bytes m end is_len =
     let written : List ℕ = header_bytes h len ++ m.body in
-    let all : SpellsAllWithZeros (map plain avps) m.body = subst (λ (xs : List Avp). SpellsAllWithZeros (map plain xs) m.body) (take_all i avps end) m.all in
-    let size : len ≡ length written = is_len ∙ ap (λ (n : ℕ). 20 + n) (sym (length-all (map plain avps) m.body all)) ∙ sym (length-append (header_bytes h len) m.body) in
-    let message : MessageWithZeros h (map plain avps) written = record {
+    let all : SpellsAllWithZeros (map plain_avp avps) m.body = subst (λ (xs : List Avp). SpellsAllWithZeros (map plain_avp xs) m.body) (take_all i avps end) m.all in
+    let size : len ≡ length written = is_len ∙ ap (λ (n : ℕ). 20 + n) (sym (length-all (map plain_avp avps) m.body all)) ∙ sym (length-append (header_bytes h len) m.body) in
+    let message : MessageWithZeros h (map plain_avp avps) written = record {
       message = record {
         head = header_bytes h len;
         body = m.body;
         parts = refl;
         is_head = subst (λ (n : ℕ). IsHead h n (header_bytes h len)) size m.is_head;
-        is_body = any_padding (map plain avps) m.body all;
+        is_body = any_padding (map plain_avp avps) m.body all;
       };
       zeros = all;
     } in
     (written, message, m.parts)
 
 -- the next AVP has room where the room is for all, and what is filled then
-pub next_room : (xs : List Avp) (i : ℕ) (d : Avp) (before filled room total n : ℕ) → filled ≡ before + 20 + sum_by (λ x. padded_length (plain x)) (take i xs) → before + total ≤ room
-    → total ≡ 20 + sum_by padded_length (map plain xs) → i < length xs → n ≡ avp_length (plain (get_or xs i d)) → filled + (n + 3) / 4 * 4 ≤ room
+pub next_room : (xs : List Avp) (i : ℕ) (d : Avp) (before filled room total n : ℕ) → filled ≡ before + 20 + sum_by (λ x. padded_length (plain_avp x)) (take i xs) → before + total ≤ room
+    → total ≡ 20 + sum_by padded_length (map plain_avp xs) → i < length xs → n ≡ avp_length (plain_avp (get_or xs i d)) → filled + (n + 3) / 4 * 4 ≤ room
 next_room xs i d before filled room total n is_filled fits is_total within is_n =
-    let part : (n + 3) / 4 * 4 ≡ padded_length (plain (get_or xs i d)) = ap (λ (k : ℕ). (k + 3) / 4 * 4) is_n in
+    let part : (n + 3) / 4 * 4 ≡ padded_length (plain_avp (get_or xs i d)) = ap (λ (k : ℕ). (k + 3) / 4 * 4) is_n in
     omega (
       arith,
       part,
       is_filled,
       fits,
       is_total,
-      sum_by_more (λ (x : Avp). padded_length (plain x)) xs i d within,
-      sum_by-take-le (λ (x : Avp). padded_length (plain x)) xs (i + 1),
-      sum_by-map padded_length plain xs,
+      sum_by_more (λ (x : Avp). padded_length (plain_avp x)) xs i d within,
+      sum_by-take-le (λ (x : Avp). padded_length (plain_avp x)) xs (i + 1),
+      sum_by-map padded_length plain_avp xs,
     )
 
-pub next_filled : (xs : List Avp) (i : ℕ) (d : Avp) (before filled new n : ℕ) → filled ≡ before + 20 + sum_by (λ x. padded_length (plain x)) (take i xs) → i < length xs
-    → n ≡ avp_length (plain (get_or xs i d)) → new ≡ filled + (n + 3) / 4 * 4 → new ≡ before + 20 + sum_by (λ x. padded_length (plain x)) (take (i + 1) xs)
+pub next_filled : (xs : List Avp) (i : ℕ) (d : Avp) (before filled new n : ℕ) → filled ≡ before + 20 + sum_by (λ x. padded_length (plain_avp x)) (take i xs) → i < length xs
+    → n ≡ avp_length (plain_avp (get_or xs i d)) → new ≡ filled + (n + 3) / 4 * 4 → new ≡ before + 20 + sum_by (λ x. padded_length (plain_avp x)) (take (i + 1) xs)
 next_filled xs i d before filled new n is_filled within is_n is_new =
-    let part : (n + 3) / 4 * 4 ≡ padded_length (plain (get_or xs i d)) = ap (λ (k : ℕ). (k + 3) / 4 * 4) is_n in
-    omega (arith, part, is_filled, is_new, sum_by_more (λ (x : Avp). padded_length (plain x)) xs i d within)
+    let part : (n + 3) / 4 * 4 ≡ padded_length (plain_avp (get_or xs i d)) = ap (λ (k : ℕ). (k + 3) / 4 * 4) is_n in
+    omega (arith, part, is_filled, is_new, sum_by_more (λ (x : Avp). padded_length (plain_avp x)) xs i d within)

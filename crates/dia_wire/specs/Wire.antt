@@ -17,8 +17,8 @@ pub record PlainAvp : Type 0 where
   pub vendor : Option ℕ
   pub bytes : List ℕ
 
-abbrev pub plain : Avp → PlainAvp
-plain v = record { code = v.code; flags = v.flags; vendor = v.vendor; bytes = v.bytes.now }
+abbrev pub plain_avp : Avp → PlainAvp
+plain_avp v = record { code = v.code; flags = v.flags; vendor = v.vendor; bytes = v.bytes.now }
 
 -- the V flag says that a Vendor-ID is there
 abbrev pub HasVendorFlag : ℕ → Type 0

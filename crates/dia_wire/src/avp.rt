@@ -1,5 +1,5 @@
 ghost use Rattle.std.specs.Prelude.{◌≡◌, ◌+◌, ◌*◌, ◌/◌, ◌↔◌, IsTrue};
-ghost use Rattle.dia_wire.specs.Wire.{plain, key_of, avp_length, Agrees, HasM};
+ghost use Rattle.dia_wire.specs.Wire.{plain_avp, key_of, avp_length, Agrees, HasM};
 
 use crate::avp_key::Key;
 use thiserror::Error;
@@ -48,7 +48,7 @@ pub enum AvpFault {
 
 /// The name under which a dictionary knows the AVP.
 pub fn key(avp: &Avp<'_>) -> Key
-    ensures { result ≡ key_of (plain avp.now) }
+    ensures { result ≡ key_of (plain_avp avp.now) }
 {
     Key {
         code: avp.code,
@@ -59,7 +59,7 @@ pub fn key(avp: &Avp<'_>) -> Key
 impl Avp<'_> {
     /// Whether the V flag is set exactly where there is a Vendor-ID, as `put_avp` asks.
     pub fn agrees(&self) -> bool
-        ensures { IsTrue result ↔ Agrees (plain self.now) }
+        ensures { IsTrue result ↔ Agrees (plain_avp self.now) }
     {
         (self.flags & AVP_VENDOR != 0) == self.vendor.is_some()
     }
@@ -74,7 +74,7 @@ impl Avp<'_> {
     /// The AVP Length (RFC 6733 section 4.1) in bytes: header, Vendor-ID and data, without padding. Where it is above
     /// 16,777,215, its field can't say it.
     pub fn length(&self) -> usize
-        ensures { result ≡ avp_length (plain self.now) }
+        ensures { result ≡ avp_length (plain_avp self.now) }
     {
         match self.vendor {
             Some(_) => VENDOR_AVP_HEAD_LENGTH + self.bytes.len(),

@@ -24,17 +24,20 @@ pub(crate) struct Opening {
 impl Opening {
     /// Reads the first 8 bytes of an AVP, where `room` bytes of the level are left. `Length` where the AVP Length is
     /// shorter than the AVP's header, or padded longer than the room.
+    #[inline(always)]
     pub(crate) fn read(bytes: &[u8], room: usize) -> Result<Self, AvpFault>
         requires { avp_head_length ≤ length bytes.now }
         ensures code { IfOk result (λ o. o.code ≡ big_from 0 4 bytes.now) }
         ensures flags { IfOk result (λ o. o.flags ≡ slice_index bytes.now 4) }
         ensures length { IfOk result (λ o. o.length ≡ big_from 0 3 (drop 5 bytes.now)) }
-        ensures start { IfOk result (λ o. (HasVendorFlag o.flags × (o.start ≡ vendor_avp_head_length))
+        ensures start { IfOk result
+            (λ o. (HasVendorFlag o.flags × (o.start ≡ vendor_avp_head_length))
             ⊎ ((¬ HasVendorFlag o.flags) × (o.start ≡ avp_head_length))) }
         ensures header_fits { IfOk result (λ o. o.start ≤ o.length) }
         ensures room { IfOk result (λ o. (o.length + 3) / 4 * 4 ≤ room) }
         ensures fault { OnErr result (CannotBegin bytes.now room) }
-        ensures refused { IsErr result ↔ IsBadLength (slice_index bytes.now 4) (number (take 3 (drop 5 bytes.now))) room }
+        ensures refused { IsErr result
+            ↔ IsBadLength (slice_index bytes.now 4) (number (take 3 (drop 5 bytes.now))) room }
     {
         let code = BigEndian::read_u32(bytes);
         let flags = bytes[4];
@@ -57,9 +60,11 @@ impl Opening {
     }
 
     /// The Vendor-ID behind the first 8 bytes of an AVP, where the V flag says that it is there.
+    #[inline(always)]
     pub(crate) fn vendor(&self, bytes: &[u8]) -> Option<u32>
         requires { HasVendorFlag self.now.flags → vendor_avp_head_length ≤ length bytes.now }
-        ensures { (HasVendorFlag self.now.flags × (result ≡ Some (big_from 0 4 (drop avp_head_length bytes.now))))
+        ensures { (HasVendorFlag self.now.flags
+            × (result ≡ Some (big_from 0 4 (drop avp_head_length bytes.now))))
             ⊎ ((¬ HasVendorFlag self.now.flags) × (result ≡ None)) }
     {
         if self.flags & AVP_VENDOR != 0 {

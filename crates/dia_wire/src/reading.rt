@@ -1,12 +1,14 @@
 //! Headers and AVPs read from bytes.
 
-ghost use Rattle.std.specs.Prelude.{◌≡◌, ◌≢◌, ◌<◌, ◌≤◌, ◌↔◌, length, take, drop, slice_index, IfOk, IfSome};
+ghost use Rattle.std.specs.Prelude.{◌≡◌, ◌≢◌, ◌<◌, ◌≤◌, ◌↔◌, length, take};
+ghost use Rattle.std.specs.Prelude.{drop, slice_index, IfOk, IfSome};
 ghost use Rattle.std.specs.Prelude.{IsSome, IsErr, OnErr, ◌⊎◌, Ok, Err, None, ℕ, List, ◌++◌};
 ghost use Rattle.dia_wire.specs.declared.header.Header.{Header as AnyHeader};
 ghost use Rattle.dia_wire.specs.Lengths.{avp_head_length, header_length};
 ghost use Rattle.dia_wire.specs.Number.{number};
-ghost use Rattle.dia_wire.specs.Wire.{IsHead, IsMessageLength, BeginsMessage, PlainAvp, Spells, BeginsWith, BeginsWithNone};
-ghost use Rattle.dia_wire.specs.Wire.{HasWholeHead, Heads, CannotBegin, IsBadLength, plain};
+ghost use Rattle.dia_wire.specs.Wire.{IsHead, IsMessageLength, BeginsMessage};
+ghost use Rattle.dia_wire.specs.Wire.{PlainAvp, Spells, BeginsWith, BeginsWithNone};
+ghost use Rattle.dia_wire.specs.Wire.{HasWholeHead, Heads, CannotBegin, IsBadLength, plain_avp};
 
 use crate::avp::{AVP_HEAD_LENGTH, Avp, AvpFault, AvpHead, padded};
 use crate::header::{HEADER_LENGTH, HeadFault, Header, MessageFault};
@@ -23,7 +25,8 @@ pub fn read_header(bytes: &[u8]) -> Result<(Header, u32), HeadFault>
 
     // The faults, the first that stands.
     ensures short { (result ≡ Err HeadFault.Short) ↔ (length bytes.now < header_length) }
-    ensures version { (result ≡ Err HeadFault.Version) ↔ ((header_length ≤ length bytes.now) × (slice_index bytes.now 0 ≢ 1)) }
+    ensures version { (result ≡ Err HeadFault.Version)
+        ↔ ((header_length ≤ length bytes.now) × (slice_index bytes.now 0 ≢ 1)) }
     ensures length_fault { (result ≡ Err HeadFault.Length)
         ↔ ((header_length ≤ length bytes.now) × (slice_index bytes.now 0 ≡ 1)
         × ¬ IsMessageLength (number (take 3 (drop 1 bytes.now)))) }
@@ -53,18 +56,22 @@ pub fn read_header(bytes: &[u8]) -> Result<(Header, u32), HeadFault>
 ///
 /// The first fault that stands is told: `Short`, then `Version`, then `Length`, then `Truncated` or `Trailing`.
 pub fn split_message(bytes: &[u8]) -> Result<(Header, &[u8]), MessageFault>
-    ensures head { IfOk result (λ found. IsHead found.0 (length bytes.now) (take header_length bytes.now)) }
+    ensures head { IfOk result
+        (λ found. IsHead found.0 (length bytes.now) (take header_length bytes.now)) }
     ensures long { IfOk result (λ found. IsMessageLength (length bytes.now)) }
     ensures body { IfOk result (λ found. found.1.now ≡ drop header_length bytes.now) }
 
     // The faults, the first that stands.
     ensures short { (result ≡ Err MessageFault.Short) ↔ (length bytes.now < header_length) }
-    ensures version { (result ≡ Err MessageFault.Version) ↔ ((header_length ≤ length bytes.now) × (slice_index bytes.now 0 ≢ 1)) }
+    ensures version { (result ≡ Err MessageFault.Version)
+        ↔ ((header_length ≤ length bytes.now) × (slice_index bytes.now 0 ≢ 1)) }
     ensures length_fault { (result ≡ Err MessageFault.Length)
         ↔ ((header_length ≤ length bytes.now) × (slice_index bytes.now 0 ≡ 1)
         × ¬ IsMessageLength (number (take 3 (drop 1 bytes.now)))) }
-    ensures truncated { (result ≡ Err MessageFault.Truncated) ↔ ((n : ℕ) × BeginsMessage bytes.now n × (length bytes.now < n)) }
-    ensures trailing { (result ≡ Err MessageFault.Trailing) ↔ ((n : ℕ) × BeginsMessage bytes.now n × (n < length bytes.now)) }
+    ensures truncated { (result ≡ Err MessageFault.Truncated)
+        ↔ ((n : ℕ) × BeginsMessage bytes.now n × (length bytes.now < n)) }
+    ensures trailing { (result ≡ Err MessageFault.Trailing)
+        ↔ ((n : ℕ) × BeginsMessage bytes.now n × (n < length bytes.now)) }
 {
     let (header, length) = read_header(bytes)?;
     let length = length as usize;
@@ -83,7 +90,8 @@ pub fn split_message(bytes: &[u8]) -> Result<(Header, &[u8]), MessageFault>
 /// `Length` comes where the level isn't empty and no front of it spells an AVP.
 pub fn next_avp(level: &[u8]) -> Result<Option<(Avp<'_>, &[u8])>, AvpFault>
     ensures end { (result ≡ Ok None) ↔ (length level.now ≡ 0) }
-    ensures avp { IfOk result (λ next. IfSome next (λ found. BeginsWith (plain found.0) level.now found.1.now)) }
+    ensures avp { IfOk result
+        (λ next. IfSome next (λ found. BeginsWith (plain_avp found.0) level.now found.1.now)) }
     ensures fault { OnErr result ((0 < length level.now) × BeginsWithNone level.now) }
 {
     if level.is_empty() {
@@ -104,13 +112,15 @@ pub fn next_avp(level: &[u8]) -> Result<Option<(Avp<'_>, &[u8])>, AvpFault>
 
 /// Bytes spell at most one header and one Message Length.
 pub fn one_header()
-    ensures { (h k : AnyHeader) (n m : ℕ) (b : List ℕ) → IsHead h n b → IsHead k m b → (h ≡ k) × (n ≡ m) }
+    ensures { (h k : AnyHeader) (n m : ℕ) (b : List ℕ)
+        → IsHead h n b → IsHead k m b → (h ≡ k) × (n ≡ m) }
 {}
 
 /// No spelling of an AVP begins another, and bytes spell at most one AVP.
 /// So what was written is read again, whatever follows it.
 pub fn one_spelling()
-    ensures { (v w : PlainAvp) (a b x y : List ℕ) → Spells v a → Spells w b → a ++ x ≡ b ++ y → (v ≡ w) × (a ≡ b) }
+    ensures { (v w : PlainAvp) (a b x y : List ℕ)
+        → Spells v a → Spells w b → a ++ x ≡ b ++ y → (v ≡ w) × (a ≡ b) }
 {}
 
 /// The head of the AVP that these first bytes of a level begin, where `room` bytes of the level are left.
@@ -118,7 +128,8 @@ pub fn one_spelling()
 /// `None` where the head isn't whole yet: 8 bytes, 12 with a Vendor-ID. `Length` where `room` is under 8, or
 /// where the first 8 bytes show a Length that no AVP in that room has.
 pub fn avp_head(bytes: &[u8], room: usize) -> Result<Option<AvpHead>, AvpFault>
-    ensures head { IfOk result (λ o. IfSome o (λ head. HasWholeHead bytes.now × Heads bytes.now head)) }
+    ensures head { IfOk result
+        (λ o. IfSome o (λ head. HasWholeHead bytes.now × Heads bytes.now head)) }
     ensures none { result ≡ Ok None → ¬ HasWholeHead bytes.now }
     ensures fault { OnErr result (CannotBegin bytes.now room) }
     ensures refused { IsErr result

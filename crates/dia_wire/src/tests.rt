@@ -1,6 +1,6 @@
 //! The calls on bytes worked out by hand from RFC 6733.
 
-ghost use Rattle.dia_wire.specs.Wire.{plain, Agrees};
+ghost use Rattle.dia_wire.specs.Wire.{plain_avp, Agrees};
 
 use crate::{
     AVP_MANDATORY, AVP_PROTECTED, AVP_VENDOR, Avp, AvpFault, Avps, COMMAND_ERROR,
@@ -279,7 +279,7 @@ fn writes_a_vendor_and_padding(rt: HostRuntime) -> Result<(), Fail> {
 
 /// An AVP of these data and no vendor.
 fn octets(data: &[u8]) -> Avp<'_>
-    ensures { Agrees (plain result) }
+    ensures { Agrees (plain_avp result) }
 {
     Avp {
         code: 1,
@@ -291,7 +291,7 @@ fn octets(data: &[u8]) -> Avp<'_>
 
 /// Appends a message of this AVP alone.
 fn put_alone(out: &mut Vec<u8>, avp: &Avp<'_>) -> Result<(), PutFault>
-    requires { Agrees (plain avp.now) }
+    requires { Agrees (plain_avp avp.now) }
 {
     let header = Header {
         flags: 0,

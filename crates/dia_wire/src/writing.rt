@@ -1,11 +1,14 @@
 //! AVPs and messages written as bytes.
 
-ghost use Rattle.std.specs.Prelude.{◌≡◌, ◌<◌, ◌≤◌, ◌+◌, ◌-◌, ◌*◌, ◌/◌, ◌%◌, ◌++◌, ◌↔◌, List, ℕ, OnOk, OnErr};
-ghost use Rattle.std.specs.Prelude.{All, IsNone, IfSome, Err, length, map, sum_by, vec_len, vec_capacity};
+ghost use Rattle.std.specs.Prelude.{◌≡◌, ◌<◌, ◌≤◌, ◌+◌, ◌-◌, ◌*◌, ◌/◌, ◌%◌};
+ghost use Rattle.std.specs.Prelude.{◌++◌, ◌↔◌, List, ℕ, OnOk, OnErr};
+ghost use Rattle.std.specs.Prelude.{All, IsNone, IfSome, Err, length};
+ghost use Rattle.std.specs.Prelude.{map, sum_by, vec_len, vec_capacity};
 ghost use Rattle.byteorder.specs.Endian.{big_bytes};
 ghost use Rattle.dia_wire.specs.Lengths.{header_length, three_bytes};
 ghost use Rattle.dia_wire.specs.Number.{IsField};
-ghost use Rattle.dia_wire.specs.Wire.{plain, Agrees, avp_length, padded_length, IsHead, IsVendorField};
+ghost use Rattle.dia_wire.specs.Wire.{plain_avp, Agrees, avp_length};
+ghost use Rattle.dia_wire.specs.Wire.{padded_length, IsHead, IsVendorField};
 ghost use Rattle.dia_wire.specs.Wire.{SpellsWithZeros, MessageWithZeros, IsTooLong};
 ghost use Rattle.dia_wire.specs.Written.{avp_bytes, header_bytes, padding, vendor_bytes};
 
@@ -39,9 +42,11 @@ impl From<AllocError> for PutFault {
 ///
 /// `TooLong` is looked for before anything is appended. On a refusal nothing was appended.
 pub fn put_avp(out: &mut Vec<u8>, avp: &Avp<'_>) -> Result<(), PutFault>
-    requires { Agrees (plain avp.now) }
-    ensures ok { OnOk result ((b : List ℕ) × SpellsWithZeros (plain avp.now) b × (out.new.items ≡ out.old.items ++ b)) }
-    ensures too_long { (result ≡ Err PutFault.TooLong) ↔ (three_bytes ≤ avp_length (plain avp.now)) }
+    requires { Agrees (plain_avp avp.now) }
+    ensures ok { OnOk result ((b : List ℕ) × SpellsWithZeros (plain_avp avp.now) b
+        × (out.new.items ≡ out.old.items ++ b)) }
+    ensures too_long { (result ≡ Err PutFault.TooLong)
+        ↔ (three_bytes ≤ avp_length (plain_avp avp.now)) }
     ensures err { OnErr result (out.new.items ≡ out.old.items) }
 {
     let length = avp.length();
@@ -59,10 +64,10 @@ pub fn put_avp(out: &mut Vec<u8>, avp: &Avp<'_>) -> Result<(), PutFault>
 /// `TooLong` is looked for before anything is appended. On a refusal nothing was appended.
 pub fn put_message(out: &mut Vec<u8>, header: &Header, avps: &[Avp<'_>]) -> Result<(), PutFault>
     requires fits { header.now.code < three_bytes }
-    requires agree { All (λ avp. Agrees (plain avp)) avps.now }
-    ensures ok { OnOk result ((b : List ℕ) × MessageWithZeros header.now (map plain avps.now) b
+    requires agree { All (λ avp. Agrees (plain_avp avp)) avps.now }
+    ensures ok { OnOk result ((b : List ℕ) × MessageWithZeros header.now (map plain_avp avps.now) b
         × (out.new.items ≡ out.old.items ++ b)) }
-    ensures too_long { (result ≡ Err PutFault.TooLong) ↔ IsTooLong (map plain avps.now) }
+    ensures too_long { (result ≡ Err PutFault.TooLong) ↔ IsTooLong (map plain_avp avps.now) }
     ensures err { OnErr result (out.new.items ≡ out.old.items) }
 {
     let Some(total) = message_length(avps) else {
@@ -79,8 +84,9 @@ pub fn put_message(out: &mut Vec<u8>, header: &Header, avps: &[Avp<'_>]) -> Resu
 
 /// The Message Length of a header and these AVPs, where the fields can say it and each AVP Length.
 fn message_length(avps: &[Avp<'_>]) -> Option<u32>
-    ensures none { IsNone result ↔ IsTooLong (map plain avps.now) }
-    ensures some { IfSome result (λ total. total ≡ header_length + sum_by padded_length (map plain avps.now)) }
+    ensures none { IsNone result ↔ IsTooLong (map plain_avp avps.now) }
+    ensures some { IfSome result
+        (λ total. total ≡ header_length + sum_by padded_length (map plain_avp avps.now)) }
     ensures small { IfSome result (λ total. total < three_bytes) }
 {
     let mut total = HEADER_LENGTH;
@@ -117,11 +123,11 @@ fn push_header(out: &mut Vec<u8>, header: &Header, length: u32)
 
 fn push_avp(out: &mut Vec<u8>, avp: &Avp<'_>, length: u32)
     requires small { length < three_bytes }
-    requires length { length ≡ avp_length (plain avp.now) }
-    requires agrees { Agrees (plain avp.now) }
+    requires length { length ≡ avp_length (plain_avp avp.now) }
+    requires agrees { Agrees (plain_avp avp.now) }
     requires room { vec_len out.old + (length + 3) / 4 * 4 ≤ vec_capacity out.old }
-    ensures bytes { out.new.items ≡ out.old.items ++ avp_bytes (plain avp.now) }
-    ensures spells { SpellsWithZeros (plain avp.now) (avp_bytes (plain avp.now)) }
+    ensures bytes { out.new.items ≡ out.old.items ++ avp_bytes (plain_avp avp.now) }
+    ensures spells { SpellsWithZeros (plain_avp avp.now) (avp_bytes (plain_avp avp.now)) }
     ensures len { vec_len out.new ≡ vec_len out.old + (length + 3) / 4 * 4 }
     ensures capacity { vec_capacity out.old ≤ vec_capacity out.new }
 {

@@ -1,13 +1,1 @@
-pub mod Putting
-pub mod Refusing
-pub mod Known
-pub mod Owed
-pub mod OneListing
-pub mod OneInput
-pub mod OnePairOutcome
-pub mod OneOutcome
-pub mod Including
-pub mod Telling
-pub mod Answering
-pub mod Digits
 pub mod Words

@@ -7,8 +7,8 @@ use Rattle.std.specs.IoError.{error_kind}
 use Rattle.clap.specs.declared.error.Error.{Error as WordsError}
 use Rattle.clap.specs.declared.error.kind.ErrorKind.TheVariants.{DisplayHelp, DisplayVersion}
 use Rattle.clap.specs.Words.{kind_of}
-use Rattle.diacmd.specs.declared.command.RunFault.{RunFault}
-use Rattle.diacmd.specs.declared.command.RunFault.TheVariants as fault
+use Rattle.dia_run.specs.declared.RunFault.{RunFault}
+use Rattle.dia_run.specs.declared.RunFault.TheVariants as fault
 use Rattle.diacmd.specs.declared.ending.Ending.{Ending}
 use Rattle.diacmd.specs.declared.ending.Ending.TheVariants as ending
 
@@ -32,9 +32,9 @@ ending_of_run fault.NoMemory name error = ending.NoMemory
 abbrev pub IsHelp : WordsError → Type 0
 IsHelp error = (kind_of error ≡ DisplayHelp) ⊎ (kind_of error ≡ DisplayVersion)
 
-abbrev pub IsShown : Ending → Type 0
-IsShown (ending.Told error) = IsHelp error
-IsShown made = ⊥
+abbrev pub ShowsHelp : Ending → Type 0
+ShowsHelp (ending.Told error) = IsHelp error
+ShowsHelp made = ⊥
 
 -- 0 for help, 2 for a command-line fault, 3 for a device and out of memory
 abbrev pub EndsWith : Ending → ℕ → Type 0

@@ -1,17 +1,5 @@
-pub mod Limits
-pub mod Inputs
-pub mod Exit
-pub mod Texts
-pub mod Refusals
-pub mod Listing
-pub mod Verdict
-pub mod Pairs
-pub mod Outcome
-pub mod Inclusion
-pub mod Writing
 pub mod Ending
 pub mod Origins
 pub mod Request
-pub mod Devices
 pub mod Opening
 pub mod Words

@@ -4,7 +4,7 @@ use Rattle.std.specs.Borrow.{Bor}
 use Rattle.std.specs.Str.{bytes_eq}
 use Rattle.dia_ccf.specs.Limits.{max_text}
 use Rattle.dia_compat.specs.TableText.{max_table}
-use Rattle.diacmd.specs.Limits.{max_message_text}
+use Rattle.dia_run.specs.Limits.{max_message_text}
 use Rattle.diacmd.specs.declared.origin.Origin.{Origin}
 use Rattle.diacmd.specs.declared.origin.Origin.TheVariants.{Base, StandardInput, File}
 use Rattle.diacmd.specs.declared.origin.Origins.{Origins}

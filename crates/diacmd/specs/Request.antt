@@ -1,7 +1,7 @@
 -- What a request asks for, and where its inputs come from.
 use Rattle.std.specs.Prelude.{if◌then◌else◌, Result, Ok, Err}
-use Rattle.diacmd.specs.declared.command.Command.{Command}
-use Rattle.diacmd.specs.declared.command.Command.TheVariants as command
+use Rattle.dia_run.specs.declared.Command.{Command}
+use Rattle.dia_run.specs.declared.Command.TheVariants as command
 use Rattle.diacmd.specs.declared.origin.Origin.TheVariants.{Nowhere}
 use Rattle.diacmd.specs.declared.origin.Origins.{Origins}
 use Rattle.diacmd.specs.declared.request.Request.{Request}

@@ -1,13 +1,17 @@
 //! The words of the command line.
 
-ghost use Rattle.std.specs.Prelude.{◌≡◌, IfOk, IfSome, IsSomeAnd, codes, false, map, option_map, string_bytes};
+ghost use Rattle.std.specs.Prelude.{◌≡◌, IfOk, IfSome, IsSomeAnd, codes};
+ghost use Rattle.std.specs.Prelude.{false, map, option_map, string_bytes};
 ghost use Rattle.clap.specs.Walk.{texts};
 ghost use Rattle.clap.specs.Words.{app_of, found_of, rows_of, rule_of, subcommand_rows_of};
 ghost use Rattle.diacmd.specs.Origins.{reads_twice};
 ghost use Rattle.diacmd.specs.Request.{origins_of, read_once};
-ghost use Rattle.diacmd.specs.Words.{ArePair, IsAskedBy, IsLimitOf, IsLine, IsRequestOf, check_shape, compare_shape, dict_rule};
-ghost use Rattle.diacmd.specs.Words.{levels_rule, line_shape, pair_app, policy_word, program_app, propose_shape};
-ghost use Rattle.diacmd.specs.Words.{refute_shape, render_shape, show_shape, unknown_rule, word_rule, words_rule};
+ghost use Rattle.diacmd.specs.Words.{ArePair, IsAskedBy, IsLimitOf, IsLine, IsRequestOf};
+ghost use Rattle.diacmd.specs.Words.{check_shape, compare_shape, dict_rule};
+ghost use Rattle.diacmd.specs.Words.{levels_rule, line_shape, pair_app};
+ghost use Rattle.diacmd.specs.Words.{policy_word, program_app, propose_shape};
+ghost use Rattle.diacmd.specs.Words.{refute_shape, render_shape, show_shape};
+ghost use Rattle.diacmd.specs.Words.{unknown_rule, word_rule, words_rule};
 
 use crate::ending::Ending;
 use crate::origin::BASE_DICTIONARY;
@@ -76,7 +80,8 @@ fn request_of<'a>(
     alloc: Global,
     matches: &ArgMatches<'a>,
 ) -> Option<Result<Request<'a>, AllocError>>
-    ensures { IfSome result (λ made. IfOk made (λ request. IsSomeAnd (subcommand_rows_of matches.now) (IsRequestOf request))) }
+    ensures { IfSome result (λ made. IfOk made
+        (λ request. IsSomeAnd (subcommand_rows_of matches.now) (IsRequestOf request))) }
 {
     match matches.subcommand()? {
         ("show", inner) => Some(Ok(Request::Show {
@@ -96,7 +101,8 @@ fn request_of<'a>(
 
 /// The request of the arguments found for `check`.
 fn check_request<'a>(found: &ArgMatches<'a>) -> Option<Request<'a>>
-    ensures { IfSome result (λ request. IsRequestOf request (codes "check", rows_of (found_of found.now))) }
+    ensures { IfSome result
+        (λ request. IsRequestOf request (codes "check", rows_of (found_of found.now))) }
 {
     Some(Request::Check {
         unknown: policy_of(found.get_str("unknown")?)?,
@@ -108,7 +114,8 @@ fn check_request<'a>(found: &ArgMatches<'a>) -> Option<Request<'a>>
 
 /// The request of the arguments found for `compare`.
 fn compare_request<'a>(found: &ArgMatches<'a>) -> Option<Request<'a>>
-    ensures { IfSome result (λ request. IsRequestOf request (codes "compare", rows_of (found_of found.now))) }
+    ensures { IfSome result
+        (λ request. IsRequestOf request (codes "compare", rows_of (found_of found.now))) }
 {
     let (unknown, first, second) = pair_of(found)?;
     Some(Request::Compare {
@@ -121,7 +128,8 @@ fn compare_request<'a>(found: &ArgMatches<'a>) -> Option<Request<'a>>
 
 /// The request of the arguments found for `refute`.
 fn refute_request<'a>(found: &ArgMatches<'a>) -> Option<Request<'a>>
-    ensures { IfSome result (λ request. IsRequestOf request (codes "refute", rows_of (found_of found.now))) }
+    ensures { IfSome result
+        (λ request. IsRequestOf request (codes "refute", rows_of (found_of found.now))) }
 {
     let (unknown, first, second) = pair_of(found)?;
     Some(Request::Refute {
@@ -138,7 +146,8 @@ fn propose_request<'a>(
     alloc: Global,
     found: &ArgMatches<'a>,
 ) -> Option<Result<Request<'a>, AllocError>>
-    ensures { IfSome result (λ made. IfOk made (λ request. IsRequestOf request (codes "propose", rows_of (found_of found.now)))) }
+    ensures { IfSome result (λ made. IfOk made
+        (λ request. IsRequestOf request (codes "propose", rows_of (found_of found.now)))) }
 {
     let (unknown, first, second) = pair_of(found)?;
     match copies_of(alloc, found.get_strs("COMMAND")?) {

@@ -2,10 +2,10 @@
 
 ghost use Rattle.std.specs.Prelude.{◌≡◌, ◌⊎◌, IfOk, IfErr};
 ghost use Rattle.diacmd.specs.Ending.{EndsWith};
-ghost use Rattle.diacmd.specs.Exit.{status_of};
+ghost use Rattle.dia_run.specs.Exit.{status_of};
 
-use crate::command::{Exit, RunFault};
 use clap::error::ErrorKind;
+use dia_run::{Exit, RunFault};
 use std::alloc::AllocError;
 use std::{fmt, io};
 
@@ -42,7 +42,7 @@ pub fn finish(rt: &(impl Print + Eprint), ended: Result<Exit, Ending<'_>>) -> u8
 
 impl<'a> Ending<'a> {
     ghost use Rattle.std.specs.Prelude.{◌≡◌, ◌⊎◌, ◌↔◌, IfOk, IsErr, IsTrue};
-    ghost use Rattle.diacmd.specs.Ending.{EndsWith, IsEndingOfIo, IsShown, ending_of_run};
+    ghost use Rattle.diacmd.specs.Ending.{EndsWith, IsEndingOfIo, ShowsHelp, ending_of_run};
 
     /// The ending where the command line can't be read.
     pub fn of_words(error: io::Error) -> Ending<'static>
@@ -100,7 +100,7 @@ impl<'a> Ending<'a> {
 
     /// Whether this is help or the version.
     fn is_shown(&self) -> bool
-        ensures { IsTrue result ↔ IsShown self.now }
+        ensures { IsTrue result ↔ ShowsHelp self.now }
     {
         match self {
             Ending::Told(error) => !error.use_stderr(),

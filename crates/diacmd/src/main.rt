@@ -5,28 +5,17 @@
 #![tactic(auto)]
 
 mod arguments;
-mod command;
-mod commands;
-mod devices;
 mod ending;
-mod inputs;
 mod opening;
 mod origin;
-mod reading;
 mod request;
-mod running;
-mod streams;
 #[cfg(test)]
 mod tests;
-#[cfg(test)]
-mod vectors;
 
 use crate::arguments::parse_words;
-use crate::command::Exit;
-use crate::devices::ToWriter;
 use crate::ending::{Ending, finish};
 use crate::opening::open_inputs;
-use crate::running::run;
+use dia_run::{Exit, ToWriter, run};
 use std::process::ExitCode;
 use std::rt::{Env, Files};
 use std::{env, io};

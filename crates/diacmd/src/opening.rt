@@ -1,15 +1,14 @@
 //! The inputs, read from where they come from.
 
 ghost use Rattle.std.specs.Prelude.{◌≡◌, IfOk, IfErr, IfSome};
-ghost use Rattle.diacmd.specs.Inputs.{IsWhole};
-ghost use Rattle.diacmd.specs.Opening.{IsAnyUnread, IsFaultOf, IsInputOf, IsReadOf, IsUnread, IsWithin, input_of};
+ghost use Rattle.dia_run.specs.Inputs.{IsWhole};
+ghost use Rattle.diacmd.specs.Opening.{IsAnyUnread, IsFaultOf, IsInputOf};
+ghost use Rattle.diacmd.specs.Opening.{IsReadOf, IsUnread, IsWithin, input_of};
 
-use crate::command::{Input as Text, Inputs};
-use crate::devices::FromReader;
 use crate::ending::Ending;
 use crate::origin::{Origin, Origins, STANDARD_INPUT};
-use crate::reading::{InputFault, read_input};
 use dia_dict::base_text;
+use dia_run::{FromReader, Input as Text, InputFault, Inputs, read_input};
 use std::alloc::Global;
 use std::io::Read;
 use std::rt::Files;

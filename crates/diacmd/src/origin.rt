@@ -1,12 +1,13 @@
 //! Where the text of each input comes from.
 
 ghost use Rattle.std.specs.Prelude.{◌≡◌, count_by};
-ghost use Rattle.diacmd.specs.Origins.{dictionary_origin, message_origin, origin_within, table_origin};
+ghost use Rattle.diacmd.specs.Origins.{dictionary_origin, message_origin};
+ghost use Rattle.diacmd.specs.Origins.{origin_within, table_origin};
 ghost use Rattle.diacmd.specs.Origins.{is_standard_input, reads_twice};
 
-use crate::inputs::message::MAX_MESSAGE_TEXT;
 use dia_ccf::MAX_TEXT;
 use dia_compat::MAX_TABLE;
+use dia_run::MAX_MESSAGE_TEXT;
 
 /// The word for standard input.
 pub const STANDARD_INPUT: &str = "-";

@@ -3,9 +3,9 @@
 ghost use Rattle.std.specs.Prelude.{◌≡◌};
 ghost use Rattle.diacmd.specs.Request.{command_of, origins_of};
 
-use crate::command::Command;
 use crate::origin::{Origin, Origins};
 use dia_check::{Levels, Unknown};
+use dia_run::Command;
 
 /// A subcommand, with the words of its inputs.
 #[derive(Debug, PartialEq, Eq, Drop)]

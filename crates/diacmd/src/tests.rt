@@ -1,6 +1,5 @@
 //! What the clauses say nothing of: devices of std that fail, files, and the words of the command line.
 
-mod devices;
 mod endings;
 mod help;
 mod opening;

@@ -1,26 +1,30 @@
 //! Declarations of AVPs.
 use super::Reader;
-use super::reasons::Refusal;
+use super::refusal::Refusal;
+use crate::format_words::format_named;
 use crate::lexer::{Sign, Token};
 use crate::limits::MAX_VALUE;
 use crate::source::{Decl, FormatName, MRule};
-use crate::words::format_named;
 
 impl<'a> Reader<'a> {
-    ghost use Rattle.std.specs.Prelude.{◌≡◌, ◌<◌, ◌≤◌, ℕ, ◌++◌, [], ◌∷◌, List, ◌&&◌, false, not, IfOk, OnOk, IsTrue};
+    ghost use Rattle.std.specs.Prelude.{◌≡◌, ◌<◌, ◌≤◌, ℕ, ◌++◌, [], ◌∷◌, List};
+    ghost use Rattle.std.specs.Prelude.{◌&&◌, false, not, IfOk, OnOk, IsTrue};
     ghost use Rattle.std.specs.Option.{option_map};
     ghost use Rattle.std.specs.List.{list_all};
     ghost use Rattle.dia_ccf.specs.Names.{fits_values, is_number, is_range};
     ghost use Rattle.dia_ccf.specs.Tokens.{Close_parenthesis};
     ghost use Rattle.dia_ccf.specs.Plain.{PlainDecl, PlainSource, plain_decl};
-    ghost use Rattle.dia_ccf.specs.Machine.{Between, Decl_name, Decl_vendor, Decl_format, Decl_values, In_values};
-    ghost use Rattle.dia_ccf.specs.Machine.{add_decl, with_values, format_at, rule_at, is_none, same_sign};
-    ghost use Rattle.dia_ccf.specs.Reading.{Accepts, Leads, course, begins_with, left};
+    ghost use Rattle.dia_ccf.specs.Machine.{Between, Decl_name, Decl_vendor};
+    ghost use Rattle.dia_ccf.specs.Machine.{Decl_format, Decl_values, In_values};
+    ghost use Rattle.dia_ccf.specs.Machine.{add_decl, with_values, format_at};
+    ghost use Rattle.dia_ccf.specs.Machine.{rule_at, is_none, same_sign};
+    ghost use Rattle.dia_ccf.specs.ReaderFunctions.{Accepts, Leads, course, begins_with, left};
 
     /// A declaration, where its `%avp` was read.
     pub(super) fn declaration(&mut self) -> Result<Decl, Refusal>
         ensures read { (done : PlainSource)
-            → Leads (course (done, Decl_name) self.old) (λ d. (add_decl done (plain_decl d), Between)) result self.new }
+            → Leads (course (done, Decl_name) self.old)
+            (λ d. (add_decl done (plain_decl d), Between)) result self.new }
         ensures farther { OnOk result (self.old.taken ≤ self.new.taken) }
     {
         let name = self.name()?;
@@ -84,7 +88,10 @@ impl<'a> Reader<'a> {
     fn values(&mut self, format: FormatName) -> Result<Option<Vec<(u32, u32)>>, Refusal>
         ensures read { (done : PlainSource) (d : PlainDecl) → d.format ≡ format → d.values ≡ None
             → Leads (course (done, Decl_values d) self.old)
-            (λ values. (add_decl done (record d { values = option_map (λ v. v.items) values }), Between)) result self.new }
+            (λ values. (
+              add_decl done (record d { values = option_map (λ v. v.items) values }),
+              Between,
+            )) result self.new }
         ensures listed { IfOk result (λ values. IsTrue (fits_values format values)) }
         ensures farther { OnOk result (self.old.taken ≤ self.new.taken) }
     {
@@ -117,7 +124,8 @@ impl<'a> Reader<'a> {
     /// A range, or a number alone, which is a range of one.
     fn range(&mut self) -> Result<(u32, u32), Refusal>
         ensures read { (done : PlainSource) (d : PlainDecl) (ranges : List (ℕ × ℕ))
-            → (not (is_none ranges) && begins_with (same_sign Close_parenthesis) (left self.old)) ≡ false
+            → (not (is_none ranges) && begins_with (same_sign Close_parenthesis) (left self.old))
+            ≡ false
             → Leads (course (done, In_values d ranges) self.old)
             (λ range. (done, In_values d (ranges ++ range ∷ []))) result self.new }
         ensures listed { IfOk result (λ range. IsTrue (is_range range)) }

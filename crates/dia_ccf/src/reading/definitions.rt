@@ -3,7 +3,7 @@ ghost use Rattle.std.specs.Prelude.{◌≡◌};
 ghost use Rattle.dia_ccf.specs.Names.{is_fixed};
 
 use super::Reader;
-use super::reasons::Refusal;
+use super::refusal::Refusal;
 use crate::lexer::{Sign, Token};
 use crate::source::{Def, Qual, Rule, RuleKind};
 
@@ -19,25 +19,33 @@ enum Behind {
 }
 
 impl<'a> Reader<'a> {
-    ghost use Rattle.std.specs.Prelude.{◌<◌, ◌≤◌, ◌≢◌, ℕ, List, [], ◌&&◌, ◌||◌, not, map, true, false};
-    ghost use Rattle.std.specs.Prelude.{IfOk, OnOk, IfSome, IsSome, IsTrue, MatchBool, string_bytes};
+    ghost use Rattle.std.specs.Prelude.{◌<◌, ◌≤◌, ◌≢◌, ℕ, List, [], ◌&&◌};
+    ghost use Rattle.std.specs.Prelude.{◌||◌, not, map, true, false};
+    ghost use Rattle.std.specs.Prelude.{IfOk, OnOk, IfSome, IsSome};
+    ghost use Rattle.std.specs.Prelude.{IsTrue, MatchBool, string_bytes};
     ghost use Rattle.std.specs.Option.{option_map};
     ghost use Rattle.dia_ccf.specs.declared.source.Head.{Head as AnyHead};
     ghost use Rattle.dia_ccf.specs.Names.{is_name, fixed_first, is_number_or_none, is_qualifier};
     ghost use Rattle.dia_ccf.specs.Tokens.{Less, Greater, Assign, Declares};
     ghost use Rattle.dia_ccf.specs.Plain.{PlainSource, PlainDef, plain_def, plain_rule};
-    ghost use Rattle.dia_ccf.specs.Machine.{State, Between, Def_assign, Rules, Qual_done, add_def, with_rule, all_fixed, name_at};
-    ghost use Rattle.dia_ccf.specs.Machine.{sign_at, slot_at, number_at, same_sign, is_number, begins_qualifier, begins_loose};
+    ghost use Rattle.dia_ccf.specs.Machine.{State, Between, Def_assign, Rules, Qual_done};
+    ghost use Rattle.dia_ccf.specs.Machine.{add_def, with_rule, all_fixed, name_at};
+    ghost use Rattle.dia_ccf.specs.Machine.{sign_at, slot_at, number_at, same_sign};
+    ghost use Rattle.dia_ccf.specs.Machine.{is_number, begins_qualifier, begins_loose};
     ghost use Rattle.dia_ccf.specs.Machine.{on_loose};
     ghost use Rattle.dia_ccf.specs.Limits.{max_number};
-    ghost use Rattle.dia_ccf.specs.Reading.{Accepts, Leads, Takes, Wants, Reads_by, course, begins_with};
-    ghost use Rattle.dia_ccf.specs.Reading.{left, behind, after_rules, KeepsOrder, NamesNext, Goes};
+    ghost use Rattle.dia_ccf.specs.ReaderFunctions.{Accepts, Leads, Takes, Wants};
+    ghost use Rattle.dia_ccf.specs.ReaderFunctions.{Reads_by, course, begins_with};
+    ghost use Rattle.dia_ccf.specs.ReaderFunctions.{left, behind, after_rules};
+    ghost use Rattle.dia_ccf.specs.ReaderFunctions.{KeepsOrder, NamesNext, Goes};
 
     /// The name of a definition, in angle brackets or bare.
     pub(super) fn defined_name(&mut self) -> Result<String, Refusal>
         requires { IsSome self.old.token }
-        ensures read { (done : PlainSource) → begins_with (same_sign Declares) (left self.old) ≡ false
-            → Leads (course (done, Between) self.old) (λ name. (done, Def_assign (string_bytes name))) result self.new }
+        ensures read { (done : PlainSource)
+            → begins_with (same_sign Declares) (left self.old) ≡ false
+            → Leads (course (done, Between) self.old)
+            (λ name. (done, Def_assign (string_bytes name))) result self.new }
         ensures named { IfOk result (λ name. IsTrue (is_name (string_bytes name))) }
         ensures farther { OnOk result (self.old.taken < self.new.taken) }
     {
@@ -50,7 +58,8 @@ impl<'a> Reader<'a> {
 
     /// A name and its `>`, where the `<` was read.
     fn name_in_angles(&mut self) -> Result<String, Refusal>
-        ensures read { (state : State) (mid to : List ℕ → State) → Reads_by false true name_at mid state
+        ensures read { (state : State) (mid to : List ℕ → State)
+            → Reads_by false true name_at mid state
             → ((name : List ℕ) → Reads_by false false (sign_at Greater) (λ u. to name) (mid name))
             → Leads (course state self.old) (λ name. to (string_bytes name)) result self.new }
         ensures named { IfOk result (λ name. IsTrue (is_name (string_bytes name))) }
@@ -67,7 +76,8 @@ impl<'a> Reader<'a> {
         ensures read { (done : PlainSource)
             → Leads (course (done, Def_assign (string_bytes name)) self.old)
             (λ found. (add_def done (plain_def found.0), behind found.1)) result self.new }
-        ensures named { IfOk result (λ found. IfSome found.1 (λ next. IsTrue (is_name (string_bytes next)))) }
+        ensures named { IfOk result
+            (λ found. IfSome found.1 (λ next. IsTrue (is_name (string_bytes next)))) }
         ensures farther { OnOk result (self.old.taken < self.new.taken) }
     {
         self.expect(Sign::Assign)?;
@@ -81,13 +91,17 @@ impl<'a> Reader<'a> {
     /// The rules of a definition, and the name in angle brackets that follows them and is no rule.
     fn rules(&mut self) -> Result<(Vec<Rule>, Option<String>), Refusal>
         ensures read { (done : PlainSource) (name : List ℕ) (head : AnyHead)
-            → Leads (course (done, Rules (record { name = name; head = head; rules = [] })) self.old)
+            → Leads
+            (course (done, Rules (record { name = name; head = head; rules = [] })) self.old)
             (λ found. (
-              add_def done (record { name = name; head = head; rules = map plain_rule found.0.items }),
+              add_def done
+                  (record { name = name; head = head; rules = map plain_rule found.0.items }),
               behind found.1,
             )) result self.new }
-        ensures ordered { IfOk result (λ found. IsTrue (fixed_first (map (λ r. r.kind) found.0.items))) }
-        ensures named { IfOk result (λ found. IfSome found.1 (λ next. IsTrue (is_name (string_bytes next)))) }
+        ensures ordered { IfOk result
+            (λ found. IsTrue (fixed_first (map (λ r. r.kind) found.0.items))) }
+        ensures named { IfOk result
+            (λ found. IfSome found.1 (λ next. IsTrue (is_name (string_bytes next)))) }
         ensures farther { OnOk result (self.old.taken ≤ self.new.taken) }
     {
         let mut rules = Vec::new(self.alloc);
@@ -144,8 +158,10 @@ impl<'a> Reader<'a> {
 
     /// Goes past the `<` of a fixed rule, if one may come and it stands ahead.
     fn takes_fixed(&mut self, fixed: bool) -> bool
-        ensures read { MatchBool result ((fixed ≡ true) × Takes (same_sign Less) self.old true self.new)
-            (((fixed && begins_with (same_sign Less) (left self.old)) ≡ false) × (self.new ≡ self.old)) }
+        ensures read { MatchBool result
+            ((fixed ≡ true) × Takes (same_sign Less) self.old true self.new)
+            (((fixed && begins_with (same_sign Less) (left self.old)) ≡ false)
+            × (self.new ≡ self.old)) }
         ensures farther { self.old.taken ≤ self.new.taken }
     {
         fixed && self.takes(Sign::Less)
@@ -169,7 +185,8 @@ impl<'a> Reader<'a> {
     fn qualified(&mut self, fixed: bool) -> Result<Rule, Refusal>
         requires { begins_with begins_qualifier (left self.old) ≡ true }
         ensures read { (done : PlainSource) (d : PlainDef) → all_fixed d.rules ≡ fixed
-            → Leads (course (done, Rules d) self.old) (λ rule. (done, Rules (with_rule d (plain_rule rule)))) result self.new }
+            → Leads (course (done, Rules d) self.old)
+            (λ rule. (done, Rules (with_rule d (plain_rule rule)))) result self.new }
         ensures ordered { IfOk result (λ rule. rule.kind ≡ RuleKind.Fixed → fixed ≡ true) }
         ensures farther { OnOk result (self.old.taken < self.new.taken) }
     {
@@ -190,7 +207,8 @@ impl<'a> Reader<'a> {
         requires { IsTrue (is_qualifier qual) }
         ensures read { (done : PlainSource) (d : PlainDef) (state : State)
             → Wants false false (on_loose done d qual) state (left self.old)
-            → Leads (course state self.old) (λ rule. (done, Rules (with_rule d (plain_rule rule)))) result self.new }
+            → Leads (course state self.old)
+            (λ rule. (done, Rules (with_rule d (plain_rule rule)))) result self.new }
         ensures ordered { IfOk result (λ rule. rule.kind ≢ RuleKind.Fixed) }
         ensures farther { OnOk result (self.old.taken < self.new.taken) }
     {
@@ -216,7 +234,8 @@ impl<'a> Reader<'a> {
     fn qualifier(&mut self) -> Result<Qual, Refusal>
         requires { begins_with begins_qualifier (left self.old) ≡ true }
         ensures read { (done : PlainSource) (d : PlainDef)
-            → Leads (course (done, Rules d) self.old) (λ qual. (done, Qual_done d qual)) result self.new }
+            → Leads (course (done, Rules d) self.old)
+            (λ qual. (done, Qual_done d qual)) result self.new }
         ensures farther { OnOk result (self.old.taken < self.new.taken) }
         ensures small { IfOk result (λ qual. IsTrue (is_qualifier (Some qual))) }
     {
@@ -243,7 +262,8 @@ impl<'a> Reader<'a> {
 
     /// The name in a rule that is not fixed, or none for the wildcard.
     fn slot(&mut self) -> Result<Option<String>, Refusal>
-        ensures { Accepts false true slot_at (λ name. option_map (λ text. string_bytes text) name) self.old result self.new }
+        ensures { Accepts false true slot_at
+            (λ name. option_map (λ text. string_bytes text) name) self.old result self.new }
     {
         if self.takes_word("AVP") {
             return Ok(None);

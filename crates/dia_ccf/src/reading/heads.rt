@@ -1,19 +1,22 @@
 //! Heads of definitions.
 
 use super::Reader;
-use super::reasons::Refusal;
+use super::refusal::Refusal;
 use crate::lexer::Sign;
 use crate::limits::MAX_COMMAND_CODE;
 use crate::source::{Head, Pxy};
 
 impl<'a> Reader<'a> {
-    ghost use Rattle.std.specs.Prelude.{◌≡◌, ◌<◌, ◌≤◌, ℕ, List, ◌||◌, false, cond, codes, map, IfOk, OnOk, IsTrue};
+    ghost use Rattle.std.specs.Prelude.{◌≡◌, ◌<◌, ◌≤◌, ℕ, List, ◌||◌, false};
+    ghost use Rattle.std.specs.Prelude.{cond, codes, map, IfOk, OnOk, IsTrue};
     ghost use Rattle.std.specs.Char.{to_ascii_lowercase};
     ghost use Rattle.dia_ccf.specs.Names.{is_head};
     ghost use Rattle.dia_ccf.specs.Plain.{PlainSource};
-    ghost use Rattle.dia_ccf.specs.Machine.{In_head, Head_word, Avp_colon, Diameter_colon, Command_code, Group_code};
-    ghost use Rattle.dia_ccf.specs.Machine.{Error_word, Error_flags, Error_either, Head_end, is_keyword, is_number};
-    ghost use Rattle.dia_ccf.specs.Reading.{Flags_read, Leads, course, begins_with, left};
+    ghost use Rattle.dia_ccf.specs.Machine.{In_head, Head_word, Avp_colon};
+    ghost use Rattle.dia_ccf.specs.Machine.{Diameter_colon, Command_code, Group_code};
+    ghost use Rattle.dia_ccf.specs.Machine.{Error_word, Error_flags, Error_either};
+    ghost use Rattle.dia_ccf.specs.Machine.{Head_end, is_keyword, is_number};
+    ghost use Rattle.dia_ccf.specs.ReaderFunctions.{Flags_read, Leads, course, begins_with, left};
 
     /// A head up to its `>`, where its `<` was read.
     pub(super) fn head(&mut self) -> Result<Head, Refusal>

@@ -139,7 +139,9 @@ fn renders_error_heads(rt: HostRuntime) -> Result<(), Fail> {
     let text = render(alloc, &source)?;
     assert_eq!(rt;
         text.as_str(),
-        "<T> ::= < Diameter Header: code, ERR >\n<T> ::= < Diameter Header: code, ERR, PXY >\n<T> ::= < Diameter Header: code, ERR [, PXY] >\n"
+        "<T> ::= < Diameter Header: code, ERR >\n\
+        <T> ::= < Diameter Header: code, ERR, PXY >\n\
+        <T> ::= < Diameter Header: code, ERR [, PXY] >\n"
     );
     Ok(())
 }

@@ -1,46 +1,29 @@
 //! The parts of a body as they come: the head of an AVP, and its data.
 
-ghost use Rattle.std.specs.Prelude.{◌≡◌, ◌≢◌, ◌+◌, ◌<◌, ◌≤◌, ◌^◌, ◌++◌, [], ℕ, List, Some, length, IfOk, MatchOption, MatchResult};
-ghost use Rattle.dia_wire.specs.declared.Key.{Key as AnyKey};
+ghost use Rattle.std.specs.Prelude.{◌≡◌, ◌+◌, ◌<◌, ◌≤◌, ◌^◌, [], ℕ, List};
+ghost use Rattle.std.specs.Prelude.{Some, length, IfOk, MatchResult};
 ghost use Rattle.dia_wire.specs.Wire.{head_length};
-ghost use Rattle.dia_data.specs.Plain.{Grouped};
-ghost use Rattle.dia_dict.specs.Dictionary.{Dictionary, DictEntry, IsDictionary, entry_of};
+ghost use Rattle.dia_dict.specs.Dictionary.{Dictionary, IsDictionary, entry_of};
 ghost use Rattle.dia_check.specs.declared.policy.Unknown.{Unknown as AnyPolicy};
 ghost use Rattle.dia_check.specs.declared.policy.Levels.{Levels as AnyLevels};
 ghost use Rattle.dia_check.specs.Valid.{known};
 ghost use Rattle.dia_check.specs.Faults.{HasGoodHeader};
 ghost use Rattle.dia_check.specs.UnderWay.{IsUnderWay};
-ghost use Rattle.dia_check.specs.Reading.{
-  AreSound,
-  BeginsLevel,
-  BeginsLevelAt,
-  GoesOn,
-  HasSeen,
-  IsAtAvp,
-  IsAtSomeAvp,
-  IsBadLeaf,
-  IsGoodLeaf,
-  IsInData,
-  IsInHead,
-  IsInPart,
-  IsNext,
-  IsReadData,
-  IsStop,
-  LiesAt,
-  MayEnter,
-  MayNotEnter,
-};
+ghost use Rattle.dia_check.specs.Reading.{AreSound, BeginsLevel, BeginsLevelAt, GoesOn};
+ghost use Rattle.dia_check.specs.Reading.{IsAtAvp, IsAtSomeAvp, IsInData, IsInHead};
+ghost use Rattle.dia_check.specs.Reading.{IsInPart, IsNext, IsReadData, IsStop, LiesAt};
+ghost use Rattle.dia_check.specs.Reading.{MayEnter, MayNotEnter, ReadsOn};
 
 use crate::admission::{admit, check_data, missing_at_end, open_group};
-use crate::body::fault;
-use crate::fault::{Reason, Refusal, Subject};
+use crate::body::{broken, fault, read_avps};
+use crate::fault::{Reason, Refusal};
 use crate::open_levels::{OpenLevels, Wrong};
 use crate::policy::{Levels, Unknown};
 use crate::stream::front::Front;
+use crate::stream::leaf::{feed_leaf, start_leaf, wrong_leaf};
 use dia_data::LeafState;
-use dia_dict::{Book, DefId, Entry, Leaf};
+use dia_dict::{Book, DefId, Entry};
 use dia_wire::{AVP_HEAD_LENGTH, AvpFault, AvpHead, Key, VENDOR_AVP_HEAD_LENGTH, avp_head};
-use std::alloc::{AllocError, Global};
 
 /// The part of a body that is being read.
 #[derive(Clone, Copy, Debug)]
@@ -77,6 +60,7 @@ pub(crate) struct Done<'a> {
 }
 
 /// Goes on at a place, where an AVP begins or levels end.
+#[inline(always)]
 pub(crate) fn go_on<'a, B: Book>(
     book: &'a B,
     open_levels: &mut OpenLevels,
@@ -84,19 +68,18 @@ pub(crate) fn go_on<'a, B: Book>(
 ) -> Result<Option<Part<'a>>, Refusal>
     requires sound { IsDictionary (B.meaning book.now) }
     requires levels { ∥ AreSound (B.meaning book.now) open_levels.old at ∥₁ }
-    ensures { (u : AnyPolicy) (most : AnyLevels) (bytes : List ℕ) (good : HasGoodHeader (B.meaning book.now) bytes)
+    ensures { (u : AnyPolicy) (most : AnyLevels)
+        (bytes : List ℕ) (good : HasGoodHeader (B.meaning book.now) bytes)
         → IsUnderWay (B.meaning book.now) u most bytes good open_levels.old at
-        → MatchResult result (λ next. IsNext (B.meaning book.now) u most bytes good open_levels.new next at)
+        → MatchResult result (λ next. IsNext
+        (B.meaning book.now) u most bytes good open_levels.new next at)
         (IsStop (B.meaning book.now) u most bytes good ⊥) }
 {
     loop {
         let end = open_levels.innermost().end;
         if at < end {
-            if end - at < AVP_HEAD_LENGTH {
-                return Err(broken(at));
-            }
-            let front = Front::new();
-            return Ok(Some(Part::Head(HeadPart { at, front })));
+            let part = begin_head(open_levels, at)?;
+            return Ok(Some(Part::Head(part)));
         }
         if let Some(wrong) = missing_at_end(book, open_levels) {
             return Err(fault(end, wrong));
@@ -107,26 +90,26 @@ pub(crate) fn go_on<'a, B: Book>(
     }
 }
 
-/// No AVP begins at the place, by its Length.
-fn broken(at: usize) -> Refusal
-    requires { at < 2 ^ 32 }
-    ensures { result ≡ Refusal.Fault (record {
-      place = at;
-      code = 5014;
-      reason = Reason.AvpLength;
-      subject = Subject.Nothing;
-    }) }
+/// Begins with the head of the AVP at a place, which lies in the innermost level.
+#[inline(always)]
+fn begin_head(open_levels: &OpenLevels, at: usize) -> Result<HeadPart, Refusal>
+    requires within { at < open_levels.now.innermost.end }
+    requires few { at < 2 ^ 32 }
+    ensures { (d : Dictionary) (u : AnyPolicy)
+        (most : AnyLevels) (bytes : List ℕ) (good : HasGoodHeader d bytes) → IsDictionary d
+        → IsUnderWay d u most bytes good open_levels.now at
+        → MatchResult result (λ part. IsInHead d u most bytes good open_levels.now part at)
+        (IsStop d u most bytes good ⊥) }
 {
-    fault(
-        at,
-        Wrong {
-            reason: Reason::AvpLength,
-            subject: Subject::Nothing,
-        },
-    )
+    if open_levels.innermost().end - at < AVP_HEAD_LENGTH {
+        return Err(broken(at));
+    }
+    let front = Front::new();
+    Ok(HeadPart { at, front })
 }
 
 /// Reads on in a part. The piece begins at a place and doesn't go past the end of the message.
+#[inline(always)]
 pub(crate) fn read_part<'a, B: Book>(
     book: &'a B,
     unknown: Unknown,
@@ -137,24 +120,73 @@ pub(crate) fn read_part<'a, B: Book>(
     piece: &[u8],
 ) -> Result<Done<'a>, Refusal>
     requires sound { IsDictionary (B.meaning book.now) }
-    requires part { ∥ GoesOn (B.meaning book.now) unknown levels open_levels.old part from piece.now ∥₁ }
+    requires part { ∥ GoesOn
+        (B.meaning book.now) unknown levels open_levels.old part from piece.now ∥₁ }
     requires some { 0 < length piece.now }
     ensures count { IfOk result (λ done. (0 < done.taken) × (done.taken ≤ length piece.now)) }
     ensures next { (bytes : List ℕ) (good : HasGoodHeader (B.meaning book.now) bytes)
         → IsInPart (B.meaning book.now) unknown levels bytes good open_levels.old part.entry from
         → LiesAt bytes from piece.now
         → MatchResult result
-        (λ done. IsNext (B.meaning book.now) unknown levels bytes good open_levels.new done.next (from + done.taken))
+        (λ done. IsNext (B.meaning book.now) unknown levels bytes good open_levels.new done.next
+        (from + done.taken))
         (IsStop (B.meaning book.now) unknown levels bytes good
         (BeginsLevel (B.meaning book.now) levels bytes from (from + length piece.now))) }
 {
     match part {
-        Part::Head(part) => read_head(book, unknown, levels, open_levels, part, from, piece),
+        Part::Head(part) => {
+            if part.at == from {
+                read_on(book, unknown, levels, open_levels, from, piece)
+            } else {
+                read_head(book, unknown, levels, open_levels, part, from, piece)
+            }
+        }
         Part::Data(part) => read_data(book, open_levels, part, from, piece),
     }
 }
 
+/// Goes over the AVPs that lie whole in a piece, or reads on in the head of the first, where it doesn't.
+#[inline(always)]
+fn read_on<'a, B: Book>(
+    book: &'a B,
+    unknown: Unknown,
+    levels: Levels,
+    open_levels: &mut OpenLevels,
+    from: usize,
+    piece: &[u8],
+) -> Result<Done<'a>, Refusal>
+    requires sound { IsDictionary (B.meaning book.now) }
+    requires under_way { ∥ ReadsOn
+        (B.meaning book.now) unknown levels open_levels.old from from piece.now ∥₁ }
+    requires some { 0 < length piece.now }
+    ensures count { IfOk result (λ done. (0 < done.taken) × (done.taken ≤ length piece.now)) }
+    ensures next { (bytes : List ℕ) (good : HasGoodHeader (B.meaning book.now) bytes)
+        → IsUnderWay (B.meaning book.now) unknown levels bytes good open_levels.old from
+        → LiesAt bytes from piece.now
+        → MatchResult result
+        (λ done. IsNext (B.meaning book.now) unknown levels bytes good open_levels.new done.next
+        (from + done.taken))
+        (IsStop (B.meaning book.now) unknown levels bytes good
+        (BeginsLevel (B.meaning book.now) levels bytes from (from + length piece.now))) }
+{
+    let Some(at) = read_avps(book, unknown, levels, open_levels, from, piece)? else {
+        return Ok(Done {
+            taken: piece.len(),
+            next: None,
+        });
+    };
+    let part = begin_head(open_levels, at)?;
+    if at == from {
+        return read_head(book, unknown, levels, open_levels, part, from, piece);
+    }
+    Ok(Done {
+        taken: at - from,
+        next: Some(Part::Head(part)),
+    })
+}
+
 /// Reads on in the head of an AVP.
+#[inline(always)]
 fn read_head<'a, B: Book>(
     book: &'a B,
     unknown: Unknown,
@@ -165,14 +197,16 @@ fn read_head<'a, B: Book>(
     piece: &[u8],
 ) -> Result<Done<'a>, Refusal>
     requires sound { IsDictionary (B.meaning book.now) }
-    requires part { ∥ GoesOn (B.meaning book.now) unknown levels open_levels.old (Part.Head part) from piece.now ∥₁ }
+    requires part { ∥ GoesOn (B.meaning book.now) unknown levels open_levels.old
+        (Part.Head part) from piece.now ∥₁ }
     requires some { 0 < length piece.now }
     ensures count { IfOk result (λ done. (0 < done.taken) × (done.taken ≤ length piece.now)) }
     ensures next { (bytes : List ℕ) (good : HasGoodHeader (B.meaning book.now) bytes)
         → IsInHead (B.meaning book.now) unknown levels bytes good open_levels.old part from
         → LiesAt bytes from piece.now
         → MatchResult result
-        (λ done. IsNext (B.meaning book.now) unknown levels bytes good open_levels.new done.next (from + done.taken))
+        (λ done. IsNext (B.meaning book.now) unknown levels bytes good open_levels.new done.next
+        (from + done.taken))
         (IsStop (B.meaning book.now) unknown levels bytes good
         (BeginsLevel (B.meaning book.now) levels bytes from (from + length piece.now))) }
 {
@@ -194,6 +228,7 @@ fn read_head<'a, B: Book>(
 }
 
 /// The bytes of an AVP in front of its data.
+#[inline(always)]
 fn head_length(head: &AvpHead) -> usize
     ensures { result ≡ head_length head.now.vendor }
 {
@@ -204,6 +239,7 @@ fn head_length(head: &AvpHead) -> usize
 }
 
 /// Goes on behind the head of an AVP.
+#[inline(always)]
 fn begin_data<'a, B: Book>(
     book: &'a B,
     unknown: Unknown,
@@ -213,11 +249,13 @@ fn begin_data<'a, B: Book>(
     head: &AvpHead,
 ) -> Result<Option<Part<'a>>, Refusal>
     requires sound { IsDictionary (B.meaning book.now) }
-    requires avp { ∥ IsAtSomeAvp (B.meaning book.now) unknown levels open_levels.old at head.now ∥₁ }
+    requires avp { ∥ IsAtSomeAvp
+        (B.meaning book.now) unknown levels open_levels.old at head.now ∥₁ }
     ensures { (bytes : List ℕ) (good : HasGoodHeader (B.meaning book.now) bytes)
         → IsAtAvp (B.meaning book.now) unknown levels bytes good open_levels.old at head.now
         → MatchResult result
-        (λ next. IsNext (B.meaning book.now) unknown levels bytes good open_levels.new next (at + head_length head.now.vendor))
+        (λ next. IsNext (B.meaning book.now) unknown levels bytes good open_levels.new next
+        (at + head_length head.now.vendor))
         (IsStop (B.meaning book.now) unknown levels bytes good
         (BeginsLevelAt (B.meaning book.now) levels bytes (at + head_length head.now.vendor))) }
 {
@@ -256,6 +294,7 @@ fn begin_data<'a, B: Book>(
 }
 
 /// The definition of a known group, whose data is a level to open in one of this depth.
+#[inline(always)]
 fn group_to_enter<B: Book>(
     book: &B,
     levels: Levels,
@@ -278,19 +317,8 @@ fn group_to_enter<B: Book>(
     }
 }
 
-/// Before any data of an AVP; nothing is to be seen of an unknown one.
-fn start_leaf<'a, B: Book>(book: &'a B, key: Key, entry: &Option<Entry>) -> Option<LeafState<'a>>
-    requires { entry.now ≡ entry_of (B.meaning book.now) key }
-    ensures { ((e : DictEntry) → known (B.meaning book.now) key ≡ Some e → e.format ≢ Grouped)
-        → HasSeen (B.meaning book.now) result key [] }
-{
-    match entry {
-        Some(entry) => Some(LeafState::start(book.format(*entry))),
-        None => None,
-    }
-}
-
 /// Reads on in the data and the padding of an AVP.
+#[inline(always)]
 fn read_data<'a, B: Book>(
     book: &'a B,
     open_levels: &mut OpenLevels,
@@ -303,11 +331,14 @@ fn read_data<'a, B: Book>(
         × GoesOn (B.meaning book.now) u most open_levels.old (Part.Data part) from piece.now) ∥₁ }
     requires some { 0 < length piece.now }
     ensures count { IfOk result (λ done. (0 < done.taken) × (done.taken ≤ length piece.now)) }
-    ensures next { (u : AnyPolicy) (most : AnyLevels) (bytes : List ℕ) (good : HasGoodHeader (B.meaning book.now) bytes)
-        → IsInData (B.meaning book.now) u most bytes good open_levels.old part.entry from → from < part.entry.next
+    ensures next { (u : AnyPolicy) (most : AnyLevels)
+        (bytes : List ℕ) (good : HasGoodHeader (B.meaning book.now) bytes)
+        → IsInData (B.meaning book.now) u most bytes good open_levels.old part.entry from
+        → from < part.entry.next
         → LiesAt bytes from piece.now
         → MatchResult result
-        (λ done. IsNext (B.meaning book.now) u most bytes good open_levels.new done.next (from + done.taken))
+        (λ done. IsNext (B.meaning book.now) u most bytes good open_levels.new done.next
+        (from + done.taken))
         (IsStop (B.meaning book.now) u most bytes good ⊥) }
 {
     let taken = piece.len().min(part.next - from);
@@ -324,16 +355,8 @@ fn read_data<'a, B: Book>(
     Ok(Done { taken, next })
 }
 
-fn feed_leaf(leaf: &mut Option<LeafState<'_>>, data: &[u8])
-    ensures { (d : Dictionary) (key : AnyKey) (read : List ℕ) → HasSeen d leaf.old key read
-        → HasSeen d leaf.new key (read ++ data.now) }
-{
-    if let Some(state) = leaf {
-        state.feed(data);
-    }
-}
-
 /// Judges the data of an AVP that was read wholly, and goes on behind its padding.
+#[inline(always)]
 fn end_data<'a, B: Book>(
     book: &'a B,
     open_levels: &mut OpenLevels,
@@ -341,25 +364,16 @@ fn end_data<'a, B: Book>(
 ) -> Result<Option<Part<'a>>, Refusal>
     requires sound { IsDictionary (B.meaning book.now) }
     requires part { ∥ IsReadData (B.meaning book.now) open_levels.old part ∥₁ }
-    ensures { (u : AnyPolicy) (most : AnyLevels) (bytes : List ℕ) (good : HasGoodHeader (B.meaning book.now) bytes) (n : ℕ)
-        → IsInData (B.meaning book.now) u most bytes good open_levels.old part.entry n → part.entry.next ≤ n
-        → MatchResult result (λ next. IsNext (B.meaning book.now) u most bytes good open_levels.new next part.entry.next)
+    ensures { (u : AnyPolicy) (most : AnyLevels)
+        (bytes : List ℕ) (good : HasGoodHeader (B.meaning book.now) bytes) (n : ℕ)
+        → IsInData (B.meaning book.now) u most bytes good open_levels.old part.entry n
+        → part.entry.next ≤ n
+        → MatchResult result (λ next. IsNext
+        (B.meaning book.now) u most bytes good open_levels.new next part.entry.next)
         (IsStop (B.meaning book.now) u most bytes good ⊥) }
 {
     if let Some(reason) = wrong_leaf(part.leaf) {
         return Err(fault(part.at, Wrong::avp(reason, part.key)));
     }
     go_on(book, open_levels, part.next)
-}
-
-/// What is wrong with data that was seen wholly.
-fn wrong_leaf(leaf: Option<LeafState<'_>>) -> Option<Reason>
-    ensures { (d : Dictionary) (key : AnyKey) (read : List ℕ) → HasSeen d leaf.entry key read
-        → MatchOption result (IsGoodLeaf d key read) (IsBadLeaf d key read) }
-{
-    match leaf?.finish() {
-        Leaf::Fine => None,
-        Leaf::BadLength => Some(Reason::LeafLength),
-        Leaf::BadValue => Some(Reason::LeafValue),
-    }
 }

@@ -23,7 +23,12 @@ const FIRST: u32 = 44;
 
 /// A watchdog request with so many Failed-AVPs in one another, an unknown AVP in the innermost, and an Origin-Host and an
 /// Origin-Realm before or behind them.
-fn nested(alloc: Global, depth: u32, before: &str, behind: &str) -> Result<Vec<u8>, AllocError>
+pub(super) fn nested(
+    alloc: Global,
+    depth: u32,
+    before: &str,
+    behind: &str,
+) -> Result<Vec<u8>, AllocError>
     requires { depth ≤ 1000000 }
 {
     let length = FIRST + 8 * depth + 8;

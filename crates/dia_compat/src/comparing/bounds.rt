@@ -2,7 +2,8 @@
 ghost use Rattle.std.specs.Prelude.{◌≡◌, slice_get, false};
 ghost use Rattle.std.specs.Option.{option_map_or};
 ghost use Rattle.dia_dict.specs.Dictionary.{is_fixed};
-ghost use Rattle.dia_compat.specs.Tests.{is_max_within, is_within, is_above_zero, leads, begins_with};
+ghost use Rattle.dia_compat.specs.Tests.{is_max_within, is_within};
+ghost use Rattle.dia_compat.specs.Tests.{is_above_zero, leads, begins_with};
 
 use dia_dict::{DRule, RuleKind};
 

@@ -3,8 +3,9 @@ ghost use Rattle.std.specs.Prelude.{◌≡◌, ◌++◌, ◌∷◌, [], IfOk, On
 ghost use Rattle.std.specs.Option.{option_map};
 ghost use Rattle.std.specs.HashMap.{get};
 ghost use Rattle.std.proofs.Props.{props};
-ghost use Rattle.dia_dict.specs.Dictionary.{plain};
-ghost use Rattle.dia_compat.specs.ByCode.{commands_of, has_code, listed, only_for, open_code};
+ghost use Rattle.dia_dict.specs.Dictionary.{plain_definition};
+ghost use Rattle.dia_compat.specs.CommandsByCode.{commands_of, has_code, listed};
+ghost use Rattle.dia_compat.specs.CommandsByCode.{only_for, open_code};
 
 use dia_dict::{Book, Class, DefHead, Definition};
 use std::alloc::{AllocError, Global};
@@ -33,7 +34,8 @@ impl<'a, B: Book> Commands<'a, B> {
     /// The one definition that may be selected for messages of a command of another dictionary, where that is for one
     /// application or for errors.
     pub fn only_for(&self, head: DefHead) -> Option<&'a Definition>
-        ensures { option_map (λ d. plain d.now) result ≡ only_for (B.meaning self.now.book.now) head }
+        ensures { option_map (λ d. plain_definition d.now) result
+            ≡ only_for (B.meaning self.now.book.now) head }
     {
         let def = match head {
             DefHead::Command {
@@ -83,9 +85,10 @@ fn push_command<'a>(
     lists: &mut HashMap<u32, Vec<&'a Definition>>,
     command: &'a Definition,
 ) -> Result<(), AllocError>
-    ensures { OnOk result ((code : ℕ) → listed (option_map (λ v. v.items) (get nat_eq lists.new code))
+    ensures { OnOk result ((code : ℕ)
+        → listed (option_map (λ v. v.items) (get nat_eq lists.new code))
         ≡ listed (option_map (λ v. v.items) (get nat_eq lists.old code))
-        ++ filter (λ c. has_code code c.head) (plain command.now ∷ [])) }
+        ++ filter (λ c. has_code code c.head) (plain_definition command.now ∷ [])) }
 {
     if let DefHead::Command { code, .. } = command.head {
         lists.entry(code)?.or_default().push(command)?;

@@ -1,11 +1,12 @@
 //! The test of a pair of commands.
 ghost use Rattle.std.specs.Prelude.{◌≡◌, ◌||◌, ◌&&◌, not, IfOk, map, ℕ, List};
 ghost use Rattle.std.specs.List.{list_any, list_all};
-ghost use Rattle.dia_dict.specs.Dictionary.{plain, IsDictionary, IsCommandHead};
+ghost use Rattle.dia_dict.specs.Dictionary.{plain_definition, IsDictionary, IsCommandHead};
 ghost use Rattle.dia_dict.specs.declared.definition.Class.TheVariants as classes;
 ghost use Rattle.dia_compat.specs.TableText.{plain_pair};
-ghost use Rattle.dia_compat.specs.Comparing.{plain_names, is_pair, names_app, wants_app};
-ghost use Rattle.dia_compat.specs.Comparing.{is_of_app, is_wanted, serves, same_selector, is_proxiable, is_ready, is_selected};
+ghost use Rattle.dia_compat.specs.PairTests.{plain_names, is_pair, names_app, wants_app};
+ghost use Rattle.dia_compat.specs.PairTests.{is_of_app, is_wanted, serves, same_selector};
+ghost use Rattle.dia_compat.specs.PairTests.{is_proxiable, is_ready, is_selected};
 
 use super::by_code::{Commands, open_code};
 use super::heads::{is_proxiable, same_selector, serves};
@@ -39,8 +40,9 @@ fn is_beside(beside: &IndexSet<(&str, &str)>, first: &str, second: &str) -> bool
 
 /// Whether the commands are of one code and class, and the second allows each value of P that the first does.
 pub(super) fn may_stand_for(first: &Definition, second: &Definition) -> bool
-    ensures { result ≡ (same_selector (plain first.now).head (plain second.now).head &&
-        is_proxiable (plain first.now).head (plain second.now).head) }
+    ensures { result ≡
+        (same_selector (plain_definition first.now).head (plain_definition second.now).head &&
+        is_proxiable (plain_definition first.now).head (plain_definition second.now).head) }
 {
     same_selector(&first.head, &second.head) && is_proxiable(&first.head, &second.head)
 }
@@ -54,7 +56,8 @@ pub(super) fn all_selected<A: Book, B: Book>(
     beside: &IndexSet<(&str, &str)>,
 ) -> Result<Vec<bool>, AllocError>
     ensures { IfOk result
-        (λ all. all.items ≡ map (is_selected (A.meaning a.now) (B.meaning b.now) (map plain_names beside.now.keys))
+        (λ all. all.items ≡ map
+        (is_selected (A.meaning a.now) (B.meaning b.now) (map plain_names beside.now.keys))
         (A.meaning a.now).commands) }
 {
     let commands = Commands::new(alloc, b)?;
@@ -89,8 +92,9 @@ fn is_selected<A: Book, B: Book>(
 ) -> bool
     requires sound { IsDictionary (B.meaning b.now.book.now) }
     requires is_command { IsCommandHead command.now.head }
-    ensures { result ≡ is_selected (A.meaning a.now) (B.meaning b.now.book.now) (map plain_names beside.now.keys)
-        (plain command.now) }
+    ensures { result ≡ is_selected (A.meaning a.now)
+        (B.meaning b.now.book.now) (map plain_names beside.now.keys)
+        (plain_definition command.now) }
 {
     match open_code(command.head) {
         Some(code) => match b.by_code.get(&code) {
@@ -114,14 +118,15 @@ fn has_all<A: Book, B: Book>(
 ) -> bool
     ensures { result ≡ (list_any (λ d. serves command.now.head d.now.head) others.now && list_all
         (λ d. is_ready (A.meaning a.now) (B.meaning b.now) (map plain_names beside.now.keys)
-        (plain command.now) (plain d.now)) others.now) }
+        (plain_definition command.now) (plain_definition d.now)) others.now) }
 {
     is_served(others, &command.head) && all_beside(a, b, beside, command, others)
 }
 
 /// Whether the definitions stand in the table as a pair.
 fn stands_beside(beside: &IndexSet<(&str, &str)>, command: &Definition, other: &Definition) -> bool
-    ensures { result ≡ list_any (is_pair (plain command.now).name (plain other.now).name)
+    ensures { result ≡ list_any
+        (is_pair (plain_definition command.now).name (plain_definition other.now).name)
         (map plain_names beside.now.keys) }
 {
     is_beside(beside, command.name.as_str(), other.name.as_str())
@@ -144,7 +149,7 @@ fn all_beside<A: Book, B: Book>(
 ) -> bool
     ensures { result ≡ list_all
         (λ d. is_ready (A.meaning a.now) (B.meaning b.now) (map plain_names beside.now.keys)
-        (plain command.now) (plain d.now)) others.now }
+        (plain_definition command.now) (plain_definition d.now)) others.now }
 {
     others
         .iter()
@@ -159,8 +164,9 @@ fn is_ready<A: Book, B: Book>(
     command: &Definition,
     other: &Definition,
 ) -> bool
-    ensures { result ≡ is_ready (A.meaning a.now) (B.meaning b.now) (map plain_names beside.now.keys)
-        (plain command.now) (plain other.now) }
+    ensures { result ≡ is_ready (A.meaning a.now)
+        (B.meaning b.now) (map plain_names beside.now.keys)
+        (plain_definition command.now) (plain_definition other.now) }
 {
     !is_wanted(a, b, &command.head, &other.head) || stands_beside(beside, command, other)
 }

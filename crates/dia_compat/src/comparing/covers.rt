@@ -2,15 +2,17 @@
 ghost use Rattle.std.specs.Prelude.{◌≡◌, ◌<◌, IfOk, IfSome, map, length, slice_get, false};
 ghost use Rattle.std.specs.List.{list_all, list_any};
 ghost use Rattle.std.specs.Option.{option_map_or};
-ghost use Rattle.dia_data.specs.Plain.{plain as plain_format};
+ghost use Rattle.dia_data.specs.Plain.{plain_format};
 ghost use Rattle.dia_check.specs.Valid.{known};
 ghost use Rattle.dia_wire.specs.declared.Key.{Key as AnyKey};
 ghost use Rattle.dia_compat.specs.TableText.{plain_pair};
 ghost use Rattle.dia_compat.specs.Tests.{holds_key};
-ghost use Rattle.dia_compat.specs.Comparing.{pair_key, pairs_key, is_alone, is_covered, is_must_not};
-ghost use Rattle.dia_compat.specs.Comparing.{may_be_clear, is_octets, stranger_fits, uncovered_keys, strangers_fit};
+ghost use Rattle.dia_compat.specs.PairTests.{pair_key, pairs_key, is_alone};
+ghost use Rattle.dia_compat.specs.PairTests.{is_covered, is_must_not};
+ghost use Rattle.dia_compat.specs.PairTests.{may_be_clear, is_octets, stranger_fits};
+ghost use Rattle.dia_compat.specs.PairTests.{uncovered_keys, strangers_fit};
 
-use super::named::Named;
+use super::named_book::NamedBook;
 use dia_check::Unknown;
 use dia_dict::{Book, Entry, Format, Key, MRule};
 use indexmap::IndexSet;
@@ -31,8 +33,8 @@ pub(crate) struct Cover {
 impl Cover {
     pub fn new<A: Book, B: Book>(
         alloc: Global,
-        a: &Named<'_, A>,
-        b: &Named<'_, B>,
+        a: &NamedBook<'_, A>,
+        b: &NamedBook<'_, B>,
         unknown: Unknown,
         pairs: &[(String, String)],
     ) -> Result<Self, AllocError>
@@ -63,8 +65,8 @@ impl Cover {
 /// The keys of the pairs whose names have one key.
 fn paired_keys<A: Book, B: Book>(
     alloc: Global,
-    a: &Named<'_, A>,
-    b: &Named<'_, B>,
+    a: &NamedBook<'_, A>,
+    b: &NamedBook<'_, B>,
     pairs: &[(String, String)],
 ) -> Result<IndexSet<Key>, AllocError>
     ensures { IfOk result
@@ -84,8 +86,8 @@ fn paired_keys<A: Book, B: Book>(
 
 /// The key that both names have.
 fn pair_key<A: Book, B: Book>(
-    a: &Named<'_, A>,
-    b: &Named<'_, B>,
+    a: &NamedBook<'_, A>,
+    b: &NamedBook<'_, B>,
     first: &str,
     second: &str,
 ) -> Option<Key>
@@ -110,7 +112,8 @@ fn uncovered_keys<A: Book, B: Book>(
     paired: &IndexSet<Key>,
 ) -> Result<Vec<Key>, AllocError>
     ensures { IfOk result
-        (λ keys. keys.items ≡ uncovered_keys unknown (A.meaning a.now) (B.meaning b.now) paired.now.keys) }
+        (λ keys. keys.items ≡ uncovered_keys unknown
+        (A.meaning a.now) (B.meaning b.now) paired.now.keys) }
 {
     let mut keys = Vec::new(alloc);
     for index in 0..a.entries() {

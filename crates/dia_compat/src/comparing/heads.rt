@@ -1,6 +1,7 @@
 //! What commands are for, and what their P flag may be (RFC 6733 section 3.2).
 ghost use Rattle.std.specs.Prelude.{◌≡◌};
-ghost use Rattle.dia_compat.specs.Comparing.{same_selector, serves, serves_app, p_of, p_within, is_proxiable};
+ghost use Rattle.dia_compat.specs.PairTests.{same_selector, serves, serves_app};
+ghost use Rattle.dia_compat.specs.PairTests.{p_of, p_within, is_proxiable};
 
 use dia_dict::{DefHead, Pxy};
 

@@ -4,7 +4,7 @@ ghost use Rattle.std.specs.List.{list_all};
 ghost use Rattle.dia_check.specs.Valid.{has_wildcard};
 ghost use Rattle.dia_compat.specs.Tests.{rules_in, wildcard_of, common_rule, let_in_rule};
 ghost use Rattle.dia_compat.specs.Tests.{covered_rule, own_rule, has_room, may_come};
-ghost use Rattle.dia_compat.specs.Comparing.{is_covered};
+ghost use Rattle.dia_compat.specs.PairTests.{is_covered};
 
 use super::bounds::{max_within, may_stand, within};
 use super::covers::is_covered;
@@ -61,7 +61,8 @@ pub(super) fn all_covered<A: Book, B: Book>(
     paired: &IndexSet<Key>,
 ) -> bool
     ensures { result ≡ list_all
-        (covered_rule (is_covered unknown (A.meaning a.now.book.now) (B.meaning b.now) paired.now.keys))
+        (covered_rule
+        (is_covered unknown (A.meaning a.now.book.now) (B.meaning b.now) paired.now.keys))
         (rules_in (A.meaning a.now.book.now) a.now.def) }
 {
     a.list()

@@ -1,17 +1,20 @@
 //! The tests of a table's pairs.
-ghost use Rattle.std.specs.Prelude.{◌≡◌, ◌<◌, ◌+◌, ◌↔◌, ◌⊎◌, IfOk, OnOk, IfSome, IsTrue, length, map, slice_get};
-ghost use Rattle.dia_data.specs.Plain.{Grouped, plain as plain_format};
+ghost use Rattle.std.specs.Prelude.{◌≡◌, ◌<◌, ◌+◌, ◌↔◌, ◌⊎◌, IfOk, OnOk};
+ghost use Rattle.std.specs.Prelude.{IfSome, IsTrue, length, map, slice_get};
+ghost use Rattle.dia_data.specs.Plain.{Grouped, plain_format};
 ghost use Rattle.dia_data.specs.Below.{FormatBelow};
 ghost use Rattle.std.proofs.Props.{props};
 ghost use Rattle.dia_dict.specs.Dictionary.{DictEntry, IsDictionary, definitions, groups};
-ghost use Rattle.dia_compat.specs.TableText.{PlainTable, plain, plain_pair};
-ghost use Rattle.dia_compat.specs.Comparing.{plain_names, is_selected, failed_commands, failed_groups};
+ghost use Rattle.dia_compat.specs.TableText.{PlainTable, plain_table, plain_pair};
+ghost use Rattle.dia_compat.specs.PairTests.{plain_names, is_selected};
+ghost use Rattle.dia_compat.specs.PairTests.{failed_commands, failed_groups};
 ghost use Rattle.dia_compat.specs.Closed.{AvpPair, IsAnswer};
-ghost use Rattle.dia_compat.specs.Failing.{IsLookedUp, IsFirstFailed, IsFound, PairTest, failed_command, FailsEntries, FailsAvp};
+ghost use Rattle.dia_compat.specs.FirstFailures.{IsLookedUp, IsFirstFailed, IsFound, PairTest};
+ghost use Rattle.dia_compat.specs.FirstFailures.{failed_command, FailsEntries, FailsAvp};
 
 use super::commands::{all_selected, may_stand_for, set_of_pairs};
 use super::covers::Cover;
-use super::named::Named;
+use super::named_book::NamedBook;
 use super::rules::Rules;
 use super::testing::failed_rules;
 use crate::inclusion::{Answer, PairKind, Test};
@@ -25,14 +28,15 @@ use std::alloc::{AllocError, Global};
 /// Two dictionaries with what the tests of a table's pairs look up.
 #[derive(Drop)]
 pub(crate) struct Comparison<'a, A: Book, B: Book> {
-    pub a: Named<'a, A>,
-    pub b: Named<'a, B>,
+    pub a: NamedBook<'a, A>,
+    pub b: NamedBook<'a, B>,
     pub cover: Cover,
     pub beside: IndexSet<(&'a str, &'a str)>,
     /// Of each command of `a`, whether the table has what may be selected for its messages.
     selected: Vec<bool>,
     ghost all_selected: { selected.items
-        ≡ map (is_selected (A.meaning a.book.now) (B.meaning b.book.now) (map plain_names beside.keys))
+        ≡ map
+        (is_selected (A.meaning a.book.now) (B.meaning b.book.now) (map plain_names beside.keys))
         (A.meaning a.book.now).commands } by { Prim.hlevel props },
 }
 
@@ -51,11 +55,12 @@ impl<'a, A: Book, B: Book> Comparison<'a, A, B> {
         ensures sound_b { OnOk result (IsDictionary (B.meaning b.now)) }
         ensures looked_up { IfOk result
             (λ all. IsLookedUp (A.meaning a.now) (B.meaning b.now) unknown
-            (plain table.now) all.cover.paired.keys all.cover.uncovered.items all.cover.strangers_fit
+            (plain_table table.now) all.cover.paired.keys
+            all.cover.uncovered.items all.cover.strangers_fit
             (map plain_names all.beside.keys)) }
     {
-        let a = Named::new(alloc, a)?;
-        let b = Named::new(alloc, b)?;
+        let a = NamedBook::new(alloc, a)?;
+        let b = NamedBook::new(alloc, b)?;
         let cover = Cover::new(alloc, &a, &b, unknown, &table.avps)?;
         let beside = set_of_pairs(alloc, &table.commands)?;
         let selected = all_selected(alloc, a.book, b.book, &beside)?;
@@ -75,10 +80,11 @@ impl<'a, A: Book, B: Book> Comparison<'a, A, B> {
             → IsDictionary (B.meaning self.now.b.book.now)
             → IsLookedUp (A.meaning self.now.a.book.now)
             (B.meaning self.now.b.book.now) self.now.cover.unknown
-            (plain table.now) self.now.cover.paired.keys self.now.cover.uncovered.items
+            (plain_table table.now) self.now.cover.paired.keys self.now.cover.uncovered.items
             self.now.cover.strangers_fit (map plain_names self.now.beside.keys)
-            → IsAnswer (A.meaning self.now.a.book.now) (B.meaning self.now.b.book.now) self.now.cover.unknown
-            (plain table.now) answer) }
+            → IsAnswer (A.meaning self.now.a.book.now)
+            (B.meaning self.now.b.book.now) self.now.cover.unknown
+            (plain_table table.now) answer) }
     {
         let commands = self.first_failure(alloc, PairKind::Command, &table.commands)?;
         match commands {
@@ -143,8 +149,8 @@ impl<'a, A: Book, B: Book> Comparison<'a, A, B> {
             self.now.cover.uncovered.items self.now.cover.strangers_fit
             (map plain_names self.now.beside.keys)
             → IsFirstFailed (PairTest (A.meaning self.now.a.book.now)
-            (B.meaning self.now.b.book.now) self.now.cover.unknown table kind (first.now, second.now))
-            result }
+            (B.meaning self.now.b.book.now) self.now.cover.unknown table kind
+            (first.now, second.now)) result }
     {
         match kind {
             PairKind::Command => self.failed_command(first, second),
@@ -155,8 +161,8 @@ impl<'a, A: Book, B: Book> Comparison<'a, A, B> {
     /// The first test that a pair of commands fails.
     fn failed_command(&self, first: &str, second: &str) -> Option<Test>
         ensures { result ≡ failed_command self.now.cover.unknown (A.meaning self.now.a.book.now)
-            (B.meaning self.now.b.book.now) self.now.cover.paired.keys self.now.cover.uncovered.items
-            self.now.cover.strangers_fit
+            (B.meaning self.now.b.book.now) self.now.cover.paired.keys
+            self.now.cover.uncovered.items self.now.cover.strangers_fit
             (map plain_names self.now.beside.keys) (first.now, second.now) }
     {
         match self.a.command(first) {
@@ -173,9 +179,10 @@ impl<'a, A: Book, B: Book> Comparison<'a, A, B> {
         requires first { first < length (A.meaning self.now.a.book.now).commands }
         requires second { second < length (B.meaning self.now.b.book.now).commands }
         ensures { result ≡ failed_commands self.now.cover.unknown (A.meaning self.now.a.book.now)
-            (B.meaning self.now.b.book.now) self.now.cover.paired.keys self.now.cover.uncovered.items
-            self.now.cover.strangers_fit
-            (map plain_names self.now.beside.keys) (length (groups (A.meaning self.now.a.book.now)) + first)
+            (B.meaning self.now.b.book.now) self.now.cover.paired.keys
+            self.now.cover.uncovered.items self.now.cover.strangers_fit
+            (map plain_names self.now.beside.keys)
+            (length (groups (A.meaning self.now.a.book.now)) + first)
             (length (groups (B.meaning self.now.b.book.now)) + second) }
     {
         let a = Rules {
@@ -196,8 +203,9 @@ impl<'a, A: Book, B: Book> Comparison<'a, A, B> {
     /// The first test that a pair of AVPs fails.
     fn failed_avp(&self, first: &str, second: &str) -> Option<Test>
         ensures { FailsAvp self.now.cover.unknown (A.meaning self.now.a.book.now)
-            (B.meaning self.now.b.book.now) self.now.cover.paired.keys self.now.cover.uncovered.items
-            self.now.cover.strangers_fit (first.now, second.now) result }
+            (B.meaning self.now.b.book.now) self.now.cover.paired.keys
+            self.now.cover.uncovered.items self.now.cover.strangers_fit
+            (first.now, second.now) result }
     {
         match self.a.avp(first) {
             Some(first) => match self.b.avp(second) {
@@ -212,8 +220,8 @@ impl<'a, A: Book, B: Book> Comparison<'a, A, B> {
         requires first { first < length (A.meaning self.now.a.book.now).entries }
         requires second { second < length (B.meaning self.now.b.book.now).entries }
         ensures { FailsEntries self.now.cover.unknown (A.meaning self.now.a.book.now)
-            (B.meaning self.now.b.book.now) self.now.cover.paired.keys self.now.cover.uncovered.items
-            self.now.cover.strangers_fit first second result }
+            (B.meaning self.now.b.book.now) self.now.cover.paired.keys
+            self.now.cover.uncovered.items self.now.cover.strangers_fit first second result }
     {
         if !is_avp_pair(self.a.book, self.b.book, first, second) {
             return Some(Test::N10);
@@ -223,11 +231,13 @@ impl<'a, A: Book, B: Book> Comparison<'a, A, B> {
 
     /// The first test that the definitions of two Grouped AVPs fail.
     fn failed_groups(&self, first: Option<DefId>, second: Option<DefId>) -> Option<Test>
-        requires first { IfSome first (λ x. x < length (definitions (A.meaning self.now.a.book.now))) }
-        requires second { IfSome second (λ y. y < length (definitions (B.meaning self.now.b.book.now))) }
+        requires first { IfSome first
+            (λ x. x < length (definitions (A.meaning self.now.a.book.now))) }
+        requires second { IfSome second
+            (λ y. y < length (definitions (B.meaning self.now.b.book.now))) }
         ensures { result ≡ failed_groups self.now.cover.unknown (A.meaning self.now.a.book.now)
-            (B.meaning self.now.b.book.now) self.now.cover.paired.keys self.now.cover.uncovered.items
-            self.now.cover.strangers_fit first second }
+            (B.meaning self.now.b.book.now) self.now.cover.paired.keys
+            self.now.cover.uncovered.items self.now.cover.strangers_fit first second }
     {
         match first {
             Some(first) => match second {

@@ -1,7 +1,7 @@
 //! The tests of two definitions.
 ghost use Rattle.std.specs.Prelude.{◌≡◌};
 ghost use Rattle.dia_compat.specs.Tests.{rules_in, is_passed, may_come};
-ghost use Rattle.dia_compat.specs.Comparing.{is_covered, failed_rules};
+ghost use Rattle.dia_compat.specs.PairTests.{is_covered, failed_rules};
 
 use super::bounds::fixed_within;
 use super::covers::Cover;
@@ -18,8 +18,10 @@ pub(super) fn failed_rules<A: Book, B: Book>(
     cover: &Cover,
 ) -> Option<Test>
     ensures { result ≡ failed_rules cover.now.unknown (A.meaning a.now.book.now)
-        (B.meaning b.now.book.now) cover.now.paired.keys cover.now.uncovered.items cover.now.strangers_fit
-        (rules_in (A.meaning a.now.book.now) a.now.def) (rules_in (B.meaning b.now.book.now) b.now.def) }
+        (B.meaning b.now.book.now) cover.now.paired.keys
+        cover.now.uncovered.items cover.now.strangers_fit
+        (rules_in (A.meaning a.now.book.now) a.now.def)
+        (rules_in (B.meaning b.now.book.now) b.now.def) }
 {
     [
         Test::N1,
@@ -48,7 +50,8 @@ fn is_passed<A: Book, B: Book>(
         (is_covered cover.now.unknown (A.meaning a.now.book.now)
         (B.meaning b.now.book.now) cover.now.paired.keys)
         (may_come cover.now.unknown (A.meaning a.now.book.now))
-        cover.now.uncovered.items cover.now.strangers_fit (rules_in (A.meaning a.now.book.now) a.now.def)
+        cover.now.uncovered.items cover.now.strangers_fit
+        (rules_in (A.meaning a.now.book.now) a.now.def)
         (rules_in (B.meaning b.now.book.now) b.now.def) }
 {
     match test {

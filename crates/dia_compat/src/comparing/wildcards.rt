@@ -13,8 +13,8 @@ use dia_dict::{Book, DRule, Key};
 
 /// Whether `b` has a wildcard where `a` has one.
 pub(super) fn wildcard_kept<A: Book, B: Book>(a: &Rules<'_, A>, b: &Rules<'_, B>) -> bool
-    ensures { result ≡ (not (has_wildcard (rules_in (A.meaning a.now.book.now) a.now.def)) || has_wildcard
-        (rules_in (B.meaning b.now.book.now) b.now.def)) }
+    ensures { result ≡ (not (has_wildcard (rules_in (A.meaning a.now.book.now) a.now.def))
+        || has_wildcard (rules_in (B.meaning b.now.book.now) b.now.def)) }
 {
     !a.has_wildcard() || b.has_wildcard()
 }
@@ -120,7 +120,8 @@ pub(super) fn wildcard_covered<A: Book>(a: &Rules<'_, A>, uncovered: &[Key], fit
 }
 
 fn lists_keys<A: Book>(a: &Rules<'_, A>, keys: &[Key]) -> bool
-    ensures { result ≡ list_all (is_listed (rules_in (A.meaning a.now.book.now) a.now.def)) keys.now }
+    ensures { result ≡ list_all
+        (is_listed (rules_in (A.meaning a.now.book.now) a.now.def)) keys.now }
 {
     keys.iter().all(|key| a.lists(*key))
 }

@@ -4,8 +4,8 @@ ghost use Rattle.std.specs.Prelude.{length, map, position, slice_get, string_byt
 ghost use Rattle.std.specs.Str.{bytes_eq};
 ghost use Rattle.dia_dict.specs.Dictionary.{IsDictionary, PlainDefinition};
 ghost use Rattle.dia_compat.specs.Proposed.{IsRefusal};
-ghost use Rattle.dia_compat.specs.Naming.{Names, NamedSoFar};
-ghost use Rattle.dia_compat.specs.Reaching.{has, AreRest};
+ghost use Rattle.dia_compat.specs.NamedCommands.{AddsOnce, NamedSoFar};
+ghost use Rattle.dia_compat.specs.ReachedKeys.{has, AreRest};
 
 use crate::comparing::Commands;
 use crate::proposing::ProposeFault;
@@ -17,27 +17,27 @@ use std::alloc::{AllocError, Global};
 
 /// The commands of A that were named, by their places, with their pairs and the AVPs that they let in.
 #[derive(Drop)]
-pub(crate) struct Named {
+pub(crate) struct NamedCommands {
     places: IndexSet<usize>,
     pub(crate) pairs: Vec<(String, String)>,
     pub(crate) reached: Reached,
 }
 
-impl Named {
+impl NamedCommands {
     /// No command yet, with room for as many AVPs.
     pub(crate) fn new<A: Book, B: Book>(
         alloc: Global,
         a: &A,
         b: &B,
         most: usize,
-    ) -> Result<Named, AllocError>
+    ) -> Result<NamedCommands, AllocError>
         ensures places { IfOk result (λ n. n.places.keys ≡ []) }
         ensures pairs { IfOk result (λ n. n.pairs.items ≡ []) }
         ensures reached { IfOk result (λ n. n.reached.waiting.items ≡ []) }
         ensures none { IfOk result (λ n. n.reached.keys.keys ≡ []) }
         ensures rest { IfOk result (λ n. AreRest (A.meaning a.now) (B.meaning b.now) n.reached) }
     {
-        Ok(Named {
+        Ok(NamedCommands {
             places: IndexSet::new(alloc),
             pairs: Vec::new(alloc),
             reached: Reached::new(alloc, a, b, most)?,
@@ -54,13 +54,16 @@ impl Named {
         commands: &IndexSet<&str>,
         names: &[String],
     ) -> Result<(), ProposeFault>
-        requires commands { map (λ n. n.now) commands.now.keys ≡ map (λ c. c.name) (A.meaning a.now).commands }
+        requires commands { map (λ n. n.now) commands.now.keys
+            ≡ map (λ c. c.name) (A.meaning a.now).commands }
         requires sound_a { IsDictionary (A.meaning a.now) }
         requires sound_b { IsDictionary (B.meaning b.now.book.now) }
-        requires new { NamedSoFar (A.meaning a.now) (B.meaning b.now.book.now) [] (map (λ n. string_bytes n) names.now) self.old }
+        requires new { NamedSoFar (A.meaning a.now)
+            (B.meaning b.now.book.now) [] (map (λ n. string_bytes n) names.now) self.old }
         ensures ok { OnOk result (NamedSoFar (A.meaning a.now) (B.meaning b.now.book.now)
             (map (λ n. string_bytes n) names.now) [] self.new) }
-        ensures refusal { IfErr result (IsRefusal (A.meaning a.now) (map (λ n. string_bytes n) names.now)) }
+        ensures refusal { IfErr result
+            (IsRefusal (A.meaning a.now) (map (λ n. string_bytes n) names.now)) }
     {
         for name in names {
             let text = name.as_str();
@@ -86,7 +89,8 @@ impl Named {
         requires within { place < length (A.meaning a.now).commands }
         requires rest { AreRest (A.meaning a.now) (B.meaning b.now.book.now) self.old.reached }
         ensures { (c : PlainDefinition) → slice_get (A.meaning a.now).commands place ≡ Some c
-            → OnOk result (Names (A.meaning a.now) (B.meaning b.now.book.now) place c self.old self.new) }
+            → OnOk result (AddsOnce (A.meaning a.now)
+            (B.meaning b.now.book.now) place c self.old self.new) }
     {
         if self.places.contains(&place) {
             return Ok(());

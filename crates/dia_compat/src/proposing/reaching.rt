@@ -2,12 +2,14 @@
 ghost use Rattle.std.specs.Prelude.{◌≡◌, ◌<◌, ◌↔◌, IfOk, OnOk, IsTrue, Some, None};
 ghost use Rattle.std.specs.Prelude.{IfSome, not, is_some, filter, map, length, slice_get, []};
 ghost use Rattle.dia_wire.specs.declared.Key.{Key as AnyKey};
-ghost use Rattle.dia_data.specs.Plain.{Grouped, plain as plain_format};
+ghost use Rattle.dia_data.specs.Plain.{Grouped, plain_format};
 ghost use Rattle.dia_dict.specs.declared.DRule.{DRule as AnyRule};
 ghost use Rattle.dia_dict.specs.Dictionary.{PlainDefinition, definitions, entry_of};
 ghost use Rattle.dia_compat.specs.Below.{IsListed, HasWildcard, IsAboveZero};
-ghost use Rattle.dia_compat.specs.Reaching.{has, IsAllowedBy, IsAllowed, Admits, Inserts, ComesTo};
-ghost use Rattle.dia_compat.specs.Reaching.{ComesToAll, Follows, IsSharedGroup, AllWait, AreRest, Sorts};
+ghost use Rattle.dia_compat.specs.ReachedKeys.{has, IsAllowedBy, IsAllowed};
+ghost use Rattle.dia_compat.specs.ReachedKeys.{Admits, Inserts, ComesTo};
+ghost use Rattle.dia_compat.specs.ReachedKeys.{ComesToAll, Follows, IsSharedGroup};
+ghost use Rattle.dia_compat.specs.ReachedKeys.{AllWait, AreRest, Sorts};
 
 use dia_dict::{Book, DRule, DefId, Format, Key, Slot};
 use std::alloc::{AllocError, Global};
@@ -76,7 +78,8 @@ impl Reached {
         b: &B,
         rule: DRule,
     ) -> Result<(), AllocError>
-        ensures { OnOk result (ComesToAll (A.meaning a.now) (B.meaning b.now) (IsAllowedBy rule) self.old self.new) }
+        ensures { OnOk result (ComesToAll (A.meaning a.now)
+            (B.meaning b.now) (IsAllowedBy rule) self.old self.new) }
     {
         match rule.key {
             Some(key) if is_above_zero(rule.max) => self.come_to(a, b, key),
@@ -91,7 +94,8 @@ impl Reached {
         b: &B,
         rules: &[DRule],
     ) -> Result<(), AllocError>
-        ensures { OnOk result (ComesToAll (A.meaning a.now) (B.meaning b.now) (IsAllowed rules.now) self.old self.new) }
+        ensures { OnOk result (ComesToAll (A.meaning a.now)
+            (B.meaning b.now) (IsAllowed rules.now) self.old self.new) }
     {
         for rule in rules {
             self.come_to_allowed(a, b, *rule)?;
@@ -109,7 +113,8 @@ impl Reached {
     ) -> Result<(), AllocError>
         requires { def < length (definitions (A.meaning a.now)) }
         ensures { (d : PlainDefinition) → slice_get (definitions (A.meaning a.now)) def ≡ Some d
-            → OnOk result (Sorts (A.meaning a.now) (B.meaning b.now) d.rules key self.old self.new) }
+            → OnOk result (Sorts (A.meaning a.now)
+            (B.meaning b.now) d.rules key self.old self.new) }
     {
         if let Slot::Unlisted = a.slot(def, key) {
             self.come_to(a, b, key)?;
@@ -130,7 +135,8 @@ impl Reached {
         requires def { def < length (definitions (A.meaning a.now)) }
         requires rest { AreRest (A.meaning a.now) (B.meaning b.now) self.old }
         ensures { (d : PlainDefinition) → slice_get (definitions (A.meaning a.now)) def ≡ Some d
-            → OnOk result (ComesToAll (A.meaning a.now) (B.meaning b.now) (λ key. ¬ IsListed d.rules key) self.old self.new) }
+            → OnOk result (ComesToAll (A.meaning a.now)
+            (B.meaning b.now) (λ key. ¬ IsListed d.rules key) self.old self.new) }
     {
         let rest = mem::replace(&mut self.rest, Vec::new(alloc));
         for key in rest.as_slice() {
@@ -150,7 +156,8 @@ impl Reached {
         requires def { def < length (definitions (A.meaning a.now)) }
         requires rest { AreRest (A.meaning a.now) (B.meaning b.now) self.old }
         ensures { (d : PlainDefinition) → slice_get (definitions (A.meaning a.now)) def ≡ Some d
-            → OnOk result (ComesToAll (A.meaning a.now) (B.meaning b.now) (Admits d.rules) self.old self.new) }
+            → OnOk result (ComesToAll (A.meaning a.now)
+            (B.meaning b.now) (Admits d.rules) self.old self.new) }
     {
         let rules = a.def(def).rules.as_slice();
         self.come_to_listed(a, b, rules)?;
@@ -203,7 +210,8 @@ fn shared_group<A: Book, B: Book>(a: &A, b: &B, key: Key) -> Option<DefId>
     ensures some { IfSome result (λ def. (d : PlainDefinition)
         × (slice_get (definitions (A.meaning a.now)) def ≡ Some d)
         × IsSharedGroup (A.meaning a.now) (B.meaning b.now) key d) }
-    ensures none { result ≡ None → (d : PlainDefinition) → ¬ IsSharedGroup (A.meaning a.now) (B.meaning b.now) key d }
+    ensures none { result ≡ None → (d : PlainDefinition)
+        → ¬ IsSharedGroup (A.meaning a.now) (B.meaning b.now) key d }
 {
     let entry = a.avp(key)?;
     let other = b.avp(key)?;

@@ -1,9 +1,9 @@
 //! The definitions of B that stand beside a command of A.
 ghost use Rattle.std.specs.Prelude.{◌≡◌, ◌++◌, OnOk, map, option_to_list};
 ghost use Rattle.std.specs.List.{filter_map};
-ghost use Rattle.dia_dict.specs.Dictionary.{IsDictionary, IsCommandHead, plain};
+ghost use Rattle.dia_dict.specs.Dictionary.{IsDictionary, IsCommandHead, plain_definition};
 ghost use Rattle.dia_compat.specs.TableText.{plain_pair};
-ghost use Rattle.dia_compat.specs.Wanting.{wanted_name, wanted_names, names_beside};
+ghost use Rattle.dia_compat.specs.WantedNames.{wanted_name, wanted_names, names_beside};
 
 use crate::comparing::{Commands, is_wanted, open_code};
 use crate::table::push_pair;
@@ -22,8 +22,9 @@ pub(crate) fn push_pairs<A: Book, B: Book>(
     requires sound_b { IsDictionary (B.meaning b.now.book.now) }
     requires is_command { IsCommandHead command.now.head }
     ensures { OnOk result (map plain_pair pairs.new.items ≡ map plain_pair pairs.old.items
-        ++ map (λ name. ((plain command.now).name, name))
-        (names_beside (A.meaning a.now) (B.meaning b.now.book.now) (plain command.now))) }
+        ++ map (λ name. ((plain_definition command.now).name, name))
+        (names_beside (A.meaning a.now) (B.meaning b.now.book.now)
+        (plain_definition command.now))) }
 {
     let before = pairs.len();
     push_wanted(alloc, a, b, command, pairs)?;
@@ -44,7 +45,7 @@ fn push_wanted<A: Book, B: Book>(
     requires sound_b { IsDictionary (B.meaning b.now.book.now) }
     requires is_command { IsCommandHead command.now.head }
     ensures { OnOk result (map plain_pair pairs.new.items ≡ map plain_pair pairs.old.items
-        ++ map (λ name. ((plain command.now).name, name))
+        ++ map (λ name. ((plain_definition command.now).name, name))
         (wanted_names (A.meaning a.now) (B.meaning b.now.book.now) command.now.head)) }
 {
     match open_code(command.head) {
@@ -69,8 +70,9 @@ fn push_all_wanted<A: Book, B: Book>(
     pairs: &mut Vec<(String, String)>,
 ) -> Result<(), AllocError>
     ensures { OnOk result (map plain_pair pairs.new.items ≡ map plain_pair pairs.old.items
-        ++ map (λ name. ((plain command.now).name, name))
-        (filter_map (λ d. wanted_name (A.meaning a.now) (B.meaning b.now) command.now.head (plain d.now))
+        ++ map (λ name. ((plain_definition command.now).name, name))
+        (filter_map (λ d. wanted_name (A.meaning a.now)
+        (B.meaning b.now) command.now.head (plain_definition d.now))
         others.now)) }
 {
     for other in others {
@@ -89,8 +91,9 @@ fn push_if_wanted<A: Book, B: Book>(
     pairs: &mut Vec<(String, String)>,
 ) -> Result<(), AllocError>
     ensures { OnOk result (map plain_pair pairs.new.items ≡ map plain_pair pairs.old.items
-        ++ map (λ name. ((plain command.now).name, name))
-        (option_to_list (wanted_name (A.meaning a.now) (B.meaning b.now) command.now.head (plain other.now)))) }
+        ++ map (λ name. ((plain_definition command.now).name, name))
+        (option_to_list (wanted_name (A.meaning a.now)
+        (B.meaning b.now) command.now.head (plain_definition other.now)))) }
 {
     if is_wanted(a, b, &command.head, &other.head) {
         push_pair(alloc, pairs, command.name.as_str(), other.name.as_str())?;

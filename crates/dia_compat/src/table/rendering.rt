@@ -1,7 +1,9 @@
 //! The text of a table.
-ghost use Rattle.std.specs.Prelude.{◌≡◌, ◌≤◌, ◌++◌, ◌∷◌, [], ℕ, List, IfOk, OnOk, length, map, string_bytes};
-ghost use Rattle.dia_compat.specs.TableText.{PlainTable, plain, plain_pair, max_table, IsTable};
-ghost use Rattle.dia_compat.specs.Rendering.{pair_lines, pair_text, table_text, IsWritable};
+ghost use Rattle.std.specs.Prelude.{◌≡◌, ◌≤◌, ◌++◌, ◌∷◌, [], ℕ, List, IfOk};
+ghost use Rattle.std.specs.Prelude.{OnOk, length, map, string_bytes};
+ghost use Rattle.dia_compat.specs.TableText.{PlainTable, plain_table};
+ghost use Rattle.dia_compat.specs.TableText.{plain_pair, max_table, IsTable};
+ghost use Rattle.dia_compat.specs.WrittenTable.{pair_lines, pair_text, table_text, IsWritable};
 
 use crate::table::Table;
 use std::alloc::{AllocError, Global};
@@ -11,10 +13,10 @@ use std::alloc::{AllocError, Global};
 /// Where the names are names of a table's text and the table is within the limits, as each table that `parse_table` reads
 /// is, `parse_table` reads the same table in this text. `AllocError` comes only where memory was refused.
 pub fn render_table(alloc: Global, table: &Table) -> Result<String, AllocError>
-    ensures text { IfOk result (λ text. string_bytes text ≡ table_text (plain table.now)) }
-    ensures read_back { IsWritable (plain table.now)
-        → IfOk result (λ text. IsTable (string_bytes text) (plain table.now)) }
-    ensures fits { IsWritable (plain table.now)
+    ensures text { IfOk result (λ text. string_bytes text ≡ table_text (plain_table table.now)) }
+    ensures read_back { IsWritable (plain_table table.now)
+        → IfOk result (λ text. IsTable (string_bytes text) (plain_table table.now)) }
+    ensures fits { IsWritable (plain_table table.now)
         → IfOk result (λ text. length (string_bytes text) ≤ max_table) }
 {
     let mut text = String::new(alloc);

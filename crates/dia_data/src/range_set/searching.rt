@@ -33,8 +33,10 @@ pub(super) fn is_subset(f: &[(u32, u32)], g: &[(u32, u32)]) -> bool
 fn first_from(ranges: &[(u32, u32)], start: usize, number: u32) -> usize
     requires { start ≤ length ranges.now }
     ensures within { (start ≤ result) × (result ≤ length ranges.now) }
-    ensures before { (k : ℕ) → start ≤ k → k < result → (slice_index_or ranges.now k (0, 0)).1 < number }
-    ensures there { result < length ranges.now → number ≤ (slice_index_or ranges.now result (0, 0)).1 }
+    ensures before { (k : ℕ) → start ≤ k → k < result
+        → (slice_index_or ranges.now k (0, 0)).1 < number }
+    ensures there { result < length ranges.now
+        → number ≤ (slice_index_or ranges.now result (0, 0)).1 }
 {
     let mut place = start;
     while place < ranges.len() && ranges[place].1 < number {

@@ -15,14 +15,14 @@ use Rattle.dia_dict.specs.declared.definition.Class.{Class}
 use Rattle.dia_dict.specs.declared.definition.Class.TheVariants.{Request, Answer, Error as Failure}
 use Rattle.dia_dict.specs.declared.definition.DefHead.{DefHead}
 use Rattle.dia_dict.specs.declared.definition.DefHead.TheVariants.{Group, Command, Error}
-use Rattle.dia_dict.specs.declared.hashed.Selector.{Selector}
-use Rattle.dia_dict.specs.declared.hashed.Service.{Service}
-use Rattle.dia_dict.specs.declared.hashed.Service.TheVariants as services
+use Rattle.dia_dict.specs.declared.selectors.Selector.{Selector}
+use Rattle.dia_dict.specs.declared.selectors.Service.{Service}
+use Rattle.dia_dict.specs.declared.selectors.Service.TheVariants as services
 use Rattle.dia_dict.specs.Dictionary.{is_command, has_class, IsCommandHead, IsSameSelector}
 use Rattle.dia_dict.specs.declared.definition.Definition.{Definition}
-use Rattle.dia_dict.specs.Selecting.{selector, selector_of, service, service_of, same_service}
-use Rattle.dia_dict.specs.contracts.hashed.SelectorPartialEq.TheImpl as selector_eq
-use Rattle.dia_dict.specs.contracts.hashed.ServicePartialEq.TheImpl as service_eq
+use Rattle.dia_dict.specs.Selectors.{selector, selector_of, service, service_of, same_service}
+use Rattle.dia_dict.specs.contracts.selectors.SelectorPartialEq.TheImpl as selector_eq
+use Rattle.dia_dict.specs.contracts.selectors.ServicePartialEq.TheImpl as service_eq
 use Rattle.dia_dict.proofs.Indexing.Places.{place_of_image}
 use Rattle.dia_dict.proofs.Lists.{and_true, and_false, position-map, list_any-map, map-agree}
 

@@ -8,7 +8,7 @@ use Rattle.std.proofs.Props.{props}
 use Rattle.std.proofs.lemmas.Option.{slice_get_within, slice_get_read, same_Some, none-some}
 use Rattle.std.proofs.lemmas.List.{length-append, length_push}
 use Rattle.dia_wire.specs.declared.Key.{Key}
-use Rattle.dia_dict.specs.Dictionary.{PlainDefinition, plain, definitions, groups as groups_of, selected, is_command, lists_key}
+use Rattle.dia_dict.specs.Dictionary.{PlainDefinition, plain_definition, definitions, groups as groups_of, selected, is_command, lists_key}
 use Rattle.dia_dict.specs.KeyTables.{is_key, place_among, IsIndexOf}
 use Rattle.dia_dict.specs.PlainMeaning.{numbers}
 use Rattle.dia_dict.specs.Indexed.{row_keys, rule_keys, IsSlotTable, AreSlotTables}
@@ -22,7 +22,7 @@ use Rattle.dia_dict.specs.Keys.{same_key}
 use Rattle.dia_dict.proofs.Indexing.Places.{image_at}
 use Rattle.dia_dict.proofs.Indexing.Selectors.{option-prop}
 use Rattle.dia_dict.proofs.Members.{at_append}
-use Rattle.dia_dict.proofs.Rows.{held, definitions-held, length-definitions-held}
+use Rattle.dia_dict.proofs.BookRows.{held, definitions-held, length-definitions-held}
 
 -- what stands at a place of a list with one more member
 at_last : {X : Type 0} (x y : X) (j : ℕ) → slice_get (x ∷ []) j ≡ Some y → (j ≡ 0) × (x ≡ y)
@@ -67,15 +67,16 @@ module _ (rows : List Row) (groups commands : List Definition) (numbered : numbe
   length-tables = ∥∥₁_elim slotted (hlevel props) (λ s. s.0) ∙ length-append groups commands
 
   -- and tells the places of its rules
-  pub place-of_slot : (def : ℕ) (table : KeyTable) (d : Definition) → slice_get tables def ≡ Some table → slice_get (definitions (held rows groups commands)) def ≡ Some (plain d)
+  pub place-of_slot : (def : ℕ) (table : KeyTable) (d : Definition) → slice_get tables def ≡ Some table → slice_get (definitions (held rows groups commands)) def ≡ Some (plain_definition d)
       → (key : Key) (found : Option ℕ) → ((place : Key → Option ℕ) → IsIndexOf table.rows.items place → found ≡ place key) → found ≡ position (lists_key key) d.rules.items
   place-of_slot def table d at on key found told = ∥∥₁_elim slotted (option-prop _ _) (λ s.
-      let one = image_at plain (slice_get (groups ++ commands) def) (plain d) (sym (definitions-held rows groups commands numbered def) ∙ on) in
+      let one = image_at plain_definition (slice_get (groups ++ commands) def) (plain_definition d) (sym (definitions-held rows groups commands numbered def) ∙ on) in
       told (place_among (rule_keys one.0.rules.items)) (s.1 def table one.0 at one.1) ∙ place-of_rule one.0.rules.items key ∙ ap (λ (p : PlainDefinition). position (lists_key key) p.rules) one.2)
 
   -- as a look-up reads them
   pub found_slot : (def i : ℕ) (table : KeyTable) (d : Definition) → i ≡ def → def < length (definitions (held rows groups commands)) → table ≡ get_or tables i table
-      → slice_get (definitions (held rows groups commands)) def ≡ Some (plain d) → (key : Key) (found : Option ℕ) → ((place : Key → Option ℕ) → IsIndexOf table.rows.items place → found ≡ place key)
+      → slice_get (definitions (held rows groups commands)) def ≡ Some (plain_definition d)
+      → (key : Key) (found : Option ℕ) → ((place : Key → Option ℕ) → IsIndexOf table.rows.items place → found ≡ place key)
       → found ≡ position (lists_key key) d.rules.items
   found_slot def i table d same within read on key found told =
       let short : def < length tables = omega (arith, within, length-tables, length-definitions-held rows groups commands numbered) in
@@ -86,4 +87,8 @@ pub selected-places : (rows : List Row) (groups commands : List Definition) (cod
     ≡ option_map (λ (i : ℕ). length (groups_of (held rows groups commands)) + i)
     (option_or (position (λ (d : Definition). is_command code class (Some app) d.head) commands) (position (λ (d : Definition). is_command code class None d.head) commands))
 selected-places rows groups commands code class app =
-    rw (position-map plain (λ (c : PlainDefinition). is_command code class (Some app) c.head) commands, position-map plain (λ (c : PlainDefinition). is_command code class None c.head) commands) refl
+    rw (
+      position-map plain_definition (λ (c : PlainDefinition). is_command code class (Some app) c.head) commands,
+      position-map plain_definition
+          (λ (c : PlainDefinition). is_command code class None c.head) commands,
+    ) refl

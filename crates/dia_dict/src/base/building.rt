@@ -2,9 +2,10 @@
 ghost use Rattle.std.specs.Prelude.{◌≡◌, IfOk, IsTrue, map, string_bytes};
 ghost use Rattle.std.specs.List.{list_all};
 ghost use Rattle.std.specs.Option.{option_map};
-ghost use Rattle.dia_ccf.specs.Plain.{plain, plain_decl, plain_def, plain_rule};
+ghost use Rattle.dia_ccf.specs.Plain.{plain_source, plain_decl, plain_def, plain_rule};
 ghost use Rattle.dia_dict.specs.Base.{base_source};
-ghost use Rattle.dia_dict.specs.BaseTables.{kind_of_row, name_of_row, qual_of_row, decl_of_row, def_of_row};
+ghost use Rattle.dia_dict.specs.BaseTables.{kind_of_row, name_of_row, qual_of_row};
+ghost use Rattle.dia_dict.specs.BaseTables.{decl_of_row, def_of_row};
 ghost use Rattle.dia_dict.specs.BaseTables.{rule_of_row, is_avp_row, is_def_row, is_rule_row};
 
 use super::tables::{AVPS, AvpRow, COMMANDS, DefRow, GROUPS, RuleRow};
@@ -13,7 +14,7 @@ use std::alloc::{AllocError, Global};
 
 /// The source of the base dictionary.
 pub(super) fn source(alloc: Global) -> Result<Source, AllocError>
-    ensures { IfOk result (λ source. plain source ≡ base_source) }
+    ensures { IfOk result (λ source. plain_source source ≡ base_source) }
 {
     Ok(Source {
         avps: declarations(alloc, &AVPS)?,
@@ -51,7 +52,8 @@ fn values(
     alloc: Global,
     ranges: Option<&[(u32, u32)]>,
 ) -> Result<Option<Vec<(u32, u32)>>, AllocError>
-    ensures { IfOk result (λ values. option_map (λ v. v.items) values ≡ option_map (λ v. v.now) ranges.entry) }
+    ensures { IfOk result (λ values. option_map (λ v. v.items) values
+        ≡ option_map (λ v. v.now) ranges.entry) }
 {
     match ranges {
         Some(ranges) => Ok(Some(Vec::from_slice(alloc, ranges)?)),

@@ -3,11 +3,11 @@ ghost use Rattle.std.specs.Prelude.{◌≡◌, All, IfOk, map};
 ghost use Rattle.std.specs.List.{list_any};
 ghost use Rattle.dia_dict.specs.Dictionary.{IsCommandHead};
 ghost use Rattle.dia_dict.specs.Indexed.{HaveDistinctSelectors};
-ghost use Rattle.dia_dict.specs.Selecting.{selector_of, service_of, same_service};
-ghost use Rattle.dia_dict.specs.declared.hashed.Service.{Service as AnyService};
+ghost use Rattle.dia_dict.specs.Selectors.{selector_of, service_of, same_service};
+ghost use Rattle.dia_dict.specs.declared.selectors.Service.{Service as AnyService};
 
 use crate::definition::Definition;
-use crate::hashed::{Selector, Service};
+use crate::selectors::{Selector, Service};
 use indexmap::IndexSet;
 use std::alloc::{AllocError, Global};
 
@@ -18,7 +18,8 @@ pub(super) fn selectors_of(
 ) -> Result<IndexSet<Selector>, AllocError>
     requires headed { All (λ d. IsCommandHead d.head) commands.now }
     requires distinct { HaveDistinctSelectors commands.now }
-    ensures { IfOk result (λ selectors. selectors.keys ≡ map (λ d. selector_of d.head) commands.now) }
+    ensures { IfOk result (λ selectors. selectors.keys
+        ≡ map (λ d. selector_of d.head) commands.now) }
 {
     let mut selectors = IndexSet::with_capacity(alloc, commands.len())?;
     for command in commands {

@@ -73,7 +73,8 @@ fn application_goes_first(rt: HostRuntime) -> Result<(), Fail> {
 fn a_fixed_rule_has_the_first_slot(rt: HostRuntime) -> Result<(), Fail> {
     let book = indexed(
         &rt,
-        "%avp Session-Id 263 UTF8String any %avp Origin-Host 264 DiameterIdentity any <T> ::= < Diameter Header: 300, REQ > < Session-Id > { Origin-Host }",
+        "%avp Session-Id 263 UTF8String any %avp Origin-Host 264 DiameterIdentity any \
+        <T> ::= < Diameter Header: 300, REQ > < Session-Id > { Origin-Host }",
     )?;
     assert_eq!(rt;
         selected_slot(&book, 300, Class::Request, 263),

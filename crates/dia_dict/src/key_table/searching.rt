@@ -11,7 +11,8 @@ pub(super) fn search(rows: &[KeyRow], low: usize, high: usize, rank: u64) -> Opt
     requires sorted { IsNonDecreasingBy (λ row. row.rank) rows.now }
     requires within { high ≤ length rows.now }
     requires before { (k : ℕ) (d : AnyRow) → k < low → (slice_index_or rows.now k d).rank ≢ rank }
-    requires after { (k : ℕ) (d : AnyRow) → high ≤ k → k < length rows.now → (slice_index_or rows.now k d).rank ≢ rank }
+    requires after { (k : ℕ) (d : AnyRow) → high ≤ k
+        → k < length rows.now → (slice_index_or rows.now k d).rank ≢ rank }
     ensures { IsFound rows.now rank result }
 {
     let mut low = low;

@@ -1,10 +1,11 @@
 //! The dictionary of a sound source.
 ghost use Rattle.std.specs.Prelude.{◌≡◌, ◌++◌, ◌∷◌, [], IfOk, OnOk, map, filter, string_bytes};
-ghost use Rattle.dia_data.specs.Plain.{plain as plain_format, ranges_of};
-ghost use Rattle.dia_ccf.specs.Plain.{plain as plain_source, plain_decl, plain_def, plain_rule};
-ghost use Rattle.dia_dict.specs.Dictionary.{plain};
+ghost use Rattle.dia_data.specs.Plain.{plain_format, ranges_of};
+ghost use Rattle.dia_ccf.specs.Plain.{plain_source, plain_decl, plain_def, plain_rule};
+ghost use Rattle.dia_dict.specs.Dictionary.{plain_definition};
 ghost use Rattle.dia_dict.specs.PlainMeaning.{entries_of};
-ghost use Rattle.dia_dict.specs.Resolution.{resolved, all_wrong, declared_entry, bare_entry, is_bare, definition_of};
+ghost use Rattle.dia_dict.specs.Resolution.{resolved, all_wrong, declared_entry};
+ghost use Rattle.dia_dict.specs.Resolution.{bare_entry, is_bare, definition_of};
 ghost use Rattle.dia_dict.specs.Resolution.{rule_of, head_of, class_of, proxy_of, format_of};
 
 use super::names::{Names, key_of_declaration, key_of_group};
@@ -20,7 +21,8 @@ use std::alloc::{AllocError, Global};
 
 pub(super) fn book(alloc: Global, names: &Names<'_>) -> Result<PlainBook, AllocError>
     requires { all_wrong (plain_source names.now.source.now) ≡ [] }
-    ensures { IfOk result (λ book. ⟦<PlainBook as Book>⟧.meaning book ≡ resolved (plain_source names.now.source.now)) }
+    ensures { IfOk result (λ book. ⟦<PlainBook as Book>⟧.meaning book
+        ≡ resolved (plain_source names.now.source.now)) }
 {
     let mut entries = EntryList::new(alloc);
     push_declarations(alloc, names, &names.source.avps, &mut entries)?;
@@ -116,7 +118,8 @@ fn definitions(
     defs: &[Def],
 ) -> Result<Vec<Definition>, AllocError>
     ensures { IfOk result
-        (λ ds. map plain ds.items ≡ map (definition_of (plain_source names.now.source.now)) (map plain_def defs.now)) }
+        (λ ds. map plain_definition ds.items
+        ≡ map (definition_of (plain_source names.now.source.now)) (map plain_def defs.now)) }
 {
     let mut definitions = Vec::new(alloc);
     for def in defs {
@@ -126,7 +129,8 @@ fn definitions(
 }
 
 fn definition(alloc: Global, names: &Names<'_>, def: &Def) -> Result<Definition, AllocError>
-    ensures { IfOk result (λ d. plain d ≡ definition_of (plain_source names.now.source.now) (plain_def def.now)) }
+    ensures { IfOk result (λ d. plain_definition d
+        ≡ definition_of (plain_source names.now.source.now) (plain_def def.now)) }
 {
     let name = String::from_str(alloc, &def.name)?;
     let rules = rule_list(alloc, names, &def.rules)?;
@@ -138,7 +142,8 @@ fn definition(alloc: Global, names: &Names<'_>, def: &Def) -> Result<Definition,
 }
 
 fn rule_list(alloc: Global, names: &Names<'_>, rules: &[Rule]) -> Result<Vec<DRule>, AllocError>
-    ensures { IfOk result (λ rs. rs.items ≡ map (rule_of (plain_source names.now.source.now)) (map plain_rule rules.now)) }
+    ensures { IfOk result (λ rs. rs.items
+        ≡ map (rule_of (plain_source names.now.source.now)) (map plain_rule rules.now)) }
 {
     rules
         .iter()
@@ -183,7 +188,8 @@ fn proxy(set: bool) -> Pxy
 }
 
 fn format(alloc: Global, decl: &Decl) -> Result<Format, AllocError>
-    ensures { IfOk result (λ format. plain_format format ≡ format_of (plain_decl decl.now).format (plain_decl decl.now).values) }
+    ensures { IfOk result (λ format. plain_format format
+        ≡ format_of (plain_decl decl.now).format (plain_decl decl.now).values) }
 {
     match decl.format {
         FormatName::OctetString => Ok(Format::OctetString),

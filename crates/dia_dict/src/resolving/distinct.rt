@@ -1,6 +1,6 @@
 ghost use Rattle.std.specs.Prelude.{◌≡◌, [], IfOk, OnOk, IfErr};
 ghost use Rattle.dia_dict.specs.Resolution.{repeats};
-ghost use Rattle.dia_dict.specs.Refusing.{IsFirstRepeat};
+ghost use Rattle.dia_dict.specs.SourceChecks.{IsFirstRepeat};
 
 use indexmap::IndexSet;
 use std::alloc::{AllocError, Global};

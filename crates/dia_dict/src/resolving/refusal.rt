@@ -1,6 +1,6 @@
 ghost use Rattle.std.specs.Prelude.{◌≡◌, Some, [], IfOk};
 ghost use Rattle.dia_dict.specs.Resolution.{wrong};
-ghost use Rattle.dia_dict.specs.Refusing.{told, wrong_of, Tells};
+ghost use Rattle.dia_dict.specs.SourceChecks.{told, wrong_of, Tells};
 
 use crate::fault::{DictFault, DictKind};
 use std::alloc::{AllocError, Global};

@@ -1,11 +1,13 @@
 //! The checks of rules, and what a rule means.
 ghost use Rattle.std.specs.Prelude.{◌≡◌, [], IfOk, OnOk, IfErr, map, find};
 ghost use Rattle.std.specs.Option.{option_copied};
-ghost use Rattle.dia_ccf.specs.Plain.{plain, plain_def, plain_rule};
-ghost use Rattle.dia_dict.specs.Resolution.{wrong_rules, bad_rules, bad_in, is_bad, is_undefined, is_min_over_max};
-ghost use Rattle.dia_dict.specs.Resolution.{is_required_min, is_optional_min, repeated_slots, repeated_in, all_defs, slot_name};
+ghost use Rattle.dia_ccf.specs.Plain.{plain_source, plain_def, plain_rule};
+ghost use Rattle.dia_dict.specs.Resolution.{wrong_rules, bad_rules, bad_in, is_bad};
+ghost use Rattle.dia_dict.specs.Resolution.{is_undefined, is_min_over_max};
+ghost use Rattle.dia_dict.specs.Resolution.{is_required_min, is_optional_min, repeated_slots};
+ghost use Rattle.dia_dict.specs.Resolution.{repeated_in, all_defs, slot_name};
 ghost use Rattle.dia_dict.specs.Resolution.{least, greatest, rule_of};
-ghost use Rattle.dia_dict.specs.Refusing.{IsRefused};
+ghost use Rattle.dia_dict.specs.SourceChecks.{IsRefused};
 
 use super::distinct::distinct;
 use super::names::Names;
@@ -17,8 +19,8 @@ use std::alloc::{AllocError, Global};
 
 /// Each rule names an AVP that is known, once in its definition, with counts that can be met.
 pub(super) fn check<'a>(alloc: Global, names: &Names<'a>) -> Result<(), Refusal<'a>>
-    ensures ok { OnOk result (wrong_rules (plain names.now.source.now) ≡ []) }
-    ensures err { IfErr result (IsRefused (wrong_rules (plain names.now.source.now))) }
+    ensures ok { OnOk result (wrong_rules (plain_source names.now.source.now) ≡ []) }
+    ensures err { IfErr result (IsRefused (wrong_rules (plain_source names.now.source.now))) }
 {
     each_rule(names, DictKind::UndefinedName)?;
     each_slot(alloc, names.source)?;
@@ -29,16 +31,20 @@ pub(super) fn check<'a>(alloc: Global, names: &Names<'a>) -> Result<(), Refusal<
 
 /// No rule of the source has this fault.
 fn each_rule<'a>(names: &Names<'a>, kind: DictKind) -> Result<(), Refusal<'a>>
-    ensures ok { OnOk result (bad_rules kind (plain names.now.source.now) (all_defs (plain names.now.source.now)) ≡ []) }
-    ensures err { IfErr result (IsRefused (bad_rules kind (plain names.now.source.now) (all_defs (plain names.now.source.now)))) }
+    ensures ok { OnOk result (bad_rules kind (plain_source names.now.source.now)
+        (all_defs (plain_source names.now.source.now)) ≡ []) }
+    ensures err { IfErr result (IsRefused (bad_rules kind (plain_source names.now.source.now)
+        (all_defs (plain_source names.now.source.now)))) }
 {
     rules_of(names, kind, &names.source.groups)?;
     rules_of(names, kind, &names.source.commands)
 }
 
 fn rules_of<'a>(names: &Names<'a>, kind: DictKind, defs: &'a [Def]) -> Result<(), Refusal<'a>>
-    ensures ok { OnOk result (bad_rules kind (plain names.now.source.now) (map plain_def defs.now) ≡ []) }
-    ensures err { IfErr result (IsRefused (bad_rules kind (plain names.now.source.now) (map plain_def defs.now))) }
+    ensures ok { OnOk result
+        (bad_rules kind (plain_source names.now.source.now) (map plain_def defs.now) ≡ []) }
+    ensures err { IfErr result
+        (IsRefused (bad_rules kind (plain_source names.now.source.now) (map plain_def defs.now))) }
 {
     for def in defs {
         rules_in(names, kind, def)?;
@@ -47,8 +53,10 @@ fn rules_of<'a>(names: &Names<'a>, kind: DictKind, defs: &'a [Def]) -> Result<()
 }
 
 fn rules_in<'a>(names: &Names<'a>, kind: DictKind, def: &'a Def) -> Result<(), Refusal<'a>>
-    ensures ok { OnOk result (bad_in kind (plain names.now.source.now) (plain_def def.now) ≡ []) }
-    ensures err { IfErr result (IsRefused (bad_in kind (plain names.now.source.now) (plain_def def.now))) }
+    ensures ok { OnOk result
+        (bad_in kind (plain_source names.now.source.now) (plain_def def.now) ≡ []) }
+    ensures err { IfErr result
+        (IsRefused (bad_in kind (plain_source names.now.source.now) (plain_def def.now))) }
 {
     match bad_rule(names, kind, &def.rules) {
         Some(rule) => Err(Refusal::at_rule(kind, &def.name, rule.slot_name())),
@@ -58,14 +66,15 @@ fn rules_in<'a>(names: &Names<'a>, kind: DictKind, def: &'a Def) -> Result<(), R
 
 /// The first rule with this fault.
 fn bad_rule<'r>(names: &Names<'_>, kind: DictKind, rules: &'r [Rule]) -> Option<&'r Rule>
-    ensures { option_copied result ≡ find (λ r. is_bad kind (plain names.now.source.now) (plain_rule r)) rules.now }
+    ensures { option_copied result
+        ≡ find (λ r. is_bad kind (plain_source names.now.source.now) (plain_rule r)) rules.now }
 {
     rules.iter().find(|rule| is_bad(names, kind, rule))
 }
 
 /// Whether a rule has this fault of a single rule.
 fn is_bad(names: &Names<'_>, kind: DictKind, rule: &Rule) -> bool
-    ensures { result ≡ is_bad kind (plain names.now.source.now) (plain_rule rule.now) }
+    ensures { result ≡ is_bad kind (plain_source names.now.source.now) (plain_rule rule.now) }
 {
     match kind {
         DictKind::UndefinedName => is_undefined(names, rule),
@@ -83,7 +92,7 @@ fn is_bad(names: &Names<'_>, kind: DictKind, rule: &Rule) -> bool
 }
 
 fn is_undefined(names: &Names<'_>, rule: &Rule) -> bool
-    ensures { result ≡ is_undefined (plain names.now.source.now) (plain_rule rule.now) }
+    ensures { result ≡ is_undefined (plain_source names.now.source.now) (plain_rule rule.now) }
 {
     match &rule.name {
         Some(name) => names.key(name).is_none(),
@@ -117,8 +126,8 @@ fn is_optional_min(rule: &Rule) -> bool
 
 /// No definition of the source names an AVP or the wildcard twice.
 fn each_slot(alloc: Global, source: &Source) -> Result<(), Refusal<'_>>
-    ensures ok { OnOk result (repeated_slots (all_defs (plain source.now)) ≡ []) }
-    ensures err { IfErr result (IsRefused (repeated_slots (all_defs (plain source.now)))) }
+    ensures ok { OnOk result (repeated_slots (all_defs (plain_source source.now)) ≡ []) }
+    ensures err { IfErr result (IsRefused (repeated_slots (all_defs (plain_source source.now)))) }
 {
     slots(alloc, &source.groups)?;
     slots(alloc, &source.commands)
@@ -146,7 +155,8 @@ fn slots_of(alloc: Global, def: &Def) -> Result<(), Refusal<'_>>
 }
 
 fn slot_names(alloc: Global, rules: &[Rule]) -> Result<Vec<&str>, AllocError>
-    ensures { IfOk result (λ names. map (λ n. n.now) names.items ≡ map (λ r. slot_name (plain_rule r)) rules.now) }
+    ensures { IfOk result (λ names. map (λ n. n.now) names.items
+        ≡ map (λ r. slot_name (plain_rule r)) rules.now) }
 {
     rules.iter().map(Rule::slot_name).collect(alloc)
 }
@@ -180,7 +190,7 @@ fn greatest(qual: Option<Qual>) -> Option<u32>
 
 /// The rule with its key and its counts.
 pub(super) fn rule(names: &Names<'_>, rule: &Rule) -> DRule
-    ensures { result ≡ rule_of (plain names.now.source.now) (plain_rule rule.now) }
+    ensures { result ≡ rule_of (plain_source names.now.source.now) (plain_rule rule.now) }
 {
     let key = match &rule.name {
         Some(name) => names.key(name),

@@ -9,5 +9,6 @@ ghost use Rattle.dia_dict.specs.Resolution.{first_wrong, resolved};
 /// Where the grammar derives tokens for a source, and nothing is wrong with that source, the dictionary that it names keeps
 /// what each `Book` promises of its own: distinct keys and names, known keys, and bounds that can be met.
 pub fn named_is_sound()
-    ensures { (ts : List Token) (s : PlainSource) → Derives ts s → first_wrong s ≡ None → IsDictionary (resolved s) }
+    ensures { (ts : List Token) (s : PlainSource)
+        → Derives ts s → first_wrong s ≡ None → IsDictionary (resolved s) }
 {}

@@ -2,8 +2,8 @@
 
 use super::printed::Streams;
 use crate::arguments::parse_words;
-use crate::command::Exit;
 use crate::ending::{Ending, finish};
+use dia_run::Exit;
 use std::alloc::Global;
 use std::io;
 use std::test::Fail;

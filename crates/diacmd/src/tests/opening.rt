@@ -1,10 +1,10 @@
 //! Inputs that are files.
 
-use crate::command::Input as Text;
 use crate::ending::Ending;
 use crate::opening::open_inputs;
 use crate::origin::{Origin, Origins};
 use dia_dict::base_text;
+use dia_run::Input as Text;
 use std::process::Abort;
 use std::rt::Files;
 use std::test::Fail;

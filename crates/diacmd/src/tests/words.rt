@@ -1,9 +1,9 @@
 //! Words of the command line that ask for a run.
 
 use crate::arguments::parse_words;
-use crate::command::Command;
 use crate::origin::{Origin, Origins};
 use dia_check::{Levels, Unknown};
+use dia_run::Command;
 use std::process::Abort;
 use std::test::Fail;
 

@@ -1,6 +1,6 @@
 use Rattle.std.proofs.Common.{arith, Some, sym, ap, ◌∙◌}
-use Rattle.dia_ccf.specs.Lexing.{tokens_from}
-use Rattle.dia_ccf.proofs.Stepping.{tokens_from-front}
+use Rattle.dia_ccf.specs.LexerTokens.{tokens_from}
+use Rattle.dia_ccf.proofs.TokensFromPlaces.{tokens_from-front}
 use Rattle.dia_ccf.proofs.lexer.next_token.Goals as goal
 
 pub returns : goal.returns

@@ -3,7 +3,7 @@ use Rattle.std.specs.Str.Parse.{digits_value}
 use Rattle.std.proofs.lemmas.Result.{OkIff-at_err}
 use Rattle.std.proofs.lemmas.Str.Parse.{parse_digits}
 use Rattle.dia_ccf.specs.Tokens.{Number}
-use Rattle.dia_ccf.proofs.Lexing.{digits_model}
+use Rattle.dia_ccf.proofs.TokensOfTexts.{digits_model}
 use Rattle.dia_ccf.proofs.lexer.number_token.Goals as goal
 
 at_most : (v : ℕ) → ¬ (v < 2 ^ 32) → min v 4294967296 ≡ 4294967296

@@ -1,7 +1,7 @@
 use Rattle.std.proofs.Common.{arith, ◌∙◌, length, None, ap, sym}
 use Rattle.std.proofs.lemmas.List.{take_rest, length-drop}
 use Rattle.dia_ccf.specs.Front.{front}
-use Rattle.dia_ccf.proofs.Stepping.{tokens_from-front}
+use Rattle.dia_ccf.proofs.TokensFromPlaces.{tokens_from-front}
 use Rattle.dia_ccf.proofs.lexer.skip_blanks.Goals as goal
 
 pub loop-len-preserved : goal.loop-len-preserved

@@ -1,5 +1,5 @@
 use Rattle.std.proofs.Common.{◌≡◌, ◌≤◌, ◌-◌, length}
-use Rattle.dia_ccf.specs.Lexing.{tokens_from}
+use Rattle.dia_ccf.specs.LexerTokens.{tokens_from}
 use Rattle.dia_ccf.proofs.lexer.skip_blanks.Given as goal
 
 abbrev pub invariant-loop-len : goal.invariant-loop-len

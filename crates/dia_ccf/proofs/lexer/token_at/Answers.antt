@@ -3,9 +3,9 @@ use Rattle.std.specs.List.{prefix_len}
 use Rattle.std.proofs.lemmas.List.{length-drop}
 use Rattle.dia_ccf.specs.Names.{is_run_byte}
 use Rattle.dia_ccf.specs.Front.{front, run_front}
-use Rattle.dia_ccf.specs.Lexing.{shown_sign}
+use Rattle.dia_ccf.specs.LexerTokens.{shown_sign}
 use Rattle.dia_ccf.specs.Tokens.{Other, sign, run_token}
-use Rattle.dia_ccf.proofs.Stepping.{run_front-other, front-run, rest_of_bytes, IsCharBoundary-after_run, capped-shown_sign}
+use Rattle.dia_ccf.proofs.TokensFromPlaces.{run_front-other, front-run, rest_of_bytes, IsCharBoundary-after_run, capped-shown_sign}
 use Rattle.dia_ccf.proofs.lexer.token_at.Goals as goal
 
 pub returns-in-Some-clause-token : goal.returns-in-Some-clause-token

@@ -1,4 +1,4 @@
-use Rattle.dia_ccf.proofs.Looking.{same_bytes_iff}
+use Rattle.dia_ccf.proofs.WordTests.{same_bytes_iff}
 use Rattle.std.proofs.Common.{sym}
 use Rattle.dia_ccf.proofs.names.is_same_word.Goals as goal
 

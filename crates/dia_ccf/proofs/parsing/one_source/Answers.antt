@@ -1,4 +1,4 @@
-use Rattle.dia_ccf.proofs.Complete.{one_source}
+use Rattle.dia_ccf.proofs.MachineCompleteness.{one_source}
 use Rattle.dia_ccf.proofs.parsing.one_source.Goals as goal
 
 pub returns : goal.returns

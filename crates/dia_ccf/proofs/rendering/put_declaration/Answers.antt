@@ -2,7 +2,7 @@ use Rattle.std.proofs.Common.{◌≡◌, ℕ, List, ◌++◌, codes, cond, Resul
 use Rattle.std.specs.Fmt.{decimal}
 use Rattle.dia_ccf.specs.Plain.{plain_decl}
 use Rattle.dia_ccf.specs.Grammar.{format_word, rule_word}
-use Rattle.dia_ccf.specs.Rendering.{vendor_text, values_text, line_feed}
+use Rattle.dia_ccf.specs.CanonicalText.{vendor_text, values_text, line_feed}
 use Rattle.dia_ccf.proofs.rendering.put_declaration.Goals as goal
 
 pushed_last : {T E : Type 0} (r : Result T E) (was more new all : List ℕ) → new ≡ cond (is_ok r) (was ++ more) was → was ++ more ≡ all → OnOk r (new ≡ all)

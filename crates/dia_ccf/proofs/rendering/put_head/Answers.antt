@@ -1,7 +1,7 @@
 use Rattle.std.proofs.Common.{◌++◌, cond, eqb, [], codes, string_bytes, sym, ap, ◌∙◌, append_assoc}
 use Rattle.std.specs.Fmt.{decimal}
 use Rattle.std.proofs.lemmas.Result.{IfOk-equal}
-use Rattle.dia_ccf.specs.Rendering.{head_text}
+use Rattle.dia_ccf.specs.CanonicalText.{head_text}
 use Rattle.dia_ccf.proofs.rendering.put_head.Goals as goal
 
 pub returns-in_ok-write-in-Group : goal.returns-in_ok-write-in-Group

@@ -1,6 +1,6 @@
 use Rattle.std.proofs.Common.{◌≡◌, ◌++◌, codes, string_bytes, take}
 use Rattle.std.specs.List.{flat_map}
-use Rattle.dia_ccf.specs.Rendering.{range_text}
+use Rattle.dia_ccf.specs.CanonicalText.{range_text}
 use Rattle.dia_ccf.proofs.rendering.put_ranges.Given as goal
 
 abbrev pub invariant-loop-range : goal.invariant-loop-range

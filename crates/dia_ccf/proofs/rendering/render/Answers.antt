@@ -1,4 +1,4 @@
-use Rattle.dia_ccf.proofs.Rendered.{derives-canonical}
+use Rattle.dia_ccf.proofs.CanonicalTexts.{derives-canonical}
 use Rattle.dia_ccf.proofs.rendering.render.Goals as goal
 
 pub returns-in_err-put_declarations-clause-read_again : goal.returns-in_err-put_declarations-clause-read_again

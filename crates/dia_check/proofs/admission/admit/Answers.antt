@@ -6,7 +6,7 @@ use Rattle.dia_check.specs.declared.open_levels.Wrong.{Wrong}
 use Rattle.dia_check.specs.OpenLevels.{IsFirstMisplaced, IsWellPlaced}
 use Rattle.std.proofs.Math.Logic.{∥∥₁_elim, ∥∥₁_map}
 use Rattle.std.proofs.Props.{props}
-use Rattle.dia_check.proofs.Admitting.{refused_by_flags, refused_by_place, admitted, def_within, rules_here, are_rules_here}
+use Rattle.dia_check.proofs.AvpFaults.{refused_by_flags, refused_by_place, admitted, def_within, rules_here, are_rules_here}
 use Rattle.dia_check.proofs.admission.admit.Goals as goal
 
 -- what holds where nothing is wrong, and what is wrong, by what is said of the place

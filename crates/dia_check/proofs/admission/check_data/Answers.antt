@@ -1,5 +1,5 @@
 use Rattle.std.proofs.lemmas.Bool.{both_ways}
-use Rattle.dia_check.proofs.Admitting.{group_data, too_deep, answer_at}
+use Rattle.dia_check.proofs.AvpFaults.{group_data, too_deep, answer_at}
 use Rattle.dia_check.proofs.admission.check_data.Goals as goal
 
 pub returns-then-may_open : goal.returns-then-may_open

@@ -5,7 +5,7 @@ use Rattle.dia_dict.specs.Dictionary.{definitions}
 use Rattle.dia_check.specs.OpenLevels.{IsMetAtEnd, IsMissingAtEnd}
 use Rattle.std.proofs.Math.Logic.{∥∥₁_elim, ∥∥₁_map}
 use Rattle.std.proofs.Props.{props}
-use Rattle.dia_check.proofs.Admitting.{rules_here, def_within}
+use Rattle.dia_check.proofs.AvpFaults.{rules_here, def_within}
 use Rattle.dia_check.proofs.admission.missing_at_end.Goals as goal
 
 pub returns : goal.returns

@@ -1,6 +1,6 @@
 use Rattle.std.proofs.Common.{refl}
 use Rattle.std.proofs.lemmas.Bool.{both_ways}
-use Rattle.dia_check.proofs.Sized.{bad_bits, good, not_proxiable, no_command, no_application}
+use Rattle.dia_check.proofs.HeaderAnswers.{bad_bits, good, not_proxiable, no_command, no_application}
 use Rattle.dia_check.proofs.header.good_command.Goals as goal
 
 pub returns-then-not-has_good_bits : goal.returns-then-not-has_good_bits

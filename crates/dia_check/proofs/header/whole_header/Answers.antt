@@ -2,7 +2,7 @@ use Rattle.std.proofs.Common.{ℕ, ◌≡◌, take, subst, inr, arith}
 use Rattle.std.specs.Prelude.{length}
 use Rattle.dia_wire.specs.Wire.{IsHead}
 use Rattle.dia_check.specs.Faults.{HasLength}
-use Rattle.dia_check.proofs.Sized.{has_length}
+use Rattle.dia_check.proofs.HeaderAnswers.{has_length}
 use Rattle.dia_check.proofs.header.whole_header.Goals as goal
 
 pub returns-then-bytes-length : goal.returns-then-bytes-length

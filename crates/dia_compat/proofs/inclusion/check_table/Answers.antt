@@ -1,14 +1,14 @@
 use Rattle.std.proofs.Common.{map, ap}
-use Rattle.dia_compat.specs.TableText.{plain}
-use Rattle.dia_compat.specs.Comparing.{plain_names}
-use Rattle.dia_compat.proofs.Concluding.{answered, concluded}
+use Rattle.dia_compat.specs.TableText.{plain_table}
+use Rattle.dia_compat.specs.PairTests.{plain_names}
+use Rattle.dia_compat.proofs.ComparisonAnswers.{answered, concluded}
 use Rattle.dia_compat.proofs.inclusion.check_table.Goals as goal
 
 pub returns-clause-answer : goal.returns-clause-answer
 returns-clause-answer g c =
     let all = c.in_ok-comparison.comparison in
     let made = c.in_ok-comparison.ensures in
-    answered (plain c.args.table.now) all.cover.paired.keys all.cover.uncovered.items all.cover.strangers_fit (map plain_names all.beside.keys) c.answer.result
+    answered (plain_table c.args.table.now) all.cover.paired.keys all.cover.uncovered.items all.cover.strangers_fit (map plain_names all.beside.keys) c.answer.result
     (g.A.Book.meaning all.a.book.now) (g.A.Book.meaning c.args.a.now) (g.B.Book.meaning all.b.book.now) (g.B.Book.meaning c.args.b.now) all.cover.unknown c.args.unknown
     (ap g.A.Book.meaning made.a) (ap g.B.Book.meaning made.b) made.policy made.sound_a made.sound_b made.looked_up c.answer.ensures
 
@@ -16,8 +16,8 @@ pub returns-clause-inclusion : goal.returns-clause-inclusion
 returns-clause-inclusion g c =
     let all = c.in_ok-comparison.comparison in
     let made = c.in_ok-comparison.ensures in
-    concluded (plain c.args.table.now) all.cover.paired.keys all.cover.uncovered.items all.cover.strangers_fit (map plain_names all.beside.keys) c.answer.result
+    concluded (plain_table c.args.table.now) all.cover.paired.keys all.cover.uncovered.items all.cover.strangers_fit (map plain_names all.beside.keys) c.answer.result
     (g.A.Book.meaning c.args.a.now) (g.B.Book.meaning c.args.b.now) c.args.unknown made.sound_a made.sound_b
-    (answered (plain c.args.table.now) all.cover.paired.keys all.cover.uncovered.items all.cover.strangers_fit (map plain_names all.beside.keys) c.answer.result
+    (answered (plain_table c.args.table.now) all.cover.paired.keys all.cover.uncovered.items all.cover.strangers_fit (map plain_names all.beside.keys) c.answer.result
     (g.A.Book.meaning all.a.book.now) (g.A.Book.meaning c.args.a.now) (g.B.Book.meaning all.b.book.now) (g.B.Book.meaning c.args.b.now) all.cover.unknown c.args.unknown
     (ap g.A.Book.meaning made.a) (ap g.B.Book.meaning made.b) made.policy made.sound_a made.sound_b made.looked_up c.answer.ensures)

@@ -1,4 +1,4 @@
-use Rattle.dia_compat.proofs.Fitting.{body}
+use Rattle.dia_compat.proofs.FitInSecond.{body}
 use Rattle.dia_compat.proofs.inclusion.level_is_included.Goals as goal
 
 pub returns : goal.returns

@@ -1,7 +1,7 @@
 use Rattle.std.proofs.Common.{rules, [], map, String, string_bytes, sym, ap, subst}
 use Rattle.std.specs.Global.{Global}
 use Rattle.dia_dict.specs.Dictionary.{Dictionary}
-use Rattle.dia_compat.specs.Naming.{NamedSoFar}
+use Rattle.dia_compat.specs.NamedCommands.{NamedSoFar}
 use Rattle.dia_compat.proofs.proposing.named_commands.Goals as goal
 
 pub add_all-requires-clause-new : goal.add_all-requires-clause-new

@@ -1,9 +1,9 @@
 use Rattle.std.proofs.Common.{map, String, string_bytes, sym, subst}
 use Rattle.std.specs.Global.{Global}
 use Rattle.dia_wire.specs.declared.Key.{Key}
-use Rattle.dia_compat.specs.TableText.{plain, plain_pair}
+use Rattle.dia_compat.specs.TableText.{plain_table, plain_pair}
 use Rattle.dia_compat.specs.Proposed.{IsProposed, AreAvpPairs}
-use Rattle.dia_compat.proofs.Least.{proposal_is_least}
+use Rattle.dia_compat.proofs.LeastProposal.{proposal_is_least}
 use Rattle.dia_compat.proofs.NamedCommands.{all_named, are_avp_pairs, proposed, follows}
 use Rattle.dia_compat.proofs.proposing.propose.Goals as goal
 
@@ -31,4 +31,4 @@ pub returns-clause-least : goal.returns-clause-least
 returns-clause-least g c =
     proposal_is_least (g.A.Book.meaning c.args.a.now) (g.B.Book.meaning c.args.b.now) c.named_commands.ensures.sound_a c.named_commands.ensures.sound_b c.args.unknown
     (map (λ (n : String Global). string_bytes n) c.args.names.now)
-    (plain (record { commands = c.in_ok-named.named.pairs; avps = c.in_ok-avps.avps })) (returns-clause-proposal g c)
+    (plain_table (record { commands = c.in_ok-named.named.pairs; avps = c.in_ok-avps.avps })) (returns-clause-proposal g c)

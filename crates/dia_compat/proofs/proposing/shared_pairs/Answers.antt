@@ -1,8 +1,8 @@
 use Rattle.std.proofs.Common.{arith, sym, ap, ◌∙◌, ◌++◌, option_to_list}
 use Rattle.std.specs.Prelude.{slice_get}
-use Rattle.dia_compat.specs.Naming.{shared_pair}
-use Rattle.dia_compat.proofs.Reaching.{there_is}
-use Rattle.dia_compat.proofs.Wanting.{filter_map_more}
+use Rattle.dia_compat.specs.NamedCommands.{shared_pair}
+use Rattle.dia_compat.proofs.ReachedKeys.{there_is}
+use Rattle.dia_compat.proofs.WantedDefinitions.{filter_map_more}
 use Rattle.dia_compat.proofs.proposing.shared_pairs.Goals as goal
 
 pub loop-index-preserved : goal.loop-index-preserved

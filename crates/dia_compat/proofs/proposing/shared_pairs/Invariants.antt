@@ -1,7 +1,7 @@
 use Rattle.std.proofs.Common.{◌≡◌, map, take}
 use Rattle.std.specs.List.{filter_map}
 use Rattle.dia_compat.specs.TableText.{plain_pair}
-use Rattle.dia_compat.specs.Naming.{shared_pair}
+use Rattle.dia_compat.specs.NamedCommands.{shared_pair}
 use Rattle.dia_compat.proofs.proposing.shared_pairs.Given as goal
 
 abbrev pub invariant-loop-index : goal.invariant-loop-index

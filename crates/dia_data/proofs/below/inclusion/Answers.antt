@@ -1,4 +1,4 @@
-use Rattle.dia_data.proofs.BelowLemmas.{included}
+use Rattle.dia_data.proofs.FormatsBelow.{included}
 use Rattle.dia_data.proofs.below.inclusion.Goals as goal
 
 pub returns : goal.returns

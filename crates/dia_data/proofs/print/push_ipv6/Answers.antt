@@ -1,6 +1,6 @@
 use Rattle.std.proofs.Common.{◌≡◌, ◌+◌, ◌*◌, List, ℕ, [], ◌∷◌, ◌++◌, get_or, string_bytes, ap, ◌∙◌, append_assoc, arith}
 use Rattle.dia_data.specs.Shown.{hex_byte}
-use Rattle.dia_data.proofs.Groups.{grouped, grouped_first, grouped_more}
+use Rattle.dia_data.proofs.AddressGroups.{grouped, grouped_first, grouped_more}
 use Rattle.dia_data.proofs.print.push_ipv6.Goals as goal
 use Rattle.dia_data.proofs.print.push_ipv6.Goals.{then-i-gt0+in_ok-push, else-i-gt0}
 

@@ -1,5 +1,5 @@
 use Rattle.std.proofs.Common.{◌≡◌, ◌++◌, string_bytes}
-use Rattle.dia_data.proofs.Groups.{grouped}
+use Rattle.dia_data.proofs.AddressGroups.{grouped}
 use Rattle.dia_data.proofs.print.push_ipv6.Given as goal
 
 abbrev pub invariant-loop-i : goal.invariant-loop-i

@@ -1,5 +1,5 @@
 use Rattle.std.proofs.Common.{ap, ◌∙◌}
-use Rattle.dia_ccf.specs.Plain.{plain}
+use Rattle.dia_ccf.specs.Plain.{plain_source}
 use Rattle.dia_dict.specs.Resolution.{first_wrong, resolved}
 use Rattle.dia_dict.proofs.BaseSound.{first_wrong-base_source, none_told}
 use Rattle.dia_dict.proofs.BaseText.{derives-base}
@@ -13,5 +13,5 @@ returns-in-Ok c = record {
 
 pub unreachable-requires : goal.unreachable-requires
 unreachable-requires c =
-    none_told (plain c.in_ok-source.field-0) c.in-Err-Stands.field-0 c.in-Err-Stands.field-0-0 c.in-Err-Stands.field-0-1 c.in-Err-Stands.field-0-2
+    none_told (plain_source c.in_ok-source.field-0) c.in-Err-Stands.field-0 c.in-Err-Stands.field-0-0 c.in-Err-Stands.field-0-1 c.in-Err-Stands.field-0-2
     (ap first_wrong c.in_ok-source.ensures ∙ first_wrong-base_source) c.in-Err-Stands.field-0-is c.in-Err-Stands.ensures.err

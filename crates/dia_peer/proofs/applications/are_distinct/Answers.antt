@@ -3,7 +3,7 @@ use Rattle.std.proofs.lemmas.List.{drop_all}
 use Rattle.std.proofs.lemmas.Option.{slice_get-get_or}
 use Rattle.dia_peer.specs.declared.config.App.{App}
 use Rattle.dia_peer.specs.declared.config.Kind.TheVariants.{Auth}
-use Rattle.dia_peer.proofs.Placing.{Decides, decides_at, decides_more, decides_none, decides_all}
+use Rattle.dia_peer.proofs.PlacesOfPairs.{Decides, decides_at, decides_more, decides_none, decides_all}
 use Rattle.dia_peer.proofs.applications.are_distinct.Goals as goal
 
 -- what stands behind the list

@@ -1,5 +1,5 @@
 use Rattle.std.proofs.Common.{drop}
-use Rattle.dia_peer.proofs.Placing.{Decides}
+use Rattle.dia_peer.proofs.PlacesOfPairs.{Decides}
 use Rattle.dia_peer.proofs.applications.are_distinct.Given as goal
 
 abbrev pub invariant-loop-place : goal.invariant-loop-place

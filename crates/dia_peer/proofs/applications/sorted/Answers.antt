@@ -7,7 +7,7 @@ use Rattle.dia_peer.specs.declared.config.App.{App}
 use Rattle.dia_peer.specs.declared.config.Kind.{Kind}
 use Rattle.dia_peer.specs.declared.config.Kind.TheVariants.{Auth}
 use Rattle.dia_peer.specs.Core.{Pair, pair_of, the_pair, pairs_of, comes_before, insert_pair}
-use Rattle.dia_peer.proofs.Placing.{Sorts, put_in_place}
+use Rattle.dia_peer.proofs.PlacesOfPairs.{Sorts, put_in_place}
 use Rattle.dia_peer.proofs.applications.sorted.Goals as goal
 
 -- the application at a place

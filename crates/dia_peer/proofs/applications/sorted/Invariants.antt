@@ -1,6 +1,6 @@
 use Rattle.std.proofs.Common.{map, drop}
 use Rattle.dia_peer.specs.Core.{pair_of, pairs_of}
-use Rattle.dia_peer.proofs.Placing.{Sorts}
+use Rattle.dia_peer.proofs.PlacesOfPairs.{Sorts}
 use Rattle.dia_peer.proofs.applications.sorted.Given as goal
 
 abbrev pub invariant-loop-app : goal.invariant-loop-app

@@ -2,8 +2,8 @@ use Rattle.std.proofs.Common.{true, false}
 use Rattle.std.specs.List.{list_any}
 use Rattle.dia_peer.specs.Core.{Pair, the_pair, same_pair}
 use Rattle.dia_peer.specs.Incoming.{pairs_named}
-use Rattle.dia_peer.proofs.Naming.{test_of}
-use Rattle.dia_peer.proofs.Keeping.{kept_yes, kept_no}
+use Rattle.dia_peer.proofs.ApplicationNumbers.{test_of}
+use Rattle.dia_peer.proofs.KeptApplications.{kept_yes, kept_no}
 use Rattle.dia_peer.proofs.node.push_if_named.Goals as goal
 
 pub returns-in_ok-push : goal.returns-in_ok-push

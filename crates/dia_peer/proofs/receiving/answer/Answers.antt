@@ -3,8 +3,8 @@ use Rattle.dia_wire.specs.Wire.{SpellsAll}
 use Rattle.dia_peer.specs.Core.{Pair}
 use Rattle.dia_peer.specs.Messages.{IsGood}
 use Rattle.dia_peer.specs.Incoming.{Has, Tells, SaidBy}
-use Rattle.dia_peer.proofs.Fitting.{reads, answer_good, third}
-use Rattle.dia_peer.proofs.Telling.{rest_of, advertised, has_result}
+use Rattle.dia_peer.proofs.ValidMessageAvps.{reads, answer_good, third}
+use Rattle.dia_peer.proofs.ToldApplications.{rest_of, advertised, has_result}
 use Rattle.dia_peer.proofs.ResultCode.{cea_has_result}
 use Rattle.dia_peer.proofs.receiving.answer.Goals as goal
 

@@ -1,6 +1,6 @@
 use Rattle.std.proofs.Common.{ℕ, true, false, ⊎_elim, refl, subst}
 use Rattle.dia_peer.specs.Messages.{IsGood}
-use Rattle.dia_peer.proofs.Fitting.{reads, error_good}
+use Rattle.dia_peer.proofs.ValidMessageAvps.{reads, error_good}
 use Rattle.dia_peer.proofs.receiving.error.Goals as goal
 
 pub returns-then-header-eq-CAPABILITIES_EXCHANGE : goal.returns-then-header-eq-CAPABILITIES_EXCHANGE

@@ -3,8 +3,8 @@ use Rattle.dia_wire.specs.Wire.{SpellsAll}
 use Rattle.dia_peer.specs.Core.{Pair}
 use Rattle.dia_peer.specs.Messages.{IsGood}
 use Rattle.dia_peer.specs.Incoming.{Has, Tells, SaidBy}
-use Rattle.dia_peer.proofs.Fitting.{reads, request_good, third}
-use Rattle.dia_peer.proofs.Telling.{rest_of, advertised}
+use Rattle.dia_peer.proofs.ValidMessageAvps.{reads, request_good, third}
+use Rattle.dia_peer.proofs.ToldApplications.{rest_of, advertised}
 use Rattle.dia_peer.proofs.receiving.request.Goals as goal
 
 pub returns-then-header-eq-CAPABILITIES_EXCHANGE : goal.returns-then-header-eq-CAPABILITIES_EXCHANGE

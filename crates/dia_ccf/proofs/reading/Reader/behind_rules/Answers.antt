@@ -2,10 +2,10 @@ use Rattle.std.proofs.Common.{ap, sym, refl, ◌∙◌}
 use Rattle.std.specs.Prelude.{string_bytes}
 use Rattle.dia_ccf.specs.Tokens.{Less, Assign}
 use Rattle.dia_ccf.specs.Machine.{Outcome, Rules, Angle_name, Angle_close, After_angle, same_sign}
-use Rattle.dia_ccf.specs.Reading.{course, left, begins_with, after_rules}
-use Rattle.dia_ccf.proofs.Complete.{angle_settled}
-use Rattle.dia_ccf.proofs.Leading.{leads_along, exits, takes_sign}
-use Rattle.dia_ccf.proofs.RulesRead.{bare_wanted, angle_defines, or_false}
+use Rattle.dia_ccf.specs.ReaderFunctions.{course, left, begins_with, after_rules}
+use Rattle.dia_ccf.proofs.MachineCompleteness.{angle_settled}
+use Rattle.dia_ccf.proofs.ReaderSteps.{leads_along, exits, takes_sign}
+use Rattle.dia_ccf.proofs.ReaderInRules.{bare_wanted, angle_defines, or_false}
 use Rattle.dia_ccf.proofs.reading.Reader.behind_rules.Goals as goal
 
 pub returns-in_err-name-clause-read : goal.returns-in_err-name-clause-read

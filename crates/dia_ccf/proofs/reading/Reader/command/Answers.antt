@@ -3,9 +3,9 @@ use Rattle.std.specs.Prelude.{true, false}
 use Rattle.dia_ccf.specs.Limits.{max_number}
 use Rattle.dia_ccf.specs.Tokens.{Comma}
 use Rattle.dia_ccf.specs.Machine.{Outcome, same_sign, In_head, Command_code, Head_end, number_at}
-use Rattle.dia_ccf.specs.Reading.{course, left}
-use Rattle.dia_ccf.proofs.Leading.{accepted, leads_along, exits}
-use Rattle.dia_ccf.proofs.HeadsRead.{flags_at, command_at, command_begun, number_wanted, command_ends, takes_farther}
+use Rattle.dia_ccf.specs.ReaderFunctions.{course, left}
+use Rattle.dia_ccf.proofs.ReaderSteps.{accepted, leads_along, exits}
+use Rattle.dia_ccf.proofs.ReaderInHeads.{flags_at, command_at, command_begun, number_wanted, command_ends, takes_farther}
 use Rattle.dia_ccf.proofs.reading.Reader.command.Goals as goal
 
 pub returns-in_err-app-clause-read : goal.returns-in_err-app-clause-read

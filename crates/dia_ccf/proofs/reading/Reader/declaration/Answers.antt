@@ -5,9 +5,9 @@ use Rattle.dia_ccf.specs.declared.source.MRule.{MRule}
 use Rattle.dia_ccf.specs.Limits.{max_number}
 use Rattle.dia_ccf.specs.Plain.{plain_decl}
 use Rattle.dia_ccf.specs.Machine.{State, Between, Decl_name, Decl_code, Decl_vendor, Decl_format, Decl_rule, Decl_values, add_decl, name_at, number_at, format_at, rule_at}
-use Rattle.dia_ccf.specs.Reading.{course, left}
-use Rattle.dia_ccf.proofs.Recognized.{name_at-is, number_at-is}
-use Rattle.dia_ccf.proofs.Leading.{accepted, wants_all, leads_along, exits}
+use Rattle.dia_ccf.specs.ReaderFunctions.{course, left}
+use Rattle.dia_ccf.proofs.TokenTests.{name_at-is, number_at-is}
+use Rattle.dia_ccf.proofs.ReaderSteps.{accepted, wants_all, leads_along, exits}
 use Rattle.dia_ccf.proofs.reading.Reader.declaration.Goals as goal
 
 pub returns-in_err-rule-clause-read : goal.returns-in_err-rule-clause-read

@@ -2,8 +2,8 @@ use Rattle.std.proofs.Common.{refl}
 use Rattle.std.specs.Prelude.{string_bytes}
 use Rattle.dia_ccf.specs.Tokens.{Less}
 use Rattle.dia_ccf.specs.Machine.{Between, Def_name, Def_close, Def_assign}
-use Rattle.dia_ccf.specs.Reading.{course}
-use Rattle.dia_ccf.proofs.Leading.{takes_sign, leads_along, named_by}
+use Rattle.dia_ccf.specs.ReaderFunctions.{course}
+use Rattle.dia_ccf.proofs.ReaderSteps.{takes_sign, leads_along, named_by}
 use Rattle.dia_ccf.proofs.reading.Reader.defined_name.Goals as goal
 
 pub returns-then-takes-clause-read : goal.returns-then-takes-clause-read

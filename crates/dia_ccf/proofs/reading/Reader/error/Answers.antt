@@ -1,9 +1,9 @@
 use Rattle.std.proofs.Common.{refl}
 use Rattle.std.specs.Prelude.{false, codes}
 use Rattle.dia_ccf.specs.Machine.{In_head, Error_word, Error_flags, Head_end}
-use Rattle.dia_ccf.specs.Reading.{course}
-use Rattle.dia_ccf.proofs.Leading.{leads_along, exits}
-use Rattle.dia_ccf.proofs.HeadsRead.{comma_then}
+use Rattle.dia_ccf.specs.ReaderFunctions.{course}
+use Rattle.dia_ccf.proofs.ReaderSteps.{leads_along, exits}
+use Rattle.dia_ccf.proofs.ReaderInHeads.{comma_then}
 use Rattle.dia_ccf.proofs.reading.Reader.error.Goals as goal
 
 pub returns-in_err-pxy-clause-read : goal.returns-in_err-pxy-clause-read

@@ -1,6 +1,6 @@
 use Rattle.std.proofs.Common.{refl}
 use Rattle.dia_ccf.specs.declared.source.RuleKind.TheVariants.{Required, Optional}
-use Rattle.dia_ccf.proofs.Leading.{slot_named}
+use Rattle.dia_ccf.proofs.ReaderSteps.{slot_named}
 use Rattle.dia_ccf.proofs.reading.Reader.loose.Goals as goal
 
 pub invariant_of-result : goal.invariant_of-result

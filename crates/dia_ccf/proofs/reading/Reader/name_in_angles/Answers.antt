@@ -2,8 +2,8 @@ use Rattle.std.proofs.Common.{Ok, Err}
 use Rattle.std.specs.Prelude.{true, false, string_bytes}
 use Rattle.dia_ccf.specs.Tokens.{Greater}
 use Rattle.dia_ccf.specs.Machine.{name_at, sign_at}
-use Rattle.dia_ccf.specs.Reading.{course, left}
-use Rattle.dia_ccf.proofs.Leading.{accepted, wants_by, leads_along, exits, named_by}
+use Rattle.dia_ccf.specs.ReaderFunctions.{course, left}
+use Rattle.dia_ccf.proofs.ReaderSteps.{accepted, wants_by, leads_along, exits, named_by}
 use Rattle.dia_ccf.proofs.reading.Reader.name_in_angles.Goals as goal
 
 pub returns-in_err-expect-clause-read : goal.returns-in_err-expect-clause-read

@@ -1,9 +1,9 @@
 use Rattle.std.proofs.Common.{refl, Some, ◌∙◌}
 use Rattle.dia_ccf.specs.Plain.{plain_rule}
 use Rattle.dia_ccf.specs.Machine.{Rules, Fixed_name, Fixed_close, with_rule, fixed_rule}
-use Rattle.dia_ccf.specs.Reading.{course}
-use Rattle.dia_ccf.proofs.Leading.{leads_along, exits}
-use Rattle.dia_ccf.proofs.RulesRead.{fixed_opened}
+use Rattle.dia_ccf.specs.ReaderFunctions.{course}
+use Rattle.dia_ccf.proofs.ReaderSteps.{leads_along, exits}
+use Rattle.dia_ccf.proofs.ReaderInRules.{fixed_opened}
 use Rattle.dia_ccf.proofs.reading.Reader.qualified.Goals as goal
 
 pub returns-in_err-name-clause-read : goal.returns-in_err-name-clause-read

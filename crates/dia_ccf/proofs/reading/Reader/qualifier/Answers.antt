@@ -1,5 +1,5 @@
 use Rattle.std.proofs.Common.{◌∙◌}
-use Rattle.dia_ccf.proofs.Leading.{min_read, max_read}
+use Rattle.dia_ccf.proofs.ReaderSteps.{min_read, max_read}
 use Rattle.dia_ccf.proofs.reading.Reader.qualifier.Goals as goal
 
 pub returns-clause-read : goal.returns-clause-read

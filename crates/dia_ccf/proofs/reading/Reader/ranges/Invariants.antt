@@ -5,7 +5,7 @@ use Rattle.dia_ccf.specs.Names.{is_range}
 use Rattle.dia_ccf.specs.Tokens.{Close_parenthesis}
 use Rattle.dia_ccf.specs.Plain.{PlainDecl, PlainSource}
 use Rattle.dia_ccf.specs.Machine.{In_values, is_none, same_sign}
-use Rattle.dia_ccf.specs.Reading.{course, begins_with, left}
+use Rattle.dia_ccf.specs.ReaderFunctions.{course, begins_with, left}
 use Rattle.dia_ccf.proofs.reading.Reader.ranges.Given as goal
 
 abbrev pub invariant-loop-ranges : goal.invariant-loop-ranges

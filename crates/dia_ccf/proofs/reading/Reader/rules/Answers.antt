@@ -5,8 +5,8 @@ use Rattle.dia_ccf.specs.declared.source.Rule.{Rule}
 use Rattle.dia_ccf.specs.declared.source.RuleKind.TheVariants.{Fixed}
 use Rattle.dia_ccf.specs.Plain.{PlainDef, PlainRule, plain_rule}
 use Rattle.dia_ccf.specs.Machine.{Rules, with_rule}
-use Rattle.dia_ccf.specs.Reading.{course, after_rules}
-use Rattle.dia_ccf.proofs.RulesRead.{rules_append, fixed_more, order_more, kind_told}
+use Rattle.dia_ccf.specs.ReaderFunctions.{course, after_rules}
+use Rattle.dia_ccf.proofs.ReaderInRules.{rules_append, fixed_more, order_more, kind_told}
 use Rattle.dia_ccf.proofs.reading.Reader.rules.Goals as goal
 
 abbrev with_items : List ℕ → Head → List Rule → PlainDef

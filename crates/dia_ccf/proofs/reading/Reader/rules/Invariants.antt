@@ -4,7 +4,7 @@ use Rattle.dia_ccf.specs.declared.source.Head.{Head}
 use Rattle.dia_ccf.specs.Names.{fixed_first}
 use Rattle.dia_ccf.specs.Plain.{PlainSource, plain_rule}
 use Rattle.dia_ccf.specs.Machine.{Rules, all_fixed}
-use Rattle.dia_ccf.specs.Reading.{course}
+use Rattle.dia_ccf.specs.ReaderFunctions.{course}
 use Rattle.dia_ccf.proofs.reading.Reader.rules.Given as goal
 
 abbrev pub invariant-loop-rules : goal.invariant-loop-rules

@@ -1,14 +1,14 @@
 use Rattle.std.proofs.Common.{◌≡◌, ◌-◌}
 use Rattle.std.specs.Prelude.{IsTrue, IfSome, string_bytes}
 use Rattle.dia_ccf.specs.Names.{is_name}
-use Rattle.dia_ccf.specs.Plain.{plain}
+use Rattle.dia_ccf.specs.Plain.{plain_source}
 use Rattle.dia_ccf.specs.Machine.{Between}
-use Rattle.dia_ccf.specs.Reading.{course, behind, nothing_read}
+use Rattle.dia_ccf.specs.ReaderFunctions.{course, behind, nothing_read}
 use Rattle.dia_ccf.proofs.reading.Reader.source.Given as goal
 
 abbrev pub invariant-loop-next : goal.invariant-loop-next
 invariant-loop-next l = record {
-  read : course (nothing_read, Between) l.initial.self ≡ course (plain l.source, behind l.next) l.self;
+  read : course (nothing_read, Between) l.initial.self ≡ course (plain_source l.source, behind l.next) l.self;
   named : IfSome l.next (λ next. IsTrue (is_name (string_bytes next)));
 }
 

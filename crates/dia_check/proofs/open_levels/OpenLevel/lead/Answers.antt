@@ -1,5 +1,5 @@
 use Rattle.std.proofs.Common.{sym, ◌∙◌, arith}
-use Rattle.dia_check.proofs.Leading.{leads_fixed, leads_past, leads_loose, leads_unlisted}
+use Rattle.dia_check.proofs.OneKeyMore.{leads_fixed, leads_past, leads_loose, leads_unlisted}
 use Rattle.dia_check.proofs.open_levels.OpenLevel.lead.Goals as goal
 
 pub returns-in-Fixed : goal.returns-in-Fixed

@@ -4,7 +4,7 @@ use Rattle.std.proofs.Math.Logic.{∥∥₁_elim}
 use Rattle.std.proofs.Props.{props}
 use Rattle.std.specs.Coded.{le_prop}
 use Rattle.std.specs.Prelude.{slice_index, ◌≤◌}
-use Rattle.dia_check.proofs.Meeting.{to_within, rule_within, count_few, missing_first, not_allowed_first, too_many_first, met_now, is_max_of, no_max_of}
+use Rattle.dia_check.proofs.KeysByCounts.{to_within, rule_within, count_few, missing_first, not_allowed_first, too_many_first, met_now, is_max_of, no_max_of}
 use Rattle.dia_dict.specs.declared.DRule.{DRule}
 use Rattle.dia_dict.specs.declared.RuleKind.TheVariants.{Fixed}
 use Rattle.dia_check.proofs.open_levels.OpenLevel.meet.Goals as goal
@@ -56,7 +56,8 @@ bounds-counts-rule c = ∥∥₁_elim c.requires.counted le_prop (λ x. let (key
 pub offset_bounds-counts-rule : goal.offset_bounds-counts-rule
 offset_bounds-counts-rule c = let within : c.in-Some-rule.rule < length c.args.rules.now = ∥∥₁_elim c.requires.counted le_prop (λ x. let (keys, counted, few) = x in
     (rule_within c.args.rules.now c.requires.rules keys c.args.key c.args.self.now c.args.counts.now counted c.lead-run.result.0 c.lead-run.result.1
-    (c.lead-run.ensures c.args.rules.now keys c.args.key c.args.counts.now c.requires.rules counted c.requires.slot) c.in-Some-rule.rule c.in-Some-rule.is).0) in omega (arith, within, c.requires.rules.few)
+    (c.lead-run.ensures c.args.rules.now keys c.args.key c.args.counts.now c.requires.rules counted c.requires.slot)
+    c.in-Some-rule.rule c.in-Some-rule.is).0) in omega (arith, within, c.requires.rules.few)
 
 pub bounds-rules-rule : goal.bounds-rules-rule
 bounds-rules-rule c = ∥∥₁_elim c.requires.counted le_prop (λ x. let (keys, counted, few) = x in
@@ -66,7 +67,8 @@ bounds-rules-rule c = ∥∥₁_elim c.requires.counted le_prop (λ x. let (keys
 pub offset_bounds-rules-rule : goal.offset_bounds-rules-rule
 offset_bounds-rules-rule c = let within : c.in-Some-rule.rule < length c.args.rules.now = ∥∥₁_elim c.requires.counted le_prop (λ x. let (keys, counted, few) = x in
     (rule_within c.args.rules.now c.requires.rules keys c.args.key c.args.self.now c.args.counts.now counted c.lead-run.result.0 c.lead-run.result.1
-    (c.lead-run.ensures c.args.rules.now keys c.args.key c.args.counts.now c.requires.rules counted c.requires.slot) c.in-Some-rule.rule c.in-Some-rule.is).0) in omega (arith, within, c.requires.rules.few)
+    (c.lead-run.ensures c.args.rules.now keys c.args.key c.args.counts.now c.requires.rules counted c.requires.slot)
+    c.in-Some-rule.rule c.in-Some-rule.is).0) in omega (arith, within, c.requires.rules.few)
 
 pub bounds-counts-rule-2 : goal.bounds-counts-rule-2
 bounds-counts-rule-2 c = ∥∥₁_elim c.requires.counted le_prop (λ x. let (keys, counted, few) = x in
@@ -76,7 +78,8 @@ bounds-counts-rule-2 c = ∥∥₁_elim c.requires.counted le_prop (λ x. let (k
 pub offset_bounds-counts-rule-2 : goal.offset_bounds-counts-rule-2
 offset_bounds-counts-rule-2 c = let within : c.in-Some-rule.rule < length c.args.rules.now = ∥∥₁_elim c.requires.counted le_prop (λ x. let (keys, counted, few) = x in
     (rule_within c.args.rules.now c.requires.rules keys c.args.key c.args.self.now c.args.counts.now counted c.lead-run.result.0 c.lead-run.result.1
-    (c.lead-run.ensures c.args.rules.now keys c.args.key c.args.counts.now c.requires.rules counted c.requires.slot) c.in-Some-rule.rule c.in-Some-rule.is).0) in omega (arith, within, c.requires.rules.few)
+    (c.lead-run.ensures c.args.rules.now keys c.args.key c.args.counts.now c.requires.rules counted c.requires.slot)
+    c.in-Some-rule.rule c.in-Some-rule.is).0) in omega (arith, within, c.requires.rules.few)
 
 pub overflow_add-counts : goal.overflow_add-counts
 overflow_add-counts c =
@@ -84,7 +87,8 @@ overflow_add-counts c =
     let lt = (rule_within c.args.rules.now c.requires.rules keys c.args.key c.args.self.now c.args.counts.now counted c.lead-run.result.0 c.lead-run.result.1
     (c.lead-run.ensures c.args.rules.now keys c.args.key c.args.counts.now c.requires.rules counted c.requires.slot) c.in-Some-rule.rule c.in-Some-rule.is).0 in
     let most = count_few c.args.rules.now c.requires.rules keys c.args.key c.args.self.now c.args.counts.now counted c.lead-run.result.0 c.lead-run.result.1
-    (c.lead-run.ensures c.args.rules.now keys c.args.key c.args.counts.now c.requires.rules counted c.requires.slot) c.in-Some-rule.rule _ (slice_get-get_or c.args.rules.now c.in-Some-rule.rule no_rule lt) in omega (arith, few, most)) in
+    (c.lead-run.ensures c.args.rules.now keys c.args.key c.args.counts.now c.requires.rules counted c.requires.slot) c.in-Some-rule.rule _
+    (slice_get-get_or c.args.rules.now c.in-Some-rule.rule no_rule lt) in omega (arith, few, most)) in
     omega (arith, few)
 
 pub returns-then-eq : goal.returns-then-eq

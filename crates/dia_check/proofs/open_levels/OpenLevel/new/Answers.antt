@@ -1,5 +1,5 @@
 use Rattle.std.proofs.Common.{refl}
-use Rattle.dia_check.proofs.Opening.{fresh}
+use Rattle.dia_check.proofs.KeptLevels.{fresh}
 use Rattle.dia_check.proofs.open_levels.OpenLevel.new.Goals as goal
 
 pub returns-clause-counted : goal.returns-clause-counted

@@ -1,4 +1,4 @@
-use Rattle.dia_check.proofs.Opening.{ended}
+use Rattle.dia_check.proofs.KeptLevels.{ended}
 use Rattle.dia_check.proofs.open_levels.OpenLevels.close.Goals as goal
 
 pub returns-in-Some-clause-inner : goal.returns-in-Some-clause-inner

@@ -1,5 +1,5 @@
 use Rattle.std.proofs.Common.{◌∙◌}
-use Rattle.dia_check.proofs.Opening.{kept_many}
+use Rattle.dia_check.proofs.KeptLevels.{kept_many}
 use Rattle.dia_check.proofs.open_levels.OpenLevels.depth.Goals as goal
 
 pub returns : goal.returns

@@ -10,7 +10,7 @@ use Rattle.std.proofs.Common.{rules}
 use Rattle.std.proofs.Math.Logic.{∥∥₁_elim, ∥∥₁_map}
 use Rattle.std.specs.Coded.{le_prop}
 use Rattle.std.specs.Prelude.{◌≤◌}
-use Rattle.dia_check.proofs.Opening.{own_counted, own_size, rewritten, met_further}
+use Rattle.dia_check.proofs.KeptLevels.{own_counted, own_size, rewritten, met_further}
 use Rattle.dia_check.proofs.open_levels.OpenLevels.meet.Goals as goal
 
 -- what holds where nothing is wrong, by what else holds there
@@ -29,7 +29,8 @@ returns c defs outer level now same =
     where_fine _ _ _ c.meet.result (c.meet.ensures level.keys (own_counted defs before outer level c.args.rules.now counts now same c.deref_mut.ensures.value))
     (λ met. (
       met.0.none_wrong,
-      met_further defs before after outer level c.args.rules.now c.args.key c.meet.new.self.run c.meet.new.counts now same (subst (λ (k : OpenLevel). IsCounted c.args.rules.now (level.keys ++ c.args.key ∷ []) k c.meet.new.counts) met.1 met.0.counted) met.1 refl
+      met_further defs before after outer level c.args.rules.now c.args.key c.meet.new.self.run c.meet.new.counts now same
+          (subst (λ (k : OpenLevel). IsCounted c.args.rules.now (level.keys ++ c.args.key ∷ []) k c.meet.new.counts) met.1 met.0.counted) met.1 refl
           (rewritten before.counts.items counts c.meet.new.counts _ base before.counts.len before.counts.ok.0 c.deref_mut.ensures.value (c.meet.auto.counts ∙ size.0) size.1 refl),
     ))
 

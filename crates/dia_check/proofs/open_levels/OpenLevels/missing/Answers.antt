@@ -5,7 +5,7 @@ use Rattle.std.specs.Coded.{le_prop}
 use Rattle.std.specs.Prelude.{◌≤◌, length}
 use Rattle.std.proofs.Common.{arith}
 use Rattle.std.proofs.lemmas.Option.{slice_get-get_or}
-use Rattle.dia_check.proofs.Opening.{own_counted, own_size, all_met, one_missing}
+use Rattle.dia_check.proofs.KeptLevels.{own_counted, own_size, all_met, one_missing}
 use Rattle.dia_check.proofs.open_levels.OpenLevels.missing.Goals as goal
 
 pub returns-in_err-place : goal.returns-in_err-place

@@ -1,7 +1,7 @@
 use Rattle.std.proofs.Common.{ℕ, ap, ◌∙◌}
 use Rattle.std.specs.Prelude.{slice_get}
 use Rattle.dia_check.specs.declared.open_levels.OpenLevels.{OpenLevels}
-use Rattle.dia_check.proofs.Opening.{opened}
+use Rattle.dia_check.proofs.KeptLevels.{opened}
 use Rattle.dia_check.proofs.open_levels.OpenLevels.open.Goals as goal
 
 pub returns : goal.returns

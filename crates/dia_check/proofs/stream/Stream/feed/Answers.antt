@@ -4,7 +4,7 @@ use Rattle.std.proofs.lemmas.List.{append_assoc, append-nil, length-append, leng
 use Rattle.std.proofs.lemmas.Result.{err_from_is_err_and}
 use Rattle.dia_check.specs.Streaming.{OpensLevel, taken_of}
 use Rattle.dia_check.specs.Streams.{StandsFor}
-use Rattle.dia_check.proofs.FeedingStream.{least_wanted, not_spent_error, take_plus, takes}
+use Rattle.dia_check.proofs.StreamStages.{least_wanted, not_spent_error, take_plus, takes}
 use Rattle.dia_check.proofs.stream.Stream.feed.Goals as goal
 
 pub returns-then-is_spent-clause-spent : goal.returns-then-is_spent-clause-spent
@@ -32,8 +32,11 @@ returns-then-self-lt-HEADER_LENGTH-clause-taken g c d u most bytes stands =
     let mid = c.take_header.new.self in
     let (now, none) = c.in_ok-head.ensures.taken d u most bytes stands in
     let all = c.in_ok-head.ensures.all c.if-self-lt-HEADER_LENGTH.true in (
-      takes d u most mid.taken mid.wanted mid.stage bytes c.args.piece.now c.in_ok-head.head false now.taken (omega (arith, all)) (inl all)
-          (λ is. absurd cc, λ e. absurd (let least = least_wanted (bytes ++ take c.in_ok-head.head c.args.piece.now) in let w = now.taken.wants in let less = c.if-self-lt-HEADER_LENGTH.true in omega (arith, least, w, less, e))),
+      takes d u most mid.taken mid.wanted mid.stage bytes c.args.piece.now c.in_ok-head.head false now.taken (omega (arith, all)) (inl all) (
+        λ is. absurd cc,
+        λ e. absurd (let least = least_wanted (bytes ++ take c.in_ok-head.head c.args.piece.now) in let w =
+            now.taken.wants in let less = c.if-self-lt-HEADER_LENGTH.true in omega (arith, least, w, less, e)),
+      ),
       now,
     )
 
@@ -62,8 +65,10 @@ returns-in_err-body-clause-no_memory g c q d u most bytes stands long =
 
 pub returns-in_err-body-clause-spent : goal.returns-in_err-body-clause-spent
 returns-in_err-body-clause-spent g c =
-    let p = err_from_is_err_and c.from_residual-in_err-body.result c.from_residual-in_err-body.ensures.1 in
-    (λ q. absurd (not_spent_error c.from_residual-in_err-body.result p.0 p.1 (p.2 ∙ c.in_err-body.ensures.err.0) q), λ s. absurd (both_ways c.is_spent.result c.if-is_spent.false (c.is_spent.ensures.1 s)))
+    let p = err_from_is_err_and c.from_residual-in_err-body.result c.from_residual-in_err-body.ensures.1 in (
+      λ q. absurd (not_spent_error c.from_residual-in_err-body.result p.0 p.1 (p.2 ∙ c.in_err-body.ensures.err.0) q),
+      λ s. absurd (both_ways c.is_spent.result c.if-is_spent.false (c.is_spent.ensures.1 s)),
+    )
 
 pub returns-in_err-body-clause-err : goal.returns-in_err-body-clause-err
 returns-in_err-body-clause-err g c = let p = err_from_is_err_and c.from_residual-in_err-body.result c.from_residual-in_err-body.ensures.1 in rw p.1 c.in_err-body.ensures.err.1
@@ -84,7 +89,8 @@ returns-clause-taken g c d u most bytes stands =
     let a = c.in_ok-head.ensures.within in let b = c.in_ok-body.ensures.within in let l = length-drop head piece in let k = ap length cut in
     let before = mid.taken.count in let count = now.taken.count in let long = c.if-self-lt-HEADER_LENGTH.false in
     let size = length-append (bytes ++ take head piece) (take body slice) in let same = ap length parts in
-    let stops = ⊎_elim (λ (e : body ≡ length slice). inl (omega (arith, e, k, l, a))) (λ (e : new.taken ≡ new.wanted). inr (omega (arith, before, count, long, size, same), e)) c.in_ok-body.ensures.all in
+    let stops = ⊎_elim (λ (e : body ≡ length slice). inl (omega (arith, e, k, l, a)))
+    (λ (e : new.taken ≡ new.wanted). inr (omega (arith, before, count, long, size, same), e)) c.in_ok-body.ensures.all in
     (takes d u most new.taken new.wanted new.stage bytes piece (head + body) _ now.taken (omega (arith, a, b, k, l)) stops (eqb-true new.taken new.wanted, eq-eqb new.taken new.wanted), now)
 
 pub returns-clause-goes_on : goal.returns-clause-goes_on

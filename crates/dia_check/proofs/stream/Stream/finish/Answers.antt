@@ -1,7 +1,7 @@
 use Rattle.std.proofs.Common.{◌≡◌, ℕ, List, [], ◌++◌, length, subst, ap, arith, ◌∙◌}
 use Rattle.std.proofs.Math.Logic.{∥∥₁_elim}
 use Rattle.std.proofs.lemmas.List.{append-nil}
-use Rattle.dia_check.specs.declared.stream.Stage.{Stage}
+use Rattle.dia_check.specs.declared.stream.stages.Stage.{Stage}
 use Rattle.dia_check.specs.Faults.{IsAnswer}
 use Rattle.dia_check.specs.Streaming.{HasRead, IsStage, IsWholeAnswer, wanted}
 use Rattle.dia_check.proofs.stream.Stream.finish.Goals as goal

@@ -3,9 +3,9 @@ use Rattle.std.proofs.Math.Logic.{∥∥₁_elim}
 use Rattle.std.specs.Coded.{le_prop}
 use Rattle.std.specs.Prelude.{◌^◌}
 use Rattle.dia_dict.specs.Dictionary.{definitions}
-use Rattle.dia_check.specs.declared.stream.Stage.{Stage}
+use Rattle.dia_check.specs.declared.stream.stages.Stage.{Stage}
 use Rattle.dia_check.specs.Streaming.{HasTaken, IsStage}
-use Rattle.dia_check.proofs.CountedLevels.{counts_body, counts_zero, few_levels}
+use Rattle.dia_check.proofs.StreamLevels.{counts_body, counts_zero, few_levels}
 use Rattle.dia_check.proofs.stream.Stream.levels.Goals as goal
 
 pub overflow_add-result : goal.overflow_add-result

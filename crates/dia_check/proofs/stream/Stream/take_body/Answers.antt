@@ -7,7 +7,7 @@ use Rattle.dia_dict.specs.Dictionary.{Dictionary}
 use Rattle.dia_check.specs.declared.policy.Unknown.{Unknown}
 use Rattle.dia_check.specs.declared.policy.Levels.{Levels}
 use Rattle.dia_check.specs.Streaming.{HasTaken, OpensBehind, OpensLevel, taken_of}
-use Rattle.dia_check.proofs.FeedingStream.{body_opens, body_taken, has_taken, is_stage, may_read, memory_of, moved, taken_within}
+use Rattle.dia_check.proofs.StreamStages.{body_opens, body_taken, has_taken, is_stage, may_read, memory_of, moved, taken_within}
 use Rattle.dia_check.proofs.stream.Stream.take_body.Goals as goal
 
 pub overflow_sub-self : goal.overflow_sub-self
@@ -62,10 +62,12 @@ returns-clause-taken g c d u most bytes stands =
     let e = g.B.Book.meaning s.book.now in
     let n = c.min-count.result in
     let m = c.min-count.ensures in
-    let h = moved (λ (x : Dictionary) (y : Unknown) (z : Levels). HasTaken x y z s.taken s.wanted s.stage bytes) d e u s.unknown most s.levels (sym stands.book) (sym stands.unknown) (sym stands.levels) stands.taken in
+    let h = moved (λ (x : Dictionary) (y : Unknown) (z : Levels). HasTaken x y z s.taken s.wanted s.stage bytes) d e u s.unknown most s.levels
+    (sym stands.book) (sym stands.unknown) (sym stands.levels) stands.taken in
     let may = may_read e s.unknown s.levels s.taken s.wanted s.stage bytes c.args.piece.now h c.requires.header n (omega (arith, m)) (omega (arith, m)) in
     let new = body_taken e s.unknown s.levels s.taken s.wanted s.stage bytes c.args.piece.now h c.requires.header n (omega (arith, m)) (omega (arith, m))
-    (OpensBehind e s.levels s.taken (bytes ++ take n c.args.piece.now)) c.read_stage.new.stage (c.read_stage.ensures bytes may) (λ spent. both_ways c.is_spent.result c.if-is_spent.false (c.is_spent.ensures.1 spent)) in
+    (OpensBehind e s.levels s.taken (bytes ++ take n c.args.piece.now)) c.read_stage.new.stage
+    (c.read_stage.ensures bytes may) (λ spent. both_ways c.is_spent.result c.if-is_spent.false (c.is_spent.ensures.1 spent)) in
     record {
       book = stands.book;
       unknown = stands.unknown;
@@ -93,9 +95,11 @@ returns-then-is_spent-clause-no_memory g c d u most bytes stands =
     let e = g.B.Book.meaning s.book.now in
     let n = c.min-count.result in
     let m = c.min-count.ensures in
-    let h = moved (λ (x : Dictionary) (y : Unknown) (z : Levels). HasTaken x y z s.taken s.wanted s.stage bytes) d e u s.unknown most s.levels (sym stands.book) (sym stands.unknown) (sym stands.levels) stands.taken in
+    let h = moved (λ (x : Dictionary) (y : Unknown) (z : Levels). HasTaken x y z s.taken s.wanted s.stage bytes) d e u s.unknown most s.levels
+    (sym stands.book) (sym stands.unknown) (sym stands.levels) stands.taken in
     let may = may_read e s.unknown s.levels s.taken s.wanted s.stage bytes c.args.piece.now h c.requires.header n (omega (arith, m)) (omega (arith, m)) in
-    let memory = memory_of (OpensBehind e s.levels s.taken (bytes ++ take n c.args.piece.now)) e s.unknown s.levels (bytes ++ take n c.args.piece.now) c.read_stage.new.stage (c.is_spent.ensures.0 c.if-is_spent.true) (c.read_stage.ensures bytes may) in
+    let memory = memory_of (OpensBehind e s.levels s.taken (bytes ++ take n c.args.piece.now)) e s.unknown s.levels
+    (bytes ++ take n c.args.piece.now) c.read_stage.new.stage (c.is_spent.ensures.0 c.if-is_spent.true) (c.read_stage.ensures bytes may) in
     moved (λ (x : Dictionary) (y : Unknown) (z : Levels). OpensLevel x z bytes (drop (length bytes) (taken_of (bytes ++ c.args.piece.now))))
     e d s.unknown u s.levels most stands.book stands.unknown stands.levels
     (body_opens e s.unknown s.levels s.taken s.wanted s.stage bytes c.args.piece.now h c.requires.header n (omega (arith, m)) (omega (arith, m)) (λ less. omega (arith, m, less)) memory)

@@ -6,12 +6,12 @@ use Rattle.std.specs.Coded.{le_prop}
 use Rattle.dia_dict.specs.Dictionary.{Dictionary}
 use Rattle.dia_check.specs.declared.policy.Unknown.{Unknown}
 use Rattle.dia_check.specs.declared.policy.Levels.{Levels}
-use Rattle.dia_check.specs.declared.stream.Stage.{Stage}
-use Rattle.dia_check.specs.declared.stream.Stage.TheVariants.{Header}
+use Rattle.dia_check.specs.declared.stream.stages.Stage.{Stage}
+use Rattle.dia_check.specs.declared.stream.stages.Stage.TheVariants.{Header}
 use Rattle.dia_check.specs.Front.{front_bytes}
 use Rattle.dia_check.specs.Streaming.{HasTaken, IsStage}
 use Rattle.dia_check.specs.Streams.{StandsFor}
-use Rattle.dia_check.proofs.FeedingStream.{behind_header, front_grows, front_size, front_taken, front_takes_all, has_taken, header_now, is_stage, moved}
+use Rattle.dia_check.proofs.StreamStages.{behind_header, front_grows, front_size, front_taken, front_takes_all, has_taken, header_now, is_stage, moved}
 use Rattle.dia_check.proofs.stream.Stream.take_header.Goals as goal
 
 pub overflow_sub-count : goal.overflow_sub-count
@@ -31,7 +31,8 @@ invariant_of-self g c =
           let k = length (front_bytes after) - length (front_bytes front) in
           is_stage d s.unknown s.levels c.len-self.result c.read_front-wanted.result.0 c.read_front-wanted.result.1 (bytes ++ take k c.args.piece.now) (λ live.
           header_now front after c.args.piece.now c.take_from.ensures (front_size front front.within) d s.unknown s.levels s.taken s.wanted bytes h
-          k c.len-self.result c.read_front-wanted.result.0 c.read_front-wanted.result.1 refl c.len-self.ensures c.read_front-wanted.ensures.wants (c.read_front-wanted.ensures.read s.unknown s.levels) live));
+          k c.len-self.result c.read_front-wanted.result.0 c.read_front-wanted.result.1 refl c.len-self.ensures c.read_front-wanted.ensures.wants
+          (c.read_front-wanted.ensures.read s.unknown s.levels) live));
     }
 
 pub returns-clause-within : goal.returns-clause-within
@@ -46,7 +47,8 @@ returns-clause-taken g c d u most bytes stands =
     let front = c.in-Header.front in
     let after = c.take_from.new.self in
     let there = subst (λ (t : Stage). HasTaken d u most s.taken s.wanted t bytes) c.in-Header.is stands.taken in
-    let own = moved (λ (x : Dictionary) (y : Unknown) (z : Levels). HasTaken x y z s.taken s.wanted (Header front) bytes) d e u s.unknown most s.levels (sym stands.book) (sym stands.unknown) (sym stands.levels) there in
+    let own = moved (λ (x : Dictionary) (y : Unknown) (z : Levels). HasTaken x y z s.taken s.wanted (Header front) bytes)
+    d e u s.unknown most s.levels (sym stands.book) (sym stands.unknown) (sym stands.levels) there in
     let k = c.len.result - c.len-2.result in
     let a = c.len.ensures in let b = c.len-2.ensures in
     let is_k : k ≡ length (front_bytes after) - length (front_bytes front) = omega (arith, a, b) in

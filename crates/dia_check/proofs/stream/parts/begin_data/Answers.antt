@@ -8,7 +8,7 @@ use Rattle.dia_dict.specs.Dictionary.{definitions}
 use Rattle.dia_check.specs.OpenLevels.{and_key}
 use Rattle.dia_check.specs.UnderWay.{so_far}
 use Rattle.dia_check.proofs.UnderWay.{few}
-use Rattle.dia_check.proofs.ReadingData.{same_key, head_in, avp_within, head_few, not_admitted, data_begun, level_begins, group_entered, not_entered, next_is_here}
+use Rattle.dia_check.proofs.DataInPieces.{same_key, head_in, avp_within, head_few, not_admitted, data_begun, level_begins, group_entered, not_entered, next_is_here}
 use Rattle.dia_check.proofs.stream.parts.begin_data.Goals as goal
 
 pub admit-requires-clause-open_levels : goal.admit-requires-clause-open_levels
@@ -75,7 +75,8 @@ go_on-requires-clause-levels g c =
       bytes,
       good,
       small,
-      rw c.head_length.ensures (group_entered d c.requires.sound c.args.unknown c.args.levels bytes good c.args.open_levels.now c.args.at c.args.head.now h _ key c.admit.new.open_levels admits.0 admits.1
+      rw c.head_length.ensures (group_entered d c.requires.sound c.args.unknown
+          c.args.levels bytes good c.args.open_levels.now c.args.at c.args.head.now h _ key c.admit.new.open_levels admits.0 admits.1
           c.in-Ok-Some.group c.depth-depth.result (c.depth-depth.ensures (definitions d) (map so_far h.under_way.rests) (so_far h.under_way.s) h.under_way.stands)
           (rw c.in-Ok-Some.field-0-is at c.in-Ok-Some.ensures) c.open_group.new.open_levels _
           (λ definition here. c.in_ok-open_group-in-Ok-Some.ensures definition (map so_far h.under_way.rests) (and_key (so_far h.under_way.s) _) here admits.1) refl),
@@ -125,7 +126,8 @@ returns-else-start-part g c bytes good h =
     let admits = c.in_default.ensures (map so_far h.under_way.rests) (so_far h.under_way.s) h.under_way.stands in
     let begun = data_begun d c.requires.sound c.args.unknown c.args.levels bytes good c.args.open_levels.now c.args.at c.args.head.now h _ key c.admit.new.open_levels admits.0 admits.1
     _ c.next_multiple_of.result c.start_leaf.result refl (let e = c.next_multiple_of.ensures in omega (arith, e)) (c.start_leaf.ensures (rw c.in-Ok-None.field-0-is at c.in-Ok-None.ensures)) in
-    let e = c.head_length.ensures in let m = c.next_multiple_of.ensures in let l = head_in d c.requires.sound c.args.unknown c.args.levels bytes good c.args.open_levels.now c.args.at c.args.head.now h in
+    let e = c.head_length.ensures in let m = c.next_multiple_of.ensures in let l =
+    head_in d c.requires.sound c.args.unknown c.args.levels bytes good c.args.open_levels.now c.args.at c.args.head.now h in
     next_is_here d c.args.unknown c.args.levels bytes good _ _ c.end_data.result _ _ (λ x. absurd x) (omega (arith, e, m, l, c.if-start-part.false))
     (c.end_data.ensures c.args.unknown c.args.levels bytes good _ begun (omega (arith, e, c.if-start-part.false)))
 

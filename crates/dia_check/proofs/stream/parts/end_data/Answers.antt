@@ -2,7 +2,7 @@ use Rattle.std.proofs.Common.{arith}
 use Rattle.std.proofs.Math.Logic.{∥∥₁_elim, ∥∥₁_map}
 use Rattle.std.specs.Coded.{le_prop}
 use Rattle.std.specs.Prelude.{◌<◌, ◌^◌}
-use Rattle.dia_check.proofs.ReadingData.{data_seen, data_passed, data_wrong, place_few}
+use Rattle.dia_check.proofs.DataInPieces.{data_seen, data_passed, data_wrong, place_few}
 use Rattle.dia_check.proofs.stream.parts.end_data.Goals as goal
 
 pub fault-requires : goal.fault-requires

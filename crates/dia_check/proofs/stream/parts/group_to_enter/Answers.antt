@@ -1,5 +1,5 @@
 use Rattle.std.proofs.Common.{sym, ◌∙◌}
-use Rattle.dia_check.proofs.ReadingData.{may_enter, may_not_be}
+use Rattle.dia_check.proofs.DataInPieces.{may_enter, may_not_be}
 use Rattle.dia_check.proofs.stream.parts.group_to_enter.Goals as goal
 
 pub returns-in-Some-group : goal.returns-in-Some-group

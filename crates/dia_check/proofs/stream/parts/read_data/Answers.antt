@@ -3,7 +3,7 @@ use Rattle.dia_check.specs.Reading.{IsNext}
 use Rattle.std.proofs.Math.Logic.{∥∥₁_elim, ∥∥₁_map}
 use Rattle.std.proofs.lemmas.Result.{err_from_is_err_and}
 use Rattle.std.specs.Coded.{le_prop}
-use Rattle.dia_check.proofs.ReadingData.{data_more, least_count}
+use Rattle.dia_check.proofs.DataInPieces.{data_more, least_count}
 use Rattle.dia_check.proofs.stream.parts.read_data.Goals as goal
 
 pub overflow_sub-part : goal.overflow_sub-part
@@ -32,7 +32,8 @@ returns-in_err-next-clause-next g c u most bytes good h less lies =
     let least = least_count c.min-taken.result c.saturating_sub.result c.min-count.result c.min-count.ensures in
     let room = c.saturating_sub.ensures in let taken = c.min-taken.ensures in
     let p = err_from_is_err_and c.from_residual.result c.from_residual.ensures.1 in
-    rw (p.1, p.2) (c.in_err-next.ensures u most bytes good _ (data_more d c.requires.sound u most bytes good c.args.open_levels.now c.args.part c.args.from h c.args.piece.now lies c.min-taken.result c.min-count.result c.feed_leaf.new.leaf
+    rw (p.1, p.2) (c.in_err-next.ensures u most bytes good _ (data_more d c.requires.sound u most
+    bytes good c.args.open_levels.now c.args.part c.args.from h c.args.piece.now lies c.min-taken.result c.min-count.result c.feed_leaf.new.leaf
     (omega (arith, taken)) least.0 (rw room at least.1) (rw room at least.2) (λ read seen. c.feed_leaf.ensures d c.args.part.key read seen)) c.if-from-taken.false)
 
 pub returns-clause-count : goal.returns-clause-count
@@ -58,5 +59,6 @@ returns-clause-next g c u most bytes good h less lies =
     let room = c.saturating_sub.ensures in let taken = c.min-taken.ensures in
     let same : c.args.part.next ≡ c.args.from + c.min-taken.result = omega (arith, taken, less, c.if-from-taken.false) in
     subst (λ (n : ℕ). IsNext d u most bytes good c.end_data.new.open_levels c.in_ok-next.next n) same
-    (c.in_ok-next.ensures u most bytes good _ (data_more d c.requires.sound u most bytes good c.args.open_levels.now c.args.part c.args.from h c.args.piece.now lies c.min-taken.result c.min-count.result c.feed_leaf.new.leaf
+    (c.in_ok-next.ensures u most bytes good _ (data_more d c.requires.sound u most
+    bytes good c.args.open_levels.now c.args.part c.args.from h c.args.piece.now lies c.min-taken.result c.min-count.result c.feed_leaf.new.leaf
     (omega (arith, taken)) least.0 (rw room at least.1) (rw room at least.2) (λ read seen. c.feed_leaf.ensures d c.args.part.key read seen)) c.if-from-taken.false)

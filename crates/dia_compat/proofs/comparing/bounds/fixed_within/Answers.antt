@@ -1,7 +1,7 @@
 use Rattle.std.proofs.Common.{◌≡◌, Bool, suc, refl, sym, ap, ◌∙◌, ◌+◌, drop, arith, ℕ}
 use Rattle.std.specs.Prelude.{◌&&◌}
 use Rattle.dia_compat.specs.Tests.{begins_with}
-use Rattle.dia_compat.proofs.Looking.{goes_on}
+use Rattle.dia_compat.proofs.LookUpsBySlot.{goes_on}
 use Rattle.dia_compat.proofs.comparing.bounds.fixed_within.Goals as goal
 
 pub returns-then-not-leads_at : goal.returns-then-not-leads_at

@@ -1,8 +1,8 @@
 use Rattle.std.proofs.Common.{Bool, List, [], ◌∷◌, ◌++◌, map, take, sym, ap, ◌∙◌}
-use Rattle.dia_dict.specs.Dictionary.{plain}
-use Rattle.dia_compat.specs.Comparing.{plain_names, is_selected}
-use Rattle.dia_compat.proofs.Naming.{command_at}
-use Rattle.dia_compat.proofs.ByCode.{map_more}
+use Rattle.dia_dict.specs.Dictionary.{plain_definition}
+use Rattle.dia_compat.specs.PairTests.{plain_names, is_selected}
+use Rattle.dia_compat.proofs.SetsOfNames.{command_at}
+use Rattle.dia_compat.proofs.CommandsByCode.{map_more}
 use Rattle.dia_compat.proofs.comparing.commands.selected_among.Goals as goal
 
 pub loop-index-preserved : goal.loop-index-preserved
@@ -10,7 +10,7 @@ loop-index-preserved g c =
     let da = g.A.Book.meaning c.args.a.now in
     let test = is_selected da (g.B.Book.meaning c.args.b.now.book.now) (map plain_names c.args.beside.now.keys) in
     let i = c.loop-index.index in
-    let x = plain c.def.result.now in
+    let x = plain_definition c.def.result.now in
     c.in_ok-push.ensures.items ∙ ap (λ (bs : List Bool). bs ++ c.is_selected.result ∷ []) c.loop-index.invariant
     ∙ ap (λ (b : Bool). map test (take i da.commands) ++ b ∷ []) c.is_selected.ensures
     ∙ sym (map_more test da.commands i x (command_at da i c.command_at.result x c.command_at.ensures c.def.ensures))

@@ -1,5 +1,5 @@
 use Rattle.std.proofs.Common.{◌≡◌, map, take}
-use Rattle.dia_compat.specs.Comparing.{plain_names, is_selected}
+use Rattle.dia_compat.specs.PairTests.{plain_names, is_selected}
 use Rattle.dia_compat.proofs.comparing.commands.selected_among.Given as goal
 
 abbrev pub invariant-loop-index : goal.invariant-loop-index

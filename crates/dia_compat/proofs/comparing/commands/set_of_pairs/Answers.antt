@@ -1,4 +1,4 @@
-use Rattle.dia_compat.proofs.Pairing.{one_pair_more}
+use Rattle.dia_compat.proofs.SetsOfPairs.{one_pair_more}
 use Rattle.dia_compat.proofs.comparing.commands.set_of_pairs.Goals as goal
 
 pub loop-pair-preserved : goal.loop-pair-preserved

@@ -1,6 +1,6 @@
 use Rattle.std.proofs.Common.{◌≡◌, true, take}
 use Rattle.std.specs.List.{list_all}
-use Rattle.dia_compat.specs.Comparing.{stranger_fits}
+use Rattle.dia_compat.specs.PairTests.{stranger_fits}
 use Rattle.dia_compat.proofs.comparing.covers.all_strangers_fit.Given as goal
 
 abbrev pub invariant-loop-index : goal.invariant-loop-index

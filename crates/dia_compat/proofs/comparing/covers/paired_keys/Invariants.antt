@@ -3,7 +3,7 @@ use Rattle.std.specs.List.{list_any}
 use Rattle.dia_wire.specs.declared.Key.{Key}
 use Rattle.dia_compat.specs.TableText.{plain_pair}
 use Rattle.dia_compat.specs.Tests.{holds_key}
-use Rattle.dia_compat.specs.Comparing.{pairs_key}
+use Rattle.dia_compat.specs.PairTests.{pairs_key}
 use Rattle.dia_compat.proofs.comparing.covers.paired_keys.Given as goal
 
 abbrev pub invariant-loop-first : goal.invariant-loop-first

@@ -2,9 +2,9 @@ use Rattle.std.proofs.Common.{◌<◌, List, [], ◌∷◌, ◌++◌, length, ma
 use Rattle.std.specs.Prelude.{not}
 use Rattle.dia_wire.specs.declared.Key.{Key}
 use Rattle.dia_dict.specs.Dictionary.{DictEntry}
-use Rattle.dia_compat.specs.Comparing.{is_covered}
-use Rattle.dia_compat.proofs.Naming.{read_at}
-use Rattle.dia_compat.proofs.Covering.{kept, left_out}
+use Rattle.dia_compat.specs.PairTests.{is_covered}
+use Rattle.dia_compat.proofs.SetsOfNames.{read_at}
+use Rattle.dia_compat.proofs.FilteredMembers.{kept, left_out}
 use Rattle.dia_compat.proofs.comparing.covers.uncovered_keys.Goals as goal
 use Rattle.dia_compat.proofs.comparing.covers.uncovered_keys.Goals.{then-not-is_covered+in_ok-push, else-not-is_covered}
 

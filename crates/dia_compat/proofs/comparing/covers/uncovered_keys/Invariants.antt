@@ -2,7 +2,7 @@ use Rattle.std.proofs.Common.{◌≡◌, map, take, filter}
 use Rattle.std.specs.Prelude.{not}
 use Rattle.dia_wire.specs.declared.Key.{Key}
 use Rattle.dia_dict.specs.Dictionary.{DictEntry}
-use Rattle.dia_compat.specs.Comparing.{is_covered}
+use Rattle.dia_compat.specs.PairTests.{is_covered}
 use Rattle.dia_compat.proofs.comparing.covers.uncovered_keys.Given as goal
 
 abbrev pub invariant-loop-index : goal.invariant-loop-index

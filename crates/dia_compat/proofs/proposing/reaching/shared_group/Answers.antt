@@ -1,10 +1,10 @@
 use Rattle.std.proofs.Common.{◌≡◌, ◌<◌, ℕ, length, Some, sym, ◌∙◌}
 use Rattle.std.specs.Prelude.{slice_get}
 use Rattle.std.proofs.lemmas.Option.{slice_get_within}
-use Rattle.dia_data.specs.Plain.{plain as plain_format}
+use Rattle.dia_data.specs.Plain.{plain_format}
 use Rattle.dia_dict.specs.Dictionary.{DictEntry, PlainDefinition, definitions}
-use Rattle.dia_compat.specs.Reaching.{IsSharedGroup}
-use Rattle.dia_compat.proofs.Reaching.{known_by_entry, group_number, when_some, at_some}
+use Rattle.dia_compat.specs.ReachedKeys.{IsSharedGroup}
+use Rattle.dia_compat.proofs.ReachedKeys.{known_by_entry, group_number, when_some, at_some}
 use Rattle.dia_compat.proofs.proposing.reaching.shared_group.Goals as goal
 
 pub returns-then-is_grouped-2-clause-within : goal.returns-then-is_grouped-2-clause-within

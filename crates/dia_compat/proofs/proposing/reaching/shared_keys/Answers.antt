@@ -2,8 +2,8 @@ use Rattle.std.proofs.Common.{◌<◌, List, [], ◌∷◌, ◌++◌, length, ma
 use Rattle.std.specs.Prelude.{is_some}
 use Rattle.dia_wire.specs.declared.Key.{Key}
 use Rattle.dia_dict.specs.Dictionary.{DictEntry, entry_of}
-use Rattle.dia_compat.proofs.Naming.{read_at}
-use Rattle.dia_compat.proofs.Covering.{kept, left_out}
+use Rattle.dia_compat.proofs.SetsOfNames.{read_at}
+use Rattle.dia_compat.proofs.FilteredMembers.{kept, left_out}
 use Rattle.dia_compat.proofs.proposing.reaching.shared_keys.Goals as goal
 use Rattle.dia_compat.proofs.proposing.reaching.shared_keys.Goals.{then-is_some+in_ok-push, else-is_some}
 

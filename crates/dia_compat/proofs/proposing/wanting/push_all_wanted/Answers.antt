@@ -1,11 +1,11 @@
 use Rattle.std.proofs.Common.{ℕ, List, map, arith}
-use Rattle.dia_dict.specs.Dictionary.{plain}
+use Rattle.dia_dict.specs.Dictionary.{plain_definition}
 use Rattle.dia_dict.specs.declared.Definition.{Definition}
 use Rattle.std.specs.Borrow.{Bor}
 use Rattle.dia_compat.specs.TableText.{plain_pair}
-use Rattle.dia_compat.specs.Wanting.{wanted_name}
-use Rattle.dia_compat.proofs.Wanting.{pairs_more}
-use Rattle.dia_compat.proofs.ByCode.{item_there}
+use Rattle.dia_compat.specs.WantedNames.{wanted_name}
+use Rattle.dia_compat.proofs.WantedDefinitions.{pairs_more}
+use Rattle.dia_compat.proofs.CommandsByCode.{item_there}
 use Rattle.dia_compat.proofs.proposing.wanting.push_all_wanted.Goals as goal
 
 pub loop-other-preserved : goal.loop-other-preserved
@@ -14,6 +14,6 @@ loop-other-preserved g c =
     let db = g.B.Book.meaning c.args.b.now in
     let others = c.args.others.now in
     let i = c.loop-other.other-index in
-    pairs_more (λ (d : Bor Definition). wanted_name da db c.args.command.now.head (plain d.now)) (λ (name : List ℕ). ((plain c.args.command.now).name, name))
+    pairs_more (λ (d : Bor Definition). wanted_name da db c.args.command.now.head (plain_definition d.now)) (λ (name : List ℕ). ((plain_definition c.args.command.now).name, name))
     (map plain_pair c.args.pairs.now.items) (map plain_pair c.loop-other.pairs.items) (map plain_pair c.push_if_wanted.new.pairs.items) others i c.other-item.result
     (item_there others i c.other-item.result (omega arith) c.other-item.is) c.loop-other.invariant c.in_ok-push_if_wanted.ensures

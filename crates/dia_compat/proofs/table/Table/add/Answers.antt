@@ -1,5 +1,5 @@
 use Rattle.std.proofs.Common.{rules, refl, IsTrue}
-use Rattle.dia_compat.specs.TableText.{plain}
+use Rattle.dia_compat.specs.TableText.{plain_table}
 use Rattle.dia_compat.proofs.TableLines.{adds_command, adds_avp}
 use Rattle.dia_compat.proofs.table.Table.add.Goals as goal
 
@@ -9,7 +9,7 @@ returns-in_ok-push_pair-in-Some-Command-clause-ok c =
     let old = c.args.self.now in
     let is = rw found.field-0-is at found.ensures.some in
     let room : IsTrue c.has_room_for.result = search rules in
-    adds_command c.args.line.now found.a.now found.b.now (plain old) (plain (record { commands = c.push_pair.new.pairs; avps = old.avps })) c.requires is (c.has_room_for.ensures.0 room)
+    adds_command c.args.line.now found.a.now found.b.now (plain_table old) (plain_table (record { commands = c.push_pair.new.pairs; avps = old.avps })) c.requires is (c.has_room_for.ensures.0 room)
     c.in_ok-push_pair-in-Some-Command.ensures refl
 
 pub returns-in_ok-push_pair-in-Some-Avp-clause-ok : goal.returns-in_ok-push_pair-in-Some-Avp-clause-ok
@@ -18,6 +18,6 @@ returns-in_ok-push_pair-in-Some-Avp-clause-ok c =
     let old = c.args.self.now in
     let is = rw found.field-0-is at found.ensures.some in
     let room : IsTrue c.has_room_for-in-Some-Avp.result = search rules in
-    adds_avp c.args.line.now found.a.now found.b.now (plain old) (plain (record { commands = old.commands; avps = c.push_pair-in-Some-Avp.new.pairs })) c.requires is
+    adds_avp c.args.line.now found.a.now found.b.now (plain_table old) (plain_table (record { commands = old.commands; avps = c.push_pair-in-Some-Avp.new.pairs })) c.requires is
     (c.has_room_for-in-Some-Avp.ensures.0 room) refl
     c.in_ok-push_pair-in-Some-Avp.ensures

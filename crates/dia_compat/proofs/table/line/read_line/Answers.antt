@@ -3,7 +3,7 @@ use Rattle.std.proofs.lemmas.List.{nil_from_length}
 use Rattle.std.proofs.lemmas.Bool.{eqb-true, eqb-false, both_ways}
 use Rattle.std.proofs.lemmas.Slice.Eq.{bytes_eq-Decides}
 use Rattle.dia_compat.specs.Words.{first_word, ArePairWords}
-use Rattle.dia_compat.proofs.Words.{no_word_is_tail, words_pair}
+use Rattle.dia_compat.proofs.WordsOfLines.{no_word_is_tail, words_pair}
 use Rattle.dia_compat.proofs.TableLines.{has_no_form}
 use Rattle.dia_compat.proofs.table.line.read_line.Goals as goal
 

@@ -1,6 +1,6 @@
 use Rattle.std.proofs.Common.{◌≡◌, ◌++◌, map, string_bytes, take}
 use Rattle.dia_compat.specs.TableText.{plain_pair}
-use Rattle.dia_compat.specs.Rendering.{pair_lines}
+use Rattle.dia_compat.specs.WrittenTable.{pair_lines}
 use Rattle.dia_compat.proofs.table.rendering.push_lines.Given as goal
 
 abbrev pub invariant-loop-pair : goal.invariant-loop-pair

@@ -1,4 +1,4 @@
-use Rattle.dia_compat.proofs.Rendering.{read_is_writable}
+use Rattle.dia_compat.proofs.TableReadBack.{read_is_writable}
 use Rattle.dia_compat.proofs.table.rendering.read_tables_are_writable.Goals as goal
 
 pub returns : goal.returns

@@ -2,7 +2,7 @@ use Rattle.std.proofs.Common.{IsCharBoundary, ap, sym, subst, ◌∙◌}
 use Rattle.std.specs.List.{prefix_len}
 use Rattle.dia_compat.specs.TableText.{is_blank}
 use Rattle.dia_compat.specs.Words.{is_word_byte}
-use Rattle.dia_compat.proofs.Words.{boundary_behind_blanks, boundary_behind_word}
+use Rattle.dia_compat.proofs.WordsOfLines.{boundary_behind_blanks, boundary_behind_word}
 use Rattle.dia_compat.proofs.table.words.next_word.Goals as goal
 
 pub range_from-text-requires : goal.range_from-text-requires

@@ -1,7 +1,7 @@
 use Rattle.std.proofs.Common.{None, refl}
 use Rattle.std.specs.Prelude.{is_ok}
 use Rattle.dia_dict.specs.declared.entry_list.Row.{Row}
-use Rattle.dia_dict.proofs.Entries.{numbers-pushed}
+use Rattle.dia_dict.proofs.EntryLists.{numbers-pushed}
 use Rattle.dia_dict.proofs.entry_list.EntryList.push.Goals as goal
 
 pub invariant_of-self : goal.invariant_of-self

@@ -2,7 +2,7 @@ use Rattle.std.proofs.Common.{◌≡◌, ◌++◌, ◌∷◌, [], Some, List, tr
 use Rattle.std.specs.Prelude.{is_ok, if◌then◌else◌}
 use Rattle.dia_dict.specs.PlainMeaning.{entries_of}
 use Rattle.dia_dict.specs.declared.entry_list.Row.{Row}
-use Rattle.dia_dict.proofs.Entries.{numbers-push_some, entries_of-push_some}
+use Rattle.dia_dict.proofs.EntryLists.{numbers-push_some, entries_of-push_some}
 use Rattle.dia_dict.proofs.entry_list.EntryList.push_group.Goals as goal
 
 pub invariant_of-self-2 : goal.invariant_of-self-2

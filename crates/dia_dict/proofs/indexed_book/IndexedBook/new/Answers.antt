@@ -4,12 +4,12 @@ use Rattle.std.specs.List.{list_any}
 use Rattle.dia_dict.specs.Dictionary.{IsCommandHead, AreRules}
 use Rattle.dia_dict.specs.Indexed.{row_keys, AreSlotTables, HaveDistinctSelectors}
 use Rattle.dia_dict.specs.KeyTables.{AreDistinct, IsIndexOf, place_among}
-use Rattle.dia_dict.specs.Selecting.{selector_of, service_of, same_service}
+use Rattle.dia_dict.specs.Selectors.{selector_of, service_of, same_service}
 use Rattle.dia_dict.specs.declared.definition.Definition.{Definition}
 use Rattle.dia_dict.specs.declared.entry_list.Row.{Row}
 use Rattle.dia_dict.proofs.Indexing.Premises.{distinct_keys-held, distinct_selectors-held, command_heads-held, rules_of_groups-held, rules_of_commands-held}
-use Rattle.dia_dict.proofs.Opened.{opened}
-use Rattle.dia_dict.proofs.Rows.{held}
+use Rattle.dia_dict.proofs.DictionaryFacts.{opened}
+use Rattle.dia_dict.proofs.BookRows.{held}
 use Rattle.dia_dict.proofs.indexed_book.IndexedBook.new.Goals as goal
 
 pub avp_table-requires-clause-distinct : goal.avp_table-requires-clause-distinct

@@ -5,7 +5,7 @@ use Rattle.dia_dict.specs.Indexed.{row_keys}
 use Rattle.dia_dict.specs.declared.entry_list.Row.{Row}
 use Rattle.dia_dict.proofs.Indexing.Tables.{place-of_row}
 use Rattle.dia_dict.proofs.Lists.{position-within}
-use Rattle.dia_dict.proofs.Rows.{entry_of-held}
+use Rattle.dia_dict.proofs.BookRows.{entry_of-held}
 use Rattle.dia_dict.proofs.indexed_book.IndexedBookBook.avp.Goals as goal
 
 pub returns-in_err-place : goal.returns-in_err-place

@@ -1,10 +1,10 @@
 use Rattle.std.proofs.Common.{ap, sym, ◌∙◌}
 use Rattle.std.specs.List.{list_any}
-use Rattle.dia_dict.specs.declared.hashed.Service.{Service}
+use Rattle.dia_dict.specs.declared.selectors.Service.{Service}
 use Rattle.dia_dict.proofs.Indexing.Premises.{command_heads-held}
 use Rattle.dia_dict.proofs.Indexing.Selectors.{equal_services, service-found}
-use Rattle.dia_dict.proofs.Opened.{opened}
-use Rattle.dia_dict.proofs.Rows.{held, has_command-held}
+use Rattle.dia_dict.proofs.DictionaryFacts.{opened}
+use Rattle.dia_dict.proofs.BookRows.{held, has_command-held}
 use Rattle.dia_dict.proofs.indexed_book.IndexedBookBook.has_command.Goals as goal
 
 pub returns : goal.returns

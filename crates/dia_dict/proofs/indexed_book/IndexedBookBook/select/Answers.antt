@@ -2,7 +2,7 @@ use Rattle.std.proofs.Common.{ℕ, ◌+◌, length, Some, ap, sym, ◌∙◌}
 use Rattle.std.specs.Option.{option_map}
 use Rattle.dia_dict.specs.Dictionary.{groups as groups_of}
 use Rattle.dia_dict.proofs.Indexing.Tables.{selected-places}
-use Rattle.dia_dict.proofs.Rows.{held}
+use Rattle.dia_dict.proofs.BookRows.{held}
 use Rattle.dia_dict.proofs.indexed_book.IndexedBookBook.select.Goals as goal
 
 pub returns-in_err-place : goal.returns-in_err-place

@@ -5,7 +5,7 @@ use Rattle.dia_dict.specs.Dictionary.{PlainDefinition, lists_key, slot_at, slot_
 use Rattle.dia_dict.specs.declared.definition.Slot.TheVariants.{Unlisted}
 use Rattle.dia_dict.proofs.Indexing.Tables.{length-tables, found_slot}
 use Rattle.dia_dict.proofs.Lists.{position-within}
-use Rattle.dia_dict.proofs.Rows.{length-definitions-held}
+use Rattle.dia_dict.proofs.BookRows.{length-definitions-held}
 use Rattle.dia_dict.proofs.indexed_book.IndexedBookBook.slot.Goals as goal
 
 pub index-requires-2 : goal.index-requires-2

@@ -1,6 +1,6 @@
 use Rattle.std.proofs.Common.{ap, ◌∙◌}
 use Rattle.indexmap.specs.IndexSet.{insert_key}
-use Rattle.dia_dict.specs.declared.hashed.Selector.{Selector}
+use Rattle.dia_dict.specs.declared.selectors.Selector.{Selector}
 use Rattle.dia_dict.proofs.Indexing.Selectors.{same_selector}
 use Rattle.dia_dict.proofs.Indexing.Commands.{selectors-more}
 use Rattle.dia_dict.proofs.indexed_book.commands.selectors_of.Goals as goal

@@ -1,5 +1,5 @@
 use Rattle.std.proofs.Common.{◌≡◌, map, take}
-use Rattle.dia_dict.specs.Selecting.{selector_of}
+use Rattle.dia_dict.specs.Selectors.{selector_of}
 use Rattle.dia_dict.proofs.indexed_book.commands.selectors_of.Given as goal
 
 abbrev pub invariant-loop-command : goal.invariant-loop-command

@@ -1,6 +1,6 @@
 use Rattle.std.proofs.Common.{true, cond, ap, ◌∙◌}
 use Rattle.std.specs.List.{list_any}
-use Rattle.dia_dict.specs.declared.hashed.Service.{Service}
+use Rattle.dia_dict.specs.declared.selectors.Service.{Service}
 use Rattle.dia_dict.proofs.Indexing.Selectors.{equal_services}
 use Rattle.dia_dict.proofs.Indexing.Commands.{services-more}
 use Rattle.dia_dict.proofs.indexed_book.commands.services_of.Goals as goal

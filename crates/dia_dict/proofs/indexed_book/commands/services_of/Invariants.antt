@@ -1,7 +1,7 @@
 use Rattle.std.proofs.Common.{◌≡◌, map, take}
 use Rattle.std.specs.List.{list_any}
-use Rattle.dia_dict.specs.Selecting.{service_of, same_service}
-use Rattle.dia_dict.specs.declared.hashed.Service.{Service}
+use Rattle.dia_dict.specs.Selectors.{service_of, same_service}
+use Rattle.dia_dict.specs.declared.selectors.Service.{Service}
 use Rattle.dia_dict.proofs.indexed_book.commands.services_of.Given as goal
 
 abbrev pub invariant-loop-command : goal.invariant-loop-command

@@ -8,7 +8,8 @@ use Rattle.dia_dict.proofs.key_table.KeyTable.new.Goals as goal
 
 pub starts_of-requires-clause-sorted : goal.starts_of-requires-clause-sorted
 starts_of-requires-clause-sorted c =
-    subst (IsNonDecreasingBy (λ (row : KeyRow). row.rank)) (sym c.deref.ensures.value) (IsNonDecreasingBy-from_sort_by_key (λ r. r.rank) _ c.sort_unstable_by_key.ensures.sorted (λ a r q k. search rules))
+    subst (IsNonDecreasingBy (λ (row : KeyRow). row.rank)) (sym c.deref.ensures.value)
+    (IsNonDecreasingBy-from_sort_by_key (λ r. r.rank) _ c.sort_unstable_by_key.ensures.sorted (λ a r q k. search rules))
 
 pub invariant_of-result : goal.invariant_of-result
 invariant_of-result c = record {

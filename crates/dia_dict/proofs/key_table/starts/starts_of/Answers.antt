@@ -13,5 +13,6 @@ loop-bucket-preserved c =
     let items = c.in_ok-push.ensures.items in
     record {
       many = omega (arith, ap length items, length_push starts start, c.loop-bucket.invariant.many);
-      starts = subst (AreStarts rows n) (sym items) (AreStarts-more rows n starts start c.loop-bucket.invariant.starts (subst (λ (b : ℕ). IsStart rows n b start) (sym c.loop-bucket.invariant.many) c.start_of.ensures));
+      starts = subst (AreStarts rows n) (sym items) (AreStarts-more rows n starts start c.loop-bucket.invariant.starts
+          (subst (λ (b : ℕ). IsStart rows n b start) (sym c.loop-bucket.invariant.many) c.start_of.ensures));
     }

@@ -1,7 +1,7 @@
 use Rattle.std.proofs.Common.{◌≡◌, ◌+◌, ◌-◌, ◌<◌, length, arith, ap, ◌∙◌}
 use Rattle.std.specs.Option.{option_map}
-use Rattle.dia_dict.specs.Dictionary.{plain}
-use Rattle.dia_dict.proofs.Rows.{definitions-held, length-definitions-held, group_at, command_at}
+use Rattle.dia_dict.specs.Dictionary.{plain_definition}
+use Rattle.dia_dict.proofs.BookRows.{definitions-held, length-definitions-held, group_at, command_at}
 use Rattle.dia_dict.proofs.plain_book.PlainBookBook.def.Goals as goal
 
 pub index-requires-else-index-len : goal.index-requires-else-index-len
@@ -13,7 +13,7 @@ pub returns-then-index-len : goal.returns-then-index-len
 returns-then-index-len c =
     let b = c.args.self.now in
     definitions-held b.entries.rows.items b.entries.groups.items b.commands.items b.entries.numbered c.args.def
-    ∙ ap (option_map plain) (group_at b.entries.groups.items b.commands.items c.args.def c.index-index.result c.index.result.now c.index-index.ensures
+    ∙ ap (option_map plain_definition) (group_at b.entries.groups.items b.commands.items c.args.def c.index-index.result c.index.result.now c.index-index.ensures
     (omega (arith, b.entries.groups.ok.0)) c.index.ensures)
 
 pub returns-else-index-len : goal.returns-else-index-len
@@ -26,5 +26,5 @@ returns-else-index-len c =
       c.requires,
     ) in
     definitions-held b.entries.rows.items b.entries.groups.items b.commands.items b.entries.numbered c.args.def
-    ∙ ap (option_map plain) (command_at b.entries.groups.items b.commands.items c.args.def
+    ∙ ap (option_map plain_definition) (command_at b.entries.groups.items b.commands.items c.args.def
     (c.index-index.result - c.len-else-index-len.result) c.index-else-index-len.result.now (omega (arith, n)) within c.index-else-index-len.ensures)

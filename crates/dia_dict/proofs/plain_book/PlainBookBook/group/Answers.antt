@@ -1,5 +1,5 @@
 use Rattle.std.proofs.Common.{ℕ, Some, arith, sym, ap, ◌∙◌}
-use Rattle.dia_dict.proofs.Rows.{group_of-held, groups_fit, read_row}
+use Rattle.dia_dict.proofs.BookRows.{group_of-held, groups_fit, read_row}
 use Rattle.dia_dict.proofs.plain_book.PlainBookBook.group.Goals as goal
 
 pub new-requires : goal.new-requires

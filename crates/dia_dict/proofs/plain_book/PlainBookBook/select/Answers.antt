@@ -2,7 +2,7 @@ use Rattle.std.proofs.Common.{List, ℕ, ◌+◌, Some, None, position, length, 
 use Rattle.std.specs.Option.{option_map, option_or}
 use Rattle.dia_dict.specs.Dictionary.{is_command}
 use Rattle.dia_dict.specs.declared.definition.Definition.{Definition}
-use Rattle.dia_dict.proofs.Rows.{selected-held, groups_fit}
+use Rattle.dia_dict.proofs.BookRows.{selected-held, groups_fit}
 use Rattle.dia_dict.proofs.Lists.{position-either}
 use Rattle.dia_dict.proofs.plain_book.PlainBookBook.select.Goals as goal
 

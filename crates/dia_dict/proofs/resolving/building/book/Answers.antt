@@ -2,17 +2,17 @@ use Rattle.std.proofs.Common.{◌≡◌, List, ◌++◌, length, map, filter, sy
 use Rattle.std.proofs.lemmas.List.{length-map}
 use Rattle.dia_ccf.specs.declared.source.Decl.{Decl}
 use Rattle.dia_ccf.specs.declared.source.Def.{Def}
-use Rattle.dia_ccf.specs.Plain.{plain as plain_source, plain_decl, plain_def}
-use Rattle.dia_dict.specs.Dictionary.{DictEntry, Dictionary, IsDictionary, plain}
+use Rattle.dia_ccf.specs.Plain.{plain_source, plain_decl, plain_def}
+use Rattle.dia_dict.specs.Dictionary.{DictEntry, Dictionary, IsDictionary, plain_definition}
 use Rattle.dia_dict.specs.PlainMeaning.{dictionary_of, entry_of_row}
 use Rattle.dia_dict.specs.Resolution.{resolved, declared_entry, bare_entry, is_bare, definition_of}
-use Rattle.dia_dict.proofs.Clean.{formed, clean}
-use Rattle.dia_dict.proofs.Sound.{sound, few}
+use Rattle.dia_dict.proofs.FaultlessSources.{formed, clean}
+use Rattle.dia_dict.proofs.SoundSources.{sound, few}
 use Rattle.dia_dict.proofs.resolving.building.book.Goals as goal
 use Rattle.dia_dict.proofs.resolving.building.book.Goals.{In_ok-commands}
 
-meant : (c : In_ok-commands) → dictionary_of c.push_groups.new.entries.rows.items (map plain c.push_groups.new.entries.groups.items)
-    (map plain c.in_ok-commands.commands.items) ≡ resolved (plain_source c.args.names.now.source.now)
+meant : (c : In_ok-commands) → dictionary_of c.push_groups.new.entries.rows.items (map plain_definition c.push_groups.new.entries.groups.items)
+    (map plain_definition c.in_ok-commands.commands.items) ≡ resolved (plain_source c.args.names.now.source.now)
 meant c =
     let s = plain_source c.args.names.now.source.now in
     let declared = c.in_ok-push_declarations.ensures ∙ ap (λ (es : List DictEntry). es ++ map (declared_entry s) (map plain_decl c.deref.result.now)) c.new-entries.ensures
@@ -32,8 +32,8 @@ new-requires-clause-few c =
       few s (formed source) (clean s c.requires),
       ap (λ (d : Dictionary). length d.entries) m,
       ap (λ (d : Dictionary). length d.commands) m,
-      length-map c.push_groups.new.entries.rows.items (entry_of_row (map plain c.push_groups.new.entries.groups.items)),
-      length-map c.in_ok-commands.commands.items plain,
+      length-map c.push_groups.new.entries.rows.items (entry_of_row (map plain_definition c.push_groups.new.entries.groups.items)),
+      length-map c.in_ok-commands.commands.items plain_definition,
     )
 
 pub new-requires-clause-sound : goal.new-requires-clause-sound

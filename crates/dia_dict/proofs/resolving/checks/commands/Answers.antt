@@ -8,12 +8,12 @@ use Rattle.dia_ccf.specs.declared.source.Def.{Def}
 use Rattle.dia_ccf.specs.declared.source.Head.{Head}
 use Rattle.dia_ccf.specs.declared.source.Head.TheVariants.{Group, Command, Error}
 use Rattle.dia_ccf.specs.Names.{is_group}
-use Rattle.dia_dict.specs.declared.hashed.Selector.{Selector}
+use Rattle.dia_dict.specs.declared.selectors.Selector.{Selector}
 use Rattle.dia_dict.specs.declared.fault.DictKind.TheVariants.{DuplicateCommand}
 use Rattle.dia_dict.specs.Resolution.{repeats, same_selector, head_of}
-use Rattle.dia_dict.specs.Refusing.{IsFirstRepeat}
-use Rattle.dia_dict.specs.Selecting.{selector_of}
-use Rattle.dia_dict.specs.contracts.hashed.SelectorPartialEq.TheImpl as selectors
+use Rattle.dia_dict.specs.SourceChecks.{IsFirstRepeat}
+use Rattle.dia_dict.specs.Selectors.{selector_of}
+use Rattle.dia_dict.specs.contracts.selectors.SelectorPartialEq.TheImpl as selectors
 use Rattle.dia_dict.proofs.Duplicates.{duplicate_commands-none, duplicate_commands-first}
 use Rattle.dia_dict.proofs.Repeats.{first_repeat_read}
 use Rattle.dia_dict.proofs.Refusals.{IsRefused-at}

@@ -1,6 +1,6 @@
 use Rattle.std.proofs.Common.{◌≡◌, map, take}
 use Rattle.dia_dict.specs.Resolution.{head_of}
-use Rattle.dia_dict.specs.Selecting.{selector_of}
+use Rattle.dia_dict.specs.Selectors.{selector_of}
 use Rattle.dia_dict.proofs.resolving.checks.selectors_of.Given as goal
 
 abbrev pub invariant-loop-command : goal.invariant-loop-command

@@ -2,7 +2,7 @@ use Rattle.std.proofs.Common.{ℕ, List, [], subst, Bor}
 use Rattle.std.proofs.lemmas.Option.{get_or_from_slice_get}
 use Rattle.dia_dict.specs.declared.fault.DictKind.TheVariants.{DuplicateName}
 use Rattle.dia_dict.specs.Resolution.{wrong}
-use Rattle.dia_dict.specs.Refusing.{Tells}
+use Rattle.dia_dict.specs.SourceChecks.{Tells}
 use Rattle.dia_dict.proofs.Duplicates.{duplicate_names-none, duplicate_names-first}
 use Rattle.dia_dict.proofs.Refusals.{IsRefused-told}
 use Rattle.dia_dict.proofs.resolving.names.distinct_names.Goals as goal

@@ -2,7 +2,7 @@ use Rattle.std.proofs.Common.{◌≡◌, ℕ, List, [], map, sym, ap, ◌∙◌,
 use Rattle.std.proofs.lemmas.Simd.{map-map}
 use Rattle.dia_ccf.specs.Plain.{PlainDef, plain_def}
 use Rattle.dia_dict.specs.Resolution.{duplicate_names}
-use Rattle.dia_dict.specs.Refusing.{IsRefused}
+use Rattle.dia_dict.specs.SourceChecks.{IsRefused}
 use Rattle.dia_dict.proofs.resolving.names.set_of_definitions.Goals as goal
 
 pub returns-clause-distinct : goal.returns-clause-distinct

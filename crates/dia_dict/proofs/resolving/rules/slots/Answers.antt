@@ -6,7 +6,7 @@ use Rattle.std.proofs.lemmas.Result.{err_from_is_err_and}
 use Rattle.dia_ccf.specs.declared.source.Def.{Def}
 use Rattle.dia_ccf.specs.Plain.{plain_def}
 use Rattle.dia_dict.specs.Resolution.{Wrong, repeated_in}
-use Rattle.dia_dict.specs.Refusing.{IsRefused}
+use Rattle.dia_dict.specs.SourceChecks.{IsRefused}
 use Rattle.dia_dict.proofs.Refusals.{IsRefused-flat_map}
 use Rattle.dia_dict.proofs.resolving.rules.slots.Goals as goal
 

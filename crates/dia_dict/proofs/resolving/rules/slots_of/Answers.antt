@@ -5,7 +5,7 @@ use Rattle.dia_ccf.specs.declared.source.Rule.{Rule}
 use Rattle.dia_ccf.specs.Plain.{plain_def, plain_rule}
 use Rattle.dia_dict.specs.declared.fault.DictKind.TheVariants.{RepeatedSlot}
 use Rattle.dia_dict.specs.Resolution.{repeats, slot_name}
-use Rattle.dia_dict.specs.Refusing.{IsFirstRepeat}
+use Rattle.dia_dict.specs.SourceChecks.{IsFirstRepeat}
 use Rattle.dia_dict.proofs.Duplicates.{same_text, text_of, repeated_in-none, repeated_in-first}
 use Rattle.dia_dict.proofs.Refusals.{IsRefused-at_rule}
 use Rattle.dia_dict.proofs.resolving.rules.slots_of.Goals as goal

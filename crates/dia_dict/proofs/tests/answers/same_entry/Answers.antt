@@ -4,7 +4,7 @@ use Rattle.std.specs.List.{filter_map, cons_option}
 use Rattle.std.specs.Option.{option_map}
 use Rattle.std.proofs.lemmas.List.{length-append}
 use Rattle.std.proofs.lemmas.Option.{none-some, same_Some}
-use Rattle.dia_dict.specs.Dictionary.{Dictionary, DictEntry, PlainDefinition, group_of, groups, definitions}
+use Rattle.dia_dict.specs.Dictionary.{Dictionary, DictEntry, PlainDefinition, group_place, groups, definitions}
 use Rattle.dia_dict.proofs.tests.answers.same_entry.Goals as goal
 
 -- a member that has an image is one of as many
@@ -17,7 +17,7 @@ images_before {X} {Y} h (z ∷ zs) (suc i) x y at here = by (h z) (images_before
     by None fewer = fewer
     by (Some w) fewer = omega (arith, fewer)
 
-group-within : (d : Dictionary) (entry k : ℕ) → group_of d entry ≡ Some k → k < length (definitions d)
+group-within : (d : Dictionary) (entry k : ℕ) → group_place d entry ≡ Some k → k < length (definitions d)
 group-within d entry k found = at (slice_get d.entries entry) refl found
   where
     grouped : (e : DictEntry) (o : Option PlainDefinition) → slice_get d.entries entry ≡ Some e → e.group ≡ o

@@ -4,7 +4,7 @@ use Rattle.std.proofs.lemmas.List.{length-map}
 use Rattle.dia_peer.specs.declared.event.Output.{Output}
 use Rattle.dia_peer.specs.declared.event.Output.TheVariants as output
 use Rattle.dia_peer.specs.declared.event.State.TheVariants.{Open}
-use Rattle.dia_peer.specs.declared.kept.Ids.{Ids}
+use Rattle.dia_peer.specs.declared.kept_requests.Ids.{Ids}
 use Rattle.dia_peer.specs.Core.{Pair, PlainCore, the_pair, pairs_of}
 use Rattle.dia_peer.specs.Messages.{cea}
 use Rattle.dia_peer.specs.Table.{Sends, accepts}

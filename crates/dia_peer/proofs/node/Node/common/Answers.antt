@@ -7,13 +7,13 @@ use mathlib.Core.Sum.{⊎_set}
 use Rattle.dia_peer.specs.declared.config.App.{App}
 use Rattle.dia_peer.specs.declared.config.Kind.{Kind}
 use Rattle.dia_peer.specs.declared.config.Kind.TheVariants.{Auth}
-use Rattle.dia_peer.specs.declared.named.Named.{Named}
+use Rattle.dia_peer.specs.declared.named_apps.NamedApps.{NamedApps}
 use Rattle.dia_peer.specs.Core.{Pair, pair_of, pairs_of, same_pair, sorted_pairs}
 use Rattle.dia_peer.specs.Incoming.{pairs_named}
-use Rattle.dia_peer.proofs.Keeping.{kept_step}
+use Rattle.dia_peer.proofs.KeptApplications.{kept_step}
 use Rattle.dia_peer.proofs.node.Node.common.Goals as goal
 
-abbrev kept : Named → Pair → Bool
+abbrev kept : NamedApps → Pair → Bool
 kept n p = list_any (same_pair p) (pairs_named n)
 
 in_order : (items : List (Kind × ℕ)) (apps : List App) → ∥ pairs_of items ≡ sorted_pairs (map pair_of apps) ∥₁ → pairs_of items ≡ sorted_pairs (map pair_of apps)

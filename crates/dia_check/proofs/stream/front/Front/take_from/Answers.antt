@@ -13,4 +13,5 @@ returns c =
     let count = ap length after in
     let room : take c.min-taken.result bytes ≡ take (20 - old.count) bytes = ap (λ n. take n bytes) c.min-taken.ensures ∙ take_least (20 - old.count) bytes in
     let kept : length (front_bytes old) ≡ old.count = omega (arith, length-take old.count old.bytes) in
-    take-put_mid old.count _ old.bytes _ _ (omega (arith, length-take c.min-taken.result bytes)) (omega arith) ∙ ap (λ p. front_bytes old ++ p) (after ∙ room ∙ ap (λ n. take (20 - n) bytes) (sym kept)) ∙ take-append_room 20 (front_bytes old) bytes (omega arith)
+    take-put_mid old.count _ old.bytes _ _ (omega (arith, length-take c.min-taken.result bytes)) (omega arith) ∙ ap (λ p. front_bytes old ++ p)
+    (after ∙ room ∙ ap (λ n. take (20 - n) bytes) (sym kept)) ∙ take-append_room 20 (front_bytes old) bytes (omega arith)

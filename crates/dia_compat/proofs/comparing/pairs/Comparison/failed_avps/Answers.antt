@@ -1,8 +1,8 @@
 use Rattle.std.proofs.Common.{◌≡◌, ◌<◌, ℕ, Option, true, false, refl, inl, inr, length, sym, ap, subst, ◌∙◌}
 use Rattle.std.specs.Prelude.{IfSome}
-use Rattle.dia_dict.specs.Dictionary.{definitions, group_of}
-use Rattle.dia_compat.specs.Comparing.{failed_groups}
-use Rattle.dia_compat.proofs.Grouping.{group_within}
+use Rattle.dia_dict.specs.Dictionary.{definitions, group_place}
+use Rattle.dia_compat.specs.PairTests.{failed_groups}
+use Rattle.dia_compat.proofs.GroupNumbers.{group_within}
 use Rattle.dia_compat.proofs.comparing.pairs.Comparison.failed_avps.Goals as goal
 
 pub failed_groups-requires-clause-first : goal.failed_groups-requires-clause-first
@@ -23,7 +23,7 @@ returns g c = λ e f at at'.
     let failed = failed_groups all.cover.unknown da db all.cover.paired.keys all.cover.uncovered.items all.cover.strangers_fit in
     inl (
       (c.is_avp_pair.ensures e f at at').0 c.if-not-is_avp_pair.false,
-      c.failed_groups.ensures ∙ ap (λ (o : Option ℕ). failed o c.group-2.result) c.group.ensures ∙ ap (failed (group_of da c.args.first)) c.group-2.ensures,
+      c.failed_groups.ensures ∙ ap (λ (o : Option ℕ). failed o c.group-2.result) c.group.ensures ∙ ap (failed (group_place da c.args.first)) c.group-2.ensures,
     )
 
 pub returns-then-not-is_avp_pair : goal.returns-then-not-is_avp_pair

@@ -1,10 +1,10 @@
 use Rattle.std.proofs.Common.{◌≡◌, ◌+◌, length, map, ℕ, Bool, true, false, sym, ap, ◌∙◌}
 use Rattle.std.specs.Prelude.{◌&&◌}
 use Rattle.std.proofs.lemmas.Bool.{and_from}
-use Rattle.dia_dict.specs.Dictionary.{plain, groups}
-use Rattle.dia_compat.specs.Comparing.{plain_names, same_selector, is_proxiable, is_selected, is_command_pair, failed_commands}
-use Rattle.dia_compat.proofs.Naming.{command_at}
-use Rattle.dia_compat.proofs.ByCode.{fails_rules, fails_tenth, kept_at, and_false}
+use Rattle.dia_dict.specs.Dictionary.{plain_definition, groups}
+use Rattle.dia_compat.specs.PairTests.{plain_names, same_selector, is_proxiable, is_selected, is_command_pair, failed_commands}
+use Rattle.dia_compat.proofs.SetsOfNames.{command_at}
+use Rattle.dia_compat.proofs.CommandsByCode.{fails_rules, fails_tenth, kept_at, and_false}
 use Rattle.dia_compat.proofs.comparing.pairs.Comparison.failed_commands.Goals as goal
 use Rattle.dia_compat.proofs.comparing.pairs.Comparison.failed_commands.Goals.{else-may_stand_for-via-then-may_stand_for+else-index, else-may_stand_for-via-else-may_stand_for}
 
@@ -14,8 +14,8 @@ returns-then-index g c =
     let da = g.A.Book.meaning all.a.book.now in
     let db = g.B.Book.meaning all.b.book.now in
     let pairs = map plain_names all.beside.keys in
-    let x = plain c.def.result.now in
-    let y = plain c.def-2.result.now in
+    let x = plain_definition c.def.result.now in
+    let y = plain_definition c.def-2.result.now in
     let failed = failed_commands all.cover.unknown da db all.cover.paired.keys all.cover.uncovered.items all.cover.strangers_fit pairs in
     let selected = kept_at (is_selected da db pairs) da.commands all.selected.items c.args.first x c.index.result.now all.all_selected
     (command_at da c.args.first c.command_at.result x c.command_at.ensures c.def.ensures) c.index.ensures in
@@ -31,8 +31,8 @@ returns-else-may_stand_for g c =
     let da = g.A.Book.meaning all.a.book.now in
     let db = g.B.Book.meaning all.b.book.now in
     let pairs = map plain_names all.beside.keys in
-    let x = plain c.def.result.now in
-    let y = plain c.def-2.result.now in
+    let x = plain_definition c.def.result.now in
+    let y = plain_definition c.def-2.result.now in
     let failed = failed_commands all.cover.unknown da db all.cover.paired.keys all.cover.uncovered.items all.cover.strangers_fit pairs in
     let may = same_selector x.head y.head && is_proxiable x.head y.head in
     let none : is_command_pair da db pairs x y ≡ false = elim c.else-may_stand_for.branch [

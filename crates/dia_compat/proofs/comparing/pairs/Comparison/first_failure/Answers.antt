@@ -1,5 +1,5 @@
-use Rattle.dia_compat.specs.Failing.{PairTest}
-use Rattle.dia_compat.proofs.Pairing.{one_pair_more, this_fails, this_passes, stood_before, is_old}
+use Rattle.dia_compat.specs.FirstFailures.{PairTest}
+use Rattle.dia_compat.proofs.SetsOfPairs.{one_pair_more, this_fails, this_passes, stood_before, is_old}
 use Rattle.dia_compat.proofs.comparing.pairs.Comparison.first_failure.Goals as goal
 use Rattle.dia_compat.proofs.comparing.pairs.Comparison.first_failure.Goals.{then-branch+in-None, else-branch}
 
@@ -26,6 +26,7 @@ loop-place-preserved g c =
                 c.as_str-first.result.now c.as_str-second.result.now c.as_str-first.ensures.value c.as_str-second.ensures.value w.failed.result w.in-None.is (w.failed.ensures table sa sb look)
             | else-branch w ↦ stood_before P pairs i p c.loop-place-test.true c.index-pairs-place.is (c.loop-place.invariant.passed table sa sb look)
                 c.as_str-first.result.now c.as_str-second.result.now c.as_str-first.ensures.value c.as_str-second.ensures.value
-                (is_old c.loop-place.seen.keys (c.as_str-first.result, c.as_str-second.result) pairs i c.loop-place.invariant.seen c.in_ok-insert.field-0 c.in_ok-insert.ensures.added w.if-branch.false)
+                (is_old c.loop-place.seen.keys (c.as_str-first.result, c.as_str-second.result)
+                pairs i c.loop-place.invariant.seen c.in_ok-insert.field-0 c.in_ok-insert.ensures.added w.if-branch.false)
           ];
     }

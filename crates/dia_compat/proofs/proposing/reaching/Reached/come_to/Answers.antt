@@ -1,6 +1,6 @@
 use Rattle.std.proofs.Common.{ap, sym, ◌∙◌}
 use Rattle.std.specs.Prelude.{is_some}
-use Rattle.dia_compat.proofs.Reaching.{is_known, came_to}
+use Rattle.dia_compat.proofs.ReachedKeys.{is_known, came_to}
 use Rattle.dia_compat.proofs.proposing.reaching.Reached.come_to.Goals as goal
 
 pub returns-in_ok-insert : goal.returns-in_ok-insert

@@ -1,5 +1,5 @@
 use Rattle.std.proofs.Common.{arith}
-use Rattle.dia_compat.proofs.Reaching.{listed_more}
+use Rattle.dia_compat.proofs.ReachedKeys.{listed_more}
 use Rattle.dia_compat.proofs.proposing.reaching.Reached.come_to_listed.Goals as goal
 
 pub loop-rule-preserved : goal.loop-rule-preserved

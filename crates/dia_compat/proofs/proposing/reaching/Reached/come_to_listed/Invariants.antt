@@ -1,5 +1,5 @@
 use Rattle.std.proofs.Common.{take}
-use Rattle.dia_compat.specs.Reaching.{IsAllowed, ComesToAll}
+use Rattle.dia_compat.specs.ReachedKeys.{IsAllowed, ComesToAll}
 use Rattle.dia_compat.proofs.proposing.reaching.Reached.come_to_listed.Given as goal
 
 abbrev pub invariant-loop-rule : goal.invariant-loop-rule

@@ -2,7 +2,7 @@ use Rattle.std.proofs.Common.{arith, refl, ap, subst, List, ◌∙◌}
 use Rattle.std.proofs.lemmas.List.{take_all}
 use Rattle.dia_wire.specs.declared.Key.{Key}
 use Rattle.dia_compat.specs.declared.proposing.reaching.Reached.{Reached}
-use Rattle.dia_compat.proofs.Reaching.{SortsAll, sorts_none, sorts_more, sorts_all}
+use Rattle.dia_compat.proofs.ReachedKeys.{SortsAll, sorts_none, sorts_more, sorts_all}
 use Rattle.dia_compat.proofs.proposing.reaching.Reached.come_to_unlisted.Goals as goal
 
 pub loop-key-init : goal.loop-key-init

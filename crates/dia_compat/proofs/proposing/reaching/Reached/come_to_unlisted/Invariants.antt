@@ -1,7 +1,7 @@
 use Rattle.std.proofs.Common.{◌≡◌, Some, take}
 use Rattle.std.specs.Prelude.{slice_get}
 use Rattle.dia_dict.specs.Dictionary.{PlainDefinition, definitions}
-use Rattle.dia_compat.proofs.Reaching.{SortsAll}
+use Rattle.dia_compat.proofs.ReachedKeys.{SortsAll}
 use Rattle.dia_compat.proofs.proposing.reaching.Reached.come_to_unlisted.Given as goal
 
 abbrev pub invariant-loop-key : goal.invariant-loop-key

@@ -1,8 +1,8 @@
 use Rattle.std.proofs.Common.{arith, refl}
 use Rattle.std.proofs.lemmas.List.{nil_from_length}
 use Rattle.dia_wire.specs.declared.Key.{Key}
-use Rattle.dia_compat.specs.Reaching.{IsShared, Admits}
-use Rattle.dia_compat.proofs.Reaching.{following_none, follow_group, follow_none, following_all, taken_nearer}
+use Rattle.dia_compat.specs.ReachedKeys.{IsShared, Admits}
+use Rattle.dia_compat.proofs.ReachedKeys.{following_none, follow_group, follow_none, following_all, taken_nearer}
 use Rattle.dia_compat.proofs.proposing.reaching.Reached.follow.Goals as goal
 
 pub loop-key-init : goal.loop-key-init
@@ -23,7 +23,9 @@ loop-key-preserved-in-Continue-1 g c =
     let db = g.B.Book.meaning c.args.b.now in
     let group = c.in-Some-shared_group.ensures.some in
     let all = c.in_ok-come_to_admitted.ensures group.0 group.1 in
-    follow_group da db c.args.self.now c.loop-key.self (record { keys = c.loop-key.self.keys; waiting = c.pop.new.self; rest = c.loop-key.self.rest }) c.come_to_admitted.new.self c.in-Some.key group.0 c.loop-key.invariant (λ other. refl) c.in-Some.ensures.items group.2 c.loop-key.invariant.rest all
+    follow_group da db c.args.self.now c.loop-key.self
+    (record { keys = c.loop-key.self.keys; waiting = c.pop.new.self; rest = c.loop-key.self.rest }) c.come_to_admitted.new.self
+    c.in-Some.key group.0 c.loop-key.invariant (λ other. refl) c.in-Some.ensures.items group.2 c.loop-key.invariant.rest all
 
 pub loop-key-preserved : goal.loop-key-preserved
 loop-key-preserved g c =

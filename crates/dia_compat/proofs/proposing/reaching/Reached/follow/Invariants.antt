@@ -1,5 +1,5 @@
-use Rattle.dia_compat.specs.Reaching.{potential}
-use Rattle.dia_compat.proofs.Reaching.{Following}
+use Rattle.dia_compat.specs.ReachedKeys.{potential}
+use Rattle.dia_compat.proofs.ReachedKeys.{Following}
 use Rattle.dia_compat.proofs.proposing.reaching.Reached.follow.Given as goal
 
 abbrev pub invariant-loop-key : goal.invariant-loop-key

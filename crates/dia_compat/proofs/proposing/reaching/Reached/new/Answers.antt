@@ -1,4 +1,4 @@
-use Rattle.dia_compat.proofs.Reaching.{first_rest}
+use Rattle.dia_compat.proofs.ReachedKeys.{first_rest}
 use Rattle.dia_compat.proofs.proposing.reaching.Reached.new.Goals as goal
 
 pub returns-clause-rest : goal.returns-clause-rest

@@ -4,7 +4,7 @@ use Rattle.dia_ccf.specs.declared.source.Decl.{Decl}
 use Rattle.dia_ccf.specs.declared.source.Def.{Def}
 use Rattle.dia_ccf.specs.Plain.{PlainDecl, PlainDef, plain_decl, plain_def}
 use Rattle.dia_dict.specs.Resolution.{duplicate_names}
-use Rattle.dia_dict.specs.Refusing.{IsRefused}
+use Rattle.dia_dict.specs.SourceChecks.{IsRefused}
 use Rattle.dia_dict.proofs.Refusals.{IsRefused-left, IsRefused-right}
 use Rattle.dia_dict.proofs.resolving.names.Names.new.Goals as goal
 

@@ -1,0 +1,122 @@
+-- What the functions of the reader do, in terms of the machine.
+use Rattle.std.specs.Prelude.{◌≡◌, ℕ, ◌+◌, ◌<◌, ◌≤◌, Bool, true, false, IsTrue, List, [], ◌∷◌, ◌++◌, Option, Some, None, Result, Ok, Err, MatchBool, is_some, length, string_bytes, String}
+use Rattle.std.specs.Option.{option_map}
+use Rattle.std.specs.Global.{Global}
+use Rattle.dia_ccf.specs.declared.reading.refusal.Refusal.{Refusal}
+use Rattle.dia_ccf.specs.declared.reading.refusal.Refusal.TheVariants as refusal
+use Rattle.dia_ccf.specs.declared.reading.Reader.{Reader}
+use Rattle.dia_ccf.specs.declared.source.Source.{Source}
+use Rattle.dia_ccf.specs.declared.fault.CcfFault.{CcfFault}
+use Rattle.dia_ccf.specs.declared.fault.CcfFault.TheVariants as faults
+use Rattle.dia_ccf.specs.Tokens.{Token, Comma, line_at}
+use Rattle.dia_ccf.specs.LexerTokens.{left_from}
+use Rattle.dia_ccf.specs.declared.reading.definitions.Behind.{Behind}
+use Rattle.dia_ccf.specs.declared.reading.definitions.Behind.TheVariants as behinds
+use Rattle.dia_ccf.specs.declared.source.RuleKind.TheVariants.{Fixed}
+use Rattle.dia_ccf.specs.Names.{is_name}
+use Rattle.dia_ccf.specs.Plain.{PlainSource, PlainDef, plain_source, plain_rule}
+use Rattle.dia_ccf.specs.Machine.{State, Place, Between, Def_assign, Rules, add_def, with_rule, Outcome, Reads, Stops, outcome, next, whole, refused, why, is_keyword, same_sign}
+
+-- the tokens from the one ahead on
+abbrev pub left : Reader → List Token
+left reader = left_from reader.text.now reader.at
+
+-- new has gone past these tokens
+abbrev pub Passes : Reader → List Token → Reader → Type 0
+Passes old tokens new = (left old ≡ tokens ++ left new) × (old.text.now ≡ new.text.now) × (new.taken ≡ old.taken + length tokens)
+
+-- whether a token is ahead that passes the test
+abbrev pub begins_with : (Token → Bool) → List Token → Bool
+begins_with test [] = false
+begins_with test (token ∷ tokens) = test token
+
+-- a token that passes the test was passed, or none is ahead
+abbrev pub Takes : (Token → Bool) → Reader → Bool → Reader → Type 0
+Takes test old true new = (token : Token) × (test token ≡ true) × Passes old (token ∷ []) new
+Takes test old false new = (begins_with test (left old) ≡ false) × (new ≡ old)
+
+-- a flag was taken, with a comma behind it or none; or none is ahead, and whether a comma was read stays as it was
+abbrev pub Flags_read : List ℕ → Bool → Reader → Bool × Bool → Reader → Type 0
+Flags_read text comma old found new = (mid : Reader) × Takes (is_keyword text) old found.0 mid × MatchBool found.0 (Takes (same_sign Comma) mid found.1 new) ((found.1 ≡ comma) × (new ≡ mid))
+
+abbrev pub why_ahead : Bool → Bool → List Token → Refusal
+why_ahead numbers names [] = refusal.Syntax
+why_ahead numbers names (token ∷ tokens) = why numbers names token
+
+-- what is read of the one token ahead, where numbers and names tells whether some number or name would do
+abbrev pub AcceptsUnless : Bool → Bool → {Y : Type 0} → (Token → Option Y) → Reader → Refusal → Reader → Type 0
+AcceptsUnless numbers names read old refusal.NoMemory new = Unit {0}
+AcceptsUnless numbers names read old error new = (new ≡ old) × (begins_with (λ token. is_some (read token)) (left old) ≡ false) × (error ≡ why_ahead numbers names (left old))
+
+abbrev pub Accepts : Bool → Bool → {X Y : Type 0} → (Token → Option Y) → (X → Y) → Reader → Result X Refusal → Reader → Type 0
+Accepts numbers names read view old (Ok x) new = (token : Token) × (read token ≡ Some (view x)) × Passes old (token ∷ []) new
+Accepts numbers names read view old (Err error) new = AcceptsUnless numbers names read old error new
+
+-- the text, and where reading on from a state leads
+abbrev pub Course : Type 0
+Course = List ℕ × Outcome
+
+abbrev pub course : State → Reader → Course
+course state reader = (reader.text.now, outcome state (left reader))
+
+-- the reader stands where the machine stops
+abbrev pub StopsAt : Course → Refusal → Reader → Type 0
+StopsAt from refusal.NoMemory new = Unit {0}
+StopsAt from error new = from ≡ (new.text.now, Stops error (left new))
+
+-- what was read leads to a state, unless the machine stops
+abbrev pub Leads : {X : Type 0} → Course → (X → State) → Result X Refusal → Reader → Type 0
+Leads from to (Ok x) new = from ≡ course (to x) new
+Leads from to (Err error) new = StopsAt from error new
+
+-- what the machine does with the token ahead, and whether some number or name would do in its place
+abbrev pub Wants : Bool → Bool → (Token → Option State) → State → List Token → Type 0
+Wants numbers names to state [] = whole state ≡ None
+Wants numbers names to state (token ∷ tokens) = (next state token ≡ to token) × (refused state token ≡ why numbers names token)
+
+-- the same for every token
+pub record Reads_by {Y : Type 0} (numbers names : Bool) (read : Token → Option Y) (to : Y → State) (state : State) : Type 0 where
+  pub next_is : (token : Token) → next state token ≡ option_map to (read token)
+  pub refused_is : (token : Token) → refused state token ≡ why numbers names token
+  pub unfinished : whole state ≡ None
+
+-- the place behind a definition and the name that was read behind it
+abbrev pub behind : Option (String Global) → Place
+behind None = Between
+behind (Some name) = Def_assign (string_bytes name)
+
+-- the state behind some rules of a definition and what stands behind them
+abbrev pub after_rules : PlainSource → PlainDef → Behind → State
+after_rules done d (behinds.Rule rule) = (done, Rules (with_rule d (plain_rule rule)))
+after_rules done d (behinds.Definition name) = (add_def done d, Def_assign (string_bytes name))
+after_rules done d behinds.Nothing = (add_def done d, Between)
+
+-- a fixed rule comes only behind fixed ones
+abbrev pub KeepsOrder : Behind → Bool → Type 0
+KeepsOrder (behinds.Rule rule) fixed = rule.kind ≡ Fixed → fixed ≡ true
+KeepsOrder found fixed = Unit {0}
+
+abbrev pub NamesNext : Behind → Type 0
+NamesNext (behinds.Definition name) = IsTrue (is_name (string_bytes name))
+NamesNext found = Unit {0}
+
+-- a rule has a token at least
+abbrev pub Goes : Behind → ℕ → ℕ → Type 0
+Goes (behinds.Rule rule) old new = old < new
+Goes found old new = old ≤ new
+
+-- the whole text was read, or the machine stops
+abbrev pub Finishes : Course → Result Source Refusal → Reader → Type 0
+Finishes from (Ok source) new = from ≡ (new.text.now, Reads (plain_source source))
+Finishes from (Err error) new = StopsAt from error new
+
+-- nothing has been read
+abbrev pub nothing_read : PlainSource
+nothing_read = record { avps = []; groups = []; commands = [] }
+
+-- what is told where the reader stands
+abbrev pub IsToldAt : Refusal → Reader → CcfFault → Type 0
+IsToldAt refusal.Syntax reader fault = fault ≡ faults.Syntax (reader.taken + 1) (line_at reader.text.now reader.at)
+IsToldAt refusal.Number reader fault = fault ≡ faults.Number (line_at reader.text.now reader.at)
+IsToldAt refusal.Limit reader fault = fault ≡ faults.Limit (line_at reader.text.now reader.at)
+IsToldAt refusal.NoMemory reader fault = fault ≡ faults.NoMemory

@@ -1,0 +1,566 @@
+-- What a proposal comes to, step by step.
+use Rattle.std.proofs.Common.{◌≡◌, ℕ, zero, suc, ◌+◌, ◌<◌, ◌≤◌, Bool, true, false, not, cond, List, [], ◌∷◌, ◌++◌}
+use Rattle.std.proofs.Common.{length, map, filter, take, get_or, Option, Some, None, refl, sym, ap, subst, ◌∙◌, arith, inl, inr}
+use Rattle.std.specs.Prelude.{◌⊎◌, ◌↔◌, is_some, IsSome, IfSome, Contains, slice_get, count_by, option_and_then}
+use Rattle.std.specs.Option.{option_map, option_map_or}
+use Rattle.std.specs.List.{filter_map, cons_option}
+use Rattle.std.proofs.lemmas.Bool.{not-true}
+use Rattle.std.proofs.lemmas.List.{take_more, length-append}
+use Rattle.std.proofs.lemmas.Option.{none-some, same_Some}
+use Rattle.dia_wire.specs.declared.Key.{Key}
+use Rattle.dia_dict.specs.Keys.{same_key}
+use Rattle.dia_dict.proofs.SameKeys.{same_key-refl, same_key-true}
+use Rattle.dia_dict.proofs.Members.{into_left, into_map}
+use Rattle.dia_dict.specs.declared.Slot.TheVariants.{Fixed, Loose, Unlisted}
+use Rattle.dia_dict.specs.declared.DRule.{DRule}
+use Rattle.dia_dict.specs.Dictionary.{Dictionary, DictEntry, PlainDefinition, definitions, groups, entry_of, group_place, lists_key, slot_at, slot_of, is_fixed}
+use Rattle.dia_check.specs.Valid.{known}
+use Rattle.dia_compat.specs.declared.proposing.reaching.Reached.{Reached}
+use Rattle.dia_compat.specs.Below.{IsListed, HasWildcard, IsAboveZero, IsKnown}
+use Rattle.dia_compat.specs.ReachedKeys.{has, Waits, IsShared, IsAllowedBy, IsAllowed, Admits, Wants, Inserts, potential, Grew}
+use Rattle.dia_compat.specs.ReachedKeys.{ComesTo, ComesToAll, Follows, root, in_group, IsSharedGroup, AllWait, AreRest, Sorts}
+use Rattle.dia_compat.proofs.RunsOfFixedRules.{IsIn}
+use Rattle.dia_compat.proofs.MemberCounts.{in_at, at_in, in_contains, contains_in, in_left, in_right, in_append, into_filter, count_cons, count_mono}
+use Rattle.dia_compat.proofs.FitInSecond.{known_entry}
+use Rattle.dia_compat.proofs.SelectedCommands.{found_or_not, Found, NotFound}
+
+-- ---- keys that are known
+
+pub some_of : {X : Type 0} (o : Option X) → IsSome o → (x : X) × (o ≡ Some x)
+some_of None h = absurd (let e : false ≡ true = h in cc)
+some_of (Some x) h = (x, refl)
+
+pub known_by_entry : (d : Dictionary) (key : Key) (i : ℕ) → entry_of d key ≡ Some i → (e : DictEntry) × (slice_get d.entries i ≡ Some e) × (known d key ≡ Some e)
+known_by_entry d key i at = by (found_or_not (λ (e : DictEntry). same_key key e.key) d.entries)
+  where
+    by : Found (λ (e : DictEntry). same_key key e.key) d.entries ⊎ NotFound (λ (e : DictEntry). same_key key e.key) d.entries
+        → (e : DictEntry) × (slice_get d.entries i ≡ Some e) × (known d key ≡ Some e)
+    by (inl f) =
+        let same : f.place ≡ i = same_Some f.place i (sym f.is_place ∙ at) in
+        let there = ap (slice_get d.entries) (sym same) ∙ f.at in
+        (f.item, there, ap (λ (o : Option ℕ). option_and_then (λ (n : ℕ). slice_get d.entries n) o) at ∙ there)
+    by (inr n) = absurd (let e : None ≡ Some i = sym n.is_none ∙ at in cc)
+
+pub is_known : (d : Dictionary) (key : Key) → IsSome (entry_of d key) → IsKnown d key
+is_known d key h = let i = some_of (entry_of d key) h in let k = known_by_entry d key i.0 i.1 in ap (λ (o : Option DictEntry). is_some o) k.2
+
+pub when_some : {X : Type 0} (P : X → Type 0) (o : Option X) → ((x : X) → o ≡ Some x → P x) → IfSome o P
+when_some P None h = tt
+when_some P (Some x) h = h x refl
+
+pub at_some : {X : Type 0} (P : X → Type 0) (o : Option X) (x : X) → IfSome o P → o ≡ Some x → P x
+at_some {X} P o x h e = let Q : Option X → Type 0 = λ w. IfSome w P in subst Q e h
+
+pub there_is : {X : Type 0} (xs : List X) (i : ℕ) → i < length xs → (x : X) × (slice_get xs i ≡ Some x)
+there_is [] i h = absurd (omega arith)
+there_is (x ∷ xs) zero h = (x, refl)
+there_is (x ∷ xs) (suc i) h = there_is xs i (omega arith)
+
+-- ---- counts
+
+count_less : {X : Type 0} (p q : X → Bool) (xs : List X) (x : X) → ((y : X) → q y ≡ true → p y ≡ true) → IsIn x xs → p x ≡ true → q x ≡ false → count_by q xs + 1 ≤ count_by p xs
+count_less p q [] x le i px qx = absurd i
+count_less p q (y ∷ xs) x le (inl same) px qx =
+    let one : cond {A = ℕ} (q y) 1 0 ≡ 0 = ap (λ (b : Bool). cond {A = ℕ} b 1 0) (ap q (sym same) ∙ qx) in
+    let other : cond {A = ℕ} (p y) 1 0 ≡ 1 = ap (λ (b : Bool). cond {A = ℕ} b 1 0) (ap p (sym same) ∙ px) in
+    let rest = count_mono q p xs (λ z _. le z) in
+    omega (arith, count_cons p y xs, count_cons q y xs)
+count_less p q (y ∷ xs) x le (inr i) px qx =
+    let rest = count_less p q xs x le i px qx in
+    let first = one_less (q y) (p y) (le y) in
+    omega (arith, count_cons p y xs, count_cons q y xs)
+  where
+    one_less : (a b : Bool) → (a ≡ true → b ≡ true) → cond {A = ℕ} a 1 0 ≤ cond {A = ℕ} b 1 0
+    one_less true true h = omega arith
+    one_less true false h = absurd (let e : false ≡ true = h refl in cc)
+    one_less false b h = omega arith
+
+-- ---- one key more
+
+module _ (key : Key) (old new : Reached) (ins : Inserts key old new) where
+  has_more : (other : Key) → has old other ≡ true → has new other ≡ true
+  has_more other h = ins.keys other ∙ by (same_key key other)
+    where
+      by : (b : Bool) → cond b true (has old other) ≡ true
+      by true = refl
+      by false = h
+
+  has_it : has new key ≡ true
+  has_it = ins.keys key ∙ ap (λ (b : Bool). cond b true (has old key)) (same_key-refl key)
+
+  had_or_is : (other : Key) → has new other ≡ true → (has old other ≡ true) ⊎ (other ≡ key)
+  had_or_is other h = by (same_key key other) refl
+    where
+      by : (b : Bool) → same_key key other ≡ b → (has old other ≡ true) ⊎ (other ≡ key)
+      by true e = inr (sym (same_key-true key other e))
+      by false e = inl (ap (λ (b : Bool). cond b true (has old other)) (sym e) ∙ sym (ins.keys other) ∙ h)
+
+  pub grew_by_one : (da db : Dictionary) → IsShared da db key → Grew da (λ other. (other ≡ key) × IsShared da db other) old new
+  grew_by_one da db shared = by (has old key) refl
+    where
+      e : (e : DictEntry) × (known da key ≡ Some e)
+      e = some_of (known da key) shared.0
+
+      only : (other : Key) → has new other ≡ true → (has old other ≡ true) ⊎ ((other ≡ key) × IsShared da db other)
+      only other h = pick (had_or_is other h)
+        where
+          pick : (has old other ≡ true) ⊎ (other ≡ key) → (has old other ≡ true) ⊎ ((other ≡ key) × IsShared da db other)
+          pick (inl g) = inl g
+          pick (inr same) = inr (same, subst (IsShared da db) (sym same) shared)
+
+      fewer : (entry : DictEntry) → not (has new entry.key) ≡ true → not (has old entry.key) ≡ true
+      fewer entry h = flip (has old entry.key) refl
+        where
+          flip : (b : Bool) → has old entry.key ≡ b → not b ≡ true
+          flip false g = refl
+          flip true g = absurd (let f : true ≡ false = sym (has_more entry.key g) ∙ not-true (has new entry.key) h in cc)
+
+      by : (b : Bool) → has old key ≡ b → Grew da (λ other. (other ≡ key) × IsShared da db other) old new
+      by true had =
+          let same : new.waiting.items ≡ old.waiting.items = ins.waiting ∙ ap (λ (b : Bool). cond b old.waiting.items (old.waiting.items ++ key ∷ [])) had in
+          let less = count_mono (λ (x : DictEntry). not (has new x.key)) (λ (x : DictEntry). not (has old x.key)) da.entries (λ x _. fewer x) in
+          record {
+            grows = has_more;
+            only = only;
+            still = λ other w. subst (λ (xs : List Key). Contains xs other) (sym same) w;
+            waits = λ other w. inl (subst (λ (xs : List Key). Contains xs other) same w);
+            queued = λ other h. stay other (had_or_is other h);
+            nearer = omega (arith, ap length same);
+          }
+        where
+          stay : (other : Key) → (has old other ≡ true) ⊎ (other ≡ key) → (has old other ≡ true) ⊎ Waits new other
+          stay other (inl g) = inl g
+          stay other (inr is) = inl (ap (has old) is ∙ had)
+      by false had =
+          let same : new.waiting.items ≡ old.waiting.items ++ key ∷ [] = ins.waiting ∙ ap (λ (b : Bool). cond b old.waiting.items (old.waiting.items ++ key ∷ [])) had in
+          let there = known_entry da key e.0 e.1 in
+          let less = count_less (λ (x : DictEntry). not (has old x.key)) (λ (x : DictEntry). not (has new x.key)) da.entries e.0 fewer there.0
+          (ap (λ (k : Key). not (has old k)) there.1 ∙ ap not had) (ap (λ (k : Key). not (has new k)) there.1 ∙ ap not has_it) in
+          record {
+            grows = has_more;
+            only = only;
+            still = λ other w. subst (λ (xs : List Key). Contains xs other) (sym same)
+                (contains_in (old.waiting.items ++ key ∷ []) other (in_left old.waiting.items (key ∷ []) other (in_contains old.waiting.items other w)));
+            waits = λ other w. left other (in_append old.waiting.items (key ∷ []) other (in_contains (old.waiting.items ++ key ∷ []) other (subst (λ (xs : List Key). Contains xs other) same w)));
+            queued = λ other h. last other (had_or_is other h) same;
+            nearer = omega (arith, ap length same, length-append old.waiting.items (key ∷ []));
+          }
+        where
+          left : (other : Key) → IsIn other old.waiting.items ⊎ IsIn other (key ∷ []) → Waits old other ⊎ (has new other ≡ true)
+          left other (inl i) = inl (contains_in old.waiting.items other i)
+          left other (inr (inl is)) = inr (ap (has new) is ∙ has_it)
+          left other (inr (inr none)) = absurd none
+
+          last : (other : Key) → (has old other ≡ true) ⊎ (other ≡ key) → new.waiting.items ≡ old.waiting.items ++ key ∷ [] → (has old other ≡ true) ⊎ Waits new other
+          last other (inl g) same = inl g
+          last other (inr is) same = inr (subst (λ (xs : List Key). Contains xs other) (sym same)
+              (contains_in (old.waiting.items ++ key ∷ []) other (in_right old.waiting.items (key ∷ []) other (inl is))))
+
+  pub came_to : (da db : Dictionary) → IsShared da db key → ComesTo da db key old new
+  came_to da db shared = record { grew = grew_by_one da db shared; there = λ _. has_it; rest = λ other _ i. inr (subst (λ (xs : List Key). Contains xs other) (sym ins.rest) i) }
+
+-- ---- several steps
+
+pub grew_none : (da : Dictionary) (P : Key → Type 0) (r : Reached) → Grew da P r r
+grew_none da P r = record {
+  grows = λ key h. h;
+  only = λ key h. inl h;
+  still = λ key h. h;
+  waits = λ key h. inl h;
+  queued = λ key h. inl h;
+  nearer = omega arith;
+}
+
+pub grew_then : (da : Dictionary) (P Q R : Key → Type 0) (x y z : Reached) → Grew da P x y → Grew da Q y z → ((key : Key) → P key → R key) → ((key : Key) → Q key → R key) → Grew da R x z
+grew_then da P Q R x y z one two first second = record {
+  grows = λ key h. two.grows key (one.grows key h);
+  only = λ key h. only key (two.only key h);
+  still = λ key w. two.still key (one.still key w);
+  waits = λ key w. waits key (two.waits key w);
+  queued = λ key h. queued key (two.queued key h);
+  nearer = let a = one.nearer in let b = two.nearer in omega arith;
+}
+  where
+    only : (key : Key) → (has y key ≡ true) ⊎ Q key → (has x key ≡ true) ⊎ R key
+    only key (inr q) = inr (second key q)
+    only key (inl h) = by (one.only key h)
+      where
+        by : (has x key ≡ true) ⊎ P key → (has x key ≡ true) ⊎ R key
+        by (inl g) = inl g
+        by (inr p) = inr (first key p)
+
+    waits : (key : Key) → Waits y key ⊎ (has z key ≡ true) → Waits x key ⊎ (has z key ≡ true)
+    waits key (inr h) = inr h
+    waits key (inl w) = by (one.waits key w)
+      where
+        by : Waits x key ⊎ (has y key ≡ true) → Waits x key ⊎ (has z key ≡ true)
+        by (inl v) = inl v
+        by (inr h) = inr (two.grows key h)
+
+    queued : (key : Key) → (has y key ≡ true) ⊎ Waits z key → (has x key ≡ true) ⊎ Waits z key
+    queued key (inr w) = inr w
+    queued key (inl h) = by (one.queued key h)
+      where
+        by : (has x key ≡ true) ⊎ Waits y key → (has x key ≡ true) ⊎ Waits z key
+        by (inl g) = inl g
+        by (inr w) = inr (two.still key w)
+
+-- what comes to all with P and then to all with Q has come to all with one of them
+pub all_then : (da db : Dictionary) (P Q R : Key → Type 0) (x y z : Reached) → ComesToAll da db P x y → ComesToAll da db Q y z
+    → ((key : Key) → P key → R key) → ((key : Key) → Q key → R key) → ((key : Key) → R key → P key ⊎ Q key) → ComesToAll da db R x z
+all_then da db P Q R x y z one two first second either = record {
+  grew = grew_then da (λ key. P key × IsShared da db key) (λ key. Q key × IsShared da db key) (λ key. R key × IsShared da db key) x y z one.grew two.grew (λ key p. (first key p.0, p.1))
+      (λ key q. (second key q.0, q.1));
+  there = λ key r shared. by key shared (either key r);
+  rest = λ key shared i. rest key shared (one.rest key shared i);
+}
+  where
+    rest : (key : Key) → IsShared da db key → (has y key ≡ true) ⊎ Contains y.rest.items key → (has z key ≡ true) ⊎ Contains z.rest.items key
+    rest key shared (inl h) = inl (two.grew.grows key h)
+    rest key shared (inr i) = two.rest key shared i
+
+    by : (key : Key) → IsShared da db key → P key ⊎ Q key → has z key ≡ true
+    by key shared (inl p) = two.grew.grows key (one.there key p shared)
+    by key shared (inr q) = two.there key q shared
+
+-- the same keys in other words
+pub all_same : (da db : Dictionary) (P Q : Key → Type 0) (x y : Reached) → ComesToAll da db P x y → ((key : Key) → P key → Q key) → ((key : Key) → Q key → IsShared da db key → P key)
+    → ComesToAll da db Q x y
+all_same da db P Q x y all first second = record {
+  grew = grew_then da (λ key. P key × IsShared da db key) (λ _. ⊥) (λ key. Q key × IsShared da db key) x y y all.grew (grew_none da (λ _. ⊥) y) (λ key p. (first key p.0, p.1))
+      (λ key none. absurd none);
+  there = λ key q shared. all.there key (second key q shared) shared;
+  rest = all.rest;
+}
+
+pub all_none : (da db : Dictionary) (P : Key → Type 0) (r : Reached) → ((key : Key) → ¬ P key) → ComesToAll da db P r r
+all_none da db P r none = record { grew = grew_none da (λ key. P key × IsShared da db key) r; there = λ key p _. absurd (none key p); rest = λ key _ i. inr i }
+
+pub all_one : (da db : Dictionary) (P : Key → Type 0) (key : Key) (x y : Reached) → ComesTo da db key x y → P key → ((other : Key) → P other → other ≡ key) → ComesToAll da db P x y
+all_one da db P key x y one p only = record {
+  grew = grew_then da (λ other. (other ≡ key) × IsShared da db other) (λ _. ⊥) (λ other. P other × IsShared da db other) x y y one.grew (grew_none da (λ _. ⊥) y)
+      (λ other h. (subst P (sym h.0) p, h.1)) (λ other none. absurd none);
+  there = λ other q shared. ap (has y) (only other q) ∙ one.there (subst (IsShared da db) (only other q) shared);
+  rest = one.rest;
+}
+
+-- ---- the rules of a definition
+
+in_more : {X : Type 0} (xs : List X) (i : ℕ) (x d : X) → i < length xs → IsIn x (take (i + 1) xs) → IsIn x (take i xs) ⊎ (x ≡ get_or xs i d)
+in_more {X} xs i x d within h = by (in_append (take i xs) (get_or xs i d ∷ []) x (subst (IsIn x) (take_more xs i d within) h))
+  where
+    by : IsIn x (take i xs) ⊎ IsIn x (get_or xs i d ∷ []) → IsIn x (take i xs) ⊎ (x ≡ get_or xs i d)
+    by (inl j) = inl j
+    by (inr (inl same)) = inr same
+    by (inr (inr none)) = absurd none
+
+in_front_too : {X : Type 0} (xs : List X) (i : ℕ) (x d : X) → i < length xs → IsIn x (take i xs) → IsIn x (take (i + 1) xs)
+in_front_too {X} xs i x d within h = subst (IsIn x) (sym (take_more xs i d within)) (in_left (take i xs) (get_or xs i d ∷ []) x h)
+
+in_last : {X : Type 0} (xs : List X) (i : ℕ) (d : X) → i < length xs → IsIn (get_or xs i d) (take (i + 1) xs)
+in_last {X} xs i d within = subst (IsIn (get_or xs i d)) (sym (take_more xs i d within)) (in_right (take i xs) (get_or xs i d ∷ []) (get_or xs i d) (inl refl))
+
+-- one rule more
+pub listed_more : (da db : Dictionary) (rules : List DRule) (i : ℕ) (d : DRule) (x y z : Reached) → i < length rules → ComesToAll da db (IsAllowed (take i rules)) x y
+    → ComesToAll da db (IsAllowedBy (get_or rules i d)) y z → ComesToAll da db (IsAllowed (take (i + 1) rules)) x z
+listed_more da db rules i d x y z within one two = all_then da db (IsAllowed (take i rules)) (IsAllowedBy r) (IsAllowed (take (i + 1) rules)) x y z one two
+    (λ key p. (p.0, (contains_in (take (i + 1) rules) p.0 (in_front_too rules i p.0 d within (in_contains (take i rules) p.0 p.1.0)), p.1.1), p.2))
+    (λ key q. (r, (contains_in (take (i + 1) rules) r (in_last rules i d within), q.0), q.1))
+    (λ key p. by key p (in_more rules i p.0 d within (in_contains (take (i + 1) rules) p.0 p.1.0)))
+  where
+    r : DRule
+    r = get_or rules i d
+
+    by : (key : Key) (p : IsAllowed (take (i + 1) rules) key) → IsIn p.0 (take i rules) ⊎ (p.0 ≡ r) → IsAllowed (take i rules) key ⊎ IsAllowedBy r key
+    by key p (inl j) = inl (p.0, (contains_in (take i rules) p.0 j, p.1.1), p.2)
+    by key p (inr same) = inr (ap (λ (s : DRule). s.key) (sym same) ∙ p.1.1, subst (λ (s : DRule). IsAboveZero s.max) same p.2)
+
+-- all rules, and the AVPs that are not listed
+pub admitted : (da db : Dictionary) (rules : List DRule) (x y z : Reached) → ((w : DRule) × HasWildcard rules w × IsAboveZero w.max) → ComesToAll da db (IsAllowed rules) x y
+    → ComesToAll da db (λ key. ¬ IsListed rules key) y z → ComesToAll da db (Admits rules) x z
+admitted da db rules x y z w one two = all_then da db (IsAllowed rules) (λ key. ¬ IsListed rules key) (Admits rules) x y z one two (λ key p. inl p) (λ key q. inr (w, q)) either
+  where
+    either : (key : Key) → Admits rules key → IsAllowed rules key ⊎ (¬ IsListed rules key)
+    either key (inl p) = inl p
+    either key (inr q) = inr q.1
+
+-- where the key has no slot, no rule lists it
+lists_key-some : (key : Key) (r : DRule) → lists_key key r ≡ true → r.key ≡ Some key
+lists_key-some key r h = by r.key refl h
+  where
+    by : (o : Option Key) → r.key ≡ o → option_map_or (same_key key) o false ≡ true → r.key ≡ Some key
+    by None e g = absurd (let f : false ≡ true = g in cc)
+    by (Some k) e g = e ∙ ap (λ (x : Key). Some x) (sym (same_key-true key k g))
+
+some_lists_key : (key : Key) (r : DRule) → r.key ≡ Some key → lists_key key r ≡ true
+some_lists_key key r e = ap (λ (o : Option Key). option_map_or (same_key key) o false) e ∙ same_key-refl key
+
+pub unlisted : (rules : List DRule) (key : Key) → (slot_of rules key ≡ Unlisted) ↔ (¬ IsListed rules key)
+unlisted rules key = by (found_or_not (lists_key key) rules)
+  where
+    slot_listed : (i : ℕ) (r : DRule) → slice_get rules i ≡ Some r → slot_at rules i ≡ Unlisted → ⊥
+    slot_listed i r at e = kind (is_fixed r) (ap (λ (o : Option DRule). option_map_or (λ (x : DRule). cond (is_fixed x) (Fixed i) (Loose i)) o Unlisted) (sym at) ∙ e)
+      where
+        kind : (b : Bool) → cond b (Fixed i) (Loose i) ≡ Unlisted → ⊥
+        kind true f = cc
+        kind false f = cc
+
+    by : Found (lists_key key) rules ⊎ NotFound (lists_key key) rules → (slot_of rules key ≡ Unlisted) ↔ (¬ IsListed rules key)
+    by (inl f) =
+        let listed : IsListed rules key = (f.item, (contains_in rules f.item (in_at rules f.place f.item f.at), lists_key-some key f.item f.passes)) in
+        (λ e. absurd (slot_listed f.place f.item f.at (ap (λ (o : Option ℕ). option_map_or (slot_at rules) o Unlisted) (sym f.is_place) ∙ e)), λ none. absurd (none listed))
+    by (inr n) = (
+      λ _. λ (r, h). absurd (let e : true ≡ false = sym (some_lists_key key r h.1) ∙ n.none r (in_contains rules r h.0) in cc),
+      λ _. ap (λ (o : Option ℕ). option_map_or (slot_at rules) o Unlisted) n.is_none,
+    )
+
+-- ---- the keys that a definition does not list
+
+pub entry_there : (d : Dictionary) (key : Key) → IsKnown d key → is_some (entry_of d key) ≡ true
+entry_there d key h = by (entry_of d key) refl
+  where
+    by : (o : Option ℕ) → entry_of d key ≡ o → is_some (entry_of d key) ≡ true
+    by (Some i) e = ap (λ (o : Option ℕ). is_some o) e
+    by None e =
+        let none : known d key ≡ None = ap (λ (o : Option ℕ). option_and_then (λ (n : ℕ). slice_get d.entries n) o) e in
+        absurd (let f : false ≡ true = sym (ap (λ (o : Option DictEntry). is_some o) none) ∙ h in cc)
+
+-- at first the rest are all keys that both know
+pub first_rest : (da db : Dictionary) (r : Reached) → r.rest.items ≡ filter (λ key. is_some (entry_of db key)) (map (λ e. e.key) da.entries) → AreRest da db r
+first_rest da db r is = λ key shared.
+    let e = some_of (known da key) shared.0 in
+    let there = known_entry da key e.0 e.1 in
+    let p = at_in da.entries e.0 there.0 in
+    let keys = map (λ (x : DictEntry). x.key) da.entries in
+    let inside = subst (λ (k : Key). IsIn k keys) there.1 (in_at keys p.place e.0.key (into_map (λ (x : DictEntry). x.key) da.entries p.place e.0 p.at)) in
+    let all = filter (λ (k : Key). is_some (entry_of db k)) keys in
+    let found = contains_in all key (into_filter (λ (k : Key). is_some (entry_of db k)) keys key inside (entry_there db key shared.1)) in
+    inr (subst (λ (ks : List Key). Contains ks key) (sym is) found)
+
+pub rest_then : (da db : Dictionary) (P : Key → Type 0) (x y : Reached) → AreRest da db x → ComesToAll da db P x y → AreRest da db y
+rest_then da db P x y rest all = λ key shared. by key shared (rest key shared)
+  where
+    by : (key : Key) → IsShared da db key → (has x key ≡ true) ⊎ Contains x.rest.items key → (has y key ≡ true) ⊎ Contains y.rest.items key
+    by key shared (inl h) = inl (all.grew.grows key h)
+    by key shared (inr i) = all.rest key shared i
+
+-- the rest changes, and nothing else
+pub grew_same : (da : Dictionary) (P : Key → Type 0) (x y : Reached) → ((key : Key) → has y key ≡ has x key) → y.waiting.items ≡ x.waiting.items → potential da y ≡ potential da x → Grew da P x y
+grew_same da P x y same waits near = record {
+  grows = λ key h. same key ∙ h;
+  only = λ key h. inl (sym (same key) ∙ h);
+  still = λ key w. subst (λ (xs : List Key). Contains xs key) (sym waits) w;
+  waits = λ key w. inl (subst (λ (xs : List Key). Contains xs key) waits w);
+  queued = λ key h. inl (sym (same key) ∙ h);
+  nearer = omega (arith, near);
+}
+
+-- a key that is not listed is come to, and one that is listed is left
+pub sorts_new : (da db : Dictionary) (rules : List DRule) (key : Key) (x y : Reached) → ¬ IsListed rules key → ComesTo da db key x y → Sorts da db rules key x y
+sorts_new da db rules key x y new one = record {
+  comes = all_one da db (λ other. (other ≡ key) × ¬ IsListed rules other) key x y one (refl, new) (λ other h. h.0);
+  left = λ shared. inl (one.there shared);
+}
+
+pub sorts_listed : (da db : Dictionary) (rules : List DRule) (key : Key) (x y : Reached) → (¬ ¬ IsListed rules key) → ((other : Key) → has y other ≡ has x other)
+    → y.waiting.items ≡ x.waiting.items → potential da y ≡ potential da x
+    → y.rest.items ≡ x.rest.items ++ key ∷ [] → Sorts da db rules key x y
+sorts_listed da db rules key x y listed same waits near pushed = record {
+  comes = record {
+    grew = grew_same da (λ other. ((other ≡ key) × ¬ IsListed rules other) × IsShared da db other) x y same waits near;
+    there = λ other q _. absurd (listed (subst (λ (k : Key). ¬ IsListed rules k) q.0 q.1));
+    rest = λ other _ i. inr (subst (λ (ks : List Key). Contains ks other) (sym pushed)
+        (contains_in (x.rest.items ++ key ∷ []) other (in_left x.rest.items (key ∷ []) other (in_contains x.rest.items other i))));
+  };
+  left = λ _. inr (subst (λ (ks : List Key). Contains ks key) (sym pushed) (contains_in (x.rest.items ++ key ∷ []) key (in_right x.rest.items (key ∷ []) key (inl refl))));
+}
+
+-- one of these keys, which no rule lists
+abbrev pub IsUnlistedOf : List Key → List DRule → Key → Type 0
+IsUnlistedOf keys rules key = IsIn key keys × ¬ IsListed rules key
+
+-- all of these keys, one after the other
+pub record SortsAll (da db : Dictionary) (rules : List DRule) (keys : List Key) (x y : Reached) : Type 0 where
+  pub comes : ComesToAll da db (IsUnlistedOf keys rules) x y
+  pub left : (key : Key) → IsIn key keys → IsShared da db key → (has y key ≡ true) ⊎ Contains y.rest.items key
+
+pub sorts_none : (da db : Dictionary) (rules : List DRule) (x : Reached) → SortsAll da db rules [] x x
+sorts_none da db rules x = record { comes = all_none da db (IsUnlistedOf [] rules) x (λ key p. p.0); left = λ key i _. absurd i }
+
+pub sorts_more : (da db : Dictionary) (rules : List DRule) (keys : List Key) (i : ℕ) (d : Key) (x y z : Reached) → i < length keys → SortsAll da db rules (take i keys) x y
+    → Sorts da db rules (get_or keys i d) y z
+    → SortsAll da db rules (take (i + 1) keys) x z
+sorts_more da db rules keys i d x y z within one two = record {
+  comes = all_then da db (IsUnlistedOf (take i keys) rules) (λ other. (other ≡ k) × ¬ IsListed rules other) (IsUnlistedOf (take (i + 1) keys) rules) x y z one.comes two.comes
+      (λ other p. (in_front_too keys i other d within p.0, p.1))
+      (λ other q. (subst (λ (w : Key). IsIn w (take (i + 1) keys)) (sym q.0) (in_last keys i d within), q.1))
+      (λ other p. by other p (in_more keys i other d within p.0));
+  left = λ key j shared. left key shared (in_more keys i key d within j);
+}
+  where
+    k : Key
+    k = get_or keys i d
+
+    by : (other : Key) → IsUnlistedOf (take (i + 1) keys) rules other → IsIn other (take i keys) ⊎ (other ≡ k) → IsUnlistedOf (take i keys) rules other ⊎ ((other ≡ k) × ¬ IsListed rules other)
+    by other p (inl j) = inl (j, p.1)
+    by other p (inr same) = inr (same, p.1)
+
+    after : (key : Key) → IsShared da db key → (has y key ≡ true) ⊎ Contains y.rest.items key → (has z key ≡ true) ⊎ Contains z.rest.items key
+    after key shared (inl h) = inl (two.comes.grew.grows key h)
+    after key shared (inr j) = two.comes.rest key shared j
+
+    left : (key : Key) → IsShared da db key → IsIn key (take i keys) ⊎ (key ≡ k) → (has z key ≡ true) ⊎ Contains z.rest.items key
+    left key shared (inl j) = after key shared (one.left key j shared)
+    left key shared (inr same) = subst (λ (w : Key). (has z w ≡ true) ⊎ Contains z.rest.items w) (sym same) (two.left (subst (IsShared da db) same shared))
+
+-- all of the rest
+pub sorts_all : (da db : Dictionary) (rules : List DRule) (x mid y : Reached) → AreRest da db x → ((key : Key) → has mid key ≡ has x key) → mid.waiting.items ≡ x.waiting.items
+    → potential da mid ≡ potential da x
+    → SortsAll da db rules x.rest.items mid y → ComesToAll da db (λ key. ¬ IsListed rules key) x y
+sorts_all da db rules x mid y rest same waits near all = record {
+  grew = grew_then da (λ _. ⊥) (λ key. IsUnlistedOf x.rest.items rules key × IsShared da db key) (λ key. (¬ IsListed rules key) × IsShared da db key) x mid y
+      (grew_same da (λ _. ⊥) x mid same waits near) all.comes.grew
+      (λ key none. absurd none) (λ key q. (q.0.1, q.1));
+  there = λ key q shared. there key q shared (rest key shared);
+  rest = λ key shared i. all.left key (in_contains x.rest.items key i) shared;
+}
+  where
+    there : (key : Key) → (¬ IsListed rules key) → IsShared da db key → (has x key ≡ true) ⊎ Contains x.rest.items key → has y key ≡ true
+    there key q shared (inl h) = all.comes.grew.grows key (same key ∙ h)
+    there key q shared (inr i) = all.comes.there key (in_contains x.rest.items key i, q) shared
+
+-- ---- groups
+
+group_there : (xs : List DictEntry) (i : ℕ) (e : DictEntry) (g : PlainDefinition) → slice_get xs i ≡ Some e → e.group ≡ Some g
+    → slice_get (filter_map (λ x. x.group) xs) (length (filter_map (λ x. x.group) (take i xs))) ≡ Some g
+group_there [] i e g at is = absurd (none-some e at)
+group_there (x ∷ xs) zero e g at is = ap (λ (o : Option PlainDefinition). slice_get (cons_option o (filter_map (λ (y : DictEntry). y.group) xs)) 0)
+    (ap (λ (y : DictEntry). y.group) (same_Some x e at) ∙ is)
+group_there (x ∷ xs) (suc i) e g at is = by x.group (group_there xs i e g at is)
+  where
+    by : (o : Option PlainDefinition) → slice_get (filter_map (λ y. y.group) xs) (length (filter_map (λ y. y.group) (take i xs))) ≡ Some g
+        → slice_get (cons_option o (filter_map (λ y. y.group) xs)) (length (cons_option o (filter_map (λ y. y.group) (take i xs)))) ≡ Some g
+    by None h = h
+    by (Some d) h = h
+
+-- the number of an entry's group is that of its definition
+pub group_number : (d : Dictionary) (i n : ℕ) (e : DictEntry) → slice_get d.entries i ≡ Some e → group_place d i ≡ Some n
+    → (g : PlainDefinition) × (e.group ≡ Some g) × (slice_get (definitions d) n ≡ Some g)
+group_number d i n e at is = by e.group refl
+  where
+    number : ℕ
+    number = length (filter_map (λ (y : DictEntry). y.group) (take i d.entries))
+
+    read : group_place d i ≡ option_map (λ _. number) e.group
+    read = ap (λ (o : Option DictEntry). option_and_then (λ (x : DictEntry). option_map (λ _. number) x.group) o) at
+
+    by : (o : Option PlainDefinition) → e.group ≡ o → (g : PlainDefinition) × (e.group ≡ Some g) × (slice_get (definitions d) n ≡ Some g)
+    by None h = absurd (let f : None ≡ Some n = sym (read ∙ ap (λ (o : Option PlainDefinition). option_map (λ _. number) o) h) ∙ is in cc)
+    by (Some g) h =
+        let same : number ≡ n = same_Some number n (sym (read ∙ ap (λ (o : Option PlainDefinition). option_map (λ _. number) o) h) ∙ is) in
+        (g, h, ap (slice_get (definitions d)) (sym same) ∙ into_left (groups d) d.commands number g (group_there d.entries i e g at h))
+
+-- ---- the keys that follow
+
+-- the group of the key, if both have one, was gone through
+abbrev IsDone : Dictionary → Dictionary → Reached → Key → Type 0
+IsDone da db r key = (group : PlainDefinition) → IsSharedGroup da db key group → (other : Key) → Wants da db group.rules other → has r other ≡ true
+
+pub record Following (da db : Dictionary) (roots r : Reached) : Type 0 where
+  pub sound : (key : Key) → has r key ≡ true → Follows da db roots key
+  pub keeps : (key : Key) → has roots key ≡ true → has r key ≡ true
+  pub waiting : (key : Key) → Waits r key → has r key ≡ true
+  pub done : (key : Key) → has r key ≡ true → Waits r key ⊎ IsDone da db r key
+  pub rest : AreRest da db r
+
+pub following_none : (da db : Dictionary) (roots : Reached) → AllWait roots → AreRest da db roots → Following da db roots roots
+following_none da db roots all rest = record {
+  sound = λ key h. root key h;
+  keeps = λ key h. h;
+  waiting = all.only;
+  done = λ key h. inl (all.each key h);
+  rest = rest;
+}
+
+-- a key is taken, and its group, if both have one, is gone through
+pub following_more : (da db : Dictionary) (roots old mid new : Reached) (key : Key) → Following da db roots old → ((other : Key) → has mid other ≡ has old other)
+    → old.waiting.items ≡ mid.waiting.items ++ key ∷ []
+    → (P : Key → Type 0) → Grew da P mid new → ((other : Key) → P other → Follows da db roots other) → IsDone da db new key → AreRest da db new → Following da db roots new
+following_more da db roots old mid new key f same popped P grew follows is_done rest = record {
+  sound = λ other h. sound other (grew.only other h);
+  keeps = λ other h. grew.grows other (same other ∙ f.keeps other h);
+  waiting = λ other w. waiting other (grew.waits other w);
+  done = λ other h. done other (grew.queued other h);
+  rest = rest;
+}
+  where
+    sound : (other : Key) → (has mid other ≡ true) ⊎ P other → Follows da db roots other
+    sound other (inl h) = f.sound other (sym (same other) ∙ h)
+    sound other (inr p) = follows other p
+
+    waits_old : (other : Key) → Waits mid other → Waits old other
+    waits_old other w = subst (λ (xs : List Key). Contains xs other) (sym popped)
+        (contains_in (mid.waiting.items ++ key ∷ []) other (in_left mid.waiting.items (key ∷ []) other (in_contains mid.waiting.items other w)))
+
+    waiting : (other : Key) → Waits mid other ⊎ (has new other ≡ true) → has new other ≡ true
+    waiting other (inl w) = grew.grows other (same other ∙ f.waiting other (waits_old other w))
+    waiting other (inr h) = h
+
+    left : (other : Key) → IsIn other mid.waiting.items ⊎ IsIn other (key ∷ []) → Waits new other ⊎ IsDone da db new other
+    left other (inl i) = inl (grew.still other (contains_in mid.waiting.items other i))
+    left other (inr (inl is)) = inr (subst (IsDone da db new) (sym is) is_done)
+    left other (inr (inr none)) = absurd none
+
+    before : (other : Key) → Waits old other ⊎ IsDone da db old other → Waits new other ⊎ IsDone da db new other
+    before other (inl w) = left other (in_append mid.waiting.items (key ∷ []) other (in_contains (mid.waiting.items ++ key ∷ []) other (subst (λ (xs : List Key). Contains xs other) popped w)))
+    before other (inr d) = inr (λ group is wanted w. grew.grows wanted (same wanted ∙ d group is wanted w))
+
+    done : (other : Key) → (has mid other ≡ true) ⊎ Waits new other → Waits new other ⊎ IsDone da db new other
+    done other (inr w) = inl w
+    done other (inl h) = before other (f.done other (sym (same other) ∙ h))
+
+-- where none waits, all that follows is there
+pub following_all : (da db : Dictionary) (roots r : Reached) → Following da db roots r → r.waiting.items ≡ [] → (key : Key) → (has r key ≡ true) ↔ Follows da db roots key
+following_all da db roots r f none key = (f.sound key, there key)
+  where
+    no_wait : (other : Key) → ¬ Waits r other
+    no_wait other w = in_contains [] other (subst (λ (xs : List Key). Contains xs other) none w)
+
+    by : (outer : Key) (group : PlainDefinition) (other : Key) → IsSharedGroup da db outer group → Wants da db group.rules other → Waits r outer ⊎ IsDone da db r outer → has r other ≡ true
+    by outer group other is wants (inl w) = absurd (no_wait outer w)
+    by outer group other is wants (inr d) = d group is other wants
+
+    there : (other : Key) → Follows da db roots other → has r other ≡ true
+    there other (root k h) = f.keeps other h
+    there other (in_group outer k e x group up at_a at_b both is wants) =
+        by outer group other (record { e = e; f = x; at_a = at_a; at_b = at_b; both = both; is_group = is }) wants (f.done outer (there outer up))
+
+one_shared_group : (da db : Dictionary) (key : Key) (g h : PlainDefinition) → IsSharedGroup da db key g → IsSharedGroup da db key h → g ≡ h
+one_shared_group da db key g h x y =
+    let same : x.e ≡ y.e = same_Some x.e y.e (sym x.at_a ∙ y.at_a) in
+    same_Some g h (sym x.is_group ∙ ap (λ (e : DictEntry). e.group) same ∙ y.is_group)
+
+last_waits : (r : Reached) (front : List Key) (key : Key) → r.waiting.items ≡ front ++ key ∷ [] → Waits r key
+last_waits r front key popped = subst (λ (xs : List Key). Contains xs key) (sym popped) (contains_in (front ++ key ∷ []) key (in_right front (key ∷ []) key (inl refl)))
+
+-- a key is taken, and the group that both have is gone through
+pub follow_group : (da db : Dictionary) (roots old mid new : Reached) (key : Key) (group : PlainDefinition) → Following da db roots old → ((other : Key) → has mid other ≡ has old other)
+    → old.waiting.items ≡ mid.waiting.items ++ key ∷ []
+    → IsSharedGroup da db key group → AreRest da db mid → ComesToAll da db (Admits group.rules) mid new → Following da db roots new
+follow_group da db roots old mid new key group f same popped is rest all =
+    following_more da db roots old mid new key f same popped (Wants da db group.rules) all.grew
+    (λ other w. in_group key other is.e is.f group (f.sound key (f.waiting key (last_waits old mid.waiting.items key popped))) is.at_a is.at_b is.both is.is_group w)
+    (λ other_group other_is other w. let e = one_shared_group da db key other_group group other_is is in let v = subst (λ (x : PlainDefinition). Wants da db x.rules other) e w in
+    all.there other v.0 v.1)
+    (rest_then da db (Admits group.rules) mid new rest all)
+
+-- a key is taken that has no such group
+pub follow_none : (da db : Dictionary) (roots old mid : Reached) (key : Key) → Following da db roots old → ((other : Key) → has mid other ≡ has old other)
+    → old.waiting.items ≡ mid.waiting.items ++ key ∷ []
+    → ((group : PlainDefinition) → ¬ IsSharedGroup da db key group) → AreRest da db mid → Following da db roots mid
+follow_none da db roots old mid key f same popped none rest =
+    following_more da db roots old mid mid key f same popped (λ _. ⊥) (grew_none da (λ _. ⊥) mid) (λ other h. absurd h) (λ group is. absurd (none group is)) rest
+
+pub taken_nearer : (da : Dictionary) (P : Key → Type 0) (old mid new : Reached) (key : Key) → count_by (λ e. not (has mid e.key)) da.entries ≡ count_by (λ e. not (has old e.key)) da.entries
+    → old.waiting.items ≡ mid.waiting.items ++ key ∷ [] → Grew da P mid new → potential da new < potential da old
+taken_nearer da P old mid new key same popped grew = let nearer = grew.nearer in omega (arith, ap length popped, length-append mid.waiting.items (key ∷ []))

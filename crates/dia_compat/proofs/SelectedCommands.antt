@@ -1,0 +1,312 @@
+-- Which command a header selects, and that a closed table includes the selection.
+use Rattle.std.proofs.Common.{◌≡◌, ◌≢◌, ℕ, ◌+◌, Bool, true, false, ◌&&◌, List, [], ◌∷◌, length, map, get_or, Option, Some, None, refl, sym, ap, subst, ◌∙◌, inl, inr}
+use Rattle.std.specs.Prelude.{◌⊎◌, ◌==◌, nat_eq, IfSome, is_some, Contains, slice_get, position}
+use Rattle.std.specs.Option.{option_map, option_or, option_eq}
+use Rattle.std.proofs.lemmas.Bool.{and_parts, and_from, eqb-true, eq-eqb, false_from_ne_true}
+use Rattle.std.proofs.lemmas.Option.{none-some, same_Some, slice_get-get_or}
+use Rattle.std.proofs.lemmas.List.Quantifiers.{position-Some}
+use Rattle.dia_wire.specs.Wire.{key_of}
+use Rattle.dia_dict.specs.declared.Class.{Class}
+use Rattle.dia_dict.specs.declared.Class.TheVariants as classes
+use Rattle.dia_dict.specs.declared.DefHead.{DefHead}
+use Rattle.dia_dict.specs.declared.DefHead.TheVariants.{Group, Command, Error}
+use Rattle.dia_dict.proofs.Members.{at_Contains, position-is_some, into_right}
+use Rattle.dia_dict.specs.Dictionary.{Dictionary, PlainDefinition, IsDictionary, AreRules, IsCommandHead, groups, definitions, selected, is_command, same_class}
+use Rattle.dia_check.specs.declared.policy.Unknown.{Unknown}
+use Rattle.dia_check.specs.declared.policy.Levels.{Levels}
+use Rattle.dia_check.specs.Valid.{AllowsP, class_of, Placed, IsValidOf}
+use Rattle.dia_compat.specs.TableText.{PlainTable}
+use Rattle.dia_compat.specs.declared.inclusion.PairKind.TheVariants as kind
+use Rattle.dia_compat.specs.declared.inclusion.Test.{Test}
+use Rattle.dia_compat.specs.declared.inclusion.Test.TheVariants.{N1, N2, N3, N4, N5, N6, N7, N8, N9, N10}
+use Rattle.dia_compat.specs.Below.{DefBelow}
+use Rattle.dia_compat.specs.Closed.{NamesCommand, IsPairKey, HasCode, IsError, IsBeside, NamesApp, IsWanted, error, same_app}
+use Rattle.dia_compat.specs.Closed.{no_app, both_none, other_app, IsServed, CommandPair, CommandTest, IsClosed, IsIncluded}
+use Rattle.dia_compat.proofs.RunsOfFixedRules.{IsIn}
+use Rattle.dia_compat.proofs.MemberCounts.{in_at, at_in, in_contains, contains_in, in_right}
+use Rattle.dia_compat.proofs.FitInSecond.{all_of, body}
+
+-- ---- a search
+
+pub record Found {X : Type 0} (p : X → Bool) (xs : List X) : Type 0 where
+  pub place : ℕ
+  pub item : X
+  pub is_place : position p xs ≡ Some place
+  pub at : slice_get xs place ≡ Some item
+  pub passes : p item ≡ true
+
+pub record NotFound {X : Type 0} (p : X → Bool) (xs : List X) : Type 0 where
+  pub is_none : position p xs ≡ None
+  pub none : (x : X) → IsIn x xs → p x ≡ false
+
+found_at : {X : Type 0} (p : X → Bool) (xs : List X) (i : ℕ) → position p xs ≡ Some i → Found p xs
+found_at p [] i e = absurd (none-some i e)
+found_at p (x ∷ xs) i e = let r = position-Some p (x ∷ xs) i x e in record { place = i; item = get_or (x ∷ xs) i x; is_place = e; at = slice_get-get_or (x ∷ xs) i x r.0; passes = r.1 }
+
+pub found_or_not : {X : Type 0} (p : X → Bool) (xs : List X) → Found p xs ⊎ NotFound p xs
+found_or_not {X} p xs = by (position p xs) refl
+  where
+    by : (o : Option ℕ) → position p xs ≡ o → Found p xs ⊎ NotFound p xs
+    by (Some i) e = inl (found_at p xs i e)
+    by None e = inr (record {
+      is_none = e;
+      none = λ x h. false_from_ne_true (p x) (λ pass.
+          let r = at_in xs x h in
+          let some = position-is_some p xs r.place x r.at pass in
+          absurd (let f : true ≡ false = sym some ∙ ap (λ (o : Option ℕ). is_some o) e in cc));
+    })
+
+-- ---- the command of a header
+
+pub record Choice (d : Dictionary) (code : ℕ) (class : Class) (app : ℕ) : Type 0 where
+  pub place : ℕ
+  pub command : PlainDefinition
+  pub at : slice_get d.commands place ≡ Some command
+  pub is_selected : selected d code class app ≡ Some (length (groups d) + place)
+  pub how : (is_command code class (Some app) command.head ≡ true) ⊎ ((is_command code class None command.head ≡ true) ×
+      ((x : PlainDefinition) → IsIn x d.commands → is_command code class (Some app) x.head ≡ false))
+
+pub record NoChoice (d : Dictionary) (code : ℕ) (class : Class) (app : ℕ) : Type 0 where
+  pub is_none : selected d code class app ≡ None
+  pub no_own : (x : PlainDefinition) → IsIn x d.commands → is_command code class (Some app) x.head ≡ false
+  pub no_common : (x : PlainDefinition) → IsIn x d.commands → is_command code class None x.head ≡ false
+
+pub choose : (d : Dictionary) (code : ℕ) (class : Class) (app : ℕ) → Choice d code class app ⊎ NoChoice d code class app
+choose d code class app = by (found_or_not own d.commands) (found_or_not common d.commands)
+  where
+    own : PlainDefinition → Bool
+    own c = is_command code class (Some app) c.head
+
+    common : PlainDefinition → Bool
+    common c = is_command code class None c.head
+
+    number : Option ℕ → Option ℕ → Option ℕ
+    number x y = option_map (λ i. length (groups d) + i) (option_or x y)
+
+    by : Found own d.commands ⊎ NotFound own d.commands → Found common d.commands ⊎ NotFound common d.commands → Choice d code class app ⊎ NoChoice d code class app
+    by (inl f) other = inl (record { place = f.place; command = f.item; at = f.at; is_selected = ap (λ (o : Option ℕ). number o (position common d.commands)) f.is_place; how = inl f.passes })
+    by (inr n) (inl f) = inl (record {
+      place = f.place;
+      command = f.item;
+      at = f.at;
+      is_selected = ap (λ (o : Option ℕ). number o (position common d.commands)) n.is_none ∙ ap (λ (o : Option ℕ). number None o) f.is_place;
+      how = inr (f.passes, n.none);
+    })
+    by (inr n) (inr m) = inr (record {
+      is_none = ap (λ (o : Option ℕ). number o (position common d.commands)) n.is_none ∙ ap (λ (o : Option ℕ). number None o) m.is_none;
+      no_own = n.none;
+      no_common = m.none;
+    })
+
+-- ---- headers
+
+pub class_same : (a b : Class) → same_class a b ≡ true → a ≡ b
+class_same classes.Request classes.Request h = refl
+class_same classes.Answer classes.Answer h = refl
+class_same classes.Error classes.Error h = refl
+class_same a b h = absurd cc
+
+same_class_self : (a : Class) → same_class a a ≡ true
+same_class_self classes.Request = refl
+same_class_self classes.Answer = refl
+same_class_self classes.Error = refl
+
+app_same : (a b : Option ℕ) → option_eq nat_eq a b ≡ true → a ≡ b
+app_same None None h = refl
+app_same (Some m) (Some n) h = ap (λ (k : ℕ). Some k) (eqb-true m n h)
+app_same a b h = absurd cc
+
+same_app_self : (a : Option ℕ) → option_eq nat_eq a a ≡ true
+same_app_self None = refl
+same_app_self (Some n) = eq-eqb n n refl
+
+-- the definition for errors, or one of this code, class and application
+abbrev pub Reads : PlainDefinition → ℕ → Class → Option ℕ → Type 0
+Reads c code class app = (IsError c × (class ≡ classes.Error)) ⊎ (HasCode c code class app × (class ≢ classes.Error))
+
+read_head : (c : PlainDefinition) (code : ℕ) (class : Class) (app : Option ℕ) (h : DefHead) → c.head ≡ h → IsCommandHead h → is_command code class app h ≡ true → Reads c code class app
+read_head c code class app (Group key) e heads h = absurd (let f : false ≡ true = h in cc)
+read_head c code class app (Error p) e heads h = inl ((p, e), class_same class classes.Error h)
+read_head c code class app (Command code' class' app' p) e heads h =
+    let outer = and_parts ((code == code') && same_class class class') (option_eq nat_eq app app') h in
+    let inner = and_parts (code == code') (same_class class class') outer.0 in
+    let same_code = eqb-true code code' inner.0 in
+    let same = class_same class class' inner.1 in
+    let apps = app_same app app' outer.1 in
+    inr (
+      record {
+        p = p;
+        head = e ∙ ap (λ (n : ℕ). Command n class' app' p) (sym same_code) ∙ ap (λ (k : Class). Command code k app' p) (sym same) ∙ ap (λ (o : Option ℕ). Command code class o p) (sym apps);
+      },
+      λ f. heads (sym same ∙ f),
+    )
+
+pub reads : (d : Dictionary) (c : PlainDefinition) (code : ℕ) (class : Class) (app : Option ℕ) → IsDictionary d → IsIn c d.commands → is_command code class app c.head ≡ true → Reads c code class app
+reads d c code class app sound i h = read_head c code class app c.head refl (all_of (λ (x : PlainDefinition). IsCommandHead x.head) d.commands c sound.command_heads i) h
+
+pub is_of_code : (c : PlainDefinition) (code : ℕ) (class : Class) (app : Option ℕ) → HasCode c code class app → is_command code class app c.head ≡ true
+is_of_code c code class app h = ap (is_command code class app) h.head ∙ and_from ((code == code) && same_class class class) (option_eq nat_eq app app)
+    (and_from (code == code) (same_class class class) (eq-eqb code code refl) (same_class_self class)) (same_app_self app)
+
+pub is_of_errors : (c : PlainDefinition) (code : ℕ) (class : Class) (app : Option ℕ) → IsError c → class ≡ classes.Error → is_command code class app c.head ≡ true
+is_of_errors c code class app (p, h) e = ap (is_command code class app) h ∙ ap (λ (k : Class). same_class k classes.Error) e
+
+no_app_named : (d : Dictionary) (code : ℕ) (class : Class) (app : Option ℕ) → ((x : PlainDefinition) → IsIn x d.commands → is_command code class app x.head ≡ false) → ¬ NamesApp d code class app
+no_app_named d code class app none = λ n. let yes_it = is_of_code n.0 code class app n.2 in absurd (let e : true ≡ false = sym yes_it ∙ none n.0 (in_contains d.commands n.0 n.1) in cc)
+
+pub one_command : (d : Dictionary) (c e : PlainDefinition) → IsDictionary d → IsIn c d.commands → IsIn e d.commands → c.name ≡ e.name → c ≡ e
+one_command d c e sound i j h =
+    let p = at_in d.commands c i in
+    let q = at_in d.commands e j in
+    let place : p.place ≡ q.place = sound.distinct_commands p.place q.place c e p.at q.at h in
+    same_Some c e (sym p.at ∙ ap (λ (n : ℕ). slice_get d.commands n) place ∙ q.at)
+
+command_rules : (d : Dictionary) (c : PlainDefinition) → IsDictionary d → IsIn c d.commands → AreRules c.rules
+command_rules d c sound i = all_of (λ (x : PlainDefinition). AreRules x.rules) (definitions d) c sound.rules (in_right (groups d) d.commands c i)
+
+-- ---- what B selects for a message of A's command is wanted
+
+module _ (da db : Dictionary) (sa : IsDictionary da) (sb : IsDictionary db) (code : ℕ) (class : Class) (app : ℕ) where
+  -- how a definition of a dictionary was selected
+  abbrev Own : Dictionary → PlainDefinition → Type 0
+  Own d c = (HasCode c code class (Some app) × (class ≢ classes.Error)) ⊎ (HasCode c code class None × (class ≢ classes.Error) × ¬ NamesApp d code class (Some app))
+
+  abbrev Chosen : Dictionary → PlainDefinition → Type 0
+  Chosen d c = (IsError c × (class ≡ classes.Error)) ⊎ Own d c
+
+  chosen : (d : Dictionary) → IsDictionary d → (ch : Choice d code class app) → Chosen d ch.command
+  chosen d sound ch = by ch.how
+    where
+      inside : IsIn ch.command d.commands
+      inside = in_at d.commands ch.place ch.command ch.at
+
+      first : Reads ch.command code class (Some app) → Chosen d ch.command
+      first (inl h) = inl h
+      first (inr h) = inr (inl h)
+
+      second : ((x : PlainDefinition) → IsIn x d.commands → is_command code class (Some app) x.head ≡ false) → Reads ch.command code class None → Chosen d ch.command
+      second none (inl h) = inl h
+      second none (inr h) = inr (inr (h.0, h.1, no_app_named d code class (Some app) none))
+
+      by : (is_command code class (Some app) ch.command.head ≡ true) ⊎
+          ((is_command code class None ch.command.head ≡ true) × ((x : PlainDefinition) → IsIn x d.commands → is_command code class (Some app) x.head ≡ false)) → Chosen d ch.command
+      by (inl h) = first (reads d ch.command code class (Some app) sound inside h)
+      by (inr h) = second h.1 (reads d ch.command code class None sound inside h.0)
+
+  wants : (c d : PlainDefinition) → Contains db.commands d → Chosen da c → Chosen db d → IsWanted da db c d
+  wants c d i (inl h) (inl k) = error i h.0 k.0
+  wants c d i (inl h) (inr (inl k)) = absurd (k.1 h.1)
+  wants c d i (inl h) (inr (inr k)) = absurd (k.1 h.1)
+  wants c d i (inr (inl h)) (inl k) = absurd (h.1 k.1)
+  wants c d i (inr (inr h)) (inl k) = absurd (h.1 k.1)
+  wants c d i (inr (inl h)) (inr (inl k)) = same_app code app class i h.0 k.0
+  wants c d i (inr (inl h)) (inr (inr k)) = no_app code app class i h.0 k.0 k.2
+  wants c d i (inr (inr h)) (inr (inl k)) = other_app code app class i h.0 k.0 h.2
+  wants c d i (inr (inr h)) (inr (inr k)) = both_none code class i h.0 k.0
+
+  -- and B does select
+  named_clash : (o : Option ℕ) → NamesApp db code class o → ((x : PlainDefinition) → IsIn x db.commands → is_command code class o x.head ≡ false) → ⊥
+  named_clash o n none = no_app_named db code class o none n
+
+  served_clash : (c : PlainDefinition) → IsServed da db c c.head → Chosen da c → NoChoice db code class app → ⊥
+  served_clash c served (inl ((p, h), e)) none =
+      let s = subst (IsServed da db c) h served in
+      let passes = is_of_errors s.0 code class (Some app) s.2 e in
+      absurd (let f : true ≡ false = sym passes ∙ none.no_own s.0 (in_contains db.commands s.0 s.1) in cc)
+  served_clash c served (inr (inl h)) none = by (subst (IsServed da db c) h.0.head served)
+    where
+      by : NamesApp db code class (Some app) ⊎ NamesApp db code class None → ⊥
+      by (inl n) = named_clash (Some app) n none.no_own
+      by (inr n) = named_clash None n none.no_common
+  served_clash c served (inr (inr h)) none = named_clash None (subst (IsServed da db c) h.0.head served) none.no_common
+
+-- ---- inclusion
+
+module _ (da db : Dictionary) (sa : IsDictionary da) (sb : IsDictionary db) (u : Unknown) (table : PlainTable) (closed : IsClosed da db u table) where
+  passes : (p : List ℕ × List ℕ) → Contains table.commands p → (test : Test) → CommandTest da db table u test p
+  passes p inside test = let here = at_Contains table.commands p inside in
+      subst (λ (o : Option (List ℕ × List ℕ)). IfSome o (CommandTest da db table u test)) here.at (closed kind.Command here.place test)
+
+  -- two commands whose names stand in the table
+  pub pair_tests : (p : List ℕ × List ℕ) (c d : PlainDefinition) → Contains table.commands p → NamesCommand da p.0 c → NamesCommand db p.1 d → DefBelow da db u (IsPairKey da db table) c.rules d.rules
+  pair_tests p c d inside n m N1 = passes p inside N1 c d n m
+  pair_tests p c d inside n m N2 = passes p inside N2 c d n m
+  pair_tests p c d inside n m N3 = passes p inside N3 c d n m
+  pair_tests p c d inside n m N4 = passes p inside N4 c d n m
+  pair_tests p c d inside n m N5 = passes p inside N5 c d n m
+  pair_tests p c d inside n m N6 = passes p inside N6 c d n m
+  pair_tests p c d inside n m N7 = passes p inside N7 c d n m
+  pair_tests p c d inside n m N8 = passes p inside N8 c d n m
+  pair_tests p c d inside n m N9 = passes p inside N9 c d n m
+  pair_tests p c d inside n m N10 = tt
+
+  -- what the tenth test says of A's command of that name
+  pub tenth : (p : List ℕ × List ℕ) (c : PlainDefinition) → Contains table.commands p → NamesCommand da p.0 c → (d : PlainDefinition) × NamesCommand db p.1 d × CommandPair da db table c d
+  tenth p c inside n =
+      let t = passes p inside N10 in
+      let same = one_command da t.0 c sa (in_contains da.commands t.0 t.2.0) (in_contains da.commands c n.0) (t.2.1 ∙ sym n.1) in
+      (t.1, t.3, subst (λ (x : PlainDefinition). CommandPair da db table x t.1) same t.4)
+
+  valid_beside : (most : Levels) (bytes : List ℕ) (n : ℕ) (c : PlainDefinition) (v : IsValidOf da u most bytes n) → v.command ≡ c → IsIn c da.commands
+      → (ch : Choice db v.header.code (class_of v.header.flags) v.header.app)
+      → IsBeside table c ch.command → IsValidOf db u most bytes (length (groups db) + ch.place)
+  valid_beside most bytes n c v same inside ch beside =
+      let other = in_at db.commands ch.place ch.command ch.at in
+      let nc : NamesCommand da c.name c = (contains_in da.commands c inside, refl) in
+      let nd : NamesCommand db ch.command.name ch.command = (contains_in db.commands ch.command other, refl) in
+      let t = tenth (c.name, ch.command.name) c beside nc in
+      let is = one_command db t.0 ch.command sb (in_contains db.commands t.0 t.1.0) other t.1.1 in
+      let below = pair_tests (c.name, ch.command.name) c ch.command beside nc nd in
+      let r = body da db sa sb u table closed most c.rules ch.command.rules v.avps (command_rules da c sa inside) (command_rules db ch.command sb other) below
+      (subst (λ (x : PlainDefinition). Placed x.rules (map key_of v.avps)) same v.placed) v.fit in
+      record {
+        header = v.header;
+        avps = v.avps;
+        command = ch.command;
+        message = v.message;
+        no_error_request = v.no_error_request;
+        no_repeated_answer = v.no_repeated_answer;
+        select = ch.is_selected;
+        is_command = into_right (groups db) db.commands ch.place ch.command ch.at;
+        proxiable = subst (λ (x : PlainDefinition). AllowsP x.head v.header.flags) is (t.2.proxiable v.header.flags (subst (λ (x : PlainDefinition). AllowsP x.head v.header.flags) same v.proxiable));
+        placed = r.0;
+        fit = r.1;
+      }
+
+  abbrev Beside : Levels → List ℕ → PlainDefinition → Type 0
+  Beside most bytes c = (d : ℕ) × (other : PlainDefinition) × (slice_get (definitions db) d ≡ Some other) × IsBeside table c other × IsValidOf db u most bytes d
+
+  in_b : (most : Levels) (bytes : List ℕ) (n : ℕ) (c : PlainDefinition) (p : List ℕ × List ℕ) → Contains table.commands p → c.name ≡ p.0 → (v : IsValidOf da u most bytes n) → v.command ≡ c
+      → (own : Choice da v.header.code (class_of v.header.flags) v.header.app) → own.command ≡ c → Choice db v.header.code (class_of v.header.flags) v.header.app ⊎ NoChoice db v.header.code
+      (class_of v.header.flags) v.header.app → Beside most bytes c
+  in_b most bytes n c p listed name v same own is found = by found
+    where
+      inside : IsIn c da.commands
+      inside = subst (λ (x : PlainDefinition). IsIn x da.commands) is (in_at da.commands own.place own.command own.at)
+
+      pair : CommandPair da db table c (tenth p c listed (contains_in da.commands c inside, name)).0
+      pair = (tenth p c listed (contains_in da.commands c inside, name)).2
+
+      how : Chosen da db sa sb v.header.code (class_of v.header.flags) v.header.app da c
+      how = subst (Chosen da db sa sb v.header.code (class_of v.header.flags) v.header.app da) is (chosen da db sa sb v.header.code (class_of v.header.flags) v.header.app da sa own)
+
+      by : Choice db v.header.code (class_of v.header.flags) v.header.app ⊎ NoChoice db v.header.code (class_of v.header.flags) v.header.app → Beside most bytes c
+      by (inl ch) =
+          let other = contains_in db.commands ch.command (in_at db.commands ch.place ch.command ch.at) in
+          let wanted = wants da db sa sb v.header.code (class_of v.header.flags) v.header.app c ch.command other how
+          (chosen da db sa sb v.header.code (class_of v.header.flags) v.header.app db sb ch) in
+          let beside = pair.selection ch.command wanted in
+          (length (groups db) + ch.place, ch.command, into_right (groups db) db.commands ch.place ch.command ch.at, beside, valid_beside most bytes n c v same inside ch beside)
+      by (inr none) = absurd (served_clash da db sa sb v.header.code (class_of v.header.flags) v.header.app c pair.served how none)
+
+  in_a : (most : Levels) (bytes : List ℕ) (n : ℕ) (c : PlainDefinition) (p : List ℕ × List ℕ) → slice_get (definitions da) n ≡ Some c → Contains table.commands p → c.name ≡ p.0
+      → (v : IsValidOf da u most bytes n)
+      → Choice da v.header.code (class_of v.header.flags) v.header.app ⊎ NoChoice da v.header.code (class_of v.header.flags) v.header.app → Beside most bytes c
+  in_a most bytes n c p at listed name v (inl own) =
+      let number = same_Some (length (groups da) + own.place) n (sym own.is_selected ∙ v.select) in
+      let is = same_Some own.command c (sym (into_right (groups da) da.commands own.place own.command own.at) ∙ ap (λ (k : ℕ). slice_get (definitions da) k) number ∙ at) in
+      in_b most bytes n c p listed name v (same_Some v.command c (sym v.is_command ∙ at)) own is (choose db v.header.code (class_of v.header.flags) v.header.app)
+  in_a most bytes n c p at listed name v (inr none) = absurd (none-some n (sym none.is_none ∙ v.select))
+
+  pub included : IsIncluded da db u table
+  included most bytes n c p at listed name v = in_a most bytes n c p at listed name v (choose da v.header.code (class_of v.header.flags) v.header.app)

@@ -1,0 +1,9 @@
+use Rattle.std.proofs.Common.{◌∙◌}
+use Rattle.dia_dict.specs.Dictionary.{PlainDefinition}
+use Rattle.dia_compat.proofs.SetsOfNames.{place_by_name}
+use Rattle.dia_compat.proofs.comparing.named_book.NamedBook.command.Goals as goal
+
+pub returns : goal.returns
+returns g c =
+    let named = c.args.self.now in
+    c.get_index_of.ensures.index ∙ place_by_name (λ (x : PlainDefinition). x.name) (g.B.Book.meaning named.book.now).commands named.commands.keys c.args.name.now named.all_commands

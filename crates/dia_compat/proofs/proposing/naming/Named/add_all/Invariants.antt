@@ -1,7 +1,0 @@
-use Rattle.std.proofs.Common.{map, take, drop, string_bytes}
-use Rattle.dia_compat.specs.Naming.{NamedSoFar}
-use Rattle.dia_compat.proofs.proposing.naming.Named.add_all.Given as goal
-
-abbrev pub invariant-loop-name : goal.invariant-loop-name
-invariant-loop-name g l =
-    NamedSoFar (g.A.Book.meaning l.a) (g.B.Book.meaning l.b.book.now) (map (λ n. string_bytes n) (take l.name-index l.names)) (map (λ n. string_bytes n) (drop l.name-index l.names)) l.self

@@ -1,0 +1,101 @@
+//! The keys by which commands are looked up.
+use crate::definition::{Class, DefHead};
+
+/// Which messages a command is for.
+#[derive(Clone, Copy, Debug, PartialEq, Eq, Hash)]
+pub(crate) enum Selector {
+    /// Requests or answers of a command code, for an application or for all that no other command names.
+    Command {
+        code: u32,
+        request: bool,
+        app: Option<u32>,
+    },
+    /// All messages of the class Error.
+    Error,
+}
+
+impl Selector {
+    ghost use Rattle.std.specs.Prelude.{◌≡◌};
+    ghost use Rattle.dia_dict.specs.Dictionary.{IsCommandHead};
+    ghost use Rattle.dia_dict.specs.Selectors.{selector, selector_of};
+
+    /// The selector of messages of a code and a class, for an application or for all that no other command names.
+    pub fn new(code: u32, class: Class, app: Option<u32>) -> Self
+        ensures { result ≡ selector code class app }
+    {
+        match class {
+            Class::Request => Selector::Command {
+                code,
+                request: true,
+                app,
+            },
+            Class::Answer => Selector::Command {
+                code,
+                request: false,
+                app,
+            },
+            Class::Error => Selector::Error,
+        }
+    }
+
+    /// The selector of a command.
+    pub fn of(head: DefHead) -> Self
+        requires { IsCommandHead head }
+        ensures { result ≡ selector_of head }
+    {
+        match head {
+            DefHead::Group(_) => unreachable!(),
+            DefHead::Command {
+                code,
+                class,
+                app,
+                ..
+            } => Selector::new(code, class, app),
+            DefHead::Error { .. } => Selector::Error,
+        }
+    }
+}
+
+/// Which messages a command is for, whatever the application.
+#[derive(Clone, Copy, Debug, PartialEq, Eq, Hash)]
+pub(crate) enum Service {
+    /// Requests or answers of a command code.
+    Command { code: u32, request: bool },
+    /// Messages of the class Error.
+    Error,
+}
+
+impl Service {
+    ghost use Rattle.std.specs.Prelude.{◌≡◌};
+    ghost use Rattle.dia_dict.specs.Dictionary.{IsCommandHead};
+    ghost use Rattle.dia_dict.specs.Selectors.{service, service_of};
+
+    /// The service of messages of a code and a class.
+    pub fn new(code: u32, class: Class) -> Self
+        ensures { result ≡ service code class }
+    {
+        match class {
+            Class::Request => Service::Command {
+                code,
+                request: true,
+            },
+            Class::Answer => Service::Command {
+                code,
+                request: false,
+            },
+            Class::Error => Service::Error,
+        }
+    }
+
+    /// The service of a command.
+    pub fn of(head: DefHead) -> Self
+        requires { IsCommandHead head }
+        ensures { result ≡ service_of head }
+    {
+        match head {
+            DefHead::Group(_) => unreachable!(),
+            DefHead::Command { code, class, .. } => Service::new(code, class),
+            DefHead::Error { .. } => Service::Error,
+        }
+    }
+}

@@ -1,0 +1,184 @@
+-- A step sends our messages and no others, so what it sends is valid.
+use Rattle.std.proofs.Common.{ℕ, Bool, true, false, cond, List, [], ◌∷◌, Option, Some, None}
+use Rattle.std.specs.Prelude.{◌==◌, ⊤, All}
+use Rattle.std.specs.List.{AllByRecursion}
+use Rattle.std.proofs.lemmas.List.Elements.{All-from_recursion}
+use Rattle.dia_peer.specs.declared.event.Event.{Event}
+use Rattle.dia_peer.specs.declared.event.Output.{Output}
+use Rattle.dia_peer.specs.declared.event.Output.TheVariants as output
+use Rattle.dia_peer.specs.declared.config.Role.{Role}
+use Rattle.dia_peer.specs.declared.config.Role.TheVariants.{Initiator, Responder}
+use Rattle.dia_peer.specs.declared.event.State.{State}
+use Rattle.dia_peer.specs.declared.event.State.TheVariants.{Idle, WaitCea, WaitCer, Open, WaitDpa, Closed}
+use Rattle.dia_peer.specs.declared.event.Why.TheVariants as why
+use Rattle.dia_peer.specs.declared.kept_requests.Ids.{Ids}
+use Rattle.dia_peer.specs.Core.{PlainConfig, PlainCore, PlainTaken, Pair, IsConfig, common_of}
+use Rattle.dia_peer.specs.Messages.{Received, Unreadable, Foreign, Invalid, Cer, Dwr, Dpr, Cea, Refusal, Dwa, Dpa, Other, cea, dwr, after, IsOurs, is_cer, is_cea, is_dwr, is_dwa, is_dpr, is_dpa}
+use Rattle.dia_peer.specs.Machine.{AreOutputs, IsSound, IsStep}
+use Rattle.dia_peer.specs.Table.{
+  Happening,
+  Starts,
+  Gets,
+  Ticks,
+  Stops,
+  Breaks,
+  Deed,
+  Sends,
+  Closes,
+  Outcome,
+  nothing,
+  closes,
+  same_bytes,
+  same_ids,
+  starts,
+  opens,
+  answered,
+  accepts,
+  repeated,
+  gets_waiting_answer,
+  gets_waiting_request,
+  only_responder,
+  gets_open,
+  gets_waiting_end,
+  ticks_open,
+  happens_in,
+  happens,
+}
+use Rattle.dia_peer.proofs.OurMessages.{ours_are_valid}
+
+-- each message that is sent is one of the configuration's
+abbrev AreOurs : PlainConfig → List Deed → Type 0
+AreOurs c [] = ⊤
+AreOurs c (Sends m ∷ deeds) = IsOurs c m × AreOurs c deeds
+AreOurs c (Closes reason ∷ deeds) = AreOurs c deeds
+
+abbrev SendsOurs : PlainCore → Outcome → Type 0
+SendsOurs c o = AreOurs c.config o.deeds
+
+-- whichever of two outcomes it is
+either : (c : PlainCore) (b : Bool) (x y : Outcome) → SendsOurs c x → SendsOurs c y → SendsOurs c (cond b x y)
+either c true x y h k = h
+either c false x y h k = k
+
+by_opens : (c : PlainCore) (apps : List Pair) → SendsOurs c (opens c apps)
+by_opens c [] = tt
+by_opens c (p ∷ ps) = tt
+
+by_answered : (c : PlainCore) (result : ℕ) (apps : List Pair) → SendsOurs c (answered c result apps)
+by_answered c result apps =
+    either c (result == 2001) (opens c (common_of c.config apps)) (cond (result == 5010) (closes c [] why.NoCommon) (closes c [] why.Refused)) (by_opens c (common_of c.config apps))
+    (either c (result == 5010) (closes c [] why.NoCommon) (closes c [] why.Refused) tt tt)
+
+by_accepts : (c : PlainCore) (ids : Ids) (bytes : List ℕ) (apps : List Pair) → SendsOurs c (accepts c ids bytes apps)
+by_accepts c ids bytes [] = (is_cea ids 5010, tt)
+by_accepts c ids bytes (p ∷ ps) = (is_cea ids 2001, tt)
+
+by_repeated : (c : PlainCore) (bytes : List ℕ) (taken : Option PlainTaken) → SendsOurs c (repeated c bytes taken)
+by_repeated c bytes None = tt
+by_repeated c bytes (Some taken) =
+    either c (same_bytes bytes taken.bytes) (record { core = c; deeds = Sends (cea c.config taken.ids 2001) ∷ [] }) (nothing c) (is_cea taken.ids 2001, tt) tt
+
+by_role : (c : PlainCore) (role : Role) (o : Outcome) → SendsOurs c o → SendsOurs c (only_responder role o (nothing c))
+by_role c Initiator o h = tt
+by_role c Responder o h = h
+
+by_waiting_answer : (c : PlainCore) (what : Received) → SendsOurs c (gets_waiting_answer c what)
+by_waiting_answer c Unreadable = tt
+by_waiting_answer c Invalid = tt
+by_waiting_answer c (Cea ids result apps) = either c (same_ids ids c.last_cer) (answered c result apps) (nothing c) (by_answered c result apps) tt
+by_waiting_answer c (Refusal ids) = either c (same_ids ids c.last_cer) (closes c [] why.Refused) (nothing c) tt tt
+by_waiting_answer c Foreign = tt
+by_waiting_answer c (Cer ids bytes apps) = tt
+by_waiting_answer c (Dwr ids) = tt
+by_waiting_answer c (Dpr ids) = tt
+by_waiting_answer c (Dwa ids) = tt
+by_waiting_answer c (Dpa ids) = tt
+by_waiting_answer c Other = tt
+
+by_waiting_request : (c : PlainCore) (what : Received) → SendsOurs c (gets_waiting_request c what)
+by_waiting_request c Unreadable = tt
+by_waiting_request c Invalid = tt
+by_waiting_request c (Cer ids bytes apps) = by_accepts c ids bytes (common_of c.config apps)
+by_waiting_request c Foreign = tt
+by_waiting_request c (Cea ids result apps) = tt
+by_waiting_request c (Refusal ids) = tt
+by_waiting_request c (Dwr ids) = tt
+by_waiting_request c (Dpr ids) = tt
+by_waiting_request c (Dwa ids) = tt
+by_waiting_request c (Dpa ids) = tt
+by_waiting_request c Other = tt
+
+by_open : (c : PlainCore) (what : Received) → SendsOurs c (gets_open c what)
+by_open c Unreadable = tt
+by_open c Invalid = tt
+by_open c (Cer ids bytes apps) = by_role c c.role (repeated c bytes c.taken) (by_repeated c bytes c.taken)
+by_open c (Dwa ids) = either c (same_ids ids c.last_dwr) (record { core = record c { waits = false }; deeds = [] }) (nothing c) tt tt
+by_open c (Dwr ids) = (is_dwa ids, tt)
+by_open c (Dpr ids) = (is_dpa ids, tt)
+by_open c Foreign = tt
+by_open c (Cea ids result apps) = tt
+by_open c (Refusal ids) = tt
+by_open c (Dpa ids) = tt
+by_open c Other = tt
+
+by_waiting_end : (c : PlainCore) (what : Received) → SendsOurs c (gets_waiting_end c what)
+by_waiting_end c Unreadable = tt
+by_waiting_end c Invalid = tt
+by_waiting_end c (Dwr ids) = (is_dwa ids, tt)
+by_waiting_end c (Dpr ids) = (is_dpa ids, tt)
+by_waiting_end c (Dpa ids) = either c (same_ids ids c.last_dpr) (closes c [] why.Stopped) (nothing c) tt tt
+by_waiting_end c Foreign = tt
+by_waiting_end c (Cer ids bytes apps) = tt
+by_waiting_end c (Cea ids result apps) = tt
+by_waiting_end c (Refusal ids) = tt
+by_waiting_end c (Dwa ids) = tt
+by_waiting_end c Other = tt
+
+by_ticks : (c : PlainCore) → SendsOurs c (ticks_open c)
+by_ticks c =
+    either c c.waits (closes c [] why.Watchdog) (record { core = record c { next = after c.next; last_dwr = Some c.next; waits = true }; deeds = Sends (dwr c.config c.next) ∷ [] })
+    tt (is_dwr c.next, tt)
+
+by_start : (c : PlainCore) (role : Role) → SendsOurs c (starts c role)
+by_start c Initiator = (is_cer c.next, tt)
+by_start c Responder = tt
+
+in_state : (s : State) (c : PlainCore) (h : Happening) → SendsOurs c (happens_in s c h)
+in_state Closed c h = tt
+in_state Idle c Breaks = tt
+in_state WaitCea c Breaks = tt
+in_state WaitCer c Breaks = tt
+in_state Open c Breaks = tt
+in_state WaitDpa c Breaks = tt
+in_state Idle c Starts = by_start c c.role
+in_state Idle c (Stops cause) = tt
+in_state Idle c (Gets what) = tt
+in_state Idle c Ticks = tt
+in_state WaitCea c Starts = tt
+in_state WaitCer c Starts = tt
+in_state Open c Starts = tt
+in_state WaitDpa c Starts = tt
+in_state WaitCea c (Gets what) = by_waiting_answer c what
+in_state WaitCer c (Gets what) = by_waiting_request c what
+in_state Open c (Gets what) = by_open c what
+in_state WaitDpa c (Gets what) = by_waiting_end c what
+in_state Open c Ticks = by_ticks c
+in_state WaitCea c Ticks = tt
+in_state WaitCer c Ticks = tt
+in_state WaitDpa c Ticks = tt
+in_state Open c (Stops cause) = (is_dpr c.next cause, tt)
+in_state WaitDpa c (Stops cause) = tt
+in_state WaitCea c (Stops cause) = tt
+in_state WaitCer c (Stops cause) = tt
+
+sound : (c : PlainConfig) → IsConfig c → (deeds : List Deed) (outputs : List Output) → AreOurs c deeds → AreOutputs deeds outputs → AllByRecursion IsSound outputs
+sound c ok [] [] ours are = tt
+sound c ok (Sends m ∷ deeds) (output.Send bytes ∷ outputs) (one, ours) (is, are) = (ours_are_valid c m _ ok one is.message, sound c ok deeds outputs ours are)
+sound c ok (Closes reason ∷ deeds) (output.Close same ∷ outputs) ours (is, are) = (tt, sound c ok deeds outputs ours are)
+sound c ok (Sends m ∷ deeds) (output.Close same ∷ outputs) ours (is, are) = absurd is
+sound c ok (Closes reason ∷ deeds) (output.Send bytes ∷ outputs) ours (is, are) = absurd is
+sound c ok [] (o ∷ outputs) ours are = absurd are
+sound c ok (d ∷ deeds) [] ours are = absurd are
+
+pub step_is_sound : (old : PlainCore) (e : Event) (outputs : List Output) (new : PlainCore) → IsConfig old.config → IsStep old e outputs new → All IsSound outputs
+step_is_sound old e outputs new ok (h, happening, same, are) = All-from_recursion IsSound outputs (sound old.config ok (happens old h).deeds outputs (in_state old.state old h) are)

@@ -1,0 +1,14 @@
+pub mod TextsInPieces
+pub mod OutcomeParts
+pub mod KnownAvps
+pub mod LinesOfLevels
+pub mod OneListing
+pub mod OneInput
+pub mod OnePairOutcome
+pub mod OneOutcome
+pub mod YesShowsInclusion
+pub mod RefusedInputs
+pub mod LinesOfPairs
+pub mod HexTexts
+pub mod DecodedPieces
+pub mod FedTexts

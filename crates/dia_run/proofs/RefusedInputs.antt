@@ -1,0 +1,130 @@
+-- What is told of an input that is refused, and what an outcome is made of.
+use Rattle.std.proofs.Common.{◌≡◌, ◌≢◌, ℕ, ◌≤◌, List, length, Result, Ok, Err, refl, sym, ap, subst, inl}
+use Rattle.std.specs.Prelude.{IfOk, IfErr, IsErr, string_bytes}
+use Rattle.dia_run.specs.declared.command.Exit.{Exit}
+use Rattle.dia_run.specs.declared.command.Exit.TheVariants as exits
+use Rattle.dia_run.specs.declared.commands.Outcome.{Outcome}
+use Rattle.dia_run.specs.declared.inputs.Refused.{Refused}
+use Rattle.dia_run.specs.declared.inputs.Refused.TheVariants.{Bad, NoMemory}
+use Rattle.std.specs.Str.{IsUtf8}
+use Rattle.dia_ccf.specs.declared.CcfFault.{CcfFault}
+use Rattle.dia_ccf.specs.declared.CcfFault.TheVariants as ccf
+use Rattle.dia_ccf.specs.Faults.{IsFault}
+use Rattle.dia_ccf.specs.Limits.{max_text}
+use Rattle.dia_run.specs.declared.command.Input.{Input}
+use Rattle.dia_run.specs.declared.command.Input.TheVariants.{Bytes, TooLong}
+use Rattle.dia_run.specs.Inputs.{Holds}
+use Rattle.dia_compat.specs.TableText.{max_table}
+use Rattle.dia_run.specs.Texts.{line, dictionary_line, fault_text, IsNoSourceText, fault, IsDictionaryText, IsNoDictionaryText, IsNoMessageText}
+use Rattle.dia_run.specs.Refusals.{TellsOf, bad_input_text}
+use Rattle.dia_run.specs.Pairs.{IsNoTableText, fault as table_fault, table_line, table_fault_text}
+use Rattle.dia_compat.specs.declared.TableFault.{TableFault}
+use Rattle.dia_compat.specs.declared.TableFault.TheVariants as tables
+use Rattle.dia_compat.specs.TableText.{IsTableFault}
+use Rattle.dia_dict.specs.Dictionary.{Dictionary}
+use Rattle.dia_check.specs.declared.Unknown.{Unknown}
+use Rattle.dia_check.specs.declared.Levels.{Levels}
+use Rattle.dia_run.specs.declared.command.Inputs.{Inputs}
+use Rattle.dia_run.specs.Outcome.{Ends, IsRenderOutcome, no_source, IsMessageOutcome, no_dictionary, no_message, IsPairOutcome, ended, no_first, no_second, IsComparison, no_table, IsRefutation}
+
+pub TellsOf-map : (P Q : List ℕ → Type 0) (r : Refused) → ((told : List ℕ) → P told → Q told) → TellsOf P r → TellsOf Q r
+TellsOf-map P Q (Bad bad) f h = f (bad_input_text bad) h
+TellsOf-map P Q NoMemory f h = tt
+
+-- a dictionary's line tells why
+pub told_why : (P : List ℕ → Type 0) (number : ℕ) (why : List ℕ) (r : Refused) → P why → TellsOf (λ told. told ≡ dictionary_line number why) r
+    → TellsOf (λ told. (w : List ℕ) × P w × (told ≡ dictionary_line number w)) r
+told_why P number why (Bad bad) h e = (why, h, e)
+told_why P number why NoMemory h e = tt
+
+pub told_fault : (input : Input) (text : List ℕ) (number : ℕ) (f : CcfFault) (r : Refused) → Holds input max_text text → IsUtf8 text → IsFault text f
+    → TellsOf (λ told. (f ≢ ccf.NoMemory) × (told ≡ dictionary_line number (fault_text f))) r → TellsOf (λ told. (w : List ℕ) × IsNoSourceText input w × (told ≡ dictionary_line number w)) r
+told_fault input text number f (Bad bad) holds utf8 is_fault (some, e) = (fault_text f, fault text f holds utf8 is_fault some refl, e)
+told_fault input text number f NoMemory holds utf8 is_fault e = tt
+
+pub most_bytes : (input : Input) (text : List ℕ) → Holds input max_text text → length text ≤ max_text
+most_bytes (Bytes v) text h = h.1
+most_bytes TooLong text h = absurd h
+
+-- a fault of a text within the limit, of the same text by another name
+pub is_fault_of : (read text : List ℕ) (f : CcfFault) → read ≡ text → length text ≤ max_text → (length read ≤ max_text → IsFault read f) → IsFault text f
+is_fault_of read text f same short h = subst (λ (t : List ℕ). (length t ≤ max_text → IsFault t f)) same h short
+
+pub Ends-map : (P Q : List ℕ → Exit → Type 0) (r : Result Outcome Refused) → ((text : List ℕ) (exit : Exit) → P text exit → Q text exit) → Ends P r → Ends Q r
+Ends-map P Q (Ok o) f h = f (string_bytes o.text) o.exit h
+Ends-map P Q (Err (Bad bad)) f h = f (line (bad_input_text bad)) exits.Bad h
+Ends-map P Q (Err NoMemory) f h = tt
+
+-- what was made is written: an outcome as it is, a refusal as its line
+pub outcome_is : {E : Type 0} (P : List ℕ → Exit → Type 0) (made : Result Outcome Refused) (r : Result Outcome E) → IfOk made (λ o. r ≡ Ok o)
+    → IfErr made (TellsOf (λ told. IfOk r (λ o. string_bytes o.text ≡ line told)))
+    → (IsErr made → IfOk r (λ o. o.exit ≡ exits.Bad)) → IfErr made (λ refused. refused ≡ NoMemory → IsErr r) → Ends P made → IfOk r (λ o. P (string_bytes o.text) o.exit)
+outcome_is P (Ok o) r done text exit memory ends = rw done ends
+outcome_is P (Err (Bad bad)) (Ok o) done text exit memory ends = rw (text, exit refl) ends
+outcome_is P (Err (Bad bad)) (Err e) done text exit memory ends = tt
+outcome_is P (Err NoMemory) (Ok o) done text exit memory ends = let e = memory refl in absurd cc
+outcome_is P (Err NoMemory) (Err e) done text exit memory ends = tt
+
+-- a refusal of an input ends the command
+pub Ends-no_source : (inputs : Inputs) (r : Refused) → TellsOf (λ told. (why : List ℕ) × IsNoSourceText inputs.first why × (told ≡ dictionary_line 1 why)) r → Ends (IsRenderOutcome inputs) (Err r)
+Ends-no_source inputs (Bad bad) (why, h, e) = no_source why h (ap line e, refl)
+Ends-no_source inputs NoMemory h = tt
+
+pub Ends-no_dictionary : (P : Dictionary → List ℕ → List ℕ → Exit → Type 0) (inputs : Inputs) (r : Refused)
+    → TellsOf (λ told. (why : List ℕ) × IsNoDictionaryText inputs.first why × (told ≡ dictionary_line 1 why)) r
+    → Ends (IsMessageOutcome P inputs) (Err r)
+Ends-no_dictionary P inputs (Bad bad) (why, h, e) = no_dictionary why h (ap line e, refl)
+Ends-no_dictionary P inputs NoMemory h = tt
+
+pub Ends-no_message : (P : Dictionary → List ℕ → List ℕ → Exit → Type 0) (inputs : Inputs) (d : Dictionary) (r : Refused) → IsDictionaryText inputs.first d → TellsOf (IsNoMessageText inputs.message) r
+    → Ends (IsMessageOutcome P inputs) (Err r)
+Ends-no_message P inputs d (Bad bad) is_d h = no_message d (bad_input_text bad) is_d h (refl, refl)
+Ends-no_message P inputs d NoMemory is_d h = tt
+
+-- a text that is no source names no dictionary
+pub told_of_source : (input : Input) (number : ℕ) (r : Refused) → TellsOf (λ told. (w : List ℕ) × IsNoSourceText input w × (told ≡ dictionary_line number w)) r
+    → TellsOf (λ told. (w : List ℕ) × IsNoDictionaryText input w × (told ≡ dictionary_line number w)) r
+told_of_source input number (Bad bad) (why, h, e) = (why, inl h, e)
+told_of_source input number NoMemory h = tt
+
+-- ---- commands of two dictionaries
+
+pub Ends-no_first : (P : Dictionary → Dictionary → List ℕ → Exit → Type 0) (inputs : Inputs) (r : Refused)
+    → TellsOf (λ told. (why : List ℕ) × IsNoDictionaryText inputs.first why × (told ≡ dictionary_line 1 why)) r
+    → Ends (IsPairOutcome P inputs) (Err r)
+Ends-no_first P inputs (Bad bad) (why, h, e) = no_first why h (ap line e, refl)
+Ends-no_first P inputs NoMemory h = tt
+
+pub Ends-no_second : (P : Dictionary → Dictionary → List ℕ → Exit → Type 0) (inputs : Inputs) (a : Dictionary) (r : Refused) → IsDictionaryText inputs.first a
+    → TellsOf (λ told. (why : List ℕ) × IsNoDictionaryText inputs.second why × (told ≡ dictionary_line 2 why)) r → Ends (IsPairOutcome P inputs) (Err r)
+Ends-no_second P inputs a (Bad bad) is_a (why, h, e) = no_second a why is_a h (ap line e, refl)
+Ends-no_second P inputs a NoMemory is_a h = tt
+
+pub Ends-no_table : (u : Unknown) (inputs : Inputs) (a b : Dictionary) (r : Refused) → IsDictionaryText inputs.first a → IsDictionaryText inputs.second b → TellsOf (IsNoTableText inputs.table) r
+    → Ends (IsPairOutcome (IsComparison u inputs.table) inputs) (Err r)
+Ends-no_table u inputs a b (Bad bad) is_a is_b h = ended a b is_a is_b (no_table (bad_input_text bad) h (refl, refl))
+Ends-no_table u inputs a b NoMemory is_a is_b h = tt
+
+pub Ends-nothing_to_refute : (u : Unknown) (most : Levels) (inputs : Inputs) (a b : Dictionary) (r : Refused) → IsDictionaryText inputs.first a → IsDictionaryText inputs.second b
+    → TellsOf (IsNoMessageText inputs.message) r
+    → Ends (IsPairOutcome (IsRefutation u most inputs.message) inputs) (Err r)
+Ends-nothing_to_refute u most inputs a b (Bad bad) is_a is_b h = ended a b is_a is_b (no_message (bad_input_text bad) h (refl, refl))
+Ends-nothing_to_refute u most inputs a b NoMemory is_a is_b h = tt
+
+-- a table's line tells why
+pub told_table : (input : Input) (why : List ℕ) (r : Refused) → IsNoTableText input (table_line why) → TellsOf (λ told. told ≡ table_line why) r → TellsOf (IsNoTableText input) r
+told_table input why (Bad bad) h e = subst (IsNoTableText input) (sym e) h
+told_table input why NoMemory h e = tt
+
+pub told_table_fault : (input : Input) (text : List ℕ) (f : TableFault) (r : Refused) → Holds input max_table text → IsUtf8 text → IsTableFault text f
+    → TellsOf (λ told. (f ≢ tables.NoMemory) × (told ≡ table_line (table_fault_text f))) r → TellsOf (IsNoTableText input) r
+told_table_fault input text f (Bad bad) holds utf8 is_fault (some, e) = table_fault text f holds utf8 is_fault some e
+told_table_fault input text f NoMemory holds utf8 is_fault e = tt
+
+pub most_table_bytes : (input : Input) (text : List ℕ) → Holds input max_table text → length text ≤ max_table
+most_table_bytes (Bytes v) text h = h.1
+most_table_bytes TooLong text h = absurd h
+
+-- a fault of a text within the limit, of the same text by another name
+pub is_table_fault_of : (read text : List ℕ) (f : TableFault) → read ≡ text → length text ≤ max_table → (length read ≤ max_table → IsTableFault read f) → IsTableFault text f
+is_table_fault_of read text f same short h = subst (λ (t : List ℕ). (length t ≤ max_table → IsTableFault t f)) same h short

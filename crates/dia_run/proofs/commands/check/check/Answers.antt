@@ -1,0 +1,21 @@
+use Rattle.std.proofs.lemmas.Result.{err_from_is_err_and}
+use Rattle.dia_run.specs.Outcome.{IsJudged, ended}
+use Rattle.dia_run.proofs.FedTexts.{names_command}
+use Rattle.dia_run.proofs.RefusedInputs.{Ends-no_dictionary, Ends-no_message}
+use Rattle.dia_run.proofs.commands.check.check.Goals as goal
+
+pub returns-in_err-book : goal.returns-in_err-book
+returns-in_err-book c =
+    let p = err_from_is_err_and c.from_residual.result c.from_residual.ensures.1 in
+    rw (p.1, p.2) (Ends-no_dictionary (IsJudged c.args.unknown c.args.levels) c.args.inputs.now _ c.in_err-book.ensures.told)
+
+pub returns-in_err-answer : goal.returns-in_err-answer
+returns-in_err-answer c =
+    let p = err_from_is_err_and c.from_residual-in_err-answer.result c.from_residual-in_err-answer.ensures.1 in
+    rw (p.1, p.2) (Ends-no_message (IsJudged c.args.unknown c.args.levels) c.args.inputs.now _ _ c.in_ok-book.ensures.book c.in_err-answer.ensures.told)
+
+pub verdict-requires : goal.verdict-requires
+verdict-requires c = let (bytes, text, answer) = c.in_ok-answer.ensures.answer in names_command _ c.args.unknown c.args.levels bytes _ answer
+
+pub returns : goal.returns
+returns c = let (bytes, text, answer) = c.in_ok-answer.ensures.answer in ended _ bytes c.in_ok-book.ensures.book text (_, answer, c.in_ok-outcome.ensures)

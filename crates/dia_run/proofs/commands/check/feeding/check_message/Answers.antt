@@ -1,0 +1,21 @@
+use Rattle.std.proofs.lemmas.Result.{err_from_is_err_and}
+use Rattle.dia_run.specs.Texts.{IsNoMessageText, not_hexadecimal}
+use Rattle.dia_run.specs.FedTexts.{IsNoHexadecimal}
+use Rattle.dia_run.proofs.RefusedInputs.{TellsOf-map}
+use Rattle.dia_run.proofs.commands.check.feeding.check_message.Goals as goal
+
+pub returns-in_err-trailing-clause-told : goal.returns-in_err-trailing-clause-told
+returns-in_err-trailing-clause-told g c =
+    let p = err_from_is_err_and c.from_residual-in_err-trailing.result c.from_residual-in_err-trailing.ensures.1 in
+    rw (p.1, p.2) (TellsOf-map (IsNoHexadecimal c.in_ok-text.text.now) (IsNoMessageText c.args.input.now) _
+    (λ told no. not_hexadecimal c.in_ok-text.text.now c.in_ok-text.ensures.text no.0 no.1) c.in_err-trailing.ensures.told)
+
+pub returns-clause-answer : goal.returns-clause-answer
+returns-clause-answer g c =
+    let (bytes, spells, fed) = c.in_ok-trailing.ensures.fed in
+    let was = fed _ _ _ c.new-stream.ensures.empty in (
+      bytes,
+      (c.in_ok-text.text.now, c.in_ok-text.ensures.text, spells),
+      c.answer_of_all.ensures (g.B.Book.meaning c.args.book.now) c.args.unknown c.args.levels bytes was.stands.taken.sound was.follow
+          (c.finish.ensures.answer c.in_ok-trailing.ensures.goes_on _ _ _ _ was.stands),
+    )

@@ -1,0 +1,32 @@
+use Rattle.std.proofs.lemmas.Result.{err_from_is_err_and}
+use Rattle.dia_run.specs.Outcome.{IsComparison, ended, compared}
+use Rattle.dia_run.proofs.RefusedInputs.{Ends-no_first, Ends-no_second, Ends-no_table}
+use Rattle.dia_run.proofs.LinesOfPairs.{names_pair}
+use Rattle.dia_run.proofs.commands.compare.compare.Goals as goal
+
+pub returns-in_err-first : goal.returns-in_err-first
+returns-in_err-first c =
+    let p = err_from_is_err_and c.from_residual.result c.from_residual.ensures.1 in
+    rw (p.1, p.2) (Ends-no_first (IsComparison c.args.unknown c.args.inputs.now.table) c.args.inputs.now _ c.in_err-first.ensures.told)
+
+pub returns-in_err-second : goal.returns-in_err-second
+returns-in_err-second c =
+    let p = err_from_is_err_and c.from_residual-in_err-second.result c.from_residual-in_err-second.ensures.1 in
+    rw (p.1, p.2) (Ends-no_second (IsComparison c.args.unknown c.args.inputs.now.table) c.args.inputs.now _ _ c.in_ok-first.ensures.book c.in_err-second.ensures.told)
+
+pub returns-in_err-table : goal.returns-in_err-table
+returns-in_err-table c =
+    let p = err_from_is_err_and c.from_residual-in_err-table.result c.from_residual-in_err-table.ensures.1 in
+    rw (p.1, p.2) (Ends-no_table c.args.unknown c.args.inputs.now _ _ _ c.in_ok-first.ensures.book c.in_ok-second.ensures.book c.in_err-table.ensures.told)
+
+pub answered-requires : goal.answered-requires
+answered-requires c = names_pair _ _ c.args.unknown _ _ c.in_ok-answer.ensures.answer
+
+pub returns-in_err-answer : goal.returns-in_err-answer
+returns-in_err-answer c = let p = err_from_is_err_and c.from_residual-in_err-answer.result c.from_residual-in_err-answer.ensures.1 in rw (p.1, p.2) tt
+
+pub returns-in_err-outcome : goal.returns-in_err-outcome
+returns-in_err-outcome c = let p = err_from_is_err_and c.from_residual-in_err-outcome.result c.from_residual-in_err-outcome.ensures.1 in rw (p.1, p.2) tt
+
+pub returns : goal.returns
+returns c = ended _ _ c.in_ok-first.ensures.book c.in_ok-second.ensures.book (compared _ _ c.in_ok-table.ensures.table c.in_ok-answer.ensures.answer c.in_ok-outcome.ensures)

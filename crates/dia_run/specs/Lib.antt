@@ -1,0 +1,13 @@
+pub mod Limits
+pub mod Inputs
+pub mod Exit
+pub mod Texts
+pub mod Refusals
+pub mod Listing
+pub mod Verdict
+pub mod Pairs
+pub mod Outcome
+pub mod Inclusion
+pub mod Writing
+pub mod Devices
+pub mod FedTexts

@@ -1,0 +1,92 @@
+-- What the texts of the inputs say, and what is told of one that says nothing.
+use Rattle.std.specs.Prelude.{◌≡◌, ◌≢◌, ℕ, ◌⊎◌, not, List, [], ◌∷◌, ◌++◌, filter, None, Some, Ok, codes, IsOk}
+use Rattle.std.specs.Str.{IsUtf8}
+use Rattle.std.specs.Fmt.{decimal}
+use Rattle.hex.specs.Hex.{decode_of}
+use Rattle.dia_ccf.specs.declared.CcfFault.{CcfFault}
+use Rattle.dia_ccf.specs.declared.CcfFault.TheVariants as ccf
+use Rattle.dia_ccf.specs.Limits.{max_text}
+use Rattle.dia_ccf.specs.Plain.{PlainSource}
+use Rattle.dia_ccf.specs.Tokens.{tokens, is_white}
+use Rattle.dia_ccf.specs.Grammar.{Derives}
+use Rattle.dia_ccf.specs.Faults.{IsFault}
+use Rattle.dia_dict.specs.Dictionary.{Dictionary, IsDictionary}
+use Rattle.dia_dict.specs.Resolution.{resolved, first_wrong, Wrong}
+use Rattle.dia_dict.specs.Words.{kind_word}
+use Rattle.dia_run.specs.declared.command.Input.{Input}
+use Rattle.dia_run.specs.Inputs.{Holds, IsOver}
+use Rattle.dia_run.specs.Limits.{max_message_text}
+
+-- a text and its line feed
+abbrev pub line : List ℕ → List ℕ
+line text = text ++ 10 ∷ []
+
+-- ---- dictionaries
+
+-- the input is the text of this source
+abbrev pub IsSourceText : Input → PlainSource → Type 0
+IsSourceText input source = (text : List ℕ) × Holds input max_text text × IsUtf8 text × Derives (tokens text) source
+
+abbrev pub fault_at : List ℕ → ℕ → List ℕ
+fault_at what n = what ++ codes " at line " ++ decimal n
+
+abbrev pub fault_text : CcfFault → List ℕ
+fault_text (ccf.Syntax token n) = fault_at (codes "syntax") n
+fault_text (ccf.Number n) = fault_at (codes "number") n
+fault_text (ccf.Limit n) = fault_at (codes "limit") n
+fault_text ccf.NoMemory = []
+
+-- the input is no dictionary text, and this is why
+pub data IsNoSourceText (input : Input) (why : List ℕ) : Type 0 where
+  too_long : IsOver input max_text → why ≡ codes "too long" → IsNoSourceText input why
+  not_text : (text : List ℕ) → Holds input max_text text → ¬ IsUtf8 text → why ≡ codes "not text" → IsNoSourceText input why
+  fault : (text : List ℕ) (f : CcfFault) → Holds input max_text text → IsUtf8 text → IsFault text f → f ≢ ccf.NoMemory
+      → why ≡ fault_text f → IsNoSourceText input why
+
+-- a name, or a dash for none
+abbrev pub or_dash : List ℕ → List ℕ
+or_dash [] = codes "-"
+or_dash (c ∷ cs) = c ∷ cs
+
+abbrev pub wrong_text : Wrong → List ℕ
+wrong_text w = kind_word w.kind ++ codes " " ++ or_dash w.name ++ codes " " ++ or_dash w.slot
+
+-- the input is the text of a source that names this dictionary
+abbrev pub IsDictionaryText : Input → Dictionary → Type 0
+IsDictionaryText input d = (source : PlainSource) × IsSourceText input source × (first_wrong source ≡ None)
+    × (d ≡ resolved source) × IsDictionary d
+
+-- the input names no dictionary, and this is why
+abbrev pub IsNoDictionaryText : Input → List ℕ → Type 0
+IsNoDictionaryText input why = IsNoSourceText input why ⊎ ((source : PlainSource) × (wrong : Wrong) × IsSourceText input source
+    × (first_wrong source ≡ Some wrong) × (why ≡ wrong_text wrong))
+
+-- what is told of a dictionary by its number
+abbrev pub dictionary_line : ℕ → List ℕ → List ℕ
+dictionary_line number why = codes "dictionary " ++ decimal number ++ codes ": " ++ why
+
+-- ---- messages
+
+-- the text without its white space
+abbrev pub digits_of : List ℕ → List ℕ
+digits_of text = filter (λ c. not (is_white c)) text
+
+-- the input is hexadecimal text of these bytes
+abbrev pub IsMessageText : Input → List ℕ → Type 0
+IsMessageText input bytes = (text : List ℕ) × Holds input max_message_text text × (decode_of (digits_of text) ≡ Ok bytes)
+
+-- the input is no hexadecimal text within the limit, and this is told
+pub data IsNoMessageText (input : Input) (told : List ℕ) : Type 0 where
+  too_long : IsOver input max_message_text → told ≡ codes "message: too long" → IsNoMessageText input told
+  not_hexadecimal : (text : List ℕ) → Holds input max_message_text text → ¬ IsOk (decode_of (digits_of text))
+      → told ≡ codes "message: not hexadecimal" → IsNoMessageText input told
+
+-- the text spells no bytes
+abbrev pub SpellsNone : List ℕ → Type 0
+SpellsNone text = ¬ IsOk (decode_of (digits_of text))
+
+-- the front of the text spells these bytes, and this is the rest of it
+pub record SpellsFirst (text bytes rest : List ℕ) : Type 0 where
+  pub digits : List ℕ
+  pub parts : digits_of text ≡ digits ++ digits_of rest
+  pub spells : decode_of digits ≡ Ok bytes

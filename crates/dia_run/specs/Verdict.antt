@@ -1,0 +1,58 @@
+-- The line of a verdict on a message: the command of a valid one, or its first fault.
+use Rattle.std.specs.Prelude.{◌≡◌, ℕ, List, ◌++◌, Option, Some, None, Result, Ok, Err, codes, slice_get}
+use Rattle.std.specs.Fmt.{decimal}
+use Rattle.dia_wire.specs.declared.Key.{Key}
+use Rattle.dia_dict.specs.Dictionary.{Dictionary, DictEntry, PlainDefinition, definitions}
+use Rattle.dia_check.specs.declared.Fault.{Fault}
+use Rattle.dia_check.specs.declared.Reason.{Reason}
+use Rattle.dia_check.specs.declared.Reason.TheVariants as reason
+use Rattle.dia_check.specs.declared.Subject.{Subject}
+use Rattle.dia_check.specs.declared.Subject.TheVariants.{Nothing, Avp, Wildcard}
+use Rattle.dia_check.specs.declared.Selected.{Selected}
+use Rattle.dia_check.specs.declared.Refusal.{Refusal}
+use Rattle.dia_check.specs.declared.Refusal.TheVariants as refusal
+use Rattle.dia_check.specs.Valid.{known}
+use Rattle.dia_run.specs.declared.command.Exit.{Exit}
+use Rattle.dia_run.specs.declared.command.Exit.TheVariants.{Yes, No}
+use Rattle.dia_run.specs.Texts.{line}
+
+abbrev pub reason_word : Reason → List ℕ
+reason_word reason.Version = codes "version"
+reason_word reason.Length = codes "length"
+reason_word reason.Bits = codes "bits"
+reason_word reason.Command = codes "command"
+reason_word reason.Application = codes "application"
+reason_word reason.Proxiable = codes "proxiable"
+reason_word reason.AvpLength = codes "avp-length"
+reason_word reason.Unknown = codes "unknown"
+reason_word reason.MBit = codes "m-bit"
+reason_word reason.Missing = codes "missing"
+reason_word reason.NotAllowed = codes "not-allowed"
+reason_word reason.TooMany = codes "too-many"
+reason_word reason.LeafLength = codes "leaf-length"
+reason_word reason.LeafValue = codes "leaf-value"
+reason_word reason.Depth = codes "depth"
+
+-- the AVP's name, or code and vendor of one that the dictionary doesn't know
+abbrev pub known_name : Key → Option DictEntry → List ℕ
+known_name key None = decimal key.code ++ codes ":" ++ decimal key.vendor
+known_name key (Some e) = e.name
+
+abbrev pub subject_text : Dictionary → Subject → List ℕ
+subject_text d Nothing = codes "-"
+subject_text d (Avp key) = known_name key (known d key)
+subject_text d Wildcard = codes "AVP"
+
+abbrev pub fault_line : Dictionary → Fault → List ℕ
+fault_line d f = line (codes "fault " ++ decimal f.code ++ codes " at " ++ decimal f.place ++ codes " " ++ reason_word f.reason
+    ++ codes " " ++ subject_text d f.subject)
+
+-- the line of an answer, and how the program ends. Where memory was refused there is none
+abbrev pub IsVerdict : Dictionary → Result Selected Refusal → List ℕ → Exit → Type 0
+IsVerdict d (Ok s) text exit = (c : PlainDefinition) × (slice_get (definitions d) s.def ≡ Some c)
+    × (text ≡ line (codes "valid " ++ c.name)) × (exit ≡ Yes)
+IsVerdict d (Err (refusal.Fault f)) text exit = (text ≡ fault_line d f) × (exit ≡ No)
+IsVerdict d (Err refusal.Truncated) text exit = (text ≡ line (codes "truncated")) × (exit ≡ No)
+IsVerdict d (Err refusal.Trailing) text exit = (text ≡ line (codes "trailing")) × (exit ≡ No)
+IsVerdict d (Err refusal.NoMemory) text exit = ⊥
+IsVerdict d (Err refusal.Spent) text exit = ⊥

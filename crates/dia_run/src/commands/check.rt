@@ -1,0 +1,125 @@
+//! `check`: whether a message is valid, or its first fault.
+
+ghost use Rattle.std.specs.Prelude.{◌≡◌, ◌<◌, ◌++◌, length, codes, IfOk};
+ghost use Rattle.std.specs.Prelude.{OnOk, string_bytes, slice_get, Some};
+ghost use Rattle.dia_dict.specs.Dictionary.{PlainDefinition, definitions};
+ghost use Rattle.dia_run.specs.Outcome.{Ends, IsCheckOutcome};
+ghost use Rattle.dia_run.specs.Texts.{line};
+ghost use Rattle.dia_run.specs.Verdict.{IsVerdict, fault_line, reason_word, subject_text};
+
+mod feeding;
+
+use crate::command::{Exit, Inputs};
+use crate::commands::check::feeding::check_message;
+use crate::commands::{Outcome, told};
+use crate::inputs::Refused;
+use crate::inputs::dictionary::read_dictionary;
+use dia_check::{Fault, Levels, Reason, Refusal, Selected, Subject, Unknown};
+use dia_dict::{Book, DefId};
+use std::alloc::{AllocError, Global};
+
+/// The verdict on the message, under the first dictionary.
+pub fn check(
+    alloc: Global,
+    unknown: Unknown,
+    levels: Levels,
+    inputs: &Inputs,
+) -> Result<Outcome, Refused>
+    ensures { Ends (IsCheckOutcome unknown levels inputs.now) result }
+{
+    let book = read_dictionary(alloc, 1, &inputs.first)?;
+    let answer = check_message(alloc, &book, unknown, levels, &inputs.message)?;
+    let outcome = verdict(alloc, &book, answer)?;
+    Ok(outcome)
+}
+
+/// The line of an answer. A stream that is fed without refusals of memory isn't spent.
+fn verdict<B: Book>(
+    alloc: Global,
+    book: &B,
+    answer: Result<Selected, Refusal>,
+) -> Result<Outcome, AllocError>
+    requires { IfOk answer (λ found. found.def < length (definitions (B.meaning book.now))) }
+    ensures { IfOk result (λ outcome. IsVerdict
+        (B.meaning book.now) answer (string_bytes outcome.text) outcome.exit) }
+{
+    match answer {
+        Ok(found) => valid(alloc, book, found.def),
+        Err(Refusal::Fault(fault)) => faulty(alloc, book, &fault),
+        Err(Refusal::Truncated) => told(alloc, "truncated\n", Exit::No),
+        Err(Refusal::Trailing) => told(alloc, "trailing\n", Exit::No),
+        Err(Refusal::NoMemory) => Err(AllocError),
+        Err(Refusal::Spent) => Err(AllocError),
+    }
+}
+
+/// The outcome of a valid message of this command.
+fn valid<B: Book>(alloc: Global, book: &B, def: DefId) -> Result<Outcome, AllocError>
+    requires { def < length (definitions (B.meaning book.now)) }
+    ensures text { IfOk result (λ outcome. (c : PlainDefinition)
+        × (slice_get (definitions (B.meaning book.now)) def ≡ Some c)
+        × (string_bytes outcome.text ≡ line (codes "valid " ++ c.name))) }
+    ensures exit { IfOk result (λ outcome. outcome.exit ≡ Exit.Yes) }
+{
+    let name = book.def(def).name.as_str();
+    let text = format!(in alloc; "valid {name}\n")?;
+    let exit = Exit::Yes;
+    Ok(Outcome { text, exit })
+}
+
+/// The outcome of a message with this first fault.
+fn faulty<B: Book>(alloc: Global, book: &B, fault: &Fault) -> Result<Outcome, AllocError>
+    ensures text { IfOk result
+        (λ outcome. string_bytes outcome.text ≡ fault_line (B.meaning book.now) fault.now) }
+    ensures exit { IfOk result (λ outcome. outcome.exit ≡ Exit.No) }
+{
+    let code = fault.code;
+    let place = fault.place;
+    let reason = reason_word(fault.reason);
+    let mut text = format!(in alloc; "fault {code} at {place} {reason} ")?;
+    push_subject(&mut text, book, fault.subject)?;
+    text.push('\n')?;
+    let exit = Exit::No;
+    Ok(Outcome { text, exit })
+}
+
+/// Adds what a fault is about: an AVP by its name, or by code and vendor where the dictionary doesn't know it.
+fn push_subject<B: Book>(text: &mut String, book: &B, subject: Subject) -> Result<(), AllocError>
+    ensures { OnOk result (string_bytes text.new
+        ≡ string_bytes text.old ++ subject_text (B.meaning book.now) subject) }
+{
+    match subject {
+        Subject::Nothing => text.push('-'),
+        Subject::Wildcard => text.push_str("AVP"),
+        Subject::Avp(key) => match book.avp(key) {
+            Some(entry) => text.push_str(book.entry_name(entry)),
+            None => {
+                let code = key.code;
+                let vendor = key.vendor;
+                write!(text, "{code}:{vendor}")
+            }
+        },
+    }
+}
+
+fn reason_word(reason: Reason) -> &'static str
+    ensures { result.now ≡ reason_word reason }
+{
+    match reason {
+        Reason::Version => "version",
+        Reason::Length => "length",
+        Reason::Bits => "bits",
+        Reason::Command => "command",
+        Reason::Application => "application",
+        Reason::Proxiable => "proxiable",
+        Reason::AvpLength => "avp-length",
+        Reason::Unknown => "unknown",
+        Reason::MBit => "m-bit",
+        Reason::Missing => "missing",
+        Reason::NotAllowed => "not-allowed",
+        Reason::TooMany => "too-many",
+        Reason::LeafLength => "leaf-length",
+        Reason::LeafValue => "leaf-value",
+        Reason::Depth => "depth",
+    }
+}

@@ -1,0 +1,135 @@
+//! A message that is checked a piece at a time, as its text is decoded.
+
+ghost use Rattle.std.specs.Prelude.{◌≡◌, ◌≢◌, ◌<◌, ◌↔◌, ◌++◌, List, ℕ, []};
+ghost use Rattle.std.specs.Prelude.{length, Ok, Err, IfOk, IfErr, IsTrue, OnOk};
+ghost use Rattle.hex.specs.Hex.{decode_of};
+ghost use Rattle.dia_dict.specs.Dictionary.{Dictionary, IsDictionary};
+ghost use Rattle.dia_check.specs.declared.Unknown.{Unknown as AnyPolicy};
+ghost use Rattle.dia_check.specs.declared.Levels.{Levels as AnyLevels};
+ghost use Rattle.dia_check.specs.Faults.{IsAnswer};
+ghost use Rattle.dia_check.specs.Streaming.{taken_of};
+ghost use Rattle.dia_check.specs.Streams.{StandsFor, IsSpent};
+ghost use Rattle.dia_run.specs.Texts.{IsMessageText, IsNoMessageText, SpellsFirst, digits_of};
+ghost use Rattle.dia_run.specs.Refusals.{TellsOf};
+ghost use Rattle.dia_run.specs.FedTexts.{WasFed, IsEndless, IsNoHexadecimal};
+
+use crate::command::Input;
+use crate::inputs::Refused;
+use crate::inputs::message::message_text;
+use crate::inputs::pieces::{MAX_PIECE, next_piece};
+use dia_check::{Fault, Levels, Reason, Refusal, Selected, Stream, StreamFault, Unknown};
+use dia_dict::Book;
+use std::alloc::Global;
+
+/// How far a text was fed to a stream.
+#[derive(Clone, Copy)]
+struct Fed<'a> {
+    /// The text that is left.
+    rest: &'a [u8],
+    /// Whether bytes follow the message.
+    trailing: bool,
+}
+
+impl From<StreamFault> for Refused {
+    ghost use Rattle.std.specs.Prelude.{◌≡◌};
+    ghost use Rattle.dia_run.specs.declared.inputs.Refused.TheVariants.{NoMemory};
+
+    ghost from_gives = { λ _ refused. refused ≡ NoMemory };
+
+    fn from(_fault: StreamFault) -> Refused {
+        Refused::NoMemory
+    }
+}
+
+/// What `check` answers of the message that an input spells.
+///
+/// It takes memory for the levels that are open, and none for the bytes.
+pub fn check_message<B: Book>(
+    alloc: Global,
+    book: &B,
+    unknown: Unknown,
+    levels: Levels,
+    input: &Input,
+) -> Result<Result<Selected, Refusal>, Refused>
+    ensures answer { IfOk result (λ answer. (bytes : List ℕ) × IsMessageText input.now bytes
+        × IsAnswer (B.meaning book.now) unknown levels bytes answer) }
+    ensures told { IfErr result (TellsOf (IsNoMessageText input.now)) }
+{
+    let text = message_text(input)?;
+    let mut stream = Stream::new(alloc, book, unknown, levels);
+    let trailing = feed_text(&mut stream, text)?;
+    Ok(answer_of_all(stream.finish(), trailing))
+}
+
+/// Feeds the message that a text spells to a stream. Answers whether bytes follow it.
+///
+/// Text behind the message, or behind a fault, is read to its end, too.
+fn feed_text<'a, B: Book>(stream: &mut Stream<'a, B>, text: &[u8]) -> Result<bool, Refused>
+    requires { ¬ IsSpent stream.old }
+    ensures fed { IfOk result (λ trailing. (bytes : List ℕ)
+        × (decode_of (digits_of text.now) ≡ Ok bytes)
+        × ((d : Dictionary) (u : AnyPolicy) (most : AnyLevels)
+        → StandsFor B.meaning stream.old d u most []
+        → WasFed B.meaning stream.new d u most bytes trailing)) }
+    ensures goes_on { OnOk result (¬ IsSpent stream.new) }
+    ensures told { IfErr result (TellsOf (IsNoHexadecimal text.now)) }
+{
+    let mut fed = Fed {
+        rest: text,
+        trailing: false,
+    };
+    while !fed.rest.is_empty() {
+        fed = feed_piece(stream, fed)?;
+    }
+    Ok(fed.trailing)
+}
+
+/// Feeds the next piece of a text to a stream.
+fn feed_piece<'a, 'b, B: Book>(stream: &mut Stream<'a, B>, fed: Fed<'b>) -> Result<Fed<'b>, Refused>
+    requires { ¬ IsSpent stream.old }
+    ensures fed { IfOk result (λ next. (piece : List ℕ)
+        × SpellsFirst fed.entry.rest.now piece next.rest.now
+        × ((d : Dictionary) (u : AnyPolicy) (most : AnyLevels) (bytes : List ℕ)
+        → WasFed B.meaning stream.old d u most bytes fed.entry.trailing
+        → WasFed B.meaning stream.new d u most (bytes ++ piece) next.trailing)) }
+    ensures shorter { 0 < length fed.entry.rest.now
+        → IfOk result (λ next. length next.rest.now < length fed.entry.rest.now) }
+    ensures goes_on { OnOk result (¬ IsSpent stream.new) }
+    ensures told { IfErr result (TellsOf (IsNoHexadecimal fed.entry.rest.now)) }
+{
+    let mut bytes = [0u8; MAX_PIECE];
+    let piece = next_piece(fed.rest, &mut bytes)?;
+    let progress = stream.feed(&bytes[..piece.length])?;
+    Ok(Fed {
+        rest: piece.rest,
+        trailing: fed.trailing || progress.taken < piece.length,
+    })
+}
+
+/// The answer for all bytes of a text, from that for the bytes that a stream took.
+fn answer_of_all(answer: Result<Selected, Refusal>, trailing: bool) -> Result<Selected, Refusal>
+    requires { answer ≢ Err Refusal.NoMemory }
+    ensures { (d : Dictionary) (u : AnyPolicy) (most : AnyLevels) (bytes : List ℕ)
+        → IsDictionary d
+        → (IsTrue trailing ↔ (length (taken_of bytes) < length bytes))
+        → IsAnswer d u most (taken_of bytes) answer → IsAnswer d u most bytes result }
+{
+    if trailing && !is_endless(&answer) {
+        Err(Refusal::Trailing)
+    } else {
+        answer
+    }
+}
+
+/// Whether it isn't known where the message ends: its version or its Message Length is at fault.
+fn is_endless(answer: &Result<Selected, Refusal>) -> bool
+    ensures { IsTrue result ↔ IsEndless answer.now }
+{
+    matches!(
+        answer,
+        Err(Refusal::Fault(Fault {
+            reason: Reason::Version | Reason::Length,
+            ..
+        }))
+    )
+}

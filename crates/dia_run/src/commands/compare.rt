@@ -1,0 +1,78 @@
+//! `compare`: whether a table of pairs shows that what is valid under the first dictionary is valid under the second.
+
+ghost use Rattle.std.specs.Prelude.{◌≡◌, IfOk, string_bytes};
+ghost use Rattle.dia_compat.specs.TableText.{plain_table, plain_pair};
+ghost use Rattle.dia_run.specs.Outcome.{Ends, IsCompareOutcome};
+ghost use Rattle.dia_run.specs.Pairs.{IsAnswerText, NamesPair, failure_line, test_word};
+
+use crate::command::{Exit, Inputs};
+use crate::commands::{Outcome, told};
+use crate::inputs::Refused;
+use crate::inputs::dictionary::read_dictionary;
+use crate::inputs::table::read_table;
+use dia_check::Unknown;
+use dia_compat::{Answer, PairKind, Table, Test, check_table};
+use std::alloc::{AllocError, Global};
+
+/// The answer for both dictionaries and the table.
+pub fn compare(alloc: Global, unknown: Unknown, inputs: &Inputs) -> Result<Outcome, Refused>
+    ensures { Ends (IsCompareOutcome unknown inputs.now) result }
+{
+    let first = read_dictionary(alloc, 1, &inputs.first)?;
+    let second = read_dictionary(alloc, 2, &inputs.second)?;
+    let table = read_table(alloc, &inputs.table)?;
+    let answer = check_table(alloc, &first, &second, unknown, &table)?;
+    let outcome = answered(alloc, &table, answer)?;
+    Ok(outcome)
+}
+
+/// The line of an answer, and how the program ends.
+fn answered(alloc: Global, table: &Table, answer: Answer) -> Result<Outcome, AllocError>
+    requires { NamesPair (plain_table table.now) answer }
+    ensures { IfOk result (λ outcome. IsAnswerText
+        (plain_table table.now) answer (string_bytes outcome.text) outcome.exit) }
+{
+    match answer {
+        Answer::Yes => told(alloc, "yes\n", Exit::Yes),
+        Answer::No { kind, pair, reason } => match kind {
+            PairKind::Command => failed(alloc, "command", &table.commands[pair], reason),
+            PairKind::Avp => failed(alloc, "avp", &table.avps[pair], reason),
+        },
+    }
+}
+
+/// The outcome where this pair fails this test.
+fn failed(
+    alloc: Global,
+    word: &str,
+    pair: &(String, String),
+    test: Test,
+) -> Result<Outcome, AllocError>
+    ensures text { IfOk result
+        (λ outcome. string_bytes outcome.text ≡ failure_line word.now (plain_pair pair.now) test) }
+    ensures exit { IfOk result (λ outcome. outcome.exit ≡ Exit.No) }
+{
+    let left = pair.0.as_str();
+    let right = pair.1.as_str();
+    let test = test_word(test);
+    let text = format!(in alloc; "no {word} {left} = {right} {test}\n")?;
+    let exit = Exit::No;
+    Ok(Outcome { text, exit })
+}
+
+fn test_word(test: Test) -> &'static str
+    ensures { result.now ≡ test_word test }
+{
+    match test {
+        Test::N1 => "N1",
+        Test::N2 => "N2",
+        Test::N3 => "N3",
+        Test::N4 => "N4",
+        Test::N5 => "N5",
+        Test::N6 => "N6",
+        Test::N7 => "N7",
+        Test::N8 => "N8",
+        Test::N9 => "N9",
+        Test::N10 => "N10",
+    }
+}

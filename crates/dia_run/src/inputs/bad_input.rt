@@ -1,0 +1,152 @@
+//! Inputs that are refused, and what is told of them.
+
+ghost use Rattle.std.specs.Prelude.{◌≡◌};
+ghost use Rattle.dia_run.specs.Refusals.{message_fault_word};
+ghost use Rattle.dia_run.specs.Texts.{or_dash};
+
+use dia_dict::DictKind;
+use dia_wire::MessageFault;
+use std::fmt;
+
+/// An input that is refused, and why.
+#[derive(Debug, Drop)]
+pub enum BadInput {
+    /// A dictionary, by its number in the command, from 1.
+    Dictionary { number: u8, why: BadDictionary },
+    Table(BadTable),
+    Message(BadMessage),
+    /// The first dictionary has no command of this name.
+    NoCommand { name: String },
+}
+
+/// Why a text names no dictionary.
+#[derive(Debug, Drop)]
+pub enum BadDictionary {
+    /// More bytes than the text of a dictionary may have.
+    TooLong,
+    /// Bytes that are no UTF-8.
+    NotText,
+    Syntax {
+        line: u32,
+    },
+    Number {
+        line: u32,
+    },
+    Limit {
+        line: u32,
+    },
+    /// The first fault of its definitions. A name is empty where there is none.
+    Wrong {
+        kind: DictKind,
+        name: String,
+        slot: String,
+    },
+}
+
+/// Why a text is no table of pairs.
+#[derive(Clone, Copy, Debug, PartialEq, Eq)]
+pub enum BadTable {
+    /// More bytes than the text of a table may have.
+    TooLong,
+    /// Bytes that are no UTF-8.
+    NotText,
+    Syntax { line: u32 },
+    Limit { line: u32 },
+}
+
+/// Why a text is no message.
+#[derive(Clone, Copy, Debug, PartialEq, Eq)]
+pub enum BadMessage {
+    /// More bytes than the text of a message may have.
+    TooLong,
+    NotHexadecimal,
+    /// Its bytes are no single message.
+    NoMessage(MessageFault),
+}
+
+impl fmt::Display for BadInput {
+    ghost use Rattle.std.specs.Prelude.{Some};
+    ghost use Rattle.dia_run.specs.Refusals.{bad_input_text};
+
+    ghost output = { λ bad. Some (bad_input_text bad) };
+
+    fn fmt<W: fmt::Write>(&self, f: &mut fmt::Formatter<W>) -> fmt::Result {
+        match self {
+            BadInput::Dictionary { number, why } => write!(f, "dictionary {number}: {why}"),
+            BadInput::Table(why) => write!(f, "table: {why}"),
+            BadInput::Message(why) => write!(f, "message: {why}"),
+            BadInput::NoCommand { name } => write!(f, "propose: no command {name}"),
+        }
+    }
+}
+
+impl fmt::Display for BadDictionary {
+    ghost use Rattle.std.specs.Prelude.{Some};
+    ghost use Rattle.dia_run.specs.Refusals.{bad_dictionary_text};
+
+    ghost output = { λ why. Some (bad_dictionary_text why) };
+
+    fn fmt<W: fmt::Write>(&self, f: &mut fmt::Formatter<W>) -> fmt::Result {
+        match self {
+            BadDictionary::TooLong => write!(f, "too long"),
+            BadDictionary::NotText => write!(f, "not text"),
+            BadDictionary::Syntax { line } => write!(f, "syntax at line {line}"),
+            BadDictionary::Number { line } => write!(f, "number at line {line}"),
+            BadDictionary::Limit { line } => write!(f, "limit at line {line}"),
+            BadDictionary::Wrong { kind, name, slot } => {
+                let name = or_dash(name.as_str());
+                let slot = or_dash(slot.as_str());
+                write!(f, "{kind} {name} {slot}")
+            }
+        }
+    }
+}
+
+impl fmt::Display for BadTable {
+    ghost use Rattle.std.specs.Prelude.{Some};
+    ghost use Rattle.dia_run.specs.Refusals.{bad_table_text};
+
+    ghost output = { λ why. Some (bad_table_text why) };
+
+    fn fmt<W: fmt::Write>(&self, f: &mut fmt::Formatter<W>) -> fmt::Result {
+        match self {
+            BadTable::TooLong => write!(f, "too long"),
+            BadTable::NotText => write!(f, "not text"),
+            BadTable::Syntax { line } => write!(f, "syntax at line {line}"),
+            BadTable::Limit { line } => write!(f, "limit at line {line}"),
+        }
+    }
+}
+
+impl fmt::Display for BadMessage {
+    ghost use Rattle.std.specs.Prelude.{Some};
+    ghost use Rattle.dia_run.specs.Refusals.{bad_message_word};
+
+    ghost output = { λ why. Some (bad_message_word why) };
+
+    fn fmt<W: fmt::Write>(&self, f: &mut fmt::Formatter<W>) -> fmt::Result {
+        match self {
+            BadMessage::TooLong => write!(f, "too long"),
+            BadMessage::NotHexadecimal => write!(f, "not hexadecimal"),
+            BadMessage::NoMessage(fault) => f.write_str(fault_word(*fault)),
+        }
+    }
+}
+
+fn or_dash(name: &str) -> &str
+    ensures { result.now ≡ or_dash name.entry.now }
+{
+    if name.is_empty() { "-" } else { name }
+}
+
+fn fault_word(fault: MessageFault) -> &'static str
+    ensures { result.now ≡ message_fault_word fault }
+{
+    match fault {
+        MessageFault::Short => "short",
+        MessageFault::Version => "version",
+        MessageFault::Length => "length",
+        MessageFault::Truncated => "truncated",
+        MessageFault::Trailing => "trailing",
+    }
+}

@@ -1,0 +1,83 @@
+//! A message as hexadecimal text.
+
+ghost use Rattle.std.specs.Prelude.{◌≡◌, ◌≢◌, Ok, IfOk, IfErr, IsOk};
+ghost use Rattle.hex.specs.Hex.{decode_of};
+ghost use Rattle.dia_ccf.specs.Tokens.{is_white};
+ghost use Rattle.dia_run.specs.Inputs.{Holds};
+ghost use Rattle.dia_run.specs.Limits.{max_message_text};
+ghost use Rattle.dia_run.specs.Texts.{IsMessageText, IsNoMessageText, digits_of};
+ghost use Rattle.dia_run.specs.Refusals.{TellsOf};
+
+use crate::command::Input;
+use crate::inputs::bad_input::BadMessage;
+use crate::inputs::{Refused, bytes_within};
+use hex::FromHexError;
+use std::alloc::{AllocError, Global};
+
+/// The most bytes that the text of a message may have, white space included.
+pub const MAX_MESSAGE_TEXT: usize = 67_108_864;
+
+/// The text of a message, if it is within the limit.
+pub fn message_text(input: &Input) -> Result<&[u8], Refused>
+    ensures text { IfOk result (λ text. Holds input.entry.now max_message_text text.now) }
+    ensures told { IfErr result (TellsOf (IsNoMessageText input.entry.now)) }
+{
+    let Some(text) = bytes_within(input, MAX_MESSAGE_TEXT) else {
+        return Err(Refused::from(BadMessage::TooLong));
+    };
+    Ok(text)
+}
+
+/// The bytes that a text spells: pairs of hexadecimal digits of either letter case, its white space taken out first.
+pub fn read_message(alloc: Global, input: &Input) -> Result<Vec<u8>, Refused>
+    ensures message { IfOk result (λ bytes. IsMessageText input.now bytes.items) }
+    ensures told { IfErr result (TellsOf (IsNoMessageText input.now)) }
+{
+    let text = message_text(input)?;
+    match decode(alloc, text) {
+        Ok(bytes) => Ok(bytes),
+        Err(FromHexError::OutOfMemory) => Err(Refused::NoMemory),
+        Err(_) => Err(Refused::from(BadMessage::NotHexadecimal)),
+    }
+}
+
+/// The bytes that a text spells. A text without white space between its digits is decoded as it is.
+fn decode(alloc: Global, text: &[u8]) -> Result<Vec<u8>, FromHexError>
+    ensures ok { IfOk result (λ bytes. decode_of (digits_of text.now) ≡ Ok bytes.items) }
+    ensures err { IfErr result
+        (λ fault. fault ≢ FromHexError.OutOfMemory → ¬ IsOk (decode_of (digits_of text.now))) }
+{
+    match hex::decode(alloc, without_white_end(text)) {
+        Ok(bytes) => Ok(bytes),
+        Err(FromHexError::OutOfMemory) => Err(FromHexError::OutOfMemory),
+        Err(_) => match without_white(alloc, text) {
+            Ok(digits) => hex::decode(alloc, digits.as_slice()),
+            Err(AllocError) => Err(FromHexError::OutOfMemory),
+        },
+    }
+}
+
+fn without_white_end(text: &[u8]) -> &[u8]
+    ensures { digits_of result.now ≡ digits_of text.entry.now }
+{
+    let mut length = text.len();
+    while length > 0 && is_white(text[length - 1]) {
+        length -= 1;
+    }
+    &text[..length]
+}
+
+fn without_white(alloc: Global, text: &[u8]) -> Result<Vec<u8>, AllocError>
+    ensures { IfOk result (λ digits. digits.items ≡ digits_of text.now) }
+{
+    text.iter()
+        .copied()
+        .filter(|byte| !is_white(*byte))
+        .collect(alloc)
+}
+
+pub fn is_white(byte: u8) -> bool
+    ensures { result ≡ is_white byte }
+{
+    byte == b' ' || byte == b'\t' || byte == b'\r' || byte == b'\n'
+}

@@ -1,0 +1,47 @@
+//! A table of pairs as text.
+
+ghost use Rattle.std.specs.Prelude.{◌≡◌, ◌≢◌, IfOk, IfErr};
+ghost use Rattle.dia_compat.specs.TableText.{plain_table};
+ghost use Rattle.dia_run.specs.Pairs.{IsTableText, IsNoTableText, table_line, table_fault_text};
+ghost use Rattle.dia_run.specs.Refusals.{TellsOf, bad_table_text};
+
+use crate::command::Input;
+use crate::inputs::bad_input::{BadInput, BadTable};
+use crate::inputs::{Refused, bytes_within};
+use dia_compat::{MAX_TABLE, Table, TableFault, parse_table};
+use std::alloc::Global;
+
+/// The table that an input's text spells.
+pub fn read_table(alloc: Global, input: &Input) -> Result<Table, Refused>
+    ensures table { IfOk result (λ table. IsTableText input.now (plain_table table)) }
+    ensures told { IfErr result (TellsOf (IsNoTableText input.now)) }
+{
+    let Some(bytes) = bytes_within(input, MAX_TABLE) else {
+        return Err(tell(BadTable::TooLong));
+    };
+    let Ok(text) = str::from_utf8(bytes) else {
+        return Err(tell(BadTable::NotText));
+    };
+    match parse_table(alloc, text) {
+        Ok(table) => Ok(table),
+        Err(fault) => Err(tell_fault(fault)),
+    }
+}
+
+fn tell(why: BadTable) -> Refused
+    ensures { TellsOf (λ told. told ≡ table_line (bad_table_text why)) result }
+{
+    Refused::Bad(BadInput::Table(why))
+}
+
+/// The refusal of a text with this fault, or out of memory.
+fn tell_fault(fault: TableFault) -> Refused
+    ensures { TellsOf (λ told. (fault ≢ TableFault.NoMemory)
+        × (told ≡ table_line (table_fault_text fault))) result }
+{
+    match fault {
+        TableFault::Syntax { line } => tell(BadTable::Syntax { line }),
+        TableFault::Limit { line } => tell(BadTable::Limit { line }),
+        TableFault::NoMemory => Refused::NoMemory,
+    }
+}

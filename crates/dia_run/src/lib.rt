@@ -1,0 +1,33 @@
+//! The commands of `diacmd` as functions over values: what each writes for its inputs, and how it ends.
+//!
+//! `run` takes the texts of the inputs and a sink for what is written:
+//!
+//! ```text
+//! let command = Command::Check { unknown: Unknown::Kept, levels: Levels::Any };
+//! let inputs = Inputs {
+//!     first: Input::Bytes(Vec::from_slice(alloc, base_text().as_bytes())?),
+//!     second: Input::Bytes(Vec::new(alloc)),
+//!     table: Input::Bytes(Vec::new(alloc)),
+//!     message: Input::Bytes(Vec::from_slice(alloc, b"0100001480000118000000000000000100000002")?),
+//! };
+//! let mut sink = ToWriter::new(Vec::new(alloc));
+//! let exit = run(alloc, &command, &inputs, &mut sink)?;
+//! assert_eq!(rt; exit, Exit::No);
+//! assert!(rt; sink.writer.as_slice() == b"fault 5005 at 20 missing Origin-Host\n".as_slice());
+//! ```
+#![tactic(auto)]
+
+mod command;
+mod commands;
+mod devices;
+mod inputs;
+mod reading;
+mod running;
+mod streams;
+
+pub use command::{Command, Exit, Input, Inputs, RunFault};
+pub use devices::{FromReader, ToWriter};
+pub use inputs::message::MAX_MESSAGE_TEXT;
+pub use reading::{InputFault, read_input};
+pub use running::run;
+pub use streams::{Failed, Feed, Sink};

@@ -1,0 +1,87 @@
+//! A command, from its inputs to what is written.
+
+ghost use Rattle.std.specs.Prelude.{◌≡◌, ◌↔◌, List, ℕ, IfOk, OnOk, Err};
+ghost use Rattle.std.specs.Prelude.{IsErr, IsTrue, string_bytes};
+ghost use Rattle.std.specs.Io.KnownBytes.{Appends};
+ghost use Rattle.dia_run.specs.declared.command.Exit.{Exit as AnyExit};
+ghost use Rattle.dia_run.specs.Writing.{AppendsFront};
+ghost use Rattle.dia_run.specs.Outcome.{Ends, IsOutcome};
+ghost use Rattle.dia_run.specs.Inclusion.{ShowsInclusion};
+
+use crate::command::{Command, Exit, Inputs, RunFault};
+use crate::commands::check::check;
+use crate::commands::compare::compare;
+use crate::commands::propose::propose;
+use crate::commands::refute::refute;
+use crate::commands::render::render;
+use crate::commands::show::show;
+use crate::commands::{Outcome, outcome_of};
+use crate::inputs::Refused;
+use crate::streams::{Failed, Sink};
+use std::alloc::{AllocError, Global};
+
+/// Writes the text of a command for its inputs, and answers how it ended.
+///
+/// The text is made first, and then written in whatever pieces the sink takes.
+pub fn run<S: Sink>(
+    alloc: Global,
+    command: &Command,
+    inputs: &Inputs,
+    sink: &mut S,
+) -> Result<Exit, RunFault>
+    requires { ¬ IsTrue (S.has_failed sink.old) }
+    ensures text { IfOk result (λ exit. (text : List ℕ) × IsOutcome command.now inputs.now text exit
+        × Appends (S.written sink.old) (S.written sink.new) text) }
+    // For these inputs there is one text, and one end.
+    ensures one { (a b : List ℕ) (x y : AnyExit)
+        → IsOutcome command.now inputs.now a x → IsOutcome command.now inputs.now b y
+        → (a ≡ b) × (x ≡ y) }
+    // Where `compare` answers yes, what is valid under the first dictionary is valid under the second.
+    ensures inclusion { IfOk result (λ exit. ShowsInclusion command.now inputs.now exit) }
+    ensures device { (result ≡ Err RunFault.Device) ↔ IsTrue (S.has_failed sink.new) }
+    ensures front { result ≡ Err RunFault.Device
+        → (text : List ℕ) × (exit : AnyExit) × IsOutcome command.now inputs.now text exit
+        × AppendsFront (S.written sink.old) (S.written sink.new) text }
+    ensures no_memory { result ≡ Err RunFault.NoMemory → S.written sink.new ≡ S.written sink.old }
+{
+    let outcome = perform(alloc, command, inputs)?;
+    put_all(sink, outcome.text.as_bytes())?;
+    Ok(outcome.exit)
+}
+
+/// The text of a command for its inputs, and how it ends.
+fn perform(alloc: Global, command: &Command, inputs: &Inputs) -> Result<Outcome, AllocError>
+    ensures { IfOk result (λ outcome. IsOutcome command.now inputs.now
+        (string_bytes outcome.text) outcome.exit) }
+{
+    outcome_of(alloc, attempt(alloc, command, inputs))
+}
+
+/// The outcome of a command, or why an input of it is refused.
+fn attempt(alloc: Global, command: &Command, inputs: &Inputs) -> Result<Outcome, Refused>
+    ensures { Ends (IsOutcome command.now inputs.now) result }
+{
+    match command {
+        Command::Show => show(alloc, inputs),
+        Command::Render => render(alloc, inputs),
+        Command::Check { unknown, levels } => check(alloc, *unknown, *levels, inputs),
+        Command::Compare { unknown } => compare(alloc, *unknown, inputs),
+        Command::Refute { unknown, levels } => refute(alloc, *unknown, *levels, inputs),
+        Command::Propose { unknown, names } => propose(alloc, *unknown, names.as_slice(), inputs),
+    }
+}
+
+/// Writes a text to a sink, up to the call that fails.
+fn put_all<S: Sink>(sink: &mut S, text: &[u8]) -> Result<(), Failed>
+    requires { ¬ IsTrue (S.has_failed sink.old) }
+    ensures ok { OnOk result (Appends (S.written sink.old) (S.written sink.new) text.now) }
+    ensures front { AppendsFront (S.written sink.old) (S.written sink.new) text.now }
+    ensures failed { IsErr result ↔ IsTrue (S.has_failed sink.new) }
+{
+    let mut rest = text;
+    while !rest.is_empty() {
+        let count = sink.put(rest)?;
+        rest = &rest[count..];
+    }
+    Ok(())
+}

@@ -1,0 +1,9 @@
+//! Worked inputs of the commands, and devices that fail. It has tests alone.
+#![tactic(auto)]
+
+#[cfg(test)]
+mod devices;
+#[cfg(test)]
+mod example;
+#[cfg(test)]
+mod vectors;
