@@ -170,7 +170,7 @@ module _ (d : Dictionary) (sound : IsDictionary d) (most : Levels) (depth i : �
       by None h = refl
       by (Some g) h = absurd (none-some (length (filter_map (λ (y : DictEntry). y.group) (take i d.entries))) h)
 
-  is_grouped : (n : ℕ) → Some n ≡ group_place d i → e.format ≡ Grouped
+  pub is_grouped : (n : ℕ) → Some n ≡ group_place d i → e.format ≡ Grouped
   is_grouped n is = let (g, some, here) = group_definition n is in grouped.1 (ap (λ (o : Option PlainDefinition). is_some o) some)
 
   pub leaf_data : IsLeaf e.format bytes ⊎ (e.format ≡ Grouped) → None ≡ group_place d i → IsFineData d most depth e bytes None

@@ -2,9 +2,9 @@
 use Rattle.std.proofs.Common.{◌≡◌, ℕ, ◌+◌, ◌-◌, ◌*◌, ◌<◌, ◌≤◌, List, [], ◌∷◌, ◌++◌, length, take, drop, map, Option, Some, None, refl, sym, ap, subst, ◌∙◌, arith}
 use Rattle.std.proofs.Math.Logic.{∥∥₁_map}
 use Rattle.std.proofs.Math.Nat.{min-le_left, min-le_right, min-eq_left}
-use Rattle.std.specs.Prelude.{min, slice_get, IfSome}
-use Rattle.std.proofs.lemmas.List.{append_assoc, take-append-drop, length-append, length-take, length-drop}
-use Rattle.dia_wire.specs.Wire.{PlainAvp, key_of, head_length, avp_length, padded_length, BeginsWith, BeginsWithNone}
+use Rattle.std.specs.Prelude.{min, slice_get}
+use Rattle.std.proofs.lemmas.List.{append_assoc, take_all, take-append-drop, length-append, length-take, length-drop}
+use Rattle.dia_wire.specs.Wire.{PlainAvp, key_of, head_length, avp_length, padded_length, BeginsWith}
 use Rattle.dia_wire.proofs.Spelling.{opened, rounded-le}
 use Rattle.dia_dict.specs.Dictionary.{Dictionary, IsDictionary, PlainDefinition, definitions}
 use Rattle.dia_check.specs.declared.policy.Unknown.{Unknown}
@@ -17,18 +17,34 @@ use Rattle.dia_check.specs.Levels.{between}
 use Rattle.dia_check.specs.Faults.{HasGoodHeader}
 use Rattle.dia_check.specs.OpenLevels.{SoFar, AreOpen, AreOpenUnder, and_key, begun}
 use Rattle.dia_check.specs.Admission.{IsFineAvp}
-use Rattle.dia_check.specs.Walks.{inside, whole, IsFoundIn, Walks}
+use Rattle.dia_check.specs.Walks.{inside, whole, IsFoundIn}
 use Rattle.dia_check.specs.UnderWay.{so_far, IsUnderWay}
-use Rattle.dia_check.specs.Reading.{AreSound, BeginsLevel, IsReadTo, IsStop, LiesAt, ReadsOn}
+use Rattle.dia_check.specs.Reading.{AreSound, BeginsLevel, IsStop, LiesAt, ReadsOn}
 use Rattle.dia_check.proofs.FoundFaultsStand.{length-between, between-split, first_part, lies_inside}
 use Rattle.dia_check.proofs.FaultlessLevels.{opens}
 use Rattle.dia_check.proofs.KeptLevels.{kept_many}
 use Rattle.dia_check.proofs.RestOfLevels.{group_is, is_fine}
-use Rattle.dia_check.proofs.UnderWay.{last, deep, left_of, place, place_of, started}
+use Rattle.dia_check.proofs.UnderWay.{last, deep, left_of, place_of, started}
 use Rattle.dia_check.proofs.PartsOfPieces.{lies_later}
 
 pub sound_levels : (d : Dictionary) (u : Unknown) (most : Levels) (o : OpenLevels) (from at : ℕ) (piece : List ℕ) → ∥ ReadsOn d u most o from at piece ∥₁ → ∥ AreSound d o at ∥₁
 sound_levels d u most o from at piece h = ∥∥₁_map h (λ x. let (bytes, good, few, w, lies) = x in (u, most, bytes, good, few, w))
+
+-- what is left of a piece stands at the place that is reached
+lies_ahead : (bytes piece : List ℕ) (from at : ℕ) → from ≤ at → at ≤ from + length piece → LiesAt bytes from piece → LiesAt bytes at (drop (at - from) piece)
+lies_ahead bytes piece from at le within lies =
+    let here : from + (at - from) ≡ at = omega (arith, le) in
+    subst (λ (n : ℕ). LiesAt bytes n (drop (at - from) piece)) here (lies_later bytes piece from (at - from) (omega (arith, le, within)) lies)
+
+-- the piece from a place on, up to its end
+pub lies_from : (bytes piece : List ℕ) (from at : ℕ) → from ≤ at → at ≤ from + length piece → LiesAt bytes from piece
+    → LiesAt bytes at (take (length piece - (at - from)) (drop (at - from) piece))
+lies_from bytes piece from at le within lies =
+    let all = take_all (length piece - (at - from)) (drop (at - from) piece) (omega (arith, length-drop (at - from) piece)) in
+    subst (LiesAt bytes at) (sym all) (lies_ahead bytes piece from at le within lies)
+
+pub size_from : (piece : List ℕ) (from at : ℕ) → length (take (length piece - (at - from)) (drop (at - from) piece)) ≡ length piece - (at - from)
+size_from piece from at = omega (arith, length-drop (at - from) piece, length-take (length piece - (at - from)) (drop (at - from) piece))
 
 -- a part of a piece is that part of the message
 piece_part : (bytes piece : List ℕ) (from at until : ℕ) → LiesAt bytes from piece → from ≤ at → at ≤ until → until ≤ from + length piece
@@ -36,8 +52,7 @@ piece_part : (bytes piece : List ℕ) (from at until : ℕ) → LiesAt bytes fro
 piece_part bytes piece from at until lies le up within =
     let rest = drop (at - from) piece in
     let size = length-drop (at - from) piece in
-    let here : from + (at - from) ≡ at = omega (arith, le) in
-    let (is, room) = subst (λ (n : ℕ). LiesAt bytes n rest) here (lies_later bytes piece from (at - from) (omega (arith, le, up, within)) lies) in
+    let (is, room) = lies_ahead bytes piece from at le (omega (arith, up, within)) lies in
     let n = until - at in
     let count = length-take n rest in
     let same : (until - from) - (at - from) ≡ n = omega (arith, le, up) in

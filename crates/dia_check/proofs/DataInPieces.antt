@@ -1,19 +1,19 @@
 -- An AVP whose head is there, and whose data comes in pieces.
 use Rattle.std.proofs.Common.{◌≡◌, ◌≢◌, ℕ, suc, ◌+◌, ◌-◌, ◌*◌, ◌/◌, ◌%◌, ◌<◌, ◌≤◌, List, [], ◌∷◌, ◌++◌, length, map, take, drop, Option, Some, None, refl, sym, ap, subst, ◌∙◌, arith, inl, inr}
-use Rattle.std.specs.Prelude.{min, ◌⊎◌, ◌↔◌, slice_get, MatchOption, MatchResult, Result, Ok, Err, IsSome, is_some, unwrap_or, option_and_then, option_map, filter_map, true, false}
+use Rattle.std.specs.Prelude.{min, ◌⊎◌, ◌↔◌, slice_get, MatchOption, MatchResult, IfOk, IfSome, Result, Ok, Err, IsSome, unwrap_or, option_and_then, option_map, filter_map, true, false}
 use Rattle.std.proofs.Math.Seq.{take-add}
 use Rattle.std.proofs.lemmas.List.{take_all, take-take, drop-take, drop-drop, drop_all, length-take}
-use Rattle.std.proofs.lemmas.Option.{none-some, same_Some}
+use Rattle.std.proofs.lemmas.Option.{none-some, same_Some, slice_get_within}
 use Rattle.dia_wire.specs.declared.Key.{Key}
 use Rattle.dia_wire.specs.declared.AvpHead.{AvpHead}
 use Rattle.dia_wire.specs.Wire.{PlainAvp, key_of, head_length, avp_length, BeginsWith}
 use Rattle.dia_wire.proofs.Spelling.{rounded-le, opened}
-use Rattle.dia_data.specs.Plain.{PlainFormat, Grouped}
-use Rattle.dia_data.specs.Leaf.{LengthFits}
+use Rattle.dia_data.specs.Plain.{Grouped}
 use Rattle.dia_data.specs.declared.LeafState.{LeafState}
 use Rattle.dia_dict.specs.Dictionary.{Dictionary, DictEntry, IsDictionary, PlainDefinition, definitions, entry_of, group_place}
 use Rattle.dia_check.specs.declared.policy.Unknown.{Unknown}
 use Rattle.dia_check.specs.declared.policy.Levels.{Levels}
+use Rattle.dia_check.specs.declared.policy.Levels.TheVariants.{Any}
 use Rattle.dia_check.specs.declared.fault.Reason.{Reason}
 use Rattle.dia_check.specs.declared.fault.Reason.TheVariants as reason
 use Rattle.dia_check.specs.declared.fault.Subject.TheVariants.{Avp}
@@ -25,15 +25,15 @@ use Rattle.dia_check.specs.declared.stream.parts.Part.{Part}
 use Rattle.dia_check.specs.declared.stream.parts.Done.{Done}
 use Rattle.dia_check.specs.declared.stream.parts.DataPart.{DataPart}
 use Rattle.dia_check.specs.Valid.{known}
-use Rattle.dia_check.specs.Levels.{between}
+use Rattle.dia_check.specs.Levels.{between, MayOpen}
 use Rattle.dia_check.specs.Faults.{HasGoodHeader, code_of}
 use Rattle.dia_check.specs.OpenLevels.{begun, and_key, AreOpen}
 use Rattle.dia_check.specs.Admission.{IsAdmitted, IsFirstRefused, IsFineAvp, IsFineData, IsWrongData}
 use Rattle.dia_check.specs.Walks.{Rest, inside, whole, IsFoundIn}
 use Rattle.dia_check.specs.UnderWay.{so_far, Lies, AreNested, IsUnderWay}
-use Rattle.dia_check.specs.Reading.{HasSeen, IsGoodLeaf, IsBadLeaf, MayEnter, MayNotEnter, BeginsLevelAt, IsInData, IsAtAvp, IsNext, IsStop, LiesAt}
+use Rattle.dia_check.specs.Reading.{HasSeen, IsGoodLeaf, IsBadLeaf, IsNoGroup, IsGroupOf, BeginsLevelAt, IsInData, IsAtAvp, IsNext, IsStop, IsEntered, LiesAt}
 use Rattle.dia_check.proofs.FaultlessLevels.{all_at, opens}
-use Rattle.dia_check.proofs.AvpFaults.{no_number, entry_here, group_definition, group_of_entry}
+use Rattle.dia_check.proofs.AvpFaults.{no_number, entry_here, group_of_entry, group_definition, is_grouped, group_data, too_deep}
 use Rattle.dia_check.proofs.FoundFaultsStand.{lies_inside}
 use Rattle.dia_check.proofs.FirstFaults.{begun_room}
 use Rattle.dia_check.proofs.Uniqueness.{nat_cases}
@@ -58,39 +58,9 @@ module _ (d : Dictionary) (sound : IsDictionary d) where
   no_definition : (key : Key) (e : DictEntry) → known d key ≡ Some e → e.format ≢ Grouped → e.group ≡ None
   no_definition key e is single = none_of e.group (λ some. single ((grouped_entry key e is).1 some))
 
-  pub may_enter : (most : Levels) (depth : ℕ) (key : Key) (i n : ℕ) (r : Result (Option ℕ) Reason) → Some i ≡ entry_of d key → Some n ≡ group_place d i
-      → ((e : DictEntry) → slice_get d.entries i ≡ Some e → MatchResult r (λ group. IsFineData d most depth e [] group) (λ reason. IsWrongData most depth e [] reason))
-      → MatchResult r (MayEnter d most depth key) (MayNotEnter d most depth key)
-  may_enter most depth key i n r is has says =
-      let (e, at, here) = entry_here d key i is in
-      let (g, some, number) = group_definition d sound most depth i e at [] n has in
-      let is_group : e.format ≡ Grouped = (grouped_entry key e here).1 (ap (λ (o : Option PlainDefinition). is_some o) some) in
-      by e here is_group r (says e at)
-    where
-      by : (e : DictEntry) → known d key ≡ Some e → e.format ≡ Grouped → (r : Result (Option ℕ) Reason)
-          → MatchResult r (λ group. IsFineData d most depth e [] group) (λ reason. IsWrongData most depth e [] reason) → MatchResult r (MayEnter d most depth key) (MayNotEnter d most depth key)
-      by e here is (Ok None) says = λ x same. let none = says.definition in absurd (let some = (grouped_entry key e here).0 is in let f :
-          is_some e.group ≡ false = ap (λ (o : Option PlainDefinition). is_some o) none in let x : true ≡ false = sym some ∙ f in cc)
-      by e here is (Ok (Some g)) says = (e, here, λ read. record { leaf = inr is; opens = says.opens; definition = says.definition })
-      by e here is (Err reason.LeafLength) says = absurd (says (subst (λ (f : PlainFormat). LengthFits f []) (sym is) tt))
-      by e here is (Err reason.LeafValue) says = absurd (says.2 is)
-      by e here is (Err reason.Depth) says = (e, here, λ read. (inr is, is, says.2))
-      by e here is (Err reason.Version) says = absurd says
-      by e here is (Err reason.Length) says = absurd says
-      by e here is (Err reason.Bits) says = absurd says
-      by e here is (Err reason.Command) says = absurd says
-      by e here is (Err reason.Application) says = absurd says
-      by e here is (Err reason.Proxiable) says = absurd says
-      by e here is (Err reason.AvpLength) says = absurd says
-      by e here is (Err reason.Unknown) says = absurd says
-      by e here is (Err reason.MBit) says = absurd says
-      by e here is (Err reason.Missing) says = absurd says
-      by e here is (Err reason.NotAllowed) says = absurd says
-      by e here is (Err reason.TooMany) says = absurd says
-
   -- a known AVP without a definition is no group
-  pub may_not_be : (key : Key) (i : ℕ) → Some i ≡ entry_of d key → None ≡ group_place d i → (e : DictEntry) → known d key ≡ Some e → e.format ≡ Grouped → ⊥
-  may_not_be key i is none e some grouped =
+  no_group : (key : Key) (i : ℕ) → Some i ≡ entry_of d key → None ≡ group_place d i → IsNoGroup d key
+  no_group key i is none e some grouped =
       let (x, at, here) = entry_here d key i is in
       let same = same_Some x e (sym here ∙ some) in
       by e.group refl (none ∙ group_of_entry d i e (at ∙ ap (λ (y : DictEntry). Some y) same)) ((grouped_entry key e some).0 grouped)
@@ -98,6 +68,19 @@ module _ (d : Dictionary) (sound : IsDictionary d) where
       by : (o : Option PlainDefinition) → e.group ≡ o → None ≡ option_map (λ _. length (filter_map (λ y. y.group) (take i d.entries))) o → IsSome o → ⊥
       by None has h some = absurd (let f : false ≡ true = some in cc)
       by (Some g) has h some = none-some (length (filter_map (λ (y : DictEntry). y.group) (take i d.entries))) h
+
+  -- what the book says of an entry
+  pub group_said : (key : Key) (i : ℕ) (group : Option ℕ) → Some i ≡ entry_of d key → group ≡ group_place d i → MatchOption group (IsNoGroup d key) (IsGroupOf d key)
+  group_said key i None is says = no_group key i is says
+  group_said key i (Some g) is says = (i, is, says)
+
+  group_definition_of : (key : Key) (g : ℕ) → IsGroupOf d key g → (definition : PlainDefinition) × (slice_get (definitions d) g ≡ Some definition)
+  group_definition_of key g (i, is, number) =
+      let (e, there, some) = entry_here d key i is in
+      let (definition, its, here) = group_definition d sound Any 0 i e there [] g number in (definition, here)
+
+  pub group_number : (key : Key) (g : ℕ) → IsGroupOf d key g → g < length (definitions d)
+  group_number key g is = let (definition, here) = group_definition_of key g is in slice_get_within (definitions d) g definition here
 
 pub head_few : (vendor : Option ℕ) → head_length vendor ≤ 12
 head_few None = omega arith
@@ -120,6 +103,17 @@ pub done_for : (d : Dictionary) (u : Unknown) (most : Levels) (bytes : List ℕ)
     → MatchResult r (λ done. IsNext d u most bytes good o done.next (from + done.taken)) (IsStop d u most bytes good Memory)
 done_for d u most bytes good o Less Memory more from (Ok done) h = h
 done_for d u most bytes good o Less Memory more from (Err e) h = stop_for d u most bytes good Less Memory more e h
+
+-- of the place at which the data of a group begins
+pub each_entered : (P Q : ℕ → Type 0) (r : Result (Option ℕ) Refusal) → ((n : ℕ) → P n → Q n) → IfOk r (λ next. IfSome next P) → IfOk r (λ next. IfSome next Q)
+each_entered P Q (Ok (Some n)) more h = more n h
+each_entered P Q (Ok None) more h = tt
+each_entered P Q (Err e) more h = tt
+
+pub stop_ahead : (d : Dictionary) (u : Unknown) (most : Levels) (bytes : List ℕ) (good : HasGoodHeader d bytes) (o : OpenLevels) (Less Memory : Type 0) (r : Result (Option ℕ) Refusal)
+    → (Less → Memory) → MatchResult r (IsEntered d u most bytes good o) (IsStop d u most bytes good Less) → MatchResult r (IsEntered d u most bytes good o) (IsStop d u most bytes good Memory)
+stop_ahead d u most bytes good o Less Memory (Ok next) more h = h
+stop_ahead d u most bytes good o Less Memory (Err e) more h = stop_for d u most bytes good Less Memory more e h
 
 -- where the next part stands, and what memory is taken for
 pub next_is_here : (d : Dictionary) (u : Unknown) (most : Levels) (bytes : List ℕ) (good : HasGoodHeader d bytes) (o : OpenLevels) (Memory : Type 0) (r : Result (Option Part) Refusal)
@@ -218,14 +212,16 @@ module _ (d : Dictionary) (sound : IsDictionary d) (u : Unknown) (most : Levels)
 
         -- ---- a group
 
-        module _ (g : ℕ) (depth : ℕ) (is_depth : depth ≡ length (map so_far h.under_way.rests)) (may : MayEnter d most depth key (Some g)) where
+        module _ (g : ℕ) (depth : ℕ) (is_depth : depth ≡ length (map so_far h.under_way.rests)) (group : IsGroupOf d key g) (may : MayOpen most depth) where
           says : IsFineAvp d u most (length (map so_far h.under_way.rests)) h.under_way.s.level.rules (map key_of h.under_way.s.earlier) h.avp (Some g)
           says =
-              let (e, some, fine) = may in
-              let here : known d (key_of h.avp) ≡ Some e = ap (λ (k : Key). known d k) (sym is_key) ∙ some in (
+              let (i, is, number) = group in
+              let (e, there, some) = entry_here d key i is in
+              let here : known d (key_of h.avp) ≡ Some e = ap (λ (k : Key). known d k) (sym is_key) ∙ some in
+              let fine = group_data d sound most depth i e there h.avp.bytes g (inr (is_grouped d sound most depth i e there h.avp.bytes g number)) number may in (
                 admits_it,
                 subst (λ (x : Option DictEntry). MatchOption x (Some g ≡ None) (λ (e : DictEntry). IsFineData d most (length (map so_far h.under_way.rests)) e h.avp.bytes (Some g))) (sym here)
-                    (subst (λ (n : ℕ). IsFineData d most n e h.avp.bytes (Some g)) is_depth (fine h.avp.bytes)),
+                    (subst (λ (n : ℕ). IsFineData d most n e h.avp.bytes (Some g)) is_depth fine),
               )
 
           pub level_begins : BeginsLevelAt d most bytes (at + head_length head.vendor)
@@ -248,16 +244,18 @@ module _ (d : Dictionary) (sound : IsDictionary d) (u : Unknown) (most : Levels)
               ++ and_key (so_far h.under_way.s) k ∷ []) (begun definition.rules end)) is_key (opened definition number))
               (is_end ∙ ap (λ (n : ℕ). at + n) (sym h.is_head.len)) (ap (λ (n : ℕ). at + n) (sym same_head))
 
-      pub not_entered : (depth : ℕ) (r : Reason) → depth ≡ length (map so_far h.under_way.rests)
-          → IsAdmitted d u h.under_way.s.level.rules (map key_of h.under_way.s.earlier) key head.flags → MayNotEnter d most depth key r
-          → IsFoundIn d u most (whole good.command.rules bytes) (refusal.Fault (record { place = at; code = code_of r; reason = r; subject = Avp key }))
-      not_entered depth r is_depth admits (e, some, bad) =
+      pub not_entered : (depth g : ℕ) → depth ≡ length (map so_far h.under_way.rests)
+          → IsAdmitted d u h.under_way.s.level.rules (map key_of h.under_way.s.earlier) key head.flags → IsGroupOf d key g → ¬ MayOpen most depth
+          → IsFoundIn d u most (whole good.command.rules bytes) (refusal.Fault (record { place = at; code = code_of reason.Depth; reason = reason.Depth; subject = Avp key }))
+      not_entered depth g is_depth admits (i, is, number) deep =
+          let (e, there, some) = entry_here d key i is in
           let here : known d (key_of h.avp) ≡ Some e = ap (λ (k : Key). known d k) (sym is_key) ∙ some in
           let it = subst (λ (k : Key). IsAdmitted d u h.under_way.s.level.rules (map key_of h.under_way.s.earlier) k h.avp.flags) is_key
           (subst (λ (f : ℕ). IsAdmitted d u h.under_way.s.level.rules (map key_of h.under_way.s.earlier) key f) (sym h.is_head.flags) admits) in
-          subst (λ (k : Key). IsFoundIn d u most (whole good.command.rules bytes) (refusal.Fault (record { place = at; code = code_of r; reason = r; subject = Avp k }))) (sym is_key)
-          (found_wrong d sound u most bytes good o at h.under_way h.avp h.rest (record { reason = r; subject = Avp (key_of h.avp) }) h.begins
-          (inr (it, refl, (e, here, subst (λ (n : ℕ). IsWrongData most n e h.avp.bytes r) is_depth (bad h.avp.bytes)))))
+          let bad = too_deep d sound most depth i e there h.avp.bytes g (inr (is_grouped d sound most depth i e there h.avp.bytes g number)) number deep in
+          subst (λ (k : Key). IsFoundIn d u most (whole good.command.rules bytes) (refusal.Fault (record { place = at; code = code_of reason.Depth; reason = reason.Depth; subject = Avp k }))) (sym is_key)
+          (found_wrong d sound u most bytes good o at h.under_way h.avp h.rest (record { reason = reason.Depth; subject = Avp (key_of h.avp) }) h.begins
+          (inr (it, refl, (e, here, subst (λ (n : ℕ). IsWrongData most n e h.avp.bytes reason.Depth) is_depth bad))))
 
 -- ---- reading on
 

@@ -15,9 +15,11 @@ use Rattle.dia_check.specs.declared.policy.Unknown.{Unknown}
 use Rattle.dia_check.specs.declared.policy.Levels.{Levels}
 use Rattle.dia_check.specs.declared.open_levels.OpenLevels.{OpenLevels}
 use Rattle.dia_check.specs.declared.stream.parts.HeadPart.{HeadPart}
+use Rattle.dia_check.specs.declared.stream.front.Front.{Front}
 use Rattle.dia_check.specs.Levels.{between}
 use Rattle.dia_check.specs.Faults.{HasGoodHeader}
 use Rattle.dia_check.specs.Front.{front_bytes}
+use Rattle.dia_check.specs.UnderWay.{IsUnderWay}
 use Rattle.dia_check.specs.Reading.{IsInHead, IsAtAvp, LiesAt}
 use Rattle.dia_check.proofs.FoundFaultsStand.{between-split}
 use Rattle.dia_check.proofs.Uniqueness.{nat_cases}
@@ -125,7 +127,7 @@ both_parts (suc n) (x ∷ xs) = ap (λ (t : List ℕ). x ∷ t) (both_parts n xs
 -- ---- one message
 
 module _ (d : Dictionary) (sound : IsDictionary d) (u : Unknown) (most : Levels) (bytes : List ℕ) (good : HasGoodHeader d bytes) (o : OpenLevels) (part : HeadPart) (from : ℕ)
-    (h : IsInHead d u most bytes good o part from) (piece : List ℕ) (lies : LiesAt bytes from piece) (front : List ℕ) (is_front : front ≡ take 20 (front_bytes part.front ++ piece)) where
+    (h : IsInHead d u most bytes good o part from) (piece : List ℕ) (lies : LiesAt bytes from piece) (front : List ℕ) (limit : ℕ) (is_front : front ≡ take limit (front_bytes part.front ++ piece)) where
   abbrev pub tail : List ℕ
   tail = drop part.at bytes
 
@@ -137,10 +139,10 @@ module _ (d : Dictionary) (sound : IsDictionary d) (u : Unknown) (most : Levels)
       ∙ sym (between-split bytes part.at from (from + length piece) (omega (arith, r)) (omega arith))
 
   front_of : front ≡ take (length front) tail
-  front_of = let e = is_front ∙ ap (take 20) joined in e ∙ prefix_of 20 ((from + length piece) - part.at) tail ∙ ap (λ (t : List ℕ). take (length t) tail) (sym e)
+  front_of = let e = is_front ∙ ap (take limit) joined in e ∙ prefix_of limit ((from + length piece) - part.at) tail ∙ ap (λ (t : List ℕ). take (length t) tail) (sym e)
 
   pub front_size : length front ≤ length (front_bytes part.front) + length piece
-  front_size = let e = ap length is_front in omega (arith, e, length-take 20 (front_bytes part.front ++ piece), length-append (front_bytes part.front) piece)
+  front_size = let e = ap length is_front in omega (arith, e, length-take limit (front_bytes part.front ++ piece), length-append (front_bytes part.front) piece)
 
   level_of : h.under_way.s.bytes ≡ take room tail
   level_of = sym (left d sound u most bytes good o part.at h.under_way)
@@ -232,15 +234,15 @@ module _ (d : Dictionary) (sound : IsDictionary d) (u : Unknown) (most : Levels)
         by (inr (inr same)) = absurd (was (omega (arith, same)))
 
   -- the head isn't whole yet
-  pub still_head : (next : HeadPart) → next.at ≡ part.at → front_bytes next.front ≡ front → ¬ HasWholeHead front
+  pub still_head : 12 ≤ limit → (next : HeadPart) → next.at ≡ part.at → front_bytes next.front ≡ front → ¬ HasWholeHead front
       → ((room < 8) ⊎ ((8 ≤ length front) × IsBadLength (slice_index front 4) (number (take 3 (drop 5 front))) room) → ⊥)
       → IsInHead d u most bytes good o (record { at = part.at; front = next.front }) (from + length piece)
-  still_head next at is not_whole fine =
+  still_head room_for next at is not_whole fine =
       let size = ap length is in
       let few = short in
       record {
         under_way = h.under_way;
-        kept = is ∙ is_front ∙ take_all 20 (front_bytes part.front ++ piece) (omega (arith, few)) ∙ joined;
+        kept = is ∙ is_front ∙ take_all limit (front_bytes part.front ++ piece) (omega (arith, few)) ∙ joined;
         reached = let r = h.reached in omega (arith, size, whole_size, r);
         room = h.room;
         not_whole = subst (λ (t : List ℕ). ¬ HasWholeHead t) (sym is) not_whole;
@@ -255,8 +257,43 @@ module _ (d : Dictionary) (sound : IsDictionary d) (u : Unknown) (most : Levels)
           by (inr (inl more)) = absurd (not_whole (omega (arith, more), λ flag. omega (arith, more)))
           by (inr (inr same)) = absurd (not_whole (omega (arith, same), λ flag. omega (arith, same)))
 
-      short : length (front_bytes part.front ++ piece) ≤ 20
-      short = let e = ap length is_front in omega (arith, e, less, length-take 20 (front_bytes part.front ++ piece))
+      short : length (front_bytes part.front ++ piece) ≤ limit
+      short = let e = ap length is_front in omega (arith, e, less, room_for, length-take limit (front_bytes part.front ++ piece))
 
       whole_size : length front ≡ length (front_bytes part.front) + length piece
-      whole_size = let e = ap length is_front in omega (arith, e, short, length-take 20 (front_bytes part.front ++ piece), length-append (front_bytes part.front) piece)
+      whole_size = let e = ap length is_front in omega (arith, e, short, length-take limit (front_bytes part.front ++ piece), length-append (front_bytes part.front) piece)
+
+-- ---- a head that stands at the start of a piece
+
+abbrev nothing_kept : Front
+nothing_kept = record { count = 0; bytes = []; within = omega arith }
+
+module _ (d : Dictionary) (sound : IsDictionary d) (u : Unknown) (most : Levels) (bytes : List ℕ) (good : HasGoodHeader d bytes) (o : OpenLevels) (at : ℕ)
+    (w : IsUnderWay d u most bytes good o at) (piece : List ℕ) (lies : LiesAt bytes at piece) (head : AvpHead) (whole : HasWholeHead piece) (heads : Heads piece head)
+    (fine : (o.innermost.end - at < 8) ⊎ ((8 ≤ length piece) × IsBadLength (slice_index piece 4) (number (take 3 (drop 5 piece))) (o.innermost.end - at)) → ⊥) where
+  begun_here : 8 ≤ o.innermost.end - at → IsInHead d u most bytes good o (record { at = at; front = nothing_kept }) at
+  begun_here room = record {
+    under_way = w;
+    kept = let e : 0 ≡ at - at = omega arith in ap (λ (k : ℕ). take k (drop at bytes)) e;
+    reached = omega arith;
+    room = room;
+    not_whole = λ h. let le = h.0 in omega (arith, le);
+    may_be = λ le. absurd (omega (arith, le));
+  }
+
+  has_room : 8 ≤ o.innermost.end - at
+  has_room = by (nat_cases (o.innermost.end - at) 8)
+    where
+      by : (o.innermost.end - at < 8) ⊎ ((8 < o.innermost.end - at) ⊎ (o.innermost.end - at ≡ 8)) → 8 ≤ o.innermost.end - at
+      by (inl less) = absurd (fine (inl less))
+      by (inr (inl more)) = omega (arith, more)
+      by (inr (inr same)) = omega (arith, same)
+
+  all_of_it : piece ≡ take (length piece) (front_bytes nothing_kept ++ piece)
+  all_of_it = sym (take_all (length piece) piece (omega arith))
+
+  pub stands_here : IsAtAvp d u most bytes good o at head
+  stands_here = at_avp d sound u most bytes good o (record { at = at; front = nothing_kept }) at (begun_here has_room) piece lies piece (length piece) all_of_it head whole heads fine
+
+  pub is_there : head_length head.vendor ≤ length piece
+  is_there = head_there d sound u most bytes good o (record { at = at; front = nothing_kept }) at (begun_here has_room) piece lies piece (length piece) all_of_it head whole heads fine

@@ -8,7 +8,7 @@ use Rattle.dia_data.specs.Plain.{Grouped}
 use Rattle.dia_data.specs.Leaf.{IsLeaf}
 use Rattle.dia_data.specs.State.{StandsFor as StandsForData}
 use Rattle.dia_data.specs.declared.LeafState.{LeafState}
-use Rattle.dia_dict.specs.Dictionary.{Dictionary, DictEntry, definitions}
+use Rattle.dia_dict.specs.Dictionary.{Dictionary, DictEntry, definitions, entry_of, group_place}
 use Rattle.dia_check.specs.declared.policy.Unknown.{Unknown}
 use Rattle.dia_check.specs.declared.policy.Levels.{Levels}
 use Rattle.dia_check.specs.declared.fault.Reason.{Reason}
@@ -23,7 +23,7 @@ use Rattle.dia_check.specs.Valid.{known}
 use Rattle.dia_check.specs.Levels.{Level, IsOpen, between}
 use Rattle.dia_check.specs.Faults.{HasGoodHeader}
 use Rattle.dia_check.specs.OpenLevels.{AreOpen, and_key}
-use Rattle.dia_check.specs.Admission.{IsAdmitted, IsFineData, IsWrongData}
+use Rattle.dia_check.specs.Admission.{IsAdmitted, IsWrongData}
 use Rattle.dia_check.specs.Walks.{Found, Walks, whole, fault_of}
 use Rattle.dia_check.specs.Front.{front_bytes}
 use Rattle.dia_check.specs.UnderWay.{IsUnderWay, so_far}
@@ -42,13 +42,13 @@ IsGoodLeaf d key read = (e : DictEntry) → known d key ≡ Some e → (e.format
 abbrev pub IsBadLeaf : Dictionary → Key → List ℕ → Reason → Type 0
 IsBadLeaf d key read reason = (e : DictEntry) × (known d key ≡ Some e) × ((most : Levels) (depth : ℕ) → IsWrongData most depth e read reason)
 
--- a known group may be opened in a level of this depth; none, where the AVP is no known group
-abbrev pub MayEnter : Dictionary → Levels → ℕ → Key → Option ℕ → Type 0
-MayEnter d most depth key group = MatchOption group ((e : DictEntry) → known d key ≡ Some e → e.format ≢ Grouped)
-    (λ g. (e : DictEntry) × (known d key ≡ Some e) × ((read : List ℕ) → IsFineData d most depth e read (Some g)))
+-- an AVP of this key is no known group
+abbrev pub IsNoGroup : Dictionary → Key → Type 0
+IsNoGroup d key = (e : DictEntry) → known d key ≡ Some e → e.format ≢ Grouped
 
-abbrev pub MayNotEnter : Dictionary → Levels → ℕ → Key → Reason → Type 0
-MayNotEnter d most depth key reason = (e : DictEntry) × (known d key ≡ Some e) × ((read : List ℕ) → IsWrongData most depth e read reason)
+-- it is a known group, and this is the number of its definition
+abbrev pub IsGroupOf : Dictionary → Key → ℕ → Type 0
+IsGroupOf d key g = (i : ℕ) × (Some i ≡ entry_of d key) × (Some g ≡ group_place d i)
 
 -- ---- one message
 
@@ -124,6 +124,10 @@ module _ (d : Dictionary) (u : Unknown) (most : Levels) (bytes : List ℕ) (good
   abbrev pub IsReadTo : OpenLevels → ℕ → Option ℕ → Type 0
   IsReadTo open_levels stop next = MatchOption next (Walks d u most (whole good.command.rules bytes) None × (stop ≡ length bytes))
       (λ at. IsUnderWay d u most bytes good open_levels at)
+
+  -- the group whose data begins at a place was entered, if there is one
+  abbrev pub IsEntered : OpenLevels → Option ℕ → Type 0
+  IsEntered open_levels next = IfSome next (λ start. IsUnderWay d u most bytes good open_levels start)
 
 -- the place, if there is one, lies in a piece that begins at another, or at its end
 abbrev pub IsInPiece : ℕ → List ℕ → Option ℕ → Type 0

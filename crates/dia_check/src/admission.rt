@@ -221,7 +221,7 @@ pub(crate) fn check_data<B: Book>(
 }
 
 /// Whether a group in a level of this depth is opened: the body has depth 0.
-fn may_open(levels: Levels, depth: usize) -> bool
+pub(crate) fn may_open(levels: Levels, depth: usize) -> bool
     ensures { IsTrue result ↔ MayOpen levels depth }
 {
     match levels {

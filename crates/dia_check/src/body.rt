@@ -9,10 +9,51 @@ ghost use Rattle.dia_check.specs.Reading.{IsStop, LiesAt, ReadsOn};
 
 use crate::admission::{check_avp, missing_at_end, open_group};
 use crate::fault::{Fault, Reason, Refusal, Subject};
+use crate::group::enter_at;
 use crate::open_levels::{OpenLevels, Wrong};
 use crate::policy::{Levels, Unknown};
 use dia_dict::Book;
 use dia_wire::{AvpFault, next_avp};
+
+/// Reads a piece of a body, which begins at a place: the AVPs that lie whole in it, and the heads of the groups that go on
+/// behind it. `None` where the body ends with the piece, and else the place at which an AVP begins that goes on behind the
+/// piece and isn't entered, or where the piece ends.
+pub(crate) fn read_piece<B: Book>(
+    book: &B,
+    unknown: Unknown,
+    levels: Levels,
+    open_levels: &mut OpenLevels,
+    from: usize,
+    piece: &[u8],
+) -> Result<Option<usize>, Refusal>
+    requires sound { IsDictionary (B.meaning book.now) }
+    requires under_way { ∥ ReadsOn
+        (B.meaning book.now) unknown levels open_levels.old from from piece.now ∥₁ }
+    ensures within { IfOk result (IsInPiece from piece.now) }
+    ensures goes_on { IfOk result (λ next. IfSome next (λ at.
+        from + length piece.now < open_levels.new.innermost.end)) }
+    ensures next { (bytes : List ℕ) (good : HasGoodHeader (B.meaning book.now) bytes)
+        → IsUnderWay (B.meaning book.now) unknown levels bytes good open_levels.old from
+        → LiesAt bytes from piece.now
+        → MatchResult result
+        (IsReadTo (B.meaning book.now) unknown levels bytes good open_levels.new
+        (from + length piece.now))
+        (IsStop (B.meaning book.now) unknown levels bytes good
+        (BeginsLevel (B.meaning book.now) levels bytes from (from + length piece.now))) }
+{
+    let mut start = from;
+    loop {
+        let left = &piece[start - from..];
+        let Some(at) = read_avps(book, unknown, levels, open_levels, start, left)? else {
+            return Ok(None);
+        };
+        let ahead = &piece[at - from..];
+        let Some(inner) = enter_at(book, unknown, levels, open_levels, at, ahead)? else {
+            return Ok(Some(at));
+        };
+        start = inner;
+    }
+}
 
 /// Goes over the AVPs that lie whole in a piece of a body, which begins at a place: each AVP where it lies, and the
 /// members of a group before what is behind it. `None` where the body ends with the piece, and else the place at which the
@@ -20,7 +61,7 @@ use dia_wire::{AvpFault, next_avp};
 ///
 /// The levels that are open wait in a list, so the depth of a message costs memory and no stack.
 #[inline(never)]
-pub(crate) fn read_avps<B: Book>(
+fn read_avps<B: Book>(
     book: &B,
     unknown: Unknown,
     levels: Levels,

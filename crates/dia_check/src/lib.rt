@@ -5,6 +5,7 @@ mod admission;
 mod body;
 mod checking;
 mod fault;
+mod group;
 mod header;
 mod open_levels;
 mod policy;

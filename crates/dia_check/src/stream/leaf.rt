@@ -29,12 +29,12 @@ pub(crate) fn start_leaf<'a, B: Book>(
     }
 }
 
-pub(crate) fn feed_leaf(leaf: &mut Option<LeafState<'_>>, data: &[u8])
+pub(crate) fn feed_leaf(leaf: &mut Option<LeafState<'_>>, bytes: &[u8])
     ensures { (d : Dictionary) (key : AnyKey) (read : List ℕ) → HasSeen d leaf.old key read
-        → HasSeen d leaf.new key (read ++ data.now) }
+        → HasSeen d leaf.new key (read ++ bytes.now) }
 {
     if let Some(state) = leaf {
-        state.feed(data);
+        state.feed(bytes);
     }
 }
 

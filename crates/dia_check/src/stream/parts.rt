@@ -3,27 +3,27 @@
 ghost use Rattle.std.specs.Prelude.{◌≡◌, ◌+◌, ◌<◌, ◌≤◌, ◌^◌, [], ℕ, List};
 ghost use Rattle.std.specs.Prelude.{Some, length, IfOk, MatchResult};
 ghost use Rattle.dia_wire.specs.Wire.{head_length};
-ghost use Rattle.dia_dict.specs.Dictionary.{Dictionary, IsDictionary, entry_of};
+ghost use Rattle.dia_dict.specs.Dictionary.{Dictionary, IsDictionary};
 ghost use Rattle.dia_check.specs.declared.policy.Unknown.{Unknown as AnyPolicy};
 ghost use Rattle.dia_check.specs.declared.policy.Levels.{Levels as AnyLevels};
-ghost use Rattle.dia_check.specs.Valid.{known};
 ghost use Rattle.dia_check.specs.Faults.{HasGoodHeader};
 ghost use Rattle.dia_check.specs.UnderWay.{IsUnderWay};
 ghost use Rattle.dia_check.specs.Reading.{AreSound, BeginsLevel, BeginsLevelAt, GoesOn};
 ghost use Rattle.dia_check.specs.Reading.{IsAtAvp, IsAtSomeAvp, IsInData, IsInHead};
 ghost use Rattle.dia_check.specs.Reading.{IsInPart, IsNext, IsReadData, IsStop, LiesAt};
-ghost use Rattle.dia_check.specs.Reading.{MayEnter, MayNotEnter, ReadsOn};
+ghost use Rattle.dia_check.specs.Reading.{ReadsOn};
 
-use crate::admission::{admit, check_data, missing_at_end, open_group};
-use crate::body::{broken, fault, read_avps};
-use crate::fault::{Reason, Refusal};
+use crate::admission::{admit, missing_at_end};
+use crate::body::{broken, fault, read_piece};
+use crate::fault::Refusal;
+use crate::group::{enter_group, head_key, head_length};
 use crate::open_levels::{OpenLevels, Wrong};
 use crate::policy::{Levels, Unknown};
 use crate::stream::front::Front;
 use crate::stream::leaf::{feed_leaf, start_leaf, wrong_leaf};
 use dia_data::LeafState;
-use dia_dict::{Book, DefId, Entry};
-use dia_wire::{AVP_HEAD_LENGTH, AvpFault, AvpHead, Key, VENDOR_AVP_HEAD_LENGTH, avp_head};
+use dia_dict::Book;
+use dia_wire::{AVP_HEAD_LENGTH, AvpFault, AvpHead, Key, avp_head};
 
 /// The part of a body that is being read.
 #[derive(Clone, Copy, Debug)]
@@ -169,7 +169,7 @@ fn read_on<'a, B: Book>(
         (IsStop (B.meaning book.now) unknown levels bytes good
         (BeginsLevel (B.meaning book.now) levels bytes from (from + length piece.now))) }
 {
-    let Some(at) = read_avps(book, unknown, levels, open_levels, from, piece)? else {
+    let Some(at) = read_piece(book, unknown, levels, open_levels, from, piece)? else {
         return Ok(Done {
             taken: piece.len(),
             next: None,
@@ -227,17 +227,6 @@ fn read_head<'a, B: Book>(
     }
 }
 
-/// The bytes of an AVP in front of its data.
-#[inline(always)]
-fn head_length(head: &AvpHead) -> usize
-    ensures { result ≡ head_length head.now.vendor }
-{
-    match head.vendor {
-        Some(_) => VENDOR_AVP_HEAD_LENGTH,
-        None => AVP_HEAD_LENGTH,
-    }
-}
-
 /// Goes on behind the head of an AVP.
 #[inline(always)]
 fn begin_data<'a, B: Book>(
@@ -259,61 +248,26 @@ fn begin_data<'a, B: Book>(
         (IsStop (B.meaning book.now) unknown levels bytes good
         (BeginsLevelAt (B.meaning book.now) levels bytes (at + head_length head.now.vendor))) }
 {
-    let key = Key {
-        code: head.code,
-        vendor: head.vendor.unwrap_or(0),
-    };
+    if let Some(start) = enter_group(book, unknown, levels, open_levels, at, head)? {
+        return go_on(book, open_levels, start);
+    }
+    let key = head_key(head);
     let known = book.avp(key);
-    let depth = open_levels.depth();
     if let Some(wrong) = admit(book, unknown, open_levels, key, &known, head.flags) {
         return Err(fault(at, wrong));
     }
-    let start = at + head_length(head);
     let end = at + head.length as usize;
-    match group_to_enter(book, levels, depth, key, &known) {
-        Ok(Some(group)) => {
-            open_group(book, open_levels, group, end)?;
-            go_on(book, open_levels, start)
-        }
-        Ok(None) => {
-            let part = DataPart {
-                at,
-                key,
-                end,
-                next: end.next_multiple_of(4),
-                leaf: start_leaf(book, key, &known),
-            };
-            if start < part.next {
-                Ok(Some(Part::Data(part)))
-            } else {
-                end_data(book, open_levels, part)
-            }
-        }
-        Err(reason) => Err(fault(at, Wrong::avp(reason, key))),
-    }
-}
-
-/// The definition of a known group, whose data is a level to open in one of this depth.
-#[inline(always)]
-fn group_to_enter<B: Book>(
-    book: &B,
-    levels: Levels,
-    depth: usize,
-    key: Key,
-    entry: &Option<Entry>,
-) -> Result<Option<DefId>, Reason>
-    requires sound { IsDictionary (B.meaning book.now) }
-    requires entry { entry.now ≡ entry_of (B.meaning book.now) key }
-    ensures { MatchResult result (MayEnter (B.meaning book.now) levels depth key)
-        (MayNotEnter (B.meaning book.now) levels depth key) }
-{
-    match entry {
-        Some(entry) => match book.group(*entry) {
-            // The data of a group is a level, so that nothing is looked at here.
-            Some(_group) => check_data(book, levels, depth, *entry, &[]),
-            None => Ok(None),
-        },
-        None => Ok(None),
+    let part = DataPart {
+        at,
+        key,
+        end,
+        next: end.next_multiple_of(4),
+        leaf: start_leaf(book, key, &known),
+    };
+    if at + head_length(head) < part.next {
+        Ok(Some(Part::Data(part)))
+    } else {
+        end_data(book, open_levels, part)
     }
 }
 

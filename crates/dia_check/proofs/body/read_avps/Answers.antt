@@ -1,4 +1,4 @@
-use Rattle.std.proofs.Common.{◌≡◌, ℕ, ◌+◌, ◌-◌, ◌<◌, ◌≤◌, List, Some, length, map, refl, sym, ap, subst, arith}
+use Rattle.std.proofs.Common.{ℕ, ◌+◌, ◌-◌, ◌<◌, ◌≤◌, List, length, map, refl, sym, ap, subst, arith}
 use Rattle.std.proofs.Math.Logic.{∥∥₁_elim, ∥∥₁_map}
 use Rattle.std.proofs.lemmas.Result.{err_from_is_err_and}
 use Rattle.std.specs.Coded.{le_prop}
@@ -11,7 +11,7 @@ use Rattle.dia_check.specs.Faults.{HasGoodHeader}
 use Rattle.dia_check.specs.UnderWay.{so_far, IsUnderWay}
 use Rattle.dia_check.specs.Reading.{LiesAt}
 use Rattle.dia_check.proofs.UnderWay.{few, passed, entered, done, all_done, found_wrong, found_missing, found_broken, number_within}
-use Rattle.dia_check.proofs.BodyContinuations.{at_within, end_few, are_open, all_read, all_reached}
+use Rattle.dia_check.proofs.BodyContinuations.{at_within, end_few, are_open, all_reached}
 use Rattle.dia_check.proofs.AvpsInPieces as avps
 use Rattle.dia_check.proofs.body.read_avps.Goals as goal
 

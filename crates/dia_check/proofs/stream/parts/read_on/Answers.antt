@@ -1,4 +1,4 @@
-use Rattle.std.proofs.Common.{ℕ, ◌≡◌, ◌+◌, ◌<◌, length, sym, subst, arith}
+use Rattle.std.proofs.Common.{◌+◌, ◌<◌, length, subst, arith}
 use Rattle.std.proofs.Math.Logic.{∥∥₁_elim, ∥∥₁_map}
 use Rattle.std.proofs.lemmas.Result.{err_from_is_err_and}
 use Rattle.std.specs.Coded.{le_prop}
@@ -36,7 +36,7 @@ read_head-requires-clause-part g c =
       bytes,
       good,
       few,
-      subst (IsInHead d c.args.unknown c.args.levels bytes good c.read_avps.new.open_levels c.in_ok-part.part) c.if-at-from.true
+      subst (IsInHead d c.args.unknown c.args.levels bytes good c.read_piece.new.open_levels c.in_ok-part.part) c.if-at-from.true
           (c.in_ok-part.ensures d c.args.unknown c.args.levels bytes good c.requires.sound now),
       lies,
     ))
@@ -45,7 +45,7 @@ pub returns-then-at-from-clause-next : goal.returns-then-at-from-clause-next
 returns-then-at-from-clause-next g c bytes good w lies =
     let d = g.B.Book.meaning c.args.book.now in
     let now = rw c.in-Some.is at (c.in_ok-at.ensures.next bytes good w lies) in
-    c.read_head.ensures.next bytes good (subst (IsInHead d c.args.unknown c.args.levels bytes good c.read_avps.new.open_levels c.in_ok-part.part) c.if-at-from.true
+    c.read_head.ensures.next bytes good (subst (IsInHead d c.args.unknown c.args.levels bytes good c.read_piece.new.open_levels c.in_ok-part.part) c.if-at-from.true
     (c.in_ok-part.ensures d c.args.unknown c.args.levels bytes good c.requires.sound now)) lies
 
 pub returns-clause-next : goal.returns-clause-next
@@ -53,5 +53,5 @@ returns-clause-next g c bytes good w lies =
     let d = g.B.Book.meaning c.args.book.now in
     let now = rw c.in-Some.is at (c.in_ok-at.ensures.next bytes good w lies) in
     let from = (rw c.in-Some.is at c.in_ok-at.ensures.within).0 in
-    subst (IsInHead d c.args.unknown c.args.levels bytes good c.read_avps.new.open_levels c.in_ok-part.part) (omega (arith, from))
+    subst (IsInHead d c.args.unknown c.args.levels bytes good c.read_piece.new.open_levels c.in_ok-part.part) (omega (arith, from))
     (c.in_ok-part.ensures d c.args.unknown c.args.levels bytes good c.requires.sound now)

@@ -1,20 +1,11 @@
-use Rattle.std.proofs.Common.{◌≡◌, ◌<◌, ℕ, List, [], None, length, subst}
+use Rattle.std.proofs.Common.{◌≡◌, ◌<◌, ℕ, [], None, length, subst}
 use Rattle.std.proofs.Math.Logic.{∥∥₁_elim, ∥∥₁_map}
 use Rattle.std.proofs.lemmas.Option.{slice_get_within}
 use Rattle.std.specs.Prelude.{slice_get, Some}
 use Rattle.std.specs.Coded.{le_prop}
 use Rattle.std.proofs.lemmas.Result.{err_from_is_err_and}
-use Rattle.dia_dict.specs.Dictionary.{Dictionary, IsDictionary, PlainDefinition, definitions}
-use Rattle.dia_check.specs.declared.policy.Unknown.{Unknown}
-use Rattle.dia_check.specs.declared.policy.Levels.{Levels}
-use Rattle.dia_check.specs.declared.fault.Refusal.{Refusal}
-use Rattle.dia_check.specs.declared.fault.Refusal.TheVariants as refusal
-use Rattle.dia_check.specs.declared.open_levels.OpenLevels.{OpenLevels}
+use Rattle.dia_dict.specs.Dictionary.{definitions}
 use Rattle.dia_check.specs.Valid.{IsValidOf}
-use Rattle.dia_check.specs.Faults.{HasGoodHeader}
-use Rattle.dia_check.specs.Walks.{IsFoundIn, whole}
-use Rattle.dia_check.specs.UnderWay.{IsUnderWay}
-use Rattle.dia_check.specs.Reading.{IsStop}
 use Rattle.dia_check.proofs.CheckAnswers.{walk_answers}
 use Rattle.dia_check.proofs.HeaderAnswers.{found_answers}
 use Rattle.dia_check.specs.declared.policy.Unknown.TheVariants.{Kept}
