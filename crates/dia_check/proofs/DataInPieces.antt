@@ -253,7 +253,8 @@ module _ (d : Dictionary) (sound : IsDictionary d) (u : Unknown) (most : Levels)
           let it = subst (λ (k : Key). IsAdmitted d u h.under_way.s.level.rules (map key_of h.under_way.s.earlier) k h.avp.flags) is_key
           (subst (λ (f : ℕ). IsAdmitted d u h.under_way.s.level.rules (map key_of h.under_way.s.earlier) key f) (sym h.is_head.flags) admits) in
           let bad = too_deep d sound most depth i e there h.avp.bytes g (inr (is_grouped d sound most depth i e there h.avp.bytes g number)) number deep in
-          subst (λ (k : Key). IsFoundIn d u most (whole good.command.rules bytes) (refusal.Fault (record { place = at; code = code_of reason.Depth; reason = reason.Depth; subject = Avp k }))) (sym is_key)
+          subst (λ (k : Key). IsFoundIn d u most (whole good.command.rules bytes)
+          (refusal.Fault (record { place = at; code = code_of reason.Depth; reason = reason.Depth; subject = Avp k }))) (sym is_key)
           (found_wrong d sound u most bytes good o at h.under_way h.avp h.rest (record { reason = reason.Depth; subject = Avp (key_of h.avp) }) h.begins
           (inr (it, refl, (e, here, subst (λ (n : ℕ). IsWrongData most n e h.avp.bytes reason.Depth) is_depth bad))))
 

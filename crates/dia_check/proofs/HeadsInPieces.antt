@@ -127,7 +127,8 @@ both_parts (suc n) (x ∷ xs) = ap (λ (t : List ℕ). x ∷ t) (both_parts n xs
 -- ---- one message
 
 module _ (d : Dictionary) (sound : IsDictionary d) (u : Unknown) (most : Levels) (bytes : List ℕ) (good : HasGoodHeader d bytes) (o : OpenLevels) (part : HeadPart) (from : ℕ)
-    (h : IsInHead d u most bytes good o part from) (piece : List ℕ) (lies : LiesAt bytes from piece) (front : List ℕ) (limit : ℕ) (is_front : front ≡ take limit (front_bytes part.front ++ piece)) where
+    (h : IsInHead d u most bytes good o part from) (piece : List ℕ) (lies : LiesAt bytes from piece)
+    (front : List ℕ) (limit : ℕ) (is_front : front ≡ take limit (front_bytes part.front ++ piece)) where
   abbrev pub tail : List ℕ
   tail = drop part.at bytes
 
