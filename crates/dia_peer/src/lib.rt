@@ -24,7 +24,7 @@
 //! assert_eq!(rt; responder.state(), State::Closed);
 //! ```
 //!
-//! The whole program is the test `src/tests/example.rt`.
+//! The whole program is a test: `src/peer/example.rt` of the crate dia_vectors.
 #![tactic(auto)]
 
 mod applications;
@@ -43,8 +43,6 @@ mod named_apps;
 mod node;
 mod reading;
 mod receiving;
-#[cfg(test)]
-mod tests;
 
 pub use config::{App, Config, ConfigFault, Ip, Kind, Role};
 pub use connection::Core;

@@ -6,4 +6,6 @@ mod devices;
 #[cfg(test)]
 mod example;
 #[cfg(test)]
+mod peer;
+#[cfg(test)]
 mod vectors;

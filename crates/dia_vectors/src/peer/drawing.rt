@@ -2,7 +2,7 @@
 
 ghost use Rattle.std.specs.Prelude.{◌<◌};
 
-use crate::config::{App, Kind};
+use dia_peer::{App, Kind};
 use std::alloc::{AllocError, Global};
 
 /// The linear congruential generator of Knuth's MMIX.

@@ -5,10 +5,9 @@ use super::bytes::{
     OWN_DWR, SECOND_DWA, SECOND_DWR, THIRD_DWR, WRAPPED_DWR,
 };
 use super::{Ends, acct, auth, bytes_of, first, second, tell};
-use crate::config::Role::{Initiator, Responder};
-use crate::config::{App, Kind, Role};
-use crate::event::State::{Closed, Idle, Open, WaitCea, WaitCer, WaitDpa};
-use crate::event::{Cause, Event, Output, State, Why};
+use dia_peer::Role::{Initiator, Responder};
+use dia_peer::State::{Closed, Idle, Open, WaitCea, WaitCer, WaitDpa};
+use dia_peer::{App, Cause, Core, Event, Kind, Output, Role, State, Why};
 use std::alloc::AllocError;
 use std::process::Abort;
 use std::test::Fail;
@@ -58,10 +57,7 @@ impl Ends {
         let (role, happening, message, why, state) = *row;
         let outputs = self.happens(rt, role, happening)?;
         let message = bytes_of(rt.alloc(), message)?;
-        assert!(rt;
-            are(&outputs, &message, why),
-            "{outputs:?} at {happening:?}"
-        );
+        done(rt, happening, &outputs, &message, why);
         assert_eq!(rt; self.state(role), state, "at {happening:?}");
         Ok(())
     }
@@ -96,6 +92,11 @@ impl Ends {
     }
 }
 
+/// Checks what an end did: it sent this message (empty: none), and closed where there is a reason.
+fn done(rt: &impl Abort, at: Happening, outputs: &[Output], message: &[u8], why: Option<Why>) {
+    assert!(rt; are(outputs, message, why), "{outputs:?} at {at:?}");
+}
+
 /// Whether the outputs are this message (empty: none), and then the end of the connection where there is a reason.
 fn are(outputs: &[Output], message: &[u8], why: Option<Why>) -> bool {
     match (outputs, why) {
@@ -127,14 +128,19 @@ impl Ends {
         self.play(rt, rows)
     }
 
+    /// No application is shared before the ends open, and Auth 4 once both have.
     fn open_with_auth_4(&mut self, rt: &(impl AllocGlobal + Abort)) -> Result<(), Fail> {
-        assert!(rt; self.initiator.common().is_empty());
+        share(rt, &self.initiator, &[]);
         self.play(rt, &OPENING)?;
-        let common = [(Kind::Auth, 4)];
-        assert_eq!(rt; self.initiator.common(), common.as_slice());
-        assert_eq!(rt; self.responder.common(), common.as_slice());
+        share(rt, &self.initiator, &[(Kind::Auth, 4)]);
+        share(rt, &self.responder, &[(Kind::Auth, 4)]);
         Ok(())
     }
+}
+
+/// Checks which applications an end shares with the other.
+fn share(rt: &impl Abort, core: &Core, apps: &[(Kind, u32)]) {
+    assert_eq!(rt; core.common(), apps);
 }
 
 #[test]

@@ -1,14 +1,15 @@
 //! Configurations that are refused, each for the first of its faults.
 
 use super::{acct, auth, first};
-use crate::config::{App, Config, ConfigFault, Ip, Kind, Role};
-use crate::connection::Core;
+use dia_peer::{App, Config, ConfigFault, Core, Ip, Kind, Role};
 use std::alloc::{AllocError, Global};
+use std::process::Abort;
 use std::test::Fail;
 
-/// Why a configuration is refused, where it is.
-fn refusal(alloc: Global, config: Config) -> Option<ConfigFault> {
-    Core::new(alloc, config, Role::Initiator).err()
+/// Checks why a configuration is refused, where it is.
+fn judges(rt: &(impl AllocGlobal + Abort), config: Config, wanted: Option<ConfigFault>, at: &str) {
+    let refusal = Core::new(rt.alloc(), config, Role::Initiator).err();
+    assert_eq!(rt; refusal, wanted, "{at}");
 }
 
 /// A text of this many letters.
@@ -42,6 +43,17 @@ fn with_counts(alloc: Global, addresses: usize, apps: u32) -> Result<Config, All
     Ok(config)
 }
 
+/// A host, a realm, the letters of a product's name, and why the configuration is refused.
+type Named = (&'static str, &'static str, usize, Option<ConfigFault>);
+
+fn judge_names(rt: &(impl AllocGlobal + Abort), rows: &[Named]) -> Result<(), Fail> {
+    for (host, realm, product, wanted) in rows.iter() {
+        let config = named(rt.alloc(), host, realm, *product)?;
+        judges(rt, config, *wanted, host);
+    }
+    Ok(())
+}
+
 #[test]
 fn refuses_names(rt: HostRuntime) -> Result<(), Fail> {
     let rows = [
@@ -53,13 +65,16 @@ fn refuses_names(rt: HostRuntime) -> Result<(), Fail> {
         ("a.b", "", 256, Some(ConfigFault::Realm)),
         ("a.b", "b", 256, Some(ConfigFault::Product)),
     ];
-    for (host, realm, product, wanted) in rows.iter() {
-        let config = named(rt.alloc(), host, realm, *product)?;
-        assert_eq!(rt;
-            refusal(rt.alloc(), config),
-            *wanted,
-            "{host}, {realm}, {product}"
-        );
+    judge_names(&rt, &rows)
+}
+
+/// How many addresses and applications there are, and why the configuration is refused.
+type Counted = (usize, u32, Option<ConfigFault>);
+
+fn judge_counts(rt: &(impl AllocGlobal + Abort), rows: &[Counted]) -> Result<(), Fail> {
+    for (addresses, apps, wanted) in rows.iter() {
+        let config = with_counts(rt.alloc(), *addresses, *apps)?;
+        judges(rt, config, *wanted, "these counts");
     }
     Ok(())
 }
@@ -73,9 +88,16 @@ fn refuses_counts(rt: HostRuntime) -> Result<(), Fail> {
         (1, 0, Some(ConfigFault::Application)),
         (1, 1025, Some(ConfigFault::Application)),
     ];
-    for (addresses, apps, wanted) in rows.iter() {
-        let config = with_counts(rt.alloc(), *addresses, *apps)?;
-        assert_eq!(rt; refusal(rt.alloc(), config), *wanted, "{addresses}, {apps}");
+    judge_counts(&rt, &rows)
+}
+
+fn judge_apps(
+    rt: &(impl AllocGlobal + Abort),
+    rows: &[([App; 2], Option<ConfigFault>)],
+) -> Result<(), Fail> {
+    for (apps, wanted) in rows.iter() {
+        let config = first(rt.alloc(), apps)?;
+        judges(rt, config, *wanted, "these applications");
     }
     Ok(())
 }
@@ -93,9 +115,5 @@ fn refuses_the_relay_and_repeated_applications(rt: HostRuntime) -> Result<(), Fa
         ([auth(4), of_vendor], repeated),
         ([auth(4), auth(4_294_967_295)], repeated),
     ];
-    for (apps, wanted) in rows.iter() {
-        let config = first(rt.alloc(), apps)?;
-        assert_eq!(rt; refusal(rt.alloc(), config), *wanted, "{apps:?}");
-    }
-    Ok(())
+    judge_apps(&rt, &rows)
 }

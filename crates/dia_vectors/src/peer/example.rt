@@ -1,8 +1,7 @@
 //! The program of the crate's docs.
 
 use super::{Ends, auth, first, second};
-use crate::connection::Core;
-use crate::event::{Cause, Event, Output, State};
+use dia_peer::{Cause, Core, Event, Output, State};
 use std::alloc::{AllocError, Global};
 use std::process::Abort;
 use std::test::Fail;

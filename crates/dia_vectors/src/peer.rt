@@ -2,9 +2,7 @@
 
 ghost use Rattle.std.specs.Prelude.{◌<◌};
 
-use crate::config::{App, Config, ConfigFault, Ip, Kind, Role};
-use crate::connection::Core;
-use crate::event::{Event, Output};
+use dia_peer::{App, Config, ConfigFault, Core, Event, Ip, Kind, Output, Role};
 use std::alloc::{AllocError, Global};
 use std::process::Abort;
 
@@ -34,22 +32,25 @@ const fn acct(id: u32) -> App {
 /// The two ends of a connection.
 #[derive(Drop)]
 struct Ends {
-    initiator: Core,
-    responder: Core,
+    initiator: Box<Core>,
+    responder: Box<Core>,
 }
 
 impl Ends {
     fn new(alloc: Global, first: Config, second: Config) -> Result<Ends, ConfigFault> {
-        let initiator = Core::new(alloc, first, Role::Initiator)?;
-        Ends::with(initiator, alloc, second)
-    }
-
-    fn with(initiator: Core, alloc: Global, second: Config) -> Result<Ends, ConfigFault> {
-        let responder = Core::new(alloc, second, Role::Responder)?;
+        let initiator = end(alloc, first, Role::Initiator)?;
+        let responder = end(alloc, second, Role::Responder)?;
         Ok(Ends {
             initiator,
             responder,
         })
+    }
+}
+
+fn end(alloc: Global, config: Config, role: Role) -> Result<Box<Core>, ConfigFault> {
+    match Box::new(alloc, Core::new(alloc, config, role)?) {
+        Ok(core) => Ok(core),
+        Err(failed) => Err(AllocError::from(failed).into()),
     }
 }
 

@@ -2,11 +2,9 @@
 
 use super::drawing::Draw;
 use super::{Ends, first, second};
-use crate::config::{App, Config, Kind, Role};
-use crate::connection::Core;
-use crate::event::{Cause, Event, Output, State, Why};
 use dia_check::{Levels, Unknown, check};
 use dia_dict::{IndexedBook, base_book};
+use dia_peer::{App, Cause, Config, Core, Event, Kind, Output, Role, State, Why};
 use std::alloc::{AllocError, Global};
 use std::process::Abort;
 use std::test::Fail;
@@ -273,6 +271,13 @@ fn check_sent(rt: &(impl AllocGlobal + Abort), book: &IndexedBook, sent: &[Vec<u
     }
 }
 
+fn check_schedules(rt: &(impl AllocGlobal + Abort), book: &IndexedBook) -> Result<(), Fail> {
+    for seed in 0..SCHEDULES {
+        check_schedule(rt, book, seed)?;
+    }
+    Ok(())
+}
+
 fn check_schedule(
     rt: &(impl AllocGlobal + Abort),
     book: &IndexedBook,
@@ -292,8 +297,5 @@ fn check_schedule(
 fn sends_valid_messages(rt: HostRuntime) -> Result<(), Fail> {
     let plain = base_book(rt.alloc())?;
     let book = IndexedBook::new(rt.alloc(), plain)?;
-    for seed in 0..SCHEDULES {
-        check_schedule(&rt, &book, seed)?;
-    }
-    Ok(())
+    check_schedules(&rt, &book)
 }
