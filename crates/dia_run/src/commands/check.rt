@@ -28,8 +28,8 @@ pub fn check(
     ensures { Ends (IsCheckOutcome unknown levels inputs.now) result }
 {
     let book = read_dictionary(alloc, 1, &inputs.first)?;
-    let answer = check_message(alloc, &book, unknown, levels, &inputs.message)?;
-    let outcome = verdict(alloc, &book, answer)?;
+    let answer = check_message(alloc, &*book, unknown, levels, &inputs.message)?;
+    let outcome = verdict(alloc, &*book, answer)?;
     Ok(outcome)
 }
 

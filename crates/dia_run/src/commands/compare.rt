@@ -21,7 +21,7 @@ pub fn compare(alloc: Global, unknown: Unknown, inputs: &Inputs) -> Result<Outco
     let first = read_dictionary(alloc, 1, &inputs.first)?;
     let second = read_dictionary(alloc, 2, &inputs.second)?;
     let table = read_table(alloc, &inputs.table)?;
-    let answer = check_table(alloc, &first, &second, unknown, &table)?;
+    let answer = check_table(alloc, &*first, &*second, unknown, &table)?;
     let outcome = answered(alloc, &table, answer)?;
     Ok(outcome)
 }

@@ -27,7 +27,7 @@ pub fn propose(
 {
     let first = read_dictionary(alloc, 1, &inputs.first)?;
     let second = read_dictionary(alloc, 2, &inputs.second)?;
-    match dia_compat::propose(alloc, &first, &second, unknown, names) {
+    match dia_compat::propose(alloc, &*first, &*second, unknown, names) {
         Ok(table) => {
             let outcome = listed(alloc, &table)?;
             Ok(outcome)

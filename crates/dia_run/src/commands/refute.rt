@@ -23,7 +23,7 @@ pub fn refute(
     let first = read_dictionary(alloc, 1, &inputs.first)?;
     let second = read_dictionary(alloc, 2, &inputs.second)?;
     let bytes = read_message(alloc, &inputs.message)?;
-    if refutes(alloc, &first, &second, unknown, levels, bytes.as_slice())? {
+    if refutes(alloc, &*first, &*second, unknown, levels, bytes.as_slice())? {
         let outcome = told(alloc, "refutes\n", Exit::Yes)?;
         Ok(outcome)
     } else {

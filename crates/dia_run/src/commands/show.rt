@@ -23,7 +23,7 @@ pub fn show(alloc: Global, inputs: &Inputs) -> Result<Outcome, Refused>
 {
     let book = read_dictionary(alloc, 1, &inputs.first)?;
     let bytes = read_message(alloc, &inputs.message)?;
-    show_message(alloc, &book, bytes.as_slice())
+    show_message(alloc, &*book, bytes.as_slice())
 }
 
 /// The lines of a message.

@@ -34,10 +34,14 @@ pub fn read_source(alloc: Global, number: u8, input: &Input) -> Result<Source, R
     }
 }
 
-/// The dictionary that an input's text names.
-pub fn read_dictionary(alloc: Global, number: u8, input: &Input) -> Result<IndexedBook, Refused>
+/// The dictionary that an input's text names. It is boxed: the prover takes minutes for a function that holds two by value.
+pub fn read_dictionary(
+    alloc: Global,
+    number: u8,
+    input: &Input,
+) -> Result<Box<IndexedBook>, Refused>
     ensures book { IfOk result
-        (λ book. IsDictionaryText input.now (⟦<IndexedBook as Book>⟧.meaning book)) }
+        (λ book. IsDictionaryText input.now (⟦<IndexedBook as Book>⟧.meaning book.value)) }
     ensures told { IfErr result (TellsOf (λ told. (why : List ℕ) × IsNoDictionaryText input.now why
         × (told ≡ dictionary_line number why))) }
 {
@@ -53,15 +57,19 @@ pub fn read_dictionary(alloc: Global, number: u8, input: &Input) -> Result<Index
 }
 
 /// The book with an index. The contract of `entries` says that every book is a sound dictionary's.
-fn indexed(alloc: Global, book: PlainBook) -> Result<IndexedBook, Refused>
-    ensures ok { IfOk result
-        (λ indexed. (⟦<IndexedBook as Book>⟧.meaning indexed ≡ ⟦<PlainBook as Book>⟧.meaning book)
-        × IsDictionary (⟦<IndexedBook as Book>⟧.meaning indexed)) }
+fn indexed(alloc: Global, book: PlainBook) -> Result<Box<IndexedBook>, Refused>
+    ensures meaning { IfOk result (λ indexed. ⟦<IndexedBook as Book>⟧.meaning indexed.value
+        ≡ ⟦<PlainBook as Book>⟧.meaning book) }
+    ensures sound { IfOk result
+        (λ indexed. IsDictionary (⟦<IndexedBook as Book>⟧.meaning indexed.value)) }
     ensures no_memory { IfErr result (λ refused. refused ≡ Refused.NoMemory) }
 {
     let indexed = IndexedBook::new(alloc, book)?;
     let _count = indexed.entries();
-    Ok(indexed)
+    match Box::new(alloc, indexed) {
+        Ok(indexed) => Ok(indexed),
+        Err(_) => Err(Refused::NoMemory),
+    }
 }
 
 fn tell(number: u8, why: BadDictionary) -> Refused

@@ -15,7 +15,11 @@ returns-in_err-answer c =
     rw (p.1, p.2) (Ends-no_message (IsJudged c.args.unknown c.args.levels) c.args.inputs.now _ _ c.in_ok-book.ensures.book c.in_err-answer.ensures.told)
 
 pub verdict-requires : goal.verdict-requires
-verdict-requires c = let (bytes, text, answer) = c.in_ok-answer.ensures.answer in names_command _ c.args.unknown c.args.levels bytes _ answer
+verdict-requires c =
+    let (bytes, text, answer) = rw c.deref.ensures at c.in_ok-answer.ensures.answer in
+    rw (c.deref-2.ensures) (names_command _ c.args.unknown c.args.levels bytes _ answer)
 
 pub returns : goal.returns
-returns c = let (bytes, text, answer) = c.in_ok-answer.ensures.answer in ended _ bytes c.in_ok-book.ensures.book text (_, answer, c.in_ok-outcome.ensures)
+returns c =
+    let (bytes, text, answer) = rw c.deref.ensures at c.in_ok-answer.ensures.answer in
+    ended _ bytes c.in_ok-book.ensures.book text (_, answer, (rw c.deref-2.ensures at c.in_ok-outcome.ensures))

@@ -20,7 +20,7 @@ pub returns-in_err-outcome-in-Ok : goal.returns-in_err-outcome-in-Ok
 returns-in_err-outcome-in-Ok c = let p = err_from_is_err_and c.from_residual-in_err-outcome-in-Ok.result c.from_residual-in_err-outcome-in-Ok.ensures.1 in rw (p.1, p.2) tt
 
 pub returns-in-Ok : goal.returns-in-Ok
-returns-in-Ok c = ended _ _ c.in_ok-first.ensures.book c.in_ok-second.ensures.book (proposed _ c.in-Ok.ensures.proposal c.in_ok-outcome-in-Ok.ensures.text c.in_ok-outcome-in-Ok.ensures.exit)
+returns-in-Ok c = ended _ _ c.in_ok-first.ensures.book c.in_ok-second.ensures.book (proposed _ (rw (c.deref.ensures, c.deref-2.ensures) at c.in-Ok.ensures.proposal) c.in_ok-outcome-in-Ok.ensures.text c.in_ok-outcome-in-Ok.ensures.exit)
 
 pub returns-in_err-bad-in-Err-UnknownCommand : goal.returns-in_err-bad-in-Err-UnknownCommand
 returns-in_err-bad-in-Err-UnknownCommand c =
@@ -28,6 +28,7 @@ returns-in_err-bad-in-Err-UnknownCommand c =
 
 pub returns-in-Err-UnknownCommand : goal.returns-in-Err-UnknownCommand
 returns-in-Err-UnknownCommand c =
-    let first = rw c.in-Err-UnknownCommand.field-0-is at c.in-Err-UnknownCommand.ensures.refusal in
+    let unknown = rw c.in-Err-UnknownCommand.field-0-is at c.in-Err-UnknownCommand.ensures.refusal in
+    let first = rw c.deref.ensures at unknown in
     let told = rw c.as_str.ensures.value at c.in_ok-bad-in-Err-UnknownCommand.ensures in
     ended _ _ c.in_ok-first.ensures.book c.in_ok-second.ensures.book (no_command _ first (ap line told, refl))

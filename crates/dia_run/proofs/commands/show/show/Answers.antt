@@ -17,4 +17,4 @@ pub returns : goal.returns
 returns c =
     Ends-map (IsMessageShown _ c.as_slice.result.now) (IsShowOutcome c.args.inputs.now) _ (λ text exit shows. ended _ c.as_slice.result.now c.in_ok-book.ensures.book
     (rw c.as_slice.ensures.value c.in_ok-bytes.ensures.message) shows)
-    c.show_message.ensures
+    (rw c.deref.ensures at c.show_message.ensures)
