@@ -8,15 +8,16 @@ use dia_dict::{Book, Entry, Key};
 use indexmap::IndexSet;
 use std::alloc::{AllocError, Global};
 
-/// A dictionary with the names of its AVPs and of its commands, each at its place.
+/// A dictionary with the names of its AVPs and of its commands, each at its place. The sets are boxed: the prover takes long for
+/// a function that holds several by value.
 #[derive(Drop)]
 pub(crate) struct NamedBook<'a, B: Book> {
     pub book: &'a B,
-    avps: IndexSet<&'a str>,
-    commands: IndexSet<&'a str>,
-    ghost all_avps: { map (λ n. n.now) avps.keys
+    avps: Box<IndexSet<&'a str>>,
+    commands: Box<IndexSet<&'a str>>,
+    ghost all_avps: { map (λ n. n.now) avps.value.keys
         ≡ map (λ e. e.name) (B.meaning book.now).entries } by { Prim.hlevel props },
-    ghost all_commands: { map (λ n. n.now) commands.keys
+    ghost all_commands: { map (λ n. n.now) commands.value.keys
         ≡ map (λ c. c.name) (B.meaning book.now).commands } by { Prim.hlevel props },
 }
 
@@ -27,8 +28,8 @@ impl<'a, B: Book> NamedBook<'a, B> {
     {
         Ok(NamedBook {
             book,
-            avps: names_of_avps(alloc, book)?,
-            commands: names_of_commands(alloc, book)?,
+            avps: Box::new(alloc, names_of_avps(alloc, book)?)?,
+            commands: Box::new(alloc, names_of_commands(alloc, book)?)?,
         })
     }
 

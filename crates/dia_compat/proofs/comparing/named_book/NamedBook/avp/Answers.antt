@@ -6,11 +6,11 @@ use Rattle.dia_compat.proofs.comparing.named_book.NamedBook.avp.Goals as goal
 pub returns-in_err-place : goal.returns-in_err-place
 returns-in_err-place g c =
     let named = c.args.self.now in
-    c.from_residual.ensures ∙ c.in_err-place.ensures.index
-    ∙ place_by_name (λ (e : DictEntry). e.name) (g.B.Book.meaning named.book.now).entries named.avps.keys c.args.name.now named.all_avps
+    c.from_residual.ensures ∙ (rw c.deref.ensures at c.in_err-place.ensures.index)
+    ∙ place_by_name (λ (e : DictEntry). e.name) (g.B.Book.meaning named.book.now).entries named.avps.value.keys c.args.name.now named.all_avps
 
 pub returns : goal.returns
 returns g c =
     let named = c.args.self.now in
-    ap (λ (i : ℕ). Some i) c.entry_at.ensures ∙ c.in_ok-place.ensures.index
-    ∙ place_by_name (λ (e : DictEntry). e.name) (g.B.Book.meaning named.book.now).entries named.avps.keys c.args.name.now named.all_avps
+    ap (λ (i : ℕ). Some i) c.entry_at.ensures ∙ (rw c.deref.ensures at c.in_ok-place.ensures.index)
+    ∙ place_by_name (λ (e : DictEntry). e.name) (g.B.Book.meaning named.book.now).entries named.avps.value.keys c.args.name.now named.all_avps
