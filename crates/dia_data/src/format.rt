@@ -69,20 +69,3 @@ impl Clone for Format {
         })
     }
 }
-
-#[cfg(test)]
-mod tests {
-    use super::*;
-    use std::test::Fail;
-
-    #[test]
-    fn copies_equal_their_sources(rt: HostRuntime) -> Result<(), Fail> {
-        let ranges = vec![in rt.alloc(); (7, 9), (0, 3)]?;
-        let values = Values::new(rt.alloc(), ranges)?;
-        for format in [Format::Time, Format::Enumerated(values)] {
-            assert_eq!(rt; format.clone()?, format);
-        }
-        assert_ne!(rt; Format::Time, Format::Unsigned32);
-        Ok(())
-    }
-}

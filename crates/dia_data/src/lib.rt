@@ -22,8 +22,6 @@ mod leaf_state;
 mod print;
 mod range_set;
 mod seen_text;
-#[cfg(test)]
-mod tests;
 mod values;
 
 pub use accept::{Leaf, accepts};

@@ -111,37 +111,3 @@ impl Values {
         }
     }
 }
-
-#[cfg(test)]
-mod tests {
-    use super::*;
-    use std::test::Fail;
-
-    #[test]
-    fn keeps_the_list_as_written(rt: HostRuntime) -> Result<(), Fail> {
-        let written = [(7, 9), (3, 2), (0, 3), (4, 4), (8, 12)];
-        let values = Values::new(rt.alloc(), written.to_vec(rt.alloc())?)?;
-        assert_eq!(rt; values.list(), Some(&written[..]));
-        for number in 0..15 {
-            let listed = number <= 4 || (7..=12).contains(&number);
-            assert_eq!(rt; values.contains(number), listed, "at {number}");
-        }
-        assert_eq!(rt; Values::any().list(), None);
-        Ok(())
-    }
-
-    #[test]
-    fn finds_each_number_of_many_ranges(rt: HostRuntime) -> Result<(), Fail> {
-        let mut written = Vec::new(rt.alloc());
-        for i in 0..3000u32 {
-            written.push((3 * (2999 - i), 3 * (2999 - i) + 1))?;
-        }
-        let values = Values::new(rt.alloc(), written)?;
-        for number in 0..9000 {
-            assert_eq!(rt; values.contains(number), number % 3 < 2, "at {number}");
-        }
-        assert!(rt; !values.contains(9000));
-        assert!(rt; values.is_below(&values));
-        Ok(())
-    }
-}

@@ -2,6 +2,8 @@
 #![tactic(auto)]
 
 #[cfg(test)]
+mod data;
+#[cfg(test)]
 mod devices;
 #[cfg(test)]
 mod example;
@@ -9,3 +11,5 @@ mod example;
 mod peer;
 #[cfg(test)]
 mod vectors;
+#[cfg(test)]
+mod wire;

@@ -43,6 +43,3 @@ pub use reading::{
     avp_head, next_avp, number32, one_header, one_spelling, read_header, split_message,
 };
 pub use writing::{PutFault, put_avp, put_message};
-
-#[cfg(test)]
-mod tests;

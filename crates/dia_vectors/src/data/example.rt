@@ -1,7 +1,8 @@
-use crate::{Format, Leaf, Values, accepts, format_below, print_value};
+//! The example of dia_data's docs.
+
+use dia_data::{Format, Leaf, Values, accepts, format_below, print_value};
 use std::test::Fail;
 
-/// The example of the crate's docs.
 #[test]
 fn judges_prints_and_compares(rt: HostRuntime) -> Result<(), Fail> {
     let alloc = rt.alloc();
