@@ -240,6 +240,3 @@ fn has_letter(bytes: &[u8]) -> bool
 {
     bytes.iter().any(|b| b.is_ascii_alphabetic())
 }
-
-#[cfg(test)]
-mod tests;

@@ -24,8 +24,6 @@ mod parsing;
 mod reading;
 mod rendering;
 mod source;
-#[cfg(test)]
-mod tests;
 
 pub use fault::CcfFault;
 pub use limits::{MAX_NAME, MAX_TEXT};

@@ -252,6 +252,3 @@ fn put_count(text: &mut String, count: Option<u32>) -> Result<(), AllocError>
         None => Ok(()),
     }
 }
-
-#[cfg(test)]
-mod tests;

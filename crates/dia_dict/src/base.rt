@@ -8,8 +8,6 @@ ghost use Rattle.dia_dict.specs.Base.{base, base_source};
 mod building;
 mod soundness;
 mod tables;
-#[cfg(test)]
-mod tests;
 mod text;
 
 use crate::book::Book;

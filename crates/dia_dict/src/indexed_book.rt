@@ -9,8 +9,6 @@ ghost use Rattle.dia_dict.specs.declared.selectors.Service.{Service as AnyServic
 
 mod commands;
 mod tables;
-#[cfg(test)]
-mod tests;
 
 use crate::book::Book;
 use crate::definition::{Class, Definition, Slot};

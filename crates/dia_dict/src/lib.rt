@@ -30,8 +30,6 @@ mod key_table;
 mod plain_book;
 mod resolving;
 mod selectors;
-#[cfg(test)]
-mod tests;
 
 pub use base::{base_book, base_is_sound, base_text};
 pub use book::Book;

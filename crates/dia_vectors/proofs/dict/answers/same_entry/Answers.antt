@@ -5,7 +5,7 @@ use Rattle.std.specs.Option.{option_map}
 use Rattle.std.proofs.lemmas.List.{length-append}
 use Rattle.std.proofs.lemmas.Option.{none-some, same_Some}
 use Rattle.dia_dict.specs.Dictionary.{Dictionary, DictEntry, PlainDefinition, group_place, groups, definitions}
-use Rattle.dia_dict.proofs.tests.answers.same_entry.Goals as goal
+use Rattle.dia_vectors.proofs.dict.answers.same_entry.Goals as goal
 
 -- a member that has an image is one of as many
 images_before : {X Y : Type 0} (h : X → Option Y) (xs : List X) (i : ℕ) (x : X) (y : Y) → slice_get xs i ≡ Some x → h x ≡ Some y → length (filter_map h (take i xs)) < length (filter_map h xs)
@@ -43,4 +43,4 @@ same_definition-requires-clause-in_a g c =
 
 pub same_definition-requires-clause-in_b : goal.same_definition-requires-clause-in_b
 same_definition-requires-clause-in_b g c =
-    group-within (g.B.Book.meaning c.args.b.now) c.args.other c.in-Some-Some.same (sym c.group-same.ensures ∙ c.in-Some-Some.is-1)
+    group-within (g.B.Book.meaning c.args.b.now) c.args.other c.in-Some-Some.twin (sym c.group-twin.ensures ∙ c.in-Some-Some.is-1)

@@ -1,9 +1,6 @@
 //! A text where memory runs out somewhere: every call answers that, or what it answers with ample memory.
 
-use crate::fault::CcfFault;
-use crate::parsing::parse;
-use crate::rendering::render;
-use crate::source::Source;
+use dia_ccf::{CcfFault, Source, parse, render};
 use std::process::Abort;
 
 /// A canonical text with each kind of line.
@@ -19,6 +16,7 @@ const TEXT: &str = "%avp Disconnect-Cause 273 Enumerated any ( 0 1 2 )
   * [ AVP ]
 ";
 
+/// Checks that what was read is rendered as the text, or that memory is refused.
 fn renders(rt: &(impl AllocGlobal + Abort), source: &Source) {
     if let Ok(text) = render(rt.alloc(), source) {
         assert_eq!(rt; text.as_str(), TEXT);
