@@ -10,8 +10,6 @@ mod header;
 mod open_levels;
 mod policy;
 mod stream;
-#[cfg(test)]
-mod tests;
 
 pub use checking::{check, one_answer, validity};
 pub use fault::{Fault, Reason, Refusal, Selected, Subject};

@@ -9,8 +9,6 @@ mod named_book;
 mod pairs;
 mod rules;
 mod testing;
-#[cfg(test)]
-mod tests;
 mod wildcards;
 
 pub(crate) use by_code::{Commands, open_code};

@@ -12,8 +12,6 @@ ghost use Rattle.dia_compat.specs.NamedCommands.{shared_pair, NamedSoFar};
 
 mod naming;
 mod reaching;
-#[cfg(test)]
-mod tests;
 mod wanting;
 
 use crate::comparing::{Commands, names_of_commands};

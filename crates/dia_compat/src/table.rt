@@ -8,8 +8,6 @@ ghost use Rattle.dia_compat.specs.Lines.{Adds, PassesLimit, HasRoom};
 
 mod line;
 mod rendering;
-#[cfg(test)]
-mod tests;
 mod words;
 
 use line::{Line, read_line};

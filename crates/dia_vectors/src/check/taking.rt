@@ -1,7 +1,7 @@
 //! How many bytes of each piece a stream takes, when it is done, and what it answers then.
 
 use super::{AVPS, IDS, WATCHDOG, Wanted, assert_answer, bytes_of};
-use crate::{Levels, Progress, Reason, Stream, Subject, Unknown};
+use dia_check::{Levels, Progress, Reason, Stream, Subject, Unknown};
 use dia_dict::{Book, IndexedBook, base_book};
 use dia_wire::Key;
 use std::process::Abort;

@@ -2,7 +2,7 @@
 
 ghost use Rattle.std.specs.Prelude.{◌<◌};
 
-use crate::{Fault, Levels, Reason, Refusal, Selected, Subject, Unknown, check};
+use dia_check::{Fault, Levels, Reason, Refusal, Selected, Subject, Unknown, check};
 use dia_dict::{Book, Class, IndexedBook, base_book};
 use dia_wire::Key;
 use std::alloc::{AllocError, Global};

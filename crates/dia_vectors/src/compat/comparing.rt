@@ -1,7 +1,6 @@
 //! The base dictionary compared with itself.
-use crate::inclusion::{Answer, PairKind, Test, check_table};
-use crate::table::Table;
 use dia_check::Unknown;
+use dia_compat::{Answer, PairKind, Table, Test, check_table};
 use dia_dict::{Book, IndexedBook, base_book};
 use std::alloc::{AllocError, Global};
 use std::process::Abort;

@@ -2,7 +2,7 @@
 
 use super::pieces::{check_levels, feed_pieces};
 use super::{AVPS, IDS, WATCHDOG, bytes_of, check_in_both, push_head};
-use crate::{Levels, Unknown};
+use dia_check::{Levels, Unknown};
 use dia_dict::{Book, IndexedBook, base_book};
 use std::alloc::{AllocError, Global};
 use std::process::Abort;

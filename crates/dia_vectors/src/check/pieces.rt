@@ -3,7 +3,7 @@
 ghost use Rattle.std.specs.Prelude.{◌<◌, ◌≤◌, length};
 
 use super::{Wanted, assert_answer, bytes_of};
-use crate::{Levels, Progress, Refusal, Selected, Stream, Unknown, check};
+use dia_check::{Levels, Progress, Refusal, Selected, Stream, Unknown, check};
 use dia_dict::{Book, base_book};
 use std::process::Abort;
 use std::test::Fail;

@@ -5,7 +5,7 @@ ghost use Rattle.std.specs.Prelude.{◌<◌};
 
 use super::deep::nested;
 use super::{AVPS, WATCHDOG, assert_answer};
-use crate::{Levels, Refusal, Stream, StreamFault, Unknown};
+use dia_check::{Levels, Refusal, Stream, StreamFault, Unknown};
 use dia_dict::{Book, IndexedBook, base_book};
 use std::process::Abort;
 

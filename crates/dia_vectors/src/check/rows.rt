@@ -1,5 +1,5 @@
 use super::{AVPS, IDS, ORIGIN_HOST, REQUEST, WATCHDOG, Wanted, avp, bytes_of, check_in_both};
-use crate::{Levels, Reason, Subject, Unknown};
+use dia_check::{Levels, Reason, Subject, Unknown};
 use dia_dict::Class;
 use std::process::Abort;
 use std::test::Fail;

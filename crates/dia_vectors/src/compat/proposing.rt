@@ -1,7 +1,7 @@
 //! Tables that are proposed for the base dictionary and itself.
 
-use crate::proposing::{ProposeFault, one_proposal, propose};
 use dia_check::Unknown;
+use dia_compat::{ProposeFault, one_proposal, propose};
 use dia_dict::{IndexedBook, base_book};
 use std::alloc::{AllocError, Global};
 use std::test::Fail;

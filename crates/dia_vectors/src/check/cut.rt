@@ -1,7 +1,7 @@
 //! Messages cut short, and with a Length that says something else.
 
 use super::{ORIGIN_HOST, REQUEST, WATCHDOG, Wanted, avp, bytes_of, check_in_both};
-use crate::{Levels, Reason, Subject, Unknown};
+use dia_check::{Levels, Reason, Subject, Unknown};
 use dia_wire::Key;
 use std::process::Abort;
 use std::test::Fail;

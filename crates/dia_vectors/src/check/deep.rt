@@ -4,7 +4,7 @@ ghost use Rattle.std.specs.Prelude.{◌≤◌};
 
 use super::pieces::feed_pieces;
 use super::{AVPS, IDS, WATCHDOG, Wanted, assert_answer, avp, bytes_of, check_in_both, push_head};
-use crate::{Levels, Progress, Reason, Stream, Unknown};
+use dia_check::{Levels, Progress, Reason, Stream, Unknown};
 use dia_dict::{Book, IndexedBook, base_book};
 use std::alloc::{AllocError, Global};
 use std::process::Abort;

@@ -1,6 +1,6 @@
 //! Texts and the tables that they are.
 
-use crate::table::{
+use dia_compat::{
     MAX_TABLE, Table, TableFault, one_table, one_table_fault, parse_table,
     read_tables_are_writable, render_table,
 };
