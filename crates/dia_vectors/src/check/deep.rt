@@ -2,10 +2,13 @@
 
 ghost use Rattle.std.specs.Prelude.{◌≤◌};
 
-use super::pieces::feed_pieces;
-use super::{AVPS, IDS, WATCHDOG, Wanted, assert_answer, avp, bytes_of, check_in_both, push_head};
-use dia_check::{Levels, Progress, Reason, Stream, Unknown};
-use dia_dict::{Book, IndexedBook, base_book};
+use super::pieces::{feed_indexed, feed_plain};
+use super::{
+    AVPS, WATCHDOG, Wanted, assert_answer, assert_levels, avp, check_in_both, feed, indexed_book,
+    message, push_bytes, push_head,
+};
+use dia_check::{Levels, Reason, Stream, Unknown};
+use dia_dict::{Book, base_book};
 use std::alloc::{AllocError, Global};
 use std::process::Abort;
 use std::test::Fail;
@@ -32,15 +35,21 @@ pub(super) fn nested(
     requires { depth ≤ 1000000 }
 {
     let length = FIRST + 8 * depth + 8;
-    let text = format!(in alloc; "01{length:06x}80000118{IDS}{before}")?;
-    let mut bytes = bytes_of(alloc, text.as_str())?;
-    for outer in 0..depth {
-        push_head(&mut bytes, 279, 8 * (depth - outer) + 8)?;
-    }
-    push_head(&mut bytes, 9999, 8)?;
-    let last = bytes_of(alloc, behind)?;
-    bytes.extend_from_slice(&last)?;
+    let head = format!(in alloc; "01{length:06x}80000118")?;
+    let mut bytes = message(alloc, head.as_str(), before)?;
+    push_groups(&mut bytes, depth)?;
+    push_bytes(&mut bytes, behind)?;
     Ok(bytes)
+}
+
+/// So many Failed-AVPs in one another, and an unknown AVP in the innermost.
+fn push_groups(bytes: &mut Vec<u8>, depth: u32) -> Result<(), AllocError>
+    requires { depth ≤ 1000000 }
+{
+    for outer in 0..depth {
+        push_head(bytes, 279, 8 * (depth - outer) + 8)?;
+    }
+    push_head(bytes, 9999, 8)
 }
 
 #[test]
@@ -66,77 +75,80 @@ fn open_after(count: usize, first: usize) -> usize {
 
 /// Feeds a message byte by byte, and looks at its levels after each.
 fn count_levels<B: Book>(rt: &(impl AllocGlobal + Abort), book: &B, bytes: &[u8], first: usize) {
-    assert_eq!(rt; bytes.len(), LENGTH);
+    assert!(rt; bytes.len() == LENGTH);
     let mut stream = Stream::new(rt.alloc(), book, Unknown::Kept, Levels::Any);
     for place in 0..bytes.len() {
-        let progress = stream.feed(&bytes[place..place + 1]);
-        assert_eq!(rt;
-            progress,
-            Ok(Progress {
-                taken: 1,
-                done: place + 1 == LENGTH
-            })
-        );
-        assert_eq!(rt;
-            stream.levels(),
-            open_after(place + 1, first),
-            "behind {place}"
-        );
+        let count = place + 1;
+        feed(rt, &mut stream, &bytes[place..count], 1, count == LENGTH);
+        assert_levels(rt, stream.levels(), open_after(count, first), count);
     }
     assert_answer(rt, book, stream.finish(), WATCHDOG);
 }
 
+/// Counts the levels by the plain book.
+fn count_in_plain(rt: &(impl AllocGlobal + Abort), bytes: &[u8], first: usize) -> Result<(), Fail> {
+    let book = base_book(rt.alloc())?;
+    count_levels(rt, &book, bytes, first);
+    Ok(())
+}
+
+/// Counts the levels by the book with tables.
+fn count_in_indexed(
+    rt: &(impl AllocGlobal + Abort),
+    bytes: &[u8],
+    first: usize,
+) -> Result<(), Fail> {
+    let book = indexed_book(rt.alloc())?;
+    count_levels(rt, &book, bytes, first);
+    Ok(())
+}
+
 #[test]
 fn counts_a_hundred_thousand_levels(rt: HostRuntime) -> Result<(), Fail> {
-    let plain = base_book(rt.alloc())?;
     let last = nested(rt.alloc(), DEPTH, AVPS, "")?;
-    count_levels(&rt, &plain, &last, 44);
-    let indexed = IndexedBook::new(rt.alloc(), base_book(rt.alloc())?)?;
+    count_in_plain(&rt, &last, 44)
+}
+
+#[test]
+fn counts_levels_before_other_avps(rt: HostRuntime) -> Result<(), Fail> {
     let first = nested(rt.alloc(), DEPTH, "", AVPS)?;
-    count_levels(&rt, &indexed, &first, 20);
-    Ok(())
+    count_in_indexed(&rt, &first, 20)
 }
 
 /// Pieces of several sizes, the last of which holds the whole message.
 const SIZES: [usize; 3] = [7, 4_096, 800_052];
 
-fn feed_sizes<B: Book>(
-    rt: &(impl AllocGlobal + Abort),
-    book: &B,
-    levels: Levels,
-    bytes: &[u8],
-    wanted: Wanted,
-) {
-    for size in SIZES {
-        assert!(rt; size > 0);
-        feed_pieces(rt, book, levels, bytes, size, wanted);
-    }
+#[test]
+fn takes_deep_messages_in_pieces(rt: HostRuntime) -> Result<(), Fail> {
+    let bytes = nested(rt.alloc(), DEPTH, AVPS, "")?;
+    feed_plain(&rt, Levels::AtMost(DEPTH), &bytes, &SIZES, WATCHDOG)
 }
 
 /// The faults of streams that open fewer levels: each limit, and the place of the group that it refuses.
 const LIMITS: [(u32, u32); 4] = [(0, 44), (1, 52), (50_000, 400_044), (99_999, 800_036)];
 
-fn feed_limits<B: Book>(rt: &(impl AllocGlobal + Abort), book: &B, bytes: &[u8]) {
-    for (limit, place) in LIMITS {
-        let deep = Wanted::Fault(place, 5012, Reason::Depth, avp(279));
-        feed_sizes(rt, book, Levels::AtMost(limit), bytes, deep);
-    }
+/// A stream that opens no more levels than this tells the fault at a place.
+fn feed_limit(
+    rt: &(impl AllocGlobal + Abort),
+    bytes: &[u8],
+    limit: u32,
+    place: u32,
+) -> Result<(), Fail> {
+    let deep = Wanted::Fault(place, 5012, Reason::Depth, avp(279));
+    feed_indexed(rt, Levels::AtMost(limit), bytes, &SIZES, deep)
 }
 
 #[test]
-fn takes_deep_messages_in_pieces(rt: HostRuntime) -> Result<(), Fail> {
+fn refuses_deep_messages_in_pieces(rt: HostRuntime) -> Result<(), Fail> {
     let bytes = nested(rt.alloc(), DEPTH, AVPS, "")?;
-    let plain = base_book(rt.alloc())?;
-    feed_sizes(&rt, &plain, Levels::AtMost(DEPTH), &bytes, WATCHDOG);
-    let indexed = IndexedBook::new(rt.alloc(), base_book(rt.alloc())?)?;
-    feed_limits(&rt, &indexed, &bytes);
+    for (limit, place) in LIMITS {
+        feed_limit(&rt, &bytes, limit, place)?;
+    }
     Ok(())
 }
 
 #[test]
 fn goes_down_half_a_million_levels(rt: HostRuntime) -> Result<(), Fail> {
     let bytes = nested(rt.alloc(), 500_000, AVPS, "")?;
-    let plain = base_book(rt.alloc())?;
-    feed_pieces(&rt, &plain, Levels::Any, &bytes, 4_096, WATCHDOG);
-    Ok(())
+    feed_plain(&rt, Levels::Any, &bytes, &[4_096], WATCHDOG)
 }

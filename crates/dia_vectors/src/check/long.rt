@@ -1,9 +1,8 @@
 //! Messages of the greatest length.
 
-use super::pieces::{check_levels, feed_pieces};
-use super::{AVPS, IDS, WATCHDOG, bytes_of, check_in_both, push_head};
+use super::pieces::{check_levels, feed_indexed, feed_plain};
+use super::{AVPS, WATCHDOG, check_in_both, indexed_book, message, push_bytes, push_head};
 use dia_check::{Levels, Unknown};
-use dia_dict::{Book, IndexedBook, base_book};
 use std::alloc::{AllocError, Global};
 use std::process::Abort;
 use std::test::Fail;
@@ -18,51 +17,40 @@ const HEADS: &str = "0000011700ffffd00000270f00ffffc8";
 const COUNT: u32 = 2_097_146;
 
 /// The first bytes of a watchdog request of the greatest length, whose AVPs begin with an Origin-Host and an Origin-Realm.
-fn front(alloc: Global, behind: &str) -> Result<Vec<u8>, AllocError> {
-    let text = format!(in alloc; "01fffffc80000118{IDS}{AVPS}{behind}")?;
-    bytes_of(alloc, text.as_str())
+fn front(alloc: Global) -> Result<Vec<u8>, AllocError> {
+    message(alloc, "01fffffc80000118", AVPS)
 }
 
 /// The message with the Failed-AVP.
 fn filled(alloc: Global) -> Result<Vec<u8>, AllocError> {
-    let mut bytes = front(alloc, HEADS)?;
+    let mut bytes = front(alloc)?;
+    push_bytes(&mut bytes, HEADS)?;
     bytes.resize(LENGTH, 0)?;
     Ok(bytes)
 }
 
 /// The message with many unknown AVPs.
 fn repeated(alloc: Global) -> Result<Vec<u8>, AllocError> {
-    let mut bytes = front(alloc, "")?;
+    let mut bytes = front(alloc)?;
     for _ in 0..COUNT {
         push_head(&mut bytes, 9999, 8)?;
     }
     Ok(bytes)
 }
 
-fn feed_sizes<B: Book>(rt: &(impl AllocGlobal + Abort), book: &B, bytes: &[u8], sizes: [usize; 3]) {
-    for size in sizes {
-        assert!(rt; size > 0);
-        feed_pieces(rt, book, Levels::Any, bytes, size, WATCHDOG);
-    }
-}
-
 #[test]
 fn takes_one_avp_that_fills_the_message(rt: HostRuntime) -> Result<(), Fail> {
     let bytes = filled(rt.alloc())?;
-    assert_eq!(rt; bytes.len(), LENGTH);
+    assert!(rt; bytes.len() == LENGTH);
     check_in_both(&rt, Unknown::Kept, Levels::Any, &bytes, WATCHDOG)?;
-    let book = base_book(rt.alloc())?;
-    feed_sizes(&rt, &book, &bytes, [61, 4_096, LENGTH]);
-    Ok(())
+    feed_plain(&rt, Levels::Any, &bytes, &[61, 4_096, LENGTH], WATCHDOG)
 }
 
 #[test]
 fn takes_many_avps(rt: HostRuntime) -> Result<(), Fail> {
     let bytes = repeated(rt.alloc())?;
-    assert_eq!(rt; bytes.len(), LENGTH);
-    let book = IndexedBook::new(rt.alloc(), base_book(rt.alloc())?)?;
-    feed_pieces(&rt, &book, Levels::Any, &bytes, 4_099, WATCHDOG);
-    Ok(())
+    assert!(rt; bytes.len() == LENGTH);
+    feed_indexed(&rt, Levels::Any, &bytes, &[4_099], WATCHDOG)
 }
 
 /// How many levels are open after so many bytes of the message with the Failed-AVP.
@@ -77,12 +65,19 @@ const LEVELS: [(usize, usize); 8] = [
     (16_777_212, 0),
 ];
 
+/// So many levels are open after so many bytes of a message, by the book with tables.
+fn check_in_indexed(
+    rt: &(impl AllocGlobal + Abort),
+    bytes: &[u8],
+    rows: &[(usize, usize)],
+) -> Result<(), Fail> {
+    let book = indexed_book(rt.alloc())?;
+    check_levels(rt, &book, bytes, rows);
+    Ok(())
+}
+
 #[test]
 fn keeps_a_group_open_to_its_end(rt: HostRuntime) -> Result<(), Fail> {
     let bytes = filled(rt.alloc())?;
-    let book = IndexedBook::new(rt.alloc(), base_book(rt.alloc())?)?;
-    for (count, levels) in LEVELS {
-        check_levels(&rt, &book, &bytes, count, levels);
-    }
-    Ok(())
+    check_in_indexed(&rt, &bytes, &LEVELS)
 }

@@ -2,8 +2,8 @@
 
 ghost use Rattle.std.specs.Prelude.{◌<◌, ◌≤◌, length};
 
-use super::{Wanted, assert_answer, bytes_of};
-use dia_check::{Levels, Progress, Refusal, Selected, Stream, Unknown, check};
+use super::{Wanted, assert_answer, assert_levels, feed, indexed_book, message};
+use dia_check::{Levels, Refusal, Selected, Stream, Unknown, check};
 use dia_dict::{Book, base_book};
 use std::process::Abort;
 use std::test::Fail;
@@ -44,45 +44,15 @@ pub(super) fn check_pieces<B: Book>(
     bytes: &[u8],
 ) {
     for cut in 0..bytes.len() + 1 {
-        check_cut(rt, book, unknown, levels, bytes, cut);
+        let mut stream = Stream::new(rt.alloc(), book, unknown, levels);
+        feed_cut(rt, &mut stream, bytes, cut);
+        let answer = checked(rt, book, unknown, levels, bytes);
+        assert_same(rt, stream.finish(), answer, cut);
     }
     check_bytes(rt, book, unknown, levels, bytes);
 }
 
-fn check_cut<B: Book>(
-    rt: &(impl AllocGlobal + Abort),
-    book: &B,
-    unknown: Unknown,
-    levels: Levels,
-    bytes: &[u8],
-    cut: usize,
-)
-    requires { cut ≤ length bytes.now }
-{
-    let mut stream = Stream::new(rt.alloc(), book, unknown, levels);
-    let all = message_length(bytes);
-    let first = stream.feed(&bytes[..cut]);
-    let taken = cut.min(all);
-    assert_eq!(rt;
-        first,
-        Ok(Progress {
-            taken,
-            done: cut >= all
-        })
-    );
-    let second = stream.feed(&bytes[cut..]);
-    let taken = bytes.len().min(all) - taken;
-    assert_eq!(rt;
-        second,
-        Ok(Progress {
-            taken,
-            done: bytes.len() >= all
-        })
-    );
-    let answer = checked(rt, book, unknown, levels, bytes);
-    assert_eq!(rt; stream.finish(), answer, "cut at {cut}");
-}
-
+/// A stream that is fed the bytes one by one answers what `check` does.
 fn check_bytes<B: Book>(
     rt: &(impl AllocGlobal + Abort),
     book: &B,
@@ -91,21 +61,46 @@ fn check_bytes<B: Book>(
     bytes: &[u8],
 ) {
     let mut stream = Stream::new(rt.alloc(), book, unknown, levels);
+    feed_bytes(rt, &mut stream, levels, bytes);
+    let answer = checked(rt, book, unknown, levels, bytes);
+    assert_same(rt, stream.finish(), answer, 1);
+}
+
+/// A stream takes the bytes in two pieces.
+fn feed_cut<B: Book>(rt: &impl Abort, stream: &mut Stream<'_, B>, bytes: &[u8], cut: usize)
+    requires { cut ≤ length bytes.now }
+{
+    let all = message_length(bytes);
+    let taken = cut.min(all);
+    feed(rt, stream, &bytes[..cut], taken, cut >= all);
+    let rest = bytes.len().min(all) - taken;
+    feed(rt, stream, &bytes[cut..], rest, bytes.len() >= all);
+}
+
+/// A stream takes the bytes one by one.
+fn feed_bytes<B: Book>(rt: &impl Abort, stream: &mut Stream<'_, B>, levels: Levels, bytes: &[u8]) {
     let all = message_length(bytes);
     for place in 0..bytes.len() {
-        let progress = stream.feed(&bytes[place..place + 1]);
+        let count = place + 1;
         let taken = usize::from(place < all);
-        assert_eq!(rt;
-            progress,
-            Ok(Progress {
-                taken,
-                done: place + 1 >= all
-            })
-        );
-        assert!(rt; stream.levels() <= most_levels(levels, all.min(place + 1)));
+        feed(rt, stream, &bytes[place..count], taken, count >= all);
+        assert_most(rt, stream.levels(), levels, all.min(count));
     }
-    let answer = checked(rt, book, unknown, levels, bytes);
-    assert_eq!(rt; stream.finish(), answer, "byte by byte");
+}
+
+/// A stream whose first piece has so many bytes answers as is wanted.
+fn assert_same(
+    rt: &impl Abort,
+    found: Result<Selected, Refusal>,
+    answer: Result<Selected, Refusal>,
+    first: usize,
+) {
+    assert_eq!(rt; found, answer, "in pieces, {first} bytes first");
+}
+
+/// No more levels are open than may be after so many bytes.
+fn assert_most(rt: &impl Abort, found: usize, levels: Levels, count: usize) {
+    assert!(rt; found <= most_levels(levels, count), "after {count} bytes");
 }
 
 /// The most levels that are open after so many bytes.
@@ -120,8 +115,49 @@ fn most_levels(levels: Levels, count: usize) -> usize {
     }
 }
 
+/// A stream of the plain book that is fed a whole message takes it, and answers as is wanted, for pieces of each size.
+pub(super) fn feed_plain(
+    rt: &(impl AllocGlobal + Abort),
+    levels: Levels,
+    bytes: &[u8],
+    sizes: &[usize],
+    wanted: Wanted,
+) -> Result<(), Fail> {
+    let book = base_book(rt.alloc())?;
+    feed_sizes(rt, &book, levels, bytes, sizes, wanted);
+    Ok(())
+}
+
+/// The same for the book with tables.
+pub(super) fn feed_indexed(
+    rt: &(impl AllocGlobal + Abort),
+    levels: Levels,
+    bytes: &[u8],
+    sizes: &[usize],
+    wanted: Wanted,
+) -> Result<(), Fail> {
+    let book = indexed_book(rt.alloc())?;
+    feed_sizes(rt, &book, levels, bytes, sizes, wanted);
+    Ok(())
+}
+
+/// The same for any book.
+fn feed_sizes<B: Book>(
+    rt: &(impl AllocGlobal + Abort),
+    book: &B,
+    levels: Levels,
+    bytes: &[u8],
+    sizes: &[usize],
+    wanted: Wanted,
+) {
+    for size in sizes {
+        assert!(rt; *size > 0);
+        feed_pieces(rt, book, levels, bytes, *size, wanted);
+    }
+}
+
 /// A stream that is fed a whole message in pieces of a size takes each, and answers as is wanted.
-pub(super) fn feed_pieces<B: Book>(
+fn feed_pieces<B: Book>(
     rt: &(impl AllocGlobal + Abort),
     book: &B,
     levels: Levels,
@@ -134,27 +170,15 @@ pub(super) fn feed_pieces<B: Book>(
     let mut stream = Stream::new(rt.alloc(), book, Unknown::Kept, levels);
     let mut count: usize = 0;
     for piece in bytes.chunks(size) {
-        let progress = stream.feed(piece);
         count = count.saturating_add(piece.len());
-        assert_eq!(rt;
-            progress,
-            Ok(Progress {
-                taken: piece.len(),
-                done: count == bytes.len()
-            }),
-            "after {count} bytes"
-        );
-        assert!(rt;
-            stream.levels() <= most_levels(levels, count),
-            "after {count} bytes"
-        );
+        feed(rt, &mut stream, piece, piece.len(), count == bytes.len());
+        assert_most(rt, stream.levels(), levels, count);
     }
     assert_answer(rt, book, stream.finish(), wanted);
 }
 
-/// A watchdog request with three Failed-AVPs in one another, and an unknown AVP in the innermost.
-const NESTED: &str =
-    "0100004c80000118000000000000000100000002000001084000000b612e6200000001284000000962000000\
+/// The AVPs of a watchdog request with three Failed-AVPs in one another, and an unknown AVP in the innermost.
+const NESTED: &str = "000001084000000b612e6200000001284000000962000000\
 0000011700000020000001170000001800000117000000100000270f00000008";
 
 /// How many levels are open after so many bytes of it.
@@ -177,22 +201,40 @@ pub(super) fn check_levels<B: Book>(
     rt: &(impl AllocGlobal + Abort),
     book: &B,
     bytes: &[u8],
+    rows: &[(usize, usize)],
+) {
+    for (count, levels) in rows.iter() {
+        check_level(rt, book, bytes, *count, *levels);
+    }
+}
+
+/// So many levels are open after the first bytes of a message, as many as the count says.
+fn check_level<B: Book>(
+    rt: &(impl AllocGlobal + Abort),
+    book: &B,
+    bytes: &[u8],
     count: usize,
     levels: usize,
 ) {
     assert!(rt; count <= bytes.len());
     let mut stream = Stream::new(rt.alloc(), book, Unknown::Kept, Levels::Any);
-    let progress = stream.feed(&bytes[..count]);
-    assert_eq!(rt; progress.is_ok(), true);
-    assert_eq!(rt; stream.levels(), levels, "after {count} bytes");
+    assert!(rt; stream.feed(&bytes[..count]).is_ok());
+    assert_levels(rt, stream.levels(), levels, count);
+}
+
+/// The same by the plain book.
+fn check_in_plain(
+    rt: &(impl AllocGlobal + Abort),
+    bytes: &[u8],
+    rows: &[(usize, usize)],
+) -> Result<(), Fail> {
+    let book = base_book(rt.alloc())?;
+    check_levels(rt, &book, bytes, rows);
+    Ok(())
 }
 
 #[test]
 fn counts_the_open_levels(rt: HostRuntime) -> Result<(), Fail> {
-    let book = base_book(rt.alloc())?;
-    let bytes = bytes_of(rt.alloc(), NESTED)?;
-    for (count, levels) in LEVELS {
-        check_levels(&rt, &book, &bytes, count, levels);
-    }
-    Ok(())
+    let bytes = message(rt.alloc(), "0100004c80000118", NESTED)?;
+    check_in_plain(&rt, &bytes, &LEVELS)
 }

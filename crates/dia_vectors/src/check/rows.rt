@@ -1,24 +1,45 @@
-use super::{AVPS, IDS, ORIGIN_HOST, REQUEST, WATCHDOG, Wanted, avp, bytes_of, check_in_both};
+//! Messages, each checked against both books, whole and in pieces.
+
+use super::{AVPS, AVPS_AND_ONE, HEAD, ORIGIN_HOST, WATCHDOG, Wanted, avp, check_in_both, message};
 use dia_check::{Levels, Reason, Subject, Unknown};
 use dia_dict::Class;
 use std::process::Abort;
 use std::test::Fail;
 
+/// The first eight bytes of a message's header, its AVPs, and the answer.
+type Row = (&'static str, &'static str, Wanted);
+
 const ERROR: Wanted = Wanted::Valid(280, Class::Error);
 
-/// Each message is the first eight bytes of its header and its AVPs.
+/// Checks each message.
 fn check_rows(
     rt: &(impl AllocGlobal + Abort),
     unknown: Unknown,
     levels: Levels,
-    rows: &[(&str, &str, Wanted)],
+    rows: &[Row],
 ) -> Result<(), Fail> {
     for (head, avps, wanted) in rows.iter() {
-        let text = format!(in rt.alloc(); "{head}{IDS}{avps}")?;
-        let bytes = bytes_of(rt.alloc(), text.as_str())?;
-        check_in_both(rt, unknown, levels, &bytes, *wanted)?;
+        check_row(rt, unknown, levels, head, avps, *wanted)?;
     }
     Ok(())
+}
+
+/// Checks a message.
+pub(super) fn check_row(
+    rt: &(impl AllocGlobal + Abort),
+    unknown: Unknown,
+    levels: Levels,
+    head: &str,
+    avps: &str,
+    wanted: Wanted,
+) -> Result<(), Fail> {
+    let bytes = message(rt.alloc(), head, avps)?;
+    check_in_both(rt, unknown, levels, &bytes, wanted)
+}
+
+/// Checks each message, with unknown AVPs kept and any levels.
+fn check_kept(rt: &(impl AllocGlobal + Abort), rows: &[Row]) -> Result<(), Fail> {
+    check_rows(rt, Unknown::Kept, Levels::Any, rows)
 }
 
 #[test]
@@ -65,7 +86,7 @@ fn accepts_valid_messages(rt: HostRuntime) -> Result<(), Fail> {
             ERROR,
         ),
     ];
-    check_rows(&rt, Unknown::Kept, Levels::Any, &rows)
+    check_kept(&rt, &rows)
 }
 
 #[test]
@@ -104,13 +125,12 @@ fn tells_the_faults_of_headers(rt: HostRuntime) -> Result<(), Fail> {
         ("0100003080000118", AVPS, Wanted::Truncated),
         ("0100002880000118", AVPS, Wanted::Trailing),
     ];
-    check_rows(&rt, Unknown::Kept, Levels::Any, &rows)
+    check_kept(&rt, &rows)
 }
 
 #[test]
-fn tells_the_faults_of_avps(rt: HostRuntime) -> Result<(), Fail> {
-    let missing_any = |place: u32| Wanted::Fault(place, 5005, Reason::Missing, Subject::Wildcard);
-    let session = avp(263);
+fn tells_missing_and_unknown_avps(rt: HostRuntime) -> Result<(), Fail> {
+    let unknown = avp(9999);
     let rows = [
         (
             "0100002080000118",
@@ -121,29 +141,43 @@ fn tells_the_faults_of_avps(rt: HostRuntime) -> Result<(), Fail> {
         (
             "0100003480000118",
             "000001084000000b612e62000000012840000009620000000000270f40000008",
-            Wanted::Fault(44, 5001, Reason::Unknown, avp(9999)),
+            Wanted::Fault(44, 5001, Reason::Unknown, unknown),
         ),
         (
             "0100003c80000118",
             "000001084000000b612e620000000128400000096200000000000117400000100000270f40000008",
-            Wanted::Fault(52, 5001, Reason::Unknown, avp(9999)),
+            Wanted::Fault(52, 5001, Reason::Unknown, unknown),
         ),
+    ];
+    check_kept(&rt, &rows)
+}
+
+#[test]
+fn tells_where_a_group_lacks_an_avp(rt: HostRuntime) -> Result<(), Fail> {
+    let rows = [
         // An empty Failed-AVP, at the end of the message, before its end, and before a fault behind it.
         (
             "0100003480000118",
             "000001084000000b612e62000000012840000009620000000000011740000008",
-            missing_any(52),
+            Wanted::Fault(52, 5005, Reason::Missing, Subject::Wildcard),
         ),
         (
             "0100002880000118",
             "000001084000000b612e62000000011740000008",
-            missing_any(40),
+            Wanted::Fault(40, 5005, Reason::Missing, Subject::Wildcard),
         ),
         (
             "0100003c80000118",
             "000001084000000b612e620000000117400000080000270f40000008000001284000000962000000",
-            missing_any(40),
+            Wanted::Fault(40, 5005, Reason::Missing, Subject::Wildcard),
         ),
+    ];
+    check_kept(&rt, &rows)
+}
+
+#[test]
+fn tells_the_faults_of_avps(rt: HostRuntime) -> Result<(), Fail> {
+    let rows = [
         // An empty identity, a cause that is none, and a cause of two bytes.
         (
             "0100002880000118",
@@ -171,10 +205,10 @@ fn tells_the_faults_of_avps(rt: HostRuntime) -> Result<(), Fail> {
             "0100005020000118",
             "000001074000000961000000000001084000000b612e6200000001074000000961000000000001284000000962000000\
              0000010c4000000c00000bb9",
-            Wanted::Fault(44, 5008, Reason::NotAllowed, session),
+            Wanted::Fault(44, 5008, Reason::NotAllowed, avp(263)),
         ),
     ];
-    check_rows(&rt, Unknown::Kept, Levels::Any, &rows)
+    check_kept(&rt, &rows)
 }
 
 #[test]
@@ -195,34 +229,31 @@ fn refuses_unknown_avps(rt: HostRuntime) -> Result<(), Fail> {
     check_rows(&rt, Unknown::Refused, Levels::Any, &rows)
 }
 
+/// The AVPs of a watchdog request, with a Failed-AVP behind them that holds an unknown AVP.
+const GROUP: &str =
+    "000001084000000b612e620000000128400000096200000000000117400000100000270f00000008";
+
+/// The same with an empty Failed-AVP.
+const EMPTY: &str = "000001084000000b612e62000000012840000009620000000000011740000008";
+
 #[test]
 fn opens_no_more_levels_than_asked(rt: HostRuntime) -> Result<(), Fail> {
-    let group = "000001084000000b612e620000000128400000096200000000000117400000100000270f00000008";
-    let empty = "000001084000000b612e62000000012840000009620000000000011740000008";
     let deep = Wanted::Fault(44, 5012, Reason::Depth, avp(279));
-    check_rows(
-        &rt,
-        Unknown::Kept,
-        Levels::AtMost(1),
-        &[("0100003c80000118", group, WATCHDOG)],
-    )?;
-    check_rows(
-        &rt,
-        Unknown::Kept,
-        Levels::AtMost(0),
-        &[("0100003c80000118", group, deep)],
-    )?;
-    check_rows(
-        &rt,
-        Unknown::Kept,
-        Levels::AtMost(0),
-        &[("0100003480000118", empty, deep)],
-    )
+    let one = Levels::AtMost(1);
+    let none = Levels::AtMost(0);
+    check_row(&rt, Unknown::Kept, one, "0100003c80000118", GROUP, WATCHDOG)?;
+    check_row(&rt, Unknown::Kept, none, "0100003c80000118", GROUP, deep)?;
+    check_row(&rt, Unknown::Kept, none, "0100003480000118", EMPTY, deep)
 }
 
 #[test]
 fn tells_what_follows_a_message(rt: HostRuntime) -> Result<(), Fail> {
-    let mut bytes = bytes_of(rt.alloc(), REQUEST)?;
-    bytes.push(0)?;
-    check_in_both(&rt, Unknown::Kept, Levels::Any, &bytes, Wanted::Trailing)
+    check_row(
+        &rt,
+        Unknown::Kept,
+        Levels::Any,
+        HEAD,
+        AVPS_AND_ONE,
+        Wanted::Trailing,
+    )
 }

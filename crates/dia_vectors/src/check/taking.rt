@@ -1,8 +1,8 @@
 //! How many bytes of each piece a stream takes, when it is done, and what it answers then.
 
-use super::{AVPS, IDS, WATCHDOG, Wanted, assert_answer, bytes_of};
-use dia_check::{Levels, Progress, Reason, Stream, Subject, Unknown};
-use dia_dict::{Book, IndexedBook, base_book};
+use super::{AVPS, AVPS_AND_ONE, WATCHDOG, Wanted, assert_answer, feed, indexed_book, message};
+use dia_check::{Levels, Reason, Stream, Subject, Unknown};
+use dia_dict::{Book, base_book};
 use dia_wire::Key;
 use std::process::Abort;
 use std::test::Fail;
@@ -28,13 +28,38 @@ const UNKNOWN_KEY: Key = Key {
     vendor: 0,
 };
 
-/// The AVPs of the watchdog request, and a byte that follows them.
-const AVPS_AND_ONE: &str = "000001084000000b612e620000000128400000096200000000";
-
 const VERSION: Wanted = Wanted::Fault(0, 5011, Reason::Version, Subject::Nothing);
 
 const LENGTH: Wanted = Wanted::Fault(1, 5015, Reason::Length, Subject::Nothing);
 
+/// Streams of both books take the pieces of each row, and answer as it says.
+fn feed_in_both(rt: &(impl AllocGlobal + Abort), rows: &[Row]) -> Result<(), Fail> {
+    feed_in_plain(rt, rows)?;
+    feed_in_indexed(rt, rows)
+}
+
+/// The same for the plain book.
+fn feed_in_plain(rt: &(impl AllocGlobal + Abort), rows: &[Row]) -> Result<(), Fail> {
+    let book = base_book(rt.alloc())?;
+    feed_rows(rt, &book, rows)
+}
+
+/// The same for the book with tables.
+fn feed_in_indexed(rt: &(impl AllocGlobal + Abort), rows: &[Row]) -> Result<(), Fail> {
+    let book = indexed_book(rt.alloc())?;
+    feed_rows(rt, &book, rows)
+}
+
+/// The same for any book.
+fn feed_rows<B: Book>(rt: &(impl AllocGlobal + Abort), book: &B, rows: &[Row]) -> Result<(), Fail> {
+    for (head, avps, pieces, wanted) in rows.iter() {
+        let bytes = message(rt.alloc(), head, avps)?;
+        feed_row(rt, book, &bytes, *pieces, *wanted);
+    }
+    Ok(())
+}
+
+/// A stream takes the pieces of a message, and answers as is wanted.
 fn feed_row<B: Book>(
     rt: &(impl AllocGlobal + Abort),
     book: &B,
@@ -44,36 +69,26 @@ fn feed_row<B: Book>(
 ) {
     let mut stream = Stream::new(rt.alloc(), book, Unknown::Kept, Levels::Any);
     let mut rest = bytes;
-    for (count, taken, done) in pieces {
-        assert!(rt; count <= rest.len());
-        let progress = stream.feed(&rest[..count]);
-        assert_eq!(rt;
-            progress,
-            Ok(Progress { taken, done }),
-            "{count} of {bytes:?}"
-        );
-        rest = &rest[count..];
+    for piece in pieces {
+        rest = feed_first(rt, &mut stream, rest, piece);
     }
     assert_answer(rt, book, stream.finish(), wanted);
 }
 
-fn feed_rows<B: Book>(rt: &(impl AllocGlobal + Abort), book: &B, rows: &[Row]) -> Result<(), Fail> {
-    for (head, avps, pieces, wanted) in rows.iter() {
-        let text = format!(in rt.alloc(); "{head}{IDS}{avps}")?;
-        let bytes = bytes_of(rt.alloc(), text.as_str())?;
-        feed_row(rt, book, &bytes, *pieces, *wanted);
-    }
-    Ok(())
+/// A stream takes as many of the first bytes as the piece says. The bytes behind it.
+fn feed_first<'b, B: Book>(
+    rt: &impl Abort,
+    stream: &mut Stream<'_, B>,
+    bytes: &'b [u8],
+    piece: Piece,
+) -> &'b [u8] {
+    let (count, taken, done) = piece;
+    assert!(rt; count <= bytes.len());
+    feed(rt, stream, &bytes[..count], taken, done);
+    &bytes[count..]
 }
 
-fn feed_in_both(rt: &(impl AllocGlobal + Abort), rows: &[Row]) -> Result<(), Fail> {
-    let plain = base_book(rt.alloc())?;
-    feed_rows(rt, &plain, rows)?;
-    let indexed = IndexedBook::new(rt.alloc(), base_book(rt.alloc())?)?;
-    feed_rows(rt, &indexed, rows)
-}
-
-const BAD_HEADERS: [Row; 12] = [
+const BAD_VERSIONS: [Row; 6] = [
     (
         "0200002c80000118",
         AVPS,
@@ -110,6 +125,14 @@ const BAD_HEADERS: [Row; 12] = [
         [(44, 20, true), DONE, DONE],
         VERSION,
     ),
+];
+
+#[test]
+fn takes_a_header_alone_where_the_version_is_wrong(rt: HostRuntime) -> Result<(), Fail> {
+    feed_in_both(&rt, &BAD_VERSIONS)
+}
+
+const BAD_LENGTHS: [Row; 6] = [
     // A Message Length that is no multiple of four, or under 20.
     (
         "0100002e80000118",
@@ -150,11 +173,11 @@ const BAD_HEADERS: [Row; 12] = [
 ];
 
 #[test]
-fn takes_a_header_alone_where_no_message_has_it(rt: HostRuntime) -> Result<(), Fail> {
-    feed_in_both(&rt, &BAD_HEADERS)
+fn takes_a_header_alone_where_no_message_has_its_length(rt: HostRuntime) -> Result<(), Fail> {
+    feed_in_both(&rt, &BAD_LENGTHS)
 }
 
-const ENDS: [Row; 8] = [
+const ENDS: [Row; 5] = [
     (
         "0100002c80000118",
         AVPS,
@@ -185,18 +208,28 @@ const ENDS: [Row; 8] = [
         [(1, 1, false), (30, 30, false), (14, 13, true)],
         WATCHDOG,
     ),
+];
+
+#[test]
+fn takes_a_message_and_no_more(rt: HostRuntime) -> Result<(), Fail> {
+    feed_in_both(&rt, &ENDS)
+}
+
+const MISSING: Wanted = Wanted::Fault(20, 5005, Reason::Missing, Subject::Avp(HOST_KEY));
+
+const FAULTY_ENDS: [Row; 3] = [
     // A header alone, and what follows it.
     (
         "0100001480000118",
         "",
         [(19, 19, false), (1, 1, true), DONE],
-        Wanted::Fault(20, 5005, Reason::Missing, Subject::Avp(HOST_KEY)),
+        MISSING,
     ),
     (
         "0100001480000118",
         AVPS,
         [(44, 20, true), DONE, DONE],
-        Wanted::Fault(20, 5005, Reason::Missing, Subject::Avp(HOST_KEY)),
+        MISSING,
     ),
     // The Origin-Realm goes past the end of the message.
     (
@@ -208,8 +241,8 @@ const ENDS: [Row; 8] = [
 ];
 
 #[test]
-fn takes_a_message_and_no_more(rt: HostRuntime) -> Result<(), Fail> {
-    feed_in_both(&rt, &ENDS)
+fn takes_no_more_where_avps_are_missing_or_cut(rt: HostRuntime) -> Result<(), Fail> {
+    feed_in_both(&rt, &FAULTY_ENDS)
 }
 
 const SHORT: [Row; 6] = [
@@ -262,22 +295,7 @@ const COMMAND: Wanted = Wanted::Fault(5, 3001, Reason::Command, Subject::Nothing
 
 const PROXIABLE: Wanted = Wanted::Fault(4, 3008, Reason::Proxiable, Subject::Nothing);
 
-/// An Origin-Host of Length 7, and a byte behind its message.
-const BAD_LENGTH: &str = "0000010840000007612e620000000128400000096200000000";
-
-const AVP_LENGTH: Wanted = Wanted::Fault(20, 5014, Reason::AvpLength, Subject::Nothing);
-
-/// An Origin-Host that is none, and an Origin-Realm of Length 7.
-const BAD_VALUE: &str = "000001084000000bff2e6200000001284000000762000000";
-
-const LEAF_VALUE: Wanted = Wanted::Fault(20, 5004, Reason::LeafValue, Subject::Avp(HOST_KEY));
-
-/// An unknown AVP with M set, and bytes that are no AVPs.
-const BAD_AVP: &str = "0000270f40000008ffffffffffffffffffffffffffffffff";
-
-const UNKNOWN_AVP: Wanted = Wanted::Fault(20, 5001, Reason::Unknown, Subject::Avp(UNKNOWN_KEY));
-
-const FAULTS: [Row; 13] = [
+const BAD_HEADS: [Row; 4] = [
     (
         "0100002ca0000118",
         AVPS_AND_ONE,
@@ -302,6 +320,19 @@ const FAULTS: [Row; 13] = [
         [(21, 21, false), (23, 23, true), (1, 0, true)],
         PROXIABLE,
     ),
+];
+
+#[test]
+fn goes_on_taking_behind_a_fault_of_the_header(rt: HostRuntime) -> Result<(), Fail> {
+    feed_in_both(&rt, &BAD_HEADS)
+}
+
+/// An Origin-Host of Length 7, and a byte behind its message.
+const BAD_LENGTH: &str = "0000010840000007612e620000000128400000096200000000";
+
+const AVP_LENGTH: Wanted = Wanted::Fault(20, 5014, Reason::AvpLength, Subject::Nothing);
+
+const BAD_AVP_LENGTHS: [Row; 4] = [
     (
         "0100002c80000118",
         BAD_LENGTH,
@@ -326,6 +357,24 @@ const FAULTS: [Row; 13] = [
         [(28, 28, false), (15, 15, false), EMPTY],
         Wanted::Truncated,
     ),
+];
+
+#[test]
+fn goes_on_taking_behind_a_bad_length(rt: HostRuntime) -> Result<(), Fail> {
+    feed_in_both(&rt, &BAD_AVP_LENGTHS)
+}
+
+/// An Origin-Host that is none, and an Origin-Realm of Length 7.
+const BAD_VALUE: &str = "000001084000000bff2e6200000001284000000762000000";
+
+const LEAF_VALUE: Wanted = Wanted::Fault(20, 5004, Reason::LeafValue, Subject::Avp(HOST_KEY));
+
+/// An unknown AVP with M set, and bytes that are no AVPs.
+const BAD_AVP: &str = "0000270f40000008ffffffffffffffffffffffffffffffff";
+
+const UNKNOWN_AVP: Wanted = Wanted::Fault(20, 5001, Reason::Unknown, Subject::Avp(UNKNOWN_KEY));
+
+const BAD_AVPS: [Row; 5] = [
     (
         "0100002c80000118",
         BAD_VALUE,
@@ -359,6 +408,6 @@ const FAULTS: [Row; 13] = [
 ];
 
 #[test]
-fn goes_on_taking_behind_a_fault(rt: HostRuntime) -> Result<(), Fail> {
-    feed_in_both(&rt, &FAULTS)
+fn goes_on_taking_behind_a_fault_of_an_avp(rt: HostRuntime) -> Result<(), Fail> {
+    feed_in_both(&rt, &BAD_AVPS)
 }
