@@ -1,6 +1,5 @@
 //! The example of dia_dict.
 
-use super::same;
 use dia_ccf::parse;
 use dia_dict::{Book, Class, Format, IndexedBook, Key, Slot, resolve};
 use std::process::Abort;
@@ -19,9 +18,9 @@ fn looks_up(rt: &impl Abort, book: &IndexedBook) -> Result<(), Fail> {
         vendor: 0,
     };
     let host = book.avp(key).ok_or("Origin-Host")?;
-    same(rt, &book.entry_name(host), &"Origin-Host");
-    assert!(rt; matches!(book.format(host), Format::DiameterIdentity));
-    same(rt, &slot_in_request(book, 280, key), &Some(Slot::Loose(0)));
+    assert_eq!(rt; book.entry_name(host), "Origin-Host");
+    assert_eq!(rt; *book.format(host), Format::DiameterIdentity);
+    assert_eq!(rt; slot_in_request(book, 280, key), Some(Slot::Loose(0)));
     Ok(())
 }
 
