@@ -10,7 +10,6 @@ use dia_dict::{Book, Class, IndexedBook, base_book};
 use dia_wire::Key;
 use std::alloc::{AllocError, Global};
 use std::process::Abort;
-use std::test::Fail;
 
 mod cut;
 mod deep;
@@ -37,8 +36,11 @@ const AVPS_AND_ONE: &str = "000001084000000b612e620000000128400000096200000000";
 /// The answer for such a request.
 const WATCHDOG: Wanted = Wanted::Valid(280, Class::Request);
 
+/// A piece: how many bytes come, how many of them are taken, and whether the stream is done then.
+type Piece = (usize, usize, bool);
+
 /// What a check is to answer.
-#[derive(Clone, Copy, Debug)]
+#[derive(Clone, Copy)]
 enum Wanted {
     /// The command of this code and class.
     Valid(u32, Class),
@@ -62,7 +64,7 @@ fn message(alloc: Global, head: &str, behind: &str) -> Result<Vec<u8>, AllocErro
     Ok(bytes)
 }
 
-/// The bytes that hexadecimal digits are.
+/// Pushes the bytes that hexadecimal digits are.
 fn push_bytes(bytes: &mut Vec<u8>, text: &str) -> Result<(), AllocError> {
     for pair in text.as_bytes().chunks(2) {
         if let [high, low] = pair {
@@ -82,7 +84,7 @@ fn digit(byte: u8) -> u8
     }
 }
 
-/// An AVP's first eight bytes, with no flags.
+/// Pushes an AVP's first eight bytes, with no flags.
 fn push_head(bytes: &mut Vec<u8>, code: u32, length: u32) -> Result<(), AllocError> {
     bytes.extend_from_slice(&code.to_be_bytes())?;
     bytes.extend_from_slice(&length.to_be_bytes())
@@ -93,42 +95,80 @@ fn indexed_book(alloc: Global) -> Result<IndexedBook, AllocError> {
     IndexedBook::new(alloc, base_book(alloc)?)
 }
 
-/// Both kinds of book of the base dictionary answer as is wanted.
-fn check_in_both(
+/// What is asked of both kinds of book, for one message.
+#[derive(Clone, Copy)]
+enum Task<'a> {
+    /// The answer of `check`, which is to be this; if the message is short, also those of streams.
+    Check(Unknown, Levels, Wanted),
+    /// The answer of streams that are fed the message in pieces of each of these sizes.
+    Feed(Levels, &'a [usize], Wanted),
+    /// The answer of a stream that is fed these pieces.
+    Take([Piece; 3], Wanted),
+    /// How many levels are open after so many bytes.
+    Open(&'a [(usize, usize)]),
+    /// How many levels are open after each byte of a deep message, whose outermost group begins at this place.
+    Count(usize),
+    /// What streams answer where memory may run out.
+    Spend,
+}
+
+/// Both kinds of book answer as is wanted for a message: the first eight bytes of its header, and what follows its header.
+fn ask(
     rt: &(impl AllocGlobal + Abort),
-    unknown: Unknown,
-    levels: Levels,
+    head: &str,
+    behind: &str,
+    task: Task<'_>,
+) -> Result<(), AllocError> {
+    let bytes = message(rt.alloc(), head, behind)?;
+    in_both(rt, &bytes, task)
+}
+
+/// Both kinds of book of the base dictionary answer as is wanted.
+fn in_both(
+    rt: &(impl AllocGlobal + Abort),
     bytes: &[u8],
-    wanted: Wanted,
-) -> Result<(), Fail> {
-    check_in_plain(rt, unknown, levels, bytes, wanted)?;
-    check_in_indexed(rt, unknown, levels, bytes, wanted)
+    task: Task<'_>,
+) -> Result<(), AllocError> {
+    in_plain(rt, bytes, task)?;
+    in_indexed(rt, bytes, task)
 }
 
 /// The plain book answers as is wanted.
-fn check_in_plain(
+fn in_plain(
     rt: &(impl AllocGlobal + Abort),
-    unknown: Unknown,
-    levels: Levels,
     bytes: &[u8],
-    wanted: Wanted,
-) -> Result<(), Fail> {
+    task: Task<'_>,
+) -> Result<(), AllocError> {
     let book = base_book(rt.alloc())?;
-    check_one(rt, &book, unknown, levels, bytes, wanted);
+    in_one(rt, &book, bytes, task);
     Ok(())
 }
 
 /// The book with tables answers as is wanted.
-fn check_in_indexed(
+fn in_indexed(
     rt: &(impl AllocGlobal + Abort),
-    unknown: Unknown,
-    levels: Levels,
     bytes: &[u8],
-    wanted: Wanted,
-) -> Result<(), Fail> {
+    task: Task<'_>,
+) -> Result<(), AllocError> {
     let book = indexed_book(rt.alloc())?;
-    check_one(rt, &book, unknown, levels, bytes, wanted);
+    in_one(rt, &book, bytes, task);
     Ok(())
+}
+
+/// A book answers as is wanted.
+fn in_one<B: Book>(rt: &(impl AllocGlobal + Abort), book: &B, bytes: &[u8], task: Task<'_>) {
+    match task {
+        Task::Check(unknown, levels, wanted) => {
+            check_one(rt, book, unknown, levels, bytes, wanted);
+        }
+        Task::Feed(levels, sizes, wanted) => {
+            pieces::feed_sizes(rt, book, levels, bytes, sizes, wanted);
+        }
+        Task::Take(pieces, wanted) => taking::feed_row(rt, book, bytes, pieces, wanted),
+        Task::Open(rows) => pieces::check_levels(rt, book, bytes, rows),
+        Task::Count(first) => deep::count_levels(rt, book, bytes, first),
+        Task::Spend => memory::feeds_all(rt, book, bytes),
+    }
 }
 
 /// A book answers as is wanted; a short message also in pieces.

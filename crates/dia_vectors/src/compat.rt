@@ -7,7 +7,7 @@ mod comparing;
 mod proposing;
 mod table;
 
-/// Pairs of names as text, each behind a word.
+/// Pushes pairs of names as text, each behind a word.
 fn push_pairs(text: &mut String, word: &str, pairs: &[(String, String)]) -> Result<(), AllocError> {
     for (a, b) in pairs {
         write!(text, "{word}{a} = {b};")?;

@@ -1,7 +1,6 @@
 //! Messages cut short, and with a Length that says something else.
 
-use super::rows::check_row;
-use super::{AVPS, HEAD, ORIGIN_HOST, WATCHDOG, Wanted, avp, check_in_both, message};
+use super::{AVPS, HEAD, ORIGIN_HOST, Task, WATCHDOG, Wanted, ask, avp, in_both, message};
 use dia_check::{Levels, Reason, Subject, Unknown};
 use dia_wire::Key;
 use std::ops::Range;
@@ -30,7 +29,9 @@ fn check_front(
     wanted: Wanted,
 ) -> Result<(), Fail> {
     assert!(rt; count <= bytes.len());
-    check_in_both(rt, Unknown::Kept, Levels::Any, &bytes[..count], wanted)
+    let task = Task::Check(Unknown::Kept, Levels::Any, wanted);
+    in_both(rt, &bytes[..count], task)?;
+    Ok(())
 }
 
 #[test]
@@ -69,7 +70,9 @@ fn check_length(
     let avps = format!(in rt.alloc();
         "00000108{flags:02x}0000{length:02x}612e6200000001284000000962000000"
     )?;
-    check_row(rt, Unknown::Kept, Levels::Any, HEAD, avps.as_str(), wanted)
+    let task = Task::Check(Unknown::Kept, Levels::Any, wanted);
+    ask(rt, HEAD, avps.as_str(), task)?;
+    Ok(())
 }
 
 const BAD_LENGTH: Wanted = Wanted::Fault(20, 5014, Reason::AvpLength, Subject::Nothing);

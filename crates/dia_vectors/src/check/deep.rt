@@ -2,13 +2,12 @@
 
 ghost use Rattle.std.specs.Prelude.{◌≤◌};
 
-use super::pieces::{feed_indexed, feed_plain};
 use super::{
-    AVPS, WATCHDOG, Wanted, assert_answer, assert_levels, avp, check_in_both, feed, indexed_book,
-    message, push_bytes, push_head,
+    AVPS, Task, WATCHDOG, Wanted, assert_answer, assert_levels, avp, feed, in_both, in_indexed,
+    in_plain, message, push_bytes, push_head,
 };
 use dia_check::{Levels, Reason, Stream, Unknown};
-use dia_dict::{Book, base_book};
+use dia_dict::Book;
 use std::alloc::{AllocError, Global};
 use std::process::Abort;
 use std::test::Fail;
@@ -42,7 +41,7 @@ pub(super) fn nested(
     Ok(bytes)
 }
 
-/// So many Failed-AVPs in one another, and an unknown AVP in the innermost.
+/// Pushes so many Failed-AVPs in one another, and an unknown AVP in the innermost.
 fn push_groups(bytes: &mut Vec<u8>, depth: u32) -> Result<(), AllocError>
     requires { depth ≤ 1000000 }
 {
@@ -52,14 +51,25 @@ fn push_groups(bytes: &mut Vec<u8>, depth: u32) -> Result<(), AllocError>
     push_head(bytes, 9999, 8)
 }
 
+/// Both books answer as is wanted under a limit on levels.
+fn check_limit(
+    rt: &(impl AllocGlobal + Abort),
+    bytes: &[u8],
+    levels: Levels,
+    wanted: Wanted,
+) -> Result<(), Fail> {
+    in_both(rt, bytes, Task::Check(Unknown::Kept, levels, wanted))?;
+    Ok(())
+}
+
 #[test]
 fn goes_as_deep_as_a_message(rt: HostRuntime) -> Result<(), Fail> {
     let bytes = nested(rt.alloc(), DEPTH, AVPS, "")?;
     let innermost = FIRST + 8 * (DEPTH - 1);
     let deep = Wanted::Fault(innermost, 5012, Reason::Depth, avp(279));
-    check_in_both(&rt, Unknown::Kept, Levels::Any, &bytes, WATCHDOG)?;
-    check_in_both(&rt, Unknown::Kept, Levels::AtMost(DEPTH), &bytes, WATCHDOG)?;
-    check_in_both(&rt, Unknown::Kept, Levels::AtMost(DEPTH - 1), &bytes, deep)
+    check_limit(&rt, &bytes, Levels::Any, WATCHDOG)?;
+    check_limit(&rt, &bytes, Levels::AtMost(DEPTH), WATCHDOG)?;
+    check_limit(&rt, &bytes, Levels::AtMost(DEPTH - 1), deep)
 }
 
 /// How many levels are open after so many bytes of a message whose outermost Failed-AVP begins at a place.
@@ -74,7 +84,12 @@ fn open_after(count: usize, first: usize) -> usize {
 }
 
 /// Feeds a message byte by byte, and looks at its levels after each.
-fn count_levels<B: Book>(rt: &(impl AllocGlobal + Abort), book: &B, bytes: &[u8], first: usize) {
+pub(super) fn count_levels<B: Book>(
+    rt: &(impl AllocGlobal + Abort),
+    book: &B,
+    bytes: &[u8],
+    first: usize,
+) {
     assert!(rt; bytes.len() == LENGTH);
     let mut stream = Stream::new(rt.alloc(), book, Unknown::Kept, Levels::Any);
     for place in 0..bytes.len() {
@@ -85,34 +100,18 @@ fn count_levels<B: Book>(rt: &(impl AllocGlobal + Abort), book: &B, bytes: &[u8]
     assert_answer(rt, book, stream.finish(), WATCHDOG);
 }
 
-/// Counts the levels by the plain book.
-fn count_in_plain(rt: &(impl AllocGlobal + Abort), bytes: &[u8], first: usize) -> Result<(), Fail> {
-    let book = base_book(rt.alloc())?;
-    count_levels(rt, &book, bytes, first);
-    Ok(())
-}
-
-/// Counts the levels by the book with tables.
-fn count_in_indexed(
-    rt: &(impl AllocGlobal + Abort),
-    bytes: &[u8],
-    first: usize,
-) -> Result<(), Fail> {
-    let book = indexed_book(rt.alloc())?;
-    count_levels(rt, &book, bytes, first);
-    Ok(())
-}
-
 #[test]
 fn counts_a_hundred_thousand_levels(rt: HostRuntime) -> Result<(), Fail> {
     let last = nested(rt.alloc(), DEPTH, AVPS, "")?;
-    count_in_plain(&rt, &last, 44)
+    in_plain(&rt, &last, Task::Count(44))?;
+    Ok(())
 }
 
 #[test]
 fn counts_levels_before_other_avps(rt: HostRuntime) -> Result<(), Fail> {
     let first = nested(rt.alloc(), DEPTH, "", AVPS)?;
-    count_in_indexed(&rt, &first, 20)
+    in_indexed(&rt, &first, Task::Count(20))?;
+    Ok(())
 }
 
 /// Pieces of several sizes, the last of which holds the whole message.
@@ -121,7 +120,9 @@ const SIZES: [usize; 3] = [7, 4_096, 800_052];
 #[test]
 fn takes_deep_messages_in_pieces(rt: HostRuntime) -> Result<(), Fail> {
     let bytes = nested(rt.alloc(), DEPTH, AVPS, "")?;
-    feed_plain(&rt, Levels::AtMost(DEPTH), &bytes, &SIZES, WATCHDOG)
+    let levels = Levels::AtMost(DEPTH);
+    in_plain(&rt, &bytes, Task::Feed(levels, &SIZES, WATCHDOG))?;
+    Ok(())
 }
 
 /// The faults of streams that open fewer levels: each limit, and the place of the group that it refuses.
@@ -135,7 +136,9 @@ fn feed_limit(
     place: u32,
 ) -> Result<(), Fail> {
     let deep = Wanted::Fault(place, 5012, Reason::Depth, avp(279));
-    feed_indexed(rt, Levels::AtMost(limit), bytes, &SIZES, deep)
+    let levels = Levels::AtMost(limit);
+    in_indexed(rt, bytes, Task::Feed(levels, &SIZES, deep))?;
+    Ok(())
 }
 
 #[test]
@@ -150,5 +153,6 @@ fn refuses_deep_messages_in_pieces(rt: HostRuntime) -> Result<(), Fail> {
 #[test]
 fn goes_down_half_a_million_levels(rt: HostRuntime) -> Result<(), Fail> {
     let bytes = nested(rt.alloc(), 500_000, AVPS, "")?;
-    feed_plain(&rt, Levels::Any, &bytes, &[4_096], WATCHDOG)
+    in_plain(&rt, &bytes, Task::Feed(Levels::Any, &[4_096], WATCHDOG))?;
+    Ok(())
 }

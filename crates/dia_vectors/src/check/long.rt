@@ -1,10 +1,8 @@
 //! Messages of the greatest length.
 
-use super::pieces::{check_levels, feed_indexed, feed_plain};
-use super::{AVPS, WATCHDOG, check_in_both, indexed_book, message, push_bytes, push_head};
+use super::{AVPS, Task, WATCHDOG, in_both, in_indexed, in_plain, message, push_bytes, push_head};
 use dia_check::{Levels, Unknown};
 use std::alloc::{AllocError, Global};
-use std::process::Abort;
 use std::test::Fail;
 
 /// The greatest Message Length that is a multiple of four.
@@ -42,15 +40,22 @@ fn repeated(alloc: Global) -> Result<Vec<u8>, AllocError> {
 fn takes_one_avp_that_fills_the_message(rt: HostRuntime) -> Result<(), Fail> {
     let bytes = filled(rt.alloc())?;
     assert!(rt; bytes.len() == LENGTH);
-    check_in_both(&rt, Unknown::Kept, Levels::Any, &bytes, WATCHDOG)?;
-    feed_plain(&rt, Levels::Any, &bytes, &[61, 4_096, LENGTH], WATCHDOG)
+    in_both(
+        &rt,
+        &bytes,
+        Task::Check(Unknown::Kept, Levels::Any, WATCHDOG),
+    )?;
+    let sizes = [61, 4_096, LENGTH];
+    in_plain(&rt, &bytes, Task::Feed(Levels::Any, &sizes, WATCHDOG))?;
+    Ok(())
 }
 
 #[test]
 fn takes_many_avps(rt: HostRuntime) -> Result<(), Fail> {
     let bytes = repeated(rt.alloc())?;
     assert!(rt; bytes.len() == LENGTH);
-    feed_indexed(&rt, Levels::Any, &bytes, &[4_099], WATCHDOG)
+    in_indexed(&rt, &bytes, Task::Feed(Levels::Any, &[4_099], WATCHDOG))?;
+    Ok(())
 }
 
 /// How many levels are open after so many bytes of the message with the Failed-AVP.
@@ -65,19 +70,9 @@ const LEVELS: [(usize, usize); 8] = [
     (16_777_212, 0),
 ];
 
-/// So many levels are open after so many bytes of a message, by the book with tables.
-fn check_in_indexed(
-    rt: &(impl AllocGlobal + Abort),
-    bytes: &[u8],
-    rows: &[(usize, usize)],
-) -> Result<(), Fail> {
-    let book = indexed_book(rt.alloc())?;
-    check_levels(rt, &book, bytes, rows);
-    Ok(())
-}
-
 #[test]
 fn keeps_a_group_open_to_its_end(rt: HostRuntime) -> Result<(), Fail> {
     let bytes = filled(rt.alloc())?;
-    check_in_indexed(&rt, &bytes, &LEVELS)
+    in_indexed(&rt, &bytes, Task::Open(&LEVELS))?;
+    Ok(())
 }

@@ -2,9 +2,9 @@
 
 ghost use Rattle.std.specs.Prelude.{◌<◌, ◌≤◌, length};
 
-use super::{Wanted, assert_answer, assert_levels, feed, indexed_book, message};
+use super::{Task, Wanted, ask, assert_answer, assert_levels, feed};
 use dia_check::{Levels, Refusal, Selected, Stream, Unknown, check};
-use dia_dict::{Book, base_book};
+use dia_dict::Book;
 use std::process::Abort;
 use std::test::Fail;
 
@@ -115,34 +115,8 @@ fn most_levels(levels: Levels, count: usize) -> usize {
     }
 }
 
-/// A stream of the plain book that is fed a whole message takes it, and answers as is wanted, for pieces of each size.
-pub(super) fn feed_plain(
-    rt: &(impl AllocGlobal + Abort),
-    levels: Levels,
-    bytes: &[u8],
-    sizes: &[usize],
-    wanted: Wanted,
-) -> Result<(), Fail> {
-    let book = base_book(rt.alloc())?;
-    feed_sizes(rt, &book, levels, bytes, sizes, wanted);
-    Ok(())
-}
-
-/// The same for the book with tables.
-pub(super) fn feed_indexed(
-    rt: &(impl AllocGlobal + Abort),
-    levels: Levels,
-    bytes: &[u8],
-    sizes: &[usize],
-    wanted: Wanted,
-) -> Result<(), Fail> {
-    let book = indexed_book(rt.alloc())?;
-    feed_sizes(rt, &book, levels, bytes, sizes, wanted);
-    Ok(())
-}
-
-/// The same for any book.
-fn feed_sizes<B: Book>(
+/// A stream that is fed a whole message takes it, and answers as is wanted, for pieces of each size.
+pub(super) fn feed_sizes<B: Book>(
     rt: &(impl AllocGlobal + Abort),
     book: &B,
     levels: Levels,
@@ -222,19 +196,8 @@ fn check_level<B: Book>(
     assert_levels(rt, stream.levels(), levels, count);
 }
 
-/// The same by the plain book.
-fn check_in_plain(
-    rt: &(impl AllocGlobal + Abort),
-    bytes: &[u8],
-    rows: &[(usize, usize)],
-) -> Result<(), Fail> {
-    let book = base_book(rt.alloc())?;
-    check_levels(rt, &book, bytes, rows);
-    Ok(())
-}
-
 #[test]
 fn counts_the_open_levels(rt: HostRuntime) -> Result<(), Fail> {
-    let bytes = message(rt.alloc(), "0100004c80000118", NESTED)?;
-    check_in_plain(&rt, &bytes, &LEVELS)
+    ask(&rt, "0100004c80000118", NESTED, Task::Open(&LEVELS))?;
+    Ok(())
 }

@@ -1,6 +1,6 @@
 //! Messages, each checked against both books, whole and in pieces.
 
-use super::{AVPS, AVPS_AND_ONE, HEAD, ORIGIN_HOST, WATCHDOG, Wanted, avp, check_in_both, message};
+use super::{AVPS, AVPS_AND_ONE, HEAD, ORIGIN_HOST, Task, WATCHDOG, Wanted, ask, avp};
 use dia_check::{Levels, Reason, Subject, Unknown};
 use dia_dict::Class;
 use std::process::Abort;
@@ -12,34 +12,24 @@ type Row = (&'static str, &'static str, Wanted);
 const ERROR: Wanted = Wanted::Valid(280, Class::Error);
 
 /// Checks each message.
-fn check_rows(
-    rt: &(impl AllocGlobal + Abort),
-    unknown: Unknown,
-    levels: Levels,
-    rows: &[Row],
-) -> Result<(), Fail> {
+fn check_rows(rt: &(impl AllocGlobal + Abort), unknown: Unknown, rows: &[Row]) -> Result<(), Fail> {
     for (head, avps, wanted) in rows.iter() {
-        check_row(rt, unknown, levels, head, avps, *wanted)?;
+        ask(rt, head, avps, Task::Check(unknown, Levels::Any, *wanted))?;
     }
     Ok(())
 }
 
-/// Checks a message.
-pub(super) fn check_row(
+/// Checks a message under a limit on levels.
+fn check_limit(
     rt: &(impl AllocGlobal + Abort),
-    unknown: Unknown,
-    levels: Levels,
+    limit: u32,
     head: &str,
     avps: &str,
     wanted: Wanted,
 ) -> Result<(), Fail> {
-    let bytes = message(rt.alloc(), head, avps)?;
-    check_in_both(rt, unknown, levels, &bytes, wanted)
-}
-
-/// Checks each message, with unknown AVPs kept and any levels.
-fn check_kept(rt: &(impl AllocGlobal + Abort), rows: &[Row]) -> Result<(), Fail> {
-    check_rows(rt, Unknown::Kept, Levels::Any, rows)
+    let levels = Levels::AtMost(limit);
+    ask(rt, head, avps, Task::Check(Unknown::Kept, levels, wanted))?;
+    Ok(())
 }
 
 #[test]
@@ -86,7 +76,7 @@ fn accepts_valid_messages(rt: HostRuntime) -> Result<(), Fail> {
             ERROR,
         ),
     ];
-    check_kept(&rt, &rows)
+    check_rows(&rt, Unknown::Kept, &rows)
 }
 
 #[test]
@@ -125,7 +115,7 @@ fn tells_the_faults_of_headers(rt: HostRuntime) -> Result<(), Fail> {
         ("0100003080000118", AVPS, Wanted::Truncated),
         ("0100002880000118", AVPS, Wanted::Trailing),
     ];
-    check_kept(&rt, &rows)
+    check_rows(&rt, Unknown::Kept, &rows)
 }
 
 #[test]
@@ -149,7 +139,7 @@ fn tells_missing_and_unknown_avps(rt: HostRuntime) -> Result<(), Fail> {
             Wanted::Fault(52, 5001, Reason::Unknown, unknown),
         ),
     ];
-    check_kept(&rt, &rows)
+    check_rows(&rt, Unknown::Kept, &rows)
 }
 
 #[test]
@@ -172,7 +162,7 @@ fn tells_where_a_group_lacks_an_avp(rt: HostRuntime) -> Result<(), Fail> {
             Wanted::Fault(40, 5005, Reason::Missing, Subject::Wildcard),
         ),
     ];
-    check_kept(&rt, &rows)
+    check_rows(&rt, Unknown::Kept, &rows)
 }
 
 #[test]
@@ -208,7 +198,7 @@ fn tells_the_faults_of_avps(rt: HostRuntime) -> Result<(), Fail> {
             Wanted::Fault(44, 5008, Reason::NotAllowed, avp(263)),
         ),
     ];
-    check_kept(&rt, &rows)
+    check_rows(&rt, Unknown::Kept, &rows)
 }
 
 #[test]
@@ -226,7 +216,7 @@ fn refuses_unknown_avps(rt: HostRuntime) -> Result<(), Fail> {
             wanted,
         ),
     ];
-    check_rows(&rt, Unknown::Refused, Levels::Any, &rows)
+    check_rows(&rt, Unknown::Refused, &rows)
 }
 
 /// The AVPs of a watchdog request, with a Failed-AVP behind them that holds an unknown AVP.
@@ -239,21 +229,13 @@ const EMPTY: &str = "000001084000000b612e620000000128400000096200000000000117400
 #[test]
 fn opens_no_more_levels_than_asked(rt: HostRuntime) -> Result<(), Fail> {
     let deep = Wanted::Fault(44, 5012, Reason::Depth, avp(279));
-    let one = Levels::AtMost(1);
-    let none = Levels::AtMost(0);
-    check_row(&rt, Unknown::Kept, one, "0100003c80000118", GROUP, WATCHDOG)?;
-    check_row(&rt, Unknown::Kept, none, "0100003c80000118", GROUP, deep)?;
-    check_row(&rt, Unknown::Kept, none, "0100003480000118", EMPTY, deep)
+    check_limit(&rt, 1, "0100003c80000118", GROUP, WATCHDOG)?;
+    check_limit(&rt, 0, "0100003c80000118", GROUP, deep)?;
+    check_limit(&rt, 0, "0100003480000118", EMPTY, deep)
 }
 
 #[test]
 fn tells_what_follows_a_message(rt: HostRuntime) -> Result<(), Fail> {
-    check_row(
-        &rt,
-        Unknown::Kept,
-        Levels::Any,
-        HEAD,
-        AVPS_AND_ONE,
-        Wanted::Trailing,
-    )
+    let rows = [(HEAD, AVPS_AND_ONE, Wanted::Trailing)];
+    check_rows(&rt, Unknown::Kept, &rows)
 }

@@ -1,14 +1,11 @@
 //! How many bytes of each piece a stream takes, when it is done, and what it answers then.
 
-use super::{AVPS, AVPS_AND_ONE, WATCHDOG, Wanted, assert_answer, feed, indexed_book, message};
+use super::{AVPS, AVPS_AND_ONE, Piece, Task, WATCHDOG, Wanted, ask, assert_answer, feed};
 use dia_check::{Levels, Reason, Stream, Subject, Unknown};
-use dia_dict::{Book, base_book};
+use dia_dict::Book;
 use dia_wire::Key;
 use std::process::Abort;
 use std::test::Fail;
-
-/// A piece: how many bytes come, how many of them are taken, and whether the stream is done then.
-type Piece = (usize, usize, bool);
 
 /// The first eight bytes of a message's header, its AVPs and what follows them; the pieces in which it comes; the answer.
 type Row = (&'static str, &'static str, [Piece; 3], Wanted);
@@ -34,33 +31,14 @@ const LENGTH: Wanted = Wanted::Fault(1, 5015, Reason::Length, Subject::Nothing);
 
 /// Streams of both books take the pieces of each row, and answer as it says.
 fn feed_in_both(rt: &(impl AllocGlobal + Abort), rows: &[Row]) -> Result<(), Fail> {
-    feed_in_plain(rt, rows)?;
-    feed_in_indexed(rt, rows)
-}
-
-/// The same for the plain book.
-fn feed_in_plain(rt: &(impl AllocGlobal + Abort), rows: &[Row]) -> Result<(), Fail> {
-    let book = base_book(rt.alloc())?;
-    feed_rows(rt, &book, rows)
-}
-
-/// The same for the book with tables.
-fn feed_in_indexed(rt: &(impl AllocGlobal + Abort), rows: &[Row]) -> Result<(), Fail> {
-    let book = indexed_book(rt.alloc())?;
-    feed_rows(rt, &book, rows)
-}
-
-/// The same for any book.
-fn feed_rows<B: Book>(rt: &(impl AllocGlobal + Abort), book: &B, rows: &[Row]) -> Result<(), Fail> {
     for (head, avps, pieces, wanted) in rows.iter() {
-        let bytes = message(rt.alloc(), head, avps)?;
-        feed_row(rt, book, &bytes, *pieces, *wanted);
+        ask(rt, head, avps, Task::Take(*pieces, *wanted))?;
     }
     Ok(())
 }
 
 /// A stream takes the pieces of a message, and answers as is wanted.
-fn feed_row<B: Book>(
+pub(super) fn feed_row<B: Book>(
     rt: &(impl AllocGlobal + Abort),
     book: &B,
     bytes: &[u8],

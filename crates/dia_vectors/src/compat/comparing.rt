@@ -23,7 +23,7 @@ fn nothing(alloc: Global) -> Table {
     }
 }
 
-/// Each command of a dictionary with itself.
+/// Pushes each command of a dictionary with itself.
 fn push_commands<B: Book>(
     alloc: Global,
     pairs: &mut Vec<(String, String)>,
@@ -35,7 +35,7 @@ fn push_commands<B: Book>(
     Ok(())
 }
 
-/// Each AVP of a dictionary with itself, but for the one of a name.
+/// Pushes each AVP of a dictionary with itself, but for the one of a name.
 fn push_avps<B: Book>(
     alloc: Global,
     pairs: &mut Vec<(String, String)>,
@@ -51,7 +51,7 @@ fn push_avps<B: Book>(
     Ok(())
 }
 
-/// A name with itself.
+/// Pushes a name with itself.
 fn push_twice(
     alloc: Global,
     pairs: &mut Vec<(String, String)>,
@@ -144,6 +144,12 @@ fn compares_indexed<B: Book>(rt: &(impl AllocGlobal + Abort), b: &B) -> Result<(
     compares(rt, &a, b)
 }
 
+/// The answers for both kinds of book and another.
+fn compares_both<B: Book>(rt: &(impl AllocGlobal + Abort), b: &B) -> Result<(), Fail> {
+    compares_plain(rt, b)?;
+    compares_indexed(rt, b)
+}
+
 /// The base dictionary with its tables.
 pub(super) fn indexed_book(alloc: Global) -> Result<IndexedBook, AllocError> {
     IndexedBook::new(alloc, base_book(alloc)?)
@@ -152,15 +158,13 @@ pub(super) fn indexed_book(alloc: Global) -> Result<IndexedBook, AllocError> {
 #[test]
 fn compares_the_base_dictionary_with_itself(rt: HostRuntime) -> Result<(), Fail> {
     let plain = base_book(rt.alloc())?;
-    compares_plain(&rt, &plain)?;
-    compares_indexed(&rt, &plain)
+    compares_both(&rt, &plain)
 }
 
 #[test]
 fn compares_the_base_dictionary_with_its_tables(rt: HostRuntime) -> Result<(), Fail> {
     let indexed = indexed_book(rt.alloc())?;
-    compares_plain(&rt, &indexed)?;
-    compares_indexed(&rt, &indexed)
+    compares_both(&rt, &indexed)
 }
 
 #[test]

@@ -89,6 +89,13 @@ fn tells_the_line_that_is_no_pair(rt: HostRuntime) -> Result<(), Fail> {
         ("command T = 1", "syntax 1"),
         ("command T = -a", "syntax 1"),
         ("Command T = T", "syntax 1"),
+    ];
+    reads_all(&rt, &rows)
+}
+
+#[test]
+fn takes_no_other_white_space(rt: HostRuntime) -> Result<(), Fail> {
+    let rows = [
         ("command T = T\r", "syntax 1"),
         ("command T =\rT\n", "syntax 1"),
         ("\n\ncommand T = T \r\r\n", "syntax 3"),
