@@ -8,6 +8,7 @@ use dia_run::{
 };
 use std::io;
 use std::io::{Read, Write};
+use std::process::Abort;
 use std::test::Fail;
 
 /// Takes seven bytes a call, and fails at a call.
@@ -40,28 +41,31 @@ impl Sink for FailingSink {
 
 #[test]
 fn stops_at_the_call_that_fails(rt: HostRuntime) -> Result<(), Fail> {
-    let alloc = rt.alloc();
-    let inputs = inputs(alloc, b"", REQUEST.as_bytes())?;
-    let wanted = REQUEST_LINES.as_bytes();
-    let calls = wanted.len().div_ceil(7);
+    let inputs = inputs(rt.alloc(), b"", REQUEST.as_bytes())?;
+    let calls = REQUEST_LINES.len().div_ceil(7);
     for calls_left in 0..calls + 1 {
         let mut sink = FailingSink {
-            taken: Vec::new(alloc),
+            taken: Vec::new(rt.alloc()),
             calls_left,
             failed: false,
         };
-        let result = run(alloc, &Command::Show, &inputs, &mut sink);
+        let result = run(rt.alloc(), &Command::Show, &inputs, &mut sink);
         if calls_left < calls {
             assert_eq!(rt; result, Err(RunFault::Device));
-            assert!(rt; sink.failed());
-            assert_eq!(rt; sink.taken.len(), 7 * calls_left);
-            assert!(rt; wanted.starts_with(sink.taken.as_slice()));
+            has_stopped(&rt, &sink, 7 * calls_left);
         } else {
             assert_eq!(rt; result, Ok(Exit::Yes));
-            assert!(rt; sink.taken.as_slice() == wanted);
+            assert!(rt; sink.taken.as_slice() == REQUEST_LINES.as_bytes());
         }
     }
     Ok(())
+}
+
+/// Checks that a sink has failed, and that it has taken so many bytes of the lines.
+fn has_stopped(rt: &impl Abort, sink: &FailingSink, count: usize) {
+    assert!(rt; sink.failed());
+    assert_eq!(rt; sink.taken.len(), count);
+    assert!(rt; REQUEST_LINES.as_bytes().starts_with(sink.taken.as_slice()));
 }
 
 /// Gives a thousand bytes a call, and fails at a call.
@@ -177,28 +181,37 @@ fn is_interrupted(failure: Option<io::Error>) -> bool {
     matches!(failure, Some(error) if error.kind() == io::ErrorKind::Interrupted)
 }
 
+/// Checks what a call tells.
+fn tells(rt: &impl Abort, told: Result<usize, Failed>, wanted: Result<usize, Failed>) {
+    assert_eq!(rt; told, wanted);
+}
+
 #[test]
-fn an_interrupted_call_is_a_failure(rt: HostRuntime) {
+fn an_interrupted_call_of_a_feed_is_a_failure(rt: HostRuntime) {
     let mut buffer = [0u8; 4];
     let mut feed = FromReader::new(Interrupted { once: true });
-    assert_eq!(rt; feed.get(&mut buffer), Err(Failed));
+    tells(&rt, feed.get(&mut buffer), Err(Failed));
     assert!(rt; feed.failed());
     assert!(rt; is_interrupted(feed.failure()));
-    assert_eq!(rt; feed.get(&mut buffer), Ok(1));
+    tells(&rt, feed.get(&mut buffer), Ok(1));
     assert!(rt; feed.failed());
+}
+
+#[test]
+fn an_interrupted_call_of_a_sink_is_a_failure(rt: HostRuntime) {
     let mut sink = ToWriter::new(Interrupted { once: true });
-    assert_eq!(rt; sink.put(b"text"), Err(Failed));
+    tells(&rt, sink.put(b"text"), Err(Failed));
     assert!(rt; sink.failed());
     assert!(rt; is_interrupted(sink.failure()));
-    assert_eq!(rt; sink.put(b"text"), Ok(4));
+    tells(&rt, sink.put(b"text"), Ok(4));
     assert!(rt; sink.failed());
 }
 
 #[test]
 fn a_writer_that_takes_nothing_fails(rt: HostRuntime) {
     let mut sink = ToWriter::new(Full);
-    assert_eq!(rt; sink.put(b""), Ok(0));
+    tells(&rt, sink.put(b""), Ok(0));
     assert!(rt; !sink.failed());
-    assert_eq!(rt; sink.put(b"text"), Err(Failed));
+    tells(&rt, sink.put(b"text"), Err(Failed));
     assert!(rt; sink.failed());
 }

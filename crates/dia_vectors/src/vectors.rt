@@ -36,6 +36,9 @@ pub fn inputs(alloc: Global, dictionary: &[u8], message: &[u8]) -> Result<Inputs
     })
 }
 
+/// Two dictionary texts and a table's text, each in pieces, and a message text.
+pub type Two<'a> = (&'a [&'a str], &'a [&'a str], &'a [&'a str], &'a str);
+
 /// Inputs with two dictionary texts and a table's text, each in pieces, and this message text.
 pub fn two(
     alloc: Global,
@@ -45,20 +48,29 @@ pub fn two(
     message: &str,
 ) -> Result<Inputs, AllocError> {
     Ok(Inputs {
-        first: text_of(alloc, first)?,
-        second: text_of(alloc, second)?,
-        table: text_of(alloc, table)?,
-        message: text_of(alloc, &[message])?,
+        first: Input::Bytes(joined(alloc, first)?),
+        second: Input::Bytes(joined(alloc, second)?),
+        table: Input::Bytes(joined(alloc, table)?),
+        message: Input::Bytes(Vec::from_slice(alloc, message.as_bytes())?),
     })
 }
 
 /// The text of these pieces.
-fn text_of(alloc: Global, pieces: &[&str]) -> Result<Input, AllocError> {
+pub fn joined(alloc: Global, pieces: &[&str]) -> Result<Vec<u8>, AllocError> {
     let mut text = Vec::new(alloc);
     for piece in pieces {
         text.extend_from_slice(piece.as_bytes())?;
     }
-    Ok(Input::Bytes(text))
+    Ok(text)
+}
+
+/// How a verdict on a message ends: a valid message with Yes, each other with No.
+pub fn exit_of(line: &str) -> Exit {
+    if line.starts_with("valid ") {
+        Exit::Yes
+    } else {
+        Exit::No
+    }
 }
 
 /// What a command writes for its inputs, and how it ends.
@@ -82,6 +94,20 @@ pub fn check(
     check_inputs(rt, command, &inputs, text, exit)
 }
 
+/// Checks what a command writes for two dictionary texts and a table's text, each in pieces, and a message text, and how
+/// it ends.
+pub fn check_two(
+    rt: &(impl AllocGlobal + Abort),
+    command: &Command,
+    texts: Two<'_>,
+    text: &str,
+    exit: Exit,
+) -> Result<(), Fail> {
+    let (first, second, table, message) = texts;
+    let inputs = two(rt.alloc(), first, second, table, message)?;
+    check_inputs(rt, command, &inputs, text, exit)
+}
+
 /// Checks what a command writes for its inputs, and how it ends.
 pub fn check_inputs(
     rt: &(impl AllocGlobal + Abort),
@@ -91,7 +117,17 @@ pub fn check_inputs(
     exit: Exit,
 ) -> Result<(), Fail> {
     let (written, end) = outcome(rt.alloc(), command, inputs)?;
-    assert_eq!(rt; written.as_str(), text, "{command:?} of {inputs:?}");
-    assert_eq!(rt; end, exit, "{command:?} of {inputs:?}");
+    is_text(rt, command, inputs, written.as_str(), text);
+    is_exit(rt, command, inputs, end, exit);
     Ok(())
+}
+
+/// Checks what was written.
+fn is_text(rt: &impl Abort, command: &Command, inputs: &Inputs, written: &str, text: &str) {
+    assert_eq!(rt; written, text, "{command:?} of {inputs:?}");
+}
+
+/// Checks how it ended.
+fn is_exit(rt: &impl Abort, command: &Command, inputs: &Inputs, end: Exit, exit: Exit) {
+    assert_eq!(rt; end, exit, "{command:?} of {inputs:?}");
 }

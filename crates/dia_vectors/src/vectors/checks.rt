@@ -1,6 +1,6 @@
 //! Verdicts on messages.
 
-use super::{REQUEST, check};
+use super::{REQUEST, check, exit_of, joined};
 use dia_check::{Levels, Unknown};
 use dia_dict::base_text;
 use dia_run::{Command, Exit};
@@ -40,32 +40,36 @@ pub fn verdicts(
     dictionary: &str,
     rows: &[(&[&str], &str)],
 ) -> Result<(), Fail> {
+    let command = Command::Check { unknown, levels };
     for (pieces, line) in rows.iter() {
-        let mut text = String::new(rt.alloc());
-        for piece in pieces.iter() {
-            text.push_str(piece)?;
-        }
-        let exit = if line.starts_with("valid ") {
-            Exit::Yes
-        } else {
-            Exit::No
-        };
-        let command = Command::Check { unknown, levels };
-        check(
-            rt,
-            &command,
-            dictionary.as_bytes(),
-            text.as_bytes(),
-            line,
-            exit,
-        )?;
+        verdict(rt, &command, dictionary, pieces, line)?;
     }
     Ok(())
 }
 
+/// Checks the verdict on a message in pieces.
+fn verdict(
+    rt: &(impl AllocGlobal + Abort),
+    command: &Command,
+    dictionary: &str,
+    pieces: &[&str],
+    line: &str,
+) -> Result<(), Fail> {
+    let text = joined(rt.alloc(), pieces)?;
+    let exit = exit_of(line);
+    check(
+        rt,
+        command,
+        dictionary.as_bytes(),
+        text.as_slice(),
+        line,
+        exit,
+    )
+}
+
 #[test]
 fn tells_valid_messages(rt: HostRuntime) -> Result<(), Fail> {
-    let rows: [(&[&str], &str); 6] = [
+    const ROWS: &[(&[&str], &str)] = &[
         (&[REQUEST], "valid DWR\n"),
         (
             &[
@@ -98,18 +102,12 @@ fn tells_valid_messages(rt: HostRuntime) -> Result<(), Fail> {
             "valid answer-message\n",
         ),
     ];
-    verdicts(
-        &rt,
-        Unknown::Kept,
-        Levels::Any,
-        base_text(),
-        rows.as_slice(),
-    )
+    verdicts(&rt, Unknown::Kept, Levels::Any, base_text(), ROWS)
 }
 
 #[test]
 fn tells_faults_of_the_header(rt: HostRuntime) -> Result<(), Fail> {
-    let rows: [(&[&str], &str); 8] = [
+    const ROWS: &[(&[&str], &str)] = &[
         (
             &["0200002c80000118", IDS, HOST, REALM],
             "fault 5011 at 0 version -\n",
@@ -140,26 +138,20 @@ fn tells_faults_of_the_header(rt: HostRuntime) -> Result<(), Fail> {
             "fault 3001 at 5 command -\n",
         ),
     ];
-    verdicts(
-        &rt,
-        Unknown::Kept,
-        Levels::Any,
-        base_text(),
-        rows.as_slice(),
-    )
+    verdicts(&rt, Unknown::Kept, Levels::Any, base_text(), ROWS)
 }
 
 #[test]
 fn tells_a_message_of_no_command(rt: HostRuntime) -> Result<(), Fail> {
     let unknown = Unknown::Kept;
-    let empty: [(&[&str], &str); 1] = [(&[REQUEST], "fault 3001 at 5 command -\n")];
-    verdicts(&rt, unknown, Levels::Any, "", empty.as_slice())?;
-    let answer: [(&[&str], &str); 1] = [(
+    const EMPTY: &[(&[&str], &str)] = &[(&[REQUEST], "fault 3001 at 5 command -\n")];
+    verdicts(&rt, unknown, Levels::Any, "", EMPTY)?;
+    const ANSWER: &[(&[&str], &str)] = &[(
         &["010000142000012e", IDS],
         "fault 3001 at 5 command -\n",
     )];
-    verdicts(&rt, unknown, Levels::Any, NUMBER, answer.as_slice())?;
-    let rows: [(&[&str], &str); 2] = [
+    verdicts(&rt, unknown, Levels::Any, NUMBER, ANSWER)?;
+    const ROWS: &[(&[&str], &str)] = &[
         (
             &["010000148000012e", IDS],
             "fault 3007 at 8 application -\n",
@@ -170,12 +162,12 @@ fn tells_a_message_of_no_command(rt: HostRuntime) -> Result<(), Fail> {
         ),
     ];
     let dictionary = "<T> ::= < Diameter Header: 302, REQ, 5 >";
-    verdicts(&rt, unknown, Levels::Any, dictionary, rows.as_slice())
+    verdicts(&rt, unknown, Levels::Any, dictionary, ROWS)
 }
 
 #[test]
 fn tells_faults_of_avps(rt: HostRuntime) -> Result<(), Fail> {
-    let rows: [(&[&str], &str); 12] = [
+    const ROWS: &[(&[&str], &str)] = &[
         (
             &["0100002080000118", IDS, HOST],
             "fault 5005 at 32 missing Origin-Realm\n",
@@ -252,35 +244,23 @@ fn tells_faults_of_avps(rt: HostRuntime) -> Result<(), Fail> {
             "fault 5001 at 20 unknown 264:1630429696\n",
         ),
     ];
-    verdicts(
-        &rt,
-        Unknown::Kept,
-        Levels::Any,
-        base_text(),
-        rows.as_slice(),
-    )
+    verdicts(&rt, Unknown::Kept, Levels::Any, base_text(), ROWS)
 }
 
 #[test]
 fn refuses_unknown_avps_by_the_policy(rt: HostRuntime) -> Result<(), Fail> {
-    let line = "fault 5001 at 44 unknown 9999:0\n";
-    let rows: [(&[&str], &str); 2] = [
+    const LINE: &str = "fault 5001 at 44 unknown 9999:0\n";
+    const ROWS: &[(&[&str], &str)] = &[
         (
             &["0100003480000118", IDS, HOST, REALM, "0000270f00000008"],
-            line,
+            LINE,
         ),
         (
             &["0100003480000118", IDS, HOST, REALM, "0000270f40000008"],
-            line,
+            LINE,
         ),
     ];
-    verdicts(
-        &rt,
-        Unknown::Refused,
-        Levels::Any,
-        base_text(),
-        rows.as_slice(),
-    )
+    verdicts(&rt, Unknown::Refused, Levels::Any, base_text(), ROWS)
 }
 
 #[test]
@@ -290,7 +270,7 @@ fn takes_data_by_the_format_of_the_dictionary(rt: HostRuntime) -> Result<(), Fai
     let mut dictionary = String::from_str(rt.alloc(), "%avp Failed-AVP 279 OctetString any\n")?;
     dictionary.push_str(front)?;
     dictionary.push_str(behind)?;
-    let rows: [(&[&str], &str); 1] = [(
+    const ROWS: &[(&[&str], &str)] = &[(
         &[
             "0100003c80000118",
             IDS,
@@ -300,18 +280,12 @@ fn takes_data_by_the_format_of_the_dictionary(rt: HostRuntime) -> Result<(), Fai
         ],
         "valid DWR\n",
     )];
-    verdicts(
-        &rt,
-        Unknown::Kept,
-        Levels::Any,
-        dictionary.as_str(),
-        rows.as_slice(),
-    )
+    verdicts(&rt, Unknown::Kept, Levels::Any, dictionary.as_str(), ROWS)
 }
 
 #[test]
 fn tells_faults_of_rules_and_formats(rt: HostRuntime) -> Result<(), Fail> {
-    let sessions: [(&[&str], &str); 2] = [
+    const TWICE: &[(&[&str], &str)] = &[
         (
             &["010000388000012c", IDS, SESSION, SESSION, HOST],
             "fault 5009 at 32 too-many Session-Id\n",
@@ -321,24 +295,18 @@ fn tells_faults_of_rules_and_formats(rt: HostRuntime) -> Result<(), Fail> {
             "fault 5008 at 44 not-allowed Session-Id\n",
         ),
     ];
-    verdicts(
-        &rt,
-        Unknown::Kept,
-        Levels::Any,
-        SESSIONS,
-        sessions.as_slice(),
-    )?;
-    let short: [(&[&str], &str); 1] = [(
+    verdicts(&rt, Unknown::Kept, Levels::Any, SESSIONS, TWICE)?;
+    const SHORT: &[(&[&str], &str)] = &[(
         &["010000208000012e", IDS, "0000232a0000000a00070000"],
         "fault 5014 at 20 leaf-length X\n",
     )];
-    verdicts(&rt, Unknown::Kept, Levels::Any, NUMBER, short.as_slice())?;
-    let clear: [(&[&str], &str); 1] = [(
+    verdicts(&rt, Unknown::Kept, Levels::Any, NUMBER, SHORT)?;
+    const CLEAR: &[(&[&str], &str)] = &[(
         &["010000208000012e", IDS, "0000232a0000000c00000007"],
         "fault 3009 at 20 m-bit X\n",
     )];
     let must = "%avp X 9002 Unsigned32 must <T> ::= < Diameter Header: 302, REQ > { X }";
-    verdicts(&rt, Unknown::Kept, Levels::Any, must, clear.as_slice())
+    verdicts(&rt, Unknown::Kept, Levels::Any, must, CLEAR)
 }
 
 #[test]
@@ -347,7 +315,7 @@ fn judges_the_dictionary_before_the_message(rt: HostRuntime) -> Result<(), Fail>
         unknown: Unknown::Kept,
         levels: Levels::Any,
     };
-    let rows = [
+    const ROWS: &[(&str, &str, &str)] = &[
         (
             "%avp X 9002 Unsigned32 any <T> ::= < Diameter Header: 302, REQ > 0* { X }",
             "0",
@@ -355,7 +323,7 @@ fn judges_the_dictionary_before_the_message(rt: HostRuntime) -> Result<(), Fail>
         ),
         (NUMBER, "0", "message: not hexadecimal\n"),
     ];
-    for (dictionary, message, line) in rows.iter() {
+    for (dictionary, message, line) in ROWS.iter() {
         check(
             &rt,
             &command,

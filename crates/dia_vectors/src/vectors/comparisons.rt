@@ -1,9 +1,10 @@
 //! Comparisons of two dictionaries.
 
-use super::{check_inputs, two};
+use super::{check_inputs, check_two, two};
 use dia_check::Unknown;
 use dia_dict::base_text;
 use dia_run::{Command, Exit, Input};
+use std::alloc::{AllocError, Global};
 use std::process::Abort;
 use std::test::Fail;
 
@@ -59,179 +60,189 @@ fn compares(
     table: &[&str],
     line: &str,
 ) -> Result<(), Fail> {
-    let inputs = two(rt.alloc(), first, second, table, "")?;
     let exit = match line {
         "yes\n" => Exit::Yes,
         line if line.starts_with("no ") => Exit::No,
         _ => Exit::Bad,
     };
-    check_inputs(rt, &Command::Compare { unknown }, &inputs, line, exit)
+    let command = Command::Compare { unknown };
+    check_two(rt, &command, (first, second, table, ""), line, exit)
 }
+
+/// Rules and the same rules with other counts, places and AVPs.
+const RULES: &[Row<'static>] = &[
+    (&[X, T, "{ X }"], &[X, T, "1*3 { X }"], &[PAIRS], "yes\n"),
+    (
+        &[X, T, "1*3 { X }"],
+        &[X, T, "{ X }"],
+        &[PAIRS],
+        "no command T = T N2\n",
+    ),
+    (
+        &[X, T, "*0 [ X ]"],
+        &[X, T, "{ X }"],
+        &[PAIRS],
+        "no command T = T N2\n",
+    ),
+    (
+        &[X, T, "{ X } * [ AVP ]"],
+        &[X, T, "{ X }"],
+        &[PAIRS],
+        "no command T = T N6\n",
+    ),
+    (
+        &[X, T, "{ X } * [ AVP ]"],
+        &[X, Y, T, "{ X } * [ AVP ]"],
+        &[PAIRS],
+        "no command T = T N9\n",
+    ),
+    (
+        &[X, T, "{ X } * [ AVP ]"],
+        &[X, Y, T, "{ X } [ Y ] * [ AVP ]"],
+        &[PAIRS],
+        "no command T = T N5\n",
+    ),
+    (
+        &[X, T, "{ X }"],
+        &[X, T, "< X >"],
+        &[PAIRS],
+        "no command T = T N1\n",
+    ),
+    (&[X, T, "< X >"], &[X, T, "{ X }"], &[PAIRS], "yes\n"),
+    (
+        &[X, Y, T, "{ X } [ Y ]"],
+        &[X, Y, T, "{ X }"],
+        &[PAIRS, "avp Y = Y"],
+        "no command T = T N3\n",
+    ),
+    (
+        &[X, T, "{ X } *2 [ AVP ]"],
+        &[X, T, "{ X } *1 [ AVP ]"],
+        &[PAIRS],
+        "no command T = T N7\n",
+    ),
+    (
+        &[X, T, "{ X } * [ AVP ]"],
+        &[X, T, "{ X } 1* { AVP }"],
+        &[PAIRS],
+        "no command T = T N8\n",
+    ),
+    (
+        &[X, T, "{ X }"],
+        &["%avp X 9003 Unsigned32 any ", T, "{ X }"],
+        &[PAIRS],
+        "no command T = T N3\n",
+    ),
+    (
+        &[X, T, "{ X } * [ AVP ]"],
+        &["%avp X 9003 Unsigned32 any ", T, "{ X } * [ AVP ]"],
+        &[PAIRS],
+        "no command T = T N4\n",
+    ),
+    (
+        &["%avp X 9002 Unsigned32 mustnot ", T, "{ X } * [ AVP ]"],
+        &[T, "* [ AVP ]"],
+        &[REQUESTS],
+        "yes\n",
+    ),
+];
+
+/// Rules under the policy that refuses unknown AVPs.
+const REFUSED: &[Row<'static>] = &[
+    (
+        &[X, T, "{ X } * [ AVP ]"],
+        &[X, Y, T, "{ X } * [ AVP ]"],
+        &[PAIRS],
+        "yes\n",
+    ),
+    (
+        &[X, T, "{ X } * [ AVP ]"],
+        &[X, Y, T, "{ X } [ Y ] * [ AVP ]"],
+        &[PAIRS],
+        "yes\n",
+    ),
+    (
+        &["%avp X 9002 Unsigned32 mustnot ", T, "{ X } * [ AVP ]"],
+        &[T, "* [ AVP ]"],
+        &[REQUESTS],
+        "no command T = T N4\n",
+    ),
+];
 
 #[test]
 fn compares_rules(rt: HostRuntime) -> Result<(), Fail> {
-    let rows: [Row<'_>; 14] = [
-        (&[X, T, "{ X }"], &[X, T, "1*3 { X }"], &[PAIRS], "yes\n"),
-        (
-            &[X, T, "1*3 { X }"],
-            &[X, T, "{ X }"],
-            &[PAIRS],
-            "no command T = T N2\n",
-        ),
-        (
-            &[X, T, "*0 [ X ]"],
-            &[X, T, "{ X }"],
-            &[PAIRS],
-            "no command T = T N2\n",
-        ),
-        (
-            &[X, T, "{ X } * [ AVP ]"],
-            &[X, T, "{ X }"],
-            &[PAIRS],
-            "no command T = T N6\n",
-        ),
-        (
-            &[X, T, "{ X } * [ AVP ]"],
-            &[X, Y, T, "{ X } * [ AVP ]"],
-            &[PAIRS],
-            "no command T = T N9\n",
-        ),
-        (
-            &[X, T, "{ X } * [ AVP ]"],
-            &[X, Y, T, "{ X } [ Y ] * [ AVP ]"],
-            &[PAIRS],
-            "no command T = T N5\n",
-        ),
-        (
-            &[X, T, "{ X }"],
-            &[X, T, "< X >"],
-            &[PAIRS],
-            "no command T = T N1\n",
-        ),
-        (&[X, T, "< X >"], &[X, T, "{ X }"], &[PAIRS], "yes\n"),
-        (
-            &[X, Y, T, "{ X } [ Y ]"],
-            &[X, Y, T, "{ X }"],
-            &[PAIRS, "avp Y = Y"],
-            "no command T = T N3\n",
-        ),
-        (
-            &[X, T, "{ X } *2 [ AVP ]"],
-            &[X, T, "{ X } *1 [ AVP ]"],
-            &[PAIRS],
-            "no command T = T N7\n",
-        ),
-        (
-            &[X, T, "{ X } * [ AVP ]"],
-            &[X, T, "{ X } 1* { AVP }"],
-            &[PAIRS],
-            "no command T = T N8\n",
-        ),
-        (
-            &[X, T, "{ X }"],
-            &["%avp X 9003 Unsigned32 any ", T, "{ X }"],
-            &[PAIRS],
-            "no command T = T N3\n",
-        ),
-        (
-            &[X, T, "{ X } * [ AVP ]"],
-            &["%avp X 9003 Unsigned32 any ", T, "{ X } * [ AVP ]"],
-            &[PAIRS],
-            "no command T = T N4\n",
-        ),
-        (
-            &["%avp X 9002 Unsigned32 mustnot ", T, "{ X } * [ AVP ]"],
-            &[T, "* [ AVP ]"],
-            &[REQUESTS],
-            "yes\n",
-        ),
-    ];
-    lines(&rt, Unknown::Kept, &rows)?;
-    let refused: [Row<'_>; 3] = [
-        (
-            &[X, T, "{ X } * [ AVP ]"],
-            &[X, Y, T, "{ X } * [ AVP ]"],
-            &[PAIRS],
-            "yes\n",
-        ),
-        (
-            &[X, T, "{ X } * [ AVP ]"],
-            &[X, Y, T, "{ X } [ Y ] * [ AVP ]"],
-            &[PAIRS],
-            "yes\n",
-        ),
-        (
-            &["%avp X 9002 Unsigned32 mustnot ", T, "{ X } * [ AVP ]"],
-            &[T, "* [ AVP ]"],
-            &[REQUESTS],
-            "no command T = T N4\n",
-        ),
-    ];
-    lines(&rt, Unknown::Refused, &refused)
+    lines(&rt, Unknown::Kept, RULES)
 }
 
 #[test]
+fn compares_rules_where_unknown_avps_are_refused(rt: HostRuntime) -> Result<(), Fail> {
+    lines(&rt, Unknown::Refused, REFUSED)
+}
+
+/// Pairs of commands, of groups and of Enumerated AVPs.
+const PAIRED: &[Row<'static>] = &[
+    (
+        &[X, T, "{ X }"],
+        &[X, T, "{ X } ", T5],
+        &[PAIRS],
+        "no command T = T N10\n",
+    ),
+    (
+        &[X, T, "{ X }"],
+        &[X, T, "{ X } ", T5],
+        &[PAIRS, "command T = T5"],
+        "yes\n",
+    ),
+    (&[NODES], &[NODES], &[REQUESTS, "avp Node = Node"], "yes\n"),
+    (&[NODES], &[NODES], &[REQUESTS], "no command T = T N4\n"),
+    (
+        &[P_AND_Q, T, "{ P }"],
+        &[P2_AND_Q2, T, "{ P2 }"],
+        &[REQUESTS, "avp P = P2\navp Q = Q2"],
+        "yes\n",
+    ),
+    (&[X, T, "{ X }"], &[X, T, "1*3 { X }"], &[""], "yes\n"),
+    (
+        &[X, T, "{ X }"],
+        &[X, T, "1*3 { X }"],
+        &[PAIRS, "avp Z = Z"],
+        "no avp Z = Z N10\n",
+    ),
+    (
+        &[E, "( 0..3 ) ", T, "{ E }"],
+        &[E, "( 2..3 0..1 ) ", T, "{ E }"],
+        &[E_PAIRS],
+        "yes\n",
+    ),
+    (
+        &[E, "( 2..3 0..1 ) ", T, "{ E }"],
+        &[E, "( 0..3 ) ", T, "{ E }"],
+        &[E_PAIRS],
+        "yes\n",
+    ),
+    (
+        &[E, "( 0..3 ) ", T, "{ E }"],
+        &[E, "( 0..1 3 ) ", T, "{ E }"],
+        &[E_PAIRS],
+        "no avp E = E N10\n",
+    ),
+    (
+        &[E, "( 0..1 3 ) ", T, "{ E }"],
+        &[E, "( 0..3 ) ", T, "{ E }"],
+        &[E_PAIRS],
+        "yes\n",
+    ),
+    (
+        &[E, T, "{ E }"],
+        &[E, "( 0..2147483647 ) ", T, "{ E }"],
+        &[E_PAIRS],
+        "no avp E = E N10\n",
+    ),
+];
+
+#[test]
 fn compares_pairs(rt: HostRuntime) -> Result<(), Fail> {
-    let rows: [Row<'_>; 12] = [
-        (
-            &[X, T, "{ X }"],
-            &[X, T, "{ X } ", T5],
-            &[PAIRS],
-            "no command T = T N10\n",
-        ),
-        (
-            &[X, T, "{ X }"],
-            &[X, T, "{ X } ", T5],
-            &[PAIRS, "command T = T5"],
-            "yes\n",
-        ),
-        (&[NODES], &[NODES], &[REQUESTS, "avp Node = Node"], "yes\n"),
-        (&[NODES], &[NODES], &[REQUESTS], "no command T = T N4\n"),
-        (
-            &[P_AND_Q, T, "{ P }"],
-            &[P2_AND_Q2, T, "{ P2 }"],
-            &[REQUESTS, "avp P = P2\navp Q = Q2"],
-            "yes\n",
-        ),
-        (&[X, T, "{ X }"], &[X, T, "1*3 { X }"], &[""], "yes\n"),
-        (
-            &[X, T, "{ X }"],
-            &[X, T, "1*3 { X }"],
-            &[PAIRS, "avp Z = Z"],
-            "no avp Z = Z N10\n",
-        ),
-        (
-            &[E, "( 0..3 ) ", T, "{ E }"],
-            &[E, "( 2..3 0..1 ) ", T, "{ E }"],
-            &[E_PAIRS],
-            "yes\n",
-        ),
-        (
-            &[E, "( 2..3 0..1 ) ", T, "{ E }"],
-            &[E, "( 0..3 ) ", T, "{ E }"],
-            &[E_PAIRS],
-            "yes\n",
-        ),
-        (
-            &[E, "( 0..3 ) ", T, "{ E }"],
-            &[E, "( 0..1 3 ) ", T, "{ E }"],
-            &[E_PAIRS],
-            "no avp E = E N10\n",
-        ),
-        (
-            &[E, "( 0..1 3 ) ", T, "{ E }"],
-            &[E, "( 0..3 ) ", T, "{ E }"],
-            &[E_PAIRS],
-            "yes\n",
-        ),
-        (
-            &[E, T, "{ E }"],
-            &[E, "( 0..2147483647 ) ", T, "{ E }"],
-            &[E_PAIRS],
-            "no avp E = E N10\n",
-        ),
-    ];
-    lines(&rt, Unknown::Kept, &rows)
+    lines(&rt, Unknown::Kept, PAIRED)
 }
 
 #[test]
@@ -287,69 +298,78 @@ avp Experimental-Result = Experimental-Result
     )
 }
 
+/// Two dictionaries and a table of which some are at fault, and the line of the first that is.
+const FAULTY: &[Row<'static>] = &[
+    (
+        GOOD,
+        GOOD,
+        &["command T = T\navp X X"],
+        "table: syntax at line 2\n",
+    ),
+    (GOOD, GOOD, &["avp X=X"], "table: syntax at line 1\n"),
+    (
+        GOOD,
+        &["%avp"],
+        &["avp X=X"],
+        "dictionary 2: syntax at line 1\n",
+    ),
+    (
+        GOOD,
+        &[T, "{ X }"],
+        &["avp X=X"],
+        "dictionary 2: undefined-name T X\n",
+    ),
+    (
+        &["%avp"],
+        &["%avp"],
+        &["avp X=X"],
+        "dictionary 1: syntax at line 1\n",
+    ),
+];
+
+/// A dictionary without a fault.
+const GOOD: &[&str] = &[X, T, "{ X }"];
+
 #[test]
 fn refuses_inputs_in_the_order_of_the_words(rt: HostRuntime) -> Result<(), Fail> {
-    let good: &[&str] = &[X, T, "{ X }"];
-    let rows: [Row<'_>; 5] = [
-        (
-            good,
-            good,
-            &["command T = T\navp X X"],
-            "table: syntax at line 2\n",
-        ),
-        (good, good, &["avp X=X"], "table: syntax at line 1\n"),
-        (
-            good,
-            &["%avp"],
-            &["avp X=X"],
-            "dictionary 2: syntax at line 1\n",
-        ),
-        (
-            good,
-            &[T, "{ X }"],
-            &["avp X=X"],
-            "dictionary 2: undefined-name T X\n",
-        ),
-        (
-            &["%avp"],
-            &["%avp"],
-            &["avp X=X"],
-            "dictionary 1: syntax at line 1\n",
-        ),
-    ];
-    lines(&rt, Unknown::Kept, &rows)?;
-    let mut inputs = two(rt.alloc(), good, good, &[], "")?;
-    let compare = Command::Compare {
-        unknown: Unknown::Kept,
-    };
-    inputs.table = Input::TooLong;
-    check_inputs(&rt, &compare, &inputs, "table: too long\n", Exit::Bad)?;
-    inputs.table = Input::Bytes(Vec::from_slice(rt.alloc(), &[0xff])?);
-    check_inputs(&rt, &compare, &inputs, "table: not text\n", Exit::Bad)
+    lines(&rt, Unknown::Kept, FAULTY)?;
+    refuses_table(&rt, Input::TooLong, "table: too long\n")?;
+    let bytes = Vec::from_slice(rt.alloc(), &[0xff])?;
+    refuses_table(&rt, Input::Bytes(bytes), "table: not text\n")
+}
+
+/// Checks the line of a comparison whose table is no text.
+fn refuses_table(rt: &(impl AllocGlobal + Abort), table: Input, line: &str) -> Result<(), Fail> {
+    let mut inputs = two(rt.alloc(), GOOD, GOOD, &[], "")?;
+    inputs.table = table;
+    let unknown = Unknown::Kept;
+    check_inputs(rt, &Command::Compare { unknown }, &inputs, line, Exit::Bad)
 }
 
 #[test]
 fn keeps_the_limits_of_a_table(rt: HostRuntime) -> Result<(), Fail> {
-    let alloc = rt.alloc();
-    let mut table = String::from_str(alloc, REQUESTS)?;
-    for _ in 0..65_535 {
-        table.push_str("avp X = X\n")?;
-    }
+    let table = many_pairs(rt.alloc())?;
     keeps_limit(&rt, &[table.as_str()], "yes\n")?;
     keeps_limit(
         &rt,
         &[table.as_str(), "avp X = X"],
         "table: limit at line 65537\n",
     )?;
-    let mut name = String::new(alloc);
-    for _ in 0..129 {
-        name.push('N')?;
-    }
+    let name = "N".repeat(rt.alloc(), 129)?;
     keeps_limit(
         &rt,
         &["avp ", name.as_str(), " = X"],
         "table: limit at line 1\n",
     )
+}
+
+/// A table of 65,536 lines.
+fn many_pairs(alloc: Global) -> Result<String, AllocError> {
+    let mut table = String::from_str(alloc, REQUESTS)?;
+    for _ in 0..65_535 {
+        table.push_str("avp X = X\n")?;
+    }
+    Ok(table)
 }
 
 /// Checks the line of a comparison of two dictionaries that differ in the counts of X.

@@ -1,6 +1,6 @@
 //! Messages, shown under the empty dictionary.
 
-use super::{REQUEST, REQUEST_LINES, check, inputs, outcome};
+use super::{REQUEST, REQUEST_LINES, check, check_inputs, inputs};
 use dia_run::{Command, Exit, Input};
 use std::test::Fail;
 
@@ -88,11 +88,13 @@ fn takes_white_space_and_both_cases(rt: HostRuntime) -> Result<(), Fail> {
 
 #[test]
 fn tells_a_text_that_is_too_long(rt: HostRuntime) -> Result<(), Fail> {
-    let alloc = rt.alloc();
-    let mut inputs = inputs(alloc, b"", REQUEST.as_bytes())?;
+    let mut inputs = inputs(rt.alloc(), b"", REQUEST.as_bytes())?;
     inputs.message = Input::TooLong;
-    let (written, exit) = outcome(alloc, &Command::Show, &inputs)?;
-    assert_eq!(rt; written.as_str(), "message: too long\n");
-    assert_eq!(rt; exit, Exit::Bad);
-    Ok(())
+    check_inputs(
+        &rt,
+        &Command::Show,
+        &inputs,
+        "message: too long\n",
+        Exit::Bad,
+    )
 }
