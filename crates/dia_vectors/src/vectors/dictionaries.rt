@@ -6,7 +6,7 @@ use std::test::Fail;
 
 #[test]
 fn tells_the_first_fault_of_a_dictionary(rt: HostRuntime) -> Result<(), Fail> {
-    let rows = [
+    const ROWS: &[(&str, &str)] = &[
         (
             "%avp X 9002 Unsigned32 any <T> ::= < Diameter Header: 302, REQ > 0* { X }",
             "dictionary 1: required-min T X\n",
@@ -40,7 +40,7 @@ fn tells_the_first_fault_of_a_dictionary(rt: HostRuntime) -> Result<(), Fail> {
             "dictionary 1: undefined-name T Z\n",
         ),
     ];
-    for (text, line) in rows.iter() {
+    for (text, line) in ROWS.iter() {
         check(
             &rt,
             &Command::Show,

@@ -159,7 +159,7 @@ fn tells_the_first_of_two_faults(rt: HostRuntime) -> Result<(), Fail> {
 
 #[test]
 fn tells_the_first_of_two_faults_of_an_avp(rt: HostRuntime) -> Result<(), Fail> {
-    let rows: [(&[&str], &str); 20] = [
+    const ROWS: &[(&[&str], &str)] = &[
         (&[UNKNOWN], "5001 at 20 unknown 9999:0"),
         (&[UNLISTED], "5005 at 20 missing A"),
         (&[A, B, UNKNOWN], "5001 at 44 unknown 9999:0"),
@@ -181,12 +181,12 @@ fn tells_the_first_of_two_faults_of_an_avp(rt: HostRuntime) -> Result<(), Fail> 
         (&[A, B, D_EMPTY], "5004 at 44 leaf-value D"),
         (&[A, B, E_EMPTY], "5008 at 44 not-allowed E"),
     ];
-    tell_all(&rt, Levels::Any, rows.as_slice())
+    tell_all(&rt, Levels::Any, ROWS)
 }
 
 #[test]
 fn tells_the_limit_of_levels_last(rt: HostRuntime) -> Result<(), Fail> {
-    let rows: [(&[&str], &str); 6] = [
+    const ROWS: &[(&[&str], &str)] = &[
         (&[A, B, H], "5012 at 44 depth H"),
         (&[A, B, N_EMPTY], "5012 at 44 depth N"),
         (&[A, B, H_CLEAR], "3009 at 44 m-bit H"),
@@ -194,12 +194,12 @@ fn tells_the_limit_of_levels_last(rt: HostRuntime) -> Result<(), Fail> {
         (&[A, B, K], "5008 at 44 not-allowed K"),
         (&[A, B, G], "5009 at 44 too-many G"),
     ];
-    tell_all(&rt, Levels::AtMost(0), rows.as_slice())
+    tell_all(&rt, Levels::AtMost(0), ROWS)
 }
 
 #[test]
 fn tells_the_end_of_a_level_before_what_follows_it(rt: HostRuntime) -> Result<(), Fail> {
-    let rows: [(&[&str], &str); 6] = [
+    const ROWS: &[(&[&str], &str)] = &[
         (&[], "5005 at 20 missing A"),
         (&[A], "5005 at 32 missing B"),
         (&[A, N_EMPTY], "5005 at 40 missing C"),
@@ -207,5 +207,5 @@ fn tells_the_end_of_a_level_before_what_follows_it(rt: HostRuntime) -> Result<()
         (&[A, B, N_EMPTY, UNKNOWN], "5005 at 52 missing C"),
         (&[A, B, N_OF_C, UNKNOWN], "5001 at 64 unknown 9999:0"),
     ];
-    tell_all(&rt, Levels::Any, rows.as_slice())
+    tell_all(&rt, Levels::Any, ROWS)
 }
