@@ -29,4 +29,6 @@ pub returns-in_err-outcome : goal.returns-in_err-outcome
 returns-in_err-outcome c = let p = err_from_is_err_and c.from_residual-in_err-outcome.result c.from_residual-in_err-outcome.ensures.1 in rw (p.1, p.2) tt
 
 pub returns : goal.returns
-returns c = ended _ _ c.in_ok-first.ensures.book c.in_ok-second.ensures.book (compared _ _ c.in_ok-table.ensures.table (rw (c.deref.ensures, c.deref-2.ensures) at c.in_ok-answer.ensures.answer) c.in_ok-outcome.ensures)
+returns c =
+    let answer = rw (c.deref.ensures, c.deref-2.ensures) at c.in_ok-answer.ensures.answer in
+    ended _ _ c.in_ok-first.ensures.book c.in_ok-second.ensures.book (compared _ _ c.in_ok-table.ensures.table answer c.in_ok-outcome.ensures)

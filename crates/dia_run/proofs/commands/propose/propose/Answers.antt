@@ -20,7 +20,9 @@ pub returns-in_err-outcome-in-Ok : goal.returns-in_err-outcome-in-Ok
 returns-in_err-outcome-in-Ok c = let p = err_from_is_err_and c.from_residual-in_err-outcome-in-Ok.result c.from_residual-in_err-outcome-in-Ok.ensures.1 in rw (p.1, p.2) tt
 
 pub returns-in-Ok : goal.returns-in-Ok
-returns-in-Ok c = ended _ _ c.in_ok-first.ensures.book c.in_ok-second.ensures.book (proposed _ (rw (c.deref.ensures, c.deref-2.ensures) at c.in-Ok.ensures.proposal) c.in_ok-outcome-in-Ok.ensures.text c.in_ok-outcome-in-Ok.ensures.exit)
+returns-in-Ok c =
+    let proposal = rw (c.deref.ensures, c.deref-2.ensures) at c.in-Ok.ensures.proposal in
+    ended _ _ c.in_ok-first.ensures.book c.in_ok-second.ensures.book (proposed _ proposal c.in_ok-outcome-in-Ok.ensures.text c.in_ok-outcome-in-Ok.ensures.exit)
 
 pub returns-in_err-bad-in-Err-UnknownCommand : goal.returns-in_err-bad-in-Err-UnknownCommand
 returns-in_err-bad-in-Err-UnknownCommand c =

@@ -32,7 +32,8 @@ returns-in_err-outcome-2 c = let p = err_from_is_err_and c.from_residual-in_err-
 pub returns-then-branch : goal.returns-then-branch
 returns-then-branch c =
     ended _ _ c.in_ok-first.ensures.book c.in_ok-second.ensures.book
-    (refutes c.as_slice.result.now (rw c.as_slice.ensures.value c.in_ok-bytes.ensures.message) (rw (c.deref.ensures, c.deref-2.ensures) at (c.in_ok-refutes.ensures.0 c.if-branch.true)) c.in_ok-outcome.ensures.text c.in_ok-outcome.ensures.exit)
+    (refutes c.as_slice.result.now (rw c.as_slice.ensures.value c.in_ok-bytes.ensures.message)
+    (rw (c.deref.ensures, c.deref-2.ensures) at (c.in_ok-refutes.ensures.0 c.if-branch.true)) c.in_ok-outcome.ensures.text c.in_ok-outcome.ensures.exit)
 
 pub returns : goal.returns
 returns c =
