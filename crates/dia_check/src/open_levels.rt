@@ -19,7 +19,7 @@ use dia_wire::Key;
 use std::alloc::{AllocError, Global};
 
 /// An open level.
-#[derive(Clone, Copy, Debug)]
+#[derive(Clone, Copy)]
 pub(crate) struct OpenLevel {
     /// Its definition.
     pub(crate) def: DefId,
@@ -36,7 +36,7 @@ pub(crate) struct OpenLevel {
 }
 
 /// The levels that are open, and the counts of their rules, one level behind the other.
-#[derive(Debug, Drop)]
+#[derive(Drop)]
 pub(crate) struct OpenLevels {
     innermost: OpenLevel,
     /// The levels round it, the outermost first.
@@ -45,7 +45,7 @@ pub(crate) struct OpenLevels {
 }
 
 /// What is wrong with an AVP or at the end of a level.
-#[derive(Clone, Copy, Debug, PartialEq, Eq)]
+#[derive(Clone, Copy)]
 pub(crate) struct Wrong {
     pub(crate) reason: Reason,
     pub(crate) subject: Subject,

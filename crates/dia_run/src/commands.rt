@@ -18,7 +18,7 @@ pub mod render;
 pub mod show;
 
 /// What a command writes, and how it ends.
-#[derive(Debug, Drop)]
+#[derive(Drop)]
 pub struct Outcome {
     pub text: String,
     pub exit: Exit,

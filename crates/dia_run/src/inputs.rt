@@ -15,7 +15,7 @@ pub mod pieces;
 pub mod table;
 
 /// Why an input can't be used.
-#[derive(Debug, Drop)]
+#[derive(Drop)]
 pub enum Refused {
     Bad(BadInput),
     NoMemory,

@@ -4,17 +4,10 @@
 //! what is written and how the program ends. It is a function over values, and so are those that decide the rest.
 #![tactic(auto)]
 
-mod arguments;
-mod ending;
-mod opening;
-mod origin;
-mod request;
 #[cfg(test)]
 mod tests;
 
-use crate::arguments::parse_words;
-use crate::ending::{Ending, finish};
-use crate::opening::open_inputs;
+use dia_cli::{Ending, finish, open_inputs, parse_words};
 use dia_run::{Exit, ToWriter, run};
 use std::process::ExitCode;
 use std::rt::{Env, Files};

@@ -6,7 +6,7 @@ ghost use Rattle.std.specs.Prelude.{◌≡◌, ◌≤◌, ◌++◌, [], length, 
 const ROOM: usize = 20;
 
 /// The first bytes of a header or of an AVP, as long as it isn't whole.
-#[derive(Clone, Copy, Debug)]
+#[derive(Clone, Copy)]
 pub(crate) struct Front {
     count: usize,
     bytes: [u8; 20],

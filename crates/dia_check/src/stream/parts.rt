@@ -26,21 +26,21 @@ use dia_dict::Book;
 use dia_wire::{AVP_HEAD_LENGTH, AvpFault, AvpHead, Key, avp_head};
 
 /// The part of a body that is being read.
-#[derive(Clone, Copy, Debug)]
+#[derive(Clone, Copy)]
 pub(crate) enum Part<'a> {
     Head(HeadPart),
     Data(DataPart<'a>),
 }
 
 /// The head of an AVP at a place, which isn't whole yet.
-#[derive(Clone, Copy, Debug)]
+#[derive(Clone, Copy)]
 pub(crate) struct HeadPart {
     pub(crate) at: usize,
     pub(crate) front: Front,
 }
 
 /// The data and the padding of an AVP that is no known group, as far as they weren't read yet.
-#[derive(Clone, Copy, Debug)]
+#[derive(Clone, Copy)]
 pub(crate) struct DataPart<'a> {
     pub(crate) at: usize,
     pub(crate) key: Key,
@@ -53,7 +53,7 @@ pub(crate) struct DataPart<'a> {
 }
 
 /// The bytes of a piece that belong to the part, and the part that follows them; none where they end the body.
-#[derive(Clone, Copy, Debug)]
+#[derive(Clone, Copy)]
 pub(crate) struct Done<'a> {
     pub(crate) taken: usize,
     pub(crate) next: Option<Part<'a>>,

@@ -9,7 +9,7 @@ ghost use Rattle.dia_compat.specs.Lines.{shown};
 use crate::table::words::next_word;
 
 /// What a line says. The names are parts of the line, of any length.
-#[derive(Clone, Copy, Debug)]
+#[derive(Clone, Copy)]
 pub(crate) enum Line<'a> {
     Blank,
     Command(&'a str, &'a str),

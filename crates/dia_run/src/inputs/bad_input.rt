@@ -9,7 +9,7 @@ use dia_wire::MessageFault;
 use std::fmt;
 
 /// An input that is refused, and why.
-#[derive(Debug, Drop)]
+#[derive(Drop)]
 pub enum BadInput {
     /// A dictionary, by its number in the command, from 1.
     Dictionary { number: u8, why: BadDictionary },
@@ -20,7 +20,7 @@ pub enum BadInput {
 }
 
 /// Why a text names no dictionary.
-#[derive(Debug, Drop)]
+#[derive(Drop)]
 pub enum BadDictionary {
     /// More bytes than the text of a dictionary may have.
     TooLong,
@@ -44,7 +44,7 @@ pub enum BadDictionary {
 }
 
 /// Why a text is no table of pairs.
-#[derive(Clone, Copy, Debug, PartialEq, Eq)]
+#[derive(Clone, Copy)]
 pub enum BadTable {
     /// More bytes than the text of a table may have.
     TooLong,
@@ -55,7 +55,7 @@ pub enum BadTable {
 }
 
 /// Why a text is no message.
-#[derive(Clone, Copy, Debug, PartialEq, Eq)]
+#[derive(Clone, Copy)]
 pub enum BadMessage {
     /// More bytes than the text of a message may have.
     TooLong,

@@ -1,8 +1,7 @@
 //! How the program ends where there was no run, and what is told then.
 
 use super::printed::Streams;
-use crate::arguments::parse_words;
-use crate::ending::{Ending, finish};
+use dia_cli::{Ending, finish, parse_words};
 use dia_run::Exit;
 use std::alloc::Global;
 use std::io;

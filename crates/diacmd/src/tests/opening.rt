@@ -1,8 +1,6 @@
 //! Inputs that are files.
 
-use crate::ending::Ending;
-use crate::opening::open_inputs;
-use crate::origin::{Origin, Origins};
+use dia_cli::{Ending, Origin, Origins, open_inputs};
 use dia_dict::base_text;
 use dia_run::Input as Text;
 use std::process::Abort;

@@ -1,8 +1,7 @@
 //! Words of the command line that ask for a run.
 
-use crate::arguments::parse_words;
-use crate::origin::{Origin, Origins};
 use dia_check::{Levels, Unknown};
+use dia_cli::{Origin, Origins, parse_words};
 use dia_run::Command;
 use std::process::Abort;
 use std::test::Fail;

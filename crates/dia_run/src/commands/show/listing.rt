@@ -14,7 +14,7 @@ use dia_wire::{Avp, AvpFault, key, next_avp};
 use std::alloc::{AllocError, Global};
 
 /// What is left of a level, and the place of the level's end.
-#[derive(Clone, Copy, Debug)]
+#[derive(Clone, Copy)]
 struct Rest<'a> {
     bytes: &'a [u8],
     end: usize,

@@ -1,0 +1,33 @@
+-- Where the texts of the inputs come from.
+use Rattle.std.specs.Prelude.{ℕ, nat_lt, Bool, true, false, if◌then◌else◌, List, [], ◌∷◌, count_by, codes}
+use Rattle.std.specs.Borrow.{Bor}
+use Rattle.std.specs.Str.{bytes_eq}
+use Rattle.dia_ccf.specs.Limits.{max_text}
+use Rattle.dia_compat.specs.TableText.{max_table}
+use Rattle.dia_run.specs.Limits.{max_message_text}
+use Rattle.dia_cli.specs.declared.origin.Origin.{Origin}
+use Rattle.dia_cli.specs.declared.origin.Origin.TheVariants.{Base, StandardInput, File}
+use Rattle.dia_cli.specs.declared.origin.Origins.{Origins}
+
+-- `-` is standard input, and any other word is the name of a file
+abbrev pub origin_within : Bor (List ℕ) → ℕ → Origin
+origin_within word limit = if bytes_eq word.now (codes "-") then StandardInput limit else File word limit
+
+-- where a dictionary stands, `@base` is the base dictionary
+abbrev pub dictionary_origin : Bor (List ℕ) → Origin
+dictionary_origin word = if bytes_eq word.now (codes "@base") then Base else origin_within word max_text
+
+abbrev pub table_origin : Bor (List ℕ) → Origin
+table_origin word = origin_within word max_table
+
+abbrev pub message_origin : Bor (List ℕ) → Origin
+message_origin word = origin_within word max_message_text
+
+abbrev pub is_standard_input : Origin → Bool
+is_standard_input (StandardInput limit) = true
+is_standard_input origin = false
+
+-- two of the texts are standard input, which can be read once
+abbrev pub reads_twice : Origins → Bool
+reads_twice origins = nat_lt 1 (count_by is_standard_input
+    (origins.first ∷ origins.second ∷ origins.table ∷ origins.message ∷ []))

@@ -1,0 +1,126 @@
+-- What the words of the command line mean, by what clap says of a command line of this shape.
+use Rattle.std.specs.Prelude.{◌≡◌, true, false, List, [], ◌∷◌, map, Option, Some, None, codes, string_bytes, IsSomeAnd}
+use Rattle.std.specs.Borrow.{Bor}
+use Rattle.std.specs.Str.Parse.{IsNumeral, digits_value, without_leading_plus}
+use Rattle.clap.specs.Lexer.{usize_max}
+use Rattle.clap.specs.Walk.{Row, Rule, Text, all_of, first_of, texts}
+use Rattle.clap.specs.Simple.{App, Shape, new_app, new_rule, on_top, shape_of, subcommand_of, with_rule, with_subcommand}
+use Rattle.clap.specs.declared.builder.command.Command.{Command}
+use Rattle.clap.specs.declared.builder.command.Command.TheViews.{out-Command}
+use Rattle.clap.specs.declared.builder.value_parser.ValueParser.TheVariants.{Names, Unsigned}
+use Rattle.dia_check.specs.declared.policy.Levels.{Levels}
+use Rattle.dia_check.specs.declared.policy.Levels.TheVariants.{Any, AtMost}
+use Rattle.dia_check.specs.declared.policy.Unknown.{Unknown}
+use Rattle.dia_check.specs.declared.policy.Unknown.TheVariants.{Kept, Refused}
+use Rattle.dia_cli.specs.declared.request.Request.{Request}
+use Rattle.dia_cli.specs.declared.request.Request.TheVariants.{Show, Check, Render, Compare, Refute, Propose}
+
+-- `--dict D`, which is `@base` where it isn't given
+abbrev pub dict_rule : Rule
+dict_rule = record (new_rule (codes "dict")) { long = Some (codes "dict"); value_names = 1; defaults = codes "@base" ∷ [] }
+
+-- `--unknown POLICY`, one of these words, which is `kept` where it isn't given
+abbrev pub unknown_rule : Bor (List (Bor Text)) → Rule
+unknown_rule policies =
+    record (new_rule (codes "unknown")) {
+      long = Some (codes "unknown");
+      value_names = 1;
+      defaults = codes "kept" ∷ [];
+      parser = Some (Names policies);
+    }
+
+-- `--levels N`, a number of 32 bits
+abbrev pub levels_rule : Rule
+levels_rule = record (new_rule (codes "levels")) {
+  long = Some (codes "levels");
+  value_names = 1;
+  parser = Some (Unsigned 0 4294967295);
+}
+
+-- a word that has to be given
+abbrev pub word_rule : Text → Rule
+word_rule id = record (new_rule id) { required = true }
+
+-- one or more words that have to be given
+abbrev pub words_rule : Text → Rule
+words_rule id = record (word_rule id) { range = Some (record { start_inclusive = 1; end_inclusive = usize_max }) }
+
+abbrev pub show_shape : Shape
+show_shape = (with_rule (with_rule (new_app (codes "show")) dict_rule) (word_rule (codes "MESSAGE"))).top
+
+abbrev pub check_shape : Bor (List (Bor Text)) → Shape
+check_shape policies =
+    let options = with_rule (with_rule (new_app (codes "check")) (unknown_rule policies)) levels_rule in
+    (with_rule (with_rule options (word_rule (codes "D"))) (word_rule (codes "MESSAGE"))).top
+
+abbrev pub render_shape : Shape
+render_shape = (with_rule (new_app (codes "render")) (word_rule (codes "D"))).top
+
+-- `--unknown POLICY A B`, with which the line of a subcommand of two dictionaries begins
+abbrev pub pair_app : Text → Bor (List (Bor Text)) → App
+pair_app name policies = with_rule (with_rule (with_rule (new_app name) (unknown_rule policies)) (word_rule (codes "A")))
+    (word_rule (codes "B"))
+
+abbrev pub compare_shape : Bor (List (Bor Text)) → Shape
+compare_shape policies = (with_rule (pair_app (codes "compare") policies) (word_rule (codes "TABLE"))).top
+
+abbrev pub refute_shape : Bor (List (Bor Text)) → Shape
+refute_shape policies = (with_rule (with_rule (pair_app (codes "refute") policies) levels_rule) (word_rule (codes "MESSAGE"))).top
+
+abbrev pub propose_shape : Bor (List (Bor Text)) → Shape
+propose_shape policies = (with_rule (pair_app (codes "propose") policies) (words_rule (codes "COMMAND"))).top
+
+-- a subcommand's line
+abbrev pub IsLine : Shape → Command → Type 0
+IsLine shape line = (shape_of line ≡ shape) × ((out-Command line).has_globals ≡ false)
+
+-- the program's line without its subcommands, of which one has to be given
+abbrev pub program_app : App
+program_app = on_top (λ shape. record shape { has_version = true; subcommand_required = true }) (new_app (codes "diacmd"))
+
+abbrev pub line_shape : Bor (List (Bor Text)) → App
+line_shape policies =
+    let one = with_subcommand (with_subcommand (with_subcommand program_app show_shape) (check_shape policies)) render_shape in
+    with_subcommand (with_subcommand (with_subcommand one (compare_shape policies)) (refute_shape policies))
+    (propose_shape policies)
+
+abbrev pub policy_word : Unknown → Text
+policy_word Kept = codes "kept"
+policy_word Refused = codes "refused"
+
+-- there is no limit without a word, and a word is a decimal number, which a `+` may begin
+abbrev pub IsLimitOf : Option Text → Levels → Type 0
+IsLimitOf None levels = levels ≡ Any
+IsLimitOf (Some word) levels = IsNumeral 10 (without_leading_plus word)
+    × (levels ≡ AtMost (digits_value 10 (without_leading_plus word)))
+
+-- what was found for `--unknown POLICY A B`
+abbrev pub ArePair : Unknown → Bor Text → Bor Text → List Row → Type 0
+ArePair unknown first second rows =
+    (first_of (codes "unknown") rows ≡ Some (policy_word unknown)) × (first_of (codes "A") rows ≡ Some first.now)
+    × (first_of (codes "B") rows ≡ Some second.now)
+
+-- the request of a subcommand that was found, with the first values of its arguments, and all names of commands
+abbrev pub IsRequestOf : Request → Text × List Row → Type 0
+IsRequestOf (Show dictionary message) found =
+    (found.0 ≡ codes "show") × (first_of (codes "dict") found.1 ≡ Some dictionary.now)
+    × (first_of (codes "MESSAGE") found.1 ≡ Some message.now)
+IsRequestOf (Check unknown levels dictionary message) found =
+    (found.0 ≡ codes "check") × (first_of (codes "unknown") found.1 ≡ Some (policy_word unknown))
+    × IsLimitOf (first_of (codes "levels") found.1) levels
+    × (first_of (codes "D") found.1 ≡ Some dictionary.now) × (first_of (codes "MESSAGE") found.1 ≡ Some message.now)
+IsRequestOf (Render dictionary) found = (found.0 ≡ codes "render") × (first_of (codes "D") found.1 ≡ Some dictionary.now)
+IsRequestOf (Compare unknown first second table) found =
+    (found.0 ≡ codes "compare") × ArePair unknown first second found.1 × (first_of (codes "TABLE") found.1 ≡ Some table.now)
+IsRequestOf (Refute unknown levels first second message) found =
+    (found.0 ≡ codes "refute") × ArePair unknown first second found.1 × IsLimitOf (first_of (codes "levels") found.1) levels
+    × (first_of (codes "MESSAGE") found.1 ≡ Some message.now)
+IsRequestOf (Propose unknown first second names) found =
+    (found.0 ≡ codes "propose") × ArePair unknown first second found.1
+    × (all_of (codes "COMMAND") found.1 ≡ Some (map string_bytes names.items))
+
+-- the request that clap's specification gives for the words, where `--unknown` is one of the two policies
+abbrev pub IsAskedBy : List Text → Request → Type 0
+IsAskedBy words request =
+    (policies : Bor (List (Bor Text))) × (texts policies.now ≡ policy_word Kept ∷ policy_word Refused ∷ [])
+    × IsSomeAnd (subcommand_of (line_shape policies) words) (IsRequestOf request)

@@ -1,0 +1,92 @@
+//! The inputs, read from where they come from.
+
+ghost use Rattle.std.specs.Prelude.{◌≡◌, IfOk, IfErr, IfSome};
+ghost use Rattle.dia_run.specs.Inputs.{IsWhole};
+ghost use Rattle.dia_cli.specs.Opening.{IsAnyUnread, IsFaultOf, IsInputOf};
+ghost use Rattle.dia_cli.specs.Opening.{IsReadOf, IsUnread, IsWithin, input_of};
+
+use crate::ending::Ending;
+use crate::origin::{Origin, Origins, STANDARD_INPUT};
+use dia_dict::base_text;
+use dia_run::{FromReader, Input as Text, InputFault, Inputs, read_input};
+use std::alloc::Global;
+use std::io::Read;
+use std::rt::Files;
+use std::{fs, io};
+
+/// Reads the inputs whole: first the dictionaries, then the table, then the message, wherever they stand among the words.
+pub fn open_inputs<'a, R: AllocGlobal + Files + Input>(
+    rt: &R,
+    origins: &Origins<'a>,
+) -> Result<Inputs, Ending<'a>>
+    ensures ok { IfOk result (IsReadOf origins.now) }
+    ensures err { IfErr result (IsAnyUnread origins.now) }
+{
+    let first = open_input(rt, origins.first)?;
+    let second = open_input(rt, origins.second)?;
+    let table = open_input(rt, origins.table)?;
+    let message = open_input(rt, origins.message)?;
+    Ok(Inputs {
+        first,
+        second,
+        table,
+        message,
+    })
+}
+
+fn open_input<'a, R: AllocGlobal + Files + Input>(
+    rt: &R,
+    origin: Origin<'a>,
+) -> Result<Text, Ending<'a>>
+    ensures ok { IfOk result (IsInputOf origin.entry) }
+    ensures err { IfErr result (IsUnread origin.entry) }
+{
+    let alloc = rt.alloc();
+    match origin {
+        Origin::Nowhere => Ok(Text::Bytes(Vec::new(alloc))),
+        Origin::Base => {
+            let bytes = Vec::from_slice(alloc, base_text().as_bytes())?;
+            Ok(Text::Bytes(bytes))
+        }
+        Origin::StandardInput { limit } => read_text(alloc, rt.reader(), STANDARD_INPUT, limit),
+        Origin::File { path, limit } => match fs::open(rt, path) {
+            Ok(file) => read_text(alloc, file, path, limit),
+            Err(error) => Err(Ending::Device {
+                name: path,
+                error: Some(error),
+            }),
+        },
+    }
+}
+
+/// All bytes of a reader, or `TooLong` above the limit. `name` is the word that names the input.
+fn read_text<'a, R: Read + Drop>(
+    alloc: Global,
+    reader: R,
+    name: &'a str,
+    limit: usize,
+) -> Result<Text, Ending<'a>>
+    ensures whole { IfOk result (λ text. IfSome (R.remaining reader) (IsWhole text limit)) }
+    ensures within { IfOk result (λ text. IsWithin text limit) }
+    ensures err { IfErr result (IsFaultOf name.entry.now) }
+{
+    let mut feed = FromReader::new(reader);
+    let read = read_input(alloc, &mut feed, limit);
+    input_of(read, name, feed.failure())
+}
+
+/// The input that was read, or how the program ends. `name` is the word that names it, `error` what its reader said.
+fn input_of<'a>(
+    read: Result<Vec<u8>, InputFault>,
+    name: &'a str,
+    error: Option<io::Error>,
+) -> Result<Text, Ending<'a>>
+    ensures { result ≡ input_of read name.entry error }
+{
+    match read {
+        Ok(bytes) => Ok(Text::Bytes(bytes)),
+        Err(InputFault::TooLong) => Ok(Text::TooLong),
+        Err(InputFault::Device) => Err(Ending::Device { name, error }),
+        Err(InputFault::NoMemory) => Err(Ending::NoMemory),
+    }
+}

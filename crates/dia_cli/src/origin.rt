@@ -1,0 +1,97 @@
+//! Where the text of each input comes from.
+
+ghost use Rattle.std.specs.Prelude.{◌≡◌, count_by};
+ghost use Rattle.dia_cli.specs.Origins.{dictionary_origin, message_origin};
+ghost use Rattle.dia_cli.specs.Origins.{origin_within, table_origin};
+ghost use Rattle.dia_cli.specs.Origins.{is_standard_input, reads_twice};
+
+use dia_ccf::MAX_TEXT;
+use dia_compat::MAX_TABLE;
+use dia_run::MAX_MESSAGE_TEXT;
+
+/// The word for standard input.
+pub const STANDARD_INPUT: &str = "-";
+
+/// The word for the base dictionary, where a dictionary stands.
+pub const BASE_DICTIONARY: &str = "@base";
+
+/// Where the text of an input comes from. A limit is the most bytes that the text may have.
+#[derive(Clone, Copy, Debug, PartialEq, Eq)]
+pub enum Origin<'a> {
+    /// The command takes no such input.
+    Nowhere,
+    /// The base dictionary.
+    Base,
+    StandardInput { limit: usize },
+    File { path: &'a str, limit: usize },
+}
+
+impl<'a> Origin<'a> {
+    /// The origin of a dictionary that this word names.
+    pub fn of_dictionary(word: &'a str) -> Origin<'a>
+        ensures { result ≡ dictionary_origin word.entry }
+    {
+        if word == BASE_DICTIONARY {
+            Origin::Base
+        } else {
+            Origin::within(word, MAX_TEXT)
+        }
+    }
+
+    /// The origin of a table of pairs that this word names.
+    pub fn of_table(word: &'a str) -> Origin<'a>
+        ensures { result ≡ table_origin word.entry }
+    {
+        Origin::within(word, MAX_TABLE)
+    }
+
+    /// The origin of a message that this word names.
+    pub fn of_message(word: &'a str) -> Origin<'a>
+        ensures { result ≡ message_origin word.entry }
+    {
+        Origin::within(word, MAX_MESSAGE_TEXT)
+    }
+
+    fn within(word: &'a str, limit: usize) -> Origin<'a>
+        ensures { result ≡ origin_within word.entry limit }
+    {
+        if word == STANDARD_INPUT {
+            Origin::StandardInput { limit }
+        } else {
+            Origin::File { path: word, limit }
+        }
+    }
+
+    fn is_standard_input(&self) -> bool
+        ensures { result ≡ is_standard_input self.entry.now }
+    {
+        matches!(self, Origin::StandardInput { .. })
+    }
+}
+
+/// Where each input of a command comes from, by the fields of `Inputs`.
+#[derive(Clone, Copy, Debug, PartialEq, Eq)]
+pub struct Origins<'a> {
+    pub first: Origin<'a>,
+    pub second: Origin<'a>,
+    pub table: Origin<'a>,
+    pub message: Origin<'a>,
+}
+
+impl Origins<'_> {
+    /// Whether standard input is named more than once.
+    pub fn reads_twice(&self) -> bool
+        ensures { result ≡ reads_twice self.now }
+    {
+        standard_inputs(&[self.first, self.second, self.table, self.message]) > 1
+    }
+}
+
+fn standard_inputs(origins: &[Origin<'_>]) -> usize
+    ensures { result ≡ count_by is_standard_input origins.now }
+{
+    origins
+        .iter()
+        .filter(|origin| origin.is_standard_input())
+        .count()
+}
