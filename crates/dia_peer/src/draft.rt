@@ -10,7 +10,7 @@ use dia_wire::{AVP_MANDATORY, Avp, Header, PutFault, put_message};
 use std::alloc::{AllocError, Global};
 
 /// An AVP without Vendor-ID that owns its data.
-#[derive(Debug, Drop)]
+#[derive(Drop)]
 pub(crate) struct OwnAvp {
     code: u32,
     /// Whether the M flag is set.
@@ -32,7 +32,7 @@ impl OwnAvp {
 }
 
 /// The AVPs of a message, in order.
-#[derive(Debug, Drop)]
+#[derive(Drop)]
 pub(crate) struct Draft {
     alloc: Global,
     avps: Vec<OwnAvp>,

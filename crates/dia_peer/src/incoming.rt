@@ -3,7 +3,7 @@
 use crate::kept_requests::Ids;
 use crate::named_apps::NamedApps;
 
-#[derive(Debug, Drop)]
+#[derive(Drop)]
 pub(crate) enum Incoming {
     /// The bytes are not one message.
     Unreadable,

@@ -9,7 +9,7 @@ use std::alloc::{AllocError, Global};
 use std::collections::BTreeSet;
 
 /// The numbers of the applications of each kind.
-#[derive(Debug, Drop)]
+#[derive(Drop)]
 pub(crate) struct NamedApps {
     auth: BTreeSet<u32>,
     acct: BTreeSet<u32>,
