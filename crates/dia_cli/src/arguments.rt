@@ -2,6 +2,7 @@
 
 ghost use Rattle.std.specs.Prelude.{◌≡◌, IfOk, IfSome, IsSomeAnd, codes};
 ghost use Rattle.std.specs.Prelude.{false, map, option_map, string_bytes};
+ghost use Rattle.clap.specs.Simple.{Shape, with_subcommand};
 ghost use Rattle.clap.specs.Walk.{texts};
 ghost use Rattle.clap.specs.Words.{app_of, found_of, rows_of, rule_of, subcommand_rows_of};
 ghost use Rattle.dia_cli.specs.Origins.{reads_twice};
@@ -57,10 +58,15 @@ pub fn parse_words<'a, S: AsStr>(alloc: Global, words: &'a [S]) -> Result<Reques
         Some(Ok(request)) => read_once(request),
         Some(Err(error)) => Err(Ending::from(error)),
         // Never reached: the command line requires a subcommand, and each subcommand requires its arguments.
-        None => {
-            let error = line.error(ErrorKind::MissingSubcommand, "the words ask for nothing")?;
-            Err(Ending::from(error))
-        }
+        None => Err(asks_for_nothing(&mut line)),
+    }
+}
+
+/// The ending where the words ask for nothing.
+fn asks_for_nothing<'a>(line: &mut clap::Command<'a>) -> Ending<'a> {
+    match line.error(ErrorKind::MissingSubcommand, "the words ask for nothing") {
+        Ok(error) => Ending::from(error),
+        Err(error) => Ending::from(error),
     }
 }
 
@@ -204,13 +210,27 @@ fn limit_of(word: Option<&str>) -> Option<Levels>
 fn command_line<'a>(alloc: Global, policies: &'a [&'a str]) -> Result<clap::Command<'a>, AllocError>
     ensures { IfOk result (λ line. app_of line ≡ line_shape policies.entry) }
 {
-    program_line(alloc)
-        .subcommand(show_line(alloc)?)?
-        .subcommand(check_line(alloc, policies)?)?
-        .subcommand(render_line(alloc)?)?
-        .subcommand(compare_line(alloc, policies)?)?
-        .subcommand(refute_line(alloc, policies)?)?
-        .subcommand(propose_line(alloc, policies)?)
+    let line = program_line(alloc);
+    let line = with_line(line, show_line(alloc))?;
+    let line = with_line(line, check_line(alloc, policies))?;
+    let line = with_line(line, render_line(alloc))?;
+    let line = with_line(line, compare_line(alloc, policies))?;
+    let line = with_line(line, refute_line(alloc, policies))?;
+    with_line(line, propose_line(alloc, policies))
+}
+
+/// A command line with one more subcommand, if there is memory for it.
+fn with_line<'a>(
+    line: clap::Command<'a>,
+    subcommand: Result<clap::Command<'a>, AllocError>,
+) -> Result<clap::Command<'a>, AllocError>
+    ensures { IfOk result (λ all. (shape : Shape) → IfOk subcommand.entry (IsLine shape)
+        → app_of all ≡ with_subcommand (app_of line.entry) shape) }
+{
+    match subcommand {
+        Ok(subcommand) => line.subcommand(subcommand),
+        Err(error) => Err(error),
+    }
 }
 
 /// The definition of the command line without its subcommands. One of them is required.
