@@ -90,19 +90,25 @@ fn request_of<'a>(
         (λ request. IsSomeAnd (subcommand_rows_of matches.now) (IsRequestOf request))) }
 {
     match matches.subcommand()? {
-        ("show", inner) => Some(Ok(Request::Show {
-            dictionary: inner.get_str("dict")?,
-            message: inner.get_str("MESSAGE")?,
-        })),
+        ("show", inner) => Some(Ok(show_request(inner)?)),
         ("check", inner) => Some(Ok(check_request(inner)?)),
-        ("render", inner) => Some(Ok(Request::Render {
-            dictionary: inner.get_str("D")?,
-        })),
+        ("render", inner) => Some(Ok(render_request(inner)?)),
         ("compare", inner) => Some(Ok(compare_request(inner)?)),
         ("refute", inner) => Some(Ok(refute_request(inner)?)),
         ("propose", inner) => propose_request(alloc, inner),
         _ => None,
     }
+}
+
+/// The request of the arguments found for `show`.
+fn show_request<'a>(found: &ArgMatches<'a>) -> Option<Request<'a>>
+    ensures { IfSome result
+        (λ request. IsRequestOf request (codes "show", rows_of (found_of found.now))) }
+{
+    Some(Request::Show {
+        dictionary: found.get_str("dict")?,
+        message: found.get_str("MESSAGE")?,
+    })
 }
 
 /// The request of the arguments found for `check`.
@@ -115,6 +121,16 @@ fn check_request<'a>(found: &ArgMatches<'a>) -> Option<Request<'a>>
         levels: limit_of(found.get_str("levels"))?,
         dictionary: found.get_str("D")?,
         message: found.get_str("MESSAGE")?,
+    })
+}
+
+/// The request of the arguments found for `render`.
+fn render_request<'a>(found: &ArgMatches<'a>) -> Option<Request<'a>>
+    ensures { IfSome result
+        (λ request. IsRequestOf request (codes "render", rows_of (found_of found.now))) }
+{
+    Some(Request::Render {
+        dictionary: found.get_str("D")?,
     })
 }
 
