@@ -54,11 +54,24 @@ pub fn parse_words<'a, S: AsStr>(alloc: Global, words: &'a [S]) -> Result<Reques
 {
     let mut line = command_line(alloc, POLICIES.as_slice())?;
     let matches = line.try_get_matches_from_mut(words)?;
-    match request_of(alloc, &matches) {
+    asked(alloc, &mut line, &matches)
+}
+
+/// What the arguments ask for that clap found.
+fn asked<'a>(
+    alloc: Global,
+    line: &mut clap::Command<'a>,
+    matches: &ArgMatches<'a>,
+) -> Result<Request<'a>, Ending<'a>>
+    ensures words { IfOk result
+        (λ request. IsSomeAnd (subcommand_rows_of matches.now) (IsRequestOf request)) }
+    ensures once { IfOk result (λ request. reads_twice (origins_of request) ≡ false) }
+{
+    match request_of(alloc, matches) {
         Some(Ok(request)) => read_once(request),
         Some(Err(error)) => Err(Ending::from(error)),
         // Never reached: the command line requires a subcommand, and each subcommand requires its arguments.
-        None => Err(asks_for_nothing(&mut line)),
+        None => Err(asks_for_nothing(line)),
     }
 }
 
