@@ -130,7 +130,7 @@ fn is_mismatch(names: &Names<'_>, group: &Def) -> bool
 }
 
 /// An AVP by its name and key.
-#[derive(Clone, Copy, Debug)]
+#[derive(Clone, Copy)]
 struct KeyedName<'a> {
     name: &'a str,
     key: Key,

@@ -19,11 +19,11 @@ use std::alloc::{AllocError, Global};
 #[derive(Drop)]
 pub(super) struct Names<'a> {
     pub source: &'a Source,
-    avps: IndexSet<&'a str>,
-    groups: IndexSet<&'a str>,
-    ghost all_avps: { map (λ n. n.now) avps.keys
+    avps: Box<IndexSet<&'a str>>,
+    groups: Box<IndexSet<&'a str>>,
+    ghost all_avps: { map (λ n. n.now) avps.value.keys
         ≡ map (λ d. string_bytes d.name) source.now.avps.items } by { Prim.hlevel props },
-    ghost all_groups: { map (λ n. n.now) groups.keys
+    ghost all_groups: { map (λ n. n.now) groups.value.keys
         ≡ map (λ d. string_bytes d.name) source.now.groups.items } by { Prim.hlevel props },
 }
 
@@ -108,9 +108,9 @@ pub(super) fn key_of_group(group: &Def) -> Key
 }
 
 /// The names of declarations, where they are distinct.
-fn set_of_avps(alloc: Global, avps: &[Decl]) -> Result<IndexSet<&str>, Refusal<'_>>
+fn set_of_avps(alloc: Global, avps: &[Decl]) -> Result<Box<IndexSet<&str>>, Refusal<'_>>
     ensures all { IfOk result
-        (λ set. map (λ n. n.now) set.keys ≡ map (λ d. string_bytes d.name) avps.now) }
+        (λ set. map (λ n. n.now) set.value.keys ≡ map (λ d. string_bytes d.name) avps.now) }
     ensures distinct { OnOk result
         (duplicate_names (map (λ d. d.name) (map plain_decl avps.now)) ≡ []) }
     ensures err { IfErr result
@@ -121,9 +121,9 @@ fn set_of_avps(alloc: Global, avps: &[Decl]) -> Result<IndexSet<&str>, Refusal<'
 }
 
 /// The names of definitions, where they are distinct.
-fn set_of_definitions(alloc: Global, defs: &[Def]) -> Result<IndexSet<&str>, Refusal<'_>>
+fn set_of_definitions(alloc: Global, defs: &[Def]) -> Result<Box<IndexSet<&str>>, Refusal<'_>>
     ensures all { IfOk result
-        (λ set. map (λ n. n.now) set.keys ≡ map (λ d. string_bytes d.name) defs.now) }
+        (λ set. map (λ n. n.now) set.value.keys ≡ map (λ d. string_bytes d.name) defs.now) }
     ensures distinct { OnOk result
         (duplicate_names (map (λ d. d.name) (map plain_def defs.now)) ≡ []) }
     ensures err { IfErr result
@@ -147,8 +147,11 @@ fn names_of_definitions(alloc: Global, defs: &[Def]) -> Result<Vec<&str>, AllocE
     defs.iter().map(|def| def.name.as_str()).collect(alloc)
 }
 
-fn distinct_names<'a>(alloc: Global, names: &[&'a str]) -> Result<IndexSet<&'a str>, Refusal<'a>>
-    ensures all { IfOk result (λ set. set.keys ≡ names.now) }
+fn distinct_names<'a>(
+    alloc: Global,
+    names: &[&'a str],
+) -> Result<Box<IndexSet<&'a str>>, Refusal<'a>>
+    ensures all { IfOk result (λ set. set.value.keys ≡ names.now) }
     ensures distinct { OnOk result (duplicate_names (map (λ n. n.now) names.now) ≡ []) }
     ensures err { IfErr result (IsRefused (duplicate_names (map (λ n. n.now) names.now))) }
 {

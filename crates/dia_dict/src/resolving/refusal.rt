@@ -6,7 +6,7 @@ use crate::fault::{DictFault, DictKind};
 use std::alloc::{AllocError, Global};
 
 /// What is wrong with a source. The names are parts of the source.
-#[derive(Clone, Copy, Debug)]
+#[derive(Clone, Copy)]
 pub(super) struct Told<'a> {
     pub kind: DictKind,
     pub name: &'a str,
@@ -14,7 +14,7 @@ pub(super) struct Told<'a> {
 }
 
 /// Why a check does not pass.
-#[derive(Clone, Copy, Debug)]
+#[derive(Clone, Copy)]
 pub(super) enum Refusal<'a> {
     Stands(Told<'a>),
     NoMemory,

@@ -5,7 +5,8 @@ use Rattle.dia_dict.proofs.resolving.distinct.distinct.Goals as goal
 
 pub loop-place-preserved : goal.loop-place-preserved
 loop-place-preserved g c =
-    AreDistinct-more g.T.PartialEq.eq c.args.items.now c.loop-place.set.keys c.insert.new.self.keys c.loop-place.place c.index-items-place.result
+    let was = c.deref_mut.ensures.value in
+    AreDistinct-more g.T.PartialEq.eq c.args.items.now c.loop-place.set.value.keys c.insert.new.self.keys c.loop-place.place c.index-items-place.result
     c.loop-place.invariant c.loop-place-test.true c.index-items-place.is
-    (not-true _ (sym c.in_ok-insert.ensures.added ∙ c.if-not-branch.false))
-    c.in_ok-insert.ensures.keys
+    (not-true _ (sym (rw was at c.in_ok-insert.ensures.added) ∙ c.if-not-branch.false))
+    (rw was at c.in_ok-insert.ensures.keys)

@@ -6,4 +6,4 @@ use Rattle.dia_dict.proofs.resolving.names.Names.is_group.Goals as goal
 pub returns : goal.returns
 returns c =
     let names = c.args.self.now in
-    c.contains.ensures ∙ list_any_by_name plain_def (λ (d : PlainDef). d.name) names.source.now.groups.items names.groups.keys names.all_groups c.args.name.now
+    (rw c.deref.ensures at c.contains.ensures) ∙ list_any_by_name plain_def (λ (d : PlainDef). d.name) names.source.now.groups.items names.groups.value.keys names.all_groups c.args.name.now
