@@ -17,10 +17,30 @@ pub(super) fn source(alloc: Global) -> Result<Source, AllocError>
     ensures { IfOk result (λ source. plain_source source ≡ base_source) }
 {
     Ok(Source {
-        avps: declarations(alloc, &AVPS)?,
-        groups: definitions(alloc, &GROUPS)?,
-        commands: definitions(alloc, &COMMANDS)?,
+        avps: avps(alloc)?,
+        groups: groups(alloc)?,
+        commands: commands(alloc)?,
     })
+}
+
+// The prover takes long for a function that reads several tables, or that reads one and returns at several places.
+
+fn avps(alloc: Global) -> Result<Vec<Decl>, AllocError>
+    ensures { IfOk result (λ decls. map plain_decl decls.items ≡ base_source.avps) }
+{
+    declarations(alloc, &AVPS)
+}
+
+fn groups(alloc: Global) -> Result<Vec<Def>, AllocError>
+    ensures { IfOk result (λ defs. map plain_def defs.items ≡ base_source.groups) }
+{
+    definitions(alloc, &GROUPS)
+}
+
+fn commands(alloc: Global) -> Result<Vec<Def>, AllocError>
+    ensures { IfOk result (λ defs. map plain_def defs.items ≡ base_source.commands) }
+{
+    definitions(alloc, &COMMANDS)
 }
 
 fn declarations(alloc: Global, rows: &[AvpRow]) -> Result<Vec<Decl>, AllocError>

@@ -14,6 +14,9 @@ list_all-plain p defs plain same all = sym (list_all-map p plain_def defs) ∙ a
 
 pub invariant_of-result : goal.invariant_of-result
 invariant_of-result c = record {
-  grouped = list_all-plain (λ d. is_group d.head) c.in_ok-definitions.field-0.items base_source.groups c.in_ok-definitions.ensures refl;
-  commanded = list_all-plain (λ d. not (is_group d.head)) c.in_ok-definitions-2.field-0.items base_source.commands c.in_ok-definitions-2.ensures refl;
+  grouped = list_all-plain (λ d. is_group d.head) c.in_ok-groups.field-0.items base_source.groups c.in_ok-groups.ensures refl;
+  commanded = list_all-plain (λ d. not (is_group d.head)) c.in_ok-commands.field-0.items base_source.commands c.in_ok-commands.ensures refl;
 }
+
+pub returns : goal.returns
+returns c = λ i. record { avps = c.in_ok-avps.ensures i; groups = c.in_ok-groups.ensures i; commands = c.in_ok-commands.ensures i }
