@@ -111,3 +111,13 @@ AreDistinct-more same items keys next place x d within read fresh step =
       none = ap (repeats same []) more ∙ repeats-append same [] (take place items) (x ∷ []) ∙ ap (λ zs. zs ++ repeats same (take place items) (x ∷ [])) d.none
           ∙ ap (λ b. cond b (x ∷ []) []) (ap (list_any (same x)) (sym d.kept) ∙ fresh);
     }
+
+-- an item that the set held already is the first repeat
+pub first_repeat-here : {X : Type 0} (same : X → X → Bool) (items keys : List X) (place : ℕ) (x : X) → AreDistinct same items keys place → place < length items → x ≡ get_or items place x
+    → list_any (same x) keys ≡ true → IsFirstRepeat same items place
+first_repeat-here same items keys place x d within read known = record {
+  item = x;
+  at = slice_get_read items (length items) place x refl within read;
+  repeated = ap (list_any (same x)) (sym d.kept) ∙ known;
+  first = d.none;
+}
