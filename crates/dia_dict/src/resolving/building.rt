@@ -216,7 +216,7 @@ fn values(alloc: Global, decl: &Decl) -> Result<Values, AllocError>
     ensures { IfOk result (λ values. ranges_of values ≡ (plain_decl decl.now).values) }
 {
     match &decl.values {
-        Some(ranges) => Values::new(alloc, ranges.clone()?),
+        Some(ranges) => Values::new(alloc, Vec::from_slice(alloc, ranges)?),
         None => Ok(Values::any()),
     }
 }
