@@ -11,7 +11,8 @@ pub returns-in_err-place : goal.returns-in_err-place
 returns-in_err-place c =
     let names = c.args.self.now in
     ap (option_map (λ d. plain_def d.now)) c.from_residual.ensures
-    ∙ sym (found_by_name plain_def (λ (d : PlainDef). d.name) names.source.now.groups.items names.groups.value.keys names.all_groups c.args.name.now _ (rw c.deref.ensures at c.in_err-place.ensures.index))
+    ∙ sym (found_by_name plain_def (λ (d : PlainDef). d.name) names.source.now.groups.items names.groups.value.keys names.all_groups c.args.name.now _
+    (rw c.deref.ensures at c.in_err-place.ensures.index))
 
 pub returns : goal.returns
 returns c =
