@@ -10,7 +10,7 @@ ghost use Rattle.dia_ccf.specs.Front.{front, begins_blank, blank, run_piece, byt
 ghost use Rattle.dia_ccf.specs.LexerTokens.{tokens_from, IsNext, capped, shown, shown_sign};
 
 /// A sign of the text.
-#[derive(Clone, Copy, Debug, PartialEq, Eq)]
+#[derive(Clone, Copy, PartialEq, Eq)]
 pub(crate) enum Sign {
     Less,
     Greater,
@@ -32,7 +32,7 @@ pub(crate) enum Sign {
 }
 
 /// A token. A name is a part of the text.
-#[derive(Clone, Copy, Debug)]
+#[derive(Clone, Copy)]
 pub(crate) enum Token<'a> {
     Sign(Sign),
     Number(u32),
@@ -45,7 +45,7 @@ pub(crate) enum Token<'a> {
 }
 
 /// A token, and the places in bytes where it begins and where it ends.
-#[derive(Clone, Copy, Debug)]
+#[derive(Clone, Copy)]
 pub(crate) struct Lexed<'a> {
     pub(crate) token: Token<'a>,
     pub(crate) at: usize,

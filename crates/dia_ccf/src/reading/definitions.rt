@@ -8,7 +8,7 @@ use crate::lexer::{Sign, Token};
 use crate::source::{Def, Qual, Rule, RuleKind};
 
 /// What stands behind some rules of a definition.
-#[derive(Debug, Drop)]
+#[derive(Drop)]
 enum Behind {
     /// One more rule.
     Rule(Rule),
