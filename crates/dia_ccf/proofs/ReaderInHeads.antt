@@ -12,7 +12,7 @@ use Rattle.dia_ccf.specs.Machine.{State, HeadPlace, In_head, Command_code, Flags
 use Rattle.dia_ccf.specs.ReaderFunctions.{left, Passes, begins_with, Takes, Flags_read, course, Wants}
 use Rattle.dia_ccf.proofs.TokenTests.{number_at-is, keyword-is, keyword_at-is}
 use Rattle.dia_ccf.proofs.MachineRuns.{outcome_same}
-use Rattle.dia_ccf.proofs.ReaderSteps.{passes_one, takes_sign}
+use Rattle.dia_ccf.proofs.ReaderSteps.{passes_one, takes_sign, map_twice}
 
 -- a number was passed
 pub number_passed : (state : State) (to : ℕ → State) (least most n : ℕ) (old new : Reader) → (t : Token) × (number_at least most t ≡ Some n) × Passes old (t ∷ []) new
@@ -124,10 +124,6 @@ no_flag code true false w a b = one_none (is_keyword (codes "req") (Name w)) (is
     one_none true y e = refl
     one_none false y e = rw e refl
 no_flag code false false w a b = rw (a refl refl, b refl) refl
-
-map_twice : {X Y Z : Type 0} (f : Y → Z) (g : X → Y) (o : Option X) → option_map f (option_map g o) ≡ option_map (λ x. f (g x)) o
-map_twice f g None = refl
-map_twice f g (Some x) = refl
 
 -- behind a comma a number has to come, where no flag does
 pub number_wanted : (done : PlainSource) (name : List ℕ) (code : ℕ) (request pxy comma : Bool) (ts : List Token) → Settled request pxy comma ts → (comma || begins_with is_number ts) ≡ true

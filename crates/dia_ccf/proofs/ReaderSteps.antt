@@ -13,8 +13,8 @@ use Rattle.dia_ccf.specs.Names.{is_name, is_fixed, is_rule_name}
 use Rattle.dia_ccf.specs.Plain.{PlainSource, PlainDef}
 use Rattle.dia_ccf.specs.Limits.{max_number}
 use Rattle.dia_ccf.specs.Tokens.{Token, Star, Number}
-use Rattle.dia_ccf.specs.Machine.{State, next, whole, refused, why, outcome, Outcome, Stops, ended, is_number, same_sign, name_at, number_at, sign_at, slot_at, Rules, Qual_min, Qual_star, Qual_done}
-use Rattle.dia_ccf.specs.ReaderFunctions.{left, Passes, begins_with, why_ahead, Accepts, Course, course, StopsAt, Leads, Wants, Reads_by}
+use Rattle.dia_ccf.specs.Machine.{State, next, whole, refused, why, outcome, Outcome, Stops, ended, is_number, same_sign, name_at, number_at, sign_at, slot_at, begins_qualifier, Rules, Qual_min, Qual_star, Qual_done}
+use Rattle.dia_ccf.specs.ReaderFunctions.{left, Passes, begins_with, why_ahead, AcceptsUnless, Accepts, Course, course, StopsAt, Leads, Wants, Reads_by}
 use Rattle.dia_ccf.proofs.TokenTests.{mapped, name_at-is, number_at-is, sign_at-is, same_sign-is, slot_at-is}
 use Rattle.dia_ccf.proofs.MachineRuns.{take_one, stop_at, outcome_same}
 
@@ -107,6 +107,10 @@ exits from to k (Err e) new is h = subst (λ (r : Refusal). StopsAt from r new) 
 
 -- ---- qualifiers
 
+pub map_twice : {X Y Z : Type 0} (f : Y → Z) (g : X → Y) (o : Option X) → option_map f (option_map g o) ≡ option_map (λ x. f (g x)) o
+map_twice f g None = refl
+map_twice f g (Some x) = refl
+
 -- what count says of an Ok
 abbrev Counted : Reader → Option ℕ → Reader → Type 0
 Counted old n new = MatchBool (begins_with is_number (left old)) ((t : Token) × (option_map (λ k. Some k) (number_at 0 max_number t) ≡ Some n)
@@ -167,6 +171,67 @@ max_read done d old new min max counted = by_number (begins_with is_number (left
         no_number_star : (t : Token) → is_number t ≡ false → refused (done, Qual_star d min) t ≡ refused (done, Qual_done d (record { min = min; max = None })) t
         no_number_star (Number n) h = absurd cc
         no_number_star t h = refl
+
+-- ---- a qualifier that is refused
+
+-- what count says of an Err
+abbrev Uncounted : Reader → Refusal → Reader → Type 0
+Uncounted old k new = MatchBool (begins_with is_number (left old)) (AcceptsUnless true false (λ t. option_map (λ n. Some n) (number_at 0 max_number t)) old k new)
+    ((◌≡◌ {A = Result (Option ℕ) Refusal} (Err k) (Ok None)) × (new ≡ old))
+
+abbrev placed : (ℕ → State) → State → Option ℕ → State
+placed to state None = state
+placed to state (Some n) = to n
+
+-- a number that the machine refuses
+count_stops : (state : State) (to : ℕ → State) (old new : Reader) (k : Refusal)
+    → ((n : ℕ) → (next state (Number n) ≡ option_map to (number_at 0 max_number (Number n))) × (refused state (Number n) ≡ why true false (Number n)))
+    → Uncounted old k new → StopsAt (course state old) k new
+count_stops state to old new k does h = by_number (begins_with is_number (left old)) refl h
+  where
+    by_number : (b : Bool) → begins_with is_number (left old) ≡ b → MatchBool b (AcceptsUnless true false (λ t. option_map (λ n. Some n) (number_at 0 max_number t)) old k new)
+        ((◌≡◌ {A = Result (Option ℕ) Refusal} (Err k) (Ok None)) × (new ≡ old)) → StopsAt (course state old) k new
+    by_number false e (none, same) = absurd cc
+    by_number true e told = accepted true false (λ t. option_map (λ n. Some n) (number_at 0 max_number t)) (λ n. n) (placed to state) state old new (Err k) (wanted (left old) e) told
+      where
+        wanted : (ts : List Token) → begins_with is_number ts ≡ true
+            → Wants true false (λ t. option_map (placed to state) (option_map (λ n. Some n) (number_at 0 max_number t))) state ts
+        wanted [] f = absurd cc
+        wanted (Number n ∷ us) f = ((does n).0 ∙ sym (map_twice (placed to state) (λ m. Some m) (number_at 0 max_number (Number n))), (does n).1)
+        wanted (t ∷ us) f = absurd cc
+
+-- the count before the star
+pub min_stops : (done : PlainSource) (d : PlainDef) (old new : Reader) (k : Refusal) → Uncounted old k new → StopsAt (course (done, Rules d) old) k new
+min_stops done d old new k h = count_stops (done, Rules d) (λ n. (done, Qual_min d n)) old new k (λ n. (refl, refl)) h
+
+-- the star
+pub star_stops : (done : PlainSource) (d : PlainDef) (old mid new : Reader) (min : Option ℕ) (k : Refusal) → begins_with begins_qualifier (left old) ≡ true → Counted old min mid
+    → AcceptsUnless false false (sign_at Star) mid k new → StopsAt (course (done, Rules d) old) k new
+star_stops done d old mid new min k begins counted told = by_number (begins_with is_number (left old)) refl counted
+  where
+    by_number : (b : Bool) → begins_with is_number (left old) ≡ b → MatchBool b ((t : Token) × (option_map (λ k. Some k) (number_at 0 max_number t) ≡ Some min) × Passes old (t ∷ []) mid)
+        ((◌≡◌ {A = Result (Option ℕ) Refusal} (Ok min) (Ok None)) × (mid ≡ old)) → StopsAt (course (done, Rules d) old) k new
+    by_number true e (u, read, first) =
+        let c = counted_some u min read in
+        let step : next (done, Rules d) u ≡ Some (done, Qual_min d c.0) = subst (λ (x : Token). next (done, Rules d) x ≡ Some (done, Qual_min d c.0))
+        (sym c.1) (ap (option_map (λ n. (done, Qual_min d n))) c.3) in
+        subst (λ (from : Course). StopsAt from k new) (sym (passes_one (done, Rules d) (done, Qual_min d c.0) u old mid first step))
+        (accepted {X = Unit {0}} false false (sign_at Star) (λ u. tt) (λ u. (done, Qual_star d (Some c.0))) (done, Qual_min d c.0) mid new (Err k)
+        (wants_all false false (sign_at Star) (λ u. (done, Qual_star d (Some c.0))) (done, Qual_min d c.0) (λ t. refl) (λ t. refl) refl (left mid)) told)
+    by_number false e (none, same) =
+        subst (λ (from : Course). StopsAt from k new) (ap (course (done, Rules d)) same)
+        (accepted {X = Unit {0}} false false (sign_at Star) (λ u. tt) (λ u. (done, Qual_star d None)) (done, Rules d) mid new (Err k)
+        (subst (λ (r : Reader). Wants false false (λ t. option_map (λ u. (done, Qual_star d None)) (sign_at Star t)) (done, Rules d) (left r)) (sym same) (wanted (left old) begins e)) told)
+      where
+        wanted : (ts : List Token) → begins_with begins_qualifier ts ≡ true → begins_with is_number ts ≡ false
+            → Wants false false (λ t. option_map (λ u. (done, Qual_star d None)) (sign_at Star t)) (done, Rules d) ts
+        wanted [] f g = absurd cc
+        wanted (Star ∷ us) f g = (refl, refl)
+        wanted (t ∷ us) f g = absurd cc
+
+-- the count behind the star
+pub max_stops : (done : PlainSource) (d : PlainDef) (old new : Reader) (min : Option ℕ) (k : Refusal) → Uncounted old k new → StopsAt (course (done, Qual_star d min) old) k new
+max_stops done d old new min k h = count_stops (done, Qual_star d min) (λ n. (done, Qual_done d (record { min = min; max = Some n }))) old new k (λ n. (refl, refl)) h
 
 -- ---- slots
 
