@@ -1,18 +1,23 @@
 -- Steps of the reader in a head.
 use Rattle.std.proofs.Common.{◌≡◌, ℕ, ◌≤◌, arith, Bool, true, false, cond, List, [], ◌∷◌, Option, Some, None, refl, sym, ap, subst, ◌∙◌}
-use Rattle.std.specs.Prelude.{◌||◌, codes, map}
+use Rattle.std.specs.Prelude.{◌||◌, ◌&&◌, ◌+◌, codes, map, nat_lt, Err}
+use Rattle.std.proofs.lemmas.Bool.{lt-ltb}
 use Rattle.std.specs.Option.{option_map}
 use Rattle.std.specs.Char.{to_ascii_lowercase}
 use Rattle.dia_ccf.specs.declared.reading.Reader.{Reader}
-use Rattle.dia_ccf.specs.declared.source.Head.TheVariants.{Command}
+use Rattle.dia_ccf.specs.declared.reading.refusal.Refusal.{Refusal}
+use Rattle.dia_ccf.specs.declared.source.Head.{Head}
+use Rattle.dia_ccf.specs.declared.source.Head.TheVariants.{Command, Group, Error}
+use Rattle.dia_ccf.specs.declared.source.Pxy.TheVariants.{Either}
 use Rattle.dia_ccf.specs.Plain.{PlainSource}
-use Rattle.dia_ccf.specs.Tokens.{Token, Comma, Number, Name}
+use Rattle.dia_ccf.specs.Tokens.{Token, Greater, Comma, Close_bracket, Number, Name}
 use Rattle.dia_ccf.specs.Limits.{max_number, max_command_code}
-use Rattle.dia_ccf.specs.Machine.{State, HeadPlace, In_head, Command_code, Flags, Head_end, next, next_flag, refused, outcome, is_keyword, is_number, same_sign, number_at, keyword_at}
-use Rattle.dia_ccf.specs.ReaderFunctions.{left, Passes, begins_with, Takes, Flags_read, course, Wants}
+use Rattle.dia_ccf.specs.Machine.{State, HeadPlace, Rules, In_head, Command_code, Group_code, Group_vendor, Error_word, Error_flags, Error_either, Error_close, Flags}
+use Rattle.dia_ccf.specs.Machine.{Head_end, next, next_flag, refused, whole, why, outcome, is_keyword, is_number, same_sign, sign_at, number_at, keyword_at}
+use Rattle.dia_ccf.specs.ReaderFunctions.{left, Passes, begins_with, Takes, AcceptsUnless, Flags_read, Course, StopsAt, course, Wants}
 use Rattle.dia_ccf.proofs.TokenTests.{number_at-is, keyword-is, keyword_at-is}
 use Rattle.dia_ccf.proofs.MachineRuns.{outcome_same}
-use Rattle.dia_ccf.proofs.ReaderSteps.{passes_one, takes_sign, map_twice}
+use Rattle.dia_ccf.proofs.ReaderSteps.{passes_one, takes_sign, accepted, map_twice}
 
 -- a number was passed
 pub number_passed : (state : State) (to : ℕ → State) (least most n : ℕ) (old new : Reader) → (t : Token) × (number_at least most t ≡ Some n) × Passes old (t ∷ []) new
@@ -166,3 +171,119 @@ command_begun done name code start first second third last comma asked proxied n
 pub takes_farther : (test : Token → Bool) (old new : Reader) (b : Bool) → Takes test old b new → old.taken ≤ new.taken
 takes_farther test old new true (t, e, passes) = omega (arith, passes.2)
 takes_farther test old new false (none, same) = subst (λ (r : Reader). old.taken ≤ r.taken) (sym same) (omega arith)
+
+-- ---- numbers in bounds
+
+pub number_small : (most n : ℕ) (t : Token) → number_at 0 most t ≡ Some n → nat_lt n (most + 1) ≡ true
+number_small most n t h = let is = number_at-is 0 most t n h in lt-ltb n (most + 1) (omega (arith, is.2))
+
+pub both_hold : (a b : Bool) → a ≡ true → b ≡ true → (a && b) ≡ true
+both_hold a b h k = rw (h, k) refl
+
+-- ---- the number of a command
+
+pub code_wanted : (done : PlainSource) (name : List ℕ) (ts : List Token) → begins_with (is_keyword (codes "code")) ts ≡ false
+    → Wants true false (λ t. option_map (λ n. flags_at done name n false false false) (number_at 0 max_command_code t)) (done, In_head name Command_code) ts
+code_wanted done name [] h = refl
+code_wanted done name (Number n ∷ us) h = (map_twice (λ to. (done, In_head name to)) (λ m. Flags m false false false) (number_at 0 max_command_code (Number n)), refl)
+code_wanted done name (Name w ∷ us) h = (rw h refl, refl)
+code_wanted done name (t ∷ us) h = (refl, refl)
+
+-- ---- the numbers of a group
+
+abbrev pub group_at : PlainSource → List ℕ → ℕ → Bool → State
+group_at done name code comma = (done, In_head name (Group_vendor code comma))
+
+abbrev pub group_end : PlainSource → List ℕ → ℕ → ℕ → State
+group_end done name code vendor = (done, In_head name (Head_end (Group code vendor)))
+
+pub group_wanted : (done : PlainSource) (name : List ℕ) (ts : List Token)
+    → Wants true false (λ t. option_map (λ n. group_at done name n false) (number_at 0 max_number t)) (done, In_head name Group_code) ts
+group_wanted done name [] = refl
+group_wanted done name (Number n ∷ us) = (map_twice (λ to. (done, In_head name to)) (λ m. Group_vendor m false) (number_at 0 max_number (Number n)), refl)
+group_wanted done name (t ∷ us) = (refl, refl)
+
+-- a group from its code to its comma
+pub group_begun : (done : PlainSource) (name : List ℕ) (code : ℕ) (start first second : Reader) (comma : Bool)
+    → (t : Token) × (number_at 0 max_number t ≡ Some code) × Passes start (t ∷ []) first → Takes (same_sign Comma) first comma second
+    → (course (done, In_head name Group_code) start ≡ course (group_at done name code comma) second) × (comma ≡ false → no_comma (left second))
+group_begun done name code start first second comma n a =
+    let k = number_passed (done, In_head name Group_code) (λ m. group_at done name m false) 0 max_number code start first n
+    (λ m. map_twice (λ to. (done, In_head name to)) (λ m. Group_vendor m false) (number_at 0 max_number (Number m))) in
+    let s = comma_step (group_at done name code) first second comma a refl in
+    (k ∙ s.0, s.1)
+
+-- behind a comma a number has to come
+pub vendor_wanted : (done : PlainSource) (name : List ℕ) (code : ℕ) (comma : Bool) (ts : List Token) → (comma || begins_with is_number ts) ≡ true
+    → Wants true false (λ t. option_map (group_end done name code) (number_at 0 max_number t)) (group_at done name code comma) ts
+vendor_wanted done name code comma [] h = refl
+vendor_wanted done name code comma (Number n ∷ us) h = (map_twice (λ to. (done, In_head name to)) (λ n. Head_end (Group code n)) (number_at 0 max_number (Number n)), refl)
+vendor_wanted done name code true (t ∷ us) h = (refl, refl)
+vendor_wanted done name code false (t ∷ us) h = absurd cc
+
+-- where neither a comma nor a number is ahead the head ends
+pub group_ends : (done : PlainSource) (name : List ℕ) (code : ℕ) (comma : Bool) (ts : List Token) → (comma ≡ false → no_comma ts) → (comma || begins_with is_number ts) ≡ false
+    → outcome (group_at done name code comma) ts ≡ outcome (group_end done name code 0) ts
+group_ends done name code true ts s h = absurd cc
+group_ends done name code false ts s h = outcome_same (group_at done name code false) (group_end done name code 0) ts
+    (λ t us e. at_token t us (subst (λ (f : List Token). no_comma f) e (s refl)) (ap (begins_with is_number) (sym e) ∙ h)) (λ e. refl)
+  where
+    at_token : (t : Token) (us : List Token) → no_comma (t ∷ us) → is_number t ≡ false
+        → (next (group_at done name code false) t ≡ next (group_end done name code 0) t) × (refused (group_at done name code false) t ≡ refused (group_end done name code 0) t)
+    at_token (Number n) us k free = absurd cc
+    at_token Comma us k free = absurd cc
+    at_token t us k free = (refl, refl)
+
+-- ---- a keyword behind a comma or none, where the keyword is refused
+
+abbrev Expects : State → State → List ℕ → Token → Type 0
+Expects state to text t = (next state t ≡ option_map (λ u. to) (keyword_at text t)) × (refused state t ≡ why false false t)
+
+keyword_stops : (at : Bool → State) (to : State) (text : List ℕ) (old mid new : Reader) (b : Bool) (k : Refusal) → next (at false) Comma ≡ Some (at true)
+    → ((c : Bool) → whole (at c) ≡ None) → ((c : Bool) (t : Token) → (c ≡ false → same_sign Comma t ≡ false) → Expects (at c) to text t)
+    → Takes (same_sign Comma) old b mid → AcceptsUnless false false (keyword_at text) mid k new → StopsAt (course (at false) old) k new
+keyword_stops at to text old mid new b k begins unfinished expects taken told =
+    let s = comma_step at old mid b taken begins in
+    subst (λ (from : Course). StopsAt from k new) (sym s.0)
+    (accepted {X = Unit {0}} false false (keyword_at text) (λ u. tt) (λ u. to) (at b) mid new (Err k) (wanted (left mid) s.1) told)
+  where
+    wanted : (ts : List Token) → (b ≡ false → no_comma ts) → Wants false false (λ t. option_map (λ u. to) (keyword_at text t)) (at b) ts
+    wanted [] f = unfinished b
+    wanted (t ∷ us) f = expects b t f
+
+-- `PXY` in the brackets of the head for errors
+pub proxy_stops : (done : PlainSource) (name : List ℕ) (old mid new : Reader) (b : Bool) (k : Refusal) → Takes (same_sign Comma) old b mid
+    → AcceptsUnless false false (keyword_at (codes "pxy")) mid k new → StopsAt (course (done, In_head name (Error_either false)) old) k new
+proxy_stops done name old mid new b k taken told =
+    keyword_stops (λ c. (done, In_head name (Error_either c))) (done, In_head name Error_close) (codes "pxy") old mid new b k refl (λ c. refl) expects taken told
+  where
+    expects : (c : Bool) (t : Token) → (c ≡ false → same_sign Comma t ≡ false) → Expects (done, In_head name (Error_either c)) (done, In_head name Error_close) (codes "pxy") t
+    expects c (Name w) f = (map_twice (λ to. (done, In_head name to)) (λ u. Error_close) (keyword_at (codes "pxy") (Name w)), refl)
+    expects true t f = (refl, refl)
+    expects false Comma f = absurd (let e = f refl in cc)
+    expects false t f = (refl, refl)
+
+-- `ERR`
+pub error_stops : (done : PlainSource) (name : List ℕ) (old mid new : Reader) (b : Bool) (k : Refusal) → Takes (same_sign Comma) old b mid
+    → AcceptsUnless false false (keyword_at (codes "err")) mid k new → StopsAt (course (done, In_head name (Error_word false)) old) k new
+error_stops done name old mid new b k taken told =
+    keyword_stops (λ c. (done, In_head name (Error_word c))) (done, In_head name (Error_flags false)) (codes "err") old mid new b k refl (λ c. refl) expects taken told
+  where
+    expects : (c : Bool) (t : Token) → (c ≡ false → same_sign Comma t ≡ false) → Expects (done, In_head name (Error_word c)) (done, In_head name (Error_flags false)) (codes "err") t
+    expects c (Name w) f = (map_twice (λ to. (done, In_head name to)) (λ u. Error_flags false) (keyword_at (codes "err") (Name w)), refl)
+    expects true t f = (refl, refl)
+    expects false Comma f = absurd (let e = f refl in cc)
+    expects false t f = (refl, refl)
+
+-- the closing bracket of `PXY`
+pub either_closes : (done : PlainSource) (name : List ℕ) (ts : List Token)
+    → Wants false false (λ t. option_map (λ u. (done, In_head name (Head_end (Error Either)))) (sign_at Close_bracket t)) (done, In_head name Error_close) ts
+either_closes done name [] = refl
+either_closes done name (Close_bracket ∷ us) = (refl, refl)
+either_closes done name (t ∷ us) = (refl, refl)
+
+-- the `>` of a head
+pub head_closed : (done : PlainSource) (name : List ℕ) (head : Head) (t : Token)
+    → next (done, In_head name (Head_end head)) t ≡ option_map (λ u. (done, Rules (record { name = name; head = head; rules = [] }))) (sign_at Greater t)
+head_closed done name head Greater = refl
+head_closed done name head t = refl

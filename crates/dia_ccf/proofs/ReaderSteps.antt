@@ -13,7 +13,8 @@ use Rattle.dia_ccf.specs.Names.{is_name, is_fixed, is_rule_name}
 use Rattle.dia_ccf.specs.Plain.{PlainSource, PlainDef}
 use Rattle.dia_ccf.specs.Limits.{max_number}
 use Rattle.dia_ccf.specs.Tokens.{Token, Star, Number}
-use Rattle.dia_ccf.specs.Machine.{State, next, whole, refused, why, outcome, Outcome, Stops, ended, is_number, same_sign, name_at, number_at, sign_at, slot_at, begins_qualifier, Rules, Qual_min, Qual_star, Qual_done}
+use Rattle.dia_ccf.specs.Machine.{State, next, whole, refused, why, outcome, Outcome, Stops, ended, is_number}
+use Rattle.dia_ccf.specs.Machine.{same_sign, name_at, number_at, sign_at, slot_at, begins_qualifier, Rules, Qual_min, Qual_star, Qual_done}
 use Rattle.dia_ccf.specs.ReaderFunctions.{left, Passes, begins_with, why_ahead, AcceptsUnless, Accepts, Course, course, StopsAt, Leads, Wants, Reads_by}
 use Rattle.dia_ccf.proofs.TokenTests.{mapped, name_at-is, number_at-is, sign_at-is, same_sign-is, slot_at-is}
 use Rattle.dia_ccf.proofs.MachineRuns.{take_one, stop_at, outcome_same}
@@ -92,6 +93,12 @@ pub wants_all : {Y : Type 0} (numbers names : Bool) (read : Token → Option Y) 
     → ((t : Token) → refused state t ≡ why numbers names t) → whole state ≡ None → (ts : List Token) → Wants numbers names (λ t. option_map to (read t)) state ts
 wants_all numbers names read to state a b c [] = c
 wants_all numbers names read to state a b c (t ∷ ts) = (a t, b t)
+
+-- a sign was read
+pub sign_leads : (state to : State) (sign : Token) (old new : Reader) (result : Result (Unit {0}) Refusal) → ((t : Token) → next state t ≡ option_map (λ u. to) (sign_at sign t))
+    → ((t : Token) → refused state t ≡ why false false t) → whole state ≡ None → Accepts false false (sign_at sign) (λ u. tt) old result new → Leads (course state old) (λ u. to) result new
+sign_leads state to sign old new result a b c told =
+    accepted {X = Unit {0}} false false (sign_at sign) (λ u. tt) (λ u. to) state old new result (wants_all false false (sign_at sign) (λ u. to) state a b c (left old)) told
 
 -- the name that was read is one
 pub named_by : (old new : Reader) (result : Result (String Global) Refusal) → Accepts false true name_at (λ name. string_bytes name) old result new

@@ -5,7 +5,7 @@ use Rattle.dia_ccf.specs.Machine.{Outcome, Rules, Angle_name, Angle_close, After
 use Rattle.dia_ccf.specs.ReaderFunctions.{course, left, begins_with, after_rules}
 use Rattle.dia_ccf.proofs.MachineCompleteness.{angle_settled}
 use Rattle.dia_ccf.proofs.ReaderSteps.{leads_along, exits, takes_sign}
-use Rattle.dia_ccf.proofs.ReaderInRules.{bare_wanted, angle_defines, or_false}
+use Rattle.dia_ccf.proofs.ReaderInRules.{bare_wanted, rules_end, angle_defines, or_false}
 use Rattle.dia_ccf.proofs.reading.Reader.behind_rules.Goals as goal
 
 pub returns-in_err-name-clause-read : goal.returns-in_err-name-clause-read
@@ -41,3 +41,28 @@ returns-in_err-rule-2-clause-read c = λ done d e.
     (after_rules done d) c.from_residual-in_err-rule-2.result c.loose.new.self (ap (course (done, Rules d)) (sym c.if-takes.ensures.1))
     (exits (course (done, Rules d) c.takes.new.self)
     (after_rules done d) c.in_err-rule-2.field-0.0 c.from_residual-in_err-rule-2.result c.loose.new.self c.from_residual-in_err-rule-2.ensures.1 stops))
+
+pub invariant_of-result : goal.invariant_of-result
+invariant_of-result c = record { named = c.in_ok-name.ensures.named; counted = refl }
+
+pub returns-in_err-rule-clause-read : goal.returns-in_err-rule-clause-read
+returns-in_err-rule-clause-read c = λ done d e.
+    leads_along (course (done, Rules d) c.args.self.now) (course (done, Rules d) c.takes.new.self)
+    (after_rules done d) c.from_residual-in_err-rule.result c.qualified.new.self (ap (course (done, Rules d)) (sym c.if-takes.ensures.1))
+    (exits (course (done, Rules d) c.takes.new.self)
+    (after_rules done d) c.in_err-rule.field-0.0 c.from_residual-in_err-rule.result c.qualified.new.self c.from_residual-in_err-rule.ensures.1 (c.in_err-rule.ensures.read done d e))
+
+pub returns-then-is_at_qualifier-clause-read : goal.returns-then-is_at_qualifier-clause-read
+returns-then-is_at_qualifier-clause-read c = λ done d e. ap (course (done, Rules d)) (sym c.if-takes.ensures.1) ∙ c.in_ok-rule.ensures.read done d e
+
+pub returns-then-is_at_loose-clause-read : goal.returns-then-is_at_loose-clause-read
+returns-then-is_at_loose-clause-read c = λ done d e.
+    ap (course (done, Rules d)) (sym c.if-takes.ensures.1)
+    ∙ c.in_ok-rule-2.ensures.read done d (done, Rules d) (bare_wanted done d (left c.takes.new.self) (sym c.is_at_loose.ensures ∙ c.if-is_at_loose.true))
+
+pub returns-clause-read : goal.returns-clause-read
+returns-clause-read c = λ done d e.
+    (let same = c.if-takes.ensures.1 in
+    ap (course (done, Rules d)) (sym same) ∙ ap (λ (o : Outcome). (c.takes.new.self.text.now, o))
+    (rules_end done d (left c.takes.new.self) (ap (λ r. begins_with (same_sign Less) (left r)) same ∙ c.if-takes.ensures.0)
+    (sym c.is_at_qualifier.ensures ∙ c.if-is_at_qualifier.false) (sym c.is_at_loose.ensures ∙ c.if-is_at_loose.false)))

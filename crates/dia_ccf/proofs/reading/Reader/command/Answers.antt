@@ -1,12 +1,29 @@
-use Rattle.std.proofs.Common.{arith, ap, sym, Some, Ok, Err, ◌∙◌}
-use Rattle.std.specs.Prelude.{true, false}
-use Rattle.dia_ccf.specs.Limits.{max_number}
+use Rattle.std.proofs.Common.{arith, ap, sym, refl, Some, Ok, Err, ◌∙◌}
+use Rattle.std.specs.Prelude.{true, false, nat_lt}
+use Rattle.dia_ccf.specs.Limits.{max_number, max_command_code}
 use Rattle.dia_ccf.specs.Tokens.{Comma}
 use Rattle.dia_ccf.specs.Machine.{Outcome, same_sign, In_head, Command_code, Head_end, number_at}
 use Rattle.dia_ccf.specs.ReaderFunctions.{course, left}
 use Rattle.dia_ccf.proofs.ReaderSteps.{accepted, leads_along, exits}
-use Rattle.dia_ccf.proofs.ReaderInHeads.{flags_at, command_at, command_begun, number_wanted, command_ends, takes_farther}
+use Rattle.dia_ccf.proofs.ReaderInHeads.{flags_at, command_at, command_begun, number_wanted, command_ends, code_wanted, takes_farther, number_small, both_hold}
 use Rattle.dia_ccf.proofs.reading.Reader.command.Goals as goal
+
+pub returns-in_err-code-clause-read : goal.returns-in_err-code-clause-read
+returns-in_err-code-clause-read c = λ done name free.
+    (let stops = accepted true false (number_at 0 max_command_code) (λ n. n) (λ n. flags_at done name n false false false) (done, In_head name Command_code)
+    c.args.self.now c.number.new.self (Err c.in_err-code.field-0.0) (code_wanted done name (left c.args.self.now) free) c.in_err-code.ensures in
+    exits (course (done, In_head name Command_code) c.args.self.now)
+    (λ head. (done, In_head name (Head_end head))) c.in_err-code.field-0.0 c.from_residual.result c.number.new.self c.from_residual.ensures.1 stops)
+
+pub returns-then-not-wants_number-clause-sound : goal.returns-then-not-wants_number-clause-sound
+returns-then-not-wants_number-clause-sound c =
+    both_hold (nat_lt c.in_ok-code.code 16777216) true (number_small max_command_code c.in_ok-code.code c.in_ok-code.ensures.0 c.in_ok-code.ensures.1) refl
+
+pub returns-clause-sound : goal.returns-clause-sound
+returns-clause-sound c =
+    both_hold (nat_lt c.in_ok-code.code 16777216) (nat_lt c.in_ok-app.app 4294967296)
+    (number_small max_command_code c.in_ok-code.code c.in_ok-code.ensures.0 c.in_ok-code.ensures.1)
+    (number_small max_number c.in_ok-app.app c.in_ok-app.ensures.0 c.in_ok-app.ensures.1)
 
 pub returns-in_err-app-clause-read : goal.returns-in_err-app-clause-read
 returns-in_err-app-clause-read c = λ done name free.
@@ -52,4 +69,13 @@ returns-clause-farther c = omega (
   c.flag-request.ensures.farther,
   c.flag-pxy.ensures.farther,
   c.in_ok-app.ensures.2.2,
+)
+
+pub returns-then-not-wants_number-clause-farther : goal.returns-then-not-wants_number-clause-farther
+returns-then-not-wants_number-clause-farther c = omega (
+  arith,
+  c.in_ok-code.ensures.2.2,
+  takes_farther (same_sign Comma) c.number.new.self c.takes-comma.new.self c.takes-comma.result c.takes-comma.ensures,
+  c.flag-request.ensures.farther,
+  c.flag-pxy.ensures.farther,
 )

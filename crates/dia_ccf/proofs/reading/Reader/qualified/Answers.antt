@@ -1,10 +1,15 @@
-use Rattle.std.proofs.Common.{refl, Some, ◌∙◌}
+use Rattle.std.proofs.Common.{arith, refl, Some, ◌∙◌}
 use Rattle.dia_ccf.specs.Plain.{plain_rule}
-use Rattle.dia_ccf.specs.Machine.{Rules, Fixed_name, Fixed_close, with_rule, fixed_rule}
+use Rattle.dia_ccf.specs.Machine.{Rules, Qual_done, Fixed_name, Fixed_close, with_rule, fixed_rule}
 use Rattle.dia_ccf.specs.ReaderFunctions.{course}
 use Rattle.dia_ccf.proofs.ReaderSteps.{leads_along, exits}
-use Rattle.dia_ccf.proofs.ReaderInRules.{fixed_opened}
+use Rattle.dia_ccf.proofs.ReaderInRules.{fixed_opened, loose_along, never_fixed, farther_yet}
 use Rattle.dia_ccf.proofs.reading.Reader.qualified.Goals as goal
+
+pub returns-in_err-qual-clause-read : goal.returns-in_err-qual-clause-read
+returns-in_err-qual-clause-read c = λ done d e.
+    exits (course (done, Rules d) c.args.self.now)
+    (λ rule. (done, Rules (with_rule d (plain_rule rule)))) c.in_err-qual.field-0.0 c.from_residual.result c.qualifier.new.self c.from_residual.ensures.1 (c.in_err-qual.ensures.read done d)
 
 pub returns-in_err-name-clause-read : goal.returns-in_err-name-clause-read
 returns-in_err-name-clause-read c = λ done d e.
@@ -23,3 +28,28 @@ returns-then-takes_fixed-clause-read c = λ done d e.
     c.in_ok-qual.ensures.read done d ∙ fixed_opened done d q c.args.fixed c.qualifier.new.self c.takes_fixed.new.self e c.if-takes_fixed.ensures.read.0 c.if-takes_fixed.ensures.read.1
     ∙ c.in_ok-name.ensures.read (done, Fixed_name d q) (λ n. (done, Fixed_close d q n)) (λ n. (done, Rules (with_rule d (fixed_rule n (Some q)))))
     (record { next_is = λ t. refl; refused_is = λ t. refl; unfinished = refl }) (λ n. record { next_is = λ t. refl; refused_is = λ t. refl; unfinished = refl }))
+
+pub returns-then-takes_fixed-clause-farther : goal.returns-then-takes_fixed-clause-farther
+returns-then-takes_fixed-clause-farther c = omega (arith, c.in_ok-qual.ensures.farther, c.takes_fixed.ensures.farther, c.in_ok-name.ensures.farther)
+
+pub invariant_of-result : goal.invariant_of-result
+invariant_of-result c = record { named = c.in_ok-name.ensures.named; counted = c.in_ok-qual.ensures.small }
+
+pub loose-requires : goal.loose-requires
+loose-requires c = c.in_ok-qual.ensures.small
+
+pub returns-clause-read : goal.returns-clause-read
+returns-clause-read c = λ done d e.
+    (let q = c.in_ok-qual.qual in
+    let k = loose_along done d q c.args.fixed c.qualifier.new.self c.takes_fixed.new.self e c.if-takes_fixed.ensures.read in
+    leads_along (course (done, Rules d) c.args.self.now) (course (done, Qual_done d q) c.takes_fixed.new.self)
+    (λ rule. (done, Rules (with_rule d (plain_rule rule)))) c.loose.result c.loose.new.self (c.in_ok-qual.ensures.read done d ∙ k.0)
+    (c.loose.ensures.read done d (done, Qual_done d q) k.1))
+
+pub returns-clause-ordered : goal.returns-clause-ordered
+returns-clause-ordered c = never_fixed c.loose.result c.args.fixed c.loose.ensures.ordered
+
+pub returns-clause-farther : goal.returns-clause-farther
+returns-clause-farther c =
+    farther_yet c.loose.result c.args.self.now.taken c.takes_fixed.new.self.taken c.loose.new.self.taken
+    (omega (arith, c.in_ok-qual.ensures.farther, c.takes_fixed.ensures.farther)) c.loose.ensures.farther
