@@ -10,9 +10,9 @@ use Rattle.dia_ccf.specs.declared.source.Head.{Head}
 use Rattle.dia_ccf.specs.declared.source.Head.TheVariants.{Command, Group, Error}
 use Rattle.dia_ccf.specs.declared.source.Pxy.TheVariants.{Either}
 use Rattle.dia_ccf.specs.Plain.{PlainSource}
-use Rattle.dia_ccf.specs.Tokens.{Token, Greater, Comma, Close_bracket, Number, Name}
+use Rattle.dia_ccf.specs.Tokens.{Token, Greater, Colon, Comma, Close_bracket, Number, Name}
 use Rattle.dia_ccf.specs.Limits.{max_number, max_command_code}
-use Rattle.dia_ccf.specs.Machine.{State, HeadPlace, Rules, In_head, Command_code, Group_code, Group_vendor, Error_word, Error_flags, Error_either, Error_close, Flags}
+use Rattle.dia_ccf.specs.Machine.{State, HeadPlace, Rules, In_head, Avp_colon, Diameter_colon, Command_code, Group_code, Group_vendor, Error_word, Error_flags, Error_either, Error_close, Flags}
 use Rattle.dia_ccf.specs.Machine.{Head_end, next, next_flag, refused, whole, why, outcome, is_keyword, is_number, same_sign, sign_at, number_at, keyword_at}
 use Rattle.dia_ccf.specs.ReaderFunctions.{left, Passes, begins_with, Takes, AcceptsUnless, Flags_read, Course, StopsAt, course, Wants}
 use Rattle.dia_ccf.proofs.TokenTests.{number_at-is, keyword-is, keyword_at-is}
@@ -287,3 +287,14 @@ pub head_closed : (done : PlainSource) (name : List ℕ) (head : Head) (t : Toke
     → next (done, In_head name (Head_end head)) t ≡ option_map (λ u. (done, Rules (record { name = name; head = head; rules = [] }))) (sign_at Greater t)
 head_closed done name head Greater = refl
 head_closed done name head t = refl
+
+-- the colon of a head
+pub avp_colon : (done : PlainSource) (name : List ℕ) (t : Token) → next (done, In_head name Avp_colon) t ≡ option_map (λ u. (done, In_head name Group_code)) (sign_at Colon t)
+avp_colon done name Greater = refl
+avp_colon done name Colon = refl
+avp_colon done name t = refl
+
+pub diameter_colon : (done : PlainSource) (name : List ℕ) (t : Token) → next (done, In_head name Diameter_colon) t ≡ option_map (λ u. (done, In_head name Command_code)) (sign_at Colon t)
+diameter_colon done name Greater = refl
+diameter_colon done name Colon = refl
+diameter_colon done name t = refl
