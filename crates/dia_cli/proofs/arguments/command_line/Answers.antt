@@ -12,4 +12,6 @@ returns c =
     let with_render = c.in_ok-line-3.ensures render_shape c.render_line.ensures ∙ ap (λ app. with_subcommand app render_shape) with_check in
     let with_compare = c.in_ok-line-4.ensures (compare_shape policies) c.compare_line.ensures ∙ ap (λ app. with_subcommand app (compare_shape policies)) with_render in
     let with_refute = c.in_ok-line-5.ensures (refute_shape policies) c.refute_line.ensures ∙ ap (λ app. with_subcommand app (refute_shape policies)) with_compare in
-    IfOk-weaker c.with_line-6.result _ _ (λ line added. added (propose_shape policies) c.propose_line.ensures ∙ ap (λ app. with_subcommand app (propose_shape policies)) with_refute) c.with_line-6.ensures
+    IfOk-weaker c.with_line-6.result _ _
+    (λ line added. added (propose_shape policies) c.propose_line.ensures ∙ ap (λ app. with_subcommand app (propose_shape policies)) with_refute)
+    c.with_line-6.ensures
