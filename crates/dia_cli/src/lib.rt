@@ -1,12 +1,17 @@
 //! The command line of `diacmd` as functions over values: what its words ask for, where the inputs come from, and how the
 //! program ends.
 //!
-//! `parse_words` reads the words, the program's own name first. `open_inputs` reads what they name:
+//! `parse_words` reads the words, the program's own name first. `open_inputs` reads what they name. `run` of dia_run does the
+//! rest:
 //!
 //! ```text
-//! let request = parse_words(alloc, &["diacmd", "check", "@base", "m.hex"])?;
-//! let inputs = open_inputs(rt, &request.origins())?;
-//! let exit = run(alloc, &request.into_command(), &inputs, &mut sink);
+//! let words = ["diacmd", "check", "@base", "/dev/null"];
+//! let request = parse_words(alloc, words.as_slice())?;
+//! let inputs = open_inputs(&rt, &request.origins())?;
+//! let mut sink = ToWriter::new(Vec::new(alloc));
+//! let exit = run(alloc, &request.into_command(), &inputs, &mut sink)?;
+//! assert_eq!(rt; exit, Exit::No);
+//! assert!(rt; sink.writer.as_slice() == b"truncated\n".as_slice());
 //! ```
 //!
 //! An `Ending` says why there is no outcome. `finish` prints it, and answers the status of the process.

@@ -17,8 +17,8 @@ use Rattle.dia_dict.specs.declared.DefHead.TheVariants.{Group, Command, Error}
 use Rattle.dia_dict.specs.Dictionary.{Dictionary, PlainDefinition, IsDictionary, IsCommandHead, is_command, same_class}
 use Rattle.dia_check.specs.Valid.{AllowsP, PHolds, HasP}
 use Rattle.dia_compat.specs.TableText.{PlainTable}
-use Rattle.dia_compat.specs.Closed.{HasCode, IsError, IsBeside, NamesApp, IsWanted, error, same_app, no_app, both_none, other_app, IsServed, SameSelector, CommandPair}
-use Rattle.dia_compat.specs.PairTests.{NamePair, is_pair, names_app, wants_app, is_wanted, serves, serves_app, same_selector, p_of, p_within, is_proxiable, is_selected, is_command_pair}
+use Rattle.dia_compat.specs.Closed.{HasCode, IsError, IsBeside, NamesApp, IsWanted, error, same_app, no_app, both_none, other_app, IsServed, SameCodeAndClass, CommandPair}
+use Rattle.dia_compat.specs.PairTests.{NamePair, is_pair, names_app, wants_app, is_wanted, serves, serves_app, same_code_and_class, p_of, p_within, is_proxiable, is_selected, is_command_pair}
 use Rattle.dia_compat.proofs.RunsOfFixedRules.{IsIn}
 use Rattle.dia_compat.proofs.MemberCounts.{in_contains, contains_in, any_in, in_any}
 use Rattle.dia_compat.proofs.FitInSecond.{all_of}
@@ -61,23 +61,23 @@ no_error c code class app p e h = let f : Error h.0 ≡ Command code class app p
 
 -- ---- the selector
 
-selector_decides : (c d : PlainDefinition) (x y : DefHead) → c.head ≡ x → d.head ≡ y → IsCommandHead x → IsCommandHead y → Decides (same_selector x y) (SameSelector c d)
-selector_decides c d (Group k) y e f i j = absurd i
-selector_decides c d x (Group k) e f i j = absurd j
-selector_decides c d (Error p) (Error q) e f i j = (λ g. inl ((p, e), (q, f)), λ h. refl)
-selector_decides c d (Error p) (Command code class app q) e f i j = (λ g. absurd (let h : false ≡ true = g in cc), wrong)
+code_and_class_decide : (c d : PlainDefinition) (x y : DefHead) → c.head ≡ x → d.head ≡ y → IsCommandHead x → IsCommandHead y → Decides (same_code_and_class x y) (SameCodeAndClass c d)
+code_and_class_decide c d (Group k) y e f i j = absurd i
+code_and_class_decide c d x (Group k) e f i j = absurd j
+code_and_class_decide c d (Error p) (Error q) e f i j = (λ g. inl ((p, e), (q, f)), λ h. refl)
+code_and_class_decide c d (Error p) (Command code class app q) e f i j = (λ g. absurd (let h : false ≡ true = g in cc), wrong)
   where
-    wrong : SameSelector c d → same_selector (Error p) (Command code class app q) ≡ true
+    wrong : SameCodeAndClass c d → same_code_and_class (Error p) (Command code class app q) ≡ true
     wrong (inl h) = absurd (no_error d code class app q f h.1)
     wrong (inr (n, cl, a, b, h, k)) = absurd (no_code c n cl a p e h)
-selector_decides c d (Command code class app p) (Error q) e f i j = (λ g. absurd (let h : false ≡ true = g in cc), wrong)
+code_and_class_decide c d (Command code class app p) (Error q) e f i j = (λ g. absurd (let h : false ≡ true = g in cc), wrong)
   where
-    wrong : SameSelector c d → same_selector (Command code class app p) (Error q) ≡ true
+    wrong : SameCodeAndClass c d → same_code_and_class (Command code class app p) (Error q) ≡ true
     wrong (inl h) = absurd (no_error c code class app p e h.0)
     wrong (inr (n, cl, a, b, h, k)) = absurd (no_code d n cl b q f k)
-selector_decides c d (Command code class app p) (Command own kind app' q) e f i j = (right, back)
+code_and_class_decide c d (Command code class app p) (Command own kind app' q) e f i j = (right, back)
   where
-    right : ((code == own) && same_class class kind) ≡ true → SameSelector c d
+    right : ((code == own) && same_class class kind) ≡ true → SameCodeAndClass c d
     right g =
         let s = and_parts (code == own) (same_class class kind) g in
         let codes : code ≡ own = eqb-true code own s.0 in
@@ -91,7 +91,7 @@ selector_decides c d (Command code class app p) (Command own kind app' q) e f i 
           record { p = q; head = f ∙ ap (λ (n : ℕ). Command n kind app' q) (sym codes) ∙ ap (λ (k : Class). Command code k app' q) (sym sorts) },
         )
 
-    back : SameSelector c d → ((code == own) && same_class class kind) ≡ true
+    back : SameCodeAndClass c d → ((code == own) && same_class class kind) ≡ true
     back (inl h) = absurd (no_error c code class app p e h.0)
     back (inr (n, cl, a, b, h, k)) =
         let s = of_head c n code cl class a app p e h in
@@ -333,7 +333,7 @@ module _ (da db : Dictionary) (sa : IsDictionary da) (sb : IsDictionary db) wher
         let x = all_of (λ (z : PlainDefinition). IsCommandHead z.head) da.commands c sa.command_heads i in
         let y = all_of (λ (z : PlainDefinition). IsCommandHead z.head) db.commands d sb.command_heads j in
         Decides-like (is_command_pair da db pairs c d) (λ h. record { same = h.0.0; proxiable = h.0.1; served = h.1.0; selection = h.1.1 }) (λ h. ((h.same, h.proxiable), (h.served, h.selection)))
-        (Decides-and (same_selector c.head d.head && is_proxiable c.head d.head) (is_selected da db pairs c)
-        (Decides-and (same_selector c.head d.head) (is_proxiable c.head d.head) (selector_decides c d c.head d.head refl refl x y) (proxiable_decides c.head d.head x y))
+        (Decides-and (same_code_and_class c.head d.head && is_proxiable c.head d.head) (is_selected da db pairs c)
+        (Decides-and (same_code_and_class c.head d.head) (is_proxiable c.head d.head) (code_and_class_decide c d c.head d.head refl refl x y) (proxiable_decides c.head d.head x y))
         (Decides-and (list_any (λ e. serves c.head e.head) db.commands) (list_all (λ e. not (is_wanted da db c.head e.head) || list_any (is_pair c.name e.name) pairs) db.commands)
         (served_decides c c.head) (selection_decides c i)))

@@ -11,7 +11,7 @@ use Rattle.std.proofs.lemmas.List.Sums.{count_by-le-length}
 use Rattle.std.proofs.lemmas.List.Splits.{length-slice_split}
 use Rattle.dia_compat.specs.declared.table.TableFault.{TableFault}
 use Rattle.dia_compat.specs.declared.table.TableFault.TheVariants as fault
-use Rattle.dia_compat.specs.TableText.{PlainTable, Line, Blank, Command, Avp, command_of, avp_of, table_of, with_line}
+use Rattle.dia_compat.specs.TableText.{PlainTable, Line, Blank, Command, Avp, command_pair, avp_pair, table_of, with_line}
 use Rattle.dia_compat.specs.TableText.{IsLine, HasForm, AreLines, HasShortNames, IsWithinLimits, IsTableOf, IsTable, IsFirstFault, IsTableFault}
 use Rattle.dia_compat.specs.Words.{first_word, behind_word, ArePairWords}
 use Rattle.dia_compat.specs.Lines.{Adds, PassesLimit, HasRoom}
@@ -96,9 +96,9 @@ one_lines (l ∷ ls) (m ∷ ms) (t ∷ ts) a b = ap (λ (x : Line). x ∷ ls) (o
 -- ---- tables
 
 table_append : (fs gs : List Line) → table_of (fs ++ gs) ≡ record { commands = (table_of fs).commands ++ (table_of gs).commands; avps = (table_of fs).avps ++ (table_of gs).avps }
-table_append fs gs = λ i. record { commands = filter_map-append command_of fs gs i; avps = filter_map-append avp_of fs gs i }
+table_append fs gs = λ i. record { commands = filter_map-append command_pair fs gs i; avps = filter_map-append avp_pair fs gs i }
 
-table_of-one : (l : Line) → table_of (l ∷ []) ≡ record { commands = option_to_list (command_of l); avps = option_to_list (avp_of l) }
+table_of-one : (l : Line) → table_of (l ∷ []) ≡ record { commands = option_to_list (command_pair l); avps = option_to_list (avp_pair l) }
 table_of-one Blank = refl
 table_of-one (Command a b) = refl
 table_of-one (Avp a b) = refl

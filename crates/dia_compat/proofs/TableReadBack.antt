@@ -11,7 +11,7 @@ use Rattle.std.proofs.lemmas.List.Concat.{flat_map-cons}
 use Rattle.std.proofs.lemmas.List.Folds.{list_all-append}
 use Rattle.std.proofs.lemmas.List.Sums.{AllPass-from_list_all}
 use Rattle.std.proofs.lemmas.List.Splits.{slice_split_at, length-slice_split}
-use Rattle.dia_compat.specs.TableText.{PlainTable, Line, Blank, Command, Avp, command_of, avp_of, is_run_byte, is_name_run}
+use Rattle.dia_compat.specs.TableText.{PlainTable, Line, Blank, Command, Avp, command_pair, avp_pair, is_run_byte, is_name_run}
 use Rattle.dia_compat.specs.TableText.{max_table, IsPair, IsLine, AreLines, HasShortNames, IsTable}
 use Rattle.dia_compat.specs.WrittenTable.{pair_text, pair_lines, table_text, AreNames, IsWritable}
 use Rattle.dia_compat.proofs.WordsOfLines.{regroup}
@@ -122,12 +122,12 @@ command_line p = Command p.0 p.1
 abbrev avp_line : Pair → Line
 avp_line p = Avp p.0 p.1
 
-commands_said : (cs vs : List Pair) → filter_map command_of (map command_line cs ++ map avp_line vs) ≡ cs
+commands_said : (cs vs : List Pair) → filter_map command_pair (map command_line cs ++ map avp_line vs) ≡ cs
 commands_said [] [] = refl
 commands_said [] (p ∷ vs) = commands_said [] vs
 commands_said (p ∷ cs) vs = ap (λ (ps : List Pair). p ∷ ps) (commands_said cs vs)
 
-avps_said : (cs vs : List Pair) → filter_map avp_of (map command_line cs ++ map avp_line vs) ≡ vs
+avps_said : (cs vs : List Pair) → filter_map avp_pair (map command_line cs ++ map avp_line vs) ≡ vs
 avps_said [] [] = refl
 avps_said [] (p ∷ vs) = ap (λ (ps : List Pair). p ∷ ps) (avps_said [] vs)
 avps_said (p ∷ cs) vs = avps_said cs vs
@@ -180,14 +180,14 @@ text_fits t w =
 
 -- ---- tables that were read
 
-names_of_commands : (ls : List Line) (ts : List (List ℕ)) → AreLines ls ts → AllByRecursion AreNames (filter_map command_of ls)
+names_of_commands : (ls : List Line) (ts : List (List ℕ)) → AreLines ls ts → AllByRecursion AreNames (filter_map command_pair ls)
 names_of_commands [] ts are = tt
 names_of_commands (l ∷ ls) [] are = absurd are
 names_of_commands (Blank ∷ ls) (t ∷ ts) are = names_of_commands ls ts are.1
 names_of_commands (Command a b ∷ ls) (t ∷ ts) are = (are.0.names, names_of_commands ls ts are.1)
 names_of_commands (Avp a b ∷ ls) (t ∷ ts) are = names_of_commands ls ts are.1
 
-names_of_avps : (ls : List Line) (ts : List (List ℕ)) → AreLines ls ts → AllByRecursion AreNames (filter_map avp_of ls)
+names_of_avps : (ls : List Line) (ts : List (List ℕ)) → AreLines ls ts → AllByRecursion AreNames (filter_map avp_pair ls)
 names_of_avps [] ts are = tt
 names_of_avps (l ∷ ls) [] are = absurd are
 names_of_avps (Blank ∷ ls) (t ∷ ts) are = names_of_avps ls ts are.1

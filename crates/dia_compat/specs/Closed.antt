@@ -68,12 +68,12 @@ IsServed da db c (Error p) = (d : PlainDefinition) × Contains db.commands d × 
 IsServed da db c (Command code class None p) = NamesApp db code class None
 IsServed da db c (Command code class (Some app) p) = NamesApp db code class (Some app) ⊎ NamesApp db code class None
 
-abbrev pub SameSelector : PlainDefinition → PlainDefinition → Type 0
-SameSelector c d = (IsError c × IsError d) ⊎ ((code : ℕ) × (class : Class) × (x y : Option ℕ) × HasCode c code class x × HasCode d code class y)
+abbrev pub SameCodeAndClass : PlainDefinition → PlainDefinition → Type 0
+SameCodeAndClass c d = (IsError c × IsError d) ⊎ ((code : ℕ) × (class : Class) × (x y : Option ℕ) × HasCode c code class x × HasCode d code class y)
 
 -- the pair of two commands
 pub record CommandPair (da db : Dictionary) (table : PlainTable) (c d : PlainDefinition) : Type 0 where
-  pub same : SameSelector c d
+  pub same : SameCodeAndClass c d
   pub proxiable : (flags : ℕ) → AllowsP c.head flags → AllowsP d.head flags
   pub served : IsServed da db c c.head
   pub selection : (e : PlainDefinition) → IsWanted da db c e → IsBeside table c e

@@ -114,10 +114,10 @@ serves (Error p) (Error q) = true
 serves (Command code class app p) (Command other_code other_class other q) = (code == other_code) && same_class class other_class && serves_app app other
 serves x y = false
 
-abbrev pub same_selector : DefHead → DefHead → Bool
-same_selector (Error p) (Error q) = true
-same_selector (Command code class app p) (Command other_code other_class other q) = (code == other_code) && same_class class other_class
-same_selector x y = false
+abbrev pub same_code_and_class : DefHead → DefHead → Bool
+same_code_and_class (Error p) (Error q) = true
+same_code_and_class (Command code class app p) (Command other_code other_class other q) = (code == other_code) && same_class class other_class
+same_code_and_class x y = false
 
 abbrev pub p_within : Pxy → Pxy → Bool
 p_within p Either = true
@@ -142,7 +142,7 @@ abbrev pub is_selected : Dictionary → Dictionary → List NamePair → PlainDe
 is_selected da db pairs c = list_any (λ d. serves c.head d.head) db.commands && list_all (is_ready da db pairs c) db.commands
 
 abbrev pub is_command_pair : Dictionary → Dictionary → List NamePair → PlainDefinition → PlainDefinition → Bool
-is_command_pair da db pairs c d = same_selector c.head d.head && is_proxiable c.head d.head && is_selected da db pairs c
+is_command_pair da db pairs c d = same_code_and_class c.head d.head && is_proxiable c.head d.head && is_selected da db pairs c
 
 -- ---- the first test that fails
 

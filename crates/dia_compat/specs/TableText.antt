@@ -76,22 +76,22 @@ IsLine Blank bytes = IsTail bytes
 IsLine (Command a b) bytes = IsPair (codes "command") a b bytes
 IsLine (Avp a b) bytes = IsPair (codes "avp") a b bytes
 
-abbrev pub command_of : Line → Option (List ℕ × List ℕ)
-command_of Blank = None
-command_of (Command a b) = Some (a, b)
-command_of (Avp a b) = None
+abbrev pub command_pair : Line → Option (List ℕ × List ℕ)
+command_pair Blank = None
+command_pair (Command a b) = Some (a, b)
+command_pair (Avp a b) = None
 
-abbrev pub avp_of : Line → Option (List ℕ × List ℕ)
-avp_of Blank = None
-avp_of (Command a b) = None
-avp_of (Avp a b) = Some (a, b)
+abbrev pub avp_pair : Line → Option (List ℕ × List ℕ)
+avp_pair Blank = None
+avp_pair (Command a b) = None
+avp_pair (Avp a b) = Some (a, b)
 
 abbrev pub table_of : List Line → PlainTable
-table_of ls = record { commands = filter_map command_of ls; avps = filter_map avp_of ls }
+table_of ls = record { commands = filter_map command_pair ls; avps = filter_map avp_pair ls }
 
 -- what one more line adds to a table
 abbrev pub with_line : PlainTable → Line → PlainTable
-with_line t l = record { commands = t.commands ++ option_to_list (command_of l); avps = t.avps ++ option_to_list (avp_of l) }
+with_line t l = record { commands = t.commands ++ option_to_list (command_pair l); avps = t.avps ++ option_to_list (avp_pair l) }
 
 abbrev pub AreLines : List Line → List (List ℕ) → Type 0
 AreLines [] [] = ⊤

@@ -1,6 +1,8 @@
-//! What the clauses say nothing of: devices of std that fail, files, and the words of the command line.
+//! The example of dia_cli's docs, and what its clauses say nothing of: devices of std that fail, files, and the words of the
+//! command line.
 
 mod endings;
+mod example;
 mod help;
 mod opening;
 mod printed;

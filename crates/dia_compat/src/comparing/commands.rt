@@ -5,11 +5,11 @@ ghost use Rattle.dia_dict.specs.Dictionary.{plain_definition, IsDictionary, IsCo
 ghost use Rattle.dia_dict.specs.declared.definition.Class.TheVariants as classes;
 ghost use Rattle.dia_compat.specs.TableText.{plain_pair};
 ghost use Rattle.dia_compat.specs.PairTests.{plain_names, is_pair, names_app, wants_app};
-ghost use Rattle.dia_compat.specs.PairTests.{is_of_app, is_wanted, serves, same_selector};
+ghost use Rattle.dia_compat.specs.PairTests.{is_of_app, is_wanted, serves, same_code_and_class};
 ghost use Rattle.dia_compat.specs.PairTests.{is_proxiable, is_ready, is_selected};
 
 use super::by_code::{Commands, open_code};
-use super::heads::{is_proxiable, same_selector, serves};
+use super::heads::{is_proxiable, same_code_and_class, serves};
 use dia_dict::{Book, Class, DefHead, Definition};
 use indexmap::IndexSet;
 use std::alloc::{AllocError, Global};
@@ -41,10 +41,10 @@ fn is_beside(beside: &IndexSet<(&str, &str)>, first: &str, second: &str) -> bool
 /// Whether the commands are of one code and class, and the second allows each value of P that the first does.
 pub(super) fn may_stand_for(first: &Definition, second: &Definition) -> bool
     ensures { result ≡
-        (same_selector (plain_definition first.now).head (plain_definition second.now).head &&
+        (same_code_and_class (plain_definition first.now).head (plain_definition second.now).head &&
         is_proxiable (plain_definition first.now).head (plain_definition second.now).head) }
 {
-    same_selector(&first.head, &second.head) && is_proxiable(&first.head, &second.head)
+    same_code_and_class(&first.head, &second.head) && is_proxiable(&first.head, &second.head)
 }
 
 /// Of each command of `a`, in order, whether the table has each definition of `b` that may be selected for its messages, and

@@ -1,13 +1,13 @@
 //! What commands are for, and what their P flag may be (RFC 6733 section 3.2).
 ghost use Rattle.std.specs.Prelude.{◌≡◌};
-ghost use Rattle.dia_compat.specs.PairTests.{same_selector, serves, serves_app};
+ghost use Rattle.dia_compat.specs.PairTests.{same_code_and_class, serves, serves_app};
 ghost use Rattle.dia_compat.specs.PairTests.{p_of, p_within, is_proxiable};
 
 use dia_dict::{DefHead, Pxy};
 
 /// Whether two commands are of one code and class.
-pub(super) fn same_selector(a: &DefHead, b: &DefHead) -> bool
-    ensures { result ≡ same_selector a.now b.now }
+pub(super) fn same_code_and_class(a: &DefHead, b: &DefHead) -> bool
+    ensures { result ≡ same_code_and_class a.now b.now }
 {
     match a {
         DefHead::Group(_) => false,

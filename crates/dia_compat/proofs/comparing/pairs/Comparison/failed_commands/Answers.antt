@@ -2,7 +2,7 @@ use Rattle.std.proofs.Common.{◌≡◌, ◌+◌, length, map, ℕ, Bool, true, 
 use Rattle.std.specs.Prelude.{◌&&◌}
 use Rattle.std.proofs.lemmas.Bool.{and_from}
 use Rattle.dia_dict.specs.Dictionary.{plain_definition, groups}
-use Rattle.dia_compat.specs.PairTests.{plain_names, same_selector, is_proxiable, is_selected, is_command_pair, failed_commands}
+use Rattle.dia_compat.specs.PairTests.{plain_names, same_code_and_class, is_proxiable, is_selected, is_command_pair, failed_commands}
 use Rattle.dia_compat.proofs.SetsOfNames.{command_at}
 use Rattle.dia_compat.proofs.CommandsByCode.{fails_rules, fails_tenth, kept_at, and_false}
 use Rattle.dia_compat.proofs.comparing.pairs.Comparison.failed_commands.Goals as goal
@@ -20,7 +20,7 @@ returns-then-index g c =
     let selected = kept_at (is_selected da db pairs) da.commands all.selected.items c.args.first x c.index.result.now all.all_selected
     (command_at da c.args.first c.command_at.result x c.command_at.ensures c.def.ensures) c.index.ensures in
     let pair : is_command_pair da db pairs x y ≡ true =
-    and_from (same_selector x.head y.head && is_proxiable x.head y.head) (is_selected da db pairs x) (sym c.may_stand_for.ensures ∙ c.if-may_stand_for.true) (sym selected ∙ c.if-index.true) in
+    and_from (same_code_and_class x.head y.head && is_proxiable x.head y.head) (is_selected da db pairs x) (sym c.may_stand_for.ensures ∙ c.if-may_stand_for.true) (sym selected ∙ c.if-index.true) in
     c.failed_rules.ensures
     ∙ fails_rules all.cover.unknown da db all.cover.paired.keys all.cover.uncovered.items all.cover.strangers_fit pairs c.command_at.result c.command_at-2.result x y c.def.ensures c.def-2.ensures pair
     ∙ ap (λ (i : ℕ). failed i c.command_at-2.result) c.command_at.ensures ∙ ap (λ (j : ℕ). failed (length (groups da) + c.args.first) j) c.command_at-2.ensures
@@ -34,7 +34,7 @@ returns-else-may_stand_for g c =
     let x = plain_definition c.def.result.now in
     let y = plain_definition c.def-2.result.now in
     let failed = failed_commands all.cover.unknown da db all.cover.paired.keys all.cover.uncovered.items all.cover.strangers_fit pairs in
-    let may = same_selector x.head y.head && is_proxiable x.head y.head in
+    let may = same_code_and_class x.head y.head && is_proxiable x.head y.head in
     let none : is_command_pair da db pairs x y ≡ false = elim c.else-may_stand_for.branch [
       | else-may_stand_for-via-then-may_stand_for+else-index w ↦ (
           let selected = kept_at (is_selected da db pairs) da.commands all.selected.items c.args.first x w.index.result.now all.all_selected
