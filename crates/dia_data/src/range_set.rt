@@ -27,10 +27,10 @@ impl Clone for RangeSet {
 }
 
 impl RangeSet {
-    ghost use Rattle.std.specs.Prelude.{◌↔◌, Any, IfOk, IsTrue};
+    ghost use Rattle.std.specs.Prelude.{◌≡◌, ◌↔◌, Any, IfOk, IsTrue};
     ghost use Rattle.dia_data.specs.Leaf.{IsWithin};
     ghost use Rattle.dia_data.specs.Below.{RangesBelow};
-    ghost use Rattle.dia_data.specs.Ranges.{HoldSame};
+    ghost use Rattle.dia_data.specs.Ranges.{AreApart, HoldSame};
 
     /// The numbers of ranges in any order. One whose `low` is above its `high` holds none. n ranges take n log n steps.
     pub fn new(alloc: Global, ranges: &[(u32, u32)]) -> Result<Self, AllocError>
@@ -40,6 +40,14 @@ impl RangeSet {
         sorted.sort_unstable_by_key(|range| range.0);
         let ranges = joining::joined(alloc, &sorted)?;
         Ok(RangeSet { ranges })
+    }
+
+    /// The ranges, in order.
+    pub fn as_slice(&self) -> &[(u32, u32)]
+        ensures apart { AreApart result.now }
+        ensures same { result.now ≡ self.now.ranges.items }
+    {
+        &self.ranges
     }
 
     /// Whether the number is in the set, by a binary search.

@@ -59,6 +59,7 @@ impl Values {
     ghost use Rattle.dia_data.specs.Below.{ValuesBelow};
     ghost use Rattle.dia_data.specs.Leaf.{IsListed};
     ghost use Rattle.dia_data.specs.Plain.{ranges_of};
+    ghost use Rattle.dia_data.specs.Ranges.{IsSetOf};
 
     /// Every number of 32 bits.
     pub fn any() -> Self
@@ -86,6 +87,17 @@ impl Values {
     {
         match &self.listed {
             Some(listed) => Some(&listed.written),
+            None => None,
+        }
+    }
+
+    /// The same numbers as ranges that hold some, in order, and neither overlap nor touch; or none where every number is one.
+    pub fn numbers(&self) -> Option<&[(u32, u32)]>
+        ensures { MatchOption result (ranges_of self.now ≡ None)
+            (λ numbers. IsSetOf numbers.now (ranges_of self.now)) }
+    {
+        match &self.listed {
+            Some(listed) => Some(listed.numbers.as_slice()),
             None => None,
         }
     }
