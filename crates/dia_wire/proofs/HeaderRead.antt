@@ -1,16 +1,22 @@
 -- A header as it is read from the front of bytes.
-use Rattle.std.proofs.Common.{◌≡◌, ℕ, ◌+◌, ◌≤◌, List, ◌∷◌, ◌++◌, length, take, drop, get_or, ◌-◌, refl, ap, ◌∙◌, arith}
+use Rattle.std.proofs.Common.{◌≡◌, ℕ, ◌+◌, ◌≤◌, List, ◌∷◌, ◌++◌, length, take, drop, get_or, ◌-◌, ◌<◌, refl, ap, ◌∙◌, arith}
 use Rattle.std.proofs.Math.Seq.{take-add}
-use Rattle.std.proofs.lemmas.List.{length-drop, drop_more, take_rest}
+use Rattle.std.proofs.lemmas.List.{length-drop, drop_more, take_rest, get_or-drop}
 use Rattle.byteorder.specs.Endian.{big_from}
+use Rattle.byteorder.specs.Numbers.{big_from-lt}
 use Rattle.dia_wire.specs.declared.header.Header.{Header}
 use Rattle.dia_wire.specs.Number.{IsField}
+use Rattle.dia_wire.specs.Lengths.{three_bytes}
 use Rattle.dia_wire.specs.Wire.{IsHead}
 use Rattle.dia_wire.proofs.Fields.{field}
 
 -- a number that was read from a place on, as a field
 field_from : (i n x : ℕ) (xs : List ℕ) → i + n ≤ length xs → x ≡ big_from 0 n (take (length xs - i) (drop i xs)) → IsField n x (take n (drop i xs))
 field_from i n x xs h e = rw (e, take_rest) (field n (drop i xs) (omega (arith, length-drop i xs)))
+
+-- a number of three bytes that was read from a place on
+pub below_three_bytes : (i x : ℕ) (xs : List ℕ) → ((k : ℕ) → get_or xs k 0 < 256) → x ≡ big_from 0 3 (take (length xs - i) (drop i xs)) → x < three_bytes
+below_three_bytes i x xs bytes e = rw (e, take_rest) (big_from-lt 0 3 (drop i xs) (λ k. rw get_or-drop (bytes (i + k))))
 
 head_parts : (xs : List ℕ) → 20 ≤ length xs
     → take 20 xs ≡ (get_or xs 0 0 ∷ take 3 (drop 1 xs)) ++ (get_or xs 4 0 ∷ take 3 (drop 5 xs)) ++ take 4 (drop 8 xs) ++ take 4 (drop 12 xs) ++ take 4 (drop 16 xs)

@@ -4,7 +4,7 @@ ghost use Rattle.std.specs.Prelude.{◌≡◌, ◌≢◌, ◌<◌, ◌≤◌, �
 ghost use Rattle.std.specs.Prelude.{drop, slice_index, IfOk, IfSome};
 ghost use Rattle.std.specs.Prelude.{IsSome, IsErr, OnErr, ◌⊎◌, Ok, Err, None, ℕ, List, ◌++◌};
 ghost use Rattle.dia_wire.specs.declared.header.Header.{Header as AnyHeader};
-ghost use Rattle.dia_wire.specs.Lengths.{avp_head_length, header_length};
+ghost use Rattle.dia_wire.specs.Lengths.{avp_head_length, header_length, three_bytes};
 ghost use Rattle.dia_wire.specs.Number.{number};
 ghost use Rattle.dia_wire.specs.Wire.{IsHead, IsMessageLength, BeginsMessage};
 ghost use Rattle.dia_wire.specs.Wire.{PlainAvp, Spells, BeginsWith, BeginsWithNone};
@@ -16,12 +16,14 @@ use crate::opening::Opening;
 use byteorder::{BigEndian, ByteOrder};
 
 /// The header and the Message Length of the first 20 bytes (RFC 6733 section 3), whatever follows them:
-/// the Message Length isn't compared with the bytes that are there.
+/// the Message Length isn't compared with the bytes that are there. The header fits, as `put_message` asks.
 ///
 /// The first fault that stands is told: `Short`, then `Version`, then `Length`.
 pub fn read_header(bytes: &[u8]) -> Result<(Header, u32), HeadFault>
     ensures head { IfOk result (λ found. IsHead found.0 found.1 (take header_length bytes.now)) }
     ensures long { IfOk result (λ found. IsMessageLength found.1) }
+    ensures bounded { IfOk result (λ found. found.1 < three_bytes) }
+    ensures fits { IfOk result (λ found. found.0.code < three_bytes) }
 
     // The faults, the first that stands.
     ensures short { (result ≡ Err HeadFault.Short) ↔ (length bytes.now < header_length) }
@@ -59,6 +61,8 @@ pub fn split_message(bytes: &[u8]) -> Result<(Header, &[u8]), MessageFault>
     ensures head { IfOk result
         (λ found. IsHead found.0 (length bytes.now) (take header_length bytes.now)) }
     ensures long { IfOk result (λ found. IsMessageLength (length bytes.now)) }
+    ensures bounded { IfOk result (λ found. length bytes.now < three_bytes) }
+    ensures fits { IfOk result (λ found. found.0.code < three_bytes) }
     ensures body { IfOk result (λ found. found.1.now ≡ drop header_length bytes.now) }
 
     // The faults, the first that stands.
