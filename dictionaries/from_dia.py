@@ -1,0 +1,214 @@
+#!/usr/bin/env python3
+"""Writes a dictionary of Erlang/OTP's diameter application (a .dia file) as a dictionary text of diacmd.
+
+What has no place in the text, and what the file doesn't say, is told on standard error, as FILE:LINE: WHAT.
+
+- A message has the file's @id as its Application-ID, unless that is 0.
+- An AVP with the flag M has the M rule `must`. A file doesn't say whether one without it may have the flag: `any`, told.
+- An AVP with the flag V has the vendor of @avp_vendor_id, or else that of @vendor.
+- What @inherits names has to be put before the result, with `cat`: told.
+"""
+import argparse
+import re
+import sys
+
+FORMATS = {name: name for name in (
+    'OctetString Integer32 Integer64 Unsigned32 Unsigned64 Float32 Float64 Grouped Address Time UTF8String '
+    'DiameterIdentity DiameterURI Enumerated IPFilterRule QoSFilterRule').split()}
+FORMATS.update(DiamIdent='DiameterIdentity', DiamURI='DiameterURI')
+NAME = re.compile(r'(?=.*[A-Za-z])[A-Za-z0-9][A-Za-z0-9-]*')
+TOKEN = re.compile(r"'[^']*'|::=|[<>{}\[\]*,:]|@?[^\s<>{}\[\]*,:;']+")
+CLOSING = {'<': '>', '{': '}', '[': ']'}
+GREATEST_VALUE = 2 ** 31 - 1
+
+
+class Dictionary:
+    """What is read of a file, or put together for a text: every part has the line it began on."""
+
+    def __init__(self):
+        self.application = 0
+        self.inherits = []      # (line, name)
+        self.avps = []          # (line, name, code, vendor, format, M rule)
+        self.values = {}        # name of an AVP -> numbers, in order
+        self.definitions = []   # (line, name, head, rules); a rule is (qualifier, opening bracket, name)
+        self.told = []          # (line, what)
+
+    def tell(self, line, what):
+        self.told.append((line, what))
+
+
+def number(word):
+    """A number of the file: decimal, or hexadecimal with 0x."""
+    return int(word, 16 if word.lower().startswith('0x') else 10)
+
+
+def tokens(text):
+    """Each section of the file: its line, keyword, and tokens with their lines."""
+    sections = []
+    for number, line in enumerate(text.split('\n'), 1):
+        for token in TOKEN.findall(re.sub(r';.*', '', line)):
+            if token.startswith('@'):
+                sections.append((number, token, []))
+            elif sections:
+                sections[-1][2].append((number, token))
+    ends = next((place for place, section in enumerate(sections) if section[1] == '@end'), len(sections))
+    return sections[:ends]
+
+
+def read_vendors(dictionary, sections):
+    """The vendor of the file, and those of single AVPs."""
+    vendor, single = None, {}
+    for line, keyword, words in sections:
+        numbers = [word for _, word in words]
+        if keyword == '@vendor':
+            vendor = number(numbers[0])
+        elif keyword == '@avp_vendor_id':
+            single.update((name, number(numbers[0])) for name in numbers[1:])
+        elif keyword == '@id':
+            dictionary.application = number(numbers[0])
+        elif keyword == '@inherits':
+            dictionary.inherits.append((line, numbers[0]))
+    return vendor, single
+
+
+def read_avps(dictionary, words, vendor, single):
+    """The AVPs of @avp_types: four words each."""
+    for place in range(0, len(words) - 3, 4):
+        (line, name), (_, code), (_, kind), (_, flags) = words[place:place + 4]
+        if not NAME.fullmatch(name) or kind not in FORMATS:
+            dictionary.tell(line, f'{name}: left out: no name, or no format, of a dictionary text ({kind})')
+            continue
+        own = single.get(name, vendor) if 'V' in flags else 0
+        if own is None:
+            dictionary.tell(line, f'{name}: left out: its vendor is unknown')
+            continue
+        if 'M' not in flags:
+            dictionary.tell(line, f'{name}: the file has no M rule for it: any')
+        dictionary.avps.append((line, name, number(code), own, FORMATS[kind], 'must' if 'M' in flags else 'any'))
+
+
+def read_definitions(dictionary, words):
+    """The definitions of @messages and @grouped: NAME ::= < HEAD > RULE.."""
+    marks = [place for place, (_, word) in enumerate(words) if word == '::=']
+    for mark, following in zip(marks, marks[1:] + [len(words) + 1]):
+        line, name = words[mark - 1]
+        body = [word for _, word in words[mark + 1:following - 1]]
+        end = body.index('>')
+        rules, problem = read_rules(body[end + 1:])
+        head = read_head(body[1:end], dictionary.application)
+        if problem or head is None:
+            dictionary.tell(line, f'{name}: left out: {problem or "its header has another form"}')
+        else:
+            dictionary.definitions.append((line, name, head, rules))
+
+
+def read_head(words, application):
+    """A header as the text has it, or None."""
+    numbers = [word for word in words if word.isdigit()]
+    flags = {word.upper() for word in words}
+    if words[0].upper() == 'AVP':
+        return 'AVP Header: ' + ' '.join(numbers)
+    if 'CODE' in flags and 'ERR' in flags:
+        return 'Diameter Header: code, ERR' + (', PXY' if 'PXY' in flags and '[' not in words else '') \
+            + (' [, PXY]' if 'PXY' in flags and '[' in words else '')
+    if not numbers or 'ERR' in flags:
+        return None
+    parts = numbers[:1] + [flag for flag in ('REQ', 'PXY') if flag in flags]
+    own = numbers[1:] or ([str(application)] if application else [])
+    return 'Diameter Header: ' + ', '.join(parts + own)
+
+
+def read_rules(words):
+    """The rules, and what is wrong with the first that has another form."""
+    rules, place = [], 0
+    while place < len(words):
+        start = place
+        while place < len(words) and (words[place].isdigit() or words[place] == '*'):
+            place += 1
+        rule = words[place:place + 3]
+        if len(rule) < 3 or CLOSING.get(rule[0]) != rule[2] or not NAME.fullmatch(rule[1]):
+            return rules, f'a rule has another form, at {" ".join(words[start:place + 3])}'
+        rules.append((''.join(words[start:place]), rule[0], rule[1]))
+        place += 3
+    return rules, None
+
+
+def read_values(dictionary, line, words):
+    """The list of values of @enum: the AVP's name, then a name and a number each."""
+    name, numbers = words[0][1], []
+    for (at, label), (_, value) in zip(words[1::2], words[2::2]):
+        if not 0 <= number(value) <= GREATEST_VALUE:
+            dictionary.tell(at, f'{name}: the value {label} {value} left out: no number of a list')
+        else:
+            numbers.append(number(value))
+    if name in {avp[1] for avp in dictionary.avps if avp[4] == 'Enumerated'}:
+        dictionary.values.setdefault(name, []).extend(numbers)
+    else:
+        dictionary.tell(line, f'{name}: its list of values left out: the file declares no Enumerated of this name')
+
+
+def read(text):
+    """The dictionary of a .dia text."""
+    dictionary, sections = Dictionary(), tokens(text)
+    vendor, single = read_vendors(dictionary, sections)
+    for line, keyword, words in sections:
+        if keyword == '@avp_types':
+            read_avps(dictionary, words, vendor, single)
+        elif keyword in ('@messages', '@grouped'):
+            read_definitions(dictionary, words)
+        elif keyword in ('@define', '@codecs', '@custom_types', '@result_code'):
+            what = ' '.join(word for _, word in words[:1])
+            dictionary.tell(line, f'{keyword} {what}: left out: no place in a dictionary text')
+    for line, keyword, words in sections:
+        if keyword == '@enum':
+            read_values(dictionary, line, words)
+    dictionary.told += [(line, f'@inherits {name}: put that dictionary before this one') for line, name in dictionary.inherits]
+    grouped = {name for _, name, head, _ in dictionary.definitions if head.startswith('AVP')}
+    dictionary.told += [(avp[0], f'{avp[1]}: Grouped, and the file has no format of its members')
+                        for avp in dictionary.avps if avp[4] == 'Grouped' and avp[1] not in grouped]
+    dictionary.told.sort()
+    return dictionary
+
+
+def ranges(numbers):
+    """A list of values as the text has it."""
+    runs = []
+    for number in sorted(set(numbers)):
+        if runs and runs[-1][1] == number - 1:
+            runs[-1][1] = number
+        else:
+            runs.append([number, number])
+    return ' '.join(str(low) if low == high else f'{low}..{high}' for low, high in runs)
+
+
+def write(dictionary):
+    """The dictionary text, in canonical form."""
+    lines = []
+    for _, name, code, vendor, kind, rule in dictionary.avps:
+        values = ranges(dictionary.values.get(name, []))
+        lines.append(f'%avp {name} {code} ' + (f'vendor {vendor} ' if vendor else '') + f'{kind} {rule}'
+                     + (f' ( {values} )' if values else ''))
+    groups_first = sorted(dictionary.definitions, key=lambda definition: not definition[2].startswith('AVP'))
+    for _, name, head, rules in groups_first:
+        lines.append(f'<{name}> ::= < {head} >')
+        lines += [f'  {qualifier}{" " if qualifier else ""}{opening} {avp} {CLOSING[opening]}'
+                  for qualifier, opening, avp in rules]
+    return ''.join(line + '\n' for line in lines)
+
+
+def main():
+    parser = argparse.ArgumentParser(description=__doc__, formatter_class=argparse.RawDescriptionHelpFormatter)
+    parser.add_argument('file', metavar='FILE', help='a .dia file')
+    path = parser.parse_args().file
+    with open(path, encoding='utf-8') as file:
+        try:
+            dictionary = read(file.read())
+        except (ValueError, IndexError) as error:
+            sys.exit(f'{path}: no .dia file: {error}')
+    sys.stdout.write(write(dictionary))
+    for line, what in dictionary.told:
+        print(f'{path}:{line}: {what}', file=sys.stderr)
+
+
+if __name__ == '__main__':
+    main()

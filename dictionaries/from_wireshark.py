@@ -1,0 +1,179 @@
+#!/usr/bin/env python3
+"""Writes a dictionary of wireshark (dictionary.xml, or one of the files beside it) as a dictionary text of diacmd.
+
+What has no place in the text, and what the file doesn't say, is told on standard error, as FILE:LINE: WHAT.
+
+- The file says nothing of the members of a group: each group accepts any AVPs.
+- The file has commands by name alone: each is a comment.
+- The attribute mandatory is the M rule: must; mustnot; may and shouldnot are any. Without it the rule is any, told.
+- The format IPAddress is an Address or the bytes of one alone: OctetString, told.
+- Of two AVPs with one code and vendor, or one name, the first is kept; the other is told.
+"""
+import argparse
+import os
+import re
+import sys
+from xml.parsers import expat
+
+from from_dia import FORMATS, GREATEST_VALUE, NAME, ranges
+
+# an address with its family, or the bytes of one alone: the file doesn't say which
+EITHER = 'IPAddress'
+RULES = {'must': 'must', 'mustnot': 'mustnot', 'may': 'any', 'shouldnot': 'any'}
+GREATEST_NAME = 128
+GREATEST_NUMBER = 2 ** 32 - 1
+
+
+class Avp:
+    """An AVP as the file has it."""
+
+    def __init__(self, place, attributes):
+        self.place = place
+        self.attributes = attributes
+        self.type = None
+        self.values = []
+
+
+class File:
+    """What one file, and those that it takes in, have."""
+
+    def __init__(self):
+        self.avps = []
+        self.commands = []      # (place, name, code)
+        self.vendors = {'None': 0}
+        self.parents = {}       # a format of the file -> the format that it is kept as
+        self.told = []          # (place, what)
+
+    def start(self, place, tag, attributes):
+        if tag == 'avp':
+            self.avps.append(Avp(place, attributes))
+        elif tag == 'type' and self.avps:
+            self.avps[-1].type = attributes.get('type-name')
+        elif tag == 'grouped' and self.avps:
+            self.avps[-1].type = 'Grouped'
+        elif tag == 'enum' and self.avps:
+            self.avps[-1].values.append((place, attributes.get('name'), attributes.get('code', '')))
+        elif tag == 'command':
+            self.commands.append((place, attributes.get('name'), attributes.get('code')))
+        elif tag == 'vendor':
+            self.vendors[attributes.get('vendor-id')] = int(attributes['code'])
+        elif tag == 'typedefn':
+            self.parents[attributes.get('type-name')] = attributes.get('type-parent')
+
+
+def read(path, into):
+    """Reads a file, and where it names another as an entity, that one."""
+    with open(path, encoding='utf-8') as file:
+        text = file.read()
+    entities = dict(re.findall(r'<!ENTITY\s+(\S+)\s+SYSTEM\s+"([^"]+)"\s*>', text))
+    text = re.sub(r'<!--.*?-->|<\?.*?\?>|<!DOCTYPE.*?\]>', lambda gone: '\n' * gone[0].count('\n'), text, flags=re.DOTALL)
+    text = re.sub(r'&(?!amp;|lt;|gt;|quot;|apos;|#)(\w+);', r'<entity name="\1"/>', text)
+    parser = expat.ParserCreate()
+
+    def start(tag, attributes):
+        place = (path, parser.CurrentLineNumber)
+        if tag != 'entity':
+            into.start(place, tag, attributes)
+        elif attributes['name'] in entities:
+            read(os.path.join(os.path.dirname(path), entities[attributes['name']]), into)
+        else:
+            into.told.append((place, f'&{attributes["name"]};: left out: the file has no such entity'))
+
+    parser.StartElementHandler = start
+    # a file that others take in may have several elements at its top
+    parser.Parse(f'<all>{text}</all>', True)
+
+
+def format_of(name, file):
+    """The format of the text for one of the file, and None if there is none."""
+    for _ in range(len(file.parents) + 1):
+        if name in FORMATS:
+            return name
+        name = file.parents.get(name)
+    return None
+
+
+def values_of(avp, kind, name, told):
+    """The numbers of an Enumerated's list."""
+    if avp.values and kind != 'Enumerated':
+        told.append((avp.place, f'{name}: its names of values left out: {kind} has no list'))
+        return []
+    numbers = []
+    for place, label, code in avp.values:
+        if re.fullmatch(r'\d+', code) and int(code) <= GREATEST_VALUE:
+            numbers.append(int(code))
+        else:
+            told.append((place, f'{name}: the value {label} {code} left out: no number of a list'))
+    return numbers
+
+
+def convert(file, vendors):
+    """The AVPs that the text can have: (name, code, vendor, format, M rule, numbers). Tells of all others."""
+    names, keys, kept = set(), set(), []
+    for avp in file.avps:
+        name, code = avp.attributes.get('name', ''), avp.attributes.get('code', '')
+        key = (code, vendors.get(avp.attributes.get('vendor-id', 'None')))
+        kind = format_of(avp.type, file)
+        reason = None
+        if not NAME.fullmatch(name) or len(name) > GREATEST_NAME:
+            reason = 'no name of a dictionary text'
+        elif not code.isdigit() or int(code) > GREATEST_NUMBER:
+            reason = f'no code: {code}'
+        elif key[1] is None:
+            reason = f'its vendor is unknown: {avp.attributes["vendor-id"]}'
+        elif kind is None:
+            reason = f'no format of a dictionary text: {avp.type}'
+        elif name in names or key in keys:
+            reason = 'its name, or its code and vendor, stand before'
+        if reason:
+            file.told.append((avp.place, f'{name}: left out: {reason}'))
+            continue
+        if avp.type == EITHER:
+            file.told.append((avp.place, f'{name}: OctetString: {EITHER} is an Address, or the bytes of one alone'))
+        rule = RULES.get(avp.attributes.get('mandatory'))
+        if rule is None:
+            file.told.append((avp.place, f'{name}: the file has no M rule for it: any'))
+        names.add(name)
+        keys.add(key)
+        kept.append((name, int(code), key[1], kind, rule or 'any', values_of(avp, kind, name, file.told)))
+    return kept
+
+
+def write(avps, commands):
+    """The dictionary text, in canonical form but for its comments."""
+    lines = []
+    for name, code, vendor, kind, rule, numbers in avps:
+        lines.append(f'%avp {name} {code} ' + (f'vendor {vendor} ' if vendor else '') + f'{kind} {rule}'
+                     + (f' ( {ranges(numbers)} )' if numbers else ''))
+    for name, code, vendor, kind, _, _ in avps:
+        if kind == 'Grouped':
+            lines += [f'<{name}> ::= < AVP Header: {code}{f" {vendor}" if vendor else ""} >', '  * [ AVP ]']
+    lines += [f'; command {code} {name}: the file has no format of it' for _, name, code in commands]
+    return ''.join(line + '\n' for line in lines)
+
+
+def main():
+    parser = argparse.ArgumentParser(description=__doc__, formatter_class=argparse.RawDescriptionHelpFormatter)
+    parser.add_argument('file', metavar='FILE', help='dictionary.xml, or a file beside it')
+    parser.add_argument('--base', metavar='FILE', help='the dictionary.xml that has the vendors and formats of FILE, if '
+                                                       'FILE is another')
+    arguments = parser.parse_args()
+    file = File()
+    try:
+        if arguments.base:
+            base = File()
+            read(arguments.base, base)
+            file.vendors, file.parents = base.vendors, base.parents
+        read(arguments.file, file)
+        avps = convert(file, file.vendors)
+    except (expat.ExpatError, ValueError, KeyError) as error:
+        sys.exit(f'{arguments.file}: no dictionary of wireshark: {error}')
+    sys.stdout.write(write(avps, file.commands))
+    file.told += [(place, f'the command {name}: a comment: the file has no format of it')
+                  for place, name, _ in file.commands]
+    for (path, line), what in sorted(file.told):
+        print(f'{path}:{line}: {what}', file=sys.stderr)
+
+
+if __name__ == '__main__':
+    main()
