@@ -1,5 +1,5 @@
 #!/usr/bin/env python3
-"""Compares the dictionaries of this folder with those of three other programs, and prints each difference.
+"""Compares the dictionaries of this folder with the RFCs and with those of three other programs, and prints each difference.
 
     dictionaries/check.py FOLDER
 
@@ -8,10 +8,12 @@ FOLDER has, at any depth, the files of these packages of Debian 12, of which eac
 - erlang (source): lib/diameter with its *.dia         apt-get source erlang
 - freediameter (source): dict_*.c, dict_dcca_3gpp.org  apt-get source freediameter
 - libwireshark-data: dictionary.xml and beside it      apt-get download libwireshark-data, dpkg-deb -x
+- doc-rfc-std-proposed, doc-rfc-old-std (non-free): rfcN.txt or rfcN.txt.gz, also apt-get download, dpkg-deb -x
 
-Compared are name, code, vendor, format, M rule and list of values of each AVP; with the .dia files also each rule of the
-commands and groups. differences.txt has the differences that are explained, as they are printed, below their reasons. The
-status is 1 if a difference isn't there, or one of there doesn't occur.
+Compared are name, code, vendor, format, M rule and list of values of each AVP; with the .dia files and the RFCs also each
+rule of the commands and groups. The RFCs' lists of values aren't compared. differences.txt has the differences that are
+explained, as they are printed, below their reasons. The status is 1 if a difference isn't there, or one of there doesn't
+occur.
 """
 import fnmatch
 import os
@@ -20,6 +22,7 @@ import sys
 
 import from_dia
 import from_wireshark
+import rfc_text
 
 HERE = os.path.dirname(os.path.abspath(__file__))
 # our files of an RFC -> the .dia files that have it
@@ -177,8 +180,23 @@ def differences_of_rules(title, ours, theirs):
             yield f'{title} {name}: its rules: {"; ".join(gone + more) or "another order"}'
 
 
+def of_rfc(path, number):
+    """The AVPs of an RFC's text, and its definitions as a Text has them."""
+    avps, definitions = rfc_text.avps(path, number)
+    text = Text('')
+    for name, head, rules in definitions:
+        if head[0] in ('AVP', 'Diameter') and not name.startswith('Example-'):
+            text.definitions[key_of_head(head)] = (name, rules)
+    return avps, text
+
+
 def sources(name, files):
-    """The other programs' dictionaries of one of our files: (source, AVPs, text or None, has lists, tells MAY from MUST NOT)."""
+    """What one of our files is compared with: (source, AVPs, text or None, has lists, tells MAY from MUST NOT)."""
+    number = name[3:7] if name.startswith('rfc') else None
+    path = files.get(f'rfc{number}.txt.gz') or files.get(f'rfc{number}.txt')
+    if path:
+        avps, text = of_rfc(path, int(number))
+        yield 'rfc', avps, text, False, True
     for dia in DIA.get(name, []):
         theirs = of_dia(files[dia + '.dia'])
         yield 'erlang', theirs.avps, theirs, True, False
@@ -210,7 +228,9 @@ def main():
         print(__doc__)
         return len(sys.argv) != 2
     wanted = {WIRESHARK, TABLE, *FREEDIAMETER.values(), *(f'{dia}.dia' for of in DIA.values() for dia in of)}
-    missing = sorted(wanted - set(files_below(sys.argv[1])))
+    have = set(files_below(sys.argv[1]))
+    texts = {name[:7] for name in os.listdir(HERE) if re.fullmatch(r'rfc\d{4}.*\.txt', name)}
+    missing = sorted(wanted - have) + sorted(f'{text}.txt' for text in texts if not have & {f'{text}.txt', f'{text}.txt.gz'})
     if missing:
         print('missing:', *missing)
         return 1
