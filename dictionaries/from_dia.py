@@ -73,6 +73,8 @@ def read_vendors(dictionary, sections):
 
 def read_avps(dictionary, words, vendor, single):
     """The AVPs of @avp_types: four words each."""
+    if len(words) % 4:
+        dictionary.tell(words[-1][0], '@avp_types: an AVP has no four words: the last is left out')
     for place in range(0, len(words) - 3, 4):
         (line, name), (_, code), (_, kind), (_, flags) = words[place:place + 4]
         if not NAME.fullmatch(name) or kind not in FORMATS:
@@ -93,7 +95,7 @@ def read_definitions(dictionary, words):
     for mark, following in zip(marks, marks[1:] + [len(words) + 1]):
         line, name = words[mark - 1]
         body = [word for _, word in words[mark + 1:following - 1]]
-        end = body.index('>')
+        end = body.index('>') if '>' in body else len(body)
         rules, problem = read_rules(body[end + 1:])
         head = read_head(body[1:end], dictionary.application)
         if problem or head is None:
@@ -104,6 +106,8 @@ def read_definitions(dictionary, words):
 
 def read_head(words, application):
     """A header as the text has it, or None."""
+    if not words:
+        return None
     numbers = [word for word in words if word.isdigit()]
     flags = {word.upper() for word in words}
     if words[0].upper() == 'AVP':
@@ -150,6 +154,8 @@ def read_values(dictionary, line, words):
 def read(text):
     """The dictionary of a .dia text."""
     dictionary, sections = Dictionary(), tokens(text)
+    if not sections:
+        raise ValueError('it has no line that begins with @')
     vendor, single = read_vendors(dictionary, sections)
     for line, keyword, words in sections:
         if keyword == '@avp_types':
@@ -200,11 +206,11 @@ def main():
     parser = argparse.ArgumentParser(description=__doc__, formatter_class=argparse.RawDescriptionHelpFormatter)
     parser.add_argument('file', metavar='FILE', help='a .dia file')
     path = parser.parse_args().file
-    with open(path, encoding='utf-8') as file:
-        try:
+    try:
+        with open(path, encoding='utf-8') as file:
             dictionary = read(file.read())
-        except (ValueError, IndexError) as error:
-            sys.exit(f'{path}: no .dia file: {error}')
+    except (OSError, ValueError, IndexError) as error:
+        sys.exit(f'{path}: no .dia file: {error}')
     sys.stdout.write(write(dictionary))
     for line, what in dictionary.told:
         print(f'{path}:{line}: {what}', file=sys.stderr)

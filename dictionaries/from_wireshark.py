@@ -166,7 +166,7 @@ def main():
             file.vendors, file.parents = base.vendors, base.parents
         read(arguments.file, file)
         avps = convert(file, file.vendors)
-    except (expat.ExpatError, ValueError, KeyError) as error:
+    except (OSError, expat.ExpatError, ValueError, KeyError) as error:
         sys.exit(f'{arguments.file}: no dictionary of wireshark: {error}')
     sys.stdout.write(write(avps, file.commands))
     file.told += [(place, f'the command {name}: a comment: the file has no format of it')
