@@ -17,10 +17,10 @@ use Rattle.dia_dict.specs.declared.MRule.TheVariants.{Must, MustNot, Any as AnyM
 use Rattle.dia_dict.specs.declared.DRule.{DRule}
 use Rattle.dia_dict.specs.Dictionary.{Dictionary, DictEntry, IsDictionary, AreRules, PlainDefinition, groups, definitions, entry_of, is_fixed, lists_key}
 use Rattle.dia_dict.proofs.NumberedGroups.{slice_get-append_left}
-use Rattle.dia_check.specs.declared.policy.Unknown.{Unknown}
-use Rattle.dia_check.specs.declared.policy.Unknown.TheVariants.{Kept, Refused}
-use Rattle.dia_check.specs.declared.policy.Levels.{Levels}
-use Rattle.dia_check.specs.declared.policy.Levels.TheVariants.{Any, AtMost}
+use Rattle.dia_policy.specs.declared.Unknown.{Unknown}
+use Rattle.dia_policy.specs.declared.Unknown.TheVariants.{Kept, Refused}
+use Rattle.dia_policy.specs.declared.Levels.{Levels}
+use Rattle.dia_policy.specs.declared.Levels.TheVariants.{Any, AtMost}
 use Rattle.dia_check.specs.declared.fault.Reason.TheVariants as reason
 use Rattle.dia_check.specs.declared.fault.Subject.TheVariants.{Avp}
 use Rattle.dia_check.specs.Valid.{known, Placed, IsLevel, Fits, FitsBy, MHolds, IsAccepted, MayBeLoose, fixed_rules, loose_rules, is_listed, has_wildcard, counted}

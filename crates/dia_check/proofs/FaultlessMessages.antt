@@ -13,9 +13,9 @@ use Rattle.dia_data.specs.Plain.{Address, Time, Utf8String, DiameterIdentity, Di
 use Rattle.dia_data.specs.Leaf.{IsLeaf, LengthFits}
 use Rattle.dia_dict.specs.declared.DRule.{DRule}
 use Rattle.dia_dict.specs.Dictionary.{Dictionary, DictEntry, IsDictionary, AreRules, PlainDefinition, definitions, selected}
-use Rattle.dia_check.specs.declared.policy.Unknown.{Unknown}
-use Rattle.dia_check.specs.declared.policy.Levels.{Levels}
-use Rattle.dia_check.specs.declared.policy.Levels.TheVariants.{Any, AtMost}
+use Rattle.dia_policy.specs.declared.Unknown.{Unknown}
+use Rattle.dia_policy.specs.declared.Levels.{Levels}
+use Rattle.dia_policy.specs.declared.Levels.TheVariants.{Any, AtMost}
 use Rattle.dia_check.specs.declared.fault.Reason.{Reason}
 use Rattle.dia_check.specs.declared.fault.Subject.{Subject}
 use Rattle.dia_check.specs.Valid.{class_of, known, IsLevel, Fits, FitsBy, AllFit, MHolds, IsAccepted, IsValidOf}

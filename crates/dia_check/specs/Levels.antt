@@ -5,8 +5,8 @@ use Rattle.dia_wire.specs.Number.{number}
 use Rattle.dia_wire.specs.Wire.{PlainAvp, key_of, head_length, avp_length, SpellsAll, BeginsWith, IsHead}
 use Rattle.dia_dict.specs.declared.DRule.{DRule}
 use Rattle.dia_dict.specs.Dictionary.{Dictionary, PlainDefinition, definitions, selected}
-use Rattle.dia_check.specs.declared.policy.Levels.{Levels}
-use Rattle.dia_check.specs.declared.policy.Levels.TheVariants.{Any, AtMost}
+use Rattle.dia_policy.specs.declared.Levels.{Levels}
+use Rattle.dia_policy.specs.declared.Levels.TheVariants.{Any, AtMost}
 use Rattle.dia_check.specs.Valid.{class_of, known}
 
 -- a level: its rules, where it begins and ends, and how many groups it lies in

@@ -2,8 +2,8 @@
 use Rattle.std.specs.Prelude.{◌≡◌, List, ℕ}
 use Rattle.dia_dict.specs.declared.Book.{Ghosts}
 use Rattle.dia_dict.specs.Dictionary.{Dictionary}
-use Rattle.dia_check.specs.declared.policy.Unknown.{Unknown}
-use Rattle.dia_check.specs.declared.policy.Levels.{Levels}
+use Rattle.dia_policy.specs.declared.Unknown.{Unknown}
+use Rattle.dia_policy.specs.declared.Levels.{Levels}
 use Rattle.dia_check.specs.declared.stream.Stream.{Stream}
 use Rattle.dia_check.specs.Streaming.{HasTaken, IsSpentStage}
 

@@ -14,8 +14,8 @@ ghost use Rattle.dia_check.specs.Admission.{IsFineData, IsWrongData, IsFineAvp, 
 
 use crate::fault::Reason;
 use crate::open_levels::{OpenLevels, Wrong};
-use crate::policy::{Levels, Unknown};
 use dia_dict::{Book, DefId, Entry, Leaf, MRule, accepts};
+use dia_policy::{Levels, Unknown};
 use dia_wire::{AVP_MANDATORY, Avp, Key, key};
 use std::alloc::{AllocError, Global};
 

@@ -11,8 +11,8 @@ use crate::admission::{check_avp, missing_at_end, open_group};
 use crate::fault::{Fault, Reason, Refusal, Subject};
 use crate::group::enter_at;
 use crate::open_levels::{OpenLevels, Wrong};
-use crate::policy::{Levels, Unknown};
 use dia_dict::Book;
+use dia_policy::{Levels, Unknown};
 use dia_wire::{AvpFault, next_avp};
 
 /// Reads a piece of a body, which begins at a place: the AVPs that lie whole in it, and the heads of the groups that go on

@@ -1,7 +1,7 @@
 ghost use Rattle.std.specs.Prelude.{◌≡◌, ◌≢◌, ◌↔◌, Err, ℕ, List, length, MatchResult, Result};
 ghost use Rattle.dia_dict.specs.Dictionary.{Dictionary, IsDictionary};
-ghost use Rattle.dia_check.specs.declared.policy.Unknown.{Unknown as AnyPolicy};
-ghost use Rattle.dia_check.specs.declared.policy.Levels.{Levels as AnyLevels};
+ghost use Rattle.dia_policy.specs.declared.Unknown.{Unknown as AnyPolicy};
+ghost use Rattle.dia_policy.specs.declared.Levels.{Levels as AnyLevels};
 ghost use Rattle.dia_check.specs.declared.fault.Reason.{Reason as AnyReason};
 ghost use Rattle.dia_check.specs.declared.fault.Subject.{Subject as AnySubject};
 ghost use Rattle.dia_check.specs.declared.fault.Selected.{Selected as AnySelected};
@@ -11,9 +11,9 @@ ghost use Rattle.dia_check.specs.Faults.{IsAnswer, HasLength, Stands, Spot};
 
 use crate::fault::{Refusal, Selected};
 use crate::header::whole_header;
-use crate::policy::{Levels, Unknown};
 use crate::stream::Stream;
 use dia_dict::Book;
+use dia_policy::{Levels, Unknown};
 use std::alloc::Global;
 
 /// Checks the bytes of a message against a dictionary (RFC 6733 sections 3, 3.2, 4.1 and 4.4): the command of a valid

@@ -13,8 +13,8 @@ use crate::admission::{admit, may_open, open_group};
 use crate::body::fault;
 use crate::fault::{Reason, Refusal};
 use crate::open_levels::{OpenLevels, Wrong};
-use crate::policy::{Levels, Unknown};
 use dia_dict::{Book, DefId, Entry};
+use dia_policy::{Levels, Unknown};
 use dia_wire::{AVP_HEAD_LENGTH, AvpHead, Key, VENDOR_AVP_HEAD_LENGTH, avp_head};
 
 /// Enters the group that begins at a place, where its head is among the bytes that are there. Answers where its data

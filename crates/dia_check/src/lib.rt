@@ -8,10 +8,9 @@ mod fault;
 mod group;
 mod header;
 mod open_levels;
-mod policy;
 mod stream;
 
 pub use checking::{check, one_answer, validity};
+pub use dia_policy::{Levels, Unknown};
 pub use fault::{Fault, Reason, Refusal, Selected, Subject};
-pub use policy::{Levels, Unknown};
 pub use stream::{Progress, Stream, StreamFault};

@@ -3,8 +3,8 @@
 ghost use Rattle.std.specs.Prelude.{◌≡◌, ◌≢◌, ◌↔◌, ◌⊎◌, ◌≤◌, ◌<◌, ◌+◌, ◌++◌, ℕ, List, [], take};
 ghost use Rattle.std.specs.Prelude.{drop, length, Err, IfErr, IfOk, IsTrue, OnOk, OnErr};
 ghost use Rattle.dia_dict.specs.Dictionary.{Dictionary};
-ghost use Rattle.dia_check.specs.declared.policy.Unknown.{Unknown as AnyPolicy};
-ghost use Rattle.dia_check.specs.declared.policy.Levels.{Levels as AnyLevels};
+ghost use Rattle.dia_policy.specs.declared.Unknown.{Unknown as AnyPolicy};
+ghost use Rattle.dia_policy.specs.declared.Levels.{Levels as AnyLevels};
 ghost use Rattle.dia_check.specs.Faults.{IsAnswer};
 ghost use Rattle.dia_check.specs.Streaming.{CountsLevels, IsStage, OpensLevel};
 ghost use Rattle.dia_check.specs.Streaming.{Takes, taken_of, wanted};
@@ -15,10 +15,10 @@ mod parts;
 mod stages;
 
 use crate::fault::{Refusal, Selected};
-use crate::policy::{Levels, Unknown};
 use crate::stream::front::Front;
 use crate::stream::stages::{Stage, read_front, read_stage};
 use dia_dict::Book;
+use dia_policy::{Levels, Unknown};
 use dia_wire::HEADER_LENGTH;
 use std::alloc::Global;
 use thiserror::Error;

@@ -7,8 +7,8 @@ use Rattle.std.specs.IoError.{error_kind}
 use Rattle.clap.specs.declared.error.Error.{Error as WordsError}
 use Rattle.clap.specs.declared.error.kind.ErrorKind.TheVariants.{DisplayHelp, DisplayVersion}
 use Rattle.clap.specs.Words.{kind_of}
-use Rattle.dia_run.specs.declared.RunFault.{RunFault}
-use Rattle.dia_run.specs.declared.RunFault.TheVariants as fault
+use Rattle.dia_io.specs.declared.RunFault.{RunFault}
+use Rattle.dia_io.specs.declared.RunFault.TheVariants as fault
 use Rattle.dia_cli.specs.declared.ending.Ending.{Ending}
 use Rattle.dia_cli.specs.declared.ending.Ending.TheVariants as ending
 

@@ -5,16 +5,16 @@ use Rattle.std.specs.Global.{Vec}
 use Rattle.std.specs.declared.io.Error.{Error}
 use Rattle.dia_ccf.specs.CanonicalText.{canonical}
 use Rattle.dia_dict.specs.Base.{base_source}
-use Rattle.dia_run.specs.declared.Input.{Input}
-use Rattle.dia_run.specs.declared.Input.TheVariants.{Bytes, TooLong}
-use Rattle.dia_run.specs.declared.Inputs.{Inputs}
+use Rattle.dia_io.specs.declared.Input.{Input}
+use Rattle.dia_io.specs.declared.Input.TheVariants.{Bytes, TooLong}
+use Rattle.dia_io.specs.declared.Inputs.{Inputs}
 use Rattle.dia_cli.specs.declared.ending.Ending.{Ending}
 use Rattle.dia_cli.specs.declared.ending.Ending.TheVariants as ending
 use Rattle.dia_cli.specs.declared.origin.Origin.{Origin}
 use Rattle.dia_cli.specs.declared.origin.Origin.TheVariants.{Nowhere, Base, StandardInput, File}
 use Rattle.dia_cli.specs.declared.origin.Origins.{Origins}
-use Rattle.dia_run.specs.declared.InputFault.{InputFault}
-use Rattle.dia_run.specs.declared.InputFault.TheVariants as fault
+use Rattle.dia_io.specs.declared.InputFault.{InputFault}
+use Rattle.dia_io.specs.declared.InputFault.TheVariants as fault
 
 -- of what was read: all bytes, too many, or how the program ends
 abbrev pub input_of : Result (Vec ℕ) InputFault → Bor (List ℕ) → Option Error → Result Input Ending

@@ -3,8 +3,8 @@ use Rattle.std.specs.Prelude.{ℕ, nat_lt, Bool, true, false, if◌then◌else�
 use Rattle.std.specs.Borrow.{Bor}
 use Rattle.std.specs.Str.{bytes_eq}
 use Rattle.dia_ccf.specs.Limits.{max_text}
-use Rattle.dia_compat.specs.TableText.{max_table}
-use Rattle.dia_run.specs.Limits.{max_message_text}
+use Rattle.dia_policy.specs.Limits.{max_table}
+use Rattle.dia_policy.specs.Limits.{max_message_text}
 use Rattle.dia_cli.specs.declared.origin.Origin.{Origin}
 use Rattle.dia_cli.specs.declared.origin.Origin.TheVariants.{Base, StandardInput, File}
 use Rattle.dia_cli.specs.declared.origin.Origins.{Origins}

@@ -1,7 +1,7 @@
 -- What a request asks for, and where its inputs come from.
 use Rattle.std.specs.Prelude.{if◌then◌else◌, Result, Ok, Err}
-use Rattle.dia_run.specs.declared.Command.{Command}
-use Rattle.dia_run.specs.declared.Command.TheVariants as command
+use Rattle.dia_io.specs.declared.Command.{Command}
+use Rattle.dia_io.specs.declared.Command.TheVariants as command
 use Rattle.dia_cli.specs.declared.origin.Origin.TheVariants.{Nowhere}
 use Rattle.dia_cli.specs.declared.origin.Origins.{Origins}
 use Rattle.dia_cli.specs.declared.request.Request.{Request}

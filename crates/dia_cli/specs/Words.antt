@@ -8,10 +8,10 @@ use Rattle.clap.specs.Simple.{App, Shape, new_app, new_rule, on_top, shape_of, s
 use Rattle.clap.specs.declared.builder.command.Command.{Command}
 use Rattle.clap.specs.declared.builder.command.Command.TheViews.{out-Command}
 use Rattle.clap.specs.declared.builder.value_parser.ValueParser.TheVariants.{Names, Unsigned}
-use Rattle.dia_check.specs.declared.policy.Levels.{Levels}
-use Rattle.dia_check.specs.declared.policy.Levels.TheVariants.{Any, AtMost}
-use Rattle.dia_check.specs.declared.policy.Unknown.{Unknown}
-use Rattle.dia_check.specs.declared.policy.Unknown.TheVariants.{Kept, Refused}
+use Rattle.dia_policy.specs.declared.Levels.{Levels}
+use Rattle.dia_policy.specs.declared.Levels.TheVariants.{Any, AtMost}
+use Rattle.dia_policy.specs.declared.Unknown.{Unknown}
+use Rattle.dia_policy.specs.declared.Unknown.TheVariants.{Kept, Refused}
 use Rattle.dia_cli.specs.declared.request.Request.{Request}
 use Rattle.dia_cli.specs.declared.request.Request.TheVariants.{Show, Check, Render, Compare, Refute, Propose}
 

@@ -20,7 +20,7 @@ use crate::request::Request;
 use clap::builder::ValueParser;
 use clap::error::ErrorKind;
 use clap::{Arg, ArgMatches};
-use dia_check::{Levels, Unknown};
+use dia_policy::{Levels, Unknown};
 use std::alloc::{AllocError, Global};
 use std::convert::AsStr;
 

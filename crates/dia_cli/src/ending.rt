@@ -2,10 +2,10 @@
 
 ghost use Rattle.std.specs.Prelude.{◌≡◌, ◌⊎◌, IfOk, IfErr};
 ghost use Rattle.dia_cli.specs.Ending.{EndsWith};
-ghost use Rattle.dia_run.specs.Exit.{status_of};
+ghost use Rattle.dia_io.specs.Exit.{status_of};
 
 use clap::error::ErrorKind;
-use dia_run::{Exit, RunFault};
+use dia_io::{Exit, RunFault};
 use std::alloc::AllocError;
 use std::{fmt, io};
 

@@ -1,14 +1,14 @@
 //! The inputs, read from where they come from.
 
 ghost use Rattle.std.specs.Prelude.{◌≡◌, IfOk, IfErr, IfSome};
-ghost use Rattle.dia_run.specs.Inputs.{IsWhole};
+ghost use Rattle.dia_io.specs.Inputs.{IsWhole};
 ghost use Rattle.dia_cli.specs.Opening.{IsAnyUnread, IsFaultOf, IsInputOf};
 ghost use Rattle.dia_cli.specs.Opening.{IsReadOf, IsUnread, IsWithin, input_of};
 
 use crate::ending::Ending;
 use crate::origin::{Origin, Origins, STANDARD_INPUT};
 use dia_dict::base_text;
-use dia_run::{FromReader, Input as Text, InputFault, Inputs, read_input};
+use dia_io::{FromReader, Input as Text, InputFault, Inputs, read_input};
 use std::alloc::Global;
 use std::io::Read;
 use std::rt::Files;

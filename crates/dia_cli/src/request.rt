@@ -4,8 +4,8 @@ ghost use Rattle.std.specs.Prelude.{◌≡◌};
 ghost use Rattle.dia_cli.specs.Request.{command_of, origins_of};
 
 use crate::origin::{Origin, Origins};
-use dia_check::{Levels, Unknown};
-use dia_run::Command;
+use dia_io::Command;
+use dia_policy::{Levels, Unknown};
 
 /// A subcommand, with the words of its inputs.
 #[derive(Debug, PartialEq, Eq, Drop)]

@@ -25,7 +25,7 @@ use Rattle.dia_compat.specs.PairTests.{NamePair, names_app, wants_app, is_wanted
 use Rattle.dia_compat.specs.declared.inclusion.Test.TheVariants.{N10}
 use Rattle.dia_compat.specs.Tests.{rules_in}
 use Rattle.dia_wire.specs.declared.Key.{Key}
-use Rattle.dia_check.specs.declared.policy.Unknown.{Unknown}
+use Rattle.dia_check.specs.declared.Unknown.{Unknown}
 use Rattle.dia_compat.specs.WantedNames.{wanted_name, wanted_names}
 use Rattle.dia_compat.proofs.RunsOfFixedRules.{IsIn}
 use Rattle.dia_compat.proofs.MemberCounts.{in_at, at_in, any_in, in_any}

@@ -3,7 +3,7 @@ use Rattle.std.proofs.Common.{◌≡◌, Bool, List, subst}
 use Rattle.std.specs.Prelude.{Result, Ok, Err, IfOk}
 use Rattle.dia_wire.specs.declared.Key.{Key}
 use Rattle.dia_dict.specs.Dictionary.{Dictionary, IsDictionary}
-use Rattle.dia_check.specs.declared.policy.Unknown.{Unknown}
+use Rattle.dia_check.specs.declared.Unknown.{Unknown}
 use Rattle.dia_compat.specs.declared.inclusion.Answer.{Answer}
 use Rattle.dia_compat.specs.declared.inclusion.Answer.TheVariants.{Yes}
 use Rattle.dia_compat.specs.TableText.{PlainTable}

@@ -15,8 +15,8 @@ use Rattle.dia_dict.specs.declared.Pxy.{Pxy}
 use Rattle.dia_dict.specs.declared.DefHead.{DefHead}
 use Rattle.dia_dict.specs.declared.DefHead.TheVariants.{Command}
 use Rattle.dia_dict.specs.Dictionary.{Dictionary, DictEntry, PlainDefinition}
-use Rattle.dia_check.specs.declared.policy.Unknown.{Unknown}
-use Rattle.dia_check.specs.declared.policy.Unknown.TheVariants.{Kept, Refused}
+use Rattle.dia_check.specs.declared.Unknown.{Unknown}
+use Rattle.dia_check.specs.declared.Unknown.TheVariants.{Kept, Refused}
 use Rattle.dia_check.specs.Valid.{AllowsP, known, fixed_rules, is_listed, is_wildcard, has_wildcard}
 use Rattle.dia_compat.specs.declared.inclusion.PairKind.{PairKind}
 use Rattle.dia_compat.specs.declared.inclusion.PairKind.TheVariants as kind

@@ -8,7 +8,7 @@ use Rattle.dia_wire.specs.declared.Key.{Key}
 use Rattle.dia_dict.proofs.Members.{into_right}
 use Rattle.dia_dict.specs.declared.DRule.{DRule}
 use Rattle.dia_dict.specs.Dictionary.{Dictionary, DictEntry, PlainDefinition, IsDictionary, AreRules, groups, definitions, group_place}
-use Rattle.dia_check.specs.declared.policy.Unknown.{Unknown}
+use Rattle.dia_check.specs.declared.Unknown.{Unknown}
 use Rattle.dia_compat.specs.declared.inclusion.Test.{Test}
 use Rattle.dia_compat.specs.declared.inclusion.Test.TheVariants.{N1, N2, N3, N4, N5, N6, N7, N8, N9, N10}
 use Rattle.dia_compat.specs.declared.inclusion.PairKind.{PairKind}

@@ -17,10 +17,10 @@ use Rattle.dia_dict.proofs.SameKeys.{same_key-refl, same_key-true}
 use Rattle.dia_dict.proofs.LookUpsByName.{find-place}
 use Rattle.dia_dict.proofs.Members.{IsAt, at_Contains, at_find, find-found}
 use Rattle.dia_dict.specs.Dictionary.{Dictionary, DictEntry, PlainDefinition, IsDictionary, AreRules, groups, definitions}
-use Rattle.dia_check.specs.declared.policy.Unknown.{Unknown}
-use Rattle.dia_check.specs.declared.policy.Unknown.TheVariants.{Kept, Refused}
-use Rattle.dia_check.specs.declared.policy.Levels.{Levels}
-use Rattle.dia_check.specs.declared.policy.Levels.TheVariants as levels
+use Rattle.dia_check.specs.declared.Unknown.{Unknown}
+use Rattle.dia_check.specs.declared.Unknown.TheVariants.{Kept, Refused}
+use Rattle.dia_check.specs.declared.Levels.{Levels}
+use Rattle.dia_check.specs.declared.Levels.TheVariants as levels
 use Rattle.dia_check.specs.Valid.{HasM, MHolds, IsAccepted, known, IsLevel, FitsBy, Fits, AllFit, Placed}
 use Rattle.dia_compat.specs.TableText.{PlainTable}
 use Rattle.dia_compat.specs.declared.inclusion.PairKind.TheVariants as kind

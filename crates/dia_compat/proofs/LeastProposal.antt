@@ -6,7 +6,7 @@ use Rattle.dia_dict.specs.declared.DRule.{DRule}
 use Rattle.dia_dict.specs.declared.DefHead.{DefHead}
 use Rattle.dia_dict.specs.declared.DefHead.TheVariants.{Group, Command, Error}
 use Rattle.dia_dict.specs.Dictionary.{Dictionary, DictEntry, PlainDefinition, IsDictionary}
-use Rattle.dia_check.specs.declared.policy.Unknown.{Unknown}
+use Rattle.dia_check.specs.declared.Unknown.{Unknown}
 use Rattle.dia_check.specs.Valid.{known}
 use Rattle.dia_compat.specs.TableText.{PlainTable}
 use Rattle.dia_compat.specs.declared.inclusion.PairKind.{PairKind}

@@ -17,8 +17,8 @@ use Rattle.dia_dict.proofs.SameKeys.{same_key-refl, same_key-true}
 use Rattle.dia_dict.proofs.Lists.{position-within}
 use Rattle.dia_dict.proofs.Members.{position-is_some, at_map, into_map}
 use Rattle.dia_dict.specs.Dictionary.{Dictionary, DictEntry, PlainDefinition, IsDictionary, entry_of}
-use Rattle.dia_check.specs.declared.policy.Unknown.{Unknown}
-use Rattle.dia_check.specs.declared.policy.Unknown.TheVariants.{Kept, Refused}
+use Rattle.dia_check.specs.declared.Unknown.{Unknown}
+use Rattle.dia_check.specs.declared.Unknown.TheVariants.{Kept, Refused}
 use Rattle.dia_check.specs.Valid.{known}
 use Rattle.dia_compat.specs.TableText.{PlainTable}
 use Rattle.dia_compat.specs.Below.{IsCoveredAlone, IsCovered, IsKnown}

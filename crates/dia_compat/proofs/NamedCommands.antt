@@ -14,7 +14,7 @@ use Rattle.dia_wire.specs.declared.Key.{Key}
 use Rattle.dia_dict.specs.declared.DRule.{DRule}
 use Rattle.dia_dict.specs.Dictionary.{Dictionary, DictEntry, PlainDefinition, IsDictionary, definitions, groups}
 use Rattle.dia_dict.proofs.Members.{at_filter_map, position-is_some}
-use Rattle.dia_check.specs.declared.policy.Unknown.{Unknown}
+use Rattle.dia_check.specs.declared.Unknown.{Unknown}
 use Rattle.dia_check.specs.Valid.{known}
 use Rattle.dia_compat.specs.declared.proposing.naming.NamedCommands.{NamedCommands}
 use Rattle.dia_compat.specs.declared.proposing.reaching.Reached.{Reached}

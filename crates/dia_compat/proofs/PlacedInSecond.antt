@@ -11,8 +11,8 @@ use Rattle.dia_dict.specs.Keys.{same_key}
 use Rattle.dia_dict.proofs.SameKeys.{same_key-refl, same_key-true}
 use Rattle.dia_dict.proofs.Members.{AreApart, AreApart-filter}
 use Rattle.dia_dict.specs.Dictionary.{Dictionary, AreRules, is_fixed, lists_key}
-use Rattle.dia_check.specs.declared.policy.Unknown.{Unknown}
-use Rattle.dia_check.specs.declared.policy.Unknown.TheVariants.{Kept}
+use Rattle.dia_check.specs.declared.Unknown.{Unknown}
+use Rattle.dia_check.specs.declared.Unknown.TheVariants.{Kept}
 use Rattle.dia_check.specs.Valid.{InBounds, Runs, fixed_rules, loose_rules, is_listed, is_wildcard, has_wildcard, MayBeLoose, counted, Placed}
 use Rattle.dia_check.proofs.LongestRuns.{AreDistinct}
 use Rattle.dia_compat.specs.declared.inclusion.Test.TheVariants.{N1, N2, N3, N5, N6, N7, N8}

@@ -18,9 +18,9 @@ use Rattle.dia_dict.specs.declared.DefHead.{DefHead}
 use Rattle.dia_dict.specs.declared.DefHead.TheVariants.{Command, Group}
 use Rattle.dia_dict.specs.declared.DRule.{DRule}
 use Rattle.dia_dict.specs.Dictionary.{Dictionary, DictEntry, PlainDefinition, IsDictionary, AreRules, IsCommandHead, IsLeast, is_fixed, entry_of, definitions}
-use Rattle.dia_check.specs.declared.policy.Unknown.{Unknown}
-use Rattle.dia_check.specs.declared.policy.Unknown.TheVariants.{Kept, Refused}
-use Rattle.dia_check.specs.declared.policy.Levels.TheVariants as levels
+use Rattle.dia_check.specs.declared.Unknown.{Unknown}
+use Rattle.dia_check.specs.declared.Unknown.TheVariants.{Kept, Refused}
+use Rattle.dia_check.specs.declared.Levels.TheVariants as levels
 use Rattle.dia_check.specs.Valid.{known, IsValidOf, IsValid}
 use Rattle.dia_compat.specs.declared.inclusion.Answer.TheVariants.{Yes, No}
 use Rattle.dia_compat.specs.declared.inclusion.PairKind.{PairKind}

@@ -5,6 +5,7 @@ use Rattle.std.specs.List.{filter_map, list_all, list_any, AllByRecursion}
 use Rattle.std.specs.Global.{Global}
 use Rattle.std.specs.Str.Lines.{lines}
 use Rattle.std.specs.Char.{is_ascii_alphanumeric, is_ascii_alphabetic}
+pub use Rattle.dia_policy.specs.Limits.{max_table}
 use Rattle.dia_compat.specs.declared.table.Table.{Table}
 use Rattle.dia_compat.specs.declared.table.TableFault.{TableFault}
 use Rattle.dia_compat.specs.declared.table.TableFault.TheVariants as fault
@@ -19,10 +20,6 @@ plain_pair p = (string_bytes p.0, string_bytes p.1)
 
 abbrev pub plain_table : Table → PlainTable
 plain_table t = record { commands = map plain_pair t.commands.items; avps = map plain_pair t.avps.items }
-
--- the most bytes of a table's text
-abbrev pub max_table : ℕ
-max_table = 33554432
 
 -- the most pairs of a table, and the most bytes of a name
 abbrev pub most_pairs : ℕ

@@ -6,8 +6,8 @@ use Rattle.dia_wire.specs.declared.Key.{Key}
 use Rattle.dia_dict.specs.declared.DRule.{DRule}
 use Rattle.dia_dict.specs.Keys.{same_key}
 use Rattle.dia_dict.specs.Dictionary.{Dictionary, definitions, entry_of, is_fixed, lists_key}
-use Rattle.dia_check.specs.declared.policy.Unknown.{Unknown}
-use Rattle.dia_check.specs.declared.policy.Unknown.TheVariants.{Kept, Refused}
+use Rattle.dia_check.specs.declared.Unknown.{Unknown}
+use Rattle.dia_check.specs.declared.Unknown.TheVariants.{Kept, Refused}
 use Rattle.dia_check.specs.Valid.{is_listed, is_wildcard, has_wildcard}
 use Rattle.dia_compat.specs.declared.inclusion.Test.{Test}
 use Rattle.dia_compat.specs.declared.inclusion.Test.TheVariants.{N1, N2, N3, N4, N5, N6, N7, N8, N9, N10}

@@ -2,8 +2,8 @@ ghost use Rattle.std.specs.Prelude.{◌≡◌, ◌↔◌, IfOk, IsTrue, List, �
 ghost use Rattle.dia_wire.specs.Wire.{PlainAvp, key_of};
 ghost use Rattle.dia_dict.specs.declared.DRule.{DRule as AnyRule};
 ghost use Rattle.dia_dict.specs.Dictionary.{AreRules, Dictionary, IsDictionary};
-ghost use Rattle.dia_check.specs.declared.policy.Unknown.{Unknown as AnyPolicy};
-ghost use Rattle.dia_check.specs.declared.policy.Levels.{Levels as AnyLevels};
+ghost use Rattle.dia_check.specs.declared.Unknown.{Unknown as AnyPolicy};
+ghost use Rattle.dia_check.specs.declared.Levels.{Levels as AnyLevels};
 ghost use Rattle.dia_check.specs.Valid.{AllFit, IsValid, Placed};
 ghost use Rattle.dia_compat.specs.TableText.{PlainTable, plain_table};
 ghost use Rattle.dia_compat.specs.Below.{DefBelow};

@@ -2,7 +2,7 @@ ghost use Rattle.std.specs.Prelude.{◌≡◌, ◌<◌, ◌++◌, [], IfOk, IfEr
 ghost use Rattle.std.specs.Prelude.{ℕ, Some, length, map, option_to_list, slice_get, string_bytes};
 ghost use Rattle.std.specs.List.{filter_map};
 ghost use Rattle.dia_dict.specs.Dictionary.{DictEntry, Dictionary, IsDictionary};
-ghost use Rattle.dia_check.specs.declared.policy.Unknown.{Unknown as AnyPolicy};
+ghost use Rattle.dia_check.specs.declared.Unknown.{Unknown as AnyPolicy};
 ghost use Rattle.dia_compat.specs.TableText.{PlainTable, plain_table, plain_pair};
 ghost use Rattle.dia_compat.specs.Proposed.{IsProposal, IsLeast, ListsAll, IsRefusal};
 ghost use Rattle.dia_compat.specs.Closed.{IsClosed, IsAnswer};

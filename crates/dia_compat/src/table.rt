@@ -10,14 +10,12 @@ mod line;
 mod rendering;
 mod words;
 
+pub use dia_policy::MAX_TABLE;
 use line::{Line, read_line};
 pub use rendering::{read_tables_are_writable, render_table};
 use std::alloc::{AllocError, Global};
 use std::fmt;
 use thiserror::Error;
-
-/// The most bytes of a table's text (our profile).
-pub const MAX_TABLE: usize = 33_554_432;
 
 /// The most pairs of a table that is read (our profile).
 pub const MAX_PAIRS: usize = 65_536;

@@ -1,4 +1,3 @@
-pub mod TextsInPieces
 pub mod OutcomeParts
 pub mod KnownAvps
 pub mod LinesOfLevels

@@ -14,8 +14,8 @@ use Rattle.dia_compat.specs.declared.PairKind.{PairKind}
 use Rattle.dia_compat.specs.declared.Table.{Table}
 use Rattle.dia_compat.specs.TableText.{PlainTable, plain_table, plain_pair}
 use Rattle.dia_compat.specs.Closed.{IsAnswer}
-use Rattle.dia_run.specs.declared.command.Exit.{Exit}
-use Rattle.dia_run.specs.declared.command.Exit.TheVariants as exits
+use Rattle.dia_io.specs.declared.Exit.{Exit}
+use Rattle.dia_io.specs.declared.Exit.TheVariants as exits
 use Rattle.dia_run.specs.declared.commands.Outcome.{Outcome}
 use Rattle.dia_run.specs.Pairs.{IsAnswerText, IsFailureText, failure_line, NamesPair}
 

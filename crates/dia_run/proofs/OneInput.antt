@@ -11,11 +11,11 @@ use Rattle.dia_ccf.proofs.OneFault.{one_fault, no_text_of}
 use Rattle.dia_ccf.proofs.MachineCompleteness.{one_source}
 use Rattle.dia_dict.specs.Dictionary.{Dictionary}
 use Rattle.dia_dict.specs.Resolution.{first_wrong, resolved}
-use Rattle.dia_run.specs.declared.command.Input.{Input}
-use Rattle.dia_run.specs.declared.command.Input.TheVariants.{Bytes, TooLong}
-use Rattle.dia_run.specs.declared.command.Exit.{Exit}
-use Rattle.dia_run.specs.Inputs.{Holds, IsOver}
-use Rattle.dia_run.specs.Limits.{max_message_text}
+use Rattle.dia_io.specs.declared.Input.{Input}
+use Rattle.dia_io.specs.declared.Input.TheVariants.{Bytes, TooLong}
+use Rattle.dia_io.specs.declared.Exit.{Exit}
+use Rattle.dia_io.specs.Inputs.{Holds, IsOver}
+use Rattle.dia_policy.specs.Limits.{max_message_text}
 use Rattle.dia_run.specs.Texts.{line, fault_text, wrong_text, IsSourceText, IsNoSourceText, too_long, not_text, fault, IsDictionaryText, IsNoDictionaryText, IsMessageText, IsNoMessageText}
 use Rattle.dia_run.specs.Texts.{not_hexadecimal, digits_of}
 use Rattle.dia_run.specs.Outcome.{Refuses}

@@ -14,10 +14,10 @@ use Rattle.dia_check.specs.declared.Selected.{Selected}
 use Rattle.dia_check.specs.declared.Refusal.{Refusal}
 use Rattle.dia_check.specs.declared.Refusal.TheVariants as refusal
 use Rattle.dia_check.proofs.OneAnswer.{one_answer}
-use Rattle.dia_run.specs.declared.command.Command.{Command}
-use Rattle.dia_run.specs.declared.command.Command.TheVariants as command
-use Rattle.dia_run.specs.declared.command.Inputs.{Inputs}
-use Rattle.dia_run.specs.declared.command.Exit.{Exit}
+use Rattle.dia_io.specs.declared.Command.{Command}
+use Rattle.dia_io.specs.declared.Command.TheVariants as command
+use Rattle.dia_io.specs.declared.Inputs.{Inputs}
+use Rattle.dia_io.specs.declared.Exit.{Exit}
 use Rattle.dia_run.specs.Texts.{line, dictionary_line}
 use Rattle.dia_run.specs.Verdict.{IsVerdict}
 use Rattle.dia_run.specs.Listing.{Level, IsListing, header_line}

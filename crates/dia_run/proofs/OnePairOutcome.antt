@@ -21,9 +21,9 @@ use Rattle.dia_compat.proofs.TableLines.{one_table_of, one_fault, fault_or_table
 use Rattle.dia_compat.proofs.OneAnswer.{one_comparison}
 use Rattle.dia_compat.proofs.OneProposal.{one_proposal}
 use Rattle.std.specs.Str.Lines.{lines}
-use Rattle.dia_run.specs.declared.command.Input.{Input}
-use Rattle.dia_run.specs.declared.command.Inputs.{Inputs}
-use Rattle.dia_run.specs.declared.command.Exit.{Exit}
+use Rattle.dia_io.specs.declared.Input.{Input}
+use Rattle.dia_io.specs.declared.Inputs.{Inputs}
+use Rattle.dia_io.specs.declared.Exit.{Exit}
 use Rattle.dia_run.specs.Texts.{dictionary_line}
 use Rattle.dia_compat.specs.TableText.{max_table}
 use Rattle.dia_run.specs.Pairs.{IsTableText, IsNoTableText, too_long, not_text, fault, table_line, table_fault_text, IsFailureText, failure_line, IsAnswerText}

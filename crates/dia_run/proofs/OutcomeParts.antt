@@ -10,7 +10,7 @@ use Rattle.dia_run.specs.declared.inputs.Refused.{Refused}
 use Rattle.dia_run.specs.declared.inputs.Refused.TheVariants.{Bad}
 use Rattle.dia_run.specs.declared.inputs.bad_input.BadInput.TheVariants.{Message}
 use Rattle.dia_run.specs.declared.inputs.bad_input.BadMessage.TheVariants.{NoMessage}
-use Rattle.dia_run.specs.declared.command.Exit.{Exit}
+use Rattle.dia_io.specs.declared.Exit.{Exit}
 use Rattle.dia_run.specs.Listing.{header_line, AddsLevel}
 use Rattle.dia_run.specs.Outcome.{Ends, IsMessageShown, listing, short, version, bad_length, truncated, trailing, listing_exit}
 

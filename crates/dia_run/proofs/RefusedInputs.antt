@@ -1,8 +1,8 @@
 -- What is told of an input that is refused, and what an outcome is made of.
 use Rattle.std.proofs.Common.{◌≡◌, ◌≢◌, ℕ, ◌≤◌, List, length, Result, Ok, Err, refl, sym, ap, subst, inl}
 use Rattle.std.specs.Prelude.{IfOk, IfErr, IsErr, string_bytes}
-use Rattle.dia_run.specs.declared.command.Exit.{Exit}
-use Rattle.dia_run.specs.declared.command.Exit.TheVariants as exits
+use Rattle.dia_io.specs.declared.Exit.{Exit}
+use Rattle.dia_io.specs.declared.Exit.TheVariants as exits
 use Rattle.dia_run.specs.declared.commands.Outcome.{Outcome}
 use Rattle.dia_run.specs.declared.inputs.Refused.{Refused}
 use Rattle.dia_run.specs.declared.inputs.Refused.TheVariants.{Bad, NoMemory}
@@ -11,9 +11,9 @@ use Rattle.dia_ccf.specs.declared.CcfFault.{CcfFault}
 use Rattle.dia_ccf.specs.declared.CcfFault.TheVariants as ccf
 use Rattle.dia_ccf.specs.Faults.{IsFault}
 use Rattle.dia_ccf.specs.Limits.{max_text}
-use Rattle.dia_run.specs.declared.command.Input.{Input}
-use Rattle.dia_run.specs.declared.command.Input.TheVariants.{Bytes, TooLong}
-use Rattle.dia_run.specs.Inputs.{Holds}
+use Rattle.dia_io.specs.declared.Input.{Input}
+use Rattle.dia_io.specs.declared.Input.TheVariants.{Bytes, TooLong}
+use Rattle.dia_io.specs.Inputs.{Holds}
 use Rattle.dia_compat.specs.TableText.{max_table}
 use Rattle.dia_run.specs.Texts.{line, dictionary_line, fault_text, IsNoSourceText, fault, IsDictionaryText, IsNoDictionaryText, IsNoMessageText}
 use Rattle.dia_run.specs.Refusals.{TellsOf, bad_input_text}
@@ -24,7 +24,7 @@ use Rattle.dia_compat.specs.TableText.{IsTableFault}
 use Rattle.dia_dict.specs.Dictionary.{Dictionary}
 use Rattle.dia_check.specs.declared.Unknown.{Unknown}
 use Rattle.dia_check.specs.declared.Levels.{Levels}
-use Rattle.dia_run.specs.declared.command.Inputs.{Inputs}
+use Rattle.dia_io.specs.declared.Inputs.{Inputs}
 use Rattle.dia_run.specs.Outcome.{Ends, IsRenderOutcome, no_source, IsMessageOutcome, no_dictionary, no_message, IsPairOutcome, ended, no_first, no_second, IsComparison, no_table, IsRefutation}
 
 pub TellsOf-map : (P Q : List ℕ → Type 0) (r : Refused) → ((told : List ℕ) → P told → Q told) → TellsOf P r → TellsOf Q r

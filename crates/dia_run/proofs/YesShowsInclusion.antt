@@ -8,11 +8,11 @@ use Rattle.dia_compat.specs.declared.PairKind.TheVariants as pair
 use Rattle.dia_compat.specs.TableText.{PlainTable}
 use Rattle.dia_compat.specs.Closed.{IsAnswer}
 use Rattle.dia_compat.proofs.SelectedCommands.{included}
-use Rattle.dia_run.specs.declared.command.Command.{Command}
-use Rattle.dia_run.specs.declared.command.Command.TheVariants as command
-use Rattle.dia_run.specs.declared.command.Inputs.{Inputs}
-use Rattle.dia_run.specs.declared.command.Exit.{Exit}
-use Rattle.dia_run.specs.declared.command.Exit.TheVariants.{Yes, No, Bad}
+use Rattle.dia_io.specs.declared.Command.{Command}
+use Rattle.dia_io.specs.declared.Command.TheVariants as command
+use Rattle.dia_io.specs.declared.Inputs.{Inputs}
+use Rattle.dia_io.specs.declared.Exit.{Exit}
+use Rattle.dia_io.specs.declared.Exit.TheVariants.{Yes, No, Bad}
 use Rattle.dia_run.specs.Texts.{IsDictionaryText}
 use Rattle.dia_run.specs.Pairs.{IsTableText, IsAnswerText}
 use Rattle.dia_run.specs.Outcome.{ended, no_first, no_second, compared, no_table, IsCompareOutcome, IsOutcome}

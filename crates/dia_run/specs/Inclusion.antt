@@ -5,11 +5,11 @@ use Rattle.dia_check.specs.declared.Unknown.{Unknown}
 use Rattle.dia_check.specs.declared.Levels.{Levels}
 use Rattle.dia_check.specs.Valid.{IsValidOf}
 use Rattle.dia_compat.specs.TableText.{PlainTable}
-use Rattle.dia_run.specs.declared.command.Command.{Command}
-use Rattle.dia_run.specs.declared.command.Command.TheVariants.{Compare}
-use Rattle.dia_run.specs.declared.command.Inputs.{Inputs}
-use Rattle.dia_run.specs.declared.command.Exit.{Exit}
-use Rattle.dia_run.specs.declared.command.Exit.TheVariants.{Yes}
+use Rattle.dia_io.specs.declared.Command.{Command}
+use Rattle.dia_io.specs.declared.Command.TheVariants.{Compare}
+use Rattle.dia_io.specs.declared.Inputs.{Inputs}
+use Rattle.dia_io.specs.declared.Exit.{Exit}
+use Rattle.dia_io.specs.declared.Exit.TheVariants.{Yes}
 use Rattle.dia_run.specs.Texts.{IsDictionaryText}
 use Rattle.dia_run.specs.Pairs.{IsTableText}
 

@@ -1,6 +1,3 @@
-pub mod Limits
-pub mod Inputs
-pub mod Exit
 pub mod Texts
 pub mod Refusals
 pub mod Listing
@@ -8,6 +5,4 @@ pub mod Verdict
 pub mod Pairs
 pub mod Outcome
 pub mod Inclusion
-pub mod Writing
-pub mod Devices
 pub mod FedTexts

@@ -21,12 +21,12 @@ use Rattle.dia_compat.specs.WrittenTable.{table_text}
 use Rattle.dia_run.specs.declared.commands.Outcome.{Outcome}
 use Rattle.dia_run.specs.declared.inputs.Refused.{Refused}
 use Rattle.dia_run.specs.declared.inputs.Refused.TheVariants.{Bad as BadInput, NoMemory}
-use Rattle.dia_run.specs.declared.command.Command.{Command}
-use Rattle.dia_run.specs.declared.command.Command.TheVariants.{Show, Render, Check, Compare, Refute, Propose}
-use Rattle.dia_run.specs.declared.command.Input.{Input}
-use Rattle.dia_run.specs.declared.command.Inputs.{Inputs}
-use Rattle.dia_run.specs.declared.command.Exit.{Exit}
-use Rattle.dia_run.specs.declared.command.Exit.TheVariants.{Yes, No, Bad}
+use Rattle.dia_io.specs.declared.Command.{Command}
+use Rattle.dia_io.specs.declared.Command.TheVariants.{Show, Render, Check, Compare, Refute, Propose}
+use Rattle.dia_io.specs.declared.Input.{Input}
+use Rattle.dia_io.specs.declared.Inputs.{Inputs}
+use Rattle.dia_io.specs.declared.Exit.{Exit}
+use Rattle.dia_io.specs.declared.Exit.TheVariants.{Yes, No, Bad}
 use Rattle.dia_run.specs.Texts.{line, dictionary_line, IsSourceText, IsNoSourceText, IsDictionaryText, IsNoDictionaryText}
 use Rattle.dia_run.specs.Texts.{IsMessageText, IsNoMessageText}
 use Rattle.dia_run.specs.Refusals.{bad_input_text}

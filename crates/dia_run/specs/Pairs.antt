@@ -11,10 +11,10 @@ use Rattle.dia_compat.specs.declared.TableFault.TheVariants as table
 use Rattle.dia_compat.specs.TableText.{PlainTable, IsTable, IsTableFault}
 use Rattle.dia_compat.specs.Closed.{pairs_of}
 use Rattle.dia_compat.specs.WrittenTable.{pair_text}
-use Rattle.dia_run.specs.declared.command.Input.{Input}
-use Rattle.dia_run.specs.declared.command.Exit.{Exit}
-use Rattle.dia_run.specs.declared.command.Exit.TheVariants.{Yes, No}
-use Rattle.dia_run.specs.Inputs.{Holds, IsOver}
+use Rattle.dia_io.specs.declared.Input.{Input}
+use Rattle.dia_io.specs.declared.Exit.{Exit}
+use Rattle.dia_io.specs.declared.Exit.TheVariants.{Yes, No}
+use Rattle.dia_io.specs.Inputs.{Holds, IsOver}
 use Rattle.dia_compat.specs.TableText.{max_table}
 use Rattle.dia_run.specs.Texts.{line, fault_at}
 

@@ -13,9 +13,9 @@ use Rattle.dia_ccf.specs.Faults.{IsFault}
 use Rattle.dia_dict.specs.Dictionary.{Dictionary, IsDictionary}
 use Rattle.dia_dict.specs.Resolution.{resolved, first_wrong, Wrong}
 use Rattle.dia_dict.specs.Words.{kind_word}
-use Rattle.dia_run.specs.declared.command.Input.{Input}
-use Rattle.dia_run.specs.Inputs.{Holds, IsOver}
-use Rattle.dia_run.specs.Limits.{max_message_text}
+use Rattle.dia_io.specs.declared.Input.{Input}
+use Rattle.dia_io.specs.Inputs.{Holds, IsOver}
+use Rattle.dia_policy.specs.Limits.{max_message_text}
 
 -- a text and its line feed
 abbrev pub line : List ℕ → List ℕ

@@ -12,8 +12,8 @@ use Rattle.dia_check.specs.declared.Selected.{Selected}
 use Rattle.dia_check.specs.declared.Refusal.{Refusal}
 use Rattle.dia_check.specs.declared.Refusal.TheVariants as refusal
 use Rattle.dia_check.specs.Valid.{known}
-use Rattle.dia_run.specs.declared.command.Exit.{Exit}
-use Rattle.dia_run.specs.declared.command.Exit.TheVariants.{Yes, No}
+use Rattle.dia_io.specs.declared.Exit.{Exit}
+use Rattle.dia_io.specs.declared.Exit.TheVariants.{Yes, No}
 use Rattle.dia_run.specs.Texts.{line}
 
 abbrev pub reason_word : Reason → List ℕ

@@ -1,13 +1,13 @@
 //! The text of each command, and how it ends.
 
 ghost use Rattle.std.specs.Prelude.{◌≡◌, Ok, IfOk, IfErr, IsErr, string_bytes};
-ghost use Rattle.dia_run.specs.declared.command.Exit.TheVariants.{Bad};
+ghost use Rattle.dia_io.specs.declared.Exit.TheVariants.{Bad};
 ghost use Rattle.dia_run.specs.Texts.{line};
 ghost use Rattle.dia_run.specs.Refusals.{TellsOf, bad_input_text};
 
-use crate::command::Exit;
 use crate::inputs::Refused;
 use crate::inputs::bad_input::BadInput;
+use dia_io::Exit;
 use std::alloc::{AllocError, Global};
 
 pub mod check;

@@ -1,10 +1,10 @@
 //! What the texts of the inputs say.
 
 ghost use Rattle.std.specs.Prelude.{◌≡◌, IfSome, IsNone};
-ghost use Rattle.dia_run.specs.Inputs.{Holds, IsOver};
+ghost use Rattle.dia_io.specs.Inputs.{Holds, IsOver};
 
-use crate::command::Input;
 use crate::inputs::bad_input::{BadInput, BadMessage};
+use dia_io::Input;
 use dia_wire::MessageFault;
 use std::alloc::AllocError;
 

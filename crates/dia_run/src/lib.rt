@@ -17,17 +17,13 @@
 //! ```
 #![tactic(auto)]
 
-mod command;
 mod commands;
-mod devices;
 mod inputs;
-mod reading;
 mod running;
-mod streams;
 
-pub use command::{Command, Exit, Input, Inputs, RunFault};
-pub use devices::{FromReader, ToWriter};
-pub use inputs::message::MAX_MESSAGE_TEXT;
-pub use reading::{InputFault, read_input};
+pub use dia_io::{
+    Command, Exit, Failed, Feed, FromReader, Input, InputFault, Inputs, RunFault, Sink, ToWriter,
+    read_input,
+};
+pub use dia_policy::MAX_MESSAGE_TEXT;
 pub use running::run;
-pub use streams::{Failed, Feed, Sink};

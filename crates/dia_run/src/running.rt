@@ -3,12 +3,11 @@
 ghost use Rattle.std.specs.Prelude.{◌≡◌, ◌↔◌, List, ℕ, IfOk, OnOk, Err};
 ghost use Rattle.std.specs.Prelude.{IsErr, IsTrue, string_bytes};
 ghost use Rattle.std.specs.Io.KnownBytes.{Appends};
-ghost use Rattle.dia_run.specs.declared.command.Exit.{Exit as AnyExit};
-ghost use Rattle.dia_run.specs.Writing.{AppendsFront};
+ghost use Rattle.dia_io.specs.declared.Exit.{Exit as AnyExit};
+ghost use Rattle.dia_io.specs.Writing.{AppendsFront};
 ghost use Rattle.dia_run.specs.Outcome.{Ends, IsOutcome};
 ghost use Rattle.dia_run.specs.Inclusion.{ShowsInclusion};
 
-use crate::command::{Command, Exit, Inputs, RunFault};
 use crate::commands::check::check;
 use crate::commands::compare::compare;
 use crate::commands::propose::propose;
@@ -17,7 +16,7 @@ use crate::commands::render::render;
 use crate::commands::show::show;
 use crate::commands::{Outcome, outcome_of};
 use crate::inputs::Refused;
-use crate::streams::{Failed, Sink};
+use dia_io::{Command, Exit, Inputs, RunFault, Sink, put_all};
 use std::alloc::{AllocError, Global};
 
 /// Writes the text of a command for its inputs, and answers how it ended.
@@ -69,19 +68,4 @@ fn attempt(alloc: Global, command: &Command, inputs: &Inputs) -> Result<Outcome,
         Command::Refute { unknown, levels } => refute(alloc, *unknown, *levels, inputs),
         Command::Propose { unknown, names } => propose(alloc, *unknown, names.as_slice(), inputs),
     }
-}
-
-/// Writes a text to a sink, up to the call that fails.
-fn put_all<S: Sink>(sink: &mut S, text: &[u8]) -> Result<(), Failed>
-    requires { ¬ IsTrue (S.has_failed sink.old) }
-    ensures ok { OnOk result (Appends (S.written sink.old) (S.written sink.new) text.now) }
-    ensures front { AppendsFront (S.written sink.old) (S.written sink.new) text.now }
-    ensures failed { IsErr result ↔ IsTrue (S.has_failed sink.new) }
-{
-    let mut rest = text;
-    while !rest.is_empty() {
-        let count = sink.put(rest)?;
-        rest = &rest[count..];
-    }
-    Ok(())
 }

@@ -4,8 +4,8 @@ ghost use Rattle.std.specs.Prelude.{◌≡◌, ◌+◌, ◌<◌, ◌≤◌, ◌^
 ghost use Rattle.std.specs.Prelude.{Some, length, IfOk, MatchResult};
 ghost use Rattle.dia_wire.specs.Wire.{head_length};
 ghost use Rattle.dia_dict.specs.Dictionary.{Dictionary, IsDictionary};
-ghost use Rattle.dia_check.specs.declared.policy.Unknown.{Unknown as AnyPolicy};
-ghost use Rattle.dia_check.specs.declared.policy.Levels.{Levels as AnyLevels};
+ghost use Rattle.dia_policy.specs.declared.Unknown.{Unknown as AnyPolicy};
+ghost use Rattle.dia_policy.specs.declared.Levels.{Levels as AnyLevels};
 ghost use Rattle.dia_check.specs.Faults.{HasGoodHeader};
 ghost use Rattle.dia_check.specs.UnderWay.{IsUnderWay};
 ghost use Rattle.dia_check.specs.Reading.{AreSound, BeginsLevel, BeginsLevelAt, GoesOn};
@@ -18,11 +18,11 @@ use crate::body::{broken, fault, read_piece};
 use crate::fault::Refusal;
 use crate::group::{enter_group, head_key, head_length};
 use crate::open_levels::{OpenLevels, Wrong};
-use crate::policy::{Levels, Unknown};
 use crate::stream::front::Front;
 use crate::stream::leaf::{feed_leaf, start_leaf, wrong_leaf};
 use dia_data::LeafState;
 use dia_dict::Book;
+use dia_policy::{Levels, Unknown};
 use dia_wire::{AVP_HEAD_LENGTH, AvpFault, AvpHead, Key, avp_head};
 
 /// The part of a body that is being read.

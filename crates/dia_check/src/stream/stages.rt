@@ -3,8 +3,8 @@
 ghost use Rattle.std.specs.Prelude.{◌≡◌, ◌≢◌, ◌⊎◌, ◌<◌, ◌+◌, ◌^◌, ◌++◌, ℕ, List, length};
 ghost use Rattle.std.specs.Prelude.{Err, None, MatchBool, MatchOption, MatchResult, ⊤};
 ghost use Rattle.dia_dict.specs.Dictionary.{IsDictionary};
-ghost use Rattle.dia_check.specs.declared.policy.Unknown.{Unknown as AnyPolicy};
-ghost use Rattle.dia_check.specs.declared.policy.Levels.{Levels as AnyLevels};
+ghost use Rattle.dia_policy.specs.declared.Unknown.{Unknown as AnyPolicy};
+ghost use Rattle.dia_policy.specs.declared.Levels.{Levels as AnyLevels};
 ghost use Rattle.dia_check.specs.Faults.{HasGoodHeader, HasHeader, HasLength, IsAnswer, simple};
 ghost use Rattle.dia_check.specs.Front.{front_bytes};
 ghost use Rattle.dia_check.specs.Walks.{Walks, whole};
@@ -17,10 +17,10 @@ use crate::body::fault;
 use crate::fault::{Reason, Refusal, Selected, Subject};
 use crate::header::good_command;
 use crate::open_levels::{OpenLevels, Wrong};
-use crate::policy::{Levels, Unknown};
 use crate::stream::front::Front;
 use crate::stream::parts::{Part, go_on, read_part};
 use dia_dict::{Book, DefId};
+use dia_policy::{Levels, Unknown};
 use dia_wire::{HEADER_LENGTH, HeadFault, Header, read_header};
 use std::alloc::Global;
 

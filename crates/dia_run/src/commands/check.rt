@@ -9,13 +9,13 @@ ghost use Rattle.dia_run.specs.Verdict.{IsVerdict, fault_line, reason_word, subj
 
 mod feeding;
 
-use crate::command::{Exit, Inputs};
 use crate::commands::check::feeding::check_message;
 use crate::commands::{Outcome, told};
 use crate::inputs::Refused;
 use crate::inputs::dictionary::read_dictionary;
 use dia_check::{Fault, Levels, Reason, Refusal, Selected, Subject, Unknown};
 use dia_dict::{Book, DefId};
+use dia_io::{Exit, Inputs};
 use std::alloc::{AllocError, Global};
 
 /// The verdict on the message, under the first dictionary.

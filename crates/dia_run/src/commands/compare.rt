@@ -5,13 +5,13 @@ ghost use Rattle.dia_compat.specs.TableText.{plain_table, plain_pair};
 ghost use Rattle.dia_run.specs.Outcome.{Ends, IsCompareOutcome};
 ghost use Rattle.dia_run.specs.Pairs.{IsAnswerText, NamesPair, failure_line, test_word};
 
-use crate::command::{Exit, Inputs};
 use crate::commands::{Outcome, told};
 use crate::inputs::Refused;
 use crate::inputs::dictionary::read_dictionary;
 use crate::inputs::table::read_table;
 use dia_check::Unknown;
 use dia_compat::{Answer, PairKind, Table, Test, check_table};
+use dia_io::{Exit, Inputs};
 use std::alloc::{AllocError, Global};
 
 /// The answer for both dictionaries and the table.

@@ -6,13 +6,13 @@ ghost use Rattle.dia_compat.specs.TableText.{plain_table};
 ghost use Rattle.dia_run.specs.Outcome.{Ends, IsProposeOutcome, no_command_line};
 ghost use Rattle.dia_run.specs.Refusals.{bad_input_text};
 
-use crate::command::{Exit, Inputs};
 use crate::commands::Outcome;
 use crate::inputs::Refused;
 use crate::inputs::bad_input::BadInput;
 use crate::inputs::dictionary::read_dictionary;
 use dia_check::Unknown;
 use dia_compat::{ProposeFault, Table, render_table};
+use dia_io::{Exit, Inputs};
 use std::alloc::{AllocError, Global};
 
 /// The table for the named commands of the first dictionary.

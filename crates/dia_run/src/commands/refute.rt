@@ -2,13 +2,13 @@
 
 ghost use Rattle.dia_run.specs.Outcome.{Ends, IsRefuteOutcome};
 
-use crate::command::{Exit, Inputs};
 use crate::commands::{Outcome, told};
 use crate::inputs::Refused;
 use crate::inputs::dictionary::read_dictionary;
 use crate::inputs::message::read_message;
 use dia_check::{Levels, Unknown};
 use dia_compat::refutes;
+use dia_io::{Exit, Inputs};
 use std::alloc::Global;
 
 /// Whether the message is valid under the first dictionary and not under the second.

@@ -2,10 +2,10 @@
 
 ghost use Rattle.dia_run.specs.Outcome.{Ends, IsRenderOutcome};
 
-use crate::command::{Exit, Inputs};
 use crate::commands::Outcome;
 use crate::inputs::Refused;
 use crate::inputs::dictionary::read_source;
+use dia_io::{Exit, Inputs};
 use std::alloc::Global;
 
 /// The canonical text of the first dictionary, which is read and not resolved.

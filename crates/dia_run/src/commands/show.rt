@@ -4,7 +4,6 @@ ghost use Rattle.std.specs.Prelude.{◌≡◌, ◌++◌, OnOk, string_bytes};
 ghost use Rattle.dia_run.specs.Listing.{header_line};
 ghost use Rattle.dia_run.specs.Outcome.{Ends, IsShowOutcome, IsMessageShown, listing_exit};
 
-use crate::command::{Exit, Inputs};
 use crate::commands::Outcome;
 use crate::commands::show::listing::push_level;
 use crate::inputs::Refused;
@@ -12,6 +11,7 @@ use crate::inputs::dictionary::read_dictionary;
 use crate::inputs::message::read_message;
 use dia_data::push_hex_byte;
 use dia_dict::Book;
+use dia_io::{Exit, Inputs};
 use dia_wire::{HEADER_LENGTH, Header, split_message};
 use std::alloc::{AllocError, Global};
 

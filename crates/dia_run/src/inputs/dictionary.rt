@@ -9,11 +9,11 @@ ghost use Rattle.dia_run.specs.Texts.{IsDictionaryText, IsNoDictionaryText};
 ghost use Rattle.dia_run.specs.Texts.{dictionary_line, fault_text, wrong_text};
 ghost use Rattle.dia_run.specs.Refusals.{TellsOf, bad_dictionary_text};
 
-use crate::command::Input;
 use crate::inputs::bad_input::{BadDictionary, BadInput};
 use crate::inputs::{Refused, bytes_within};
 use dia_ccf::{CcfFault, MAX_TEXT, Source, parse};
 use dia_dict::{Book, DictFault, DictKind, IndexedBook, PlainBook, resolve};
+use dia_io::Input;
 use std::alloc::{AllocError, Global};
 
 /// The source that an input's text spells. `number` says which dictionary of the command it is, from 1.

@@ -3,19 +3,17 @@
 ghost use Rattle.std.specs.Prelude.{◌≡◌, ◌≢◌, Ok, IfOk, IfErr, IsOk};
 ghost use Rattle.hex.specs.Hex.{decode_of};
 ghost use Rattle.dia_ccf.specs.Tokens.{is_white};
-ghost use Rattle.dia_run.specs.Inputs.{Holds};
-ghost use Rattle.dia_run.specs.Limits.{max_message_text};
+ghost use Rattle.dia_io.specs.Inputs.{Holds};
+ghost use Rattle.dia_policy.specs.Limits.{max_message_text};
 ghost use Rattle.dia_run.specs.Texts.{IsMessageText, IsNoMessageText, digits_of};
 ghost use Rattle.dia_run.specs.Refusals.{TellsOf};
 
-use crate::command::Input;
 use crate::inputs::bad_input::BadMessage;
 use crate::inputs::{Refused, bytes_within};
+use dia_io::Input;
+use dia_policy::MAX_MESSAGE_TEXT;
 use hex::FromHexError;
 use std::alloc::{AllocError, Global};
-
-/// The most bytes that the text of a message may have, white space included.
-pub const MAX_MESSAGE_TEXT: usize = 67_108_864;
 
 /// The text of a message, if it is within the limit.
 pub fn message_text(input: &Input) -> Result<&[u8], Refused>

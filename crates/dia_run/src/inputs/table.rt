@@ -5,10 +5,10 @@ ghost use Rattle.dia_compat.specs.TableText.{plain_table};
 ghost use Rattle.dia_run.specs.Pairs.{IsTableText, IsNoTableText, table_line, table_fault_text};
 ghost use Rattle.dia_run.specs.Refusals.{TellsOf, bad_table_text};
 
-use crate::command::Input;
 use crate::inputs::bad_input::{BadInput, BadTable};
 use crate::inputs::{Refused, bytes_within};
 use dia_compat::{MAX_TABLE, Table, TableFault, parse_table};
+use dia_io::Input;
 use std::alloc::Global;
 
 /// The table that an input's text spells.

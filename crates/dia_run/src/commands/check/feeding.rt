@@ -13,12 +13,12 @@ ghost use Rattle.dia_run.specs.Texts.{IsMessageText, IsNoMessageText, SpellsFirs
 ghost use Rattle.dia_run.specs.Refusals.{TellsOf};
 ghost use Rattle.dia_run.specs.FedTexts.{WasFed, IsEndless, IsNoHexadecimal};
 
-use crate::command::Input;
 use crate::inputs::Refused;
 use crate::inputs::message::message_text;
 use crate::inputs::pieces::{MAX_PIECE, next_piece};
 use dia_check::{Fault, Levels, Reason, Refusal, Selected, Stream, StreamFault, Unknown};
 use dia_dict::Book;
+use dia_io::Input;
 use std::alloc::Global;
 
 /// How far a text was fed to a stream.

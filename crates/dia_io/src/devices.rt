@@ -1,7 +1,7 @@
 //! The readers and writers of std as feeds and sinks.
 
 ghost use Rattle.std.specs.Prelude.{◌≡◌, None, false, is_some};
-ghost use Rattle.dia_run.specs.Devices.{IsTaken, answer_of, failure_after};
+ghost use Rattle.dia_io.specs.Devices.{IsTaken, answer_of, failure_after};
 
 use crate::streams::{Failed, Feed, Sink};
 use std::io;

@@ -1,8 +1,8 @@
 ghost use Rattle.std.specs.Prelude.{◌≡◌};
-ghost use Rattle.dia_run.specs.Exit.{status_of};
+ghost use Rattle.dia_io.specs.Exit.{status_of};
 
 use crate::streams::Failed;
-use dia_check::{Levels, Unknown};
+use dia_policy::{Levels, Unknown};
 use std::alloc::AllocError;
 use thiserror::Error;
 
@@ -79,7 +79,7 @@ pub enum RunFault {
 
 impl From<Failed> for RunFault {
     ghost use Rattle.std.specs.Prelude.{◌≡◌};
-    ghost use Rattle.dia_run.specs.declared.command.RunFault.TheVariants.{Device};
+    ghost use Rattle.dia_io.specs.declared.command.RunFault.TheVariants.{Device};
 
     ghost from_gives = { λ _ fault. fault ≡ Device };
 
@@ -90,7 +90,7 @@ impl From<Failed> for RunFault {
 
 impl From<AllocError> for RunFault {
     ghost use Rattle.std.specs.Prelude.{◌≡◌};
-    ghost use Rattle.dia_run.specs.declared.command.RunFault.TheVariants.{NoMemory};
+    ghost use Rattle.dia_io.specs.declared.command.RunFault.TheVariants.{NoMemory};
 
     ghost from_gives = { λ _ fault. fault ≡ NoMemory };
 

@@ -1,7 +1,7 @@
 -- An input and its limit.
 use Rattle.std.specs.Prelude.{◌≡◌, ℕ, ◌<◌, ◌≤◌, List, length, ⊤}
-use Rattle.dia_run.specs.declared.command.Input.{Input}
-use Rattle.dia_run.specs.declared.command.Input.TheVariants.{Bytes, TooLong}
+use Rattle.dia_io.specs.declared.command.Input.{Input}
+use Rattle.dia_io.specs.declared.command.Input.TheVariants.{Bytes, TooLong}
 
 -- the bytes of an input within a limit
 abbrev pub Holds : Input → ℕ → List ℕ → Type 0

@@ -1,8 +1,8 @@
 -- A text that is put into a sink piece by piece.
-use Rattle.std.proofs.Common.{◌≡◌, ℕ, ◌-◌, List, [], ◌∷◌, ◌++◌, Option, Some, None, length, take, drop, refl, sym, ap, subst, ◌∙◌, append_assoc, arith}
+use Rattle.std.proofs.Common.{◌≡◌, ℕ, ◌-◌, ◌+◌, ◌==◌, true, List, [], ◌∷◌, ◌++◌, Option, Some, None, length, take, drop, refl, sym, ap, subst, ◌∙◌, append_assoc, arith}
 use Rattle.std.specs.Io.KnownBytes.{Appends, Keeps}
-use Rattle.std.proofs.lemmas.List.{take_rest, take-append-drop, append-nil}
-use Rattle.dia_run.specs.Writing.{AppendsFront}
+use Rattle.std.proofs.lemmas.List.{take_rest, take-append-drop, append-nil, length-append}
+use Rattle.dia_io.specs.Writing.{AppendsFront}
 
 -- some front of the text was written, and the rest is to come
 pub record IsUnderWay (old now : Option (List ℕ)) (text rest : List ℕ) : Type 0 where
@@ -46,3 +46,11 @@ stopped old now new text rest u h = (u.front, rest, u.parts, Appends-kept old no
 pub ended : (old now : Option (List ℕ)) (text rest : List ℕ) → IsUnderWay old now text rest → length rest ≡ 0 → Appends old now text
 ended old now text [] u h = subst (Appends old now) (sym (u.parts ∙ append-nil u.front)) u.written
 ended old now text (byte ∷ rest) u h = absurd (omega arith)
+
+-- an empty text has no rest
+pub no_rest : (old now : Option (List ℕ)) (text rest : List ℕ) → IsUnderWay old now text rest → text ≡ [] → (length rest == 0) ≡ true
+no_rest old now text [] u empty = refl
+no_rest old now text (byte ∷ rest) u empty =
+    let lengths : length u.front + length (byte ∷ rest) ≡ 0 =
+    sym (length-append u.front (byte ∷ rest)) ∙ ap (λ (t : List ℕ). length t) (sym u.parts ∙ empty) in
+    absurd (omega arith)

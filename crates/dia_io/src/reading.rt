@@ -21,7 +21,7 @@ pub enum InputFault {
 }
 
 impl From<Failed> for InputFault {
-    ghost use Rattle.dia_run.specs.declared.reading.InputFault.TheVariants.{Device};
+    ghost use Rattle.dia_io.specs.declared.reading.InputFault.TheVariants.{Device};
 
     ghost from_gives = { λ _ fault. fault ≡ Device };
 
@@ -31,7 +31,7 @@ impl From<Failed> for InputFault {
 }
 
 impl From<AllocError> for InputFault {
-    ghost use Rattle.dia_run.specs.declared.reading.InputFault.TheVariants.{NoMemory};
+    ghost use Rattle.dia_io.specs.declared.reading.InputFault.TheVariants.{NoMemory};
 
     ghost from_gives = { λ _ fault. fault ≡ NoMemory };
 

@@ -1,0 +1,4 @@
+pub mod Devices
+pub mod Exit
+pub mod Inputs
+pub mod Writing
