@@ -187,8 +187,8 @@ def ranges(numbers):
     return ' '.join(str(low) if low == high else f'{low}..{high}' for low, high in runs)
 
 
-def write(dictionary):
-    """The dictionary text, in canonical form."""
+def write(dictionary, prefix=''):
+    """The dictionary text, in canonical form. The names of commands begin with the prefix."""
     lines = []
     for _, name, code, vendor, kind, rule in dictionary.avps:
         values = ranges(dictionary.values.get(name, []))
@@ -196,7 +196,8 @@ def write(dictionary):
                      + (f' ( {values} )' if values else ''))
     groups_first = sorted(dictionary.definitions, key=lambda definition: not definition[2].startswith('AVP'))
     for _, name, head, rules in groups_first:
-        lines.append(f'<{name}> ::= < {head} >')
+        begin = '' if head.startswith('AVP') else prefix
+        lines.append(f'<{begin}{name}> ::= < {head} >')
         lines += [f'  {qualifier}{" " if qualifier else ""}{opening} {avp} {CLOSING[opening]}'
                   for qualifier, opening, avp in rules]
     return ''.join(line + '\n' for line in lines)
@@ -205,13 +206,16 @@ def write(dictionary):
 def main():
     parser = argparse.ArgumentParser(description=__doc__, formatter_class=argparse.RawDescriptionHelpFormatter)
     parser.add_argument('file', metavar='FILE', help='a .dia file')
-    path = parser.parse_args().file
+    parser.add_argument('--prefix', metavar='WORD', default='', help='what the names of commands begin with, so that they '
+                                                                    'can stand beside others of the same names')
+    arguments = parser.parse_args()
+    path = arguments.file
     try:
         with open(path, encoding='utf-8') as file:
             dictionary = read(file.read())
     except (OSError, ValueError, IndexError) as error:
         sys.exit(f'{path}: no .dia file: {error}')
-    sys.stdout.write(write(dictionary))
+    sys.stdout.write(write(dictionary, arguments.prefix))
     for line, what in dictionary.told:
         print(f'{path}:{line}: {what}', file=sys.stderr)
 
