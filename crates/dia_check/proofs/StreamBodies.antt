@@ -11,7 +11,7 @@ use Rattle.dia_check.specs.declared.fault.Refusal.{Refusal}
 use Rattle.dia_check.specs.declared.fault.Refusal.TheVariants as refusal
 use Rattle.dia_check.specs.declared.stream.stages.Body.{Body}
 use Rattle.dia_check.specs.declared.stream.stages.Stage.{Stage}
-use Rattle.dia_check.specs.declared.stream.stages.Stage.TheVariants.{Header, InBody, Over, Spent}
+use Rattle.dia_check.specs.declared.stream.stages.Stage.TheVariants.{Header, InBody, Over, NoMemory}
 use Rattle.dia_check.specs.Valid.{IsValidOf}
 use Rattle.dia_check.specs.Faults.{HasGoodHeader, IsAnswer}
 use Rattle.dia_check.specs.Walks.{Walks, whole, IsFoundIn}
@@ -61,7 +61,7 @@ module _ (d : Dictionary) (sound : IsDictionary d) (u : Unknown) (most : Levels)
         however_on
             (λ (all : List ℕ). IsAnswer d u most all answer) bytes piece long however,
       )
-  still_stage Memory Spent none may = absurd may.read
+  still_stage Memory NoMemory none may = absurd may.read
 
   module _ (body : Body) (may : MayRead d u most bytes (InBody body) from piece) where
     pub long_now : 20 ≤ length now
@@ -131,14 +131,16 @@ module _ (d : Dictionary) (sound : IsDictionary d) (u : Unknown) (most : Levels)
           let (good, is, part) = reading_now more size in
           found_answers d sound u most (now ++ more) (sized_end now more long_now sound_now size) good e (found_in d u most (now ++ more) good _ e (stops (now ++ more) good part (lies_now more)))
 
-      pub stops_reading : (stage : Stage) → ((e ≡ refusal.NoMemory) × (stage ≡ Spent)) ⊎ ((e ≢ refusal.NoMemory) × (stage ≡ Over (Err e)))
+      pub stops_reading : (stage : Stage) → ((e ≡ refusal.NoMemory) × (stage ≡ NoMemory)) ⊎ ((e ≢ refusal.NoMemory) × (stage ≡ Over (Err e)))
           → HasReadUnless (OpensBehind d most from now) d u most now stage
       stops_reading stage (inl (memory, is)) = subst (HasReadUnless (OpensBehind d most from now) d u most now) (sym is) (
         sound_now,
         λ more size.
-            let (good, same, part) = reading_now more size in
-            subst (λ (n : ℕ). BeginsLevel d most (now ++ more) from n) to_now
-            (subst (IsStop d u most (now ++ more) good (BeginsLevel d most (now ++ more) from (from + length piece))) memory (stops (now ++ more) good part (lies_now more))),
+            let (good, same, part) = reading_now more size in (
+              good,
+              subst (λ (n : ℕ). BeginsLevel d most (now ++ more) from n) to_now
+                  (subst (IsStop d u most (now ++ more) good (BeginsLevel d most (now ++ more) from (from + length piece))) memory (stops (now ++ more) good part (lies_now more))),
+            ),
       )
       stops_reading stage (inr (ne, is)) = subst (HasReadUnless (OpensBehind d most from now) d u most now) (sym is) (
         long_now,

@@ -13,7 +13,7 @@ use Rattle.dia_check.specs.declared.fault.Refusal.{Refusal}
 use Rattle.dia_check.specs.declared.fault.Refusal.TheVariants as refusal
 use Rattle.dia_check.specs.declared.stream.stages.Body.{Body}
 use Rattle.dia_check.specs.declared.stream.stages.Stage.{Stage}
-use Rattle.dia_check.specs.declared.stream.stages.Stage.TheVariants.{Header, InBody, Over, Spent}
+use Rattle.dia_check.specs.declared.stream.stages.Stage.TheVariants.{Header, InBody, Over, NoMemory}
 use Rattle.dia_check.specs.Valid.{IsValidOf}
 use Rattle.dia_check.specs.Levels.{IsOpen, filled}
 use Rattle.dia_check.specs.Faults.{HasGoodHeader}
@@ -68,6 +68,8 @@ module _ (d : Dictionary) (sound : IsDictionary d) (u : Unknown) (most : Levels)
           none_yet = λ short. let (long, is, less, however) = h.read in absurd (omega (arith, short, long));
           bound = λ long. let least = least_start d most message deepest.level deepest.is_open in let from = deepest.holds.0 in omega (arith, least, from, deep);
           limit = subst (λ (k : ℕ). IsWithinLimit most (k + 1)) deep (within_limit d most message deepest.level deepest.is_open);
+          done = λ e. let (long, is, less, however) = h.read in absurd (omega (arith, e, less));
+          header = λ some. let (long, is, less, however) = h.read in (is, subst (HasGoodHeader d) is_filled good);
           exact = λ long valid. (
             chain d most message good deepest.level deepest.is_open,
             current,
@@ -88,6 +90,8 @@ module _ (d : Dictionary) (sound : IsDictionary d) (u : Unknown) (most : Levels)
     none_yet = λ short. refl;
     bound = λ long. omega arith;
     limit = no_levels most;
+    done = λ e. refl;
+    header = λ some. absurd (omega (arith, some));
     exact = λ long valid. ([], none long valid, refl);
   }
 
@@ -131,4 +135,4 @@ module _ (d : Dictionary) (sound : IsDictionary d) (u : Unknown) (most : Levels)
   counts_zero (Header front) none live taken all h = counts_none (λ long valid. let (short, kept) = h.read in absurd (omega (arith, long, short)))
   counts_zero (InBody body) none live taken all h = absurd (none body refl)
   counts_zero (Over answer) none live taken all h = counts_over answer taken all h
-  counts_zero Spent none live taken all h = absurd (live tt)
+  counts_zero NoMemory none live taken all h = absurd (live tt)

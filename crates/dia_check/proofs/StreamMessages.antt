@@ -1,6 +1,6 @@
 -- A message as a stream takes it: how many bytes it wants, and what was read of them.
 use Rattle.std.proofs.Common.{◌≡◌, ◌≢◌, ℕ, ◌-◌, ◌%◌, ◌<◌, ◌≤◌, Bool, false, List, [], ◌∷◌, ◌++◌, length, take, drop, refl, sym, ap, subst, ◌∙◌, arith, inl, inr, ⊎_elim}
-use Rattle.std.specs.Prelude.{◌⊎◌, ◌==◌, ◌&&◌, nat_le, nat_lt, if◌then◌else◌, slice_index, replicate, IsTrue, Err, ⊤}
+use Rattle.std.specs.Prelude.{◌⊎◌, ◌==◌, ◌&&◌, nat_le, nat_lt, if◌then◌else◌, slice_index, replicate, IsTrue, Err}
 use Rattle.std.proofs.lemmas.Bool.{le-ltb, lt-ltb, cond-true, cond-false, and_parts, and_from, eqb-true, eq-eqb, leb-true, le-leb, false_from_ne_true, cases_lt}
 use Rattle.std.proofs.lemmas.List.{append_assoc, length-append, length-replicate, take-append-le}
 use Rattle.dia_wire.specs.declared.Header.{Header}
@@ -16,11 +16,11 @@ use Rattle.dia_check.specs.declared.stream.parts.Part.{Part}
 use Rattle.dia_check.specs.declared.stream.parts.Part.TheVariants.{Head, Data}
 use Rattle.dia_check.specs.declared.stream.parts.HeadPart.{HeadPart}
 use Rattle.dia_check.specs.declared.stream.stages.Stage.{Stage}
-use Rattle.dia_check.specs.declared.stream.stages.Stage.TheVariants.{Header as InHeader, InBody, Over, Spent}
+use Rattle.dia_check.specs.declared.stream.stages.Stage.TheVariants.{Header as InHeader, InBody, Over, NoMemory}
 use Rattle.dia_check.specs.Faults.{HasGoodHeader, HasHeader, HasLength, IsAnswer}
 use Rattle.dia_check.specs.Front.{front_bytes}
 use Rattle.dia_check.specs.Reading.{IsInHead, IsInPart}
-use Rattle.dia_check.specs.Streaming.{is_sound, wanted, HoweverItEnds, IsReading, IsBegun, IsWholeAnswer, HasReadUnless}
+use Rattle.dia_check.specs.Streaming.{is_sound, wanted, BeginsGood, HoweverItEnds, IsReading, IsBegun, IsWholeAnswer, HasReadUnless}
 use Rattle.dia_check.proofs.UnderWay.{place, next_place}
 
 -- ---- what the first bytes say
@@ -153,7 +153,7 @@ pub refused_whole : (d : Dictionary) (u : Unknown) (most : Levels) (all : List �
 refused_whole d u most all k m e ne sized h = (whole_refusal d u most all k m e ne sized h, h)
 
 module _ (d : Dictionary) (sound : IsDictionary d) (u : Unknown) (most : Levels) (bytes : List ℕ) (size : length bytes ≡ 20) (n : ℕ) (sized : HasLength bytes n) where
-  pub begun_reads : (stage : Stage) → ((more : List ℕ) → length (bytes ++ more) ≡ n → IsBegun d u most (bytes ++ more) stage) → HasReadUnless ⊤ d u most bytes stage
+  pub begun_reads : (stage : Stage) → ((more : List ℕ) → length (bytes ++ more) ≡ n → IsBegun d u most (bytes ++ more) stage) → HasReadUnless (BeginsGood d bytes) d u most bytes stage
   begun_reads (InHeader front) h = let (is, e) = length_sound bytes n sized in let l = sized.sound.no_less in absurd (h (zeros_to_end bytes) (ends_with_zeros bytes (omega (arith, e, l, size)) ∙ e))
   begun_reads (InBody body) h =
       let (is, e) = length_sound bytes n sized in
@@ -170,4 +170,4 @@ module _ (d : Dictionary) (sound : IsDictionary d) (u : Unknown) (most : Levels)
       let all_is = ends_with_zeros bytes (omega (arith, e, l, size)) in
       let here = subst (λ (k : ℕ). IsWholeAnswer k (wanted bytes) answer) (sym size) (subst (λ (k : ℕ). IsWholeAnswer 20 k answer) all_is whole) in
       (omega (arith, size), here, λ more to_end. let (there, is_answer) = h more (to_end ∙ e) in is_answer)
-  begun_reads Spent h = tt
+  begun_reads NoMemory h = let (is, e) = length_sound bytes n sized in (omega (arith, size), is, λ more to_end. h more (to_end ∙ e))

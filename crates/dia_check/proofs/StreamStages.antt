@@ -3,7 +3,8 @@ use Rattle.std.proofs.Common.{◌≡◌, ◌≢◌, ℕ, ◌+◌, ◌-◌, ◌<�
 use Rattle.std.specs.Prelude.{◌⊎◌, ◌↔◌, ◌^◌, IsTrue, replicate, Result, Ok, Err, ⊤}
 use Rattle.std.proofs.Math.Seq.{take-append_seam, drop-append_seam, take-append-add}
 use Rattle.std.proofs.lemmas.Bool.{cases_lt, cases_Bool}
-use Rattle.std.proofs.lemmas.List.{append_assoc, drop-take, length-append, length-take, take-append-drop, take_all, take-take}
+use Rattle.std.proofs.lemmas.List.{append_assoc, append-nil, drop-take, length-append, length-take, take-append-drop, take_all, take-take}
+use Rattle.dia_wire.specs.Number.{number}
 use Rattle.dia_dict.specs.Dictionary.{Dictionary}
 use Rattle.dia_policy.specs.declared.Unknown.{Unknown}
 use Rattle.dia_policy.specs.declared.Levels.{Levels}
@@ -11,13 +12,14 @@ use Rattle.dia_check.specs.declared.stream.front.Front.{Front}
 use Rattle.dia_check.specs.declared.stream.StreamFault.{StreamFault}
 use Rattle.dia_check.specs.declared.stream.StreamFault.TheVariants as fault
 use Rattle.dia_check.specs.declared.stream.stages.Stage.{Stage}
-use Rattle.dia_check.specs.declared.stream.stages.Stage.TheVariants.{Header, InBody, Over, Spent}
-use Rattle.dia_check.specs.Faults.{HasLength}
+use Rattle.dia_check.specs.declared.stream.stages.Stage.TheVariants.{Header, InBody, Over, NoMemory}
+use Rattle.dia_check.specs.Faults.{HasGoodHeader, HasLength}
 use Rattle.dia_check.specs.Front.{front_bytes}
 use Rattle.dia_check.specs.Levels.{IsOpen, filled}
+use Rattle.dia_check.specs.Levels as levels
 use Rattle.dia_check.specs.Reading.{BeginsLevel}
-use Rattle.dia_check.specs.Streaming.{is_sound, wanted, taken_of, Takes, OpensLevel, HasRead, HasReadUnless, HasTaken, IsSpentStage, IsStage, MayRead, OpensBehind}
-use Rattle.dia_check.proofs.StreamMessages.{length_sound, short_wants, sound_wants, unsound_wants, same_wanted, sound_length, zeros_to_end, ends_with_zeros}
+use Rattle.dia_check.specs.Streaming.{is_sound, wanted, taken_of, BeginsGood, Takes, OpensLevel, HasRead, HasReadUnless, HasTaken, IsSpentStage, IsStage, MayRead, OpensBehind}
+use Rattle.dia_check.proofs.StreamMessages.{length_sound, short_wants, sound_wants, unsound_wants, same_sound, same_wanted, sound_length, however_on, zeros_to_end, ends_with_zeros}
 use Rattle.dia_check.proofs.HeadsInPieces.{prefix}
 
 -- ---- stages
@@ -27,20 +29,26 @@ pub unless_read : (Memory : Type 0) (d : Dictionary) (u : Unknown) (most : Level
 unless_read Memory d u most bytes (Header front) live h = h
 unless_read Memory d u most bytes (InBody body) live h = h
 unless_read Memory d u most bytes (Over answer) live h = h
-unless_read Memory d u most bytes Spent live h = absurd (live tt)
+unless_read Memory d u most bytes NoMemory live h = absurd (live tt)
 
 pub memory_of : (Memory : Type 0) (d : Dictionary) (u : Unknown) (most : Levels) (bytes : List ℕ) (stage : Stage) → IsSpentStage stage → HasReadUnless Memory d u most bytes stage → Memory
 memory_of Memory d u most bytes (Header front) spent h = absurd spent
 memory_of Memory d u most bytes (InBody body) spent h = absurd spent
 memory_of Memory d u most bytes (Over answer) spent h = absurd spent
-memory_of Memory d u most bytes Spent spent h = h
+memory_of Memory d u most bytes NoMemory spent h = h
+
+pub live_stage : (stage : Stage) → stage ≢ NoMemory → ¬ IsSpentStage stage
+live_stage (Header front) other spent = spent
+live_stage (InBody body) other spent = spent
+live_stage (Over answer) other spent = spent
+live_stage NoMemory other spent = other refl
 
 pub is_stage : (d : Dictionary) (u : Unknown) (most : Levels) (taken all : ℕ) (stage : Stage) (bytes : List ℕ)
     → (¬ IsSpentStage stage → HasTaken d u most taken all stage bytes) → IsStage d u most taken all stage
 is_stage d u most taken all (Header front) bytes h = (bytes, h (λ x. x))
 is_stage d u most taken all (InBody body) bytes h = (bytes, h (λ x. x))
 is_stage d u most taken all (Over answer) bytes h = (bytes, h (λ x. x))
-is_stage d u most taken all Spent bytes h = tt
+is_stage d u most taken all NoMemory bytes h = tt
 
 -- the bytes that a stream has taken
 pub has_taken : (d : Dictionary) (u : Unknown) (most : Levels) (taken all : ℕ) (stage : Stage)
@@ -48,7 +56,7 @@ pub has_taken : (d : Dictionary) (u : Unknown) (most : Levels) (taken all : ℕ)
 has_taken d u most taken all (Header front) live h = h
 has_taken d u most taken all (InBody body) live h = h
 has_taken d u most taken all (Over answer) live h = h
-has_taken d u most taken all Spent live h = absurd (live tt)
+has_taken d u most taken all NoMemory live h = absurd (live tt)
 
 -- a fact of one dictionary and policy is one of the same ones
 pub moved : (P : Dictionary → Unknown → Levels → Type 0) (d e : Dictionary) (u v : Unknown) (m n : Levels) → d ≡ e → u ≡ v → m ≡ n → P d u m → P e v n
@@ -70,7 +78,7 @@ take_plus n m xs =
     ∙ ap (λ (t : List ℕ). take n (take (n + m) xs) ++ t) (sym (drop-take n m xs)) ∙ take-append-drop n (take (n + m) xs)
 
 -- the rest of a piece behind what was taken of it
-rest_of : (bytes piece : List ℕ) (n : ℕ) → (bytes ++ take n piece) ++ drop n piece ≡ bytes ++ piece
+pub rest_of : (bytes piece : List ℕ) (n : ℕ) → (bytes ++ take n piece) ++ drop n piece ≡ bytes ++ piece
 rest_of bytes piece n = append_assoc bytes (take n piece) (drop n piece) ∙ ap (λ (t : List ℕ). bytes ++ t) (take-append-drop n piece)
 
 whole_piece : (bytes piece : List ℕ) (n : ℕ) → n ≡ length piece → bytes ++ take n piece ≡ bytes ++ piece
@@ -109,6 +117,94 @@ takes d u most taken all stage bytes piece n done h le stops is_done = record {
     front : bytes ++ take n piece ≡ taken_of (bytes ++ piece)
     front = takes_front bytes piece n full h.within
 
+-- what a stream takes of these bytes begins with those that it took of a front with a whole header
+pub taken_begins : (a b : List ℕ) → 20 ≤ length a → length a ≤ wanted a → taken_of (a ++ b) ≡ a ++ take (wanted a - length a) b
+taken_begins a b long within =
+    let e : wanted (a ++ b) ≡ length a + (wanted a - length a) = (let w = same_wanted a b long in omega (arith, w, within)) in
+    ap (λ (n : ℕ). take n (a ++ b)) e ∙ take-append-add a b (wanted a - length a)
+
+-- ---- levels that begin
+
+-- the body of a good header begins behind it
+body_begins : (d : Dictionary) (most : Levels) (bytes more : List ℕ) → length bytes < 20 → 20 ≤ length (bytes ++ more) → HasGoodHeader d (filled (bytes ++ more)) → OpensLevel d most bytes more
+body_begins d most bytes more short long good = record {
+  header = good;
+  level = record { rules = good.command.rules; start = 20; end = length (filled (bytes ++ more)); depth = 0 };
+  is_open = levels.body good.c good.command (record { header = good.header; head = good.is_header; select = good.select; is_command = good.is_command });
+  behind = short;
+  within = long;
+}
+
+-- what a stream takes of a piece in which the header ends
+module _ (d : Dictionary) (most : Levels) (bytes piece : List ℕ) (k : ℕ) where
+  abbrev start : List ℕ
+  start = bytes ++ take k piece
+
+  abbrev behind : List ℕ
+  behind = take (wanted start - length start) (drop k piece)
+
+  parts : start ++ behind ≡ bytes ++ (take k piece ++ behind)
+  parts = append_assoc bytes (take k piece) behind
+
+  module _ (short : length bytes < 20) (size : length start ≡ 20) (good : BeginsGood d start) where
+    long : 20 ≤ length start
+    long = good.0
+
+    start_within : length start ≤ wanted start
+    start_within = let least = least_wanted start in omega (arith, size, least)
+
+    is_taken : taken_of (bytes ++ piece) ≡ start ++ behind
+    is_taken = ap taken_of (sym (rest_of bytes piece k)) ∙ taken_begins start (drop k piece) long start_within
+
+    is_behind : take k piece ++ behind ≡ drop (length bytes) (taken_of (bytes ++ piece))
+    is_behind = sym (drop-append_seam bytes (take k piece ++ behind)) ∙ ap (drop (length bytes)) (sym parts ∙ sym is_taken)
+
+    whole_size : length (start ++ behind) ≡ length start + length behind
+    whole_size = length-append start behind
+
+    whole_within : length (start ++ behind) ≤ wanted (start ++ behind)
+    whole_within =
+        let s = whole_size in let l = length-take (wanted start - length start) (drop k piece) in let w = same_wanted start behind long in
+        omega (arith, s, l, w, start_within)
+
+    whole_wants : wanted (start ++ behind) ≡ number (take 3 (drop 1 (start ++ behind)))
+    whole_wants = sound_wants (start ++ behind) (let s = whole_size in omega (arith, long, s)) (same_sound start behind long ∙ good.1)
+
+    whole_good : HasGoodHeader d (filled (start ++ behind))
+    whole_good = subst (HasGoodHeader d) (ap (λ (n : ℕ). (start ++ behind) ++ replicate (n - length (start ++ behind)) 0) whole_wants)
+        (however_on (HasGoodHeader d) start behind long good.2 (zeros_to_end (start ++ behind)) (ends_with_zeros (start ++ behind) whole_within))
+
+    pub start_opens : OpensLevel d most bytes (drop (length bytes) (taken_of (bytes ++ piece)))
+    start_opens = subst (OpensLevel d most bytes) is_behind
+        (body_begins d most bytes (take k piece ++ behind) short (let s = whole_size in let e = ap length parts in omega (arith, long, s, e))
+        (subst (λ (t : List ℕ). HasGoodHeader d (filled t)) parts whole_good))
+
+-- a level that begins behind more bytes begins behind fewer
+module _ (d : Dictionary) (most : Levels) (a b rest : List ℕ) where
+  abbrev new : List ℕ
+  new = drop (length (a ++ b)) (taken_of ((a ++ b) ++ rest))
+
+  joined : (a ++ b) ++ new ≡ a ++ (b ++ new)
+  joined = append_assoc a b new
+
+  module _ (long : 20 ≤ length (a ++ b)) (within : length (a ++ b) ≤ wanted (a ++ b)) where
+    is_all : taken_of ((a ++ b) ++ rest) ≡ (a ++ b) ++ new
+    is_all =
+        let e = taken_begins (a ++ b) rest long within in
+        e ∙ ap (λ (t : List ℕ). (a ++ b) ++ t) (sym (ap (drop (length (a ++ b))) e ∙ drop-append_seam (a ++ b) (take (wanted (a ++ b) - length (a ++ b)) rest)))
+
+    is_more : b ++ new ≡ drop (length a) (taken_of ((a ++ b) ++ rest))
+    is_more = sym (drop-append_seam a (b ++ new)) ∙ ap (drop (length a)) (sym joined ∙ sym is_all)
+
+    pub opens_sooner : OpensLevel d most (a ++ b) new → OpensLevel d most a (drop (length a) (taken_of ((a ++ b) ++ rest)))
+    opens_sooner opens = subst (OpensLevel d most a) is_more (record {
+      header = subst (λ (t : List ℕ). HasGoodHeader d (filled t)) joined opens.header;
+      level = opens.level;
+      is_open = subst (λ (t : List ℕ). IsOpen d most (filled t) opens.level) joined opens.is_open;
+      behind = (let s = length-append a b in let less = opens.behind in omega (arith, s, less));
+      within = subst (λ (t : List ℕ). opens.level.start ≤ length t) joined opens.within;
+    })
+
 -- ---- bytes of the header
 
 front_more : (a piece : List ℕ) → length a ≤ 20 → take 20 (a ++ piece) ≡ a ++ take (length (take 20 (a ++ piece)) - length a) piece
@@ -142,7 +238,7 @@ module _ (front after : Front) (piece : List ℕ) (more : front_bytes after ≡ 
       joined ∙ ap (λ (n : ℕ). front_bytes front ++ take n piece) e ∙ ap (λ (t : List ℕ). t ++ take (length (front_bytes after) - length (front_bytes front)) piece) kept
 
   pub header_taken : (d : Dictionary) (u : Unknown) (most : Levels) (taken all : ℕ) (bytes : List ℕ) → HasTaken d u most taken all (Header front) bytes
-      → (wants : ℕ) (stage : Stage) → (wants ≡ wanted (front_bytes after)) × (wants < 2 ^ 32) → HasReadUnless ⊤ d u most (front_bytes after) stage → ¬ IsSpentStage stage
+      → (wants : ℕ) (stage : Stage) → (wants ≡ wanted (front_bytes after)) × (wants < 2 ^ 32) → HasReadUnless (BeginsGood d (front_bytes after)) d u most (front_bytes after) stage → ¬ IsSpentStage stage
       → HasTaken d u most (length (front_bytes after)) wants stage (bytes ++ take (length (front_bytes after) - length (front_bytes front)) piece)
   header_taken d u most taken all bytes h wants stage (is, few) reads live =
       let (short, kept) = h.read in
@@ -153,12 +249,21 @@ module _ (front after : Front) (piece : List ℕ) (more : front_bytes after ≡ 
         wants = is;
         few = few;
         within = (let a = after_size in let t = length-take 20 (front_bytes front ++ piece) in let l = least_wanted (front_bytes after) in omega (arith, a, t, l));
-        read = unless_read ⊤ d u most (front_bytes after) stage live reads;
+        read = unless_read (BeginsGood d (front_bytes after)) d u most (front_bytes after) stage live reads;
       })
+
+  pub header_opens : (d : Dictionary) (u : Unknown) (most : Levels) (taken all : ℕ) (bytes : List ℕ) → HasTaken d u most taken all (Header front) bytes
+      → BeginsGood d (front_bytes after) → OpensLevel d most bytes (drop (length bytes) (taken_of (bytes ++ piece)))
+  header_opens d u most taken all bytes h good =
+      let (short, kept) = h.read in
+      let (long, is, however) = good in
+      let same = same_front bytes kept in
+      let size : length (front_bytes after) ≡ 20 = (let a = after_size in let t = length-take 20 (front_bytes front ++ piece) in omega (arith, a, t, long)) in
+      start_opens d most bytes piece (length (front_bytes after) - length (front_bytes front)) short (ap length (sym same) ∙ size) (subst (BeginsGood d) same good)
 
   pub header_now : (d : Dictionary) (u : Unknown) (most : Levels) (taken all : ℕ) (bytes : List ℕ) → HasTaken d u most taken all (Header front) bytes
       → (k now wants : ℕ) (stage : Stage) → k ≡ length (front_bytes after) - length (front_bytes front) → now ≡ length (front_bytes after)
-      → (wants ≡ wanted (front_bytes after)) × (wants < 2 ^ 32) → HasReadUnless ⊤ d u most (front_bytes after) stage → ¬ IsSpentStage stage → HasTaken d u most now wants stage (bytes ++ take k piece)
+      → (wants ≡ wanted (front_bytes after)) × (wants < 2 ^ 32) → HasReadUnless (BeginsGood d (front_bytes after)) d u most (front_bytes after) stage → ¬ IsSpentStage stage → HasTaken d u most now wants stage (bytes ++ take k piece)
   header_now d u most taken all bytes h k now wants stage is_k is_now wanting reads live =
       subst (λ (n : ℕ). HasTaken d u most n wants stage (bytes ++ take k piece)) (sym is_now)
       (subst (λ (n : ℕ). HasTaken d u most (length (front_bytes after)) wants stage (bytes ++ take n piece)) (sym is_k) (header_taken d u most taken all bytes h wants stage wanting reads live))
@@ -170,7 +275,7 @@ pub behind_header : (d : Dictionary) (u : Unknown) (most : Levels) (taken all : 
 behind_header d u most taken all (Header front) bytes none live h = absurd (none front refl)
 behind_header d u most taken all (InBody body) bytes none live h = let (long, is, less, however) = h.read in let c = h.count in omega (arith, long, c)
 behind_header d u most taken all (Over answer) bytes none live h = let (long, whole, however) = h.read in let c = h.count in omega (arith, long, c)
-behind_header d u most taken all Spent bytes none live h = absurd (live tt)
+behind_header d u most taken all NoMemory bytes none live h = absurd (live tt)
 
 module _ (d : Dictionary) (u : Unknown) (most : Levels) (taken all : ℕ) (old : Stage) (bytes piece : List ℕ) (h : HasTaken d u most taken all old bytes) where
   pub taken_within : taken ≤ all
@@ -211,6 +316,7 @@ module _ (d : Dictionary) (u : Unknown) (most : Levels) (taken all : ℕ) (old :
 
     pub body_opens : (n < length piece → all - taken ≤ n) → OpensBehind d most taken (bytes ++ take n piece) → OpensLevel d most bytes (drop (length bytes) (taken_of (bytes ++ piece)))
     body_opens least (is, however) = subst (OpensLevel d most bytes) rest (record {
+      header = subst (HasGoodHeader d) fills there.0;
       level = begins.level;
       is_open = subst (λ (t : List ℕ). IsOpen d most t begins.level) fills begins.is_open;
       behind = (let b = begins.behind in let c = h.count in omega (arith, b, c));
@@ -229,8 +335,12 @@ module _ (d : Dictionary) (u : Unknown) (most : Levels) (taken all : ℕ) (old :
         rest : take n piece ≡ drop (length bytes) (taken_of (bytes ++ piece))
         rest = sym (drop-append_seam bytes (take n piece)) ∙ ap (drop (length bytes)) (takes_front bytes piece n stops now_within)
 
+        there : HasGoodHeader d ((bytes ++ take n piece) ++ zeros_to_end (bytes ++ take n piece))
+            × BeginsLevel d most ((bytes ++ take n piece) ++ zeros_to_end (bytes ++ take n piece)) taken (length (bytes ++ take n piece))
+        there = however (zeros_to_end (bytes ++ take n piece)) (ends_with_zeros (bytes ++ take n piece) now_within)
+
         begins : BeginsLevel d most ((bytes ++ take n piece) ++ zeros_to_end (bytes ++ take n piece)) taken (length (bytes ++ take n piece))
-        begins = however (zeros_to_end (bytes ++ take n piece)) (ends_with_zeros (bytes ++ take n piece) now_within)
+        begins = there.1
 
         fills : (bytes ++ take n piece) ++ zeros_to_end (bytes ++ take n piece) ≡ filled (bytes ++ take n piece)
         fills = ap (λ (k : ℕ). (bytes ++ take n piece) ++ replicate (k - length (bytes ++ take n piece)) 0) (sound_wants (bytes ++ take n piece) size_now is)
@@ -249,3 +359,10 @@ not_spent_error r e is memory other = subst SpentError (sym other ∙ is ∙ ap 
 
 pub whole_taken : (bytes : List ℕ) (n : ℕ) → HasLength bytes (length bytes) → take n bytes ≡ taken_of bytes → take n bytes ≡ bytes
 whole_taken bytes n sized is = is ∙ ap (λ (k : ℕ). take k bytes) (length_sound bytes (length bytes) sized).1 ∙ take_all (length bytes) bytes (omega arith)
+
+pub whole_filled : (bytes : List ℕ) → HasLength bytes (length bytes) → filled (taken_of bytes) ≡ bytes
+whole_filled bytes sized =
+    let same : taken_of bytes ≡ bytes = ap (λ (k : ℕ). take k bytes) (length_sound bytes (length bytes) sized).1 ∙ take_all (length bytes) bytes (omega arith) in
+    let e = sized.is_length in
+    let none : number (take 3 (drop 1 bytes)) - length bytes ≡ 0 = omega (arith, e) in
+    ap filled same ∙ ap (λ (k : ℕ). bytes ++ replicate k 0) none ∙ append-nil bytes

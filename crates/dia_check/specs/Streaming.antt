@@ -10,7 +10,7 @@ use Rattle.dia_check.specs.declared.fault.Selected.{Selected}
 use Rattle.dia_check.specs.declared.fault.Refusal.{Refusal}
 use Rattle.dia_check.specs.declared.fault.Refusal.TheVariants as refusal
 use Rattle.dia_check.specs.declared.stream.stages.Stage.{Stage}
-use Rattle.dia_check.specs.declared.stream.stages.Stage.TheVariants.{Header, InBody, Over, Spent}
+use Rattle.dia_check.specs.declared.stream.stages.Stage.TheVariants.{Header, InBody, Over, NoMemory}
 use Rattle.dia_check.specs.declared.stream.stages.Body.{Body}
 use Rattle.dia_check.specs.declared.stream.Progress.{Progress}
 use Rattle.dia_check.specs.Valid.{IsValid}
@@ -46,8 +46,9 @@ pub record AreCurrent (d : Dictionary) (most : Levels) (bytes : List ℕ) (level
   pub distinct : (i j : ℕ) (l : Level) → slice_get levels i ≡ Some l → slice_get levels j ≡ Some l → i ≡ j
   pub each : (l : Level) → Contains levels l ↔ (IsOpen d most (filled bytes) l × (l.start ≤ length bytes) × (length bytes < l.end))
 
--- a level that these bytes open begins among the new ones
+-- a level that these bytes open begins among the new ones; their header is a good one
 pub record OpensLevel (d : Dictionary) (most : Levels) (bytes more : List ℕ) : Type 0 where
+  pub header : HasGoodHeader d (filled (bytes ++ more))
   pub level : Level
   pub is_open : IsOpen d most (filled (bytes ++ more)) level
   pub behind : length bytes < level.start
@@ -66,6 +67,8 @@ pub record CountsLevels (d : Dictionary) (u : Unknown) (most : Levels) (bytes : 
   pub none_yet : length bytes < 20 → n ≡ 0
   pub bound : 20 ≤ length bytes → n ≤ 1 + (length bytes - 20) / 8
   pub limit : IsWithinLimit most n
+  pub done : length bytes ≡ wanted bytes → n ≡ 0
+  pub header : 0 < n → IsTrue (is_sound bytes) × HasGoodHeader d (filled bytes)
   pub exact : 20 ≤ length bytes → BeginsValid d u most bytes → (levels : List Level) × AreCurrent d most bytes levels × (n ≡ length levels)
 
 -- ---- what a stream keeps
@@ -87,29 +90,29 @@ IsWholeAnswer taken all (Err refusal.Trailing) = ⊥
 IsWholeAnswer taken all (Err refusal.NoMemory) = ⊥
 IsWholeAnswer taken all (Err refusal.Spent) = ⊥
 
--- behind the header of a message: its body is read, or it is answered, unless memory was refused
+-- behind the header of a message: its body is read, or it is answered, or memory was refused for the body of a good header
 abbrev pub IsBegun : Dictionary → Unknown → Levels → List ℕ → Stage → Type 0
 IsBegun d u most bytes (InBody body) = IsReading d u most body 20 bytes
 IsBegun d u most bytes (Over answer) = IsWholeAnswer 20 (length bytes) answer × IsAnswer d u most bytes answer
 IsBegun d u most bytes (Header front) = ⊥
-IsBegun d u most bytes Spent = ⊤
+IsBegun d u most bytes NoMemory = HasGoodHeader d bytes
 
 -- these bytes were read, as far as the stage says
 abbrev pub HasRead : Dictionary → Unknown → Levels → List ℕ → Stage → Type 0
 HasRead d u most bytes (Header front) = (length bytes < 20) × (front_bytes front ≡ bytes)
 HasRead d u most bytes (InBody body) = (20 ≤ length bytes) × IsTrue (is_sound bytes) × (length bytes < wanted bytes) × HoweverItEnds bytes (IsReading d u most body (length bytes))
 HasRead d u most bytes (Over answer) = (20 ≤ length bytes) × IsWholeAnswer (length bytes) (wanted bytes) answer × HoweverItEnds bytes (λ all. IsAnswer d u most all answer)
-HasRead d u most bytes Spent = ⊥
+HasRead d u most bytes NoMemory = ⊥
 
 -- these bytes were read, or memory was refused where something is so
 abbrev pub HasReadUnless : Type 0 → Dictionary → Unknown → Levels → List ℕ → Stage → Type 0
 HasReadUnless Memory d u most bytes (Header front) = HasRead d u most bytes (Header front)
 HasReadUnless Memory d u most bytes (InBody body) = HasRead d u most bytes (InBody body)
 HasReadUnless Memory d u most bytes (Over answer) = HasRead d u most bytes (Over answer)
-HasReadUnless Memory d u most bytes Spent = Memory
+HasReadUnless Memory d u most bytes NoMemory = Memory
 
 abbrev pub IsSpentStage : Stage → Type 0
-IsSpentStage Spent = ⊤
+IsSpentStage NoMemory = ⊤
 IsSpentStage (Header front) = ⊥
 IsSpentStage (InBody body) = ⊥
 IsSpentStage (Over answer) = ⊥
@@ -122,9 +125,13 @@ pub record MayRead (d : Dictionary) (u : Unknown) (most : Levels) (bytes : List 
   pub within : length (bytes ++ piece) ≤ wanted bytes
   pub few : wanted bytes < 2 ^ 32
 
--- a level begins behind a place, however the message goes on
+-- the header is there, and it is a good one, however the message goes on
+abbrev pub BeginsGood : Dictionary → List ℕ → Type 0
+BeginsGood d bytes = (20 ≤ length bytes) × IsTrue (is_sound bytes) × HoweverItEnds bytes (HasGoodHeader d)
+
+-- a level begins behind a place, and the header is a good one, however the message goes on
 abbrev pub OpensBehind : Dictionary → Levels → ℕ → List ℕ → Type 0
-OpensBehind d most from bytes = IsTrue (is_sound bytes) × HoweverItEnds bytes (λ all. BeginsLevel d most all from (length bytes))
+OpensBehind d most from bytes = IsTrue (is_sound bytes) × HoweverItEnds bytes (λ all. HasGoodHeader d all × BeginsLevel d most all from (length bytes))
 
 -- so many bytes were taken of those that are wanted, and they are these
 pub record HasTaken (d : Dictionary) (u : Unknown) (most : Levels) (taken all : ℕ) (stage : Stage) (bytes : List ℕ) : Type 0 where
@@ -137,7 +144,7 @@ pub record HasTaken (d : Dictionary) (u : Unknown) (most : Levels) (taken all : 
 
 -- a stage that a stream can be in
 abbrev pub IsStage : Dictionary → Unknown → Levels → ℕ → ℕ → Stage → Type 0
-IsStage d u most taken all Spent = ⊤
+IsStage d u most taken all NoMemory = ⊤
 IsStage d u most taken all (Header front) = (bytes : List ℕ) × HasTaken d u most taken all (Header front) bytes
 IsStage d u most taken all (InBody body) = (bytes : List ℕ) × HasTaken d u most taken all (InBody body) bytes
 IsStage d u most taken all (Over answer) = (bytes : List ℕ) × HasTaken d u most taken all (Over answer) bytes

@@ -7,11 +7,11 @@ ghost use Rattle.dia_check.specs.declared.fault.Subject.{Subject as AnySubject};
 ghost use Rattle.dia_check.specs.declared.fault.Selected.{Selected as AnySelected};
 ghost use Rattle.dia_check.specs.declared.fault.Refusal.{Refusal as AnyRefusal};
 ghost use Rattle.dia_check.specs.Valid.{IsValid, IsValidOf};
-ghost use Rattle.dia_check.specs.Faults.{IsAnswer, HasLength, Stands, Spot};
+ghost use Rattle.dia_check.specs.Faults.{IsAnswer, HasGoodHeader, HasLength, Stands, Spot};
 
 use crate::fault::{Refusal, Selected};
 use crate::header::whole_header;
-use crate::stream::Stream;
+use crate::stream::{Stream, StreamFault};
 use dia_dict::Book;
 use dia_policy::{Levels, Unknown};
 use std::alloc::Global;
@@ -24,7 +24,8 @@ use std::alloc::Global;
 /// has, and then the first fault of all by its place. Ends of levels come before AVPs at one place, and deeper ends before
 /// outer ones; faults of one AVP come in the order of `Reason`. The places, the order and the result codes are our profile.
 ///
-/// `NoMemory` comes where a level could not be opened for lack of memory, and `Spent` never.
+/// `NoMemory` comes where a level could not be opened for lack of memory, so only of a whole message with a good header.
+/// `Spent` never comes.
 pub fn check<B: Book>(
     alloc: Global,
     book: &B,
@@ -36,6 +37,9 @@ pub fn check<B: Book>(
     // A valid message is found to be one, unless memory runs out.
     ensures valid { (c : ℕ) → IsValidOf (B.meaning book.now) unknown levels bytes.now c
         → MatchResult result (λ found. found.def ≡ c) (λ e. e ≡ Refusal.NoMemory) }
+    // Memory is taken only for a whole message with a good header.
+    ensures no_memory { result ≡ Err Refusal.NoMemory → HasLength bytes.now (length bytes.now)
+        × HasGoodHeader (B.meaning book.now) bytes.now }
 {
     // Called for its clause `sound`: the rules of the book's dictionary can be met.
     let _count = book.entries();
@@ -43,7 +47,8 @@ pub fn check<B: Book>(
     let mut stream = Stream::new(alloc, book, unknown, levels);
     match stream.feed(bytes) {
         Ok(_) => stream.finish(),
-        Err(_) => Err(Refusal::NoMemory),
+        Err(StreamFault::NoMemory) => Err(Refusal::NoMemory),
+        Err(StreamFault::Spent) => unreachable!(),
     }
 }
 

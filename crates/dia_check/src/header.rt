@@ -1,7 +1,7 @@
 //! The header of a message (RFC 6733 section 3).
 
-ghost use Rattle.std.specs.Prelude.{◌≡◌, ◌<◌, ◌^◌, ◌↔◌, ◌⊎◌, ℕ, List, length};
-ghost use Rattle.std.specs.Prelude.{Err, MatchResult, IsTrue, IsFalse};
+ghost use Rattle.std.specs.Prelude.{◌≡◌, ◌≢◌, ◌<◌, ◌^◌, ◌↔◌, ◌⊎◌, ℕ, List, length};
+ghost use Rattle.std.specs.Prelude.{Err, IfErr, MatchResult, IsTrue, IsFalse};
 ghost use Rattle.dia_dict.specs.Dictionary.{Dictionary, IsDictionary};
 ghost use Rattle.dia_policy.specs.declared.Unknown.{Unknown as AnyPolicy};
 ghost use Rattle.dia_policy.specs.declared.Levels.{Levels as AnyLevels};
@@ -19,10 +19,11 @@ use dia_wire::{
 
 /// The header of a message that is all of the bytes.
 pub(crate) fn whole_header(bytes: &[u8]) -> Result<Header, Refusal>
-    ensures { (d : Dictionary) (u : AnyPolicy) (most : AnyLevels)
+    ensures answer { (d : Dictionary) (u : AnyPolicy) (most : AnyLevels)
         → MatchResult result (λ header. HasHeader bytes.now header
         × HasLength bytes.now (length bytes.now)
         × (length bytes.now < 2 ^ 32)) (λ refusal. IsAnswer d u most bytes.now (Err refusal)) }
+    ensures memory { IfErr result (λ refusal. refusal ≢ Refusal.NoMemory) }
 {
     match read_header(bytes) {
         Ok((header, length)) => {
@@ -44,11 +45,12 @@ pub(crate) fn whole_header(bytes: &[u8]) -> Result<Header, Refusal>
 /// The command of a message with this header, where nothing is wrong with the header.
 pub(crate) fn good_command<B: Book>(book: &B, header: &Header) -> Result<DefId, Refusal>
     requires { IsDictionary (B.meaning book.now) }
-    ensures { (u : AnyPolicy) (most : AnyLevels) (bytes : List ℕ) → HasLength bytes (length bytes)
+    ensures answer { (u : AnyPolicy) (most : AnyLevels) (bytes : List ℕ) → HasLength bytes (length bytes)
         → HasHeader bytes header.now
         → MatchResult result (λ def. (good : HasGoodHeader (B.meaning book.now) bytes)
         × (good.c ≡ def))
         (λ refusal. IsAnswer (B.meaning book.now) u most bytes (Err refusal)) }
+    ensures memory { IfErr result (λ refusal. refusal ≢ Refusal.NoMemory) }
 {
     if !has_good_bits(header.flags) {
         return Err(header_fault(4, Reason::Bits));

@@ -81,7 +81,7 @@ impl<'a, B: Book> Stream<'a, B> {
     /// Takes the next piece of the message, as far as it belongs to it.
     ///
     /// Bytes are taken until Message Length bytes were, also behind a fault, or until 20 were where the version or Message
-    /// Length is at fault. On `NoMemory` the stream is spent. Behind the header, memory is taken only where a group begins.
+    /// Length is at fault. On `NoMemory` the stream is spent. Memory is taken only where a good header ends or a group begins.
     pub fn feed(&mut self, piece: &[u8]) -> Result<Progress, StreamFault>
         ensures taken { IfOk result
             (λ progress. (d : Dictionary) (u : AnyPolicy) (most : AnyLevels) (bytes : List ℕ)
@@ -90,10 +90,10 @@ impl<'a, B: Book> Stream<'a, B> {
             × StandsFor B.meaning self.new d u most (bytes ++ take progress.taken piece.now)) }
         ensures within { IfOk result (λ progress. progress.taken ≤ length piece.now) }
         ensures goes_on { OnOk result (¬ IsSpent self.new) }
-        // Memory is taken only for a level that begins in the piece, once the header is there.
+        // Memory is taken only for a level that begins in the piece, of a message with a good header.
         ensures no_memory { result ≡ Err StreamFault.NoMemory
             → (d : Dictionary) (u : AnyPolicy) (most : AnyLevels) (bytes : List ℕ)
-            → StandsFor B.meaning self.old d u most bytes → 20 ≤ length bytes
+            → StandsFor B.meaning self.old d u most bytes
             → OpensLevel d most bytes (drop (length bytes) (taken_of (bytes ++ piece.now))) }
         ensures spent { (result ≡ Err StreamFault.Spent) ↔ IsSpent self.old }
         ensures err { OnErr result (IsSpent self.new) }
@@ -126,9 +126,10 @@ impl<'a, B: Book> Stream<'a, B> {
             × (20 ≤ length bytes → count ≡ 0)) }
         ensures all { IfOk result (λ count. self.new.taken < 20 → count ≡ length piece.now) }
         ensures goes_on { OnOk result (¬ IsSpent self.new) }
-        ensures header { OnErr result
+        ensures no_memory { OnErr result
             ((d : Dictionary) (u : AnyPolicy) (most : AnyLevels) (bytes : List ℕ)
-            → StandsFor B.meaning self.old d u most bytes → length bytes < 20) }
+            → StandsFor B.meaning self.old d u most bytes
+            → OpensLevel d most bytes (drop (length bytes) (taken_of (bytes ++ piece.now)))) }
         ensures err { IfErr result (λ fault. (fault ≡ StreamFault.NoMemory) × IsSpent self.new) }
     {
         let Stage::Header(front) = self.stage else {
@@ -143,10 +144,10 @@ impl<'a, B: Book> Stream<'a, B> {
         self.taken = after.len();
         self.wanted = wanted;
         self.stage = stage;
-        if self.is_spent() {
-            return Err(StreamFault::NoMemory);
+        match &self.stage {
+            Stage::NoMemory => Err(StreamFault::NoMemory),
+            _ => Ok(count),
         }
-        Ok(count)
     }
 
     /// Takes bytes behind the header, as far as they belong to the message. Answers how many.
@@ -179,17 +180,17 @@ impl<'a, B: Book> Stream<'a, B> {
             &piece[..count],
         );
         self.taken += count;
-        if self.is_spent() {
-            return Err(StreamFault::NoMemory);
+        match &self.stage {
+            Stage::NoMemory => Err(StreamFault::NoMemory),
+            _ => Ok(count),
         }
-        Ok(count)
     }
 
     /// Whether memory was refused.
     fn is_spent(&self) -> bool
         ensures { IsTrue result ↔ IsSpent self.now }
     {
-        matches!(self.stage, Stage::Spent)
+        matches!(self.stage, Stage::NoMemory)
     }
 
     /// What `check` answers of the bytes that were taken. Takes no memory.
@@ -202,13 +203,14 @@ impl<'a, B: Book> Stream<'a, B> {
         ensures trailing { result ≢ Err Refusal.Trailing }
     {
         match self.stage {
-            Stage::Spent => Err(Refusal::Spent),
+            Stage::NoMemory => Err(Refusal::Spent),
             Stage::Over(answer) if self.taken == self.wanted => answer,
             _ => Err(Refusal::Truncated),
         }
     }
 
-    /// How many levels are open: those that began at or before the last byte taken, and end behind it. Takes no memory.
+    /// How many levels are open: those that began at or before the last byte taken, and end behind it. None are once the
+    /// stream is done, or where the header is at fault. Takes no memory.
     pub fn levels(&self) -> usize
         ensures count { ¬ IsSpent self.now
             → (d : Dictionary) (u : AnyPolicy) (most : AnyLevels) (bytes : List ℕ)

@@ -1,7 +1,7 @@
 //! How far a message was read that comes in pieces.
 
 ghost use Rattle.std.specs.Prelude.{◌≡◌, ◌≢◌, ◌⊎◌, ◌<◌, ◌+◌, ◌^◌, ◌++◌, ℕ, List, length};
-ghost use Rattle.std.specs.Prelude.{Err, None, MatchBool, MatchOption, MatchResult, ⊤};
+ghost use Rattle.std.specs.Prelude.{Err, None, MatchBool, MatchOption, MatchResult};
 ghost use Rattle.dia_dict.specs.Dictionary.{IsDictionary};
 ghost use Rattle.dia_policy.specs.declared.Unknown.{Unknown as AnyPolicy};
 ghost use Rattle.dia_policy.specs.declared.Levels.{Levels as AnyLevels};
@@ -9,7 +9,7 @@ ghost use Rattle.dia_check.specs.Faults.{HasGoodHeader, HasHeader, HasLength, Is
 ghost use Rattle.dia_check.specs.Front.{front_bytes};
 ghost use Rattle.dia_check.specs.Walks.{Walks, whole};
 ghost use Rattle.dia_check.specs.Reading.{BeginsLevel, IsInPart, IsStop, LiesAt};
-ghost use Rattle.dia_check.specs.Streaming.{HasRead, HasReadUnless, IsBegun};
+ghost use Rattle.dia_check.specs.Streaming.{BeginsGood, HasRead, HasReadUnless, IsBegun};
 ghost use Rattle.dia_check.specs.Streaming.{IsReading, MayRead, OpensBehind, wanted};
 
 use crate::admission::open_body;
@@ -32,7 +32,8 @@ pub(crate) enum Stage<'a> {
     InBody(Body<'a>),
     /// The answer for the whole message.
     Over(Result<Selected, Refusal>),
-    Spent,
+    /// Memory was refused.
+    NoMemory,
 }
 
 /// A body that is being read.
@@ -143,11 +144,11 @@ fn read_body<'a, B: Book>(
 
 /// How a stream goes on behind a refusal.
 fn stopped<'a>(refusal: Refusal) -> Stage<'a>
-    ensures { ((refusal ≡ Refusal.NoMemory) × (result ≡ Stage.Spent))
+    ensures { ((refusal ≡ Refusal.NoMemory) × (result ≡ Stage.NoMemory))
         ⊎ ((refusal ≢ Refusal.NoMemory) × (result ≡ Stage.Over (Err refusal))) }
 {
     match refusal {
-        Refusal::NoMemory => Stage::Spent,
+        Refusal::NoMemory => Stage::NoMemory,
         _ => Stage::Over(Err(refusal)),
     }
 }
@@ -161,7 +162,8 @@ pub(crate) fn read_front<'a, B: Book>(
     requires { IsDictionary (B.meaning book.now) }
     ensures wants { (result.0 ≡ wanted (front_bytes front)) × (result.0 < 2 ^ 32) }
     ensures read { (u : AnyPolicy) (most : AnyLevels)
-        → HasReadUnless ⊤ (B.meaning book.now) u most (front_bytes front) result.1 }
+        → HasReadUnless (BeginsGood (B.meaning book.now) (front_bytes front))
+        (B.meaning book.now) u most (front_bytes front) result.1 }
 {
     match read_header(front.as_slice()) {
         Ok((header, length)) => {
@@ -202,7 +204,8 @@ fn begin_body<'a, B: Book>(
     ensures { (u : AnyPolicy) (most : AnyLevels) (bytes : List ℕ) → HasLength bytes (length bytes)
         → HasHeader bytes header.now → end ≡ length bytes
         → MatchResult result (IsBegun (B.meaning book.now) u most bytes)
-        (λ refusal. IsAnswer (B.meaning book.now) u most bytes (Err refusal)) }
+        (λ refusal. IsAnswer (B.meaning book.now) u most bytes (Err refusal)
+        × (refusal ≡ Refusal.NoMemory → HasGoodHeader (B.meaning book.now) bytes)) }
 {
     let def = good_command(book, header)?;
     let mut open_levels = open_body(alloc, book, def, end)?;

@@ -1,10 +1,10 @@
 use Rattle.std.proofs.Common.{◌≡◌, ℕ, ◌+◌, ◌-◌, false, List, ◌++◌, length, take, drop, refl, ap, subst, ◌∙◌, arith, inl, inr, ⊎_elim}
 use Rattle.std.proofs.lemmas.Bool.{both_ways, eq-eqb, eqb-true}
-use Rattle.std.proofs.lemmas.List.{append_assoc, append-nil, length-append, length-drop, take_rest}
+use Rattle.std.proofs.lemmas.List.{append_assoc, length-append, length-drop, take_rest}
 use Rattle.std.proofs.lemmas.Result.{err_from_is_err_and}
 use Rattle.dia_check.specs.Streaming.{OpensLevel, taken_of}
 use Rattle.dia_check.specs.Streams.{StandsFor}
-use Rattle.dia_check.proofs.StreamStages.{least_wanted, not_spent_error, take_plus, takes}
+use Rattle.dia_check.proofs.StreamStages.{least_wanted, not_spent_error, opens_sooner, rest_of, take_plus, takes}
 use Rattle.dia_check.proofs.stream.Stream.feed.Goals as goal
 
 pub returns-then-is_spent-clause-spent : goal.returns-then-is_spent-clause-spent
@@ -17,7 +17,7 @@ pub take_header-requires : goal.take_header-requires
 take_header-requires g c = λ s. both_ways c.is_spent.result c.if-is_spent.false (c.is_spent.ensures.1 s)
 
 pub returns-in_err-head-clause-no_memory : goal.returns-in_err-head-clause-no_memory
-returns-in_err-head-clause-no_memory g c q d u most bytes stands long = let short = c.in_err-head.ensures.header d u most bytes stands in absurd (omega (arith, short, long))
+returns-in_err-head-clause-no_memory g c q d u most bytes stands = c.in_err-head.ensures.no_memory d u most bytes stands
 
 pub returns-in_err-head-clause-spent : goal.returns-in_err-head-clause-spent
 returns-in_err-head-clause-spent g c =
@@ -53,15 +53,16 @@ pub take_body-requires-clause-not_spent : goal.take_body-requires-clause-not_spe
 take_body-requires-clause-not_spent g c = c.in_ok-head.ensures.goes_on
 
 pub returns-in_err-body-clause-no_memory : goal.returns-in_err-body-clause-no_memory
-returns-in_err-body-clause-no_memory g c q d u most bytes stands long =
+returns-in_err-body-clause-no_memory g c q d u most bytes stands =
     let (now, none) = c.in_ok-head.ensures.taken d u most bytes stands in
     let head = c.in_ok-head.head in
     let piece = c.args.piece.now in
-    let same : bytes ++ take head piece ≡ bytes = ap (λ (n : ℕ). bytes ++ take n piece) (none long) ∙ append-nil bytes in
-    let rest : take (length piece - head) (drop head piece) ≡ piece = take_rest piece head ∙ ap (λ (n : ℕ). drop n piece) (none long) in
-    let opens = c.in_err-body.ensures.no_memory d u most (bytes ++ take head piece) now in
-    subst (λ (b : List ℕ). OpensLevel d most b (drop (length b) (taken_of (b ++ piece)))) same
-    (subst (λ (p : List ℕ). OpensLevel d most (bytes ++ take head piece) (drop (length (bytes ++ take head piece)) (taken_of ((bytes ++ take head piece) ++ p)))) rest opens)
+    let front = take head piece in
+    let count = now.taken.count in let least = c.if-self-lt-HEADER_LENGTH.false in
+    let opens = subst (λ (p : List ℕ). OpensLevel d most (bytes ++ front) (drop (length (bytes ++ front)) (taken_of ((bytes ++ front) ++ p))))
+    (take_rest piece head) (c.in_err-body.ensures.no_memory d u most (bytes ++ front) now) in
+    subst (λ (t : List ℕ). OpensLevel d most bytes (drop (length bytes) (taken_of t))) (rest_of bytes piece head)
+    (opens_sooner d most bytes front (drop head piece) (omega (arith, count, least)) now.taken.within opens)
 
 pub returns-in_err-body-clause-spent : goal.returns-in_err-body-clause-spent
 returns-in_err-body-clause-spent g c =

@@ -1,13 +1,13 @@
-use Rattle.std.proofs.Common.{◌+◌, ◌<◌, ◌≤◌, ◌++◌, length, take, drop, refl, sym, arith, inl, inr, ⊎_elim}
+use Rattle.std.proofs.Common.{◌+◌, ◌<◌, ◌≤◌, ◌++◌, length, take, drop, refl, sym, subst, arith, inl, inr, ⊎_elim}
 use Rattle.std.proofs.Math.Logic.{∥∥₁_elim, ∥∥₁_map}
-use Rattle.std.proofs.lemmas.Bool.{both_ways, cases_lt}
+use Rattle.std.proofs.lemmas.Bool.{cases_lt}
 use Rattle.std.specs.Coded.{le_prop}
 use Rattle.std.specs.Prelude.{◌^◌}
 use Rattle.dia_dict.specs.Dictionary.{Dictionary}
 use Rattle.dia_policy.specs.declared.Unknown.{Unknown}
 use Rattle.dia_policy.specs.declared.Levels.{Levels}
-use Rattle.dia_check.specs.Streaming.{HasTaken, OpensBehind, OpensLevel, taken_of}
-use Rattle.dia_check.proofs.StreamStages.{body_opens, body_taken, has_taken, is_stage, may_read, memory_of, moved, taken_within}
+use Rattle.dia_check.specs.Streaming.{HasTaken, IsSpentStage, OpensBehind, OpensLevel, taken_of}
+use Rattle.dia_check.proofs.StreamStages.{body_opens, body_taken, has_taken, is_stage, live_stage, may_read, memory_of, moved, taken_within}
 use Rattle.dia_check.proofs.stream.Stream.take_body.Goals as goal
 
 pub overflow_sub-self : goal.overflow_sub-self
@@ -53,11 +53,11 @@ invariant_of-self g c =
           (OpensBehind d s.levels s.taken (bytes ++ take n c.args.piece.now)) c.read_stage.new.stage (c.read_stage.ensures bytes may) live));
     }
 
-pub returns-clause-within : goal.returns-clause-within
-returns-clause-within g c = let m = c.min-count.ensures in omega (arith, m)
+pub returns-in_default-clause-within : goal.returns-in_default-clause-within
+returns-in_default-clause-within g c = let m = c.min-count.ensures in omega (arith, m)
 
-pub returns-clause-taken : goal.returns-clause-taken
-returns-clause-taken g c d u most bytes stands =
+pub returns-in_default-clause-taken : goal.returns-in_default-clause-taken
+returns-in_default-clause-taken g c d u most bytes stands =
     let s = c.args.self.now in
     let e = g.B.Book.meaning s.book.now in
     let n = c.min-count.result in
@@ -67,7 +67,7 @@ returns-clause-taken g c d u most bytes stands =
     let may = may_read e s.unknown s.levels s.taken s.wanted s.stage bytes c.args.piece.now h c.requires.header n (omega (arith, m)) (omega (arith, m)) in
     let new = body_taken e s.unknown s.levels s.taken s.wanted s.stage bytes c.args.piece.now h c.requires.header n (omega (arith, m)) (omega (arith, m))
     (OpensBehind e s.levels s.taken (bytes ++ take n c.args.piece.now)) c.read_stage.new.stage
-    (c.read_stage.ensures bytes may) (λ spent. both_ways c.is_spent.result c.if-is_spent.false (c.is_spent.ensures.1 spent)) in
+    (c.read_stage.ensures bytes may) (live_stage c.read_stage.new.stage c.in_default.not-NoMemory) in
     record {
       book = stands.book;
       unknown = stands.unknown;
@@ -76,8 +76,8 @@ returns-clause-taken g c d u most bytes stands =
           e d s.unknown u s.levels most stands.book stands.unknown stands.levels new;
     }
 
-pub returns-clause-all : goal.returns-clause-all
-returns-clause-all g c =
+pub returns-in_default-clause-all : goal.returns-in_default-clause-all
+returns-in_default-clause-all g c =
     let s = c.args.self.now in
     let d = g.B.Book.meaning s.book.now in
     let m = c.min-count.ensures in
@@ -86,11 +86,11 @@ returns-clause-all g c =
     taken_within d s.unknown s.levels s.taken s.wanted s.stage bytes c.args.piece.now h) in
     ⊎_elim (λ less. inr (omega (arith, m, w, less))) (λ more. inl (omega (arith, m, more))) (cases_lt c.min-count.result (length c.args.piece.now))
 
-pub returns-clause-goes_on : goal.returns-clause-goes_on
-returns-clause-goes_on g c = λ spent. both_ways c.is_spent.result c.if-is_spent.false (c.is_spent.ensures.1 spent)
+pub returns-in_default-clause-goes_on : goal.returns-in_default-clause-goes_on
+returns-in_default-clause-goes_on g c = live_stage c.read_stage.new.stage c.in_default.not-NoMemory
 
-pub returns-then-is_spent-clause-no_memory : goal.returns-then-is_spent-clause-no_memory
-returns-then-is_spent-clause-no_memory g c d u most bytes stands =
+pub returns-in-NoMemory-clause-no_memory : goal.returns-in-NoMemory-clause-no_memory
+returns-in-NoMemory-clause-no_memory g c d u most bytes stands =
     let s = c.args.self.now in
     let e = g.B.Book.meaning s.book.now in
     let n = c.min-count.result in
@@ -99,10 +99,10 @@ returns-then-is_spent-clause-no_memory g c d u most bytes stands =
     (sym stands.book) (sym stands.unknown) (sym stands.levels) stands.taken in
     let may = may_read e s.unknown s.levels s.taken s.wanted s.stage bytes c.args.piece.now h c.requires.header n (omega (arith, m)) (omega (arith, m)) in
     let memory = memory_of (OpensBehind e s.levels s.taken (bytes ++ take n c.args.piece.now)) e s.unknown s.levels
-    (bytes ++ take n c.args.piece.now) c.read_stage.new.stage (c.is_spent.ensures.0 c.if-is_spent.true) (c.read_stage.ensures bytes may) in
+    (bytes ++ take n c.args.piece.now) c.read_stage.new.stage (subst IsSpentStage (sym c.in-NoMemory.is) tt) (c.read_stage.ensures bytes may) in
     moved (λ (x : Dictionary) (y : Unknown) (z : Levels). OpensLevel x z bytes (drop (length bytes) (taken_of (bytes ++ c.args.piece.now))))
     e d s.unknown u s.levels most stands.book stands.unknown stands.levels
     (body_opens e s.unknown s.levels s.taken s.wanted s.stage bytes c.args.piece.now h c.requires.header n (omega (arith, m)) (omega (arith, m)) (λ less. omega (arith, m, less)) memory)
 
-pub returns-then-is_spent-clause-err : goal.returns-then-is_spent-clause-err
-returns-then-is_spent-clause-err g c = (refl, c.is_spent.ensures.0 c.if-is_spent.true)
+pub returns-in-NoMemory-clause-err : goal.returns-in-NoMemory-clause-err
+returns-in-NoMemory-clause-err g c = (refl, subst IsSpentStage (sym c.in-NoMemory.is) tt)

@@ -1,6 +1,5 @@
-use Rattle.std.proofs.Common.{◌≡◌, ℕ, ◌-◌, ◌≤◌, List, ◌++◌, length, take, refl, sym, subst, arith}
+use Rattle.std.proofs.Common.{◌≡◌, ℕ, ◌-◌, ◌≤◌, List, ◌++◌, length, take, drop, refl, sym, subst, arith}
 use Rattle.std.proofs.Math.Logic.{∥∥₁_elim, ∥∥₁_map}
-use Rattle.std.proofs.lemmas.Bool.{both_ways}
 use Rattle.std.proofs.lemmas.List.{append-nil}
 use Rattle.std.specs.Coded.{le_prop}
 use Rattle.dia_dict.specs.Dictionary.{Dictionary}
@@ -9,9 +8,9 @@ use Rattle.dia_policy.specs.declared.Levels.{Levels}
 use Rattle.dia_check.specs.declared.stream.stages.Stage.{Stage}
 use Rattle.dia_check.specs.declared.stream.stages.Stage.TheVariants.{Header}
 use Rattle.dia_check.specs.Front.{front_bytes}
-use Rattle.dia_check.specs.Streaming.{HasTaken, IsStage}
+use Rattle.dia_check.specs.Streaming.{BeginsGood, HasTaken, IsSpentStage, IsStage, OpensLevel, taken_of}
 use Rattle.dia_check.specs.Streams.{StandsFor}
-use Rattle.dia_check.proofs.StreamStages.{behind_header, front_grows, front_size, front_taken, front_takes_all, has_taken, header_now, is_stage, moved}
+use Rattle.dia_check.proofs.StreamStages.{behind_header, front_grows, front_size, front_taken, front_takes_all, has_taken, header_now, header_opens, is_stage, live_stage, memory_of, moved}
 use Rattle.dia_check.proofs.stream.Stream.take_header.Goals as goal
 
 pub overflow_sub-count : goal.overflow_sub-count
@@ -35,13 +34,13 @@ invariant_of-self g c =
           (c.read_front-wanted.ensures.read s.unknown s.levels) live));
     }
 
-pub returns-clause-within : goal.returns-clause-within
-returns-clause-within g c =
+pub returns-in_default-stage-clause-within : goal.returns-in_default-stage-clause-within
+returns-in_default-stage-clause-within g c =
     let le = front_taken c.in-Header.front c.take_from.new.self c.args.piece.now c.take_from.ensures (front_size c.in-Header.front c.in-Header.front.within) in
     let a = c.len.ensures in let b = c.len-2.ensures in omega (arith, le, a, b)
 
-pub returns-clause-taken : goal.returns-clause-taken
-returns-clause-taken g c d u most bytes stands =
+pub returns-in_default-stage-clause-taken : goal.returns-in_default-stage-clause-taken
+returns-in_default-stage-clause-taken g c d u most bytes stands =
     let s = c.args.self.now in
     let e = g.B.Book.meaning s.book.now in
     let front = c.in-Header.front in
@@ -54,7 +53,7 @@ returns-clause-taken g c d u most bytes stands =
     let is_k : k ≡ length (front_bytes after) - length (front_bytes front) = omega (arith, a, b) in
     let new = header_now front after c.args.piece.now c.take_from.ensures (front_size front front.within) e s.unknown s.levels s.taken s.wanted bytes own
     k c.len-self.result c.read_front-wanted.result.0 c.read_front-wanted.result.1 is_k c.len-self.ensures c.read_front-wanted.ensures.wants (c.read_front-wanted.ensures.read s.unknown s.levels)
-    (λ spent. both_ways c.is_spent.result c.if-is_spent.false (c.is_spent.ensures.1 spent)) in (
+    (live_stage c.read_front-wanted.result.1 c.in_default-stage.not-NoMemory) in (
       record {
         book = stands.book;
         unknown = stands.unknown;
@@ -65,23 +64,32 @@ returns-clause-taken g c d u most bytes stands =
       λ long. let (short, kept) = there.read in absurd (omega (arith, short, long)),
     )
 
-pub returns-clause-all : goal.returns-clause-all
-returns-clause-all g c less =
+pub returns-in_default-stage-clause-all : goal.returns-in_default-stage-clause-all
+returns-in_default-stage-clause-all g c less =
     let a = c.len.ensures in let b = c.len-2.ensures in let n = c.len-self.ensures in
     let all = front_takes_all c.in-Header.front c.take_from.new.self c.args.piece.now c.take_from.ensures (front_size c.in-Header.front c.in-Header.front.within) (omega (arith, less, n)) in
     omega (arith, a, b, all)
 
-pub returns-clause-goes_on : goal.returns-clause-goes_on
-returns-clause-goes_on g c = λ spent. both_ways c.is_spent.result c.if-is_spent.false (c.is_spent.ensures.1 spent)
+pub returns-in_default-stage-clause-goes_on : goal.returns-in_default-stage-clause-goes_on
+returns-in_default-stage-clause-goes_on g c = live_stage c.read_front-wanted.result.1 c.in_default-stage.not-NoMemory
 
-pub returns-then-is_spent-clause-header : goal.returns-then-is_spent-clause-header
-returns-then-is_spent-clause-header g c d u most bytes stands =
+pub returns-in-NoMemory-clause-no_memory : goal.returns-in-NoMemory-clause-no_memory
+returns-in-NoMemory-clause-no_memory g c d u most bytes stands =
     let s = c.args.self.now in
+    let e = g.B.Book.meaning s.book.now in
+    let front = c.in-Header.front in
+    let after = c.take_from.new.self in
     let there = subst (λ (t : Stage). HasTaken d u most s.taken s.wanted t bytes) c.in-Header.is stands.taken in
-    let (short, kept) = there.read in short
+    let own = moved (λ (x : Dictionary) (y : Unknown) (z : Levels). HasTaken x y z s.taken s.wanted (Header front) bytes)
+    d e u s.unknown most s.levels (sym stands.book) (sym stands.unknown) (sym stands.levels) there in
+    let good = memory_of (BeginsGood e (front_bytes after)) e s.unknown s.levels (front_bytes after) c.read_front-wanted.result.1
+    (subst IsSpentStage (sym c.in-NoMemory.is) tt) (c.read_front-wanted.ensures.read s.unknown s.levels) in
+    moved (λ (x : Dictionary) (y : Unknown) (z : Levels). OpensLevel x z bytes (drop (length bytes) (taken_of (bytes ++ c.args.piece.now))))
+    e d s.unknown u s.levels most stands.book stands.unknown stands.levels
+    (header_opens front after c.args.piece.now c.take_from.ensures (front_size front front.within) e s.unknown s.levels s.taken s.wanted bytes own good)
 
-pub returns-then-is_spent-clause-err : goal.returns-then-is_spent-clause-err
-returns-then-is_spent-clause-err g c = (refl, c.is_spent.ensures.0 c.if-is_spent.true)
+pub returns-in-NoMemory-clause-err : goal.returns-in-NoMemory-clause-err
+returns-in-NoMemory-clause-err g c = (refl, subst IsSpentStage (sym c.in-NoMemory.is) tt)
 
 pub returns-in_default-clause-taken : goal.returns-in_default-clause-taken
 returns-in_default-clause-taken g c d u most bytes stands =

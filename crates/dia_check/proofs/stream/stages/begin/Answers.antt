@@ -6,6 +6,6 @@ use Rattle.dia_check.proofs.stream.stages.begin.Goals as goal
 pub returns-in-Err : goal.returns-in-Err
 returns-in-Err g c u most bytes sized head is_end =
     let d = g.B.Book.meaning c.args.book.now in
-    let answer = c.in-Err.ensures u most bytes sized head is_end in
-    ⊎_elim (λ x. subst (IsBegun d u most bytes) (sym x.1) tt) (λ x. subst (IsBegun d u most bytes)
+    let (answer, good) = c.in-Err.ensures u most bytes sized head is_end in
+    ⊎_elim (λ x. subst (IsBegun d u most bytes) (sym x.1) (good x.0)) (λ x. subst (IsBegun d u most bytes)
     (sym x.1) (refused_whole d u most bytes 20 (length bytes) c.in-Err.refusal x.0 sized answer)) c.stopped.ensures
