@@ -112,14 +112,15 @@ def convert(file, vendors):
     names, keys, kept = set(), set(), []
     for avp in file.avps:
         name, code = avp.attributes.get('name', ''), avp.attributes.get('code', '')
-        key = (code, vendors.get(avp.attributes.get('vendor-id', 'None')))
+        vendor = vendors.get(avp.attributes.get('vendor-id', 'None'))
+        key = (int(code) if code.isdigit() else None, vendor)
         kind = format_of(avp.type, file)
         reason = None
         if not NAME.fullmatch(name) or len(name) > GREATEST_NAME:
             reason = 'no name of a dictionary text'
-        elif not code.isdigit() or int(code) > GREATEST_NUMBER:
+        elif key[0] is None or key[0] > GREATEST_NUMBER:
             reason = f'no code: {code}'
-        elif key[1] is None:
+        elif vendor is None:
             reason = f'its vendor is unknown: {avp.attributes["vendor-id"]}'
         elif kind is None:
             reason = f'no format of a dictionary text: {avp.type}'
@@ -135,7 +136,7 @@ def convert(file, vendors):
             file.told.append((avp.place, f'{name}: the file has no M rule for it: any'))
         names.add(name)
         keys.add(key)
-        kept.append((name, int(code), key[1], kind, rule or 'any', values_of(avp, kind, name, file.told)))
+        kept.append((name, key[0], vendor, kind, rule or 'any', values_of(avp, kind, name, file.told)))
     return kept
 
 
