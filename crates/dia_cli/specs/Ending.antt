@@ -1,5 +1,6 @@
 -- How the program ends where there is nothing to run, or a run didn't end.
-use Rattle.std.specs.Prelude.{◌≡◌, ◌≢◌, ◌⊎◌, ℕ, List, [], ◌∷◌, ◌++◌, Option, None, Some, codes}
+use Rattle.std.specs.Prelude.{◌≡◌, ◌≢◌, ◌⊎◌, ℕ, Bool, true, false, List, [], ◌∷◌, ◌++◌, Option, None, Some, ⊤, codes}
+use Rattle.std.specs.Io.KnownBytes.{Appends}
 use Rattle.std.specs.Borrow.{Bor}
 use Rattle.std.specs.declared.io.Error.{Error}
 use Rattle.std.specs.declared.io.ErrorKind.TheVariants.{OutOfMemory, InvalidData}
@@ -48,12 +49,55 @@ EndsWith ending.NoMemory status = status ≡ 3
 abbrev pub try_help : List ℕ
 try_help = 10 ∷ 10 ∷ codes "For more information, try '--help'." ++ 10 ∷ []
 
--- what is told, where it holds no text of clap's or of the system's
-abbrev pub ending_text : Ending → Option (List ℕ)
-ending_text (ending.Told error) = None
-ending_text ending.NotText = Some (codes "error: a word of the command line isn't UTF-8" ++ try_help)
-ending_text ending.ReadTwice =
-    Some (codes "error: '-' is given twice, and standard input can be read once: name a file for one of the two" ++ try_help)
-ending_text (ending.Device name (Some error)) = None
-ending_text (ending.Device name None) = Some (codes "device failed" ++ 10 ∷ [])
-ending_text ending.NoMemory = Some (codes "no memory" ++ 10 ∷ [])
+abbrev pub device_failed : List ℕ
+device_failed = codes "device failed" ++ 10 ∷ []
+
+abbrev pub no_memory_text : List ℕ
+no_memory_text = codes "no memory" ++ 10 ∷ []
+
+-- a device failed, and the system said why
+abbrev pub IsDeviceText : List ℕ → List ℕ → Type 0
+IsDeviceText name text = (said : List ℕ) × (text ≡ device_failed ++ name ++ codes ": " ++ said ++ 10 ∷ [])
+
+-- what is told. The words of clap and of the system are any
+abbrev pub IsTextOf : Ending → List ℕ → Type 0
+IsTextOf (ending.Told error) text = ⊤
+IsTextOf ending.NotText text = text ≡ codes "error: a word of the command line isn't UTF-8" ++ try_help
+IsTextOf ending.ReadTwice text =
+    text ≡ codes "error: '-' is given twice, and standard input can be read once: name a file for one of the two" ++ try_help
+IsTextOf (ending.Device name (Some error)) text = IsDeviceText name.now text
+IsTextOf (ending.Device name None) text = text ≡ device_failed
+IsTextOf ending.NoMemory text = text ≡ no_memory_text
+
+-- words of clap or of the system, which are put together first
+abbrev pub HasForeignText : Ending → Type 0
+HasForeignText (ending.Told error) = ⊤
+HasForeignText (ending.Device name (Some error)) = ⊤
+HasForeignText made = ⊥
+
+-- the text of the ending was written
+abbrev pub AppendsTextOf : Ending → Option (List ℕ) → Option (List ℕ) → Type 0
+AppendsTextOf made old new = (text : List ℕ) × IsTextOf made text × Appends old new text
+
+-- a stream that took something: what it had and has taken, where it tells its bytes, and whether it has failed
+pub record Stream : Type 0 where
+  pub old : Option (List ℕ)
+  pub new : Option (List ℕ)
+  pub failed : Bool
+
+abbrev pub stream : Option (List ℕ) → Option (List ℕ) → Bool → Stream
+stream old new failed = record { old = old; new = new; failed = failed }
+
+-- the ending is told on a stream, with this status: the ending's own, or 3 where the stream failed, or where memory was
+-- refused and that was told
+pub data IsTold (made : Ending) (s : Stream) (status : ℕ) : Type 0 where
+  told : s.failed ≡ false → EndsWith made status → AppendsTextOf made s.old s.new → IsTold made s status
+  no_memory : s.failed ≡ false → HasForeignText made → status ≡ 3 → Appends s.old s.new no_memory_text → IsTold made s status
+  device : s.failed ≡ true → status ≡ 3 → IsTold made s status
+
+-- help is shown on standard output, and standard error stays as it was; or standard error is told why not
+pub data IsShown (out err : Stream) (is_quiet : Type 0) (status : ℕ) : Type 0 where
+  shown : out.failed ≡ false → is_quiet → status ≡ 0 → IsShown out err is_quiet status
+  no_memory : out.failed ≡ false → out.new ≡ out.old → IsTold ending.NoMemory err status → IsShown out err is_quiet status
+  device : (name : Bor (List ℕ)) (why : Option Error) → out.failed ≡ true → name.now ≡ codes "standard output"
+      → IsTold (ending.Device name why) err status → IsShown out err is_quiet status

@@ -1,13 +1,16 @@
 //! How the program ends where nothing ran, or a run failed.
 
-ghost use Rattle.std.specs.Prelude.{◌≡◌, ◌⊎◌, IfOk, IfErr};
-ghost use Rattle.dia_cli.specs.Ending.{EndsWith};
+ghost use Rattle.std.specs.Prelude.{◌≡◌, ◌↔◌, Err, IfOk, IfErr, IsOkAnd, IsTrue, string_bytes};
+ghost use Rattle.std.specs.Io.KnownBytes.{Appends};
 ghost use Rattle.dia_io.specs.Exit.{status_of};
+ghost use Rattle.dia_cli.specs.Ending.{IsDeviceText, IsShown, IsTold, ShowsHelp};
+ghost use Rattle.dia_cli.specs.Ending.{no_memory_text, stream};
 
 use clap::error::ErrorKind;
-use dia_io::{Exit, RunFault};
-use std::alloc::AllocError;
-use std::{fmt, io};
+use dia_io::{Exit, RunFault, Sink, ToWriter, put_all};
+use std::alloc::{AllocError, Global};
+use std::io;
+use std::io::Write;
 
 /// Why the program ends without an outcome.
 #[derive(Debug, Drop)]
@@ -29,20 +32,94 @@ pub enum Ending<'a> {
     NoMemory,
 }
 
-/// The status of the process. An ending is printed first, on the stream where it belongs.
-pub fn finish(rt: &(impl Print + Eprint), ended: Result<Exit, Ending<'_>>) -> u8
-    ensures exit { IfOk ended.entry (λ exit. result ≡ status_of exit) }
-    ensures ending { IfErr ended.entry (λ ending. EndsWith ending result ⊎ (result ≡ 3)) }
+/// The status of the process. An ending is told first: help on standard output, and any other on standard error. Where
+/// standard output fails, that is told on standard error.
+pub fn finish<O: Write, E: Write>(
+    alloc: Global,
+    ended: Result<Exit, Ending<'_>>,
+    out: &mut ToWriter<O>,
+    err: &mut ToWriter<E>,
+) -> u8
+    requires out { ¬ IsTrue (⟦<ToWriter<O> as Sink>⟧.has_failed out.old) }
+    requires err { ¬ IsTrue (⟦<ToWriter<E> as Sink>⟧.has_failed err.old) }
+    ensures exit { IfOk ended.entry (λ exit. (result ≡ status_of exit)
+        × (out.new ≡ out.old) × (err.new ≡ err.old)) }
+    ensures fault { IfErr ended.entry (λ ending. ¬ ShowsHelp ending → (out.new ≡ out.old)
+        × IsTold ending (stream (⟦<ToWriter<E> as Sink>⟧.written err.old)
+        (⟦<ToWriter<E> as Sink>⟧.written err.new)
+        (⟦<ToWriter<E> as Sink>⟧.has_failed err.new)) result) }
+    ensures help { IfErr ended.entry (λ ending. ShowsHelp ending
+        → IsShown (stream (⟦<ToWriter<O> as Sink>⟧.written out.old)
+        (⟦<ToWriter<O> as Sink>⟧.written out.new)
+        (⟦<ToWriter<O> as Sink>⟧.has_failed out.new))
+        (stream (⟦<ToWriter<E> as Sink>⟧.written err.old)
+        (⟦<ToWriter<E> as Sink>⟧.written err.new)
+        (⟦<ToWriter<E> as Sink>⟧.has_failed err.new))
+        (err.new ≡ err.old) result) }
 {
     match ended {
         Ok(exit) => exit.status(),
-        Err(ending) => ending.tell(rt),
+        Err(ending) if ending.is_help() => show(alloc, &ending, out, err),
+        Err(ending) => tell_error(alloc, &ending, err),
     }
 }
 
+/// Tells help, or on standard error why it couldn't be told.
+fn show<O: Write, E: Sink>(
+    alloc: Global,
+    help: &Ending<'_>,
+    out: &mut ToWriter<O>,
+    err: &mut E,
+) -> u8
+    requires out { ¬ IsTrue (⟦<ToWriter<O> as Sink>⟧.has_failed out.old) }
+    requires err { ¬ IsTrue (E.has_failed err.old) }
+    requires help { ShowsHelp help.now }
+    ensures { IsShown (stream (⟦<ToWriter<O> as Sink>⟧.written out.old)
+        (⟦<ToWriter<O> as Sink>⟧.written out.new)
+        (⟦<ToWriter<O> as Sink>⟧.has_failed out.new))
+        (stream (E.written err.old) (E.written err.new) (E.has_failed err.new))
+        (err.new ≡ err.old) result }
+{
+    match help.tell(alloc, out) {
+        Ok(status) => status,
+        Err(fault) => {
+            let ending = Ending::of_run(fault, "standard output", out.failure());
+            tell_error(alloc, &ending, err)
+        }
+    }
+}
+
+/// Tells an ending on standard error, and answers the status.
+fn tell_error<S: Sink>(alloc: Global, ending: &Ending<'_>, err: &mut S) -> u8
+    requires { ¬ IsTrue (S.has_failed err.old) }
+    ensures { IsTold ending.now
+        (stream (S.written err.old) (S.written err.new) (S.has_failed err.new)) result }
+{
+    match ending.tell(alloc, err) {
+        Ok(status) => status,
+        Err(RunFault::Device) => FAILED,
+        Err(RunFault::NoMemory) => tell_no_memory(err),
+    }
+}
+
+/// Tells that memory was refused, and answers the status.
+fn tell_no_memory<S: Sink>(err: &mut S) -> u8
+    requires { ¬ IsTrue (S.has_failed err.old) }
+    ensures status { result ≡ 3 }
+    ensures text { ¬ IsTrue (S.has_failed err.new)
+        → Appends (S.written err.old) (S.written err.new) no_memory_text }
+{
+    let _told = put_all(err, NO_MEMORY.as_bytes());
+    FAILED
+}
+
+/// The status where a device failed or memory was refused.
+const FAILED: u8 = 3;
+
 impl<'a> Ending<'a> {
-    ghost use Rattle.std.specs.Prelude.{◌≡◌, ◌⊎◌, ◌↔◌, IfOk, IsErr, IsTrue};
-    ghost use Rattle.dia_cli.specs.Ending.{EndsWith, IsEndingOfIo, ShowsHelp, ending_of_run};
+    ghost use Rattle.std.specs.Prelude.{◌≡◌, ◌↔◌, Err, IfOk, IsErr, IsTrue};
+    ghost use Rattle.dia_cli.specs.Ending.{AppendsTextOf, EndsWith, HasForeignText};
+    ghost use Rattle.dia_cli.specs.Ending.{IsEndingOfIo, ShowsHelp, ending_of_run};
 
     /// The ending where the command line can't be read.
     pub fn of_words(error: io::Error) -> Ending<'static>
@@ -68,38 +145,34 @@ impl<'a> Ending<'a> {
         }
     }
 
-    /// Prints the ending on the stream where it belongs, and answers the status. Where that stream fails, its failure is
-    /// printed on standard error.
-    pub fn tell(&self, rt: &(impl Print + Eprint)) -> u8
-        ensures { EndsWith self.now result ⊎ (result ≡ 3) }
+    /// Tells the ending, and answers its status. Memory is needed only for the words of clap and of the system.
+    pub fn tell<S: Sink>(&self, alloc: Global, sink: &mut S) -> Result<u8, RunFault>
+        requires { ¬ IsTrue (S.has_failed sink.old) }
+        ensures status { IfOk result (EndsWith self.now) }
+        ensures text { IfOk result (λ _.
+            AppendsTextOf self.now (S.written sink.old) (S.written sink.new)) }
+        ensures device { (result ≡ Err RunFault.Device) ↔ IsTrue (S.has_failed sink.new) }
+        ensures no_memory { result ≡ Err RunFault.NoMemory
+            → HasForeignText self.now × (S.written sink.new ≡ S.written sink.old) }
     {
-        let printed = self.print(rt);
-        if let Err(error) = printed {
-            let _told = Ending::Device {
-                name: self.stream(),
-                error: Some(error),
-            }
-            .print(rt);
-        }
-        self.status(printed)
+        self.put(alloc, sink)?;
+        Ok(self.status())
     }
 
-    /// The status of the process, by whether the ending was printed or its stream failed.
-    fn status(&self, printed: io::Result<()>) -> u8
-        ensures printed { IfOk printed (λ _. EndsWith self.now result) }
-        ensures failed { IsErr printed → result ≡ 3 }
+    /// The status that the process ends with once this is told.
+    fn status(&self) -> u8
+        ensures { EndsWith self.now result }
     {
         match self {
-            _ if printed.is_err() => 3,
             Ending::Told(error) if error.use_stderr() => 2,
             Ending::Told(_) => 0,
             Ending::NotText | Ending::ReadTwice => 2,
-            Ending::Device { .. } | Ending::NoMemory => 3,
+            Ending::Device { .. } | Ending::NoMemory => FAILED,
         }
     }
 
-    /// Whether this is help or the version.
-    fn is_shown(&self) -> bool
+    /// Whether this is help or the version, which are told on standard output.
+    pub fn is_help(&self) -> bool
         ensures { IsTrue result ↔ ShowsHelp self.now }
     {
         match self {
@@ -108,43 +181,58 @@ impl<'a> Ending<'a> {
         }
     }
 
-    /// The name of the stream on which this is printed.
-    fn stream(&self) -> &'static str {
-        if self.is_shown() {
-            "standard output"
-        } else {
-            "standard error"
-        }
-    }
-
-    fn print(&self, rt: &(impl Print + Eprint)) -> io::Result<()> {
-        if self.is_shown() {
-            rt.print(self)
-        } else {
-            rt.eprint(self)
-        }
-    }
-}
-
-impl fmt::Display for Ending<'_> {
-    ghost use Rattle.dia_cli.specs.Ending.{ending_text};
-
-    ghost output = { λ ending. ending_text ending };
-
-    fn fmt<W: fmt::Write>(&self, f: &mut fmt::Formatter<W>) -> fmt::Result {
+    /// Writes the text of the ending.
+    fn put<S: Sink>(&self, alloc: Global, sink: &mut S) -> Result<(), RunFault>
+        requires { ¬ IsTrue (S.has_failed sink.old) }
+        ensures text { IfOk result (λ _.
+            AppendsTextOf self.now (S.written sink.old) (S.written sink.new)) }
+        ensures device { (result ≡ Err RunFault.Device) ↔ IsTrue (S.has_failed sink.new) }
+        ensures no_memory { result ≡ Err RunFault.NoMemory
+            → HasForeignText self.now × (S.written sink.new ≡ S.written sink.old) }
+    {
         match self {
-            Ending::Told(error) => write!(f, "{error}"),
-            Ending::NotText => f.write_str(NOT_TEXT),
-            Ending::ReadTwice => f.write_str(READ_TWICE),
+            Ending::Told(error) => put_made(sink, format!(in alloc; "{error}")),
+            Ending::NotText => Ok(put_all(sink, NOT_TEXT.as_bytes())?),
+            Ending::ReadTwice => Ok(put_all(sink, READ_TWICE.as_bytes())?),
             Ending::Device {
                 name,
                 error: Some(error),
-            } => write!(f, "device failed\n{name}: {error}\n"),
-            Ending::Device { .. } => f.write_str("device failed\n"),
-            Ending::NoMemory => f.write_str("no memory\n"),
+            } => put_made(sink, device_text(alloc, name, *error)),
+            Ending::Device { .. } => Ok(put_all(sink, DEVICE_FAILED.as_bytes())?),
+            Ending::NoMemory => Ok(put_all(sink, NO_MEMORY.as_bytes())?),
         }
     }
 }
+
+/// Writes a text, if there was memory for it.
+fn put_made<S: Sink>(sink: &mut S, text: Result<String, AllocError>) -> Result<(), RunFault>
+    requires { ¬ IsTrue (S.has_failed sink.old) }
+    ensures text { IfOk result (λ _. IsOkAnd text (λ made.
+        Appends (S.written sink.old) (S.written sink.new) (string_bytes made))) }
+    ensures device { (result ≡ Err RunFault.Device) ↔ IsTrue (S.has_failed sink.new) }
+    ensures no_memory { result ≡ Err RunFault.NoMemory → S.written sink.new ≡ S.written sink.old }
+{
+    let text = text?;
+    put_all(sink, text.as_bytes())?;
+    Ok(())
+}
+
+/// The text of a failed device, with what the system said.
+fn device_text(alloc: Global, name: &str, error: io::Error) -> Result<String, AllocError>
+    ensures { IfOk result (λ text. IsDeviceText name.now (string_bytes text)) }
+{
+    let said = format!(in alloc; "{error}")?;
+    let mut text = String::from_str(alloc, DEVICE_FAILED)?;
+    text.push_str(name)?;
+    text.push_str(": ")?;
+    text.push_str(&said)?;
+    text.push_str("\n")?;
+    Ok(text)
+}
+
+const DEVICE_FAILED: &str = "device failed\n";
+
+const NO_MEMORY: &str = "no memory\n";
 
 const NOT_TEXT: &str = "error: a word of the command line isn't UTF-8
 

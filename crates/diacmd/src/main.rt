@@ -14,9 +14,15 @@ use std::rt::{Env, Files};
 use std::{env, io};
 
 fn main(rt: HostRuntime) -> ExitCode {
+    let stderr = rt.stderr();
+    let mut out = ToWriter::new(io::writer(&rt));
+    let mut err = ToWriter::new(io::writer(&stderr));
     let status = match read_words(&rt) {
-        Ok(words) => finish(&rt, perform(&rt, words.as_slice())),
-        Err(ending) => finish(&rt, Err(ending)),
+        Ok(words) => {
+            let ended = perform(&rt, words.as_slice());
+            finish(rt.alloc(), ended, &mut out, &mut err)
+        }
+        Err(ending) => finish(rt.alloc(), Err(ending), &mut out, &mut err),
     };
     ExitCode::from(status)
 }

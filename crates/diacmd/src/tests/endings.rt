@@ -1,8 +1,8 @@
 //! How the program ends where there was no run, and what is told then.
 
-use super::printed::Streams;
+use super::printed::{ends_with, fails, fails_with};
 use dia_cli::{Ending, finish, parse_words};
-use dia_run::Exit;
+use dia_run::{Exit, ToWriter};
 use std::alloc::Global;
 use std::io;
 use std::test::Fail;
@@ -15,77 +15,46 @@ pub fn ending_of<'a>(alloc: Global, words: &'a [&'a str]) -> Result<Ending<'a>, 
     }
 }
 
+/// A device of this name that failed, with what the system said.
+const fn device(name: &str, error: Option<io::Error>) -> Ending<'_> {
+    Ending::Device { name, error }
+}
+
 #[test]
 fn other_endings_go_to_standard_error(rt: HostRuntime) {
-    let rows = [
-        (
-            Ending::NotText,
-            2,
-            "error: a word of the command line isn't UTF-8\n\nFor more information, try '--help'.\n",
-        ),
-        (
-            Ending::Device {
-                name: "nofile.hex",
-                error: Some(io::Error::from_raw_os_error(2)),
-            },
-            3,
-            "device failed\nnofile.hex: No such file or directory (os error 2)\n",
-        ),
-        (
-            Ending::Device {
-                name: "-",
-                error: None,
-            },
-            3,
-            "device failed\n",
-        ),
-        (Ending::NoMemory, 3, "no memory\n"),
-    ];
-    for (ending, status, told) in rows.iter() {
-        let streams = Streams::new(rt.alloc());
-        assert_eq!(rt; ending.tell(&streams), *status);
-        assert!(rt; streams.out.was_given(""));
-        assert!(rt; streams.err.was_given(told), "{told}");
-    }
+    let alloc = rt.alloc();
+    let missing = Some(io::Error::from_raw_os_error(2));
+    let told = "device failed\nnofile.hex: No such file or directory (os error 2)\n";
+    assert!(rt; ends_with(alloc, device("nofile.hex", missing), 3, "", told));
+    assert!(rt; ends_with(alloc, device("-", None), 3, "", "device failed\n"));
+    assert!(rt; ends_with(alloc, Ending::NoMemory, 3, "", "no memory\n"));
+    let told =
+        "error: a word of the command line isn't UTF-8\n\nFor more information, try '--help'.\n";
+    assert!(rt; ends_with(alloc, Ending::NotText, 2, "", told));
 }
 
 #[test]
 fn a_stream_that_fails_is_a_failed_device(rt: HostRuntime) -> Result<(), Fail> {
     let alloc = rt.alloc();
-    let device = Ending::Device {
-        name: "-",
-        error: None,
-    };
-    let endings = vec![in alloc;
-        ending_of(alloc, &["diacmd", "--help"])?,
-        ending_of(alloc, &["diacmd"])?,
-        Ending::NotText,
-        Ending::ReadTwice,
-        device,
-        Ending::NoMemory,
-    ]?;
-    for ending in endings.iter() {
-        let streams = Streams::failing(alloc, true, true);
-        assert_eq!(rt; ending.tell(&streams), 3);
-    }
+    assert!(rt; fails(alloc, ending_of(alloc, &["diacmd", "--help"])?));
+    assert!(rt; fails(alloc, ending_of(alloc, &["diacmd"])?));
+    assert!(rt; fails(alloc, Ending::NotText));
+    assert!(rt; fails(alloc, Ending::ReadTwice));
+    assert!(rt; fails(alloc, device("-", None)));
+    assert!(rt; fails(alloc, Ending::NoMemory));
     // Where standard error doesn't fail, it is told there.
-    let streams = Streams::failing(alloc, true, false);
-    assert_eq!(rt; ending_of(alloc, &["diacmd", "--help"])?.tell(&streams), 3);
-    assert!(rt;
-        streams
-            .err
-            .was_given("device failed\nstandard output: broken pipe\n")
-    );
+    let told = "device failed\nstandard output: broken pipe\n";
+    assert!(rt; fails_with(alloc, ending_of(alloc, &["diacmd", "--help"])?, told));
     Ok(())
 }
 
 #[test]
-fn the_status_is_that_of_the_exit_or_the_ending(rt: HostRuntime) {
-    let streams = Streams::new(rt.alloc());
+fn the_status_of_a_run_is_that_of_its_exit(rt: HostRuntime) {
+    let alloc = rt.alloc();
+    let mut out = ToWriter::new(Vec::new(alloc));
+    let mut err = ToWriter::new(Vec::new(alloc));
     for (exit, status) in [(Exit::Yes, 0), (Exit::No, 1), (Exit::Bad, 2)].iter() {
-        assert_eq!(rt; finish(&streams, Ok(*exit)), *status);
+        assert_eq!(rt; finish(alloc, Ok(*exit), &mut out, &mut err), *status);
     }
-    assert!(rt; streams.err.was_given(""));
-    assert_eq!(rt; finish(&streams, Err(Ending::NoMemory)), 3);
-    assert!(rt; streams.err.was_given("no memory\n") && streams.out.was_given(""));
+    assert!(rt; out.writer.is_empty() && err.writer.is_empty());
 }

@@ -1,7 +1,7 @@
 //! Words of the command line that ask for help or the version.
 
 use super::endings::ending_of;
-use super::printed::Streams;
+use super::printed::ends_with;
 use std::test::Fail;
 
 const HELP: &str = "A workbench for Diameter (RFC 6733) dictionaries and messages
@@ -122,11 +122,8 @@ fn what_is_asked_for_goes_to_standard_output(rt: HostRuntime) -> Result<(), Fail
         (&["diacmd", "propose", "--help"], PROPOSE_HELP),
     ];
     for (words, told) in rows.iter() {
-        let streams = Streams::new(rt.alloc());
         let ending = ending_of(rt.alloc(), words)?;
-        assert_eq!(rt; ending.tell(&streams), 0);
-        assert!(rt; streams.out.was_given(told), "{told}");
-        assert!(rt; streams.err.was_given(""));
+        assert!(rt; ends_with(rt.alloc(), ending, 0, told, ""), "{told}");
     }
     Ok(())
 }

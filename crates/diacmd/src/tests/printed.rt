@@ -1,94 +1,51 @@
-//! Streams that keep what is printed, or fail.
+//! Standard output and standard error that keep what they take, or fail.
 
+use dia_cli::{Ending, finish};
+use dia_run::ToWriter;
 use std::alloc::Global;
-use std::cell::RefCell;
-use std::fmt::Display;
 use std::io;
+use std::io::Write;
 
-/// Keeps what is printed, or fails at each print.
-#[derive(Drop)]
-pub struct Stream {
-    kept: RefCell<String>,
-    fails: bool,
-}
+/// Fails at each write.
+#[derive(Debug, Drop)]
+pub struct Broken;
 
-impl Stream {
-    fn new(alloc: Global, fails: bool) -> Stream {
-        Stream {
-            kept: RefCell::new(String::new(alloc)),
-            fails,
-        }
+impl Write for Broken {
+    fn write(&mut self, _buf: &[u8]) -> io::Result<usize> {
+        Err(io::Error::from(io::ErrorKind::BrokenPipe))
     }
 
-    /// Adds a text to what the stream was given.
-    fn add<D: Display + Drop>(&self, alloc: Global, value: D, end: &str) -> io::Result<()> {
-        if self.fails {
-            return Err(io::Error::from(io::ErrorKind::BrokenPipe));
-        }
-        let Ok(mut kept) = self.kept.try_borrow_mut() else {
-            return Err(io::Error::from(io::ErrorKind::Other));
-        };
-        let text = format!(in alloc; "{value}{end}")?;
-        kept.push_str(&text)?;
+    fn flush(&mut self) -> io::Result<()> {
         Ok(())
     }
-
-    /// Whether the stream was given this text.
-    pub fn was_given(&self, wanted: &str) -> bool {
-        match self.kept.try_borrow() {
-            Ok(kept) => kept.as_str() == wanted,
-            Err(_) => false,
-        }
-    }
 }
 
-/// Standard output and standard error.
-#[derive(Drop)]
-pub struct Streams {
+/// Whether the program ends with this status, and these texts on standard output and on standard error.
+pub fn ends_with(
     alloc: Global,
-    pub out: Stream,
-    pub err: Stream,
+    ending: Ending<'_>,
+    status: u8,
+    on_output: &str,
+    on_error: &str,
+) -> bool {
+    let mut out = ToWriter::new(Vec::new(alloc));
+    let mut err = ToWriter::new(Vec::new(alloc));
+    finish(alloc, Err(ending), &mut out, &mut err) == status
+        && out.writer.as_slice() == on_output.as_bytes()
+        && err.writer.as_slice() == on_error.as_bytes()
 }
 
-impl Streams {
-    pub fn new(alloc: Global) -> Streams {
-        Streams {
-            alloc,
-            out: Stream::new(alloc, false),
-            err: Stream::new(alloc, false),
-        }
-    }
-
-    /// Streams of which some fail at each print.
-    pub fn failing(alloc: Global, out_fails: bool, err_fails: bool) -> Streams {
-        Streams {
-            alloc,
-            out: Stream::new(alloc, out_fails),
-            err: Stream::new(alloc, err_fails),
-        }
-    }
+/// Whether the program ends with status 3 where standard output is broken, and this text on standard error.
+pub fn fails_with(alloc: Global, ending: Ending<'_>, on_error: &str) -> bool {
+    let mut out = ToWriter::new(Broken);
+    let mut err = ToWriter::new(Vec::new(alloc));
+    finish(alloc, Err(ending), &mut out, &mut err) == 3
+        && err.writer.as_slice() == on_error.as_bytes()
 }
 
-impl Print for Streams {
-    fn print<D: Display + Drop>(&self, value: D) -> io::Result<()> {
-        self.out.add(self.alloc, value, "")
-    }
-
-    fn println<D: Display + Drop>(&self, value: D) -> io::Result<()> {
-        self.out.add(self.alloc, value, "\n")
-    }
-
-    fn write_all(&self, _bytes: &[u8]) -> io::Result<()> {
-        Err(io::Error::from(io::ErrorKind::Other))
-    }
-}
-
-impl Eprint for Streams {
-    fn eprint<D: Display + Drop>(&self, value: D) -> io::Result<()> {
-        self.err.add(self.alloc, value, "")
-    }
-
-    fn eprintln<D: Display + Drop>(&self, value: D) -> io::Result<()> {
-        self.err.add(self.alloc, value, "\n")
-    }
+/// Whether the program ends with status 3 where both streams are broken.
+pub fn fails(alloc: Global, ending: Ending<'_>) -> bool {
+    let mut out = ToWriter::new(Broken);
+    let mut err = ToWriter::new(Broken);
+    finish(alloc, Err(ending), &mut out, &mut err) == 3
 }

@@ -1,7 +1,7 @@
 //! Words of the command line that are refused.
 
 use super::endings::ending_of;
-use super::printed::Streams;
+use super::printed::ends_with;
 use std::test::Fail;
 
 const NO_WORDS: &str = "error: 'diacmd' requires a subcommand but one was not provided
@@ -208,11 +208,8 @@ fn faults_of_the_words_go_to_standard_error(rt: HostRuntime) -> Result<(), Fail>
         (&["diacmd", "propose", "-", "-", "T"], READ_TWICE),
     ];
     for (words, told) in rows.iter() {
-        let streams = Streams::new(rt.alloc());
         let ending = ending_of(rt.alloc(), words)?;
-        assert_eq!(rt; ending.tell(&streams), 2, "{told}");
-        assert!(rt; streams.out.was_given(""), "{told}");
-        assert!(rt; streams.err.was_given(told), "{told}");
+        assert!(rt; ends_with(rt.alloc(), ending, 2, "", told), "{told}");
     }
     Ok(())
 }
