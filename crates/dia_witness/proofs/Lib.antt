@@ -1,0 +1,5 @@
+pub mod BytesOfNumbers
+pub mod DataOfKinds
+pub mod Found
+pub mod RangesOfNumbers
+pub mod TriedData
