@@ -1,6 +1,6 @@
 //! `check`: whether a message is valid, or its first fault.
 
-ghost use Rattle.std.specs.Prelude.{◌≡◌, ◌<◌, ◌++◌, length, codes, IfOk};
+ghost use Rattle.std.specs.Prelude.{◌≡◌, ◌≢◌, ◌<◌, ◌++◌, length, codes, Err, IfOk};
 ghost use Rattle.std.specs.Prelude.{OnOk, string_bytes, slice_get, Some};
 ghost use Rattle.dia_dict.specs.Dictionary.{PlainDefinition, definitions};
 ghost use Rattle.dia_run.specs.Outcome.{Ends, IsCheckOutcome};
@@ -33,13 +33,14 @@ pub fn check(
     Ok(outcome)
 }
 
-/// The line of an answer. A stream that is fed without refusals of memory isn't spent.
+/// The line of an answer.
 fn verdict<B: Book>(
     alloc: Global,
     book: &B,
     answer: Result<Selected, Refusal>,
 ) -> Result<Outcome, AllocError>
-    requires { IfOk answer (λ found. found.def < length (definitions (B.meaning book.now))) }
+    requires def { IfOk answer (λ found. found.def < length (definitions (B.meaning book.now))) }
+    requires live { answer ≢ Err Refusal.Spent }
     ensures { IfOk result (λ outcome. IsVerdict
         (B.meaning book.now) answer (string_bytes outcome.text) outcome.exit) }
 {
@@ -49,7 +50,7 @@ fn verdict<B: Book>(
         Err(Refusal::Truncated) => told(alloc, "truncated\n", Exit::No),
         Err(Refusal::Trailing) => told(alloc, "trailing\n", Exit::No),
         Err(Refusal::NoMemory) => Err(AllocError),
-        Err(Refusal::Spent) => Err(AllocError),
+        Err(Refusal::Spent) => unreachable!(),
     }
 }
 

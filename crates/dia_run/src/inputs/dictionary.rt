@@ -14,7 +14,7 @@ use crate::inputs::{Refused, bytes_within};
 use dia_ccf::{CcfFault, MAX_TEXT, Source, parse};
 use dia_dict::{Book, DictFault, DictKind, IndexedBook, PlainBook, resolve};
 use dia_io::Input;
-use std::alloc::{AllocError, Global};
+use std::alloc::{AllocError, AllocFailed, Global};
 
 /// The source that an input's text spells. `number` says which dictionary of the command it is, from 1.
 pub fn read_source(alloc: Global, number: u8, input: &Input) -> Result<Source, Refused>
@@ -68,7 +68,7 @@ fn indexed(alloc: Global, book: PlainBook) -> Result<Box<IndexedBook>, Refused>
     let _count = indexed.entries();
     match Box::new(alloc, indexed) {
         Ok(indexed) => Ok(indexed),
-        Err(_) => Err(Refused::NoMemory),
+        Err(AllocFailed { .. }) => Err(Refused::NoMemory),
     }
 }
 

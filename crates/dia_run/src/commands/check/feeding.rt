@@ -30,17 +30,6 @@ struct Fed<'a> {
     trailing: bool,
 }
 
-impl From<StreamFault> for Refused {
-    ghost use Rattle.std.specs.Prelude.{◌≡◌};
-    ghost use Rattle.dia_run.specs.declared.inputs.Refused.TheVariants.{NoMemory};
-
-    ghost from_gives = { λ _ refused. refused ≡ NoMemory };
-
-    fn from(_fault: StreamFault) -> Refused {
-        Refused::NoMemory
-    }
-}
-
 /// What `check` answers of the message that an input spells.
 ///
 /// It takes memory for the levels that are open, and none for the bytes.
@@ -99,7 +88,11 @@ fn feed_piece<'a, 'b, B: Book>(stream: &mut Stream<'a, B>, fed: Fed<'b>) -> Resu
 {
     let mut bytes = [0u8; MAX_PIECE];
     let piece = next_piece(fed.rest, &mut bytes)?;
-    let progress = stream.feed(&bytes[..piece.length])?;
+    let progress = match stream.feed(&bytes[..piece.length]) {
+        Ok(progress) => progress,
+        Err(StreamFault::NoMemory) => return Err(Refused::NoMemory),
+        Err(StreamFault::Spent) => unreachable!(),
+    };
     Ok(Fed {
         rest: piece.rest,
         trailing: fed.trailing || progress.taken < piece.length,

@@ -1,4 +1,6 @@
+use Rattle.std.proofs.Common.{subst}
 use Rattle.std.proofs.lemmas.Result.{err_from_is_err_and}
+use Rattle.dia_check.specs.Faults.{IsAnswer}
 use Rattle.dia_run.specs.Outcome.{IsJudged, ended}
 use Rattle.dia_run.proofs.FedTexts.{names_command}
 use Rattle.dia_run.proofs.RefusedInputs.{Ends-no_dictionary, Ends-no_message}
@@ -14,10 +16,15 @@ returns-in_err-answer c =
     let p = err_from_is_err_and c.from_residual-in_err-answer.result c.from_residual-in_err-answer.ensures.1 in
     rw (p.1, p.2) (Ends-no_message (IsJudged c.args.unknown c.args.levels) c.args.inputs.now _ _ c.in_ok-book.ensures.book c.in_err-answer.ensures.told)
 
-pub verdict-requires : goal.verdict-requires
-verdict-requires c =
+pub verdict-requires-clause-def : goal.verdict-requires-clause-def
+verdict-requires-clause-def c =
     let (bytes, text, answer) = rw c.deref.ensures at c.in_ok-answer.ensures.answer in
     rw (c.deref-2.ensures) (names_command _ c.args.unknown c.args.levels bytes _ answer)
+
+pub verdict-requires-clause-live : goal.verdict-requires-clause-live
+verdict-requires-clause-live c spent =
+    let (bytes, text, answer) = c.in_ok-answer.ensures.answer in
+    subst (IsAnswer _ c.args.unknown c.args.levels bytes) spent answer
 
 pub returns : goal.returns
 returns c =

@@ -8,13 +8,13 @@ use Rattle.dia_run.proofs.commands.check.feeding.feed_piece.Goals.{then-fed, els
 
 pub returns-clause-fed : goal.returns-clause-fed
 returns-clause-fed g c =
-    let progress = c.in_ok-progress.progress in
+    let progress = c.in-Ok.progress in
     let piece = take c.in_ok-piece.piece.length c.next_piece.new.bytes in
     let size : length piece ≡ c.in_ok-piece.piece.length = length-take-le c.in_ok-piece.piece.length c.next_piece.new.bytes (omega (arith, c.next_piece.array_long, c.in_ok-piece.ensures.within)) in (
       piece,
       c.in_ok-piece.ensures.spells,
       λ d u most bytes was.
-          let (takes, stands) = c.in_ok-progress.ensures.taken d u most (taken_of bytes) was.stands in record {
+          let (takes, stands) = c.in-Ok.ensures.taken d u most (taken_of bytes) was.stands in record {
             stands = subst (StandsFor g.B.Book.meaning c.feed.new.self d u most) (takes_more bytes piece progress takes) stands;
             follow = elim c.if-fed.branch [
               | then-fed w ↦ follows_again bytes piece progress c.if-fed.result takes (was.follow.0 w.if-fed.true) (w.result-is ∙ w.if-fed.true)
