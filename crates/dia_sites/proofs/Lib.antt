@@ -1,0 +1,5 @@
+pub mod Members
+pub mod SafeLevels
+pub mod SafeMessages
+pub mod SentIsValid
+pub mod Selected

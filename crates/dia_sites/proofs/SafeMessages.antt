@@ -1,0 +1,131 @@
+-- Where B selects definitions at safe sites, each message that is sent is valid under B.
+use Rattle.std.proofs.Common.{◌≡◌, ℕ, suc, ◌+◌, ◌*◌, ◌%◌, ◌<◌, ◌≤◌, ◌^◌, List, [], ◌∷◌, ◌++◌, length, map, Some, refl, sym, ap, subst, ◌∙◌, arith}
+use Rattle.std.specs.Prelude.{slice_get}
+use Rattle.std.specs.List.{AllByRecursion}
+use Rattle.std.proofs.lemmas.List.{length-append}
+use Rattle.std.proofs.lemmas.Option.{same_Some}
+use Rattle.dia_wire.specs.declared.Header.{Header}
+use Rattle.dia_wire.specs.Lengths.{three_bytes}
+use Rattle.dia_wire.specs.Number.{number, IsField}
+use Rattle.dia_wire.specs.Wire.{PlainAvp, key_of, SpellsAll, IsHead, IsMessage}
+use Rattle.dia_dict.specs.Dictionary.{Dictionary, PlainDefinition, definitions}
+use Rattle.dia_policy.specs.declared.Unknown.{Unknown}
+use Rattle.dia_policy.specs.declared.Levels.TheVariants as levels
+use Rattle.dia_check.specs.Valid.{class_of, AllowsP, Placed, IsValidOf, IsValid}
+use Rattle.dia_sites.specs.declared.sends.Sends.{Sends}
+use Rattle.dia_sites.specs.Sent.{StandAsSent, AreBytes, IsSent}
+use Rattle.dia_sites.specs.Sites.{Site, IsLevelOf, AreSafe}
+use Rattle.dia_sites.specs.Selection.{max_body, IsMet, AreMet, AreValid}
+use Rattle.dia_sites.proofs.Members.{all_parts}
+use Rattle.dia_sites.proofs.SafeLevels.{levels_of_b}
+
+-- ---- fields
+
+below_three_bytes : (a : List ℕ) → length a ≡ 3 → AreBytes a → number a < three_bytes
+below_three_bytes [] e h = absurd (omega (arith, e))
+below_three_bytes (x ∷ []) e h = absurd (omega (arith, e))
+below_three_bytes (x ∷ y ∷ []) e h = absurd (omega (arith, e))
+below_three_bytes (x ∷ y ∷ z ∷ []) e h = let less : x * 65536 + (y * 256 + (z * 1 + 0)) < 16777216 = omega (arith, h.0, h.1.0, h.1.1.0) in less
+below_three_bytes (x ∷ y ∷ z ∷ w ∷ more) e h = absurd (let f : suc (suc (suc (suc (length more)))) ≡ 3 = e in omega (arith, f))
+
+below_four_bytes : (a : List ℕ) → length a ≡ 4 → AreBytes a → number a < 2 ^ 32
+below_four_bytes [] e h = absurd (omega (arith, e))
+below_four_bytes (x ∷ []) e h = absurd (omega (arith, e))
+below_four_bytes (x ∷ y ∷ []) e h = absurd (omega (arith, e))
+below_four_bytes (x ∷ y ∷ z ∷ []) e h = absurd (omega (arith, e))
+below_four_bytes (x ∷ y ∷ z ∷ w ∷ []) e h =
+    let less : x * 16777216 + (y * 65536 + (z * 256 + (w * 1 + 0))) < 4294967296 = omega (arith, h.0, h.1.0, h.1.1.0, h.1.1.1.0) in less
+below_four_bytes (x ∷ y ∷ z ∷ w ∷ v ∷ more) e h = absurd (let f : suc (suc (suc (suc (suc (length more))))) ≡ 4 = e in omega (arith, f))
+
+field_three : (x : ℕ) (a : List ℕ) → IsField 3 x a → AreBytes a → x < three_bytes
+field_three x a f h = subst (λ (n : ℕ). n < three_bytes) f.value (below_three_bytes a f.width h)
+
+field_four : (x : ℕ) (a : List ℕ) → IsField 4 x a → AreBytes a → x < 2 ^ 32
+field_four x a f h = subst (λ (n : ℕ). n < 2 ^ 32) f.value (below_four_bytes a f.width h)
+
+abbrev IsByte : ℕ → Type 0
+IsByte byte = byte < 256
+
+-- what the bytes of a header say of its numbers
+record Numbers (h : Header) (n : ℕ) (b : List ℕ) : Type 0 where
+  size : length b ≡ 20
+  len : n < three_bytes
+  code : h.code < three_bytes
+  app : h.app < 2 ^ 32
+
+numbers : (h : Header) (n : ℕ) (b : List ℕ) → IsHead h n b → AreBytes b → Numbers h n b
+numbers h n b s are =
+    let all = subst AreBytes s.parts are in
+    let fourth = all_parts IsByte ((1 ∷ s.len) ++ (h.flags ∷ s.code) ++ s.app ++ s.hop) s.e2e all in
+    let third = all_parts IsByte ((1 ∷ s.len) ++ (h.flags ∷ s.code) ++ s.app) s.hop fourth.0 in
+    let second = all_parts IsByte ((1 ∷ s.len) ++ (h.flags ∷ s.code)) s.app third.0 in
+    let first = all_parts IsByte (1 ∷ s.len) (h.flags ∷ s.code) second.0 in
+    let a = length-append ((1 ∷ s.len) ++ (h.flags ∷ s.code) ++ s.app ++ s.hop) s.e2e in
+    let c = length-append ((1 ∷ s.len) ++ (h.flags ∷ s.code) ++ s.app) s.hop in
+    let d = length-append ((1 ∷ s.len) ++ (h.flags ∷ s.code)) s.app in
+    let e = length-append (1 ∷ s.len) (h.flags ∷ s.code) in
+    record {
+      size = ap length s.parts ∙ omega (arith, a, c, d, e, s.length_field.width, s.code_field.width, s.app_field.width, s.hop_field.width, s.e2e_field.width);
+      len = field_three n s.len s.length_field first.0.1;
+      code = field_three h.code s.code s.code_field first.1.1;
+      app = field_four h.app s.app s.app_field second.1;
+    }
+
+-- ---- the body
+
+aligned : (vs : List PlainAvp) (b : List ℕ) → SpellsAll vs b → length b % 4 ≡ 0
+aligned [] b h = ap (λ (x : List ℕ). length x % 4) h
+aligned (v ∷ vs) b (front, rest, s, p, all) =
+    let e : length b ≡ length front + length rest = ap length p ∙ length-append front rest in
+    omega (arith, e, s.aligned, aligned vs rest all)
+
+-- the bytes of a message are those of its header and of its body
+message_bytes : (h : Header) (vs : List PlainAvp) (b : List ℕ) (m : IsMessage h vs b) → AreBytes b → AreBytes m.head × AreBytes m.body
+message_bytes h vs b m are = all_parts IsByte m.head m.body (subst AreBytes m.parts are)
+
+body_fits : (h : Header) (vs : List PlainAvp) (b : List ℕ) (m : IsMessage h vs b) → AreBytes b → length m.body ≤ max_body
+body_fits h vs b m are =
+    let n = numbers h (length b) m.head m.is_head (message_bytes h vs b m are).0 in
+    let whole : length b ≡ 20 + length m.body = ap length m.parts ∙ length-append m.head m.body ∙ ap (λ (k : ℕ). k + length m.body) n.size in
+    let less : length b < 16777216 = n.len in
+    let e = aligned vs m.body m.is_body in
+    omega (arith, whole, less, e)
+
+-- ---- messages
+
+module _ (da db : Dictionary) (who : Sends) (u : Unknown) (sites : List Site) (safe : AreSafe da db who u sites) where
+  valid_of : (bytes : List ℕ) (c : ℕ) (s : IsSent da who bytes c) → IsMet db sites s.command s.header.code (class_of s.header.flags) s.header.app → IsValid db u levels.Any bytes
+  valid_of bytes c s m =
+      let site = m.site.0 in
+      let room : length s.message.body ≤ site.room = omega (arith, body_fits s.header s.avps bytes s.message s.are_bytes, m.site.4) in
+      let level : IsLevelOf da who site.a.rules site.room s.avps = record {
+        bytes = s.message.body;
+        are_bytes = (message_bytes s.header s.avps bytes s.message s.are_bytes).1;
+        spelled = s.message.is_body;
+        has_room = room;
+        stand = subst (λ (x : PlainDefinition). StandAsSent who x.rules (map key_of s.avps)) (sym m.site.2) s.stand;
+        sent = s.sent;
+      } in
+      let r = levels_of_b da db who u sites safe site s.avps m.site.1 level in (
+        m.number,
+        record {
+          header = s.header;
+          avps = s.avps;
+          command = m.other;
+          message = s.message;
+          no_error_request = s.no_error_request;
+          no_repeated_answer = s.no_repeated_answer;
+          select = m.select;
+          is_command = m.is_other;
+          proxiable = m.proxiable s.header.flags s.proxiable;
+          placed = subst (λ (x : PlainDefinition). Placed x.rules (map key_of s.avps)) m.site.3 r.0;
+          fit = r.1;
+        },
+      )
+
+  pub valid : (c : ℕ) (command : PlainDefinition) → slice_get (definitions da) c ≡ Some command → AreMet da db sites c command → AreValid da db who u c
+  valid c command at met bytes s =
+      let n = numbers s.header (length bytes) s.message.head s.message.is_head (message_bytes s.header s.avps bytes s.message s.are_bytes).0 in
+      let same : s.command ≡ command = same_Some s.command command (sym s.is_command ∙ at) in
+      let m = met s.header.code (class_of s.header.flags) s.header.app n.code n.app s.select in
+      valid_of bytes c s (subst (λ (x : PlainDefinition). IsMet db sites x s.header.code (class_of s.header.flags) s.header.app) (sym same) m)

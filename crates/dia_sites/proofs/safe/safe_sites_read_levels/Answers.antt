@@ -1,0 +1,5 @@
+use Rattle.dia_sites.proofs.SafeLevels.{levels_of_b}
+use Rattle.dia_sites.proofs.safe.safe_sites_read_levels.Goals as goal
+
+pub returns : goal.returns
+returns c = λ da db who u sites safe. levels_of_b da db who u sites safe

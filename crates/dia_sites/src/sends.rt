@@ -1,0 +1,10 @@
+/// Which messages a sender that goes by its dictionary sends.
+#[derive(Clone, Copy, Debug, PartialEq, Eq)]
+pub enum Sends {
+    /// Also AVPs that the dictionary doesn't know, with M clear, wherever a wildcard lets them in.
+    Any,
+    /// Only AVPs that the dictionary knows.
+    Known,
+    /// Only AVPs that a rule of their level names, at every depth.
+    Listed,
+}
