@@ -1,5 +1,5 @@
 -- What is found for two formats, from what is found for their kinds.
-use Rattle.std.proofs.Common.{◌≡◌, ℕ, ◌<◌, ◌≤◌, ◌^◌, List, length, Option, Some, None, refl, sym, ap, subst, ◌∙◌, arith}
+use Rattle.std.proofs.Common.{◌≡◌, ℕ, ◌<◌, List, Option, Some, None, refl, sym, subst}
 use Rattle.std.specs.Prelude.{Any, IfSome}
 use Rattle.std.specs.Option.{option_map}
 use Rattle.dia_data.specs.Number.{number}
@@ -33,7 +33,8 @@ none_missing ranges each = λ bytes are h. (h, each (number bytes) (small_number
 
 -- ---- two formats
 
-pub some_found : (f g : PlainFormat) (k l : Kind) (found : Option Witness) → IsKindOf k f → IsKindOf l g → IsAnswer k l (option_map witness_bytes found) → IfSome found (λ w. IsShortest f g (witness_bytes w))
+pub some_found : (f g : PlainFormat) (k l : Kind) (found : Option Witness) → IsKindOf k f → IsKindOf l g → IsAnswer k l (option_map witness_bytes found)
+    → IfSome found (λ w. IsShortest f g (witness_bytes w))
 some_found f g k l None is is' answer = tt
 some_found f g k l (Some w) is is' answer = record {
   are_bytes = answer.are_bytes;
@@ -58,7 +59,8 @@ shortest_leaf f (Some w) s = record {
 
 -- ---- what is said by the kinds of Rust values
 
-pub missing_none : (k : Kind) (ranges : List (ℕ × ℕ)) (found : Option Witness) → k ≡ Listed ranges → found ≡ None → ((n : ℕ) → n < 4294967296 → Any (IsWithin n) ranges) → IsAnswer Four k (option_map witness_bytes found)
+pub missing_none : (k : Kind) (ranges : List (ℕ × ℕ)) (found : Option Witness) → k ≡ Listed ranges → found ≡ None → ((n : ℕ) → n < 4294967296 → Any (IsWithin n) ranges)
+    → IsAnswer Four k (option_map witness_bytes found)
 missing_none k ranges found is none each =
     subst (λ (o : Option Witness). IsAnswer Four k (option_map witness_bytes o)) (sym none) (subst (λ (l : Kind). IsAnswer Four l None) (sym is) (none_missing ranges each))
 
@@ -66,30 +68,36 @@ pub missing_some : (k : Kind) (ranges : List (ℕ × ℕ)) (n : ℕ) (bytes : Li
 missing_some k ranges n bytes is spelled small none =
     subst (λ (b : List ℕ). IsAnswer Four k (Some b)) (sym spelled) (subst (λ (l : Kind). IsAnswer Four l (Some (four_bytes n))) (sym is) (number_missing ranges n small none))
 
-pub listed_none : (k : Kind) (ranges : List (ℕ × ℕ)) (found : Option Witness) → found ≡ None → ((n : ℕ) → Any (IsWithin n) ranges → IsOf k (four_bytes n)) → IsAnswer (Listed ranges) k (option_map witness_bytes found)
+pub listed_none : (k : Kind) (ranges : List (ℕ × ℕ)) (found : Option Witness) → found ≡ None → ((n : ℕ) → Any (IsWithin n) ranges → IsOf k (four_bytes n))
+    → IsAnswer (Listed ranges) k (option_map witness_bytes found)
 listed_none k ranges found none each =
     subst (λ (o : Option Witness). IsAnswer (Listed ranges) k (option_map witness_bytes o)) (sym none) (no_number_of_list ranges k each)
 
-pub listed_some : (k : Kind) (ranges : List (ℕ × ℕ)) (n : ℕ) (bytes : List ℕ) → bytes ≡ four_bytes n → n < 4294967296 → Any (IsWithin n) ranges → ¬ IsOf k (four_bytes n) → IsAnswer (Listed ranges) k (Some bytes)
+pub listed_some : (k : Kind) (ranges : List (ℕ × ℕ)) (n : ℕ) (bytes : List ℕ) → bytes ≡ four_bytes n → n < 4294967296 → Any (IsWithin n) ranges → ¬ IsOf k (four_bytes n)
+    → IsAnswer (Listed ranges) k (Some bytes)
 listed_some k ranges n bytes spelled small any refused =
     subst (λ (b : List ℕ). IsAnswer (Listed ranges) k (Some b)) (sym spelled) (number_of_list ranges k n small any refused)
 
 -- ---- the numbers of one range
 
-pub host_some : (k : Kind) (low high : ℕ) (found : Option ℕ) → k ≡ Host → IfSome found (λ n. IsWithin n (low, high) × IsWithin n (65536, 196607)) → IfSome found (λ n. IsWithin n (low, high) × (¬ IsOf k (four_bytes n)))
+pub host_some : (k : Kind) (low high : ℕ) (found : Option ℕ) → k ≡ Host → IfSome found (λ n. IsWithin n (low, high) × IsWithin n (65536, 196607))
+    → IfSome found (λ n. IsWithin n (low, high) × (¬ IsOf k (four_bytes n)))
 host_some k low high None is h = tt
 host_some k low high (Some n) is h = (h.0, λ address. short_family n h.1 (subst (λ (l : Kind). IsOf l (four_bytes n)) is address))
 
 pub host_none : (k : Kind) (low high : ℕ) → k ≡ Host → ((n : ℕ) → IsWithin n (low, high) → ¬ IsWithin n (65536, 196607)) → (n : ℕ) → IsWithin n (low, high) → IsOf k (four_bytes n)
 host_none k low high is none n w = subst (λ (l : Kind). IsOf l (four_bytes n)) (sym is) (host_four n (none n w))
 
-pub list_some : (k : Kind) (ranges : List (ℕ × ℕ)) (low high : ℕ) (found : Option ℕ) → k ≡ Listed ranges → IfSome found (λ n. IsWithin n (low, high) × (¬ Any (IsWithin n) ranges)) → IfSome found (λ n. IsWithin n (low, high) × (¬ IsOf k (four_bytes n)))
+pub list_some : (k : Kind) (ranges : List (ℕ × ℕ)) (low high : ℕ) (found : Option ℕ) → k ≡ Listed ranges → IfSome found (λ n. IsWithin n (low, high) × (¬ Any (IsWithin n) ranges))
+    → IfSome found (λ n. IsWithin n (low, high) × (¬ IsOf k (four_bytes n)))
 list_some k ranges low high None is h = tt
 list_some k ranges low high (Some n) is h = (h.0, λ listed. h.1 (four_listed ranges n (subst (λ (l : Kind). IsOf l (four_bytes n)) is listed)))
 
-pub list_none : (k : Kind) (ranges : List (ℕ × ℕ)) (low high : ℕ) → k ≡ Listed ranges → ((n : ℕ) → IsWithin n (low, high) → Any (IsWithin n) ranges) → (n : ℕ) → IsWithin n (low, high) → IsOf k (four_bytes n)
+pub list_none : (k : Kind) (ranges : List (ℕ × ℕ)) (low high : ℕ) → k ≡ Listed ranges → ((n : ℕ) → IsWithin n (low, high) → Any (IsWithin n) ranges) → (n : ℕ) → IsWithin n (low, high)
+    → IsOf k (four_bytes n)
 list_none k ranges low high is each n w = subst (λ (l : Kind). IsOf l (four_bytes n)) (sym is) (listed_four ranges n (each n w))
 
-pub other_some : (k : Kind) (f : PlainFormat) (low high : ℕ) (found : Option ℕ) → IsKindOf k f → IfSome found (λ n. IsWithin n (low, high) × (¬ IsLeaf f (four_bytes n))) → IfSome found (λ n. IsWithin n (low, high) × (¬ IsOf k (four_bytes n)))
+pub other_some : (k : Kind) (f : PlainFormat) (low high : ℕ) (found : Option ℕ) → IsKindOf k f → IfSome found (λ n. IsWithin n (low, high) × (¬ IsLeaf f (four_bytes n)))
+    → IfSome found (λ n. IsWithin n (low, high) × (¬ IsOf k (four_bytes n)))
 other_some k f low high None is h = tt
 other_some k f low high (Some n) is h = (h.0, λ of_kind. h.1 ((is (four_bytes n)).1 of_kind))

@@ -1,10 +1,10 @@
 -- Numbers that ranges hold, and numbers that they don't.
-use Rattle.std.proofs.Common.{◌≡◌, ℕ, zero, suc, ◌+◌, ◌<◌, ◌≤◌, List, [], ◌∷◌, length, get_or, Option, Some, None, refl, sym, ap, ◌∙◌, subst, inl, inr, ◌⊎◌, arith}
+use Rattle.std.proofs.Common.{◌≡◌, ℕ, ◌+◌, ◌<◌, List, [], ◌∷◌, length, get_or, Option, Some, None, sym, ap, ◌∙◌, subst, inl, inr, arith}
 use Rattle.std.specs.Prelude.{Any, IfSome, slice_get}
 use Rattle.std.specs.Option.{SomeIff}
 use Rattle.std.proofs.lemmas.Bool.{cases_lt, cases_order}
 use Rattle.std.proofs.lemmas.List.{get_or_default}
-use Rattle.dia_data.specs.Leaf.{IsLeaf, IsWithin}
+use Rattle.dia_data.specs.Leaf.{IsWithin}
 use Rattle.dia_data.specs.Number.{number}
 use Rattle.dia_data.specs.Plain.{Enumerated}
 use Rattle.dia_data.specs.Ranges.{AreApart, IsSetOf}

@@ -10,12 +10,13 @@ use Rattle.dia_witness.specs.Shortest.{AreBytes, witness_bytes}
 use Rattle.dia_witness.specs.declared.short_data.Witness.{Witness}
 use Rattle.dia_witness.specs.declared.kinds.Kind.{Kind as RustKind}
 use Rattle.dia_witness.specs.declared.kinds.Kind.TheVariants as kinds
-use Rattle.dia_witness.specs.Kinds.{shown, Kind, Octets, Four, Eight, Level, Host, Text, Identity, Link, Listed, IsAnswer, IsFirstRefused, IsKindOf, IsOf, IsShortestOf, four_bytes}
+use Rattle.dia_witness.specs.Kinds.{shown, Kind, Octets, Four, Eight, Level, Host, Text, Identity, Link, Listed, IsAnswer, IsFirstRefused, IsKindOf, IsOf, four_bytes}
 use Rattle.dia_witness.proofs.DataOfKinds.{IsEasy, answers, Answer, of_kinds, floor, shortest_of, from_test, host_zero, no_family, identity_a, link_a}
 
 -- ---- the first of a list, by its places
 
-pub refused_at : (f : PlainFormat) (cs : List (List ℕ)) (k : ℕ) → k < length cs → ((j : ℕ) → j < k → IsLeaf f (get_or cs j [])) → ¬ IsLeaf f (get_or cs k []) → IsFirstRefused f cs (Some (get_or cs k []))
+pub refused_at : (f : PlainFormat) (cs : List (List ℕ)) (k : ℕ) → k < length cs → ((j : ℕ) → j < k → IsLeaf f (get_or cs j [])) → ¬ IsLeaf f (get_or cs k [])
+    → IsFirstRefused f cs (Some (get_or cs k []))
 refused_at f [] k lt before n = absurd (omega (arith, lt))
 refused_at f (c ∷ cs) zero lt before n = inl (n, refl)
 refused_at f (c ∷ cs) (suc k) lt before n = inr (before 0 (omega arith), refused_at f cs k (omega (arith, lt)) (λ j less. before (suc j) (omega (arith, less))) n)
@@ -94,7 +95,8 @@ abbrev AreFit : Kind → List (List ℕ) → Type 0
 AreFit f [] = ⊤
 AreFit f (c ∷ cs) = (AreBytes c × IsOf f c × (length c ≡ floor f)) × AreFit f cs
 
-first_of : (f g : Kind) (format : PlainFormat) (cs : List (List ℕ)) (found : Option (List ℕ)) → IsKindOf g format → AreFit f cs → (AreOf g cs → IsAnswer f g None) → IsFirstRefused format cs found → IsAnswer f g found
+first_of : (f g : Kind) (format : PlainFormat) (cs : List (List ℕ)) (found : Option (List ℕ)) → IsKindOf g format → AreFit f cs → (AreOf g cs → IsAnswer f g None) → IsFirstRefused format cs found
+    → IsAnswer f g found
 first_of f g format [] found is fit none e = subst (IsAnswer f g) (sym e) (none tt)
 first_of f g format (c ∷ cs) found is fit none (inl h) = subst (IsAnswer f g) (sym h.1) (shortest_of f g c fit.0.0 fit.0.1 (λ k. h.0 ((is c).1 k)) fit.0.2)
 first_of f g format (c ∷ cs) found is fit none (inr h) = first_of f g format cs found is fit.1 (λ all. none ((is c).0 h.0, all)) h.1
@@ -157,7 +159,8 @@ pub three : (a b c x y z : List ℕ) → a ≡ x → b ≡ y → c ≡ z → a �
 three a b c x y z e f g = ap (λ (v : List ℕ). v ∷ b ∷ c ∷ []) e ∙ ap (λ (v : List ℕ). x ∷ v ∷ c ∷ []) f ∙ ap (λ (v : List ℕ). x ∷ y ∷ v ∷ []) g
 
 -- the data that were tried are those of the kind
-pub tried : (f g k : Kind) (format : PlainFormat) (cs : List (List ℕ)) (found : Option (List ℕ)) → k ≡ f → IsEasy f g → IsKindOf g format → cs ≡ candidates f → IsFirstRefused format cs found → IsAnswer k g found
+pub tried : (f g k : Kind) (format : PlainFormat) (cs : List (List ℕ)) (found : Option (List ℕ)) → k ≡ f → IsEasy f g → IsKindOf g format → cs ≡ candidates f → IsFirstRefused format cs found
+    → IsAnswer k g found
 tried f g k format cs found kind p is e h =
     subst (λ (l : Kind). IsAnswer l g found) (sym kind) (first_answer f g format found p is (subst (λ (ds : List (List ℕ)). IsFirstRefused format ds found) e h))
 

@@ -1,5 +1,5 @@
 -- The formats by what data they accept.
-use Rattle.std.specs.Prelude.{◌≡◌, ℕ, ◌<◌, ◌≤◌, ◌↔◌, ◌⊎◌, ◌/◌, ◌%◌, List, [], ◌∷◌, length, Option, Some, None, Any, ⊤}
+use Rattle.std.specs.Prelude.{◌≡◌, ℕ, ◌≤◌, ◌↔◌, ◌⊎◌, ◌/◌, ◌%◌, List, [], ◌∷◌, length, Option, Some, None, Any, ⊤}
 use Rattle.std.specs.Str.{IsUtf8}
 use Rattle.dia_data.specs.Number.{number}
 use Rattle.dia_data.specs.Ranges.{AreApart}

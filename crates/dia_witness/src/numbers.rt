@@ -1,9 +1,9 @@
 //! Numbers that some ranges hold and a format doesn't accept.
-ghost use Rattle.std.specs.Prelude.{◌≡◌, ◌<◌, ◌≤◌, ◌^◌, Any, IfSome, ℕ, length, slice_index_or};
+ghost use Rattle.std.specs.Prelude.{◌≡◌, ◌<◌, ◌≤◌, ◌^◌, Any, IfSome, ℕ};
 ghost use Rattle.dia_data.specs.Leaf.{IsLeaf, IsWithin};
 ghost use Rattle.dia_data.specs.Plain.{plain_format};
 ghost use Rattle.dia_data.specs.Ranges.{AreApart};
-ghost use Rattle.dia_witness.specs.Kinds.{IsApart, IsKindOf, IsOf, Listed, four_bytes, shown};
+ghost use Rattle.dia_witness.specs.Kinds.{IsApart, IsKindOf, IsOf, four_bytes, shown};
 
 use crate::candidates::is_leaf;
 use crate::kinds::Kind;

@@ -14,5 +14,6 @@ returns-in_err-number-in-Listed c =
 pub returns-in_default : goal.returns-in_default
 returns-in_default c =
     let a = witness_bytes c.new.result in let b = witness_bytes c.new-in_default.result in let d = witness_bytes c.new-in_default-2.result in
-    tried Four (shown c.args.kind) Four (plain_format c.args.format.now) (a ∷ b ∷ d ∷ []) (option_map witness_bytes c.first_refused.result) refl (easy_four c.args.kind c.in_default.not-Listed) c.requires.kind
+    tried Four (shown c.args.kind) Four (plain_format c.args.format.now) (a ∷ b ∷ d ∷ []) (option_map witness_bytes c.first_refused.result) refl (easy_four c.args.kind c.in_default.not-Listed)
+    c.requires.kind
     (three a b d _ _ _ c.new.ensures c.new-in_default.ensures c.new-in_default-2.ensures) c.first_refused.ensures

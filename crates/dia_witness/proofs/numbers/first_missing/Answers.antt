@@ -1,6 +1,4 @@
-use Rattle.std.proofs.Common.{◌≡◌, ◌+◌, ◌<◌, ℕ, get_or, ap, sym, subst, arith}
-use Rattle.std.specs.Prelude.{Any, Option, Some, None, IfSome}
-use Rattle.dia_data.specs.Leaf.{IsWithin}
+use Rattle.std.proofs.Common.{◌+◌, ◌<◌, ℕ, ap, arith}
 use Rattle.dia_witness.proofs.RangesOfNumbers.{before_first, behind_first, first_is}
 use Rattle.dia_witness.proofs.numbers.first_missing.Goals as goal
 

@@ -14,10 +14,12 @@ returns-then-not-is_leaf-clause-some c =
 pub loop-number-preserved : goal.loop-number-preserved
 loop-number-preserved c = record {
   from = omega (arith, c.loop-number.invariant.from);
-  accepted = one_more (plain_format c.args.format.now) c.args.low c.loop-number.number c.as_slice.result.now c.is_leaf.result (c.as_slice.ensures ∙ c.of_number.ensures) c.is_leaf.ensures c.if-not-is_leaf.false c.loop-number.invariant.accepted;
+  accepted = one_more (plain_format c.args.format.now) c.args.low c.loop-number.number c.as_slice.result.now c.is_leaf.result (c.as_slice.ensures ∙ c.of_number.ensures) c.is_leaf.ensures
+      c.if-not-is_leaf.false c.loop-number.invariant.accepted;
 }
 
 pub returns-else-not-is_leaf-clause-none : goal.returns-else-not-is_leaf-clause-none
 returns-else-not-is_leaf-clause-none c = λ e n w.
-    one_more (plain_format c.args.format.now) c.args.low c.loop-number.number c.as_slice.result.now c.is_leaf.result (c.as_slice.ensures ∙ c.of_number.ensures) c.is_leaf.ensures c.if-not-is_leaf.false c.loop-number.invariant.accepted
+    one_more (plain_format c.args.format.now) c.args.low c.loop-number.number c.as_slice.result.now c.is_leaf.result (c.as_slice.ensures ∙ c.of_number.ensures) c.is_leaf.ensures
+    c.if-not-is_leaf.false c.loop-number.invariant.accepted
     n w.0 (omega (arith, w.1))
