@@ -73,15 +73,17 @@ fn indexed(alloc: Global, book: PlainBook) -> Result<Box<IndexedBook>, Refused>
 }
 
 fn tell(number: u8, why: BadDictionary) -> Refused
-    ensures { TellsOf (λ told. told ≡ dictionary_line number (bad_dictionary_text why)) result }
+    ensures told { TellsOf (λ told. told ≡ dictionary_line number (bad_dictionary_text why)) result }
+    ensures bad { result ≢ Refused.NoMemory }
 {
     Refused::Bad(BadInput::Dictionary { number, why })
 }
 
 /// The refusal of a text with this fault, or out of memory.
 fn tell_fault(number: u8, fault: CcfFault) -> Refused
-    ensures { TellsOf (λ told. (fault ≢ CcfFault.NoMemory)
+    ensures told { TellsOf (λ told. (fault ≢ CcfFault.NoMemory)
         × (told ≡ dictionary_line number (fault_text fault))) result }
+    ensures memory { result ≡ Refused.NoMemory → fault ≡ CcfFault.NoMemory }
 {
     match fault {
         CcfFault::Syntax { line, .. } => tell(number, BadDictionary::Syntax { line }),

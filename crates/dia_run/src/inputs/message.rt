@@ -19,6 +19,7 @@ use std::alloc::{AllocError, Global};
 pub fn message_text(input: &Input) -> Result<&[u8], Refused>
     ensures text { IfOk result (λ text. Holds input.entry.now max_message_text text.now) }
     ensures told { IfErr result (TellsOf (IsNoMessageText input.entry.now)) }
+    ensures bad { IfErr result (λ refused. refused ≢ Refused.NoMemory) }
 {
     let Some(text) = bytes_within(input, MAX_MESSAGE_TEXT) else {
         return Err(Refused::from(BadMessage::TooLong));

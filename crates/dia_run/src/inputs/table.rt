@@ -29,15 +29,17 @@ pub fn read_table(alloc: Global, input: &Input) -> Result<Table, Refused>
 }
 
 fn tell(why: BadTable) -> Refused
-    ensures { TellsOf (λ told. told ≡ table_line (bad_table_text why)) result }
+    ensures told { TellsOf (λ told. told ≡ table_line (bad_table_text why)) result }
+    ensures bad { result ≢ Refused.NoMemory }
 {
     Refused::Bad(BadInput::Table(why))
 }
 
 /// The refusal of a text with this fault, or out of memory.
 fn tell_fault(fault: TableFault) -> Refused
-    ensures { TellsOf (λ told. (fault ≢ TableFault.NoMemory)
+    ensures told { TellsOf (λ told. (fault ≢ TableFault.NoMemory)
         × (told ≡ table_line (table_fault_text fault))) result }
+    ensures memory { result ≡ Refused.NoMemory → fault ≡ TableFault.NoMemory }
 {
     match fault {
         TableFault::Syntax { line } => tell(BadTable::Syntax { line }),

@@ -19,4 +19,4 @@ returns-in_ok-why-in-Err-Stands-clause-told c =
     let is_wrong = wrong c.in-Err-Stands.kind (string_bytes c.in-Err-Stands.name) (string_bytes c.in-Err-Stands.slot) in
     let why = rw (c.as_str.ensures.value, c.as_str-in-Err-Stands.ensures.value) at c.in_ok-why-in-Err-Stands.ensures in
     told_why (IsNoDictionaryText c.args.input.now) c.args.number (bad_dictionary_text c.in_ok-why-in-Err-Stands.why) _
-    (inr (plain_source c.in_ok-source.source, is_wrong, c.in_ok-source.ensures.source, is_first, why)) c.tell.ensures
+    (inr (plain_source c.in_ok-source.source, is_wrong, c.in_ok-source.ensures.source, is_first, why)) c.tell.ensures.told
