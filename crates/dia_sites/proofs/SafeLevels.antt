@@ -1,6 +1,6 @@
 -- At safe sites each level that can be sent is a level of B's.
 use Rattle.std.proofs.Common.{◌≡◌, ℕ, zero, suc, ◌+◌, ◌<◌, ◌≤◌, List, [], ◌∷◌, ◌++◌, length, map, Option, Some, None, refl, sym, ap, subst, ◌∙◌, arith, inl, inr}
-use Rattle.std.specs.Prelude.{◌⊎◌, IsSome, is_some, MatchOption, Contains, option_and_then, true, false}
+use Rattle.std.specs.Prelude.{◌⊎◌, IsSome, MatchOption, Contains, option_and_then, true, false}
 use Rattle.std.specs.List.{AllByRecursion}
 use Rattle.std.proofs.lemmas.Option.{none-some}
 use Rattle.dia_wire.specs.Wire.{PlainAvp, key_of, Spells, SpellsAll}
@@ -12,7 +12,7 @@ use Rattle.dia_check.specs.Valid.{known, MHolds, IsAccepted, FitsBy, IsLevel, Fi
 use Rattle.dia_check.specs.Walks.{group_at}
 use Rattle.dia_sites.specs.declared.sends.Sends.{Sends}
 use Rattle.dia_sites.specs.Sent.{own_policy, StandAsSent, IsSentLevel, IsSentWithin, AreBytes}
-use Rattle.dia_sites.specs.Sites.{Site, IsLevelOf, FitsAlone, HasSite, IsSafeSite, AreSafe, AreLevelsOfB}
+use Rattle.dia_sites.specs.Sites.{Site, IsLevelOf, FitsAlone, HasSite, AreSafe, AreLevelsOfB}
 use Rattle.dia_sites.proofs.Members.{IsIn, contains_in, in_all, all_map, all_parts}
 
 -- ---- an AVP and its entry

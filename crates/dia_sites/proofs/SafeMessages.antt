@@ -1,7 +1,6 @@
 -- Where B selects definitions at safe sites, each message that is sent is valid under B.
-use Rattle.std.proofs.Common.{◌≡◌, ℕ, suc, ◌+◌, ◌*◌, ◌%◌, ◌<◌, ◌≤◌, ◌^◌, List, [], ◌∷◌, ◌++◌, length, map, Some, refl, sym, ap, subst, ◌∙◌, arith}
+use Rattle.std.proofs.Common.{◌≡◌, ℕ, suc, ◌+◌, ◌*◌, ◌%◌, ◌<◌, ◌≤◌, ◌^◌, List, [], ◌∷◌, ◌++◌, length, map, Some, sym, ap, subst, ◌∙◌, arith}
 use Rattle.std.specs.Prelude.{slice_get}
-use Rattle.std.specs.List.{AllByRecursion}
 use Rattle.std.proofs.lemmas.List.{length-append}
 use Rattle.std.proofs.lemmas.Option.{same_Some}
 use Rattle.dia_wire.specs.declared.Header.{Header}
@@ -11,7 +10,7 @@ use Rattle.dia_wire.specs.Wire.{PlainAvp, key_of, SpellsAll, IsHead, IsMessage}
 use Rattle.dia_dict.specs.Dictionary.{Dictionary, PlainDefinition, definitions}
 use Rattle.dia_policy.specs.declared.Unknown.{Unknown}
 use Rattle.dia_policy.specs.declared.Levels.TheVariants as levels
-use Rattle.dia_check.specs.Valid.{class_of, AllowsP, Placed, IsValidOf, IsValid}
+use Rattle.dia_check.specs.Valid.{class_of, Placed, IsValid}
 use Rattle.dia_sites.specs.declared.sends.Sends.{Sends}
 use Rattle.dia_sites.specs.Sent.{StandAsSent, AreBytes, IsSent}
 use Rattle.dia_sites.specs.Sites.{Site, IsLevelOf, AreSafe}

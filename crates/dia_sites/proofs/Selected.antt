@@ -1,11 +1,10 @@
 -- The headers for which the definition of a command is selected, by its head.
-use Rattle.std.proofs.Common.{◌≡◌, ◌≢◌, ℕ, zero, suc, ◌+◌, ◌<◌, ◌^◌, Bool, true, false, ◌&&◌, List, [], ◌∷◌, length, map, get_or, Option, Some, None, refl, sym, ap, subst, ◌∙◌, arith, inl, inr}
-use Rattle.std.specs.Prelude.{◌⊎◌, ◌==◌, nat_eq, is_some, Contains, slice_get, position, IsTrue, All}
+use Rattle.std.proofs.Common.{◌≡◌, ℕ, ◌+◌, ◌<◌, ◌^◌, Bool, true, false, ◌&&◌, List, [], ◌∷◌, length, get_or, Option, Some, None, refl, sym, ap, subst, ◌∙◌, inl, inr}
+use Rattle.std.specs.Prelude.{◌⊎◌, ◌==◌, nat_eq, is_some, slice_get, position}
 use Rattle.std.specs.Option.{option_map, option_or, option_eq}
 use Rattle.std.proofs.lemmas.Bool.{and_parts, eqb-true, false_from_ne_true}
 use Rattle.std.proofs.lemmas.Option.{none-some, same_Some, slice_get-get_or}
 use Rattle.std.proofs.lemmas.List.Quantifiers.{position-Some}
-use Rattle.dia_wire.specs.Lengths.{three_bytes}
 use Rattle.dia_dict.specs.declared.Class.{Class}
 use Rattle.dia_dict.specs.declared.Class.TheVariants as classes
 use Rattle.dia_dict.specs.declared.Pxy.{Pxy}
