@@ -9,4 +9,6 @@ mod data;
 #[cfg(test)]
 mod dict;
 #[cfg(test)]
+mod refused;
+#[cfg(test)]
 mod wire;
