@@ -1,0 +1,23 @@
+-- One rule further in a list of lines.
+use Rattle.std.proofs.Common.{◌≡◌, ℕ, ◌+◌, ◌<◌, List, [], ◌∷◌, ◌++◌, length, take, get_or, Option, Some, None, refl, sym, ap, ◌∙◌, append_assoc}
+use Rattle.std.specs.Prelude.{filter_map, slice_get}
+use Rattle.std.proofs.lemmas.Option.{slice_get-get_or}
+use Rattle.std.proofs.lemmas.List.{append-nil}
+use Rattle.std.proofs.lemmas.List.Elements.{filter_map-append}
+use Rattle.std.specs.List.{cons_option}
+use Rattle.dia_compat.proofs.FilteredMembers.{taken}
+
+one_further : {X Y : Type 0} (h : X → Option Y) (xs : List X) (i : ℕ) (d : X) → i < length xs → filter_map h (take (i + 1) xs) ≡ filter_map h (take i xs) ++ filter_map h (get_or xs i d ∷ [])
+one_further h xs i d within = ap (filter_map h) (taken xs i (get_or xs i d) (slice_get-get_or xs i d within)) ∙ filter_map-append h (take i xs) (get_or xs i d ∷ [])
+
+pub lines_more : {X Y : Type 0} (h : X → Option Y) (start out : List Y) (xs : List X) (i : ℕ) (d : X) (y : Y) → i < length xs → h (get_or xs i d) ≡ Some y → out ≡ start ++ filter_map h (take i xs)
+    → out ++ y ∷ [] ≡ start ++ filter_map h (take (i + 1) xs)
+lines_more {X} {Y} h start out xs i d y within is so_far =
+    ap (λ (ys : List Y). ys ++ y ∷ []) so_far ∙ append_assoc start (filter_map h (take i xs)) (y ∷ [])
+    ∙ ap (λ (o : Option Y). start ++ (filter_map h (take i xs) ++ cons_option o [])) (sym is) ∙ ap (λ (ys : List Y). start ++ ys) (sym (one_further h xs i d within))
+
+pub lines_same : {X Y : Type 0} (h : X → Option Y) (start out : List Y) (xs : List X) (i : ℕ) (d : X) → i < length xs → h (get_or xs i d) ≡ None → out ≡ start ++ filter_map h (take i xs)
+    → out ≡ start ++ filter_map h (take (i + 1) xs)
+lines_same {X} {Y} h start out xs i d within is so_far =
+    so_far ∙ ap (λ (ys : List Y). start ++ ys) (sym (append-nil (filter_map h (take i xs)))
+    ∙ ap (λ (o : Option Y). filter_map h (take i xs) ++ cons_option o []) (sym is) ∙ sym (one_further h xs i d within))

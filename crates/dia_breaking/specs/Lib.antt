@@ -1,0 +1,11 @@
+pub mod CountsAndRanks
+pub mod Breaches
+pub mod LeastLevels
+pub mod Orders
+pub mod Strangers
+pub mod LevelTests
+pub mod Steps
+pub mod Words
+pub mod Levels
+pub mod Laws
+pub mod Places
