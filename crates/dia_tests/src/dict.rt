@@ -6,10 +6,11 @@ mod example;
 mod faults;
 mod indexed;
 mod limits;
+mod lookups;
 mod memory;
 
 use dia_ccf::parse;
-use dia_dict::{Book, DictFault, DictKind, Entry, Key, PlainBook, resolve};
+use dia_dict::{Book, DictFault, Entry, Key, PlainBook, resolve};
 use std::alloc::{AllocError, Global};
 use std::fmt::Debug;
 use std::process::Abort;
@@ -26,29 +27,6 @@ fn fault_of(alloc: Global, text: &str) -> Result<DictFault, Fail> {
         Err(fault) => Ok(fault),
         Ok(_) => Err(Fail::new(format_args!("no fault: {text}"))),
     }
-}
-
-/// Whether a fault is of a kind, with these names.
-fn is_of(fault: &DictFault, of: DictKind, with: &str, at: &str) -> bool {
-    match fault {
-        DictFault::Stands { kind, name, slot } => {
-            *kind == of && name.as_str() == with && slot.as_str() == at
-        }
-        DictFault::NoMemory => false,
-    }
-}
-
-/// Checks that the fault of a text is of a kind, with these names.
-fn refused(
-    rt: &(impl AllocGlobal + Abort),
-    text: &str,
-    kind: DictKind,
-    name: &str,
-    slot: &str,
-) -> Result<(), Fail> {
-    let fault = fault_of(rt.alloc(), text)?;
-    assert!(rt; is_of(&fault, kind, name, slot), "{text}: {fault:?}");
-    Ok(())
 }
 
 /// Checks that two values are equal.

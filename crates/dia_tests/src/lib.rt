@@ -12,3 +12,5 @@ mod dict;
 mod refused;
 #[cfg(test)]
 mod wire;
+#[cfg(test)]
+mod words;

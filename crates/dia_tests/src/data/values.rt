@@ -1,7 +1,7 @@
 //! The numbers of an Enumerated format.
 
-use super::{answers, listed};
-use dia_data::{Format, Leaf, Values, format_below};
+use super::{is_leaf, listed};
+use dia_data::{Format, Leaf, Values, accepts, format_below};
 use std::alloc::{AllocError, Global};
 use std::process::Abort;
 use std::test::Fail;
@@ -9,7 +9,12 @@ use std::test::Fail;
 /// Checks whether a number is one of an Enumerated format.
 fn lists(rt: &impl Abort, format: &Format, number: u32, listed: bool) {
     let answer = if listed { Leaf::Fine } else { Leaf::BadValue };
-    answers(rt, format, &number.to_be_bytes(), answer);
+    is_leaf(
+        rt,
+        accepts(format, &number.to_be_bytes()),
+        answer,
+        "a listed number",
+    );
 }
 
 /// Checks that the list is told as it was written.

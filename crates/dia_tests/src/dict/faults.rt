@@ -1,117 +1,74 @@
-//! Sources that name no dictionary, each by its first fault.
+//! Sources that name no dictionary, each by its first fault: its kind, and the names that are told.
 
-use super::{fault_of, refused};
-use dia_dict::DictKind;
+use super::fault_of;
+use crate::words::same;
+use dia_dict::DictFault;
+use dia_rows::{Names, Row};
 use std::alloc::Global;
 use std::process::Abort;
 use std::test::Fail;
 
-/// Texts, each with the kind of its first fault and the names that are told.
-const FAULTS: [(&str, DictKind, &str, &str); 16] = [
-    (
-        "%avp X 1 Time any %avp X 1 Grouped any <T> ::= < Diameter Header: 302, REQ > { Z }",
-        DictKind::DuplicateName,
-        "X",
-        "",
-    ),
-    (
-        "%avp G 5 Grouped any <T> ::= < Diameter Header: 302, REQ > { Z }",
-        DictKind::NoGroupFormat,
-        "G",
-        "",
-    ),
-    (
-        "%avp G 5 Time any <G> ::= < AVP Header: 5 > %avp H 5 Time any",
-        DictKind::HeaderMismatch,
-        "G",
-        "",
-    ),
-    (
-        "%avp G 5 Grouped any <G> ::= < AVP Header: 6 >",
-        DictKind::HeaderMismatch,
-        "G",
-        "",
-    ),
-    (
-        "%avp A 1 Time any %avp B 1 Time any",
-        DictKind::DuplicateKey,
-        "B",
-        "",
-    ),
-    (
-        "<G> ::= < AVP Header: 1 > %avp A 1 Time any",
-        DictKind::DuplicateKey,
-        "G",
-        "",
-    ),
-    (
-        "<T> ::= < Diameter Header: 302, REQ > <U> ::= < Diameter Header: 302, REQ, PXY >",
-        DictKind::DuplicateCommand,
-        "U",
-        "",
-    ),
-    (
-        "<T> ::= < Diameter Header: code, ERR > <U> ::= < Diameter Header: code, ERR, PXY >",
-        DictKind::DuplicateCommand,
-        "U",
-        "",
-    ),
-    (
-        "%avp X 9002 Time any <T> ::= < Diameter Header: 302, REQ > { X } [ Z ]",
-        DictKind::UndefinedName,
-        "T",
-        "Z",
-    ),
-    (
-        "<T> ::= < Diameter Header: 302, REQ > { Z } <G> ::= < AVP Header: 5 > { Y }",
-        DictKind::UndefinedName,
-        "G",
-        "Y",
-    ),
-    (
-        "%avp X 9002 Time any <T> ::= < Diameter Header: 302, REQ > { X } [ X ]",
-        DictKind::RepeatedSlot,
-        "T",
-        "X",
-    ),
-    (
-        "<T> ::= < Diameter Header: 302, REQ > * [ AVP ] * { AVP }",
-        DictKind::RepeatedSlot,
-        "T",
-        "AVP",
-    ),
-    (
-        "%avp X 9002 Time any <T> ::= < Diameter Header: 302, REQ > *0 { X }",
-        DictKind::MinOverMax,
-        "T",
-        "X",
-    ),
-    (
-        "%avp X 9002 Time any <T> ::= < Diameter Header: 302, REQ > 0*0 { X }",
-        DictKind::RequiredMin,
-        "T",
-        "X",
-    ),
-    (
-        "<T> ::= < Diameter Header: 302, REQ > 0* { AVP }",
-        DictKind::RequiredMin,
-        "T",
-        "AVP",
-    ),
-    (
-        "%avp X 9002 Time any <T> ::= < Diameter Header: 302, REQ > 1* [ X ]",
-        DictKind::OptionalMin,
-        "T",
-        "X",
-    ),
-];
+const ROWS: &str = r"
+# Each kind, in the order in which they are told.
+%avp X 1 Time any %avp X 1 Grouped any <T> ::= < Diameter Header: 302, REQ > { Z } => DuplicateName X
+%avp G 5 Grouped any <T> ::= < Diameter Header: 302, REQ > { Z } => NoGroupFormat G
+%avp G 5 Time any <G> ::= < AVP Header: 5 > %avp H 5 Time any => HeaderMismatch G
+%avp G 5 Grouped any <G> ::= < AVP Header: 6 > => HeaderMismatch G
+%avp A 1 Time any %avp B 1 Time any => DuplicateKey B
+<G> ::= < AVP Header: 1 > %avp A 1 Time any => DuplicateKey G
+<T> ::= < Diameter Header: 302, REQ > <U> ::= < Diameter Header: 302, REQ, PXY > => DuplicateCommand U
+<T> ::= < Diameter Header: code, ERR > <U> ::= < Diameter Header: code, ERR, PXY > => DuplicateCommand U
+%avp X 9002 Time any <T> ::= < Diameter Header: 302, REQ > { X } [ Z ] => UndefinedName T Z
+<T> ::= < Diameter Header: 302, REQ > { Z } <G> ::= < AVP Header: 5 > { Y } => UndefinedName G Y
+%avp X 9002 Time any <T> ::= < Diameter Header: 302, REQ > { X } [ X ] => RepeatedSlot T X
+<T> ::= < Diameter Header: 302, REQ > * [ AVP ] * { AVP } => RepeatedSlot T AVP
+%avp X 9002 Time any <T> ::= < Diameter Header: 302, REQ > *0 { X } => MinOverMax T X
+%avp X 9002 Time any <T> ::= < Diameter Header: 302, REQ > 0*0 { X } => RequiredMin T X
+<T> ::= < Diameter Header: 302, REQ > 0* { AVP } => RequiredMin T AVP
+%avp X 9002 Time any <T> ::= < Diameter Header: 302, REQ > 1* [ X ] => OptionalMin T X
+
+# A definition has 1,024 rules at most.
+let RULE = \x20[ X ]
+let T = %avp X 9002 Unsigned32 any <T> ::= < Diameter Header: 302, REQ >
+$T$RULE*1024 => RepeatedSlot T X
+$T$RULE*1025 => Limit T
+";
 
 #[test]
 fn tells_the_first_fault(rt: HostRuntime) -> Result<(), Fail> {
-    for (text, kind, name, slot) in FAULTS.iter() {
-        refused(&rt, text, *kind, name, slot)?;
+    let mut names = Names::new(rt.alloc());
+    for line in ROWS.lines() {
+        if let Some(row) = names.row(line)? {
+            tells(&rt, &names, &row)?;
+        }
     }
     Ok(())
+}
+
+/// Checks the fault of the text of a row.
+fn tells(rt: &(impl AllocGlobal + Abort), names: &Names, row: &Row<'_>) -> Result<(), Fail> {
+    let text = names.text(row.call)?;
+    let fault = fault_of(rt.alloc(), str::from_utf8(text.as_slice())?)?;
+    let found = fault_words(rt.alloc(), &fault)?;
+    same(rt, found.as_bytes(), row.wanted.as_bytes(), row.line);
+    Ok(())
+}
+
+/// The kind of a fault, and the names that are told.
+fn fault_words(alloc: Global, fault: &DictFault) -> Result<String, Fail> {
+    match fault {
+        DictFault::Stands { kind, name, slot } => {
+            let mut text = format!(in alloc; "{kind:?}")?;
+            for part in [name.as_str(), slot.as_str()] {
+                if !part.is_empty() {
+                    text.push(' ')?;
+                    text.push_str(part)?;
+                }
+            }
+            Ok(text)
+        }
+        DictFault::NoMemory => Err(Fail::new("no memory")),
+    }
 }
 
 /// What people are told of the fault of a text.
