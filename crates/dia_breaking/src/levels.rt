@@ -1,12 +1,14 @@
 //! The lines of the levels of two definitions.
-ghost use Rattle.std.specs.Prelude.{◌≡◌, IfOk};
+ghost use Rattle.std.specs.Prelude.{◌≡◌, ◌<◌, IfOk, length};
+ghost use Rattle.dia_dict.specs.Dictionary.{definitions};
 ghost use Rattle.dia_compat.specs.Tests.{rules_in};
 ghost use Rattle.dia_breaking.specs.CountsAndRanks.{AreSound};
-ghost use Rattle.dia_breaking.specs.LevelTests.{needed_up, lines_of};
+ghost use Rattle.dia_breaking.specs.LevelTests.{price, needed_up, lines_of};
+ghost use Rattle.dia_breaking.specs.Levels.{HasEachLine, FirstIsShortest};
 ghost use Rattle.dia_breaking.specs.Steps.{greatest, IsLeastOver, IsLeastMost};
 
 use crate::costs::Costs;
-use crate::floor::Floor;
+use crate::floor::{Floor, floor_of};
 use crate::lengths::{TOO_LONG, swapped};
 use crate::level::Level;
 use crate::line::{Line, Reason};
@@ -14,6 +16,47 @@ use crate::rules::Rules;
 use crate::steps::{all_steps, least_taken};
 use dia_dict::{Book, DefId};
 use std::alloc::{AllocError, Global};
+
+/// The lines of the levels of a definition of `a` that break the rules of one of `b`: by reasons, and those of a reason in the
+/// order of the rules. Each has the length of a shortest level.
+pub fn level_lines<A: Book, B: Book, C: Costs>(
+    alloc: Global,
+    a: &A,
+    a_def: DefId,
+    b: &B,
+    b_def: DefId,
+    costs: &C,
+) -> Result<Vec<Line>, AllocError>
+    requires first { a_def < length (definitions (A.meaning a.now)) }
+    requires second { b_def < length (definitions (B.meaning b.now)) }
+    requires shortest { FirstIsShortest (C.other_length costs.now) (C.other_keys costs.now)
+        (rules_in (A.meaning a.now) a_def) (rules_in (B.meaning b.now) b_def) }
+    ensures complete { IfOk result (λ lines. HasEachLine
+        (price (C.listed_length costs.now) (C.other_length costs.now)
+        (rules_in (A.meaning a.now) a_def))
+        (rules_in (A.meaning a.now) a_def) (rules_in (B.meaning b.now) b_def) lines.items) }
+{
+    both_sound(a, a_def, b, b_def);
+    let a = Rules {
+        book: a,
+        def: a_def,
+    };
+    let b = Rules {
+        book: b,
+        def: b_def,
+    };
+    let floor = floor_of(&a, &b, costs);
+    let most = most(alloc, &a, &b, costs, &floor)?;
+    let level = Level {
+        a,
+        b,
+        costs,
+        floor,
+        most,
+    };
+    let lines = all_lines(alloc, &level)?;
+    Ok(lines)
+}
 
 /// The rules of the definitions of two dictionaries are sound.
 fn both_sound<A: Book, B: Book>(a: &A, a_def: DefId, b: &B, b_def: DefId)

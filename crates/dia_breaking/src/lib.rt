@@ -14,4 +14,5 @@ mod steps;
 pub use costs::Costs;
 pub use laws::{breaches_are_all, definitions_are_sound, placed_is_in_place, plan_is_least};
 pub use lengths::TOO_LONG;
+pub use levels::level_lines;
 pub use line::{Line, Reason};
