@@ -1,0 +1,2 @@
+pub mod FloorsOfAvps
+pub mod ShortestAvps

@@ -1,0 +1,12 @@
+//! How long the AVPs that a side sends are at least: laws on floors of lengths, and on lengths that are attained.
+//!
+//! A caller that has a number for each key proves by these laws that no AVP and no message that is sent is shorter, and that
+//! some AVP is as short.
+#![tactic(auto)]
+
+mod laws;
+
+pub use laws::{
+    group_is_attained, leaf_is_attained, no_avp_is_shorter, no_message_is_shorter,
+    unknown_is_attained,
+};
