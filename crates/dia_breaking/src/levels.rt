@@ -18,7 +18,8 @@ use dia_dict::{Book, DefId};
 use std::alloc::{AllocError, Global};
 
 /// The lines of the levels of a definition of `a` that break the rules of one of `b`: by reasons, and those of a reason in the
-/// order of the rules. Each has the length of a shortest level.
+/// order of the rules. A level that breaks them shows a line whose length is no more than its own, unless only the order of its
+/// AVPs is wrong.
 pub fn level_lines<A: Book, B: Book, C: Costs>(
     alloc: Global,
     a: &A,

@@ -40,6 +40,6 @@ pub struct Line {
     pub reason: Reason,
     /// The key of the AVP that is told, and none where the wildcard counts.
     pub key: Option<Key>,
-    /// The length of a shortest such level, in bytes.
+    /// What such a level takes at least, in bytes.
     pub length: u64,
 }

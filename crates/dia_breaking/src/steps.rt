@@ -28,8 +28,8 @@ fn room_above(wanted: u64, rule: &DRule) -> u64
     }
 }
 
-/// Adds the steps of a rule. `filler` is the length of a shortest AVP by the wildcard, and `outer` that of a shortest one that `b`
-/// doesn't list.
+/// Adds the steps of a rule. `lengths` are that of a shortest AVP by the wildcard, and that of a shortest one that `b` doesn't
+/// list.
 fn push_steps<B: Book, C: Costs>(
     steps: &mut Vec<Step>,
     b: &Rules<'_, B>,
