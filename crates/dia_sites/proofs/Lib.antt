@@ -3,3 +3,4 @@ pub mod SafeLevels
 pub mod SafeMessages
 pub mod SentIsValid
 pub mod Selected
+pub mod Room

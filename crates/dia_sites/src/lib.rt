@@ -9,6 +9,6 @@ mod safe;
 mod sends;
 mod sent;
 
-pub use safe::{few_headers_tell, safe_sites_include, safe_sites_read_levels};
+pub use safe::{few_headers_tell, levels_keep_to_room, safe_sites_include, safe_sites_read_levels};
 pub use sends::Sends;
 pub use sent::{sent_is_valid, valid_is_sent};

@@ -1,8 +1,10 @@
-ghost use Rattle.std.specs.Prelude.{◌≡◌, ℕ, List, Some, slice_get};
+ghost use Rattle.std.specs.Prelude.{◌≡◌, ℕ, ◌≤◌, List, Some, slice_get, sum_by};
+ghost use Rattle.dia_wire.specs.Wire.{PlainAvp, padded_length};
+ghost use Rattle.dia_dict.specs.declared.DRule.{DRule as AnyRule};
 ghost use Rattle.dia_dict.specs.Dictionary.{Dictionary, PlainDefinition, IsDictionary, definitions};
 ghost use Rattle.dia_policy.specs.declared.Unknown.{Unknown as AnyPolicy};
 ghost use Rattle.dia_sites.specs.declared.sends.Sends.{Sends as AnySender};
-ghost use Rattle.dia_sites.specs.Sites.{Site, AreSafe, AreLevelsOfB};
+ghost use Rattle.dia_sites.specs.Sites.{Site, IsLevelOf, AreSafe, AreLevelsOfB};
 ghost use Rattle.dia_sites.specs.Selection.{AreMet, AreValid, IsMetBy};
 
 /// Where nothing breaks at some sites, and groups lead to these sites alone, each level of them that can be sent is a level
@@ -28,4 +30,11 @@ pub fn few_headers_tell()
     ensures { (da db : Dictionary) (sites : List Site) (c : ℕ) (command : PlainDefinition)
         → IsDictionary da → IsDictionary db → slice_get (definitions da) c ≡ Some command
         → IsMetBy da db sites command command.head → AreMet da db sites c command }
+{}
+
+/// The AVPs of a level, each with its padding, take no more than the room that the level has.
+pub fn levels_keep_to_room()
+    ensures { (da : Dictionary) (who : AnySender) (rules : List AnyRule) (room : ℕ)
+        (avps : List PlainAvp) → IsLevelOf da who rules room avps
+        → sum_by padded_length avps ≤ room }
 {}
