@@ -14,4 +14,6 @@ mod example;
 #[cfg(test)]
 mod peer;
 #[cfg(test)]
+mod refused;
+#[cfg(test)]
 mod vectors;
