@@ -78,11 +78,15 @@ IsLine shape line = (shape_of line ≡ shape) × ((out-Command line).has_globals
 abbrev pub program_app : App
 program_app = on_top (λ shape. record shape { has_version = true; subcommand_required = true }) (new_app (codes "diacmd"))
 
+-- a line with the subcommands of two dictionaries too
+abbrev pub with_pairs : App → Bor (List (Bor Text)) → App
+with_pairs line policies =
+    with_subcommand (with_subcommand (with_subcommand line (compare_shape policies)) (refute_shape policies)) (propose_shape policies)
+
 abbrev pub line_shape : Bor (List (Bor Text)) → App
 line_shape policies =
-    let one = with_subcommand (with_subcommand (with_subcommand program_app show_shape) (check_shape policies)) render_shape in
-    with_subcommand (with_subcommand (with_subcommand one (compare_shape policies)) (refute_shape policies))
-    (propose_shape policies)
+    with_pairs (with_subcommand (with_subcommand (with_subcommand program_app show_shape) (check_shape policies)) render_shape)
+    policies
 
 abbrev pub policy_word : Unknown → Text
 policy_word Kept = codes "kept"

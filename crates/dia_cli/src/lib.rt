@@ -19,6 +19,7 @@
 
 mod arguments;
 mod ending;
+mod line;
 mod opening;
 mod origin;
 mod request;

@@ -3,7 +3,7 @@ use Rattle.std.proofs.lemmas.Result.{IfOk-weaker}
 use Rattle.std.specs.Prelude.{IfOk}
 use Rattle.clap.specs.Words.{app_of, with_subcommand}
 use Rattle.dia_cli.specs.Words.{IsLine}
-use Rattle.dia_cli.proofs.arguments.with_line.Goals as goal
+use Rattle.dia_cli.proofs.line.with_line.Goals as goal
 
 pub returns-in-Ok : goal.returns-in-Ok
 returns-in-Ok c =
