@@ -1,7 +1,7 @@
 //! A command, from its inputs to what is written.
 
-ghost use Rattle.std.specs.Prelude.{◌≡◌, ◌↔◌, List, ℕ, IfOk, OnOk, Err};
-ghost use Rattle.std.specs.Prelude.{IsErr, IsTrue, string_bytes};
+ghost use Rattle.std.specs.Prelude.{◌≡◌, ◌↔◌, List, [], ℕ, IfOk, Err};
+ghost use Rattle.std.specs.Prelude.{IsTrue, string_bytes};
 ghost use Rattle.std.specs.Io.KnownBytes.{Appends};
 ghost use Rattle.dia_io.specs.declared.Exit.{Exit as AnyExit};
 ghost use Rattle.dia_io.specs.Writing.{AppendsFront};
@@ -41,6 +41,9 @@ pub fn run<S: Sink>(
     ensures front { result ≡ Err RunFault.Device
         → (text : List ℕ) × (exit : AnyExit) × IsOutcome command.now inputs.now text exit
         × AppendsFront (S.written sink.old) (S.written sink.new) text }
+    // An empty text is put as no piece.
+    ensures nothing { (exit : AnyExit) → IsOutcome command.now inputs.now [] exit
+        → sink.new ≡ sink.old }
     ensures no_memory { result ≡ Err RunFault.NoMemory → S.written sink.new ≡ S.written sink.old }
 {
     let outcome = perform(alloc, command, inputs)?;
