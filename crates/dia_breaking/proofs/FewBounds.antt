@@ -1,11 +1,10 @@
 -- What keys cost of which few, or some, are not listed by the other definition.
-use Rattle.std.proofs.Common.{◌≡◌, ◌≢◌, ℕ, zero, suc, ◌+◌, ◌-◌, ◌*◌, ◌<◌, ◌≤◌, Bool, true, false, cond, List, [], ◌∷◌, Option, Some, None, refl, sym, ap, subst, ◌∙◌, arith, inl, inr}
-use Rattle.std.specs.Prelude.{◌⊎◌, not, min, max, nat_le, ◌&&◌, is_some, find, count_by, if◌then◌else◌}
-use Rattle.std.specs.Option.{option_map_or}
+use Rattle.std.proofs.Common.{◌≡◌, ℕ, ◌+◌, ◌-◌, ◌≤◌, Bool, true, false, cond, List, [], ◌∷◌, Option, Some, None, refl, ap, arith}
+use Rattle.std.specs.Prelude.{not, nat_le, ◌&&◌, count_by, if◌then◌else◌}
 use Rattle.std.proofs.lemmas.Bool.{leb-false}
 use Rattle.dia_wire.specs.declared.Key.{Key}
 use Rattle.dia_dict.specs.declared.DRule.{DRule}
-use Rattle.dia_check.specs.Valid.{Placed, is_listed, is_wildcard, has_wildcard, counted}
+use Rattle.dia_check.specs.Valid.{Placed, is_listed}
 use Rattle.dia_check.proofs.RuleCounts.{counts_key}
 use Rattle.dia_compat.specs.Tests.{wildcard_of}
 use Rattle.dia_compat.proofs.RunsOfFixedRules.{IsIn}
@@ -14,9 +13,9 @@ use Rattle.dia_breaking.specs.declared.floor.Floor.{Floor}
 use Rattle.dia_breaking.specs.CountsAndRanks.{AreSound, strangers}
 use Rattle.dia_breaking.specs.LeastLevels.{total}
 use Rattle.dia_breaking.specs.Strangers.{needed}
-use Rattle.dia_breaking.specs.LevelTests.{too_long, price, filler, is_outside, refilled, few_others, other_at_least}
-use Rattle.dia_breaking.proofs.LeastLevels.{share, by_key, one_if, not_both, not_true}
-use Rattle.dia_breaking.proofs.Strangers.{needed_least, others_most, one_stranger}
+use Rattle.dia_breaking.specs.LevelTests.{too_long, price, filler, refilled, few_others, other_at_least}
+use Rattle.dia_breaking.proofs.LeastLevels.{share, by_key, one_if, not_true}
+use Rattle.dia_breaking.proofs.Strangers.{needed_least, others_most}
 use Rattle.dia_breaking.proofs.LevelBounds.{floor_least, is_wild}
 use Rattle.dia_breaking.proofs.OtherBounds.{others_that, count_either, other_at_least_within, refilled_within}
 use Rattle.dia_breaking.proofs.LineBounds.{IsFloor, cheapest_of}

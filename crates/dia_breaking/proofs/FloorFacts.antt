@@ -1,21 +1,19 @@
 -- What is computed of the least level is right, and the definitions of a dictionary are sound.
-use Rattle.std.proofs.Common.{◌≡◌, ◌≢◌, ℕ, ◌+◌, ◌-◌, ◌*◌, ◌^◌, ◌<◌, ◌≤◌, Bool, true, false, List, [], ◌∷◌, Option, Some, None, refl, sym, ap, subst, ◌∙◌, arith}
-use Rattle.std.specs.Prelude.{min, slice_get, find, Result, Ok, Err, IfOk, IsTrue, IsSome, All, Contains}
+use Rattle.std.proofs.Common.{◌≡◌, ℕ, ◌+◌, ◌-◌, ◌^◌, ◌<◌, List, [], Option, Some, None, refl, sym, ap, subst, ◌∙◌, arith}
+use Rattle.std.specs.Prelude.{min, slice_get, Result, Ok, Err, IfOk}
 use Rattle.std.specs.Option.{option_map_or}
 use Rattle.std.proofs.lemmas.Option.{none-some}
 use Rattle.dia_wire.specs.declared.Key.{Key}
 use Rattle.dia_dict.specs.declared.DRule.{DRule}
-use Rattle.dia_dict.specs.Dictionary.{Dictionary, PlainDefinition, IsDictionary, AreRules, definitions, is_fixed}
-use Rattle.dia_check.specs.Valid.{is_listed}
+use Rattle.dia_dict.specs.Dictionary.{Dictionary, PlainDefinition, IsDictionary, AreRules, definitions}
 use Rattle.dia_compat.specs.Tests.{rules_in}
-use Rattle.dia_compat.proofs.RunsOfFixedRules.{IsIn}
 use Rattle.dia_compat.proofs.MemberCounts.{in_at}
 use Rattle.dia_compat.proofs.FitInSecond.{all_of}
 use Rattle.dia_breaking.specs.declared.floor.Floor.{Floor}
 use Rattle.dia_breaking.specs.declared.steps.Step.{Step}
 use Rattle.dia_breaking.specs.CountsAndRanks.{AreSound}
 use Rattle.dia_breaking.specs.Levels.{FirstIsShortest}
-use Rattle.dia_breaking.specs.LevelTests.{too_long, filler, inner_length, cheapest, outer_length, base_length, needed_up}
+use Rattle.dia_breaking.specs.LevelTests.{filler, inner_length, cheapest, outer_length, base_length, needed_up}
 use Rattle.dia_breaking.specs.Strangers.{needed}
 use Rattle.dia_breaking.specs.Steps.{greatest, steps, IsLeastTaken, IsLeastOver, IsLeastMost}
 use Rattle.dia_breaking.specs.LevelTests.{swapped}

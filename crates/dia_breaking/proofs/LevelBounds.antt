@@ -1,24 +1,24 @@
 -- What keys that are placed cost at least, where a key stands often or seldom.
-use Rattle.std.proofs.Common.{◌≡◌, ◌≢◌, ℕ, zero, suc, ◌+◌, ◌-◌, ◌*◌, ◌<◌, ◌≤◌, Bool, true, false, cond, List, [], ◌∷◌, Option, Some, None, refl, sym, ap, subst, ◌∙◌, arith, inl, inr}
-use Rattle.std.specs.Prelude.{◌⊎◌, not, min, max, nat_le, ◌&&◌, IsTrue, IfSome, is_some, find, slice_get, count_by, if◌then◌else◌}
+use Rattle.std.proofs.Common.{◌≡◌, ℕ, ◌+◌, ◌-◌, ◌*◌, ◌<◌, ◌≤◌, Bool, true, false, List, Option, Some, None, refl, sym, ap, subst, ◌∙◌, arith, inl, inr}
+use Rattle.std.specs.Prelude.{◌⊎◌, not, min, max, nat_le, ◌&&◌, IfSome, is_some, count_by, if◌then◌else◌}
 use Rattle.std.specs.Option.{option_map_or}
 use Rattle.std.proofs.Math.Nat.{mul-le-mul_right}
 use Rattle.std.proofs.lemmas.Bool.{leb-false}
 use Rattle.std.proofs.lemmas.Option.{none-some}
 use Rattle.dia_wire.specs.declared.Key.{Key}
 use Rattle.dia_dict.specs.declared.DRule.{DRule}
-use Rattle.dia_dict.proofs.Members.{at_find, find-is_some}
-use Rattle.dia_check.specs.Valid.{InBounds, Placed, is_listed, is_wildcard, has_wildcard, counted}
+use Rattle.dia_dict.proofs.Members.{at_find}
+use Rattle.dia_check.specs.Valid.{InBounds, Placed, is_listed, is_wildcard, counted}
 use Rattle.dia_check.proofs.RuleCounts.{counts_key}
 use Rattle.dia_compat.specs.Tests.{wildcard_of}
 use Rattle.dia_compat.proofs.RunsOfFixedRules.{IsIn}
-use Rattle.dia_compat.proofs.MemberCounts.{in_at, any_in, contains_in, count_cons, count_mono}
+use Rattle.dia_compat.proofs.MemberCounts.{in_at, count_mono}
 use Rattle.dia_compat.proofs.PlacedInSecond.{is_listed_by}
-use Rattle.dia_breaking.specs.CountsAndRanks.{AreSound, times, strangers, AreInPlace}
+use Rattle.dia_breaking.specs.CountsAndRanks.{AreSound, times, AreInPlace}
 use Rattle.dia_breaking.specs.LeastLevels.{total}
-use Rattle.dia_breaking.specs.LevelTests.{too_long, capped, price, has_room, swapped, rule_floor, many, listed_at_least, other_at_least, refilled, listed_at_most}
+use Rattle.dia_breaking.specs.LevelTests.{too_long, price, has_room, swapped, rule_floor, many, listed_at_least, listed_at_most}
 use Rattle.dia_breaking.proofs.CountsAndRanks.{placed-in_place}
-use Rattle.dia_breaking.proofs.LeastLevels.{share, shares, shares_within, count_apart, counts_own, counted_key, counted_wild, counted_bounds, not_both}
+use Rattle.dia_breaking.proofs.LeastLevels.{share, shares_within, count_apart, counts_own, counted_key, counted_bounds}
 use Rattle.dia_breaking.proofs.RuleSums.{sum_of, shares_sum, sums_each, sums_one, one_of_sum, share_two, share_one, more_of, less_of, most_of, swapped_within}
 
 price_listed : (listed other : Key → ℕ) (a : List DRule) (q : Key) → is_listed a q ≡ true → price listed other a q ≡ listed q

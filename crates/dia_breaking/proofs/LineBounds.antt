@@ -1,6 +1,6 @@
 -- The lengths that are computed for a key that stands seldom or often are no more than what such keys cost.
-use Rattle.std.proofs.Common.{◌≡◌, ◌≢◌, ℕ, zero, suc, ◌+◌, ◌-◌, ◌*◌, ◌<◌, ◌≤◌, Bool, true, false, cond, List, [], ◌∷◌, Option, Some, None, refl, sym, ap, subst, ◌∙◌, arith, inl, inr}
-use Rattle.std.specs.Prelude.{◌⊎◌, not, min, max, nat_le, ◌&&◌, IsTrue, IfSome, is_some, find, count_by, if◌then◌else◌}
+use Rattle.std.proofs.Common.{◌≡◌, ◌≢◌, ℕ, ◌≤◌, Bool, true, false, List, Option, Some, None, refl, sym, ap, ◌∙◌, arith}
+use Rattle.std.specs.Prelude.{not, min, ◌&&◌, is_some, if◌then◌else◌}
 use Rattle.std.specs.Option.{option_eq, option_map_or}
 use Rattle.dia_wire.specs.declared.Key.{Key}
 use Rattle.dia_dict.specs.declared.DRule.{DRule}
@@ -13,16 +13,14 @@ use Rattle.dia_compat.specs.Tests.{rule_of, wildcard_of}
 use Rattle.dia_compat.proofs.RunsOfFixedRules.{IsIn}
 use Rattle.dia_compat.proofs.MemberCounts.{in_at, count_mono}
 use Rattle.dia_breaking.specs.declared.floor.Floor.{Floor}
-use Rattle.dia_breaking.specs.CountsAndRanks.{AreSound, times, strangers}
+use Rattle.dia_breaking.specs.CountsAndRanks.{AreSound, times}
 use Rattle.dia_breaking.specs.LeastLevels.{total}
 use Rattle.dia_breaking.specs.Strangers.{needed}
-use Rattle.dia_breaking.specs.LevelTests.{too_long, price, rule_floor, filler, next_length, at_least, at_most, few_others, refilled, other_at_least}
+use Rattle.dia_breaking.specs.LevelTests.{price, rule_floor, filler, next_length, at_least, at_most}
 use Rattle.dia_breaking.proofs.LeastLevels.{not_both, not_true}
-use Rattle.dia_breaking.proofs.Strangers.{needed_least}
 use Rattle.dia_breaking.proofs.RuleSums.{sum_of}
 use Rattle.dia_breaking.proofs.LevelBounds.{listed_at_least_within, listed_at_most_within}
-use Rattle.dia_breaking.proofs.OtherBounds.{others_that, counted_some, count_either, other_at_least_within, refilled_within}
-use Rattle.dia_breaking.proofs.FloorBounds.{not_same}
+use Rattle.dia_breaking.proofs.OtherBounds.{others_that, count_either, other_at_least_within, refilled_within}
 
 -- none of these is more than what it is the least of
 pub record IsFloor (f : Floor) (listed other : Key → ℕ) (a b : List DRule) : Type 0 where

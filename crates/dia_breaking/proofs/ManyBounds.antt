@@ -1,12 +1,11 @@
 -- What keys cost of which many are not listed by the other definition.
-use Rattle.std.proofs.Common.{◌≡◌, ℕ, zero, suc, ◌+◌, ◌-◌, ◌*◌, ◌<◌, ◌≤◌, Bool, true, false, cond, List, [], ◌∷◌, ◌++◌, Option, Some, None, refl, sym, ap, subst, ◌∙◌, arith, inl, inr}
-use Rattle.std.specs.Prelude.{◌⊎◌, not, min, ◌&&◌, IsTrue, IfSome, is_some, sum_by, count_by, if◌then◌else◌}
+use Rattle.std.proofs.Common.{◌≡◌, ℕ, ◌+◌, ◌-◌, ◌*◌, ◌≤◌, Bool, true, false, cond, List, [], ◌∷◌, ◌++◌, Option, Some, None, refl, sym, ap, subst, ◌∙◌, arith, inl, inr}
+use Rattle.std.specs.Prelude.{◌⊎◌, not, min, ◌&&◌, IfSome, is_some, count_by, if◌then◌else◌}
 use Rattle.std.specs.Option.{option_map_or}
-use Rattle.std.proofs.Math.Nat.{mul-le-mul_left, mul-le-mul_right, mul_comm, add-mul, mul-add, zero-mul, mul-zero}
+use Rattle.std.proofs.Math.Nat.{mul-le-mul_left, mul-le-mul_right, mul_comm, add-mul, mul-add, mul-zero}
 use Rattle.std.proofs.lemmas.List.Sums.{sum_by-append}
 use Rattle.std.proofs.lemmas.Option.{none-some}
 use Rattle.dia_wire.specs.declared.Key.{Key}
-use Rattle.dia_dict.specs.Keys.{same_key}
 use Rattle.dia_dict.specs.declared.DRule.{DRule}
 use Rattle.dia_dict.proofs.SameKeys.{same_key-refl}
 use Rattle.dia_check.specs.Valid.{Placed, is_listed, is_wildcard, counted}
@@ -18,13 +17,13 @@ use Rattle.dia_breaking.specs.declared.steps.Step.{Step}
 use Rattle.dia_breaking.specs.CountsAndRanks.{AreSound, strangers, AreInPlace}
 use Rattle.dia_breaking.specs.LeastLevels.{total}
 use Rattle.dia_breaking.specs.Strangers.{needs, needed}
-use Rattle.dia_breaking.specs.LevelTests.{too_long, capped, price, rule_floor, filler, swapped}
+use Rattle.dia_breaking.specs.LevelTests.{price, rule_floor, filler, swapped}
 use Rattle.dia_breaking.specs.Steps.{room_above, steps_of, steps, saved, IsLeastTaken}
 use Rattle.dia_breaking.proofs.CountsAndRanks.{placed-in_place}
-use Rattle.dia_breaking.proofs.LeastLevels.{share, by_key, one_if, counts_own, counts_by, not_both, not_true}
+use Rattle.dia_breaking.proofs.LeastLevels.{share, counts_own, counts_by, not_true}
 use Rattle.dia_breaking.proofs.Strangers.{one_stranger, total_strangers, needs_within, needs_none, needs_key}
 use Rattle.dia_breaking.proofs.RuleSums.{sum_of, sums_each, share_one}
-use Rattle.dia_breaking.proofs.LevelBounds.{own_share, floor, bounds_of, each_floor, rule_price, listed_floor, wild_floor, wild_share, all_shares}
+use Rattle.dia_breaking.proofs.LevelBounds.{own_share, bounds_of, each_floor, rule_price, listed_floor, wild_floor, wild_share, all_shares}
 use Rattle.dia_breaking.proofs.FloorBounds.{rule_of_listed}
 use Rattle.dia_breaking.proofs.StepBounds.{saved-cons}
 use Rattle.dia_breaking.proofs.LineBounds.{IsFloor, cheapest_of}

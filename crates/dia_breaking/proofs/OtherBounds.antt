@@ -1,24 +1,22 @@
 -- What keys that are placed cost at least, where those by the wildcard stand often or seldom.
-use Rattle.std.proofs.Common.{◌≡◌, ◌≢◌, ℕ, zero, suc, ◌+◌, ◌-◌, ◌*◌, ◌<◌, ◌≤◌, Bool, true, false, cond, List, [], ◌∷◌, Option, Some, None, refl, sym, ap, subst, ◌∙◌, arith, inl, inr}
-use Rattle.std.specs.Prelude.{◌⊎◌, not, min, max, nat_le, ◌&&◌, IsTrue, IfSome, is_some, find, slice_get, count_by, if◌then◌else◌}
-use Rattle.std.specs.Option.{option_map_or}
+use Rattle.std.proofs.Common.{◌≡◌, ℕ, ◌+◌, ◌-◌, ◌*◌, ◌≤◌, Bool, true, false, cond, List, [], ◌∷◌, Option, Some, None, refl, sym, ap, ◌∙◌, arith, inl, inr}
+use Rattle.std.specs.Prelude.{◌⊎◌, not, min, ◌&&◌, is_some, count_by, if◌then◌else◌}
 use Rattle.std.proofs.Math.Nat.{mul-le-mul_right}
 use Rattle.dia_wire.specs.declared.Key.{Key}
 use Rattle.dia_dict.specs.declared.DRule.{DRule}
-use Rattle.dia_dict.specs.Keys.{same_key}
 use Rattle.dia_dict.proofs.Members.{find-is_some}
-use Rattle.dia_check.specs.Valid.{InBounds, Placed, is_listed, is_wildcard, has_wildcard, counted}
+use Rattle.dia_check.specs.Valid.{Placed, is_listed, is_wildcard, has_wildcard, counted}
 use Rattle.dia_check.proofs.RuleCounts.{counts_key}
 use Rattle.dia_compat.specs.Tests.{wildcard_of}
 use Rattle.dia_compat.proofs.RunsOfFixedRules.{IsIn}
 use Rattle.dia_compat.proofs.MemberCounts.{contains_in, count_cons, count_none, count_mono, none_or_some}
-use Rattle.dia_breaking.specs.CountsAndRanks.{AreSound, times, strangers, AreInPlace}
+use Rattle.dia_breaking.specs.CountsAndRanks.{AreSound, strangers}
 use Rattle.dia_breaking.specs.LeastLevels.{total}
-use Rattle.dia_breaking.specs.LevelTests.{too_long, capped, price, has_room, swapped, rule_floor, many, other_at_least, refilled}
+use Rattle.dia_breaking.specs.LevelTests.{too_long, price, has_room, swapped, many, other_at_least, refilled}
 use Rattle.dia_breaking.proofs.CountsAndRanks.{placed-in_place}
 use Rattle.dia_breaking.proofs.LeastLevels.{by_key, counted_wild, not_both, not_true}
 use Rattle.dia_breaking.proofs.RuleSums.{swapped_within}
-use Rattle.dia_breaking.proofs.LevelBounds.{cost, floor, floor_least, bounds_of, other_more, other_less, part_of_floor, wild_floor, is_wild, room_or}
+use Rattle.dia_breaking.proofs.LevelBounds.{floor, floor_least, bounds_of, other_more, other_less, part_of_floor, wild_floor, is_wild, room_or}
 
 -- of the keys that no rule lists those that pass a test
 abbrev pub others_that : List DRule → (Key → Bool) → List Key → ℕ

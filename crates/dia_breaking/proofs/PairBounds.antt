@@ -1,7 +1,7 @@
 -- What keys that are placed cost at least, where two of them stand.
-use Rattle.std.proofs.Common.{◌≡◌, ◌≢◌, ℕ, zero, suc, ◌+◌, ◌-◌, ◌*◌, ◌<◌, ◌≤◌, Bool, true, false, cond, List, [], ◌∷◌, Option, Some, None, refl, sym, ap, subst, ◌∙◌, arith, inl, inr}
-use Rattle.std.specs.Prelude.{◌⊎◌, not, min, max, ◌&&◌, count_by, if◌then◌else◌}
-use Rattle.std.proofs.Math.Nat.{mul-le-mul_left, mul-le-mul_right, add-mul, mul-add, one-mul}
+use Rattle.std.proofs.Common.{◌≡◌, ◌≢◌, ℕ, ◌+◌, ◌*◌, ◌≤◌, Bool, true, false, cond, List, [], ◌∷◌, refl, sym, ap, subst, ◌∙◌, arith, inl, inr}
+use Rattle.std.specs.Prelude.{min, max, ◌&&◌, count_by}
+use Rattle.std.proofs.Math.Nat.{mul-le-mul_right, add-mul, one-mul}
 use Rattle.dia_wire.specs.declared.Key.{Key}
 use Rattle.dia_dict.specs.declared.DRule.{DRule}
 use Rattle.dia_compat.proofs.RunsOfFixedRules.{IsIn}

@@ -1,19 +1,16 @@
 -- Places order keys as ranks do.
-use Rattle.std.proofs.Common.{◌≡◌, ℕ, zero, suc, ◌+◌, ◌<◌, ◌≤◌, Bool, true, false, List, [], ◌∷◌, length, filter, Option, Some, None, refl, sym, ap, subst, ◌∙◌, arith, inl, inr}
+use Rattle.std.proofs.Common.{◌≡◌, ℕ, suc, ◌<◌, Bool, true, false, List, [], ◌∷◌, length, Option, Some, None, refl, sym, ap, ◌∙◌, arith, inl, inr}
 use Rattle.std.specs.Prelude.{◌⊎◌, position, slice_get, option_and_then, if◌then◌else◌}
 use Rattle.std.specs.Option.{option_map_or}
 use Rattle.dia_wire.specs.declared.Key.{Key}
 use Rattle.dia_dict.specs.Keys.{same_key}
 use Rattle.dia_dict.specs.declared.DRule.{DRule}
-use Rattle.dia_dict.specs.declared.definition.Slot.{Slot}
 use Rattle.dia_dict.specs.declared.definition.Slot.TheVariants as slot
 use Rattle.dia_dict.specs.Dictionary.{AreRules, is_fixed, lists_key, slot_at, slot_of}
 use Rattle.dia_dict.proofs.SameKeys.{same_key-refl, same_key-true}
 use Rattle.dia_dict.proofs.LookUpsByName.{find-place}
 use Rattle.dia_check.specs.Valid.{fixed_rules, is_listed}
 use Rattle.dia_check.proofs.OneKeyMore.{at_position}
-use Rattle.dia_compat.specs.Below.{HasRule}
-use Rattle.dia_compat.specs.Tests.{rule_of}
 use Rattle.dia_compat.proofs.RunsOfFixedRules.{IsIn}
 use Rattle.dia_compat.proofs.MemberCounts.{in_at, in_contains, in_filter, into_filter}
 use Rattle.dia_compat.proofs.PlacedInSecond.{is_listed_by}

@@ -1,6 +1,6 @@
 -- The steps that are taken first are the cheapest.
 use Rattle.std.proofs.Common.{◌≡◌, ℕ, zero, suc, ◌+◌, ◌-◌, ◌*◌, ◌<◌, ◌≤◌, Bool, true, false, List, [], ◌∷◌, length, sym, refl, ap, subst, ◌∙◌, arith}
-use Rattle.std.specs.Prelude.{min, max, nat_le, ◌==◌, fold, sum_by, slice_index_or, IsPermutation, if◌then◌else◌, ⊤}
+use Rattle.std.specs.Prelude.{min, max, nat_le, ◌==◌, fold, slice_index_or, IsPermutation, if◌then◌else◌, ⊤}
 use Rattle.std.specs.List.Sorted.{IsNonDecreasingBy}
 use Rattle.std.proofs.Math.Nat.{mul-le-mul_left, mul_comm, add-mul, mul-add, zero-mul, one-mul}
 use Rattle.std.proofs.lemmas.Bool.{leb-true, leb-false, eqb-true}

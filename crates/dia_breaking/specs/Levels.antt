@@ -11,7 +11,7 @@ use Rattle.dia_breaking.specs.declared.line.Reason.TheVariants.{Missing, TooMany
 use Rattle.dia_breaking.specs.CountsAndRanks.{times, strangers}
 use Rattle.dia_breaking.specs.Breaches.{IsLate}
 use Rattle.dia_breaking.specs.LeastLevels.{total}
-use Rattle.dia_breaking.specs.LevelTests.{too_long, price, is_outside}
+use Rattle.dia_breaking.specs.LevelTests.{too_long, is_outside}
 
 -- the keys of a level of the first definition break the rules of the second for this reason, at this key
 abbrev pub ShowsAt : List DRule → List DRule → List Key → Reason → Option Key → Type 0

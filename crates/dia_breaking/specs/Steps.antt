@@ -1,5 +1,5 @@
 -- Steps from the least level to ones with more AVPs that the other definition does not list.
-use Rattle.std.specs.Prelude.{◌≡◌, ℕ, ◌+◌, ◌-◌, ◌*◌, ◌≤◌, min, Bool, if◌then◌else◌, ◌==◌, List, [], ◌∷◌, Option, Some, None, option_and_then, fold, flat_map, sum_by}
+use Rattle.std.specs.Prelude.{◌≡◌, ℕ, ◌+◌, ◌-◌, ◌*◌, ◌≤◌, min, if◌then◌else◌, ◌==◌, List, [], ◌∷◌, Option, Some, option_and_then, fold, flat_map, sum_by}
 use Rattle.std.specs.Option.{option_map_or}
 use Rattle.dia_wire.specs.declared.Key.{Key}
 use Rattle.dia_dict.specs.declared.DRule.{DRule}

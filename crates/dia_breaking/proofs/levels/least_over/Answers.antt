@@ -1,4 +1,4 @@
-use Rattle.std.proofs.Common.{rules, sym, ap, ◌∙◌}
+use Rattle.std.proofs.Common.{rules, ap, ◌∙◌}
 use Rattle.dia_compat.specs.Tests.{rules_in}
 use Rattle.dia_breaking.specs.Steps.{steps}
 use Rattle.dia_breaking.proofs.FloorFacts.{over_is}

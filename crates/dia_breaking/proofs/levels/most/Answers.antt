@@ -1,6 +1,6 @@
 use Rattle.std.proofs.Common.{sym, ◌∙◌}
 use Rattle.dia_compat.specs.Tests.{rules_in}
-use Rattle.dia_breaking.proofs.FloorFacts.{most_at, most_none, most_if}
+use Rattle.dia_breaking.proofs.FloorFacts.{most_if}
 use Rattle.dia_breaking.proofs.levels.most.Goals as goal
 
 pub returns-in-Some : goal.returns-in-Some

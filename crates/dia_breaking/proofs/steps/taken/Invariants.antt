@@ -1,5 +1,5 @@
 use Rattle.std.proofs.Common.{◌≡◌, take}
-use Rattle.std.specs.Prelude.{fold, ℕ}
+use Rattle.std.specs.Prelude.{fold}
 use Rattle.dia_breaking.specs.Steps.{take_step}
 use Rattle.dia_breaking.proofs.steps.taken.Given as goal
 
