@@ -6,11 +6,11 @@ use Rattle.std.specs.List.{AllByRecursion}
 use Rattle.std.proofs.lemmas.Bool.{false_from_ne_true}
 use Rattle.std.proofs.lemmas.Option.{none-some, same_Some}
 use Rattle.dia_wire.specs.declared.Key.{Key}
-use Rattle.dia_dict.specs.declared.DRule.{DRule}
-use Rattle.dia_dict.specs.Keys.{same_key}
-use Rattle.dia_dict.specs.Dictionary.{Dictionary, IsDictionary, PlainDefinition, AreRules, definitions, is_fixed, lists_key}
-use Rattle.dia_dict.proofs.SameKeys.{same_key-refl, same_key-true}
-use Rattle.dia_dict.proofs.Members.{AreApart, AreApart-filter}
+use Rattle.dia_book.specs.declared.DRule.{DRule}
+use Rattle.dia_book.specs.Keys.{same_key}
+use Rattle.dia_book.specs.Dictionary.{Dictionary, IsDictionary, PlainDefinition, AreRules, definitions, is_fixed, lists_key}
+use Rattle.dia_book.proofs.SameKeys.{same_key-refl, same_key-true}
+use Rattle.dia_book.proofs.Members.{AreApart, AreApart-filter}
 use Rattle.dia_check.specs.Valid.{InBounds, Runs, Placed, MayBeLoose, fixed_rules, loose_rules, is_listed, has_wildcard, counted}
 use Rattle.dia_check.proofs.LongestRuns.{AreDistinct}
 use Rattle.dia_check.proofs.RuleCounts.{fixed_place}

@@ -4,10 +4,10 @@ use Rattle.std.specs.Prelude.{◌⊎◌, not, option_and_then, ◌||◌, ◌==�
 use Rattle.std.specs.Option.{option_map_or}
 use Rattle.std.proofs.lemmas.Bool.{lt-ltb, ne_eqb}
 use Rattle.dia_wire.specs.declared.Key.{Key}
-use Rattle.dia_dict.specs.declared.DRule.{DRule}
-use Rattle.dia_dict.specs.Keys.{same_key}
-use Rattle.dia_dict.proofs.SameKeys.{same_key-refl}
-use Rattle.dia_dict.proofs.Members.{find-is_some}
+use Rattle.dia_book.specs.declared.DRule.{DRule}
+use Rattle.dia_book.specs.Keys.{same_key}
+use Rattle.dia_book.proofs.SameKeys.{same_key-refl}
+use Rattle.dia_book.proofs.Members.{find-is_some}
 use Rattle.dia_check.specs.Valid.{Placed, fixed_rules, is_listed, is_wildcard, has_wildcard}
 use Rattle.dia_compat.specs.Below.{HasRule, HasWildcard}
 use Rattle.dia_compat.specs.Tests.{rule_of, wildcard_of}

@@ -3,11 +3,11 @@ use Rattle.std.proofs.Common.{◌≡◌, ◌≢◌, ℕ, ◌≤◌, Bool, true, 
 use Rattle.std.specs.Prelude.{not, min, ◌&&◌, is_some, if◌then◌else◌}
 use Rattle.std.specs.Option.{option_eq, option_map_or}
 use Rattle.dia_wire.specs.declared.Key.{Key}
-use Rattle.dia_dict.specs.declared.DRule.{DRule}
-use Rattle.dia_dict.specs.Keys.{same_key}
-use Rattle.dia_dict.specs.Dictionary.{lists_key}
-use Rattle.dia_dict.proofs.SameKeys.{same_key-refl, same_key-true}
-use Rattle.dia_dict.proofs.Members.{at_find, find-is_some}
+use Rattle.dia_book.specs.declared.DRule.{DRule}
+use Rattle.dia_book.specs.Keys.{same_key}
+use Rattle.dia_book.specs.Dictionary.{lists_key}
+use Rattle.dia_book.proofs.SameKeys.{same_key-refl, same_key-true}
+use Rattle.dia_book.proofs.Members.{at_find, find-is_some}
 use Rattle.dia_check.specs.Valid.{Placed, is_listed}
 use Rattle.dia_compat.specs.Tests.{rule_of, wildcard_of}
 use Rattle.dia_compat.proofs.RunsOfFixedRules.{IsIn}

@@ -3,12 +3,13 @@ use Rattle.std.proofs.Common.{◌≡◌, ℕ, suc, ◌<◌, Bool, true, false, L
 use Rattle.std.specs.Prelude.{◌⊎◌, position, slice_get, option_and_then, if◌then◌else◌}
 use Rattle.std.specs.Option.{option_map_or}
 use Rattle.dia_wire.specs.declared.Key.{Key}
-use Rattle.dia_dict.specs.Keys.{same_key}
-use Rattle.dia_dict.specs.declared.DRule.{DRule}
-use Rattle.dia_dict.specs.declared.definition.Slot.TheVariants as slot
-use Rattle.dia_dict.specs.Dictionary.{AreRules, is_fixed, lists_key, slot_at, slot_of}
-use Rattle.dia_dict.proofs.SameKeys.{same_key-refl, same_key-true}
-use Rattle.dia_dict.proofs.LookUpsByName.{find-place}
+use Rattle.dia_book.specs.Keys.{same_key}
+use Rattle.dia_book.specs.declared.DRule.{DRule}
+use Rattle.dia_book.specs.declared.Slot.{Slot}
+use Rattle.dia_book.specs.declared.Slot.TheVariants as slot
+use Rattle.dia_book.specs.Dictionary.{AreRules, is_fixed, lists_key, slot_at, slot_of}
+use Rattle.dia_book.proofs.SameKeys.{same_key-refl, same_key-true}
+use Rattle.dia_book.proofs.LookUpsByName.{find-place}
 use Rattle.dia_check.specs.Valid.{fixed_rules, is_listed}
 use Rattle.dia_check.proofs.OneKeyMore.{at_position}
 use Rattle.dia_compat.proofs.RunsOfFixedRules.{IsIn}

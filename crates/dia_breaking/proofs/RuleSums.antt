@@ -3,7 +3,7 @@ use Rattle.std.proofs.Common.{◌≡◌, ℕ, ◌+◌, ◌-◌, ◌*◌, ◌≤�
 use Rattle.std.specs.Prelude.{min, max, ◌&&◌, count_by}
 use Rattle.std.proofs.Math.Nat.{add-mul, mul-add, one-mul, mul-le-mul_right}
 use Rattle.dia_wire.specs.declared.Key.{Key}
-use Rattle.dia_dict.specs.declared.DRule.{DRule}
+use Rattle.dia_book.specs.declared.DRule.{DRule}
 use Rattle.dia_compat.proofs.RunsOfFixedRules.{IsIn}
 use Rattle.dia_compat.proofs.MemberCounts.{count_cons}
 use Rattle.dia_breaking.specs.LevelTests.{capped, swapped}

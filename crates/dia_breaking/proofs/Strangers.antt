@@ -4,9 +4,9 @@ use Rattle.std.specs.Prelude.{◌⊎◌, not, min, is_some, count_by, if◌then�
 use Rattle.std.specs.Option.{option_map_or}
 use Rattle.std.proofs.lemmas.Option.{none-some}
 use Rattle.dia_wire.specs.declared.Key.{Key}
-use Rattle.dia_dict.specs.declared.DRule.{DRule}
-use Rattle.dia_dict.specs.Dictionary.{AreRules}
-use Rattle.dia_dict.proofs.Members.{AreApart}
+use Rattle.dia_book.specs.declared.DRule.{DRule}
+use Rattle.dia_book.specs.Dictionary.{AreRules}
+use Rattle.dia_book.proofs.Members.{AreApart}
 use Rattle.dia_check.specs.Valid.{Placed, is_listed, is_wildcard, counted}
 use Rattle.dia_check.proofs.RuleCounts.{counts_key}
 use Rattle.dia_compat.proofs.RunsOfFixedRules.{IsIn}

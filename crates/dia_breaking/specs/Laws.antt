@@ -1,8 +1,8 @@
 -- What holds of the levels of definitions (RFC 6733 section 3.2).
 use Rattle.std.specs.Prelude.{◌⊎◌, ◌↔◌, ℕ, ◌≤◌, List, Contains}
 use Rattle.dia_wire.specs.declared.Key.{Key}
-use Rattle.dia_dict.specs.declared.DRule.{DRule}
-use Rattle.dia_dict.specs.Dictionary.{Dictionary, PlainDefinition, IsDictionary, AreRules, definitions}
+use Rattle.dia_book.specs.declared.DRule.{DRule}
+use Rattle.dia_book.specs.Dictionary.{Dictionary, PlainDefinition, IsDictionary, AreRules, definitions}
 use Rattle.dia_check.specs.Valid.{Placed}
 use Rattle.dia_breaking.specs.CountsAndRanks.{AreSound, AreInPlace}
 use Rattle.dia_breaking.specs.Breaches.{Breach}

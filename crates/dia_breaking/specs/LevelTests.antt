@@ -2,9 +2,9 @@
 use Rattle.std.specs.Prelude.{ℕ, ◌+◌, ◌-◌, ◌*◌, ◌^◌, min, max, nat_le, Bool, true, not, ◌&&◌, ◌||◌, ◌==◌, if◌then◌else◌, List, ◌++◌, filter_map, Option, Some, None, is_some, nat_lt, fold, find}
 use Rattle.std.specs.Option.{option_eq, option_map_or}
 use Rattle.dia_wire.specs.declared.Key.{Key}
-use Rattle.dia_dict.specs.Keys.{same_key}
-use Rattle.dia_dict.specs.declared.DRule.{DRule}
-use Rattle.dia_check.specs.Valid.{is_listed}
+use Rattle.dia_book.specs.Keys.{same_key}
+use Rattle.dia_book.specs.declared.DRule.{DRule}
+use Rattle.dia_check.specs.Valid.{is_listed, is_wildcard, has_wildcard}
 use Rattle.dia_compat.specs.Tests.{rule_of}
 use Rattle.dia_breaking.specs.declared.floor.Floor.{Floor}
 use Rattle.dia_breaking.specs.declared.line.Line.{Line}

@@ -2,7 +2,7 @@
 use Rattle.std.specs.Prelude.{◌≡◌, ◌⊎◌, ℕ, ◌<◌, ◌≤◌, false, List, Option, Some, None, find, Contains}
 use Rattle.std.specs.Option.{option_map_or}
 use Rattle.dia_wire.specs.declared.Key.{Key}
-use Rattle.dia_dict.specs.declared.DRule.{DRule}
+use Rattle.dia_book.specs.declared.DRule.{DRule}
 use Rattle.dia_check.specs.Valid.{Placed, fixed_rules, is_listed, has_wildcard}
 use Rattle.dia_compat.specs.Below.{HasRule, HasWildcard}
 use Rattle.dia_breaking.specs.declared.line.Line.{Line}

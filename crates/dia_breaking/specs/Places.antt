@@ -1,10 +1,10 @@
 -- The order in which a definition wants keys, by the slots of its rules (RFC 6733 section 3.2).
 use Rattle.std.specs.Prelude.{ℕ, List, length}
 use Rattle.dia_wire.specs.declared.Key.{Key}
-use Rattle.dia_dict.specs.declared.DRule.{DRule}
-use Rattle.dia_dict.specs.declared.definition.Slot.{Slot}
-use Rattle.dia_dict.specs.declared.definition.Slot.TheVariants.{Fixed, Loose, Unlisted}
-use Rattle.dia_dict.specs.Dictionary.{slot_of}
+use Rattle.dia_book.specs.declared.DRule.{DRule}
+use Rattle.dia_book.specs.declared.Slot.{Slot}
+use Rattle.dia_book.specs.declared.Slot.TheVariants.{Fixed, Loose, Unlisted}
+use Rattle.dia_book.specs.Dictionary.{slot_of}
 
 abbrev pub place_of : ℕ → Slot → ℕ
 place_of last (Fixed i) = i

@@ -2,7 +2,7 @@
 use Rattle.std.specs.Prelude.{◌≡◌, ℕ, ◌+◌, ◌-◌, ◌*◌, ◌≤◌, min, if◌then◌else◌, ◌==◌, List, [], ◌∷◌, Option, Some, option_and_then, fold, flat_map, sum_by}
 use Rattle.std.specs.Option.{option_map_or}
 use Rattle.dia_wire.specs.declared.Key.{Key}
-use Rattle.dia_dict.specs.declared.DRule.{DRule}
+use Rattle.dia_book.specs.declared.DRule.{DRule}
 use Rattle.dia_check.specs.Valid.{is_listed}
 use Rattle.dia_breaking.specs.declared.steps.Step.{Step}
 use Rattle.dia_compat.specs.Tests.{wildcard_of}

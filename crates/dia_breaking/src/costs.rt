@@ -2,7 +2,7 @@
 ghost use Rattle.std.specs.Prelude.{◌≡◌, ℕ, List};
 ghost use Rattle.dia_wire.specs.declared.Key.{Key as AnyKey};
 
-use dia_dict::Key;
+use dia_book::Key;
 
 /// The lengths of the shortest AVPs that A's side sends, in bytes and padded. Where it sends none of a key, the length is
 /// `TOO_LONG`.

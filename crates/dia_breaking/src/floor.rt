@@ -10,7 +10,7 @@ ghost use Rattle.dia_breaking.specs.LevelTests.{is_outside, base_length, needed_
 use crate::costs::Costs;
 use crate::lengths::{TOO_LONG, capped, many};
 use crate::rules::Rules;
-use dia_dict::{Book, DRule, Key};
+use dia_book::{Book, DRule, Key};
 
 /// What the levels of a definition of A take at least.
 #[derive(Clone, Copy, Debug)]

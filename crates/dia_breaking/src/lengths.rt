@@ -4,7 +4,7 @@ ghost use Rattle.dia_breaking.specs.LevelTests.{capped, has_room, swapped, many}
 ghost use Rattle.dia_breaking.specs.LevelTests.{listed_at_least, listed_at_most};
 ghost use Rattle.dia_breaking.specs.LevelTests.{other_at_least, refilled};
 
-use dia_dict::DRule;
+use dia_book::DRule;
 
 /// One byte more than the AVPs of a message may have together. It stands for all lengths from there on.
 pub const TOO_LONG: u64 = 16_777_193;

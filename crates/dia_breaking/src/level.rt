@@ -12,7 +12,7 @@ use crate::floor::Floor;
 use crate::lengths::{TOO_LONG, listed_at_least, listed_at_most, other_at_least, refilled};
 use crate::line::{Line, Reason};
 use crate::rules::Rules;
-use dia_dict::{Book, DRule, Key};
+use dia_book::{Book, DRule, Key};
 use std::alloc::AllocError;
 
 impl Floor {

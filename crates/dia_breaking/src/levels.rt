@@ -1,6 +1,6 @@
 //! The lines of the levels of two definitions.
 ghost use Rattle.std.specs.Prelude.{◌≡◌, ◌<◌, IfOk, length};
-ghost use Rattle.dia_dict.specs.Dictionary.{definitions};
+ghost use Rattle.dia_book.specs.Dictionary.{definitions};
 ghost use Rattle.dia_compat.specs.Tests.{rules_in};
 ghost use Rattle.dia_breaking.specs.CountsAndRanks.{AreSound};
 ghost use Rattle.dia_breaking.specs.LevelTests.{price, needed_up, lines_of};
@@ -14,7 +14,7 @@ use crate::level::Level;
 use crate::line::{Line, Reason};
 use crate::rules::Rules;
 use crate::steps::{all_steps, least_taken};
-use dia_dict::{Book, DefId};
+use dia_book::{Book, DefId};
 use std::alloc::{AllocError, Global};
 
 /// The lines of the levels of a definition of `a` that break the rules of one of `b`: by reasons, and those of a reason in the
@@ -70,9 +70,7 @@ fn both_sound<A: Book, B: Book>(a: &A, a_def: DefId, b: &B, b_def: DefId)
 
 fn is_sound<B: Book>(book: &B, def: DefId)
     ensures { AreSound (rules_in (B.meaning book.now) def) }
-{
-    let _count = book.entries();
-}
+{}
 
 /// The lines of each reason.
 fn all_lines<A: Book, B: Book, C: Costs>(

@@ -1,5 +1,5 @@
 //! The ways in which a level breaks the rules of a definition.
-use dia_dict::Key;
+use dia_book::Key;
 use std::fmt;
 
 /// What the AVPs of a level do that the rules of a definition of B forbid.

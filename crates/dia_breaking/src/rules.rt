@@ -1,10 +1,10 @@
 //! Definitions with look-up by key.
 ghost use Rattle.std.specs.Prelude.{◌≡◌, ◌<◌, length, slice_get};
-ghost use Rattle.dia_dict.specs.Dictionary.{definitions};
+ghost use Rattle.dia_book.specs.Dictionary.{definitions};
 ghost use Rattle.dia_check.specs.Valid.{is_listed, has_wildcard};
 ghost use Rattle.dia_compat.specs.Tests.{rules_in, rule_of, wildcard_of};
 
-use dia_dict::{Book, DRule, DefId, Key, Slot};
+use dia_book::{Book, DRule, DefId, Key, Slot};
 
 /// A definition of a dictionary.
 #[derive(Drop)]

@@ -8,7 +8,7 @@ ghost use Rattle.dia_breaking.specs.Steps.{IsLeastTaken};
 use crate::costs::Costs;
 use crate::lengths::{TOO_LONG, capped, many};
 use crate::rules::Rules;
-use dia_dict::{Book, DRule};
+use dia_book::{Book, DRule};
 use std::alloc::{AllocError, Global};
 
 /// A way to more AVPs: how long each makes the level, and how many there can be.

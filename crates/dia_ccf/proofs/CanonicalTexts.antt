@@ -10,14 +10,14 @@ use Rattle.std.proofs.lemmas.List.Elements.{filter_map-append}
 use Rattle.std.proofs.lemmas.Bool.{and_parts, ltb-true, leb-true, eqb-true}
 use Rattle.dia_ccf.specs.declared.source.FormatName.{FormatName}
 use Rattle.dia_ccf.specs.declared.source.FormatName.TheVariants as format
-use Rattle.dia_ccf.specs.declared.source.MRule.{MRule}
-use Rattle.dia_ccf.specs.declared.source.MRule.TheVariants.{Must, MustNot, Any}
-use Rattle.dia_ccf.specs.declared.source.Pxy.{Pxy}
-use Rattle.dia_ccf.specs.declared.source.Pxy.TheVariants.{Clear, Set, Either}
+use Rattle.dia_terms.specs.declared.MRule.{MRule}
+use Rattle.dia_terms.specs.declared.MRule.TheVariants.{Must, MustNot, Any}
+use Rattle.dia_terms.specs.declared.Pxy.{Pxy}
+use Rattle.dia_terms.specs.declared.Pxy.TheVariants.{Clear, Set, Either}
 use Rattle.dia_ccf.specs.declared.source.Head.{Head}
 use Rattle.dia_ccf.specs.declared.source.Head.TheVariants.{Group, Command, Error}
-use Rattle.dia_ccf.specs.declared.source.RuleKind.{RuleKind}
-use Rattle.dia_ccf.specs.declared.source.RuleKind.TheVariants.{Fixed, Required, Optional}
+use Rattle.dia_terms.specs.declared.RuleKind.{RuleKind}
+use Rattle.dia_terms.specs.declared.RuleKind.TheVariants.{Fixed, Required, Optional}
 use Rattle.dia_ccf.specs.declared.source.Qual.{Qual}
 use Rattle.dia_ccf.specs.declared.source.Decl.{Decl}
 use Rattle.dia_ccf.specs.declared.source.Rule.{Rule}

@@ -3,8 +3,8 @@ use Rattle.std.proofs.Common.{◌≡◌, ℕ, ◌<◌, Bool, true, false, List, 
 use Rattle.std.specs.Prelude.{nat_le}
 use Rattle.std.proofs.lemmas.Bool.{leb-true, leb-false}
 use Rattle.dia_ccf.specs.declared.reading.refusal.Refusal.{Refusal}
-use Rattle.dia_ccf.specs.declared.source.RuleKind.{RuleKind}
-use Rattle.dia_ccf.specs.declared.source.RuleKind.TheVariants.{Fixed, Required, Optional}
+use Rattle.dia_terms.specs.declared.RuleKind.{RuleKind}
+use Rattle.dia_terms.specs.declared.RuleKind.TheVariants.{Fixed, Required, Optional}
 use Rattle.dia_ccf.specs.Plain.{PlainSource}
 use Rattle.dia_ccf.specs.Tokens.{Token, Number}
 use Rattle.dia_ccf.specs.Limits.{max_number, max_command_code, max_value}

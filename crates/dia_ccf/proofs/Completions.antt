@@ -3,8 +3,8 @@ use Rattle.std.proofs.Common.{◌≡◌, ℕ, Bool, true, false, cond, List, [],
 use Rattle.std.specs.Prelude.{codes, ◌&&◌, not, nat_le, ⊤}
 use Rattle.std.specs.Option.{option_map}
 use Rattle.std.proofs.lemmas.Bool.{le-leb, leb-true}
-use Rattle.dia_ccf.specs.declared.source.RuleKind.{RuleKind}
-use Rattle.dia_ccf.specs.declared.source.RuleKind.TheVariants.{Fixed, Required, Optional}
+use Rattle.dia_terms.specs.declared.RuleKind.{RuleKind}
+use Rattle.dia_terms.specs.declared.RuleKind.TheVariants.{Fixed, Required, Optional}
 use Rattle.dia_ccf.specs.declared.source.Qual.{Qual}
 use Rattle.dia_ccf.specs.Plain.{PlainDecl, PlainRule, PlainDef, PlainSource}
 use Rattle.dia_ccf.specs.Tokens.{Token, Less, Greater, Open_brace, Close_brace, Open_bracket, Close_bracket, Open_parenthesis, Close_parenthesis, Star, Dots, Assign, Colon, Declares, Number, Name}

@@ -7,8 +7,8 @@ use Rattle.std.proofs.lemmas.List.{append-nil}
 use Rattle.std.proofs.Math.Seq.{take-append_seam, take-append-add}
 use Rattle.dia_ccf.specs.declared.reading.refusal.Refusal.{Refusal}
 use Rattle.dia_ccf.specs.declared.reading.refusal.Refusal.TheVariants as refusal
-use Rattle.dia_ccf.specs.declared.source.RuleKind.{RuleKind}
-use Rattle.dia_ccf.specs.declared.source.RuleKind.TheVariants.{Fixed, Required, Optional}
+use Rattle.dia_terms.specs.declared.RuleKind.{RuleKind}
+use Rattle.dia_terms.specs.declared.RuleKind.TheVariants.{Fixed, Required, Optional}
 use Rattle.dia_ccf.specs.Plain.{PlainSource}
 use Rattle.dia_ccf.specs.Tokens.{Token, Number, Name}
 use Rattle.dia_ccf.specs.Grammar.{Derives}

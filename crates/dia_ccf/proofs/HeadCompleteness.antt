@@ -2,8 +2,8 @@
 use Rattle.std.proofs.Common.{◌≡◌, ℕ, ◌≤◌, Bool, true, false, List, [], ◌∷◌, ◌++◌, map, Option, Some, None, refl, sym, ap, subst, ◌∙◌, append_assoc, arith, ⊎_elim}
 use Rattle.std.specs.Prelude.{codes}
 use Rattle.std.specs.Char.{to_ascii_lowercase}
-use Rattle.dia_ccf.specs.declared.source.Pxy.{Pxy}
-use Rattle.dia_ccf.specs.declared.source.Pxy.TheVariants.{Clear, Set, Either}
+use Rattle.dia_terms.specs.declared.Pxy.{Pxy}
+use Rattle.dia_terms.specs.declared.Pxy.TheVariants.{Clear, Set, Either}
 use Rattle.dia_ccf.specs.declared.source.Head.{Head}
 use Rattle.dia_ccf.specs.declared.source.Head.TheVariants.{Group, Command, Error}
 use Rattle.dia_ccf.specs.Plain.{PlainSource}

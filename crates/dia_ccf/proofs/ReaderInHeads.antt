@@ -8,7 +8,7 @@ use Rattle.dia_ccf.specs.declared.reading.Reader.{Reader}
 use Rattle.dia_ccf.specs.declared.reading.refusal.Refusal.{Refusal}
 use Rattle.dia_ccf.specs.declared.source.Head.{Head}
 use Rattle.dia_ccf.specs.declared.source.Head.TheVariants.{Command, Group, Error}
-use Rattle.dia_ccf.specs.declared.source.Pxy.TheVariants.{Either}
+use Rattle.dia_terms.specs.declared.Pxy.TheVariants.{Either}
 use Rattle.dia_ccf.specs.Plain.{PlainSource}
 use Rattle.dia_ccf.specs.Tokens.{Token, Greater, Colon, Comma, Close_bracket, Number, Name}
 use Rattle.dia_ccf.specs.Limits.{max_number, max_command_code}

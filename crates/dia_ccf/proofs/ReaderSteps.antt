@@ -7,8 +7,8 @@ use Rattle.std.specs.Global.{Global}
 use Rattle.dia_ccf.specs.declared.reading.refusal.Refusal.{Refusal}
 use Rattle.dia_ccf.specs.declared.reading.refusal.Refusal.TheVariants as refusal
 use Rattle.dia_ccf.specs.declared.reading.Reader.{Reader}
-use Rattle.dia_ccf.specs.declared.source.RuleKind.{RuleKind}
-use Rattle.dia_ccf.specs.declared.source.RuleKind.TheVariants.{Fixed, Required, Optional}
+use Rattle.dia_terms.specs.declared.RuleKind.{RuleKind}
+use Rattle.dia_terms.specs.declared.RuleKind.TheVariants.{Fixed, Required, Optional}
 use Rattle.dia_ccf.specs.Names.{is_name, is_fixed, is_rule_name}
 use Rattle.dia_ccf.specs.Plain.{PlainSource, PlainDef}
 use Rattle.dia_ccf.specs.Limits.{max_number}

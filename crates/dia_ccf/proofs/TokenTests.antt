@@ -8,8 +8,8 @@ use Rattle.std.proofs.lemmas.Bool.{leb-true}
 use lib.Pointwise.{bytes_decides}
 use Rattle.dia_ccf.specs.declared.source.FormatName.{FormatName}
 use Rattle.dia_ccf.specs.declared.source.FormatName.TheVariants as format
-use Rattle.dia_ccf.specs.declared.source.MRule.{MRule}
-use Rattle.dia_ccf.specs.declared.source.MRule.TheVariants.{Must, MustNot, Any}
+use Rattle.dia_terms.specs.declared.MRule.{MRule}
+use Rattle.dia_terms.specs.declared.MRule.TheVariants.{Must, MustNot, Any}
 use Rattle.dia_ccf.specs.Names.{is_name, same_bytes}
 use Rattle.dia_ccf.specs.Tokens.{Token, Less, Greater, Open_brace, Close_brace, Open_bracket, Close_bracket, Open_parenthesis}
 use Rattle.dia_ccf.specs.Tokens.{Close_parenthesis, Star, Comma, Dots, Assign, Colon, Declares, Number, Name}

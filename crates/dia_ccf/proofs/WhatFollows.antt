@@ -7,8 +7,8 @@ use Rattle.dia_ccf.specs.declared.source.FormatName.{FormatName}
 use Rattle.dia_ccf.specs.declared.source.FormatName.TheVariants as format
 use Rattle.dia_ccf.specs.declared.source.Head.{Head}
 use Rattle.dia_ccf.specs.declared.source.Head.TheVariants.{Group, Command, Error}
-use Rattle.dia_ccf.specs.declared.source.RuleKind.{RuleKind}
-use Rattle.dia_ccf.specs.declared.source.RuleKind.TheVariants.{Fixed, Required, Optional}
+use Rattle.dia_terms.specs.declared.RuleKind.{RuleKind}
+use Rattle.dia_terms.specs.declared.RuleKind.TheVariants.{Fixed, Required, Optional}
 use Rattle.dia_ccf.specs.Names.{is_name, is_fixed, fixed_first}
 use Rattle.dia_ccf.specs.Plain.{PlainDecl, PlainRule, PlainDef, PlainSource}
 use Rattle.dia_ccf.specs.Tokens.{Token, Open_parenthesis, Close_parenthesis, Declares, Number, Name}

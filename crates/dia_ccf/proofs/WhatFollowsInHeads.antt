@@ -3,8 +3,8 @@ use Rattle.std.proofs.Common.{◌≡◌, ℕ, ◌≤◌, Bool, true, false, cond
 use Rattle.std.specs.Prelude.{codes, ◌||◌}
 use Rattle.std.specs.Option.{option_map}
 use Rattle.std.specs.Char.{to_ascii_lowercase}
-use Rattle.dia_ccf.specs.declared.source.Pxy.{Pxy}
-use Rattle.dia_ccf.specs.declared.source.Pxy.TheVariants.{Clear, Set, Either}
+use Rattle.dia_terms.specs.declared.Pxy.{Pxy}
+use Rattle.dia_terms.specs.declared.Pxy.TheVariants.{Clear, Set, Either}
 use Rattle.dia_ccf.specs.declared.source.Head.{Head}
 use Rattle.dia_ccf.specs.declared.source.Head.TheVariants.{Group, Command, Error}
 use Rattle.dia_ccf.specs.Tokens.{Token, Open_bracket, Close_bracket, Comma, Colon, Number, Name}

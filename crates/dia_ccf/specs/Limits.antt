@@ -1,13 +1,10 @@
 -- The limits of texts.
 use Rattle.std.specs.Prelude.{ℕ}
+pub use Rattle.dia_terms.specs.Limits.{max_name}
 
 -- the bytes of a text (our profile)
 abbrev pub max_text : ℕ
 max_text = 1048576
-
--- the bytes of a name (our profile)
-abbrev pub max_name : ℕ
-max_name = 128
 
 -- a code, a vendor or an application (RFC 6733 sections 3 and 4.1), or a count (our profile): four bytes
 abbrev pub max_number : ℕ

@@ -1,34 +1,16 @@
 -- Names, and the other facts that each value of a source keeps.
-use Rattle.std.specs.Prelude.{ℕ, ◌+◌, nat_lt, nat_le, Bool, true, false, not, ◌&&◌, ◌||◌, ◌==◌, if◌then◌else◌, List, [], ◌∷◌, length, Option, Some, None, codes, String, string_bytes}
-use Rattle.std.specs.List.{list_all, list_any}
-use Rattle.std.specs.Str.{bytes_eq}
-use Rattle.std.specs.Char.{is_ascii_alphanumeric, is_ascii_alphabetic}
+use Rattle.std.specs.Prelude.{ℕ, ◌+◌, nat_lt, nat_le, Bool, true, false, not, ◌&&◌, if◌then◌else◌, List, [], ◌∷◌, length, Option, Some, None, String, string_bytes}
+use Rattle.std.specs.List.{list_all}
 use Rattle.std.specs.Global.{Vec, Global}
-use Rattle.dia_ccf.specs.Limits.{max_name, max_number, max_command_code, max_value}
+pub use Rattle.dia_terms.specs.Names.{is_run_byte, same_bytes, is_name_run, is_name}
+use Rattle.dia_ccf.specs.Limits.{max_number, max_command_code, max_value}
 use Rattle.dia_ccf.specs.declared.source.FormatName.{FormatName}
 use Rattle.dia_ccf.specs.declared.source.FormatName.TheVariants.{Enumerated}
-use Rattle.dia_ccf.specs.declared.source.RuleKind.{RuleKind}
-use Rattle.dia_ccf.specs.declared.source.RuleKind.TheVariants.{Fixed, Required, Optional}
+use Rattle.dia_terms.specs.declared.RuleKind.{RuleKind}
+use Rattle.dia_terms.specs.declared.RuleKind.TheVariants.{Fixed, Required, Optional}
 use Rattle.dia_ccf.specs.declared.source.Head.{Head}
 use Rattle.dia_ccf.specs.declared.source.Head.TheVariants.{Group, Command, Error}
 use Rattle.dia_ccf.specs.declared.source.Qual.{Qual}
-
--- a byte of a run: a letter, a digit or a dash
-abbrev pub is_run_byte : ℕ → Bool
-is_run_byte c = is_ascii_alphanumeric c || c == 45
-
--- the test of two texts by `==`
-abbrev pub same_bytes : List ℕ → List ℕ → Bool
-same_bytes = bytes_eq
-
--- a run that begins with a letter or a digit and holds a letter
-abbrev pub is_name_run : List ℕ → Bool
-is_name_run [] = false
-is_name_run (c ∷ cs) = is_ascii_alphanumeric c && list_all is_run_byte cs && list_any is_ascii_alphabetic (c ∷ cs)
-
--- a name within the limit, and not the wildcard's
-abbrev pub is_name : List ℕ → Bool
-is_name name = is_name_run name && nat_le (length name) max_name && not (same_bytes name (codes "AVP"))
 
 -- the wildcard has no name, and is no fixed rule
 abbrev pub is_rule_name : RuleKind → Option (String Global) → Bool

@@ -2,9 +2,9 @@
 use Rattle.std.specs.Prelude.{ℕ, List, map, Option, string_bytes}
 use Rattle.std.specs.Option.{option_map}
 use Rattle.dia_ccf.specs.declared.source.FormatName.{FormatName}
-use Rattle.dia_ccf.specs.declared.source.MRule.{MRule}
+use Rattle.dia_terms.specs.declared.MRule.{MRule}
 use Rattle.dia_ccf.specs.declared.source.Head.{Head}
-use Rattle.dia_ccf.specs.declared.source.RuleKind.{RuleKind}
+use Rattle.dia_terms.specs.declared.RuleKind.{RuleKind}
 use Rattle.dia_ccf.specs.declared.source.Qual.{Qual}
 use Rattle.dia_ccf.specs.declared.source.Decl.{Decl}
 use Rattle.dia_ccf.specs.declared.source.Rule.{Rule}

@@ -12,7 +12,7 @@ use Rattle.dia_ccf.specs.Tokens.{Token, Comma, line_at}
 use Rattle.dia_ccf.specs.LexerTokens.{left_from}
 use Rattle.dia_ccf.specs.declared.reading.definitions.Behind.{Behind}
 use Rattle.dia_ccf.specs.declared.reading.definitions.Behind.TheVariants as behinds
-use Rattle.dia_ccf.specs.declared.source.RuleKind.TheVariants.{Fixed}
+use Rattle.dia_terms.specs.declared.RuleKind.TheVariants.{Fixed}
 use Rattle.dia_ccf.specs.Names.{is_name}
 use Rattle.dia_ccf.specs.Plain.{PlainSource, PlainDef, plain_source, plain_rule}
 use Rattle.dia_ccf.specs.Machine.{State, Place, Between, Def_assign, Rules, add_def, with_rule, Outcome, Reads, Stops, outcome, next, whole, refused, why, is_keyword, same_sign}

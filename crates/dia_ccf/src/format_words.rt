@@ -5,7 +5,8 @@ ghost use Rattle.dia_ccf.specs.Grammar.{format_word, rule_word};
 ghost use Rattle.dia_ccf.specs.Machine.{format_named};
 
 use crate::names::is_same;
-use crate::source::{FormatName, MRule};
+use crate::source::FormatName;
+use dia_terms::MRule;
 
 /// All formats.
 const FORMATS: [FormatName; 16] = [

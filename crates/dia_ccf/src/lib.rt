@@ -25,9 +25,10 @@ mod reading;
 mod rendering;
 mod source;
 
+pub use dia_terms::{MAX_NAME, MRule, Pxy, RuleKind};
 pub use fault::CcfFault;
-pub use limits::{MAX_NAME, MAX_TEXT};
+pub use limits::MAX_TEXT;
 pub use names::is_name;
 pub use parsing::{one_fault, one_source, parse};
 pub use rendering::render;
-pub use source::{Decl, Def, FormatName, Head, MRule, Pxy, Qual, Rule, RuleKind, Source};
+pub use source::{Decl, Def, FormatName, Head, Qual, Rule, Source};

@@ -3,9 +3,6 @@
 /// The most bytes that a text may have (our profile).
 pub const MAX_TEXT: usize = 1_048_576;
 
-/// The most bytes of a name (our profile).
-pub const MAX_NAME: usize = 128;
-
 /// The greatest command code, which has three bytes (RFC 6733 section 3).
 pub(crate) const MAX_COMMAND_CODE: u32 = 16_777_215;
 

@@ -4,7 +4,7 @@ ghost use Rattle.std.specs.Char.{to_ascii_lowercase};
 ghost use Rattle.dia_ccf.specs.Names.{is_name, same_bytes};
 
 use crate::lexer::is_name_run;
-use crate::limits::MAX_NAME;
+use dia_terms::MAX_NAME;
 
 /// Whether the text is a name of a dictionary: at most [`MAX_NAME`] ASCII letters, digits and dashes, of which
 /// the first is no dash and one at least is a letter, and not `AVP`. That a name may begin with a digit is our

@@ -15,9 +15,9 @@ mod refusal;
 
 use crate::fault::CcfFault;
 use crate::lexer::{Sign, Token, next_token};
-use crate::limits::MAX_NAME;
 use crate::names::{is_name, is_same, is_same_word};
 use crate::source::{Decl, Def, Head, Source};
+use dia_terms::MAX_NAME;
 use refusal::Refusal;
 use std::alloc::Global;
 

@@ -14,7 +14,8 @@ ghost use Rattle.dia_ccf.specs.CanonicalText.{error_proxy_text, rule_line, quali
 ghost use Rattle.dia_ccf.specs.CanonicalText.{count_text, bracketed_text};
 
 use crate::format_words::{format_name, rule_name};
-use crate::source::{Decl, Def, Head, Pxy, Qual, Rule, RuleKind, Source};
+use crate::source::{Decl, Def, Head, Qual, Rule, Source};
+use dia_terms::{Pxy, RuleKind};
 use std::alloc::{AllocError, Global};
 
 /// The canonical text of a source: a line for each declaration, then a line for the head and one for each rule of each

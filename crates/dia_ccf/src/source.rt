@@ -4,6 +4,8 @@ ghost use Rattle.std.specs.List.{list_all};
 ghost use Rattle.dia_ccf.specs.Names.{is_name, is_rule_name, is_number, is_qualifier};
 ghost use Rattle.dia_ccf.specs.Names.{fits_values, is_head, fixed_first, is_group};
 
+use dia_terms::{MRule, Pxy, RuleKind};
+
 /// The formats by their names (RFC 6733 sections 4.2 and 4.3, and QoSFilterRule of RFC 3588 section 4.3).
 #[derive(Clone, Copy, Debug, PartialEq, Eq)]
 pub enum FormatName {
@@ -25,14 +27,6 @@ pub enum FormatName {
     QosFilterRule,
 }
 
-/// Whether the M flag is to be set.
-#[derive(Clone, Copy, Debug, PartialEq, Eq)]
-pub enum MRule {
-    Must,
-    MustNot,
-    Any,
-}
-
 /// A declared AVP (our profile).
 #[derive(Debug, Drop)]
 pub struct Decl {
@@ -48,14 +42,6 @@ pub struct Decl {
     pub ghost named: { IsTrue (is_name (string_bytes name)) },
     pub ghost numbered: { IsTrue (is_number code && is_number vendor) },
     pub ghost listed: { IsTrue (fits_values format values) },
-}
-
-/// Which P flag a message of a class may have.
-#[derive(Clone, Copy, Debug, PartialEq, Eq)]
-pub enum Pxy {
-    Clear,
-    Set,
-    Either,
 }
 
 /// The head of a definition (RFC 6733 section 3.2).
@@ -79,17 +65,6 @@ pub enum Head {
     Error {
         pxy: Pxy,
     },
-}
-
-/// The brackets of a rule (RFC 6733 section 3.2).
-#[derive(Clone, Copy, Debug, PartialEq, Eq)]
-pub enum RuleKind {
-    /// In angle brackets: the AVPs come first, in the order of the rules.
-    Fixed,
-    /// In braces.
-    Required,
-    /// In brackets.
-    Optional,
 }
 
 /// How often the AVP of a rule stands (RFC 6733 section 3.2).

@@ -6,7 +6,7 @@ use Rattle.std.specs.Coded.{le_prop}
 use Rattle.std.proofs.lemmas.List.{length-append}
 use Rattle.dia_wire.specs.Wire.{avp_length, BeginsWithNone}
 use Rattle.dia_wire.proofs.Spelling.{rounded-le, at_least_8}
-use Rattle.dia_dict.specs.Dictionary.{Dictionary, IsDictionary, definitions}
+use Rattle.dia_book.specs.Dictionary.{Dictionary, IsDictionary, definitions}
 use Rattle.dia_policy.specs.declared.Unknown.{Unknown}
 use Rattle.dia_policy.specs.declared.Levels.{Levels}
 use Rattle.dia_check.specs.declared.open_levels.OpenLevels.{OpenLevels}

@@ -5,7 +5,7 @@ use Rattle.std.proofs.lemmas.Bool.{both_ways}
 use Rattle.std.proofs.lemmas.Option.{same_Some, none-some}
 use Rattle.dia_wire.specs.declared.Header.{Header}
 use Rattle.dia_wire.proofs.OneHeader.{one_header}
-use Rattle.dia_dict.specs.Dictionary.{Dictionary, IsDictionary, PlainDefinition, definitions, selected, has_command}
+use Rattle.dia_book.specs.Dictionary.{Dictionary, IsDictionary, PlainDefinition, definitions, selected, has_command}
 use Rattle.dia_policy.specs.declared.Unknown.{Unknown}
 use Rattle.dia_policy.specs.declared.Levels.{Levels}
 use Rattle.dia_check.specs.declared.fault.Reason.{Reason}

@@ -10,7 +10,7 @@ use Rattle.dia_wire.specs.Wire.{PlainAvp, key_of, head_length, avp_length, Begin
 use Rattle.dia_wire.proofs.Spelling.{rounded-le, opened}
 use Rattle.dia_data.specs.Plain.{Grouped}
 use Rattle.dia_data.specs.declared.LeafState.{LeafState}
-use Rattle.dia_dict.specs.Dictionary.{Dictionary, DictEntry, IsDictionary, PlainDefinition, definitions, entry_of, group_place}
+use Rattle.dia_book.specs.Dictionary.{Dictionary, DictEntry, IsDictionary, PlainDefinition, definitions, entry_of, group_place}
 use Rattle.dia_policy.specs.declared.Unknown.{Unknown}
 use Rattle.dia_policy.specs.declared.Levels.{Levels}
 use Rattle.dia_policy.specs.declared.Levels.TheVariants.{Any}

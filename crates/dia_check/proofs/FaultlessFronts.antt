@@ -10,9 +10,9 @@ use Rattle.std.proofs.lemmas.List.Elements.{filter-append}
 use Rattle.std.proofs.lemmas.List.Sums.{sum_by-append, prefix_len-le-length}
 use Rattle.std.proofs.lemmas.Option.{none-some, same_Some}
 use Rattle.dia_wire.specs.declared.Key.{Key}
-use Rattle.dia_dict.specs.declared.DRule.{DRule}
-use Rattle.dia_dict.specs.Dictionary.{AreRules, is_fixed, lists_key}
-use Rattle.dia_dict.proofs.Members.{at_filter, at_append}
+use Rattle.dia_book.specs.declared.DRule.{DRule}
+use Rattle.dia_book.specs.Dictionary.{AreRules, is_fixed, lists_key}
+use Rattle.dia_book.proofs.Members.{at_filter, at_append}
 use Rattle.dia_check.specs.Valid.{InBounds, Placed, MayBeLoose, fixed_rules, loose_rules, counted, is_listed, has_wildcard}
 use Rattle.dia_check.specs.Faults.{runs, met, loose_start, run_end, IsFirstShort}
 use Rattle.dia_check.proofs.LongestRuns.{AllInBounds, AreDistinct, AreOthers, runs_are_longest, sum-cons, is_of-key}

@@ -7,8 +7,8 @@ use Rattle.std.specs.List.{AllByRecursion}
 use Rattle.std.proofs.Math.Seq.{drop-length}
 use Rattle.std.proofs.lemmas.List.{drop-append-le}
 use Rattle.dia_wire.specs.declared.Key.{Key}
-use Rattle.dia_dict.specs.declared.DRule.{DRule}
-use Rattle.dia_dict.specs.Dictionary.{AreRules, is_fixed}
+use Rattle.dia_book.specs.declared.DRule.{DRule}
+use Rattle.dia_book.specs.Dictionary.{AreRules, is_fixed}
 use Rattle.dia_check.specs.Valid.{Placed, MayBeLoose, fixed_rules}
 use Rattle.dia_check.specs.Faults.{runs, met, loose_start}
 use Rattle.dia_check.specs.OpenLevels.{IsAt}

@@ -12,11 +12,11 @@ use Rattle.dia_wire.specs.Wire.{PlainAvp, key_of, avp_length, BeginsWith, Spells
 use Rattle.dia_wire.proofs.Spelling.{opened, rounded-le, at_least_8}
 use Rattle.dia_data.specs.Plain.{Grouped}
 use Rattle.dia_data.specs.Leaf.{IsLeaf}
-use Rattle.dia_dict.specs.declared.MRule.{MRule}
-use Rattle.dia_dict.specs.declared.MRule.TheVariants.{Must, MustNot, Any as AnyM}
-use Rattle.dia_dict.specs.declared.DRule.{DRule}
-use Rattle.dia_dict.specs.Dictionary.{Dictionary, DictEntry, IsDictionary, AreRules, PlainDefinition, groups, definitions, entry_of, is_fixed, lists_key}
-use Rattle.dia_dict.proofs.NumberedGroups.{slice_get-append_left}
+use Rattle.dia_book.specs.declared.MRule.{MRule}
+use Rattle.dia_book.specs.declared.MRule.TheVariants.{Must, MustNot, Any as AnyM}
+use Rattle.dia_book.specs.declared.DRule.{DRule}
+use Rattle.dia_book.specs.Dictionary.{Dictionary, DictEntry, IsDictionary, AreRules, PlainDefinition, groups, definitions, entry_of, is_fixed, lists_key}
+use Rattle.dia_book.proofs.NumberedGroups.{slice_get-append_left}
 use Rattle.dia_policy.specs.declared.Unknown.{Unknown}
 use Rattle.dia_policy.specs.declared.Unknown.TheVariants.{Kept, Refused}
 use Rattle.dia_policy.specs.declared.Levels.{Levels}

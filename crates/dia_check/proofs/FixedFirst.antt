@@ -3,8 +3,8 @@ use Rattle.std.proofs.Common.{◌≡◌, ℕ, ◌+◌, ◌<◌, ◌≤◌, Bool,
 use Rattle.std.specs.Prelude.{slice_get, ◌⊎◌}
 use Rattle.std.proofs.lemmas.Bool.{ltb-true, ltb-false}
 use Rattle.std.proofs.lemmas.Option.{same_Some, slice_get_cases, slice_get_within}
-use Rattle.dia_dict.specs.declared.DRule.{DRule}
-use Rattle.dia_dict.specs.Dictionary.{AreRules, is_fixed}
+use Rattle.dia_book.specs.declared.DRule.{DRule}
+use Rattle.dia_book.specs.Dictionary.{AreRules, is_fixed}
 use Rattle.dia_check.specs.Valid.{fixed_rules}
 use Rattle.dia_check.proofs.FaultlessFronts.{into_fixed}
 use Rattle.dia_check.proofs.KeysByCounts.{fixed_at, fixed_few}

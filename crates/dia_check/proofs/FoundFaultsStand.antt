@@ -6,7 +6,7 @@ use Rattle.std.proofs.lemmas.Option.{same_Some, none-some}
 use Rattle.dia_wire.specs.Wire.{PlainAvp, head_length, avp_length, padded_length, IsVendorField, Spells, SpellsAll, BeginsWith, BeginsWithNone}
 use Rattle.dia_wire.proofs.Spelling.{opened, rounded-le}
 use Rattle.dia_wire.proofs.OneHeader.{head_says}
-use Rattle.dia_dict.specs.Dictionary.{Dictionary, IsDictionary, PlainDefinition}
+use Rattle.dia_book.specs.Dictionary.{Dictionary, IsDictionary, PlainDefinition}
 use Rattle.dia_check.proofs.FaultlessLevels.{opens}
 use Rattle.dia_policy.specs.declared.Unknown.{Unknown}
 use Rattle.dia_policy.specs.declared.Levels.{Levels}

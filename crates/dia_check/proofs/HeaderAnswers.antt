@@ -4,8 +4,8 @@ use Rattle.std.specs.Prelude.{slice_get, Err, ◌⊎◌}
 use Rattle.dia_wire.specs.declared.Header.{Header}
 use Rattle.dia_wire.specs.Wire.{IsHead, IsMessageLength}
 use Rattle.dia_wire.proofs.OneHeader.{head_says}
-use Rattle.dia_dict.specs.declared.Class.{Class}
-use Rattle.dia_dict.specs.Dictionary.{Dictionary, IsDictionary, PlainDefinition, definitions, selected, has_command}
+use Rattle.dia_book.specs.declared.Class.{Class}
+use Rattle.dia_book.specs.Dictionary.{Dictionary, IsDictionary, PlainDefinition, definitions, selected, has_command}
 use Rattle.dia_policy.specs.declared.Unknown.{Unknown}
 use Rattle.dia_policy.specs.declared.Levels.{Levels}
 use Rattle.dia_check.specs.declared.fault.Fault.{Fault}

@@ -9,8 +9,8 @@ use Rattle.dia_wire.specs.Wire.{PlainAvp, key_of, head_length, avp_length, padde
 use Rattle.dia_wire.proofs.OneHeader.{one_header}
 use Rattle.dia_wire.proofs.Spelling.{opened, rounded-le, at_least_8, with_vendor}
 use Rattle.dia_data.specs.declared.LeafState.{LeafState}
-use Rattle.dia_dict.specs.Dictionary.{Dictionary, DictEntry, IsDictionary, PlainDefinition, definitions, selected}
-use Rattle.dia_dict.proofs.Members.{at_Contains}
+use Rattle.dia_book.specs.Dictionary.{Dictionary, DictEntry, IsDictionary, PlainDefinition, definitions, selected}
+use Rattle.dia_book.proofs.Members.{at_Contains}
 use Rattle.dia_policy.specs.declared.Unknown.{Unknown}
 use Rattle.dia_policy.specs.declared.Levels.{Levels}
 use Rattle.dia_policy.specs.declared.Levels.TheVariants.{Any, AtMost}

@@ -8,9 +8,9 @@ use Rattle.std.proofs.lemmas.List.Sums.{sum_by-cons}
 use Rattle.std.proofs.lemmas.List.Folds.{length-prefix_len}
 use Rattle.std.proofs.lemmas.List.{take-append-drop, drop-drop, drop_at}
 use Rattle.dia_wire.specs.declared.Key.{Key}
-use Rattle.dia_dict.specs.declared.DRule.{DRule}
-use Rattle.dia_dict.specs.Keys.{same_key}
-use Rattle.dia_dict.specs.Dictionary.{lists_key}
+use Rattle.dia_book.specs.declared.DRule.{DRule}
+use Rattle.dia_book.specs.Keys.{same_key}
+use Rattle.dia_book.specs.Dictionary.{lists_key}
 use Rattle.dia_check.specs.Valid.{InBounds, Runs}
 use Rattle.dia_check.specs.Faults.{runs}
 

@@ -10,12 +10,12 @@ use Rattle.std.proofs.lemmas.List.Sums.{sum_by-cons, prefix_len-le-length}
 use Rattle.std.proofs.lemmas.List.Quantifiers.{position-Some}
 use Rattle.std.proofs.lemmas.Option.{none-some, same_Some, slice_get_cases, slice_get_within}
 use Rattle.dia_wire.specs.declared.Key.{Key}
-use Rattle.dia_dict.specs.declared.DRule.{DRule}
-use Rattle.dia_dict.specs.declared.Slot.{Slot}
-use Rattle.dia_dict.specs.declared.Slot.TheVariants as slot
-use Rattle.dia_dict.specs.Dictionary.{AreRules, is_fixed, lists_key, slot_of, slot_at}
-use Rattle.dia_dict.proofs.Lists.{position-within}
-use Rattle.dia_dict.proofs.Members.{position-is_some}
+use Rattle.dia_book.specs.declared.DRule.{DRule}
+use Rattle.dia_book.specs.declared.Slot.{Slot}
+use Rattle.dia_book.specs.declared.Slot.TheVariants as slot
+use Rattle.dia_book.specs.Dictionary.{AreRules, is_fixed, lists_key, slot_of, slot_at}
+use Rattle.dia_book.proofs.Lists.{position-within}
+use Rattle.dia_book.proofs.Members.{position-is_some}
 use Rattle.dia_check.specs.Valid.{fixed_rules, is_listed, has_wildcard, is_wildcard}
 use Rattle.dia_check.specs.Faults.{runs, met, loose_start}
 use Rattle.dia_check.specs.OpenLevels.{IsAt, IsCounted, IsNotAllowed, Leads}

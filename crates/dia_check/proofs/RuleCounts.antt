@@ -9,10 +9,10 @@ use Rattle.std.proofs.lemmas.List.Sums.{sum_by-append, prefix_len-le-length}
 use Rattle.std.proofs.lemmas.List.{length-drop}
 use Rattle.std.proofs.lemmas.Option.{slice_get_within}
 use Rattle.dia_wire.specs.declared.Key.{Key}
-use Rattle.dia_dict.specs.declared.DRule.{DRule}
-use Rattle.dia_dict.specs.Dictionary.{AreRules, is_fixed, lists_key}
-use Rattle.dia_dict.proofs.Members.{at_filter}
-use Rattle.dia_dict.proofs.NumberedGroups.{slice_get-append_left}
+use Rattle.dia_book.specs.declared.DRule.{DRule}
+use Rattle.dia_book.specs.Dictionary.{AreRules, is_fixed, lists_key}
+use Rattle.dia_book.proofs.Members.{at_filter}
+use Rattle.dia_book.proofs.NumberedGroups.{slice_get-append_left}
 use Rattle.dia_check.specs.Valid.{InBounds, Placed, MayBeLoose, fixed_rules, loose_rules, counted, is_wildcard, is_listed}
 use Rattle.dia_check.specs.Faults.{runs, met, loose_start}
 use Rattle.dia_check.proofs.LongestRuns.{AllInBounds, longest_are_runs, sum-cons}

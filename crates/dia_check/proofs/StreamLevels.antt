@@ -4,7 +4,7 @@ use Rattle.std.specs.Prelude.{◌^◌, Result, Ok, Err, replicate}
 use Rattle.std.proofs.lemmas.List.{append-nil}
 use Rattle.std.proofs.lemmas.Option.{none-some}
 use Rattle.dia_wire.specs.Number.{number}
-use Rattle.dia_dict.specs.Dictionary.{Dictionary, IsDictionary}
+use Rattle.dia_book.specs.Dictionary.{Dictionary, IsDictionary}
 use Rattle.dia_policy.specs.declared.Unknown.{Unknown}
 use Rattle.dia_policy.specs.declared.Levels.{Levels}
 use Rattle.dia_policy.specs.declared.Levels.TheVariants.{Any, AtMost}

@@ -11,13 +11,13 @@ use Rattle.dia_wire.specs.Number.{number, IsField}
 use Rattle.dia_wire.specs.Wire.{PlainAvp, avp_length, SpellsAll, BeginsWith, BeginsWithNone}
 use Rattle.dia_wire.proofs.Spelling.{rounded, rounded-le, at_least_8}
 use Rattle.dia_wire.proofs.Decode.{is_bad, avp_of, len_of, bad_none, good_begins}
-use Rattle.dia_dict.specs.declared.Class.{Class}
-use Rattle.dia_dict.specs.declared.Pxy.{Pxy}
-use Rattle.dia_dict.specs.declared.Pxy.TheVariants.{Clear, Set, Either}
-use Rattle.dia_dict.specs.declared.DefHead.{DefHead}
-use Rattle.dia_dict.specs.declared.DefHead.TheVariants.{Group, Command, Error}
-use Rattle.dia_dict.specs.Dictionary.{Dictionary, IsDictionary, PlainDefinition, groups, definitions, selected, has_command, is_command}
-use Rattle.dia_dict.proofs.NumberedGroups.{slice_get-append_right}
+use Rattle.dia_book.specs.declared.Class.{Class}
+use Rattle.dia_book.specs.declared.Pxy.{Pxy}
+use Rattle.dia_book.specs.declared.Pxy.TheVariants.{Clear, Set, Either}
+use Rattle.dia_book.specs.declared.DefHead.{DefHead}
+use Rattle.dia_book.specs.declared.DefHead.TheVariants.{Group, Command, Error}
+use Rattle.dia_book.specs.Dictionary.{Dictionary, IsDictionary, PlainDefinition, groups, definitions, selected, has_command, is_command}
+use Rattle.dia_book.proofs.NumberedGroups.{slice_get-append_right}
 use Rattle.dia_policy.specs.declared.Unknown.{Unknown}
 use Rattle.dia_policy.specs.declared.Levels.{Levels}
 use Rattle.dia_check.specs.declared.fault.Reason.{Reason}

@@ -8,7 +8,7 @@ use Rattle.dia_data.specs.Plain.{Grouped}
 use Rattle.dia_data.specs.Leaf.{IsLeaf}
 use Rattle.dia_data.specs.State.{StandsFor as StandsForData}
 use Rattle.dia_data.specs.declared.LeafState.{LeafState}
-use Rattle.dia_dict.specs.Dictionary.{Dictionary, DictEntry, definitions, entry_of, group_place}
+use Rattle.dia_book.specs.Dictionary.{Dictionary, DictEntry, definitions, entry_of, group_place}
 use Rattle.dia_policy.specs.declared.Unknown.{Unknown}
 use Rattle.dia_policy.specs.declared.Levels.{Levels}
 use Rattle.dia_check.specs.declared.fault.Reason.{Reason}

@@ -2,7 +2,7 @@
 use Rattle.std.specs.Prelude.{◌≡◌, ℕ, ◌+◌, ◌-◌, ◌/◌, ◌%◌, ◌<◌, ◌≤◌, ◌↔◌, ◌==◌, ◌&&◌, ◌^◌, nat_lt, nat_le, Bool, if◌then◌else◌}
 use Rattle.std.specs.Prelude.{List, ◌++◌, length, take, drop, Some, Result, Ok, Err, slice_get, slice_index, Contains, IsTrue, ⊤}
 use Rattle.dia_wire.specs.Number.{number}
-use Rattle.dia_dict.specs.Dictionary.{Dictionary, IsDictionary}
+use Rattle.dia_book.specs.Dictionary.{Dictionary, IsDictionary}
 use Rattle.dia_policy.specs.declared.Unknown.{Unknown}
 use Rattle.dia_policy.specs.declared.Levels.{Levels}
 use Rattle.dia_policy.specs.declared.Levels.TheVariants.{Any, AtMost}

@@ -1,7 +1,7 @@
 -- A stream and the bytes that it stands for.
 use Rattle.std.specs.Prelude.{◌≡◌, List, ℕ}
-use Rattle.dia_dict.specs.declared.Book.{Ghosts}
-use Rattle.dia_dict.specs.Dictionary.{Dictionary}
+use Rattle.dia_book.specs.declared.Book.{Ghosts}
+use Rattle.dia_book.specs.Dictionary.{Dictionary}
 use Rattle.dia_policy.specs.declared.Unknown.{Unknown}
 use Rattle.dia_policy.specs.declared.Levels.{Levels}
 use Rattle.dia_check.specs.declared.stream.Stream.{Stream}

@@ -1,7 +1,7 @@
 -- A check of a body under way: what is left of the levels that are open, and what of them is owed.
 use Rattle.std.specs.Prelude.{◌≡◌, ℕ, suc, ◌+◌, ◌*◌, ◌/◌, ◌%◌, ◌≤◌, ◌⊎◌, List, [], ◌∷◌, length, map, Option, Some, None}
 use Rattle.dia_wire.specs.Wire.{key_of, SpellsAll}
-use Rattle.dia_dict.specs.Dictionary.{Dictionary, definitions}
+use Rattle.dia_book.specs.Dictionary.{Dictionary, definitions}
 use Rattle.dia_policy.specs.declared.Unknown.{Unknown}
 use Rattle.dia_policy.specs.declared.Levels.{Levels}
 use Rattle.dia_check.specs.declared.open_levels.OpenLevels.{OpenLevels}

@@ -4,8 +4,8 @@ use Rattle.std.specs.Prelude.{option_and_then, ◌⊎◌, ⊤}
 use Rattle.dia_wire.specs.Wire.{PlainAvp, key_of, head_length, avp_length, padded_length, BeginsWith, BeginsWithNone}
 use Rattle.dia_data.specs.Plain.{Grouped}
 use Rattle.dia_data.specs.Leaf.{IsLeaf}
-use Rattle.dia_dict.specs.declared.DRule.{DRule}
-use Rattle.dia_dict.specs.Dictionary.{Dictionary, DictEntry, PlainDefinition}
+use Rattle.dia_book.specs.declared.DRule.{DRule}
+use Rattle.dia_book.specs.Dictionary.{Dictionary, DictEntry, PlainDefinition}
 use Rattle.dia_policy.specs.declared.Unknown.{Unknown}
 use Rattle.dia_policy.specs.declared.Levels.{Levels}
 use Rattle.dia_check.specs.declared.fault.Reason.{Reason}

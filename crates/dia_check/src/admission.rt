@@ -3,8 +3,8 @@
 ghost use Rattle.std.specs.Prelude.{◌≡◌, ◌<◌, ◌↔◌, ◌++◌, ◌∷◌, [], IfOk, OnOk, List, Option, Some};
 ghost use Rattle.std.specs.Prelude.{length, slice_get, MatchOption, MatchResult, IsTrue};
 ghost use Rattle.dia_wire.specs.Wire.{plain_avp, key_of};
-ghost use Rattle.dia_dict.specs.Dictionary.{Dictionary, DictEntry, IsDictionary};
-ghost use Rattle.dia_dict.specs.Dictionary.{PlainDefinition, definitions, entry_of};
+ghost use Rattle.dia_book.specs.Dictionary.{Dictionary, DictEntry};
+ghost use Rattle.dia_book.specs.Dictionary.{PlainDefinition, definitions, entry_of};
 ghost use Rattle.dia_check.specs.Valid.{MHolds, IsAccepted};
 ghost use Rattle.dia_check.specs.Levels.{MayOpen};
 ghost use Rattle.dia_check.specs.OpenLevels.{SoFar, begun, and_key, HasRoom};
@@ -14,7 +14,7 @@ ghost use Rattle.dia_check.specs.Admission.{IsFineData, IsWrongData, IsFineAvp, 
 
 use crate::fault::Reason;
 use crate::open_levels::{OpenLevels, Wrong};
-use dia_dict::{Book, DefId, Entry, Leaf, MRule, accepts};
+use dia_book::{Book, DefId, Entry, Leaf, MRule, accepts};
 use dia_policy::{Levels, Unknown};
 use dia_wire::{AVP_MANDATORY, Avp, Key, key};
 use std::alloc::{AllocError, Global};
@@ -28,8 +28,7 @@ pub(crate) fn check_avp<B: Book>(
     open_levels: &mut OpenLevels,
     avp: &Avp<'_>,
 ) -> Result<Option<DefId>, Wrong>
-    requires sound { IsDictionary (B.meaning book.now) }
-    requires open_levels { ∥ ((outer : List SoFar) × (level : SoFar)
+    requires { ∥ ((outer : List SoFar) × (level : SoFar)
         × AreOpenUnder (B.meaning book.now) open_levels.old outer level × HasRoom level) ∥₁ }
     ensures { (outer : List SoFar) (level : SoFar)
         → AreOpenUnder (B.meaning book.now) open_levels.old outer level
@@ -59,8 +58,7 @@ pub(crate) fn check_avp<B: Book>(
 /// What is missing at the end of the innermost level.
 #[inline(always)]
 pub(crate) fn missing_at_end<B: Book>(book: &B, open_levels: &OpenLevels) -> Option<Wrong>
-    requires sound { IsDictionary (B.meaning book.now) }
-    requires open_levels { ∥ ((outer : List SoFar) × (level : SoFar)
+    requires { ∥ ((outer : List SoFar) × (level : SoFar)
         × AreOpenUnder (B.meaning book.now) open_levels.now outer level) ∥₁ }
     ensures { (outer : List SoFar) (level : SoFar)
         → AreOpenUnder (B.meaning book.now) open_levels.now outer level
@@ -78,8 +76,7 @@ pub(crate) fn open_body<B: Book>(
     def: DefId,
     end: usize,
 ) -> Result<OpenLevels, AllocError>
-    requires sound { IsDictionary (B.meaning book.now) }
-    requires def { def < length (definitions (B.meaning book.now)) }
+    requires { def < length (definitions (B.meaning book.now)) }
     ensures { (definition : PlainDefinition)
         → slice_get (definitions (B.meaning book.now)) def ≡ Some definition
         → IfOk result (λ open_levels. AreOpenUnder
@@ -96,8 +93,7 @@ pub(crate) fn open_group<B: Book>(
     def: DefId,
     end: usize,
 ) -> Result<(), AllocError>
-    requires sound { IsDictionary (B.meaning book.now) }
-    requires def { def < length (definitions (B.meaning book.now)) }
+    requires { def < length (definitions (B.meaning book.now)) }
     ensures { (definition : PlainDefinition) (outer : List SoFar) (level : SoFar)
         → slice_get (definitions (B.meaning book.now)) def ≡ Some definition
         → AreOpenUnder (B.meaning book.now) open_levels.old outer level
@@ -117,7 +113,6 @@ pub(crate) fn admit<B: Book>(
     known: &Option<Entry>,
     flags: u8,
 ) -> Option<Wrong>
-    requires sound { IsDictionary (B.meaning book.now) }
     requires open_levels { ∥ ((outer : List SoFar) × (level : SoFar)
         × AreOpenUnder (B.meaning book.now) open_levels.old outer level × HasRoom level) ∥₁ }
     requires known { known.now ≡ entry_of (B.meaning book.now) key }
@@ -198,8 +193,7 @@ pub(crate) fn check_data<B: Book>(
     entry: Entry,
     bytes: &[u8],
 ) -> Result<Option<DefId>, Reason>
-    requires sound { IsDictionary (B.meaning book.now) }
-    requires entry { entry < length (B.meaning book.now).entries }
+    requires { entry < length (B.meaning book.now).entries }
     ensures { (e : DictEntry) → slice_get (B.meaning book.now).entries entry ≡ Some e
         → MatchResult result (λ group. IsFineData
         (B.meaning book.now) levels depth e bytes.now group)

@@ -1,7 +1,6 @@
 //! The AVPs of a message, and of the groups in it.
 
 ghost use Rattle.std.specs.Prelude.{◌≡◌, ◌<◌, ◌+◌, ◌^◌, ℕ, List, length, IfOk, IfSome, MatchResult};
-ghost use Rattle.dia_dict.specs.Dictionary.{IsDictionary};
 ghost use Rattle.dia_check.specs.Faults.{HasGoodHeader, code_of};
 ghost use Rattle.dia_check.specs.UnderWay.{IsUnderWay};
 ghost use Rattle.dia_check.specs.Reading.{BeginsLevel, IsInPiece, IsReadTo};
@@ -11,7 +10,7 @@ use crate::admission::{check_avp, missing_at_end, open_group};
 use crate::fault::{Fault, Reason, Refusal, Subject};
 use crate::group::enter_at;
 use crate::open_levels::{OpenLevels, Wrong};
-use dia_dict::Book;
+use dia_book::Book;
 use dia_policy::{Levels, Unknown};
 use dia_wire::{AvpFault, next_avp};
 
@@ -26,8 +25,7 @@ pub(crate) fn read_piece<B: Book>(
     from: usize,
     piece: &[u8],
 ) -> Result<Option<usize>, Refusal>
-    requires sound { IsDictionary (B.meaning book.now) }
-    requires under_way { ∥ ReadsOn
+    requires { ∥ ReadsOn
         (B.meaning book.now) unknown levels open_levels.old from from piece.now ∥₁ }
     ensures within { IfOk result (IsInPiece from piece.now) }
     ensures goes_on { IfOk result (λ next. IfSome next (λ at.
@@ -69,8 +67,7 @@ fn read_avps<B: Book>(
     from: usize,
     piece: &[u8],
 ) -> Result<Option<usize>, Refusal>
-    requires sound { IsDictionary (B.meaning book.now) }
-    requires under_way { ∥ ReadsOn
+    requires { ∥ ReadsOn
         (B.meaning book.now) unknown levels open_levels.old from from piece.now ∥₁ }
     ensures within { IfOk result (IsInPiece from piece.now) }
     ensures goes_on { IfOk result (λ next. IfSome next (λ at.

@@ -1,5 +1,5 @@
 ghost use Rattle.std.specs.Prelude.{◌≡◌, ◌≢◌, ◌↔◌, Err, ℕ, List, length, MatchResult, Result};
-ghost use Rattle.dia_dict.specs.Dictionary.{Dictionary, IsDictionary};
+ghost use Rattle.dia_book.specs.Dictionary.{Dictionary, IsDictionary};
 ghost use Rattle.dia_policy.specs.declared.Unknown.{Unknown as AnyPolicy};
 ghost use Rattle.dia_policy.specs.declared.Levels.{Levels as AnyLevels};
 ghost use Rattle.dia_check.specs.declared.fault.Reason.{Reason as AnyReason};
@@ -12,7 +12,7 @@ ghost use Rattle.dia_check.specs.Faults.{IsAnswer, HasGoodHeader, HasLength, Sta
 use crate::fault::{Refusal, Selected};
 use crate::header::whole_header;
 use crate::stream::{Stream, StreamFault};
-use dia_dict::Book;
+use dia_book::Book;
 use dia_policy::{Levels, Unknown};
 use std::alloc::Global;
 
@@ -41,8 +41,6 @@ pub fn check<B: Book>(
     ensures no_memory { result ≡ Err Refusal.NoMemory → HasLength bytes.now (length bytes.now)
         × HasGoodHeader (B.meaning book.now) bytes.now }
 {
-    // Called for its clause `sound`: the rules of the book's dictionary can be met.
-    let _count = book.entries();
     whole_header(bytes)?;
     let mut stream = Stream::new(alloc, book, unknown, levels);
     match stream.feed(bytes) {

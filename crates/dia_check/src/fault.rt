@@ -1,4 +1,4 @@
-use dia_dict::DefId;
+use dia_book::DefId;
 use dia_wire::Key;
 use std::alloc::AllocError;
 use thiserror::Error;

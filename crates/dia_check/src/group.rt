@@ -3,7 +3,7 @@
 ghost use Rattle.std.specs.Prelude.{◌≡◌, ◌+◌, ◌<◌, ◌≤◌, ◌^◌, ℕ, List, None, Ok, length};
 ghost use Rattle.std.specs.Prelude.{IfOk, IfSome, MatchOption, MatchResult, unwrap_or};
 ghost use Rattle.dia_wire.specs.Wire.{head_length};
-ghost use Rattle.dia_dict.specs.Dictionary.{IsDictionary, entry_of};
+ghost use Rattle.dia_book.specs.Dictionary.{entry_of};
 ghost use Rattle.dia_check.specs.Faults.{HasGoodHeader};
 ghost use Rattle.dia_check.specs.UnderWay.{IsUnderWay};
 ghost use Rattle.dia_check.specs.Reading.{BeginsLevel, BeginsLevelAt, IsAtAvp, IsAtSomeAvp};
@@ -13,7 +13,7 @@ use crate::admission::{admit, may_open, open_group};
 use crate::body::fault;
 use crate::fault::{Reason, Refusal};
 use crate::open_levels::{OpenLevels, Wrong};
-use dia_dict::{Book, DefId, Entry};
+use dia_book::{Book, DefId, Entry};
 use dia_policy::{Levels, Unknown};
 use dia_wire::{AVP_HEAD_LENGTH, AvpHead, Key, VENDOR_AVP_HEAD_LENGTH, avp_head};
 
@@ -28,8 +28,7 @@ pub(crate) fn enter_at<B: Book>(
     at: usize,
     bytes: &[u8],
 ) -> Result<Option<usize>, Refusal>
-    requires sound { IsDictionary (B.meaning book.now) }
-    requires under_way { ∥ ReadsOn
+    requires { ∥ ReadsOn
         (B.meaning book.now) unknown levels open_levels.old at at bytes.now ∥₁ }
     ensures kept { result ≡ Ok None → open_levels.new ≡ open_levels.old }
     ensures within { IfOk result (λ next. IfSome next (λ start.
@@ -60,8 +59,7 @@ pub(crate) fn enter_group<B: Book>(
     at: usize,
     head: &AvpHead,
 ) -> Result<Option<usize>, Refusal>
-    requires sound { IsDictionary (B.meaning book.now) }
-    requires avp { ∥ IsAtSomeAvp
+    requires { ∥ IsAtSomeAvp
         (B.meaning book.now) unknown levels open_levels.old at head.now ∥₁ }
     ensures kept { result ≡ Ok None → open_levels.new ≡ open_levels.old }
     ensures no_group { result ≡ Ok None → IsNoGroup (B.meaning book.now)
@@ -95,8 +93,7 @@ pub(crate) fn enter_group<B: Book>(
 /// The definition of the known group that an AVP of this key and entry is.
 #[inline(always)]
 fn known_group<B: Book>(book: &B, key: Key, entry: &Option<Entry>) -> Option<DefId>
-    requires sound { IsDictionary (B.meaning book.now) }
-    requires entry { entry.now ≡ entry_of (B.meaning book.now) key }
+    requires { entry.now ≡ entry_of (B.meaning book.now) key }
     ensures { MatchOption result (IsNoGroup (B.meaning book.now) key)
         (IsGroupOf (B.meaning book.now) key) }
 {

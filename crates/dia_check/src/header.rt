@@ -2,7 +2,7 @@
 
 ghost use Rattle.std.specs.Prelude.{◌≡◌, ◌≢◌, ◌<◌, ◌^◌, ◌↔◌, ◌⊎◌, ℕ, List, length};
 ghost use Rattle.std.specs.Prelude.{Err, IfErr, MatchResult, IsTrue, IsFalse};
-ghost use Rattle.dia_dict.specs.Dictionary.{Dictionary, IsDictionary};
+ghost use Rattle.dia_book.specs.Dictionary.{Dictionary};
 ghost use Rattle.dia_policy.specs.declared.Unknown.{Unknown as AnyPolicy};
 ghost use Rattle.dia_policy.specs.declared.Levels.{Levels as AnyLevels};
 ghost use Rattle.dia_check.specs.Valid.{HasR, HasE, HasT, class_of, PHolds, AllowsP};
@@ -11,7 +11,7 @@ ghost use Rattle.dia_check.specs.Faults.{HasHeader, HasLength, HasGoodHeader, Is
 use crate::body::fault;
 use crate::fault::{Reason, Refusal, Subject};
 use crate::open_levels::Wrong;
-use dia_dict::{Book, Class, DefHead, DefId, Pxy};
+use dia_book::{Book, Class, DefHead, DefId, Pxy};
 use dia_wire::{
     COMMAND_ERROR, COMMAND_PROXIABLE, COMMAND_REQUEST, COMMAND_RETRANSMITTED, HeadFault, Header,
     read_header,
@@ -44,7 +44,6 @@ pub(crate) fn whole_header(bytes: &[u8]) -> Result<Header, Refusal>
 
 /// The command of a message with this header, where nothing is wrong with the header.
 pub(crate) fn good_command<B: Book>(book: &B, header: &Header) -> Result<DefId, Refusal>
-    requires { IsDictionary (B.meaning book.now) }
     ensures answer { (u : AnyPolicy) (most : AnyLevels) (bytes : List ℕ) → HasLength bytes (length bytes)
         → HasHeader bytes header.now
         → MatchResult result (λ def. (good : HasGoodHeader (B.meaning book.now) bytes)

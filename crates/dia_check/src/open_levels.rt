@@ -4,8 +4,8 @@ ghost use Rattle.std.specs.Prelude.{◌≡◌, ◌<◌, ◌≤◌, ◌++◌, ◌
 ghost use Rattle.std.specs.Prelude.{Some, length, position, slice_get, MatchOption};
 ghost use Rattle.std.specs.Prelude.{OnOk, IfOk, IsTrue, IsFalse, replicate};
 ghost use Rattle.dia_wire.specs.declared.Key.{Key as AnyKey};
-ghost use Rattle.dia_dict.specs.declared.DRule.{DRule as AnyRule};
-ghost use Rattle.dia_dict.specs.Dictionary.{AreRules, PlainDefinition, is_fixed, slot_of};
+ghost use Rattle.dia_book.specs.declared.DRule.{DRule as AnyRule};
+ghost use Rattle.dia_book.specs.Dictionary.{AreRules, PlainDefinition, is_fixed, slot_of};
 ghost use Rattle.dia_check.specs.Valid.{fixed_rules, is_wildcard};
 ghost use Rattle.dia_check.specs.Faults.{subject_of};
 ghost use Rattle.dia_check.specs.OpenLevels.{AreMet, IsFirstUnmet, IsCounted, Leads};
@@ -14,7 +14,7 @@ ghost use Rattle.dia_check.specs.OpenLevels.{IsMetAtEnd, IsMissingAtEnd, SoFar};
 ghost use Rattle.dia_check.specs.OpenLevels.{begun, and_key, HasRoom, AreOpen};
 
 use crate::fault::{Reason, Subject};
-use dia_dict::{DRule, DefId, RuleKind, Slot};
+use dia_book::{DRule, DefId, RuleKind, Slot};
 use dia_wire::Key;
 use std::alloc::{AllocError, Global};
 

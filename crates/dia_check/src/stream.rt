@@ -2,7 +2,7 @@
 
 ghost use Rattle.std.specs.Prelude.{◌≡◌, ◌≢◌, ◌↔◌, ◌⊎◌, ◌≤◌, ◌<◌, ◌+◌, ◌++◌, ℕ, List, [], take};
 ghost use Rattle.std.specs.Prelude.{drop, length, Err, IfErr, IfOk, IsTrue, OnOk, OnErr};
-ghost use Rattle.dia_dict.specs.Dictionary.{Dictionary};
+ghost use Rattle.dia_book.specs.Dictionary.{Dictionary};
 ghost use Rattle.dia_policy.specs.declared.Unknown.{Unknown as AnyPolicy};
 ghost use Rattle.dia_policy.specs.declared.Levels.{Levels as AnyLevels};
 ghost use Rattle.dia_check.specs.Faults.{IsAnswer};
@@ -17,7 +17,7 @@ mod stages;
 use crate::fault::{Refusal, Selected};
 use crate::stream::front::Front;
 use crate::stream::stages::{Stage, read_front, read_stage};
-use dia_dict::Book;
+use dia_book::Book;
 use dia_policy::{Levels, Unknown};
 use dia_wire::HEADER_LENGTH;
 use std::alloc::Global;
@@ -65,8 +65,6 @@ impl<'a, B: Book> Stream<'a, B> {
         ensures empty { StandsFor B.meaning result (B.meaning book.now) unknown levels [] }
         ensures fresh { ¬ IsSpent result }
     {
-        // Called for its clause `sound`: the rules of the book's dictionary can be met.
-        let _count = book.entries();
         Stream {
             alloc,
             book,
@@ -135,8 +133,6 @@ impl<'a, B: Book> Stream<'a, B> {
         let Stage::Header(front) = self.stage else {
             return Ok(0);
         };
-        // Called for its clause `sound`: the rules of the book's dictionary can be met.
-        let _count = self.book.entries();
         let mut after = front;
         after.take_from(piece);
         let (wanted, stage) = read_front(self.alloc, self.book, after);
@@ -168,8 +164,6 @@ impl<'a, B: Book> Stream<'a, B> {
             → OpensLevel d most bytes (drop (length bytes) (taken_of (bytes ++ piece.now)))) }
         ensures err { IfErr result (λ fault. (fault ≡ StreamFault.NoMemory) × IsSpent self.new) }
     {
-        // Called for its clause `sound`: the rules of the book's dictionary can be met.
-        let _count = self.book.entries();
         let count = piece.len().min(self.wanted - self.taken);
         read_stage(
             self.book,

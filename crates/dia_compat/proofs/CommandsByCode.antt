@@ -9,16 +9,16 @@ use Rattle.std.proofs.lemmas.Option.{same_Some, get_or_from_slice_get, slice_get
 use Rattle.std.proofs.lemmas.List.{map-append}
 use Rattle.std.proofs.lemmas.List.Folds.{list_all-map}
 use Rattle.std.specs.Borrow.{Bor}
-use Rattle.dia_dict.specs.declared.Definition.{Definition}
-use Rattle.dia_dict.proofs.Lists.{list_any-map}
+use Rattle.dia_book.specs.declared.Definition.{Definition}
+use Rattle.dia_book.proofs.Lists.{list_any-map}
 use Rattle.std.proofs.lemmas.List.Elements.{filter-append}
-use Rattle.dia_dict.specs.declared.Class.{Class}
-use Rattle.dia_dict.specs.declared.Class.TheVariants as classes
-use Rattle.dia_dict.specs.declared.Pxy.{Pxy}
-use Rattle.dia_dict.specs.declared.DefHead.{DefHead}
-use Rattle.dia_dict.specs.declared.DefHead.TheVariants.{Group, Command, Error}
-use Rattle.dia_dict.specs.Dictionary.{Dictionary, PlainDefinition, IsDictionary, IsCommandHead, IsSameSelector, definitions, groups, selected, is_command, same_class, plain_definition}
-use Rattle.dia_dict.proofs.Members.{into_right, into_map}
+use Rattle.dia_book.specs.declared.Class.{Class}
+use Rattle.dia_book.specs.declared.Class.TheVariants as classes
+use Rattle.dia_book.specs.declared.Pxy.{Pxy}
+use Rattle.dia_book.specs.declared.DefHead.{DefHead}
+use Rattle.dia_book.specs.declared.DefHead.TheVariants.{Group, Command, Error}
+use Rattle.dia_book.specs.Dictionary.{Dictionary, PlainDefinition, IsDictionary, IsCommandHead, IsSameSelector, definitions, groups, selected, is_command, same_class, plain_definition}
+use Rattle.dia_book.proofs.Members.{into_right, into_map}
 use Rattle.dia_compat.specs.CommandsByCode.{has_code, commands_of, only_for, open_code}
 use Rattle.dia_compat.specs.Closed.{IsError}
 use Rattle.dia_compat.specs.PairTests.{NamePair, names_app, wants_app, is_wanted, serves, serves_app, is_pair, is_ready, is_selected, is_command_pair, failed_rules, failed_commands}

@@ -7,13 +7,13 @@ use Rattle.std.proofs.lemmas.Bool.{eqb-true, eqb-false, or_parts, and_parts}
 use Rattle.std.proofs.lemmas.Bool.Decides.{Decides-and, Decides-like, Decides-eqb, leb_tells}
 use Rattle.std.proofs.lemmas.Option.{none-some, same_Some}
 use Rattle.dia_wire.specs.declared.Key.{Key}
-use Rattle.dia_dict.specs.Keys.{same_key}
-use Rattle.dia_dict.proofs.SameKeys.{same_key-refl, same_key-true}
-use Rattle.dia_dict.proofs.Members.{at_find, find-found}
+use Rattle.dia_book.specs.Keys.{same_key}
+use Rattle.dia_book.proofs.SameKeys.{same_key-refl, same_key-true}
+use Rattle.dia_book.proofs.Members.{at_find, find-found}
 use Rattle.dia_data.specs.Plain.{OctetString}
-use Rattle.dia_dict.specs.declared.MRule.TheVariants.{Must}
-use Rattle.dia_dict.specs.declared.DRule.{DRule}
-use Rattle.dia_dict.specs.Dictionary.{Dictionary, DictEntry, AreRules, is_fixed, lists_key}
+use Rattle.dia_book.specs.declared.MRule.TheVariants.{Must}
+use Rattle.dia_book.specs.declared.DRule.{DRule}
+use Rattle.dia_book.specs.Dictionary.{Dictionary, DictEntry, AreRules, is_fixed, lists_key}
 use Rattle.dia_check.specs.declared.Unknown.{Unknown}
 use Rattle.dia_check.specs.declared.Unknown.TheVariants.{Kept}
 use Rattle.dia_check.specs.Valid.{known, fixed_rules, is_listed, is_wildcard, has_wildcard}

@@ -7,7 +7,7 @@ use Rattle.std.proofs.lemmas.List.{take_more}
 use Rattle.std.proofs.lemmas.List.Elements.{filter-append}
 use Rattle.std.proofs.lemmas.List.Folds.{list_all-append, list_any-append}
 use Rattle.std.proofs.lemmas.Option.{slice_get-get_or, slice_get_within, same_Some}
-use Rattle.dia_dict.proofs.Members.{list_all_at}
+use Rattle.dia_book.proofs.Members.{list_all_at}
 use Rattle.dia_compat.proofs.MemberCounts.{in_any, in_at}
 use Rattle.dia_compat.proofs.SetsOfNames.{get_none}
 

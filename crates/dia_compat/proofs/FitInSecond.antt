@@ -9,14 +9,14 @@ use Rattle.dia_data.specs.Plain.{PlainFormat, OctetString, Grouped}
 use Rattle.dia_data.specs.Leaf.{IsLeaf}
 use Rattle.dia_data.specs.Below.{FormatBelow}
 use Rattle.dia_data.proofs.FormatsBelow.{leaf_below}
-use Rattle.dia_dict.specs.declared.MRule.{MRule}
-use Rattle.dia_dict.specs.declared.MRule.TheVariants.{Must, MustNot, Any as AnyM}
-use Rattle.dia_dict.specs.declared.DRule.{DRule}
-use Rattle.dia_dict.specs.Keys.{same_key}
-use Rattle.dia_dict.proofs.SameKeys.{same_key-refl, same_key-true}
-use Rattle.dia_dict.proofs.LookUpsByName.{find-place}
-use Rattle.dia_dict.proofs.Members.{IsAt, at_Contains, at_find, find-found}
-use Rattle.dia_dict.specs.Dictionary.{Dictionary, DictEntry, PlainDefinition, IsDictionary, AreRules, groups, definitions}
+use Rattle.dia_book.specs.declared.MRule.{MRule}
+use Rattle.dia_book.specs.declared.MRule.TheVariants.{Must, MustNot, Any as AnyM}
+use Rattle.dia_book.specs.declared.DRule.{DRule}
+use Rattle.dia_book.specs.Keys.{same_key}
+use Rattle.dia_book.proofs.SameKeys.{same_key-refl, same_key-true}
+use Rattle.dia_book.proofs.LookUpsByName.{find-place}
+use Rattle.dia_book.proofs.Members.{IsAt, at_Contains, at_find, find-found}
+use Rattle.dia_book.specs.Dictionary.{Dictionary, DictEntry, PlainDefinition, IsDictionary, AreRules, groups, definitions}
 use Rattle.dia_check.specs.declared.Unknown.{Unknown}
 use Rattle.dia_check.specs.declared.Unknown.TheVariants.{Kept, Refused}
 use Rattle.dia_check.specs.declared.Levels.{Levels}
@@ -114,11 +114,11 @@ m_clear Must flags other clear = absurd (other refl)
 m_clear MustNot flags other clear = clear
 m_clear AnyM flags other clear = tt
 
-only_kept : (u : Unknown) (flags : ℕ) → IsAccepted u flags → (u ≡ Kept) × (¬ HasM flags)
+pub only_kept : (u : Unknown) (flags : ℕ) → IsAccepted u flags → (u ≡ Kept) × (¬ HasM flags)
 only_kept Kept flags h = (refl, h)
 only_kept Refused flags h = absurd h
 
-key_in : (avps : List PlainAvp) (q : Key) → IsIn q (map key_of avps) → (v : PlainAvp) × IsIn v avps × (key_of v ≡ q)
+pub key_in : (avps : List PlainAvp) (q : Key) → IsIn q (map key_of avps) → (v : PlainAvp) × IsIn v avps × (key_of v ≡ q)
 key_in [] q h = absurd h
 key_in (v ∷ avps) q (inl e) = (v, inl refl, sym e)
 key_in (v ∷ avps) q (inr h) = let r = key_in avps q h in (r.0, inr r.1, r.2)
@@ -129,6 +129,28 @@ in_keys (w ∷ avps) v (inl e) = inl (ap key_of e)
 in_keys (w ∷ avps) v (inr h) = inr (in_keys avps v h)
 
 -- ---- the table
+
+-- an AVP that fits is known, or the policy keeps it
+kept_or_known : (d : Dictionary) (u : Unknown) (P : List DRule → List ℕ → Type 0) (v : PlainAvp) (o : Option DictEntry) → known d (key_of v) ≡ o
+    → MatchOption o (IsAccepted u v.flags) (λ e. MHolds e.rule v.flags × MatchOption e.group (IsLeaf e.format v.bytes) (λ group. P group.rules v.bytes)) → (u ≡ Kept) ⊎ IsKnown d (key_of v)
+kept_or_known d u P v None at h = inl (only_kept u v.flags h).0
+kept_or_known d u P v (Some e) at h = inr (ap (λ (o : Option DictEntry). is_some o) at)
+
+fits_known : (d : Dictionary) (u : Unknown) (n : ℕ) (v : PlainAvp) → Fits d u n v → (u ≡ Kept) ⊎ IsKnown d (key_of v)
+fits_known d u zero v h = kept_or_known d u (λ rules bytes. ⊥) v (known d (key_of v)) refl h
+fits_known d u (suc n) v h = kept_or_known d u (IsLevel (Fits d u n)) v (known d (key_of v)) refl h
+
+-- AVPs that fit, and stand as the first of two definitions says, stand as the second says where it passes each test
+module _ (da db : Dictionary) (u : Unknown) (table : PlainTable) (a b : List DRule) (ra : AreRules a) (rb : AreRules b) (below : DefBelow da db u (IsPairKey da db table) a b)
+    (avps : List PlainAvp) (placed : Placed a (map key_of avps)) where
+  pub placed_at : (n : ℕ) → AllByRecursion (Fits da u n) avps → Placed b (map key_of avps)
+  placed_at n all = still_placed da db u (IsPairKey da db table) a b ra rb below (map key_of avps) placed (λ q i.
+      let v = key_in avps q i in
+      subst (λ (k : Key). (u ≡ Kept) ⊎ IsKnown da k) v.2 (fits_known da u n v.0 (in_all (Fits da u n) v.0 avps all v.1)))
+
+  pub placed_below : (most : Levels) → AllFit da u most avps → Placed b (map key_of avps)
+  placed_below levels.Any (n, all) = placed_at n all
+  placed_below (levels.AtMost n) all = placed_at n all
 
 module _ (da db : Dictionary) (sa : IsDictionary da) (sb : IsDictionary db) (u : Unknown) (table : PlainTable) (closed : IsClosed da db u table) where
   abbrev pub Below : List DRule → List DRule → Type 0
@@ -252,14 +274,6 @@ module _ (da db : Dictionary) (sa : IsDictionary da) (sb : IsDictionary db) (u :
 
   -- ---- a level
 
-  kept_or_known : (P : List DRule → List ℕ → Type 0) (v : PlainAvp) (o : Option DictEntry) → known da (key_of v) ≡ o → Body P v o → (u ≡ Kept) ⊎ IsKnown da (key_of v)
-  kept_or_known P v None at h = inl (only_kept u v.flags h).0
-  kept_or_known P v (Some e) at h = inr (ap (λ (o : Option DictEntry). is_some o) at)
-
-  fits_known : (n : ℕ) (v : PlainAvp) → Fits da u n v → (u ≡ Kept) ⊎ IsKnown da (key_of v)
-  fits_known zero v h = kept_or_known (λ rules bytes. ⊥) v (known da (key_of v)) refl h
-  fits_known (suc n) v h = kept_or_known (IsLevel (Fits da u n)) v (known da (key_of v)) refl h
-
   through : (a b : List DRule) (key : Key) (o : Option DictEntry) → Below a b → ByWild a key → known da key ≡ o → MayCome key
   through a b key (Some e) below w at =
       inl ((below N9 w.wild (contains_in a w.wild w.is_rule, w.no_key) w.allowed).known_keys key (ap (λ (o : Option DictEntry). is_some o) at) (λ l.
@@ -281,9 +295,7 @@ module _ (da db : Dictionary) (sa : IsDictionary da) (sb : IsDictionary db) (u :
   level_at : (n : ℕ) → AllKept n → (a b : List DRule) (avps : List PlainAvp) → AreRules a → AreRules b → Below a b → Placed a (map key_of avps) → AllByRecursion (Fits da u n) avps
       → Placed b (map key_of avps) × AllByRecursion (Fits db u n) avps
   level_at n ih a b avps ra rb below placed all = (
-    still_placed da db u (IsPairKey da db table) a b ra rb below (map key_of avps) placed (λ q i.
-        let v = key_in avps q i in
-        subst (λ (k : Key). (u ≡ Kept) ⊎ IsKnown da k) v.2 (fits_known n v.0 (in_all (Fits da u n) v.0 avps all v.1))),
+    placed_at da db u table a b ra rb below avps placed n all,
     all_in (Fits db u n) avps (λ v i. ih v (may_come a b (key_of v) below (comes a ra (map key_of avps) placed (key_of v) (in_keys avps v i))) (in_all (Fits da u n) v avps all i)),
   )
 

@@ -4,8 +4,8 @@ use Rattle.std.specs.Prelude.{slice_get, IfSome, option_and_then}
 use Rattle.std.specs.List.{filter_map, cons_option}
 use Rattle.std.specs.Option.{option_map}
 use Rattle.std.proofs.lemmas.Option.{none-some, same_Some, slice_get_within}
-use Rattle.dia_dict.specs.Dictionary.{Dictionary, DictEntry, PlainDefinition, groups, definitions, group_place}
-use Rattle.dia_dict.proofs.Members.{into_left}
+use Rattle.dia_book.specs.Dictionary.{Dictionary, DictEntry, PlainDefinition, groups, definitions, group_place}
+use Rattle.dia_book.proofs.Members.{into_left}
 
 mapped_at : {X Y : Type 0} (h : X → Option Y) (xs : List X) (i : ℕ) (x : X) (y : Y) → slice_get xs i ≡ Some x → h x ≡ Some y → slice_get (filter_map h xs) (length (filter_map h (take i xs))) ≡ Some y
 mapped_at h [] i x y at e = absurd (none-some x at)

@@ -28,3 +28,4 @@ pub mod CommandsByCode
 pub mod WantedDefinitions
 pub mod NamedCommands
 pub mod OneProposal
+pub mod WritableProposal

@@ -5,11 +5,11 @@ use Rattle.std.specs.Option.{option_map_or}
 use Rattle.std.proofs.lemmas.Option.{none-some, same_Some, slice_get-get_or}
 use Rattle.std.proofs.lemmas.List.{drop_all}
 use Rattle.dia_wire.specs.declared.Key.{Key}
-use Rattle.dia_dict.specs.declared.DRule.{DRule}
-use Rattle.dia_dict.specs.declared.definition.Slot.{Slot}
-use Rattle.dia_dict.specs.declared.definition.Slot.TheVariants.{Fixed, Loose, Unlisted}
-use Rattle.dia_dict.specs.Dictionary.{Dictionary, PlainDefinition, definitions, lists_key, is_fixed, slot_at, slot_of}
-use Rattle.dia_dict.proofs.LookUpsByName.{find-place}
+use Rattle.dia_book.specs.declared.DRule.{DRule}
+use Rattle.dia_book.specs.declared.Slot.{Slot}
+use Rattle.dia_book.specs.declared.Slot.TheVariants.{Fixed, Loose, Unlisted}
+use Rattle.dia_book.specs.Dictionary.{Dictionary, PlainDefinition, definitions, lists_key, is_fixed, slot_at, slot_of}
+use Rattle.dia_book.proofs.LookUpsByName.{find-place}
 use Rattle.dia_compat.specs.Tests.{rules_in, rule_of, leads, begins_with}
 
 abbrev pub place_in : Slot → Option ℕ

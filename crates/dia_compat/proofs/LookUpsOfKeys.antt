@@ -10,13 +10,13 @@ use Rattle.std.proofs.lemmas.Option.{none-some, same_Some, get_or_from_slice_get
 use Rattle.std.proofs.lemmas.Slice.Eq.{bytes_eq-Decides}
 use Rattle.dia_wire.specs.declared.Key.{Key}
 use Rattle.dia_data.specs.Plain.{PlainFormat, OctetString}
-use Rattle.dia_dict.specs.declared.MRule.{MRule}
-use Rattle.dia_dict.specs.declared.MRule.TheVariants.{Must, MustNot, Any as AnyM}
-use Rattle.dia_dict.specs.Keys.{same_key}
-use Rattle.dia_dict.proofs.SameKeys.{same_key-refl, same_key-true}
-use Rattle.dia_dict.proofs.Lists.{position-within}
-use Rattle.dia_dict.proofs.Members.{position-is_some, at_map, into_map}
-use Rattle.dia_dict.specs.Dictionary.{Dictionary, DictEntry, PlainDefinition, IsDictionary, entry_of}
+use Rattle.dia_book.specs.declared.MRule.{MRule}
+use Rattle.dia_book.specs.declared.MRule.TheVariants.{Must, MustNot, Any as AnyM}
+use Rattle.dia_book.specs.Keys.{same_key}
+use Rattle.dia_book.proofs.SameKeys.{same_key-refl, same_key-true}
+use Rattle.dia_book.proofs.Lists.{position-within}
+use Rattle.dia_book.proofs.Members.{position-is_some, at_map, into_map}
+use Rattle.dia_book.specs.Dictionary.{Dictionary, DictEntry, PlainDefinition, IsDictionary, entry_of}
 use Rattle.dia_check.specs.declared.Unknown.{Unknown}
 use Rattle.dia_check.specs.declared.Unknown.TheVariants.{Kept, Refused}
 use Rattle.dia_check.specs.Valid.{known}

@@ -4,7 +4,7 @@ use Rattle.std.specs.Prelude.{◌⊎◌, ◌||◌, Contains, slice_get, count_by
 use Rattle.std.specs.List.{list_any, AllByRecursion}
 use Rattle.std.proofs.lemmas.Option.{none-some, same_Some}
 use Rattle.std.proofs.lemmas.List.Sums.{sum_by-cons, sum_by-append}
-use Rattle.dia_dict.proofs.Members.{IsAt, at_Contains}
+use Rattle.dia_book.proofs.Members.{IsAt, at_Contains}
 use Rattle.dia_compat.proofs.RunsOfFixedRules.{IsIn}
 
 -- ---- members

@@ -6,11 +6,11 @@ use Rattle.std.specs.Option.{option_map, option_or}
 use Rattle.std.proofs.lemmas.Bool.{and_parts, eqb-true, eq-eqb}
 use Rattle.std.proofs.lemmas.List.Quantifiers.{position-Some}
 use Rattle.std.proofs.lemmas.Option.{none-some, same_Some, get_or_from_slice_get}
-use Rattle.dia_dict.specs.declared.Class.{Class}
-use Rattle.dia_dict.specs.declared.DefHead.{DefHead}
-use Rattle.dia_dict.specs.declared.DefHead.TheVariants.{Group, Command, Error}
-use Rattle.dia_dict.specs.Dictionary.{Dictionary, PlainDefinition, groups, definitions, selected, is_command, same_class}
-use Rattle.dia_dict.proofs.Members.{list_any-none_at, position-is_some}
+use Rattle.dia_book.specs.declared.Class.{Class}
+use Rattle.dia_book.specs.declared.DefHead.{DefHead}
+use Rattle.dia_book.specs.declared.DefHead.TheVariants.{Group, Command, Error}
+use Rattle.dia_book.specs.Dictionary.{Dictionary, PlainDefinition, groups, definitions, selected, is_command, same_class}
+use Rattle.dia_book.proofs.Members.{list_any-none_at, position-is_some}
 use Rattle.dia_compat.specs.PairTests.{names_app, is_of_app}
 use Rattle.dia_compat.proofs.MemberCounts.{any_in, in_any, in_at, at_in}
 use Rattle.dia_compat.proofs.SetsOfNames.{command_at}

@@ -7,13 +7,13 @@ use Rattle.std.proofs.lemmas.Bool.{and_parts, and_from, eqb-true, eq-eqb, not-tr
 use Rattle.std.proofs.lemmas.List.{append_assoc, map-append, take_more}
 use Rattle.std.proofs.lemmas.List.Elements.{filter_map-append}
 use Rattle.std.proofs.lemmas.Option.{none-some, same_Some, slice_get_within, get_or_from_slice_get}
-use Rattle.dia_dict.specs.declared.Class.{Class}
-use Rattle.dia_dict.specs.declared.Class.TheVariants as classes
-use Rattle.dia_dict.specs.declared.Pxy.{Pxy}
-use Rattle.dia_dict.specs.declared.DefHead.{DefHead}
-use Rattle.dia_dict.specs.declared.DefHead.TheVariants.{Command, Error}
-use Rattle.dia_dict.specs.Dictionary.{Dictionary, PlainDefinition, IsDictionary, IsCommandHead, is_command, same_class}
-use Rattle.dia_dict.proofs.Members.{at_filter_map}
+use Rattle.dia_book.specs.declared.Class.{Class}
+use Rattle.dia_book.specs.declared.Class.TheVariants as classes
+use Rattle.dia_book.specs.declared.Pxy.{Pxy}
+use Rattle.dia_book.specs.declared.DefHead.{DefHead}
+use Rattle.dia_book.specs.declared.DefHead.TheVariants.{Command, Error}
+use Rattle.dia_book.specs.Dictionary.{Dictionary, PlainDefinition, IsDictionary, IsCommandHead, is_command, same_class}
+use Rattle.dia_book.proofs.Members.{at_filter_map}
 use Rattle.dia_compat.specs.Closed.{HasCode, NamesApp, IsWanted, error, same_app, no_app, both_none, other_app}
 use Rattle.dia_compat.specs.Proposed.{AreBeside}
 use Rattle.dia_compat.specs.PairTests.{names_app, wants_app, is_wanted}

@@ -9,15 +9,16 @@ use Rattle.dia_wire.specs.Wire.{PlainAvp, Spells, IsMessage}
 use Rattle.dia_data.specs.Below.{FormatBelow, ValuesBelow}
 use Rattle.dia_data.specs.Plain.{PlainFormat, OctetString, Unsigned32, Enumerated, Grouped}
 use Rattle.dia_data.specs.Leaf.{IsListed as HoldsNumber}
-use Rattle.dia_dict.specs.declared.MRule.{MRule}
-use Rattle.dia_dict.specs.declared.MRule.TheVariants.{MustNot, Any as AnyM}
-use Rattle.dia_dict.specs.declared.RuleKind.TheVariants.{Fixed, Required, Optional}
-use Rattle.dia_dict.specs.declared.Pxy.TheVariants.{Clear}
-use Rattle.dia_dict.specs.declared.Class.TheVariants.{Request, Error as ErrorClass}
-use Rattle.dia_dict.specs.declared.DefHead.{DefHead}
-use Rattle.dia_dict.specs.declared.DefHead.TheVariants.{Command, Group}
-use Rattle.dia_dict.specs.declared.DRule.{DRule}
-use Rattle.dia_dict.specs.Dictionary.{Dictionary, DictEntry, PlainDefinition, IsDictionary, AreRules, IsCommandHead, IsLeast, is_fixed, entry_of, definitions}
+use Rattle.dia_terms.specs.Names.{is_name}
+use Rattle.dia_book.specs.declared.MRule.{MRule}
+use Rattle.dia_book.specs.declared.MRule.TheVariants.{MustNot, Any as AnyM}
+use Rattle.dia_book.specs.declared.RuleKind.TheVariants.{Fixed, Required, Optional}
+use Rattle.dia_book.specs.declared.Pxy.TheVariants.{Clear}
+use Rattle.dia_book.specs.declared.Class.TheVariants.{Request, Error as ErrorClass}
+use Rattle.dia_book.specs.declared.DefHead.{DefHead}
+use Rattle.dia_book.specs.declared.DefHead.TheVariants.{Command, Group}
+use Rattle.dia_book.specs.declared.DRule.{DRule}
+use Rattle.dia_book.specs.Dictionary.{Dictionary, DictEntry, PlainDefinition, IsDictionary, AreRules, IsCommandHead, IsLeast, is_fixed, entry_of, definitions}
 use Rattle.dia_check.specs.declared.Unknown.{Unknown}
 use Rattle.dia_check.specs.declared.Unknown.TheVariants.{Kept, Refused}
 use Rattle.dia_check.specs.declared.Levels.TheVariants as levels
@@ -578,6 +579,8 @@ module _ (min max : ℕ) (at_least : 1 ≤ min) (at_most : min ≤ max) where
     distinct_names = λ i j x y e f same. same_place x_entry x y i j e f;
     distinct_commands = λ i j x y e f same. same_place (t_with rules) x y i j e f;
     distinct_selectors = λ i j x y e f same. same_place (t_with rules) x y i j e f;
+    entry_names = all_from (λ (x : DictEntry). IsTrue (is_name x.name)) x_alone (refl, tt);
+    command_names = all_from (λ (c : PlainDefinition). IsTrue (is_name c.name)) (t_with rules ∷ []) (refl, tt);
     grouped = all_from (λ (x : DictEntry). (x.format ≡ Grouped) ↔ IsSome x.group) x_alone ((λ e. absurd (let f : Unsigned32 ≡ Grouped = e in cc), λ h. absurd (let f : false ≡ true = h in cc)), tt);
     group_heads = all_from (λ (x : DictEntry). IfSome x.group (λ g. (g.name ≡ x.name) × (g.head ≡ Group x.key))) x_alone (tt, tt);
     command_heads = all_from (λ (c : PlainDefinition). IsCommandHead c.head) (t_with rules ∷ []) (λ e. absurd (let f : Request ≡ ErrorClass = e in cc), tt);

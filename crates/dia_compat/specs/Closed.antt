@@ -3,12 +3,12 @@ use Rattle.std.specs.Prelude.{◌≡◌, ℕ, ◌<◌, ◌⊎◌, List, length, 
 use Rattle.dia_wire.specs.declared.Key.{Key}
 use Rattle.dia_data.specs.Plain.{Grouped}
 use Rattle.dia_data.specs.Below.{FormatBelow}
-use Rattle.dia_dict.specs.declared.MRule.TheVariants.{Any}
-use Rattle.dia_dict.specs.declared.Class.{Class}
-use Rattle.dia_dict.specs.declared.Pxy.{Pxy}
-use Rattle.dia_dict.specs.declared.DefHead.{DefHead}
-use Rattle.dia_dict.specs.declared.DefHead.TheVariants.{Group, Command, Error}
-use Rattle.dia_dict.specs.Dictionary.{Dictionary, DictEntry, PlainDefinition, definitions}
+use Rattle.dia_book.specs.declared.MRule.TheVariants.{Any}
+use Rattle.dia_book.specs.declared.Class.{Class}
+use Rattle.dia_book.specs.declared.Pxy.{Pxy}
+use Rattle.dia_book.specs.declared.DefHead.{DefHead}
+use Rattle.dia_book.specs.declared.DefHead.TheVariants.{Group, Command, Error}
+use Rattle.dia_book.specs.Dictionary.{Dictionary, DictEntry, PlainDefinition, definitions}
 use Rattle.dia_check.specs.declared.Unknown.{Unknown}
 use Rattle.dia_check.specs.declared.Levels.{Levels}
 use Rattle.dia_check.specs.Valid.{AllowsP, IsValidOf}

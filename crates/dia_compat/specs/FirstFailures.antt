@@ -3,7 +3,7 @@ use Rattle.std.specs.Prelude.{◌≡◌, ℕ, ◌+◌, ◌<◌, ◌⊎◌, Bool,
 use Rattle.std.specs.List.{list_any}
 use Rattle.std.specs.Option.{option_map_or}
 use Rattle.dia_wire.specs.declared.Key.{Key}
-use Rattle.dia_dict.specs.Dictionary.{Dictionary, DictEntry, groups, group_place}
+use Rattle.dia_book.specs.Dictionary.{Dictionary, DictEntry, groups, group_place}
 use Rattle.dia_check.specs.declared.Unknown.{Unknown}
 use Rattle.dia_compat.specs.declared.inclusion.PairKind.{PairKind}
 use Rattle.dia_compat.specs.declared.inclusion.PairKind.TheVariants as kind

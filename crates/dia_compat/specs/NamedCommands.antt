@@ -2,7 +2,7 @@
 use Rattle.std.specs.Prelude.{◌≡◌, ℕ, ◌⊎◌, if◌then◌else◌, true, List, [], ◌∷◌, ◌++◌, map, Option, Some, None, Contains, slice_get}
 use Rattle.std.specs.Option.{option_map, option_map_or}
 use Rattle.dia_wire.specs.declared.Key.{Key}
-use Rattle.dia_dict.specs.Dictionary.{Dictionary, DictEntry, PlainDefinition}
+use Rattle.dia_book.specs.Dictionary.{Dictionary, DictEntry, PlainDefinition}
 use Rattle.dia_check.specs.Valid.{known}
 use Rattle.dia_compat.specs.declared.proposing.naming.NamedCommands.{NamedCommands}
 use Rattle.dia_compat.specs.declared.proposing.reaching.Reached.{Reached}

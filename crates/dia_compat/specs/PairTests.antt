@@ -6,16 +6,16 @@ use Rattle.std.specs.Option.{option_eq, option_map, option_map_or}
 use Rattle.std.specs.Str.{bytes_eq}
 use Rattle.dia_wire.specs.declared.Key.{Key}
 use Rattle.dia_data.specs.Plain.{PlainFormat, OctetString}
-use Rattle.dia_dict.specs.declared.MRule.{MRule}
-use Rattle.dia_dict.specs.declared.MRule.TheVariants.{Must, MustNot, Any as AnyM}
-use Rattle.dia_dict.specs.declared.Pxy.{Pxy}
-use Rattle.dia_dict.specs.declared.Pxy.TheVariants.{Clear, Set, Either}
-use Rattle.dia_dict.specs.declared.Class.{Class}
-use Rattle.dia_dict.specs.declared.DefHead.{DefHead}
-use Rattle.dia_dict.specs.declared.DefHead.TheVariants.{Group, Command, Error}
-use Rattle.dia_dict.specs.declared.DRule.{DRule}
-use Rattle.dia_dict.specs.Keys.{same_key}
-use Rattle.dia_dict.specs.Dictionary.{Dictionary, DictEntry, PlainDefinition, definitions, entry_of, same_class, is_command}
+use Rattle.dia_book.specs.declared.MRule.{MRule}
+use Rattle.dia_book.specs.declared.MRule.TheVariants.{Must, MustNot, Any as AnyM}
+use Rattle.dia_book.specs.declared.Pxy.{Pxy}
+use Rattle.dia_book.specs.declared.Pxy.TheVariants.{Clear, Set, Either}
+use Rattle.dia_book.specs.declared.Class.{Class}
+use Rattle.dia_book.specs.declared.DefHead.{DefHead}
+use Rattle.dia_book.specs.declared.DefHead.TheVariants.{Group, Command, Error}
+use Rattle.dia_book.specs.declared.DRule.{DRule}
+use Rattle.dia_book.specs.Keys.{same_key}
+use Rattle.dia_book.specs.Dictionary.{Dictionary, DictEntry, PlainDefinition, definitions, entry_of, same_class, is_command}
 use Rattle.dia_check.specs.declared.Unknown.{Unknown}
 use Rattle.dia_check.specs.Valid.{known}
 use Rattle.dia_compat.specs.declared.inclusion.Test.{Test}

@@ -1,11 +1,12 @@
 -- The text of a table of pairs (our profile).
-use Rattle.std.specs.Prelude.{◌≡◌, ℕ, suc, ◌+◌, ◌<◌, ◌≤◌, ◌⊎◌, ◌==◌, ◌||◌, ◌&&◌, Bool, false, IsTrue, List, [], ◌∷◌, ◌++◌}
+use Rattle.std.specs.Prelude.{◌≡◌, ℕ, suc, ◌+◌, ◌<◌, ◌≤◌, ◌⊎◌, ◌==◌, ◌||◌, Bool, IsTrue, List, [], ◌∷◌, ◌++◌}
 use Rattle.std.specs.Prelude.{length, map, take, Option, Some, None, option_to_list, codes, string_bytes, String, slice_get, ⊤}
-use Rattle.std.specs.List.{filter_map, list_all, list_any, AllByRecursion}
+use Rattle.std.specs.List.{filter_map, list_all, AllByRecursion}
 use Rattle.std.specs.Global.{Global}
 use Rattle.std.specs.Str.Lines.{lines}
-use Rattle.std.specs.Char.{is_ascii_alphanumeric, is_ascii_alphabetic}
 pub use Rattle.dia_policy.specs.Limits.{max_table}
+pub use Rattle.dia_terms.specs.Limits.{max_name}
+pub use Rattle.dia_terms.specs.Names.{is_run_byte, is_name_run}
 use Rattle.dia_compat.specs.declared.table.Table.{Table}
 use Rattle.dia_compat.specs.declared.table.TableFault.{TableFault}
 use Rattle.dia_compat.specs.declared.table.TableFault.TheVariants as fault
@@ -21,20 +22,9 @@ plain_pair p = (string_bytes p.0, string_bytes p.1)
 abbrev pub plain_table : Table → PlainTable
 plain_table t = record { commands = map plain_pair t.commands.items; avps = map plain_pair t.avps.items }
 
--- the most pairs of a table, and the most bytes of a name
+-- the most pairs of a table
 abbrev pub most_pairs : ℕ
 most_pairs = 65536
-
-abbrev pub most_name : ℕ
-most_name = 128
-
-abbrev pub is_run_byte : ℕ → Bool
-is_run_byte c = is_ascii_alphanumeric c || c == 45
-
--- a name: a letter or a digit first, then letters, digits and dashes, and a letter among them
-abbrev pub is_name_run : List ℕ → Bool
-is_name_run [] = false
-is_name_run (c ∷ cs) = is_ascii_alphanumeric c && list_all is_run_byte cs && list_any is_ascii_alphabetic (c ∷ cs)
 
 -- what a line may hold
 pub data Line : Type 0 where
@@ -96,7 +86,7 @@ AreLines (l ∷ ls) (t ∷ ts) = IsLine l t × AreLines ls ts
 AreLines ls ts = ⊥
 
 abbrev pub HasShortNames : List ℕ × List ℕ → Type 0
-HasShortNames p = (length p.0 ≤ most_name) × (length p.1 ≤ most_name)
+HasShortNames p = (length p.0 ≤ max_name) × (length p.1 ≤ max_name)
 
 abbrev pub IsWithinLimits : PlainTable → Type 0
 IsWithinLimits t = (length t.commands + length t.avps ≤ most_pairs) × AllByRecursion HasShortNames t.commands × AllByRecursion HasShortNames t.avps

@@ -1,8 +1,8 @@
 -- The names of the definitions of B that a command of A wants beside it.
 use Rattle.std.specs.Prelude.{ℕ, if◌then◌else◌, List, [], ◌∷◌, Option, Some, None}
 use Rattle.std.specs.List.{filter_map}
-use Rattle.dia_dict.specs.declared.DefHead.{DefHead}
-use Rattle.dia_dict.specs.Dictionary.{Dictionary, PlainDefinition}
+use Rattle.dia_book.specs.declared.DefHead.{DefHead}
+use Rattle.dia_book.specs.Dictionary.{Dictionary, PlainDefinition}
 use Rattle.dia_compat.specs.PairTests.{is_wanted}
 
 abbrev pub wanted_name : Dictionary → Dictionary → DefHead → PlainDefinition → Option (List ℕ)

@@ -1,7 +1,7 @@
 ghost use Rattle.std.specs.Prelude.{◌≡◌, ◌↔◌, IfOk, IsTrue, List, ℕ, map};
 ghost use Rattle.dia_wire.specs.Wire.{PlainAvp, key_of};
-ghost use Rattle.dia_dict.specs.declared.DRule.{DRule as AnyRule};
-ghost use Rattle.dia_dict.specs.Dictionary.{AreRules, Dictionary, IsDictionary};
+ghost use Rattle.dia_book.specs.declared.DRule.{DRule as AnyRule};
+ghost use Rattle.dia_book.specs.Dictionary.{AreRules, Dictionary, IsDictionary};
 ghost use Rattle.dia_check.specs.declared.Unknown.{Unknown as AnyPolicy};
 ghost use Rattle.dia_check.specs.declared.Levels.{Levels as AnyLevels};
 ghost use Rattle.dia_check.specs.Valid.{AllFit, IsValid, Placed};
@@ -12,8 +12,8 @@ ghost use Rattle.dia_compat.specs.declared.inclusion.Answer.{Answer as AnyAnswer
 
 use crate::comparing::Comparison;
 use crate::table::Table;
+use dia_book::Book;
 use dia_check::{Levels, Refusal, Unknown, check};
-use dia_dict::Book;
 use std::alloc::{AllocError, Global};
 
 /// A test of a pair of definitions; the tenth is of the pair itself.
@@ -81,6 +81,15 @@ pub fn level_is_included()
         → DefBelow da db u (IsPairKey da db table) a b
         → Placed a (map key_of avps) → AllFit da u most avps
         → Placed b (map key_of avps) × AllFit db u most avps }
+{}
+
+/// Where a definition of the first dictionary passes each test against one of the second, AVPs that fit by the first and stand as
+/// its definition says stand as the second's says. Nothing is asked of the table's other pairs.
+pub fn level_is_placed()
+    ensures { (da db : Dictionary) (u : AnyPolicy) (table : PlainTable) (most : AnyLevels)
+        (a b : List AnyRule) (avps : List PlainAvp) → AreRules a → AreRules b
+        → DefBelow da db u (IsPairKey da db table) a b → Placed a (map key_of avps)
+        → AllFit da u most avps → Placed b (map key_of avps) }
 {}
 
 /// Two dictionaries and a table have one answer.

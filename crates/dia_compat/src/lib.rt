@@ -7,8 +7,8 @@ mod proposing;
 mod table;
 
 pub use inclusion::{
-    Answer, PairKind, Test, check_table, closed_is_included, level_is_included, one_comparison,
-    refutes,
+    Answer, PairKind, Test, check_table, closed_is_included, level_is_included, level_is_placed,
+    one_comparison, refutes,
 };
 pub use proposing::{ProposeFault, no_table_passes, one_proposal, propose};
 pub use table::{

@@ -1,9 +1,10 @@
-ghost use Rattle.std.specs.Prelude.{◌≡◌, ◌<◌, ◌++◌, [], IfOk, IfErr, OnOk, List};
+ghost use Rattle.std.specs.Prelude.{◌≡◌, ◌<◌, ◌≤◌, ◌+◌, ◌++◌, [], IfOk, IfErr, OnOk, List};
 ghost use Rattle.std.specs.Prelude.{ℕ, Some, length, map, option_to_list, slice_get, string_bytes};
 ghost use Rattle.std.specs.List.{filter_map};
-ghost use Rattle.dia_dict.specs.Dictionary.{DictEntry, Dictionary, IsDictionary};
+ghost use Rattle.dia_book.specs.Dictionary.{DictEntry, Dictionary, IsDictionary};
 ghost use Rattle.dia_check.specs.declared.Unknown.{Unknown as AnyPolicy};
-ghost use Rattle.dia_compat.specs.TableText.{PlainTable, plain_table, plain_pair};
+ghost use Rattle.dia_compat.specs.TableText.{PlainTable, plain_table, plain_pair, most_pairs};
+ghost use Rattle.dia_compat.specs.WrittenTable.{IsWritable};
 ghost use Rattle.dia_compat.specs.Proposed.{IsProposal, IsLeast, ListsAll, IsRefusal};
 ghost use Rattle.dia_compat.specs.Closed.{IsClosed, IsAnswer};
 ghost use Rattle.dia_compat.specs.declared.inclusion.PairKind.{PairKind as AnyKind};
@@ -17,8 +18,8 @@ mod wanting;
 use crate::comparing::{Commands, names_of_commands};
 use crate::inclusion::Answer;
 use crate::table::{Table, push_pair};
+use dia_book::{Book, Entry};
 use dia_check::Unknown;
-use dia_dict::{Book, Entry};
 use naming::NamedCommands;
 use reaching::Reached;
 use std::alloc::{AllocError, Global};
@@ -57,6 +58,10 @@ pub fn propose<A: Book, B: Book>(
         (map (λ n. string_bytes n) names.now) (plain_table table)) }
     ensures least { IfOk result (λ table. IsLeast (A.meaning a.now) (B.meaning b.now) unknown
         (map (λ n. string_bytes n) names.now) (plain_table table)) }
+    // A table within the limit of pairs is read back from the text that `render_table` writes of it.
+    ensures writable { IfOk result (λ table.
+        length (plain_table table).commands + length (plain_table table).avps ≤ most_pairs
+        → IsWritable (plain_table table)) }
     ensures refusal { IfErr result
         (IsRefusal (A.meaning a.now) (map (λ n. string_bytes n) names.now)) }
 {
@@ -78,8 +83,6 @@ fn named_commands<A: Book, B: Book>(
     b: &B,
     names: &[String],
 ) -> Result<NamedCommands, ProposeFault>
-    ensures sound_a { IsDictionary (A.meaning a.now) }
-    ensures sound_b { IsDictionary (B.meaning b.now) }
     ensures ok { IfOk result (NamedSoFar (A.meaning a.now) (B.meaning b.now)
         (map (λ n. string_bytes n) names.now) []) }
     ensures refusal { IfErr result

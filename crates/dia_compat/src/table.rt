@@ -11,6 +11,7 @@ mod rendering;
 mod words;
 
 pub use dia_policy::MAX_TABLE;
+pub use dia_terms::MAX_NAME;
 use line::{Line, read_line};
 pub use rendering::{read_tables_are_writable, render_table};
 use std::alloc::{AllocError, Global};
@@ -19,9 +20,6 @@ use thiserror::Error;
 
 /// The most pairs of a table that is read (our profile).
 pub const MAX_PAIRS: usize = 65_536;
-
-/// The most bytes of a name in a table that is read (our profile).
-pub const MAX_NAME: usize = 128;
 
 /// Pairs of names, each of the first dictionary and of the second: what stands for what. Both lists are in order, and
 /// a pair may stand in them more than once.

@@ -3,7 +3,7 @@ use Rattle.std.proofs.Common.{◌≡◌, ℕ, ◌+◌, ◌<◌, Bool, true, List
 use Rattle.std.specs.List.{list_all}
 use Rattle.std.proofs.lemmas.List.{map_more, map-append}
 use Rattle.std.proofs.lemmas.Option.{slice_get-get_or}
-use Rattle.dia_dict.proofs.Members.{list_all_at}
+use Rattle.dia_book.proofs.Members.{list_all_at}
 
 -- a test that all rows pass is passed by each
 pub row_passes : {X : Type 0} (p : X → Bool) (rows : List X) (i : ℕ) (d : X) → list_all p rows ≡ true → i < length rows → p (get_or rows i d) ≡ true

@@ -6,15 +6,15 @@ use Rattle.std.specs.List.{filter_map, range_with_len, list_any}
 use Rattle.std.proofs.lemmas.List.{take-map, length-map, length-append, map-append}
 use Rattle.std.proofs.lemmas.List.FromFn.{length-range_with_len}
 use Rattle.std.proofs.lemmas.Option.{slice_get-map, none-some, same_Some, slice_get_read}
-use Rattle.dia_dict.specs.Dictionary.{PlainDefinition, DictEntry, Dictionary, groups as groups_of, definitions, group_place, entry_of, selected, has_command, is_command, has_class, plain_definition}
+use Rattle.dia_book.specs.Dictionary.{PlainDefinition, DictEntry, Dictionary, groups as groups_of, definitions, group_place, entry_of, selected, has_command, is_command, has_class, plain_definition}
 use Rattle.dia_dict.specs.PlainMeaning.{entry_of_row, dictionary_of, numbers}
 use Rattle.dia_wire.specs.declared.Key.{Key}
-use Rattle.dia_dict.specs.Keys.{same_key}
-use Rattle.dia_dict.specs.declared.definition.Class.{Class}
-use Rattle.dia_dict.specs.declared.definition.Definition.{Definition}
+use Rattle.dia_book.specs.Keys.{same_key}
+use Rattle.dia_book.specs.declared.Class.{Class}
+use Rattle.dia_book.specs.declared.Definition.{Definition}
 use Rattle.dia_dict.specs.declared.entry_list.Row.{Row}
-use Rattle.dia_dict.proofs.Lists.{filter_map-map, position-map, list_any-map, length-filter_map}
-use Rattle.dia_dict.proofs.NumberedGroups.{slice_get-append_left, slice_get-append_right, filter_map-numbered, length-filter_map-numbered, number_at}
+use Rattle.dia_book.proofs.Lists.{filter_map-map, position-map, list_any-map, length-filter_map}
+use Rattle.dia_book.proofs.NumberedGroups.{slice_get-append_left, slice_get-append_right, filter_map-numbered, length-filter_map-numbered, number_at}
 
 first_member : {X : Type 0} (xs : List X) (k : ℕ) → k < length xs → (x : X) × (slice_get xs k ≡ Some x)
 first_member [] k h = absurd (omega arith)

@@ -1,19 +1,20 @@
 -- A source that the grammar derives keeps what a source in memory keeps by its types.
 use Rattle.std.proofs.Common.{◌≡◌, ℕ, zero, suc, true, false, List, [], ◌∷◌, Option, Some, None, ⊎_elim, refl, sym, ap, ◌∙◌, subst}
-use Rattle.std.specs.Prelude.{slice_get, IsSome, not}
+use Rattle.std.specs.Prelude.{slice_get, IsSome, IsTrue, not}
 use Rattle.std.proofs.lemmas.Option.{none-some, same_Some}
 use Rattle.dia_ccf.specs.declared.source.Head.{Head}
 use Rattle.dia_ccf.specs.declared.source.Head.TheVariants.{Group, Command, Error}
-use Rattle.dia_ccf.specs.declared.source.RuleKind.{RuleKind}
-use Rattle.dia_ccf.specs.declared.source.RuleKind.TheVariants.{Fixed, Required, Optional}
-use Rattle.dia_ccf.specs.Grammar.{Tokens, each, bracketed, rule, Item, Declaration, Definition, item, item_group, item_command, group_of_head, command_of_head, source_of, Derives}
+use Rattle.dia_terms.specs.declared.RuleKind.{RuleKind}
+use Rattle.dia_terms.specs.declared.RuleKind.TheVariants.{Fixed, Required, Optional}
+use Rattle.dia_ccf.specs.Grammar.{Tokens, each, bracketed, rule, Item, Declaration, Definition, item, declared, item_group, item_command, group_of_head, command_of_head, source_of, Derives}
+use Rattle.dia_terms.specs.Names.{is_name}
 use Rattle.dia_ccf.specs.Names.{is_group, is_fixed}
-use Rattle.dia_ccf.specs.Plain.{PlainSource, PlainDef, PlainRule}
+use Rattle.dia_ccf.specs.Plain.{PlainSource, PlainDecl, PlainDef, PlainRule}
 use Rattle.dia_ccf.specs.Tokens.{Token}
 use Rattle.dia_ccf.proofs.WhatFollows.{fixed-in_order}
 use Rattle.dia_dict.specs.Resolution.{all_defs}
 use Rattle.dia_dict.proofs.FaultlessSources.{IsFormed}
-use Rattle.dia_dict.proofs.Members.{at_filter_map, at_append}
+use Rattle.dia_book.proofs.Members.{at_filter_map, at_append}
 
 -- a member of a list whose tokens are derived is derived
 each_at : {X : Type 0} (class : X → Tokens) (xs : List X) (ts : List Token) → each class xs ts → (k : ℕ) (x : X) → slice_get xs k ≡ Some x → (us : List Token) × class x us
@@ -40,6 +41,18 @@ group_item (Definition d) g e = let r = group_head d.head d g refl e in (ap (λ 
 command_item : (x : Item) (c : PlainDef) → item_command x ≡ Some c → (x ≡ Definition c) × (not (is_group c.head) ≡ true)
 command_item (Declaration d) c e = absurd (none-some c e)
 command_item (Definition d) c e = let r = command_head d.head d c refl e in (ap (λ (y : PlainDef). Definition y) r.0, r.1)
+
+-- ---- names
+
+declared_item : (x : Item) (d : PlainDecl) → declared x ≡ Some d → x ≡ Declaration d
+declared_item (Declaration c) d e = ap (λ (y : PlainDecl). Declaration y) (same_Some c d e)
+declared_item (Definition c) d e = absurd (none-some d e)
+
+declared_name : (d : PlainDecl) (us : List Token) → item (Declaration d) us → IsTrue (is_name d.name)
+declared_name d us (a, b, c, declares, (e, f, g, named, others)) = named.0
+
+defined_name : (d : PlainDef) (us : List Token) → item (Definition d) us → IsTrue (is_name d.name)
+defined_name d us (first, (a, b, c, named, others)) = ⊎_elim (λ (e, f, g, less, (h, i, j, name, greater)). name.0) (λ name. name.0) named
 
 -- ---- definitions of the text
 
@@ -72,6 +85,9 @@ module _ (items : List Item) (ts : List Token) (derived : each item items ts) wh
 
   formed_items : IsFormed (source_of items)
   formed_items = record {
+    declared_names = λ i d at. let x = at_filter_map declared items i d at in let r = each_at item items ts derived x.0 x.1 x.2 in
+        declared_name d r.0 (subst (λ (y : Item). item y r.0) (declared_item x.1 d x.3) r.1);
+    defined_names = λ i d at. let def = definition_at i d at in defined_name d def.0 def.1;
     groups = λ i g at. let x = at_filter_map item_group items i g at in (group_item x.1 g x.3).1;
     commands = λ i c at. let x = at_filter_map item_command items i c at in (command_item x.1 c x.3).1;
     ordered = λ i d at. fixed-in_order d.rules (definition_at i d at).1.0;

@@ -9,19 +9,19 @@ use Rattle.dia_ccf.specs.declared.source.Def.{Def}
 use Rattle.dia_ccf.specs.declared.source.Head.{Head}
 use Rattle.dia_ccf.specs.Names.{is_group}
 use Rattle.dia_ccf.specs.Plain.{PlainSource, PlainDef, PlainRule, plain_def}
-use Rattle.dia_dict.specs.Keys.{same_key}
+use Rattle.dia_book.specs.Keys.{same_key}
 use Rattle.dia_dict.specs.declared.selectors.Selector.{Selector}
 use Rattle.dia_dict.specs.declared.resolving.checks.KeyedName.{KeyedName}
 use Rattle.std.specs.Option.{option_map}
 use Rattle.std.specs.Str.{bytes_eq}
 use Rattle.std.proofs.lemmas.Option.{slice_get-map, same_Some}
-use Rattle.dia_ccf.specs.Names.{same_bytes}
+use Rattle.dia_terms.specs.Names.{same_bytes}
 use Rattle.dia_dict.specs.declared.fault.DictKind.TheVariants as kind
 use Rattle.dia_dict.specs.Resolution.{Wrong, wrong, repeats, duplicate_names, duplicate_keys, avp_names, same_selector, same_slot, slot_name, repeated_in, head_of}
 use Rattle.dia_dict.specs.SourceChecks.{IsFirstRepeat, name_and_key}
 use Rattle.dia_dict.specs.Selectors.{selector_of}
 use Rattle.dia_dict.proofs.Repeats.{repeats-none, repeats-first, repeats-map, repeats-none_from_map, first_repeat_from_map, first_repeat-map, slice_get-repeats}
-use Rattle.dia_dict.proofs.Lists.{list_any-agree}
+use Rattle.dia_book.proofs.Lists.{list_any-agree}
 
 abbrev pub text_of : Bor (List ℕ) → List ℕ
 text_of t = t.now

@@ -4,12 +4,12 @@ use Rattle.std.specs.Prelude.{slice_get, option_and_then, if◌then◌else◌}
 use Rattle.std.specs.List.{range_with_len, cons_option}
 use Rattle.std.proofs.lemmas.List.{map_push, append-nil, length-map, length_push}
 use Rattle.std.proofs.lemmas.List.Elements.{filter_map-append}
-use Rattle.dia_dict.specs.Dictionary.{PlainDefinition, plain_definition}
+use Rattle.dia_book.specs.Dictionary.{PlainDefinition, plain_definition}
 use Rattle.dia_dict.specs.PlainMeaning.{entry_of_row, entries_of, numbers}
-use Rattle.dia_dict.specs.declared.definition.Definition.{Definition}
+use Rattle.dia_book.specs.declared.Definition.{Definition}
 use Rattle.dia_dict.specs.declared.entry_list.Row.{Row}
-use Rattle.dia_dict.proofs.Lists.{map-agree}
-use Rattle.dia_dict.proofs.NumberedGroups.{number_at, slice_get-append_left, slice_get-append_at}
+use Rattle.dia_book.proofs.Lists.{map-agree}
+use Rattle.dia_book.proofs.NumberedGroups.{number_at, slice_get-append_left, slice_get-append_at}
 
 range-more : (start n : ℕ) → range_with_len start n ++ (start + n) ∷ [] ≡ range_with_len start (suc n)
 range-more start zero = ap (λ k. k ∷ []) (let e : start + 0 ≡ start = omega arith in e)

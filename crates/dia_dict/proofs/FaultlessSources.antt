@@ -1,6 +1,6 @@
 -- A source with nothing wrong, member by member.
 use Rattle.std.proofs.Common.{◌≡◌, ℕ, ◌+◌, ◌≤◌, Bool, true, false, nat_lt, List, [], ◌∷◌, length, map, filter, Option, Some, None, ⊎_elim, refl, sym, ap, ◌∙◌, subst}
-use Rattle.std.specs.Prelude.{slice_get, IsSome, not, string_bytes, String, if◌then◌else◌}
+use Rattle.std.specs.Prelude.{slice_get, IsSome, IsTrue, not, string_bytes, String, if◌then◌else◌}
 use Rattle.std.specs.Global.{Global}
 use Rattle.std.specs.Option.{option_map}
 use Rattle.std.proofs.lemmas.Bool.{ltb-false}
@@ -8,21 +8,24 @@ use Rattle.std.proofs.lemmas.Simd.{map-map}
 use Rattle.dia_wire.specs.declared.Key.{Key}
 use Rattle.dia_ccf.specs.declared.source.Source.{Source}
 use Rattle.dia_ccf.specs.declared.source.Def.{Def}
-use Rattle.dia_ccf.specs.declared.source.RuleKind.{RuleKind}
-use Rattle.dia_ccf.specs.declared.source.RuleKind.TheVariants.{Fixed, Required, Optional}
-use Rattle.dia_ccf.specs.Names.{same_bytes, is_group, is_fixed, is_rule_name, fixed_first}
-use Rattle.dia_ccf.specs.Plain.{PlainSource, PlainDecl, PlainDef, PlainRule, plain_source, plain_def, plain_rule}
-use Rattle.dia_dict.specs.Limits.{max_rules, max_parts}
+use Rattle.dia_terms.specs.declared.RuleKind.{RuleKind}
+use Rattle.dia_terms.specs.declared.RuleKind.TheVariants.{Fixed, Required, Optional}
+use Rattle.dia_terms.specs.Names.{same_bytes, is_name}
+use Rattle.dia_ccf.specs.Names.{is_group, is_fixed, is_rule_name, fixed_first}
+use Rattle.dia_ccf.specs.Plain.{PlainSource, PlainDecl, PlainDef, PlainRule, plain_source, plain_decl, plain_def, plain_rule}
+use Rattle.dia_book.specs.Limits.{max_rules, max_parts}
 use Rattle.dia_dict.specs.declared.fault.DictKind.TheVariants as kind
 use Rattle.dia_dict.specs.declared.fault.DictKind.{DictKind}
 use Rattle.dia_dict.specs.Resolution.{Wrong, wrong, all_wrong, wrong_limits, wrong_names, wrong_entries, wrong_rules, too_many, duplicate_names, no_groups, header_mismatches, duplicate_keys}
 use Rattle.dia_dict.specs.Resolution.{duplicate_commands, bad_rules, bad_in, repeated_slots, repeated_in, slot_name, all_defs, avp_names as names_of, lacks_group, is_mismatched, is_long, is_bad}
 use Rattle.dia_dict.specs.Resolution.{repeats, same_slot}
 use Rattle.dia_dict.proofs.Duplicates.{same_named, same_command}
-use Rattle.dia_dict.proofs.Members.{append-none, map-none, filter-none_at, flat_map-none_at, list_all_at, at_map, at_append}
+use Rattle.dia_book.proofs.Members.{append-none, map-none, filter-none_at, flat_map-none_at, list_all_at, at_map, at_append}
 
--- what a source keeps by its types: which headers stand where, fixed rules first, and no fixed wildcard
+-- what a source keeps by its types: names, which headers stand where, fixed rules first, and no fixed wildcard
 pub record IsFormed (s : PlainSource) : Type 0 where
+  pub declared_names : (i : ℕ) (d : PlainDecl) → slice_get s.avps i ≡ Some d → IsTrue (is_name d.name)
+  pub defined_names : (i : ℕ) (d : PlainDef) → slice_get (all_defs s) i ≡ Some d → IsTrue (is_name d.name)
   pub groups : (i : ℕ) (g : PlainDef) → slice_get s.groups i ≡ Some g → is_group g.head ≡ true
   pub commands : (i : ℕ) (c : PlainDef) → slice_get s.commands i ≡ Some c → not (is_group c.head) ≡ true
   pub ordered : (i : ℕ) (d : PlainDef) → slice_get (all_defs s) i ≡ Some d → fixed_first (map (λ r. r.kind) d.rules) ≡ true
@@ -59,6 +62,8 @@ fixed_named Optional None named fixed = absurd (let p : false ≡ true = fixed i
 
 pub formed : (s : Source) → IsFormed (plain_source s)
 formed s = record {
+  declared_names = λ i d at. let r = at_map plain_decl s.avps.items i d at in subst (λ (x : PlainDecl). IsTrue (is_name x.name)) r.2 r.0.named;
+  defined_names = λ i d at. let r = definition_in s i d at in subst (λ (x : PlainDef). IsTrue (is_name x.name)) r.1 r.0.named;
   groups = λ i g at. let r = at_map plain_def s.groups.items i g at in ap (λ (d : PlainDef). is_group d.head) (sym r.2) ∙ list_all_at (λ (d : Def). is_group d.head) s.groups.items s.grouped i r.0 r.1;
   commands = λ i c at. let r = at_map plain_def s.commands.items i c at in ap (λ (d : PlainDef). not (is_group d.head)) (sym r.2)
       ∙ list_all_at (λ (d : Def). not (is_group d.head)) s.commands.items s.commanded i r.0 r.1;

@@ -16,9 +16,9 @@ use Rattle.std.proofs.lemmas.List.Sorted.{All-permutation, IsPermutation-sym}
 use Rattle.std.proofs.lemmas.Option.{slice_get-get_or}
 use Rattle.dia_wire.specs.declared.Key.{Key}
 use Rattle.dia_dict.specs.declared.key_table.rows.KeyRow.{KeyRow}
-use Rattle.dia_dict.specs.Keys.{same_key}
+use Rattle.dia_book.specs.Keys.{same_key}
 use Rattle.dia_dict.specs.KeyTables.{IsKey, rank_of, is_key, place_among, AreDistinct, IsIndexOf, IsFound, bucket_of, IsStart, AreStarts}
-use Rattle.dia_dict.proofs.SameKeys.{same_key-true, same_key-equal}
+use Rattle.dia_book.proofs.SameKeys.{same_key-true, same_key-equal}
 use Rattle.dia_dict.proofs.Indexing.Places.{slice_get-take, position-push}
 
 -- ---- no two keys have one rank

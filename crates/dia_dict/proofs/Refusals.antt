@@ -4,7 +4,7 @@ use Rattle.std.specs.Prelude.{slice_get}
 use Rattle.std.specs.List.{flat_map}
 use Rattle.std.specs.Option.{option_map}
 use Rattle.std.proofs.lemmas.Option.{none-some, slice_get-map}
-use Rattle.dia_dict.proofs.LookUpsByName.{find-map}
+use Rattle.dia_book.proofs.LookUpsByName.{find-map}
 use Rattle.dia_dict.specs.declared.resolving.refusal.Refusal.{Refusal}
 use Rattle.dia_dict.specs.declared.resolving.refusal.Refusal.TheVariants.{Stands, NoMemory}
 use Rattle.std.proofs.lemmas.List.{map-append, take-append-drop, drop_more}

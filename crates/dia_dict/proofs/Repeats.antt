@@ -7,7 +7,7 @@ use Rattle.std.proofs.lemmas.List.{append_assoc, append-nil, map-append, take-ma
 use Rattle.std.proofs.lemmas.Option.{slice_get-map, slice_get_within, slice_get_read, get_or_from_slice_get, same_Some, none-some}
 use Rattle.dia_dict.specs.Resolution.{repeats}
 use Rattle.dia_dict.specs.SourceChecks.{IsFirstRepeat}
-use Rattle.dia_dict.proofs.Lists.{list_any-map}
+use Rattle.dia_book.proofs.Lists.{list_any-map}
 
 pub repeats-append : {X : Type 0} (same : X → X → Bool) (earlier xs ys : List X) → repeats same earlier (xs ++ ys) ≡ repeats same earlier xs ++ repeats same (earlier ++ xs) ys
 repeats-append same earlier [] ys = ap (λ zs. repeats same zs ys) (sym (append-nil earlier))

@@ -9,20 +9,21 @@ use Rattle.dia_ccf.specs.declared.source.FormatName.{FormatName}
 use Rattle.dia_ccf.specs.declared.source.FormatName.TheVariants as name
 use Rattle.dia_ccf.specs.declared.source.Head.{Head}
 use Rattle.dia_ccf.specs.declared.source.Qual.{Qual}
-use Rattle.dia_ccf.specs.declared.source.RuleKind.{RuleKind}
-use Rattle.dia_ccf.specs.declared.source.RuleKind.TheVariants.{Fixed, Required, Optional}
-use Rattle.dia_dict.specs.Limits.{max_parts}
+use Rattle.dia_terms.specs.declared.RuleKind.{RuleKind}
+use Rattle.dia_terms.specs.declared.RuleKind.TheVariants.{Fixed, Required, Optional}
+use Rattle.dia_book.specs.Limits.{max_parts}
 use Rattle.dia_dict.specs.declared.fault.DictKind.TheVariants as kind
 use Rattle.dia_ccf.specs.declared.source.Head.TheVariants as head
-use Rattle.dia_ccf.specs.Names.{same_bytes, is_group, is_fixed as is_fixed_kind, fixed_first}
+use Rattle.dia_terms.specs.Names.{same_bytes, is_name}
+use Rattle.dia_ccf.specs.Names.{is_group, is_fixed as is_fixed_kind, fixed_first}
 use Rattle.dia_ccf.specs.CanonicalText.{slot_text}
 use Rattle.dia_ccf.specs.Plain.{PlainSource, PlainDecl, PlainDef, PlainRule}
-use Rattle.dia_dict.specs.Keys.{same_key}
-use Rattle.dia_dict.specs.declared.definition.DRule.{DRule}
-use Rattle.dia_dict.specs.declared.definition.Class.TheVariants as classes
-use Rattle.dia_dict.specs.declared.definition.DefHead.{DefHead}
-use Rattle.dia_dict.specs.declared.definition.DefHead.TheVariants.{Group, Command, Error}
-use Rattle.dia_dict.specs.Dictionary.{PlainDefinition, DictEntry, IsDictionary, AreRules, IsSameSelector, IsCommandHead, IsLeast, is_fixed, groups as groups_of, definitions, entry_of}
+use Rattle.dia_book.specs.Keys.{same_key}
+use Rattle.dia_book.specs.declared.DRule.{DRule}
+use Rattle.dia_book.specs.declared.Class.TheVariants as classes
+use Rattle.dia_book.specs.declared.DefHead.{DefHead}
+use Rattle.dia_book.specs.declared.DefHead.TheVariants.{Group, Command, Error}
+use Rattle.dia_book.specs.Dictionary.{PlainDefinition, DictEntry, IsDictionary, AreRules, IsSameSelector, IsCommandHead, IsLeast, is_fixed, groups as groups_of, definitions, entry_of}
 use Rattle.dia_dict.specs.Resolution.{resolved, declared_entry, bare_entry, bare_groups, definition_of, rule_of, head_of, key_of_name, key_of_decl, group_key, names_decl, names_def, avp_names}
 use Rattle.dia_dict.specs.Resolution.{all_defs, is_bare, repeats, same_selector, agrees_with, is_grouped, format_of, class_of, is_bad, least, greatest, slot_name, same_slot}
 use Rattle.std.proofs.lemmas.Bool.{and_from, and_parts, eq-eqb, both_ways, not-false, not-true, or_from, ltb-false, eqb-false}
@@ -30,13 +31,14 @@ use Rattle.std.proofs.lemmas.List.{map-append, length-map, length-append}
 use Rattle.std.proofs.lemmas.List.Filters.{length-filter_both}
 use Rattle.std.proofs.lemmas.Option.{none-some, same_Some}
 use Rattle.std.proofs.lemmas.Simd.{map-map}
-use Rattle.dia_dict.proofs.LookUpsByName.{same_bytes-true, same_bytes-refl, same_bytes-Decides}
+use Rattle.dia_book.proofs.LookUpsByName.{same_bytes-true, same_bytes-refl, same_bytes-Decides}
 use Rattle.dia_dict.proofs.Duplicates.{same_named, same_command}
-use Rattle.dia_dict.proofs.Members.{AreApart, into_left, into_right, into_map, All-from_places, at_map, at_append, at_filter, into_filter, at_find, find-found}
-use Rattle.dia_dict.proofs.Members.{find-is_some, at_Contains, at_filter_map, position-is_some, list_any-none_at, AreApart-filter, repeats-distinct}
-use Rattle.dia_dict.proofs.Lists.{front, rest, front-append-rest, list_all-front}
+use Rattle.dia_book.proofs.Members.{AreApart, into_left, into_right, into_map, All-from_places, at_map, at_append, at_filter, into_filter, at_find, find-found}
+use Rattle.dia_book.proofs.Members.{find-is_some, at_Contains, at_filter_map, position-is_some, list_any-none_at, AreApart-filter}
+use Rattle.dia_dict.proofs.Distinct.{repeats-distinct}
+use Rattle.dia_book.specs.Opened.{front, rest, front-append-rest, list_all-front}
 use Rattle.dia_dict.proofs.FaultlessSources.{IsFormed, IsClean}
-use Rattle.dia_dict.proofs.SameKeys.{same_key-refl, same_key-equal, same_key-true}
+use Rattle.dia_book.proofs.SameKeys.{same_key-refl, same_key-equal, same_key-true}
 
 same_bytes-equal : (a b : List ℕ) → a ≡ b → same_bytes a b ≡ true
 same_bytes-equal a b = (same_bytes-Decides a b).1
@@ -346,6 +348,20 @@ module _ (s : PlainSource) (formed : IsFormed s) (clean : IsClean s) where
       let r = at_map (definition_of s) s.commands i c at in
       subst (λ (d : PlainDefinition). IsCommandHead d.head) r.2 (head_of-command r.0.head (formed.commands i r.0 r.1))
 
+  name_on : (i : ℕ) (x : DictEntry) → Side i x → IsTrue (is_name x.name)
+  name_on i x (declared_at d at e) = subst (λ (z : DictEntry). IsTrue (is_name z.name)) e (formed.declared_names i d at)
+  name_on i x (bare_at k g p at e) =
+      let r = at_filter (is_bare s) s.groups k g at in
+      subst (λ (z : DictEntry). IsTrue (is_name z.name)) e (formed.defined_names r.0 g (into_left s.groups s.commands r.0 g r.1))
+
+  name_at : (i : ℕ) (x : DictEntry) → slice_get (resolved s).entries i ≡ Some x → IsTrue (is_name x.name)
+  name_at i x at = name_on i x (side i x at)
+
+  command_name_at : (i : ℕ) (c : PlainDefinition) → slice_get (resolved s).commands i ≡ Some c → IsTrue (is_name c.name)
+  command_name_at i c at =
+      let r = at_map (definition_of s) s.commands i c at in
+      subst (λ (d : PlainDefinition). IsTrue (is_name d.name)) r.2 (formed.defined_names (length s.groups + i) r.0 (into_right s.groups s.commands i r.0 r.1))
+
   group_on : (i : ℕ) (x : DictEntry) (d : PlainDefinition) → Side i x → x.group ≡ Some d → (j : ℕ) × (e : PlainDef) × (slice_get (all_defs s) j ≡ Some e) × (definition_of s e ≡ d)
   group_on i x d (declared_at e at same) has = by (find (names_def e.name) s.groups) refl (ap (λ (z : DictEntry). z.group) same ∙ has)
     where
@@ -466,6 +482,8 @@ module _ (s : PlainSource) (formed : IsFormed s) (clean : IsClean s) where
     distinct_names = distinct_names;
     distinct_commands = distinct_commands;
     distinct_selectors = distinct_selectors;
+    entry_names = All-from_places _ _ name_at;
+    command_names = All-from_places _ _ command_name_at;
     grouped = All-from_places _ _ grouped_at;
     group_heads = All-from_places _ _ group_head_at;
     command_heads = All-from_places _ _ command_head_at;

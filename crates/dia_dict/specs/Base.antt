@@ -2,14 +2,14 @@
 use Rattle.std.specs.Prelude.{ℕ, true, false, List, [], ◌∷◌, Option, Some, None, codes}
 use Rattle.dia_ccf.specs.declared.FormatName.{FormatName}
 use Rattle.dia_ccf.specs.declared.FormatName.TheVariants.{OctetString, Unsigned32, Address, Utf8String, DiameterIdentity, Enumerated}
-use Rattle.dia_ccf.specs.declared.MRule.TheVariants.{Any}
-use Rattle.dia_ccf.specs.declared.Pxy.TheVariants.{Either}
+use Rattle.dia_terms.specs.declared.MRule.TheVariants.{Any}
+use Rattle.dia_terms.specs.declared.Pxy.TheVariants.{Either}
 use Rattle.dia_ccf.specs.declared.Head.{Head}
 use Rattle.dia_ccf.specs.declared.Head.TheVariants.{Group, Command, Error}
 use Rattle.dia_ccf.specs.declared.Qual.{Qual}
-use Rattle.dia_ccf.specs.declared.RuleKind.TheVariants.{Fixed, Required, Optional}
+use Rattle.dia_terms.specs.declared.RuleKind.TheVariants.{Fixed, Required, Optional}
 use Rattle.dia_ccf.specs.Plain.{PlainDecl, PlainRule, PlainDef, PlainSource}
-use Rattle.dia_dict.specs.Dictionary.{Dictionary}
+use Rattle.dia_book.specs.Dictionary.{Dictionary}
 use Rattle.dia_dict.specs.Resolution.{resolved}
 
 -- an AVP without a vendor, whose M flag may be set or clear

@@ -4,9 +4,9 @@ use Rattle.std.specs.List.{list_all}
 use Rattle.std.specs.Option.{option_map, option_map_or}
 use Rattle.dia_ccf.specs.declared.FormatName.{FormatName}
 use Rattle.dia_ccf.specs.declared.FormatName.TheVariants.{Enumerated}
-use Rattle.dia_ccf.specs.declared.MRule.TheVariants.{Any}
-use Rattle.dia_ccf.specs.declared.RuleKind.{RuleKind}
-use Rattle.dia_ccf.specs.declared.RuleKind.TheVariants as kind
+use Rattle.dia_terms.specs.declared.MRule.TheVariants.{Any}
+use Rattle.dia_terms.specs.declared.RuleKind.{RuleKind}
+use Rattle.dia_terms.specs.declared.RuleKind.TheVariants as kind
 use Rattle.dia_ccf.specs.declared.Qual.{Qual}
 use Rattle.dia_ccf.specs.Names.{is_name, is_number, is_range, is_head, fixed_first}
 use Rattle.dia_ccf.specs.Plain.{PlainDecl, PlainRule, PlainDef}

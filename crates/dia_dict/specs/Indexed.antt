@@ -1,11 +1,11 @@
 -- What the tables of an indexed book say of the lists that it looks up.
 use Rattle.std.specs.Prelude.{◌≡◌, ℕ, List, length, map, Option, Some, slice_get}
 use Rattle.dia_wire.specs.declared.Key.{Key}
-use Rattle.dia_dict.specs.declared.definition.DRule.{DRule}
-use Rattle.dia_dict.specs.declared.definition.Definition.{Definition}
+use Rattle.dia_book.specs.declared.DRule.{DRule}
+use Rattle.dia_book.specs.declared.Definition.{Definition}
 use Rattle.dia_dict.specs.declared.entry_list.Row.{Row}
 use Rattle.dia_dict.specs.declared.key_table.KeyTable.{KeyTable}
-use Rattle.dia_dict.specs.Dictionary.{IsSameSelector}
+use Rattle.dia_book.specs.Dictionary.{IsSameSelector}
 use Rattle.dia_dict.specs.KeyTables.{place_among, IsIndexOf}
 
 abbrev pub row_keys : List Row → List (Option Key)

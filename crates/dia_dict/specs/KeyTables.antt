@@ -3,7 +3,7 @@ use Rattle.std.specs.Prelude.{◌≡◌, ◌≢◌, ℕ, ◌+◌, ◌*◌, ◌/�
 use Rattle.std.specs.Option.{option_map_or}
 use Rattle.dia_wire.specs.declared.Key.{Key}
 use Rattle.dia_dict.specs.declared.key_table.rows.KeyRow.{KeyRow}
-use Rattle.dia_dict.specs.Keys.{same_key}
+use Rattle.dia_book.specs.Keys.{same_key}
 
 -- both parts of a key have 32 bits
 abbrev pub IsKey : Key → Type 0

@@ -1,8 +1,8 @@
-pub mod Keys
+pub use Rattle.dia_book.specs.Keys
+pub use Rattle.dia_book.specs.Limits
+pub use Rattle.dia_book.specs.Dictionary
 pub mod KeyTables
-pub mod Limits
 pub mod Words
-pub mod Dictionary
 pub mod PlainMeaning
 pub mod Resolution
 pub mod SourceChecks

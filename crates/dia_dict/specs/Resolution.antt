@@ -4,34 +4,34 @@ use Rattle.std.specs.Prelude.{map, filter, Option, Some, None, option_and_then, 
 use Rattle.std.specs.Bool.{beq}
 use Rattle.std.specs.List.{flat_map, list_any}
 use Rattle.std.specs.Option.{option_eq, option_map, option_map_or, option_or}
-use Rattle.dia_ccf.specs.declared.Pxy.{Pxy}
-use Rattle.dia_ccf.specs.declared.Pxy.TheVariants.{Clear, Set}
+use Rattle.dia_terms.specs.declared.Pxy.{Pxy}
+use Rattle.dia_terms.specs.declared.Pxy.TheVariants.{Clear, Set}
 use Rattle.dia_wire.specs.declared.Key.{Key}
 use Rattle.dia_data.specs.Plain as formats
 use Rattle.dia_data.specs.Plain.{PlainFormat}
 use Rattle.dia_ccf.specs.declared.FormatName.{FormatName}
 use Rattle.dia_ccf.specs.declared.FormatName.TheVariants as name
-use Rattle.dia_ccf.specs.declared.MRule.TheVariants as m_rule
+use Rattle.dia_terms.specs.declared.MRule.TheVariants as m_rule
 use Rattle.dia_ccf.specs.declared.Head.{Head}
 use Rattle.dia_ccf.specs.declared.Head.TheVariants as head
 use Rattle.dia_ccf.specs.declared.Qual.{Qual}
-use Rattle.dia_ccf.specs.declared.RuleKind.{RuleKind}
-use Rattle.dia_ccf.specs.declared.RuleKind.TheVariants.{Fixed, Required, Optional}
-use Rattle.dia_ccf.specs.Names.{same_bytes}
+use Rattle.dia_terms.specs.declared.RuleKind.{RuleKind}
+use Rattle.dia_terms.specs.declared.RuleKind.TheVariants.{Fixed, Required, Optional}
+use Rattle.dia_terms.specs.Names.{same_bytes}
 use Rattle.dia_ccf.specs.Plain.{PlainDecl, PlainRule, PlainDef, PlainSource}
 use Rattle.dia_ccf.specs.CanonicalText.{slot_text}
-use Rattle.dia_dict.specs.Keys.{same_key}
-use Rattle.dia_dict.specs.Limits.{max_rules, max_parts}
-use Rattle.dia_dict.specs.declared.definition.Class.{Class}
-use Rattle.dia_dict.specs.declared.definition.Class.TheVariants as classes
-use Rattle.dia_dict.specs.declared.definition.DefHead.{DefHead}
-use Rattle.dia_dict.specs.declared.definition.DefHead.TheVariants.{Group, Command, Error}
-use Rattle.dia_dict.specs.declared.definition.DRule.{DRule}
+use Rattle.dia_book.specs.Keys.{same_key}
+use Rattle.dia_book.specs.Limits.{max_rules, max_parts}
+use Rattle.dia_book.specs.declared.Class.{Class}
+use Rattle.dia_book.specs.declared.Class.TheVariants as classes
+use Rattle.dia_book.specs.declared.DefHead.{DefHead}
+use Rattle.dia_book.specs.declared.DefHead.TheVariants.{Group, Command, Error}
+use Rattle.dia_book.specs.declared.DRule.{DRule}
 use Rattle.dia_dict.specs.declared.fault.DictKind.{DictKind}
 use Rattle.dia_dict.specs.declared.fault.DictKind.TheVariants as kind
 use Rattle.dia_dict.specs.declared.fault.DictFault.{DictFault}
 use Rattle.dia_dict.specs.declared.fault.DictFault.TheVariants as fault
-use Rattle.dia_dict.specs.Dictionary.{PlainDefinition, DictEntry, Dictionary}
+use Rattle.dia_book.specs.Dictionary.{PlainDefinition, DictEntry, Dictionary}
 
 -- ---- the meaning
 

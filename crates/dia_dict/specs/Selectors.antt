@@ -1,10 +1,10 @@
 -- What commands are looked up by: the messages that they are for.
 use Rattle.std.specs.Prelude.{ℕ, Bool, true, false, Option, ◌==◌, ◌&&◌}
 use Rattle.std.specs.Bool.{beq}
-use Rattle.dia_dict.specs.declared.definition.Class.{Class}
-use Rattle.dia_dict.specs.declared.definition.Class.TheVariants as classes
-use Rattle.dia_dict.specs.declared.definition.DefHead.{DefHead}
-use Rattle.dia_dict.specs.declared.definition.DefHead.TheVariants as head
+use Rattle.dia_book.specs.declared.Class.{Class}
+use Rattle.dia_book.specs.declared.Class.TheVariants as classes
+use Rattle.dia_book.specs.declared.DefHead.{DefHead}
+use Rattle.dia_book.specs.declared.DefHead.TheVariants as head
 use Rattle.dia_dict.specs.declared.selectors.Selector.{Selector}
 use Rattle.dia_dict.specs.declared.selectors.Selector.TheVariants as selectors
 use Rattle.dia_dict.specs.declared.selectors.Service.{Service}

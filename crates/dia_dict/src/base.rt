@@ -10,10 +10,10 @@ mod soundness;
 mod tables;
 mod text;
 
-use crate::book::Book;
 use crate::fault::DictFault;
 use crate::plain_book::PlainBook;
 use crate::resolving::resolve;
+use dia_book::Book;
 pub use soundness::base_is_sound;
 use std::alloc::{AllocError, Global};
 use text::TEXT;

@@ -2,8 +2,7 @@ ghost use Rattle.std.specs.Prelude.{◌≡◌, length};
 ghost use Rattle.std.specs.List.{range_with_len};
 ghost use Rattle.dia_dict.specs.PlainMeaning.{numbers};
 
-use crate::definition::Definition;
-use dia_ccf::MRule;
+use dia_book::{Definition, MRule};
 use dia_data::Format;
 use dia_wire::Key;
 use std::alloc::{AllocError, Global};
@@ -18,6 +17,23 @@ pub(crate) struct Row {
     pub group: Option<usize>,
 }
 
+/// A copy says the same.
+impl Clone for Row {
+    ghost use Rattle.dia_dict.specs.PlainMeaning.{IsCopyOfRow};
+
+    ghost is_clone = { λ old new. IsCopyOfRow old new };
+
+    fn clone(&self) -> Result<Row, AllocError> {
+        Ok(Row {
+            name: self.name.clone()?,
+            key: self.key,
+            format: self.format.clone()?,
+            rule: self.rule,
+            group: self.group,
+        })
+    }
+}
+
 /// The entries of a dictionary in order, with the definitions of the Grouped ones.
 #[derive(Debug, Drop)]
 pub(crate) struct EntryList {
@@ -27,10 +43,26 @@ pub(crate) struct EntryList {
     pub ghost numbered: { numbers rows.items ≡ range_with_len 0 (length groups.items) },
 }
 
+/// A copy has the same entries.
+impl Clone for EntryList {
+    ghost use Rattle.std.specs.Prelude.{◌≡◌};
+    ghost use Rattle.dia_dict.specs.PlainMeaning.{entries_of};
+
+    ghost is_clone = { λ old new. entries_of new.rows.items new.groups.items
+        ≡ entries_of old.rows.items old.groups.items };
+
+    fn clone(&self) -> Result<EntryList, AllocError> {
+        Ok(EntryList {
+            rows: self.rows.clone()?,
+            groups: self.groups.clone()?,
+        })
+    }
+}
+
 impl EntryList {
     ghost use Rattle.std.specs.Prelude.{[], ◌∷◌, ◌++◌, OnOk, Some, None, string_bytes};
     ghost use Rattle.dia_data.specs.Plain.{plain_format};
-    ghost use Rattle.dia_dict.specs.Dictionary.{plain_definition};
+    ghost use Rattle.dia_book.specs.Dictionary.{plain_definition};
     ghost use Rattle.dia_dict.specs.PlainMeaning.{entries_of};
 
     pub(crate) fn new(alloc: Global) -> Self

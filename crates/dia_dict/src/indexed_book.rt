@@ -1,7 +1,8 @@
 ghost use Rattle.std.specs.Prelude.{◌≡◌, ◌<◌, ◌++◌, IfOk, IsTrue, map, position};
 ghost use Rattle.std.specs.List.{list_any};
 ghost use Rattle.std.specs.Option.{option_or};
-ghost use Rattle.dia_dict.specs.Dictionary.{is_command};
+ghost use Rattle.dia_book.specs.Dictionary.{is_command};
+ghost use Rattle.dia_book.specs.Opened.{opened};
 ghost use Rattle.dia_dict.specs.Indexed.{AreSlotTables, row_keys};
 ghost use Rattle.dia_dict.specs.KeyTables.{IsIndexOf, place_among};
 ghost use Rattle.dia_dict.specs.Selectors.{selector_of, service_of, same_service};
@@ -10,13 +11,10 @@ ghost use Rattle.dia_dict.specs.declared.selectors.Service.{Service as AnyServic
 mod commands;
 mod tables;
 
-use crate::book::Book;
-use crate::definition::{Class, Definition, Slot};
-use crate::indices::{DefId, Entry};
 use crate::key_table::KeyTable;
 use crate::plain_book::PlainBook;
 use crate::selectors::{Selector, Service};
-use dia_ccf::MRule;
+use dia_book::{Book, Class, DefId, Definition, Entry, MRule, Slot};
 use dia_data::Format;
 use dia_wire::Key;
 use indexmap::IndexSet;
@@ -40,8 +38,17 @@ pub struct IndexedBook {
 }
 
 impl IndexedBook {
-    /// The dictionary with its tables: n keys or rules take n log n steps. The error comes only where memory was refused.
-    pub fn new(alloc: Global, book: PlainBook) -> Result<IndexedBook, AllocError>
+    /// A copy of the dictionary with its tables: n keys or rules take n log n steps. The error comes only where memory was
+    /// refused.
+    pub fn new(alloc: Global, book: &PlainBook) -> Result<IndexedBook, AllocError>
+        ensures { IfOk result (λ indexed. ⟦<IndexedBook as Book>⟧.meaning indexed
+            ≡ ⟦<PlainBook as Book>⟧.meaning book.now) }
+    {
+        Self::from_plain(alloc, book.clone()?)
+    }
+
+    /// The dictionary itself with its tables, without a copy of it. The error comes only where memory was refused.
+    pub fn from_plain(alloc: Global, book: PlainBook) -> Result<IndexedBook, AllocError>
         ensures { IfOk result (λ indexed. ⟦<IndexedBook as Book>⟧.meaning indexed
             ≡ ⟦<PlainBook as Book>⟧.meaning book) }
     {
@@ -82,6 +89,8 @@ impl IndexedBook {
 
 impl Book for IndexedBook {
     ghost meaning = { λ b. ⟦<PlainBook as Book>⟧.meaning b.book };
+
+    ghost sound = { λ b. opened (⟦<PlainBook as Book>⟧.meaning b.book) b.book.sound };
 
     #[inline(always)]
     fn avp(&self, key: Key) -> Option<Entry> {

@@ -7,7 +7,7 @@
 //!
 //! ```text
 //! let text = "%avp Origin-Host 264 DiameterIdentity must <DWR> ::= <Diameter-Header:280,REQ> {Origin-Host}";
-//! let book = IndexedBook::new(alloc, resolve(alloc, parse(alloc, text)?)?)?;
+//! let book = IndexedBook::from_plain(alloc, resolve(alloc, parse(alloc, text)?)?)?;
 //! let key = Key { code: 264, vendor: 0 };
 //! let host = book.avp(key).ok_or("Origin-Host")?;
 //! assert_eq!(rt; book.entry_name(host), "Origin-Host");
@@ -20,25 +20,20 @@
 #![tactic(auto)]
 
 mod base;
-mod book;
-mod definition;
 mod entry_list;
 mod fault;
 mod indexed_book;
-mod indices;
 mod key_table;
 mod plain_book;
 mod resolving;
 mod selectors;
 
 pub use base::{base_book, base_is_sound, base_text};
-pub use book::Book;
-pub use definition::{Class, DRule, DefHead, Definition, Slot};
-pub use dia_ccf::{MRule, Pxy, RuleKind};
-pub use dia_data::{Format, Leaf, accepts};
-pub use dia_wire::Key;
+pub use dia_book::{
+    Book, Class, DRule, DefHead, DefId, Definition, Entry, Format, Key, Leaf, MRule, Pxy, RuleKind,
+    Slot, accepts,
+};
 pub use fault::{DictFault, DictKind};
 pub use indexed_book::IndexedBook;
-pub use indices::{DefId, Entry};
 pub use plain_book::PlainBook;
 pub use resolving::{named_is_sound, resolve};

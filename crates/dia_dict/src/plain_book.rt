@@ -1,18 +1,17 @@
 ghost use Rattle.std.specs.Prelude.{◌≡◌, ◌≤◌, ◌+◌, length, map, position};
 ghost use Rattle.std.specs.List.{list_any};
 ghost use Rattle.std.specs.Option.{option_or};
-ghost use Rattle.dia_dict.specs.Keys.{same_key};
-ghost use Rattle.dia_dict.specs.Dictionary.{IsDictionary, plain_definition, is_command, has_class};
-ghost use Rattle.dia_dict.specs.Limits.{max_parts};
+ghost use Rattle.dia_book.specs.Keys.{same_key};
+ghost use Rattle.dia_book.specs.Dictionary.{IsDictionary, plain_definition, is_command, has_class};
+ghost use Rattle.dia_book.specs.Limits.{max_parts};
+ghost use Rattle.dia_book.specs.Opened.{opened};
 ghost use Rattle.dia_dict.specs.PlainMeaning.{dictionary_of};
 
-use crate::book::Book;
-use crate::definition::{Class, Definition, Slot};
 use crate::entry_list::{EntryList, Row};
-use crate::indices::{DefId, Entry};
-use dia_ccf::MRule;
+use dia_book::{Book, Class, DefId, Definition, Entry, MRule, Slot};
 use dia_data::Format;
 use dia_wire::Key;
+use std::alloc::AllocError;
 
 /// A dictionary in lists, which every look-up scans.
 #[derive(Debug, Drop)]
@@ -38,9 +37,27 @@ impl PlainBook {
     }
 }
 
+/// A copy is of the same dictionary.
+impl Clone for PlainBook {
+    ghost use Rattle.std.specs.Prelude.{◌≡◌};
+
+    ghost is_clone = { λ old new. ⟦<PlainBook as Book>⟧.meaning new
+        ≡ ⟦<PlainBook as Book>⟧.meaning old };
+
+    fn clone(&self) -> Result<PlainBook, AllocError> {
+        Ok(PlainBook {
+            entries: self.entries.clone()?,
+            commands: self.commands.clone()?,
+        })
+    }
+}
+
 impl Book for PlainBook {
     ghost meaning = { λ b. dictionary_of b.entries.rows.items
         (map plain_definition b.entries.groups.items) (map plain_definition b.commands.items) };
+
+    ghost sound = { λ b. opened (dictionary_of b.entries.rows.items
+        (map plain_definition b.entries.groups.items) (map plain_definition b.commands.items)) b.sound };
 
     fn avp(&self, key: Key) -> Option<Entry> {
         let index = place_of_row(&self.entries.rows, key)?;

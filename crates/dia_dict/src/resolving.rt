@@ -13,9 +13,9 @@ mod refusal;
 mod rules;
 mod soundness;
 
-use crate::book::Book;
 use crate::fault::DictFault;
 use crate::plain_book::PlainBook;
+use dia_book::Book;
 use dia_ccf::Source;
 use names::Names;
 use refusal::Refusal;

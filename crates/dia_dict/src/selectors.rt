@@ -1,5 +1,5 @@
 //! The keys by which commands are looked up.
-use crate::definition::{Class, DefHead};
+use dia_book::{Class, DefHead};
 
 /// Which messages a command is for.
 #[derive(Clone, Copy, Debug, PartialEq, Eq, Hash)]
@@ -16,7 +16,7 @@ pub(crate) enum Selector {
 
 impl Selector {
     ghost use Rattle.std.specs.Prelude.{◌≡◌};
-    ghost use Rattle.dia_dict.specs.Dictionary.{IsCommandHead};
+    ghost use Rattle.dia_book.specs.Dictionary.{IsCommandHead};
     ghost use Rattle.dia_dict.specs.Selectors.{selector, selector_of};
 
     /// The selector of messages of a code and a class, for an application or for all that no other command names.
@@ -67,7 +67,7 @@ pub(crate) enum Service {
 
 impl Service {
     ghost use Rattle.std.specs.Prelude.{◌≡◌};
-    ghost use Rattle.dia_dict.specs.Dictionary.{IsCommandHead};
+    ghost use Rattle.dia_book.specs.Dictionary.{IsCommandHead};
     ghost use Rattle.dia_dict.specs.Selectors.{service, service_of};
 
     /// The service of messages of a code and a class.

@@ -8,8 +8,8 @@ use Rattle.dia_wire.specs.declared.Key.{Key}
 use Rattle.dia_wire.specs.Wire.{PlainAvp, key_of, IsHead, Spells, SpellsAll, head_length, avp_length, padded_length}
 use Rattle.dia_wire.proofs.Spelling.{opened}
 use Rattle.dia_data.specs.Leaf.{IsLeaf}
-use Rattle.dia_dict.specs.declared.DRule.{DRule}
-use Rattle.dia_dict.specs.Dictionary.{Dictionary, DictEntry, PlainDefinition}
+use Rattle.dia_book.specs.declared.DRule.{DRule}
+use Rattle.dia_book.specs.Dictionary.{Dictionary, DictEntry, PlainDefinition}
 use Rattle.dia_check.specs.Valid.{IsAccepted, MHolds, known}
 use Rattle.dia_sites.specs.declared.Sends.{Sends}
 use Rattle.dia_sites.specs.declared.Sends.TheVariants.{Any, Known, Listed}

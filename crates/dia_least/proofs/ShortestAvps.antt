@@ -7,10 +7,10 @@ use Rattle.dia_wire.specs.Wire.{PlainAvp, key_of, HasVendorFlag, IsVendorField, 
 use Rattle.dia_wire.specs.Written.{avp_bytes, vendor_bytes}
 use Rattle.dia_wire.proofs.Written.{avp_spelled, four}
 use Rattle.dia_data.specs.Leaf.{IsLeaf}
-use Rattle.dia_dict.specs.declared.MRule.{MRule}
-use Rattle.dia_dict.specs.declared.MRule.TheVariants.{Must, MustNot, Any as AnyM}
-use Rattle.dia_dict.specs.declared.DRule.{DRule}
-use Rattle.dia_dict.specs.Dictionary.{Dictionary, DictEntry, PlainDefinition}
+use Rattle.dia_book.specs.declared.MRule.{MRule}
+use Rattle.dia_book.specs.declared.MRule.TheVariants.{Must, MustNot, Any as AnyM}
+use Rattle.dia_book.specs.declared.DRule.{DRule}
+use Rattle.dia_book.specs.Dictionary.{Dictionary, DictEntry, PlainDefinition}
 use Rattle.dia_check.specs.Valid.{IsAccepted, MHolds, known}
 use Rattle.dia_sites.specs.declared.Sends.{Sends}
 use Rattle.dia_sites.specs.declared.Sends.TheVariants.{Any}

@@ -7,11 +7,11 @@ use Rattle.std.proofs.lemmas.List.Sums.{sum_by-cons, sum_by-append}
 use Rattle.dia_wire.specs.declared.Key.{Key}
 use Rattle.dia_wire.specs.Wire.{PlainAvp, key_of}
 use Rattle.dia_dict.specs.Base.{base}
-use Rattle.dia_dict.specs.Keys.{same_key}
-use Rattle.dia_dict.specs.declared.DRule.{DRule}
-use Rattle.dia_dict.specs.declared.DefHead.TheVariants.{Error}
-use Rattle.dia_dict.specs.declared.Pxy.TheVariants.{Either}
-use Rattle.dia_dict.specs.Dictionary.{PlainDefinition, definitions}
+use Rattle.dia_book.specs.Keys.{same_key}
+use Rattle.dia_book.specs.declared.DRule.{DRule}
+use Rattle.dia_book.specs.declared.DefHead.TheVariants.{Error}
+use Rattle.dia_book.specs.declared.Pxy.TheVariants.{Either}
+use Rattle.dia_book.specs.Dictionary.{PlainDefinition, definitions}
 use Rattle.dia_check.specs.Valid.{Placed, MayBeLoose, is_listed, loose_rules, has_wildcard}
 use Rattle.dia_peer.specs.declared.config.Ip.{Ip}
 use Rattle.dia_peer.specs.declared.event.Cause.{Cause}

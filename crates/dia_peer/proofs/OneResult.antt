@@ -9,9 +9,9 @@ use Rattle.dia_wire.specs.declared.Key.{Key}
 use Rattle.dia_wire.specs.Number.{number}
 use Rattle.dia_wire.specs.Wire.{PlainAvp, key_of, IsMessage}
 use Rattle.dia_dict.specs.Base.{base}
-use Rattle.dia_dict.specs.declared.Class.TheVariants.{Request, Answer, Error as ErrorClass}
-use Rattle.dia_dict.specs.declared.DRule.{DRule}
-use Rattle.dia_dict.specs.Dictionary.{PlainDefinition, definitions, selected}
+use Rattle.dia_book.specs.declared.Class.TheVariants.{Request, Answer, Error as ErrorClass}
+use Rattle.dia_book.specs.declared.DRule.{DRule}
+use Rattle.dia_book.specs.Dictionary.{PlainDefinition, definitions, selected}
 use Rattle.dia_check.specs.declared.Unknown.TheVariants.{Kept}
 use Rattle.dia_check.specs.declared.Levels.TheVariants.{Any}
 use Rattle.dia_check.specs.Valid.{IsValid, HasR, HasE, Placed, class_of}

@@ -1,7 +1,7 @@
 -- Each AVP of our messages fits the base dictionary.
 use Rattle.std.proofs.Common.{ℕ, List, [], ◌∷◌, arith, inl, refl}
 use Rattle.dia_dict.specs.Base.{base}
-use Rattle.dia_dict.specs.declared.DRule.{DRule}
+use Rattle.dia_book.specs.declared.DRule.{DRule}
 use Rattle.dia_check.specs.declared.Unknown.TheVariants.{Kept}
 use Rattle.dia_check.specs.Valid.{Fits, FitsBy, IsLevel}
 use Rattle.dia_peer.specs.declared.config.Kind.{Kind}

@@ -4,7 +4,7 @@ use Rattle.std.specs.Prelude.{slice_get}
 use Rattle.std.specs.List.{AllByRecursion}
 use Rattle.dia_wire.specs.Wire.{PlainAvp, key_of, IsMessage}
 use Rattle.dia_dict.specs.Base.{base}
-use Rattle.dia_dict.specs.Dictionary.{definitions, selected}
+use Rattle.dia_book.specs.Dictionary.{definitions, selected}
 use Rattle.dia_check.specs.declared.Unknown.TheVariants.{Kept}
 use Rattle.dia_check.specs.declared.Levels.TheVariants.{Any}
 use Rattle.dia_check.specs.Valid.{IsValid, HasR, HasE, HasT, class_of, AllowsP, Placed, Fits}

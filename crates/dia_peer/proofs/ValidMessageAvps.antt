@@ -8,10 +8,10 @@ use Rattle.dia_wire.specs.declared.Key.{Key}
 use Rattle.dia_wire.specs.Wire.{PlainAvp, key_of, SpellsAll, IsHead, IsMessage}
 use Rattle.dia_wire.proofs.OneHeader.{one_header}
 use Rattle.dia_dict.specs.Base.{base}
-use Rattle.dia_dict.specs.declared.DRule.{DRule}
+use Rattle.dia_book.specs.declared.DRule.{DRule}
 use Rattle.dia_check.specs.declared.Unknown.TheVariants.{Kept}
 use Rattle.dia_check.specs.declared.Levels.TheVariants.{Any}
-use Rattle.dia_dict.specs.declared.Class.TheVariants.{Request, Answer, Error as ErrorClass}
+use Rattle.dia_book.specs.declared.Class.TheVariants.{Request, Answer, Error as ErrorClass}
 use Rattle.dia_check.specs.Valid.{IsValid, HasR, HasE, class_of, Fits, FitsBy, IsLevel}
 use Rattle.dia_peer.specs.declared.config.Kind.TheVariants.{Auth, Acct}
 use Rattle.dia_peer.specs.declared.kept_requests.Ids.{Ids}

@@ -21,7 +21,7 @@ pub(crate) struct BaseBook {
 impl BaseBook {
     pub(crate) fn new(alloc: Global) -> Result<BaseBook, AllocError> {
         let plain = base_book(alloc)?;
-        let book = IndexedBook::new(alloc, plain)?;
+        let book = IndexedBook::from_plain(alloc, plain)?;
         Ok(BaseBook { book })
     }
 

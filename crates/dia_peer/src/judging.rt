@@ -6,7 +6,7 @@ ghost use Rattle.dia_peer.specs.Machine.{IsRefusedAs};
 
 use crate::applications::{are_distinct, may_be_used};
 use crate::config::{Config, ConfigFault, Ip};
-use dia_dict::{Format, Leaf, accepts};
+use dia_book::{Format, Leaf, accepts};
 
 /// The greatest count of bytes of a host, a realm and a product's name.
 const NAME_LIMIT: usize = 255;

@@ -24,7 +24,7 @@ use crate::codes::{
 };
 use crate::config::Kind;
 use crate::named_apps::NamedApps;
-use dia_dict::Key;
+use dia_book::Key;
 use dia_wire::{Avp, key, next_avp, number32};
 use std::alloc::{AllocError, Global};
 

@@ -15,7 +15,7 @@ use crate::incoming::Incoming;
 use crate::kept_requests::Ids;
 use crate::node::Node;
 use crate::reading::{named_in, result_code};
-use dia_dict::Class;
+use dia_book::Class;
 use dia_wire::{COMMAND_ERROR, COMMAND_REQUEST, HEADER_LENGTH, Header, split_message};
 use std::alloc::{AllocError, Global};
 

@@ -2,7 +2,7 @@
 use Rattle.std.proofs.Common.{◌≡◌, ℕ, zero, suc, List, [], ◌∷◌, ◌++◌, Some, sym, ap, subst, arith, inl, inr}
 use Rattle.std.specs.Prelude.{◌⊎◌, All, Contains, slice_get}
 use Rattle.std.proofs.lemmas.Option.{none-some, same_Some}
-use Rattle.dia_dict.proofs.Members.{IsAt, at_Contains}
+use Rattle.dia_book.proofs.Members.{IsAt, at_Contains}
 use Rattle.std.specs.List.{AllByRecursion}
 
 abbrev pub IsIn : {X : Type 0} → X → List X → Type 0

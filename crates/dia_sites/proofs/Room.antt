@@ -5,8 +5,8 @@ use Rattle.std.proofs.lemmas.List.{length-append}
 use Rattle.std.proofs.lemmas.List.Sums.{sum_by-cons}
 use Rattle.dia_wire.specs.Wire.{PlainAvp, SpellsAll, padded_length}
 use Rattle.dia_wire.proofs.Spelling.{opened}
-use Rattle.dia_dict.specs.declared.DRule.{DRule}
-use Rattle.dia_dict.specs.Dictionary.{Dictionary}
+use Rattle.dia_book.specs.declared.DRule.{DRule}
+use Rattle.dia_book.specs.Dictionary.{Dictionary}
 use Rattle.dia_sites.specs.declared.sends.Sends.{Sends}
 use Rattle.dia_sites.specs.Sites.{IsLevelOf}
 

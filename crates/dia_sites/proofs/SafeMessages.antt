@@ -7,7 +7,7 @@ use Rattle.dia_wire.specs.declared.Header.{Header}
 use Rattle.dia_wire.specs.Lengths.{three_bytes}
 use Rattle.dia_wire.specs.Number.{number, IsField}
 use Rattle.dia_wire.specs.Wire.{PlainAvp, key_of, SpellsAll, IsHead, IsMessage}
-use Rattle.dia_dict.specs.Dictionary.{Dictionary, PlainDefinition, definitions}
+use Rattle.dia_book.specs.Dictionary.{Dictionary, PlainDefinition, definitions}
 use Rattle.dia_policy.specs.declared.Unknown.{Unknown}
 use Rattle.dia_policy.specs.declared.Levels.TheVariants as levels
 use Rattle.dia_check.specs.Valid.{class_of, Placed, IsValid}

@@ -5,14 +5,14 @@ use Rattle.std.specs.Option.{option_map, option_or, option_eq}
 use Rattle.std.proofs.lemmas.Bool.{and_parts, eqb-true, false_from_ne_true}
 use Rattle.std.proofs.lemmas.Option.{none-some, same_Some, slice_get-get_or}
 use Rattle.std.proofs.lemmas.List.Quantifiers.{position-Some}
-use Rattle.dia_dict.specs.declared.Class.{Class}
-use Rattle.dia_dict.specs.declared.Class.TheVariants as classes
-use Rattle.dia_dict.specs.declared.Pxy.{Pxy}
-use Rattle.dia_dict.specs.declared.DefHead.{DefHead}
-use Rattle.dia_dict.specs.declared.DefHead.TheVariants.{Group, Command, Error}
-use Rattle.dia_dict.specs.Dictionary.{Dictionary, PlainDefinition, IsDictionary, IsCommandHead, groups, definitions, selected, is_command, same_class}
-use Rattle.dia_dict.proofs.Lists.{position-map, map-agree}
-use Rattle.dia_dict.proofs.Members.{position-is_some, into_right}
+use Rattle.dia_book.specs.declared.Class.{Class}
+use Rattle.dia_book.specs.declared.Class.TheVariants as classes
+use Rattle.dia_book.specs.declared.Pxy.{Pxy}
+use Rattle.dia_book.specs.declared.DefHead.{DefHead}
+use Rattle.dia_book.specs.declared.DefHead.TheVariants.{Group, Command, Error}
+use Rattle.dia_book.specs.Dictionary.{Dictionary, PlainDefinition, IsDictionary, IsCommandHead, groups, definitions, selected, is_command, same_class}
+use Rattle.dia_book.proofs.Lists.{position-map, map-agree}
+use Rattle.dia_book.proofs.Members.{position-is_some, into_right}
 use Rattle.dia_sites.specs.Sites.{Site}
 use Rattle.dia_sites.specs.Selection.{IsMet, AreMet, NamesApp, IsMetBy}
 use Rattle.dia_sites.proofs.Members.{IsIn, contains_in, in_contains, in_at, at_in, all_of}

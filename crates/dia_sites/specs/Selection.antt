@@ -1,11 +1,11 @@
 -- The definitions of the receiver's dictionary that a command's messages select.
 use Rattle.std.specs.Prelude.{◌≡◌, ℕ, ◌<◌, ◌^◌, List, Some, None, slice_get, Contains, IsTrue}
 use Rattle.dia_wire.specs.Lengths.{three_bytes}
-use Rattle.dia_dict.specs.declared.Class.{Class}
-use Rattle.dia_dict.specs.declared.Class.TheVariants as classes
-use Rattle.dia_dict.specs.declared.DefHead.{DefHead}
-use Rattle.dia_dict.specs.declared.DefHead.TheVariants.{Group, Command, Error}
-use Rattle.dia_dict.specs.Dictionary.{Dictionary, PlainDefinition, definitions, selected, is_command}
+use Rattle.dia_book.specs.declared.Class.{Class}
+use Rattle.dia_book.specs.declared.Class.TheVariants as classes
+use Rattle.dia_book.specs.declared.DefHead.{DefHead}
+use Rattle.dia_book.specs.declared.DefHead.TheVariants.{Group, Command, Error}
+use Rattle.dia_book.specs.Dictionary.{Dictionary, PlainDefinition, definitions, selected, is_command}
 use Rattle.dia_policy.specs.declared.Unknown.{Unknown}
 use Rattle.dia_policy.specs.declared.Levels.TheVariants as levels
 use Rattle.dia_check.specs.Valid.{AllowsP, IsValid}

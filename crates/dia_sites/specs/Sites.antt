@@ -1,8 +1,8 @@
 -- Sites: two definitions by which one level is read, that of the sender's dictionary A and that of the receiver's B.
 use Rattle.std.specs.Prelude.{◌≡◌, ℕ, ◌≤◌, ◌⊎◌, List, length, map, Some, IsSome, Contains}
 use Rattle.dia_wire.specs.Wire.{PlainAvp, key_of, SpellsAll}
-use Rattle.dia_dict.specs.declared.DRule.{DRule}
-use Rattle.dia_dict.specs.Dictionary.{Dictionary, PlainDefinition}
+use Rattle.dia_book.specs.declared.DRule.{DRule}
+use Rattle.dia_book.specs.Dictionary.{Dictionary, PlainDefinition}
 use Rattle.dia_policy.specs.declared.Unknown.{Unknown}
 use Rattle.dia_policy.specs.declared.Levels.TheVariants as levels
 use Rattle.dia_check.specs.Valid.{Placed, IsLevel, FitsBy, Fits, AllFit}

@@ -1,5 +1,5 @@
 ghost use Rattle.std.specs.Prelude.{◌≢◌, ℕ, List};
-ghost use Rattle.dia_dict.specs.Dictionary.{Dictionary};
+ghost use Rattle.dia_book.specs.Dictionary.{Dictionary};
 ghost use Rattle.dia_policy.specs.declared.Levels.TheVariants as levels;
 ghost use Rattle.dia_check.specs.Valid.{IsValidOf};
 ghost use Rattle.dia_sites.specs.declared.sends.Sends.{Sends as AnySender};

@@ -92,7 +92,7 @@ fn push_head(bytes: &mut Vec<u8>, code: u32, length: u32) -> Result<(), AllocErr
 
 /// The base dictionary with its tables.
 fn indexed_book(alloc: Global) -> Result<IndexedBook, AllocError> {
-    IndexedBook::new(alloc, base_book(alloc)?)
+    IndexedBook::from_plain(alloc, base_book(alloc)?)
 }
 
 /// What is asked of both kinds of book, for one message.

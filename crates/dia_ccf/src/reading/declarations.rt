@@ -4,7 +4,8 @@ use super::refusal::Refusal;
 use crate::format_words::format_named;
 use crate::lexer::{Sign, Token};
 use crate::limits::MAX_VALUE;
-use crate::source::{Decl, FormatName, MRule};
+use crate::source::{Decl, FormatName};
+use dia_terms::MRule;
 
 impl<'a> Reader<'a> {
     ghost use Rattle.std.specs.Prelude.{◌≡◌, ◌<◌, ◌≤◌, ℕ, ◌++◌, [], ◌∷◌, List};

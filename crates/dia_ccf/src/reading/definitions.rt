@@ -5,7 +5,8 @@ ghost use Rattle.dia_ccf.specs.Names.{is_fixed};
 use super::Reader;
 use super::refusal::Refusal;
 use crate::lexer::{Sign, Token};
-use crate::source::{Def, Qual, Rule, RuleKind};
+use crate::source::{Def, Qual, Rule};
+use dia_terms::RuleKind;
 
 /// What stands behind some rules of a definition.
 #[derive(Drop)]

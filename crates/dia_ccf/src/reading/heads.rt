@@ -4,7 +4,8 @@ use super::Reader;
 use super::refusal::Refusal;
 use crate::lexer::Sign;
 use crate::limits::MAX_COMMAND_CODE;
-use crate::source::{Head, Pxy};
+use crate::source::Head;
+use dia_terms::Pxy;
 
 impl<'a> Reader<'a> {
     ghost use Rattle.std.specs.Prelude.{◌≡◌, ◌<◌, ◌≤◌, ℕ, List, ◌||◌, false};

@@ -3,13 +3,13 @@
 ghost use Rattle.std.specs.Prelude.{◌≡◌, ◌≢◌, ◌+◌, ◌<◌, ◌++◌, [], ℕ, List, Some, MatchOption};
 ghost use Rattle.dia_wire.specs.declared.Key.{Key as AnyKey};
 ghost use Rattle.dia_data.specs.Plain.{Grouped};
-ghost use Rattle.dia_dict.specs.Dictionary.{Dictionary, DictEntry, entry_of};
+ghost use Rattle.dia_book.specs.Dictionary.{Dictionary, DictEntry, entry_of};
 ghost use Rattle.dia_check.specs.Valid.{known};
 ghost use Rattle.dia_check.specs.Reading.{HasSeen, IsBadLeaf, IsGoodLeaf};
 
 use crate::fault::Reason;
+use dia_book::{Book, Entry, Leaf};
 use dia_data::LeafState;
-use dia_dict::{Book, Entry, Leaf};
 use dia_wire::Key;
 
 /// Before any data of an AVP; nothing is to be seen of an unknown one.

@@ -3,7 +3,7 @@
 ghost use Rattle.std.specs.Prelude.{◌≡◌, ◌+◌, ◌<◌, ◌≤◌, ◌^◌, [], ℕ, List};
 ghost use Rattle.std.specs.Prelude.{Some, length, IfOk, MatchResult};
 ghost use Rattle.dia_wire.specs.Wire.{head_length};
-ghost use Rattle.dia_dict.specs.Dictionary.{Dictionary, IsDictionary};
+ghost use Rattle.dia_book.specs.Dictionary.{Dictionary, IsDictionary};
 ghost use Rattle.dia_policy.specs.declared.Unknown.{Unknown as AnyPolicy};
 ghost use Rattle.dia_policy.specs.declared.Levels.{Levels as AnyLevels};
 ghost use Rattle.dia_check.specs.Faults.{HasGoodHeader};
@@ -20,8 +20,8 @@ use crate::group::{enter_group, head_key, head_length};
 use crate::open_levels::{OpenLevels, Wrong};
 use crate::stream::front::Front;
 use crate::stream::leaf::{feed_leaf, start_leaf, wrong_leaf};
+use dia_book::Book;
 use dia_data::LeafState;
-use dia_dict::Book;
 use dia_policy::{Levels, Unknown};
 use dia_wire::{AVP_HEAD_LENGTH, AvpFault, AvpHead, Key, avp_head};
 
@@ -66,8 +66,7 @@ pub(crate) fn go_on<'a, B: Book>(
     open_levels: &mut OpenLevels,
     at: usize,
 ) -> Result<Option<Part<'a>>, Refusal>
-    requires sound { IsDictionary (B.meaning book.now) }
-    requires levels { ∥ AreSound (B.meaning book.now) open_levels.old at ∥₁ }
+    requires { ∥ AreSound (B.meaning book.now) open_levels.old at ∥₁ }
     ensures { (u : AnyPolicy) (most : AnyLevels)
         (bytes : List ℕ) (good : HasGoodHeader (B.meaning book.now) bytes)
         → IsUnderWay (B.meaning book.now) u most bytes good open_levels.old at
@@ -119,7 +118,6 @@ pub(crate) fn read_part<'a, B: Book>(
     from: usize,
     piece: &[u8],
 ) -> Result<Done<'a>, Refusal>
-    requires sound { IsDictionary (B.meaning book.now) }
     requires part { ∥ GoesOn
         (B.meaning book.now) unknown levels open_levels.old part from piece.now ∥₁ }
     requires some { 0 < length piece.now }
@@ -155,7 +153,6 @@ fn read_on<'a, B: Book>(
     from: usize,
     piece: &[u8],
 ) -> Result<Done<'a>, Refusal>
-    requires sound { IsDictionary (B.meaning book.now) }
     requires under_way { ∥ ReadsOn
         (B.meaning book.now) unknown levels open_levels.old from from piece.now ∥₁ }
     requires some { 0 < length piece.now }
@@ -196,7 +193,6 @@ fn read_head<'a, B: Book>(
     from: usize,
     piece: &[u8],
 ) -> Result<Done<'a>, Refusal>
-    requires sound { IsDictionary (B.meaning book.now) }
     requires part { ∥ GoesOn (B.meaning book.now) unknown levels open_levels.old
         (Part.Head part) from piece.now ∥₁ }
     requires some { 0 < length piece.now }
@@ -237,8 +233,7 @@ fn begin_data<'a, B: Book>(
     at: usize,
     head: &AvpHead,
 ) -> Result<Option<Part<'a>>, Refusal>
-    requires sound { IsDictionary (B.meaning book.now) }
-    requires avp { ∥ IsAtSomeAvp
+    requires { ∥ IsAtSomeAvp
         (B.meaning book.now) unknown levels open_levels.old at head.now ∥₁ }
     ensures { (bytes : List ℕ) (good : HasGoodHeader (B.meaning book.now) bytes)
         → IsAtAvp (B.meaning book.now) unknown levels bytes good open_levels.old at head.now
@@ -280,7 +275,6 @@ fn read_data<'a, B: Book>(
     from: usize,
     piece: &[u8],
 ) -> Result<Done<'a>, Refusal>
-    requires sound { IsDictionary (B.meaning book.now) }
     requires part { ∥ ((u : AnyPolicy) × (most : AnyLevels)
         × GoesOn (B.meaning book.now) u most open_levels.old (Part.Data part) from piece.now) ∥₁ }
     requires some { 0 < length piece.now }
@@ -316,8 +310,7 @@ fn end_data<'a, B: Book>(
     open_levels: &mut OpenLevels,
     part: DataPart<'a>,
 ) -> Result<Option<Part<'a>>, Refusal>
-    requires sound { IsDictionary (B.meaning book.now) }
-    requires part { ∥ IsReadData (B.meaning book.now) open_levels.old part ∥₁ }
+    requires { ∥ IsReadData (B.meaning book.now) open_levels.old part ∥₁ }
     ensures { (u : AnyPolicy) (most : AnyLevels)
         (bytes : List ℕ) (good : HasGoodHeader (B.meaning book.now) bytes) (n : ℕ)
         → IsInData (B.meaning book.now) u most bytes good open_levels.old part.entry n

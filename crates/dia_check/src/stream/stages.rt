@@ -2,7 +2,6 @@
 
 ghost use Rattle.std.specs.Prelude.{◌≡◌, ◌≢◌, ◌⊎◌, ◌<◌, ◌+◌, ◌^◌, ◌++◌, ℕ, List, length};
 ghost use Rattle.std.specs.Prelude.{Err, None, MatchBool, MatchOption, MatchResult};
-ghost use Rattle.dia_dict.specs.Dictionary.{IsDictionary};
 ghost use Rattle.dia_policy.specs.declared.Unknown.{Unknown as AnyPolicy};
 ghost use Rattle.dia_policy.specs.declared.Levels.{Levels as AnyLevels};
 ghost use Rattle.dia_check.specs.Faults.{HasGoodHeader, HasHeader, HasLength, IsAnswer, simple};
@@ -19,7 +18,7 @@ use crate::header::good_command;
 use crate::open_levels::{OpenLevels, Wrong};
 use crate::stream::front::Front;
 use crate::stream::parts::{Part, go_on, read_part};
-use dia_dict::{Book, DefId};
+use dia_book::{Book, DefId};
 use dia_policy::{Levels, Unknown};
 use dia_wire::{HEADER_LENGTH, HeadFault, Header, read_header};
 use std::alloc::Global;
@@ -53,8 +52,7 @@ fn read_all<'a, B: Book>(
     from: usize,
     piece: &[u8],
 ) -> Result<bool, Refusal>
-    requires sound { IsDictionary (B.meaning book.now) }
-    requires body { ∥ ((bytes : List ℕ) × (length bytes < 2 ^ 32)
+    requires { ∥ ((bytes : List ℕ) × (length bytes < 2 ^ 32)
         × IsReading (B.meaning book.now) unknown levels body.old from bytes
         × LiesAt bytes from piece.now) ∥₁ }
     ensures next { (bytes : List ℕ) (good : HasGoodHeader (B.meaning book.now) bytes)
@@ -100,8 +98,7 @@ pub(crate) fn read_stage<'a, B: Book>(
     from: usize,
     piece: &[u8],
 )
-    requires sound { IsDictionary (B.meaning book.now) }
-    requires read { ∥ ((bytes : List ℕ)
+    requires { ∥ ((bytes : List ℕ)
         × MayRead (B.meaning book.now) unknown levels bytes stage.old from piece.now) ∥₁ }
     ensures { (bytes : List ℕ)
         → MayRead (B.meaning book.now) unknown levels bytes stage.old from piece.now
@@ -124,8 +121,7 @@ fn read_body<'a, B: Book>(
     from: usize,
     piece: &[u8],
 ) -> Option<Stage<'a>>
-    requires sound { IsDictionary (B.meaning book.now) }
-    requires read { ∥ ((bytes : List ℕ)
+    requires { ∥ ((bytes : List ℕ)
         × MayRead (B.meaning book.now) unknown levels bytes
         (Stage.InBody body.old) from piece.now) ∥₁ }
     ensures { (bytes : List ℕ)
@@ -159,7 +155,6 @@ pub(crate) fn read_front<'a, B: Book>(
     book: &'a B,
     front: Front,
 ) -> (usize, Stage<'a>)
-    requires { IsDictionary (B.meaning book.now) }
     ensures wants { (result.0 ≡ wanted (front_bytes front)) × (result.0 < 2 ^ 32) }
     ensures read { (u : AnyPolicy) (most : AnyLevels)
         → HasReadUnless (BeginsGood (B.meaning book.now) (front_bytes front))
@@ -178,8 +173,7 @@ pub(crate) fn read_front<'a, B: Book>(
 
 /// How a message goes on behind its header, where it ends at a place.
 fn begin<'a, B: Book>(alloc: Global, book: &'a B, header: &Header, end: usize) -> Stage<'a>
-    requires sound { IsDictionary (B.meaning book.now) }
-    requires header { ∥ ((bytes : List ℕ) × (length bytes < 2 ^ 32) × HasLength bytes (length bytes)
+    requires { ∥ ((bytes : List ℕ) × (length bytes < 2 ^ 32) × HasLength bytes (length bytes)
         × HasHeader bytes header.now × (end ≡ length bytes)) ∥₁ }
     ensures { (u : AnyPolicy) (most : AnyLevels) (bytes : List ℕ) → HasLength bytes (length bytes)
         → HasHeader bytes header.now → end ≡ length bytes
@@ -198,8 +192,7 @@ fn begin_body<'a, B: Book>(
     header: &Header,
     end: usize,
 ) -> Result<Stage<'a>, Refusal>
-    requires sound { IsDictionary (B.meaning book.now) }
-    requires header { ∥ ((bytes : List ℕ) × (length bytes < 2 ^ 32) × HasLength bytes (length bytes)
+    requires { ∥ ((bytes : List ℕ) × (length bytes < 2 ^ 32) × HasLength bytes (length bytes)
         × HasHeader bytes header.now × (end ≡ length bytes)) ∥₁ }
     ensures { (u : AnyPolicy) (most : AnyLevels) (bytes : List ℕ) → HasLength bytes (length bytes)
         → HasHeader bytes header.now → end ≡ length bytes

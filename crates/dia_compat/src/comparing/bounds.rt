@@ -1,11 +1,11 @@
 //! The counts of rules, and the rules that come first.
 ghost use Rattle.std.specs.Prelude.{◌≡◌, slice_get, false};
 ghost use Rattle.std.specs.Option.{option_map_or};
-ghost use Rattle.dia_dict.specs.Dictionary.{is_fixed};
+ghost use Rattle.dia_book.specs.Dictionary.{is_fixed};
 ghost use Rattle.dia_compat.specs.Tests.{is_max_within, is_within};
 ghost use Rattle.dia_compat.specs.Tests.{is_above_zero, leads, begins_with};
 
-use dia_dict::{DRule, RuleKind};
+use dia_book::{DRule, RuleKind};
 
 /// Whether all counts up to the one greatest count are up to the other.
 pub(super) fn max_within(a: Option<u32>, b: Option<u32>) -> bool

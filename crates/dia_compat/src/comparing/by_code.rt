@@ -3,11 +3,11 @@ ghost use Rattle.std.specs.Prelude.{◌≡◌, ◌++◌, ◌∷◌, [], IfOk, On
 ghost use Rattle.std.specs.Option.{option_map};
 ghost use Rattle.std.specs.HashMap.{get};
 ghost use Rattle.std.proofs.Props.{props};
-ghost use Rattle.dia_dict.specs.Dictionary.{plain_definition};
+ghost use Rattle.dia_book.specs.Dictionary.{plain_definition};
 ghost use Rattle.dia_compat.specs.CommandsByCode.{commands_of, has_code, listed};
 ghost use Rattle.dia_compat.specs.CommandsByCode.{only_for, open_code};
 
-use dia_dict::{Book, Class, DefHead, Definition};
+use dia_book::{Book, Class, DefHead, Definition};
 use std::alloc::{AllocError, Global};
 use std::collections::HashMap;
 

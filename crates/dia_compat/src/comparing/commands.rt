@@ -1,8 +1,8 @@
 //! The test of a pair of commands.
 ghost use Rattle.std.specs.Prelude.{◌≡◌, ◌||◌, ◌&&◌, not, IfOk, map, ℕ, List};
 ghost use Rattle.std.specs.List.{list_any, list_all};
-ghost use Rattle.dia_dict.specs.Dictionary.{plain_definition, IsDictionary, IsCommandHead};
-ghost use Rattle.dia_dict.specs.declared.definition.Class.TheVariants as classes;
+ghost use Rattle.dia_book.specs.Dictionary.{plain_definition, IsCommandHead};
+ghost use Rattle.dia_book.specs.declared.Class.TheVariants as classes;
 ghost use Rattle.dia_compat.specs.TableText.{plain_pair};
 ghost use Rattle.dia_compat.specs.PairTests.{plain_names, is_pair, names_app, wants_app};
 ghost use Rattle.dia_compat.specs.PairTests.{is_of_app, is_wanted, serves, same_code_and_class};
@@ -10,7 +10,7 @@ ghost use Rattle.dia_compat.specs.PairTests.{is_proxiable, is_ready, is_selected
 
 use super::by_code::{Commands, open_code};
 use super::heads::{is_proxiable, same_code_and_class, serves};
-use dia_dict::{Book, Class, DefHead, Definition};
+use dia_book::{Book, Class, DefHead, Definition};
 use indexmap::IndexSet;
 use std::alloc::{AllocError, Global};
 
@@ -75,7 +75,6 @@ fn selected_among<A: Book, B: Book>(
         (is_selected (A.meaning a.now) (B.meaning b.now.book.now) (map plain_names beside.now.keys))
         (A.meaning a.now).commands) }
 {
-    let _sound = (a.entries(), b.book.entries());
     let mut all = Vec::new(alloc);
     for index in 0..a.commands() {
         all.push(is_selected(a, b, beside, a.def(a.command_at(index))))?;
@@ -90,8 +89,7 @@ fn is_selected<A: Book, B: Book>(
     beside: &IndexSet<(&str, &str)>,
     command: &Definition,
 ) -> bool
-    requires sound { IsDictionary (B.meaning b.now.book.now) }
-    requires is_command { IsCommandHead command.now.head }
+    requires { IsCommandHead command.now.head }
     ensures { result ≡ is_selected (A.meaning a.now)
         (B.meaning b.now.book.now) (map plain_names beside.now.keys)
         (plain_definition command.now) }

@@ -13,8 +13,8 @@ ghost use Rattle.dia_compat.specs.PairTests.{may_be_clear, is_octets, stranger_f
 ghost use Rattle.dia_compat.specs.PairTests.{uncovered_keys, strangers_fit};
 
 use super::named_book::NamedBook;
+use dia_book::{Book, Entry, Format, Key, MRule};
 use dia_check::Unknown;
-use dia_dict::{Book, Entry, Format, Key, MRule};
 use indexmap::IndexSet;
 use std::alloc::{AllocError, Global};
 

@@ -3,7 +3,7 @@ ghost use Rattle.std.specs.Prelude.{◌≡◌};
 ghost use Rattle.dia_compat.specs.PairTests.{same_code_and_class, serves, serves_app};
 ghost use Rattle.dia_compat.specs.PairTests.{p_of, p_within, is_proxiable};
 
-use dia_dict::{DefHead, Pxy};
+use dia_book::{DefHead, Pxy};
 
 /// Whether two commands are of one code and class.
 pub(super) fn same_code_and_class(a: &DefHead, b: &DefHead) -> bool

@@ -9,8 +9,8 @@ ghost use Rattle.dia_compat.specs.PairTests.{is_covered};
 use super::bounds::{max_within, may_stand, within};
 use super::covers::is_covered;
 use super::rules::Rules;
+use dia_book::{Book, DRule, Key};
 use dia_check::Unknown;
-use dia_dict::{Book, DRule, Key};
 use indexmap::IndexSet;
 
 /// Whether the counts of each key that both list are within those of `b`.

@@ -1,10 +1,9 @@
 //! Look-up by name.
 ghost use Rattle.std.specs.Prelude.{◌≡◌, IfOk, map};
 ghost use Rattle.std.proofs.Props.{props};
-ghost use Rattle.dia_dict.specs.Dictionary.{IsDictionary};
 ghost use Rattle.dia_compat.specs.PairTests.{entry_named, command_named, key_named};
 
-use dia_dict::{Book, Entry, Key};
+use dia_book::{Book, Entry, Key};
 use indexmap::IndexSet;
 use std::alloc::{AllocError, Global};
 
@@ -23,8 +22,7 @@ pub(crate) struct NamedBook<'a, B: Book> {
 
 impl<'a, B: Book> NamedBook<'a, B> {
     pub fn new(alloc: Global, book: &'a B) -> Result<Self, AllocError>
-        ensures book { IfOk result (λ named. named.book.now ≡ book.now) }
-        ensures sound { IsDictionary (B.meaning book.now) }
+        ensures { IfOk result (λ named. named.book.now ≡ book.now) }
     {
         Ok(NamedBook {
             book,
@@ -60,9 +58,8 @@ impl<'a, B: Book> NamedBook<'a, B> {
 }
 
 fn names_of_avps<B: Book>(alloc: Global, book: &B) -> Result<IndexSet<&str>, AllocError>
-    ensures names { IfOk result
+    ensures { IfOk result
         (λ names. map (λ n. n.now) names.keys ≡ map (λ e. e.name) (B.meaning book.now).entries) }
-    ensures sound { IsDictionary (B.meaning book.now) }
 {
     let mut names = IndexSet::new(alloc);
     for index in 0..book.entries() {
@@ -79,7 +76,6 @@ pub(crate) fn names_of_commands<B: Book>(
     ensures { IfOk result
         (λ names. map (λ n. n.now) names.keys ≡ map (λ c. c.name) (B.meaning book.now).commands) }
 {
-    let _avps = book.entries();
     let mut names = IndexSet::new(alloc);
     for index in 0..book.commands() {
         names.insert(book.def(book.command_at(index)).name.as_str())?;

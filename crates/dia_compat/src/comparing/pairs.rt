@@ -1,10 +1,10 @@
 //! The tests of a table's pairs.
-ghost use Rattle.std.specs.Prelude.{◌≡◌, ◌<◌, ◌+◌, ◌↔◌, ◌⊎◌, IfOk, OnOk};
+ghost use Rattle.std.specs.Prelude.{◌≡◌, ◌<◌, ◌+◌, ◌↔◌, ◌⊎◌, IfOk};
 ghost use Rattle.std.specs.Prelude.{IfSome, IsTrue, length, map, slice_get};
 ghost use Rattle.dia_data.specs.Plain.{Grouped, plain_format};
 ghost use Rattle.dia_data.specs.Below.{FormatBelow};
 ghost use Rattle.std.proofs.Props.{props};
-ghost use Rattle.dia_dict.specs.Dictionary.{DictEntry, IsDictionary, definitions, groups};
+ghost use Rattle.dia_book.specs.Dictionary.{DictEntry, definitions, groups};
 ghost use Rattle.dia_compat.specs.TableText.{PlainTable, plain_table, plain_pair};
 ghost use Rattle.dia_compat.specs.PairTests.{plain_names, is_selected};
 ghost use Rattle.dia_compat.specs.PairTests.{failed_commands, failed_groups};
@@ -19,9 +19,9 @@ use super::rules::Rules;
 use super::testing::failed_rules;
 use crate::inclusion::{Answer, PairKind, Test};
 use crate::table::Table;
+use dia_book::{Book, DefId, Entry, Format, MRule};
 use dia_check::Unknown;
 use dia_data::format_below;
-use dia_dict::{Book, DefId, Entry, Format, MRule};
 use indexmap::IndexSet;
 use std::alloc::{AllocError, Global};
 
@@ -51,8 +51,6 @@ impl<'a, A: Book, B: Book> Comparison<'a, A, B> {
         ensures a { IfOk result (λ all. all.a.book.now ≡ a.now) }
         ensures b { IfOk result (λ all. all.b.book.now ≡ b.now) }
         ensures policy { IfOk result (λ all. all.cover.unknown ≡ unknown) }
-        ensures sound_a { OnOk result (IsDictionary (A.meaning a.now)) }
-        ensures sound_b { OnOk result (IsDictionary (B.meaning b.now)) }
         ensures looked_up { IfOk result
             (λ all. IsLookedUp (A.meaning a.now) (B.meaning b.now) unknown
             (plain_table table.now) all.cover.paired.keys
@@ -76,9 +74,7 @@ impl<'a, A: Book, B: Book> Comparison<'a, A, B> {
     /// Whether each pair of the table passes each test.
     pub fn answer(&self, alloc: Global, table: &Table) -> Result<Answer, AllocError>
         ensures { IfOk result
-            (λ answer. IsDictionary (A.meaning self.now.a.book.now)
-            → IsDictionary (B.meaning self.now.b.book.now)
-            → IsLookedUp (A.meaning self.now.a.book.now)
+            (λ answer. IsLookedUp (A.meaning self.now.a.book.now)
             (B.meaning self.now.b.book.now) self.now.cover.unknown
             (plain_table table.now) self.now.cover.paired.keys self.now.cover.uncovered.items
             self.now.cover.strangers_fit (map plain_names self.now.beside.keys)
@@ -116,8 +112,7 @@ impl<'a, A: Book, B: Book> Comparison<'a, A, B> {
         pairs: &[(String, String)],
     ) -> Result<Option<(usize, Test)>, AllocError>
         ensures { IfOk result
-            (λ found. (table : PlainTable) → IsDictionary (A.meaning self.now.a.book.now)
-            → IsDictionary (B.meaning self.now.b.book.now)
+            (λ found. (table : PlainTable)
             → IsLookedUp (A.meaning self.now.a.book.now)
             (B.meaning self.now.b.book.now) self.now.cover.unknown table self.now.cover.paired.keys
             self.now.cover.uncovered.items self.now.cover.strangers_fit
@@ -142,8 +137,7 @@ impl<'a, A: Book, B: Book> Comparison<'a, A, B> {
 
     /// The first test that a pair fails.
     fn failed(&self, kind: PairKind, first: &str, second: &str) -> Option<Test>
-        ensures { (table : PlainTable) → IsDictionary (A.meaning self.now.a.book.now)
-            → IsDictionary (B.meaning self.now.b.book.now)
+        ensures { (table : PlainTable)
             → IsLookedUp (A.meaning self.now.a.book.now)
             (B.meaning self.now.b.book.now) self.now.cover.unknown table self.now.cover.paired.keys
             self.now.cover.uncovered.items self.now.cover.strangers_fit

@@ -9,7 +9,7 @@ use super::keys::{all_covered, common_within, let_in, own_fit};
 use super::rules::Rules;
 use super::wildcards::{max_kept, min_kept, wildcard_covered, wildcard_kept};
 use crate::inclusion::Test;
-use dia_dict::Book;
+use dia_book::Book;
 
 /// The first test that two definitions fail.
 pub(super) fn failed_rules<A: Book, B: Book>(

@@ -9,7 +9,7 @@ ghost use Rattle.dia_compat.specs.Tests.{bounded_wildcard, required_wildcard, of
 use super::bounds::may_stand;
 use super::keys::has_room;
 use super::rules::Rules;
-use dia_dict::{Book, DRule, Key};
+use dia_book::{Book, DRule, Key};
 
 /// Whether `b` has a wildcard where `a` has one.
 pub(super) fn wildcard_kept<A: Book, B: Book>(a: &Rules<'_, A>, b: &Rules<'_, B>) -> bool

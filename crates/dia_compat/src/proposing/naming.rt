@@ -2,7 +2,7 @@
 ghost use Rattle.std.specs.Prelude.{◌≡◌, ◌<◌, [], IfOk, IfErr, OnOk, Some};
 ghost use Rattle.std.specs.Prelude.{length, map, position, slice_get, string_bytes};
 ghost use Rattle.std.specs.Str.{bytes_eq};
-ghost use Rattle.dia_dict.specs.Dictionary.{IsDictionary, PlainDefinition};
+ghost use Rattle.dia_book.specs.Dictionary.{PlainDefinition};
 ghost use Rattle.dia_compat.specs.Proposed.{IsRefusal};
 ghost use Rattle.dia_compat.specs.NamedCommands.{AddsOnce, NamedSoFar};
 ghost use Rattle.dia_compat.specs.ReachedKeys.{has, AreRest};
@@ -11,7 +11,7 @@ use crate::comparing::Commands;
 use crate::proposing::ProposeFault;
 use crate::proposing::reaching::Reached;
 use crate::proposing::wanting::push_pairs;
-use dia_dict::Book;
+use dia_book::Book;
 use indexmap::IndexSet;
 use std::alloc::{AllocError, Global};
 
@@ -56,8 +56,6 @@ impl NamedCommands {
     ) -> Result<(), ProposeFault>
         requires commands { map (λ n. n.now) commands.now.keys
             ≡ map (λ c. c.name) (A.meaning a.now).commands }
-        requires sound_a { IsDictionary (A.meaning a.now) }
-        requires sound_b { IsDictionary (B.meaning b.now.book.now) }
         requires new { NamedSoFar (A.meaning a.now)
             (B.meaning b.now.book.now) [] (map (λ n. string_bytes n) names.now) self.old }
         ensures ok { OnOk result (NamedSoFar (A.meaning a.now) (B.meaning b.now.book.now)
@@ -84,8 +82,6 @@ impl NamedCommands {
         b: &Commands<'_, B>,
         place: usize,
     ) -> Result<(), AllocError>
-        requires sound_a { IsDictionary (A.meaning a.now) }
-        requires sound_b { IsDictionary (B.meaning b.now.book.now) }
         requires within { place < length (A.meaning a.now).commands }
         requires rest { AreRest (A.meaning a.now) (B.meaning b.now.book.now) self.old.reached }
         ensures { (c : PlainDefinition) → slice_get (A.meaning a.now).commands place ≡ Some c

@@ -3,15 +3,15 @@ ghost use Rattle.std.specs.Prelude.{◌≡◌, ◌<◌, ◌↔◌, IfOk, OnOk, I
 ghost use Rattle.std.specs.Prelude.{IfSome, not, is_some, filter, map, length, slice_get, []};
 ghost use Rattle.dia_wire.specs.declared.Key.{Key as AnyKey};
 ghost use Rattle.dia_data.specs.Plain.{Grouped, plain_format};
-ghost use Rattle.dia_dict.specs.declared.DRule.{DRule as AnyRule};
-ghost use Rattle.dia_dict.specs.Dictionary.{PlainDefinition, definitions, entry_of};
+ghost use Rattle.dia_book.specs.declared.DRule.{DRule as AnyRule};
+ghost use Rattle.dia_book.specs.Dictionary.{PlainDefinition, definitions, entry_of};
 ghost use Rattle.dia_compat.specs.Below.{IsListed, HasWildcard, IsAboveZero};
 ghost use Rattle.dia_compat.specs.ReachedKeys.{has, IsAllowedBy, IsAllowed};
 ghost use Rattle.dia_compat.specs.ReachedKeys.{Admits, Inserts, ComesTo};
 ghost use Rattle.dia_compat.specs.ReachedKeys.{ComesToAll, Follows, IsSharedGroup};
 ghost use Rattle.dia_compat.specs.ReachedKeys.{AllWait, AreRest, Sorts};
 
-use dia_dict::{Book, DRule, DefId, Format, Key, Slot};
+use dia_book::{Book, DRule, DefId, Format, Key, Slot};
 use std::alloc::{AllocError, Global};
 use std::collections::HashSet;
 use std::mem;

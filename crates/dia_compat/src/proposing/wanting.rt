@@ -1,13 +1,13 @@
 //! The definitions of B that stand beside a command of A.
 ghost use Rattle.std.specs.Prelude.{◌≡◌, ◌++◌, OnOk, map, option_to_list};
 ghost use Rattle.std.specs.List.{filter_map};
-ghost use Rattle.dia_dict.specs.Dictionary.{IsDictionary, IsCommandHead, plain_definition};
+ghost use Rattle.dia_book.specs.Dictionary.{IsCommandHead, plain_definition};
 ghost use Rattle.dia_compat.specs.TableText.{plain_pair};
 ghost use Rattle.dia_compat.specs.WantedNames.{wanted_name, wanted_names, names_beside};
 
 use crate::comparing::{Commands, is_wanted, open_code};
 use crate::table::push_pair;
-use dia_dict::{Book, Definition};
+use dia_book::{Book, Definition};
 use std::alloc::{AllocError, Global};
 
 /// Adds the pairs of a command of A with what stands beside it: the definitions of B that may be selected for its
@@ -19,8 +19,7 @@ pub(crate) fn push_pairs<A: Book, B: Book>(
     command: &Definition,
     pairs: &mut Vec<(String, String)>,
 ) -> Result<(), AllocError>
-    requires sound_b { IsDictionary (B.meaning b.now.book.now) }
-    requires is_command { IsCommandHead command.now.head }
+    requires { IsCommandHead command.now.head }
     ensures { OnOk result (map plain_pair pairs.new.items ≡ map plain_pair pairs.old.items
         ++ map (λ name. ((plain_definition command.now).name, name))
         (names_beside (A.meaning a.now) (B.meaning b.now.book.now)
@@ -42,8 +41,7 @@ fn push_wanted<A: Book, B: Book>(
     command: &Definition,
     pairs: &mut Vec<(String, String)>,
 ) -> Result<(), AllocError>
-    requires sound_b { IsDictionary (B.meaning b.now.book.now) }
-    requires is_command { IsCommandHead command.now.head }
+    requires { IsCommandHead command.now.head }
     ensures { OnOk result (map plain_pair pairs.new.items ≡ map plain_pair pairs.old.items
         ++ map (λ name. ((plain_definition command.now).name, name))
         (wanted_names (A.meaning a.now) (B.meaning b.now.book.now) command.now.head)) }

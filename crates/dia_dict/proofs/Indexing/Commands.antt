@@ -6,10 +6,10 @@ use Rattle.std.proofs.lemmas.List.{map_more}
 use Rattle.std.proofs.lemmas.List.Folds.{list_any-append}
 use Rattle.std.proofs.lemmas.Option.{slice_get_read}
 use Rattle.indexmap.specs.IndexSet.{insert_key}
-use Rattle.dia_dict.specs.Dictionary.{IsCommandHead}
+use Rattle.dia_book.specs.Dictionary.{IsCommandHead}
 use Rattle.dia_dict.specs.Selectors.{selector_of, service_of, same_service}
 use Rattle.dia_dict.specs.Indexed.{HaveDistinctSelectors}
-use Rattle.dia_dict.specs.declared.definition.Definition.{Definition}
+use Rattle.dia_book.specs.declared.Definition.{Definition}
 use Rattle.dia_dict.specs.declared.selectors.Selector.{Selector}
 use Rattle.dia_dict.specs.declared.selectors.Service.{Service}
 use Rattle.dia_dict.proofs.Indexing.Places.{slice_get-take, place_of_image, list_any-nowhere}

@@ -4,16 +4,16 @@ use Rattle.std.specs.Prelude.{slice_get, All}
 use Rattle.std.specs.List.{range_with_len}
 use Rattle.std.specs.Option.{option_map}
 use Rattle.std.proofs.lemmas.Option.{slice_get-map, slice_get-get_or, same_Some}
-use Rattle.dia_dict.specs.Dictionary.{PlainDefinition, IsDictionary, IsCommandHead, AreRules, definitions, plain_definition}
+use Rattle.dia_book.specs.Dictionary.{PlainDefinition, IsDictionary, IsCommandHead, AreRules, definitions, plain_definition}
 use Rattle.dia_dict.specs.KeyTables.{AreDistinct}
 use Rattle.dia_dict.specs.PlainMeaning.{entry_of_row, numbers}
 use Rattle.dia_dict.specs.Indexed.{row_keys, rule_keys, HaveDistinctSelectors}
-use Rattle.dia_dict.specs.declared.definition.Definition.{Definition}
-use Rattle.dia_dict.specs.declared.definition.DRule.{DRule}
+use Rattle.dia_book.specs.declared.Definition.{Definition}
+use Rattle.dia_book.specs.declared.DRule.{DRule}
 use Rattle.dia_dict.specs.declared.entry_list.Row.{Row}
 use Rattle.dia_dict.proofs.Indexing.Places.{place_of_image}
 use Rattle.dia_dict.proofs.Indexing.Selectors.{All-at}
-use Rattle.dia_dict.proofs.NumberedGroups.{slice_get-append_left, slice_get-append_right}
+use Rattle.dia_book.proofs.NumberedGroups.{slice_get-append_left, slice_get-append_right}
 use Rattle.dia_dict.proofs.BookRows.{held, definitions-held}
 
 image_of : {X Y : Type 0} (f : X → Y) (xs : List X) (i : ℕ) (x : X) → slice_get xs i ≡ Some x → slice_get (map f xs) i ≡ Some (f x)

@@ -11,20 +11,20 @@ use Rattle.std.proofs.lemmas.Cmp.{nat_eq_equiv}
 use Rattle.std.proofs.Math.Bool.{and-false}
 use Rattle.std.specs.Cmp.{bool_eq_equiv}
 use Rattle.std.proofs.lemmas.Option.{slice_get_within, slice_get-get_or, get_or_from_slice_get}
-use Rattle.dia_dict.specs.declared.definition.Class.{Class}
-use Rattle.dia_dict.specs.declared.definition.Class.TheVariants.{Request, Answer, Error as Failure}
-use Rattle.dia_dict.specs.declared.definition.DefHead.{DefHead}
-use Rattle.dia_dict.specs.declared.definition.DefHead.TheVariants.{Group, Command, Error}
+use Rattle.dia_book.specs.declared.Class.{Class}
+use Rattle.dia_book.specs.declared.Class.TheVariants.{Request, Answer, Error as Failure}
+use Rattle.dia_book.specs.declared.DefHead.{DefHead}
+use Rattle.dia_book.specs.declared.DefHead.TheVariants.{Group, Command, Error}
 use Rattle.dia_dict.specs.declared.selectors.Selector.{Selector}
 use Rattle.dia_dict.specs.declared.selectors.Service.{Service}
 use Rattle.dia_dict.specs.declared.selectors.Service.TheVariants as services
-use Rattle.dia_dict.specs.Dictionary.{is_command, has_class, IsCommandHead, IsSameSelector}
-use Rattle.dia_dict.specs.declared.definition.Definition.{Definition}
+use Rattle.dia_book.specs.Dictionary.{is_command, has_class, IsCommandHead, IsSameSelector}
+use Rattle.dia_book.specs.declared.Definition.{Definition}
 use Rattle.dia_dict.specs.Selectors.{selector, selector_of, service, service_of, same_service}
 use Rattle.dia_dict.specs.contracts.selectors.SelectorPartialEq.TheImpl as selector_eq
 use Rattle.dia_dict.specs.contracts.selectors.ServicePartialEq.TheImpl as service_eq
 use Rattle.dia_dict.proofs.Indexing.Places.{place_of_image}
-use Rattle.dia_dict.proofs.Lists.{and_true, and_false, position-map, list_any-map, map-agree}
+use Rattle.dia_book.proofs.Lists.{and_true, and_false, position-map, list_any-map, map-agree}
 
 -- what `==` answers
 abbrev pub same_selector : Selector → Selector → Bool

@@ -8,20 +8,20 @@ use Rattle.std.proofs.Props.{props}
 use Rattle.std.proofs.lemmas.Option.{slice_get_within, slice_get_read, same_Some, none-some}
 use Rattle.std.proofs.lemmas.List.{length-append, length_push}
 use Rattle.dia_wire.specs.declared.Key.{Key}
-use Rattle.dia_dict.specs.Dictionary.{PlainDefinition, plain_definition, definitions, groups as groups_of, selected, is_command, lists_key}
+use Rattle.dia_book.specs.Dictionary.{PlainDefinition, plain_definition, definitions, groups as groups_of, selected, is_command, lists_key}
 use Rattle.dia_dict.specs.KeyTables.{is_key, place_among, IsIndexOf}
 use Rattle.dia_dict.specs.PlainMeaning.{numbers}
 use Rattle.dia_dict.specs.Indexed.{row_keys, rule_keys, IsSlotTable, AreSlotTables}
-use Rattle.dia_dict.specs.declared.definition.Definition.{Definition}
-use Rattle.dia_dict.specs.declared.definition.DRule.{DRule}
-use Rattle.dia_dict.specs.declared.definition.Class.{Class}
+use Rattle.dia_book.specs.declared.Definition.{Definition}
+use Rattle.dia_book.specs.declared.DRule.{DRule}
+use Rattle.dia_book.specs.declared.Class.{Class}
 use Rattle.dia_dict.specs.declared.entry_list.Row.{Row}
 use Rattle.dia_dict.specs.declared.key_table.KeyTable.{KeyTable}
-use Rattle.dia_dict.proofs.Lists.{position-map}
-use Rattle.dia_dict.specs.Keys.{same_key}
+use Rattle.dia_book.proofs.Lists.{position-map}
+use Rattle.dia_book.specs.Keys.{same_key}
 use Rattle.dia_dict.proofs.Indexing.Places.{image_at}
 use Rattle.dia_dict.proofs.Indexing.Selectors.{option-prop}
-use Rattle.dia_dict.proofs.Members.{at_append}
+use Rattle.dia_book.proofs.Members.{at_append}
 use Rattle.dia_dict.proofs.BookRows.{held, definitions-held, length-definitions-held}
 
 -- what stands at a place of a list with one more member

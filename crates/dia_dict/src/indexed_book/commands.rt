@@ -1,13 +1,13 @@
 //! What commands are looked up by.
 ghost use Rattle.std.specs.Prelude.{◌≡◌, All, IfOk, map};
 ghost use Rattle.std.specs.List.{list_any};
-ghost use Rattle.dia_dict.specs.Dictionary.{IsCommandHead};
+ghost use Rattle.dia_book.specs.Dictionary.{IsCommandHead};
 ghost use Rattle.dia_dict.specs.Indexed.{HaveDistinctSelectors};
 ghost use Rattle.dia_dict.specs.Selectors.{selector_of, service_of, same_service};
 ghost use Rattle.dia_dict.specs.declared.selectors.Service.{Service as AnyService};
 
-use crate::definition::Definition;
 use crate::selectors::{Selector, Service};
+use dia_book::Definition;
 use indexmap::IndexSet;
 use std::alloc::{AllocError, Global};
 

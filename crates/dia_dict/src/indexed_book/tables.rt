@@ -1,13 +1,13 @@
 //! Tables of the keys of a dictionary, and of those of its definitions.
 ghost use Rattle.std.specs.Prelude.{◌≡◌, ◌<◌, ◌^◌, ◌++◌, All, IfOk, List, OnOk, length};
-ghost use Rattle.dia_dict.specs.declared.definition.Definition.{Definition as AnyDefinition};
-ghost use Rattle.dia_dict.specs.Dictionary.{AreRules};
+ghost use Rattle.dia_book.specs.declared.Definition.{Definition as AnyDefinition};
+ghost use Rattle.dia_book.specs.Dictionary.{AreRules};
 ghost use Rattle.dia_dict.specs.Indexed.{AreSlotTables, IsSlotTable, row_keys, rule_keys};
 ghost use Rattle.dia_dict.specs.KeyTables.{AreDistinct, IsIndexOf, place_among};
 
-use crate::definition::{DRule, Definition};
 use crate::entry_list::Row;
 use crate::key_table::KeyTable;
+use dia_book::{DRule, Definition};
 use dia_wire::Key;
 use std::alloc::{AllocError, Global};
 

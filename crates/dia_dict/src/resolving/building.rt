@@ -2,7 +2,7 @@
 ghost use Rattle.std.specs.Prelude.{◌≡◌, ◌++◌, ◌∷◌, [], IfOk, OnOk, map, filter, string_bytes};
 ghost use Rattle.dia_data.specs.Plain.{plain_format, ranges_of};
 ghost use Rattle.dia_ccf.specs.Plain.{plain_source, plain_decl, plain_def, plain_rule};
-ghost use Rattle.dia_dict.specs.Dictionary.{plain_definition};
+ghost use Rattle.dia_book.specs.Dictionary.{plain_definition};
 ghost use Rattle.dia_dict.specs.PlainMeaning.{entries_of};
 ghost use Rattle.dia_dict.specs.Resolution.{resolved, all_wrong, declared_entry};
 ghost use Rattle.dia_dict.specs.Resolution.{bare_entry, is_bare, definition_of};
@@ -10,10 +10,9 @@ ghost use Rattle.dia_dict.specs.Resolution.{rule_of, head_of, class_of, proxy_of
 
 use super::names::{Names, key_of_declaration, key_of_group};
 use super::rules;
-use crate::book::Book;
-use crate::definition::{Class, DRule, DefHead, Definition};
 use crate::entry_list::EntryList;
 use crate::plain_book::PlainBook;
+use dia_book::{Book, Class, DRule, DefHead, Definition};
 use dia_ccf::{Decl, Def, FormatName, Head, MRule, Pxy, Rule};
 use dia_data::{Format, Values};
 use dia_wire::Key;

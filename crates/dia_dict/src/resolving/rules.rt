@@ -12,8 +12,8 @@ ghost use Rattle.dia_dict.specs.SourceChecks.{IsRefused};
 use super::distinct::distinct;
 use super::names::Names;
 use super::refusal::Refusal;
-use crate::definition::DRule;
 use crate::fault::DictKind;
+use dia_book::DRule;
 use dia_ccf::{Def, Qual, Rule, RuleKind, Source};
 use std::alloc::{AllocError, Global};
 

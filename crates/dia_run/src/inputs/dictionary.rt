@@ -56,7 +56,7 @@ pub fn read_dictionary(
     }
 }
 
-/// The book with an index. The contract of `entries` says that every book is a sound dictionary's.
+/// The book with an index.
 fn indexed(alloc: Global, book: PlainBook) -> Result<Box<IndexedBook>, Refused>
     ensures meaning { IfOk result (λ indexed. ⟦<IndexedBook as Book>⟧.meaning indexed.value
         ≡ ⟦<PlainBook as Book>⟧.meaning book) }
@@ -64,13 +64,18 @@ fn indexed(alloc: Global, book: PlainBook) -> Result<Box<IndexedBook>, Refused>
         (λ indexed. IsDictionary (⟦<IndexedBook as Book>⟧.meaning indexed.value)) }
     ensures no_memory { IfErr result (λ refused. refused ≡ Refused.NoMemory) }
 {
-    let indexed = IndexedBook::new(alloc, book)?;
-    let _count = indexed.entries();
+    let indexed = IndexedBook::from_plain(alloc, book)?;
+    has_dictionary(&indexed);
     match Box::new(alloc, indexed) {
         Ok(indexed) => Ok(indexed),
         Err(AllocFailed { .. }) => Err(Refused::NoMemory),
     }
 }
+
+/// The law of each book, that its dictionary is one, of a book of a known type.
+fn has_dictionary<B: Book>(book: &B)
+    ensures { IsDictionary (B.meaning book.now) }
+{}
 
 fn tell(number: u8, why: BadDictionary) -> Refused
     ensures told { TellsOf (λ told. told ≡ dictionary_line number (bad_dictionary_text why)) result }

@@ -30,7 +30,7 @@ fn resolves_and_looks_up(rt: HostRuntime) -> Result<(), Fail> {
     let alloc = rt.alloc();
     let text =
         "%avp Origin-Host 264 DiameterIdentity must <DWR> ::= <Diameter-Header:280,REQ> {Origin-Host}";
-    let book = IndexedBook::new(alloc, resolve(alloc, parse(alloc, text)?)?)?;
+    let book = IndexedBook::from_plain(alloc, resolve(alloc, parse(alloc, text)?)?)?;
     looks_up(&rt, &book)
 }
 

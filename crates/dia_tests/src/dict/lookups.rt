@@ -133,7 +133,10 @@ fn plain_of(alloc: Global, text: &str) -> Result<Box<PlainBook>, Fail> {
 
 /// The book of a text, with its tables.
 pub(super) fn indexed_of(alloc: Global, text: &str) -> Result<Box<IndexedBook>, Fail> {
-    Ok(Box::new(alloc, IndexedBook::new(alloc, book_of(alloc, text)?)?)?)
+    Ok(Box::new(
+        alloc,
+        IndexedBook::from_plain(alloc, book_of(alloc, text)?)?,
+    )?)
 }
 
 /// Checks what a book answers to a row.

@@ -14,7 +14,7 @@ fn answers(rt: &(impl AllocGlobal + Abort), indexed: &IndexedBook) {
 
 /// Checks that the base dictionary is indexed, or that memory is refused.
 fn indexes(rt: &(impl AllocGlobal + Abort), plain: PlainBook) {
-    if let Ok(indexed) = IndexedBook::new(rt.alloc(), plain) {
+    if let Ok(indexed) = IndexedBook::new(rt.alloc(), &plain) {
         answers(rt, &indexed);
     }
 }

@@ -152,7 +152,7 @@ fn compares_both<B: Book>(rt: &(impl AllocGlobal + Abort), b: &B) -> Result<(), 
 
 /// The base dictionary with its tables.
 pub(super) fn indexed_book(alloc: Global) -> Result<IndexedBook, AllocError> {
-    IndexedBook::new(alloc, base_book(alloc)?)
+    IndexedBook::from_plain(alloc, base_book(alloc)?)
 }
 
 #[test]

@@ -296,6 +296,6 @@ fn check_schedule(
 #[test]
 fn sends_valid_messages(rt: HostRuntime) -> Result<(), Fail> {
     let plain = base_book(rt.alloc())?;
-    let book = IndexedBook::new(rt.alloc(), plain)?;
+    let book = IndexedBook::from_plain(rt.alloc(), plain)?;
     check_schedules(&rt, &book)
 }

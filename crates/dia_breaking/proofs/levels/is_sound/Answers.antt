@@ -2,4 +2,4 @@ use Rattle.dia_breaking.proofs.FloorFacts.{rules_in_sound}
 use Rattle.dia_breaking.proofs.levels.is_sound.Goals as goal
 
 pub returns : goal.returns
-returns g c = rules_in_sound (g.B.Book.meaning c.args.book.now) c.args.def c.entries-count.ensures.sound
+returns g c = rules_in_sound (g.B.Book.meaning c.args.book.now) c.args.def (g.met.B.Book.sound c.args.book.now)

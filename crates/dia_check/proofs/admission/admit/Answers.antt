@@ -1,7 +1,7 @@
 use Rattle.std.proofs.Common.{List, Option, Some, None, sym, subst}
 use Rattle.std.specs.Prelude.{MatchOption}
-use Rattle.dia_dict.specs.declared.DRule.{DRule}
-use Rattle.dia_dict.specs.Dictionary.{definitions}
+use Rattle.dia_book.specs.declared.DRule.{DRule}
+use Rattle.dia_book.specs.Dictionary.{definitions}
 use Rattle.dia_check.specs.declared.open_levels.Wrong.{Wrong}
 use Rattle.dia_check.specs.OpenLevels.{IsFirstMisplaced, IsWellPlaced}
 use Rattle.std.proofs.Math.Logic.{∥∥₁_elim, ∥∥₁_map}
@@ -26,7 +26,8 @@ slot-requires g c = ∥∥₁_elim c.requires.open_levels (search props) (λ x. 
     def_within (g.B.Book.meaning c.args.book.now) c.args.open_levels.now outer level c.innermost-def.result now c.innermost-def.ensures)
 
 pub meet-requires-clause-rules : goal.meet-requires-clause-rules
-meet-requires-clause-rules g c = are_rules_here (g.B.Book.meaning c.args.book.now) c.innermost-def.result.def _ c.deref.result.now c.requires.sound c.def.ensures c.deref.ensures.value
+meet-requires-clause-rules g c =
+    are_rules_here (g.B.Book.meaning c.args.book.now) c.innermost-def.result.def _ c.deref.result.now (g.met.B.Book.sound c.args.book.now) c.def.ensures c.deref.ensures.value
 
 pub returns : goal.returns
 returns g c outer level now =

@@ -1,7 +1,7 @@
 use Rattle.std.proofs.Common.{sym, subst, length, ◌∙◌}
 use Rattle.dia_wire.specs.declared.Key.{Key}
 use Rattle.dia_wire.specs.Wire.{plain_avp}
-use Rattle.dia_dict.specs.Dictionary.{definitions}
+use Rattle.dia_book.specs.Dictionary.{definitions}
 use Rattle.dia_check.specs.OpenLevels.{AreOpen, and_key}
 use Rattle.dia_check.proofs.AvpFaults.{entry_within, fine_known, fine_unknown, wrong_refused, wrong_data}
 use Rattle.dia_check.proofs.admission.check_avp.Goals as goal
@@ -11,8 +11,8 @@ returns-in-Some g c outer level now =
     wrong_refused (g.B.Book.meaning c.args.book.now) c.args.unknown c.args.levels level.rules level.keys (plain_avp c.args.avp.now) c.key-key.result c.key-key.ensures
     (length outer) c.in-Some.wrong (c.in-Some.ensures outer level now)
 
-pub check_data-requires-clause-entry : goal.check_data-requires-clause-entry
-check_data-requires-clause-entry g c =
+pub check_data-requires : goal.check_data-requires
+check_data-requires g c =
     entry_within (g.B.Book.meaning c.args.book.now) c.key-key.result c.in-Some-known.entry (sym c.in-Some-known.is ∙ c.avp-known.ensures)
 
 pub returns-in-Ok : goal.returns-in-Ok

@@ -1,7 +1,7 @@
 use Rattle.std.proofs.Common.{List, sym, subst}
 use Rattle.std.specs.Prelude.{MatchOption}
-use Rattle.dia_dict.specs.declared.DRule.{DRule}
-use Rattle.dia_dict.specs.Dictionary.{definitions}
+use Rattle.dia_book.specs.declared.DRule.{DRule}
+use Rattle.dia_book.specs.Dictionary.{definitions}
 use Rattle.dia_check.specs.OpenLevels.{IsMetAtEnd, IsMissingAtEnd}
 use Rattle.std.proofs.Math.Logic.{∥∥₁_elim, ∥∥₁_map}
 use Rattle.std.proofs.Props.{props}
@@ -15,11 +15,11 @@ returns g c outer level now =
     subst (λ (rs : List DRule). MatchOption c.missing.result (IsMetAtEnd rs level.keys) (IsMissingAtEnd rs level.keys)) (sym same) (c.missing.ensures (definitions d) outer level now same)
 
 pub def-requires : goal.def-requires
-def-requires g c = ∥∥₁_elim c.requires.open_levels (search props) (λ x. let (outer, level, now) = x in
+def-requires g c = ∥∥₁_elim c.requires (search props) (λ x. let (outer, level, now) = x in
     def_within (g.B.Book.meaning c.args.book.now) c.args.open_levels.now outer level c.innermost-def.result now c.innermost-def.ensures)
 
 pub missing-requires : goal.missing-requires
-missing-requires g c = ∥∥₁_map c.requires.open_levels (λ x. let (outer, level, now) = x in (
+missing-requires g c = ∥∥₁_map c.requires (λ x. let (outer, level, now) = x in (
   definitions (g.B.Book.meaning c.args.book.now),
   outer,
   level,

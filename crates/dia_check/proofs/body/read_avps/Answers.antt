@@ -4,7 +4,7 @@ use Rattle.std.proofs.lemmas.Result.{err_from_is_err_and}
 use Rattle.std.specs.Coded.{le_prop}
 use Rattle.std.specs.Prelude.{◌^◌}
 use Rattle.dia_wire.specs.Wire.{plain_avp, key_of, BeginsWithNone}
-use Rattle.dia_dict.specs.Dictionary.{definitions}
+use Rattle.dia_book.specs.Dictionary.{definitions}
 use Rattle.dia_check.specs.declared.open_levels.OpenLevel.{OpenLevel}
 use Rattle.dia_check.specs.OpenLevels.{and_key}
 use Rattle.dia_check.specs.Faults.{HasGoodHeader}
@@ -17,7 +17,7 @@ use Rattle.dia_check.proofs.body.read_avps.Goals as goal
 
 pub overflow_add-stop : goal.overflow_add-stop
 overflow_add-stop g c =
-    let small : c.args.from + length c.args.piece.now < 2 ^ 32 = ∥∥₁_elim c.requires.under_way le_prop (λ x. let (bytes, good, few, w, lies) = x in let r = lies.1 in omega (arith, few, r)) in
+    let small : c.args.from + length c.args.piece.now < 2 ^ 32 = ∥∥₁_elim c.requires le_prop (λ x. let (bytes, good, few, w, lies) = x in let r = lies.1 in omega (arith, few, r)) in
     omega (arith, small)
 
 pub overflow_sub-until : goal.overflow_sub-until
@@ -25,7 +25,7 @@ overflow_sub-until g c =
     let d = g.B.Book.meaning c.args.book.now in let u = c.args.unknown in let m = c.args.levels in let o = c.loop-avp.open_levels in
     let at = c.loop-avp.at in let from = c.args.from in let piece = c.args.piece.now in let kept = c.innermost-end.result in let until = c.min-until.result in
     let same = c.innermost-end.ensures in let is = c.min-until.ensures in let (le, reached, some, on) = c.loop-avp.invariant in
-    let in_level = at_within d c.requires.sound o at (avps.sound_levels d u m o from at piece some) in let end = ap (λ (k : OpenLevel). k.end) same in
+    let in_level = at_within d (g.met.B.Book.sound c.args.book.now) o at (avps.sound_levels d u m o from at piece some) in let end = ap (λ (k : OpenLevel). k.end) same in
     let (low, high, last) = avps.up_to at kept.end (from + length piece) until (omega (arith, in_level, end)) reached is in
     omega (arith, le, low)
 
@@ -34,7 +34,7 @@ slice_bounds-next_avp-count g c =
     let d = g.B.Book.meaning c.args.book.now in let u = c.args.unknown in let m = c.args.levels in let o = c.loop-avp.open_levels in
     let at = c.loop-avp.at in let from = c.args.from in let piece = c.args.piece.now in let kept = c.innermost-end.result in let until = c.min-until.result in
     let same = c.innermost-end.ensures in let is = c.min-until.ensures in let (le, reached, some, on) = c.loop-avp.invariant in
-    let in_level = at_within d c.requires.sound o at (avps.sound_levels d u m o from at piece some) in let end = ap (λ (k : OpenLevel). k.end) same in
+    let in_level = at_within d (g.met.B.Book.sound c.args.book.now) o at (avps.sound_levels d u m o from at piece some) in let end = ap (λ (k : OpenLevel). k.end) same in
     let (low, high, last) = avps.up_to at kept.end (from + length piece) until (omega (arith, in_level, end)) reached is in
     omega (arith, le, low)
 
@@ -43,26 +43,26 @@ slice_bounds-next_avp-start g c =
     let d = g.B.Book.meaning c.args.book.now in let u = c.args.unknown in let m = c.args.levels in let o = c.loop-avp.open_levels in
     let at = c.loop-avp.at in let from = c.args.from in let piece = c.args.piece.now in let kept = c.innermost-end.result in let until = c.min-until.result in
     let same = c.innermost-end.ensures in let is = c.min-until.ensures in let (le, reached, some, on) = c.loop-avp.invariant in
-    let in_level = at_within d c.requires.sound o at (avps.sound_levels d u m o from at piece some) in let end = ap (λ (k : OpenLevel). k.end) same in
+    let in_level = at_within d (g.met.B.Book.sound c.args.book.now) o at (avps.sound_levels d u m o from at piece some) in let end = ap (λ (k : OpenLevel). k.end) same in
     let (low, high, last) = avps.up_to at kept.end (from + length piece) until (omega (arith, in_level, end)) reached is in
     omega (arith, le, low, last)
 
-pub check_avp-requires-clause-open_levels : goal.check_avp-requires-clause-open_levels
-check_avp-requires-clause-open_levels g c =
+pub check_avp-requires : goal.check_avp-requires
+check_avp-requires g c =
     let d = g.B.Book.meaning c.args.book.now in let u = c.args.unknown in let m = c.args.levels in let o = c.loop-avp.open_levels in
     let at = c.loop-avp.at in let from = c.args.from in let piece = c.args.piece.now in let kept = c.innermost-end.result in let until = c.min-until.result in
     let same = c.innermost-end.ensures in let is = c.min-until.ensures in let (le, reached, some, on) = c.loop-avp.invariant in
     ∥∥₁_map some (λ x. let (bytes, good, small, w, lies) = x in
-    let room = few d c.requires.sound u m bytes good o at w in (map so_far w.rests, so_far w.s, w.stands, omega (arith, room, small)))
+    let room = few d (g.met.B.Book.sound c.args.book.now) u m bytes good o at w in (map so_far w.rests, so_far w.s, w.stands, omega (arith, room, small)))
 
-pub open_group-requires-clause-def : goal.open_group-requires-clause-def
-open_group-requires-clause-def g c =
+pub open_group-requires : goal.open_group-requires
+open_group-requires g c =
     let d = g.B.Book.meaning c.args.book.now in let u = c.args.unknown in let m = c.args.levels in let o = c.loop-avp.open_levels in
     let at = c.loop-avp.at in let from = c.args.from in let piece = c.args.piece.now in let kept = c.innermost-end.result in let until = c.min-until.result in
     let same = c.innermost-end.ensures in let is = c.min-until.ensures in let (le, reached, some, on) = c.loop-avp.invariant in
     ∥∥₁_elim some le_prop (λ x. let (bytes, good, small, w, lies) = x in
     let says = c.in-Ok-Some-check_avp.ensures (map so_far w.rests) (so_far w.s) w.stands in
-    number_within d c.requires.sound u m bytes good o at w (plain_avp c.in-Ok-Some.avp) c.in-Ok-Some-check_avp.group (rw c.in-Ok-Some-check_avp.field-0-is at says.0))
+    number_within d (g.met.B.Book.sound c.args.book.now) u m bytes good o at w (plain_avp c.in-Ok-Some.avp) c.in-Ok-Some-check_avp.group (rw c.in-Ok-Some-check_avp.field-0-is at says.0))
 
 pub returns-in_err-open_group-in-Ok-Some-check_avp-clause-next : goal.returns-in_err-open_group-in-Ok-Some-check_avp-clause-next
 returns-in_err-open_group-in-Ok-Some-check_avp-clause-next g c bytes good old lies =
@@ -72,7 +72,7 @@ returns-in_err-open_group-in-Ok-Some-check_avp-clause-next g c bytes good old li
     let w = on bytes good old lies in
     let says = c.in-Ok-Some-check_avp.ensures (map so_far w.rests) (so_far w.s) w.stands in
     let p = err_from_is_err_and c.from_residual.result c.from_residual.ensures.1 in
-    rw (p.1, p.2) (avps.group_begins d c.requires.sound u m bytes good o at w kept same from piece lies until is le reached
+    rw (p.1, p.2) (avps.group_begins d (g.met.B.Book.sound c.args.book.now) u m bytes good o at w kept same from piece lies until is le reached
     (plain_avp c.in-Ok-Some.avp) c.in-Ok-Some.rest.now c.in-Ok-Some-check_avp.group
     (rw c.in-Ok-Some.field-0-is at c.in-Ok-Some.ensures.avp) (rw c.in-Ok-Some-check_avp.field-0-is at says.0))
 
@@ -84,7 +84,8 @@ loop-avp-smaller-in-Ok-Some-check_avp g c =
     let v = plain_avp c.in-Ok-Some.avp in let to = at + (c.length-length.result - length c.in-Ok-Some.avp.bytes.now) in let e = c.length-length.ensures in
     ∥∥₁_elim some le_prop (λ x. let (bytes, good, small, w, lies) = x in
     let says = c.in-Ok-Some-check_avp.ensures (map so_far w.rests) (so_far w.s) w.stands in
-    avps.less_entered d c.requires.sound u m bytes good o at w kept same from piece lies until is le reached v c.in-Ok-Some.rest.now c.in-Ok-Some-check_avp.group c.open_group.new.open_levels
+    avps.less_entered d (g.met.B.Book.sound c.args.book.now) u m bytes good o at w kept same from piece lies until is le reached v c.in-Ok-Some.rest.now c.in-Ok-Some-check_avp.group
+    c.open_group.new.open_levels
     (at + c.length-length.result) to (rw c.in-Ok-Some.field-0-is at c.in-Ok-Some.ensures.avp) (rw c.in-Ok-Some-check_avp.field-0-is at says.0)
     (λ definition number. c.in_ok-open_group-in-Ok-Some-check_avp.ensures definition (map so_far w.rests) (and_key (so_far w.s) (key_of v)) number says.1) (omega (arith, e)))
 
@@ -99,10 +100,11 @@ loop-avp-preserved-in-Ok-Some-check_avp g c =
     let says = c.in-Ok-Some-check_avp.ensures (map so_far w.rests) (so_far w.s) w.stands in
     let begins = (rw c.in-Ok-Some.field-0-is at c.in-Ok-Some.ensures.avp) in
     let (place, whole, eight) =
-    avps.whole_here d c.requires.sound u m bytes good o at w kept same from piece lies until is le reached v c.in-Ok-Some.rest.now
-    begins in let last = avps.until_last d c.requires.sound u m bytes good o at w kept same from piece lies until is le reached in (
-      entered d c.requires.sound u m bytes good o at w v _ c.in-Ok-Some-check_avp.group c.open_group.new.open_levels (at + c.length-length.result) to
-          (avps.begins d c.requires.sound u m bytes good o at w kept same from piece lies until is le reached v c.in-Ok-Some.rest.now begins) (rw c.in-Ok-Some-check_avp.field-0-is at says.0)
+    avps.whole_here d (g.met.B.Book.sound c.args.book.now) u m bytes good o at w kept same from piece lies until is le reached v c.in-Ok-Some.rest.now
+    begins in let last = avps.until_last d (g.met.B.Book.sound c.args.book.now) u m bytes good o at w kept same from piece lies until is le reached in (
+      entered d (g.met.B.Book.sound c.args.book.now) u m bytes good o at w v _ c.in-Ok-Some-check_avp.group c.open_group.new.open_levels (at + c.length-length.result) to
+          (avps.begins d (g.met.B.Book.sound c.args.book.now) u m bytes good o at w kept same from piece lies until is le reached v c.in-Ok-Some.rest.now begins)
+          (rw c.in-Ok-Some-check_avp.field-0-is at says.0)
           (λ definition number. c.in_ok-open_group-in-Ok-Some-check_avp.ensures definition (map so_far w.rests)
           (and_key (so_far w.s) (key_of v)) number says.1) (ap (λ (n : ℕ). at + n) e) (omega (arith, e)),
       omega (arith, e, whole, last),
@@ -121,7 +123,7 @@ loop-avp-smaller-in-Ok-None-check_avp g c =
     let v = plain_avp c.in-Ok-Some.avp in
     ∥∥₁_elim some le_prop (λ x. let (bytes, good, small, w, lies) = x in
     let says = c.in-Ok-None-check_avp.ensures (map so_far w.rests) (so_far w.s) w.stands in
-    avps.less_passed d c.requires.sound u m bytes good o at w kept same from piece lies until is le reached v c.in-Ok-Some.rest.now
+    avps.less_passed d (g.met.B.Book.sound c.args.book.now) u m bytes good o at w kept same from piece lies until is le reached v c.in-Ok-Some.rest.now
     c.check_avp.new.open_levels (and_key (so_far w.s) (key_of v)) (rw c.in-Ok-Some.field-0-is at c.in-Ok-Some.ensures.avp) says.1)
 
 pub loop-avp-preserved-in-Ok-None-check_avp : goal.loop-avp-preserved-in-Ok-None-check_avp
@@ -135,10 +137,10 @@ loop-avp-preserved-in-Ok-None-check_avp g c =
     let says = c.in-Ok-None-check_avp.ensures (map so_far w.rests) (so_far w.s) w.stands in
     let begins = (rw c.in-Ok-Some.field-0-is at c.in-Ok-Some.ensures.avp) in
     let (place, whole, eight) =
-    avps.whole_here d c.requires.sound u m bytes good o at w kept same from piece lies until is le reached v c.in-Ok-Some.rest.now
-    begins in let last = avps.until_last d c.requires.sound u m bytes good o at w kept same from piece lies until is le reached in (
-      passed d c.requires.sound u m bytes good o at w v _ c.check_avp.new.open_levels to
-          (avps.begins d c.requires.sound u m bytes good o at w kept same from piece lies until is le reached v c.in-Ok-Some.rest.now begins)
+    avps.whole_here d (g.met.B.Book.sound c.args.book.now) u m bytes good o at w kept same from piece lies until is le reached v c.in-Ok-Some.rest.now
+    begins in let last = avps.until_last d (g.met.B.Book.sound c.args.book.now) u m bytes good o at w kept same from piece lies until is le reached in (
+      passed d (g.met.B.Book.sound c.args.book.now) u m bytes good o at w v _ c.check_avp.new.open_levels to
+          (avps.begins d (g.met.B.Book.sound c.args.book.now) u m bytes good o at w kept same from piece lies until is le reached v c.in-Ok-Some.rest.now begins)
           (rw c.in-Ok-None-check_avp.field-0-is at says.0) says.1 place,
       omega (arith, place, le),
       omega (arith, last),
@@ -154,7 +156,7 @@ fault-requires g c =
     let d = g.B.Book.meaning c.args.book.now in let u = c.args.unknown in let m = c.args.levels in let o = c.loop-avp.open_levels in
     let at = c.loop-avp.at in let from = c.args.from in let piece = c.args.piece.now in let kept = c.innermost-end.result in let until = c.min-until.result in
     let same = c.innermost-end.ensures in let is = c.min-until.ensures in let (le, reached, some, on) = c.loop-avp.invariant in
-    let small : from + length piece < 2 ^ 32 = ∥∥₁_elim c.requires.under_way le_prop (λ x. let (bytes, good, few, w, lies) = x in let r = lies.1 in omega (arith, few, r)) in
+    let small : from + length piece < 2 ^ 32 = ∥∥₁_elim c.requires le_prop (λ x. let (bytes, good, few, w, lies) = x in let r = lies.1 in omega (arith, few, r)) in
     omega (arith, small, reached)
 
 pub returns-in-Err-clause-next : goal.returns-in-Err-clause-next
@@ -163,23 +165,23 @@ returns-in-Err-clause-next g c bytes good old lies =
     let at = c.loop-avp.at in let from = c.args.from in let piece = c.args.piece.now in let kept = c.innermost-end.result in let until = c.min-until.result in
     let same = c.innermost-end.ensures in let is = c.min-until.ensures in let (le, reached, some, on) = c.loop-avp.invariant in
     let w = on bytes good old lies in let v = plain_avp c.in-Ok-Some.avp in
-    rw c.fault.ensures (found_wrong d c.requires.sound u m bytes good o at w v _ c.in-Err.wrong (avps.begins d c.requires.sound u m bytes
+    rw c.fault.ensures (found_wrong d (g.met.B.Book.sound c.args.book.now) u m bytes good o at w v _ c.in-Err.wrong (avps.begins d (g.met.B.Book.sound c.args.book.now) u m bytes
     good o at w kept same from piece lies until is le reached v c.in-Ok-Some.rest.now (rw c.in-Ok-Some.field-0-is at c.in-Ok-Some.ensures.avp))
     (c.in-Err.ensures (map so_far w.rests) (so_far w.s) w.stands))
 
-pub missing_at_end-requires-clause-open_levels : goal.missing_at_end-requires-clause-open_levels
-missing_at_end-requires-clause-open_levels g c =
+pub missing_at_end-requires : goal.missing_at_end-requires
+missing_at_end-requires g c =
     let d = g.B.Book.meaning c.args.book.now in let u = c.args.unknown in let m = c.args.levels in let o = c.loop-avp.open_levels in
     let at = c.loop-avp.at in let from = c.args.from in let piece = c.args.piece.now in let kept = c.innermost-end.result in let until = c.min-until.result in
     let same = c.innermost-end.ensures in let is = c.min-until.ensures in let (le, reached, some, on) = c.loop-avp.invariant in
-    are_open d c.requires.sound o at (avps.sound_levels d u m o from at piece some)
+    are_open d (g.met.B.Book.sound c.args.book.now) o at (avps.sound_levels d u m o from at piece some)
 
 pub fault-requires-in-Some : goal.fault-requires-in-Some
 fault-requires-in-Some g c =
     let d = g.B.Book.meaning c.args.book.now in let u = c.args.unknown in let m = c.args.levels in let o = c.loop-avp.open_levels in
     let at = c.loop-avp.at in let from = c.args.from in let piece = c.args.piece.now in let kept = c.innermost-end.result in let until = c.min-until.result in
     let same = c.innermost-end.ensures in let is = c.min-until.ensures in let (le, reached, some, on) = c.loop-avp.invariant in
-    let few = end_few d c.requires.sound o at (avps.sound_levels d u m o from at piece some) in let end = ap (λ (k : OpenLevel). k.end) same in
+    let few = end_few d (g.met.B.Book.sound c.args.book.now) o at (avps.sound_levels d u m o from at piece some) in let end = ap (λ (k : OpenLevel). k.end) same in
     omega (arith, few, end)
 
 pub returns-in-Some-clause-next : goal.returns-in-Some-clause-next
@@ -188,10 +190,11 @@ returns-in-Some-clause-next g c bytes good old lies =
     let at = c.loop-avp.at in let from = c.args.from in let piece = c.args.piece.now in let kept = c.innermost-end.result in let until = c.min-until.result in
     let same = c.innermost-end.ensures in let is = c.min-until.ensures in let (le, reached, some, on) = c.loop-avp.invariant in
     let w = on bytes good old lies in
-    let none = avps.nothing_left d c.requires.sound u m bytes good o at w kept same from piece lies until is le reached
+    let none = avps.nothing_left d (g.met.B.Book.sound c.args.book.now) u m bytes good o at w kept same from piece lies until is le reached
     (omega (arith, c.if-stop-end.false)) (c.in-Ok-None.ensures.end.0 (rw c.in-Ok-None.field-0-is refl)) in
     let place = ap (λ (k : OpenLevel). k.end) (sym same) in
-    rw (c.fault-in-Some.ensures, ← place) (found_missing d c.requires.sound u m bytes good o at w c.in-Some.wrong none (c.in-Some.ensures (map so_far w.rests) (so_far w.s) w.stands))
+    rw (c.fault-in-Some.ensures, ← place) (found_missing d (g.met.B.Book.sound c.args.book.now) u m bytes good o at w c.in-Some.wrong none
+    (c.in-Some.ensures (map so_far w.rests) (so_far w.s) w.stands))
 
 pub returns-then-not-close-clause-next : goal.returns-then-not-close-clause-next
 returns-then-not-close-clause-next g c bytes good old lies =
@@ -199,11 +202,11 @@ returns-then-not-close-clause-next g c bytes good old lies =
     let at = c.loop-avp.at in let from = c.args.from in let piece = c.args.piece.now in let kept = c.innermost-end.result in let until = c.min-until.result in
     let same = c.innermost-end.ensures in let is = c.min-until.ensures in let (le, reached, some, on) = c.loop-avp.invariant in
     let w = on bytes good old lies in
-    let none = avps.nothing_left d c.requires.sound u m bytes good o at w kept same from piece lies until is le reached
+    let none = avps.nothing_left d (g.met.B.Book.sound c.args.book.now) u m bytes good o at w kept same from piece lies until is le reached
     (omega (arith, c.if-stop-end.false)) (c.in-Ok-None.ensures.end.0 (rw c.in-Ok-None.field-0-is refl)) in
     let alone = c.if-not-close.ensures.last refl (definitions d) (map so_far w.rests) (so_far w.s) w.stands in
-    let end = all_reached d c.requires.sound u m bytes good o at w none alone in let room = lies.1 in (
-      all_done d c.requires.sound u m bytes good o at w none (c.in_default.ensures (map so_far w.rests) (so_far w.s) w.stands) alone,
+    let end = all_reached d (g.met.B.Book.sound c.args.book.now) u m bytes good o at w none alone in let room = lies.1 in (
+      all_done d (g.met.B.Book.sound c.args.book.now) u m bytes good o at w none (c.in_default.ensures (map so_far w.rests) (so_far w.s) w.stands) alone,
       omega (arith, end, reached, room),
     )
 
@@ -214,7 +217,7 @@ loop-avp-smaller g c =
     let same = c.innermost-end.ensures in let is = c.min-until.ensures in let (le, reached, some, on) = c.loop-avp.invariant in
     ∥∥₁_elim some le_prop (λ x. let (bytes, good, small, w, lies) = x in
     let (others, next, parts, now) = c.if-not-close.ensures.inner refl (definitions d) (map so_far w.rests) (so_far w.s) w.stands in
-    avps.less_done d c.requires.sound u m bytes good o at w kept same from piece lies until is le reached c.close.new.self others next parts now)
+    avps.less_done d (g.met.B.Book.sound c.args.book.now) u m bytes good o at w kept same from piece lies until is le reached c.close.new.self others next parts now)
 
 pub loop-avp-preserved : goal.loop-avp-preserved
 loop-avp-preserved g c =
@@ -223,10 +226,10 @@ loop-avp-preserved g c =
     let same = c.innermost-end.ensures in let is = c.min-until.ensures in let (le, reached, some, on) = c.loop-avp.invariant in
     let closed : (bytes : List ℕ) (good : HasGoodHeader d bytes) → IsUnderWay d u m bytes good o at → LiesAt bytes from piece
     → IsUnderWay d u m bytes good c.close.new.self at = λ bytes good w lies.
-    let none = avps.nothing_left d c.requires.sound u m bytes good o at w kept same from piece lies until is le reached
+    let none = avps.nothing_left d (g.met.B.Book.sound c.args.book.now) u m bytes good o at w kept same from piece lies until is le reached
     (omega (arith, c.if-stop-end.false)) (c.in-Ok-None.ensures.end.0 (rw c.in-Ok-None.field-0-is refl)) in
     let (others, next, parts, now) = c.if-not-close.ensures.inner refl (definitions d) (map so_far w.rests) (so_far w.s) w.stands in
-    done d c.requires.sound u m bytes good o at w c.close.new.self none (c.in_default.ensures (map so_far w.rests) (so_far w.s) w.stands) others next parts now in (
+    done d (g.met.B.Book.sound c.args.book.now) u m bytes good o at w c.close.new.self none (c.in_default.ensures (map so_far w.rests) (so_far w.s) w.stands) others next parts now in (
       le,
       reached,
       ∥∥₁_map some (λ x. let (bytes, good, small, w, lies) = x in (bytes, good, small, closed bytes good w lies, lies)),
@@ -238,7 +241,7 @@ broken-requires g c =
     let d = g.B.Book.meaning c.args.book.now in let u = c.args.unknown in let m = c.args.levels in let o = c.loop-avp.open_levels in
     let at = c.loop-avp.at in let from = c.args.from in let piece = c.args.piece.now in let kept = c.innermost-end.result in let until = c.min-until.result in
     let same = c.innermost-end.ensures in let is = c.min-until.ensures in let (le, reached, some, on) = c.loop-avp.invariant in
-    let small : from + length piece < 2 ^ 32 = ∥∥₁_elim c.requires.under_way le_prop (λ x. let (bytes, good, few, w, lies) = x in let r = lies.1 in omega (arith, few, r)) in
+    let small : from + length piece < 2 ^ 32 = ∥∥₁_elim c.requires le_prop (λ x. let (bytes, good, few, w, lies) = x in let r = lies.1 in omega (arith, few, r)) in
     omega (arith, small, reached)
 
 pub returns-in-Err-Length-clause-next : goal.returns-in-Err-Length-clause-next
@@ -247,6 +250,6 @@ returns-in-Err-Length-clause-next g c bytes good old lies =
     let at = c.loop-avp.at in let from = c.args.from in let piece = c.args.piece.now in let kept = c.innermost-end.result in let until = c.min-until.result in
     let same = c.innermost-end.ensures in let is = c.min-until.ensures in let (le, reached, some, on) = c.loop-avp.invariant in
     let w = on bytes good old lies in
-    let here = avps.all_here d c.requires.sound u m bytes good o at w kept same from piece lies until is le reached (omega (arith, c.if-stop-end-2.false)) in
-    rw c.broken.ensures (found_broken d c.requires.sound u m bytes good o at w (subst (λ (t : List ℕ). 0 < length t) here c.in-Err-Length.ensures.fault.0)
+    let here = avps.all_here d (g.met.B.Book.sound c.args.book.now) u m bytes good o at w kept same from piece lies until is le reached (omega (arith, c.if-stop-end-2.false)) in
+    rw c.broken.ensures (found_broken d (g.met.B.Book.sound c.args.book.now) u m bytes good o at w (subst (λ (t : List ℕ). 0 < length t) here c.in-Err-Length.ensures.fault.0)
     (subst BeginsWithNone here c.in-Err-Length.ensures.fault.1))

@@ -8,8 +8,8 @@ use Rattle.dia_check.proofs.DataInPieces.{stop_for}
 use Rattle.dia_check.proofs.AvpsInPieces as avps
 use Rattle.dia_check.proofs.body.read_piece.Goals as goal
 
-pub read_avps-requires-clause-under_way : goal.read_avps-requires-clause-under_way
-read_avps-requires-clause-under_way g c =
+pub read_avps-requires : goal.read_avps-requires
+read_avps-requires g c =
     let d = g.B.Book.meaning c.args.book.now in let u = c.args.unknown in let m = c.args.levels in let from = c.args.from in let piece = c.args.piece.now in
     let start = c.loop-at.start in let (le, reached, some, on) = c.loop-at.invariant in
     ∥∥₁_map some (λ x. let (bytes, good, small, w, lies) = x in (bytes, good, small, w, avps.lies_from bytes piece from start le reached lies))
@@ -38,8 +38,8 @@ returns-in_default-clause-next g c bytes good old lies =
     let (walk, end) = rw c.in_default.is at (c.in_ok-at.ensures.next bytes good (on bytes good old lies) (avps.lies_from bytes piece from start le reached lies)) in
     (walk, omega (arith, end, left, le, reached))
 
-pub enter_at-requires-clause-under_way : goal.enter_at-requires-clause-under_way
-enter_at-requires-clause-under_way g c =
+pub enter_at-requires : goal.enter_at-requires
+enter_at-requires g c =
     let d = g.B.Book.meaning c.args.book.now in let u = c.args.unknown in let m = c.args.levels in let from = c.args.from in let piece = c.args.piece.now in
     let start = c.loop-at.start in let (le, reached, some, on) = c.loop-at.invariant in
     let left = avps.size_from piece from start in

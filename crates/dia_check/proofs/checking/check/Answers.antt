@@ -17,7 +17,7 @@ returns-in_err-whole_header-clause-valid g c n valid =
     let d = g.B.Book.meaning c.args.book.now in
     let p = err_from_is_err_and c.from_residual.result c.from_residual.ensures.1 in
     let answer : IsAnswer d c.args.unknown c.args.levels c.args.bytes.now c.from_residual.result = rw (p.1, p.2) (c.in_err-whole_header.ensures.answer d c.args.unknown c.args.levels) in
-    valid_answer d c.entries-count.ensures.sound c.args.unknown c.args.levels c.args.bytes.now c.from_residual.result n answer valid
+    valid_answer d (g.met.B.Book.sound c.args.book.now) c.args.unknown c.args.levels c.args.bytes.now c.from_residual.result n answer valid
 
 pub returns-in-Ok-clause-answer : goal.returns-in-Ok-clause-answer
 returns-in-Ok-clause-answer g c =
@@ -34,7 +34,7 @@ returns-in-Ok-clause-valid g c n valid =
     let fed = c.in-Ok.ensures.taken d c.args.unknown c.args.levels [] c.new-stream.ensures.empty in
     let answer = c.finish.ensures.answer c.in-Ok.ensures.goes_on d c.args.unknown c.args.levels c.args.bytes.now
     (subst (λ (bytes : List ℕ). StandsFor g.B.Book.meaning c.feed.new.self d c.args.unknown c.args.levels bytes) (whole_taken c.args.bytes.now _ sized fed.0.front) fed.1) in
-    valid_answer d c.entries-count.ensures.sound c.args.unknown c.args.levels c.args.bytes.now c.finish.result n answer valid
+    valid_answer d (g.met.B.Book.sound c.args.book.now) c.args.unknown c.args.levels c.args.bytes.now c.finish.result n answer valid
 
 pub returns-in-Err-NoMemory-clause-no_memory : goal.returns-in-Err-NoMemory-clause-no_memory
 returns-in-Err-NoMemory-clause-no_memory g c q =

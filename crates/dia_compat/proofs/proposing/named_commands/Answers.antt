@@ -1,6 +1,6 @@
 use Rattle.std.proofs.Common.{rules, [], map, String, string_bytes, sym, ap, subst}
 use Rattle.std.specs.Global.{Global}
-use Rattle.dia_dict.specs.Dictionary.{Dictionary}
+use Rattle.dia_book.specs.Dictionary.{Dictionary}
 use Rattle.dia_compat.specs.NamedCommands.{NamedSoFar}
 use Rattle.dia_compat.proofs.proposing.named_commands.Goals as goal
 

@@ -4,6 +4,7 @@ use Rattle.dia_wire.specs.declared.Key.{Key}
 use Rattle.dia_compat.specs.TableText.{plain_table, plain_pair}
 use Rattle.dia_compat.specs.Proposed.{IsProposed, AreAvpPairs}
 use Rattle.dia_compat.proofs.LeastProposal.{proposal_is_least}
+use Rattle.dia_compat.proofs.WritableProposal.{writable}
 use Rattle.dia_compat.proofs.NamedCommands.{all_named, are_avp_pairs, proposed, follows}
 use Rattle.dia_compat.proofs.proposing.propose.Goals as goal
 
@@ -11,8 +12,8 @@ pub returns-clause-proposal : goal.returns-clause-proposal
 returns-clause-proposal g c =
     let da = g.A.Book.meaning c.args.a.now in
     let db = g.B.Book.meaning c.args.b.now in
-    let sa = c.named_commands.ensures.sound_a in
-    let sb = c.named_commands.ensures.sound_b in
+    let sa = (g.met.A.Book.sound c.args.a.now) in
+    let sb = (g.met.B.Book.sound c.args.b.now) in
     let u = c.args.unknown in
     let names = map (λ (n : String Global). string_bytes n) c.args.names.now in
     let named = c.in_ok-named.named in
@@ -29,6 +30,12 @@ returns-clause-proposal g c =
 
 pub returns-clause-least : goal.returns-clause-least
 returns-clause-least g c =
-    proposal_is_least (g.A.Book.meaning c.args.a.now) (g.B.Book.meaning c.args.b.now) c.named_commands.ensures.sound_a c.named_commands.ensures.sound_b c.args.unknown
+    proposal_is_least (g.A.Book.meaning c.args.a.now) (g.B.Book.meaning c.args.b.now) (g.met.A.Book.sound c.args.a.now) (g.met.B.Book.sound c.args.b.now) c.args.unknown
+    (map (λ (n : String Global). string_bytes n) c.args.names.now)
+    (plain_table (record { commands = c.in_ok-named.named.pairs; avps = c.in_ok-avps.avps })) (returns-clause-proposal g c)
+
+pub returns-clause-writable : goal.returns-clause-writable
+returns-clause-writable g c =
+    writable (g.A.Book.meaning c.args.a.now) (g.B.Book.meaning c.args.b.now) (g.met.A.Book.sound c.args.a.now) (g.met.B.Book.sound c.args.b.now) c.args.unknown
     (map (λ (n : String Global). string_bytes n) c.args.names.now)
     (plain_table (record { commands = c.in_ok-named.named.pairs; avps = c.in_ok-avps.avps })) (returns-clause-proposal g c)

@@ -1,6 +1,6 @@
 use Rattle.std.proofs.Common.{ap, ◌∙◌}
 use Rattle.std.specs.Prelude.{is_some}
-use Rattle.dia_dict.proofs.Members.{find-is_some}
+use Rattle.dia_book.proofs.Members.{find-is_some}
 use Rattle.dia_check.specs.Valid.{is_wildcard}
 use Rattle.dia_compat.specs.Tests.{rules_in}
 use Rattle.dia_breaking.proofs.rules.Rules.has_wildcard.Goals as goal

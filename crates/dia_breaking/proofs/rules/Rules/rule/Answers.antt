@@ -1,6 +1,6 @@
 use Rattle.std.proofs.Common.{sym, ap, ◌∙◌}
 use Rattle.std.specs.Prelude.{slice_get, option_and_then}
-use Rattle.dia_dict.specs.declared.definition.Slot.{Slot}
+use Rattle.dia_book.specs.declared.Slot.{Slot}
 use Rattle.dia_compat.specs.Tests.{rules_in}
 use Rattle.dia_compat.proofs.LookUpsBySlot.{place_in, rule_at}
 use Rattle.dia_breaking.proofs.rules.Rules.rule.Goals as goal

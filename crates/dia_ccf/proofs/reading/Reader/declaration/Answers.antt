@@ -1,7 +1,7 @@
 use Rattle.std.proofs.Common.{◌≡◌, refl, None, Ok, Err, ◌∙◌, arith}
 use Rattle.std.specs.Prelude.{true, false, string_bytes, nat_lt}
 use Rattle.std.proofs.lemmas.Bool.{lt-ltb}
-use Rattle.dia_ccf.specs.declared.source.MRule.{MRule}
+use Rattle.dia_terms.specs.declared.MRule.{MRule}
 use Rattle.dia_ccf.specs.Limits.{max_number}
 use Rattle.dia_ccf.specs.Plain.{plain_decl}
 use Rattle.dia_ccf.specs.Machine.{State, Between, Decl_name, Decl_code, Decl_vendor, Decl_format, Decl_rule, Decl_values, add_decl, name_at, number_at, format_at, rule_at}

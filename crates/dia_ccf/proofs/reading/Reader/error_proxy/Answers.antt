@@ -2,7 +2,7 @@ use Rattle.std.proofs.Common.{◌≡◌, Bool, true, false, cond, List, [], ◌�
 use Rattle.std.specs.Prelude.{codes}
 use Rattle.std.specs.Option.{option_map}
 use Rattle.dia_ccf.specs.declared.source.Head.TheVariants.{Error}
-use Rattle.dia_ccf.specs.declared.source.Pxy.TheVariants.{Set, Clear}
+use Rattle.dia_terms.specs.declared.Pxy.TheVariants.{Set, Clear}
 use Rattle.dia_ccf.specs.Plain.{PlainSource}
 use Rattle.dia_ccf.specs.Tokens.{Token, Comma, Open_bracket, Name}
 use Rattle.dia_ccf.specs.Machine.{State, Outcome, In_head, Error_flags, Error_either, Head_end, next, refused, outcome, same_sign, is_keyword, keyword_at}

@@ -1,5 +1,5 @@
 use Rattle.std.proofs.Common.{arith, refl, Ok, Err, ◌∙◌}
-use Rattle.dia_ccf.specs.declared.source.RuleKind.TheVariants.{Required, Optional}
+use Rattle.dia_terms.specs.declared.RuleKind.TheVariants.{Required, Optional}
 use Rattle.dia_ccf.specs.Plain.{plain_rule}
 use Rattle.dia_ccf.specs.Tokens.{Open_brace}
 use Rattle.dia_ccf.specs.Machine.{Rules, Loose_name, Loose_close, same_sign, with_rule}

@@ -1,7 +1,7 @@
 use Rattle.std.proofs.Common.{arith, refl, Ok, Err, ◌∙◌}
 use Rattle.std.specs.Prelude.{false, codes}
 use Rattle.dia_ccf.specs.declared.source.Head.TheVariants.{Error}
-use Rattle.dia_ccf.specs.declared.source.Pxy.TheVariants.{Either}
+use Rattle.dia_terms.specs.declared.Pxy.TheVariants.{Either}
 use Rattle.dia_ccf.specs.Tokens.{Comma, Close_bracket}
 use Rattle.dia_ccf.specs.Machine.{In_head, Error_either, Error_close, Head_end, same_sign, sign_at}
 use Rattle.dia_ccf.specs.ReaderFunctions.{course, left}

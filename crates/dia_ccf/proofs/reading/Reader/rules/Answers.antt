@@ -2,7 +2,7 @@ use Rattle.std.proofs.Common.{◌≡◌, ◌<◌, ℕ, List, [], ◌∷◌, ◌+
 use Rattle.dia_ccf.specs.declared.reading.definitions.Behind.{Behind}
 use Rattle.dia_ccf.specs.declared.source.Head.{Head}
 use Rattle.dia_ccf.specs.declared.source.Rule.{Rule}
-use Rattle.dia_ccf.specs.declared.source.RuleKind.TheVariants.{Fixed}
+use Rattle.dia_terms.specs.declared.RuleKind.TheVariants.{Fixed}
 use Rattle.dia_ccf.specs.Plain.{PlainDef, PlainRule, plain_rule}
 use Rattle.dia_ccf.specs.Machine.{Rules, with_rule}
 use Rattle.dia_ccf.specs.ReaderFunctions.{course, after_rules}

@@ -5,8 +5,8 @@ use Rattle.std.proofs.Props.{props}
 use Rattle.std.specs.Coded.{le_prop}
 use Rattle.std.specs.Prelude.{slice_index, ◌≤◌}
 use Rattle.dia_check.proofs.KeysByCounts.{to_within, rule_within, count_few, missing_first, not_allowed_first, too_many_first, met_now, is_max_of, no_max_of}
-use Rattle.dia_dict.specs.declared.DRule.{DRule}
-use Rattle.dia_dict.specs.declared.RuleKind.TheVariants.{Fixed}
+use Rattle.dia_book.specs.declared.DRule.{DRule}
+use Rattle.dia_book.specs.declared.RuleKind.TheVariants.{Fixed}
 use Rattle.dia_check.proofs.open_levels.OpenLevel.meet.Goals as goal
 
 no_rule : DRule

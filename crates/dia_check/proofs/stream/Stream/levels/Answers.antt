@@ -2,7 +2,7 @@ use Rattle.std.proofs.Common.{◌+◌, ◌<◌, refl, subst, arith}
 use Rattle.std.proofs.Math.Logic.{∥∥₁_elim}
 use Rattle.std.specs.Coded.{le_prop}
 use Rattle.std.specs.Prelude.{◌^◌}
-use Rattle.dia_dict.specs.Dictionary.{definitions}
+use Rattle.dia_book.specs.Dictionary.{definitions}
 use Rattle.dia_check.specs.declared.stream.stages.Stage.{Stage}
 use Rattle.dia_check.specs.Streaming.{HasTaken, IsStage}
 use Rattle.dia_check.proofs.StreamLevels.{counts_body, counts_zero, few_levels}

@@ -3,7 +3,7 @@ use Rattle.std.proofs.Math.Logic.{∥∥₁_elim, ∥∥₁_map}
 use Rattle.std.proofs.lemmas.Bool.{cases_lt}
 use Rattle.std.specs.Coded.{le_prop}
 use Rattle.std.specs.Prelude.{◌^◌}
-use Rattle.dia_dict.specs.Dictionary.{Dictionary}
+use Rattle.dia_book.specs.Dictionary.{Dictionary}
 use Rattle.dia_policy.specs.declared.Unknown.{Unknown}
 use Rattle.dia_policy.specs.declared.Levels.{Levels}
 use Rattle.dia_check.specs.Streaming.{HasTaken, IsSpentStage, OpensBehind, OpensLevel, taken_of}
@@ -19,8 +19,8 @@ overflow_sub-self g c =
     taken_within d s.unknown s.levels s.taken s.wanted s.stage bytes c.args.piece.now h) in
     e
 
-pub read_stage-requires-clause-read : goal.read_stage-requires-clause-read
-read_stage-requires-clause-read g c =
+pub read_stage-requires : goal.read_stage-requires
+read_stage-requires g c =
     let s = c.args.self.now in
     let d = g.B.Book.meaning s.book.now in
     let m = c.min-count.ensures in

@@ -2,7 +2,7 @@ use Rattle.std.proofs.Common.{ℕ, List, map, sym, ap, refl, arith}
 use Rattle.std.proofs.Math.Logic.{∥∥₁_elim, ∥∥₁_map}
 use Rattle.std.proofs.lemmas.Result.{err_from_is_err_and}
 use Rattle.std.specs.Coded.{le_prop}
-use Rattle.dia_dict.specs.Dictionary.{definitions}
+use Rattle.dia_book.specs.Dictionary.{definitions}
 use Rattle.dia_check.specs.declared.open_levels.OpenLevel.{OpenLevel}
 use Rattle.dia_policy.specs.declared.Unknown.{Unknown}
 use Rattle.dia_policy.specs.declared.Levels.{Levels}
@@ -14,25 +14,25 @@ use Rattle.dia_check.proofs.stream.parts.go_on.Goals as goal
 
 pub begin_head-requires-clause-few : goal.begin_head-requires-clause-few
 begin_head-requires-clause-few g c =
-    let few = end_few (g.B.Book.meaning c.args.book.now) c.requires.sound c.loop-open_levels.open_levels c.args.at c.loop-open_levels.invariant.0 in
+    let few = end_few (g.B.Book.meaning c.args.book.now) (g.met.B.Book.sound c.args.book.now) c.loop-open_levels.open_levels c.args.at c.loop-open_levels.invariant.0 in
     let same = ap (λ (k : OpenLevel). k.end) c.innermost-end.ensures in
     omega (arith, few, same, c.if-at-end.true)
 
 pub returns-in_err-part : goal.returns-in_err-part
 returns-in_err-part g c u most bytes good from =
     let p = err_from_is_err_and c.from_residual.result c.from_residual.ensures.1 in
-    rw (p.1, p.2) (c.in_err-part.ensures (g.B.Book.meaning c.args.book.now) u most bytes good c.requires.sound (c.loop-open_levels.invariant.1 u most bytes good from))
+    rw (p.1, p.2) (c.in_err-part.ensures (g.B.Book.meaning c.args.book.now) u most bytes good (g.met.B.Book.sound c.args.book.now) (c.loop-open_levels.invariant.1 u most bytes good from))
 
 pub returns-then-at-end : goal.returns-then-at-end
 returns-then-at-end g c u most bytes good from =
-    c.in_ok-part.ensures (g.B.Book.meaning c.args.book.now) u most bytes good c.requires.sound (c.loop-open_levels.invariant.1 u most bytes good from)
+    c.in_ok-part.ensures (g.B.Book.meaning c.args.book.now) u most bytes good (g.met.B.Book.sound c.args.book.now) (c.loop-open_levels.invariant.1 u most bytes good from)
 
-pub missing_at_end-requires-clause-open_levels : goal.missing_at_end-requires-clause-open_levels
-missing_at_end-requires-clause-open_levels g c = are_open (g.B.Book.meaning c.args.book.now) c.requires.sound c.loop-open_levels.open_levels c.args.at c.loop-open_levels.invariant.0
+pub missing_at_end-requires : goal.missing_at_end-requires
+missing_at_end-requires g c = are_open (g.B.Book.meaning c.args.book.now) (g.met.B.Book.sound c.args.book.now) c.loop-open_levels.open_levels c.args.at c.loop-open_levels.invariant.0
 
 pub fault-requires : goal.fault-requires
 fault-requires g c =
-    let few = end_few (g.B.Book.meaning c.args.book.now) c.requires.sound c.loop-open_levels.open_levels c.args.at c.loop-open_levels.invariant.0 in
+    let few = end_few (g.B.Book.meaning c.args.book.now) (g.met.B.Book.sound c.args.book.now) c.loop-open_levels.open_levels c.args.at c.loop-open_levels.invariant.0 in
     let same = ap (λ (k : OpenLevel). k.end) c.innermost-end.ensures in
     omega (arith, few, same)
 
@@ -40,23 +40,23 @@ pub returns-in-Some : goal.returns-in-Some
 returns-in-Some g c u most bytes good from =
     let d = g.B.Book.meaning c.args.book.now in
     let w = c.loop-open_levels.invariant.1 u most bytes good from in
-    let within = at_within d c.requires.sound c.loop-open_levels.open_levels c.args.at c.loop-open_levels.invariant.0 in
+    let within = at_within d (g.met.B.Book.sound c.args.book.now) c.loop-open_levels.open_levels c.args.at c.loop-open_levels.invariant.0 in
     let same = ap (λ (k : OpenLevel). k.end) c.innermost-end.ensures in
     let place = sym same in
-    let none = all_read d c.requires.sound u most bytes good c.loop-open_levels.open_levels c.args.at w (omega (arith, within, same, c.if-at-end.false)) in
-    rw (c.fault.ensures, ← place) (found_missing d c.requires.sound u most bytes good c.loop-open_levels.open_levels c.args.at w c.in-Some.wrong none
+    let none = all_read d (g.met.B.Book.sound c.args.book.now) u most bytes good c.loop-open_levels.open_levels c.args.at w (omega (arith, within, same, c.if-at-end.false)) in
+    rw (c.fault.ensures, ← place) (found_missing d (g.met.B.Book.sound c.args.book.now) u most bytes good c.loop-open_levels.open_levels c.args.at w c.in-Some.wrong none
     (c.in-Some.ensures (map so_far w.rests) (so_far w.s) w.stands))
 
 pub returns-then-not-close : goal.returns-then-not-close
 returns-then-not-close g c u most bytes good from =
     let d = g.B.Book.meaning c.args.book.now in
     let w = c.loop-open_levels.invariant.1 u most bytes good from in
-    let within = at_within d c.requires.sound c.loop-open_levels.open_levels c.args.at c.loop-open_levels.invariant.0 in
+    let within = at_within d (g.met.B.Book.sound c.args.book.now) c.loop-open_levels.open_levels c.args.at c.loop-open_levels.invariant.0 in
     let same = ap (λ (k : OpenLevel). k.end) c.innermost-end.ensures in
-    let none = all_read d c.requires.sound u most bytes good c.loop-open_levels.open_levels c.args.at w (omega (arith, within, same, c.if-at-end.false)) in
+    let none = all_read d (g.met.B.Book.sound c.args.book.now) u most bytes good c.loop-open_levels.open_levels c.args.at w (omega (arith, within, same, c.if-at-end.false)) in
     let alone = c.if-not-close.ensures.last refl (definitions d) (map so_far w.rests) (so_far w.s) w.stands in (
-      all_done d c.requires.sound u most bytes good c.loop-open_levels.open_levels c.args.at w none (c.in_default.ensures (map so_far w.rests) (so_far w.s) w.stands) alone,
-      all_reached d c.requires.sound u most bytes good c.loop-open_levels.open_levels c.args.at w none alone,
+      all_done d (g.met.B.Book.sound c.args.book.now) u most bytes good c.loop-open_levels.open_levels c.args.at w none (c.in_default.ensures (map so_far w.rests) (so_far w.s) w.stands) alone,
+      all_reached d (g.met.B.Book.sound c.args.book.now) u most bytes good c.loop-open_levels.open_levels c.args.at w none alone,
     )
 
 pub loop-open_levels-smaller : goal.loop-open_levels-smaller
@@ -64,18 +64,18 @@ loop-open_levels-smaller g c =
     let d = g.B.Book.meaning c.args.book.now in
     ∥∥₁_elim c.loop-open_levels.invariant.0 le_prop (λ x. let (u, most, bytes, good, few, w) = x in
     let (others, next, parts, now) = c.if-not-close.ensures.inner refl (definitions d) (map so_far w.rests) (so_far w.s) w.stands in
-    fewer d c.requires.sound u most bytes good c.loop-open_levels.open_levels c.args.at w c.close.new.self others next parts now)
+    fewer d (g.met.B.Book.sound c.args.book.now) u most bytes good c.loop-open_levels.open_levels c.args.at w c.close.new.self others next parts now)
 
 pub loop-open_levels-preserved : goal.loop-open_levels-preserved
 loop-open_levels-preserved g c =
     let d = g.B.Book.meaning c.args.book.now in
-    let within = at_within d c.requires.sound c.loop-open_levels.open_levels c.args.at c.loop-open_levels.invariant.0 in
+    let within = at_within d (g.met.B.Book.sound c.args.book.now) c.loop-open_levels.open_levels c.args.at c.loop-open_levels.invariant.0 in
     let same = ap (λ (k : OpenLevel). k.end) c.innermost-end.ensures in
     let closed : (u : Unknown) (most : Levels) (bytes : List ℕ) (good : HasGoodHeader d bytes)
     → IsUnderWay d u most bytes good c.loop-open_levels.open_levels c.args.at → IsUnderWay d u most bytes good c.close.new.self c.args.at = λ u most bytes good w.
-    let none = all_read d c.requires.sound u most bytes good c.loop-open_levels.open_levels c.args.at w (omega (arith, within, same, c.if-at-end.false)) in
+    let none = all_read d (g.met.B.Book.sound c.args.book.now) u most bytes good c.loop-open_levels.open_levels c.args.at w (omega (arith, within, same, c.if-at-end.false)) in
     let (others, next, parts, now) = c.if-not-close.ensures.inner refl (definitions d) (map so_far w.rests) (so_far w.s) w.stands in
-    done d c.requires.sound u most bytes good c.loop-open_levels.open_levels c.args.at w c.close.new.self none
+    done d (g.met.B.Book.sound c.args.book.now) u most bytes good c.loop-open_levels.open_levels c.args.at w c.close.new.self none
     (c.in_default.ensures (map so_far w.rests) (so_far w.s) w.stands) others next parts now in (
       ∥∥₁_map c.loop-open_levels.invariant.0 (λ x. let (u, most, bytes, good, few, w) = x in (u, most, bytes, good, few, closed u most bytes good w)),
       λ u most bytes good from. closed u most bytes good (c.loop-open_levels.invariant.1 u most bytes good from),

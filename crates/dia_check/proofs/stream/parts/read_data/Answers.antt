@@ -9,8 +9,8 @@ use Rattle.dia_check.proofs.stream.parts.read_data.Goals as goal
 pub overflow_sub-part : goal.overflow_sub-part
 overflow_sub-part g c = let e : c.args.from ≤ c.args.part.next = ∥∥₁_elim c.requires.part le_prop (λ x. let (u, most, (bytes, good, few, (h, less), lies)) = x in omega (arith, less)) in e
 
-pub end_data-requires-clause-part : goal.end_data-requires-clause-part
-end_data-requires-clause-part g c =
+pub end_data-requires : goal.end_data-requires
+end_data-requires g c =
     let d = g.B.Book.meaning c.args.book.now in
     let least = least_count c.min-taken.result c.saturating_sub.result c.min-count.result c.min-count.ensures in
     let room = c.saturating_sub.ensures in let taken = c.min-taken.ensures in
@@ -21,7 +21,8 @@ end_data-requires-clause-part g c =
       good,
       few,
       _,
-      data_more d c.requires.sound u most bytes good c.args.open_levels.now c.args.part c.args.from h c.args.piece.now lies c.min-taken.result c.min-count.result c.feed_leaf.new.leaf
+      data_more d (g.met.B.Book.sound c.args.book.now) u most bytes good c.args.open_levels.now c.args.part c.args.from h c.args.piece.now lies c.min-taken.result c.min-count.result
+          c.feed_leaf.new.leaf
           (omega (arith, taken)) least.0 (rw room at least.1) (rw room at least.2) (λ read seen. c.feed_leaf.ensures d c.args.part.key read seen),
       c.if-from-taken.false,
     ))
@@ -32,7 +33,7 @@ returns-in_err-next-clause-next g c u most bytes good h less lies =
     let least = least_count c.min-taken.result c.saturating_sub.result c.min-count.result c.min-count.ensures in
     let room = c.saturating_sub.ensures in let taken = c.min-taken.ensures in
     let p = err_from_is_err_and c.from_residual.result c.from_residual.ensures.1 in
-    rw (p.1, p.2) (c.in_err-next.ensures u most bytes good _ (data_more d c.requires.sound u most
+    rw (p.1, p.2) (c.in_err-next.ensures u most bytes good _ (data_more d (g.met.B.Book.sound c.args.book.now) u most
     bytes good c.args.open_levels.now c.args.part c.args.from h c.args.piece.now lies c.min-taken.result c.min-count.result c.feed_leaf.new.leaf
     (omega (arith, taken)) least.0 (rw room at least.1) (rw room at least.2) (λ read seen. c.feed_leaf.ensures d c.args.part.key read seen)) c.if-from-taken.false)
 
@@ -47,7 +48,8 @@ returns-then-from-taken-clause-next g c u most bytes good h less lies =
     let d = g.B.Book.meaning c.args.book.now in
     let least = least_count c.min-taken.result c.saturating_sub.result c.min-count.result c.min-count.ensures in
     let room = c.saturating_sub.ensures in let taken = c.min-taken.ensures in (
-      data_more d c.requires.sound u most bytes good c.args.open_levels.now c.args.part c.args.from h c.args.piece.now lies c.min-taken.result c.min-count.result c.feed_leaf.new.leaf
+      data_more d (g.met.B.Book.sound c.args.book.now) u most bytes good c.args.open_levels.now c.args.part c.args.from h c.args.piece.now lies c.min-taken.result c.min-count.result
+          c.feed_leaf.new.leaf
           (omega (arith, taken)) least.0 (rw room at least.1) (rw room at least.2) (λ read seen. c.feed_leaf.ensures d c.args.part.key read seen),
       c.if-from-taken.true,
     )
@@ -59,6 +61,6 @@ returns-clause-next g c u most bytes good h less lies =
     let room = c.saturating_sub.ensures in let taken = c.min-taken.ensures in
     let same : c.args.part.next ≡ c.args.from + c.min-taken.result = omega (arith, taken, less, c.if-from-taken.false) in
     subst (λ (n : ℕ). IsNext d u most bytes good c.end_data.new.open_levels c.in_ok-next.next n) same
-    (c.in_ok-next.ensures u most bytes good _ (data_more d c.requires.sound u most
+    (c.in_ok-next.ensures u most bytes good _ (data_more d (g.met.B.Book.sound c.args.book.now) u most
     bytes good c.args.open_levels.now c.args.part c.args.from h c.args.piece.now lies c.min-taken.result c.min-count.result c.feed_leaf.new.leaf
     (omega (arith, taken)) least.0 (rw room at least.1) (rw room at least.2) (λ read seen. c.feed_leaf.ensures d c.args.part.key read seen)) c.if-from-taken.false)

@@ -26,7 +26,8 @@ returns-in_err-part-clause-next g c bytes good w lies =
     let d = g.B.Book.meaning c.args.book.now in
     let p = err_from_is_err_and c.from_residual-in_err-part.result c.from_residual-in_err-part.ensures.1 in
     let now = rw c.in-Some.is at (c.in_ok-at.ensures.next bytes good w lies) in
-    rw (p.1, p.2) (stop_for d c.args.unknown c.args.levels bytes good ⊥ _ (λ none. absurd none) _ (c.in_err-part.ensures d c.args.unknown c.args.levels bytes good c.requires.sound now))
+    rw (p.1, p.2) (stop_for d c.args.unknown c.args.levels bytes good ⊥ _ (λ none. absurd none) _
+    (c.in_err-part.ensures d c.args.unknown c.args.levels bytes good (g.met.B.Book.sound c.args.book.now) now))
 
 pub read_head-requires-clause-part : goal.read_head-requires-clause-part
 read_head-requires-clause-part g c =
@@ -37,7 +38,7 @@ read_head-requires-clause-part g c =
       good,
       few,
       subst (IsInHead d c.args.unknown c.args.levels bytes good c.read_piece.new.open_levels c.in_ok-part.part) c.if-at-from.true
-          (c.in_ok-part.ensures d c.args.unknown c.args.levels bytes good c.requires.sound now),
+          (c.in_ok-part.ensures d c.args.unknown c.args.levels bytes good (g.met.B.Book.sound c.args.book.now) now),
       lies,
     ))
 
@@ -46,7 +47,7 @@ returns-then-at-from-clause-next g c bytes good w lies =
     let d = g.B.Book.meaning c.args.book.now in
     let now = rw c.in-Some.is at (c.in_ok-at.ensures.next bytes good w lies) in
     c.read_head.ensures.next bytes good (subst (IsInHead d c.args.unknown c.args.levels bytes good c.read_piece.new.open_levels c.in_ok-part.part) c.if-at-from.true
-    (c.in_ok-part.ensures d c.args.unknown c.args.levels bytes good c.requires.sound now)) lies
+    (c.in_ok-part.ensures d c.args.unknown c.args.levels bytes good (g.met.B.Book.sound c.args.book.now) now)) lies
 
 pub returns-clause-next : goal.returns-clause-next
 returns-clause-next g c bytes good w lies =
@@ -54,4 +55,4 @@ returns-clause-next g c bytes good w lies =
     let now = rw c.in-Some.is at (c.in_ok-at.ensures.next bytes good w lies) in
     let from = (rw c.in-Some.is at c.in_ok-at.ensures.within).0 in
     subst (IsInHead d c.args.unknown c.args.levels bytes good c.read_piece.new.open_levels c.in_ok-part.part) (omega (arith, from))
-    (c.in_ok-part.ensures d c.args.unknown c.args.levels bytes good c.requires.sound now)
+    (c.in_ok-part.ensures d c.args.unknown c.args.levels bytes good (g.met.B.Book.sound c.args.book.now) now)

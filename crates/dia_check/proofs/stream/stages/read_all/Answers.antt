@@ -17,7 +17,7 @@ loop-taken-init g c =
     let e : c.args.from ≡ c.args.from + 0 = omega arith in (
       omega arith,
       refl,
-      ∥∥₁_map c.requires.body (λ x. subst (λ (n : ℕ). (bytes : List ℕ)
+      ∥∥₁_map c.requires (λ x. subst (λ (n : ℕ). (bytes : List ℕ)
           × (length bytes < 2 ^ 32) × IsReading d c.args.unknown c.args.levels c.args.body.now n bytes × LiesAt bytes n c.args.piece.now) e x),
       λ bytes good h lies. subst (λ (n : ℕ). IsInPart d c.args.unknown c.args.levels bytes good c.args.body.now.open_levels c.args.body.now.part n) e h,
     )

@@ -17,8 +17,8 @@ whole front b h n same within is sound =
     let sized = has_length h n (front_bytes front) head sound in
     (head, sized, (let long = sized.long in let size = length-take front.count front.bytes in omega (arith, long, size, within)))
 
-pub begin-requires-clause-header : goal.begin-requires-clause-header
-begin-requires-clause-header g c =
+pub begin-requires : goal.begin-requires
+begin-requires g c =
     let bytes = front_bytes c.args.front in
     let (head, sized, size) = whole c.args.front _ c.in-Ok.header c.in-Ok.length c.as_slice.ensures c.args.front.within c.in-Ok.ensures.head c.in-Ok.ensures.long in
     let (is, e) = length_sound bytes c.in-Ok.length sized in
@@ -42,6 +42,6 @@ pub returns-in-Ok-clause-read : goal.returns-in-Ok-clause-read
 returns-in-Ok-clause-read g c u most =
     let bytes = front_bytes c.args.front in
     let (head, sized, size) = whole c.args.front _ c.in-Ok.header c.in-Ok.length c.as_slice.ensures c.args.front.within c.in-Ok.ensures.head c.in-Ok.ensures.long in
-    begun_reads (g.B.Book.meaning c.args.book.now) c.requires u most bytes size c.in-Ok.length sized c.begin.result (λ more end. c.begin.ensures u most (bytes ++ more)
+    begun_reads (g.B.Book.meaning c.args.book.now) (g.met.B.Book.sound c.args.book.now) u most bytes size c.in-Ok.length sized c.begin.result (λ more end. c.begin.ensures u most (bytes ++ more)
     (subst (HasLength (bytes ++ more)) (sym end) (length_on bytes more c.in-Ok.length sized))
     (header_on bytes more c.in-Ok.header c.in-Ok.length (omega (arith, size)) head end) (sym end))

@@ -4,8 +4,8 @@ use Rattle.dia_check.specs.declared.stream.stages.Stage.{Stage}
 use Rattle.dia_check.specs.Streaming.{MayRead}
 use Rattle.dia_check.proofs.stream.stages.read_stage.Goals as goal
 
-pub read_body-requires-clause-read : goal.read_body-requires-clause-read
-read_body-requires-clause-read g c = ∥∥₁_map c.requires.read (λ x. let (bytes, may) = x in
+pub read_body-requires : goal.read_body-requires
+read_body-requires g c = ∥∥₁_map c.requires (λ x. let (bytes, may) = x in
     (bytes, subst (λ (s : Stage). MayRead (g.B.Book.meaning c.args.book.now) c.args.unknown c.args.levels bytes s c.args.from c.args.piece.now) c.in-InBody.is may))
 
 pub returns-in_default-read_body : goal.returns-in_default-read_body

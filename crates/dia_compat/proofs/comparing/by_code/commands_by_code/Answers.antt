@@ -1,5 +1,5 @@
 use Rattle.std.proofs.Common.{◌++◌, ◌∷◌, [], filter, List, ap, sym, ◌∙◌}
-use Rattle.dia_dict.specs.Dictionary.{PlainDefinition, plain_definition}
+use Rattle.dia_book.specs.Dictionary.{PlainDefinition, plain_definition}
 use Rattle.dia_compat.specs.CommandsByCode.{has_code}
 use Rattle.dia_compat.proofs.SetsOfNames.{command_at}
 use Rattle.dia_compat.proofs.CommandsByCode.{one_filtered}

@@ -1,7 +1,7 @@
 use Rattle.std.proofs.Common.{◌≡◌, ℕ, take, filter, nat_eq}
 use Rattle.std.specs.Option.{option_map}
 use Rattle.std.specs.HashMap.{get}
-use Rattle.dia_dict.specs.Dictionary.{PlainDefinition}
+use Rattle.dia_book.specs.Dictionary.{PlainDefinition}
 use Rattle.dia_compat.specs.CommandsByCode.{has_code, listed}
 use Rattle.dia_compat.proofs.comparing.by_code.commands_by_code.Given as goal
 

@@ -1,5 +1,5 @@
 use Rattle.std.proofs.Common.{sym, ◌∙◌}
-use Rattle.dia_dict.proofs.Lists.{list_any-map}
+use Rattle.dia_book.proofs.Lists.{list_any-map}
 use Rattle.dia_compat.specs.PairTests.{plain_names, is_pair}
 use Rattle.dia_compat.proofs.comparing.commands.is_beside.Goals as goal
 

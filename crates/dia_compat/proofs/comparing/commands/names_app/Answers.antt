@@ -1,5 +1,5 @@
 use Rattle.std.proofs.Common.{sym, ◌∙◌}
-use Rattle.dia_dict.specs.Dictionary.{plain_definition}
+use Rattle.dia_book.specs.Dictionary.{plain_definition}
 use Rattle.dia_compat.proofs.ServedApplications.{names_own, names_none}
 use Rattle.dia_compat.proofs.comparing.commands.names_app.Goals as goal
 

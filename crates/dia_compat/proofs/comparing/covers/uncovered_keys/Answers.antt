@@ -1,7 +1,7 @@
 use Rattle.std.proofs.Common.{◌<◌, List, [], ◌∷◌, ◌++◌, length, map, sym, ap, ◌∙◌, arith}
 use Rattle.std.specs.Prelude.{not}
 use Rattle.dia_wire.specs.declared.Key.{Key}
-use Rattle.dia_dict.specs.Dictionary.{DictEntry}
+use Rattle.dia_book.specs.Dictionary.{DictEntry}
 use Rattle.dia_compat.specs.PairTests.{is_covered}
 use Rattle.dia_compat.proofs.SetsOfNames.{read_at}
 use Rattle.dia_compat.proofs.FilteredMembers.{kept, left_out}

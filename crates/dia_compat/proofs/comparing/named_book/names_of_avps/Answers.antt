@@ -1,5 +1,5 @@
 use Rattle.std.proofs.Common.{◌<◌, length, map, arith}
-use Rattle.dia_dict.specs.Dictionary.{DictEntry}
+use Rattle.dia_book.specs.Dictionary.{DictEntry}
 use Rattle.dia_compat.proofs.SetsOfNames.{one_more, distinct_names, read_at}
 use Rattle.dia_compat.proofs.comparing.named_book.names_of_avps.Goals as goal
 
@@ -10,6 +10,6 @@ loop-index-preserved g c =
     let i = c.loop-index.index in
     let within : i < length entries = omega (arith, c.loop-index-test.true, c.entries-index-end.ensures.count) in
     one_more (map name entries) c.loop-index.names.keys c.insert.new.self.keys i c.entry_name.result
-    (distinct_names name entries c.entries-index-end.ensures.sound.distinct_names)
+    (distinct_names name entries (g.met.B.Book.sound c.args.book.now).distinct_names)
     (read_at name entries i c.entry_at.result c.entry_name.result.now within c.entry_at.ensures c.entry_name.ensures)
     c.loop-index.invariant c.in_ok-insert.ensures.keys

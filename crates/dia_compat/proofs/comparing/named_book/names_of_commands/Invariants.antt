@@ -1,5 +1,5 @@
 use Rattle.std.proofs.Common.{◌≡◌, map, take, Bor, List, ℕ}
-use Rattle.dia_dict.specs.Dictionary.{PlainDefinition}
+use Rattle.dia_book.specs.Dictionary.{PlainDefinition}
 use Rattle.dia_compat.proofs.comparing.named_book.names_of_commands.Given as goal
 
 abbrev pub invariant-loop-index : goal.invariant-loop-index

@@ -2,7 +2,7 @@ use Rattle.std.proofs.Common.{◌≡◌, ◌<◌, ℕ, length, Some, sym, ◌∙
 use Rattle.std.specs.Prelude.{slice_get}
 use Rattle.std.proofs.lemmas.Option.{slice_get_within}
 use Rattle.dia_data.specs.Plain.{plain_format}
-use Rattle.dia_dict.specs.Dictionary.{DictEntry, PlainDefinition, definitions}
+use Rattle.dia_book.specs.Dictionary.{DictEntry, PlainDefinition, definitions}
 use Rattle.dia_compat.specs.ReachedKeys.{IsSharedGroup}
 use Rattle.dia_compat.proofs.ReachedKeys.{known_by_entry, group_number, when_some, at_some}
 use Rattle.dia_compat.proofs.proposing.reaching.shared_group.Goals as goal

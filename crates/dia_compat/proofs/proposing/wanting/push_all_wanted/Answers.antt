@@ -1,6 +1,6 @@
 use Rattle.std.proofs.Common.{ℕ, List, map, arith}
-use Rattle.dia_dict.specs.Dictionary.{plain_definition}
-use Rattle.dia_dict.specs.declared.Definition.{Definition}
+use Rattle.dia_book.specs.Dictionary.{plain_definition}
+use Rattle.dia_book.specs.declared.Definition.{Definition}
 use Rattle.std.specs.Borrow.{Bor}
 use Rattle.dia_compat.specs.TableText.{plain_pair}
 use Rattle.dia_compat.specs.WantedNames.{wanted_name}

@@ -1,6 +1,6 @@
 use Rattle.std.proofs.Common.{◌≡◌, ◌++◌, map, take}
 use Rattle.std.specs.List.{filter_map}
-use Rattle.dia_dict.specs.Dictionary.{plain_definition}
+use Rattle.dia_book.specs.Dictionary.{plain_definition}
 use Rattle.dia_compat.specs.TableText.{plain_pair}
 use Rattle.dia_compat.specs.WantedNames.{wanted_name}
 use Rattle.dia_compat.proofs.proposing.wanting.push_all_wanted.Given as goal

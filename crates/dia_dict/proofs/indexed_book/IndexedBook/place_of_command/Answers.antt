@@ -2,7 +2,7 @@ use Rattle.std.proofs.Common.{position, ap, ◌∙◌}
 use Rattle.dia_dict.specs.declared.selectors.Selector.{Selector}
 use Rattle.dia_dict.proofs.Indexing.Premises.{command_heads-held}
 use Rattle.dia_dict.proofs.Indexing.Selectors.{same_selector, place-found}
-use Rattle.dia_dict.proofs.DictionaryFacts.{opened}
+use Rattle.dia_book.specs.Opened.{opened}
 use Rattle.dia_dict.proofs.BookRows.{held}
 use Rattle.dia_dict.proofs.indexed_book.IndexedBook.place_of_command.Goals as goal
 

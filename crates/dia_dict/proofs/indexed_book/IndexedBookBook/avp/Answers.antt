@@ -1,10 +1,10 @@
 use Rattle.std.proofs.Common.{ℕ, Some, ap, sym, ◌∙◌, arith}
-use Rattle.dia_dict.specs.Keys.{same_key}
+use Rattle.dia_book.specs.Keys.{same_key}
 use Rattle.dia_dict.specs.KeyTables.{place_among}
 use Rattle.dia_dict.specs.Indexed.{row_keys}
 use Rattle.dia_dict.specs.declared.entry_list.Row.{Row}
 use Rattle.dia_dict.proofs.Indexing.Tables.{place-of_row}
-use Rattle.dia_dict.proofs.Lists.{position-within}
+use Rattle.dia_book.proofs.Lists.{position-within}
 use Rattle.dia_dict.proofs.BookRows.{entry_of-held}
 use Rattle.dia_dict.proofs.indexed_book.IndexedBookBook.avp.Goals as goal
 

@@ -3,7 +3,7 @@ use Rattle.std.specs.List.{list_any}
 use Rattle.dia_dict.specs.declared.selectors.Service.{Service}
 use Rattle.dia_dict.proofs.Indexing.Premises.{command_heads-held}
 use Rattle.dia_dict.proofs.Indexing.Selectors.{equal_services, service-found}
-use Rattle.dia_dict.proofs.DictionaryFacts.{opened}
+use Rattle.dia_book.specs.Opened.{opened}
 use Rattle.dia_dict.proofs.BookRows.{held, has_command-held}
 use Rattle.dia_dict.proofs.indexed_book.IndexedBookBook.has_command.Goals as goal
 

@@ -1,6 +1,6 @@
 use Rattle.std.proofs.Common.{ℕ, ◌+◌, length, Some, ap, sym, ◌∙◌}
 use Rattle.std.specs.Option.{option_map}
-use Rattle.dia_dict.specs.Dictionary.{groups as groups_of}
+use Rattle.dia_book.specs.Dictionary.{groups as groups_of}
 use Rattle.dia_dict.proofs.Indexing.Tables.{selected-places}
 use Rattle.dia_dict.proofs.BookRows.{held}
 use Rattle.dia_dict.proofs.indexed_book.IndexedBookBook.select.Goals as goal

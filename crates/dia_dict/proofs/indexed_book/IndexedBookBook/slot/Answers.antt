@@ -1,10 +1,10 @@
 use Rattle.std.proofs.Common.{ℕ, Option, Some, None, ap, sym, ◌≡◌, ◌∙◌, subst, arith}
 use Rattle.std.specs.Prelude.{IfSome}
 use Rattle.std.specs.Option.{option_map_or}
-use Rattle.dia_dict.specs.Dictionary.{PlainDefinition, lists_key, slot_at, slot_of}
-use Rattle.dia_dict.specs.declared.definition.Slot.TheVariants.{Unlisted}
+use Rattle.dia_book.specs.Dictionary.{PlainDefinition, lists_key, slot_at, slot_of}
+use Rattle.dia_book.specs.declared.Slot.TheVariants.{Unlisted}
 use Rattle.dia_dict.proofs.Indexing.Tables.{length-tables, found_slot}
-use Rattle.dia_dict.proofs.Lists.{position-within}
+use Rattle.dia_book.proofs.Lists.{position-within}
 use Rattle.dia_dict.proofs.BookRows.{length-definitions-held}
 use Rattle.dia_dict.proofs.indexed_book.IndexedBookBook.slot.Goals as goal
 

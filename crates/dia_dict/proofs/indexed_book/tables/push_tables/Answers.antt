@@ -1,7 +1,7 @@
 use Rattle.std.proofs.Common.{List, [], ◌∷◌, ◌+◌, ◌++◌, take, ap, sym, ◌∙◌, subst}
 use Rattle.std.proofs.lemmas.List.{append_assoc, take_more, take_all}
 use Rattle.dia_dict.specs.Indexed.{AreSlotTables}
-use Rattle.dia_dict.specs.declared.definition.Definition.{Definition}
+use Rattle.dia_book.specs.declared.Definition.{Definition}
 use Rattle.dia_dict.specs.declared.key_table.KeyTable.{KeyTable}
 use Rattle.dia_dict.proofs.Indexing.Tables.{AreSlotTables-more}
 use Rattle.dia_dict.proofs.indexed_book.tables.push_tables.Goals as goal

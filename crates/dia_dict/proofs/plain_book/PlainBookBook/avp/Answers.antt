@@ -1,5 +1,5 @@
 use Rattle.std.proofs.Common.{List, ℕ, Some, sym, ap, ◌∙◌, position}
-use Rattle.dia_dict.specs.Keys.{same_key}
+use Rattle.dia_book.specs.Keys.{same_key}
 use Rattle.dia_dict.specs.declared.entry_list.Row.{Row}
 use Rattle.dia_dict.proofs.BookRows.{entry_of-held}
 use Rattle.dia_dict.proofs.plain_book.PlainBookBook.avp.Goals as goal

@@ -1,6 +1,6 @@
 use Rattle.std.proofs.Common.{arith}
 use Rattle.std.proofs.lemmas.List.{length-map}
-use Rattle.dia_dict.specs.Dictionary.{plain_definition}
+use Rattle.dia_book.specs.Dictionary.{plain_definition}
 use Rattle.dia_dict.proofs.BookRows.{length-groups-held, groups_fit}
 use Rattle.dia_dict.proofs.plain_book.PlainBookBook.command_at.Goals as goal
 

@@ -1,6 +1,6 @@
 use Rattle.std.proofs.Common.{◌≡◌, ◌+◌, ◌-◌, ◌<◌, length, arith, ap, ◌∙◌}
 use Rattle.std.specs.Option.{option_map}
-use Rattle.dia_dict.specs.Dictionary.{plain_definition}
+use Rattle.dia_book.specs.Dictionary.{plain_definition}
 use Rattle.dia_dict.proofs.BookRows.{definitions-held, length-definitions-held, group_at, command_at}
 use Rattle.dia_dict.proofs.plain_book.PlainBookBook.def.Goals as goal
 

@@ -1,7 +1,7 @@
 use Rattle.std.proofs.Common.{List, sym, ap, ◌∙◌}
 use Rattle.std.specs.List.{list_any}
-use Rattle.dia_dict.specs.Dictionary.{has_class}
-use Rattle.dia_dict.specs.declared.definition.Definition.{Definition}
+use Rattle.dia_book.specs.Dictionary.{has_class}
+use Rattle.dia_book.specs.declared.Definition.{Definition}
 use Rattle.dia_dict.proofs.BookRows.{has_command-held}
 use Rattle.dia_dict.proofs.plain_book.PlainBookBook.has_command.Goals as goal
 

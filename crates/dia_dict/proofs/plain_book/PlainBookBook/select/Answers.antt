@@ -1,9 +1,9 @@
 use Rattle.std.proofs.Common.{List, ℕ, ◌+◌, Some, None, position, length, arith, sym, ap, ◌∙◌}
 use Rattle.std.specs.Option.{option_map, option_or}
-use Rattle.dia_dict.specs.Dictionary.{is_command}
-use Rattle.dia_dict.specs.declared.definition.Definition.{Definition}
+use Rattle.dia_book.specs.Dictionary.{is_command}
+use Rattle.dia_book.specs.declared.Definition.{Definition}
 use Rattle.dia_dict.proofs.BookRows.{selected-held, groups_fit}
-use Rattle.dia_dict.proofs.Lists.{position-either}
+use Rattle.dia_book.proofs.Lists.{position-either}
 use Rattle.dia_dict.proofs.plain_book.PlainBookBook.select.Goals as goal
 
 pub returns-in_err-index : goal.returns-in_err-index

@@ -3,7 +3,7 @@ use Rattle.std.proofs.lemmas.List.{length-map}
 use Rattle.dia_ccf.specs.declared.source.Decl.{Decl}
 use Rattle.dia_ccf.specs.declared.source.Def.{Def}
 use Rattle.dia_ccf.specs.Plain.{plain_source, plain_decl, plain_def}
-use Rattle.dia_dict.specs.Dictionary.{DictEntry, Dictionary, IsDictionary, plain_definition}
+use Rattle.dia_book.specs.Dictionary.{DictEntry, Dictionary, IsDictionary, plain_definition}
 use Rattle.dia_dict.specs.PlainMeaning.{dictionary_of, entry_of_row}
 use Rattle.dia_dict.specs.Resolution.{resolved, declared_entry, bare_entry, is_bare, definition_of}
 use Rattle.dia_dict.proofs.FaultlessSources.{formed, clean}

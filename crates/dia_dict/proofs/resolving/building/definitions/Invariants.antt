@@ -1,6 +1,6 @@
 use Rattle.std.proofs.Common.{◌≡◌, map, take}
 use Rattle.dia_ccf.specs.Plain.{plain_source, plain_def}
-use Rattle.dia_dict.specs.Dictionary.{plain_definition}
+use Rattle.dia_book.specs.Dictionary.{plain_definition}
 use Rattle.dia_dict.specs.Resolution.{definition_of}
 use Rattle.dia_dict.proofs.resolving.building.definitions.Given as goal
 

@@ -3,7 +3,7 @@ use Rattle.std.proofs.lemmas.List.{length-map}
 use Rattle.std.proofs.lemmas.Option.{slice_get_within}
 use Rattle.dia_wire.specs.declared.Key.{Key}
 use Rattle.dia_ccf.specs.Plain.{plain_source}
-use Rattle.dia_dict.specs.Keys.{same_key}
+use Rattle.dia_book.specs.Keys.{same_key}
 use Rattle.dia_dict.specs.declared.resolving.checks.KeyedName.{KeyedName}
 use Rattle.dia_dict.specs.declared.fault.DictKind.TheVariants.{DuplicateKey}
 use Rattle.dia_dict.specs.Resolution.{repeats}

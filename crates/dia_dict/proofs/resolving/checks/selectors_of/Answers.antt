@@ -3,9 +3,9 @@ use Rattle.std.specs.Prelude.{not}
 use Rattle.std.proofs.lemmas.List.{map_more}
 use Rattle.dia_ccf.specs.declared.source.Def.{Def}
 use Rattle.dia_ccf.specs.Names.{is_group}
-use Rattle.dia_dict.specs.declared.definition.DefHead.{DefHead}
+use Rattle.dia_book.specs.declared.DefHead.{DefHead}
 use Rattle.dia_dict.specs.declared.selectors.Selector.{Selector}
-use Rattle.dia_dict.specs.Dictionary.{IsCommandHead}
+use Rattle.dia_book.specs.Dictionary.{IsCommandHead}
 use Rattle.dia_dict.specs.Resolution.{head_of}
 use Rattle.dia_dict.specs.Selectors.{selector_of}
 use Rattle.dia_dict.proofs.BaseRows.{row_passes}

@@ -1,6 +1,6 @@
 use Rattle.std.proofs.Common.{◌≡◌, ◌≢◌, ◌↔◌, IsTrue, ℕ, List, false, sym, subst}
 use Rattle.dia_dict.specs.Base.{base}
-use Rattle.dia_dict.specs.Dictionary.{Dictionary}
+use Rattle.dia_book.specs.Dictionary.{Dictionary}
 use Rattle.dia_check.specs.declared.Unknown.TheVariants.{Kept}
 use Rattle.dia_check.specs.declared.Levels.TheVariants.{Any}
 use Rattle.dia_check.specs.declared.Refusal.{Refusal}

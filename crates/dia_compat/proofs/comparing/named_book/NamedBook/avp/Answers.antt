@@ -1,5 +1,5 @@
 use Rattle.std.proofs.Common.{Some, ℕ, ap, ◌∙◌}
-use Rattle.dia_dict.specs.Dictionary.{DictEntry}
+use Rattle.dia_book.specs.Dictionary.{DictEntry}
 use Rattle.dia_compat.proofs.SetsOfNames.{place_by_name}
 use Rattle.dia_compat.proofs.comparing.named_book.NamedBook.avp.Goals as goal
 

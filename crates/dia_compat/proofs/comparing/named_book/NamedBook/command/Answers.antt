@@ -1,5 +1,5 @@
 use Rattle.std.proofs.Common.{◌∙◌}
-use Rattle.dia_dict.specs.Dictionary.{PlainDefinition}
+use Rattle.dia_book.specs.Dictionary.{PlainDefinition}
 use Rattle.dia_compat.proofs.SetsOfNames.{place_by_name}
 use Rattle.dia_compat.proofs.comparing.named_book.NamedBook.command.Goals as goal
 

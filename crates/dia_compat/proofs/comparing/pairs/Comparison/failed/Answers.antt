@@ -7,10 +7,12 @@ use Rattle.dia_compat.proofs.FailedPairs.{first_command, first_avp}
 use Rattle.dia_compat.proofs.comparing.pairs.Comparison.failed.Goals as goal
 
 pub returns-in-Command : goal.returns-in-Command
-returns-in-Command g c = λ table sa sb look.
+returns-in-Command g c = λ table look.
     let all = c.args.self.now in
     let da = g.A.Book.meaning all.a.book.now in
     let db = g.B.Book.meaning all.b.book.now in
+    let sa = g.met.A.Book.sound all.a.book.now in
+    let sb = g.met.B.Book.sound all.b.book.now in
     let u = all.cover.unknown in
     let p : NamePair = (c.args.first.now, c.args.second.now) in
     subst (λ (k : PairKind). IsFirstFailed (PairTest da db u table k p) c.failed_command.result) (sym c.in-Command.is)
@@ -18,10 +20,12 @@ returns-in-Command g c = λ table sa sb look.
     (first_command da db sa sb u table all.cover.paired.keys all.cover.uncovered.items all.cover.strangers_fit (map plain_names all.beside.keys) look p))
 
 pub returns-in-Avp : goal.returns-in-Avp
-returns-in-Avp g c = λ table sa sb look.
+returns-in-Avp g c = λ table look.
     let all = c.args.self.now in
     let da = g.A.Book.meaning all.a.book.now in
     let db = g.B.Book.meaning all.b.book.now in
+    let sa = g.met.A.Book.sound all.a.book.now in
+    let sb = g.met.B.Book.sound all.b.book.now in
     let u = all.cover.unknown in
     let p : NamePair = (c.args.first.now, c.args.second.now) in
     subst (λ (k : PairKind). IsFirstFailed (PairTest da db u table k p) c.failed_avp.result) (sym c.in-Avp.is)

@@ -1,6 +1,6 @@
 use Rattle.std.proofs.Common.{◌≡◌, ◌<◌, ℕ, Option, true, false, refl, inl, inr, length, sym, ap, subst, ◌∙◌}
 use Rattle.std.specs.Prelude.{IfSome}
-use Rattle.dia_dict.specs.Dictionary.{definitions, group_place}
+use Rattle.dia_book.specs.Dictionary.{definitions, group_place}
 use Rattle.dia_compat.specs.PairTests.{failed_groups}
 use Rattle.dia_compat.proofs.GroupNumbers.{group_within}
 use Rattle.dia_compat.proofs.comparing.pairs.Comparison.failed_avps.Goals as goal

@@ -1,7 +1,7 @@
 use Rattle.std.proofs.Common.{◌≡◌, ◌+◌, length, map, ℕ, Bool, true, false, sym, ap, ◌∙◌}
 use Rattle.std.specs.Prelude.{◌&&◌}
 use Rattle.std.proofs.lemmas.Bool.{and_from}
-use Rattle.dia_dict.specs.Dictionary.{plain_definition, groups}
+use Rattle.dia_book.specs.Dictionary.{plain_definition, groups}
 use Rattle.dia_compat.specs.PairTests.{plain_names, same_code_and_class, is_proxiable, is_selected, is_command_pair, failed_commands}
 use Rattle.dia_compat.proofs.SetsOfNames.{command_at}
 use Rattle.dia_compat.proofs.CommandsByCode.{fails_rules, fails_tenth, kept_at, and_false}

@@ -1,8 +1,8 @@
 use Rattle.std.proofs.Common.{◌≡◌, ◌++◌, List, ℕ, map, Some, refl, sym, ap, subst, ◌∙◌, inl, inr}
 use Rattle.std.specs.Prelude.{slice_get}
 use Rattle.std.proofs.lemmas.Option.{same_Some}
-use Rattle.dia_dict.specs.Dictionary.{PlainDefinition, plain_definition, definitions, groups}
-use Rattle.dia_dict.proofs.Members.{into_right}
+use Rattle.dia_book.specs.Dictionary.{PlainDefinition, plain_definition, definitions, groups}
+use Rattle.dia_book.proofs.Members.{into_right}
 use Rattle.dia_compat.specs.TableText.{plain_pair}
 use Rattle.dia_compat.specs.WantedNames.{names_beside}
 use Rattle.dia_compat.proofs.NamedCommands.{not_among, among, one_place_more}

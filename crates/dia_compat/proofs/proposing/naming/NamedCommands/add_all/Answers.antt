@@ -4,7 +4,7 @@ use Rattle.std.specs.Global.{Global}
 use Rattle.std.proofs.lemmas.List.{take-map}
 use Rattle.dia_compat.specs.Closed.{NamesCommand}
 use Rattle.dia_compat.specs.NamedCommands.{NamedSoFar}
-use Rattle.dia_dict.specs.Dictionary.{PlainDefinition}
+use Rattle.dia_book.specs.Dictionary.{PlainDefinition}
 use Rattle.dia_compat.proofs.SetsOfNames.{place_by_name}
 use Rattle.dia_compat.proofs.NamedCommands.{named_more, next_item, item_at, command_found, no_command}
 use Rattle.dia_compat.proofs.proposing.naming.NamedCommands.add_all.Goals as goal
@@ -24,7 +24,8 @@ loop-name-preserved g c =
     let is : d.0.name ≡ string_bytes c.name-item.result = d.2 ∙ c.as_str-text.ensures.value in
     let so = subst (λ (ns : List (List ℕ)). NamedSoFar da db (map bytes (take i names)) ns c.loop-name.self)
     (next.0 ∙ ap (λ (n : List ℕ). n ∷ map bytes (drop (i + 1) names)) (sym is)) c.loop-name.invariant in
-    let more = named_more da db c.requires.sound_a c.requires.sound_b (map bytes (take i names)) (map bytes (drop (i + 1) names)) c.in-Some.place d.0 c.loop-name.self c.add.new.self d.1 so
+    let more = named_more da db (g.met.A.Book.sound c.args.a.now) (g.met.B.Book.sound c.args.b.now.book.now) (map bytes (take i names)) (map bytes (drop (i + 1) names))
+    c.in-Some.place d.0 c.loop-name.self c.add.new.self d.1 so
     (c.in_ok-add.ensures d.0 d.1) in
     subst (λ (ns : List (List ℕ)). NamedSoFar da db ns (map bytes (drop (i + 1) names)) c.add.new.self) (ap (λ (n : List ℕ). map bytes (take i names) ++ n ∷ []) is ∙ sym next.1) more
 

@@ -1,7 +1,7 @@
 use Rattle.std.proofs.Common.{◌≡◌, List, sym, ap, subst, ◌∙◌}
 use Rattle.std.proofs.lemmas.Option.{same_Some}
-use Rattle.dia_dict.specs.declared.DRule.{DRule}
-use Rattle.dia_dict.specs.Dictionary.{PlainDefinition, plain_definition}
+use Rattle.dia_book.specs.declared.DRule.{DRule}
+use Rattle.dia_book.specs.Dictionary.{PlainDefinition, plain_definition}
 use Rattle.dia_compat.specs.Below.{HasWildcard, IsAboveZero}
 use Rattle.dia_compat.specs.ReachedKeys.{ComesToAll, IsAllowed}
 use Rattle.dia_compat.proofs.ReachedKeys.{admitted, rest_then}

@@ -1,6 +1,6 @@
 use Rattle.std.proofs.Common.{◌≡◌, refl, sym, ◌∙◌}
 use Rattle.std.specs.Prelude.{slice_get}
-use Rattle.dia_dict.specs.Dictionary.{PlainDefinition, definitions, slot_of}
+use Rattle.dia_book.specs.Dictionary.{PlainDefinition, definitions, slot_of}
 use Rattle.dia_compat.proofs.ReachedKeys.{sorts_new, sorts_listed, at_some, unlisted}
 use Rattle.dia_compat.proofs.proposing.reaching.Reached.come_to_or_leave.Goals as goal
 

@@ -1,6 +1,6 @@
 use Rattle.std.proofs.Common.{◌≡◌, Some, take}
 use Rattle.std.specs.Prelude.{slice_get}
-use Rattle.dia_dict.specs.Dictionary.{PlainDefinition, definitions}
+use Rattle.dia_book.specs.Dictionary.{PlainDefinition, definitions}
 use Rattle.dia_compat.proofs.ReachedKeys.{SortsAll}
 use Rattle.dia_compat.proofs.proposing.reaching.Reached.come_to_unlisted.Given as goal
 

@@ -4,7 +4,7 @@ use Rattle.std.specs.Option.{option_map}
 use Rattle.std.proofs.lemmas.Option.{slice_get_read}
 use Rattle.dia_ccf.specs.declared.source.Decl.{Decl}
 use Rattle.dia_ccf.specs.Plain.{PlainDecl, plain_decl}
-use Rattle.dia_dict.proofs.LookUpsByName.{found_by_name, length_by_name}
+use Rattle.dia_book.proofs.LookUpsByName.{found_by_name, length_by_name}
 use Rattle.dia_dict.proofs.resolving.names.Names.declaration.Goals as goal
 
 pub returns-in_err-place : goal.returns-in_err-place

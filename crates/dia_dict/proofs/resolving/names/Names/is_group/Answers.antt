@@ -1,6 +1,6 @@
 use Rattle.std.proofs.Common.{◌∙◌}
 use Rattle.dia_ccf.specs.Plain.{PlainDef, plain_def}
-use Rattle.dia_dict.proofs.LookUpsByName.{list_any_by_name}
+use Rattle.dia_book.proofs.LookUpsByName.{list_any_by_name}
 use Rattle.dia_dict.proofs.resolving.names.Names.is_group.Goals as goal
 
 pub returns : goal.returns

@@ -1,0 +1,5 @@
+pub mod Lists
+pub mod SameKeys
+pub mod NumberedGroups
+pub mod LookUpsByName
+pub mod Members

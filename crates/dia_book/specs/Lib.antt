@@ -1,0 +1,4 @@
+pub mod Keys
+pub mod Limits
+pub mod Dictionary
+pub mod Opened

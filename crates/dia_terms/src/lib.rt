@@ -1,0 +1,32 @@
+//! What dictionary texts and dictionaries have in common: names, M rules, P rules, and the brackets of rules.
+#![tactic(auto)]
+
+/// The most bytes of a name (our profile).
+pub const MAX_NAME: usize = 128;
+
+/// Whether the M flag is to be set.
+#[derive(Clone, Copy, Debug, PartialEq, Eq)]
+pub enum MRule {
+    Must,
+    MustNot,
+    Any,
+}
+
+/// Which P flag a message of a class may have.
+#[derive(Clone, Copy, Debug, PartialEq, Eq)]
+pub enum Pxy {
+    Clear,
+    Set,
+    Either,
+}
+
+/// The brackets of a rule (RFC 6733 section 3.2).
+#[derive(Clone, Copy, Debug, PartialEq, Eq)]
+pub enum RuleKind {
+    /// In angle brackets: the AVPs come first, in the order of the rules.
+    Fixed,
+    /// In braces.
+    Required,
+    /// In brackets.
+    Optional,
+}
