@@ -1,0 +1,34 @@
+use Rattle.std.proofs.Common.{ℕ, List, ◌++◌, ◌∷◌, [], refl, sym, subst}
+use Rattle.dia_lines.specs.declared.answered.Answered.{Answered}
+use Rattle.dia_lines.specs.Lines.{line_feed}
+use Rattle.dia_lines.specs.UnderWay.{Reads}
+use Rattle.dia_lines.proofs.LinesUnderWay.{on_ok_map, Reads-nothing, Reads-both, Reads-rest, next_line}
+use Rattle.dia_lines.proofs.answered.Answered.read.Goals as goal
+
+pub loop-line-init : goal.loop-line-init
+loop-line-init g c = record { reads = ([], [], refl, Reads-nothing (g.J.Judge.says c.args.judge.now) c.args.self.now) }
+
+pub loop-line-preserved : goal.loop-line-preserved
+loop-line-preserved g c =
+    let (done, told, parts, reads) = c.loop-line.invariant.reads in
+    let (more, reads_line) = c.in_ok-read_line.ensures in
+    let line : List ℕ = c.in-Some.line.now ++ line_feed ∷ [] in
+    record {
+      reads = (
+        done ++ line,
+        told ++ more,
+        next_line c.args.piece.now done c.loop-line.rest.now c.in-Some.line.now c.in-Some.behind.now parts c.in-Some.ensures.some,
+        Reads-both (g.J.Judge.says c.args.judge.now) c.args.self.now c.loop-line.self c.read_line.new.self done line told more reads reads_line,
+      );
+    }
+
+pub returns : goal.returns
+returns g c =
+    let (done, told, parts, reads) = c.loop-line.invariant.reads in
+    let new : Answered = record { line = c.extend.new.line; text = c.loop-line.self.text; ended = c.loop-line.self.ended } in
+    on_ok_map c.extend.result
+    (λ longer.
+    let rest = Reads-rest (g.J.Judge.says c.args.judge.now) c.loop-line.self new c.loop-line.rest.now (c.in_default.ensures.none refl) longer refl refl in
+    let both = Reads-both (g.J.Judge.says c.args.judge.now) c.args.self.now c.loop-line.self new done c.loop-line.rest.now told [] reads rest in
+    (told ++ [], subst (λ (bytes : List ℕ). Reads (g.J.Judge.says c.args.judge.now) c.args.self.now new bytes (told ++ [])) (sym parts) both))
+    c.extend.ensures

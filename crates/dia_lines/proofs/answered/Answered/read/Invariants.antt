@@ -1,0 +1,12 @@
+use Rattle.std.proofs.Common.{◌≡◌, ◌++◌, List, ℕ, length}
+use Rattle.dia_lines.specs.UnderWay.{Reads}
+use Rattle.dia_lines.proofs.answered.Answered.read.Given as goal
+
+abbrev pub invariant-loop-line : goal.invariant-loop-line
+invariant-loop-line g l = record {
+  reads : (done : List ℕ) × (told : List ℕ) × (l.piece ≡ done ++ l.rest)
+      × Reads (g.J.Judge.says l.judge) l.initial.self l.self done told;
+}
+
+abbrev pub decreases-loop-line : goal.decreases-loop-line
+decreases-loop-line g l = length l.rest
