@@ -130,7 +130,7 @@ fn data_of(alloc: Global, words: &[&str]) -> Result<Vec<u8>, RowFault> {
 }
 
 /// The format of a word.
-fn format_of(alloc: Global, word: &str) -> Result<Format, RowFault> {
+pub fn format_of(alloc: Global, word: &str) -> Result<Format, RowFault> {
     match word.split_once('(') {
         Some(("Enumerated", list)) => list_of(alloc, list),
         Some(_) => Err(RowFault::Row),

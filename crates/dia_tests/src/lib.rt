@@ -1,5 +1,5 @@
-//! The tests of `dia_wire`, `dia_data`, `dia_ccf` and `dia_dict`, by library: each goes through public calls alone. There is
-//! nothing but tests.
+//! The tests of `dia_wire`, `dia_data`, `dia_witness`, `dia_ccf` and `dia_dict`, by library: each goes through public calls
+//! alone. There is nothing but tests.
 #![tactic(auto)]
 
 #[cfg(test)]
@@ -12,5 +12,7 @@ mod dict;
 mod refused;
 #[cfg(test)]
 mod wire;
+#[cfg(test)]
+mod witness;
 #[cfg(test)]
 mod words;
