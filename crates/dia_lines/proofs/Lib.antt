@@ -1,1 +1,2 @@
+mod FeedToSink
 mod LinesUnderWay

@@ -1,2 +1,3 @@
+pub mod FeedToSink
 pub mod Lines
 pub mod UnderWay

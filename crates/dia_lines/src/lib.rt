@@ -1,13 +1,17 @@
 //! The lines of a text, answered one by one as its pieces come, in the memory of one line.
 //!
-//! An [`Answered`] is given the pieces of a text by `read`, and `end` behind the last one. It asks a [`Judge`] for the text of each
-//! line, and collects these texts, however the pieces are cut.
+//! `answer_lines` reads a feed piece by piece, asks a [`Judge`] for the text of each line, and puts these texts into a sink as the
+//! pieces come. It stands on an [`Answered`], which is given the pieces by `read`, and `end` behind the last one.
 #![tactic(auto)]
 
 mod answered;
+mod answering;
+mod fault;
 mod judge;
 mod pending;
 mod splitting;
 
 pub use answered::{Answered, Ended};
+pub use answering::answer_lines;
+pub use fault::LinesFault;
 pub use judge::Judge;
