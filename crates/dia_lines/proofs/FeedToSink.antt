@@ -9,7 +9,7 @@ use Rattle.dia_io.specs.declared.Input.{Input}
 use Rattle.dia_io.specs.declared.Exit.{Exit}
 use Rattle.dia_io.specs.Writing.{AppendsFront}
 use Rattle.dia_lines.specs.declared.answered.Answered.{Answered}
-use Rattle.dia_lines.specs.Lines.{none, IsAnswered, IsLine, IsLineInput, ended_of, line_feed}
+use Rattle.dia_lines.specs.Lines.{none, IsAnswered, IsLineInput, ended_of, line_feed}
 use Rattle.dia_lines.specs.UnderWay.{IsUnderWay, Reads, AreRead}
 use Rattle.dia_lines.specs.FeedToSink.{AllAnswered, LinesAnswered, FrontAnswered}
 

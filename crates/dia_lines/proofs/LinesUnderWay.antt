@@ -1,8 +1,8 @@
 -- Lines that are answered as they are read.
-use Rattle.std.proofs.Common.{◌≡◌, ◌≢◌, ℕ, ◌+◌, ◌<◌, ◌≤◌, ◌&&◌, ◌||◌, List, [], ◌∷◌, ◌++◌, Option, None, Some, Result, Ok, Err, Bool, false, suc, zero, ◌↔◌, length, refl, sym, ap, subst, ◌∙◌, append_assoc, inl, inr, arith}
+use Rattle.std.proofs.Common.{◌≡◌, ◌≢◌, ℕ, ◌<◌, ◌&&◌, ◌||◌, List, [], ◌∷◌, ◌++◌, Result, Ok, Err, Bool, false, suc, zero, ◌↔◌, length, refl, sym, ap, subst, ◌∙◌, append_assoc, inl, inr, arith}
 use Rattle.std.specs.Prelude.{string_bytes, IsTrue, OnOk}
-use Rattle.std.specs.List.{All, list_all, list_any}
-use Rattle.std.proofs.lemmas.List.{append-nil, length-append}
+use Rattle.std.specs.List.{list_all, list_any}
+use Rattle.std.proofs.lemmas.List.{append-nil}
 use Rattle.std.proofs.lemmas.List.Elements.{All-append, All-nil}
 use Rattle.std.proofs.lemmas.List.Folds.{list_all-append, list_any-append}
 use Rattle.dia_io.specs.declared.Input.{Input}
@@ -10,7 +10,7 @@ use Rattle.dia_io.specs.declared.Exit.{Exit}
 use Rattle.dia_io.specs.declared.Exit.TheVariants.{Yes, No, Bad}
 use Rattle.dia_lines.specs.declared.answered.Answered.{Answered}
 use Rattle.dia_lines.specs.declared.answered.Ended.{Ended}
-use Rattle.dia_lines.specs.Lines.{AreAnswered, none, one_more, EndsInLine, IsAnswered, IsLine, IsLineInput, ended_of, is_yes, line_feed}
+use Rattle.dia_lines.specs.Lines.{AreAnswered, one_more, IsAnswered, IsLine, IsLineInput, ended_of, is_yes, line_feed}
 use Rattle.dia_lines.specs.UnderWay.{ended_with, IsUnderWay, Reads}
 
 pub on_ok_map : {E A B : Type 0} (r : Result (Unit {0}) E) → (A → B) → OnOk r A → OnOk r B

@@ -11,7 +11,7 @@ pub enum LinesFault {
     /// Memory was refused. The answers of whole lines were put, and nothing else.
     #[error("no memory")]
     NoMemory,
-    /// The feed gave more pieces than can be counted. The answers of its whole lines were put.
+    /// The feed gave more pieces than can be counted. The answers of whole lines were put, and nothing else.
     #[error("the lines have no end")]
     Endless,
 }
