@@ -1,2 +1,3 @@
 mod FeedToSink
 mod LinesUnderWay
+mod OneAnswer

@@ -1,5 +1,5 @@
 -- Lines that are answered from a feed into a sink.
-use Rattle.std.specs.Prelude.{◌≡◌, ℕ, ◌⊎◌, List, [], ◌++◌, Option}
+use Rattle.std.specs.Prelude.{◌≡◌, ℕ, ◌⊎◌, List, [], ◌++◌, Option, Some}
 use Rattle.std.specs.Io.KnownBytes.{Appends, Consumes, IsAtEnd}
 use Rattle.dia_io.specs.declared.Input.{Input}
 use Rattle.dia_io.specs.declared.Exit.{Exit}
@@ -40,3 +40,8 @@ pub record FrontAnswered (P : Input → List ℕ → Exit → Type 0) (fed_old f
   pub consumed : Consumes fed_old fed (front ++ rest)
   pub answered : AreAnswered P front text exits ⊎ (IsAtEnd fed × (rest ≡ []) × IsAnswered P front text exits)
   pub is_put : AppendsFront put_old put text
+
+-- what was put of the answers is a beginning of the whole text
+abbrev pub FrontIsBeginning : (Input → List ℕ → Exit → Type 0) → Type 0
+FrontIsBeginning P = (bytes left before now whole : List ℕ) (exits : List Exit) → FrontAnswered P (Some bytes) (Some left) (Some before) (Some now)
+    → IsAnswered P bytes whole exits → (put : List ℕ) × (rest : List ℕ) × (now ≡ before ++ put) × (whole ≡ put ++ rest)

@@ -49,3 +49,13 @@ is_yes Bad = false
 -- how the lines ended: each with yes, and some with yes
 abbrev pub ended_of : List Exit → Ended
 ended_of exits = record { each = list_all is_yes exits; some = list_any is_yes exits }
+
+-- a line is told with one text, and ends in one way
+abbrev pub LineHasOneAnswer : (Input → List ℕ → Exit → Type 0) → Type 0
+LineHasOneAnswer P = (line told other : List ℕ) (a b : Input) (exit ending : Exit) → IsLineInput a line → IsLineInput b line
+    → P a told exit → P b other ending → (told ≡ other) × (exit ≡ ending)
+
+-- so is a text
+abbrev pub TextHasOneAnswer : (Input → List ℕ → Exit → Type 0) → Type 0
+TextHasOneAnswer P = (bytes text other : List ℕ) (exits endings : List Exit) → IsAnswered P bytes text exits → IsAnswered P bytes other endings
+    → (text ≡ other) × (exits ≡ endings)
