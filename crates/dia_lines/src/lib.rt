@@ -1,7 +1,7 @@
 //! The lines of a text, answered one by one as its pieces come, in the memory of one line.
 //!
-//! `answer_lines` reads a feed piece by piece, asks a [`Judge`] for the text of each line, and puts these texts into a sink as they
-//! come. It uses an [`Answered`], which is given the pieces by `read`, and `end` behind the last one.
+//! `answer_lines` reads a feed piece by piece, asks a [`Judge`] for the text of each line, and puts these texts into a sink as
+//! they come. It uses an [`Answered`], which is given the pieces by `read`, and `end` behind the last one.
 #![tactic(auto)]
 
 mod answered;
