@@ -2,9 +2,10 @@
 
 ghost use Rattle.std.specs.Prelude.{None};
 
-use crate::vectors::{REQUEST, REQUEST_LINES, inputs};
+use crate::vectors::{WHOLE, inputs_of, names};
 use dia_run::{
-    Command, Exit, Failed, Feed, FromReader, InputFault, RunFault, Sink, ToWriter, read_input, run,
+    Command, Exit, Failed, Feed, FromReader, InputFault, Inputs, RunFault, Sink, ToWriter,
+    read_input, run,
 };
 use std::io;
 use std::io::{Read, Write};
@@ -39,33 +40,53 @@ impl Sink for FailingSink {
     }
 }
 
-#[test]
-fn stops_at_the_call_that_fails(rt: HostRuntime) -> Result<(), Fail> {
-    let inputs = inputs(rt.alloc(), b"", REQUEST.as_bytes())?;
-    let calls = REQUEST_LINES.len().div_ceil(7);
-    for calls_left in 0..calls + 1 {
+/// Shows a message to sinks of which each fails at a later call, up to one that doesn't.
+fn stops_at_each_call(
+    rt: &(impl AllocGlobal + Abort),
+    inputs: &Inputs,
+    lines: &[u8],
+) -> Result<(), Fail> {
+    let calls = lines.len().div_ceil(7);
+    for calls_left in 0..calls {
         let mut sink = FailingSink {
             taken: Vec::new(rt.alloc()),
             calls_left,
             failed: false,
         };
-        let result = run(rt.alloc(), &Command::Show, &inputs, &mut sink);
-        if calls_left < calls {
-            assert_eq!(rt; result, Err(RunFault::Device));
-            has_stopped(&rt, &sink, 7 * calls_left);
-        } else {
-            assert_eq!(rt; result, Ok(Exit::Yes));
-            assert!(rt; sink.taken.as_slice() == REQUEST_LINES.as_bytes());
-        }
+        let result = run(rt.alloc(), &Command::Show, inputs, &mut sink);
+        assert_eq!(rt; result, Err(RunFault::Device));
+        has_stopped(rt, &sink, lines, calls_left.saturating_mul(7));
     }
+    let mut sink = FailingSink {
+        taken: Vec::new(rt.alloc()),
+        calls_left: calls,
+        failed: false,
+    };
+    let result = run(rt.alloc(), &Command::Show, inputs, &mut sink);
+    assert_eq!(rt; result, Ok(Exit::Yes));
+    assert!(rt; sink.taken.as_slice() == lines);
     Ok(())
 }
 
 /// Checks that a sink has failed, and that it has taken so many bytes of the lines.
-fn has_stopped(rt: &impl Abort, sink: &FailingSink, count: usize) {
+fn has_stopped(rt: &impl Abort, sink: &FailingSink, lines: &[u8], count: usize) {
     assert!(rt; sink.failed());
     assert_eq!(rt; sink.taken.len(), count);
-    assert!(rt; REQUEST_LINES.as_bytes().starts_with(sink.taken.as_slice()));
+    assert!(rt; lines.starts_with(sink.taken.as_slice()));
+}
+
+/// Shows the watchdog request under a dictionary to sinks that fail.
+fn stops(rt: &(impl AllocGlobal + Abort), call: &str, lines: &str) -> Result<(), Fail> {
+    let names = names(rt.alloc())?;
+    let inputs = inputs_of(rt.alloc(), &names, &Command::Show, call, WHOLE)?;
+    let lines = names.text(lines)?;
+    stops_at_each_call(rt, &inputs, lines.as_slice())
+}
+
+#[test]
+fn stops_at_the_call_that_fails(rt: HostRuntime) -> Result<(), Fail> {
+    stops(&rt, "show | | $REQUEST", "$REQUEST_LINES")?;
+    stops(&rt, "show | $base | $REQUEST", "$BASE_LINES")
 }
 
 /// Gives a thousand bytes a call, and fails at a call.

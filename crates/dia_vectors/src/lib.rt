@@ -4,6 +4,8 @@
 #![tactic(auto)]
 
 #[cfg(test)]
+mod books;
+#[cfg(test)]
 mod check;
 #[cfg(test)]
 mod compat;
@@ -16,4 +18,8 @@ mod peer;
 #[cfg(test)]
 mod refused;
 #[cfg(test)]
+mod told;
+#[cfg(test)]
 mod vectors;
+#[cfg(test)]
+mod words;

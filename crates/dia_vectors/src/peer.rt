@@ -1,29 +1,19 @@
 //! Two ends that send messages to each other: the messages byte for byte, and schedules that a generator draws.
 
-ghost use Rattle.std.specs.Prelude.{◌<◌};
-
 use dia_peer::{App, Config, ConfigFault, Core, Event, Ip, Kind, Output, Role};
 use std::alloc::{AllocError, Global};
 use std::process::Abort;
 
-mod bytes;
 mod connections;
 mod drawing;
 mod example;
 mod faults;
+mod names;
 mod schedules;
 
 const fn auth(id: u32) -> App {
     App {
         kind: Kind::Auth,
-        id,
-        vendor: None,
-    }
-}
-
-const fn acct(id: u32) -> App {
-    App {
-        kind: Kind::Acct,
         id,
         vendor: None,
     }
@@ -93,31 +83,4 @@ fn config(
         hop: 1,
         e2e: 1,
     })
-}
-
-/// The bytes that hexadecimal digits are; blanks between them count for nothing.
-fn bytes_of(alloc: Global, text: &str) -> Result<Vec<u8>, AllocError> {
-    let mut digits = Vec::new(alloc);
-    for byte in text.as_bytes() {
-        if *byte != b' ' {
-            digits.push(*byte)?;
-        }
-    }
-    let mut bytes = Vec::new(alloc);
-    for pair in digits.chunks(2) {
-        if let [high, low] = pair {
-            bytes.push(digit(*high) * 16 + digit(*low))?;
-        }
-    }
-    Ok(bytes)
-}
-
-fn digit(byte: u8) -> u8
-    ensures { result < 16 }
-{
-    match byte {
-        b'0'..=b'9' => byte - b'0',
-        b'a'..=b'f' => byte - b'a' + 10,
-        _ => 0,
-    }
 }

@@ -2,13 +2,13 @@
 
 ghost use Rattle.std.specs.Prelude.{◌≤◌};
 
-use super::{
-    AVPS, Task, WATCHDOG, Wanted, assert_answer, assert_levels, avp, feed, in_both, in_indexed,
-    in_plain, message, push_bytes, push_head,
-};
-use dia_check::{Levels, Reason, Stream, Unknown};
+use super::pieces::feed_sizes;
+use super::{AVPS, WATCHDOG, assert_levels, base_books, feed};
+use crate::books::{Books, Task, is_verdict};
+use dia_check::{Levels, Stream, Unknown};
 use dia_dict::Book;
-use std::alloc::{AllocError, Global};
+use dia_rows::{RowFault, bytes_of};
+use std::alloc::Global;
 use std::process::Abort;
 use std::test::Fail;
 
@@ -30,46 +30,51 @@ pub(super) fn nested(
     depth: u32,
     before: &str,
     behind: &str,
-) -> Result<Vec<u8>, AllocError>
+) -> Result<Vec<u8>, RowFault>
     requires { depth ≤ 1000000 }
 {
     let length = FIRST + 8 * depth + 8;
-    let head = format!(in alloc; "01{length:06x}80000118")?;
-    let mut bytes = message(alloc, head.as_str(), before)?;
-    push_groups(&mut bytes, depth)?;
-    push_bytes(&mut bytes, behind)?;
-    Ok(bytes)
-}
-
-/// Pushes so many Failed-AVPs in one another, and an unknown AVP in the innermost.
-fn push_groups(bytes: &mut Vec<u8>, depth: u32) -> Result<(), AllocError>
-    requires { depth ≤ 1000000 }
-{
+    let mut text = format!(in alloc; "01{length:06x}80000118000000000000000100000002{before}")?;
     for outer in 0..depth {
-        push_head(bytes, 279, 8 * (depth - outer) + 8)?;
+        let length = 8 * (depth - outer) + 8;
+        write!(text, "0000011700{length:06x}")?;
     }
-    push_head(bytes, 9999, 8)
+    write!(text, "0000270f00000008{behind}")?;
+    bytes_of(alloc, text.as_bytes())
 }
 
 /// Both books answer as is wanted under a limit on levels.
 fn check_limit(
     rt: &(impl AllocGlobal + Abort),
+    books: &Books,
     bytes: &[u8],
     levels: Levels,
-    wanted: Wanted,
+    wanted: &str,
 ) -> Result<(), Fail> {
-    in_both(rt, bytes, Task::Check(Unknown::Kept, levels, wanted))?;
-    Ok(())
+    let task = Task {
+        unknown: Unknown::Kept,
+        levels,
+        message: bytes,
+        wanted: wanted.as_bytes(),
+    };
+    books.judge(rt, task, wanted)
+}
+
+/// The place of the innermost group is 44 + 8 * 99999.
+const TOO_DEEP: &str = "1 fault 5012 at 800036 depth Failed-AVP\n";
+
+/// Both books go as deep as is asked, and no deeper.
+fn goes_deep(rt: &(impl AllocGlobal + Abort), books: &Books, bytes: &[u8]) -> Result<(), Fail> {
+    check_limit(rt, books, bytes, Levels::Any, WATCHDOG)?;
+    check_limit(rt, books, bytes, Levels::AtMost(DEPTH), WATCHDOG)?;
+    check_limit(rt, books, bytes, Levels::AtMost(DEPTH - 1), TOO_DEEP)
 }
 
 #[test]
 fn goes_as_deep_as_a_message(rt: HostRuntime) -> Result<(), Fail> {
     let bytes = nested(rt.alloc(), DEPTH, AVPS, "")?;
-    let innermost = FIRST + 8 * (DEPTH - 1);
-    let deep = Wanted::Fault(innermost, 5012, Reason::Depth, avp(279));
-    check_limit(&rt, &bytes, Levels::Any, WATCHDOG)?;
-    check_limit(&rt, &bytes, Levels::AtMost(DEPTH), WATCHDOG)?;
-    check_limit(&rt, &bytes, Levels::AtMost(DEPTH - 1), deep)
+    let books = base_books(rt.alloc())?;
+    goes_deep(&rt, &books, bytes.as_slice())
 }
 
 /// How many levels are open after so many bytes of a message whose outermost Failed-AVP begins at a place.
@@ -84,12 +89,12 @@ fn open_after(count: usize, first: usize) -> usize {
 }
 
 /// Feeds a message byte by byte, and looks at its levels after each.
-pub(super) fn count_levels<B: Book>(
+fn count_levels<B: Book>(
     rt: &(impl AllocGlobal + Abort),
     book: &B,
     bytes: &[u8],
     first: usize,
-) {
+) -> Result<(), Fail> {
     assert!(rt; bytes.len() == LENGTH);
     let mut stream = Stream::new(rt.alloc(), book, Unknown::Kept, Levels::Any);
     for place in 0..bytes.len() {
@@ -97,21 +102,21 @@ pub(super) fn count_levels<B: Book>(
         feed(rt, &mut stream, &bytes[place..count], 1, count == LENGTH);
         assert_levels(rt, stream.levels(), open_after(count, first), count);
     }
-    assert_answer(rt, book, stream.finish(), WATCHDOG);
+    is_verdict(rt, book, stream.finish(), WATCHDOG.as_bytes(), WATCHDOG)
 }
 
 #[test]
 fn counts_a_hundred_thousand_levels(rt: HostRuntime) -> Result<(), Fail> {
     let last = nested(rt.alloc(), DEPTH, AVPS, "")?;
-    in_plain(&rt, &last, Task::Count(44))?;
-    Ok(())
+    let books = base_books(rt.alloc())?;
+    count_levels(&rt, &*books.plain, last.as_slice(), 44)
 }
 
 #[test]
 fn counts_levels_before_other_avps(rt: HostRuntime) -> Result<(), Fail> {
     let first = nested(rt.alloc(), DEPTH, "", AVPS)?;
-    in_indexed(&rt, &first, Task::Count(20))?;
-    Ok(())
+    let books = base_books(rt.alloc())?;
+    count_levels(&rt, &*books.indexed, first.as_slice(), 20)
 }
 
 /// Pieces of several sizes, the last of which holds the whole message.
@@ -120,39 +125,121 @@ const SIZES: [usize; 3] = [7, 4_096, 800_052];
 #[test]
 fn takes_deep_messages_in_pieces(rt: HostRuntime) -> Result<(), Fail> {
     let bytes = nested(rt.alloc(), DEPTH, AVPS, "")?;
+    let books = base_books(rt.alloc())?;
     let levels = Levels::AtMost(DEPTH);
-    in_plain(&rt, &bytes, Task::Feed(levels, &SIZES, WATCHDOG))?;
-    Ok(())
+    feed_sizes(
+        &rt,
+        &*books.plain,
+        levels,
+        bytes.as_slice(),
+        &SIZES,
+        WATCHDOG,
+    )
 }
 
-/// The faults of streams that open fewer levels: each limit, and the place of the group that it refuses.
-const LIMITS: [(u32, u32); 4] = [(0, 44), (1, 52), (50_000, 400_044), (99_999, 800_036)];
+/// The faults of streams that open fewer levels: each limit, and the verdict with the place of the group that it refuses.
+const LIMITS: [(u32, &str); 4] = [
+    (0, "1 fault 5012 at 44 depth Failed-AVP\n"),
+    (1, "1 fault 5012 at 52 depth Failed-AVP\n"),
+    (50_000, "1 fault 5012 at 400044 depth Failed-AVP\n"),
+    (99_999, "1 fault 5012 at 800036 depth Failed-AVP\n"),
+];
 
-/// A stream that opens no more levels than this tells the fault at a place.
-fn feed_limit(
+/// Streams that open fewer levels tell the fault.
+fn feed_limits<B: Book>(
     rt: &(impl AllocGlobal + Abort),
+    book: &B,
     bytes: &[u8],
-    limit: u32,
-    place: u32,
 ) -> Result<(), Fail> {
-    let deep = Wanted::Fault(place, 5012, Reason::Depth, avp(279));
-    let levels = Levels::AtMost(limit);
-    in_indexed(rt, bytes, Task::Feed(levels, &SIZES, deep))?;
+    for (limit, wanted) in LIMITS.iter() {
+        feed_sizes(rt, book, Levels::AtMost(*limit), bytes, &SIZES, wanted)?;
+    }
     Ok(())
 }
 
 #[test]
 fn refuses_deep_messages_in_pieces(rt: HostRuntime) -> Result<(), Fail> {
     let bytes = nested(rt.alloc(), DEPTH, AVPS, "")?;
-    for (limit, place) in LIMITS {
-        feed_limit(&rt, &bytes, limit, place)?;
-    }
-    Ok(())
+    let books = base_books(rt.alloc())?;
+    feed_limits(&rt, &*books.indexed, bytes.as_slice())
 }
 
 #[test]
 fn goes_down_half_a_million_levels(rt: HostRuntime) -> Result<(), Fail> {
     let bytes = nested(rt.alloc(), 500_000, AVPS, "")?;
-    in_plain(&rt, &bytes, Task::Feed(Levels::Any, &[4_096], WATCHDOG))?;
-    Ok(())
+    let books = base_books(rt.alloc())?;
+    feed_sizes(
+        &rt,
+        &*books.plain,
+        Levels::Any,
+        bytes.as_slice(),
+        &[4_096],
+        WATCHDOG,
+    )?;
+    check_limit(&rt, &books, bytes.as_slice(), Levels::Any, WATCHDOG)
+}
+
+/// Groups of one kind that hold each other, and a command of them.
+const NODES: &str =
+    "<Node> ::= < AVP Header: 9001 > * [ Node ] <T> ::= < Diameter Header: 301, REQ > * [ Node ]";
+
+/// The verdict on a message of `NODES`.
+const VALID: &str = "0 valid T\n";
+
+/// A message of `NODES` with so many groups in one another, and nothing else.
+fn nodes(alloc: Global, depth: u32) -> Result<Vec<u8>, Fail>
+    requires { depth ≤ 1000000 }
+{
+    let text = crate::vectors::nested_nodes(alloc, depth)?;
+    Ok(bytes_of(alloc, text.as_bytes())?)
+}
+
+#[test]
+fn judges_half_a_million_nodes(rt: HostRuntime) -> Result<(), Fail> {
+    let bytes = nodes(rt.alloc(), 500_000)?;
+    let books = Books::new(rt.alloc(), NODES.as_bytes())?;
+    check_limit(&rt, &books, bytes.as_slice(), Levels::Any, VALID)?;
+    feed_sizes(
+        &rt,
+        &*books.indexed,
+        Levels::Any,
+        bytes.as_slice(),
+        &[4_096],
+        VALID,
+    )
+}
+
+/// Feeds a message of a hundred thousand nodes byte by byte: k + 1 levels are open after 20 + 8 k bytes, and none at the end.
+fn count_nodes<B: Book>(
+    rt: &(impl AllocGlobal + Abort),
+    book: &B,
+    bytes: &[u8],
+) -> Result<(), Fail> {
+    let mut stream = Stream::new(rt.alloc(), book, Unknown::Kept, Levels::Any);
+    for place in 0..bytes.len() {
+        let count = place + 1;
+        feed(
+            rt,
+            &mut stream,
+            &bytes[place..count],
+            1,
+            count == bytes.len(),
+        );
+        let open = if count < 20 || count == bytes.len() {
+            0
+        } else {
+            1 + (count - 20) / 8
+        };
+        assert_levels(rt, stream.levels(), open, count);
+    }
+    is_verdict(rt, book, stream.finish(), VALID.as_bytes(), VALID)
+}
+
+#[test]
+fn counts_a_hundred_thousand_nodes(rt: HostRuntime) -> Result<(), Fail> {
+    let bytes = nodes(rt.alloc(), DEPTH)?;
+    assert!(rt; bytes.len() == 800_020);
+    let books = Books::new(rt.alloc(), NODES.as_bytes())?;
+    count_nodes(&rt, &*books.plain, bytes.as_slice())?;
+    count_nodes(&rt, &*books.indexed, bytes.as_slice())
 }

@@ -1,12 +1,18 @@
 //! Messages of the greatest length.
 
-use super::{AVPS, Task, WATCHDOG, in_both, in_indexed, in_plain, message, push_bytes, push_head};
+use super::pieces::{check_level, feed_sizes};
+use super::{AVPS, WATCHDOG, base_books};
+use crate::books::Task;
 use dia_check::{Levels, Unknown};
-use std::alloc::{AllocError, Global};
+use dia_rows::{RowFault, bytes_of};
+use std::alloc::Global;
 use std::test::Fail;
 
 /// The greatest Message Length that is a multiple of four.
 const LENGTH: usize = 16_777_212;
+
+/// The header of a watchdog request of the greatest length.
+const HEADER: &str = "01fffffc80000118000000000000000100000002";
 
 /// The heads of a Failed-AVP that fills the rest of the message, and of an unknown AVP that fills the Failed-AVP.
 const HEADS: &str = "0000011700ffffd00000270f00ffffc8";
@@ -14,48 +20,71 @@ const HEADS: &str = "0000011700ffffd00000270f00ffffc8";
 /// How many unknown AVPs without data fill the rest of the message.
 const COUNT: u32 = 2_097_146;
 
+/// An unknown AVP without data.
+const UNKNOWN: [u8; 8] = [0, 0, 0x27, 0x0f, 0, 0, 0, 8];
+
 /// The first bytes of a watchdog request of the greatest length, whose AVPs begin with an Origin-Host and an Origin-Realm.
-fn front(alloc: Global) -> Result<Vec<u8>, AllocError> {
-    message(alloc, "01fffffc80000118", AVPS)
+fn front(alloc: Global, behind: &str) -> Result<Vec<u8>, RowFault> {
+    let text = format!(in alloc; "{HEADER}{AVPS}{behind}")?;
+    bytes_of(alloc, text.as_bytes())
 }
 
 /// The message with the Failed-AVP.
-fn filled(alloc: Global) -> Result<Vec<u8>, AllocError> {
-    let mut bytes = front(alloc)?;
-    push_bytes(&mut bytes, HEADS)?;
+fn filled(alloc: Global) -> Result<Vec<u8>, RowFault> {
+    let mut bytes = front(alloc, HEADS)?;
     bytes.resize(LENGTH, 0)?;
     Ok(bytes)
 }
 
 /// The message with many unknown AVPs.
-fn repeated(alloc: Global) -> Result<Vec<u8>, AllocError> {
-    let mut bytes = front(alloc)?;
+fn repeated(alloc: Global) -> Result<Vec<u8>, RowFault> {
+    let mut bytes = front(alloc, "")?;
     for _ in 0..COUNT {
-        push_head(&mut bytes, 9999, 8)?;
+        bytes.extend_from_slice(&UNKNOWN)?;
     }
     Ok(bytes)
+}
+
+/// A message that is valid.
+fn valid(message: &[u8]) -> Task<'_> {
+    Task {
+        unknown: Unknown::Kept,
+        levels: Levels::Any,
+        message,
+        wanted: WATCHDOG.as_bytes(),
+    }
 }
 
 #[test]
 fn takes_one_avp_that_fills_the_message(rt: HostRuntime) -> Result<(), Fail> {
     let bytes = filled(rt.alloc())?;
     assert!(rt; bytes.len() == LENGTH);
-    in_both(
-        &rt,
-        &bytes,
-        Task::Check(Unknown::Kept, Levels::Any, WATCHDOG),
-    )?;
+    let books = base_books(rt.alloc())?;
+    books.judge(&rt, valid(bytes.as_slice()), WATCHDOG)?;
     let sizes = [61, 4_096, LENGTH];
-    in_plain(&rt, &bytes, Task::Feed(Levels::Any, &sizes, WATCHDOG))?;
-    Ok(())
+    feed_sizes(
+        &rt,
+        &*books.plain,
+        Levels::Any,
+        bytes.as_slice(),
+        &sizes,
+        WATCHDOG,
+    )
 }
 
 #[test]
 fn takes_many_avps(rt: HostRuntime) -> Result<(), Fail> {
     let bytes = repeated(rt.alloc())?;
     assert!(rt; bytes.len() == LENGTH);
-    in_indexed(&rt, &bytes, Task::Feed(Levels::Any, &[4_099], WATCHDOG))?;
-    Ok(())
+    let books = base_books(rt.alloc())?;
+    feed_sizes(
+        &rt,
+        &*books.indexed,
+        Levels::Any,
+        bytes.as_slice(),
+        &[4_099],
+        WATCHDOG,
+    )
 }
 
 /// How many levels are open after so many bytes of the message with the Failed-AVP.
@@ -73,6 +102,9 @@ const LEVELS: [(usize, usize); 8] = [
 #[test]
 fn keeps_a_group_open_to_its_end(rt: HostRuntime) -> Result<(), Fail> {
     let bytes = filled(rt.alloc())?;
-    in_indexed(&rt, &bytes, Task::Open(&LEVELS))?;
+    let books = base_books(rt.alloc())?;
+    for (count, levels) in LEVELS.iter() {
+        check_level(&rt, &*books.indexed, bytes.as_slice(), *count, *levels);
+    }
     Ok(())
 }

@@ -5,9 +5,9 @@
 ghost use Rattle.std.specs.Prelude.{◌<◌};
 
 use super::deep::nested;
-use super::{AVPS, Task, WATCHDOG, assert_answer, in_both};
-use dia_check::{Levels, Refusal, Stream, StreamFault, Unknown};
-use dia_dict::Book;
+use super::{AVPS, base_books};
+use dia_check::{Levels, Refusal, Selected, Stream, StreamFault, Unknown};
+use dia_dict::{Book, Class};
 use std::process::Abort;
 
 /// A stream that is fed pieces of a size answers for the message, or is spent where memory is refused.
@@ -22,7 +22,14 @@ fn feeds_or_is_spent<B: Book>(rt: &(impl AllocGlobal + Abort), book: &B, bytes: 
             return;
         }
     }
-    assert_answer(rt, book, stream.finish(), WATCHDOG);
+    let found = stream.finish().ok();
+    assert_eq!(rt; found, watchdog(book));
+}
+
+/// The answer for a watchdog request.
+fn watchdog<B: Book>(book: &B) -> Option<Selected> {
+    let def = book.select(280, Class::Request, 0)?;
+    Some(Selected { def })
 }
 
 /// A stream is spent: it has no levels, takes no piece and has no answer.
@@ -34,7 +41,7 @@ fn is_spent<B: Book>(rt: &impl Abort, stream: Stream<'_, B>, piece: &[u8]) {
 }
 
 /// Feeds a book's streams pieces of several sizes.
-pub(super) fn feeds_all<B: Book>(rt: &(impl AllocGlobal + Abort), book: &B, bytes: &[u8]) {
+fn feeds_all<B: Book>(rt: &(impl AllocGlobal + Abort), book: &B, bytes: &[u8]) {
     for size in [1, 7, 64, 10_000] {
         feeds_or_is_spent(rt, book, bytes, size);
     }
@@ -46,5 +53,8 @@ fn a_stream_answers_or_memory_is_refused(rt: HostRuntime) {
         return;
     };
     // An error says that there was no memory for a book.
-    let _refused = in_both(&rt, &bytes, Task::Spend);
+    if let Ok(books) = base_books(rt.alloc()) {
+        feeds_all(&rt, &*books.plain, bytes.as_slice());
+        feeds_all(&rt, &*books.indexed, bytes.as_slice());
+    }
 }

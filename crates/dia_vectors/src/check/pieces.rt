@@ -2,9 +2,12 @@
 
 ghost use Rattle.std.specs.Prelude.{◌<◌, ◌≤◌, length};
 
-use super::{Task, Wanted, ask, assert_answer, assert_levels, feed};
+use super::{assert_levels, check_rows, feed, subjects};
+use crate::books::{Task, is_verdict};
+use crate::words::number_of;
 use dia_check::{Levels, Refusal, Selected, Stream, Unknown, check};
 use dia_dict::Book;
+use dia_rows::{Names, Row, RowFault};
 use std::process::Abort;
 use std::test::Fail;
 
@@ -27,42 +30,30 @@ fn message_length(bytes: &[u8]) -> usize {
 fn checked<B: Book>(
     rt: &(impl AllocGlobal + Abort),
     book: &B,
-    unknown: Unknown,
-    levels: Levels,
-    bytes: &[u8],
+    task: Task<'_>,
 ) -> Result<Selected, Refusal> {
+    let bytes = task.message;
     let count = bytes.len().min(message_length(bytes));
-    check(rt.alloc(), book, unknown, levels, &bytes[..count])
+    check(rt.alloc(), book, task.unknown, task.levels, &bytes[..count])
 }
 
 /// A stream that is fed the bytes in two pieces, or one by one, answers what `check` does.
-pub(super) fn check_pieces<B: Book>(
-    rt: &(impl AllocGlobal + Abort),
-    book: &B,
-    unknown: Unknown,
-    levels: Levels,
-    bytes: &[u8],
-) {
+pub fn check_pieces<B: Book>(rt: &(impl AllocGlobal + Abort), book: &B, task: Task<'_>) {
+    let bytes = task.message;
     for cut in 0..bytes.len() + 1 {
-        let mut stream = Stream::new(rt.alloc(), book, unknown, levels);
+        let mut stream = Stream::new(rt.alloc(), book, task.unknown, task.levels);
         feed_cut(rt, &mut stream, bytes, cut);
-        let answer = checked(rt, book, unknown, levels, bytes);
+        let answer = checked(rt, book, task);
         assert_same(rt, stream.finish(), answer, cut);
     }
-    check_bytes(rt, book, unknown, levels, bytes);
+    check_bytes(rt, book, task);
 }
 
 /// A stream that is fed the bytes one by one answers what `check` does.
-fn check_bytes<B: Book>(
-    rt: &(impl AllocGlobal + Abort),
-    book: &B,
-    unknown: Unknown,
-    levels: Levels,
-    bytes: &[u8],
-) {
-    let mut stream = Stream::new(rt.alloc(), book, unknown, levels);
-    feed_bytes(rt, &mut stream, levels, bytes);
-    let answer = checked(rt, book, unknown, levels, bytes);
+fn check_bytes<B: Book>(rt: &(impl AllocGlobal + Abort), book: &B, task: Task<'_>) {
+    let mut stream = Stream::new(rt.alloc(), book, task.unknown, task.levels);
+    feed_bytes(rt, &mut stream, task.levels, task.message);
+    let answer = checked(rt, book, task);
     assert_same(rt, stream.finish(), answer, 1);
 }
 
@@ -122,12 +113,13 @@ pub(super) fn feed_sizes<B: Book>(
     levels: Levels,
     bytes: &[u8],
     sizes: &[usize],
-    wanted: Wanted,
-) {
+    wanted: &str,
+) -> Result<(), Fail> {
     for size in sizes {
         assert!(rt; *size > 0);
-        feed_pieces(rt, book, levels, bytes, *size, wanted);
+        feed_pieces(rt, book, levels, bytes, *size, wanted)?;
     }
+    Ok(())
 }
 
 /// A stream that is fed a whole message in pieces of a size takes each, and answers as is wanted.
@@ -137,8 +129,8 @@ fn feed_pieces<B: Book>(
     levels: Levels,
     bytes: &[u8],
     size: usize,
-    wanted: Wanted,
-)
+    wanted: &str,
+) -> Result<(), Fail>
     requires { 0 < size }
 {
     let mut stream = Stream::new(rt.alloc(), book, Unknown::Kept, levels);
@@ -148,42 +140,32 @@ fn feed_pieces<B: Book>(
         feed(rt, &mut stream, piece, piece.len(), count == bytes.len());
         assert_most(rt, stream.levels(), levels, count);
     }
-    assert_answer(rt, book, stream.finish(), wanted);
+    is_verdict(rt, book, stream.finish(), wanted.as_bytes(), wanted)
 }
 
-/// The AVPs of a watchdog request with three Failed-AVPs in one another, and an unknown AVP in the innermost.
-const NESTED: &str = "000001084000000b612e6200000001284000000962000000\
-0000011700000020000001170000001800000117000000100000270f00000008";
-
-/// How many levels are open after so many bytes of it.
-const LEVELS: [(usize, usize); 11] = [
-    (0, 0),
-    (19, 0),
-    (20, 1),
-    (51, 1),
-    (52, 2),
-    (59, 2),
-    (60, 3),
-    (67, 3),
-    (68, 4),
-    (75, 4),
-    (76, 0),
-];
-
-/// So many levels are open after so many bytes of a message.
-pub(super) fn check_levels<B: Book>(
+/// Checks a row of how many levels are open, over both kinds of book.
+pub(super) fn opens(
     rt: &(impl AllocGlobal + Abort),
-    book: &B,
-    bytes: &[u8],
-    rows: &[(usize, usize)],
-) {
-    for (count, levels) in rows.iter() {
-        check_level(rt, book, bytes, *count, *levels);
+    names: &Names,
+    row: &Row<'_>,
+) -> Result<(), Fail> {
+    let (books, message) = subjects(rt.alloc(), names, row.call)?;
+    for word in row.wanted.split_ascii_whitespace() {
+        let (count, levels) = count_and_levels(word)?;
+        check_level(rt, &*books.plain, message.as_slice(), count, levels);
+        check_level(rt, &*books.indexed, message.as_slice(), count, levels);
     }
+    Ok(())
+}
+
+/// The numbers of COUNT/LEVELS.
+fn count_and_levels(word: &str) -> Result<(usize, usize), RowFault> {
+    let (count, levels) = word.split_once('/').ok_or(RowFault::Row)?;
+    Ok((number_of(count)? as usize, number_of(levels)? as usize))
 }
 
 /// So many levels are open after the first bytes of a message, as many as the count says.
-fn check_level<B: Book>(
+pub(super) fn check_level<B: Book>(
     rt: &(impl AllocGlobal + Abort),
     book: &B,
     bytes: &[u8],
@@ -196,8 +178,12 @@ fn check_level<B: Book>(
     assert_levels(rt, stream.levels(), levels, count);
 }
 
+const ROWS: &str = r"
+# A watchdog request with three Failed-AVPs in one another, and an unknown AVP in the innermost.
+open | $base | 0100004c80000118 $I $OH $OR 0000011700000020 0000011700000018 0000011700000010 0000270f00000008 => 0/0 19/0 20/1 51/1 52/2 59/2 60/3 67/3 68/4 75/4 76/0
+";
+
 #[test]
 fn counts_the_open_levels(rt: HostRuntime) -> Result<(), Fail> {
-    ask(&rt, "0100004c80000118", NESTED, Task::Open(&LEVELS))?;
-    Ok(())
+    check_rows(&rt, ROWS)
 }

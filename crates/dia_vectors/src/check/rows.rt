@@ -1,241 +1,61 @@
 //! Messages, each checked against both books, whole and in pieces.
 
-use super::{AVPS, AVPS_AND_ONE, HEAD, ORIGIN_HOST, Task, WATCHDOG, Wanted, ask, avp};
-use dia_check::{Levels, Reason, Subject, Unknown};
-use dia_dict::Class;
-use std::process::Abort;
+use super::check_rows;
 use std::test::Fail;
 
-/// The first eight bytes of a message's header, its AVPs, and the answer.
-type Row = (&'static str, &'static str, Wanted);
+const ROWS: &str = r"
+# Valid messages: of the smallest kind, with padding of any value, with a Vendor-ID of 0, with an unknown AVP with M clear, with the
+# same in a group, and errors with P clear and set.
+check kept any | $base | $REQUEST => 0 valid DWR\n
+check kept any | $base | 0100002c80000118 $I 000001084000000b612e62ff000001284000000962ffffff => 0 valid DWR\n
+check kept any | $base | 0100003080000118 $I 00000108c000000f00000000612e6200 $OR => 0 valid DWR\n
+check kept any | $base | 0100003480000118 $I $OH $OR 0000270f00000008 => 0 valid DWR\n
+check kept any | $base | 0100003c80000118 $I $OH $OR 00000117400000100000270f00000008 => 0 valid DWR\n
+check kept any | $base | 0100003820000118 $I $OH $OR 0000010c4000000c00000bb9 => 0 valid answer-message\n
+check kept any | $base | 0100003860000118 $I $OH $OR 0000010c4000000c00000bb9 => 0 valid answer-message\n
 
-const ERROR: Wanted = Wanted::Valid(280, Class::Error);
+# Faults of headers.
+check kept any | $base | 0100002e80000118 $I $OH $OR => 1 fault 5015 at 1 length -\n
+check kept any | $base | 0200002c80000118 $I $OH $OR => 1 fault 5011 at 0 version -\n
+check kept any | $base | 0100002cc0000118 $I $OH $OR => 1 fault 3008 at 4 proxiable -\n
+check kept any | $base | 0100002ca0000118 $I $OH $OR => 1 fault 5013 at 4 bits -\n
+check kept any | $base | 0100002c10000118 $I $OH $OR => 1 fault 5013 at 4 bits -\n
+check kept any | $base | 0100002c8000012e $I $OH $OR => 1 fault 3001 at 5 command -\n
+check kept any | $base | 0100003080000118 $I $OH $OR => 1 truncated\n
+check kept any | $base | 0100002880000118 $I $OH $OR => 1 trailing\n
 
-/// Checks each message.
-fn check_rows(rt: &(impl AllocGlobal + Abort), unknown: Unknown, rows: &[Row]) -> Result<(), Fail> {
-    for (head, avps, wanted) in rows.iter() {
-        ask(rt, head, avps, Task::Check(unknown, Levels::Any, *wanted))?;
-    }
-    Ok(())
-}
+# Missing and unknown AVPs: an unknown one with M set in the body, and in a group.
+check kept any | $base | 0100002080000118 $I $OH => 1 fault 5005 at 32 missing Origin-Realm\n
+check kept any | $base | 0100003480000118 $I $OH $OR 0000270f40000008 => 1 fault 5001 at 44 unknown 9999:0\n
+check kept any | $base | 0100003c80000118 $I $OH $OR 00000117400000100000270f40000008 => 1 fault 5001 at 52 unknown 9999:0\n
 
-/// Checks a message under a limit on levels.
-fn check_limit(
-    rt: &(impl AllocGlobal + Abort),
-    limit: u32,
-    head: &str,
-    avps: &str,
-    wanted: Wanted,
-) -> Result<(), Fail> {
-    let levels = Levels::AtMost(limit);
-    ask(rt, head, avps, Task::Check(Unknown::Kept, levels, wanted))?;
-    Ok(())
-}
+# An empty Failed-AVP at the end of the message, before its end, and before a fault behind it.
+check kept any | $base | 0100003480000118 $I $OH $OR 0000011740000008 => 1 fault 5005 at 52 missing AVP\n
+check kept any | $base | 0100002880000118 $I $OH 0000011740000008 => 1 fault 5005 at 40 missing AVP\n
+check kept any | $base | 0100003c80000118 $I $OH 00000117400000080000270f40000008 $OR => 1 fault 5005 at 40 missing AVP\n
 
-#[test]
-fn accepts_valid_messages(rt: HostRuntime) -> Result<(), Fail> {
-    let rows = [
-        (
-            "0100002c80000118",
-            "000001084000000b612e6200000001284000000962000000",
-            WATCHDOG,
-        ),
-        // Padding of any value.
-        (
-            "0100002c80000118",
-            "000001084000000b612e62ff000001284000000962ffffff",
-            WATCHDOG,
-        ),
-        // A Vendor-ID of 0.
-        (
-            "0100003080000118",
-            "00000108c000000f00000000612e6200000001284000000962000000",
-            WATCHDOG,
-        ),
-        // An unknown AVP with M clear.
-        (
-            "0100003480000118",
-            "000001084000000b612e62000000012840000009620000000000270f00000008",
-            WATCHDOG,
-        ),
-        // The same in a group.
-        (
-            "0100003c80000118",
-            "000001084000000b612e620000000128400000096200000000000117400000100000270f00000008",
-            WATCHDOG,
-        ),
-        // Errors, with P clear and set.
-        (
-            "0100003820000118",
-            "000001084000000b612e62000000012840000009620000000000010c4000000c00000bb9",
-            ERROR,
-        ),
-        (
-            "0100003860000118",
-            "000001084000000b612e62000000012840000009620000000000010c4000000c00000bb9",
-            ERROR,
-        ),
-    ];
-    check_rows(&rt, Unknown::Kept, &rows)
-}
+# An empty identity, a cause that is none, a cause of two bytes, two Origin-Hosts where one may stand, and a Session-Id behind the
+# place of fixed AVPs.
+check kept any | $base | 0100002880000118 $I 0000010840000008 $OR => 1 fault 5004 at 20 leaf-value Origin-Host\n
+check kept any | $base | 010000388000011a $I $OH $OR 000001114000000c00000003 => 1 fault 5004 at 44 leaf-value Disconnect-Cause\n
+check kept any | $base | 010000388000011a $I $OH $OR 000001114000000a00000000 => 1 fault 5014 at 44 leaf-length Disconnect-Cause\n
+check kept any | $base | 0100003880000118 $I $OH $OH $OR => 1 fault 5009 at 32 too-many Origin-Host\n
+check kept any | $base | 0100005020000118 $I 000001074000000961000000 $OH 000001074000000961000000 $OR 0000010c4000000c00000bb9 => 1 fault 5008 at 44 not-allowed Session-Id\n
+
+# Unknown AVPs where they are refused.
+check refused any | $base | 0100003480000118 $I $OH $OR 0000270f00000008 => 1 fault 5001 at 44 unknown 9999:0\n
+check refused any | $base | 0100003480000118 $I $OH $OR 0000270f40000008 => 1 fault 5001 at 44 unknown 9999:0\n
+
+# What follows a message.
+check kept any | $base | 0100002c80000118 $I $OH $OR 00 => 1 trailing\n
+
+# No more levels are opened than asked.
+check kept 1 | $base | 0100003c80000118 $I $OH $OR 00000117400000100000270f00000008 => 0 valid DWR\n
+check kept 0 | $base | 0100003c80000118 $I $OH $OR 00000117400000100000270f00000008 => 1 fault 5012 at 44 depth Failed-AVP\n
+check kept 0 | $base | 0100003480000118 $I $OH $OR 0000011740000008 => 1 fault 5012 at 44 depth Failed-AVP\n
+";
 
 #[test]
-fn tells_the_faults_of_headers(rt: HostRuntime) -> Result<(), Fail> {
-    let rows = [
-        (
-            "0100002e80000118",
-            AVPS,
-            Wanted::Fault(1, 5015, Reason::Length, Subject::Nothing),
-        ),
-        (
-            "0200002c80000118",
-            AVPS,
-            Wanted::Fault(0, 5011, Reason::Version, Subject::Nothing),
-        ),
-        (
-            "0100002cc0000118",
-            AVPS,
-            Wanted::Fault(4, 3008, Reason::Proxiable, Subject::Nothing),
-        ),
-        (
-            "0100002ca0000118",
-            AVPS,
-            Wanted::Fault(4, 5013, Reason::Bits, Subject::Nothing),
-        ),
-        (
-            "0100002c10000118",
-            AVPS,
-            Wanted::Fault(4, 5013, Reason::Bits, Subject::Nothing),
-        ),
-        (
-            "0100002c8000012e",
-            AVPS,
-            Wanted::Fault(5, 3001, Reason::Command, Subject::Nothing),
-        ),
-        ("0100003080000118", AVPS, Wanted::Truncated),
-        ("0100002880000118", AVPS, Wanted::Trailing),
-    ];
-    check_rows(&rt, Unknown::Kept, &rows)
-}
-
-#[test]
-fn tells_missing_and_unknown_avps(rt: HostRuntime) -> Result<(), Fail> {
-    let unknown = avp(9999);
-    let rows = [
-        (
-            "0100002080000118",
-            "000001084000000b612e6200",
-            Wanted::Fault(32, 5005, Reason::Missing, avp(296)),
-        ),
-        // An unknown AVP with M set, in the body and in a group.
-        (
-            "0100003480000118",
-            "000001084000000b612e62000000012840000009620000000000270f40000008",
-            Wanted::Fault(44, 5001, Reason::Unknown, unknown),
-        ),
-        (
-            "0100003c80000118",
-            "000001084000000b612e620000000128400000096200000000000117400000100000270f40000008",
-            Wanted::Fault(52, 5001, Reason::Unknown, unknown),
-        ),
-    ];
-    check_rows(&rt, Unknown::Kept, &rows)
-}
-
-#[test]
-fn tells_where_a_group_lacks_an_avp(rt: HostRuntime) -> Result<(), Fail> {
-    let rows = [
-        // An empty Failed-AVP, at the end of the message, before its end, and before a fault behind it.
-        (
-            "0100003480000118",
-            "000001084000000b612e62000000012840000009620000000000011740000008",
-            Wanted::Fault(52, 5005, Reason::Missing, Subject::Wildcard),
-        ),
-        (
-            "0100002880000118",
-            "000001084000000b612e62000000011740000008",
-            Wanted::Fault(40, 5005, Reason::Missing, Subject::Wildcard),
-        ),
-        (
-            "0100003c80000118",
-            "000001084000000b612e620000000117400000080000270f40000008000001284000000962000000",
-            Wanted::Fault(40, 5005, Reason::Missing, Subject::Wildcard),
-        ),
-    ];
-    check_rows(&rt, Unknown::Kept, &rows)
-}
-
-#[test]
-fn tells_the_faults_of_avps(rt: HostRuntime) -> Result<(), Fail> {
-    let rows = [
-        // An empty identity, a cause that is none, and a cause of two bytes.
-        (
-            "0100002880000118",
-            "0000010840000008000001284000000962000000",
-            Wanted::Fault(20, 5004, Reason::LeafValue, avp(ORIGIN_HOST)),
-        ),
-        (
-            "010000388000011a",
-            "000001084000000b612e6200000001284000000962000000000001114000000c00000003",
-            Wanted::Fault(44, 5004, Reason::LeafValue, avp(273)),
-        ),
-        (
-            "010000388000011a",
-            "000001084000000b612e6200000001284000000962000000000001114000000a00000000",
-            Wanted::Fault(44, 5014, Reason::LeafLength, avp(273)),
-        ),
-        // Two Origin-Hosts, where one may stand.
-        (
-            "0100003880000118",
-            "000001084000000b612e6200000001084000000b612e6200000001284000000962000000",
-            Wanted::Fault(32, 5009, Reason::TooMany, avp(ORIGIN_HOST)),
-        ),
-        // A Session-Id behind the place of fixed AVPs comes again, though a wildcard would take others.
-        (
-            "0100005020000118",
-            "000001074000000961000000000001084000000b612e6200000001074000000961000000000001284000000962000000\
-             0000010c4000000c00000bb9",
-            Wanted::Fault(44, 5008, Reason::NotAllowed, avp(263)),
-        ),
-    ];
-    check_rows(&rt, Unknown::Kept, &rows)
-}
-
-#[test]
-fn refuses_unknown_avps(rt: HostRuntime) -> Result<(), Fail> {
-    let wanted = Wanted::Fault(44, 5001, Reason::Unknown, avp(9999));
-    let rows = [
-        (
-            "0100003480000118",
-            "000001084000000b612e62000000012840000009620000000000270f00000008",
-            wanted,
-        ),
-        (
-            "0100003480000118",
-            "000001084000000b612e62000000012840000009620000000000270f40000008",
-            wanted,
-        ),
-    ];
-    check_rows(&rt, Unknown::Refused, &rows)
-}
-
-/// The AVPs of a watchdog request, with a Failed-AVP behind them that holds an unknown AVP.
-const GROUP: &str =
-    "000001084000000b612e620000000128400000096200000000000117400000100000270f00000008";
-
-/// The same with an empty Failed-AVP.
-const EMPTY: &str = "000001084000000b612e62000000012840000009620000000000011740000008";
-
-#[test]
-fn opens_no_more_levels_than_asked(rt: HostRuntime) -> Result<(), Fail> {
-    let deep = Wanted::Fault(44, 5012, Reason::Depth, avp(279));
-    check_limit(&rt, 1, "0100003c80000118", GROUP, WATCHDOG)?;
-    check_limit(&rt, 0, "0100003c80000118", GROUP, deep)?;
-    check_limit(&rt, 0, "0100003480000118", EMPTY, deep)
-}
-
-#[test]
-fn tells_what_follows_a_message(rt: HostRuntime) -> Result<(), Fail> {
-    let rows = [(HEAD, AVPS_AND_ONE, Wanted::Trailing)];
-    check_rows(&rt, Unknown::Kept, &rows)
+fn checks_messages(rt: HostRuntime) -> Result<(), Fail> {
+    check_rows(&rt, ROWS)
 }

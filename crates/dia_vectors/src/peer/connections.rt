@@ -1,261 +1,420 @@
-//! Worked connections, each as a list of what happens and what the end then does.
+//! Worked connections, each as a list of what happens at an end, and what the end then does.
+//!
+//! ```text
+//! ends HOP [STATE] | APPLICATIONS | APPLICATIONS => STATE STATE
+//! END start, END comes MESSAGE, END tick, END stop CAUSE, END lost => STATE [send MESSAGE] [close WHY]
+//! END common => APPLICATIONS
+//! ```
+//!
+//! `ends` makes a new initiator, `i`, and a new responder, `r`: the Hop-by-Hop Identifier of the initiator's first request, the
+//! Origin-State-Id of both where there is one, and the applications of each, such as `auth:4`. A step is what happens at an
+//! end, and its answer the state that the end then is in and what it did. `common` is answered by the applications that an
+//! end shares with the other.
 
-use super::bytes::{
-    CEA, CEA_WITHOUT, CER, CER_WITHOUT, DPA, DPR, DWA, DWR, LATE_CEA, LATE_CER, LATE_DWA, LATE_DWR,
-    OWN_DWR, SECOND_DWA, SECOND_DWR, THIRD_DWR, WRAPPED_DWR,
-};
-use super::{Ends, acct, auth, bytes_of, first, second, tell};
-use dia_peer::Role::{Initiator, Responder};
-use dia_peer::State::{Closed, Idle, Open, WaitCea, WaitCer, WaitDpa};
-use dia_peer::{App, Cause, Core, Event, Kind, Output, Role, State, Why};
-use std::alloc::AllocError;
+use super::names::names;
+use super::{Ends, end, first, second, tell};
+use crate::words::{number_of, same, words_of};
+use dia_peer::{App, Cause, Core, Event, Kind, Output, Role};
+use dia_rows::{Names, Row, RowFault, bytes_of, field, without_blanks};
+use std::alloc::{AllocError, Global};
 use std::process::Abort;
 use std::test::Fail;
 
-#[derive(Clone, Copy, Debug)]
-enum Happening {
-    Start,
-    Comes(&'static str),
-    Tick,
-    Stop(Cause),
-    Lost,
+/// The steps.
+const ROWS: &str = r"
+# Both open with what both advertise.
+ends 1 | auth:1 auth:4 | auth:4 acct:3 => Idle Idle
+i common =>
+i start => WaitCea send $CER
+r start => WaitCer
+r comes $CER => Open send $CEA
+i comes $CEA => Open
+i common => Auth 4
+r common => Auth 4
+
+# A CER that comes again is answered again.
+ends 1 | auth:1 auth:4 | auth:4 acct:3 => Idle Idle
+i start => WaitCea send $CER
+r start => WaitCer
+r comes $CER => Open send $CEA
+i comes $CEA => Open
+r comes $CER => Open send $CEA
+
+# Both close without a common application.
+ends 1 | auth:1 | auth:4 => Idle Idle
+i start => WaitCea send $CER_WITHOUT
+r start => WaitCer
+r comes $CER_WITHOUT => Closed send $CEA_WITHOUT close NoCommon
+i comes $CEA_WITHOUT => Closed close NoCommon
+
+# Watchdogs are sent and answered: a request that is answered, and one to which the answer of the request before comes again.
+ends 1 | auth:1 auth:4 | auth:4 acct:3 => Idle Idle
+i start => WaitCea send $CER
+r start => WaitCer
+r comes $CER => Open send $CEA
+i comes $CEA => Open
+r comes $DWR => Open send $DWA
+r tick => Open send $OWN_DWR
+r tick => Closed close Watchdog
+i tick => Open send $SECOND_DWR
+i comes $SECOND_DWA => Open
+i tick => Open send $THIRD_DWR
+i comes $SECOND_DWA => Open
+i tick => Closed close Watchdog
+
+# A watchdog that comes again gets its answer again.
+ends 1 | auth:1 auth:4 | auth:4 acct:3 => Idle Idle
+i start => WaitCea send $CER
+r start => WaitCer
+r comes $CER => Open send $CEA
+i comes $CEA => Open
+i tick => Open send $SECOND_DWR
+r comes $SECOND_DWR => Open send $SECOND_DWA
+r comes $SECOND_DWR => Open send $SECOND_DWA
+i comes $SECOND_DWA => Open
+i tick => Open send $THIRD_DWR
+
+# Identifiers go round.
+ends 4294967294 | auth:1 auth:4 | auth:4 acct:3 => Idle Idle
+i start => WaitCea send $LATE_CER
+r start => WaitCer
+r comes $LATE_CER => Open send $LATE_CEA
+i comes $LATE_CEA => Open
+i tick => Open send $LATE_DWR
+r comes $LATE_DWR => Open send $LATE_DWA
+i comes $LATE_DWA => Open
+i tick => Open send $WRAPPED_DWR
+
+# Disconnecting.
+ends 1 | auth:1 auth:4 | auth:4 acct:3 => Idle Idle
+i start => WaitCea send $CER
+r start => WaitCer
+r comes $CER => Open send $CEA
+i comes $CEA => Open
+i stop Busy => WaitDpa send $DPR
+i stop Busy => WaitDpa
+r comes $DPR => Closed send $DPA close PeerStopped
+i comes $DPA => Closed close Stopped
+i comes $DPA => Closed
+
+# A connection closes where a message is refused: a command that no core reads, a watchdog request without AVPs, nineteen bytes of it.
+let FOREIGN = 010000148000012c000000000000000100000002
+let EMPTY_DWR = 0100001480000118000000000000000100000002
+let CUT_DWR = 01000014800001180000000000000001000000
+ends 1 | auth:1 auth:4 | auth:4 acct:3 => Idle Idle
+i start => WaitCea send $CER
+r start => WaitCer
+i comes $FOREIGN => WaitCea
+i comes $EMPTY_DWR => Closed close Invalid
+r comes $CUT_DWR => Closed close Invalid
+
+# Ends give up waiting.
+ends 1 | auth:1 auth:4 | auth:4 acct:3 => Idle Idle
+i tick => Idle
+i start => WaitCea send $CER
+i start => WaitCea
+i tick => Closed close Timeout
+r start => WaitCer
+r lost => Closed
+
+# A message that is invalid behind its header, at both ends.
+let NO_REALM = 0100002080000118 $I $OH
+ends 1 | auth:1 auth:4 | auth:4 acct:3 => Idle Idle
+i start => WaitCea send $CER
+i comes $NO_REALM => Closed close Invalid
+r start => WaitCer
+r comes $NO_REALM => Closed close Invalid
+ends 1 | auth:1 auth:4 | auth:4 acct:3 => Idle Idle
+i start => WaitCea send $CER
+r start => WaitCer
+r comes $CER => Open send $CEA
+i comes $CEA => Open
+r comes $NO_REALM => Closed close Invalid
+i comes 0100001480000118 $I => Closed close Invalid
+i comes $DWR => Closed
+
+# The application of relays is one as others.
+let RELAY = 000001024000000cffffffff
+ends 1 | auth:1 | auth:4 => Idle Idle
+r start => WaitCer
+r comes 0100006080000101 000000000000000100000001 $OH $OR $IP $VENDOR $P $RELAY => Closed send $CEA_WITHOUT close NoCommon
+ends 1 | auth:1 | auth:4 acct:3 => Idle Idle
+r start => WaitCer
+r comes 0100006c80000101 000000000000000100000001 $OH $OR $IP $VENDOR $P $RELAY $AUTH4 => Open send $CEA
+r common => Auth 4
+
+# A Vendor-Specific-Application-Id with two applications: 44 bytes.
+ends 1 | auth:1 | auth:4 acct:3 => Idle Idle
+r start => WaitCer
+r comes 0100008080000101 000000000000000100000001 $OH $OR $IP $VENDOR $P 000001044000002c 0000010a4000000c000028af $AUTH4 $ACCT3 => Open send $CEA
+r common => Auth 4 Acct 3
+
+# A CER that is shorter than the one taken is ignored, and so is one that is longer.
+ends 1 | auth:1 auth:4 | auth:4 acct:3 => Idle Idle
+r start => WaitCer
+r comes $CER => Open send $CEA
+r comes $CER_WITHOUT => Open
+r comes 0100007880000101 000000000000000100000001 $OH $OR $IP $VENDOR $P $AUTH1 $AUTH4 $ACCT3 => Open
+r comes $CER => Open send $CEA
+
+# Messages above 4,096 bytes: an unknown AVP of 4,104 bytes ends each.
+let ZERO = 00
+let LONG = 0000270f00001008 $ZERO*4096
+let LONG_CER = 0100107480000101 000000000000000100000001 $OH $OR $IP $VENDOR $P $AUTH1 $AUTH4 $LONG
+ends 1 | auth:1 auth:4 | auth:4 acct:3 => Idle Idle
+r start => WaitCer
+r comes $LONG_CER => Open send $CEA
+r comes $LONG_CER => Open send $CEA
+r comes 0100103480000118 $I $OH $OR $LONG => Open send $DWA
+r comes 0100102880000118 $I $OH $LONG => Closed close Invalid
+
+# An Origin-State-Id of 0 is sent.
+let STATE = 000001164000000c00000000
+let STATE_CER = 0100007880000101 000000000000000100000001 $OH $OR $IP $VENDOR $P $STATE $AUTH1 $AUTH4
+ends 1 0 | auth:1 auth:4 | auth:4 acct:3 => Idle Idle
+i start => WaitCea send $STATE_CER
+r start => WaitCer
+r comes $STATE_CER => Open send 0100008400000101 000000000000000100000001 $SUCCESS $OH2 $OR2 $IP2 $VENDOR $P2 $STATE $AUTH4 $ACCT3
+r tick => Open send 0100003880000118 000000000000000100000001 $OH2 $OR2 $STATE
+";
+
+#[test]
+fn plays_connections(rt: HostRuntime) -> Result<(), Fail> {
+    let mut names = names(rt.alloc())?;
+    let mut ends = ends_of(rt.alloc(), &["1"], "auth:1", "auth:1")?;
+    plays_rows(&rt, &mut names, &mut ends)
 }
 
-use Happening::{Comes, Lost, Start, Stop, Tick};
-
-/// An end, what happens at it, the message that it then sends (empty: none), why it closes, and its state.
-type Row = (Role, Happening, &'static str, Option<Why>, State);
-
-const OPENING: [Row; 4] = [
-    (Initiator, Start, CER, None, WaitCea),
-    (Responder, Start, "", None, WaitCer),
-    (Responder, Comes(CER), CEA, None, Open),
-    (Initiator, Comes(CEA), "", None, Open),
-];
-
-/// An initiator with Auth 1 and 4 that begins with this Hop-by-Hop Identifier, and a responder with Auth 4 and Acct 3.
-fn usual_ends(rt: &impl AllocGlobal, hop: u32) -> Result<Ends, Fail> {
-    ends(rt, hop, &[auth(1), auth(4)], &[auth(4), acct(3)])
-}
-
-fn ends(rt: &impl AllocGlobal, hop: u32, ours: &[App], theirs: &[App]) -> Result<Ends, Fail> {
-    let mut a = first(rt.alloc(), ours)?;
-    a.hop = hop;
-    let b = second(rt.alloc(), theirs)?;
-    Ok(Ends::new(rt.alloc(), a, b)?)
-}
-
-impl Ends {
-    fn play(&mut self, rt: &(impl AllocGlobal + Abort), rows: &[Row]) -> Result<(), Fail> {
-        for row in rows {
-            self.play_row(rt, row)?;
+fn plays_rows(
+    rt: &(impl AllocGlobal + Abort),
+    names: &mut Names,
+    ends: &mut Ends,
+) -> Result<(), Fail> {
+    for line in ROWS.lines() {
+        if let Some(row) = names.row(line)? {
+            plays_row(rt, names, ends, &row)?;
         }
-        Ok(())
     }
+    Ok(())
+}
 
-    fn play_row(&mut self, rt: &(impl AllocGlobal + Abort), row: &Row) -> Result<(), Fail> {
-        let (role, happening, message, why, state) = *row;
-        let outputs = self.happens(rt, role, happening)?;
-        let message = bytes_of(rt.alloc(), message)?;
-        done(rt, happening, &outputs, &message, why);
-        assert_eq!(rt; self.state(role), state, "at {happening:?}");
-        Ok(())
+/// Checks a row: new ends, or a step of the ends that there are.
+fn plays_row(
+    rt: &(impl AllocGlobal + Abort),
+    names: &Names,
+    ends: &mut Ends,
+    row: &Row<'_>,
+) -> Result<(), Fail> {
+    let words = words_of(rt.alloc(), field(row.call, 0))?;
+    if let ["ends", numbers @ ..] = words.as_slice() {
+        *ends = ends_of(rt.alloc(), numbers, field(row.call, 1), field(row.call, 2))?;
     }
+    plays(rt, names, ends, row, words.as_slice())
+}
 
-    fn happens(
-        &mut self,
-        rt: &(impl AllocGlobal + Abort),
-        role: Role,
-        happening: Happening,
-    ) -> Result<Vec<Output>, AllocError> {
-        let core = match role {
-            Initiator => &mut self.initiator,
-            Responder => &mut self.responder,
-        };
-        match happening {
-            Start => tell(rt, core, Event::Start),
-            Comes(text) => {
-                let bytes = bytes_of(rt.alloc(), text)?;
-                tell(rt, core, Event::Bytes(&bytes))
-            }
-            Tick => tell(rt, core, Event::Tick),
-            Stop(cause) => tell(rt, core, Event::Stop(cause)),
-            Lost => tell(rt, core, Event::Lost),
+/// New ends with these applications.
+fn ends_of(alloc: Global, numbers: &[&str], ours: &str, theirs: &str) -> Result<Ends, Fail> {
+    let (hop, state) = match numbers {
+        [hop] => (number_of(hop)?, None),
+        [hop, state] => (number_of(hop)?, Some(number_of(state)?)),
+        _ => return Err(Fail::from(RowFault::Row)),
+    };
+    let initiator = initiator_of(alloc, hop, state, ours)?;
+    let responder = responder_of(alloc, state, theirs)?;
+    Ok(Ends {
+        initiator,
+        responder,
+    })
+}
+
+fn initiator_of(
+    alloc: Global,
+    hop: u32,
+    state: Option<u32>,
+    apps: &str,
+) -> Result<Box<Core>, Fail> {
+    let apps = apps_of(alloc, apps)?;
+    let mut config = first(alloc, apps.as_slice())?;
+    config.hop = hop;
+    config.state_id = state;
+    Ok(end(alloc, config, Role::Initiator)?)
+}
+
+fn responder_of(alloc: Global, state: Option<u32>, apps: &str) -> Result<Box<Core>, Fail> {
+    let apps = apps_of(alloc, apps)?;
+    let mut config = second(alloc, apps.as_slice())?;
+    config.state_id = state;
+    Ok(end(alloc, config, Role::Responder)?)
+}
+
+/// Applications, each as its kind and its number.
+pub(super) fn apps_of(alloc: Global, text: &str) -> Result<Vec<App>, Fail> {
+    let mut apps = Vec::new(alloc);
+    for word in text.split_ascii_whitespace() {
+        apps.push(app_of(word)?)?;
+    }
+    Ok(apps)
+}
+
+/// An application such as `auth:4`, or `auth:4@10415` for one of a vendor.
+fn app_of(word: &str) -> Result<App, RowFault> {
+    let (kind, rest) = word.split_once(':').ok_or(RowFault::Row)?;
+    let kind = match kind {
+        "auth" => Kind::Auth,
+        "acct" => Kind::Acct,
+        _ => return Err(RowFault::Row),
+    };
+    let (id, vendor) = match rest.split_once('@') {
+        Some((id, vendor)) => (id, Some(number_of(vendor)?)),
+        None => (rest, None),
+    };
+    let id = number_of(id)?;
+    Ok(App { kind, id, vendor })
+}
+
+/// Checks what is done at a step.
+fn plays(
+    rt: &(impl AllocGlobal + Abort),
+    names: &Names,
+    ends: &mut Ends,
+    row: &Row<'_>,
+    words: &[&str],
+) -> Result<(), Fail> {
+    let found = found(rt, names, ends, words)?;
+    is_done(rt, names, row, found.as_str())
+}
+
+/// What is done, as text.
+fn found(
+    rt: &(impl AllocGlobal + Abort),
+    names: &Names,
+    ends: &mut Ends,
+    words: &[&str],
+) -> Result<String, Fail> {
+    match words {
+        ["ends", ..] => Ok(states(rt.alloc(), ends)?),
+        ["i", words @ ..] => done(rt, names, &mut ends.initiator, words),
+        ["r", words @ ..] => done(rt, names, &mut ends.responder, words),
+        _ => Err(Fail::from(RowFault::Row)),
+    }
+}
+
+/// Checks what was done, where blanks count for nothing.
+fn is_done(
+    rt: &(impl AllocGlobal + Abort),
+    names: &Names,
+    row: &Row<'_>,
+    found: &str,
+) -> Result<(), Fail> {
+    let wanted = names.text(row.wanted)?;
+    let found = without_blanks(rt.alloc(), found.as_bytes())?;
+    let wanted = without_blanks(rt.alloc(), wanted.as_slice())?;
+    same(rt, found.as_slice(), wanted.as_slice(), row.line);
+    Ok(())
+}
+
+/// The states of both ends.
+fn states(alloc: Global, ends: &Ends) -> Result<String, AllocError> {
+    let (a, b) = (ends.initiator.state(), ends.responder.state());
+    format!(in alloc; "{a:?} {b:?}")
+}
+
+/// What an end does at a step, as text.
+fn done(
+    rt: &(impl AllocGlobal + Abort),
+    names: &Names,
+    core: &mut Core,
+    words: &[&str],
+) -> Result<String, Fail> {
+    match words {
+        [word] => happens(rt, core, word),
+        ["stop", cause] => stops(rt, core, cause),
+        ["comes", message @ ..] => comes(rt, names, core, message),
+        _ => Err(Fail::from(RowFault::Row)),
+    }
+}
+
+fn happens(rt: &(impl AllocGlobal + Abort), core: &mut Core, word: &str) -> Result<String, Fail> {
+    match word {
+        "common" => Ok(common(rt.alloc(), core)?),
+        "start" => told(rt, core, Event::Start),
+        "tick" => told(rt, core, Event::Tick),
+        "lost" => told(rt, core, Event::Lost),
+        _ => Err(Fail::from(RowFault::Row)),
+    }
+}
+
+fn stops(rt: &(impl AllocGlobal + Abort), core: &mut Core, cause: &str) -> Result<String, Fail> {
+    let cause = cause_of(cause)?;
+    told(rt, core, Event::Stop(cause))
+}
+
+fn comes(
+    rt: &(impl AllocGlobal + Abort),
+    names: &Names,
+    core: &mut Core,
+    message: &[&str],
+) -> Result<String, Fail> {
+    let bytes = message_of(rt.alloc(), names, message)?;
+    told(rt, core, Event::Bytes(bytes.as_slice()))
+}
+
+fn cause_of(word: &str) -> Result<Cause, RowFault> {
+    match word {
+        "Rebooting" => Ok(Cause::Rebooting),
+        "Busy" => Ok(Cause::Busy),
+        "DoNotWant" => Ok(Cause::DoNotWant),
+        _ => Err(RowFault::Row),
+    }
+}
+
+/// The message of these words.
+fn message_of(alloc: Global, names: &Names, words: &[&str]) -> Result<Vec<u8>, RowFault> {
+    let mut bytes = Vec::new(alloc);
+    for word in words {
+        let part = bytes_of(alloc, names.text(word)?.as_slice())?;
+        bytes.extend_from_slice(part.as_slice())?;
+    }
+    Ok(bytes)
+}
+
+/// The applications that an end shares with the other, as text.
+fn common(alloc: Global, core: &Core) -> Result<String, AllocError> {
+    let mut text = String::new(alloc);
+    for (kind, id) in core.common() {
+        write!(text, "{kind:?} {id} ")?;
+    }
+    Ok(text)
+}
+
+/// The state that an end is in behind an event, and what it did, as text.
+fn told(
+    rt: &(impl AllocGlobal + Abort),
+    core: &mut Core,
+    event: Event<'_>,
+) -> Result<String, Fail> {
+    let outputs = tell(rt, core, event)?;
+    let state = core.state();
+    let mut text = format!(in rt.alloc(); "{state:?}")?;
+    for output in outputs.as_slice() {
+        push_output(&mut text, output)?;
+    }
+    Ok(text)
+}
+
+fn push_output(text: &mut String, output: &Output) -> Result<(), AllocError> {
+    match output {
+        Output::Send(bytes) => {
+            text.push_str(" send ")?;
+            push_digits(text, bytes.as_slice())
         }
-    }
-
-    fn state(&self, role: Role) -> State {
-        match role {
-            Initiator => self.initiator.state(),
-            Responder => self.responder.state(),
-        }
+        Output::Close(why) => write!(text, " close {why:?}"),
     }
 }
 
-/// Checks what an end did: it sent this message (empty: none), and closed where there is a reason.
-fn done(rt: &impl Abort, at: Happening, outputs: &[Output], message: &[u8], why: Option<Why>) {
-    assert!(rt; are(outputs, message, why), "{outputs:?} at {at:?}");
-}
-
-/// Whether the outputs are this message (empty: none), and then the end of the connection where there is a reason.
-fn are(outputs: &[Output], message: &[u8], why: Option<Why>) -> bool {
-    match (outputs, why) {
-        ([], None) => message.is_empty(),
-        ([Output::Send(bytes)], None) => bytes.as_slice() == message,
-        ([Output::Close(reason)], Some(why)) => message.is_empty() && *reason == why,
-        ([Output::Send(bytes), Output::Close(reason)], Some(why)) => {
-            bytes.as_slice() == message && *reason == why
-        }
-        _ => false,
+fn push_digits(text: &mut String, bytes: &[u8]) -> Result<(), AllocError> {
+    for byte in bytes {
+        write!(text, "{byte:02x}")?;
     }
-}
-
-/// New ends play the rows.
-fn play_new(rt: &(impl AllocGlobal + Abort), hop: u32, rows: &[Row]) -> Result<(), Fail> {
-    let mut ends = usual_ends(rt, hop)?;
-    ends.play(rt, rows)
-}
-
-/// New ends open, and then play the rows.
-fn play_open(rt: &(impl AllocGlobal + Abort), rows: &[Row]) -> Result<(), Fail> {
-    let mut ends = usual_ends(rt, 1)?;
-    ends.open_and_play(rt, rows)
-}
-
-impl Ends {
-    fn open_and_play(&mut self, rt: &(impl AllocGlobal + Abort), rows: &[Row]) -> Result<(), Fail> {
-        self.play(rt, &OPENING)?;
-        self.play(rt, rows)
-    }
-
-    /// No application is shared before the ends open, and Auth 4 once both have.
-    fn open_with_auth_4(&mut self, rt: &(impl AllocGlobal + Abort)) -> Result<(), Fail> {
-        share(rt, &self.initiator, &[]);
-        self.play(rt, &OPENING)?;
-        share(rt, &self.initiator, &[(Kind::Auth, 4)]);
-        share(rt, &self.responder, &[(Kind::Auth, 4)]);
-        Ok(())
-    }
-}
-
-/// Checks which applications an end shares with the other.
-fn share(rt: &impl Abort, core: &Core, apps: &[(Kind, u32)]) {
-    assert_eq!(rt; core.common(), apps);
-}
-
-#[test]
-fn opens_with_what_both_advertise(rt: HostRuntime) -> Result<(), Fail> {
-    let mut ends = usual_ends(&rt, 1)?;
-    ends.open_with_auth_4(&rt)
-}
-
-#[test]
-fn answers_a_repeated_cer_again(rt: HostRuntime) -> Result<(), Fail> {
-    const ROWS: [Row; 1] = [(Responder, Comes(CER), CEA, None, Open)];
-    play_open(&rt, &ROWS)
-}
-
-#[test]
-fn closes_without_a_common_application(rt: HostRuntime) -> Result<(), Fail> {
-    const NONE: Option<Why> = Some(Why::NoCommon);
-    const ROWS: [Row; 4] = [
-        (Initiator, Start, CER_WITHOUT, None, WaitCea),
-        (Responder, Start, "", None, WaitCer),
-        (Responder, Comes(CER_WITHOUT), CEA_WITHOUT, NONE, Closed),
-        (Initiator, Comes(CEA_WITHOUT), "", NONE, Closed),
-    ];
-    let mut ends = ends(&rt, 1, &[auth(1)], &[auth(4)])?;
-    ends.play(&rt, &ROWS)
-}
-
-#[test]
-fn watches_and_answers_watchdogs(rt: HostRuntime) -> Result<(), Fail> {
-    const UNANSWERED: Option<Why> = Some(Why::Watchdog);
-    const ROWS: [Row; 8] = [
-        (Responder, Comes(DWR), DWA, None, Open),
-        (Responder, Tick, OWN_DWR, None, Open),
-        (Responder, Tick, "", UNANSWERED, Closed),
-        // A request that is answered, and one to which the answer of the request before comes again.
-        (Initiator, Tick, SECOND_DWR, None, Open),
-        (Initiator, Comes(SECOND_DWA), "", None, Open),
-        (Initiator, Tick, THIRD_DWR, None, Open),
-        (Initiator, Comes(SECOND_DWA), "", None, Open),
-        (Initiator, Tick, "", UNANSWERED, Closed),
-    ];
-    play_open(&rt, &ROWS)
-}
-
-#[test]
-fn repeats_the_answer_to_a_repeated_watchdog(rt: HostRuntime) -> Result<(), Fail> {
-    const ROWS: [Row; 5] = [
-        (Initiator, Tick, SECOND_DWR, None, Open),
-        (Responder, Comes(SECOND_DWR), SECOND_DWA, None, Open),
-        (Responder, Comes(SECOND_DWR), SECOND_DWA, None, Open),
-        (Initiator, Comes(SECOND_DWA), "", None, Open),
-        (Initiator, Tick, THIRD_DWR, None, Open),
-    ];
-    play_open(&rt, &ROWS)
-}
-
-#[test]
-fn identifiers_go_round(rt: HostRuntime) -> Result<(), Fail> {
-    const ROWS: [Row; 8] = [
-        (Initiator, Start, LATE_CER, None, WaitCea),
-        (Responder, Start, "", None, WaitCer),
-        (Responder, Comes(LATE_CER), LATE_CEA, None, Open),
-        (Initiator, Comes(LATE_CEA), "", None, Open),
-        (Initiator, Tick, LATE_DWR, None, Open),
-        (Responder, Comes(LATE_DWR), LATE_DWA, None, Open),
-        (Initiator, Comes(LATE_DWA), "", None, Open),
-        (Initiator, Tick, WRAPPED_DWR, None, Open),
-    ];
-    play_new(&rt, 4_294_967_294, &ROWS)
-}
-
-#[test]
-fn disconnects(rt: HostRuntime) -> Result<(), Fail> {
-    const BUSY: Happening = Stop(Cause::Busy);
-    const ROWS: [Row; 5] = [
-        (Initiator, BUSY, DPR, None, WaitDpa),
-        (Initiator, BUSY, "", None, WaitDpa),
-        (Responder, Comes(DPR), DPA, Some(Why::PeerStopped), Closed),
-        (Initiator, Comes(DPA), "", Some(Why::Stopped), Closed),
-        (Initiator, Comes(DPA), "", None, Closed),
-    ];
-    play_open(&rt, &ROWS)
-}
-
-/// A message of the command code 300, which no core reads.
-const FOREIGN: &str = "010000148000012c000000000000000100000002";
-
-/// A watchdog request without AVPs.
-const EMPTY_DWR: &str = "0100001480000118000000000000000100000002";
-
-/// Nineteen bytes of it.
-const CUT_DWR: &str = "01000014800001180000000000000001000000";
-
-#[test]
-fn closes_where_a_message_is_refused(rt: HostRuntime) -> Result<(), Fail> {
-    const INVALID: Option<Why> = Some(Why::Invalid);
-    const ROWS: [Row; 5] = [
-        (Initiator, Start, CER, None, WaitCea),
-        (Responder, Start, "", None, WaitCer),
-        (Initiator, Comes(FOREIGN), "", None, WaitCea),
-        (Initiator, Comes(EMPTY_DWR), "", INVALID, Closed),
-        (Responder, Comes(CUT_DWR), "", INVALID, Closed),
-    ];
-    play_new(&rt, 1, &ROWS)
-}
-
-#[test]
-fn gives_up_waiting(rt: HostRuntime) -> Result<(), Fail> {
-    const ROWS: [Row; 6] = [
-        (Initiator, Tick, "", None, Idle),
-        (Initiator, Start, CER, None, WaitCea),
-        (Initiator, Start, "", None, WaitCea),
-        (Initiator, Tick, "", Some(Why::Timeout), Closed),
-        (Responder, Start, "", None, WaitCer),
-        (Responder, Lost, "", None, Closed),
-    ];
-    play_new(&rt, 1, &ROWS)
+    Ok(())
 }

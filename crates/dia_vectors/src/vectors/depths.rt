@@ -1,108 +1,70 @@
 //! Verdicts on messages, by the length of an AVP and by the limit of levels.
 
-use super::check;
-use super::checks::{FAILED, HOST, IDS, REALM, verdicts};
-use dia_check::{Levels, Unknown};
-use dia_dict::base_text;
-use dia_run::{Command, Exit};
+use super::listings::nested;
+use super::rows;
+use std::process::Abort;
 use std::test::Fail;
 
-/// Groups of code 9001 in one another, as deep as one likes.
-const NODES: &str =
-    "<Node> ::= < AVP Header: 9001 > * [ Node ] <T> ::= < Diameter Header: 301, REQ > * [ Node ]";
+const ROWS: &str = r#"
+let FAILED = 0000011740000008
+
+# Each Length of an AVP of three bytes of data, without a Vendor-ID and with one.
+check kept any | $base | 0100002c80000118 $I 0000010840000000612e6200 $OR => 1 fault 5014 at 20 avp-length -\n
+check kept any | $base | 0100002c80000118 $I 0000010840000001612e6200 $OR => 1 fault 5014 at 20 avp-length -\n
+check kept any | $base | 0100002c80000118 $I 0000010840000002612e6200 $OR => 1 fault 5014 at 20 avp-length -\n
+check kept any | $base | 0100002c80000118 $I 0000010840000003612e6200 $OR => 1 fault 5014 at 20 avp-length -\n
+check kept any | $base | 0100002c80000118 $I 0000010840000004612e6200 $OR => 1 fault 5014 at 20 avp-length -\n
+check kept any | $base | 0100002c80000118 $I 0000010840000005612e6200 $OR => 1 fault 5014 at 20 avp-length -\n
+check kept any | $base | 0100002c80000118 $I 0000010840000006612e6200 $OR => 1 fault 5014 at 20 avp-length -\n
+check kept any | $base | 0100002c80000118 $I 0000010840000007612e6200 $OR => 1 fault 5014 at 20 avp-length -\n
+check kept any | $base | 0100002c80000118 $I 0000010840000008612e6200 $OR => 1 fault 5004 at 20 leaf-value Origin-Host\n
+check kept any | $base | 0100002c80000118 $I 0000010840000009612e6200 $OR => 0 valid DWR\n
+check kept any | $base | 0100002c80000118 $I 000001084000000a612e6200 $OR => 0 valid DWR\n
+check kept any | $base | 0100002c80000118 $I 000001084000000b612e6200 $OR => 0 valid DWR\n
+check kept any | $base | 0100002c80000118 $I 000001084000000c612e6200 $OR => 1 fault 5004 at 20 leaf-value Origin-Host\n
+check kept any | $base | 0100002c80000118 $I 000001084000000d612e6200 $OR => 1 fault 5004 at 20 leaf-value Origin-Host\n
+check kept any | $base | 0100002c80000118 $I 0000010840000018612e6200 $OR => 1 fault 5004 at 20 leaf-value Origin-Host\n
+check kept any | $base | 0100002c80000118 $I 0000010840000019612e6200 $OR => 1 fault 5014 at 20 avp-length -\n
+check kept any | $base | 0100002c80000118 $I 00000108c0000000612e6200 $OR => 1 fault 5014 at 20 avp-length -\n
+check kept any | $base | 0100002c80000118 $I 00000108c0000001612e6200 $OR => 1 fault 5014 at 20 avp-length -\n
+check kept any | $base | 0100002c80000118 $I 00000108c0000002612e6200 $OR => 1 fault 5014 at 20 avp-length -\n
+check kept any | $base | 0100002c80000118 $I 00000108c0000003612e6200 $OR => 1 fault 5014 at 20 avp-length -\n
+check kept any | $base | 0100002c80000118 $I 00000108c0000004612e6200 $OR => 1 fault 5014 at 20 avp-length -\n
+check kept any | $base | 0100002c80000118 $I 00000108c0000005612e6200 $OR => 1 fault 5014 at 20 avp-length -\n
+check kept any | $base | 0100002c80000118 $I 00000108c0000006612e6200 $OR => 1 fault 5014 at 20 avp-length -\n
+check kept any | $base | 0100002c80000118 $I 00000108c0000007612e6200 $OR => 1 fault 5014 at 20 avp-length -\n
+check kept any | $base | 0100002c80000118 $I 00000108c0000008612e6200 $OR => 1 fault 5014 at 20 avp-length -\n
+check kept any | $base | 0100002c80000118 $I 00000108c0000009612e6200 $OR => 1 fault 5014 at 20 avp-length -\n
+check kept any | $base | 0100002c80000118 $I 00000108c000000a612e6200 $OR => 1 fault 5014 at 20 avp-length -\n
+check kept any | $base | 0100002c80000118 $I 00000108c000000b612e6200 $OR => 1 fault 5014 at 20 avp-length -\n
+
+# The limit of levels.
+check kept 1 | $base | 0100003c80000118 $I $OH $OR 0000011740000010 0000270f00000008 => 0 valid DWR\n
+check kept 0 | $base | 0100003c80000118 $I $OH $OR 0000011740000010 0000270f00000008 => 1 fault 5012 at 44 depth Failed-AVP\n
+check kept 0 | $base | 0100003480000118 $I $OH $OR $FAILED => 1 fault 5012 at 44 depth Failed-AVP\n
+"#;
 
 #[test]
-fn tells_each_length_of_an_avp(rt: HostRuntime) -> Result<(), Fail> {
-    let alloc = rt.alloc();
-    let bad = "fault 5014 at 20 avp-length -\n";
-    let value = "fault 5004 at 20 leaf-value Origin-Host\n";
-    for flags in [0x40, 0xc0] {
-        for length in 0..26u32 {
-            let line = match (flags, length) {
-                (0x40, 8 | 12 | 13 | 24) => value,
-                (0x40, 9..=11) => "valid DWR\n",
-                (0x40, 0..=7 | 25) => bad,
-                (0xc0, 0..=11) => bad,
-                _ => continue,
-            };
-            let exit = if line.starts_with("valid ") {
-                Exit::Yes
-            } else {
-                Exit::No
-            };
-            let text = format!(in alloc;
-                "0100002c80000118{IDS}00000108{flags:02x}{length:06x}612e6200{REALM}"
-            )?;
-            check(
-                &rt,
-                &Command::Check {
-                    unknown: Unknown::Kept,
-                    levels: Levels::Any,
-                },
-                base_text().as_bytes(),
-                text.as_bytes(),
-                line,
-                exit,
-            )?;
-        }
-    }
-    Ok(())
+fn tells_lengths_and_levels(rt: HostRuntime) -> Result<(), Fail> {
+    rows(&rt, ROWS)
 }
 
-#[test]
-fn keeps_the_limit_of_levels(rt: HostRuntime) -> Result<(), Fail> {
-    let one: &[&str] = &[
-        "0100003c80000118",
-        IDS,
-        HOST,
-        REALM,
-        "0000011740000010",
-        "0000270f00000008",
-    ];
-    let deep = "fault 5012 at 44 depth Failed-AVP\n";
-    let inside: [(&[&str], &str); 1] = [(one, "valid DWR\n")];
-    verdicts(
-        &rt,
-        Unknown::Kept,
-        Levels::AtMost(1),
-        base_text(),
-        inside.as_slice(),
-    )?;
-    let outside: [(&[&str], &str); 2] = [
-        (one, deep),
-        (&["0100003480000118", IDS, HOST, REALM, FAILED], deep),
-    ];
-    verdicts(
-        &rt,
-        Unknown::Kept,
-        Levels::AtMost(0),
-        base_text(),
-        outside.as_slice(),
-    )
+/// Checks the verdict on a hundred thousand groups in one another under a limit on levels.
+fn goes_down(
+    rt: &(impl AllocGlobal + Abort),
+    text: &str,
+    levels: &str,
+    line: &str,
+) -> Result<(), Fail> {
+    let row = format!(in rt.alloc(); "check kept {levels} | $S2 | {text} => {line}")?;
+    rows(rt, row.as_str())
 }
 
 #[test]
 fn goes_down_a_hundred_thousand_levels(rt: HostRuntime) -> Result<(), Fail> {
-    let mut text = String::from_str(rt.alloc(), "010c35148000012d000000000000000100000002")?;
-    for outside in 0..100_000u32 {
-        let length = 800_000 - 8 * outside;
-        write!(text, "0000232900{length:06x}")?;
-    }
-    let valid: [(&[&str], &str); 1] = [(&[text.as_str()], "valid T\n")];
-    verdicts(&rt, Unknown::Kept, Levels::Any, NODES, valid.as_slice())?;
-    verdicts(
-        &rt,
-        Unknown::Kept,
-        Levels::AtMost(100_000),
-        NODES,
-        valid.as_slice(),
-    )?;
-    let deep: [(&[&str], &str); 1] = [(&[text.as_str()], "fault 5012 at 800012 depth Node\n")];
-    verdicts(
-        &rt,
-        Unknown::Kept,
-        Levels::AtMost(99_999),
-        NODES,
-        deep.as_slice(),
-    )
+    let text = nested(rt.alloc(), 100_000)?;
+    let text = text.as_str();
+    goes_down(&rt, text, "any", r"0 valid T\n")?;
+    goes_down(&rt, text, "100000", r"0 valid T\n")?;
+    goes_down(&rt, text, "99999", r"1 fault 5012 at 800012 depth Node\n")
 }

@@ -1,13 +1,46 @@
 //! Verdicts on messages whose texts are decoded in pieces of 4,096 bytes, that is 8,192 digits.
 
-use super::checks::{HOST, IDS, REALM};
-use super::{REQUEST, check, exit_of, joined};
+use super::{outcome, rows};
+use crate::words::same;
 use dia_check::{Levels, Unknown};
 use dia_dict::base_text;
-use dia_run::{Command, Exit};
+use dia_run::{Command, Input, Inputs};
 use std::alloc::{AllocError, Global};
 use std::process::Abort;
 use std::test::Fail;
+
+const ROWS: &str = r"
+# Fronts of messages: shorter than a header, as long or longer, and all of it.
+fronts 0..20 check kept any | $base | $REQUEST => 1 truncated\n
+fronts 20..44 check kept any | $base | $REQUEST => 1 truncated\n
+fronts 44..45 check kept any | $base | $REQUEST => 0 valid DWR\n
+fronts 0..20 check kept any | $base | 0200002c80000118 $I $OH $OR => 1 truncated\n
+fronts 20..44 check kept any | $base | 0200002c80000118 $I $OH $OR => 1 fault 5011 at 0 version -\n
+fronts 44..45 check kept any | $base | 0200002c80000118 $I $OH $OR => 1 fault 5011 at 0 version -\n
+fronts 0..20 check kept any | $base | 0000002c80000118 $I $OH $OR => 1 truncated\n
+fronts 20..44 check kept any | $base | 0000002c80000118 $I $OH $OR => 1 fault 5011 at 0 version -\n
+fronts 44..45 check kept any | $base | 0000002c80000118 $I $OH $OR => 1 fault 5011 at 0 version -\n
+fronts 0..20 check kept any | $base | 0100002d80000118 $I $OH $OR => 1 truncated\n
+fronts 20..44 check kept any | $base | 0100002d80000118 $I $OH $OR => 1 fault 5015 at 1 length -\n
+fronts 44..45 check kept any | $base | 0100002d80000118 $I $OH $OR => 1 fault 5015 at 1 length -\n
+fronts 0..20 check kept any | $base | 0100001080000118 $I $OH $OR => 1 truncated\n
+fronts 20..44 check kept any | $base | 0100001080000118 $I $OH $OR => 1 fault 5015 at 1 length -\n
+fronts 44..45 check kept any | $base | 0100001080000118 $I $OH $OR => 1 fault 5015 at 1 length -\n
+fronts 0..20 check kept any | $base | 0100000080000118 $I $OH $OR => 1 truncated\n
+fronts 20..44 check kept any | $base | 0100000080000118 $I $OH $OR => 1 fault 5015 at 1 length -\n
+fronts 44..45 check kept any | $base | 0100000080000118 $I $OH $OR => 1 fault 5015 at 1 length -\n
+";
+
+#[test]
+fn tells_each_front_of_a_message(rt: HostRuntime) -> Result<(), Fail> {
+    rows(&rt, ROWS)
+}
+
+/// Application 0, Hop-by-Hop Identifier 1, End-to-End Identifier 2.
+const IDS: &str = "000000000000000100000002";
+
+/// Origin-Host `a.b` and Origin-Realm `b`.
+const AVPS: &str = "000001084000000b612e6200000001284000000962000000";
 
 /// Any AVPs at all.
 const ANY: &str = "<T> ::= < Diameter Header: 302, REQ > * [ AVP ]";
@@ -16,26 +49,50 @@ const ANY: &str = "<T> ::= < Diameter Header: 302, REQ > * [ AVP ]";
 const TEXT: &str = "%avp X 9003 UTF8String any <T> ::= < Diameter Header: 302, REQ > { X }";
 
 /// What is told of a text that is no hexadecimal.
-const WRONG: &str = "message: not hexadecimal\n";
+const WRONG: &str = "2 message: not hexadecimal\n";
 
 /// Message Length, AVP Length and the count of data bytes of a message with one AVP: of 4,096 and of 4,100 bytes.
 const ONE_PIECE: (&str, &str, usize) = ("001000", "000fec", 4068);
 
 const TWO_PIECES: (&str, &str, usize) = ("001004", "000ff0", 4072);
 
-/// Checks the line of `check` for a message's text, with unknown AVPs kept.
+/// The command of the verdicts.
+const CHECK: Command = Command::Check {
+    unknown: Unknown::Kept,
+    levels: Levels::Any,
+};
+
+/// Checks the verdict on a message's text, with unknown AVPs kept: the status and the line.
 fn checks(
     rt: &(impl AllocGlobal + Abort),
     dictionary: &str,
     message: &[u8],
-    line: &str,
-    exit: Exit,
+    wanted: &str,
 ) -> Result<(), Fail> {
-    let command = Command::Check {
-        unknown: Unknown::Kept,
-        levels: Levels::Any,
+    let inputs = inputs(rt.alloc(), dictionary, message)?;
+    let found = outcome(rt.alloc(), &CHECK, &inputs)?;
+    same(rt, found.as_slice(), wanted.as_bytes(), wanted);
+    Ok(())
+}
+
+/// Inputs with this dictionary text and this message text, and nothing else.
+fn inputs(alloc: Global, dictionary: &str, message: &[u8]) -> Result<Box<Inputs>, Fail> {
+    let inputs = Inputs {
+        first: Input::Bytes(Vec::from_slice(alloc, dictionary.as_bytes())?),
+        second: Input::Bytes(Vec::new(alloc)),
+        table: Input::Bytes(Vec::new(alloc)),
+        message: Input::Bytes(Vec::from_slice(alloc, message)?),
     };
-    check(rt, &command, dictionary.as_bytes(), message, line, exit)
+    Ok(Box::new(alloc, inputs)?)
+}
+
+/// The text of these pieces.
+fn joined(alloc: Global, pieces: &[&str]) -> Result<Vec<u8>, AllocError> {
+    let mut text = Vec::new(alloc);
+    for piece in pieces {
+        text.extend_from_slice(piece.as_bytes())?;
+    }
+    Ok(text)
 }
 
 /// The text of a message of `ANY` with one unknown AVP, whose data are the byte `61` again and again.
@@ -70,30 +127,30 @@ fn takes_a_message_of_any_number_of_pieces(rt: HostRuntime) -> Result<(), Fail> 
 
 /// Checks a valid message, the same without its last digit, without its last two, and with digits behind it.
 fn takes_message(rt: &(impl AllocGlobal + Abort), text: &mut Vec<u8>) -> Result<(), Fail> {
-    checks(rt, ANY, text.as_slice(), "valid T\n", Exit::Yes)?;
+    checks(rt, ANY, text.as_slice(), "0 valid T\n")?;
     let Some(digit) = text.pop() else {
         return Ok(());
     };
-    checks(rt, ANY, text.as_slice(), WRONG, Exit::Bad)?;
+    checks(rt, ANY, text.as_slice(), WRONG)?;
     let _other = text.pop();
     takes_rest(rt, text, digit)
 }
 
 /// Checks a message without its last two digits, and with that byte and more digits behind them.
 fn takes_rest(rt: &(impl AllocGlobal + Abort), text: &mut Vec<u8>, digit: u8) -> Result<(), Fail> {
-    checks(rt, ANY, text.as_slice(), "truncated\n", Exit::No)?;
+    checks(rt, ANY, text.as_slice(), "1 truncated\n")?;
     text.extend_from_slice(&[b'0', digit, b'\n', b'0'])?;
-    checks(rt, ANY, text.as_slice(), WRONG, Exit::Bad)?;
+    checks(rt, ANY, text.as_slice(), WRONG)?;
     text.push(b'0')?;
-    checks(rt, ANY, text.as_slice(), "trailing\n", Exit::No)
+    checks(rt, ANY, text.as_slice(), "1 trailing\n")
 }
 
 #[test]
 fn takes_the_longest_message(rt: HostRuntime) -> Result<(), Fail> {
     let mut text = one_avp(rt.alloc(), ("fffffc", "ffffe8", 16_777_184))?;
-    checks(&rt, ANY, text.as_slice(), "valid T\n", Exit::Yes)?;
+    checks(&rt, ANY, text.as_slice(), "0 valid T\n")?;
     text.extend_from_slice(b"0g")?;
-    checks(&rt, ANY, text.as_slice(), WRONG, Exit::Bad)
+    checks(&rt, ANY, text.as_slice(), WRONG)
 }
 
 #[test]
@@ -112,16 +169,16 @@ fn takes_white_space_between_any_digits(rt: HostRuntime) -> Result<(), Fail> {
 
 /// Checks a valid message with white space in it, and that one digit behind it is refused.
 fn takes_apart(rt: &(impl AllocGlobal + Abort), apart: &mut Vec<u8>) -> Result<(), Fail> {
-    checks(rt, ANY, apart.as_slice(), "valid T\n", Exit::Yes)?;
+    checks(rt, ANY, apart.as_slice(), "0 valid T\n")?;
     apart.extend_from_slice(b"\t0\n")?;
-    checks(rt, ANY, apart.as_slice(), WRONG, Exit::Bad)
+    checks(rt, ANY, apart.as_slice(), WRONG)
 }
 
 #[test]
 fn takes_white_space_alone_for_no_bytes(rt: HostRuntime) -> Result<(), Fail> {
     let long = " \t\r\n".repeat(rt.alloc(), 5000)?;
     for text in ["", " ", "\r\n", long.as_str()] {
-        checks(&rt, ANY, text.as_bytes(), "truncated\n", Exit::No)?;
+        checks(&rt, ANY, text.as_bytes(), "1 truncated\n")?;
     }
     Ok(())
 }
@@ -146,16 +203,16 @@ fn around(alloc: Global, pair: &str) -> Result<Vec<u8>, AllocError> {
 
 #[test]
 fn reads_a_value_across_pieces(rt: HostRuntime) -> Result<(), Fail> {
-    const BAD: &str = "fault 5004 at 20 leaf-value X\n";
-    const ROWS: &[(&str, &str, Exit)] = &[
-        ("c3a9", "valid T\n", Exit::Yes),
-        ("6161", "valid T\n", Exit::Yes),
-        ("c361", BAD, Exit::No),
-        ("61a9", BAD, Exit::No),
+    const BAD: &str = "1 fault 5004 at 20 leaf-value X\n";
+    const ROWS: &[(&str, &str)] = &[
+        ("c3a9", "0 valid T\n"),
+        ("6161", "0 valid T\n"),
+        ("c361", BAD),
+        ("61a9", BAD),
     ];
-    for (pair, line, exit) in ROWS.iter() {
+    for (pair, line) in ROWS.iter() {
         let text = around(rt.alloc(), pair)?;
-        checks(&rt, TEXT, text.as_slice(), line, *exit)?;
+        checks(&rt, TEXT, text.as_slice(), line)?;
     }
     Ok(())
 }
@@ -172,7 +229,7 @@ fn refuses_behind(rt: &(impl AllocGlobal + Abort), text: &[u8]) -> Result<(), Fa
     const ROWS: &[&str] = &["0", "g", "0g", "g0", "-", "0x00", "00 00 0", "\u{b}", "é"];
     for behind in ROWS.iter() {
         let more = followed(rt.alloc(), text, behind.as_bytes())?;
-        checks(rt, base_text(), more.as_slice(), WRONG, Exit::Bad)?;
+        checks(rt, base_text(), more.as_slice(), WRONG)?;
     }
     Ok(())
 }
@@ -185,7 +242,7 @@ fn reads_behind(
     line: &str,
 ) -> Result<(), Fail> {
     let more = followed(rt.alloc(), text, behind.as_bytes())?;
-    checks(rt, base_text(), more.as_slice(), line, Exit::No)?;
+    checks(rt, base_text(), more.as_slice(), line)?;
     reads_message_behind(rt, more.as_slice(), line)
 }
 
@@ -197,7 +254,7 @@ fn reads_message_behind(
 ) -> Result<(), Fail> {
     let whole = one_avp(rt.alloc(), ONE_PIECE)?;
     let most = followed(rt.alloc(), text, whole.as_slice())?;
-    checks(rt, base_text(), most.as_slice(), line, Exit::No)?;
+    checks(rt, base_text(), most.as_slice(), line)?;
     refuses_behind(rt, most.as_slice())
 }
 
@@ -205,13 +262,13 @@ fn reads_message_behind(
 fn reads_the_text_to_its_end(rt: HostRuntime) -> Result<(), Fail> {
     // A valid message, and ones whose version, Message Length, and flags R and E together are at fault.
     const ROWS: &[(&str, &str)] = &[
-        ("0100002c80000118", "trailing\n"),
-        ("0200002c80000118", "fault 5011 at 0 version -\n"),
-        ("0100002e80000118", "fault 5015 at 1 length -\n"),
-        ("0100002ca0000118", "trailing\n"),
+        ("0100002c80000118", "1 trailing\n"),
+        ("0200002c80000118", "1 fault 5011 at 0 version -\n"),
+        ("0100002e80000118", "1 fault 5015 at 1 length -\n"),
+        ("0100002ca0000118", "1 trailing\n"),
     ];
     for (head, line) in ROWS.iter() {
-        let message = joined(rt.alloc(), &[head, IDS, HOST, REALM])?;
+        let message = joined(rt.alloc(), &[head, IDS, AVPS])?;
         reads_to_the_end(&rt, message.as_slice(), line)?;
     }
     Ok(())
@@ -252,56 +309,7 @@ fn refuses_between(rt: &(impl AllocGlobal + Abort), front: &[u8], rest: &[u8]) -
     for sign in [b'g', b'/', b':', b'@', b'G', b'`', b'\0', 0xc3] {
         let mut wrong = followed(rt.alloc(), front, &[sign])?;
         wrong.extend_from_slice(rest)?;
-        checks(rt, ANY, wrong.as_slice(), WRONG, Exit::Bad)?;
-    }
-    Ok(())
-}
-
-#[test]
-fn tells_each_front_of_a_message(rt: HostRuntime) -> Result<(), Fail> {
-    const VERSION: &str = "fault 5011 at 0 version -\n";
-    const LENGTH: &str = "fault 5015 at 1 length -\n";
-    const ROWS: &[(&str, &str, &str)] = &[
-        ("01", "truncated\n", "valid DWR\n"),
-        ("02", VERSION, VERSION),
-        ("00", VERSION, VERSION),
-        ("0100002d", LENGTH, LENGTH),
-        ("01000010", LENGTH, LENGTH),
-        ("01000000", LENGTH, LENGTH),
-    ];
-    for (front, line, all) in ROWS.iter() {
-        tells_with_front(&rt, front, line, all)?;
-    }
-    Ok(())
-}
-
-/// Checks the line of each front of `REQUEST` with this in place of its first digits.
-fn tells_with_front(
-    rt: &(impl AllocGlobal + Abort),
-    front: &str,
-    line: &str,
-    all: &str,
-) -> Result<(), Fail> {
-    let rest = REQUEST.get(front.len()..).ok_or("short")?;
-    let text = joined(rt.alloc(), &[front, rest])?;
-    tells_fronts(rt, text.as_slice(), line, all)
-}
-
-/// Checks the line of each front of a message of 44 bytes: shorter than a header, as long or longer, and all of it.
-fn tells_fronts(
-    rt: &(impl AllocGlobal + Abort),
-    text: &[u8],
-    line: &str,
-    all: &str,
-) -> Result<(), Fail> {
-    for count in 0..45usize {
-        let told = match count {
-            0..=19 => "truncated\n",
-            44 => all,
-            _ => line,
-        };
-        let bytes = text.get(..2 * count).ok_or("short")?;
-        checks(rt, base_text(), bytes, told, exit_of(told))?;
+        checks(rt, ANY, wrong.as_slice(), WRONG)?;
     }
     Ok(())
 }

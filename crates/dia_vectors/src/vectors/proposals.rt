@@ -1,113 +1,37 @@
 //! Tables that are proposed, and compared with.
 
-use super::comparisons::{P_AND_Q, P2_AND_Q2, T, T5, X, Y};
-use super::{Two, check_two};
-use dia_check::Unknown;
-use dia_run::{Command, Exit};
-use std::alloc::{AllocError, Global};
-use std::process::Abort;
+use super::rows;
 use std::test::Fail;
 
-/// Two dictionaries in pieces, the policy and the names, the table that is proposed, and the line of a comparison with it.
-type Row<'a> = (
-    &'a [&'a str],
-    &'a [&'a str],
-    Unknown,
-    &'a [&'a str],
-    &'a str,
-    &'a str,
-);
+const ROWS: &str = r#"
+# A second request of the same code, for one application. Groups that hold each other, under their names in each dictionary.
+let T5 = <T5> ::= < Diameter Header: 302, REQ, 5 > { X }
+let P_AND_Q = <P> ::= < AVP Header: 9100 > { Q } <Q> ::= < AVP Header: 9101 > { P }
+let P2_AND_Q2 = <P2> ::= < AVP Header: 9100 > { Q2 } <Q2> ::= < AVP Header: 9101 > { P2 }
 
-/// Tables that are proposed, of dictionaries that compare and that do not.
-const ROWS: &[Row<'static>] = &[
-    (
-        &[X, T, "{ X } * [ AVP ]"],
-        &[X, Y, T, "{ X } * [ AVP ]"],
-        Unknown::Refused,
-        &["T"],
-        "command T = T\navp X = X\n",
-        "yes\n",
-    ),
-    (
-        &[X, T, "{ X } * [ AVP ]"],
-        &[X, Y, T, "{ X } * [ AVP ]"],
-        Unknown::Kept,
-        &["T"],
-        "command T = T\navp X = X\n",
-        "no command T = T N9\n",
-    ),
-    (
-        &[X, T, "{ X }"],
-        &[X, T, "{ X } ", T5],
-        Unknown::Kept,
-        &["T", "T"],
-        "command T = T\ncommand T = T5\navp X = X\n",
-        "yes\n",
-    ),
-    (
-        &[P_AND_Q, T, "{ P }"],
-        &[P2_AND_Q2, T, "{ P2 }"],
-        Unknown::Kept,
-        &["T"],
-        "command T = T\navp P = P2\navp Q = Q2\n",
-        "yes\n",
-    ),
-    (
-        &[X, T, "{ X }"],
-        &[X],
-        Unknown::Kept,
-        &["T"],
-        "command T = T\navp X = X\n",
-        "no command T = T N10\n",
-    ),
-    (&[X], &[X], Unknown::Kept, &[], "", "yes\n"),
-];
+# What is proposed, and the line of a comparison with it.
+propose refused T | $X $T { X } * [ AVP ] | $X $Y $T { X } * [ AVP ] => 0 command T = T\navp X = X\n
+compare refused | $X $T { X } * [ AVP ] | $X $Y $T { X } * [ AVP ] | command T = T\navp X = X\n => 0 yes\n
+propose kept T | $X $T { X } * [ AVP ] | $X $Y $T { X } * [ AVP ] => 0 command T = T\navp X = X\n
+compare kept | $X $T { X } * [ AVP ] | $X $Y $T { X } * [ AVP ] | command T = T\navp X = X\n => 1 no command T = T N9\n
+propose kept T T | $X $T { X } | $X $T { X } $T5 => 0 command T = T\ncommand T = T5\navp X = X\n
+compare kept | $X $T { X } | $X $T { X } $T5 | command T = T\ncommand T = T5\navp X = X\n => 0 yes\n
+propose kept T | $P_AND_Q $T { P } | $P2_AND_Q2 $T { P2 } => 0 command T = T\navp P = P2\navp Q = Q2\n
+compare kept | $P_AND_Q $T { P } | $P2_AND_Q2 $T { P2 } | command T = T\navp P = P2\navp Q = Q2\n => 0 yes\n
+propose kept T | $X $T { X } | $X => 0 command T = T\navp X = X\n
+compare kept | $X $T { X } | $X | command T = T\navp X = X\n => 1 no command T = T N10\n
+propose kept | $X | $X => 0
+compare kept | $X | $X | => 0 yes\n
+
+# The first name of no command.
+propose kept T Q R | $X $T { X } | $X $T 1*3 { X } => 2 propose: no command Q\n
+
+# The empty name is no command's.
+propose kept - | $X $T { X } | $X $T { X } => 2 propose: no command \n
+propose kept T - | $X $T { X } | $X $T { X } => 2 propose: no command \n
+"#;
 
 #[test]
 fn proposes_tables(rt: HostRuntime) -> Result<(), Fail> {
-    for row in ROWS.iter() {
-        proposes(&rt, row)?;
-        compares(&rt, row)?;
-    }
-    Ok(())
-}
-
-/// Checks the table that is proposed.
-fn proposes(rt: &(impl AllocGlobal + Abort), row: &Row<'_>) -> Result<(), Fail> {
-    let (first, second, unknown, names, table, _line) = row;
-    let command = propose(rt.alloc(), *unknown, names)?;
-    let texts: Two<'_> = (first, second, &[*table], "");
-    check_two(rt, &command, texts, table, Exit::Yes)
-}
-
-/// Checks the line of a comparison with the table that is proposed.
-fn compares(rt: &(impl AllocGlobal + Abort), row: &Row<'_>) -> Result<(), Fail> {
-    let (first, second, unknown, _names, table, line) = row;
-    let exit = if *line == "yes\n" {
-        Exit::Yes
-    } else {
-        Exit::No
-    };
-    let command = Command::Compare { unknown: *unknown };
-    let texts: Two<'_> = (first, second, &[*table], "");
-    check_two(rt, &command, texts, line, exit)
-}
-
-#[test]
-fn tells_the_first_name_of_no_command(rt: HostRuntime) -> Result<(), Fail> {
-    let command = propose(rt.alloc(), Unknown::Kept, &["T", "Q", "R"])?;
-    let texts: Two<'_> = (&[X, T, "{ X }"], &[X, T, "1*3 { X }"], &[], "");
-    check_two(&rt, &command, texts, "propose: no command Q\n", Exit::Bad)
-}
-
-/// The command for these names.
-fn propose(alloc: Global, unknown: Unknown, names: &[&str]) -> Result<Command, AllocError> {
-    let mut owned = Vec::new(alloc);
-    for name in names {
-        owned.push(String::from_str(alloc, name)?)?;
-    }
-    Ok(Command::Propose {
-        unknown,
-        names: owned,
-    })
+    rows(&rt, ROWS)
 }

@@ -1,54 +1,26 @@
 //! Messages against two dictionaries.
 
-use super::check_two;
-use super::comparisons::{T, X, Y};
-use dia_check::{Levels, Unknown};
-use dia_run::{Command, Exit};
+use super::rows;
 use std::test::Fail;
 
-/// The first dictionary, and the second.
-const FIRST: &[&str] = &[X, T, "{ X } * [ AVP ]"];
+const ROWS: &str = r#"
+# An X, and then an AVP of Y's code whose length is no AVP's of Y's format: the first dictionary doesn't know it.
+let UNLIKE = 0100002c8000012e $I 0000232a4000000c000000070000232b00000009ff000000
+let ALIKE = 010000208000012e $I 0000232a4000000c00000007
 
-const SECOND: &[&str] = &[X, Y, T, "{ X } * [ AVP ]"];
+# The first dictionary, and the second.
+let FIRST = $X $T { X } * [ AVP ]
+let SECOND = $X $Y $T { X } * [ AVP ]
 
-/// An X, and then an AVP of Y's code whose length is no AVP's of Y's format: the first dictionary doesn't know it.
-const UNLIKE: &str =
-    "0100002c8000012e0000000000000001000000020000232a4000000c000000070000232b00000009ff000000";
-
-const ALIKE: &str = "010000208000012e0000000000000001000000020000232a4000000c00000007";
-
-/// Two dictionaries in pieces, a message, the line that is told of it, and how that ends.
-type Row<'a> = (&'a [&'a str], &'a [&'a str], &'a str, &'a str, Exit);
-
-const ROWS: &[Row<'static>] = &[
-    (FIRST, SECOND, UNLIKE, "refutes\n", Exit::Yes),
-    (SECOND, FIRST, UNLIKE, "does not refute\n", Exit::No),
-    (FIRST, SECOND, ALIKE, "does not refute\n", Exit::No),
-    (FIRST, SECOND, "0", "message: not hexadecimal\n", Exit::Bad),
-    (
-        FIRST,
-        &["%avp"],
-        "0",
-        "dictionary 2: syntax at line 1\n",
-        Exit::Bad,
-    ),
-    (
-        &["%avp"],
-        &["%avp"],
-        "0",
-        "dictionary 1: syntax at line 1\n",
-        Exit::Bad,
-    ),
-];
+refute kept any | $FIRST | $SECOND | $UNLIKE => 0 refutes\n
+refute kept any | $SECOND | $FIRST | $UNLIKE => 1 does not refute\n
+refute kept any | $FIRST | $SECOND | $ALIKE => 1 does not refute\n
+refute kept any | $FIRST | $SECOND | 0 => 2 message: not hexadecimal\n
+refute kept any | $FIRST | %avp | 0 => 2 dictionary 2: syntax at line 1\n
+refute kept any | %avp | %avp | 0 => 2 dictionary 1: syntax at line 1\n
+"#;
 
 #[test]
 fn tells_whether_a_message_refutes(rt: HostRuntime) -> Result<(), Fail> {
-    let command = Command::Refute {
-        unknown: Unknown::Kept,
-        levels: Levels::Any,
-    };
-    for (a, b, message, line, exit) in ROWS.iter() {
-        check_two(&rt, &command, (a, b, &[], message), line, *exit)?;
-    }
-    Ok(())
+    rows(&rt, ROWS)
 }
