@@ -10,6 +10,7 @@ mod example;
 mod faults;
 mod names;
 mod schedules;
+mod steps;
 
 const fn auth(id: u32) -> App {
     App {
