@@ -7,8 +7,8 @@ use Rattle.dia_wire.specs.Wire.{PlainAvp, key_of, padded_length}
 use Rattle.dia_data.specs.Leaf.{IsLeaf}
 use Rattle.dia_book.specs.Dictionary.{Dictionary, DictEntry, PlainDefinition}
 use Rattle.dia_check.specs.Valid.{known}
-use Rattle.dia_sites.specs.declared.Sends.{Sends}
-use Rattle.dia_sites.specs.declared.Sends.TheVariants.{Any}
+use Rattle.dia_policy.specs.declared.Sends.{Sends}
+use Rattle.dia_policy.specs.declared.Sends.TheVariants.{Any}
 use Rattle.dia_sites.specs.Sent.{IsSent, IsSentAvp, StandAsSent}
 use Rattle.dia_least.specs.Floors.{AreFloors, IsAttained, IsSpellable, padded, shortest_head, total}
 

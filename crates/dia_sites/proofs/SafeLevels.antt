@@ -10,7 +10,7 @@ use Rattle.dia_book.specs.Dictionary.{Dictionary, DictEntry, PlainDefinition}
 use Rattle.dia_policy.specs.declared.Unknown.{Unknown}
 use Rattle.dia_check.specs.Valid.{known, MHolds, IsAccepted, FitsBy, IsLevel, Fits, Placed}
 use Rattle.dia_check.specs.Walks.{group_at}
-use Rattle.dia_sites.specs.declared.sends.Sends.{Sends}
+use Rattle.dia_policy.specs.declared.sends.Sends.{Sends}
 use Rattle.dia_sites.specs.Sent.{own_policy, StandAsSent, IsSentLevel, IsSentWithin, AreBytes}
 use Rattle.dia_sites.specs.Sites.{Site, IsLevelOf, FitsAlone, HasSite, AreSafe, AreLevelsOfB}
 use Rattle.dia_sites.proofs.Members.{IsIn, contains_in, in_all, all_map, all_parts}

@@ -11,7 +11,7 @@ use Rattle.dia_book.specs.Dictionary.{Dictionary, PlainDefinition, definitions}
 use Rattle.dia_policy.specs.declared.Unknown.{Unknown}
 use Rattle.dia_policy.specs.declared.Levels.TheVariants as levels
 use Rattle.dia_check.specs.Valid.{class_of, Placed, IsValid}
-use Rattle.dia_sites.specs.declared.sends.Sends.{Sends}
+use Rattle.dia_policy.specs.declared.sends.Sends.{Sends}
 use Rattle.dia_sites.specs.Sent.{StandAsSent, AreBytes, IsSent}
 use Rattle.dia_sites.specs.Sites.{Site, IsLevelOf, AreSafe}
 use Rattle.dia_sites.specs.Selection.{max_body, IsMet, AreMet, AreValid}

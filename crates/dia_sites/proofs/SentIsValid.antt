@@ -6,8 +6,8 @@ use Rattle.dia_book.specs.declared.DRule.{DRule}
 use Rattle.dia_book.specs.Dictionary.{Dictionary}
 use Rattle.dia_policy.specs.declared.Levels.TheVariants as levels
 use Rattle.dia_check.specs.Valid.{known, IsLevel, Fits, Placed, IsValidOf}
-use Rattle.dia_sites.specs.declared.sends.Sends.{Sends}
-use Rattle.dia_sites.specs.declared.sends.Sends.TheVariants as sends
+use Rattle.dia_policy.specs.declared.sends.Sends.{Sends}
+use Rattle.dia_policy.specs.declared.sends.Sends.TheVariants as sends
 use Rattle.dia_sites.specs.Sent.{own_policy, StandAsSent, IsSentLevel, IsSentWithin, AreBytes, IsSent}
 use Rattle.dia_sites.proofs.Members.{all_map}
 use Rattle.dia_sites.proofs.SafeLevels.{body_more}

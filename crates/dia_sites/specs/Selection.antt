@@ -9,7 +9,7 @@ use Rattle.dia_book.specs.Dictionary.{Dictionary, PlainDefinition, definitions, 
 use Rattle.dia_policy.specs.declared.Unknown.{Unknown}
 use Rattle.dia_policy.specs.declared.Levels.TheVariants as levels
 use Rattle.dia_check.specs.Valid.{AllowsP, IsValid}
-use Rattle.dia_sites.specs.declared.sends.Sends.{Sends}
+use Rattle.dia_policy.specs.declared.sends.Sends.{Sends}
 use Rattle.dia_sites.specs.Sent.{IsSent}
 use Rattle.dia_sites.specs.Sites.{Site, HasSite}
 

@@ -10,8 +10,8 @@ use Rattle.dia_policy.specs.declared.Unknown.{Unknown}
 use Rattle.dia_policy.specs.declared.Unknown.TheVariants.{Kept, Refused}
 use Rattle.dia_policy.specs.declared.Levels.TheVariants as levels
 use Rattle.dia_check.specs.Valid.{HasR, HasE, HasT, class_of, AllowsP, Placed, FitsBy, IsValid, is_listed}
-use Rattle.dia_sites.specs.declared.sends.Sends.{Sends}
-use Rattle.dia_sites.specs.declared.sends.Sends.TheVariants as sends
+use Rattle.dia_policy.specs.declared.sends.Sends.{Sends}
+use Rattle.dia_policy.specs.declared.sends.Sends.TheVariants as sends
 
 -- what the sender does with AVPs that its dictionary doesn't know
 abbrev pub own_policy : Sends → Unknown

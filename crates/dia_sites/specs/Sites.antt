@@ -7,7 +7,7 @@ use Rattle.dia_policy.specs.declared.Unknown.{Unknown}
 use Rattle.dia_policy.specs.declared.Levels.TheVariants as levels
 use Rattle.dia_check.specs.Valid.{Placed, IsLevel, FitsBy, Fits, AllFit}
 use Rattle.dia_check.specs.Walks.{group_at}
-use Rattle.dia_sites.specs.declared.sends.Sends.{Sends}
+use Rattle.dia_policy.specs.declared.sends.Sends.{Sends}
 use Rattle.dia_sites.specs.Sent.{StandAsSent, AreSentAvps, AreBytes}
 
 -- a level that is read so has room for this many bytes

@@ -6,9 +6,8 @@
 #![tactic(auto)]
 
 mod safe;
-mod sends;
 mod sent;
 
+pub use dia_policy::Sends;
 pub use safe::{few_headers_tell, levels_keep_to_room, safe_sites_include, safe_sites_read_levels};
-pub use sends::Sends;
 pub use sent::{sent_is_valid, valid_is_sent};

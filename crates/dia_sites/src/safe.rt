@@ -3,7 +3,7 @@ ghost use Rattle.dia_wire.specs.Wire.{PlainAvp, padded_length};
 ghost use Rattle.dia_book.specs.declared.DRule.{DRule as AnyRule};
 ghost use Rattle.dia_book.specs.Dictionary.{Dictionary, PlainDefinition, IsDictionary, definitions};
 ghost use Rattle.dia_policy.specs.declared.Unknown.{Unknown as AnyPolicy};
-ghost use Rattle.dia_sites.specs.declared.sends.Sends.{Sends as AnySender};
+ghost use Rattle.dia_policy.specs.declared.sends.Sends.{Sends as AnySender};
 ghost use Rattle.dia_sites.specs.Sites.{Site, IsLevelOf, AreSafe, AreLevelsOfB};
 ghost use Rattle.dia_sites.specs.Selection.{AreMet, AreValid, IsMetBy};
 

@@ -1,0 +1,25 @@
+//! What holds of the levels of definitions: by it a level is looked at as counts of keys and one order.
+ghost use Rattle.dia_levels.specs.Laws.{DefinitionsAreSound, PlacedIsInPlace, PlacedOrBreach};
+ghost use Rattle.dia_levels.specs.Laws.{BreachIsUnplaced, PlanIsPlaced, PlanIsLeast};
+
+/// The rules of a dictionary's definitions are as the other laws want them.
+pub fn definitions_are_sound()
+    ensures { DefinitionsAreSound }
+{}
+
+/// AVPs stand as rules say just where they come as often as these say, and in the order of the fixed ones.
+pub fn placed_is_in_place()
+    ensures { PlacedIsInPlace }
+{}
+
+/// AVPs that don't stand as rules say break them in one of six ways.
+pub fn breaches_are_all()
+    ensures either { PlacedOrBreach }
+    ensures never_both { BreachIsUnplaced }
+{}
+
+/// The least counts of rules, with a shortest AVP for the wildcard, are the least level.
+pub fn plan_is_least()
+    ensures placed { PlanIsPlaced }
+    ensures least { PlanIsLeast }
+{}
