@@ -1,0 +1,32 @@
+use crate::command::Command;
+use dia_policy::{Levels, Sends, Unknown};
+
+/// What the command line asks the program to do.
+#[derive(Debug, PartialEq, Eq, Drop)]
+pub enum Task {
+    /// A command whose inputs are read whole.
+    Whole(Command),
+    /// Prints each way in which messages that A's side sends break under B, for these commands of A, or for all.
+    Breaking {
+        sends: Sends,
+        unknown: Unknown,
+        /// Whether each line is followed by a message that shows it.
+        messages: bool,
+        names: Vec<String>,
+    },
+    /// Tells of each line, a message, whether it is valid.
+    CheckLines {
+        unknown: Unknown,
+        levels: Levels,
+    },
+    /// Tells of each line, a message, whether it is valid under the first dictionary and not under the second.
+    RefuteLines {
+        unknown: Unknown,
+        levels: Levels,
+    },
+    /// Tells of each message of a stream of bytes whether it is valid.
+    CheckStream {
+        unknown: Unknown,
+        levels: Levels,
+    },
+}
