@@ -13,7 +13,8 @@ impl Witness {
     ghost use Rattle.dia_witness.specs.Shortest.{witness_bytes};
     ghost use Rattle.dia_witness.specs.Kinds.{four_bytes};
 
-    pub(crate) fn new(bytes: &[u8]) -> Self
+    /// These bytes.
+    pub fn new(bytes: &[u8]) -> Self
         requires { length bytes.now ≤ 8 }
         ensures { witness_bytes result ≡ bytes.now }
     {

@@ -1,0 +1,48 @@
+//! The M flags that a side sends or accepts.
+
+use dia_book::{Book, Key, MRule};
+use dia_policy::{Sends, Unknown};
+
+/// Which M flags an AVP may have.
+#[derive(Clone, Copy)]
+pub(crate) struct MFlags {
+    pub(crate) clear: bool,
+    pub(crate) set: bool,
+}
+
+/// What the sender does with AVPs that its dictionary doesn't know.
+pub(crate) fn own_policy(sends: Sends) -> Unknown {
+    match sends {
+        Sends::Any => Unknown::Kept,
+        Sends::Known | Sends::Listed => Unknown::Refused,
+    }
+}
+
+/// The M flags that an AVP of the key may have, with this policy where the dictionary doesn't know it.
+pub(crate) fn m_flags<B: Book>(book: &B, key: Key, unknown: Unknown) -> MFlags {
+    match book.avp(key) {
+        Some(entry) => flags_of_rule(book.rule(entry)),
+        None => MFlags {
+            clear: unknown == Unknown::Kept,
+            set: false,
+        },
+    }
+}
+
+fn flags_of_rule(rule: MRule) -> MFlags {
+    MFlags {
+        clear: rule != MRule::Must,
+        set: rule != MRule::MustNot,
+    }
+}
+
+/// The M flag that is sent and not accepted: clear, where both are so.
+pub(crate) fn refused_flag(sent: MFlags, accepted: MFlags) -> Option<bool> {
+    if sent.clear && !accepted.clear {
+        Some(false)
+    } else if sent.set && !accepted.set {
+        Some(true)
+    } else {
+        None
+    }
+}

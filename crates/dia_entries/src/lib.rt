@@ -1,0 +1,14 @@
+//! Which AVPs of a key break by themselves: by their M flag or by their data, whatever stands around them.
+#![tactic(auto)]
+
+mod avp;
+mod breaking;
+mod flags;
+mod forms;
+
+pub use avp::avp_breaks;
+pub use breaking::{AvpBreaks, DataBreak, HeadBreak};
+pub use dia_book::{Book, DefId};
+pub use dia_policy::{Sends, Unknown};
+pub use dia_wire::Key;
+pub use dia_witness::Witness;
