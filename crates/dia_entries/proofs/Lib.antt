@@ -1,1 +1,7 @@
 pub mod Entries
+pub mod FirstAvps
+pub mod EmptyLevels
+pub mod NoLevels
+pub mod Heads
+pub mod Readings
+pub mod Alone

@@ -1,6 +1,9 @@
 //! The AVPs of one key.
 ghost use Rattle.std.specs.Prelude.{◌≡◌, Some};
 ghost use Rattle.dia_book.specs.Dictionary.{entry_of};
+ghost use Rattle.dia_policy.specs.declared.Unknown.{Unknown as AnyPolicy};
+ghost use Rattle.dia_entries.specs.Breaks.{IsDataBreak, IsHeadBreak, IsSilent};
+ghost use Rattle.dia_entries.specs.Laws.{FitKeyAlone};
 
 use crate::breaking::{AvpBreaks, DataBreak, HeadBreak};
 use crate::flags::{m_flags, own_policy, refused_flag};
@@ -16,7 +19,12 @@ pub fn avp_breaks<A: Book, B: Book>(
     key: Key,
     sends: Sends,
     unknown: Unknown,
-) -> AvpBreaks {
+) -> AvpBreaks
+    ensures head { IsHeadBreak (A.meaning a.now) (B.meaning b.now) sends unknown key result.head }
+    ensures content { IsDataBreak (A.meaning a.now) (B.meaning b.now) sends unknown key result.data }
+    ensures alone { IsSilent result
+        → FitKeyAlone (A.meaning a.now) (B.meaning b.now) sends unknown key }
+{
     AvpBreaks {
         head: head_break(a, b, key, sends, unknown),
         data: data_break(a, b, key, sends),
@@ -30,7 +38,9 @@ fn head_break<A: Book, B: Book>(
     key: Key,
     sends: Sends,
     unknown: Unknown,
-) -> Option<HeadBreak> {
+) -> Option<HeadBreak>
+    ensures { IsHeadBreak (A.meaning a.now) (B.meaning b.now) sends unknown key result }
+{
     let sent = m_flags(a, key, own_policy(sends));
     let m = refused_flag(sent, m_flags(b, key, unknown))?;
     match b.avp(key) {
@@ -40,7 +50,10 @@ fn head_break<A: Book, B: Book>(
 }
 
 /// What breaks of the data.
-fn data_break<A: Book, B: Book>(a: &A, b: &B, key: Key, sends: Sends) -> DataBreak {
+fn data_break<A: Book, B: Book>(a: &A, b: &B, key: Key, sends: Sends) -> DataBreak
+    ensures { (u : AnyPolicy)
+        → IsDataBreak (A.meaning a.now) (B.meaning b.now) sends u key result }
+{
     match b.avp(key) {
         Some(entry) => known_break(a, b, key, entry, sends),
         None => DataBreak::Fits,
@@ -50,6 +63,8 @@ fn data_break<A: Book, B: Book>(a: &A, b: &B, key: Key, sends: Sends) -> DataBre
 /// What breaks of the data of an AVP that B knows. Of one that A doesn't know any data is sent.
 fn known_break<A: Book, B: Book>(a: &A, b: &B, key: Key, entry: Entry, sends: Sends) -> DataBreak
     requires { Some entry ≡ entry_of (B.meaning b.now) key }
+    ensures { (u : AnyPolicy)
+        → IsDataBreak (A.meaning a.now) (B.meaning b.now) sends u key result }
 {
     match a.avp(key) {
         Some(own) => match a.group(own) {

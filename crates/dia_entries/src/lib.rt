@@ -5,6 +5,7 @@ mod avp;
 mod breaking;
 mod flags;
 mod forms;
+mod laws;
 
 pub use avp::avp_breaks;
 pub use breaking::{AvpBreaks, DataBreak, HeadBreak};
@@ -12,3 +13,4 @@ pub use dia_book::{Book, DefId};
 pub use dia_policy::{Sends, Unknown};
 pub use dia_wire::Key;
 pub use dia_witness::Witness;
+pub use laws::keys_fit_alone;

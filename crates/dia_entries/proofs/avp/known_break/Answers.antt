@@ -1,4 +1,8 @@
-use Rattle.dia_check.proofs.AvpFaults.{entry_within}
+use Rattle.std.proofs.Common.{sym, ◌∙◌}
+use Rattle.dia_data.specs.Plain.{plain_format}
+use Rattle.dia_check.proofs.AvpFaults.{entry_here, entry_within, not_known}
+use Rattle.dia_entries.proofs.Entries.{group_here, no_group}
+use Rattle.dia_entries.proofs.Readings.{entry_format, from_leaf, from_level, from_unknown}
 use Rattle.dia_entries.proofs.avp.known_break.Goals as goal
 
 pub sent_level-requires : goal.sent_level-requires
@@ -9,3 +13,28 @@ sent_leaf-requires g c = entry_within (g.B.Book.meaning c.args.b.now) c.args.key
 
 pub sent_leaf-requires-in-Any : goal.sent_leaf-requires-in-Any
 sent_leaf-requires-in-Any g c = entry_within (g.B.Book.meaning c.args.b.now) c.args.key c.args.entry c.requires
+
+pub returns-in-Some-group : goal.returns-in-Some-group
+returns-in-Some-group g c u =
+    let da = g.A.Book.meaning c.args.a.now in
+    let db = g.B.Book.meaning c.args.b.now in
+    let (e, at, is) = entry_here db c.args.key c.args.entry c.requires in
+    let (own, at_own, is_own) = entry_here da c.args.key c.in-Some.own (sym c.in-Some.is ∙ c.avp.ensures) in
+    let (x, some, def) = group_here da c.in-Some.own c.in-Some-group.group own (g.met.A.Book.sound c.args.a.now) at_own (sym c.in-Some-group.is ∙ c.group.ensures) in
+    from_level da db c.args.sends u c.args.key e is own is_own c.in-Some-group.group x some def c.sent_level.result (c.sent_level.ensures e at)
+
+pub returns-in-None-group : goal.returns-in-None-group
+returns-in-None-group g c u =
+    let da = g.A.Book.meaning c.args.a.now in
+    let db = g.B.Book.meaning c.args.b.now in
+    let (e, at, is) = entry_here db c.args.key c.args.entry c.requires in
+    let (own, at_own, is_own) = entry_here da c.args.key c.in-Some.own (sym c.in-Some.is ∙ c.avp.ensures) in
+    from_leaf da db c.args.sends u c.args.key e is own is_own (plain_format c.format.result.now) (no_group da c.in-Some.own own at_own (sym c.in-None-group.is ∙ c.group.ensures))
+    (entry_format da c.in-Some.own own (plain_format c.format.result.now) at_own c.format.ensures) c.sent_leaf.result (c.sent_leaf.ensures u e at)
+
+pub returns-in-Any : goal.returns-in-Any
+returns-in-Any g c u =
+    let da = g.A.Book.meaning c.args.a.now in
+    let db = g.B.Book.meaning c.args.b.now in
+    let (e, at, is) = entry_here db c.args.key c.args.entry c.requires in
+    from_unknown da db c.args.sends u c.args.key e is (not_known da c.args.key (sym c.in-None.is ∙ c.avp.ensures)) c.sent_leaf-in-Any.result c.in-Any.is (c.sent_leaf-in-Any.ensures u e at)
