@@ -1,5 +1,5 @@
 -- Each level that the second definition does not place shows a line, or is late.
-use Rattle.std.proofs.Common.{◌≡◌, ℕ, ◌+◌, ◌-◌, ◌<◌, ◌≤◌, Bool, true, false, List, Option, Some, None, refl, sym, ap, subst, ◌∙◌, arith, inl, inr}
+use Rattle.std.proofs.Common.{◌≡◌, ℕ, ◌+◌, ◌-◌, ◌<◌, ◌≤◌, Bool, true, false, List, ◌++◌, Option, Some, None, refl, sym, ap, subst, ◌∙◌, arith, inl, inr}
 use Rattle.std.specs.Prelude.{◌⊎◌, not, option_and_then, ◌||◌, ◌==◌, IsTrue, is_some, filter_map, Contains, if◌then◌else◌}
 use Rattle.std.specs.Option.{option_map_or}
 use Rattle.std.proofs.lemmas.Bool.{lt-ltb, ne_eqb}
@@ -68,10 +68,10 @@ module _ (f : Floor) (most : ℕ) (listed other : Key → ℕ) (a b : List DRule
       → ((line : Line) → IsIn line (lines_by reason rules) → IsIn line (lines_of f most listed other a b)) → ShowsAt a b keys reason r.key → shown keys
   line_in keys reason rules r room i le into shows =
       let short = lt-ltb (length_of reason f most listed other a b r) too_long (omega (arith, room, le)) in
-      let is_line : line_of reason f most listed other a b r ≡ Some (record { reason = reason; key = r.key; length = length_of reason f most listed other a b r }) =
-      ap (λ (t : Bool). if t then Some (record { reason = reason; key = r.key; length = length_of reason f most listed other a b r }) else None) short in
-      let there = in_filter_map (line_of reason f most listed other a b) rules r (record { reason = reason; key = r.key; length = length_of reason f most listed other a b r }) i is_line in
-      (record { reason = reason; key = r.key; length = length_of reason f most listed other a b r }, contains_in (lines_of f most listed other a b) (record { reason = reason; key = r.key; length = length_of reason f most listed other a b r }) (into (record { reason = reason; key = r.key; length = length_of reason f most listed other a b r }) there), (shows, le))
+      let is_line : line_of reason f most listed other a b r ≡ Some (record { reason = reason; key = r.key; behind = None; length = length_of reason f most listed other a b r }) =
+      ap (λ (t : Bool). if t then Some (record { reason = reason; key = r.key; behind = None; length = length_of reason f most listed other a b r }) else None) short in
+      let there = in_filter_map (line_of reason f most listed other a b) rules r (record { reason = reason; key = r.key; behind = None; length = length_of reason f most listed other a b r }) i is_line in
+      (record { reason = reason; key = r.key; behind = None; length = length_of reason f most listed other a b r }, contains_in (lines_of f most listed other a b) (record { reason = reason; key = r.key; behind = None; length = length_of reason f most listed other a b r }) (into (record { reason = reason; key = r.key; behind = None; length = length_of reason f most listed other a b r }) there), (shows, le))
 
   -- ---- where the lines of a reason stand
 
@@ -176,3 +176,17 @@ module _ (f : Floor) (most : ℕ) (listed other : Key → ℕ) (a b : List DRule
       by (inr (Few_others w has below)) = inr (inl (few_by_wild keys placed room w has below))
       by (inr (Many_others w max has is_max above)) = inr (inl (many_by_wild keys placed room w max has is_max above))
       by (inr (Late late)) = inr (inr late)
+
+-- with more lines too
+pub each_line_more : (f : Floor) (most : ℕ) (listed other : Key → ℕ) (a b : List DRule) (first all more : List Line) → first ≡ lines_of f most listed other a b → all ≡ first ++ more
+    → HasEachLine (price listed other a) a b (lines_of f most listed other a b) → HasEachLine (price listed other a) a b all
+each_line_more f most listed other a b first all more is is_all each = λ keys placed room. by keys (each keys placed room)
+  where
+    there : (line : Line) → Contains (lines_of f most listed other a b) line → Contains all line
+    there line c = contains_in all line (subst (λ (ls : List Line). IsIn line ls) (sym is_all) (in_left first more line (subst (λ (ls : List Line). IsIn line ls) (sym is) (in_contains (lines_of f most listed other a b) line c))))
+
+    by : (keys : List Key) → Placed b keys ⊎ ((line : Line) × Contains (lines_of f most listed other a b) line × Shows (price listed other a) a b keys line) ⊎ IsLate (fixed_rules b) keys
+        → Placed b keys ⊎ ((line : Line) × Contains all line × Shows (price listed other a) a b keys line) ⊎ IsLate (fixed_rules b) keys
+    by keys (inl done) = inl done
+    by keys (inr (inl shown)) = inr (inl (shown.0, there shown.0 shown.1, shown.2))
+    by keys (inr (inr late)) = inr (inr late)

@@ -4,7 +4,7 @@ use Rattle.std.specs.Prelude.{not, nat_le, ◌&&◌, count_by, if◌then◌else�
 use Rattle.std.proofs.lemmas.Bool.{leb-false}
 use Rattle.dia_wire.specs.declared.Key.{Key}
 use Rattle.dia_book.specs.declared.DRule.{DRule}
-use Rattle.dia_check.specs.Valid.{Placed, is_listed, is_wildcard, has_wildcard, counted}
+use Rattle.dia_check.specs.Valid.{Placed, is_listed}
 use Rattle.dia_check.proofs.RuleCounts.{counts_key}
 use Rattle.dia_compat.specs.Tests.{wildcard_of}
 use Rattle.dia_compat.proofs.RunsOfFixedRules.{IsIn}

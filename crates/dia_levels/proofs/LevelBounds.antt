@@ -7,8 +7,8 @@ use Rattle.std.proofs.lemmas.Bool.{leb-false}
 use Rattle.std.proofs.lemmas.Option.{none-some}
 use Rattle.dia_wire.specs.declared.Key.{Key}
 use Rattle.dia_book.specs.declared.DRule.{DRule}
-use Rattle.dia_book.proofs.Members.{at_find, find-is_some}
-use Rattle.dia_check.specs.Valid.{InBounds, Placed, is_listed, is_wildcard, has_wildcard, counted}
+use Rattle.dia_book.proofs.Members.{at_find}
+use Rattle.dia_check.specs.Valid.{InBounds, Placed, is_listed, is_wildcard, counted}
 use Rattle.dia_check.proofs.RuleCounts.{counts_key}
 use Rattle.dia_compat.specs.Tests.{wildcard_of}
 use Rattle.dia_compat.proofs.RunsOfFixedRules.{IsIn}

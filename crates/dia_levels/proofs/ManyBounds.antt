@@ -6,7 +6,6 @@ use Rattle.std.proofs.Math.Nat.{mul-le-mul_left, mul-le-mul_right, mul_comm, add
 use Rattle.std.proofs.lemmas.List.Sums.{sum_by-append}
 use Rattle.std.proofs.lemmas.Option.{none-some}
 use Rattle.dia_wire.specs.declared.Key.{Key}
-use Rattle.dia_book.specs.Keys.{same_key}
 use Rattle.dia_book.specs.declared.DRule.{DRule}
 use Rattle.dia_book.proofs.SameKeys.{same_key-refl}
 use Rattle.dia_check.specs.Valid.{Placed, is_listed, is_wildcard, counted}

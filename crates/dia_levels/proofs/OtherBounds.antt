@@ -4,9 +4,8 @@ use Rattle.std.specs.Prelude.{◌⊎◌, not, min, ◌&&◌, is_some, count_by, 
 use Rattle.std.proofs.Math.Nat.{mul-le-mul_right}
 use Rattle.dia_wire.specs.declared.Key.{Key}
 use Rattle.dia_book.specs.declared.DRule.{DRule}
-use Rattle.dia_book.specs.Keys.{same_key}
 use Rattle.dia_book.proofs.Members.{find-is_some}
-use Rattle.dia_check.specs.Valid.{InBounds, Placed, is_listed, is_wildcard, has_wildcard, counted}
+use Rattle.dia_check.specs.Valid.{Placed, is_listed, is_wildcard, has_wildcard, counted}
 use Rattle.dia_check.proofs.RuleCounts.{counts_key}
 use Rattle.dia_compat.specs.Tests.{wildcard_of}
 use Rattle.dia_compat.proofs.RunsOfFixedRules.{IsIn}

@@ -5,7 +5,6 @@ use Rattle.std.specs.Option.{option_map_or}
 use Rattle.dia_wire.specs.declared.Key.{Key}
 use Rattle.dia_book.specs.Keys.{same_key}
 use Rattle.dia_book.specs.declared.DRule.{DRule}
-use Rattle.dia_book.specs.declared.Slot.{Slot}
 use Rattle.dia_book.specs.declared.Slot.TheVariants as slot
 use Rattle.dia_book.specs.Dictionary.{AreRules, is_fixed, lists_key, slot_at, slot_of}
 use Rattle.dia_book.proofs.SameKeys.{same_key-refl, same_key-true}

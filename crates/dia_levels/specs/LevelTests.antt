@@ -4,12 +4,12 @@ use Rattle.std.specs.Option.{option_eq, option_map_or}
 use Rattle.dia_wire.specs.declared.Key.{Key}
 use Rattle.dia_book.specs.Keys.{same_key}
 use Rattle.dia_book.specs.declared.DRule.{DRule}
-use Rattle.dia_check.specs.Valid.{is_listed, is_wildcard, has_wildcard}
+use Rattle.dia_check.specs.Valid.{is_listed}
 use Rattle.dia_compat.specs.Tests.{rule_of}
 use Rattle.dia_levels.specs.declared.floor.Floor.{Floor}
 use Rattle.dia_levels.specs.declared.line.Line.{Line}
 use Rattle.dia_levels.specs.declared.line.Reason.{Reason}
-use Rattle.dia_levels.specs.declared.line.Reason.TheVariants.{Missing, TooMany, NotAllowed, NotAllowedOther, MissingOthers, TooManyOthers}
+use Rattle.dia_levels.specs.declared.line.Reason.TheVariants.{Missing, TooMany, NotAllowed, NotAllowedOther, MissingOthers, TooManyOthers, Order}
 use Rattle.dia_levels.specs.Strangers.{needs}
 
 -- one byte more than the AVPs of a message may have together. It stands for all lengths from there on
@@ -137,12 +137,13 @@ length_of NotAllowed f most listed other a b rule = not_allowed_length f listed 
 length_of NotAllowedOther f most listed other a b rule = not_allowed_other_length f rule
 length_of MissingOthers f most listed other a b rule = missing_others_length f rule
 length_of TooManyOthers f most listed other a b rule = too_many_others_length most rule
+length_of Order f most listed other a b rule = too_long
 
 abbrev pub line_of : Reason → Floor → ℕ → (Key → ℕ) → (Key → ℕ) → List DRule → List DRule → DRule → Option Line
 line_of reason f most listed other a b rule =
-    if nat_lt (length_of reason f most listed other a b rule) too_long then Some (record { reason = reason; key = rule.key; length = length_of reason f most listed other a b rule }) else None
+    if nat_lt (length_of reason f most listed other a b rule) too_long then Some (record { reason = reason; key = rule.key; behind = None; length = length_of reason f most listed other a b rule }) else None
 
--- the lines of each reason, in the order of the rules
+-- the lines of each reason of counts, in the order of the rules
 abbrev pub lines_of : Floor → ℕ → (Key → ℕ) → (Key → ℕ) → List DRule → List DRule → List Line
 lines_of f most listed other a b =
     filter_map (line_of Missing f most listed other a b) b ++ filter_map (line_of TooMany f most listed other a b) b

@@ -9,3 +9,4 @@ pub mod Words
 pub mod Levels
 pub mod Laws
 pub mod Places
+pub mod OrderTests

@@ -102,6 +102,27 @@ fn first_rule<A: Book, C: Costs>(
         .find(|rule| inner_length(a, costs, None, rule) == length)
 }
 
+/// The key of the first rule whose AVP has this length by the wildcard of `a`, and isn't left out.
+pub(crate) fn inner_key<A: Book, C: Costs>(
+    a: &Rules<'_, A>,
+    rules: &[DRule],
+    costs: &C,
+    except: Option<Key>,
+    length: u64,
+) -> Option<Key> {
+    if length >= TOO_LONG {
+        return None;
+    }
+    match rules
+        .iter()
+        .copied()
+        .find(|rule| inner_length(a, costs, except, rule) == length)
+    {
+        Some(rule) => rule.key,
+        None => None,
+    }
+}
+
 /// The length of a shortest AVP of the rule's key by the wildcard of `a`, if it comes there and isn't left out.
 fn inner_length<A: Book, C: Costs>(
     a: &Rules<'_, A>,
@@ -153,7 +174,11 @@ fn outer_length<A: Book, B: Book, C: Costs>(a: &Rules<'_, A>, b: &Rules<'_, B>, 
 }
 
 /// The first of the keys that neither definition lists.
-fn first_outside<A: Book, B: Book>(a: &Rules<'_, A>, b: &Rules<'_, B>, keys: &[Key]) -> Option<Key>
+pub(crate) fn first_outside<A: Book, B: Book>(
+    a: &Rules<'_, A>,
+    b: &Rules<'_, B>,
+    keys: &[Key],
+) -> Option<Key>
     ensures { result ≡ find (is_outside (rules_in (A.meaning a.now.book.now) a.now.def)
         (rules_in (B.meaning b.now.book.now) b.now.def)) keys.now }
 {
@@ -178,7 +203,7 @@ fn rule_length<C: Costs>(costs: &C, filler: u64, rule: &DRule) -> u64
 }
 
 /// The length of a least level.
-fn base_length<C: Costs>(costs: &C, filler: u64, rules: &[DRule]) -> u64
+pub(crate) fn base_length<C: Costs>(costs: &C, filler: u64, rules: &[DRule]) -> u64
     ensures { result ≡ base_length (C.listed_length costs.now) filler rules.now }
 {
     let mut sum: u64 = 0;

@@ -174,6 +174,7 @@ impl<'a, A: Book, B: Book, C: Costs> Level<'a, A, B, C> {
         }
     }
 
+    /// The least level for a reason of counts. That of an order is of two keys (`best`).
     fn length(&self, reason: Reason, rule: &DRule) -> u64
         ensures { result ≡ length_of reason self.now.floor self.now.most
             (C.listed_length self.now.costs.now) (C.other_length self.now.costs.now)
@@ -187,10 +188,11 @@ impl<'a, A: Book, B: Book, C: Costs> Level<'a, A, B, C> {
             Reason::NotAllowedOther => self.floor.not_allowed_other(rule),
             Reason::MissingOthers => self.floor.missing_others(rule),
             Reason::TooManyOthers => too_many_others(self.most, rule),
+            Reason::Order => TOO_LONG,
         }
     }
 
-    /// The line of a reason and a rule, if some level that isn't too long shows it.
+    /// The line of a reason of counts and a rule, if some level that isn't too long shows it.
     fn line(&self, reason: Reason, rule: &DRule) -> Option<Line>
         ensures { result ≡ line_of reason self.now.floor self.now.most
             (C.listed_length self.now.costs.now) (C.other_length self.now.costs.now)
@@ -202,6 +204,7 @@ impl<'a, A: Book, B: Book, C: Costs> Level<'a, A, B, C> {
             Some(Line {
                 reason,
                 key: rule.key,
+                behind: None,
                 length,
             })
         } else {

@@ -8,7 +8,7 @@ ghost use Rattle.dia_levels.specs.Levels.{HasEachLine, FirstIsShortest};
 ghost use Rattle.dia_levels.specs.Steps.{greatest, IsLeastOver, IsLeastMost};
 
 use crate::costs::Costs;
-use crate::floor::{Floor, floor_of};
+use crate::floor::{Floor, first_outside, floor_of};
 use crate::lengths::{TOO_LONG, swapped};
 use crate::level::Level;
 use crate::line::{Line, Reason};
@@ -55,8 +55,10 @@ pub fn level_lines<A: Book, B: Book, C: Costs>(
         floor,
         most,
     };
+    let outer = first_outside(&level.a, &level.b, costs.others());
     let lines = all_lines(alloc, &level)?;
-    Ok(lines)
+    let all = level.with_order_lines(lines, outer, level.b.list())?;
+    Ok(all)
 }
 
 /// The rules of the definitions of two dictionaries are sound.

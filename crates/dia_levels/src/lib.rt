@@ -2,12 +2,17 @@
 #![tactic(auto)]
 
 mod costs;
+mod cut;
+mod demand;
 mod floor;
 mod laws;
 mod lengths;
 mod level;
 mod levels;
 mod line;
+mod order;
+mod parts;
+mod plans;
 mod rules;
 mod steps;
 
@@ -15,4 +20,5 @@ pub use costs::Costs;
 pub use laws::{breaches_are_all, definitions_are_sound, placed_is_in_place, plan_is_least};
 pub use lengths::TOO_LONG;
 pub use levels::level_lines;
-pub use line::{Line, Reason};
+pub use line::{Line, Part, Reason};
+pub use plans::{length_least, length_with, level_least, level_with, line_level};

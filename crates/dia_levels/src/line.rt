@@ -17,6 +17,8 @@ pub enum Reason {
     MissingOthers,
     /// There are too many of these.
     TooManyOthers,
+    /// One of a key that the definition lists as fixed comes behind one that the definition wants behind it.
+    Order,
 }
 
 impl fmt::Display for Reason {
@@ -30,6 +32,7 @@ impl fmt::Display for Reason {
             Reason::Missing | Reason::MissingOthers => write!(f, "missing"),
             Reason::TooMany | Reason::TooManyOthers => write!(f, "too-many"),
             Reason::NotAllowed | Reason::NotAllowedOther => write!(f, "not-allowed"),
+            Reason::Order => write!(f, "order"),
         }
     }
 }
@@ -40,6 +43,15 @@ pub struct Line {
     pub reason: Reason,
     /// The key of the AVP that is told, and none where the wildcard counts.
     pub key: Option<Key>,
+    /// The key that stands before it, where the reason is the order.
+    pub behind: Option<Key>,
     /// What such a level takes at least, in bytes.
     pub length: u64,
+}
+
+/// AVPs of one key that stand in a row.
+#[derive(Clone, Copy, Debug, PartialEq, Eq)]
+pub struct Part {
+    pub key: Key,
+    pub count: u32,
 }

@@ -3,6 +3,7 @@ ghost use Rattle.std.specs.Prelude.{◌≡◌, ◌<◌, length, slice_get};
 ghost use Rattle.dia_book.specs.Dictionary.{definitions};
 ghost use Rattle.dia_check.specs.Valid.{is_listed, has_wildcard};
 ghost use Rattle.dia_compat.specs.Tests.{rules_in, rule_of, wildcard_of};
+ghost use Rattle.dia_levels.specs.Places.{place};
 
 use dia_book::{Book, DRule, DefId, Key, Slot};
 
@@ -31,6 +32,16 @@ impl<'a, B: Book> Rules<'a, B> {
             Slot::Fixed(index) => rule_at(rules, index),
             Slot::Loose(index) => rule_at(rules, index),
             Slot::Unlisted => None,
+        }
+    }
+
+    /// The place of the key's fixed rule, or one behind them all.
+    pub fn place(&self, key: Key) -> usize
+        ensures { result ≡ place (rules_in (B.meaning self.now.book.now) self.now.def) key }
+    {
+        match self.book.slot(self.def, key) {
+            Slot::Fixed(index) => index,
+            Slot::Loose(_) | Slot::Unlisted => self.list().len(),
         }
     }
 

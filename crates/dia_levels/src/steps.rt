@@ -19,7 +19,7 @@ pub(crate) struct Step {
 }
 
 /// How many more than its least count a rule allows, or as many as are wanted.
-fn room_above(wanted: u64, rule: &DRule) -> u64
+pub(crate) fn room_above(wanted: u64, rule: &DRule) -> u64
     ensures { result ≡ room_above wanted rule.now }
 {
     match rule.max {

@@ -1,8 +1,5 @@
-use Rattle.std.proofs.Common.{sym, subst}
 use Rattle.dia_compat.specs.Tests.{rules_in}
-use Rattle.dia_levels.specs.LevelTests.{price}
-use Rattle.dia_levels.specs.Levels.{HasEachLine}
-use Rattle.dia_levels.proofs.EachLine.{each_line}
+use Rattle.dia_levels.proofs.EachLine.{each_line, each_line_more}
 use Rattle.dia_levels.proofs.FloorFacts.{is_floor}
 use Rattle.dia_levels.proofs.levels.level_lines.Goals as goal
 
@@ -17,6 +14,6 @@ returns g c =
     let floor = is_floor f listed other (g.C.Costs.other_keys c.args.costs.now) a b facts.base facts.inner facts.second facts.outer facts.needed c.requires.shortest in
     record {
       complete =
-          subst (HasEachLine (price listed other a) a b) (sym c.in_ok-lines.ensures)
+          each_line_more f c.in_ok-most.most listed other a b c.in_ok-lines.lines.items c.in_ok-all.all.items _ c.in_ok-lines.ensures c.in_ok-all.ensures
           (each_line f c.in_ok-most.most listed other a b c.both_sound.ensures.first c.both_sound.ensures.second floor facts.wild facts.lets_in c.in_ok-most.ensures);
     }
