@@ -1,0 +1,247 @@
+//! What is told of a message that is refused.
+
+use crate::place::{back, push_excerpt, push_place};
+use crate::tokens::is_white;
+use dia_io::Input;
+use dia_policy::MAX_MESSAGE_TEXT;
+use dia_wire::{HEADER_LENGTH, HeadFault, read_header};
+use std::alloc::{AllocError, Global};
+
+/// Adds the note of a message.
+pub fn push_message(
+    alloc: Global,
+    out: &mut String,
+    name: &str,
+    input: &Input,
+) -> Result<(), AllocError> {
+    let Input::Bytes(text) = input else {
+        return write!(
+            out,
+            "{name}: the text has more than {MAX_MESSAGE_TEXT} bytes\n"
+        );
+    };
+    if let Some(at) = first_bad(text) {
+        return push_no_digit(alloc, out, name, text, at);
+    }
+    let digits = count_digits(text);
+    if digits % 2 == 1 {
+        write!(
+            out,
+            "{name}: the number of hexadecimal digits is odd, {digits}: one is missing or too many\n"
+        )?;
+        return push_two_digits_hint(out, text);
+    }
+    push_length(alloc, out, name, text)
+}
+
+/// The place of the first byte that is neither a digit nor white space.
+fn first_bad(text: &[u8]) -> Option<usize> {
+    text.iter()
+        .position(|byte| !byte.is_ascii_hexdigit() && !is_white(*byte))
+}
+
+fn count_digits(text: &[u8]) -> usize {
+    text.iter().filter(|byte| !is_white(**byte)).count()
+}
+
+fn push_no_digit(
+    alloc: Global,
+    out: &mut String,
+    name: &str,
+    text: &[u8],
+    at: usize,
+) -> Result<(), AllocError> {
+    if is_binary(text) {
+        let kind = kind_of_file(text);
+        write!(out, "{name}: {kind}, and not hexadecimal text\n")?;
+        return write!(
+            out,
+            "hint: write `xxd -p {name}` into a file: a message is its hexadecimal digits\n"
+        );
+    }
+    push_place(out, name, text, at)?;
+    out.push_str("this is no hexadecimal digit\n")?;
+    push_excerpt(alloc, out, text, at)?;
+    out.push_str(hint_of_digit(text, at))
+}
+
+/// Whether bytes are no text of a message: one of the first is a control character or above ASCII.
+fn is_binary(text: &[u8]) -> bool {
+    text.iter()
+        .take(4096)
+        .any(|byte| *byte >= 0x80 || (*byte < b' ' && !is_white(*byte)))
+}
+
+fn kind_of_file(text: &[u8]) -> &'static str {
+    if text.starts_with(b"\xd4\xc3\xb2\xa1")
+        || text.starts_with(b"\xa1\xb2\xc3\xd4")
+        || text.starts_with(b"\x4d\x3c\xb2\xa1")
+        || text.starts_with(b"\x0a\x0d\x0d\x0a")
+    {
+        return "this is a capture (pcap) of many packets: take the bytes of one message out of it";
+    }
+    if text.first() == Some(&1) {
+        return "these are the bytes of a message";
+    }
+    "these are bytes"
+}
+
+fn hint_of_digit(text: &[u8], at: usize) -> &'static str {
+    let rest = back(text, at);
+    if rest.starts_with(b":") && has_offset(text, at) {
+        return "hint: this is a dump with offsets: `xxd -p FILE` writes one without, and `xxd -r DUMP | xxd -p` turns this one\n";
+    }
+    if rest.starts_with(b"x") || rest.starts_with(b"X") {
+        return "hint: write the digits without 0x\n";
+    }
+    if rest.starts_with(b":") || rest.starts_with(b",") || rest.starts_with(b"-") {
+        return "hint: write the digits with nothing but white space between them\n";
+    }
+    if text.starts_with(b"%avp") || text.starts_with(b"<") {
+        return "hint: this looks like a dictionary: the dictionary stands before the message\n";
+    }
+    if text.starts_with(b"@base") {
+        return "hint: a message stands here, and @base names a dictionary\n";
+    }
+    "hint: a message is its bytes as hexadecimal digits, as `xxd -p FILE` prints them\n"
+}
+
+/// Whether a run of at least four digits begins a line and ends at the place.
+fn has_offset(text: &[u8], at: usize) -> bool {
+    let before = text.get(..at).unwrap_or(text);
+    let line = match before.iter().rposition(|byte| *byte == b'\n') {
+        Some(feed) => back(before, feed.saturating_add(1)),
+        None => before,
+    };
+    line.len() >= 4 && line.iter().all(|byte| byte.is_ascii_hexdigit())
+}
+
+fn push_two_digits_hint(out: &mut String, text: &[u8]) -> Result<(), AllocError> {
+    if is_numbered(text) {
+        return out.push_str(NUMBERED);
+    }
+    out.push_str("hint: each byte has two digits, also one below 16\n")
+}
+
+const NUMBERED: &str =
+    "hint: the lines begin with offsets, as those of a dump do: `xxd -p FILE` writes one without\n";
+
+/// Whether the text begins as a dump whose first line has the offset 0 and whose second has 16.
+pub fn is_numbered(text: &[u8]) -> bool {
+    let line = text.iter().take_while(|byte| **byte != b'\n').count();
+    let second = back(text, line.saturating_add(1));
+    (text.starts_with(b"0000 ") && second.starts_with(b"0010"))
+        || (text.starts_with(b"00000000 ") && second.starts_with(b"00000010"))
+        || (text.starts_with(b"0000000 ") && second.starts_with(b"0000020"))
+}
+
+/// Adds the note of bytes that are no message, or that are more or fewer than one.
+pub fn push_length(
+    alloc: Global,
+    out: &mut String,
+    name: &str,
+    text: &[u8],
+) -> Result<(), AllocError> {
+    let bytes = count_digits(text) / 2;
+    if is_numbered(text) {
+        write!(out, "{name}: the first bytes are no header of a message\n")?;
+        return out.push_str(NUMBERED);
+    }
+    let mut head = [0u8; 20];
+    read_digits(text, &mut head);
+    match read_header(head.as_slice()) {
+        _ if bytes < HEADER_LENGTH => {
+            write!(
+                out,
+                "{name}: {bytes} bytes; a message has at least 20, those of its header\n"
+            )
+        }
+        Ok((_, length)) => push_more_or_less(alloc, out, name, text, length as usize),
+        Err(HeadFault::Length) => {
+            write!(
+                out,
+                "{name}: the Message Length, bytes 1 to 3, is under 20 or no multiple of four\n"
+            )
+        }
+        Err(_) => {
+            let version = head[0];
+            write!(
+                out,
+                "{name}: the first byte is {version}, and the version of Diameter is 1\n"
+            )?;
+            out.push_str(
+                "hint: a message begins with 01 and its length; the headers of IP, TCP or SCTP before it have to be taken out\n",
+            )
+        }
+    }
+}
+
+/// Adds that bytes are missing, or the place of those that are too many.
+fn push_more_or_less(
+    alloc: Global,
+    out: &mut String,
+    name: &str,
+    text: &[u8],
+    length: usize,
+) -> Result<(), AllocError> {
+    let bytes = count_digits(text) / 2;
+    if bytes < length {
+        return write!(
+            out,
+            "{name}: {bytes} bytes; the Message Length is {length}, so the message is cut off\n"
+        );
+    }
+    let Some(at) = place_of_byte(text, length) else {
+        return Ok(());
+    };
+    push_place(out, name, text, at)?;
+    write!(
+        out,
+        "the message ends before this place, after the {length} bytes of its Message Length; {bytes} bytes are here\n"
+    )?;
+    push_excerpt(alloc, out, text, at)?;
+    if back(text, at).starts_with(b"01") {
+        out.push_str("hint: a second message seems to begin here: give one message at a time\n")?;
+    }
+    Ok(())
+}
+
+/// The place in the text of the first digit of a byte.
+pub fn place_of_byte(text: &[u8], byte: usize) -> Option<usize> {
+    let digits = text.iter().enumerate().filter(|row| !is_white(*row.1));
+    let mut seen = 0usize;
+    for (at, _) in digits {
+        if seen / 2 == byte {
+            return Some(at);
+        }
+        seen = seen.saturating_add(1);
+    }
+    None
+}
+
+/// Reads the first bytes that a text spells.
+fn read_digits(text: &[u8], head: &mut [u8; 20]) {
+    let mut seen = 0usize;
+    for byte in text {
+        if is_white(*byte) {
+            continue;
+        }
+        if let Some(slot) = head.get_mut(seen / 2) {
+            *slot = (*slot & 0x0f) << 4 | digit_of(*byte);
+        }
+        seen = seen.saturating_add(1);
+        if seen >= 40 {
+            return;
+        }
+    }
+}
+
+/// The value of a hexadecimal digit.
+fn digit_of(byte: u8) -> u8 {
+    match byte {
+        b'0'..=b'9' => byte - b'0',
+        b'a'..=b'f' => byte - b'a' + 10,
+        b'A'..=b'F' => byte - b'A' + 10,
+        _ => 0,
+    }
+}

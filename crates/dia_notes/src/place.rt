@@ -1,0 +1,107 @@
+//! Places of a text as a reader looks for them: line and column, and the line itself with a caret under the place.
+
+use std::alloc::{AllocError, Global};
+
+/// How many bytes of a line are shown before the place, and how many from it on.
+const BEFORE: usize = 70;
+
+const BEHIND: usize = 50;
+
+/// A place of a text, by its line and column, both from 1. A column is a character.
+#[derive(Clone, Copy)]
+pub struct Place {
+    pub line: usize,
+    pub column: usize,
+}
+
+/// The bytes before a place.
+fn front(text: &[u8], at: usize) -> &[u8] {
+    text.get(..at).unwrap_or(text)
+}
+
+/// The bytes from a place on.
+pub fn back(text: &[u8], at: usize) -> &[u8] {
+    text.get(at..).unwrap_or(b"".as_slice())
+}
+
+/// The part of the line before a place.
+fn line_before(text: &[u8], at: usize) -> &[u8] {
+    let before = front(text, at);
+    match before.iter().rposition(|byte| *byte == b'\n') {
+        Some(feed) => back(before, feed.saturating_add(1)),
+        None => before,
+    }
+}
+
+/// The part of the line from a place on, without its end.
+fn line_behind(text: &[u8], at: usize) -> &[u8] {
+    let behind = back(text, at);
+    match behind
+        .iter()
+        .position(|byte| *byte == b'\n' || *byte == b'\r')
+    {
+        Some(end) => front(behind, end),
+        None => behind,
+    }
+}
+
+/// How many characters begin in these bytes of UTF-8.
+fn characters(bytes: &[u8]) -> usize {
+    bytes.iter().filter(|byte| !is_inner(**byte)).count()
+}
+
+/// Whether a byte of UTF-8 goes on with a character.
+fn is_inner(byte: u8) -> bool {
+    byte & 0xc0 == 0x80
+}
+
+/// The line and the column of a place.
+pub fn place_of(text: &[u8], at: usize) -> Place {
+    let feeds = front(text, at)
+        .iter()
+        .filter(|byte| **byte == b'\n')
+        .count();
+    Place {
+        line: feeds.saturating_add(1),
+        column: characters(line_before(text, at)).saturating_add(1),
+    }
+}
+
+/// Begins a note: `NAME:LINE:COLUMN: `.
+pub fn push_place(out: &mut String, name: &str, text: &[u8], at: usize) -> Result<(), AllocError> {
+    let place = place_of(text, at);
+    let line = place.line;
+    let column = place.column;
+    write!(out, "{name}:{line}:{column}: ")
+}
+
+/// Adds the line of a place, and below it a caret at the place. Of a long line a part is shown.
+pub fn push_excerpt(
+    alloc: Global,
+    out: &mut String,
+    text: &[u8],
+    at: usize,
+) -> Result<(), AllocError> {
+    let before = line_before(text, at);
+    let cut = back(before, before.len().saturating_sub(BEFORE));
+    let inner = cut.iter().take_while(|byte| is_inner(**byte)).count();
+    let shown = back(cut, inner);
+    let behind = front(line_behind(text, at), BEHIND);
+    out.push_str("  ")?;
+    push_shown(alloc, out, shown)?;
+    push_shown(alloc, out, behind)?;
+    out.push_str("\n  ")?;
+    for _ in 0..characters(shown) {
+        out.push(' ')?;
+    }
+    out.push_str("^\n")
+}
+
+/// Adds bytes as text, with a space for each control character.
+pub fn push_shown(alloc: Global, out: &mut String, bytes: &[u8]) -> Result<(), AllocError> {
+    let text = String::from_utf8_lossy(alloc, bytes)?;
+    for c in text.chars() {
+        out.push(if c < ' ' { ' ' } else { c })?;
+    }
+    Ok(())
+}
