@@ -1,3 +1,4 @@
-mod FeedToSink
-mod LinesUnderWay
-mod OneAnswer
+pub mod FeedToSink
+pub mod LinesUnderWay
+pub mod OneAnswer
+pub mod OtherAnswers

@@ -25,7 +25,7 @@ pub struct Outcome {
 }
 
 /// The outcome that writes this text.
-fn told(alloc: Global, text: &str, exit: Exit) -> Result<Outcome, AllocError>
+pub fn told(alloc: Global, text: &str, exit: Exit) -> Result<Outcome, AllocError>
     ensures text { IfOk result (λ outcome. string_bytes outcome.text ≡ text.now) }
     ensures exit { IfOk result (λ outcome. outcome.exit ≡ exit) }
 {

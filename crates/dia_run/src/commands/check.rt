@@ -9,7 +9,7 @@ ghost use Rattle.dia_run.specs.Verdict.{IsVerdict, fault_line, reason_word, subj
 
 mod feeding;
 
-use crate::commands::check::feeding::check_message;
+pub use crate::commands::check::feeding::{check_message, is_endless};
 use crate::commands::{Outcome, told};
 use crate::inputs::Refused;
 use crate::inputs::dictionary::read_dictionary;
@@ -34,7 +34,7 @@ pub fn check(
 }
 
 /// The line of an answer.
-fn verdict<B: Book>(
+pub fn verdict<B: Book>(
     alloc: Global,
     book: &B,
     answer: Result<Selected, Refusal>,

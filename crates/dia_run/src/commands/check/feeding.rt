@@ -115,7 +115,7 @@ fn answer_of_all(answer: Result<Selected, Refusal>, trailing: bool) -> Result<Se
 }
 
 /// Whether it isn't known where the message ends: its version or its Message Length is at fault.
-fn is_endless(answer: &Result<Selected, Refusal>) -> bool
+pub fn is_endless(answer: &Result<Selected, Refusal>) -> bool
     ensures { IsTrue result ↔ IsEndless answer.now }
 {
     matches!(

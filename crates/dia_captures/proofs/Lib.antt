@@ -1,0 +1,2 @@
+mod OneMessage
+mod LinesOfMessages

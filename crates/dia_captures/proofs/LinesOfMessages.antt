@@ -1,0 +1,138 @@
+-- The lines of a text, each a message.
+use Rattle.std.proofs.Common.{◌≡◌, ◌≢◌, ℕ, List, [], Option, refl, sym, ap, ◌∙◌, inl, inr}
+use Rattle.std.specs.Io.KnownBytes.{Appends}
+use Rattle.std.proofs.KnownBytes.{Appends-nil, Consumes-nil}
+use Rattle.dia_dict.specs.Dictionary.{Dictionary}
+use Rattle.dia_policy.specs.declared.Unknown.{Unknown}
+use Rattle.dia_policy.specs.declared.Levels.{Levels}
+use Rattle.dia_io.specs.declared.Input.{Input}
+use Rattle.dia_io.specs.declared.Inputs.{Inputs}
+use Rattle.dia_io.specs.declared.Exit.{Exit}
+use Rattle.dia_io.specs.declared.Exit.TheVariants as exits
+use Rattle.dia_io.specs.declared.Command.TheVariants as command
+use Rattle.dia_io.specs.Writing.{AppendsFront}
+use Rattle.dia_lines.specs.declared.answered.Ended.{Ended}
+use Rattle.dia_lines.specs.Lines.{IsLineInput, IsAnswered, LineHasOneAnswer, ended_of}
+use Rattle.dia_lines.specs.Lines as lines
+use Rattle.dia_lines.specs.FeedToSink.{AllAnswered, FrontAnswered, LinesAnswered}
+use Rattle.dia_lines.proofs.OneAnswer.{text_once}
+use Rattle.dia_lines.proofs.OtherAnswers.{IsAnswered-map, FrontAnswered-map, LinesAnswered-map}
+use Rattle.dia_run.specs.declared.inputs.Refused.{Refused}
+use Rattle.dia_run.specs.declared.inputs.Refused.TheVariants.{Bad, NoMemory}
+use Rattle.dia_run.specs.Texts.{line, dictionary_line, IsDictionaryText}
+use Rattle.dia_run.specs.Refusals.{TellsOf, bad_input_text}
+use Rattle.dia_run.proofs.OneInput.{Same, refused_once, dictionary_or_not, one_reason_for_dictionary}
+use Rattle.dia_run.proofs.OneOutcome.{one_outcome}
+use Rattle.dia_captures.specs.Lines.{MessageCommand, OfLine, IsLinesOutcome, answered, refused, AreLinesAnswered, IsFrontPut, RefusesFirst, checks, refutations}
+use Rattle.dia_captures.proofs.OneMessage.{same_check, same_refute}
+
+-- ---- lines that were answered
+
+module _ (command : MessageCommand) (inputs : Inputs) (P : Input → List ℕ → Exit → Type 0)
+    (f : (message : Input) (told : List ℕ) (exit : Exit) → P message told exit → OfLine command inputs message told exit) where
+  pub all_answered : (fed_old fed put_old put : Option (List ℕ)) (ended : Ended) (exit : Exit) → ((told : List ℕ) → ¬ command.refuses inputs told)
+      → exit ≡ command.exit_of ended → AllAnswered P fed_old fed put_old put ended → AreLinesAnswered command inputs fed_old fed put_old put exit
+  all_answered fed_old fed put_old put ended exit sound is h = record {
+    bytes = h.bytes;
+    text = h.text;
+    consumed = h.consumed;
+    outcome = answered h.exits sound (IsAnswered-map P (OfLine command inputs) f h.bytes h.text h.exits h.answered) (is ∙ ap command.exit_of h.ends);
+    is_put = h.is_put;
+  }
+
+  pub front_put : (fed_old fed put_old put : Option (List ℕ)) → FrontAnswered P fed_old fed put_old put → IsFrontPut command inputs fed_old fed put_old put
+  front_put fed_old fed put_old put h = inl (FrontAnswered-map P (OfLine command inputs) f fed_old fed put_old put h)
+
+  pub lines_answered : (fed_old fed put_old put : Option (List ℕ)) → LinesAnswered P fed_old fed put_old put → LinesAnswered (OfLine command inputs) fed_old fed put_old put
+  lines_answered fed_old fed put_old put h = LinesAnswered-map P (OfLine command inputs) f fed_old fed put_old put h
+
+-- ---- dictionaries that are refused
+
+module _ (command : MessageCommand) (inputs : Inputs) where
+  pub all_refused : (fed put_old put : Option (List ℕ)) (r : Refused) (exit : Exit) → r ≢ NoMemory → TellsOf (command.refuses inputs) r
+      → TellsOf (λ told. Appends put_old put (line told)) r → exit ≡ exits.Bad → AreLinesAnswered command inputs fed fed put_old put exit
+  all_refused fed put_old put (Bad bad) exit some tells is_put is = record {
+    bytes = [];
+    text = line (bad_input_text bad);
+    consumed = Consumes-nil fed;
+    outcome = refused (bad_input_text bad) tells (refl, is);
+    is_put = is_put;
+  }
+  all_refused fed put_old put NoMemory exit some tells is_put is = absurd (some refl)
+
+  pub front_refused : (fed put_old put : Option (List ℕ)) (r : Refused) → r ≢ NoMemory → TellsOf (command.refuses inputs) r
+      → TellsOf (λ told. AppendsFront put_old put (line told)) r → IsFrontPut command inputs fed fed put_old put
+  front_refused fed put_old put (Bad bad) some tells is_put = inr (bad_input_text bad, tells, Consumes-nil fed, is_put)
+  front_refused fed put_old put NoMemory some tells is_put = absurd (some refl)
+
+  -- no memory for a dictionary
+  pub nothing_answered : (fed put : Option (List ℕ)) → LinesAnswered (OfLine command inputs) fed fed put put
+  nothing_answered fed put = record {
+    lines = [];
+    rest = [];
+    text = [];
+    exits = [];
+    consumed = Consumes-nil fed;
+    answered = lines.none;
+    is_put = Appends-nil put;
+  }
+
+  pub nothing_put : (fed put : Option (List ℕ)) → IsFrontPut command inputs fed fed put put
+  nothing_put fed put = inl (record {
+    front = [];
+    rest = [];
+    text = [];
+    exits = [];
+    consumed = Consumes-nil fed;
+    answered = inl lines.none;
+    is_put = ([], [], refl, Appends-nil put);
+  })
+
+-- ---- one text
+
+module _ (command : MessageCommand) (inputs : Inputs) (one_line : LineHasOneAnswer (OfLine command inputs))
+    (one_reason : (m n : List ℕ) → command.refuses inputs m → command.refuses inputs n → m ≡ n) where
+  once : (bytes t u : List ℕ) (x y : Exit) → IsLinesOutcome command inputs bytes t x → IsLinesOutcome command inputs bytes u y → Same t u x y
+  once bytes t u x y (answered exits sound h is) (answered endings sound' k is') =
+      let same = text_once (OfLine command inputs) one_line bytes t u exits endings h k in
+      (same.0, is ∙ ap (λ (e : List Exit). command.exit_of (ended_of e)) same.1 ∙ sym is')
+  once bytes t u x y (answered exits sound h is) (refused told refuses is_u) = absurd (sound told refuses)
+  once bytes t u x y (refused told refuses is_t) (answered exits sound h is) = absurd (sound told refuses)
+  once bytes t u x y (refused told refuses is_t) (refused other refuses' is_u) = refused_once told other t u x y (one_reason told other refuses refuses') is_t is_u
+
+pub one_check : (u : Unknown) (most : Levels) (inputs : Inputs) → LineHasOneAnswer (OfLine (checks u most) inputs)
+one_check policy most inputs bytes t u a b x y h k is is' =
+    one_outcome (command.Check policy most) (record { first = inputs.first; second = inputs.second; table = inputs.table; message = b }) t u x y
+    (same_check policy most inputs a b bytes t x h k is) is'
+
+pub one_refute : (u : Unknown) (most : Levels) (inputs : Inputs) → LineHasOneAnswer (OfLine (refutations u most) inputs)
+one_refute policy most inputs bytes t u a b x y h k is is' =
+    one_outcome (command.Refute policy most) (record { first = inputs.first; second = inputs.second; table = inputs.table; message = b }) t u x y
+    (same_refute policy most inputs a b bytes t x h k is) is'
+
+one_first : (inputs : Inputs) (m n : List ℕ) → RefusesFirst inputs m → RefusesFirst inputs n → m ≡ n
+one_first inputs m n (why, none, is) (why', none', is') = is ∙ ap (dictionary_line 1) (one_reason_for_dictionary inputs.first why why' none none') ∙ sym is'
+
+one_of_two : (u : Unknown) (most : Levels) (inputs : Inputs) (m n : List ℕ) → (refutations u most).refuses inputs m → (refutations u most).refuses inputs n → m ≡ n
+one_of_two u most inputs m n (inl h) (inl k) = one_first inputs m n h k
+one_of_two u most inputs m n (inl (why, none, is)) (inr (a, is_a, k)) = absurd (dictionary_or_not inputs.first a why is_a none)
+one_of_two u most inputs m n (inr (a, is_a, h)) (inl (why, none, is)) = absurd (dictionary_or_not inputs.first a why is_a none)
+one_of_two u most inputs m n (inr (a, is_a, (why, none, is))) (inr (a', is_a', (why', none', is'))) =
+    is ∙ ap (dictionary_line 2) (one_reason_for_dictionary inputs.second why why' none none') ∙ sym is'
+
+pub checks_once : (policy : Unknown) (most : Levels) (inputs : Inputs) (bytes t u : List ℕ) (x y : Exit) → IsLinesOutcome (checks policy most) inputs bytes t x
+    → IsLinesOutcome (checks policy most) inputs bytes u y → Same t u x y
+checks_once policy most inputs = once (checks policy most) inputs (one_check policy most inputs) (one_first inputs)
+
+pub refutations_once : (policy : Unknown) (most : Levels) (inputs : Inputs) (bytes t u : List ℕ) (x y : Exit) → IsLinesOutcome (refutations policy most) inputs bytes t x
+    → IsLinesOutcome (refutations policy most) inputs bytes u y → Same t u x y
+refutations_once policy most inputs = once (refutations policy most) inputs (one_refute policy most inputs) (one_of_two policy most inputs)
+
+-- dictionaries that are read aren't refused
+pub first_stands : (inputs : Inputs) (d : Dictionary) → IsDictionaryText inputs.first d → (told : List ℕ) → ¬ RefusesFirst inputs told
+first_stands inputs d is_d told (why, none, is) = dictionary_or_not inputs.first d why is_d none
+
+pub both_stand : (u : Unknown) (most : Levels) (inputs : Inputs) (a b : Dictionary) → IsDictionaryText inputs.first a → IsDictionaryText inputs.second b → (told : List ℕ)
+    → ¬ (refutations u most).refuses inputs told
+both_stand u most inputs a b is_a is_b told (inl h) = first_stands inputs a is_a told h
+both_stand u most inputs a b is_a is_b told (inr (c, is_c, (why, none, is))) = dictionary_or_not inputs.second b why is_b none

@@ -1,0 +1,74 @@
+-- `check` and `refute` of a text that has a message a line.
+use Rattle.std.specs.Prelude.{◌≡◌, ℕ, ◌⊎◌, List, [], Option, if◌then◌else◌}
+use Rattle.std.specs.Io.KnownBytes.{Appends, Consumes}
+use Rattle.dia_dict.specs.Dictionary.{Dictionary}
+use Rattle.dia_policy.specs.declared.Unknown.{Unknown}
+use Rattle.dia_policy.specs.declared.Levels.{Levels}
+use Rattle.dia_io.specs.declared.Input.{Input}
+use Rattle.dia_io.specs.declared.Inputs.{Inputs}
+use Rattle.dia_io.specs.declared.Exit.{Exit}
+use Rattle.dia_io.specs.declared.Exit.TheVariants.{Yes, No}
+use Rattle.dia_io.specs.Writing.{AppendsFront}
+use Rattle.dia_lines.specs.declared.answered.Ended.{Ended}
+use Rattle.dia_lines.specs.Lines.{IsAnswered, ended_of}
+use Rattle.dia_lines.specs.FeedToSink.{FrontAnswered}
+use Rattle.dia_run.specs.Texts.{line, dictionary_line, IsDictionaryText, IsNoDictionaryText}
+use Rattle.dia_run.specs.Outcome.{IsCheckOutcome, IsRefuteOutcome, Refuses}
+
+-- a command of one message: what it writes for its inputs and how it ends, what is told of dictionaries that are refused, and how
+-- the program ends for many messages
+pub record MessageCommand : Type 1 where
+  pub outcome : Inputs → List ℕ → Exit → Type 0
+  pub refuses : Inputs → List ℕ → Type 0
+  pub exit_of : Ended → Exit
+
+-- the first dictionary is refused with this line
+abbrev pub RefusesFirst : Inputs → List ℕ → Type 0
+RefusesFirst inputs told = (why : List ℕ) × IsNoDictionaryText inputs.first why × (told ≡ dictionary_line 1 why)
+
+-- so is the second
+abbrev pub RefusesSecond : Inputs → List ℕ → Type 0
+RefusesSecond inputs told = (a : Dictionary) × IsDictionaryText inputs.first a
+    × ((why : List ℕ) × IsNoDictionaryText inputs.second why × (told ≡ dictionary_line 2 why))
+
+-- `check`: yes where each message is valid
+abbrev pub checks : Unknown → Levels → MessageCommand
+checks u most = record {
+  outcome = IsCheckOutcome u most;
+  refuses = RefusesFirst;
+  exit_of = λ ended. if ended.each then Yes else No;
+}
+
+-- `refute`: yes where some message refutes
+abbrev pub refutations : Unknown → Levels → MessageCommand
+refutations u most = record {
+  outcome = IsRefuteOutcome u most;
+  refuses = λ inputs told. RefusesFirst inputs told ⊎ RefusesSecond inputs told;
+  exit_of = λ ended. if ended.some then Yes else No;
+}
+
+-- what the command says of these inputs with the line as the message
+abbrev pub OfLine : MessageCommand → Inputs → Input → List ℕ → Exit → Type 0
+OfLine command inputs message text exit =
+    command.outcome (record { first = inputs.first; second = inputs.second; table = inputs.table; message = message }) text exit
+
+-- the text for the lines of these bytes, and how the program ends: the text of each line in order, or one line of a dictionary
+-- that is refused
+pub data IsLinesOutcome (command : MessageCommand) (inputs : Inputs) (bytes text : List ℕ) (exit : Exit) : Type 0 where
+  answered : (exits : List Exit) → ((told : List ℕ) → ¬ command.refuses inputs told)
+      → IsAnswered (OfLine command inputs) bytes text exits → exit ≡ command.exit_of (ended_of exits)
+      → IsLinesOutcome command inputs bytes text exit
+  refused : (told : List ℕ) → command.refuses inputs told → Refuses told text exit → IsLinesOutcome command inputs bytes text exit
+
+-- these bytes were read, and the text for their lines was put
+pub record AreLinesAnswered (command : MessageCommand) (inputs : Inputs) (fed_old fed put_old put : Option (List ℕ)) (exit : Exit) : Type 0 where
+  pub bytes : List ℕ
+  pub text : List ℕ
+  pub consumed : Consumes fed_old fed bytes
+  pub outcome : IsLinesOutcome command inputs bytes text exit
+  pub is_put : Appends put_old put text
+
+-- a beginning of the text was put
+abbrev pub IsFrontPut : MessageCommand → Inputs → (fed_old fed put_old put : Option (List ℕ)) → Type 0
+IsFrontPut command inputs fed_old fed put_old put = FrontAnswered (OfLine command inputs) fed_old fed put_old put
+    ⊎ ((told : List ℕ) × command.refuses inputs told × Consumes fed_old fed [] × AppendsFront put_old put (line told))

@@ -1,0 +1,41 @@
+//! What the judges say is what the commands write.
+
+ghost use Rattle.std.specs.Prelude.{◌≡◌, List, ℕ};
+ghost use Rattle.dia_dict.specs.Dictionary.{Dictionary};
+ghost use Rattle.dia_policy.specs.declared.Unknown.{Unknown as AnyPolicy};
+ghost use Rattle.dia_policy.specs.declared.Levels.{Levels as AnyLevels};
+ghost use Rattle.dia_io.specs.declared.Input.{Input as AnyInput};
+ghost use Rattle.dia_io.specs.declared.Inputs.{Inputs as AnyInputs};
+ghost use Rattle.dia_io.specs.declared.Exit.{Exit as AnyExit};
+ghost use Rattle.dia_lines.specs.Lines.{LineHasOneAnswer};
+ghost use Rattle.dia_run.specs.Texts.{IsDictionaryText};
+ghost use Rattle.dia_run.specs.Outcome.{IsRefutation};
+ghost use Rattle.dia_captures.specs.OneMessage.{IsMessageChecked};
+ghost use Rattle.dia_captures.specs.Lines.{OfLine, checks, refutations};
+
+/// What a `CheckJudge` says of a line is what `check` writes for the dictionary's text, and the line as the message.
+pub fn check_of_line()
+    ensures { (u : AnyPolicy) (most : AnyLevels) (inputs : AnyInputs) (d : Dictionary)
+        → IsDictionaryText inputs.first d → (line : AnyInput) (told : List ℕ) (exit : AnyExit)
+        → IsMessageChecked u most d line told exit → OfLine (checks u most) inputs line told exit }
+{}
+
+/// What a `RefuteJudge` says of a line is what `refute` writes for the dictionaries' texts, and the line as the message.
+pub fn refute_of_line()
+    ensures { (u : AnyPolicy) (most : AnyLevels) (inputs : AnyInputs) (a b : Dictionary)
+        → IsDictionaryText inputs.first a → IsDictionaryText inputs.second b
+        → (line : AnyInput) (told : List ℕ) (exit : AnyExit) → IsRefutation u most line a b told exit
+        → OfLine (refutations u most) inputs line told exit }
+{}
+
+/// `check` writes one text for a line.
+pub fn one_check()
+    ensures { (u : AnyPolicy) (most : AnyLevels) (inputs : AnyInputs)
+        → LineHasOneAnswer (OfLine (checks u most) inputs) }
+{}
+
+/// `refute` writes one text for a line.
+pub fn one_refute()
+    ensures { (u : AnyPolicy) (most : AnyLevels) (inputs : AnyInputs)
+        → LineHasOneAnswer (OfLine (refutations u most) inputs) }
+{}

@@ -1,0 +1,11 @@
+//! `check` and `refute` of texts that have a message a line, which are answered as they are read.
+//!
+//! `dia_lines::answer_lines` takes a [`CheckJudge`] or a [`RefuteJudge`] of dictionaries that were read, a feed and a sink, and
+//! puts for each line what `check` or `refute` writes for it alone.
+#![tactic(auto)]
+
+mod judges;
+mod laws;
+
+pub use judges::{CheckJudge, RefuteJudge};
+pub use laws::{check_of_line, one_check, one_refute, refute_of_line};
