@@ -52,6 +52,10 @@ the_wildcard b w sound has = by (wildcard_of b) refl
         let same : v ≡ w = one_rule b v w sound found.0 (in_contains b w has.0) (found.1 ∙ sym has.1) in
         e ∙ ap (λ (r : DRule). Some r) same
 
+-- each level is placed by the second definition, or shows one of these lines, or only its order is wrong
+abbrev pub OrLate : (Key → ℕ) → List DRule → List DRule → List Line → Type 0
+OrLate length a b lines = (keys : List Key) → Placed a keys → total length keys < too_long → Placed b keys ⊎ ((line : Line) × Contains lines line × Shows length a b keys line) ⊎ IsLate (fixed_rules b) keys
+
 module _ (f : Floor) (most : ℕ) (listed other : Key → ℕ) (a b : List DRule) (sound : AreSound a) (sound_b : AreSound b) (is : IsFloor f listed other a b) (wild : f.wild ≡ wildcard_of a) (lets : f.lets_in ≡ has_wildcard b)
     (is_most : IsLeastMost listed f a b most) where
   abbrev length : Key → ℕ
@@ -165,7 +169,7 @@ module _ (f : Floor) (most : ℕ) (listed other : Key → ℕ) (a b : List DRule
       let same = cut.1 in
       line_in keys TooManyOthers b w room (in_contains b w has.0) (omega (arith, least, own, same)) in_too_many_others (subst (λ (o : Option Key). ShowsAt a b keys TooManyOthers o) (sym has.1) (w, max, has, is_max, above))
 
-  pub each_line : HasEachLine length a b (lines_of f most listed other a b)
+  pub each_line : OrLate length a b (lines_of f most listed other a b)
   each_line keys placed room = by (placed_or_breach b keys sound_b)
     where
       by : Placed b keys ⊎ Breach b keys → Placed b keys ⊎ shown keys ⊎ IsLate (fixed_rules b) keys
@@ -177,16 +181,19 @@ module _ (f : Floor) (most : ℕ) (listed other : Key → ℕ) (a b : List DRule
       by (inr (Many_others w max has is_max above)) = inr (inl (many_by_wild keys placed room w max has is_max above))
       by (inr (Late late)) = inr (inr late)
 
--- with more lines too
-pub each_line_more : (f : Floor) (most : ℕ) (listed other : Key → ℕ) (a b : List DRule) (first all more : List Line) → first ≡ lines_of f most listed other a b → all ≡ first ++ more
-    → HasEachLine (price listed other a) a b (lines_of f most listed other a b) → HasEachLine (price listed other a) a b all
-each_line_more f most listed other a b first all more is is_all each = λ keys placed room. by keys (each keys placed room)
+-- with the lines of the order each shows one
+pub with_orders : (length : Key → ℕ) (a b : List DRule) (counts orders first all : List Line) → first ≡ counts → all ≡ first ++ orders → OrLate length a b counts
+    → ((keys : List Key) → Placed a keys → total length keys < too_long → IsLate (fixed_rules b) keys → (line : Line) × Contains orders line × Shows length a b keys line) → HasEachLine length a b all
+with_orders length a b counts orders first all is is_all each late_shown = λ keys placed room. by keys placed room (each keys placed room)
   where
-    there : (line : Line) → Contains (lines_of f most listed other a b) line → Contains all line
-    there line c = contains_in all line (subst (λ (ls : List Line). IsIn line ls) (sym is_all) (in_left first more line (subst (λ (ls : List Line). IsIn line ls) (sym is) (in_contains (lines_of f most listed other a b) line c))))
+    parts : all ≡ counts ++ orders
+    parts = is_all ∙ ap (λ (ls : List Line). ls ++ orders) is
 
-    by : (keys : List Key) → Placed b keys ⊎ ((line : Line) × Contains (lines_of f most listed other a b) line × Shows (price listed other a) a b keys line) ⊎ IsLate (fixed_rules b) keys
-        → Placed b keys ⊎ ((line : Line) × Contains all line × Shows (price listed other a) a b keys line) ⊎ IsLate (fixed_rules b) keys
-    by keys (inl done) = inl done
-    by keys (inr (inl shown)) = inr (inl (shown.0, there shown.0 shown.1, shown.2))
-    by keys (inr (inr late)) = inr (inr late)
+    into : (line : Line) → IsIn line (counts ++ orders) → Contains all line
+    into line i = contains_in all line (subst (λ (ls : List Line). IsIn line ls) (sym parts) i)
+
+    by : (keys : List Key) → Placed a keys → total length keys < too_long → Placed b keys ⊎ ((line : Line) × Contains counts line × Shows length a b keys line) ⊎ IsLate (fixed_rules b) keys
+        → Placed b keys ⊎ ((line : Line) × Contains all line × Shows length a b keys line)
+    by keys placed room (inl done) = inl done
+    by keys placed room (inr (inl shown)) = inr (shown.0, into shown.0 (in_left counts orders shown.0 (in_contains counts shown.0 shown.1)), shown.2)
+    by keys placed room (inr (inr late)) = let shown = late_shown keys placed room late in inr (shown.0, into shown.0 (in_right counts orders shown.0 (in_contains orders shown.0 shown.1)), shown.2)

@@ -11,25 +11,30 @@ use Rattle.dia_compat.proofs.MemberCounts.{in_at}
 use Rattle.dia_compat.proofs.FitInSecond.{all_of}
 use Rattle.dia_levels.specs.declared.floor.Floor.{Floor}
 use Rattle.dia_levels.specs.declared.steps.Step.{Step}
-use Rattle.dia_levels.specs.CountsAndRanks.{AreSound}
 use Rattle.dia_levels.specs.Levels.{FirstIsShortest}
 use Rattle.dia_levels.specs.LevelTests.{filler, inner_length, cheapest, outer_length, base_length, needed_up}
 use Rattle.dia_levels.specs.Strangers.{needed}
 use Rattle.dia_levels.specs.Steps.{greatest, steps, IsLeastTaken, IsLeastOver, IsLeastMost}
 use Rattle.dia_levels.specs.LevelTests.{swapped}
-use Rattle.dia_levels.proofs.CountsAndRanks.{rules_sound}
 use Rattle.dia_levels.proofs.FloorBounds.{base_within, needed_within, needed_is, inner_within, inner_less}
 use Rattle.dia_levels.proofs.LineBounds.{IsFloor}
 
-no_rules : AreSound []
-no_rules = record { distinct = λ i j r s at at' e. absurd (none-some r at); fixed_keys = λ i d lt. absurd (omega (arith, lt)) }
+no_rules : AreRules []
+no_rules = record {
+  fixed_first = ([], [], refl, refl, refl);
+  distinct = λ i j r s at at' e. absurd (none-some r at);
+  fixed_keys = λ i d lt. absurd (omega (arith, lt));
+  bounds = λ i d lt. absurd (omega (arith, lt));
+  least = λ i d lt. absurd (omega (arith, lt));
+  few = omega arith;
+}
 
-pub rules_in_sound : (d : Dictionary) (def : ℕ) → IsDictionary d → AreSound (rules_in d def)
-rules_in_sound d def is = by (slice_get (definitions d) def) refl
+pub rules_in_are : (d : Dictionary) (def : ℕ) → IsDictionary d → AreRules (rules_in d def)
+rules_in_are d def is = by (slice_get (definitions d) def) refl
   where
-    by : (o : Option PlainDefinition) → slice_get (definitions d) def ≡ o → AreSound (option_map_or (λ x. x.rules) o [])
+    by : (o : Option PlainDefinition) → slice_get (definitions d) def ≡ o → AreRules (option_map_or (λ x. x.rules) o [])
     by None e = no_rules
-    by (Some x) e = rules_sound x.rules (all_of (λ (def : PlainDefinition). AreRules def.rules) (definitions d) x is.rules (in_at (definitions d) def x e))
+    by (Some x) e = all_of (λ (def : PlainDefinition). AreRules def.rules) (definitions d) x is.rules (in_at (definitions d) def x e)
 
 pub is_floor : (f : Floor) (listed other : Key → ℕ) (keys : List Key) (a b : List DRule) → f.base ≡ base_length listed (min f.inner f.outer) a → f.inner ≡ cheapest (inner_length other a None) b
     → f.second ≡ cheapest (inner_length other a f.first) b → f.outer ≡ outer_length other keys a b → f.needed ≡ needed_up b a → FirstIsShortest other keys a b → IsFloor f listed other a b

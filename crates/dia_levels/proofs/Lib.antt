@@ -15,4 +15,6 @@ pub mod EachLine
 pub mod FloorFacts
 pub mod LinesMore
 pub mod PairBounds
+pub mod OrderBounds
+pub mod OrderLines
 pub mod Places

@@ -7,7 +7,7 @@ use Rattle.dia_check.specs.Valid.{Placed, fixed_rules, is_listed, has_wildcard}
 use Rattle.dia_compat.specs.Below.{HasRule, HasWildcard}
 use Rattle.dia_levels.specs.declared.line.Line.{Line}
 use Rattle.dia_levels.specs.declared.line.Reason.{Reason}
-use Rattle.dia_levels.specs.declared.line.Reason.TheVariants.{Missing, TooMany, NotAllowed, NotAllowedOther, MissingOthers, TooManyOthers}
+use Rattle.dia_levels.specs.declared.line.Reason.TheVariants.{Missing, TooMany, NotAllowed, NotAllowedOther, MissingOthers, TooManyOthers, Order}
 use Rattle.dia_levels.specs.CountsAndRanks.{times, strangers}
 use Rattle.dia_levels.specs.Breaches.{IsLate}
 use Rattle.dia_levels.specs.LeastLevels.{total}
@@ -21,16 +21,16 @@ ShowsAt a b keys NotAllowed (Some key) = Contains keys key × (is_listed b key �
 ShowsAt a b keys NotAllowedOther None = (key : Key) × Contains keys key × (is_listed a key ≡ false) × (is_listed b key ≡ false) × (has_wildcard b ≡ false)
 ShowsAt a b keys MissingOthers None = (wild : DRule) × HasWildcard b wild × (strangers b keys < wild.min)
 ShowsAt a b keys TooManyOthers None = (wild : DRule) × (max : ℕ) × HasWildcard b wild × (wild.max ≡ Some max) × (max < strangers b keys)
+ShowsAt a b keys Order (Some key) = (late : IsLate (fixed_rules b) keys) × (late.y ≡ key)
 ShowsAt a b keys reason key = ⊥
 
 -- the keys show the line, and their level is no shorter than it says
 abbrev pub Shows : (Key → ℕ) → List DRule → List DRule → List Key → Line → Type 0
 Shows length a b keys line = ShowsAt a b keys line.reason line.key × (line.length ≤ total length keys)
 
--- each level of the first definition that a message has room for is placed by the second, or shows a line, or only its order is wrong
+-- each level of the first definition that a message has room for is placed by the second, or shows a line
 abbrev pub HasEachLine : (Key → ℕ) → List DRule → List DRule → List Line → Type 0
-HasEachLine length a b lines = (keys : List Key) → Placed a keys → total length keys < too_long
-    → Placed b keys ⊎ ((line : Line) × Contains lines line × Shows length a b keys line) ⊎ IsLate (fixed_rules b) keys
+HasEachLine length a b lines = (keys : List Key) → Placed a keys → total length keys < too_long → Placed b keys ⊎ ((line : Line) × Contains lines line × Shows length a b keys line)
 
 -- of the keys that neither definition lists the first is one of a shortest AVP
 abbrev pub FirstIsShortest : (Key → ℕ) → List Key → List DRule → List DRule → Type 0

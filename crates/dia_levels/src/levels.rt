@@ -1,8 +1,7 @@
 //! The lines of the levels of two definitions.
 ghost use Rattle.std.specs.Prelude.{◌≡◌, ◌<◌, IfOk, length};
-ghost use Rattle.dia_book.specs.Dictionary.{definitions};
+ghost use Rattle.dia_book.specs.Dictionary.{AreRules, definitions};
 ghost use Rattle.dia_compat.specs.Tests.{rules_in};
-ghost use Rattle.dia_levels.specs.CountsAndRanks.{AreSound};
 ghost use Rattle.dia_levels.specs.LevelTests.{price, needed_up, lines_of};
 ghost use Rattle.dia_levels.specs.Levels.{HasEachLine, FirstIsShortest};
 ghost use Rattle.dia_levels.specs.Steps.{greatest, IsLeastOver, IsLeastMost};
@@ -18,8 +17,7 @@ use dia_book::{Book, DefId};
 use std::alloc::{AllocError, Global};
 
 /// The lines of the levels of a definition of `a` that break the rules of one of `b`: by reasons, and those of a reason in the
-/// order of the rules. A level that breaks them shows a line whose length is no more than its own, unless only the order of its
-/// AVPs is wrong.
+/// order of the rules. A level that breaks them shows a line whose length is no more than its own.
 pub fn level_lines<A: Book, B: Book, C: Costs>(
     alloc: Global,
     a: &A,
@@ -63,15 +61,15 @@ pub fn level_lines<A: Book, B: Book, C: Costs>(
 
 /// The rules of the definitions of two dictionaries are sound.
 fn both_sound<A: Book, B: Book>(a: &A, a_def: DefId, b: &B, b_def: DefId)
-    ensures first { AreSound (rules_in (A.meaning a.now) a_def) }
-    ensures second { AreSound (rules_in (B.meaning b.now) b_def) }
+    ensures first { AreRules (rules_in (A.meaning a.now) a_def) }
+    ensures second { AreRules (rules_in (B.meaning b.now) b_def) }
 {
     is_sound(a, a_def);
     is_sound(b, b_def);
 }
 
 fn is_sound<B: Book>(book: &B, def: DefId)
-    ensures { AreSound (rules_in (B.meaning book.now) def) }
+    ensures { AreRules (rules_in (B.meaning book.now) def) }
 {}
 
 /// The lines of each reason.

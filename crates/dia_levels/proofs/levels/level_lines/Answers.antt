@@ -1,19 +1,33 @@
+use Rattle.std.proofs.Common.{ap, ◌∙◌}
+use Rattle.std.specs.Prelude.{filter_map, find}
 use Rattle.dia_compat.specs.Tests.{rules_in}
-use Rattle.dia_levels.proofs.EachLine.{each_line, each_line_more}
+use Rattle.dia_levels.specs.LevelTests.{price, is_outside, lines_of}
+use Rattle.dia_levels.specs.OrderTests.{order_line}
+use Rattle.dia_levels.proofs.CountsAndRanks.{rules_sound}
+use Rattle.dia_levels.proofs.EachLine.{each_line, with_orders}
 use Rattle.dia_levels.proofs.FloorFacts.{is_floor}
+use Rattle.dia_levels.proofs.OrderLines.{orders_are, late_shown}
 use Rattle.dia_levels.proofs.levels.level_lines.Goals as goal
 
 pub returns : goal.returns
 returns g c =
     let listed = g.C.Costs.listed_length c.args.costs.now in
     let other = g.C.Costs.other_length c.args.costs.now in
+    let others = g.C.Costs.other_keys c.args.costs.now in
     let a = rules_in (g.A.Book.meaning c.args.a.now) c.args.a_def in
     let b = rules_in (g.B.Book.meaning c.args.b.now) c.args.b_def in
     let f = c.floor_of-floor.result in
     let facts = c.floor_of-floor.ensures in
-    let floor = is_floor f listed other (g.C.Costs.other_keys c.args.costs.now) a b facts.base facts.inner facts.second facts.outer facts.needed c.requires.shortest in
+    let are_a = c.both_sound.ensures.first in
+    let are_b = c.both_sound.ensures.second in
+    let floor = is_floor f listed other others a b facts.base facts.inner facts.second facts.outer facts.needed c.requires.shortest in
+    let outer = c.first_outside-outer.ensures ∙ ap (λ keys. find (is_outside a b) keys) c.others.ensures in
+    let rules = c.list.ensures in
     record {
       complete =
-          each_line_more f c.in_ok-most.most listed other a b c.in_ok-lines.lines.items c.in_ok-all.all.items _ c.in_ok-lines.ensures c.in_ok-all.ensures
-          (each_line f c.in_ok-most.most listed other a b c.both_sound.ensures.first c.both_sound.ensures.second floor facts.wild facts.lets_in c.in_ok-most.ensures);
+          with_orders (price listed other a) a b (lines_of f c.in_ok-most.most listed other a b) (filter_map (order_line f listed other a b (find (is_outside a b) others)) b) c.in_ok-lines.lines.items c.in_ok-all.all.items
+          c.in_ok-lines.ensures
+          (orders_are f listed other a b c.first_outside-outer.result (find (is_outside a b) others) c.list.result.now b c.in_ok-lines.lines.items c.in_ok-all.all.items c.in_ok-all.ensures outer rules)
+          (each_line f c.in_ok-most.most listed other a b (rules_sound a are_a) (rules_sound b are_b) floor facts.wild facts.lets_in c.in_ok-most.ensures)
+          (late_shown f listed other others a b are_a are_b floor facts.wild c.requires.shortest);
     }

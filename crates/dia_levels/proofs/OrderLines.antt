@@ -1,0 +1,252 @@
+-- Each level that is late by the second definition shows a line of the order.
+use Rattle.std.proofs.Common.{◌≡◌, ℕ, ◌+◌, ◌<◌, ◌≤◌, Bool, true, false, List, [], ◌∷◌, ◌++◌, length, Option, Some, None, refl, sym, ap, subst, ◌∙◌, arith, inl, inr}
+use Rattle.std.specs.Prelude.{not, min, ◌&&◌, ◌==◌, nat_le, nat_lt, fold, find, filter_map, Contains, if◌then◌else◌}
+use Rattle.std.specs.Option.{option_map_or}
+use Rattle.std.proofs.lemmas.Bool.{lt-ltb, le-leb, ltb-true, ltb-false}
+use Rattle.std.proofs.lemmas.Option.{none-some, same_Some}
+use Rattle.dia_wire.specs.declared.Key.{Key}
+use Rattle.dia_book.specs.declared.DRule.{DRule}
+use Rattle.dia_book.specs.Dictionary.{AreRules, is_fixed}
+use Rattle.dia_book.proofs.Members.{at_find}
+use Rattle.dia_check.specs.Valid.{Placed, fixed_rules, is_listed}
+use Rattle.dia_check.proofs.KeysByCounts.{fixed_few}
+use Rattle.dia_compat.specs.Tests.{rule_of, wildcard_of}
+use Rattle.dia_compat.proofs.RunsOfFixedRules.{IsIn}
+use Rattle.dia_compat.proofs.MemberCounts.{in_at, in_contains, contains_in, in_filter}
+use Rattle.dia_compat.proofs.PlacedInSecond.{is_listed_by}
+use Rattle.dia_compat.proofs.FitInSecond.{in_filter_map}
+use Rattle.dia_levels.specs.declared.floor.Floor.{Floor}
+use Rattle.dia_levels.specs.declared.line.Line.{Line}
+use Rattle.dia_levels.specs.declared.line.Reason.{Reason}
+use Rattle.dia_levels.specs.declared.line.Reason.TheVariants.{Order}
+use Rattle.dia_levels.specs.CountsAndRanks.{rank}
+use Rattle.dia_levels.specs.Breaches.{IsLate}
+use Rattle.dia_levels.specs.LeastLevels.{total}
+use Rattle.dia_levels.specs.Orders.{IsTurned}
+use Rattle.dia_levels.specs.Places.{place}
+use Rattle.dia_levels.specs.LevelTests.{too_long, capped, price, filler, has_room, swapped, many, is_outside}
+use Rattle.dia_levels.specs.Levels.{ShowsAt, Shows, FirstIsShortest}
+use Rattle.dia_levels.specs.OrderTests.{is_turned, beyond, by_wild, with_others, pair_length, better, better_by, best_by, best_of, short_line, order_line}
+use Rattle.dia_levels.proofs.CountsAndRanks.{rules_sound, ranked}
+use Rattle.dia_levels.proofs.Orders.{late_turned, turned_apart}
+use Rattle.dia_levels.proofs.Places.{Placing, placing}
+use Rattle.dia_levels.proofs.LineBounds.{IsFloor, is_rule}
+use Rattle.dia_levels.proofs.LeastLevels.{not_both}
+use Rattle.dia_levels.proofs.FloorBounds.{rule_of_listed}
+use Rattle.dia_levels.proofs.OrderBounds.{pair_within}
+
+-- ---- the test of an order
+
+both_true : (t u : Bool) → t ≡ true → u ≡ true → (t && u) ≡ true
+both_true t u e g = ap (λ (v : Bool). v && u) e ∙ g
+
+places_within : (rules : List DRule) (x y : Key) → AreRules rules → rank (fixed_rules rules) x ≤ rank (fixed_rules rules) y → place rules x ≤ place rules y
+places_within rules x y are le = by (placing rules x are) (placing rules y are)
+  where
+    by : Placing rules x → Placing rules y → place rules x ≤ place rules y
+    by (inl p) (inl q) = omega (arith, p.0, q.0, le)
+    by (inl p) (inr q) = let few = fixed_few rules in omega (arith, p.0, p.1, q.0, few)
+    by (inr p) (inl q) = absurd (omega (arith, p.1, q.1, le))
+    by (inr p) (inr q) = omega (arith, p.0, q.0)
+
+places_below : (rules : List DRule) (x y : Key) → AreRules rules → rank (fixed_rules rules) y < rank (fixed_rules rules) x → place rules y < place rules x
+places_below rules x y are lt = by (placing rules x are) (placing rules y are)
+  where
+    by : Placing rules x → Placing rules y → place rules y < place rules x
+    by (inl p) (inl q) = omega (arith, p.0, q.0, lt)
+    by (inl p) (inr q) = absurd (omega (arith, p.1, q.1, lt))
+    by (inr p) (inl q) = let few = fixed_few rules in omega (arith, p.0, q.0, q.1, few)
+    by (inr p) (inr q) = absurd (omega (arith, p.1, q.1, lt))
+
+pub turned_test : (a b : List DRule) (x y : Key) → AreRules a → AreRules b → IsTurned a b x y → is_turned a b y x ≡ true
+turned_test a b x y are_a are_b t =
+    both_true (nat_le (place a x) (place a y)) (nat_lt (place b y) (place b x)) (le-leb (place a x) (place a y) (places_within a x y are_a t.first)) (lt-ltb (place b y) (place b x) (places_below b x y are_b t.second))
+
+-- a key that no rule lists stands behind them all
+unlisted_last : (rules : List DRule) (k : Key) → AreRules rules → is_listed rules k ≡ false → place rules k ≡ length rules
+unlisted_last rules k are none = by (placing rules k are)
+  where
+    by : Placing rules k → place rules k ≡ length rules
+    by (inl p) =
+        let r = ranked (fixed_rules rules) k p.1 in
+        let own = in_filter is_fixed rules r.0 r.1 in
+        absurd (not_both (is_listed rules k) (is_listed_by rules k r.0 own.0 r.2) none)
+    by (inr p) = p.0
+
+unruled : (rules : List DRule) (k : Key) → is_listed rules k ≡ false → rule_of rules k ≡ None
+unruled rules k none = by (rule_of rules k) refl
+  where
+    by : (o : Option DRule) → rule_of rules k ≡ o → rule_of rules k ≡ None
+    by None e = e
+    by (Some r) e = let own = is_rule rules k r e in absurd (not_both (is_listed rules k) (is_listed_by rules k r own.0 own.1) none)
+
+-- ---- the shortest line
+
+-- a line for another: of the same reason and key, no longer, and where a test holds no longer than this
+abbrev Bettered : Line → Line → Bool → ℕ → Type 0
+Bettered line best t n = (line.reason ≡ best.reason) × (line.key ≡ best.key) × (line.length ≤ best.length) × (t ≡ true → line.length ≤ n)
+
+bettered : (t u : Bool) (best : Line) (x : Key) (n : ℕ) → nat_lt n best.length ≡ u → Bettered (if t && u then record { reason = best.reason; key = best.key; behind = Some x; length = n } else best) best t n
+bettered true true best x n e = (refl, refl, (let lt = ltb-true n best.length e in omega (arith, lt)), λ h. omega arith)
+bettered true false best x n e = (refl, refl, omega arith, λ h. ltb-false n best.length e)
+bettered false u best x n e = (refl, refl, omega arith, λ h. absurd (let g : false ≡ true = h in cc))
+
+module _ (turned : Key → Bool) (long : Key → ℕ) where
+  -- the same of a key, if there is one
+  abbrev IsNext : Line → Line → Option Key → Type 0
+  IsNext line best o = (line.reason ≡ best.reason) × (line.key ≡ best.key) × (line.length ≤ best.length) × ((x : Key) → o ≡ Some x → turned x ≡ true → line.length ≤ long x)
+
+  next_by : (best : Line) (o : Option Key) → IsNext (option_map_or (better turned long best) o best) best o
+  next_by best None = (refl, refl, omega arith, λ x e. absurd (none-some x e))
+  next_by best (Some k) =
+      let s = bettered (turned k) (nat_lt (long k) best.length) best k (long k) refl in
+      (s.0, s.1, s.2, λ x e h. let same = same_Some k x e in let le = s.3 (ap turned same ∙ h) in let own = ap long same in omega (arith, le, own))
+
+  -- and of the keys of rules
+  abbrev AreNext : Line → Line → List DRule → Type 0
+  AreNext line best rules = (line.reason ≡ best.reason) × (line.key ≡ best.key) × (line.length ≤ best.length) × ((x : Key) (r : DRule) → IsIn r rules → r.key ≡ Some x → turned x ≡ true → line.length ≤ long x)
+
+  next_more : (best next last : Line) (s : DRule) (rules : List DRule) → IsNext next best s.key → AreNext last next rules → AreNext last best (s ∷ rules)
+  next_more best next last s rules one ih = (ih.0 ∙ one.0, ih.1 ∙ one.1, omega (arith, ih.2, one.2), each)
+    where
+      each : (x : Key) (r : DRule) → IsIn r (s ∷ rules) → r.key ≡ Some x → turned x ≡ true → last.length ≤ long x
+      each x r (inl same) e h =
+          let le = one.3 x (ap (λ (t : DRule). t.key) (sym same) ∙ e) h in
+          omega (arith, le, ih.2)
+      each x r (inr i) e h = ih.3 x r i e h
+
+  next_rules : (best : Line) (rules : List DRule) → AreNext (fold (better_by turned long) best rules) best rules
+  next_rules best [] = (refl, refl, omega arith, λ x r i. absurd i)
+  next_rules best (s ∷ rules) = next_more best (better_by turned long best s) (fold (better_by turned long) (better_by turned long best s) rules) s rules (next_by best s.key) (next_rules (better_by turned long best s) rules)
+
+  pub best_is : (y : Key) (a b : List DRule) (outer : Option Key) → ((best_of turned long y a b outer).reason ≡ Order) × ((best_of turned long y a b outer).key ≡ Some y)
+  best_is y a b outer =
+      let first = next_rules (record { reason = Order; key = Some y; behind = None; length = too_long }) a in
+      let second = next_rules (fold (better_by turned long) (record { reason = Order; key = Some y; behind = None; length = too_long }) a) b in
+      let third = next_by (best_by turned long y a b) outer in
+      (third.0 ∙ second.0 ∙ first.0, third.1 ∙ second.1 ∙ first.1)
+
+  pub best_first : (y : Key) (a b : List DRule) (outer : Option Key) (x : Key) (r : DRule) → IsIn r a → r.key ≡ Some x → turned x ≡ true → (best_of turned long y a b outer).length ≤ long x
+  best_first y a b outer x r i e h =
+      let first = next_rules (record { reason = Order; key = Some y; behind = None; length = too_long }) a in
+      let second = next_rules (fold (better_by turned long) (record { reason = Order; key = Some y; behind = None; length = too_long }) a) b in
+      let third = next_by (best_by turned long y a b) outer in
+      let le = first.3 x r i e h in
+      omega (arith, le, second.2, third.2)
+
+  pub best_second : (y : Key) (a b : List DRule) (outer : Option Key) (x : Key) (r : DRule) → IsIn r b → r.key ≡ Some x → turned x ≡ true → (best_of turned long y a b outer).length ≤ long x
+  best_second y a b outer x r i e h =
+      let second = next_rules (fold (better_by turned long) (record { reason = Order; key = Some y; behind = None; length = too_long }) a) b in
+      let third = next_by (best_by turned long y a b) outer in
+      let le = second.3 x r i e h in
+      omega (arith, le, third.2)
+
+  pub best_outer : (y : Key) (a b : List DRule) (outer : Option Key) (x : Key) → outer ≡ Some x → turned x ≡ true → (best_of turned long y a b outer).length ≤ long x
+  best_outer y a b outer x e h = let third = next_by (best_by turned long y a b) outer in third.3 x e h
+
+-- ---- keys that neither lists stand for one another
+
+others_more : (base filler n p q : ℕ) (o : Option DRule) → p ≤ q → with_others base filler n p o ≤ with_others base filler n q o
+others_more base filler n p q None le = by (n == 0)
+  where
+    by : (t : Bool) → (if t then swapped base 0 p else too_long) ≤ (if t then swapped base 0 q else too_long)
+    by true = omega (arith, le)
+    by false = omega arith
+others_more base filler n p q (Some w) le = by (has_room n w.max)
+  where
+    by : (t : Bool) → (if t then swapped base (many (min n w.min) filler) p else too_long) ≤ (if t then swapped base (many (min n w.min) filler) q else too_long)
+    by true = omega (arith, le)
+    by false = omega arith
+
+one_of_total : (cost : Key → ℕ) (keys : List Key) (x : Key) → IsIn x keys → cost x ≤ total cost keys
+one_of_total cost [] x i = absurd i
+one_of_total cost (k ∷ keys) x (inl same) = let own = ap cost same in omega (arith, own)
+one_of_total cost (k ∷ keys) x (inr i) = let ih = one_of_total cost keys x i in omega (arith, ih)
+
+outside_parts : (t u : Bool) → (not t && not u) ≡ true → (t ≡ false) × (u ≡ false)
+outside_parts false false h = (refl, refl)
+outside_parts true u h = absurd (let g : false ≡ true = h in cc)
+outside_parts false true h = absurd (let g : false ≡ true = h in cc)
+
+module _ (f : Floor) (listed other : Key → ℕ) (others : List Key) (a b : List DRule) (are_a : AreRules a) (are_b : AreRules b) (is : IsFloor f listed other a b) (wild : f.wild ≡ wildcard_of a)
+    (shortest : FirstIsShortest other others a b) where
+  abbrev outer : Option Key
+  outer = find (is_outside a b) others
+
+  abbrev best : Key → Line
+  best y = best_of (is_turned a b y) (pair_length f listed other a y) y a b outer
+
+  same_pair : (y x o : Key) → rule_of a x ≡ None → rule_of a o ≡ None → other o ≤ other x → pair_length f listed other a y o ≤ pair_length f listed other a y x
+  same_pair y x o none none_o le =
+      let more = others_more f.base (filler f) (1 + by_wild (rule_of a y)) (capped (capped (other o) + beyond listed other y (rule_of a y))) (capped (capped (other x) + beyond listed other y (rule_of a y))) f.wild (omega (arith, le)) in
+      subst (λ (p : Option DRule). with_others f.base (filler f) (by_wild p + by_wild (rule_of a y)) (capped (beyond listed other o p + beyond listed other y (rule_of a y))) f.wild ≤ pair_length f listed other a y x) (sym none_o)
+      (subst (λ (p : Option DRule). with_others f.base (filler f) (1 + by_wild (rule_of a y)) (capped (capped (other o) + beyond listed other y (rule_of a y))) f.wild
+      ≤ with_others f.base (filler f) (by_wild p + by_wild (rule_of a y)) (capped (beyond listed other x p + beyond listed other y (rule_of a y))) f.wild) (sym none) more)
+
+  same_turned : (y x o : Key) → is_listed a x ≡ false → is_listed b x ≡ false → is_listed a o ≡ false → is_listed b o ≡ false → is_turned a b y x ≡ true → is_turned a b y o ≡ true
+  same_turned y x o e e' g g' h =
+      let first : place a o ≡ place a x = unlisted_last a o are_a g ∙ sym (unlisted_last a x are_a e) in
+      let second : place b o ≡ place b x = unlisted_last b o are_b g' ∙ sym (unlisted_last b x are_b e') in
+      ap (λ (n : ℕ). nat_le n (place a y) && nat_lt (place b y) (place b o)) first ∙ ap (λ (n : ℕ). nat_le (place a x) (place a y) && nat_lt (place b y) n) second ∙ h
+
+  best_within : (keys : List Key) (y x : Key) → total (price listed other a) keys < too_long → IsIn x keys → is_turned a b y x ≡ true → pair_length f listed other a y x ≤ total (price listed other a) keys
+      → (best y).length ≤ total (price listed other a) keys
+  best_within keys y x room i turned le = by (is_listed a x) refl (is_listed b x) refl
+    where
+      by_outer : (o : Option Key) → outer ≡ o → is_listed a x ≡ false → is_listed b x ≡ false → (best y).length ≤ total (price listed other a) keys
+      by_outer None e none none_b =
+          let long = shortest x none none_b in
+          let same : option_map_or other outer too_long ≡ too_long = ap (λ (o : Option Key). option_map_or other o too_long) e in
+          let own = one_of_total (price listed other a) keys x i in
+          let priced : price listed other a x ≡ other x = ap (λ (t : Bool). if t then listed x else other x) none in
+          absurd (omega (arith, long, same, own, priced, room))
+      by_outer (Some o) e none none_b =
+          let found = at_find (is_outside a b) others o e in
+          let parts = outside_parts (is_listed a o) (is_listed b o) found.2 in
+          let long = shortest x none none_b in
+          let same : option_map_or other outer too_long ≡ other o = ap (λ (q : Option Key). option_map_or other q too_long) e in
+          let test = same_turned y x o none none_b parts.0 parts.1 turned in
+          let first = best_outer (is_turned a b y) (pair_length f listed other a y) y a b outer o e test in
+          let more = same_pair y x o (unruled a x none) (unruled a o parts.0) (omega (arith, long, same)) in
+          omega (arith, first, more, le)
+
+      by : (t : Bool) → is_listed a x ≡ t → (u : Bool) → is_listed b x ≡ u → (best y).length ≤ total (price listed other a) keys
+      by true e u g =
+          let r = rule_of_listed a x e in
+          let first = best_first (is_turned a b y) (pair_length f listed other a y) y a b outer x r.0 r.1 r.2 turned in
+          omega (arith, first, le)
+      by false e true g =
+          let r = rule_of_listed b x g in
+          let first = best_second (is_turned a b y) (pair_length f listed other a y) y a b outer x r.0 r.1 r.2 turned in
+          omega (arith, first, le)
+      by false e false g = by_outer outer refl e g
+
+  -- keys that are placed by the first and late by the second show the line of the later one
+  pub late_shown : (keys : List Key) → Placed a keys → total (price listed other a) keys < too_long → IsLate (fixed_rules b) keys
+      → (line : Line) × Contains (filter_map (order_line f listed other a b outer) b) line × Shows (price listed other a) a b keys line
+  late_shown keys placed room l =
+      let sound = rules_sound a are_a in
+      let turned = late_turned a b keys sound placed l in
+      let apart = turned_apart a b l.x l.y turned in
+      let i = in_at keys l.early l.x l.is_x in
+      let j = in_at keys l.late l.y l.is_y in
+      let pair = pair_within f listed other a b keys is sound placed l.x l.y (rule_of a l.x) (rule_of a l.y) apart refl refl i j in
+      let same : pair_length f listed other a l.y l.x ≡ with_others f.base (filler f) (by_wild (rule_of a l.x) + by_wild (rule_of a l.y)) (capped (beyond listed other l.x (rule_of a l.x) + beyond listed other l.y (rule_of a l.y))) (wildcard_of a) =
+      ap (λ (o : Option DRule). with_others f.base (filler f) (by_wild (rule_of a l.x) + by_wild (rule_of a l.y)) (capped (beyond listed other l.x (rule_of a l.x) + beyond listed other l.y (rule_of a l.y))) o) wild in
+      let within = best_within keys l.y l.x room i (turned_test a b l.x l.y are_a are_b turned) (omega (arith, pair, same)) in
+      let own = (in_filter is_fixed b l.rule (in_contains (fixed_rules b) l.rule l.has_rule.0)).0 in
+      let short = lt-ltb (best l.y).length too_long (omega (arith, within, room)) in
+      let is_line : order_line f listed other a b outer l.rule ≡ Some (best l.y) =
+      ap (λ (o : Option Key). option_map_or (λ y. short_line (best y)) o None) l.has_rule.1 ∙ ap (λ (t : Bool). if t then Some (best l.y) else None) short in
+      let there = in_filter_map (order_line f listed other a b outer) b l.rule (best l.y) own is_line in
+      let facts = best_is (is_turned a b l.y) (pair_length f listed other a l.y) l.y a b outer in (
+        best l.y,
+        contains_in (filter_map (order_line f listed other a b outer) b) (best l.y) there,
+        (subst (λ (r : Reason). ShowsAt a b keys r (best l.y).key) (sym facts.0) (subst (λ (o : Option Key). ShowsAt a b keys Order o) (sym facts.1) (l, refl)), within),
+      )
+
+-- the lines of rules, by what was looked up
+pub orders_are : (f : Floor) (listed other : Key → ℕ) (a b : List DRule) (o p : Option Key) (rules others : List DRule) (first all : List Line) → all ≡ first ++ filter_map (order_line f listed other a b o) rules → o ≡ p → rules ≡ others
+    → all ≡ first ++ filter_map (order_line f listed other a b p) others
+orders_are f listed other a b o p rules others first all is same own =
+    is ∙ ap (λ (q : Option Key). first ++ filter_map (order_line f listed other a b q) rules) same ∙ ap (λ (rs : List DRule). first ++ filter_map (order_line f listed other a b p) rs) own
