@@ -17,4 +17,5 @@ pub mod LinesMore
 pub mod PairBounds
 pub mod OrderBounds
 pub mod OrderLines
+pub mod AloneBounds
 pub mod Places

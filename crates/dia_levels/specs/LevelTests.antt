@@ -5,7 +5,7 @@ use Rattle.dia_wire.specs.declared.Key.{Key}
 use Rattle.dia_book.specs.Keys.{same_key}
 use Rattle.dia_book.specs.declared.DRule.{DRule}
 use Rattle.dia_check.specs.Valid.{is_listed}
-use Rattle.dia_compat.specs.Tests.{rule_of}
+use Rattle.dia_compat.specs.Tests.{rule_of, wildcard_of}
 use Rattle.dia_levels.specs.declared.floor.Floor.{Floor}
 use Rattle.dia_levels.specs.declared.line.Line.{Line}
 use Rattle.dia_levels.specs.declared.line.Reason.{Reason}
@@ -103,6 +103,23 @@ at_most f key m (Some rule) wild = listed_at_most f.base m rule
 -- at most m of the keys that the second definition does not list, by the wildcard
 abbrev pub few_others : Floor → ℕ → Option DRule → ℕ
 few_others f m wild = if nat_le f.needed m then refilled f.base (filler f) f.inner (m - f.needed) wild else too_long
+
+-- ---- the levels of one definition
+
+-- what an AVP of the first of the keys takes that the definition does not list
+abbrev pub least_filler : (Key → ℕ) → List Key → List DRule → ℕ
+least_filler other keys a = option_map_or other (find (λ key. not (is_listed a key)) keys) too_long
+
+abbrev pub least_length : (Key → ℕ) → (Key → ℕ) → List Key → List DRule → ℕ
+least_length listed other keys a = base_length listed (least_filler other keys a) a
+
+-- the key, whose rule is this, stands once or more
+abbrev pub once : (Key → ℕ) → (Key → ℕ) → ℕ → ℕ → Key → Option DRule → Option DRule → ℕ
+once listed other base filler key None wild = other_at_least base filler (other key) 1 wild
+once listed other base filler key (Some rule) wild = listed_at_least base (listed key) 1 rule
+
+abbrev pub length_once : (Key → ℕ) → (Key → ℕ) → List Key → List DRule → Key → ℕ
+length_once listed other keys a key = once listed other (least_length listed other keys a) (least_filler other keys a) key (rule_of a key) (wildcard_of a)
 
 -- ---- the least level for a reason and a rule
 

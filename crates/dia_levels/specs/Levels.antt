@@ -11,7 +11,7 @@ use Rattle.dia_levels.specs.declared.line.Reason.TheVariants.{Missing, TooMany, 
 use Rattle.dia_levels.specs.CountsAndRanks.{times, strangers}
 use Rattle.dia_levels.specs.Breaches.{IsLate}
 use Rattle.dia_levels.specs.LeastLevels.{total}
-use Rattle.dia_levels.specs.LevelTests.{too_long, is_outside}
+use Rattle.dia_levels.specs.LevelTests.{too_long, is_outside, least_filler}
 
 -- the keys of a level of the first definition break the rules of the second for this reason, at this key
 abbrev pub ShowsAt : List DRule → List DRule → List Key → Reason → Option Key → Type 0
@@ -31,6 +31,18 @@ Shows length a b keys line = ShowsAt a b keys line.reason line.key × (line.leng
 -- each level of the first definition that a message has room for is placed by the second, or shows a line
 abbrev pub HasEachLine : (Key → ℕ) → List DRule → List DRule → List Line → Type 0
 HasEachLine length a b lines = (keys : List Key) → Placed a keys → total length keys < too_long → Placed b keys ⊎ ((line : Line) × Contains lines line × Shows length a b keys line)
+
+-- of the keys that the definition does not list the first is one of a shortest AVP
+abbrev pub OtherIsShortest : (Key → ℕ) → List Key → List DRule → Type 0
+OtherIsShortest other keys a = (key : Key) → is_listed a key ≡ false → least_filler other keys a ≤ other key
+
+-- no level of the definition is shorter
+abbrev pub IsWithinAll : (Key → ℕ) → List DRule → ℕ → Type 0
+IsWithinAll length a n = (keys : List Key) → Placed a keys → n ≤ total length keys
+
+-- none that has the key is shorter
+abbrev pub IsWithinAllWith : (Key → ℕ) → List DRule → Key → ℕ → Type 0
+IsWithinAllWith length a key n = (keys : List Key) → Placed a keys → Contains keys key → n ≤ total length keys
 
 -- of the keys that neither definition lists the first is one of a shortest AVP
 abbrev pub FirstIsShortest : (Key → ℕ) → List Key → List DRule → List DRule → Type 0

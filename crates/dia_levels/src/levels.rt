@@ -68,7 +68,8 @@ fn both_sound<A: Book, B: Book>(a: &A, a_def: DefId, b: &B, b_def: DefId)
     is_sound(b, b_def);
 }
 
-fn is_sound<B: Book>(book: &B, def: DefId)
+/// The rules of the definitions of a dictionary are as the laws want them.
+pub(crate) fn is_sound<B: Book>(book: &B, def: DefId)
     ensures { AreRules (rules_in (B.meaning book.now) def) }
 {}
 

@@ -1,11 +1,16 @@
 //! Least levels, AVP by AVP.
-ghost use Rattle.std.specs.Prelude.{◌≡◌, ◌<◌, length};
+ghost use Rattle.std.specs.Prelude.{◌≡◌, ◌<◌, length, not, find};
 ghost use Rattle.dia_book.specs.Dictionary.{definitions};
+ghost use Rattle.dia_check.specs.Valid.{is_listed};
+ghost use Rattle.dia_compat.specs.Tests.{rules_in};
+ghost use Rattle.dia_levels.specs.LevelTests.{price, least_filler, least_length, length_once};
+ghost use Rattle.dia_levels.specs.Levels.{OtherIsShortest, IsWithinAll, IsWithinAllWith};
 
 use crate::costs::Costs;
 use crate::demand::{Wanted, demand_of, demand_of_line};
 use crate::floor::{base_length, floor_of};
 use crate::lengths::{TOO_LONG, listed_at_least, other_at_least};
+use crate::levels::is_sound;
 use crate::line::{Line, Part};
 use crate::parts::level_parts;
 use crate::rules::Rules;
@@ -39,43 +44,77 @@ pub fn line_level<A: Book, B: Book, C: Costs>(
 }
 
 /// The key of a shortest AVP by the wildcard.
-fn filler_key<A: Book, C: Costs>(a: &Rules<'_, A>, costs: &C) -> Option<Key> {
+fn filler_key<A: Book, C: Costs>(a: &Rules<'_, A>, costs: &C) -> Option<Key>
+    ensures { result ≡ find (λ key. not (is_listed
+        (rules_in (A.meaning a.now.book.now) a.now.def) key)) (C.other_keys costs.now) }
+{
     costs.others().iter().copied().find(|key| !a.lists(*key))
 }
 
 /// The length of a shortest AVP by the wildcard.
-fn filler_length<A: Book, C: Costs>(a: &Rules<'_, A>, costs: &C) -> u64 {
+fn filler_length<A: Book, C: Costs>(a: &Rules<'_, A>, costs: &C) -> u64
+    ensures { result ≡ least_filler (C.other_length costs.now) (C.other_keys costs.now)
+        (rules_in (A.meaning a.now.book.now) a.now.def) }
+{
     match filler_key(a, costs) {
         Some(key) => costs.other(key),
         None => TOO_LONG,
     }
 }
 
+/// The length of the least level.
+fn least_length<A: Book, C: Costs>(a: &Rules<'_, A>, costs: &C) -> u64
+    ensures { result ≡ least_length (C.listed_length costs.now) (C.other_length costs.now)
+        (C.other_keys costs.now) (rules_in (A.meaning a.now.book.now) a.now.def) }
+{
+    base_length(costs, filler_length(a, costs), a.list())
+}
+
+/// The length of the least level in which the key stands once or more.
+fn length_once<A: Book, C: Costs>(a: &Rules<'_, A>, costs: &C, key: Key) -> u64
+    ensures { result ≡ length_once (C.listed_length costs.now) (C.other_length costs.now)
+        (C.other_keys costs.now) (rules_in (A.meaning a.now.book.now) a.now.def) key }
+{
+    let base = least_length(a, costs);
+    match a.rule(key) {
+        Some(rule) => listed_at_least(base, costs.listed(key), 1, &rule),
+        None => {
+            let filler = filler_length(a, costs);
+            other_at_least(base, filler, costs.other(key), 1, a.wildcard())
+        }
+    }
+}
+
 /// The length of the least level of a definition.
 pub fn length_least<A: Book, C: Costs>(a: &A, a_def: DefId, costs: &C) -> u64
     requires { a_def < length (definitions (A.meaning a.now)) }
+    ensures { OtherIsShortest (C.other_length costs.now) (C.other_keys costs.now)
+        (rules_in (A.meaning a.now) a_def) → IsWithinAll
+        (price (C.listed_length costs.now) (C.other_length costs.now)
+        (rules_in (A.meaning a.now) a_def)) (rules_in (A.meaning a.now) a_def) result }
 {
+    is_sound(a, a_def);
     let a = Rules {
         book: a,
         def: a_def,
     };
-    base_length(costs, filler_length(&a, costs), a.list())
+    least_length(&a, costs)
 }
 
 /// The length of the least level of a definition in which the key stands once or more.
 pub fn length_with<A: Book, C: Costs>(a: &A, a_def: DefId, costs: &C, key: Key) -> u64
     requires { a_def < length (definitions (A.meaning a.now)) }
+    ensures { OtherIsShortest (C.other_length costs.now) (C.other_keys costs.now)
+        (rules_in (A.meaning a.now) a_def) → IsWithinAllWith
+        (price (C.listed_length costs.now) (C.other_length costs.now)
+        (rules_in (A.meaning a.now) a_def)) (rules_in (A.meaning a.now) a_def) key result }
 {
+    is_sound(a, a_def);
     let a = Rules {
         book: a,
         def: a_def,
     };
-    let filler = filler_length(&a, costs);
-    let base = base_length(costs, filler, a.list());
-    match a.rule(key) {
-        Some(rule) => listed_at_least(base, costs.listed(key), 1, &rule),
-        None => other_at_least(base, filler, costs.other(key), 1, a.wildcard()),
-    }
+    length_once(&a, costs, key)
 }
 
 /// The AVPs of the least level of a definition, in their order.
