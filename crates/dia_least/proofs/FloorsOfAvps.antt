@@ -1,5 +1,5 @@
 -- No AVP that is sent is shorter than its key's floor.
-use Rattle.std.proofs.Common.{◌≡◌, ℕ, zero, suc, ◌+◌, ◌*◌, ◌<◌, ◌≤◌, List, [], ◌∷◌, ◌++◌, length, Option, Some, None, refl, ap, arith, length-append}
+use Rattle.std.proofs.Common.{◌≡◌, ℕ, zero, suc, ◌+◌, ◌*◌, ◌<◌, ◌≤◌, List, [], ◌∷◌, ◌++◌, length, Option, Some, None, refl, ap, arith, inl, inr, length-append}
 use Rattle.std.specs.Prelude.{◌/◌, ◌%◌, map, MatchOption, unwrap_or}
 use Rattle.std.specs.List.{AllByRecursion}
 use Rattle.std.proofs.Math.Nat.{mod-lt, div-add-mod}
@@ -13,18 +13,21 @@ use Rattle.dia_book.specs.Dictionary.{Dictionary, DictEntry, PlainDefinition}
 use Rattle.dia_check.specs.Valid.{IsAccepted, MHolds, known}
 use Rattle.dia_policy.specs.declared.Sends.{Sends}
 use Rattle.dia_policy.specs.declared.Sends.TheVariants.{Any, Known, Listed}
-use Rattle.dia_sites.specs.Sent.{own_policy, StandAsSent, IsSentLevel, IsSentWithin, IsSent, IsSentAvp}
-use Rattle.dia_least.specs.Floors.{shortest_head, vendor_field, total, AreFloors}
+use Rattle.dia_sites.specs.Sent.{own_policy, StandAsSent, IsSentLevel, IsSentWithin, IsSent, IsSentAvp, AreBytes}
+use Rattle.dia_sites.proofs.Members.{IsIn}
+use Rattle.dia_levels.specs.LeastLevels.{total}
+use Rattle.dia_least.specs.Floors.{shortest_head, vendor_field, AreFloors}
+use Rattle.dia_least.proofs.BytesOfAvps.{data_bytes, body_bytes}
 
 -- ---- lengths
 
-rounded_up : (n : ℕ) → n ≤ (n + 3) / 4 * 4
+pub rounded_up : (n : ℕ) → n ≤ (n + 3) / 4 * 4
 rounded_up n =
     let parts : 4 * ((n + 3) / 4) + (n + 3) % 4 ≡ n + 3 = div-add-mod (n + 3) 4 in
     let small : (n + 3) % 4 < 4 = mod-lt (n + 3) (omega arith) in
     omega (arith, parts, small)
 
-rounded_more : (n m : ℕ) → n ≤ m → (n + 3) / 4 * 4 ≤ (m + 3) / 4 * 4
+pub rounded_more : (n m : ℕ) → n ≤ m → (n + 3) / 4 * 4 ≤ (m + 3) / 4 * 4
 rounded_more n m le =
     let parts : 4 * ((n + 3) / 4) + (n + 3) % 4 ≡ n + 3 = div-add-mod (n + 3) 4 in
     let others : 4 * ((m + 3) / 4) + (m + 3) % 4 ≡ m + 3 = div-add-mod (m + 3) 4 in
@@ -45,11 +48,11 @@ spelled_length v b s = (opened v b [] s).front_length
 
 -- ---- a level
 
-level_length : (d : Dictionary) (sends : Sends) (floor : Key → ℕ) (n : ℕ) → ((v : PlainAvp) → IsSentWithin d sends n v → floor (key_of v) ≤ padded_length v)
-    → (avps : List PlainAvp) (bytes : List ℕ) → SpellsAll avps bytes → AllByRecursion (IsSentWithin d sends n) avps → total floor (map key_of avps) ≤ length bytes
-level_length d sends floor n each [] bytes spelled fit = omega arith
-level_length d sends floor n each (v ∷ vs) bytes (front, rest, s, parts, all) fit =
-    omega (arith, each v fit.0, spelled_length v front s, ap length parts, length-append front rest, level_length d sends floor n each vs rest all fit.1)
+level_length : (d : Dictionary) (sends : Sends) (floor : Key → ℕ) (n : ℕ) (avps : List PlainAvp) → ((v : PlainAvp) → IsIn v avps → IsSentWithin d sends n v → floor (key_of v) ≤ padded_length v)
+    → (bytes : List ℕ) → SpellsAll avps bytes → AllByRecursion (IsSentWithin d sends n) avps → total floor (map key_of avps) ≤ length bytes
+level_length d sends floor n [] each bytes spelled fit = omega arith
+level_length d sends floor n (v ∷ vs) each bytes (front, rest, s, parts, all) fit =
+    omega (arith, each v (inl refl) fit.0, spelled_length v front s, ap length parts, length-append front rest, level_length d sends floor n vs (λ w i. each w (inr i)) rest all fit.1)
 
 -- ---- an AVP
 
@@ -65,43 +68,43 @@ only_any Known flags a = absurd a
 only_any Listed flags a = absurd a
 
 of_entry : (d : Dictionary) (sends : Sends) (floor : Key → ℕ) → AreFloors d sends floor → (Inner : List DRule → List ℕ → Type 0)
-    → ((rules : List DRule) (bytes : List ℕ) → Inner rules bytes → HasFloor sends floor rules bytes)
-    → (v : PlainAvp) (entry : DictEntry) → known d (key_of v) ≡ Some entry → (group : Option PlainDefinition) → entry.group ≡ group
+    → ((rules : List DRule) (bytes : List ℕ) → AreBytes bytes → Inner rules bytes → HasFloor sends floor rules bytes)
+    → (v : PlainAvp) (entry : DictEntry) → AreBytes v.bytes → known d (key_of v) ≡ Some entry → (group : Option PlainDefinition) → entry.group ≡ group
     → MatchOption group (IsLeaf entry.format v.bytes) (λ g. Inner g.rules v.bytes) → floor (key_of v) ≤ padded_length v
-of_entry d sends floor are Inner inside v entry is None none leaf =
-    let least = are.leaves (key_of v) entry v.bytes is none leaf in
+of_entry d sends floor are Inner inside v entry every is None none leaf =
+    let least = are.leaves (key_of v) entry v.bytes is none every leaf in
     let head = head_at_least v in
     let more = rounded_more (shortest_head (key_of v) + length v.bytes) (avp_length v) (omega (arith, head)) in
     omega (arith, least, more)
-of_entry d sends floor are Inner inside v entry is (Some group) some level =
-    let h = inside group.rules v.bytes level in
+of_entry d sends floor are Inner inside v entry every is (Some group) some level =
+    let h = inside group.rules v.bytes every level in
     let least = are.groups (key_of v) entry group h.keys is some h.sent in
     let long = h.long in
     let more = rounded_more (shortest_head (key_of v) + total floor h.keys) (avp_length v) (omega (arith, long, head_at_least v)) in
     omega (arith, least, more)
 
 of_fit : (d : Dictionary) (sends : Sends) (floor : Key → ℕ) → AreFloors d sends floor → (Inner : List DRule → List ℕ → Type 0)
-    → ((rules : List DRule) (bytes : List ℕ) → Inner rules bytes → HasFloor sends floor rules bytes)
-    → (v : PlainAvp) (entry : Option DictEntry) → known d (key_of v) ≡ entry
+    → ((rules : List DRule) (bytes : List ℕ) → AreBytes bytes → Inner rules bytes → HasFloor sends floor rules bytes)
+    → (v : PlainAvp) → AreBytes v.bytes → (entry : Option DictEntry) → known d (key_of v) ≡ entry
     → MatchOption entry (IsAccepted (own_policy sends) v.flags) (λ e. MHolds e.rule v.flags × MatchOption e.group (IsLeaf e.format v.bytes) (λ group. Inner group.rules v.bytes))
     → floor (key_of v) ≤ padded_length v
-of_fit d sends floor are Inner inside v None none accepted =
+of_fit d sends floor are Inner inside v every None none accepted =
     omega (arith, are.unknown (key_of v) none (only_any sends v.flags accepted), head_at_least v, rounded_up (avp_length v))
-of_fit d sends floor are Inner inside v (Some entry) is fit = of_entry d sends floor are Inner inside v entry is entry.group refl fit.1
+of_fit d sends floor are Inner inside v every (Some entry) is fit = of_entry d sends floor are Inner inside v entry every is entry.group refl fit.1
 
-at_depth : (d : Dictionary) (sends : Sends) (floor : Key → ℕ) → AreFloors d sends floor → (n : ℕ) (v : PlainAvp) → IsSentWithin d sends n v → floor (key_of v) ≤ padded_length v
-at_depth d sends floor are zero v fit = of_fit d sends floor are (λ rules bytes. ⊥) (λ rules bytes none. absurd none) v (known d (key_of v)) refl fit
-at_depth d sends floor are (suc n) v fit =
+at_depth : (d : Dictionary) (sends : Sends) (floor : Key → ℕ) → AreFloors d sends floor → (n : ℕ) (v : PlainAvp) → AreBytes v.bytes → IsSentWithin d sends n v → floor (key_of v) ≤ padded_length v
+at_depth d sends floor are zero v every fit = of_fit d sends floor are (λ rules bytes. ⊥) (λ rules bytes all none. absurd none) v every (known d (key_of v)) refl fit
+at_depth d sends floor are (suc n) v every fit =
     of_fit d sends floor are (IsSentLevel sends (IsSentWithin d sends n))
-    (λ rules bytes level. record {
+    (λ rules bytes all level. record {
       keys = map key_of level.0;
       sent = level.2;
-      long = level_length d sends floor n (at_depth d sends floor are n) level.0 bytes level.1 level.3;
+      long = level_length d sends floor n level.0 (λ w i. at_depth d sends floor are n w (data_bytes level.0 bytes w level.1 all i)) bytes level.1 level.3;
     })
-    v (known d (key_of v)) refl fit
+    v every (known d (key_of v)) refl fit
 
-pub no_shorter : (d : Dictionary) (sends : Sends) (floor : Key → ℕ) → AreFloors d sends floor → (v : PlainAvp) → IsSentAvp d sends v → floor (key_of v) ≤ padded_length v
-no_shorter d sends floor are v sent = at_depth d sends floor are sent.0 v sent.1
+pub no_shorter : (d : Dictionary) (sends : Sends) (floor : Key → ℕ) → AreFloors d sends floor → (v : PlainAvp) → AreBytes v.bytes → IsSentAvp d sends v → floor (key_of v) ≤ padded_length v
+no_shorter d sends floor are v every sent = at_depth d sends floor are sent.0 v every sent.1
 
 -- ---- a message
 
@@ -127,5 +130,6 @@ pub no_message : (d : Dictionary) (sends : Sends) (floor : Key → ℕ) → AreF
     → 20 + total floor (map key_of sent.avps) ≤ length bytes
 no_message d sends floor are bytes c sent =
     let m = sent.message in
-    let body = level_length d sends floor sent.sent.0 (at_depth d sends floor are sent.sent.0) sent.avps m.body m.is_body sent.sent.1 in
+    let every = body_bytes sent.header sent.avps bytes m sent.are_bytes in
+    let body = level_length d sends floor sent.sent.0 sent.avps (λ v i. at_depth d sends floor are sent.sent.0 v (data_bytes sent.avps m.body v m.is_body every i)) m.body m.is_body sent.sent.1 in
     omega (arith, ap length m.parts, length-append m.head m.body, header_is_long sent.header (length bytes) m.head m.is_head, body)

@@ -15,7 +15,8 @@ use Rattle.dia_check.specs.Valid.{IsAccepted, MHolds, known}
 use Rattle.dia_policy.specs.declared.Sends.{Sends}
 use Rattle.dia_policy.specs.declared.Sends.TheVariants.{Any}
 use Rattle.dia_sites.specs.Sent.{own_policy, StandAsSent, IsSentLevel, IsSentWithin}
-use Rattle.dia_least.specs.Floors.{shortest_head, vendor_field, padded, total, IsAttained, IsSpellable}
+use Rattle.dia_levels.specs.LeastLevels.{total}
+use Rattle.dia_least.specs.Floors.{shortest_head, vendor_field, padded, IsAttained, IsSpellable}
 use Rattle.dia_least.proofs.FloorsOfAvps.{spelled_length}
 
 -- ---- flags

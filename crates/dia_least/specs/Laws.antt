@@ -9,12 +9,13 @@ use Rattle.dia_book.specs.Dictionary.{Dictionary, DictEntry, PlainDefinition}
 use Rattle.dia_check.specs.Valid.{known}
 use Rattle.dia_policy.specs.declared.Sends.{Sends}
 use Rattle.dia_policy.specs.declared.Sends.TheVariants.{Any}
-use Rattle.dia_sites.specs.Sent.{IsSent, IsSentAvp, StandAsSent}
+use Rattle.dia_sites.specs.Sent.{IsSent, IsSentAvp, StandAsSent, AreBytes}
 use Rattle.dia_least.specs.Floors.{AreFloors, IsAttained, IsSpellable, padded, shortest_head, total}
 
 -- no AVP that is sent is shorter than its key's floor
 abbrev pub NoAvpIsShorter : Type 0
-NoAvpIsShorter = (d : Dictionary) (sends : Sends) (floor : Key → ℕ) → AreFloors d sends floor → (v : PlainAvp) → IsSentAvp d sends v → floor (key_of v) ≤ padded_length v
+NoAvpIsShorter = (d : Dictionary) (sends : Sends) (floor : Key → ℕ) → AreFloors d sends floor → (v : PlainAvp) → AreBytes v.bytes → IsSentAvp d sends v
+    → floor (key_of v) ≤ padded_length v
 
 -- no message that is sent is shorter than its header and the floors of its keys
 abbrev pub NoMessageIsShorter : Type 0

@@ -1,2 +1,4 @@
 pub mod Floors
 pub mod Laws
+pub mod Lengths
+pub mod Passes

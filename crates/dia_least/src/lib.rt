@@ -4,9 +4,19 @@
 //! some AVP is as short.
 #![tactic(auto)]
 
+mod finding;
 mod laws;
+mod lengths;
+mod lookup;
+mod order;
+mod search;
+mod writing;
 
+pub use finding::least_lengths;
 pub use laws::{
     group_is_attained, leaf_is_attained, no_avp_is_shorter, no_message_is_shorter,
     unknown_is_attained,
 };
+pub use lengths::shortest_head;
+pub use lookup::Least;
+pub use writing::push_least;

@@ -1,0 +1,11 @@
+use Rattle.std.proofs.Common.{sym, subst}
+use Rattle.dia_least.specs.Lengths.{IsOrder}
+use Rattle.dia_least.specs.Passes.{length_in}
+use Rattle.dia_least.proofs.LessLengths.{all_settled}
+use Rattle.dia_least.proofs.finding.settled.Goals as goal
+
+pub returns-then-not-lower_all-clause-settled : goal.returns-then-not-lower_all-clause-settled
+returns-then-not-lower_all-clause-settled g c =
+    let d = g.B.Book.meaning c.args.book.now in
+    all_settled d c.loop-last.last c.lower_all.new.least c.deref.result.now c.lower_all.result c.if-not-lower_all.true c.lower_all.ensures.less
+    (subst (IsOrder (length_in d c.loop-last.last) d.entries) (sym c.deref.ensures.value) c.in_ok-order.ensures) (c.lower_all.ensures.settled c.if-not-lower_all.true)
