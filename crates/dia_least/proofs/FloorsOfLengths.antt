@@ -190,7 +190,7 @@ module _ (d : Dictionary) (least : Least) (order : List Ranked) (kept : AreKept 
       let level = level_within group.rules keys sound stand in
       let low : entry_length least.lengths.items e ≤ group_length (length_in d least) (filler_length (filler_of least.sends least.unknown order group.rules)) entry.key group.rules = settled entry group at some in
       let more = rounded_more (shortest_head entry.key + base_length (length_in d least) (filler_length (filler_of least.sends least.unknown order group.rules)) group.rules)
-          (shortest_head entry.key + total (length_in d least) keys) (omega (arith, level)) in
+      (shortest_head entry.key + total (length_in d least) keys) (omega (arith, level)) in
       omega (arith, low, more)
 
 -- ---- all AVPs

@@ -58,5 +58,5 @@ group_length length filler key rules = capped (padded (shortest_head key + base_
 -- the length of the entry as a leaf
 abbrev pub IsLeafLength : DictEntry → ℕ → Type 0
 IsLeafLength entry n = ((bytes : List ℕ) × AreBytes bytes × IsLeaf entry.format bytes × ((other : List ℕ) → IsLeaf entry.format other → length bytes ≤ length other)
-        × (n ≡ capped (padded (shortest_head entry.key + length bytes))))
+    × (n ≡ capped (padded (shortest_head entry.key + length bytes))))
     ⊎ ((n ≡ too_long) × ((bytes : List ℕ) → AreBytes bytes → ¬ IsLeaf entry.format bytes))

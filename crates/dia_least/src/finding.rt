@@ -6,8 +6,8 @@ ghost use Rattle.dia_least.specs.Floors.{AreFloors};
 ghost use Rattle.dia_least.specs.Passes.{AreKept, AreSettled, IsLess, IsSettled, IsWhole};
 ghost use Rattle.dia_least.specs.Passes.{length_in};
 
-use crate::lookup::Least;
 use crate::lengths::{padded, shortest_head};
+use crate::lookup::Least;
 use crate::order::{Ranked, group_of};
 use crate::search::search;
 use dia_book::{Book, Entry, Key};
@@ -87,10 +87,7 @@ fn unknown_key<B: Book>(book: &B) -> Key
     ensures { result.vendor ≡ 0 }
 {
     for code in 0..KEYS {
-        let key = Key {
-            code,
-            vendor: 0,
-        };
+        let key = Key { code, vendor: 0 };
         if book.avp(key).is_none() {
             return key;
         }

@@ -148,11 +148,7 @@ impl Least {
     }
 
     /// The AVPs that the dictionary knows, shortest first.
-    pub(crate) fn order<B: Book>(
-        &self,
-        alloc: Global,
-        book: &B,
-    ) -> Result<Vec<Ranked>, AllocError>
+    pub(crate) fn order<B: Book>(&self, alloc: Global, book: &B) -> Result<Vec<Ranked>, AllocError>
         ensures { IfOk result (λ order. IsOrder
             (length_of (B.meaning book.now) self.now.sends self.now.lengths.items)
             (B.meaning book.now).entries order.items) }

@@ -44,12 +44,7 @@ impl Wants {
     }
 
     /// Takes down what the entry at a place wants, if it is a group.
-    fn group<B: Book>(
-        &mut self,
-        book: &B,
-        sends: Sends,
-        index: usize,
-    ) -> Result<usize, AllocError>
+    fn group<B: Book>(&mut self, book: &B, sends: Sends, index: usize) -> Result<usize, AllocError>
         requires { index < length (B.meaning book.now).entries }
     {
         let Some(def) = group_of(book, book.entry_at(index)) else {
@@ -146,11 +141,7 @@ fn lets_in<B: Book>(book: &B, group: usize, ranked: Ranked) -> bool {
 }
 
 /// Makes the lengths of groups less, the shortest first, so that no pass finds less.
-pub(crate) fn search<B: Book>(
-    alloc: Global,
-    book: &B,
-    least: Least,
-) -> Result<Least, AllocError>
+pub(crate) fn search<B: Book>(alloc: Global, book: &B, least: Least) -> Result<Least, AllocError>
     requires { AreKept (B.meaning book.now) least }
     ensures sends { IfOk result (λ last. last.sends ≡ least.sends) }
     ensures kept { IfOk result (AreKept (B.meaning book.now)) }

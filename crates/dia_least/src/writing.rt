@@ -2,8 +2,8 @@
 ghost use Rattle.std.specs.Prelude.{◌<◌, length};
 ghost use Rattle.dia_book.specs.Dictionary.{definitions};
 
-use crate::lookup::Least;
 use crate::lengths::shortest_head;
+use crate::lookup::Least;
 use crate::order::{group_of, rules_of};
 use dia_book::{Book, DRule, DefId, Entry, Key, MRule};
 use dia_levels::TOO_LONG;
@@ -36,10 +36,7 @@ pub fn push_least<B: Book>(
         return Ok(());
     }
     let mut parts = Vec::new(*out.allocator());
-    parts.push(Part {
-        key,
-        count: 1,
-    })?;
+    parts.push(Part { key, count: 1 })?;
     while let Some(part) = parts.pop() {
         let head = shortest_head(part.key);
         if left < head {
@@ -88,12 +85,7 @@ fn needs_m<B: Book>(book: &B, entry: Entry) -> bool
 }
 
 /// Adds a leaf with its shortest data, and its padding.
-fn push_leaf<B: Book>(
-    out: &mut Vec<u8>,
-    book: &B,
-    entry: Entry,
-    key: Key,
-) -> Result<(), AllocError>
+fn push_leaf<B: Book>(out: &mut Vec<u8>, book: &B, entry: Entry, key: Key) -> Result<(), AllocError>
     requires { entry < length (B.meaning book.now).entries }
 {
     let Some(data) = shortest(book.format(entry)) else {
@@ -133,11 +125,7 @@ fn push_parts(
     Ok(())
 }
 
-fn push_part(
-    parts: &mut Vec<Part>,
-    rule: &DRule,
-    filler: Option<Key>,
-) -> Result<(), AllocError> {
+fn push_part(parts: &mut Vec<Part>, rule: &DRule, filler: Option<Key>) -> Result<(), AllocError> {
     if rule.min == 0 {
         return Ok(());
     }

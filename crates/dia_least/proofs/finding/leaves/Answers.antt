@@ -15,8 +15,8 @@ loop-index-preserved g c =
       pushed_length _ _ _ i c.in_ok-push.ensures.items size,
       pushed_length _ _ _ i c.in_ok-push-2.ensures.items fillers,
       one_leaf_more entries c.loop-index.lengths.items _ i c.leaf_length.result size c.loop-index.invariant.2
-      (λ entry at. at_some (λ (e : DictEntry). IsLeafLength e c.leaf_length.result) (slice_get entries c.entry_at.result) entry c.leaf_length.ensures (ap (slice_get entries) c.entry_at.ensures ∙ at))
-      c.in_ok-push.ensures.items,
+          (λ entry at. at_some (λ (e : DictEntry). IsLeafLength e c.leaf_length.result) (slice_get entries c.entry_at.result) entry c.leaf_length.ensures (ap (slice_get entries) c.entry_at.ensures ∙ at))
+          c.in_ok-push.ensures.items,
     )
 
 pub returns-clause-kept : goal.returns-clause-kept
