@@ -1,6 +1,6 @@
 -- Lengths that no pass makes less are floors.
-use Rattle.std.proofs.Common.{◌≡◌, ℕ, zero, suc, ◌+◌, ◌*◌, ◌<◌, ◌≤◌, Bool, true, false, List, [], ◌∷◌, length, Option, Some, None, refl, sym, ap, subst, ◌∙◌, arith, inl, inr}
-use Rattle.std.specs.Prelude.{◌⊎◌, ◌/◌, not, map, find, slice_get, slice_index_or, Contains, if◌then◌else◌, option_and_then}
+use Rattle.std.proofs.Common.{◌≡◌, ℕ, zero, suc, ◌+◌, ◌≤◌, Bool, true, false, List, [], ◌∷◌, length, Option, Some, None, refl, sym, ap, subst, ◌∙◌, arith, inl, inr}
+use Rattle.std.specs.Prelude.{not, map, find, slice_get, slice_index_or, if◌then◌else◌, option_and_then}
 use Rattle.std.specs.List.Sorted.{IsNonDecreasingBy}
 use Rattle.std.specs.Option.{option_map_or}
 use Rattle.std.proofs.lemmas.List.Sorted.{Contains-permutation}
@@ -8,7 +8,7 @@ use Rattle.std.proofs.lemmas.Option.{none-some, same_Some, slice_get_within}
 use Rattle.dia_wire.specs.declared.Key.{Key}
 use Rattle.dia_book.specs.declared.DRule.{DRule}
 use Rattle.dia_book.specs.Keys.{same_key}
-use Rattle.dia_book.specs.Dictionary.{Dictionary, DictEntry, PlainDefinition, IsDictionary, definitions, entry_of}
+use Rattle.dia_book.specs.Dictionary.{Dictionary, DictEntry, PlainDefinition, IsDictionary, entry_of}
 use Rattle.dia_book.proofs.SameKeys.{same_key-true}
 use Rattle.dia_check.specs.Valid.{known, is_listed, Placed}
 use Rattle.dia_check.proofs.AvpFaults.{kept_rules}
@@ -28,8 +28,8 @@ use Rattle.dia_levels.proofs.LevelBounds.{floor_least}
 use Rattle.dia_levels.proofs.RuleSums.{sum_of}
 use Rattle.dia_least.specs.declared.lookup.Least.{Least}
 use Rattle.dia_least.specs.declared.order.Ranked.{Ranked}
-use Rattle.dia_least.specs.Floors.{shortest_head, vendor_field, padded, AreFloors}
-use Rattle.dia_least.specs.Lengths.{entry_length, unknown_length, length_of, rank, is_unlisted, IsOrder, filler_of, filler_length, group_length}
+use Rattle.dia_least.specs.Floors.{shortest_head, padded, AreFloors}
+use Rattle.dia_least.specs.Lengths.{entry_length, unknown_length, rank, is_unlisted, IsOrder, filler_of, filler_length, group_length}
 use Rattle.dia_least.specs.Passes.{length_in, IsSettled, AreKept, AreSettled}
 use Rattle.dia_least.proofs.FloorsOfAvps.{rounded_more}
 

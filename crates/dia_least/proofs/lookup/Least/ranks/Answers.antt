@@ -1,10 +1,10 @@
-use Rattle.std.proofs.Common.{◌≡◌, ◌<◌, ℕ, List, [], ◌∷◌, ◌++◌, Option, length, map, take, sym, ap, ◌∙◌, arith, subst}
-use Rattle.std.specs.Prelude.{slice_get, IfSome}
+use Rattle.std.proofs.Common.{◌≡◌, ◌<◌, ℕ, List, [], ◌∷◌, ◌++◌, length, ap, ◌∙◌, arith}
+use Rattle.std.specs.Prelude.{slice_get}
 use Rattle.dia_wire.specs.declared.Key.{Key}
 use Rattle.dia_book.specs.Dictionary.{DictEntry}
 use Rattle.dia_compat.proofs.ReachedKeys.{there_is, at_some}
 use Rattle.dia_least.specs.declared.order.Ranked.{Ranked}
-use Rattle.dia_least.specs.Lengths.{length_of, rank}
+use Rattle.dia_least.specs.Lengths.{length_of}
 use Rattle.dia_least.proofs.LeafLengths.{one_rank_more}
 use Rattle.dia_least.proofs.lookup.Least.ranks.Goals as goal
 
