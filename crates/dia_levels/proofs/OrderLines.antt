@@ -1,15 +1,17 @@
 -- Each level that is late by the second definition shows a line of the order.
 use Rattle.std.proofs.Common.{◌≡◌, ℕ, ◌+◌, ◌<◌, ◌≤◌, Bool, true, false, List, [], ◌∷◌, ◌++◌, length, Option, Some, None, refl, sym, ap, subst, ◌∙◌, arith, inl, inr}
-use Rattle.std.specs.Prelude.{not, min, ◌&&◌, ◌==◌, nat_le, nat_lt, fold, find, filter_map, Contains, if◌then◌else◌}
+use Rattle.std.specs.Prelude.{not, min, ◌&&◌, ◌==◌, nat_le, nat_lt, fold, find, filter_map, Contains, if◌then◌else◌, position, slice_get}
 use Rattle.std.specs.Option.{option_map_or}
-use Rattle.std.proofs.lemmas.Bool.{lt-ltb, le-leb, ltb-true, ltb-false}
-use Rattle.std.proofs.lemmas.Option.{none-some, same_Some}
+use Rattle.std.proofs.lemmas.Bool.{lt-ltb, le-leb, ltb-true, ltb-false, eqb-true}
+use Rattle.std.proofs.lemmas.Option.{none-some, same_Some, slice_get_past}
 use Rattle.dia_wire.specs.declared.Key.{Key}
 use Rattle.dia_book.specs.declared.DRule.{DRule}
-use Rattle.dia_book.specs.Dictionary.{AreRules, is_fixed}
+use Rattle.dia_book.specs.Dictionary.{AreRules, is_fixed, lists_key, slot_at}
+use Rattle.dia_book.specs.declared.Slot.TheVariants as slot
 use Rattle.dia_book.proofs.Members.{at_find}
 use Rattle.dia_check.specs.Valid.{Placed, fixed_rules, is_listed}
 use Rattle.dia_check.proofs.KeysByCounts.{fixed_few}
+use Rattle.dia_check.proofs.OneKeyMore.{at_position}
 use Rattle.dia_compat.specs.Tests.{rule_of, wildcard_of}
 use Rattle.dia_compat.proofs.RunsOfFixedRules.{IsIn}
 use Rattle.dia_compat.proofs.MemberCounts.{in_at, in_contains, contains_in, in_filter}
@@ -23,7 +25,7 @@ use Rattle.dia_levels.specs.CountsAndRanks.{rank}
 use Rattle.dia_levels.specs.Breaches.{IsLate}
 use Rattle.dia_levels.specs.LeastLevels.{total}
 use Rattle.dia_levels.specs.Orders.{IsTurned}
-use Rattle.dia_levels.specs.Places.{place}
+use Rattle.dia_levels.specs.Places.{place_of, place}
 use Rattle.dia_levels.specs.LevelTests.{too_long, capped, price, filler, has_room, swapped, many, is_outside}
 use Rattle.dia_levels.specs.Levels.{ShowsAt, Shows, FirstIsShortest}
 use Rattle.dia_levels.specs.OrderTests.{is_turned, beyond, by_wild, with_others, pair_length, better, better_by, best_by, best_of, short_line, order_line}
@@ -250,3 +252,60 @@ pub orders_are : (f : Floor) (listed other : Key → ℕ) (a b : List DRule) (o 
     → all ≡ first ++ filter_map (order_line f listed other a b p) others
 orders_are f listed other a b o p rules others first all is same own =
     is ∙ ap (λ (q : Option Key). first ++ filter_map (order_line f listed other a b q) rules) same ∙ ap (λ (rs : List DRule). first ++ filter_map (order_line f listed other a b p) rs) own
+
+-- ---- keys that stand last
+
+place_least : (rules : List DRule) (k : Key) → place rules k ≤ length rules
+place_least rules k = by (position (lists_key k) rules) refl
+  where
+    within : (i : ℕ) (r : DRule) → slice_get rules i ≡ Some r → i ≤ length rules
+    within i r at = here (nat_lt i (length rules)) refl
+      where
+        here : (t : Bool) → nat_lt i (length rules) ≡ t → i ≤ length rules
+        here true e = let lt = ltb-true i (length rules) e in omega (arith, lt)
+        here false e = absurd (none-some r (sym (slice_get_past rules i (ltb-false i (length rules) e)) ∙ at))
+
+    slot_within : (i : ℕ) (b : Bool) → i ≤ length rules → place_of (length rules) (if b then slot.Fixed i else slot.Loose i) ≤ length rules
+    slot_within i true le = le
+    slot_within i false le = omega arith
+
+    by : (o : Option ℕ) → position (lists_key k) rules ≡ o → place rules k ≤ length rules
+    by None p =
+        let there : place rules k ≡ length rules = ap (λ (q : Option ℕ). place_of (length rules) (option_map_or (slot_at rules) q slot.Unlisted)) p in
+        omega (arith, there)
+    by (Some i) p =
+        let r = at_position (lists_key k) rules i p in
+        let there : place rules k ≡ place_of (length rules) (if is_fixed r.0 then slot.Fixed i else slot.Loose i) =
+        ap (λ (q : Option ℕ). place_of (length rules) (option_map_or (slot_at rules) q slot.Unlisted)) p ∙ ap (λ (o : Option DRule). place_of (length rules) (option_map_or (λ rule. if is_fixed rule then slot.Fixed i else slot.Loose i) o slot.Unlisted)) r.1 in
+        let le = slot_within i (is_fixed r.0) (within i r.0 r.1) in
+        omega (arith, there, le)
+
+never_turned : (a b : List DRule) (y x : Key) → place b y ≡ length b → is_turned a b y x ≡ false
+never_turned a b y x last = by (nat_lt (place b y) (place b x)) refl
+  where
+    neither : (t : Bool) → (t && false) ≡ false
+    neither true = refl
+    neither false = refl
+
+    by : (t : Bool) → nat_lt (place b y) (place b x) ≡ t → is_turned a b y x ≡ false
+    by true e = let lt = ltb-true (place b y) (place b x) e in let le = place_least b x in absurd (omega (arith, lt, le, last))
+    by false e = ap (λ (t : Bool). nat_le (place a x) (place a y) && t) e ∙ neither (nat_le (place a x) (place a y))
+
+module _ (turned : Key → Bool) (long : Key → ℕ) (never : (x : Key) → turned x ≡ false) where
+  never_by : (best : Line) (o : Option Key) → option_map_or (better turned long best) o best ≡ best
+  never_by best None = refl
+  never_by best (Some k) = ap (λ (t : Bool). if t && nat_lt (long k) best.length then record { reason = best.reason; key = best.key; behind = Some k; length = long k } else best) (never k)
+
+  never_rules : (best : Line) (rules : List DRule) → fold (better_by turned long) best rules ≡ best
+  never_rules best [] = refl
+  never_rules best (s ∷ rules) = ap (λ (l : Line). fold (better_by turned long) l rules) (never_by best s.key) ∙ never_rules best rules
+
+  never_best : (y : Key) (a b : List DRule) (outer : Option Key) → best_of turned long y a b outer ≡ record { reason = Order; key = Some y; behind = None; length = too_long }
+  never_best y a b outer =
+      never_by (best_by turned long y a b) outer
+      ∙ never_rules (fold (better_by turned long) (record { reason = Order; key = Some y; behind = None; length = too_long }) a) b
+      ∙ never_rules (record { reason = Order; key = Some y; behind = None; length = too_long }) a
+
+-- a key that no rule of the second definition fixes has no line
+pub no_line : (a b : List DRule) (y : Key) (long : Key → ℕ) (outer : Option Key) → (place b y == length b) ≡ true → None ≡ short_line (best_of (is_turned a b y) long y a b outer)
+no_line a b y long outer e = sym (ap short_line (never_best (is_turned a b y) long (λ x. never_turned a b y x (eqb-true (place b y) (length b) e)) y a b outer))

@@ -3,7 +3,7 @@ ghost use Rattle.std.specs.Prelude.{◌≡◌, ◌++◌, IfOk, filter_map, fold}
 ghost use Rattle.dia_compat.specs.Tests.{rules_in};
 ghost use Rattle.dia_levels.specs.OrderTests.{is_turned, beyond, by_wild, with_others};
 ghost use Rattle.dia_levels.specs.OrderTests.{pair_length, better, better_by, best_of};
-ghost use Rattle.dia_levels.specs.OrderTests.{order_line};
+ghost use Rattle.dia_levels.specs.OrderTests.{short_line, order_line};
 
 use crate::costs::Costs;
 use crate::lengths::{TOO_LONG, capped, has_room, many, swapped};
@@ -101,8 +101,11 @@ impl<'a, A: Book, B: Book, C: Costs> Level<'a, A, B, C> {
             (C.other_length self.now.costs.now)
             (rules_in (A.meaning self.now.a.book.now) self.now.a.def) y) best x }
     {
+        if !self.is_turned(y, x) {
+            return best;
+        }
         let length = self.pair_length(y, x);
-        if self.is_turned(y, x) && length < best.length {
+        if length < best.length {
             Line {
                 reason: best.reason,
                 key: best.key,
@@ -178,15 +181,30 @@ impl<'a, A: Book, B: Book, C: Costs> Level<'a, A, B, C> {
             (rules_in (B.meaning self.now.b.book.now) self.now.b.def) outer rule.now }
     {
         match rule.key {
-            Some(y) => {
-                let line = self.best_of(y, outer);
-                if line.length < TOO_LONG {
-                    Some(line)
-                } else {
-                    None
-                }
-            }
+            Some(y) => self.line_at(y, outer),
             None => None,
+        }
+    }
+
+    /// The line of the order at a key of `b`, if some level that isn't too long shows it.
+    fn line_at(&self, y: Key, outer: Option<Key>) -> Option<Line>
+        ensures { result ≡ short_line (best_of
+            (is_turned (rules_in (A.meaning self.now.a.book.now) self.now.a.def)
+            (rules_in (B.meaning self.now.b.book.now) self.now.b.def) y)
+            (pair_length self.now.floor (C.listed_length self.now.costs.now)
+            (C.other_length self.now.costs.now)
+            (rules_in (A.meaning self.now.a.book.now) self.now.a.def) y) y
+            (rules_in (A.meaning self.now.a.book.now) self.now.a.def)
+            (rules_in (B.meaning self.now.b.book.now) self.now.b.def) outer) }
+    {
+        if self.b.is_last(y) {
+            return None;
+        }
+        let line = self.best_of(y, outer);
+        if line.length < TOO_LONG {
+            Some(line)
+        } else {
+            None
         }
     }
 

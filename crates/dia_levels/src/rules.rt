@@ -1,5 +1,5 @@
 //! Definitions with look-up by key.
-ghost use Rattle.std.specs.Prelude.{◌≡◌, ◌<◌, length, slice_get};
+ghost use Rattle.std.specs.Prelude.{◌≡◌, ◌<◌, ◌==◌, length, slice_get};
 ghost use Rattle.dia_book.specs.Dictionary.{definitions};
 ghost use Rattle.dia_check.specs.Valid.{is_listed, has_wildcard};
 ghost use Rattle.dia_compat.specs.Tests.{rules_in, rule_of, wildcard_of};
@@ -43,6 +43,14 @@ impl<'a, B: Book> Rules<'a, B> {
             Slot::Fixed(index) => index,
             Slot::Loose(_) | Slot::Unlisted => self.list().len(),
         }
+    }
+
+    /// Whether no fixed rule is of this key.
+    pub fn is_last(&self, key: Key) -> bool
+        ensures { result ≡ (place (rules_in (B.meaning self.now.book.now) self.now.def) key
+            == length (rules_in (B.meaning self.now.book.now) self.now.def)) }
+    {
+        self.place(key) == self.list().len()
     }
 
     /// Whether some rule is of this key.
