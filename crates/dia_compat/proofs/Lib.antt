@@ -19,7 +19,6 @@ pub mod FailedPairs
 pub mod ComparisonAnswers
 pub mod KindsOfRefusal
 pub mod ComputedTests
-pub mod WorkedComparisons
 pub mod WordsOfLines
 pub mod TableLines
 pub mod TableReadBack
