@@ -1,15 +1,16 @@
 -- The levels that are kept, where one is opened, met further, or ended.
 use Rattle.std.proofs.Common.{◌≡◌, ℕ, zero, suc, ◌+◌, ◌-◌, ◌<◌, ◌≤◌, List, [], ◌∷◌, ◌++◌, length, take, drop, replicate, Some, refl, sym, ap, subst, ◌∙◌, append_assoc, arith}
-use Rattle.std.specs.Prelude.{slice_get, slice_index, position}
-use Rattle.std.proofs.Math.Seq.{take-append_seam, drop-append_seam, take-length, drop-length}
-use Rattle.std.proofs.lemmas.List.{append-nil, length-append, length-replicate, take_all, length-drop, length-take-le}
+use Rattle.std.specs.Prelude.{slice_get, slice_index}
+use Rattle.std.proofs.Math.Seq.{take-append_seam, drop-append_seam, drop-length, drop-nil}
+use Rattle.std.proofs.lemmas.List.{append-nil, length-append, length-replicate, take_all, length-drop, length-take-le, drop-append-le, replicate-append-replicate}
 use Rattle.dia_wire.specs.declared.Key.{Key}
 use Rattle.dia_book.specs.declared.DRule.{DRule}
 use Rattle.dia_book.specs.Dictionary.{PlainDefinition}
 use Rattle.dia_check.specs.declared.open_levels.OpenLevel.{OpenLevel}
 use Rattle.dia_check.specs.declared.open_levels.OpenLevels.{OpenLevels}
-use Rattle.dia_check.specs.Valid.{fixed_rules, is_wildcard}
-use Rattle.dia_check.specs.OpenLevels.{AreMet, IsFirstUnmet, IsMetAtEnd, IsCounted, SoFar, begun, and_key, IsKept, AreKept, AreOpen}
+use Rattle.dia_check.specs.declared.open_levels.Shape.{Shape}
+use Rattle.dia_check.specs.Valid.{fixed_rules}
+use Rattle.dia_check.specs.OpenLevels.{AreMet, IsFirstUnmet, IsMetAtEnd, IsCounted, IsShape, SoFar, begun, and_key, IsKept, AreKept, AreOpen}
 use Rattle.dia_check.specs.Faults.{IsFirstMissing}
 use Rattle.std.proofs.lemmas.Option.{same_Some, slice_get_within}
 use Rattle.dia_check.proofs.RunsOfOneKeyMore.{at_start}
@@ -22,15 +23,16 @@ zero_at zero i = refl
 zero_at (suc n) zero = refl
 zero_at (suc n) (suc i) = zero_at n i
 
-pub fresh : (rules : List DRule) (level : OpenLevel) → level.run ≡ 0 → level.fixed ≡ length (fixed_rules rules) → level.wildcard ≡ position is_wildcard rules
+pub fresh : (rules : List DRule) (level : OpenLevel) → level.run ≡ 0 → level.reached ≡ 0 → IsShape rules level.shape
     → IsCounted rules [] level (replicate (length rules) 0)
-fresh rules level run fixed wildcard = record {
-  fixed = fixed;
-  wildcard = wildcard;
+fresh rules level run reached shape = record {
+  shape = shape;
   run = rw run (at_start (fixed_rules rules));
   many = length-replicate (length rules) 0;
   counted = λ i rule at. zero_at (length rules) i ∙ sym (met_none rules i rule);
   met_before = λ i rule from to at. absurd (omega (arith, run, to));
+  reached = omega (arith, reached);
+  none_behind = λ i from. zero_at (length rules) i;
 }
 
 -- ---- a level more, and one less
@@ -95,67 +97,145 @@ kept_pop defs base (q ∷ ks) k counts (l ∷ ls) (own, rest, parts, here, is, m
 
 -- ---- the open levels
 
+-- where a level's counts end
+pub own_top : (defs : List PlainDefinition) (o : OpenLevels) (outer : List SoFar) (level : SoFar) (now : AreOpen defs o outer level)
+    → (o.innermost.top ≡ length (now.before ++ now.mine)) × (length o.counts.items ≡ o.innermost.top + now.spare)
+own_top defs o outer level now =
+    let parts = length-append now.before now.mine in
+    let top = now.innermost.top in let base = now.base in
+    let whole = ap length now.parts ∙ length-append (now.before ++ now.mine) (replicate now.spare 0) in
+    let zeros : length (replicate {A = ℕ} now.spare 0) ≡ now.spare = length-replicate now.spare 0 in
+    (omega (arith, parts, top, base), omega (arith, parts, top, base, whole, zeros))
+
+-- zeros enough for one level more
+pub with_room : (counts new : List ℕ) (many spare more : ℕ) (zeros : List ℕ) → new ≡ zeros ++ replicate more 0 → zeros ≡ counts ++ replicate spare 0
+    → many ≤ spare + more → new ≡ (counts ++ replicate many 0) ++ replicate (spare + more - many) 0
+with_room counts new many spare more zeros is parts le =
+    let left : many + (spare + more - many) ≡ spare + more = omega (arith, le) in
+    is ∙ ap (λ (t : List ℕ). t ++ replicate more 0) parts ∙ append_assoc counts (replicate spare 0) (replicate more 0)
+    ∙ ap (λ (t : List ℕ). counts ++ t) (replicate-append-replicate spare more 0 ∙ ap (λ (n : ℕ). replicate n 0) (sym left) ∙ sym (replicate-append-replicate many (spare + more - many) 0))
+    ∙ sym (append_assoc counts (replicate many 0) (replicate (spare + more - many) 0))
+
 -- a level is opened in the innermost one
-pub opened : (defs : List PlainDefinition) (definition : PlainDefinition) (old new : OpenLevels) (outer : List SoFar) (level : SoFar) (rules : List DRule) (end : ℕ) → AreOpen defs old outer level
-    → slice_get defs new.innermost.def ≡ Some definition → definition.rules ≡ rules → new.innermost.end ≡ end → new.innermost.base ≡ length old.counts.items
-    → IsCounted rules [] new.innermost (replicate (length rules) 0)
-    → new.outer.items ≡ old.outer.items ++ old.innermost ∷ [] → new.counts.items ≡ old.counts.items ++ replicate (length rules) 0
+pub opened : (defs : List PlainDefinition) (definition : PlainDefinition) (old new : OpenLevels) (outer : List SoFar) (level : SoFar) (rules : List DRule) (end more : ℕ) (now : AreOpen defs old outer level)
+    → slice_get defs new.opened ≡ Some definition → definition.rules ≡ rules → IsShape rules new.shape
+    → new.innermost ≡ record { def = new.opened; end = end; base = old.innermost.top; top = old.innermost.top + length rules; run = 0; reached = 0; shape = new.shape }
+    → length rules ≤ now.spare + more
+    → new.outer.items ≡ old.outer.items ++ old.innermost ∷ [] → new.counts.items ≡ old.counts.items ++ replicate more 0
     → AreOpen defs new (outer ++ level ∷ []) (begun rules end)
-opened defs definition old new outer level rules end o is_definition is_rules is_end base counted is_outer is_counts = record {
-  before = old.counts.items;
+opened defs definition old new outer level rules end more o is_definition is_rules shape is_innermost enough is_outer is_counts = record {
+  before = o.before ++ o.mine;
   mine = replicate (length rules) 0;
-  parts = is_counts;
-  are_outer = rw is_outer (subst (λ (t : List ℕ). AreKept defs 0 (old.outer.items ++ old.innermost ∷ []) t (outer ++ level ∷ [])) (sym o.parts)
-      (kept_push defs 0 old.outer.items o.before outer old.innermost o.mine level o.are_outer (omega (arith, o.base)) o.innermost));
-  base = base;
-  innermost = record { definition = definition; is_definition = is_definition; is_rules = is_rules; is_end = is_end; counted = counted };
+  spare = o.spare + more - length rules;
+  parts = with_room (o.before ++ o.mine) new.counts.items (length rules) o.spare more old.counts.items is_counts o.parts enough;
+  are_outer = rw is_outer (kept_push defs 0 old.outer.items o.before outer old.innermost o.mine level o.are_outer (omega (arith, o.base)) o.innermost);
+  base = ap (λ (l : OpenLevel). l.base) is_innermost ∙ (own_top defs old outer level o).0;
+  innermost = rw is_innermost (record {
+    definition = definition;
+    is_definition = is_definition;
+    is_rules = is_rules;
+    is_end = refl;
+    top = ap (λ (n : ℕ). old.innermost.top + n) (sym (length-replicate (length rules) 0));
+    counted = fresh rules _ refl refl shape;
+  });
+  shape = λ other at. subst (λ (d : PlainDefinition). IsShape d.rules new.shape) (same_Some definition other (sym is_definition ∙ at)) (subst (λ (rs : List DRule). IsShape rs new.shape) (sym is_rules) shape);
 }
 
 -- the body is opened
-pub body_opened : (defs : List PlainDefinition) (definition : PlainDefinition) (new : OpenLevels) (rules : List DRule) (end : ℕ) → slice_get defs new.innermost.def ≡ Some definition
-    → definition.rules ≡ rules
-    → new.innermost.end ≡ end → new.innermost.base ≡ 0 → IsCounted rules [] new.innermost (replicate (length rules) 0) → new.outer.items ≡ [] → new.counts.items ≡ replicate (length rules) 0
+pub body_opened : (defs : List PlainDefinition) (definition : PlainDefinition) (new : OpenLevels) (rules : List DRule) (end : ℕ)
+    → slice_get defs new.opened ≡ Some definition → definition.rules ≡ rules → IsShape rules new.shape
+    → new.innermost ≡ record { def = new.opened; end = end; base = 0; top = length rules; run = 0; reached = 0; shape = new.shape }
+    → new.outer.items ≡ [] → new.counts.items ≡ replicate (length rules) 0
     → AreOpen defs new [] (begun rules end)
-body_opened defs definition new rules end is_definition is_rules is_end base counted is_outer is_counts = record {
+body_opened defs definition new rules end is_definition is_rules shape is_innermost is_outer is_counts = record {
   before = [];
   mine = replicate (length rules) 0;
-  parts = is_counts;
+  spare = 0;
+  parts = is_counts ∙ sym (append-nil (replicate (length rules) 0));
   are_outer = rw is_outer refl;
-  base = base;
-  innermost = record { definition = definition; is_definition = is_definition; is_rules = is_rules; is_end = is_end; counted = counted };
+  base = ap (λ (l : OpenLevel). l.base) is_innermost;
+  innermost = rw is_innermost (record {
+    definition = definition;
+    is_definition = is_definition;
+    is_rules = is_rules;
+    is_end = refl;
+    top = let e : length (replicate {A = ℕ} (length rules) 0) ≡ length rules = length-replicate (length rules) 0 in omega (arith, e);
+    counted = fresh rules _ refl refl shape;
+  });
+  shape = λ other at. subst (λ (d : PlainDefinition). IsShape d.rules new.shape) (same_Some definition other (sym is_definition ∙ at)) (subst (λ (rs : List DRule). IsShape rs new.shape) (sym is_rules) shape);
 }
 
--- counts of which a part from a place on is written
-pub rewritten : (old counts new post : List ℕ) (a many : ℕ) → many ≡ length old → counts ≡ old → length new ≡ length counts - a → a ≤ length counts → post ≡ drop (length counts - a) (drop a counts)
-    → take many ((take a counts ++ (new ++ post)) ++ drop (length (take a counts ++ (new ++ post))) old) ≡ take a old ++ new
-rewritten old counts new post a all is_all same size le is_post =
-    let none : post ≡ [] = is_post ∙ ap (λ (n : ℕ). drop n (drop a counts)) (sym (length-drop a counts)) ∙ drop-length (drop a counts) in
-    let whole : take a counts ++ (new ++ post) ≡ take a counts ++ new = ap (λ (t : List ℕ). take a counts ++ (new ++ t)) none ∙ ap (λ (t : List ℕ). take a counts ++ t) (append-nil new) in
-    let many : length (take a counts ++ (new ++ post)) ≡ length old = ap length whole ∙ length-append (take a counts) new
-    ∙ (let e = length-take-le a counts le in let f = ap length same in omega (arith, e, f, size, le)) in
+-- counts of which a part is written
+pub rewritten : (old counts new post : List ℕ) (a n many : ℕ) → many ≡ length old → counts ≡ old → length new ≡ n → a + n ≤ length counts → post ≡ drop n (drop a counts)
+    → take many ((take a counts ++ (new ++ post)) ++ drop (length (take a counts ++ (new ++ post))) old) ≡ take a old ++ (new ++ drop n (drop a old))
+rewritten old counts new post a n all is_all same size le is_post =
+    let whole : take a counts ++ (new ++ post) ≡ take a old ++ (new ++ drop n (drop a old)) = ap (λ (t : List ℕ). take a counts ++ (new ++ t)) is_post
+    ∙ ap (λ (t : List ℕ). take a t ++ (new ++ drop n (drop a t))) same in
+    let many : length (take a counts ++ (new ++ post)) ≡ length old = length-append (take a counts) (new ++ post)
+    ∙ (let e = length-take-le a counts (omega (arith, le)) in let f = ap length same in let g = length-append new post in
+    let h = ap length is_post ∙ length-drop n (drop a counts) in let i = length-drop a counts in omega (arith, e, f, g, h, i, size, le)) in
     ap (λ (t : List ℕ). take all t)
-    (ap (λ (n : ℕ). (take a counts ++ (new ++ post)) ++ drop n old) many ∙ ap (λ (t : List ℕ). (take a counts ++ (new ++ post)) ++ t) (drop-length old) ∙ append-nil (take a counts ++ (new ++ post))
-    ∙ whole)
-    ∙ take_all all (take a counts ++ new) (let e = ap length whole in omega (arith, many, e, is_all)) ∙ ap (λ (t : List ℕ). take a t ++ new) same
+    (ap (λ (n : ℕ). (take a counts ++ (new ++ post)) ++ drop n old) many ∙ ap (λ (t : List ℕ). (take a counts ++ (new ++ post)) ++ t) (drop-length old) ∙ append-nil (take a counts ++ (new ++ post)))
+    ∙ take_all all (take a counts ++ (new ++ post)) (omega (arith, many, is_all)) ∙ whole
+
+-- counts that are 0, and those that are 0 from a place on
+all_zeros : (counts : List ℕ) → ((i : ℕ) → slice_index counts i ≡ 0) → counts ≡ replicate (length counts) 0
+all_zeros [] none = refl
+all_zeros (n ∷ counts) none = ap (λ (k : ℕ). k ∷ counts) (none 0) ∙ ap (λ (t : List ℕ). 0 ∷ t) (all_zeros counts (λ i. none (suc i)))
+
+zeros_from : (counts : List ℕ) (from : ℕ) → ((i : ℕ) → from ≤ i → slice_index counts i ≡ 0) → drop from counts ≡ replicate (length counts - from) 0
+zeros_from [] from none = drop-nil from ∙ ap (λ (n : ℕ). replicate n 0) (let e : 0 ≡ 0 - from = omega arith in e)
+zeros_from (n ∷ counts) zero none =
+    all_zeros (n ∷ counts) (λ i. none i (omega arith)) ∙ ap (λ (n : ℕ). replicate n 0) (let e : length (n ∷ counts) ≡ length (n ∷ counts) - 0 = omega arith in e)
+zeros_from (n ∷ counts) (suc from) none =
+    zeros_from counts from (λ i le. none (suc i) (omega (arith, le))) ∙ ap (λ (n : ℕ). replicate n 0) (let e : length counts - from ≡ length (n ∷ counts) - suc from = omega arith in e)
+
+-- what stands in front of the innermost level's counts, and from them on
+pub counts_before : (defs : List PlainDefinition) (o : OpenLevels) (outer : List SoFar) (level : SoFar) (now : AreOpen defs o outer level) → take o.innermost.base o.counts.items ≡ now.before
+counts_before defs o outer level now = ap (λ (n : ℕ). take n o.counts.items) now.base
+    ∙ ap (λ (t : List ℕ). take (length now.before) t) (now.parts ∙ append_assoc now.before now.mine (replicate now.spare 0)) ∙ take-append_seam now.before (now.mine ++ replicate now.spare 0)
+
+pub counts_behind : (defs : List PlainDefinition) (o : OpenLevels) (outer : List SoFar) (level : SoFar) (now : AreOpen defs o outer level)
+    → drop o.innermost.base o.counts.items ≡ now.mine ++ replicate now.spare 0
+counts_behind defs o outer level now = ap (λ (n : ℕ). drop n o.counts.items) now.base
+    ∙ ap (λ (t : List ℕ). drop (length now.before) t) (now.parts ∙ append_assoc now.before now.mine (replicate now.spare 0)) ∙ drop-append_seam now.before (now.mine ++ replicate now.spare 0)
+
+-- the innermost level's counts are made 0
+cleared : (before mine : List ℕ) (spare reached : ℕ) → reached ≤ length mine → ((i : ℕ) → reached ≤ i → slice_index mine i ≡ 0)
+    → before ++ (replicate reached 0 ++ drop reached (mine ++ replicate spare 0)) ≡ before ++ replicate (length mine + spare) 0
+cleared before mine spare reached le none =
+    let left : reached + ((length mine - reached) + spare) ≡ length mine + spare = omega (arith, le) in
+    ap (λ (t : List ℕ). before ++ (replicate reached 0 ++ t)) (drop-append-le reached mine (replicate spare 0) le ∙ ap (λ (t : List ℕ). t ++ replicate spare 0) (zeros_from mine reached none)
+    ∙ replicate-append-replicate (length mine - reached) spare 0)
+    ∙ ap (λ (t : List ℕ). before ++ t) (replicate-append-replicate reached ((length mine - reached) + spare) 0 ∙ ap (λ (n : ℕ). replicate n 0) left)
 
 -- the innermost level is ended
 pub ended : (defs : List PlainDefinition) (old new : OpenLevels) (outer : List SoFar) (level : SoFar) → AreOpen defs old outer level
-    → old.outer.items ≡ new.outer.items ++ new.innermost ∷ [] → new.counts.items ≡ take old.innermost.base old.counts.items
+    → old.outer.items ≡ new.outer.items ++ new.innermost ∷ [] → new.opened ≡ old.opened → new.shape ≡ old.shape
+    → new.counts.items ≡ take old.innermost.base old.counts.items
+    ++ (replicate old.innermost.reached 0 ++ drop old.innermost.reached (drop old.innermost.base old.counts.items))
     → (others : List SoFar) × (next : SoFar) × (outer ≡ others ++ next ∷ []) × AreOpen defs new others next
-ended defs old new outer level o is_outer is_counts =
+ended defs old new outer level o is_outer is_opened is_shape is_counts =
     let p = kept_pop defs 0 new.outer.items new.innermost o.before outer (subst (λ (t : List OpenLevel). AreKept defs 0 t o.before outer) is_outer o.are_outer) in
-    let cut : new.counts.items ≡ o.before = is_counts ∙ ap (λ (t : List ℕ). take old.innermost.base t) o.parts ∙ ap (λ (n : ℕ). take n (o.before ++ o.mine)) o.base
-    ∙ take-append_seam o.before o.mine in (
+    let c = o.innermost.counted in
+    let kept : take old.innermost.base old.counts.items ≡ o.before = counts_before defs old outer level o in
+    let own : drop old.innermost.base old.counts.items ≡ o.mine ++ replicate o.spare 0 = counts_behind defs old outer level o in
+    let cut : new.counts.items ≡ o.before ++ replicate (length o.mine + o.spare) 0 = is_counts
+    ∙ ap (λ (t : List ℕ). t ++ (replicate old.innermost.reached 0 ++ drop old.innermost.reached (drop old.innermost.base old.counts.items))) kept
+    ∙ ap (λ (t : List ℕ). o.before ++ (replicate old.innermost.reached 0 ++ drop old.innermost.reached t)) own
+    ∙ cleared o.before o.mine o.spare old.innermost.reached c.reached c.none_behind in (
       p.others,
       p.next,
       p.is,
       record {
         before = p.before;
         mine = p.mine;
-        parts = cut ∙ p.parts;
+        spare = length o.mine + o.spare;
+        parts = cut ∙ ap (λ (t : List ℕ). t ++ replicate (length o.mine + o.spare) 0) p.parts;
         are_outer = p.rest;
         base = omega (arith, p.at);
         innermost = p.kept;
+        shape = λ definition at. subst (λ (x : Shape). IsShape definition.rules x) (sym is_shape) (o.shape definition (ap (λ (n : ℕ). slice_get defs n) (sym is_opened) ∙ at));
       },
     )
 
@@ -169,32 +249,34 @@ kept_many defs base [] counts (l ∷ ls) h = absurd h
 kept_many defs base (k ∷ ks) counts [] h = absurd h
 kept_many defs base (k ∷ ks) counts (l ∷ ls) (mine, rest, parts, at, kept, more) = ap (λ (n : ℕ). suc n) (kept_many defs (base + length mine) ks rest ls more)
 
--- the innermost level's counts, as a slice from their place on
+-- the innermost level's counts, as a slice
 pub own_counts : (defs : List PlainDefinition) (o : OpenLevels) (outer : List SoFar) (level : SoFar) (counts : List ℕ) (now : AreOpen defs o outer level) → counts ≡ o.counts.items
-    → take (length counts - o.innermost.base) (drop o.innermost.base counts) ≡ now.mine
+    → take (o.innermost.top - o.innermost.base) (drop o.innermost.base counts) ≡ now.mine
 own_counts defs o outer level counts now e =
-    ap (λ (n : ℕ). take n (drop o.innermost.base counts)) (sym (length-drop o.innermost.base counts)) ∙ take-length (drop o.innermost.base counts)
-    ∙ ap (λ (t : List ℕ). drop o.innermost.base t) (e ∙ now.parts) ∙ ap (λ (n : ℕ). drop n (now.before ++ now.mine)) now.base ∙ drop-append_seam now.before now.mine
-
-pub counts_before : (defs : List PlainDefinition) (o : OpenLevels) (outer : List SoFar) (level : SoFar) (now : AreOpen defs o outer level) → take o.innermost.base o.counts.items ≡ now.before
-counts_before defs o outer level now = ap (λ (n : ℕ). take n o.counts.items) now.base ∙ ap (λ (t : List ℕ). take (length now.before) t) now.parts ∙ take-append_seam now.before now.mine
+    let size : o.innermost.top - o.innermost.base ≡ length now.mine = omega (arith, now.innermost.top) in
+    ap (λ (n : ℕ). take n (drop o.innermost.base counts)) size
+    ∙ ap (λ (t : List ℕ). take (length now.mine) t) (ap (λ (t : List ℕ). drop o.innermost.base t) e ∙ counts_behind defs o outer level now) ∙ take-append_seam now.mine (replicate now.spare 0)
 
 pub own_counted : (defs : List PlainDefinition) (o : OpenLevels) (outer : List SoFar) (level : SoFar) (rules : List DRule) (counts : List ℕ) (now : AreOpen defs o outer level)
     → level.rules ≡ rules → counts ≡ o.counts.items
-    → IsCounted rules level.keys o.innermost (take (length counts - o.innermost.base) (drop o.innermost.base counts))
+    → IsCounted rules level.keys o.innermost (take (o.innermost.top - o.innermost.base) (drop o.innermost.base counts))
 own_counted defs o outer level rules counts now same e =
     subst (λ (t : List ℕ). IsCounted rules level.keys o.innermost t) (sym (own_counts defs o outer level counts now e))
     (subst (λ (rs : List DRule). IsCounted rs level.keys o.innermost now.mine) same now.innermost.counted)
 
 -- the innermost level is met further
-pub met_further : (defs : List PlainDefinition) (old new : OpenLevels) (outer : List SoFar) (level : SoFar) (rules : List DRule) (key : Key) (run : ℕ) (counts : List ℕ)
-    → AreOpen defs old outer level → level.rules ≡ rules
-    → IsCounted rules (level.keys ++ key ∷ []) (record old.innermost { run = run }) counts → new.innermost ≡ record old.innermost { run = run } → new.outer.items ≡ old.outer.items
-    → new.counts.items ≡ take old.innermost.base old.counts.items ++ counts → AreOpen defs new outer (and_key level key)
-met_further defs old new outer level rules key run counts now same counted is_innermost is_outer is_counts = record {
+pub met_further : (defs : List PlainDefinition) (old new : OpenLevels) (outer : List SoFar) (level : SoFar) (rules : List DRule) (key : Key) (run reached : ℕ) (counts : List ℕ)
+    (now : AreOpen defs old outer level) → level.rules ≡ rules
+    → IsCounted rules (level.keys ++ key ∷ []) (record old.innermost { run = run; reached = reached }) counts → new.innermost ≡ record old.innermost { run = run; reached = reached }
+    → new.outer.items ≡ old.outer.items → new.opened ≡ old.opened → new.shape ≡ old.shape → length counts ≡ length now.mine
+    → new.counts.items ≡ take old.innermost.base old.counts.items ++ (counts ++ drop (length now.mine) (drop old.innermost.base old.counts.items)) → AreOpen defs new outer (and_key level key)
+met_further defs old new outer level rules key run reached counts now same counted is_innermost is_outer is_opened is_shape size is_counts = record {
   before = now.before;
   mine = counts;
-  parts = is_counts ∙ ap (λ (t : List ℕ). t ++ counts) (counts_before defs old outer level now);
+  spare = now.spare;
+  parts = is_counts ∙ ap (λ (t : List ℕ). t ++ (counts ++ drop (length now.mine) (drop old.innermost.base old.counts.items))) (counts_before defs old outer level now)
+      ∙ ap (λ (t : List ℕ). now.before ++ (counts ++ t)) (ap (λ (t : List ℕ). drop (length now.mine) t) (counts_behind defs old outer level now) ∙ drop-append_seam now.mine (replicate now.spare 0))
+      ∙ sym (append_assoc now.before counts (replicate now.spare 0));
   are_outer = subst (λ (t : List OpenLevel). AreKept defs 0 t now.before outer) (sym is_outer) now.are_outer;
   base = ap (λ (i : OpenLevel). i.base) is_innermost ∙ now.base;
   innermost = subst (λ (i : OpenLevel). IsKept defs i counts (and_key level key)) (sym is_innermost) (record {
@@ -202,8 +284,10 @@ met_further defs old new outer level rules key run counts now same counted is_in
     is_definition = now.innermost.is_definition;
     is_rules = now.innermost.is_rules;
     is_end = now.innermost.is_end;
-    counted = subst (λ (rs : List DRule). IsCounted rs (level.keys ++ key ∷ []) (record old.innermost { run = run }) counts) (sym same) counted;
+    top = now.innermost.top ∙ ap (λ (n : ℕ). old.innermost.base + n) (sym size);
+    counted = subst (λ (rs : List DRule). IsCounted rs (level.keys ++ key ∷ []) (record old.innermost { run = run; reached = reached }) counts) (sym same) counted;
   });
+  shape = λ definition at. subst (λ (x : Shape). IsShape definition.rules x) (sym is_shape) (now.shape definition (ap (λ (n : ℕ). slice_get defs n) (sym is_opened) ∙ at));
 }
 
 -- ---- the end of a level
@@ -226,9 +310,10 @@ one_missing rules keys level counts i rule c unmet at = record {
 }
 
 pub own_size : (defs : List PlainDefinition) (o : OpenLevels) (outer : List SoFar) (level : SoFar) (counts : List ℕ) (now : AreOpen defs o outer level) → counts ≡ o.counts.items
-    → (length (take (length counts - o.innermost.base) (drop o.innermost.base counts)) ≡ length counts - o.innermost.base) × (o.innermost.base ≤ length counts)
+    → (o.innermost.top - o.innermost.base ≡ length now.mine) × (o.innermost.base ≤ o.innermost.top) × (o.innermost.top ≤ length counts) × (o.innermost.base + o.innermost.reached ≤ o.innermost.top)
 own_size defs o outer level counts now e =
-    let mine = ap length (own_counts defs o outer level counts now e) in
-    let whole = ap length e ∙ ap length now.parts ∙ length-append now.before now.mine in
-    let base = now.base in
-    (omega (arith, mine, whole, base), omega (arith, whole, base))
+    let top = (own_top defs o outer level now).1 in
+    let here = now.innermost.top in
+    let len = ap length e in
+    let reached = now.innermost.counted.reached in
+    (omega (arith, here), omega (arith, here), omega (arith, top, len), omega (arith, here, reached))

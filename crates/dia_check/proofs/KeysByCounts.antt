@@ -2,7 +2,7 @@
 use Rattle.std.proofs.Common.{◌≡◌, ◌≢◌, ℕ, zero, suc, ◌+◌, ◌<◌, ◌≤◌, Bool, true, false, List, [], ◌∷◌, ◌++◌, length, set, drop, get_or}
 use Rattle.std.proofs.Common.{Option, Some, None, refl, sym, ap, subst, ◌∙◌, arith, inl, inr, get_or-set_other, get_or-set_same}
 use Rattle.std.specs.Option.{option_eq}
-use Rattle.std.specs.Prelude.{nat_eq, slice_get, slice_index, ◌==◌, if◌then◌else◌, ◌⊎◌, nat_lt}
+use Rattle.std.specs.Prelude.{nat_eq, max, slice_get, slice_index, ◌==◌, if◌then◌else◌, ◌⊎◌, nat_lt}
 use Rattle.std.proofs.lemmas.Bool.{eqb-true, eq-eqb, both_ways, ltb-true, ltb-false}
 use Rattle.std.proofs.lemmas.List.{length-set, length-drop}
 use Rattle.std.proofs.lemmas.List.Sums.{length-filter, count_by-le-length, prefix_len-le-length}
@@ -164,19 +164,30 @@ module _ (rules : List DRule) (are : AreRules rules) (keys : List Key) (key : Ke
               let ne : j ≢ i = λ p. both_ways (j == i) e (eq-eqb j i p) in
               rw get_or-set_other (omega arith)
 
-      pub met_now : rule.max ≢ Some (slice_index counts i) → IsMet rules keys key (record level { run = run }) (set counts i (slice_index counts i + 1))
+      pub met_now : rule.max ≢ Some (slice_index counts i) → IsMet rules keys key (record level { run = run; reached = max level.reached (i + 1) }) (set counts i (slice_index counts i + 1))
       met_now no_max = record {
         none_wrong = λ r s h. none r s h;
         counted = record {
-          fixed = c.fixed;
-          wildcard = c.wildcard;
+          shape = c.shape;
           run = leads.at;
           many = length-set counts i (slice_index counts i + 1) ∙ c.many;
           counted = λ j other here. counts_next j ∙ sym (met_next j other here);
           met_before = λ j other from lt here. let old = met_to run enough j other from lt here in let next = counts_next j in omega (arith, old, next);
+          reached = let size = length-set counts i (slice_index counts i + 1) in omega (arith, size, c.reached, c.many, (leads.counts i some).0);
+          none_behind = λ j from. none_yet j from;
         };
       }
         where
+          none_yet : (j : ℕ) → max level.reached (i + 1) ≤ j → slice_index (set counts i (slice_index counts i + 1)) j ≡ 0
+          none_yet j from = by (j == i) refl
+            where
+              by : (b : Bool) → (j == i) ≡ b → slice_index (set counts i (slice_index counts i + 1)) j ≡ 0
+              by true e = absurd (omega (arith, eqb-true j i e, from))
+              by false e =
+                  let next = counts_next j ∙ ap (λ (b : Bool). slice_index counts j + (if b then 1 else 0)) e in
+                  let old = c.none_behind j (omega (arith, from)) in
+                  omega (arith, next, old)
+
           none : (r : Reason) (s : Subject) → IsMisplaced rules keys key r s → ⊥
           none r s (missing j q first end) = none_missing j q first end
           none r s (not_allowed h) = (leads.counts i some).1 h

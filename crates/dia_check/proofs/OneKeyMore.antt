@@ -241,8 +241,8 @@ module _ (rules : List DRule) (are : AreRules rules) (keys : List Key) (key : Ke
 
   leads_behind : (o : Option ℕ) → NoneFrom (fixed_rules rules) level.run key → ((i : ℕ) → o ≡ Some i → CountsBehind i)
       → (o ≡ None → IsTrue (is_listed (fixed_rules rules) key) ⊎ ((is_listed rules key ≡ false) × (has_wildcard rules ≡ false)))
-      → Leads rules keys key level.run level.fixed o
-  leads_behind o none some_counts none_counts = subst (λ (n : ℕ). Leads rules keys key level.run n o) (sym c.fixed) (record {
+      → Leads rules keys key level.run level.shape.fixed o
+  leads_behind o none some_counts none_counts = subst (λ (n : ℕ). Leads rules keys key level.run n o) (sym c.shape.fixed) (record {
     at = behind_all (fixed_rules rules) level.run keys key c.run none;
     within = (omega arith, at_within (fixed_rules rules) level.run keys c.run);
     same_runs = λ j before. ap (λ (ns : List ℕ). slice_index ns j) same;
@@ -281,14 +281,14 @@ module _ (rules : List DRule) (are : AreRules rules) (keys : List Key) (key : Ke
       by q false is h = is
 
   -- a fixed rule whose run is over doesn't count it
-  pub leads_past : (i : ℕ) → i < level.run → slot.Fixed i ≡ slot_of rules key → Leads rules keys key level.run level.fixed None
+  pub leads_past : (i : ℕ) → i < level.run → slot.Fixed i ≡ slot_of rules key → Leads rules keys key level.run level.shape.fixed None
   leads_past i lt e =
       let (r, at, fixed, lists) = fixed_slot rules key i e in
       leads_behind None (none_listed (λ j q le at' fixed' lists'. let one = only_one j i q r at' lists' at lists in omega (arith, one, le, lt)))
       (λ k is. absurd (none-some k is)) (λ is. inl (at_any (lists_key key) (fixed_rules rules) i r (into_fixed rules i r are at fixed) lists))
 
   -- a loose rule counts it
-  pub leads_loose : (i : ℕ) → slot.Loose i ≡ slot_of rules key → Leads rules keys key level.run level.fixed (Some i)
+  pub leads_loose : (i : ℕ) → slot.Loose i ≡ slot_of rules key → Leads rules keys key level.run level.shape.fixed (Some i)
   leads_loose i e = leads_behind (Some i) (none_listed (λ j q le at fixed lists. not_fixed j q at fixed lists))
       (λ k is. subst CountsBehind (same_Some i k is) counts_here) (λ none. absurd (none-some i (sym none)))
     where
@@ -368,9 +368,9 @@ module _ (rules : List DRule) (are : AreRules rules) (keys : List Key) (key : Ke
     wildcard_counts = (slice_get_within rules i wild.0 wild.1, wild_allowed, λ j other at. wild_kind j other at (is_fixed other) (j == i) refl refl)
 
   -- the wildcard counts it, where there is one
-  pub leads_unlisted : slot.Unlisted ≡ slot_of rules key → Leads rules keys key level.run level.fixed level.wildcard
-  leads_unlisted e = leads_behind level.wildcard (none_listed (λ j q le at fixed lists. not_listed j q at lists))
-      (λ i is. wildcard_counts unlisted i (at_position is_wildcard rules i (sym c.wildcard ∙ is))) (λ none. inr (unlisted, no_position is_wildcard rules (sym c.wildcard ∙ none)))
+  pub leads_unlisted : slot.Unlisted ≡ slot_of rules key → Leads rules keys key level.run level.shape.fixed level.shape.wildcard
+  leads_unlisted e = leads_behind level.shape.wildcard (none_listed (λ j q le at fixed lists. not_listed j q at lists))
+      (λ i is. wildcard_counts unlisted i (at_position is_wildcard rules i (sym c.shape.wildcard ∙ is))) (λ none. inr (unlisted, no_position is_wildcard rules (sym c.shape.wildcard ∙ none)))
     where
       unlisted : is_listed rules key ≡ false
       unlisted = unlisted_slot rules key e

@@ -1,5 +1,5 @@
 -- What a checker keeps of the levels that are open: the run that each is in, and how often each of its rules was met.
-use Rattle.std.specs.Prelude.{◌≡◌, ◌≢◌, ℕ, zero, suc, ◌+◌, ◌<◌, ◌≤◌, ◌⊎◌, ◌==◌, if◌then◌else◌, false, List, [], ◌∷◌, ◌++◌, length, drop, Option, Some, None, slice_get, slice_index, position, IsTrue}
+use Rattle.std.specs.Prelude.{◌≡◌, ◌≢◌, ℕ, zero, suc, ◌+◌, ◌<◌, ◌≤◌, ◌⊎◌, ◌==◌, if◌then◌else◌, false, List, [], ◌∷◌, ◌++◌, length, drop, replicate, Option, Some, None, slice_get, slice_index, position, IsTrue}
 use Rattle.std.specs.List.{prefix_len}
 use Rattle.dia_wire.specs.declared.Key.{Key}
 use Rattle.dia_book.specs.declared.DRule.{DRule}
@@ -10,6 +10,7 @@ use Rattle.dia_check.specs.declared.fault.Subject.{Subject}
 use Rattle.dia_check.specs.declared.fault.Subject.TheVariants.{Avp}
 use Rattle.dia_check.specs.declared.open_levels.OpenLevel.{OpenLevel}
 use Rattle.dia_check.specs.declared.open_levels.OpenLevels.{OpenLevels}
+use Rattle.dia_check.specs.declared.open_levels.Shape.{Shape}
 use Rattle.dia_check.specs.declared.open_levels.Wrong.{Wrong}
 use Rattle.dia_check.specs.Valid.{fixed_rules, is_listed, has_wildcard, is_wildcard}
 use Rattle.dia_check.specs.Faults.{runs, run_end, loose_start, met, subject_of, row_of, IsFirstShort, IsFirstMissing}
@@ -68,14 +69,24 @@ pub record IsFirstUnmet (rules : List DRule) (counts : List ℕ) (from to i : �
   pub unmet : slice_index counts i < rule.min
   pub met_before : AreMet rules counts from i
 
--- the counts are those of the keys, and the rules in front of the run are met
+-- from a place on, no rule has a least count
+abbrev pub HasNoLeast : List DRule → ℕ → Type 0
+HasNoLeast rules from = (i : ℕ) (rule : DRule) → from ≤ i → slice_get rules i ≡ Some rule → rule.min ≡ 0
+
+pub record IsShape (rules : List DRule) (shape : Shape) : Type 0 where
+  pub fixed : shape.fixed ≡ length (fixed_rules rules)
+  pub wildcard : shape.wildcard ≡ position is_wildcard rules
+  pub least : HasNoLeast rules shape.least
+
+-- the counts are those of the keys, and 0 from a place on; and the rules in front of the run are met
 pub record IsCounted (rules : List DRule) (keys : List Key) (level : OpenLevel) (counts : List ℕ) : Type 0 where
-  pub fixed : level.fixed ≡ length (fixed_rules rules)
-  pub wildcard : level.wildcard ≡ position is_wildcard rules
+  pub shape : IsShape rules level.shape
   pub run : IsAt (fixed_rules rules) level.run keys
   pub many : length counts ≡ length rules
   pub counted : (i : ℕ) (rule : DRule) → slice_get rules i ≡ Some rule → slice_index counts i ≡ met rules keys i rule
   pub met_before : AreMet rules counts 0 level.run
+  pub reached : level.reached ≤ length counts
+  pub none_behind : (i : ℕ) → level.reached ≤ i → slice_index counts i ≡ 0
 
 -- where one key more leads: into the run of a fixed rule or behind all the runs, and to the rule that counts it
 pub record Leads (rules : List DRule) (keys : List Key) (key : Key) (old run : ℕ) (rule : Option ℕ) : Type 0 where
@@ -112,12 +123,13 @@ HasRoom level = length level.keys < 4294967295
 abbrev pub and_key : SoFar → Key → SoFar
 and_key level key = record { rules = level.rules; end = level.end; keys = level.keys ++ key ∷ [] }
 
--- what is kept of a level: its definition's number, its end, and its counts
+-- what is kept of a level: its definition's number, its end, and its counts, with where they end
 pub record IsKept (defs : List PlainDefinition) (kept : OpenLevel) (counts : List ℕ) (level : SoFar) : Type 0 where
   pub definition : PlainDefinition
   pub is_definition : slice_get defs kept.def ≡ Some definition
   pub is_rules : definition.rules ≡ level.rules
   pub is_end : kept.end ≡ level.end
+  pub top : kept.top ≡ kept.base + length counts
   pub counted : IsCounted level.rules level.keys kept counts
 
 -- the levels, the outermost first, with their counts one level behind the other from a place on
@@ -128,14 +140,16 @@ AreKept defs base (kept ∷ others) counts [] = ⊥
 AreKept defs base (kept ∷ others) counts (level ∷ levels) =
     (mine : List ℕ) × (rest : List ℕ) × (counts ≡ mine ++ rest) × (kept.base ≡ base) × IsKept defs kept mine level × AreKept defs (base + length mine) others rest levels
 
--- the open levels: those round the innermost, the outermost first, and the innermost
+-- the open levels: those round the innermost, the outermost first, and the innermost, with zeros behind their counts
 pub record AreOpen (defs : List PlainDefinition) (open_levels : OpenLevels) (outer : List SoFar) (level : SoFar) : Type 0 where
   pub before : List ℕ
   pub mine : List ℕ
-  pub parts : open_levels.counts.items ≡ before ++ mine
+  pub spare : ℕ
+  pub parts : open_levels.counts.items ≡ (before ++ mine) ++ replicate spare 0
   pub are_outer : AreKept defs 0 open_levels.outer.items before outer
   pub base : open_levels.innermost.base ≡ length before
   pub innermost : IsKept defs open_levels.innermost mine level
+  pub shape : (definition : PlainDefinition) → slice_get defs open_levels.opened ≡ Some definition → IsShape definition.rules open_levels.shape
 
 -- the open levels have their definitions in this dictionary
 abbrev pub AreOpenUnder : Dictionary → OpenLevels → List SoFar → SoFar → Type 0

@@ -93,7 +93,9 @@ pub(crate) fn open_group<B: Book>(
     def: DefId,
     end: usize,
 ) -> Result<(), AllocError>
-    requires { def < length (definitions (B.meaning book.now)) }
+    requires def { def < length (definitions (B.meaning book.now)) }
+    requires open { ∥ ((outer : List SoFar) × (level : SoFar)
+        × AreOpenUnder (B.meaning book.now) open_levels.old outer level) ∥₁ }
     ensures { (definition : PlainDefinition) (outer : List SoFar) (level : SoFar)
         → slice_get (definitions (B.meaning book.now)) def ≡ Some definition
         → AreOpenUnder (B.meaning book.now) open_levels.old outer level

@@ -9,6 +9,7 @@ ghost use Rattle.dia_book.specs.Dictionary.{AreRules, PlainDefinition, is_fixed,
 ghost use Rattle.dia_check.specs.Valid.{fixed_rules, is_wildcard};
 ghost use Rattle.dia_check.specs.Faults.{subject_of};
 ghost use Rattle.dia_check.specs.OpenLevels.{AreMet, IsFirstUnmet, IsCounted, Leads};
+ghost use Rattle.dia_check.specs.OpenLevels.{HasNoLeast, IsShape};
 ghost use Rattle.dia_check.specs.OpenLevels.{IsMet, IsWellPlaced, IsFirstMisplaced};
 ghost use Rattle.dia_check.specs.OpenLevels.{IsMetAtEnd, IsMissingAtEnd, SoFar};
 ghost use Rattle.dia_check.specs.OpenLevels.{begun, and_key, HasRoom, AreOpen};
@@ -27,21 +28,40 @@ pub(crate) struct OpenLevel {
     pub(crate) end: usize,
     /// Where its counts begin: one for each rule.
     base: usize,
+    /// The place behind its counts.
+    top: usize,
     /// The fixed rule in whose run the level is; behind the last run, the number of fixed rules.
     run: usize,
+    /// From the rule at this place on, none was met.
+    reached: usize,
+    shape: Shape,
+}
+
+/// What the rules of a definition say of each of its levels.
+#[derive(Clone, Copy)]
+struct Shape {
     /// How many fixed rules there are.
     fixed: usize,
     /// The place of the wildcard's rule.
     wildcard: Option<usize>,
+    /// From the rule at this place on, none has a least count.
+    least: usize,
 }
 
 /// The levels that are open, and the counts of their rules, one level behind the other.
+///
+/// Behind the innermost level's counts stand zeros, for the next level that opens. A level that ends leaves zeros too:
+/// so to open one costs nothing for each of its rules, where the level opened before had the same definition.
 #[derive(Drop)]
 pub(crate) struct OpenLevels {
     innermost: OpenLevel,
     /// The levels round it, the outermost first.
     outer: Vec<OpenLevel>,
     counts: Vec<u32>,
+    /// The definition of the level that was opened last.
+    opened: DefId,
+    /// The shape of that definition.
+    shape: Shape,
 }
 
 /// What is wrong with an AVP or at the end of a level.
@@ -63,20 +83,41 @@ impl Wrong {
     }
 }
 
-impl OpenLevel {
-    /// A level of which nothing was read yet, whose counts begin at a place and are all 0.
-    fn new(def: DefId, rules: &[DRule], end: usize, base: usize) -> Self
+impl Shape {
+    fn of(rules: &[DRule]) -> Self
         requires { AreRules rules.now }
-        ensures counted { IsCounted rules.now [] result (replicate (length rules.now) 0) }
-        ensures rest { (result.def ≡ def) × (result.end ≡ end) × (result.base ≡ base) }
+        ensures { IsShape rules.now result }
+    {
+        Shape {
+            fixed: fixed_count(rules),
+            wildcard: wildcard_place(rules),
+            least: least_end(rules),
+        }
+    }
+}
+
+impl OpenLevel {
+    /// A level of which nothing was read yet, whose counts stand from one place up to another.
+    #[inline(always)]
+    fn new(def: DefId, shape: Shape, end: usize, base: usize, top: usize) -> Self
+        ensures { result ≡ record {
+          def = def;
+          end = end;
+          base = base;
+          top = top;
+          run = 0;
+          reached = 0;
+          shape = shape;
+        } }
     {
         OpenLevel {
             def,
             end,
             base,
+            top,
             run: 0,
-            fixed: fixed_count(rules),
-            wildcard: wildcard_place(rules),
+            reached: 0,
+            shape,
         }
     }
 
@@ -89,9 +130,9 @@ impl OpenLevel {
     {
         match slot {
             Slot::Fixed(rule) if rule >= self.run => (rule, Some(rule)),
-            Slot::Fixed(_) => (self.fixed, None),
-            Slot::Loose(rule) => (self.fixed, Some(rule)),
-            Slot::Unlisted => (self.fixed, self.wildcard),
+            Slot::Fixed(_) => (self.shape.fixed, None),
+            Slot::Loose(rule) => (self.shape.fixed, Some(rule)),
+            Slot::Unlisted => (self.shape.fixed, self.shape.wildcard),
         }
     }
 
@@ -105,11 +146,11 @@ impl OpenLevel {
         ensures { (keys : List AnyKey) → IsCounted rules.now keys self.old counts.old
             → MatchOption result
             (IsMet rules.now keys key self.new counts.new
-            × (self.new ≡ record self.old { run = self.new.run }))
+            × (self.new ≡ record self.old { run = self.new.run; reached = self.new.reached }))
             (λ wrong. IsFirstMisplaced rules.now keys key wrong) }
     {
         let (run, rule) = self.lead(slot);
-        if let Some(place) = first_unmet(rules, counts, self.run, run) {
+        if let Some(place) = first_unmet(rules, counts, self.shape.least, self.run, run) {
             let rule = rules[place];
             return Some(missing(rule));
         }
@@ -122,17 +163,26 @@ impl OpenLevel {
         }
         counts[rule] = count + 1;
         self.run = run;
+        self.reached = self.reached.max(rule + 1);
         None
     }
 }
 
-/// The first rule from one place up to another that was met less often than its min.
-fn first_unmet(rules: &[DRule], counts: &[u32], from: usize, to: usize) -> Option<usize>
-    requires { (length counts.now ≡ length rules.now) × (to ≤ length rules.now) }
+/// The first rule from one place up to another that was met less often than its min. None has a least count from `least` on.
+#[inline(always)]
+fn first_unmet(
+    rules: &[DRule],
+    counts: &[u32],
+    least: usize,
+    from: usize,
+    to: usize,
+) -> Option<usize>
+    requires within { (length counts.now ≡ length rules.now) × (to ≤ length rules.now) }
+    requires least { HasNoLeast rules.now least }
     ensures { MatchOption result (AreMet rules.now counts.now from to)
         (λ i. IsFirstUnmet rules.now counts.now from to i) }
 {
-    for place in from..to {
+    for place in from..to.min(least) {
         if counts[place] < rules[place].min {
             return Some(place);
         }
@@ -169,33 +219,62 @@ impl OpenLevels {
     {
         let mut counts = Vec::with_capacity(alloc, rules.len())?;
         add_zeros(&mut counts, rules.len())?;
+        let shape = Shape::of(rules);
         Ok(OpenLevels {
-            innermost: OpenLevel::new(def, rules, end, 0),
+            innermost: OpenLevel::new(def, shape, end, 0, rules.len()),
             outer: Vec::new(alloc),
             counts,
+            opened: def,
+            shape,
         })
     }
 
     /// Opens a level in the innermost one. This alone takes memory.
     #[inline(always)]
     pub(crate) fn open(&mut self, def: DefId, rules: &[DRule], end: usize) -> Result<(), AllocError>
-        requires { AreRules rules.now }
+        requires rules { AreRules rules.now }
+        requires open { ∥ ((defs : List PlainDefinition) × (outer : List SoFar) × (level : SoFar)
+            × AreOpen defs self.old outer level) ∥₁ }
         ensures { (defs : List PlainDefinition)
             (definition : PlainDefinition) (outer : List SoFar) (level : SoFar)
             → slice_get defs def ≡ Some definition
             → definition.rules ≡ rules.now → AreOpen defs self.old outer level
             → OnOk result (AreOpen defs self.new (outer ++ level ∷ []) (begun rules.now end)) }
     {
-        let base = self.counts.len();
+        let shape = self.shape_of(def, rules);
+        let base = self.innermost.top;
+        let top = base + rules.len();
         self.outer.push(self.innermost)?;
-        add_zeros(&mut self.counts, rules.len())?;
-        self.innermost = OpenLevel::new(def, rules, end, base);
+        let more = top.saturating_sub(self.counts.len());
+        add_zeros(&mut self.counts, more)?;
+        self.innermost = OpenLevel::new(def, shape, end, base, top);
+        self.opened = def;
+        self.shape = shape;
         Ok(())
+    }
+
+    /// The shape of a definition, which is kept of the one that was opened last.
+    #[inline(always)]
+    fn shape_of(&self, def: DefId, rules: &[DRule]) -> Shape
+        requires { AreRules rules.now }
+        ensures { (defs : List PlainDefinition)
+            (definition : PlainDefinition) (outer : List SoFar) (level : SoFar)
+            → slice_get defs def ≡ Some definition
+            → definition.rules ≡ rules.now → AreOpen defs self.now outer level
+            → IsShape rules.now result }
+    {
+        if def == self.opened {
+            self.shape
+        } else {
+            Shape::of(rules)
+        }
     }
 
     /// Ends the innermost level. Answers whether it lay in another, which is the innermost then.
     #[inline(always)]
     pub(crate) fn close(&mut self) -> bool
+        requires { ∥ ((defs : List PlainDefinition) × (outer : List SoFar) × (level : SoFar)
+            × AreOpen defs self.old outer level) ∥₁ }
         ensures inner { IsTrue result
             → (defs : List PlainDefinition) (outer : List SoFar) (level : SoFar)
             → AreOpen defs self.old outer level
@@ -207,7 +286,8 @@ impl OpenLevels {
     {
         match self.outer.pop() {
             Some(next) => {
-                self.counts.truncate(self.innermost.base);
+                let base = self.innermost.base;
+                self.counts[base..base + self.innermost.reached].fill(0);
                 self.innermost = next;
                 true
             }
@@ -229,8 +309,9 @@ impl OpenLevels {
             (λ wrong. IsFirstMisplaced rules.now level.keys key wrong) }
     {
         let base = self.innermost.base;
+        let top = self.innermost.top;
         self.innermost
-            .meet(&mut self.counts[base..], rules, slot, key)
+            .meet(&mut self.counts[base..top], rules, slot, key)
     }
 
     /// What is missing at the end of the innermost level.
@@ -242,8 +323,14 @@ impl OpenLevels {
             → MatchOption result (IsMetAtEnd rules.now level.keys)
             (IsMissingAtEnd rules.now level.keys) }
     {
-        let base = self.innermost.base;
-        let place = first_unmet(rules, &self.counts[base..], 0, rules.len())?;
+        let OpenLevel {
+            base,
+            top,
+            shape,
+            ..
+        } = self.innermost;
+        let counts = &self.counts[base..top];
+        let place = first_unmet(rules, counts, shape.least, 0, rules.len())?;
         Some(missing(rules[place]))
     }
 
@@ -273,6 +360,19 @@ fn add_zeros(counts: &mut Vec<u32>, many: usize) -> Result<(), AllocError>
         counts.push(0)?;
     }
     Ok(())
+}
+
+/// The place behind the last rule with a least count.
+fn least_end(rules: &[DRule]) -> usize
+    ensures { HasNoLeast rules.now result }
+{
+    let mut end = 0;
+    for place in 0..rules.len() {
+        if rules[place].min > 0 {
+            end = place + 1;
+        }
+    }
+    end
 }
 
 /// The place of the wildcard's rule.

@@ -55,14 +55,23 @@ check_avp-requires g c =
     ∥∥₁_map some (λ x. let (bytes, good, small, w, lies) = x in
     let room = few d (g.met.B.Book.sound c.args.book.now) u m bytes good o at w in (map so_far w.rests, so_far w.s, w.stands, omega (arith, room, small)))
 
-pub open_group-requires : goal.open_group-requires
-open_group-requires g c =
+pub open_group-requires-clause-def : goal.open_group-requires-clause-def
+open_group-requires-clause-def g c =
     let d = g.B.Book.meaning c.args.book.now in let u = c.args.unknown in let m = c.args.levels in let o = c.loop-avp.open_levels in
     let at = c.loop-avp.at in let from = c.args.from in let piece = c.args.piece.now in let kept = c.innermost-end.result in let until = c.min-until.result in
     let same = c.innermost-end.ensures in let is = c.min-until.ensures in let (le, reached, some, on) = c.loop-avp.invariant in
     ∥∥₁_elim some le_prop (λ x. let (bytes, good, small, w, lies) = x in
     let says = c.in-Ok-Some-check_avp.ensures (map so_far w.rests) (so_far w.s) w.stands in
     number_within d (g.met.B.Book.sound c.args.book.now) u m bytes good o at w (plain_avp c.in-Ok-Some.avp) c.in-Ok-Some-check_avp.group (rw c.in-Ok-Some-check_avp.field-0-is at says.0))
+
+pub open_group-requires-clause-open : goal.open_group-requires-clause-open
+open_group-requires-clause-open g c =
+    let d = g.B.Book.meaning c.args.book.now in let u = c.args.unknown in let m = c.args.levels in let o = c.loop-avp.open_levels in
+    let at = c.loop-avp.at in let from = c.args.from in let piece = c.args.piece.now in let kept = c.innermost-end.result in let until = c.min-until.result in
+    let same = c.innermost-end.ensures in let is = c.min-until.ensures in let (le, reached, some, on) = c.loop-avp.invariant in
+    ∥∥₁_map some (λ x. let (bytes, good, small, w, lies) = x in
+    let says = c.in-Ok-Some-check_avp.ensures (map so_far w.rests) (so_far w.s) w.stands in
+    (map so_far w.rests, and_key (so_far w.s) (key_of (plain_avp c.in-Ok-Some.avp)), says.1))
 
 pub returns-in_err-open_group-in-Ok-Some-check_avp-clause-next : goal.returns-in_err-open_group-in-Ok-Some-check_avp-clause-next
 returns-in_err-open_group-in-Ok-Some-check_avp-clause-next g c bytes good old lies =
@@ -175,6 +184,13 @@ missing_at_end-requires g c =
     let at = c.loop-avp.at in let from = c.args.from in let piece = c.args.piece.now in let kept = c.innermost-end.result in let until = c.min-until.result in
     let same = c.innermost-end.ensures in let is = c.min-until.ensures in let (le, reached, some, on) = c.loop-avp.invariant in
     are_open d (g.met.B.Book.sound c.args.book.now) o at (avps.sound_levels d u m o from at piece some)
+
+pub close-requires : goal.close-requires
+close-requires g c =
+    let d = g.B.Book.meaning c.args.book.now in let u = c.args.unknown in let m = c.args.levels in let o = c.loop-avp.open_levels in
+    let at = c.loop-avp.at in let from = c.args.from in let piece = c.args.piece.now in let kept = c.innermost-end.result in let until = c.min-until.result in
+    let same = c.innermost-end.ensures in let is = c.min-until.ensures in let (le, reached, some, on) = c.loop-avp.invariant in
+    ∥∥₁_map (are_open d (g.met.B.Book.sound c.args.book.now) o at (avps.sound_levels d u m o from at piece some)) (λ x. let (outer, level, now) = x in (definitions d, outer, level, now))
 
 pub fault-requires-in-Some : goal.fault-requires-in-Some
 fault-requires-in-Some g c =

@@ -57,8 +57,13 @@ overflow_add-end g c =
     omega (arith, p, small)) in
     omega (arith, small)
 
-pub open_group-requires : goal.open_group-requires
-open_group-requires g c = group_number (g.B.Book.meaning c.args.book.now) (g.met.B.Book.sound c.args.book.now) _ c.in-Some.group c.in-Some.ensures
+pub open_group-requires-clause-def : goal.open_group-requires-clause-def
+open_group-requires-clause-def g c = group_number (g.B.Book.meaning c.args.book.now) (g.met.B.Book.sound c.args.book.now) _ c.in-Some.group c.in-Some.ensures
+
+pub open_group-requires-clause-open : goal.open_group-requires-clause-open
+open_group-requires-clause-open g c = ∥∥₁_map c.requires (λ x. let (bytes, good, small, h) = x in
+    let admits = c.in_default-admit.ensures (map so_far h.under_way.rests) (so_far h.under_way.s) h.under_way.stands in
+    (map so_far h.under_way.rests, and_key (so_far h.under_way.s) c.head_key-key.result, admits.1))
 
 pub returns-in_err-open_group-clause-next : goal.returns-in_err-open_group-clause-next
 returns-in_err-open_group-clause-next g c bytes good h =

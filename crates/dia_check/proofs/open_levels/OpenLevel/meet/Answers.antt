@@ -12,8 +12,11 @@ use Rattle.dia_check.proofs.open_levels.OpenLevel.meet.Goals as goal
 no_rule : DRule
 no_rule = record { kind = Fixed; key = None; min = 0; max = None }
 
-pub first_unmet-requires : goal.first_unmet-requires
-first_unmet-requires c = (
+pub first_unmet-requires-clause-least : goal.first_unmet-requires-clause-least
+first_unmet-requires-clause-least c i rule from at = ∥∥₁_elim c.requires.counted (search props) (λ x. x.1.shape.least i rule from at)
+
+pub first_unmet-requires-clause-within : goal.first_unmet-requires-clause-within
+first_unmet-requires-clause-within c = (
   ∥∥₁_elim c.requires.counted (search props) (λ x. x.1.many),
   ∥∥₁_elim c.requires.counted le_prop (λ x. let (keys, counted, few) = x in
       to_within c.args.rules.now c.requires.rules keys c.args.key c.args.self.now c.args.counts.now counted c.lead-run.result.0 c.lead-run.result.1
@@ -103,8 +106,14 @@ pub returns : goal.returns
 returns c keys counted =
     let lt = (rule_within c.args.rules.now c.requires.rules keys c.args.key c.args.self.now c.args.counts.now counted c.lead-run.result.0 c.lead-run.result.1
     (c.lead-run.ensures c.args.rules.now keys c.args.key c.args.counts.now c.requires.rules counted c.requires.slot) c.in-Some-rule.rule c.in-Some-rule.is).0 in (
-      met_now c.args.rules.now c.requires.rules keys c.args.key c.args.self.now c.args.counts.now counted c.lead-run.result.0 c.lead-run.result.1
+      rw c.max-self.ensures (met_now c.args.rules.now c.requires.rules keys c.args.key c.args.self.now c.args.counts.now counted c.lead-run.result.0 c.lead-run.result.1
           (c.lead-run.ensures c.args.rules.now keys c.args.key c.args.counts.now c.requires.rules counted c.requires.slot) c.in_default.ensures c.in-Some-rule.rule c.in-Some-rule.is _
-          (slice_get-get_or c.args.rules.now c.in-Some-rule.rule _ lt) (no_max_of _ _ c.if-eq.ensures),
+          (slice_get-get_or c.args.rules.now c.in-Some-rule.rule _ lt) (no_max_of _ _ c.if-eq.ensures)),
       refl,
     )
+
+pub overflow_add-rule : goal.overflow_add-rule
+overflow_add-rule c = let within : c.in-Some-rule.rule < length c.args.rules.now = ∥∥₁_elim c.requires.counted le_prop (λ x. let (keys, counted, few) = x in
+    (rule_within c.args.rules.now c.requires.rules keys c.args.key c.args.self.now c.args.counts.now counted c.lead-run.result.0 c.lead-run.result.1
+    (c.lead-run.ensures c.args.rules.now keys c.args.key c.args.counts.now c.requires.rules counted c.requires.slot)
+    c.in-Some-rule.rule c.in-Some-rule.is).0) in omega (arith, within, c.requires.rules.few)

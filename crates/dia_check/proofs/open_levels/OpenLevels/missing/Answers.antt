@@ -28,25 +28,43 @@ returns c defs outer level now same =
 
 pub offset_bounds-deref-base : goal.offset_bounds-deref-base
 offset_bounds-deref-base c =
-    let within : c.args.self.now.innermost.base ≤ length c.args.self.now.counts.items = ∥∥₁_elim c.requires le_prop (λ x. let (defs, outer, level, now, same) = x in
+    let low : c.args.self.now.innermost.base ≤ c.args.self.now.innermost.top = ∥∥₁_elim c.requires le_prop (λ x. let (defs, outer, level, now, same) = x in
     (own_size defs c.args.self.now outer level c.args.self.now.counts.items now refl).1) in
+    let high : c.args.self.now.innermost.top ≤ length c.args.self.now.counts.items = ∥∥₁_elim c.requires le_prop (λ x. let (defs, outer, level, now, same) = x in
+    (own_size defs c.args.self.now outer level c.args.self.now.counts.items now refl).2) in
     search rules
 
-pub slice_bounds-first_unmet-count : goal.slice_bounds-first_unmet-count
-slice_bounds-first_unmet-count c =
-    let within : c.args.self.now.innermost.base ≤ length c.args.self.now.counts.items = ∥∥₁_elim c.requires le_prop (λ x. let (defs, outer, level, now, same) = x in
+pub slice_bounds-counts-count : goal.slice_bounds-counts-count
+slice_bounds-counts-count c =
+    let low : c.args.self.now.innermost.base ≤ c.args.self.now.innermost.top = ∥∥₁_elim c.requires le_prop (λ x. let (defs, outer, level, now, same) = x in
     (own_size defs c.args.self.now outer level c.args.self.now.counts.items now refl).1) in
+    let high : c.args.self.now.innermost.top ≤ length c.args.self.now.counts.items = ∥∥₁_elim c.requires le_prop (λ x. let (defs, outer, level, now, same) = x in
+    (own_size defs c.args.self.now outer level c.args.self.now.counts.items now refl).2) in
     search rules
 
-pub slice_bounds-first_unmet-start : goal.slice_bounds-first_unmet-start
-slice_bounds-first_unmet-start c =
-    let within : c.args.self.now.innermost.base ≤ length c.args.self.now.counts.items = ∥∥₁_elim c.requires le_prop (λ x. let (defs, outer, level, now, same) = x in
+pub slice_bounds-counts-start : goal.slice_bounds-counts-start
+slice_bounds-counts-start c =
+    let low : c.args.self.now.innermost.base ≤ c.args.self.now.innermost.top = ∥∥₁_elim c.requires le_prop (λ x. let (defs, outer, level, now, same) = x in
     (own_size defs c.args.self.now outer level c.args.self.now.counts.items now refl).1) in
+    let high : c.args.self.now.innermost.top ≤ length c.args.self.now.counts.items = ∥∥₁_elim c.requires le_prop (λ x. let (defs, outer, level, now, same) = x in
+    (own_size defs c.args.self.now outer level c.args.self.now.counts.items now refl).2) in
     search rules
 
-pub first_unmet-requires : goal.first_unmet-requires
-first_unmet-requires c = (
+pub slice_bounds-counts-end : goal.slice_bounds-counts-end
+slice_bounds-counts-end c =
+    let low : c.args.self.now.innermost.base ≤ c.args.self.now.innermost.top = ∥∥₁_elim c.requires le_prop (λ x. let (defs, outer, level, now, same) = x in
+    (own_size defs c.args.self.now outer level c.args.self.now.counts.items now refl).1) in
+    let high : c.args.self.now.innermost.top ≤ length c.args.self.now.counts.items = ∥∥₁_elim c.requires le_prop (λ x. let (defs, outer, level, now, same) = x in
+    (own_size defs c.args.self.now outer level c.args.self.now.counts.items now refl).2) in
+    search rules
+
+pub first_unmet-requires-clause-within : goal.first_unmet-requires-clause-within
+first_unmet-requires-clause-within c = (
   ∥∥₁_elim c.requires (search props) (λ x. let (defs, outer, level, now, same) = x in
       (own_counted defs c.args.self.now outer level c.args.rules.now c.deref.result.now now same c.deref.ensures.value).many),
   omega arith,
 )
+
+pub first_unmet-requires-clause-least : goal.first_unmet-requires-clause-least
+first_unmet-requires-clause-least c i rule from at = ∥∥₁_elim c.requires (search props) (λ x. let (defs, outer, level, now, same) = x in
+    (own_counted defs c.args.self.now outer level c.args.rules.now c.deref.result.now now same c.deref.ensures.value).shape.least i rule from at)

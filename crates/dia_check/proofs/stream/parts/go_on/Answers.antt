@@ -30,6 +30,10 @@ returns-then-at-end g c u most bytes good from =
 pub missing_at_end-requires : goal.missing_at_end-requires
 missing_at_end-requires g c = are_open (g.B.Book.meaning c.args.book.now) (g.met.B.Book.sound c.args.book.now) c.loop-open_levels.open_levels c.args.at c.loop-open_levels.invariant.0
 
+pub close-requires : goal.close-requires
+close-requires g c = ∥∥₁_map (are_open (g.B.Book.meaning c.args.book.now) (g.met.B.Book.sound c.args.book.now) c.loop-open_levels.open_levels c.args.at c.loop-open_levels.invariant.0)
+    (λ x. let (outer, level, now) = x in (definitions (g.B.Book.meaning c.args.book.now), outer, level, now))
+
 pub fault-requires : goal.fault-requires
 fault-requires g c =
     let few = end_few (g.B.Book.meaning c.args.book.now) (g.met.B.Book.sound c.args.book.now) c.loop-open_levels.open_levels c.args.at c.loop-open_levels.invariant.0 in
