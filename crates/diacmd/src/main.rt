@@ -7,8 +7,11 @@
 #[cfg(test)]
 mod tests;
 
-use dia_cli::{Ending, finish, open_inputs, parse_words};
-use dia_run::{Exit, ToWriter, run};
+use dia_cli::{
+    BASE_DICTIONARY, Ending, Origin, Origins, STANDARD_INPUT, finish, open_inputs, parse_words,
+};
+use dia_notes::{Words, explain};
+use dia_run::{Command, Exit, Inputs, ToWriter, run};
 use std::process::ExitCode;
 use std::rt::{Env, Files};
 use std::{env, io};
@@ -38,13 +41,47 @@ fn read_words<R: AllocGlobal + Env>(rt: &R) -> Result<Vec<String>, Ending<'stati
 /// Runs what the command line asks for.
 fn perform<'a, R>(rt: &R, words: &'a [String]) -> Result<Exit, Ending<'a>>
 where
-    R: AllocGlobal + Files + Input + Print,
+    R: AllocGlobal + Files + Input + Print + Eprint,
 {
     let request = parse_words(rt.alloc(), words)?;
-    let inputs = open_inputs(rt, &request.origins())?;
+    let origins = request.origins();
+    let inputs = open_inputs(rt, &origins)?;
+    let command = request.into_command();
     let mut sink = ToWriter::new(io::writer(rt));
-    match run(rt.alloc(), &request.into_command(), &inputs, &mut sink) {
-        Ok(exit) => Ok(exit),
+    match run(rt.alloc(), &command, &inputs, &mut sink) {
+        Ok(exit) => {
+            note(rt, &command, &origins, &inputs, exit);
+            Ok(exit)
+        }
         Err(fault) => Err(Ending::of_run(fault, "standard output", sink.failure())),
+    }
+}
+
+/// Explains on standard error how a command ended. Where memory or the device fails, there is no note.
+fn note<R: AllocGlobal + Eprint>(
+    rt: &R,
+    command: &Command,
+    origins: &Origins<'_>,
+    inputs: &Inputs,
+    exit: Exit,
+) {
+    let words = Words {
+        first: word_of(origins.first),
+        second: word_of(origins.second),
+        table: word_of(origins.table),
+        message: word_of(origins.message),
+    };
+    if let Ok(text) = explain(rt.alloc(), command, &words, inputs, exit) {
+        let _ = eprint!(rt; "{text}");
+    }
+}
+
+/// The word that names an input.
+fn word_of(origin: Origin<'_>) -> &str {
+    match origin {
+        Origin::Nowhere => "",
+        Origin::Base => BASE_DICTIONARY,
+        Origin::StandardInput { .. } => STANDARD_INPUT,
+        Origin::File { path, .. } => path,
     }
 }
