@@ -1,0 +1,36 @@
+-- What the AVPs take that the sender's side sends.
+use Rattle.std.specs.Prelude.{◌≡◌, ℕ, ⊤, min, max, List, [], ◌∷◌, map, Option, Some, None, slice_get}
+use Rattle.std.specs.List.Sorted.{IsPermutation, IsNonDecreasingBy}
+use Rattle.std.specs.Option.{option_map_or}
+use Rattle.dia_wire.specs.declared.Key.{Key}
+use Rattle.dia_book.specs.Dictionary.{Dictionary, entry_of}
+use Rattle.dia_policy.specs.declared.Sends.{Sends}
+use Rattle.dia_policy.specs.declared.Sends.TheVariants.{Any, Known, Listed}
+use Rattle.dia_least.specs.Floors.{shortest_head}
+use Rattle.dia_levels.specs.LevelTests.{too_long}
+
+-- an AVP that the dictionary doesn't know
+abbrev pub unknown_length : Sends → Key → ℕ
+unknown_length Any key = shortest_head key
+unknown_length Known key = too_long
+unknown_length Listed key = too_long
+
+-- where the entries have these lengths, from 8 to `too_long`
+abbrev pub length_of_entry : List ℕ → ℕ → ℕ
+length_of_entry lengths e = option_map_or (λ n. min (max n 8) too_long) (slice_get lengths e) too_long
+
+abbrev pub listed_length : Dictionary → Sends → List ℕ → Key → ℕ
+listed_length d who lengths key = option_map_or (length_of_entry lengths) (entry_of d key) (unknown_length who key)
+
+-- through a wildcard
+abbrev pub other_length : Dictionary → Sends → List ℕ → Key → ℕ
+other_length d Any lengths key = listed_length d Any lengths key
+other_length d Known lengths key = listed_length d Known lengths key
+other_length d Listed lengths key = too_long
+
+-- the keys that a wildcard lets in, so that the first that no rule lists is one of a shortest AVP: one that neither dictionary knows,
+-- or those that the sender's knows, in order
+abbrev pub AreOthers : Dictionary → Dictionary → Sends → List ℕ → List Key → Type 0
+AreOthers da db Any lengths keys = (key : Key) × (keys ≡ key ∷ []) × (key.vendor ≡ 0) × (entry_of da key ≡ None) × (entry_of db key ≡ None)
+AreOthers da db Known lengths keys = IsNonDecreasingBy (listed_length da Known lengths) keys × IsPermutation (map (λ e. e.key) da.entries) keys
+AreOthers da db Listed lengths keys = ⊤

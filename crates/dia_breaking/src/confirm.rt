@@ -1,0 +1,146 @@
+//! Messages of lines, checked under both dictionaries.
+ghost use Rattle.std.specs.Prelude.{◌≡◌, ◌↔◌, IfOk, IfSome, IsTrue};
+ghost use Rattle.dia_policy.specs.declared.Levels.TheVariants.{Any};
+ghost use Rattle.dia_check.specs.Valid.{IsValid, IsValidOf};
+ghost use Rattle.dia_sites.specs.Sent.{own_policy};
+ghost use Rattle.dia_breaking.specs.Confirmed.{IsConfirmed};
+
+use crate::line::{Breaks, Cause, Line, Standing};
+use crate::upgrade::Upgrade;
+use dia_book::{Book, DefId};
+use dia_check::{Levels, Refusal, check};
+use dia_policy::{Sends, Unknown};
+use std::alloc::{AllocError, Global};
+
+/// The most bytes of a message that is checked.
+const MOST_CHECKED: u64 = 1 << 20;
+
+/// The most bytes of all messages of a command that are checked.
+const MOST_CHECKED_TOGETHER: u64 = 1 << 24;
+
+impl<'a, A: Book, B: Book> Upgrade<'a, A, B> {
+    /// The message of a line, where checks under both dictionaries show that it breaks the command. The error comes only where
+    /// memory was refused.
+    pub fn confirmed_message(
+        &self,
+        alloc: Global,
+        breaks: &Breaks,
+        line: &Line,
+    ) -> Result<Option<Vec<u8>>, AllocError>
+        ensures { IfOk result (λ found. IfSome found (λ bytes. IsConfirmed
+            (A.meaning self.now.a.now) (B.meaning self.now.b.now)
+            self.now.sends self.now.unknown bytes.items breaks.now.command)) }
+    {
+        let bytes = self.message(alloc, breaks, line)?;
+        if self.is_confirmed(alloc, breaks.command, &bytes)? {
+            Ok(Some(bytes))
+        } else {
+            Ok(None)
+        }
+    }
+
+    fn is_confirmed(&self, alloc: Global, command: DefId, bytes: &[u8]) -> Result<bool, AllocError>
+        ensures { IfOk result (λ yes. IsTrue yes → IsConfirmed
+            (A.meaning self.now.a.now) (B.meaning self.now.b.now)
+            self.now.sends self.now.unknown bytes.now command) }
+    {
+        let sent = is_message_of(alloc, self.a, own_policy(self.sends), command, bytes)?;
+        let accepted = is_valid(alloc, self.b, self.unknown, bytes)?;
+        Ok(sent && !accepted)
+    }
+
+    /// The lines with what is known of each.
+    pub(crate) fn with_standings(
+        &self,
+        alloc: Global,
+        breaks: Breaks,
+    ) -> Result<Breaks, AllocError> {
+        let mut lines = Vec::new(alloc);
+        let mut left = MOST_CHECKED_TOGETHER;
+        for line in &breaks.lines {
+            let standing = self.standing(alloc, &breaks, line, left)?;
+            if standing != Standing::Unchecked {
+                left = left.saturating_sub(line.length);
+            }
+            lines.push(Line { standing, ..*line })?;
+        }
+        Ok(Breaks { lines, ..breaks })
+    }
+
+    fn standing(
+        &self,
+        alloc: Global,
+        breaks: &Breaks,
+        line: &Line,
+        left: u64,
+    ) -> Result<Standing, AllocError> {
+        if let Cause::LevelAsLeaf { .. } = line.cause {
+            return Ok(Standing::Undecided);
+        }
+        if line.length > MOST_CHECKED || line.length > left {
+            return Ok(Standing::Unchecked);
+        }
+        match self.confirmed_message(alloc, breaks, line)? {
+            Some(_) => Ok(Standing::Confirmed),
+            None => Ok(Standing::Undecided),
+        }
+    }
+}
+
+/// What a sender does with AVPs that its dictionary doesn't know.
+fn own_policy(sends: Sends) -> Unknown
+    ensures { result ≡ own_policy sends }
+{
+    match sends {
+        Sends::Any => Unknown::Kept,
+        Sends::Known => Unknown::Refused,
+        Sends::Listed => Unknown::Refused,
+    }
+}
+
+/// Whether the bytes are a valid message of the command.
+fn is_message_of<B: Book>(
+    alloc: Global,
+    book: &B,
+    unknown: Unknown,
+    command: DefId,
+    bytes: &[u8],
+) -> Result<bool, AllocError>
+    ensures { IfOk result
+        (λ yes. IsTrue yes → IsValidOf (B.meaning book.now) unknown Any bytes.now command) }
+{
+    match check(alloc, book, unknown, Levels::Any, bytes) {
+        Ok(found) => {
+            if found.def == command {
+                Ok(true)
+            } else {
+                Ok(false)
+            }
+        }
+        Err(Refusal::NoMemory) => Err(AllocError),
+        Err(Refusal::Fault(_)) => Ok(false),
+        Err(Refusal::Truncated) => Ok(false),
+        Err(Refusal::Trailing) => Ok(false),
+        Err(Refusal::Spent) => Ok(false),
+    }
+}
+
+/// Whether the bytes are a valid message.
+fn is_valid<B: Book>(
+    alloc: Global,
+    book: &B,
+    unknown: Unknown,
+    bytes: &[u8],
+) -> Result<bool, AllocError>
+    ensures { IfOk result
+        (λ yes. IsTrue yes ↔ IsValid (B.meaning book.now) unknown Any bytes.now) }
+{
+    match check(alloc, book, unknown, Levels::Any, bytes) {
+        Ok(_) => Ok(true),
+        Err(Refusal::NoMemory) => Err(AllocError),
+        Err(Refusal::Fault(_)) => Ok(false),
+        Err(Refusal::Truncated) => Ok(false),
+        Err(Refusal::Trailing) => Ok(false),
+        Err(Refusal::Spent) => Ok(false),
+    }
+}

@@ -1,0 +1,22 @@
+//! Everything that can break where messages of one dictionary are read by another.
+//!
+//! A line says one way to break, with a shortest message for it: `Upgrade::breaks` finds the lines of a command,
+//! `Upgrade::push_words` writes one, and `Upgrade::message` makes its message.
+#![tactic(auto)]
+
+mod books;
+mod confirm;
+mod heads;
+mod keys;
+mod lengths;
+mod levels;
+mod line;
+mod lines;
+mod message;
+mod upgrade;
+mod walk;
+mod words;
+
+pub use dia_policy::{Sends, Unknown};
+pub use line::{Breaks, Cause, Line, Place, Site, Standing};
+pub use upgrade::Upgrade;

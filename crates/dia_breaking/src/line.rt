@@ -1,0 +1,87 @@
+//! The lines of a command, and the sites at which they stand.
+use dia_book::{Class, DefId, Key};
+use dia_levels::Line as LevelLine;
+use dia_witness::Witness;
+
+/// Where a level of a message is read: by a definition of A and one of B.
+#[derive(Clone, Copy, Debug, PartialEq, Eq)]
+pub enum Place {
+    /// The level of the command itself, in messages of this application.
+    Command {
+        app: u32,
+        /// Whether B's definition is for this application alone, and A's for more.
+        is_told: bool,
+        /// Whether P is set.
+        proxiable: bool,
+    },
+    /// The data of an AVP that is Grouped in both, in a level of another site.
+    Group {
+        key: Key,
+        outer: usize,
+    },
+}
+
+/// A place, with what a message that has a level there takes at least around it, without its header.
+#[derive(Clone, Copy, Debug, PartialEq, Eq)]
+pub struct Site {
+    pub place: Place,
+    pub way: u64,
+    /// Whether B's side reads a level there.
+    pub is_read: bool,
+}
+
+/// What breaks.
+#[derive(Clone, Copy, Debug)]
+pub enum Cause {
+    /// B has no command of the code and the class.
+    Command,
+    /// B has no command of them for the application.
+    Application,
+    /// The P flag.
+    Proxiable { set: bool },
+    /// How often AVPs stand in the level, or in which order.
+    Level(LevelLine),
+    /// B doesn't know the AVP, and refuses it with this M flag.
+    Unknown { key: Key, m: bool },
+    /// B's rule forbids this M flag.
+    MBit { key: Key, m: bool },
+    /// B refuses the data: these, or where none are told those of a shortest AVP.
+    Format { key: Key, data: Option<Witness> },
+    /// B reads AVPs as a leaf, and accepts those of a shortest AVP. Whether it accepts all isn't known.
+    LevelAsLeaf { key: Key },
+}
+
+/// What is known of a line.
+#[derive(Clone, Copy, Debug, PartialEq, Eq)]
+pub enum Standing {
+    /// Its message was checked: it is sent, and B's side refuses it.
+    Confirmed,
+    /// Its message is too long to be checked beside the others.
+    Unchecked,
+    /// No message of it is known that breaks.
+    Undecided,
+}
+
+/// A way to break the messages of a command.
+#[derive(Clone, Copy, Debug)]
+pub struct Line {
+    /// The place of its site among those of the command.
+    pub site: usize,
+    pub cause: Cause,
+    /// What the AVPs of its message take, in bytes.
+    pub length: u64,
+    pub standing: Standing,
+    /// The line's place among those of its site.
+    pub(crate) rank: (u8, usize),
+}
+
+/// What can break the messages of a command: the lines in their order, and the sites, those with the shortest way first.
+#[derive(Debug, Drop)]
+pub struct Breaks {
+    /// The command of A.
+    pub command: DefId,
+    pub code: u32,
+    pub class: Class,
+    pub sites: Vec<Site>,
+    pub lines: Vec<Line>,
+}

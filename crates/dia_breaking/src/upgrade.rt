@@ -1,0 +1,71 @@
+//! Two dictionaries, with what is the same for all commands.
+ghost use Rattle.std.specs.Prelude.{◌≡◌, ◌<◌, ℕ, length};
+ghost use Rattle.dia_book.specs.Dictionary.{definitions};
+ghost use Rattle.dia_compat.specs.Tests.{rules_in};
+ghost use Rattle.dia_levels.specs.Levels.{FirstIsShortest};
+ghost use Rattle.dia_breaking.specs.Lengths.{other_length};
+
+use crate::heads::{BothApps, Head, head_of};
+use crate::keys::Telling;
+use crate::lengths::Lengths;
+use crate::line::Breaks;
+use dia_book::{Book, Class, DefId};
+use dia_policy::{Sends, Unknown};
+use std::alloc::{AllocError, Global};
+
+/// Messages of A's side that B's side reads.
+#[derive(Drop)]
+pub struct Upgrade<'a, A: Book, B: Book> {
+    pub(crate) a: &'a A,
+    pub(crate) b: &'a B,
+    pub(crate) sends: Sends,
+    pub(crate) unknown: Unknown,
+    pub(crate) lengths: Lengths<'a, A>,
+    pub(crate) telling: Box<Telling>,
+    pub(crate) apps: Box<BothApps>,
+    ghost same: { lengths.book.now ≡ a.now },
+    ghost shortest: { (x y : ℕ) → FirstIsShortest (other_length (A.meaning a.now) lengths.sends
+        lengths.entries.items) lengths.others.items
+        (rules_in (A.meaning a.now) x) (rules_in (B.meaning b.now) y) },
+}
+
+impl<'a, A: Book, B: Book> Upgrade<'a, A, B> {
+    /// What A's side sends, read under B by a side that has this policy for AVPs that it doesn't know. The error comes only where
+    /// memory was refused.
+    pub fn new(
+        alloc: Global,
+        a: &'a A,
+        b: &'a B,
+        sends: Sends,
+        unknown: Unknown,
+    ) -> Result<Self, AllocError> {
+        let lengths = Lengths::new(alloc, a, b, sends)?;
+        let telling = Box::new(alloc, Telling::new(alloc, a, b, sends, unknown)?)?;
+        let apps = Box::new(alloc, BothApps::new(alloc, a, b)?)?;
+        Ok(Upgrade {
+            a,
+            b,
+            sends,
+            unknown,
+            lengths,
+            telling,
+            apps,
+        })
+    }
+
+    /// All that can break the messages of a command of A. The error comes only where memory was refused.
+    pub fn breaks(&self, alloc: Global, command: DefId) -> Result<Breaks, AllocError>
+        requires { command < length (definitions (A.meaning self.now.a.now)) }
+    {
+        match head_of(self.a, command) {
+            Some(head) => self.lines_of(alloc, command, &head),
+            None => Ok(Breaks {
+                command,
+                code: 0,
+                class: Class::Answer,
+                sites: Vec::new(alloc),
+                lines: Vec::new(alloc),
+            }),
+        }
+    }
+}
