@@ -18,16 +18,16 @@ found_at (Some b) f g name rows P named read h =
 
 -- what holds of a request holds of it where it is read once
 pub read_keeps : (request : Request) (read : Result Request Ending) (P : Request → Type 0) → read ≡ read_once request → P request → IfOk read P
-read_keeps request read P is h = subst (λ r. IfOk r P) (sym is) (go (reads_twice (origins_of request)))
+read_keeps request read P is h = subst (λ r. IfOk r P) (sym is) (go (reads_twice (origins_of request.subcommand)))
   where
     go : (twice : Bool) → IfOk (if twice then Err ReadTwice else Ok request) P
     go true = tt
     go false = h
 
-pub read_is_once : (request : Request) (read : Result Request Ending) → read ≡ read_once request → IfOk read (λ made. reads_twice (origins_of made) ≡ false)
-read_is_once request read is = subst (λ r. IfOk r (λ made. reads_twice (origins_of made) ≡ false)) (sym is) (go (reads_twice (origins_of request)) refl)
+pub read_is_once : (request : Request) (read : Result Request Ending) → read ≡ read_once request → IfOk read (λ made. reads_twice (origins_of made.subcommand) ≡ false)
+read_is_once request read is = subst (λ r. IfOk r (λ made. reads_twice (origins_of made.subcommand) ≡ false)) (sym is) (go (reads_twice (origins_of request.subcommand)) refl)
   where
-    go : (twice : Bool) → reads_twice (origins_of request) ≡ twice
-        → IfOk (if twice then Err ReadTwice else Ok request) (λ made. reads_twice (origins_of made) ≡ false)
+    go : (twice : Bool) → reads_twice (origins_of request.subcommand) ≡ twice
+        → IfOk (if twice then Err ReadTwice else Ok request) (λ made. reads_twice (origins_of made.subcommand) ≡ false)
     go true e = tt
     go false e = e

@@ -2,6 +2,7 @@
 use Rattle.std.specs.Prelude.{ℕ, nat_lt, Bool, true, false, if◌then◌else◌, List, [], ◌∷◌, count_by, codes}
 use Rattle.std.specs.Borrow.{Bor}
 use Rattle.std.specs.Str.{bytes_eq}
+use Rattle.clap.specs.Lexer.{usize_max}
 use Rattle.dia_ccf.specs.Limits.{max_text}
 use Rattle.dia_policy.specs.Limits.{max_table}
 use Rattle.dia_policy.specs.Limits.{max_message_text}
@@ -23,11 +24,15 @@ table_origin word = origin_within word max_table
 abbrev pub message_origin : Bor (List ℕ) → Origin
 message_origin word = origin_within word max_message_text
 
+-- messages that are read a piece at a time have no limit
+abbrev pub messages_origin : Bor (List ℕ) → Origin
+messages_origin word = origin_within word usize_max
+
 abbrev pub is_standard_input : Origin → Bool
 is_standard_input (StandardInput limit) = true
 is_standard_input origin = false
 
--- two of the texts are standard input, which can be read once
+-- two of the inputs are standard input, which can be read once
 abbrev pub reads_twice : Origins → Bool
 reads_twice origins = nat_lt 1 (count_by is_standard_input
-    (origins.first ∷ origins.second ∷ origins.table ∷ origins.message ∷ []))
+    (origins.first ∷ origins.second ∷ origins.table ∷ origins.message ∷ origins.messages ∷ []))

@@ -1,16 +1,17 @@
 //! The words of the command line.
 
-ghost use Rattle.std.specs.Prelude.{◌≡◌, IfOk, IfSome, IsSomeAnd, codes};
+ghost use Rattle.std.specs.Prelude.{◌≡◌, IfOk, IfSome, IsSomeAnd, Some, codes};
 ghost use Rattle.std.specs.Prelude.{false, map, option_map, string_bytes};
 ghost use Rattle.clap.specs.Walk.{texts};
-ghost use Rattle.clap.specs.Words.{found_of, rows_of, subcommand_rows_of};
+ghost use Rattle.clap.specs.Words.{found_of, first_of, rows_of, subcommand_rows_of};
 ghost use Rattle.dia_cli.specs.Origins.{reads_twice};
 ghost use Rattle.dia_cli.specs.Request.{origins_of, read_once};
-ghost use Rattle.dia_cli.specs.Words.{ArePair, IsAskedBy, IsLimitOf, IsRequestOf, policy_word};
+ghost use Rattle.dia_cli.specs.Words.{ArePair, IsAskedBy, IsLimitOf, IsRequestOf};
+ghost use Rattle.dia_cli.specs.Words.{AreJudged, IsSubcommandOf, flag_word, policy_word};
 
 use crate::ending::Ending;
 use crate::line::command_line;
-use crate::request::Request;
+use crate::request::{Request, Subcommand};
 use clap::ArgMatches;
 use clap::error::ErrorKind;
 use dia_policy::{Levels, Unknown};
@@ -23,7 +24,7 @@ static POLICIES: [&str; 2] = ["kept", "refused"];
 /// Reads the words, the program's own name first.
 pub fn parse_words<'a, S: AsStr>(alloc: Global, words: &'a [S]) -> Result<Request<'a>, Ending<'a>>
     ensures words { IfOk result (λ request. IsAskedBy (map S.text words.entry.now) request) }
-    ensures once { IfOk result (λ request. reads_twice (origins_of request) ≡ false) }
+    ensures once { IfOk result (λ request. reads_twice (origins_of request.subcommand) ≡ false) }
 {
     let mut line = command_line(alloc, POLICIES.as_slice())?;
     let matches = line.try_get_matches_from_mut(words)?;
@@ -38,19 +39,49 @@ fn asked<'a>(
 ) -> Result<Request<'a>, Ending<'a>>
     ensures words { IfOk result
         (λ request. IsSomeAnd (subcommand_rows_of matches.now) (IsRequestOf request)) }
-    ensures once { IfOk result (λ request. reads_twice (origins_of request) ≡ false) }
+    ensures once { IfOk result (λ request. reads_twice (origins_of request.subcommand) ≡ false) }
 {
     match request_of(alloc, matches) {
-        Some(Ok(request)) => read_once(request),
-        Some(Err(error)) => Err(Ending::from(error)),
+        Ok(request) => read_once(request),
+        Err(Unasked::NoMemory) => Err(Ending::NoMemory),
+        Err(Unasked::BothForms) => Err(refused(
+            line,
+            ErrorKind::ArgumentConflict,
+            "the argument '--lines' cannot be used with '--stream'",
+        )),
         // Never reached: the command line requires a subcommand, and each subcommand requires its arguments.
-        None => Err(asks_for_nothing(line)),
+        Err(Unasked::Nothing) => Err(refused(
+            line,
+            ErrorKind::MissingSubcommand,
+            "the words ask for nothing",
+        )),
     }
 }
 
-/// The ending where the words ask for nothing.
-fn asks_for_nothing<'a>(line: &mut clap::Command<'a>) -> Ending<'a> {
-    match line.error(ErrorKind::MissingSubcommand, "the words ask for nothing") {
+/// Why arguments that clap found are no request.
+#[derive(Clone, Copy, Debug, PartialEq, Eq)]
+enum Unasked {
+    /// `--lines` and `--stream` are both given.
+    BothForms,
+    /// They are no subcommand with its arguments.
+    Nothing,
+    NoMemory,
+}
+
+impl From<AllocError> for Unasked {
+    ghost use Rattle.std.specs.Prelude.{◌≡◌};
+    ghost use Rattle.dia_cli.specs.declared.arguments.Unasked.TheVariants.{NoMemory};
+
+    ghost from_gives = { λ _ fault. fault ≡ NoMemory };
+
+    fn from(_error: AllocError) -> Unasked {
+        Unasked::NoMemory
+    }
+}
+
+/// The ending where clap accepts the words, and they are refused.
+fn refused<'a>(line: &mut clap::Command<'a>, kind: ErrorKind, why: &str) -> Ending<'a> {
+    match line.error(kind, why) {
         Ok(error) => Ending::from(error),
         Err(error) => Ending::from(error),
     }
@@ -67,66 +98,110 @@ fn read_once(request: Request<'_>) -> Result<Request<'_>, Ending<'_>>
     }
 }
 
-/// The request of the arguments that clap found, or out of memory. `None` where they are no subcommand with its arguments.
-fn request_of<'a>(
-    alloc: Global,
-    matches: &ArgMatches<'a>,
-) -> Option<Result<Request<'a>, AllocError>>
-    ensures { IfSome result (λ made. IfOk made
-        (λ request. IsSomeAnd (subcommand_rows_of matches.now) (IsRequestOf request))) }
+/// The request of the arguments that clap found.
+fn request_of<'a>(alloc: Global, matches: &ArgMatches<'a>) -> Result<Request<'a>, Unasked>
+    ensures { IfOk result
+        (λ request. IsSomeAnd (subcommand_rows_of matches.now) (IsRequestOf request)) }
 {
-    match matches.subcommand()? {
-        ("show", inner) => Some(Ok(show_request(inner)?)),
-        ("check", inner) => Some(Ok(check_request(inner)?)),
-        ("render", inner) => Some(Ok(render_request(inner)?)),
-        ("compare", inner) => Some(Ok(compare_request(inner)?)),
-        ("refute", inner) => Some(Ok(refute_request(inner)?)),
-        ("propose", inner) => propose_request(alloc, inner),
-        _ => None,
+    let (name, found) = matches.subcommand().ok_or(Unasked::Nothing)?;
+    let quiet = flag_of(found, "quiet").ok_or(Unasked::Nothing)?;
+    let subcommand = subcommand_of(alloc, name, found)?;
+    Ok(Request { subcommand, quiet })
+}
+
+/// The subcommand of this name.
+fn subcommand_of<'a>(
+    alloc: Global,
+    name: &str,
+    found: &ArgMatches<'a>,
+) -> Result<Subcommand<'a>, Unasked>
+    ensures { IfOk result (λ made. IsSubcommandOf made (name.now, rows_of (found_of found.now))) }
+{
+    match name {
+        "show" => show_of(found).ok_or(Unasked::Nothing),
+        "check" => check_of(found),
+        "render" => render_of(found).ok_or(Unasked::Nothing),
+        "compare" => compare_of(found).ok_or(Unasked::Nothing),
+        "refute" => refute_of(found).ok_or(Unasked::Nothing),
+        "propose" => propose_of(alloc, found),
+        _ => Err(Unasked::Nothing),
     }
 }
 
-/// The request of the arguments found for `show`.
-fn show_request<'a>(found: &ArgMatches<'a>) -> Option<Request<'a>>
+/// `show` with the arguments that were found.
+fn show_of<'a>(found: &ArgMatches<'a>) -> Option<Subcommand<'a>>
     ensures { IfSome result
-        (λ request. IsRequestOf request (codes "show", rows_of (found_of found.now))) }
+        (λ made. IsSubcommandOf made (codes "show", rows_of (found_of found.now))) }
 {
-    Some(Request::Show {
+    Some(Subcommand::Show {
         dictionary: found.get_str("dict")?,
         message: found.get_str("MESSAGE")?,
     })
 }
 
-/// The request of the arguments found for `check`.
-fn check_request<'a>(found: &ArgMatches<'a>) -> Option<Request<'a>>
-    ensures { IfSome result
-        (λ request. IsRequestOf request (codes "check", rows_of (found_of found.now))) }
+/// `check` with the arguments that were found.
+fn check_of<'a>(found: &ArgMatches<'a>) -> Result<Subcommand<'a>, Unasked>
+    ensures { IfOk result
+        (λ made. IsSubcommandOf made (codes "check", rows_of (found_of found.now))) }
 {
-    Some(Request::Check {
-        unknown: policy_of(found.get_str("unknown")?)?,
-        levels: limit_of(found.get_str("levels"))?,
+    let lines = flag_of(found, "lines").ok_or(Unasked::Nothing)?;
+    let stream = flag_of(found, "stream").ok_or(Unasked::Nothing)?;
+    let (unknown, levels, dictionary, message) = checked_of(found).ok_or(Unasked::Nothing)?;
+    match (lines, stream) {
+        (false, false) => Ok(Subcommand::Check {
+            unknown,
+            levels,
+            dictionary,
+            message,
+        }),
+        (true, false) => Ok(Subcommand::CheckLines {
+            unknown,
+            levels,
+            dictionary,
+            messages: message,
+        }),
+        (false, true) => Ok(Subcommand::CheckStream {
+            unknown,
+            levels,
+            dictionary,
+            messages: message,
+        }),
+        (true, true) => Err(Unasked::BothForms),
+    }
+}
+
+/// The policies of `check`, and where its inputs come from.
+fn checked_of<'a>(found: &ArgMatches<'a>) -> Option<(Unknown, Levels, &'a str, &'a str)>
+    ensures { IfSome result
+        (λ made. AreJudged made.0 made.1 made.2 made.3 (rows_of (found_of found.now))) }
+{
+    let unknown = policy_of(found.get_str("unknown")?)?;
+    let levels = limit_of(found.get_str("levels"))?;
+    Some((
+        unknown,
+        levels,
+        found.get_str("D")?,
+        found.get_str("MESSAGE")?,
+    ))
+}
+
+/// `render` with the arguments that were found.
+fn render_of<'a>(found: &ArgMatches<'a>) -> Option<Subcommand<'a>>
+    ensures { IfSome result
+        (λ made. IsSubcommandOf made (codes "render", rows_of (found_of found.now))) }
+{
+    Some(Subcommand::Render {
         dictionary: found.get_str("D")?,
-        message: found.get_str("MESSAGE")?,
     })
 }
 
-/// The request of the arguments found for `render`.
-fn render_request<'a>(found: &ArgMatches<'a>) -> Option<Request<'a>>
+/// `compare` with the arguments that were found.
+fn compare_of<'a>(found: &ArgMatches<'a>) -> Option<Subcommand<'a>>
     ensures { IfSome result
-        (λ request. IsRequestOf request (codes "render", rows_of (found_of found.now))) }
-{
-    Some(Request::Render {
-        dictionary: found.get_str("D")?,
-    })
-}
-
-/// The request of the arguments found for `compare`.
-fn compare_request<'a>(found: &ArgMatches<'a>) -> Option<Request<'a>>
-    ensures { IfSome result
-        (λ request. IsRequestOf request (codes "compare", rows_of (found_of found.now))) }
+        (λ made. IsSubcommandOf made (codes "compare", rows_of (found_of found.now))) }
 {
     let (unknown, first, second) = pair_of(found)?;
-    Some(Request::Compare {
+    Some(Subcommand::Compare {
         unknown,
         first,
         second,
@@ -134,39 +209,47 @@ fn compare_request<'a>(found: &ArgMatches<'a>) -> Option<Request<'a>>
     })
 }
 
-/// The request of the arguments found for `refute`.
-fn refute_request<'a>(found: &ArgMatches<'a>) -> Option<Request<'a>>
+/// `refute` with the arguments that were found.
+fn refute_of<'a>(found: &ArgMatches<'a>) -> Option<Subcommand<'a>>
     ensures { IfSome result
-        (λ request. IsRequestOf request (codes "refute", rows_of (found_of found.now))) }
+        (λ made. IsSubcommandOf made (codes "refute", rows_of (found_of found.now))) }
 {
     let (unknown, first, second) = pair_of(found)?;
-    Some(Request::Refute {
-        unknown,
-        levels: limit_of(found.get_str("levels"))?,
-        first,
-        second,
-        message: found.get_str("MESSAGE")?,
-    })
-}
-
-/// The request of the arguments found for `propose`.
-fn propose_request<'a>(
-    alloc: Global,
-    found: &ArgMatches<'a>,
-) -> Option<Result<Request<'a>, AllocError>>
-    ensures { IfSome result (λ made. IfOk made
-        (λ request. IsRequestOf request (codes "propose", rows_of (found_of found.now)))) }
-{
-    let (unknown, first, second) = pair_of(found)?;
-    match copies_of(alloc, found.get_strs("COMMAND")?) {
-        Ok(names) => Some(Ok(Request::Propose {
+    let levels = limit_of(found.get_str("levels"))?;
+    let message = found.get_str("MESSAGE")?;
+    if flag_of(found, "lines")? {
+        Some(Subcommand::RefuteLines {
             unknown,
+            levels,
             first,
             second,
-            names,
-        })),
-        Err(error) => Some(Err(error)),
+            messages: message,
+        })
+    } else {
+        Some(Subcommand::Refute {
+            unknown,
+            levels,
+            first,
+            second,
+            message,
+        })
     }
+}
+
+/// `propose` with the arguments that were found.
+fn propose_of<'a>(alloc: Global, found: &ArgMatches<'a>) -> Result<Subcommand<'a>, Unasked>
+    ensures { IfOk result
+        (λ made. IsSubcommandOf made (codes "propose", rows_of (found_of found.now))) }
+{
+    let (unknown, first, second) = pair_of(found).ok_or(Unasked::Nothing)?;
+    let words = found.get_strs("COMMAND").ok_or(Unasked::Nothing)?;
+    let names = copies_of(alloc, words)?;
+    Ok(Subcommand::Propose {
+        unknown,
+        first,
+        second,
+        names,
+    })
 }
 
 fn copies_of(alloc: Global, words: &[&str]) -> Result<Vec<String>, AllocError>
@@ -194,6 +277,18 @@ fn policy_of(word: &str) -> Option<Unknown>
     match word {
         "kept" => Some(Unknown::Kept),
         "refused" => Some(Unknown::Refused),
+        _ => None,
+    }
+}
+
+/// Whether the option of this id was given, which has no value.
+fn flag_of(found: &ArgMatches<'_>, id: &str) -> Option<bool>
+    ensures { IfSome result (λ given.
+        first_of id.now (rows_of (found_of found.now)) ≡ Some (flag_word given)) }
+{
+    match found.get_str(id)? {
+        "true" => Some(true),
+        "false" => Some(false),
         _ => None,
     }
 }

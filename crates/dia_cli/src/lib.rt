@@ -9,7 +9,10 @@
 //! let request = parse_words(alloc, words.as_slice())?;
 //! let inputs = open_inputs(&rt, &request.origins())?;
 //! let mut sink = ToWriter::new(Vec::new(alloc));
-//! let exit = run(alloc, &request.into_command(), &inputs, &mut sink)?;
+//! let Task::Whole(command) = request.into_task() else {
+//!     return Err(Fail::from("the words ask for another run"));
+//! };
+//! let exit = run(alloc, &command, &inputs, &mut sink)?;
 //! assert_eq!(rt; exit, Exit::No);
 //! assert!(rt; sink.writer.as_slice() == b"truncated\n".as_slice());
 //! ```
@@ -28,4 +31,4 @@ pub use arguments::parse_words;
 pub use ending::{Ending, finish};
 pub use opening::open_inputs;
 pub use origin::{BASE_DICTIONARY, Origin, Origins, STANDARD_INPUT};
-pub use request::Request;
+pub use request::{Request, Subcommand};

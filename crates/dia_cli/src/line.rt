@@ -3,14 +3,15 @@
 ghost use Rattle.std.specs.Prelude.{◌≡◌, IfOk, false};
 ghost use Rattle.clap.specs.Simple.{Shape, with_subcommand};
 ghost use Rattle.clap.specs.Words.{app_of, rule_of};
-ghost use Rattle.dia_cli.specs.Words.{IsLine, check_shape, compare_shape, dict_rule};
-ghost use Rattle.dia_cli.specs.Words.{levels_rule, line_shape, pair_app, program_app};
-ghost use Rattle.dia_cli.specs.Words.{propose_shape, refute_shape, render_shape, show_shape};
+ghost use Rattle.dia_cli.specs.Words.{IsLine, check_app, check_shape};
+ghost use Rattle.dia_cli.specs.Words.{compare_shape, dict_rule, flag_rule, levels_rule, line_shape};
+ghost use Rattle.dia_cli.specs.Words.{pair_app, program_app, propose_shape, quiet_app};
+ghost use Rattle.dia_cli.specs.Words.{refute_shape, render_shape, show_shape};
 ghost use Rattle.dia_cli.specs.Words.{unknown_rule, with_pairs, word_rule, words_rule};
 
 use crate::origin::BASE_DICTIONARY;
-use clap::Arg;
 use clap::builder::ValueParser;
+use clap::{Arg, ArgAction};
 use std::alloc::{AllocError, Global};
 
 /// The program's version.
@@ -32,6 +33,16 @@ const SECOND: &str = "The second dictionary text: a file, @base, or - for standa
 const TABLE: &str = "A table of pairs of names: a file, or - for standard input";
 
 const MESSAGE: &str = "A file of hexadecimal text, white space ignored; - for standard input";
+
+const CHECKED: &str =
+    "A file of hexadecimal text, white space ignored; with --lines, of a message a line; with --stream, of the bytes of messages; - for standard input";
+
+const CHECK_LINES: &str = "Tells of each line, a message, whether it is valid";
+
+const CHECK_STREAM: &str = "Tells of each message of a stream of bytes whether it is valid";
+
+const REFUTED: &str =
+    "A file of hexadecimal text, white space ignored; with --lines, of a message a line; - for standard input";
 
 /// The definition of the command line. `policies` are the values of `--unknown`.
 pub(crate) fn command_line<'a>(
@@ -87,7 +98,7 @@ fn program_line<'a>(alloc: Global) -> clap::Command<'a>
 fn show_line<'a>(alloc: Global) -> Result<clap::Command<'a>, AllocError>
     ensures { IfOk result (IsLine show_shape) }
 {
-    clap::Command::new(alloc, "show")
+    quiet_line(alloc, "show")?
         .about("Prints a message: its header, and a line for each AVP")
         .arg(dictionary_option(alloc))?
         .arg(word(alloc, "MESSAGE", MESSAGE))
@@ -96,18 +107,30 @@ fn show_line<'a>(alloc: Global) -> Result<clap::Command<'a>, AllocError>
 fn check_line<'a>(alloc: Global, policies: &'a [&'a str]) -> Result<clap::Command<'a>, AllocError>
     ensures { IfOk result (IsLine (check_shape policies.entry)) }
 {
-    clap::Command::new(alloc, "check")
+    check_options(alloc, policies)?
         .about("Tells whether a message is valid for a dictionary, or its first fault")
+        .arg(word(alloc, "D", DICTIONARY))?
+        .arg(word(alloc, "MESSAGE", CHECKED))
+}
+
+/// `check` with its options.
+fn check_options<'a>(
+    alloc: Global,
+    policies: &'a [&'a str],
+) -> Result<clap::Command<'a>, AllocError>
+    ensures { IfOk result (IsLine (check_app policies.entry).top) }
+{
+    quiet_line(alloc, "check")?
         .arg(unknown_option(alloc, policies))?
         .arg(levels_option(alloc))?
-        .arg(word(alloc, "D", DICTIONARY))?
-        .arg(word(alloc, "MESSAGE", MESSAGE))
+        .arg(flag(alloc, "lines", CHECK_LINES))?
+        .arg(flag(alloc, "stream", CHECK_STREAM))
 }
 
 fn render_line<'a>(alloc: Global) -> Result<clap::Command<'a>, AllocError>
     ensures { IfOk result (IsLine render_shape) }
 {
-    clap::Command::new(alloc, "render")
+    quiet_line(alloc, "render")?
         .about("Prints the canonical text of a dictionary")
         .arg(word(alloc, "D", DICTIONARY))
 }
@@ -126,7 +149,12 @@ fn refute_line<'a>(alloc: Global, policies: &'a [&'a str]) -> Result<clap::Comma
     pair_line(alloc, "refute", policies)?
         .about("Tells whether a message is valid for A and not for B")
         .arg(levels_option(alloc))?
-        .arg(word(alloc, "MESSAGE", MESSAGE))
+        .arg(flag(
+            alloc,
+            "lines",
+            "Tells of each line, a message, whether it is valid for A and not for B",
+        ))?
+        .arg(word(alloc, "MESSAGE", REFUTED))
 }
 
 fn propose_line<'a>(alloc: Global, policies: &'a [&'a str]) -> Result<clap::Command<'a>, AllocError>
@@ -145,10 +173,17 @@ fn pair_line<'a>(
 ) -> Result<clap::Command<'a>, AllocError>
     ensures { IfOk result (IsLine (pair_app name.entry.now policies.entry).top) }
 {
-    clap::Command::new(alloc, name)
+    quiet_line(alloc, name)?
         .arg(unknown_option(alloc, policies))?
         .arg(word(alloc, "A", FIRST))?
         .arg(word(alloc, "B", SECOND))
+}
+
+/// A subcommand, with the option that all have.
+fn quiet_line<'a>(alloc: Global, name: &'a str) -> Result<clap::Command<'a>, AllocError>
+    ensures { IfOk result (IsLine (quiet_app name.entry.now).top) }
+{
+    clap::Command::new(alloc, name).arg(flag(alloc, "quiet", "Prints no notes on standard error"))
 }
 
 fn dictionary_option<'a>(alloc: Global) -> Arg<'a>
@@ -185,6 +220,17 @@ fn levels_option<'a>(alloc: Global) -> Arg<'a>
         .value_name("N")
         .value_parser(ValueParser::unsigned(0, 4_294_967_295))
         .help("How many levels of Grouped AVPs may stand in one another; without it, any number")
+}
+
+/// An option without a value, of the name of its id.
+fn flag<'a>(alloc: Global, id: &'a str, help: &'a str) -> Arg<'a>
+    ensures rule { rule_of result ≡ flag_rule id.entry.now }
+    ensures local { result.global ≡ false }
+{
+    Arg::new(alloc, id)
+        .long(id)
+        .action(ArgAction::SetTrue)
+        .help(help)
 }
 
 /// A required argument.

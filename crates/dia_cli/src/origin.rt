@@ -2,7 +2,7 @@
 
 ghost use Rattle.std.specs.Prelude.{◌≡◌, count_by};
 ghost use Rattle.dia_cli.specs.Origins.{dictionary_origin, message_origin};
-ghost use Rattle.dia_cli.specs.Origins.{origin_within, table_origin};
+ghost use Rattle.dia_cli.specs.Origins.{messages_origin, origin_within, table_origin};
 ghost use Rattle.dia_cli.specs.Origins.{is_standard_input, reads_twice};
 
 use dia_ccf::MAX_TEXT;
@@ -51,6 +51,13 @@ impl<'a> Origin<'a> {
         Origin::within(word, MAX_MESSAGE_TEXT)
     }
 
+    /// The origin of messages without a limit, which are read a piece at a time.
+    pub fn of_messages(word: &'a str) -> Origin<'a>
+        ensures { result ≡ messages_origin word.entry }
+    {
+        Origin::within(word, usize::MAX)
+    }
+
     fn within(word: &'a str, limit: usize) -> Origin<'a>
         ensures { result ≡ origin_within word.entry limit }
     {
@@ -68,21 +75,55 @@ impl<'a> Origin<'a> {
     }
 }
 
-/// Where each input of a command comes from, by the fields of `Inputs`.
+/// Where each input comes from: the first four by the fields of `Inputs`, and messages that are read a piece at a time.
 #[derive(Clone, Copy, Debug, PartialEq, Eq)]
 pub struct Origins<'a> {
     pub first: Origin<'a>,
     pub second: Origin<'a>,
     pub table: Origin<'a>,
     pub message: Origin<'a>,
+    /// Messages without a limit, which are read a piece at a time.
+    pub messages: Origin<'a>,
 }
 
-impl Origins<'_> {
+impl<'a> Origins<'a> {
+    ghost use Rattle.dia_cli.specs.Request.{one_origin, pair_origins};
+
+    /// The origins where a dictionary is the only input.
+    pub(crate) fn of_dictionary(word: &'a str) -> Origins<'a>
+        ensures { result ≡ one_origin word.entry }
+    {
+        Origins {
+            first: Origin::of_dictionary(word),
+            second: Origin::Nowhere,
+            table: Origin::Nowhere,
+            message: Origin::Nowhere,
+            messages: Origin::Nowhere,
+        }
+    }
+
+    /// The origins where two dictionaries are the only inputs.
+    pub(crate) fn of_pair(first: &'a str, second: &'a str) -> Origins<'a>
+        ensures { result ≡ pair_origins first.entry second.entry }
+    {
+        Origins {
+            second: Origin::of_dictionary(second),
+            ..Origins::of_dictionary(first)
+        }
+    }
+
     /// Whether standard input is named more than once.
     pub fn reads_twice(&self) -> bool
         ensures { result ≡ reads_twice self.now }
     {
-        standard_inputs(&[self.first, self.second, self.table, self.message]) > 1
+        let origins = [
+            self.first,
+            self.second,
+            self.table,
+            self.message,
+            self.messages,
+        ];
+        standard_inputs(&origins) > 1
     }
 }
 

@@ -1,15 +1,22 @@
 //! What the words of the command line ask for.
 
 ghost use Rattle.std.specs.Prelude.{◌≡◌};
-ghost use Rattle.dia_cli.specs.Request.{command_of, origins_of};
+ghost use Rattle.dia_cli.specs.Request.{origins_of, task_of};
 
 use crate::origin::{Origin, Origins};
-use dia_io::Command;
+use dia_io::{Command, Task};
 use dia_policy::{Levels, Unknown};
+
+/// A subcommand, and whether `--quiet` was given.
+#[derive(Debug, PartialEq, Eq, Drop)]
+pub struct Request<'a> {
+    pub subcommand: Subcommand<'a>,
+    pub quiet: bool,
+}
 
 /// A subcommand, with the words of its inputs.
 #[derive(Debug, PartialEq, Eq, Drop)]
-pub enum Request<'a> {
+pub enum Subcommand<'a> {
     /// `show [--dict D] MESSAGE`
     Show {
         dictionary: &'a str,
@@ -21,6 +28,20 @@ pub enum Request<'a> {
         levels: Levels,
         dictionary: &'a str,
         message: &'a str,
+    },
+    /// `check --lines [--unknown kept|refused] [--levels N] D MESSAGES`
+    CheckLines {
+        unknown: Unknown,
+        levels: Levels,
+        dictionary: &'a str,
+        messages: &'a str,
+    },
+    /// `check --stream [--unknown kept|refused] [--levels N] D BYTES`
+    CheckStream {
+        unknown: Unknown,
+        levels: Levels,
+        dictionary: &'a str,
+        messages: &'a str,
     },
     /// `render D`
     Render {
@@ -41,6 +62,14 @@ pub enum Request<'a> {
         second: &'a str,
         message: &'a str,
     },
+    /// `refute --lines [--unknown kept|refused] [--levels N] A B MESSAGES`
+    RefuteLines {
+        unknown: Unknown,
+        levels: Levels,
+        first: &'a str,
+        second: &'a str,
+        messages: &'a str,
+    },
     /// `propose [--unknown kept|refused] A B COMMAND..`
     Propose {
         unknown: Unknown,
@@ -51,87 +80,133 @@ pub enum Request<'a> {
 }
 
 impl<'a> Request<'a> {
+    ghost use Rattle.dia_cli.specs.Request.{origins_of, task_of};
+
     /// What the program is to do with the inputs.
-    pub fn into_command(self) -> Command
-        ensures { result ≡ command_of self.entry }
+    pub fn into_task(self) -> Task
+        ensures { result ≡ task_of self.entry.subcommand }
     {
-        match self {
-            Request::Show { .. } => Command::Show,
-            Request::Check {
-                unknown,
-                levels,
-                ..
-            } => Command::Check { unknown, levels },
-            Request::Render { .. } => Command::Render,
-            Request::Compare { unknown, .. } => Command::Compare { unknown },
-            Request::Refute {
-                unknown,
-                levels,
-                ..
-            } => Command::Refute { unknown, levels },
-            Request::Propose { unknown, names, .. } => Command::Propose { unknown, names },
-        }
+        self.subcommand.into_task()
     }
 
     /// Where the inputs come from.
     pub fn origins(&self) -> Origins<'a>
+        ensures { result ≡ origins_of self.now.subcommand }
+    {
+        self.subcommand.origins()
+    }
+
+    /// Whether nothing is to be told on standard error of a run that ended with an outcome.
+    pub fn is_quiet(&self) -> bool
+        ensures { result ≡ self.now.quiet }
+    {
+        self.quiet
+    }
+}
+
+impl<'a> Subcommand<'a> {
+    fn into_task(self) -> Task
+        ensures { result ≡ task_of self.entry }
+    {
+        match self {
+            Subcommand::Show { .. } => Task::Whole(Command::Show),
+            Subcommand::Check {
+                unknown,
+                levels,
+                ..
+            } => Task::Whole(Command::Check { unknown, levels }),
+            Subcommand::CheckLines {
+                unknown,
+                levels,
+                ..
+            } => Task::CheckLines { unknown, levels },
+            Subcommand::CheckStream {
+                unknown,
+                levels,
+                ..
+            } => Task::CheckStream { unknown, levels },
+            Subcommand::Render { .. } => Task::Whole(Command::Render),
+            Subcommand::Compare { unknown, .. } => Task::Whole(Command::Compare { unknown }),
+            Subcommand::Refute {
+                unknown,
+                levels,
+                ..
+            } => Task::Whole(Command::Refute { unknown, levels }),
+            Subcommand::RefuteLines {
+                unknown,
+                levels,
+                ..
+            } => Task::RefuteLines { unknown, levels },
+            Subcommand::Propose { unknown, names, .. } => {
+                Task::Whole(Command::Propose { unknown, names })
+            }
+        }
+    }
+
+    fn origins(&self) -> Origins<'a>
         ensures { result ≡ origins_of self.now }
     {
-        let nowhere = Origin::Nowhere;
         match *self {
-            Request::Show {
+            Subcommand::Show {
                 dictionary,
                 message,
             } => Origins {
-                first: Origin::of_dictionary(dictionary),
-                second: nowhere,
-                table: nowhere,
                 message: Origin::of_message(message),
+                ..Origins::of_dictionary(dictionary)
             },
-            Request::Check {
+            Subcommand::Check {
                 dictionary,
                 message,
                 ..
             } => Origins {
-                first: Origin::of_dictionary(dictionary),
-                second: nowhere,
-                table: nowhere,
                 message: Origin::of_message(message),
+                ..Origins::of_dictionary(dictionary)
             },
-            Request::Render { dictionary } => Origins {
-                first: Origin::of_dictionary(dictionary),
-                second: nowhere,
-                table: nowhere,
-                message: nowhere,
+            Subcommand::CheckLines {
+                dictionary,
+                messages,
+                ..
+            } => Origins {
+                messages: Origin::of_messages(messages),
+                ..Origins::of_dictionary(dictionary)
             },
-            Request::Compare {
+            Subcommand::CheckStream {
+                dictionary,
+                messages,
+                ..
+            } => Origins {
+                messages: Origin::of_messages(messages),
+                ..Origins::of_dictionary(dictionary)
+            },
+            Subcommand::Render { dictionary } => Origins::of_dictionary(dictionary),
+            Subcommand::Compare {
                 first,
                 second,
                 table,
                 ..
             } => Origins {
-                first: Origin::of_dictionary(first),
-                second: Origin::of_dictionary(second),
                 table: Origin::of_table(table),
-                message: nowhere,
+                ..Origins::of_pair(first, second)
             },
-            Request::Refute {
+            Subcommand::Refute {
                 first,
                 second,
                 message,
                 ..
             } => Origins {
-                first: Origin::of_dictionary(first),
-                second: Origin::of_dictionary(second),
-                table: nowhere,
                 message: Origin::of_message(message),
+                ..Origins::of_pair(first, second)
             },
-            Request::Propose { first, second, .. } => Origins {
-                first: Origin::of_dictionary(first),
-                second: Origin::of_dictionary(second),
-                table: nowhere,
-                message: nowhere,
+            Subcommand::RefuteLines {
+                first,
+                second,
+                messages,
+                ..
+            } => Origins {
+                messages: Origin::of_messages(messages),
+                ..Origins::of_pair(first, second)
             },
+            Subcommand::Propose { first, second, .. } => Origins::of_pair(first, second),
         }
     }
 }

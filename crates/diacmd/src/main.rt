@@ -4,12 +4,16 @@
 //! what is written and how the program ends. It is a function over values, and so are those that decide the rest.
 #![tactic(auto)]
 
+mod captured;
+
 #[cfg(test)]
 mod tests;
 
+use captured::captured;
 use dia_cli::{
     BASE_DICTIONARY, Ending, Origin, Origins, STANDARD_INPUT, finish, open_inputs, parse_words,
 };
+use dia_io::Task;
 use dia_notes::{Words, explain};
 use dia_run::{Command, Exit, Inputs, ToWriter, run};
 use std::process::ExitCode;
@@ -46,11 +50,17 @@ where
     let request = parse_words(rt.alloc(), words)?;
     let origins = request.origins();
     let inputs = open_inputs(rt, &origins)?;
-    let command = request.into_command();
+    let quiet = request.is_quiet();
+    let command = match request.into_task() {
+        Task::Whole(command) => command,
+        task => return captured(rt, &task, &inputs, origins.messages),
+    };
     let mut sink = ToWriter::new(io::writer(rt));
     match run(rt.alloc(), &command, &inputs, &mut sink) {
         Ok(exit) => {
-            note(rt, &command, &origins, &inputs, exit);
+            if !quiet {
+                note(rt, &command, &origins, &inputs, exit);
+            }
             Ok(exit)
         }
         Err(fault) => Err(Ending::of_run(fault, "standard output", sink.failure())),

@@ -1,6 +1,7 @@
 //! The example of dia_cli's docs.
 
 use dia_cli::{open_inputs, parse_words};
+use dia_io::Task;
 use dia_run::{Exit, ToWriter, run};
 use std::test::Fail;
 
@@ -15,7 +16,10 @@ fn checks_a_message_without_bytes(rt: HostRuntime) -> Result<(), Fail> {
         return Err(Fail::from("the files can't be read"));
     };
     let mut sink = ToWriter::new(Vec::new(alloc));
-    let exit = run(alloc, &request.into_command(), &inputs, &mut sink)?;
+    let Task::Whole(command) = request.into_task() else {
+        return Err(Fail::from("the words ask for another run"));
+    };
+    let exit = run(alloc, &command, &inputs, &mut sink)?;
     assert_eq!(rt; exit, Exit::No);
     assert!(rt; sink.writer.as_slice() == b"truncated\n".as_slice());
     Ok(())

@@ -36,6 +36,7 @@ Arguments:
   <MESSAGE>  A file of hexadecimal text, white space ignored; - for standard input
 
 Options:
+      --quiet     Prints no notes on standard error
       --dict <D>  The dictionary that names the AVPs: a file, @base, or - for standard input [default: @base]
   -h, --help      Print help
 ";
@@ -46,23 +47,27 @@ Usage: diacmd check [OPTIONS] <D> <MESSAGE>
 
 Arguments:
   <D>        A dictionary text: a file, @base, or - for standard input
-  <MESSAGE>  A file of hexadecimal text, white space ignored; - for standard input
+  <MESSAGE>  A file of hexadecimal text, white space ignored; with --lines, of a message a line; with --stream, of the bytes of messages; - for standard input
 
 Options:
+      --quiet             Prints no notes on standard error
       --unknown <POLICY>  Whether an AVP that isn't in the dictionary, with its M flag clear, is kept or refused [default: kept] [possible values: kept, refused]
       --levels <N>        How many levels of Grouped AVPs may stand in one another; without it, any number
+      --lines             Tells of each line, a message, whether it is valid
+      --stream            Tells of each message of a stream of bytes whether it is valid
   -h, --help              Print help
 ";
 
 const RENDER_HELP: &str = "Prints the canonical text of a dictionary
 
-Usage: diacmd render <D>
+Usage: diacmd render [OPTIONS] <D>
 
 Arguments:
   <D>  A dictionary text: a file, @base, or - for standard input
 
 Options:
-  -h, --help  Print help
+      --quiet  Prints no notes on standard error
+  -h, --help   Print help
 ";
 
 const COMPARE_HELP: &str =
@@ -76,6 +81,7 @@ Arguments:
   <TABLE>  A table of pairs of names: a file, or - for standard input
 
 Options:
+      --quiet             Prints no notes on standard error
       --unknown <POLICY>  Whether an AVP that isn't in the dictionary, with its M flag clear, is kept or refused [default: kept] [possible values: kept, refused]
   -h, --help              Print help
 ";
@@ -87,11 +93,13 @@ Usage: diacmd refute [OPTIONS] <A> <B> <MESSAGE>
 Arguments:
   <A>        The first dictionary text: a file, @base, or - for standard input
   <B>        The second dictionary text: a file, @base, or - for standard input
-  <MESSAGE>  A file of hexadecimal text, white space ignored; - for standard input
+  <MESSAGE>  A file of hexadecimal text, white space ignored; with --lines, of a message a line; - for standard input
 
 Options:
+      --quiet             Prints no notes on standard error
       --unknown <POLICY>  Whether an AVP that isn't in the dictionary, with its M flag clear, is kept or refused [default: kept] [possible values: kept, refused]
       --levels <N>        How many levels of Grouped AVPs may stand in one another; without it, any number
+      --lines             Tells of each line, a message, whether it is valid for A and not for B
   -h, --help              Print help
 ";
 
@@ -105,6 +113,7 @@ Arguments:
   <COMMAND>...  The name of a command of A
 
 Options:
+      --quiet             Prints no notes on standard error
       --unknown <POLICY>  Whether an AVP that isn't in the dictionary, with its M flag clear, is kept or refused [default: kept] [possible values: kept, refused]
   -h, --help              Print help
 ";

@@ -14,6 +14,7 @@ fn origins<'a>(first: Origin<'a>, message: Origin<'a>) -> Origins<'a> {
         second: Origin::Nowhere,
         table: Origin::Nowhere,
         message,
+        messages: Origin::Nowhere,
     }
 }
 

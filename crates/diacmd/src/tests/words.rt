@@ -2,6 +2,7 @@
 
 use dia_check::{Levels, Unknown};
 use dia_cli::{Origin, Origins, parse_words};
+use dia_io::Task;
 use dia_run::Command;
 use std::process::Abort;
 use std::test::Fail;
@@ -29,6 +30,7 @@ fn origins_of<'a>(first: Origin<'a>, message: Origin<'a>) -> Origins<'a> {
         second: Origin::Nowhere,
         table: Origin::Nowhere,
         message,
+        messages: Origin::Nowhere,
     }
 }
 
@@ -106,7 +108,8 @@ fn are_read(
         return Err(Fail::new(format_args!("the words are refused: {words:?}")));
     };
     assert_eq!(rt; request.origins(), origins);
-    assert_eq!(rt; request.into_command(), *command);
+    assert!(rt; !request.is_quiet());
+    assert!(rt; matches!(request.into_task(), Task::Whole(asked) if asked == *command));
     Ok(())
 }
 
@@ -193,6 +196,7 @@ fn compared<'a>(first: Origin<'a>, second: Origin<'a>, table: Origin<'a>) -> Ori
         second,
         table,
         message: Origin::Nowhere,
+        messages: Origin::Nowhere,
     }
 }
 
@@ -259,6 +263,7 @@ fn refuted<'a>(first: Origin<'a>, second: Origin<'a>, message: Origin<'a>) -> Or
         second,
         table: Origin::Nowhere,
         message,
+        messages: Origin::Nowhere,
     }
 }
 
@@ -377,6 +382,76 @@ fn reads_the_words_of_propose(rt: HostRuntime) -> Result<(), Fail> {
         let mut words: Vec<&str> = Vec::from_slice(rt.alloc(), &["diacmd", "propose"])?;
         words.extend_from_slice(options)?;
         are_read(&rt, &words, &command, *origins)?;
+    }
+    Ok(())
+}
+
+#[test]
+fn reads_the_words_of_many_messages(rt: HostRuntime) -> Result<(), Fail> {
+    let (a, b) = (dictionary_file("a.txt"), dictionary_file("b.txt"));
+    let messages = Origin::StandardInput {
+        limit: 18_446_744_073_709_551_615,
+    };
+    let levels = Levels::AtMost(2);
+    let checked = Origins {
+        messages,
+        ..origins_of(a, Origin::Nowhere)
+    };
+    let kept = Unknown::Kept;
+    let rows: [(&[&str], Task, Origins); 3] = [
+        (
+            &["diacmd", "check", "--lines", "a.txt", "-", "--levels=2"],
+            Task::CheckLines {
+                unknown: kept,
+                levels,
+            },
+            checked,
+        ),
+        (
+            &["diacmd", "check", "a.txt", "--levels=2", "-", "--stream"],
+            Task::CheckStream {
+                unknown: kept,
+                levels,
+            },
+            checked,
+        ),
+        (
+            &["diacmd", "refute", "--lines", "a.txt", "b.txt", "-"],
+            Task::RefuteLines {
+                unknown: kept,
+                levels: Levels::Any,
+            },
+            Origins {
+                messages,
+                ..refuted(a, b, Origin::Nowhere)
+            },
+        ),
+    ];
+    for (words, task, origins) in rows.iter() {
+        let Ok(request) = parse_words(rt.alloc(), *words) else {
+            return Err(Fail::new(format_args!("the words are refused: {words:?}")));
+        };
+        assert_eq!(rt; request.origins(), *origins);
+        assert_eq!(rt; request.into_task(), *task);
+    }
+    Ok(())
+}
+
+#[test]
+fn every_command_may_be_quiet(rt: HostRuntime) -> Result<(), Fail> {
+    let rows: [&[&str]; 6] = [
+        &["diacmd", "show", "--quiet", "m.hex"],
+        &["diacmd", "check", "--quiet", "d.txt", "m.hex"],
+        &["diacmd", "render", "d.txt", "--quiet"],
+        &["diacmd", "compare", "--quiet", "a.txt", "b.txt", "t.txt"],
+        &["diacmd", "refute", "a.txt", "--quiet", "b.txt", "m.hex"],
+        &["diacmd", "propose", "a.txt", "b.txt", "T", "--quiet"],
+    ];
+    for words in rows.iter() {
+        let Ok(request) = parse_words(rt.alloc(), *words) else {
+            return Err(Fail::new(format_args!("the words are refused: {words:?}")));
+        };
+        assert!(rt; request.is_quiet());
     }
     Ok(())
 }

@@ -1,7 +1,7 @@
 use Rattle.std.proofs.Common.{◌∙◌, refl, sym, codes}
 use Rattle.clap.specs.Words.{found_of}
 use Rattle.clap.proofs.WalkLemmas.{first_value-rows}
-use Rattle.dia_cli.proofs.arguments.compare_request.Goals as goal
+use Rattle.dia_cli.proofs.arguments.compare_of.Goals as goal
 
 pub returns : goal.returns
 returns c = (
