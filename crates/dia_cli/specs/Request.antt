@@ -9,8 +9,8 @@ use Rattle.dia_cli.specs.declared.origin.Origin.TheVariants.{Nowhere}
 use Rattle.dia_cli.specs.declared.origin.Origins.{Origins}
 use Rattle.dia_cli.specs.declared.request.Request.{Request}
 use Rattle.dia_cli.specs.declared.request.Subcommand.{Subcommand}
-use Rattle.dia_cli.specs.declared.request.Subcommand.TheVariants.{Show, Check, CheckLines, CheckStream, Render}
-use Rattle.dia_cli.specs.declared.request.Subcommand.TheVariants.{Compare, Refute, RefuteLines, Propose}
+use Rattle.dia_cli.specs.declared.request.Subcommand.TheVariants.{Show, Check, CheckLines, Render}
+use Rattle.dia_cli.specs.declared.request.Subcommand.TheVariants.{Compare, Refute, RefuteLines, Propose, Breaking}
 use Rattle.dia_cli.specs.declared.ending.Ending.{Ending}
 use Rattle.dia_cli.specs.declared.ending.Ending.TheVariants.{ReadTwice}
 use Rattle.dia_cli.specs.Origins.{dictionary_origin, message_origin, messages_origin, reads_twice, table_origin}
@@ -19,12 +19,12 @@ abbrev pub task_of : Subcommand → Task
 task_of (Show dictionary message) = task.Whole command.Show
 task_of (Check unknown levels dictionary message) = task.Whole (command.Check unknown levels)
 task_of (CheckLines unknown levels dictionary messages) = task.CheckLines unknown levels
-task_of (CheckStream unknown levels dictionary messages) = task.CheckStream unknown levels
 task_of (Render dictionary) = task.Whole command.Render
 task_of (Compare unknown first second table) = task.Whole (command.Compare unknown)
 task_of (Refute unknown levels first second message) = task.Whole (command.Refute unknown levels)
 task_of (RefuteLines unknown levels first second messages) = task.RefuteLines unknown levels
 task_of (Propose unknown first second names) = task.Whole (command.Propose unknown names)
+task_of (Breaking sends unknown messages first second names) = task.Breaking sends unknown messages names
 
 -- a dictionary alone
 abbrev pub one_origin : Bor (List ℕ) → Origins
@@ -45,8 +45,6 @@ origins_of (Show dictionary message) = record (one_origin dictionary) { message 
 origins_of (Check unknown levels dictionary message) = record (one_origin dictionary) { message = message_origin message }
 origins_of (CheckLines unknown levels dictionary messages) =
     record (one_origin dictionary) { messages = messages_origin messages }
-origins_of (CheckStream unknown levels dictionary messages) =
-    record (one_origin dictionary) { messages = messages_origin messages }
 origins_of (Render dictionary) = one_origin dictionary
 origins_of (Compare unknown first second table) = record (pair_origins first second) { table = table_origin table }
 origins_of (Refute unknown levels first second message) =
@@ -54,6 +52,7 @@ origins_of (Refute unknown levels first second message) =
 origins_of (RefuteLines unknown levels first second messages) =
     record (pair_origins first second) { messages = messages_origin messages }
 origins_of (Propose unknown first second names) = pair_origins first second
+origins_of (Breaking sends unknown messages first second names) = pair_origins first second
 
 -- the request itself, unless it reads standard input twice
 abbrev pub read_once : Request → Result Request Ending

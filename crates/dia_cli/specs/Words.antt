@@ -1,5 +1,5 @@
 -- What the words of the command line mean, by what clap says of a command line of this shape.
-use Rattle.std.specs.Prelude.{◌≡◌, Bool, true, false, List, [], ◌∷◌, map, Option, Some, None, codes, string_bytes, IsSomeAnd}
+use Rattle.std.specs.Prelude.{◌≡◌, Bool, true, false, List, [], ◌∷◌, map, unwrap_or, Option, Some, None, codes, string_bytes, IsSomeAnd}
 use Rattle.std.specs.Borrow.{Bor}
 use Rattle.std.specs.Str.Parse.{IsNumeral, digits_value, without_leading_plus}
 use Rattle.clap.specs.Lexer.{usize_max}
@@ -11,12 +11,14 @@ use Rattle.clap.specs.declared.builder.action.ArgAction.TheVariants.{SetTrue}
 use Rattle.clap.specs.declared.builder.value_parser.ValueParser.TheVariants.{Names, Unsigned}
 use Rattle.dia_policy.specs.declared.Levels.{Levels}
 use Rattle.dia_policy.specs.declared.Levels.TheVariants.{Any, AtMost}
+use Rattle.dia_policy.specs.declared.Sends.{Sends}
+use Rattle.dia_policy.specs.declared.Sends.TheVariants as sent
 use Rattle.dia_policy.specs.declared.Unknown.{Unknown}
 use Rattle.dia_policy.specs.declared.Unknown.TheVariants.{Kept, Refused}
 use Rattle.dia_cli.specs.declared.request.Request.{Request}
 use Rattle.dia_cli.specs.declared.request.Subcommand.{Subcommand}
-use Rattle.dia_cli.specs.declared.request.Subcommand.TheVariants.{Show, Check, CheckLines, CheckStream, Render}
-use Rattle.dia_cli.specs.declared.request.Subcommand.TheVariants.{Compare, Refute, RefuteLines, Propose}
+use Rattle.dia_cli.specs.declared.request.Subcommand.TheVariants.{Show, Check, CheckLines, Render}
+use Rattle.dia_cli.specs.declared.request.Subcommand.TheVariants.{Compare, Refute, RefuteLines, Propose, Breaking}
 
 -- `--dict D`, which is `@base` where it isn't given
 abbrev pub dict_rule : Rule
@@ -40,6 +42,16 @@ levels_rule = record (new_rule (codes "levels")) {
   parser = Some (Unsigned 0 4294967295);
 }
 
+-- `--sends SENDS`, one of these words, which is `any` where it isn't given
+abbrev pub sends_rule : Bor (List (Bor Text)) → Rule
+sends_rule senders =
+    record (new_rule (codes "sends")) {
+      long = Some (codes "sends");
+      value_names = 1;
+      defaults = codes "any" ∷ [];
+      parser = Some (Names senders);
+    }
+
 -- an option without a value
 abbrev pub flag_rule : Text → Rule
 flag_rule id = record (new_rule id) { long = Some id; action = Some SetTrue }
@@ -52,6 +64,10 @@ word_rule id = record (new_rule id) { required = true }
 abbrev pub words_rule : Text → Rule
 words_rule id = record (word_rule id) { range = Some (record { start_inclusive = 1; end_inclusive = usize_max }) }
 
+-- any number of words
+abbrev pub any_words_rule : Text → Rule
+any_words_rule id = record (words_rule id) { required = false }
+
 -- with which the line of each subcommand begins
 abbrev pub quiet_app : Text → App
 quiet_app name = with_rule (new_app name) (flag_rule (codes "quiet"))
@@ -63,7 +79,7 @@ show_shape = (with_rule (with_rule (quiet_app (codes "show")) dict_rule) (word_r
 abbrev pub check_app : Bor (List (Bor Text)) → App
 check_app policies =
     let policy = with_rule (with_rule (quiet_app (codes "check")) (unknown_rule policies)) levels_rule in
-    with_rule (with_rule policy (flag_rule (codes "lines"))) (flag_rule (codes "stream"))
+    with_rule policy (flag_rule (codes "lines"))
 
 abbrev pub check_shape : Bor (List (Bor Text)) → Shape
 check_shape policies = (with_rule (with_rule (check_app policies) (word_rule (codes "D"))) (word_rule (codes "MESSAGE"))).top
@@ -87,6 +103,11 @@ refute_shape policies =
 abbrev pub propose_shape : Bor (List (Bor Text)) → Shape
 propose_shape policies = (with_rule (pair_app (codes "propose") policies) (words_rule (codes "COMMAND"))).top
 
+abbrev pub breaking_shape : Bor (List (Bor Text)) → Bor (List (Bor Text)) → Shape
+breaking_shape policies senders =
+    let options = with_rule (with_rule (pair_app (codes "breaking") policies) (sends_rule senders)) (flag_rule (codes "messages")) in
+    (with_rule options (any_words_rule (codes "COMMAND"))).top
+
 -- a subcommand's line
 abbrev pub IsLine : Shape → Command → Type 0
 IsLine shape line = (shape_of line ≡ shape) × ((out-Command line).has_globals ≡ false)
@@ -100,14 +121,19 @@ abbrev pub with_pairs : App → Bor (List (Bor Text)) → App
 with_pairs line policies =
     with_subcommand (with_subcommand (with_subcommand line (compare_shape policies)) (refute_shape policies)) (propose_shape policies)
 
-abbrev pub line_shape : Bor (List (Bor Text)) → App
-line_shape policies =
-    with_pairs (with_subcommand (with_subcommand (with_subcommand program_app show_shape) (check_shape policies)) render_shape)
-    policies
+abbrev pub line_shape : Bor (List (Bor Text)) → Bor (List (Bor Text)) → App
+line_shape policies senders =
+    let single = with_subcommand (with_subcommand (with_subcommand program_app show_shape) (check_shape policies)) render_shape in
+    with_subcommand (with_pairs single policies) (breaking_shape policies senders)
 
 abbrev pub flag_word : Bool → Text
 flag_word false = codes "false"
 flag_word true = codes "true"
+
+abbrev pub sends_word : Sends → Text
+sends_word sent.Any = codes "any"
+sends_word sent.Known = codes "known"
+sends_word sent.Listed = codes "listed"
 
 abbrev pub policy_word : Unknown → Text
 policy_word Kept = codes "kept"
@@ -131,11 +157,10 @@ AreJudged unknown levels dictionary message rows =
     (first_of (codes "unknown") rows ≡ Some (policy_word unknown)) × IsLimitOf (first_of (codes "levels") rows) levels
     × (first_of (codes "D") rows ≡ Some dictionary.now) × (first_of (codes "MESSAGE") rows ≡ Some message.now)
 
--- with the options `--lines` and `--stream`
-abbrev pub AreChecked : Bool → Bool → Unknown → Levels → Bor Text → Bor Text → List Row → Type 0
-AreChecked lines stream unknown levels dictionary message rows =
-    (first_of (codes "lines") rows ≡ Some (flag_word lines)) × (first_of (codes "stream") rows ≡ Some (flag_word stream))
-    × AreJudged unknown levels dictionary message rows
+-- with the option `--lines`
+abbrev pub AreChecked : Bool → Unknown → Levels → Bor Text → Bor Text → List Row → Type 0
+AreChecked lines unknown levels dictionary message rows =
+    (first_of (codes "lines") rows ≡ Some (flag_word lines)) × AreJudged unknown levels dictionary message rows
 
 -- what was found for `refute`
 abbrev pub AreRefuted : Bool → Unknown → Levels → Bor Text → Bor Text → Bor Text → List Row → Type 0
@@ -149,11 +174,9 @@ IsSubcommandOf (Show dictionary message) found =
     (found.0 ≡ codes "show") × (first_of (codes "dict") found.1 ≡ Some dictionary.now)
     × (first_of (codes "MESSAGE") found.1 ≡ Some message.now)
 IsSubcommandOf (Check unknown levels dictionary message) found =
-    (found.0 ≡ codes "check") × AreChecked false false unknown levels dictionary message found.1
+    (found.0 ≡ codes "check") × AreChecked false unknown levels dictionary message found.1
 IsSubcommandOf (CheckLines unknown levels dictionary messages) found =
-    (found.0 ≡ codes "check") × AreChecked true false unknown levels dictionary messages found.1
-IsSubcommandOf (CheckStream unknown levels dictionary messages) found =
-    (found.0 ≡ codes "check") × AreChecked false true unknown levels dictionary messages found.1
+    (found.0 ≡ codes "check") × AreChecked true unknown levels dictionary messages found.1
 IsSubcommandOf (Render dictionary) found = (found.0 ≡ codes "render") × (first_of (codes "D") found.1 ≡ Some dictionary.now)
 IsSubcommandOf (Compare unknown first second table) found =
     (found.0 ≡ codes "compare") × ArePair unknown first second found.1 × (first_of (codes "TABLE") found.1 ≡ Some table.now)
@@ -164,14 +187,22 @@ IsSubcommandOf (RefuteLines unknown levels first second messages) found =
 IsSubcommandOf (Propose unknown first second names) found =
     (found.0 ≡ codes "propose") × ArePair unknown first second found.1
     × (all_of (codes "COMMAND") found.1 ≡ Some (map string_bytes names.items))
+IsSubcommandOf (Breaking sends unknown messages first second names) found =
+    (found.0 ≡ codes "breaking") × ArePair unknown first second found.1
+    × (first_of (codes "sends") found.1 ≡ Some (sends_word sends))
+    × (first_of (codes "messages") found.1 ≡ Some (flag_word messages))
+    × (unwrap_or (all_of (codes "COMMAND") found.1) [] ≡ map string_bytes names.items)
 
 -- the request of a subcommand that was found
 abbrev pub IsRequestOf : Request → Text × List Row → Type 0
 IsRequestOf request found =
     IsSubcommandOf request.subcommand found × (first_of (codes "quiet") found.1 ≡ Some (flag_word request.quiet))
 
--- the request that clap's specification gives for the words, where `--unknown` is one of the two policies
+-- the request that clap's specification gives for the words, where `--unknown` is one of the two policies and `--sends` one
+-- of the three senders
 abbrev pub IsAskedBy : List Text → Request → Type 0
 IsAskedBy words request =
-    (policies : Bor (List (Bor Text))) × (texts policies.now ≡ policy_word Kept ∷ policy_word Refused ∷ [])
-    × IsSomeAnd (subcommand_of (line_shape policies) words) (IsRequestOf request)
+    (policies : Bor (List (Bor Text))) × (senders : Bor (List (Bor Text)))
+    × (texts policies.now ≡ policy_word Kept ∷ policy_word Refused ∷ [])
+    × (texts senders.now ≡ sends_word sent.Any ∷ sends_word sent.Known ∷ sends_word sent.Listed ∷ [])
+    × IsSomeAnd (subcommand_of (line_shape policies senders) words) (IsRequestOf request)

@@ -1,32 +1,35 @@
 //! The words of the command line.
 
 ghost use Rattle.std.specs.Prelude.{◌≡◌, IfOk, IfSome, IsSomeAnd, Some, codes};
-ghost use Rattle.std.specs.Prelude.{false, map, option_map, string_bytes};
+ghost use Rattle.std.specs.Prelude.{[], false, map, option_map, string_bytes, unwrap_or};
 ghost use Rattle.clap.specs.Walk.{texts};
-ghost use Rattle.clap.specs.Words.{found_of, first_of, rows_of, subcommand_rows_of};
+ghost use Rattle.clap.specs.Words.{all_of, found_of, first_of, rows_of, subcommand_rows_of};
 ghost use Rattle.dia_cli.specs.Origins.{reads_twice};
 ghost use Rattle.dia_cli.specs.Request.{origins_of, read_once};
 ghost use Rattle.dia_cli.specs.Words.{ArePair, IsAskedBy, IsLimitOf, IsRequestOf};
-ghost use Rattle.dia_cli.specs.Words.{AreJudged, IsSubcommandOf, flag_word, policy_word};
+ghost use Rattle.dia_cli.specs.Words.{AreJudged, IsSubcommandOf, flag_word, policy_word, sends_word};
 
 use crate::ending::Ending;
 use crate::line::command_line;
 use crate::request::{Request, Subcommand};
 use clap::ArgMatches;
 use clap::error::ErrorKind;
-use dia_policy::{Levels, Unknown};
+use dia_policy::{Levels, Sends, Unknown};
 use std::alloc::{AllocError, Global};
 use std::convert::AsStr;
 
 /// The values of `--unknown`, the policies for AVPs that the dictionary doesn't know.
 static POLICIES: [&str; 2] = ["kept", "refused"];
 
+/// The values of `--sends`, the senders.
+static SENDERS: [&str; 3] = ["any", "known", "listed"];
+
 /// Reads the words, the program's own name first.
 pub fn parse_words<'a, S: AsStr>(alloc: Global, words: &'a [S]) -> Result<Request<'a>, Ending<'a>>
     ensures words { IfOk result (λ request. IsAskedBy (map S.text words.entry.now) request) }
     ensures once { IfOk result (λ request. reads_twice (origins_of request.subcommand) ≡ false) }
 {
-    let mut line = command_line(alloc, POLICIES.as_slice())?;
+    let mut line = command_line(alloc, POLICIES.as_slice(), SENDERS.as_slice())?;
     let matches = line.try_get_matches_from_mut(words)?;
     asked(alloc, &mut line, &matches)
 }
@@ -44,11 +47,6 @@ fn asked<'a>(
     match request_of(alloc, matches) {
         Ok(request) => read_once(request),
         Err(Unasked::NoMemory) => Err(Ending::NoMemory),
-        Err(Unasked::BothForms) => Err(refused(
-            line,
-            ErrorKind::ArgumentConflict,
-            "the argument '--lines' cannot be used with '--stream'",
-        )),
         // Never reached: the command line requires a subcommand, and each subcommand requires its arguments.
         Err(Unasked::Nothing) => Err(refused(
             line,
@@ -61,8 +59,6 @@ fn asked<'a>(
 /// Why arguments that clap found are no request.
 #[derive(Clone, Copy, Debug, PartialEq, Eq)]
 enum Unasked {
-    /// `--lines` and `--stream` are both given.
-    BothForms,
     /// They are no subcommand with its arguments.
     Nothing,
     NoMemory,
@@ -124,6 +120,7 @@ fn subcommand_of<'a>(
         "compare" => compare_of(found).ok_or(Unasked::Nothing),
         "refute" => refute_of(found).ok_or(Unasked::Nothing),
         "propose" => propose_of(alloc, found),
+        "breaking" => breaking_of(alloc, found),
         _ => Err(Unasked::Nothing),
     }
 }
@@ -145,28 +142,21 @@ fn check_of<'a>(found: &ArgMatches<'a>) -> Result<Subcommand<'a>, Unasked>
         (λ made. IsSubcommandOf made (codes "check", rows_of (found_of found.now))) }
 {
     let lines = flag_of(found, "lines").ok_or(Unasked::Nothing)?;
-    let stream = flag_of(found, "stream").ok_or(Unasked::Nothing)?;
     let (unknown, levels, dictionary, message) = checked_of(found).ok_or(Unasked::Nothing)?;
-    match (lines, stream) {
-        (false, false) => Ok(Subcommand::Check {
+    if lines {
+        Ok(Subcommand::CheckLines {
+            unknown,
+            levels,
+            dictionary,
+            messages: message,
+        })
+    } else {
+        Ok(Subcommand::Check {
             unknown,
             levels,
             dictionary,
             message,
-        }),
-        (true, false) => Ok(Subcommand::CheckLines {
-            unknown,
-            levels,
-            dictionary,
-            messages: message,
-        }),
-        (false, true) => Ok(Subcommand::CheckStream {
-            unknown,
-            levels,
-            dictionary,
-            messages: message,
-        }),
-        (true, true) => Err(Unasked::BothForms),
+        })
     }
 }
 
@@ -252,6 +242,46 @@ fn propose_of<'a>(alloc: Global, found: &ArgMatches<'a>) -> Result<Subcommand<'a
     })
 }
 
+/// `breaking` with the arguments that were found.
+fn breaking_of<'a>(alloc: Global, found: &ArgMatches<'a>) -> Result<Subcommand<'a>, Unasked>
+    ensures { IfOk result
+        (λ made. IsSubcommandOf made (codes "breaking", rows_of (found_of found.now))) }
+{
+    let (unknown, first, second) = pair_of(found).ok_or(Unasked::Nothing)?;
+    let (sends, messages) = shown_of(found).ok_or(Unasked::Nothing)?;
+    let names = names_of(alloc, found)?;
+    Ok(Subcommand::Breaking {
+        sends,
+        unknown,
+        messages,
+        first,
+        second,
+        names,
+    })
+}
+
+/// The sender, and whether messages are asked for.
+fn shown_of(found: &ArgMatches<'_>) -> Option<(Sends, bool)>
+    ensures sends { IfSome result (λ made.
+        first_of (codes "sends") (rows_of (found_of found.now)) ≡ Some (sends_word made.0)) }
+    ensures messages { IfSome result (λ made.
+        first_of (codes "messages") (rows_of (found_of found.now)) ≡ Some (flag_word made.1)) }
+{
+    let sends = sends_of(found.get_str("sends")?)?;
+    Some((sends, flag_of(found, "messages")?))
+}
+
+/// The names of commands, also none.
+fn names_of(alloc: Global, found: &ArgMatches<'_>) -> Result<Vec<String>, AllocError>
+    ensures { IfOk result (λ names. map string_bytes names.items
+        ≡ unwrap_or (all_of (codes "COMMAND") (rows_of (found_of found.now))) []) }
+{
+    match found.get_strs("COMMAND") {
+        Some(words) => copies_of(alloc, words),
+        None => Ok(Vec::new(alloc)),
+    }
+}
+
 fn copies_of(alloc: Global, words: &[&str]) -> Result<Vec<String>, AllocError>
     ensures { IfOk result (λ copies. map string_bytes copies.items ≡ texts words.now) }
 {
@@ -277,6 +307,18 @@ fn policy_of(word: &str) -> Option<Unknown>
     match word {
         "kept" => Some(Unknown::Kept),
         "refused" => Some(Unknown::Refused),
+        _ => None,
+    }
+}
+
+/// The sender that a word names.
+fn sends_of(word: &str) -> Option<Sends>
+    ensures { IfSome result (λ sends. word.now ≡ sends_word sends) }
+{
+    match word {
+        "any" => Some(Sends::Any),
+        "known" => Some(Sends::Known),
+        "listed" => Some(Sends::Listed),
         _ => None,
     }
 }

@@ -3,10 +3,10 @@
 ghost use Rattle.std.specs.Prelude.{◌≡◌, IfOk, false};
 ghost use Rattle.clap.specs.Simple.{Shape, with_subcommand};
 ghost use Rattle.clap.specs.Words.{app_of, rule_of};
-ghost use Rattle.dia_cli.specs.Words.{IsLine, check_app, check_shape};
+ghost use Rattle.dia_cli.specs.Words.{IsLine, any_words_rule, breaking_shape, check_app, check_shape};
 ghost use Rattle.dia_cli.specs.Words.{compare_shape, dict_rule, flag_rule, levels_rule, line_shape};
 ghost use Rattle.dia_cli.specs.Words.{pair_app, program_app, propose_shape, quiet_app};
-ghost use Rattle.dia_cli.specs.Words.{refute_shape, render_shape, show_shape};
+ghost use Rattle.dia_cli.specs.Words.{refute_shape, render_shape, sends_rule, show_shape};
 ghost use Rattle.dia_cli.specs.Words.{unknown_rule, with_pairs, word_rule, words_rule};
 
 use crate::origin::BASE_DICTIONARY;
@@ -19,8 +19,8 @@ const VERSION: &str = "0.1.0";
 
 /// What the statuses of the process mean.
 const STATUSES: &str = "Status:
-  0  done; for check, valid; for compare, yes; for refute, refutes
-  1  for check, not valid; for compare, no; for refute, does not refute; for show, a bad AVP length
+  0  done; for check, valid; for compare, yes; for refute, refutes; for breaking, nothing breaks
+  1  for check, not valid; for compare, no; for refute, does not refute; for breaking, something breaks; for show, a bad AVP length
   2  bad input, or a bad command line
   3  a file or a device failed, or memory was refused";
 
@@ -35,26 +35,27 @@ const TABLE: &str = "A table of pairs of names: a file, or - for standard input"
 const MESSAGE: &str = "A file of hexadecimal text, white space ignored; - for standard input";
 
 const CHECKED: &str =
-    "A file of hexadecimal text, white space ignored; with --lines, of a message a line; with --stream, of the bytes of messages; - for standard input";
+    "A file of hexadecimal text, white space ignored; with --lines, of a message a line; - for standard input";
 
 const CHECK_LINES: &str = "Tells of each line, a message, whether it is valid";
 
-const CHECK_STREAM: &str = "Tells of each message of a stream of bytes whether it is valid";
 
 const REFUTED: &str =
     "A file of hexadecimal text, white space ignored; with --lines, of a message a line; - for standard input";
 
-/// The definition of the command line. `policies` are the values of `--unknown`.
+/// The definition of the command line. `policies` are the values of `--unknown`, and `senders` those of `--sends`.
 pub(crate) fn command_line<'a>(
     alloc: Global,
     policies: &'a [&'a str],
+    senders: &'a [&'a str],
 ) -> Result<clap::Command<'a>, AllocError>
-    ensures { IfOk result (λ line. app_of line ≡ line_shape policies.entry) }
+    ensures { IfOk result (λ line. app_of line ≡ line_shape policies.entry senders.entry) }
 {
     let line = with_line(program_line(alloc), show_line(alloc))?;
     let line = with_line(line, check_line(alloc, policies))?;
     let line = with_line(line, render_line(alloc))?;
-    with_pair_lines(alloc, line, policies)
+    let line = with_pair_lines(alloc, line, policies)?;
+    with_line(line, breaking_line(alloc, policies, senders))
 }
 
 /// A command line with the subcommands of two dictionaries too.
@@ -123,8 +124,7 @@ fn check_options<'a>(
     quiet_line(alloc, "check")?
         .arg(unknown_option(alloc, policies))?
         .arg(levels_option(alloc))?
-        .arg(flag(alloc, "lines", CHECK_LINES))?
-        .arg(flag(alloc, "stream", CHECK_STREAM))
+        .arg(flag(alloc, "lines", CHECK_LINES))
 }
 
 fn render_line<'a>(alloc: Global) -> Result<clap::Command<'a>, AllocError>
@@ -163,6 +163,28 @@ fn propose_line<'a>(alloc: Global, policies: &'a [&'a str]) -> Result<clap::Comm
     pair_line(alloc, "propose", policies)?
         .about("Prints the least table of pairs for commands of A")
         .arg(words(alloc, "COMMAND", "The name of a command of A"))
+}
+
+fn breaking_line<'a>(
+    alloc: Global,
+    policies: &'a [&'a str],
+    senders: &'a [&'a str],
+) -> Result<clap::Command<'a>, AllocError>
+    ensures { IfOk result (IsLine (breaking_shape policies.entry senders.entry)) }
+{
+    pair_line(alloc, "breaking", policies)?
+        .about("Prints each way in which messages that are valid for A aren't valid for B")
+        .arg(sends_option(alloc, senders))?
+        .arg(flag(
+            alloc,
+            "messages",
+            "Prints behind each line a message that shows it, as hexadecimal text",
+        ))?
+        .arg(any_words(
+            alloc,
+            "COMMAND",
+            "The name of a command of A; without any, all of A",
+        ))
 }
 
 /// A subcommand of two dictionaries, with the arguments that all of these have.
@@ -211,6 +233,20 @@ fn unknown_option<'a>(alloc: Global, policies: &'a [&'a str]) -> Arg<'a>
         )
 }
 
+fn sends_option<'a>(alloc: Global, senders: &'a [&'a str]) -> Arg<'a>
+    ensures rule { rule_of result ≡ sends_rule senders.entry }
+    ensures local { result.global ≡ false }
+{
+    Arg::new(alloc, "sends")
+        .long("sends")
+        .value_name("SENDS")
+        .default_value("any")
+        .value_parser(senders)
+        .help(
+            "Which AVPs the side of A sends: any that A allows, those that A knows, or those that a rule names",
+        )
+}
+
 fn levels_option<'a>(alloc: Global) -> Arg<'a>
     ensures rule { rule_of result ≡ levels_rule }
     ensures local { result.global ≡ false }
@@ -247,4 +283,12 @@ fn words<'a>(alloc: Global, id: &'a str, help: &'a str) -> Arg<'a>
     ensures local { result.global ≡ false }
 {
     word(alloc, id, help).num_args(1..)
+}
+
+/// An argument of any number of values.
+fn any_words<'a>(alloc: Global, id: &'a str, help: &'a str) -> Arg<'a>
+    ensures rule { rule_of result ≡ any_words_rule id.entry.now }
+    ensures local { result.global ≡ false }
+{
+    words(alloc, id, help).required(false)
 }

@@ -5,7 +5,7 @@ ghost use Rattle.dia_cli.specs.Request.{origins_of, task_of};
 
 use crate::origin::{Origin, Origins};
 use dia_io::{Command, Task};
-use dia_policy::{Levels, Unknown};
+use dia_policy::{Levels, Sends, Unknown};
 
 /// A subcommand, and whether `--quiet` was given.
 #[derive(Debug, PartialEq, Eq, Drop)]
@@ -31,13 +31,6 @@ pub enum Subcommand<'a> {
     },
     /// `check --lines [--unknown kept|refused] [--levels N] D MESSAGES`
     CheckLines {
-        unknown: Unknown,
-        levels: Levels,
-        dictionary: &'a str,
-        messages: &'a str,
-    },
-    /// `check --stream [--unknown kept|refused] [--levels N] D BYTES`
-    CheckStream {
         unknown: Unknown,
         levels: Levels,
         dictionary: &'a str,
@@ -73,6 +66,15 @@ pub enum Subcommand<'a> {
     /// `propose [--unknown kept|refused] A B COMMAND..`
     Propose {
         unknown: Unknown,
+        first: &'a str,
+        second: &'a str,
+        names: Vec<String>,
+    },
+    /// `breaking [--sends any|known|listed] [--unknown kept|refused] [--messages] A B [COMMAND..]`
+    Breaking {
+        sends: Sends,
+        unknown: Unknown,
+        messages: bool,
         first: &'a str,
         second: &'a str,
         names: Vec<String>,
@@ -120,11 +122,6 @@ impl<'a> Subcommand<'a> {
                 levels,
                 ..
             } => Task::CheckLines { unknown, levels },
-            Subcommand::CheckStream {
-                unknown,
-                levels,
-                ..
-            } => Task::CheckStream { unknown, levels },
             Subcommand::Render { .. } => Task::Whole(Command::Render),
             Subcommand::Compare { unknown, .. } => Task::Whole(Command::Compare { unknown }),
             Subcommand::Refute {
@@ -140,6 +137,18 @@ impl<'a> Subcommand<'a> {
             Subcommand::Propose { unknown, names, .. } => {
                 Task::Whole(Command::Propose { unknown, names })
             }
+            Subcommand::Breaking {
+                sends,
+                unknown,
+                messages,
+                names,
+                ..
+            } => Task::Breaking {
+                sends,
+                unknown,
+                messages,
+                names,
+            },
         }
     }
 
@@ -163,14 +172,6 @@ impl<'a> Subcommand<'a> {
                 ..Origins::of_dictionary(dictionary)
             },
             Subcommand::CheckLines {
-                dictionary,
-                messages,
-                ..
-            } => Origins {
-                messages: Origin::of_messages(messages),
-                ..Origins::of_dictionary(dictionary)
-            },
-            Subcommand::CheckStream {
                 dictionary,
                 messages,
                 ..
@@ -207,6 +208,7 @@ impl<'a> Subcommand<'a> {
                 ..Origins::of_pair(first, second)
             },
             Subcommand::Propose { first, second, .. } => Origins::of_pair(first, second),
+            Subcommand::Breaking { first, second, .. } => Origins::of_pair(first, second),
         }
     }
 }

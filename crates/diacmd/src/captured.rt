@@ -13,7 +13,7 @@ use std::{fs, io};
 /// Standard output, as it is named where it fails.
 const OUTPUT: &str = "standard output";
 
-/// Runs a command that reads its messages a piece at a time. For now those that judge no lines are refused.
+/// Runs a command that reads its messages a piece at a time.
 pub(crate) fn captured<'a, R>(
     rt: &R,
     task: &Task,
@@ -26,7 +26,8 @@ where
     match task {
         Task::CheckLines { unknown, levels } => check(rt, *unknown, *levels, inputs, messages),
         Task::RefuteLines { unknown, levels } => refute(rt, *unknown, *levels, inputs, messages),
-        _ => Ok(Exit::Bad),
+        // No words ask for these here.
+        Task::Whole(_) | Task::Breaking { .. } | Task::CheckStream { .. } => Ok(Exit::Bad),
     }
 }
 

@@ -16,6 +16,7 @@ use dia_cli::{
 use dia_io::Task;
 use dia_notes::{Words, explain};
 use dia_run::{Command, Exit, Inputs, ToWriter, run};
+use dia_upgrades::{Asked, breaking};
 use std::process::ExitCode;
 use std::rt::{Env, Files};
 use std::{env, io};
@@ -53,6 +54,20 @@ where
     let quiet = request.is_quiet();
     let command = match request.into_task() {
         Task::Whole(command) => command,
+        Task::Breaking {
+            sends,
+            unknown,
+            messages,
+            names,
+        } => {
+            let asked = Asked {
+                sends,
+                unknown,
+                messages,
+                names: names.as_slice(),
+            };
+            return list(rt, asked, &inputs);
+        }
         task => return captured(rt, &task, &inputs, origins.messages),
     };
     let mut sink = ToWriter::new(io::writer(rt));
@@ -63,6 +78,18 @@ where
             }
             Ok(exit)
         }
+        Err(fault) => Err(Ending::of_run(fault, "standard output", sink.failure())),
+    }
+}
+
+/// Lists what breaks.
+fn list<'a, R>(rt: &R, asked: Asked<'_>, inputs: &Inputs) -> Result<Exit, Ending<'a>>
+where
+    R: AllocGlobal + Files + Input + Print + Eprint,
+{
+    let mut sink = ToWriter::new(io::writer(rt));
+    match breaking(rt.alloc(), asked, inputs, &mut sink) {
+        Ok(exit) => Ok(exit),
         Err(fault) => Err(Ending::of_run(fault, "standard output", sink.failure())),
     }
 }

@@ -5,7 +5,7 @@ use super::printed::ends_with;
 use std::test::Fail;
 
 const NO_WORDS: &str = "error: 'diacmd' requires a subcommand but one was not provided
-  [subcommands: show, check, render, compare, refute, propose, help]
+  [subcommands: show, check, render, compare, refute, propose, breaking, help]
 
 Usage: diacmd <COMMAND>
 

@@ -1,6 +1,7 @@
 //! Words of the command line that ask for a run.
 
 use dia_check::{Levels, Unknown};
+use dia_policy::Sends;
 use dia_cli::{Origin, Origins, parse_words};
 use dia_io::Task;
 use dia_run::Command;
@@ -398,18 +399,10 @@ fn reads_the_words_of_many_messages(rt: HostRuntime) -> Result<(), Fail> {
         ..origins_of(a, Origin::Nowhere)
     };
     let kept = Unknown::Kept;
-    let rows: [(&[&str], Task, Origins); 3] = [
+    let rows: [(&[&str], Task, Origins); 2] = [
         (
             &["diacmd", "check", "--lines", "a.txt", "-", "--levels=2"],
             Task::CheckLines {
-                unknown: kept,
-                levels,
-            },
-            checked,
-        ),
-        (
-            &["diacmd", "check", "a.txt", "--levels=2", "-", "--stream"],
-            Task::CheckStream {
                 unknown: kept,
                 levels,
             },
@@ -438,14 +431,37 @@ fn reads_the_words_of_many_messages(rt: HostRuntime) -> Result<(), Fail> {
 }
 
 #[test]
+fn reads_the_words_of_breaking(rt: HostRuntime) -> Result<(), Fail> {
+    let words = [
+        "diacmd", "breaking", "--messages", "a.txt", "b.txt", "T", "--sends=listed",
+    ];
+    let Ok(request) = parse_words(rt.alloc(), words.as_slice()) else {
+        return Err(Fail::from("the words are refused"));
+    };
+    let (a, b) = (dictionary_file("a.txt"), dictionary_file("b.txt"));
+    assert_eq!(rt; request.origins(), refuted(a, b, Origin::Nowhere));
+    let mut names = Vec::new(rt.alloc());
+    names.push(String::from_str(rt.alloc(), "T")?)?;
+    let task = Task::Breaking {
+        sends: Sends::Listed,
+        unknown: Unknown::Kept,
+        messages: true,
+        names,
+    };
+    assert_eq!(rt; request.into_task(), task);
+    Ok(())
+}
+
+#[test]
 fn every_command_may_be_quiet(rt: HostRuntime) -> Result<(), Fail> {
-    let rows: [&[&str]; 6] = [
+    let rows: [&[&str]; 7] = [
         &["diacmd", "show", "--quiet", "m.hex"],
         &["diacmd", "check", "--quiet", "d.txt", "m.hex"],
         &["diacmd", "render", "d.txt", "--quiet"],
         &["diacmd", "compare", "--quiet", "a.txt", "b.txt", "t.txt"],
         &["diacmd", "refute", "a.txt", "--quiet", "b.txt", "m.hex"],
         &["diacmd", "propose", "a.txt", "b.txt", "T", "--quiet"],
+        &["diacmd", "breaking", "a.txt", "--quiet", "b.txt"],
     ];
     for words in rows.iter() {
         let Ok(request) = parse_words(rt.alloc(), *words) else {

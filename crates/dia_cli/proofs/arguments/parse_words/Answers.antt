@@ -10,5 +10,5 @@ returns-clause-words g c =
     let line = c.in_ok-line.ensures in
     let found = (c.in_ok-matches.ensures.ok.2 (ap is_simple line)).1 ∙ ap (λ app. subcommand_of app (map g.S.AsStr.text c.args.words.now)) line in
     IfOk-weaker c.asked.result _ _
-    (λ request asked. (c.as_slice.result, search rules, subst (λ sub. IsSomeAnd sub (IsRequestOf request)) found asked))
+    (λ request asked. (c.as_slice.result, c.as_slice-2.result, search rules, search rules, subst (λ sub. IsSomeAnd sub (IsRequestOf request)) found asked))
     c.asked.ensures.words
