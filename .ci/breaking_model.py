@@ -239,8 +239,10 @@ class Model:
             yield "order", y, "", min((self.with_keys(a, {x: 1, y: 1}) for x in before), default=math.inf) if y in keys else math.inf
 
     def sent(self, a, key):
-        rule = a.rule(key) or (a.wildcard() if key in self.strangers(a) else None)
-        return rule.sent() if rule else "0"
+        rule = a.rule(key)
+        if rule:
+            return rule.sent()
+        return counts(0, a.wildcard().high) if key in self.strangers(a) else "0"
 
     def own_lines(self, key):
         """Of each way in which an AVP of the key breaks by itself: reason, detail, and what the AVP takes. And whether it is undecided."""

@@ -1,7 +1,6 @@
 -- The first of the others that no rule lists is one of a shortest AVP.
-use Rattle.std.proofs.Common.{◌≡◌, ℕ, zero, suc, ◌+◌, ◌≤◌, min, max, Bool, true, false, not, List, [], ◌∷◌, ◌++◌, map, length, Option, Some, None, refl, sym, ap, subst, ◌∙◌, arith, inl, inr}
-use Rattle.std.specs.Prelude.{◌⊎◌, ◌&&◌, take, is_some, find, slice_get, slice_index_or, Contains, if◌then◌else◌}
-use Rattle.std.specs.List.{list_any}
+use Rattle.std.proofs.Common.{◌≡◌, ℕ, zero, suc, ◌+◌, ◌≤◌, min, max, Bool, true, false, not, List, [], ◌∷◌, ◌++◌, map, Option, Some, None, refl, sym, ap, ◌∙◌, arith, inl, inr}
+use Rattle.std.specs.Prelude.{◌&&◌, take, is_some, find, slice_get, slice_index_or, Contains, if◌then◌else◌}
 use Rattle.std.specs.List.Sorted.{IsNonDecreasingBy}
 use Rattle.std.specs.Option.{option_map_or}
 use Rattle.std.proofs.lemmas.List.Sorted.{Contains-permutation}
@@ -19,10 +18,10 @@ use Rattle.dia_compat.proofs.MemberCounts.{in_at, at_in, in_contains, contains_i
 use Rattle.dia_compat.proofs.RunsOfFixedRules.{IsIn}
 use Rattle.dia_policy.specs.declared.Sends.{Sends}
 use Rattle.dia_policy.specs.declared.Sends.TheVariants.{Any, Known, Listed}
-use Rattle.dia_least.specs.Floors.{shortest_head, vendor_field}
+use Rattle.dia_least.specs.Floors.{shortest_head}
 use Rattle.dia_levels.specs.Levels.{FirstIsShortest}
 use Rattle.dia_levels.specs.LevelTests.{too_long, is_outside}
-use Rattle.dia_breaking.specs.Lengths.{unknown_length, length_of_entry, listed_length, other_length, AreOthers}
+use Rattle.dia_breaking.specs.Lengths.{length_of_entry, listed_length, other_length, AreOthers}
 
 -- ---- keys that a dictionary doesn't know
 

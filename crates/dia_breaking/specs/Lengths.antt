@@ -1,5 +1,5 @@
 -- What the AVPs take that the sender's side sends.
-use Rattle.std.specs.Prelude.{◌≡◌, ℕ, ⊤, min, max, List, [], ◌∷◌, map, Option, Some, None, slice_get}
+use Rattle.std.specs.Prelude.{◌≡◌, ℕ, ⊤, min, max, List, [], ◌∷◌, map, None, slice_get}
 use Rattle.std.specs.List.Sorted.{IsPermutation, IsNonDecreasingBy}
 use Rattle.std.specs.Option.{option_map_or}
 use Rattle.dia_wire.specs.declared.Key.{Key}

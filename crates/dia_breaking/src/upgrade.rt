@@ -53,6 +53,13 @@ impl<'a, A: Book, B: Book> Upgrade<'a, A, B> {
         })
     }
 
+    /// The dictionary of A's side.
+    pub fn sender(&self) -> &'a A
+        ensures { result.now ≡ self.now.a.now }
+    {
+        self.a
+    }
+
     /// All that can break the messages of a command of A. The error comes only where memory was refused.
     pub fn breaks(&self, alloc: Global, command: DefId) -> Result<Breaks, AllocError>
         requires { command < length (definitions (A.meaning self.now.a.now)) }

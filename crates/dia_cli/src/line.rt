@@ -39,7 +39,6 @@ const CHECKED: &str =
 
 const CHECK_LINES: &str = "Tells of each line, a message, whether it is valid";
 
-
 const REFUTED: &str =
     "A file of hexadecimal text, white space ignored; with --lines, of a message a line; - for standard input";
 

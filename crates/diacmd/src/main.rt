@@ -5,7 +5,6 @@
 #![tactic(auto)]
 
 mod captured;
-
 #[cfg(test)]
 mod tests;
 

@@ -1,9 +1,9 @@
 //! Words of the command line that ask for a run.
 
 use dia_check::{Levels, Unknown};
-use dia_policy::Sends;
 use dia_cli::{Origin, Origins, parse_words};
 use dia_io::Task;
+use dia_policy::Sends;
 use dia_run::Command;
 use std::process::Abort;
 use std::test::Fail;
@@ -433,7 +433,13 @@ fn reads_the_words_of_many_messages(rt: HostRuntime) -> Result<(), Fail> {
 #[test]
 fn reads_the_words_of_breaking(rt: HostRuntime) -> Result<(), Fail> {
     let words = [
-        "diacmd", "breaking", "--messages", "a.txt", "b.txt", "T", "--sends=listed",
+        "diacmd",
+        "breaking",
+        "--messages",
+        "a.txt",
+        "b.txt",
+        "T",
+        "--sends=listed",
     ];
     let Ok(request) = parse_words(rt.alloc(), words.as_slice()) else {
         return Err(Fail::from("the words are refused"));

@@ -9,10 +9,12 @@ returns-then-branch c =
     let found = found_of c.args.found.now in
     let limit = subst (λ word. IsLimitOf word c.in_ok-levels.levels) (c.get_str.ensures ∙ first_value-rows found (codes "levels")) c.in_ok-levels.ensures in (
       refl,
-      (c.in_ok-flag_of.ensures ∙ ap (λ given. Some (flag_word given)) c.if-branch.true,
-      c.in_ok-unknown.ensures,
-      limit,
-      sym (first_value-rows found (codes "MESSAGE")) ∙ sym c.in_ok-message.ensures),
+      (
+        c.in_ok-flag_of.ensures ∙ ap (λ given. Some (flag_word given)) c.if-branch.true,
+        c.in_ok-unknown.ensures,
+        limit,
+        sym (first_value-rows found (codes "MESSAGE")) ∙ sym c.in_ok-message.ensures,
+      ),
     )
 
 pub returns-else-branch : goal.returns-else-branch
@@ -20,8 +22,10 @@ returns-else-branch c =
     let found = found_of c.args.found.now in
     let limit = subst (λ word. IsLimitOf word c.in_ok-levels.levels) (c.get_str.ensures ∙ first_value-rows found (codes "levels")) c.in_ok-levels.ensures in (
       refl,
-      (c.in_ok-flag_of.ensures ∙ ap (λ given. Some (flag_word given)) c.if-branch.false,
-      c.in_ok-unknown.ensures,
-      limit,
-      sym (first_value-rows found (codes "MESSAGE")) ∙ sym c.in_ok-message.ensures),
+      (
+        c.in_ok-flag_of.ensures ∙ ap (λ given. Some (flag_word given)) c.if-branch.false,
+        c.in_ok-unknown.ensures,
+        limit,
+        sym (first_value-rows found (codes "MESSAGE")) ∙ sym c.in_ok-message.ensures,
+      ),
     )
