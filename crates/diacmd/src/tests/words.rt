@@ -110,7 +110,10 @@ fn are_read(
     };
     assert_eq!(rt; request.origins(), origins);
     assert!(rt; !request.is_quiet());
-    assert!(rt; matches!(request.into_task(), Task::Whole(asked) if asked == *command));
+    let Task::Whole(asked) = request.into_task() else {
+        return Err(Fail::from("the words ask for another task"));
+    };
+    assert_eq!(rt; asked, *command);
     Ok(())
 }
 
