@@ -7,6 +7,8 @@ use Rattle.dia_check.specs.Valid.{Placed}
 use Rattle.dia_levels.specs.CountsAndRanks.{AreSound, AreInPlace}
 use Rattle.dia_levels.specs.Breaches.{Breach}
 use Rattle.dia_levels.specs.LeastLevels.{total, plan, IsFiller, IsCheapest}
+use Rattle.dia_levels.specs.LevelTests.{price, length_once}
+use Rattle.dia_levels.specs.Levels.{OtherIsShortest, IsWithinAllWith}
 
 -- the rules of a dictionary's definitions are sound
 abbrev pub DefinitionsAreSound : Type 0
@@ -31,3 +33,8 @@ PlanIsPlaced = (rules : List DRule) (filler : Key) → AreRules rules → IsFill
 -- and no keys that do cost less, whatever keys cost
 abbrev pub PlanIsLeast : Type 0
 PlanIsLeast = (rules : List DRule) (filler : Key) (cost : Key → ℕ) (keys : List Key) → AreSound rules → Placed rules keys → IsCheapest 0 cost filler rules keys → total cost (plan filler rules) ≤ total cost keys
+
+-- no level of a definition that has a key is shorter than what is computed
+abbrev pub OnceIsLeast : Type 0
+OnceIsLeast = (listed other : Key → ℕ) (others : List Key) (rules : List DRule) (key : Key) → AreRules rules → OtherIsShortest other others rules
+    → IsWithinAllWith (price listed other rules) rules key (length_once listed other others rules key)

@@ -1,6 +1,6 @@
 //! What holds of the levels of definitions: by it a level is looked at as counts of keys and one order.
 ghost use Rattle.dia_levels.specs.Laws.{DefinitionsAreSound, PlacedIsInPlace, PlacedOrBreach};
-ghost use Rattle.dia_levels.specs.Laws.{BreachIsUnplaced, PlanIsPlaced, PlanIsLeast};
+ghost use Rattle.dia_levels.specs.Laws.{BreachIsUnplaced, PlanIsPlaced, PlanIsLeast, OnceIsLeast};
 
 /// The rules of a dictionary's definitions are as the other laws want them.
 pub fn definitions_are_sound()
@@ -22,4 +22,9 @@ pub fn breaches_are_all()
 pub fn plan_is_least()
     ensures placed { PlanIsPlaced }
     ensures least { PlanIsLeast }
+{}
+
+/// The least level in which a key stands once or more is computed from the rules, and the cheapest AVP by the wildcard.
+pub fn once_is_least()
+    ensures { OnceIsLeast }
 {}

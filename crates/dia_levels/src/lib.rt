@@ -17,7 +17,9 @@ mod rules;
 mod steps;
 
 pub use costs::Costs;
-pub use laws::{breaches_are_all, definitions_are_sound, placed_is_in_place, plan_is_least};
+pub use laws::{
+    breaches_are_all, definitions_are_sound, once_is_least, placed_is_in_place, plan_is_least,
+};
 pub use lengths::TOO_LONG;
 pub use levels::level_lines;
 pub use line::{Line, Part, Reason};

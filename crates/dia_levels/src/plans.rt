@@ -88,10 +88,12 @@ fn length_once<A: Book, C: Costs>(a: &Rules<'_, A>, costs: &C, key: Key) -> u64
 /// The length of the least level of a definition.
 pub fn length_least<A: Book, C: Costs>(a: &A, a_def: DefId, costs: &C) -> u64
     requires { a_def < length (definitions (A.meaning a.now)) }
-    ensures { OtherIsShortest (C.other_length costs.now) (C.other_keys costs.now)
+    ensures within { OtherIsShortest (C.other_length costs.now) (C.other_keys costs.now)
         (rules_in (A.meaning a.now) a_def) → IsWithinAll
         (price (C.listed_length costs.now) (C.other_length costs.now)
         (rules_in (A.meaning a.now) a_def)) (rules_in (A.meaning a.now) a_def) result }
+    ensures computed { result ≡ least_length (C.listed_length costs.now) (C.other_length costs.now)
+        (C.other_keys costs.now) (rules_in (A.meaning a.now) a_def) }
 {
     is_sound(a, a_def);
     let a = Rules {
