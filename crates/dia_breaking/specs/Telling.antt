@@ -1,16 +1,17 @@
 -- The keys of which there is something to tell: AVPs that break by themselves, or in which both dictionaries see a level.
-use Rattle.std.specs.Prelude.{◌≡◌, ◌⊎◌, ℕ, true, false, List, Some, None, IsSome, slice_get, Contains}
+use Rattle.std.specs.Prelude.{◌≡◌, ◌⊎◌, ℕ, Bool, true, false, ◌&&◌, ◌||◌, if◌then◌else◌, List, [], ◌∷◌, ◌++◌, length, Option, Some, None, option_and_then, is_some, IsSome, slice_get, Contains}
 use Rattle.std.specs.HashMap.{get}
 use Rattle.dia_wire.specs.declared.Key.{Key}
 use Rattle.dia_book.specs.Keys.{same_key}
-use Rattle.dia_book.specs.Dictionary.{Dictionary, entry_of}
+use Rattle.dia_book.specs.Dictionary.{Dictionary}
 use Rattle.dia_policy.specs.declared.Unknown.{Unknown}
 use Rattle.dia_policy.specs.declared.Sends.{Sends}
-use Rattle.dia_policy.specs.declared.Sends.TheVariants.{Any}
 use Rattle.dia_entries.specs.Sent.{group_of}
+use Rattle.dia_entries.specs.Breaks.{AcceptsFlags}
 use Rattle.dia_entries.specs.Laws.{FitKeyAlone}
 use Rattle.dia_breaking.specs.declared.keys.Own.{Own}
 use Rattle.dia_breaking.specs.declared.keys.Telling.{Telling}
+use Rattle.dia_breaking.specs.SentKeys.{IsStrange}
 
 -- both dictionaries see a level in AVPs of the key
 abbrev pub AreGroups : Dictionary → Dictionary → Key → Type 0
@@ -20,19 +21,34 @@ AreGroups da db key = IsSome (group_of da key) × IsSome (group_of db key)
 abbrev pub IsUntold : Dictionary → Dictionary → Sends → Unknown → Key → Type 0
 IsUntold da db who u key = FitKeyAlone da db who u key × (¬ AreGroups da db key)
 
--- neither dictionary knows the key
-abbrev pub IsStrange : Dictionary → Dictionary → Key → Type 0
-IsStrange da db key = (entry_of da key ≡ None) × (entry_of db key ≡ None)
-
 -- a strange one that breaks, without vendor, stands for all strange ones
 abbrev pub StandsFor : Dictionary → Dictionary → Key → Own → Type 0
 StandsFor da db key own = IsStrange da db key × IsStrange da db own.key × (own.key.vendor ≡ 0) × (own.breaks ≡ true)
 
--- the keys that A's side sends: those that A knows, and where it sends any those that B knows and a strange one
-pub record AreSentKeys (da db : Dictionary) (who : Sends) (keys : List Key) : Type 0 where
-  pub own : (key : Key) → IsSome (entry_of da key) → Contains keys key
-  pub other : who ≡ Any → (key : Key) → IsSome (entry_of db key) → Contains keys key
-  pub strange : who ≡ Any → (key : Key) × Contains keys key × IsStrange da db key × (key.vendor ≡ 0)
+-- what is found of a key, where nothing breaks, is that B accepts each M flag of its AVPs, and that they fit alone
+pub record IsToldOf (da db : Dictionary) (who : Sends) (u : Unknown) (key : Key) (own : Own) : Type 0 where
+  pub key_is : own.key ≡ key
+  pub silent : own.breaks ≡ false → AcceptsFlags da db who u key × FitKeyAlone da db who u key
+  pub group : own.is_group ≡ (is_some (group_of da key) && is_some (group_of db key))
+
+-- what is told of the key
+abbrev pub told : Telling → Key → Option Own
+told telling key = option_and_then (slice_get telling.own.items) (get same_key telling.places key)
+
+-- what breaks is told, and what has a level of both
+abbrev pub is_told : Own → Bool
+is_told own = own.breaks || own.is_group
+
+-- one more is told, if there is something to tell
+pub record Adds (own : Own) (old new : Telling) : Type 0 where
+  pub items : new.own.items ≡ (if is_told own then old.own.items ++ own ∷ [] else old.own.items)
+  pub places : (key : Key) → get same_key new.places key ≡ (if is_told own && same_key own.key key then Some (length old.own.items) else get same_key old.places key)
+
+-- of these keys all is told that there is to tell
+pub record AreTold (da db : Dictionary) (who : Sends) (u : Unknown) (keys : List Key) (telling : Telling) : Type 0 where
+  pub placed : (key : Key) (place : ℕ) → get same_key telling.places key ≡ Some place → (own : Own) × (slice_get telling.own.items place ≡ Some own) × (own.key ≡ key)
+  pub each : (own : Own) → Contains telling.own.items own → IsToldOf da db who u own.key own
+  pub rest : (key : Key) → Contains keys key → get same_key telling.places key ≡ None → (own : Own) × IsToldOf da db who u key own × (is_told own ≡ false)
 
 -- what is told, and of every key that is not: there is nothing to tell, or another stands for it
 pub record IsTelling (da db : Dictionary) (who : Sends) (u : Unknown) (telling : Telling) : Type 0 where

@@ -1,9 +1,18 @@
 //! Whether a pair of definitions is closed: nothing breaks in the levels that both read, and their groups lead to known sites.
-ghost use Rattle.std.specs.Prelude.{◌≡◌, ◌<◌, ◌≤◌, IfOk, IsTrue, length};
+ghost use Rattle.std.specs.Prelude.{◌≡◌, ◌+◌, ◌<◌, ◌≤◌, IfOk, IsTrue, All, length, map, find, not};
+ghost use Rattle.std.specs.HashMap.{get};
+ghost use Rattle.std.specs.List.{list_all};
+ghost use Rattle.std.specs.List.Sorted.{IsPermutation, IsNonDecreasingBy};
+ghost use Rattle.dia_book.specs.Keys.{same_key};
 ghost use Rattle.dia_book.specs.Dictionary.{definitions};
+ghost use Rattle.dia_check.specs.Valid.{is_listed};
 ghost use Rattle.dia_sites.specs.Selection.{max_body};
+ghost use Rattle.dia_compat.specs.Tests.{rules_in};
+ghost use Rattle.dia_breaking.specs.ClosedRules.{AreWaysOf, IsFirst, first_spare};
+ghost use Rattle.dia_breaking.specs.ClosedRules.{is_closed_rule, is_safe, leads};
+ghost use Rattle.dia_breaking.specs.ClosedRules.{other_of, spare_by_way};
 ghost use Rattle.dia_breaking.specs.Closing.{IsClosedBy};
-ghost use Rattle.dia_breaking.specs.Lengths.{listed_length};
+ghost use Rattle.dia_breaking.specs.Lengths.{listed_length, other_length};
 ghost use Rattle.dia_breaking.specs.Telling.{IsTelling};
 
 use crate::books::{lists, rules_of};
@@ -11,20 +20,12 @@ use crate::keys::Own;
 use crate::levels::LevelCost;
 use crate::upgrade::Upgrade;
 use crate::walk::ROOM;
-use crate::ways::Way;
+use crate::ways::{Other, Way};
 use dia_book::{Book, DRule, DefId, Key};
 use dia_least::shortest_head;
 use dia_levels::{Costs, Line, TOO_LONG};
 use std::alloc::{AllocError, Global};
 use std::collections::HashMap;
-
-/// An AVP of which there is something to tell, where a wildcard lets it in.
-#[derive(Clone, Copy, Debug)]
-pub(crate) struct Other {
-    pub key: Key,
-    /// So much may be left for it that what is told of it doesn't matter: its group has a site with room, or it has no room.
-    pub spare: u64,
-}
 
 /// The sites of groups that a walk has found, and what the wildcards of definitions may let in.
 #[derive(Drop)]
@@ -35,6 +36,10 @@ pub(crate) struct Closing<'u, 'a, A: Book, B: Book> {
     pub ways: HashMap<Key, u64>,
     /// The AVPs of which there is something to tell, those with the least to spare first.
     pub others: Vec<Other>,
+    ghost ways_are: { AreWaysOf groups.now (get same_key ways) },
+    ghost first: { IsFirst (other_length (A.meaning upgrade.now.lengths.book.now)
+        upgrade.now.lengths.sends upgrade.now.lengths.entries.items)
+        (get same_key ways) upgrade.now.telling.value.own.items others.items },
 }
 
 impl<'u, 'a, A: Book, B: Book> Closing<'u, 'a, A, B> {
@@ -48,7 +53,7 @@ impl<'u, 'a, A: Book, B: Book> Closing<'u, 'a, A, B> {
         ensures groups { IfOk result (λ closing. closing.groups.now ≡ groups.now) }
     {
         let ways = ways_of(alloc, groups)?;
-        let others = others_of(alloc, upgrade, &ways)?;
+        let others = others_of(alloc, &upgrade.telling.own, &upgrade.lengths, &ways)?;
         Ok(Closing {
             upgrade,
             groups,
@@ -72,13 +77,15 @@ impl<'u, 'a, A: Book, B: Book> Closing<'u, 'a, A, B> {
             → IsTelling (A.meaning self.now.upgrade.now.a.now) (B.meaning self.now.upgrade.now.b.now)
             self.now.upgrade.now.sends self.now.upgrade.now.unknown
             self.now.upgrade.now.telling.value
-            → way ≤ max_body
             → IsClosedBy (A.meaning self.now.upgrade.now.a.now) (B.meaning self.now.upgrade.now.b.now)
             self.now.upgrade.now.sends self.now.upgrade.now.unknown
             (listed_length (A.meaning self.now.upgrade.now.a.now) self.now.upgrade.now.sends
             self.now.upgrade.now.lengths.entries.items)
             self.now.groups.now a_def b_def way) }
     {
+        if ROOM < way {
+            return Ok(false);
+        }
         let cost = LevelCost::new(self.upgrade.a, a_def, &self.upgrade.lengths);
         if !self.are_rules_closed(a_def, way, &cost)
             || !self.is_wildcard_closed(a_def, way, &cost)
@@ -90,13 +97,26 @@ impl<'u, 'a, A: Book, B: Book> Closing<'u, 'a, A, B> {
     }
 
     /// Whether each AVP that a rule lists breaks nothing, or has no room, or leads to its site.
-    fn are_rules_closed(&self, a_def: DefId, way: u64, cost: &LevelCost) -> bool {
+    fn are_rules_closed(&self, a_def: DefId, way: u64, cost: &LevelCost) -> bool
+        requires { a_def < length (definitions (A.meaning self.now.upgrade.now.a.now)) }
+        ensures { result ≡ list_all (is_closed_rule self.now.upgrade.now.telling.value
+            (get same_key self.now.ways)
+            (listed_length (A.meaning self.now.upgrade.now.lengths.book.now)
+            self.now.upgrade.now.lengths.sends self.now.upgrade.now.lengths.entries.items)
+            cost.now way) (rules_in (A.meaning self.now.upgrade.now.a.now) a_def) }
+    {
         rules_of(self.upgrade.a, a_def)
             .iter()
             .all(|rule| self.is_rule_closed(way, cost, rule))
     }
 
-    fn is_rule_closed(&self, way: u64, cost: &LevelCost, rule: &DRule) -> bool {
+    fn is_rule_closed(&self, way: u64, cost: &LevelCost, rule: &DRule) -> bool
+        ensures { result ≡ is_closed_rule self.now.upgrade.now.telling.value
+            (get same_key self.now.ways)
+            (listed_length (A.meaning self.now.upgrade.now.lengths.book.now)
+            self.now.upgrade.now.lengths.sends self.now.upgrade.now.lengths.entries.items)
+            cost.now way rule.now }
+    {
         match rule.key {
             Some(key) => {
                 let least = self.upgrade.lengths.listed(key);
@@ -108,7 +128,11 @@ impl<'u, 'a, A: Book, B: Book> Closing<'u, 'a, A, B> {
     }
 
     /// Whether there is nothing to tell of a key whose least AVP stands in messages of this length, or it leads to its site.
-    fn is_safe(&self, key: Key, least: u64, length: u64) -> bool {
+    fn is_safe(&self, key: Key, least: u64, length: u64) -> bool
+        requires { length ≤ max_body }
+        ensures { result ≡ is_safe self.now.upgrade.now.telling.value (get same_key self.now.ways)
+            key least length }
+    {
         match self.upgrade.telling.find(key) {
             Some(own) => !own.breaks && self.leads(key, least, length),
             None => true,
@@ -116,27 +140,48 @@ impl<'u, 'a, A: Book, B: Book> Closing<'u, 'a, A, B> {
     }
 
     /// Whether the way to the group's site is no longer than through this level.
-    fn leads(&self, key: Key, least: u64, length: u64) -> bool {
+    fn leads(&self, key: Key, least: u64, length: u64) -> bool
+        requires { length ≤ max_body }
+        ensures { result ≡ leads (get same_key self.now.ways) key least length }
+    {
         match self.ways.get(&key) {
-            Some(way) => way.saturating_add(least) <= length + shortest_head(key),
+            Some(way) => {
+                let there = way.saturating_add(least);
+                there <= length.saturating_add(shortest_head(key))
+            }
             None => false,
         }
     }
 
     /// The same for the AVPs that the wildcard lets in: it holds of all where it holds of the first that no rule lists.
-    fn is_wildcard_closed(&self, a_def: DefId, way: u64, cost: &LevelCost) -> bool {
+    fn is_wildcard_closed(&self, a_def: DefId, way: u64, cost: &LevelCost) -> bool
+        requires { a_def < length (definitions (A.meaning self.now.upgrade.now.a.now)) }
+        ensures { IsTrue result → max_body < way + cost.now.beside + first_spare
+            (λ key. not (is_listed (rules_in (A.meaning self.now.upgrade.now.a.now) a_def) key))
+            self.now.others.items }
+    {
         let beside = way.saturating_add(cost.beside);
         ROOM < beside.saturating_add(self.least_spare(a_def))
     }
 
-    fn least_spare(&self, a_def: DefId) -> u64 {
+    fn least_spare(&self, a_def: DefId) -> u64
+        requires { a_def < length (definitions (A.meaning self.now.upgrade.now.a.now)) }
+        ensures { result ≡ first_spare
+            (λ key. not (is_listed (rules_in (A.meaning self.now.upgrade.now.a.now) a_def) key))
+            self.now.others.items }
+    {
         match self.first_other(a_def) {
             Some(other) => other.spare,
             None => TOO_LONG,
         }
     }
 
-    fn first_other(&self, a_def: DefId) -> Option<Other> {
+    fn first_other(&self, a_def: DefId) -> Option<Other>
+        requires { a_def < length (definitions (A.meaning self.now.upgrade.now.a.now)) }
+        ensures { result ≡ find (λ other. not (is_listed
+            (rules_in (A.meaning self.now.upgrade.now.a.now) a_def) other.key))
+            self.now.others.items }
+    {
         self.others
             .iter()
             .copied()
@@ -144,7 +189,9 @@ impl<'u, 'a, A: Book, B: Book> Closing<'u, 'a, A, B> {
     }
 }
 
-fn ways_of(alloc: Global, groups: &[Way]) -> Result<HashMap<Key, u64>, AllocError> {
+fn ways_of(alloc: Global, groups: &[Way]) -> Result<HashMap<Key, u64>, AllocError>
+    ensures { IfOk result (λ ways. AreWaysOf groups.now (get same_key ways)) }
+{
     let mut ways = HashMap::new(alloc);
     for group in groups {
         ways.insert(group.key, group.way)?;
@@ -153,12 +200,17 @@ fn ways_of(alloc: Global, groups: &[Way]) -> Result<HashMap<Key, u64>, AllocErro
 }
 
 /// What there is to spare for the AVPs of which there is something to tell, the least first.
-fn others_of<A: Book, B: Book>(
+fn others_of<C: Costs>(
     alloc: Global,
-    upgrade: &Upgrade<'_, A, B>,
+    told: &[Own],
+    costs: &C,
     ways: &HashMap<Key, u64>,
-) -> Result<Vec<Other>, AllocError> {
-    let mut others = all_others(alloc, &upgrade.telling.own, &upgrade.lengths, ways)?;
+) -> Result<Vec<Other>, AllocError>
+    ensures sorted { IfOk result (λ others. IsNonDecreasingBy (λ o. o.spare) others.items) }
+    ensures all { IfOk result (λ others. IsPermutation
+        (map (other_of (C.other_length costs.now) (get same_key ways.now)) told.now) others.items) }
+{
+    let mut others = all_others(alloc, told, costs, ways)?;
     others.sort_by_key(|other| other.spare)?;
     Ok(others)
 }
@@ -168,19 +220,28 @@ fn all_others<C: Costs>(
     told: &[Own],
     costs: &C,
     ways: &HashMap<Key, u64>,
-) -> Result<Vec<Other>, AllocError> {
-    let mut others = Vec::new(alloc);
-    for own in told {
-        others.push(Other {
-            key: own.key,
-            spare: costs.other(own.key).max(spare_by_way(own, ways)),
-        })?;
+) -> Result<Vec<Other>, AllocError>
+    ensures { IfOk result (λ others. others.items
+        ≡ map (other_of (C.other_length costs.now) (get same_key ways.now)) told.now) }
+{
+    told.iter()
+        .map(|own| other_of(costs, ways, own))
+        .collect(alloc)
+}
+
+fn other_of<C: Costs>(costs: &C, ways: &HashMap<Key, u64>, own: &Own) -> Other
+    ensures { result ≡ other_of (C.other_length costs.now) (get same_key ways.now) own.now }
+{
+    Other {
+        key: own.key,
+        spare: costs.other(own.key).max(spare_by_way(ways, own)),
     }
-    Ok(others)
 }
 
 /// What a group that breaks nothing may have beside it, where it has a site.
-fn spare_by_way(own: &Own, ways: &HashMap<Key, u64>) -> u64 {
+fn spare_by_way(ways: &HashMap<Key, u64>, own: &Own) -> u64
+    ensures { result ≡ spare_by_way (get same_key ways.now) own.now }
+{
     if own.breaks {
         return 0;
     }
@@ -191,7 +252,9 @@ fn spare_by_way(own: &Own, ways: &HashMap<Key, u64>) -> u64 {
 }
 
 /// Whether messages that have so much around the levels of these lines have no room for them.
-fn are_too_long(lines: &[Line], way: u64) -> bool {
+fn are_too_long(lines: &[Line], way: u64) -> bool
+    ensures { IsTrue result → All (λ line. max_body < way + line.length) lines.now }
+{
     lines
         .iter()
         .all(|line| ROOM < way.saturating_add(line.length))

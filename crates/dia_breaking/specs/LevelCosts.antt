@@ -1,0 +1,27 @@
+-- What a definition's levels take in which an AVP stands (RFC 6733 section 3.2).
+use Rattle.std.specs.Prelude.{◌≡◌, ℕ, ◌+◌, ◌-◌, nat_eq, nat_le, nat_lt, false, ◌||◌, if◌then◌else◌, List, Some}
+use Rattle.std.specs.Option.{option_eq}
+use Rattle.dia_wire.specs.declared.Key.{Key}
+use Rattle.dia_book.specs.declared.DRule.{DRule}
+use Rattle.dia_check.specs.Valid.{is_listed}
+use Rattle.dia_compat.specs.Below.{HasRule}
+use Rattle.dia_levels.specs.Levels.{IsWithinAllWith}
+use Rattle.dia_levels.specs.LevelTests.{too_long, capped, price}
+use Rattle.dia_breaking.specs.declared.levels.LevelCost.{LevelCost}
+
+-- with an AVP of the rule's key, which is this long
+abbrev pub with_listed : LevelCost → DRule → ℕ → ℕ
+with_listed cost rule length = if option_eq nat_eq rule.max (Some 0) || nat_le too_long length then too_long else if nat_lt 0 rule.min then cost.base else capped (cost.base + length)
+
+-- with an AVP that comes through the wildcard, and is this long
+abbrev pub with_other : LevelCost → ℕ → ℕ
+with_other cost length = capped (cost.beside + length)
+
+-- what a least level takes beside an AVP by this wildcard, where the least by it has the length `filler`
+abbrev pub beside_of : ℕ → ℕ → DRule → ℕ
+beside_of base filler wild = if option_eq nat_eq wild.max (Some 0) || nat_le too_long base then too_long else if nat_lt 0 wild.min then base - filler else base
+
+-- no level in which a key stands is shorter than the cost says
+pub record IsCostOf (listed other : Key → ℕ) (rules : List DRule) (cost : LevelCost) : Type 0 where
+  pub listed_within : (key : Key) (rule : DRule) → HasRule rules key rule → IsWithinAllWith (price listed other rules) rules key (with_listed cost rule (listed key))
+  pub others_within : (key : Key) → is_listed rules key ≡ false → IsWithinAllWith (price listed other rules) rules key (with_other cost (other key))
