@@ -42,6 +42,7 @@ abbrev pub EndsWith : Ending → ℕ → Type 0
 EndsWith (ending.Told error) status = (IsHelp error → status ≡ 0) × (¬ IsHelp error → status ≡ 2)
 EndsWith ending.NotText status = status ≡ 2
 EndsWith ending.ReadTwice status = status ≡ 2
+EndsWith ending.LinesAndStream status = status ≡ 2
 EndsWith (ending.Device name error) status = status ≡ 3
 EndsWith ending.NoMemory status = status ≡ 3
 
@@ -65,6 +66,7 @@ IsTextOf (ending.Told error) text = ⊤
 IsTextOf ending.NotText text = text ≡ codes "error: a word of the command line isn't UTF-8" ++ try_help
 IsTextOf ending.ReadTwice text =
     text ≡ codes "error: '-' is given twice, and standard input can be read once: name a file for one of the two" ++ try_help
+IsTextOf ending.LinesAndStream text = text ≡ codes "error: the argument '--lines' cannot be used with '--stream'" ++ try_help
 IsTextOf (ending.Device name (Some error)) text = IsDeviceText name.now text
 IsTextOf (ending.Device name None) text = text ≡ device_failed
 IsTextOf ending.NoMemory text = text ≡ no_memory_text

@@ -9,7 +9,7 @@ use Rattle.dia_cli.specs.declared.origin.Origin.TheVariants.{Nowhere}
 use Rattle.dia_cli.specs.declared.origin.Origins.{Origins}
 use Rattle.dia_cli.specs.declared.request.Request.{Request}
 use Rattle.dia_cli.specs.declared.request.Subcommand.{Subcommand}
-use Rattle.dia_cli.specs.declared.request.Subcommand.TheVariants.{Show, Check, CheckLines, Render}
+use Rattle.dia_cli.specs.declared.request.Subcommand.TheVariants.{Show, Check, CheckLines, CheckStream, Render}
 use Rattle.dia_cli.specs.declared.request.Subcommand.TheVariants.{Compare, Refute, RefuteLines, Propose, Breaking}
 use Rattle.dia_cli.specs.declared.ending.Ending.{Ending}
 use Rattle.dia_cli.specs.declared.ending.Ending.TheVariants.{ReadTwice}
@@ -19,6 +19,7 @@ abbrev pub task_of : Subcommand → Task
 task_of (Show dictionary message) = task.Whole command.Show
 task_of (Check unknown levels dictionary message) = task.Whole (command.Check unknown levels)
 task_of (CheckLines unknown levels dictionary messages) = task.CheckLines unknown levels
+task_of (CheckStream unknown levels dictionary bytes) = task.CheckStream unknown levels
 task_of (Render dictionary) = task.Whole command.Render
 task_of (Compare unknown first second table) = task.Whole (command.Compare unknown)
 task_of (Refute unknown levels first second message) = task.Whole (command.Refute unknown levels)
@@ -45,6 +46,8 @@ origins_of (Show dictionary message) = record (one_origin dictionary) { message 
 origins_of (Check unknown levels dictionary message) = record (one_origin dictionary) { message = message_origin message }
 origins_of (CheckLines unknown levels dictionary messages) =
     record (one_origin dictionary) { messages = messages_origin messages }
+origins_of (CheckStream unknown levels dictionary bytes) =
+    record (one_origin dictionary) { messages = messages_origin bytes }
 origins_of (Render dictionary) = one_origin dictionary
 origins_of (Compare unknown first second table) = record (pair_origins first second) { table = table_origin table }
 origins_of (Refute unknown levels first second message) =

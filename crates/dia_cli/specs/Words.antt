@@ -17,7 +17,7 @@ use Rattle.dia_policy.specs.declared.Unknown.{Unknown}
 use Rattle.dia_policy.specs.declared.Unknown.TheVariants.{Kept, Refused}
 use Rattle.dia_cli.specs.declared.request.Request.{Request}
 use Rattle.dia_cli.specs.declared.request.Subcommand.{Subcommand}
-use Rattle.dia_cli.specs.declared.request.Subcommand.TheVariants.{Show, Check, CheckLines, Render}
+use Rattle.dia_cli.specs.declared.request.Subcommand.TheVariants.{Show, Check, CheckLines, CheckStream, Render}
 use Rattle.dia_cli.specs.declared.request.Subcommand.TheVariants.{Compare, Refute, RefuteLines, Propose, Breaking}
 
 -- `--dict D`, which is `@base` where it isn't given
@@ -79,7 +79,7 @@ show_shape = (with_rule (with_rule (quiet_app (codes "show")) dict_rule) (word_r
 abbrev pub check_app : Bor (List (Bor Text)) → App
 check_app policies =
     let policy = with_rule (with_rule (quiet_app (codes "check")) (unknown_rule policies)) levels_rule in
-    with_rule policy (flag_rule (codes "lines"))
+    with_rule (with_rule policy (flag_rule (codes "lines"))) (flag_rule (codes "stream"))
 
 abbrev pub check_shape : Bor (List (Bor Text)) → Shape
 check_shape policies = (with_rule (with_rule (check_app policies) (word_rule (codes "D"))) (word_rule (codes "MESSAGE"))).top
@@ -157,10 +157,11 @@ AreJudged unknown levels dictionary message rows =
     (first_of (codes "unknown") rows ≡ Some (policy_word unknown)) × IsLimitOf (first_of (codes "levels") rows) levels
     × (first_of (codes "D") rows ≡ Some dictionary.now) × (first_of (codes "MESSAGE") rows ≡ Some message.now)
 
--- with the option `--lines`
-abbrev pub AreChecked : Bool → Unknown → Levels → Bor Text → Bor Text → List Row → Type 0
-AreChecked lines unknown levels dictionary message rows =
-    (first_of (codes "lines") rows ≡ Some (flag_word lines)) × AreJudged unknown levels dictionary message rows
+-- with the options `--lines` and `--stream`
+abbrev pub AreChecked : Bool → Bool → Unknown → Levels → Bor Text → Bor Text → List Row → Type 0
+AreChecked lines stream unknown levels dictionary message rows =
+    (first_of (codes "lines") rows ≡ Some (flag_word lines)) × (first_of (codes "stream") rows ≡ Some (flag_word stream))
+    × AreJudged unknown levels dictionary message rows
 
 -- what was found for `refute`
 abbrev pub AreRefuted : Bool → Unknown → Levels → Bor Text → Bor Text → Bor Text → List Row → Type 0
@@ -174,9 +175,11 @@ IsSubcommandOf (Show dictionary message) found =
     (found.0 ≡ codes "show") × (first_of (codes "dict") found.1 ≡ Some dictionary.now)
     × (first_of (codes "MESSAGE") found.1 ≡ Some message.now)
 IsSubcommandOf (Check unknown levels dictionary message) found =
-    (found.0 ≡ codes "check") × AreChecked false unknown levels dictionary message found.1
+    (found.0 ≡ codes "check") × AreChecked false false unknown levels dictionary message found.1
 IsSubcommandOf (CheckLines unknown levels dictionary messages) found =
-    (found.0 ≡ codes "check") × AreChecked true unknown levels dictionary messages found.1
+    (found.0 ≡ codes "check") × AreChecked true false unknown levels dictionary messages found.1
+IsSubcommandOf (CheckStream unknown levels dictionary bytes) found =
+    (found.0 ≡ codes "check") × AreChecked false true unknown levels dictionary bytes found.1
 IsSubcommandOf (Render dictionary) found = (found.0 ≡ codes "render") × (first_of (codes "D") found.1 ≡ Some dictionary.now)
 IsSubcommandOf (Compare unknown first second table) found =
     (found.0 ≡ codes "compare") × ArePair unknown first second found.1 × (first_of (codes "TABLE") found.1 ≡ Some table.now)

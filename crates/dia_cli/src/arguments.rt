@@ -46,6 +46,7 @@ fn asked<'a>(
 {
     match request_of(alloc, matches) {
         Ok(request) => read_once(request),
+        Err(Unasked::LinesAndStream) => Err(Ending::LinesAndStream),
         Err(Unasked::NoMemory) => Err(Ending::NoMemory),
         // Never reached: the command line requires a subcommand, and each subcommand requires its arguments.
         Err(Unasked::Nothing) => Err(refused(
@@ -61,6 +62,8 @@ fn asked<'a>(
 enum Unasked {
     /// They are no subcommand with its arguments.
     Nothing,
+    /// `--lines` and `--stream`.
+    LinesAndStream,
     NoMemory,
 }
 
@@ -142,21 +145,28 @@ fn check_of<'a>(found: &ArgMatches<'a>) -> Result<Subcommand<'a>, Unasked>
         (λ made. IsSubcommandOf made (codes "check", rows_of (found_of found.now))) }
 {
     let lines = flag_of(found, "lines").ok_or(Unasked::Nothing)?;
-    let (unknown, levels, dictionary, message) = checked_of(found).ok_or(Unasked::Nothing)?;
-    if lines {
-        Ok(Subcommand::CheckLines {
+    let stream = flag_of(found, "stream").ok_or(Unasked::Nothing)?;
+    let (unknown, levels, dictionary, input) = checked_of(found).ok_or(Unasked::Nothing)?;
+    match (lines, stream) {
+        (false, false) => Ok(Subcommand::Check {
             unknown,
             levels,
             dictionary,
-            messages: message,
-        })
-    } else {
-        Ok(Subcommand::Check {
+            message: input,
+        }),
+        (true, false) => Ok(Subcommand::CheckLines {
             unknown,
             levels,
             dictionary,
-            message,
-        })
+            messages: input,
+        }),
+        (false, true) => Ok(Subcommand::CheckStream {
+            unknown,
+            levels,
+            dictionary,
+            bytes: input,
+        }),
+        (true, true) => Err(Unasked::LinesAndStream),
     }
 }
 

@@ -21,6 +21,8 @@ pub enum Ending<'a> {
     NotText,
     /// The command line names standard input twice: status 2.
     ReadTwice,
+    /// The command line has both `--lines` and `--stream`: status 2.
+    LinesAndStream,
     /// A file couldn't be opened, or a device failed: status 3.
     Device {
         /// The input as the command line names it, or a stream by its name.
@@ -166,7 +168,7 @@ impl<'a> Ending<'a> {
         match self {
             Ending::Told(error) if error.use_stderr() => 2,
             Ending::Told(_) => 0,
-            Ending::NotText | Ending::ReadTwice => 2,
+            Ending::NotText | Ending::ReadTwice | Ending::LinesAndStream => 2,
             Ending::Device { .. } | Ending::NoMemory => FAILED,
         }
     }
@@ -194,6 +196,7 @@ impl<'a> Ending<'a> {
             Ending::Told(error) => put_made(sink, format!(in alloc; "{error}")),
             Ending::NotText => Ok(put_all(sink, NOT_TEXT.as_bytes())?),
             Ending::ReadTwice => Ok(put_all(sink, READ_TWICE.as_bytes())?),
+            Ending::LinesAndStream => Ok(put_all(sink, LINES_AND_STREAM.as_bytes())?),
             Ending::Device {
                 name,
                 error: Some(error),
@@ -241,6 +244,11 @@ For more information, try '--help'.
 
 const READ_TWICE: &str =
     "error: '-' is given twice, and standard input can be read once: name a file for one of the two
+
+For more information, try '--help'.
+";
+
+const LINES_AND_STREAM: &str = "error: the argument '--lines' cannot be used with '--stream'
 
 For more information, try '--help'.
 ";

@@ -35,9 +35,11 @@ const TABLE: &str = "A table of pairs of names: a file, or - for standard input"
 const MESSAGE: &str = "A file of hexadecimal text, white space ignored; - for standard input";
 
 const CHECKED: &str =
-    "A file of hexadecimal text, white space ignored; with --lines, of a message a line; - for standard input";
+    "A file of hexadecimal text, white space ignored; with --lines, of a message a line; with --stream, of messages back to back; - for standard input";
 
 const CHECK_LINES: &str = "Tells of each line, a message, whether it is valid";
+
+const CHECK_STREAM: &str = "Tells of each message of a stream, with its place, whether it is valid";
 
 const REFUTED: &str =
     "A file of hexadecimal text, white space ignored; with --lines, of a message a line; - for standard input";
@@ -123,7 +125,8 @@ fn check_options<'a>(
     quiet_line(alloc, "check")?
         .arg(unknown_option(alloc, policies))?
         .arg(levels_option(alloc))?
-        .arg(flag(alloc, "lines", CHECK_LINES))
+        .arg(flag(alloc, "lines", CHECK_LINES))?
+        .arg(flag(alloc, "stream", CHECK_STREAM))
 }
 
 fn render_line<'a>(alloc: Global) -> Result<clap::Command<'a>, AllocError>

@@ -36,6 +36,13 @@ pub enum Subcommand<'a> {
         dictionary: &'a str,
         messages: &'a str,
     },
+    /// `check --stream [--unknown kept|refused] [--levels N] D BYTES`
+    CheckStream {
+        unknown: Unknown,
+        levels: Levels,
+        dictionary: &'a str,
+        bytes: &'a str,
+    },
     /// `render D`
     Render {
         dictionary: &'a str,
@@ -122,6 +129,11 @@ impl<'a> Subcommand<'a> {
                 levels,
                 ..
             } => Task::CheckLines { unknown, levels },
+            Subcommand::CheckStream {
+                unknown,
+                levels,
+                ..
+            } => Task::CheckStream { unknown, levels },
             Subcommand::Render { .. } => Task::Whole(Command::Render),
             Subcommand::Compare { unknown, .. } => Task::Whole(Command::Compare { unknown }),
             Subcommand::Refute {
@@ -177,6 +189,14 @@ impl<'a> Subcommand<'a> {
                 ..
             } => Origins {
                 messages: Origin::of_messages(messages),
+                ..Origins::of_dictionary(dictionary)
+            },
+            Subcommand::CheckStream {
+                dictionary,
+                bytes,
+                ..
+            } => Origins {
+                messages: Origin::of_messages(bytes),
                 ..Origins::of_dictionary(dictionary)
             },
             Subcommand::Render { dictionary } => Origins::of_dictionary(dictionary),

@@ -48,13 +48,14 @@ Usage: diacmd check [OPTIONS] <D> <MESSAGE>
 
 Arguments:
   <D>        A dictionary text: a file, @base, or - for standard input
-  <MESSAGE>  A file of hexadecimal text, white space ignored; with --lines, of a message a line; - for standard input
+  <MESSAGE>  A file of hexadecimal text, white space ignored; with --lines, of a message a line; with --stream, of messages back to back; - for standard input
 
 Options:
       --quiet             Prints no notes on standard error
       --unknown <POLICY>  Whether an AVP that isn't in the dictionary, with its M flag clear, is kept or refused [default: kept] [possible values: kept, refused]
       --levels <N>        How many levels of Grouped AVPs may stand in one another; without it, any number
       --lines             Tells of each line, a message, whether it is valid
+      --stream            Tells of each message of a stream, with its place, whether it is valid
   -h, --help              Print help
 ";
 

@@ -100,6 +100,27 @@ const NEGATIVE_ZERO: &str =
 For more information, try '--help'.
 ";
 
+const LINES_AND_STREAM: &str = "error: the argument '--lines' cannot be used with '--stream'
+
+For more information, try '--help'.
+";
+
+const TWO_STREAMS: &str = "error: the argument '--stream' cannot be used multiple times
+
+Usage: diacmd check [OPTIONS] <D> <MESSAGE>
+
+For more information, try '--help'.
+";
+
+const NO_STREAM: &str = "error: unexpected argument '--stream' found
+
+  tip: to pass '--stream' as a value, use '-- --stream'
+
+Usage: diacmd refute [OPTIONS] <A> <B> <MESSAGE>
+
+For more information, try '--help'.
+";
+
 const NO_TABLE: &str = "error: the following required arguments were not provided:
   <TABLE>
 
@@ -142,7 +163,7 @@ For more information, try '--help'.
 
 #[test]
 fn faults_of_the_words_go_to_standard_error(rt: HostRuntime) -> Result<(), Fail> {
-    let rows: [(&[&str], &str); 24] = [
+    let rows: [(&[&str], &str); 29] = [
         (&["diacmd"], NO_WORDS),
         (&["diacmd", "show"], NO_MESSAGE),
         (
@@ -192,6 +213,23 @@ fn faults_of_the_words_go_to_standard_error(rt: HostRuntime) -> Result<(), Fail>
             NEGATIVE_ZERO,
         ),
         (&["diacmd", "check", "-", "-"], READ_TWICE),
+        (&["diacmd", "check", "--stream", "-", "-"], READ_TWICE),
+        (
+            &["diacmd", "check", "--lines", "--stream", "@base", "-"],
+            LINES_AND_STREAM,
+        ),
+        (
+            &["diacmd", "check", "--stream", "-", "-", "--lines"],
+            LINES_AND_STREAM,
+        ),
+        (
+            &["diacmd", "check", "--stream", "--stream", "@base", "-"],
+            TWO_STREAMS,
+        ),
+        (
+            &["diacmd", "refute", "--stream", "a.txt", "b.txt", "-"],
+            NO_STREAM,
+        ),
         (&["diacmd", "compare", "a.txt", "b.txt"], NO_TABLE),
         (
             &[

@@ -402,12 +402,35 @@ fn reads_the_words_of_many_messages(rt: HostRuntime) -> Result<(), Fail> {
         ..origins_of(a, Origin::Nowhere)
     };
     let kept = Unknown::Kept;
-    let rows: [(&[&str], Task, Origins); 2] = [
+    let rows: [(&[&str], Task, Origins); 4] = [
         (
             &["diacmd", "check", "--lines", "a.txt", "-", "--levels=2"],
             Task::CheckLines {
                 unknown: kept,
                 levels,
+            },
+            checked,
+        ),
+        (
+            &["diacmd", "check", "--stream", "--levels=2", "a.txt", "-"],
+            Task::CheckStream {
+                unknown: kept,
+                levels,
+            },
+            checked,
+        ),
+        (
+            &[
+                "diacmd",
+                "check",
+                "a.txt",
+                "-",
+                "--unknown=refused",
+                "--stream",
+            ],
+            Task::CheckStream {
+                unknown: Unknown::Refused,
+                levels: Levels::Any,
             },
             checked,
         ),
@@ -463,9 +486,10 @@ fn reads_the_words_of_breaking(rt: HostRuntime) -> Result<(), Fail> {
 
 #[test]
 fn every_command_may_be_quiet(rt: HostRuntime) -> Result<(), Fail> {
-    let rows: [&[&str]; 7] = [
+    let rows: [&[&str]; 8] = [
         &["diacmd", "show", "--quiet", "m.hex"],
         &["diacmd", "check", "--quiet", "d.txt", "m.hex"],
+        &["diacmd", "check", "--stream", "d.txt", "m.hex", "--quiet"],
         &["diacmd", "render", "d.txt", "--quiet"],
         &["diacmd", "compare", "--quiet", "a.txt", "b.txt", "t.txt"],
         &["diacmd", "refute", "a.txt", "--quiet", "b.txt", "m.hex"],
