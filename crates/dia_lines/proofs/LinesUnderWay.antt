@@ -38,7 +38,7 @@ one_any Yes = refl
 one_any No = refl
 one_any Bad = refl
 
-ended_one_more : (exits : List Exit) (exit : Exit) → ended_with (ended_of exits) exit ≡ ended_of (exits ++ exit ∷ [])
+pub ended_one_more : (exits : List Exit) (exit : Exit) → ended_with (ended_of exits) exit ≡ ended_of (exits ++ exit ∷ [])
 ended_one_more exits exit =
     let each = list_all-append is_yes exits (exit ∷ []) ∙ ap (λ b. list_all is_yes exits && b) (one_all exit) in
     let some = list_any-append is_yes exits (exit ∷ []) ∙ ap (λ b. list_any is_yes exits || b) (one_any exit) in

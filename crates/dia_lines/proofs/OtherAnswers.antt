@@ -2,9 +2,8 @@
 use Rattle.std.proofs.Common.{ℕ, List, Option, inl, inr}
 use Rattle.dia_io.specs.declared.Input.{Input}
 use Rattle.dia_io.specs.declared.Exit.{Exit}
-use Rattle.dia_lines.specs.declared.answered.Ended.{Ended}
 use Rattle.dia_lines.specs.Lines.{AreAnswered, none, one_more, IsAnswered}
-use Rattle.dia_lines.specs.FeedToSink.{AllAnswered, FrontAnswered, LinesAnswered}
+use Rattle.dia_lines.specs.FeedToSink.{FrontAnswered, LinesAnswered}
 
 module _ (P Q : Input → List ℕ → Exit → Type 0) (f : (line : Input) (told : List ℕ) (exit : Exit) → P line told exit → Q line told exit) where
   pub AreAnswered-map : (lines text : List ℕ) (exits : List Exit) → AreAnswered P lines text exits → AreAnswered Q lines text exits

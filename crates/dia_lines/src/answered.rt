@@ -18,6 +18,33 @@ pub struct Ended {
     pub some: bool,
 }
 
+impl Ended {
+    ghost use Rattle.std.specs.Prelude.{◌≡◌, []};
+    ghost use Rattle.dia_lines.specs.Lines.{ended_of};
+    ghost use Rattle.dia_lines.specs.UnderWay.{ended_with};
+
+    /// How no lines ended.
+    pub fn none() -> Ended
+        ensures { result ≡ ended_of [] }
+    {
+        Ended {
+            each: true,
+            some: false,
+        }
+    }
+
+    /// How the lines ended, and one more.
+    pub fn and(self, exit: Exit) -> Ended
+        ensures { result ≡ ended_with self exit }
+    {
+        let yes = is_yes(exit);
+        Ended {
+            each: self.each && yes,
+            some: self.some || yes,
+        }
+    }
+}
+
 /// The answers to the lines that were read.
 #[derive(Drop)]
 pub struct Answered {
@@ -43,10 +70,7 @@ impl Answered {
         Answered {
             line: Input::Bytes(Vec::new(alloc)),
             text: String::new(alloc),
-            ended: Ended {
-                each: true,
-                some: false,
-            },
+            ended: Ended::none(),
         }
     }
 
@@ -105,11 +129,7 @@ impl Answered {
             × (self.new.ended ≡ ended_with self.old.ended exit)) }
     {
         let exit = judge.judge(alloc, &self.line, &mut self.text)?;
-        let yes = is_yes(exit);
-        self.ended = Ended {
-            each: self.ended.each && yes,
-            some: self.ended.some || yes,
-        };
+        self.ended = self.ended.and(exit);
         clear(alloc, &mut self.line);
         Ok(())
     }

@@ -1,0 +1,4 @@
+pub mod DigitsTaken
+pub mod Fronts
+pub mod StreamsUnderWay
+pub mod StreamToSink

@@ -1,0 +1,52 @@
+use Rattle.std.proofs.Common.{ℕ, Bool, List, length, refl, ap, subst, arith}
+use Rattle.dia_streams.specs.UnderWay.{Takes, TellsWhole}
+use Rattle.dia_streams.proofs.StreamsUnderWay.{Reads-endless, Reads-stopped, Reads-on, is_part, all_left}
+use Rattle.dia_streams.proofs.streamed.Streamed.read.Goals as goal
+
+pub returns-in-Some-clause-reads : goal.returns-in-Some-clause-reads
+returns-in-Some-clause-reads g c =
+    let P = g.J.MessageJudge.says c.args.judge.now in
+    let old = c.args.self.now in
+    let all = c.take.new.self.bytes.items in
+    let rest = c.in_ok-rest.rest.now in
+    let tells = subst (λ (b : List ℕ). TellsWhole P old.told c.tell_whole.new.self b rest) c.as_slice-bytes.ensures.value c.in_ok-rest.ensures.told in
+    let (told, exit, says, adds) = c.in_ok-tell.ensures in
+    Reads-endless P c.in_ok-hexadecimal.hexadecimal c.take.new.self.half all c.args.piece.now rest told exit old _ c.tell_whole.new.self
+    c.in_ok-hexadecimal.ensures tells c.in-Some.ensures.bad (subst (λ (b : List ℕ). P b told exit) c.in-Some.ensures.header says) adds
+
+pub returns-then-not-hexadecimal-clause-reads : goal.returns-then-not-hexadecimal-clause-reads
+returns-then-not-hexadecimal-clause-reads g c =
+    let P = g.J.MessageJudge.says c.args.judge.now in
+    let old = c.args.self.now in
+    let all = c.take.new.self.bytes.items in
+    let rest = c.in_ok-rest.rest.now in
+    let tells = subst (λ (b : List ℕ). TellsWhole P old.told c.tell_whole.new.self b rest) c.as_slice-bytes.ensures.value c.in_ok-rest.ensures.told in
+    let takes = subst (λ (good : Bool). Takes good old.digits.half c.take.new.self.half old.digits.bytes.items all c.args.piece.now) c.if-not-hexadecimal.true
+    c.in_ok-hexadecimal.ensures in
+    Reads-stopped P c.take.new.self.half all c.args.piece.now rest old _ c.tell_whole.new.self takes tells
+    (is_part rest c.in_ok-rest.ensures.none (c.in_default.ensures.none refl)) c.in_ok-tell_not_hexadecimal.ensures
+
+pub returns-in_ok-self-clause-reads : goal.returns-in_ok-self-clause-reads
+returns-in_ok-self-clause-reads g c =
+    let P = g.J.MessageJudge.says c.args.judge.now in
+    let old = c.args.self.now in
+    let all = c.take.new.self.bytes.items in
+    let rest = c.in_ok-rest.rest.now in
+    let tells = subst (λ (b : List ℕ). TellsWhole P old.told c.tell_whole.new.self b rest) c.as_slice-bytes.ensures.value c.in_ok-rest.ensures.told in
+    let takes = subst (λ (good : Bool). Takes good old.digits.half c.take.new.self.half old.digits.bytes.items all c.args.piece.now) c.if-not-hexadecimal.false
+    c.in_ok-hexadecimal.ensures in
+    Reads-on P c.take.new.self.half all c.args.piece.now rest old _ c.tell_whole.new.self takes tells
+    (is_part rest c.in_ok-rest.ensures.none (c.in_default.ensures.none refl)) refl c.in_ok-self.ensures.items refl
+
+pub returns-else-rest-bytes-clause-reads : goal.returns-else-rest-bytes-clause-reads
+returns-else-rest-bytes-clause-reads g c =
+    let P = g.J.MessageJudge.says c.args.judge.now in
+    let old = c.args.self.now in
+    let all = c.take.new.self.bytes.items in
+    let rest = c.in_ok-rest.rest.now in
+    let tells = subst (λ (b : List ℕ). TellsWhole P old.told c.tell_whole.new.self b rest) c.as_slice-bytes.ensures.value c.in_ok-rest.ensures.told in
+    let takes = subst (λ (good : Bool). Takes good old.digits.half c.take.new.self.half old.digits.bytes.items all c.args.piece.now) c.if-not-hexadecimal.false
+    c.in_ok-hexadecimal.ensures in
+    Reads-on P c.take.new.self.half all c.args.piece.now rest old _ c.tell_whole.new.self takes tells
+    (is_part rest c.in_ok-rest.ensures.none (c.in_default.ensures.none refl)) refl
+    (all_left all tells.whole rest tells.parts (let value = ap (λ (b : List ℕ). length b) c.as_slice-bytes.ensures.value in omega (arith, value, c.if-rest-bytes.false))) refl

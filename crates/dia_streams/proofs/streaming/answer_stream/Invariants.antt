@@ -1,0 +1,16 @@
+use Rattle.std.proofs.Common.{◌-◌, ◌≤◌}
+use Rattle.std.specs.Prelude.{IsTrue}
+use Rattle.dia_streams.specs.UnderWay.{AreRead}
+use Rattle.dia_streams.proofs.streaming.answer_stream.Given as goal
+
+abbrev pub invariant-loop-pieces_left : goal.invariant-loop-pieces_left
+invariant-loop-pieces_left g l = record {
+  sound_feed : ¬ IsTrue (g.F.Feed.has_failed l.feed);
+  sound_sink : ¬ IsTrue (g.S.Sink.has_failed l.sink);
+  few : l.pieces_left ≤ 18446744073709551615;
+  are_read : AreRead (g.J.MessageJudge.says l.judge) (g.F.Feed.remaining l.initial.feed) (g.F.Feed.remaining l.feed)
+      (g.S.Sink.written l.initial.sink) (g.S.Sink.written l.sink) l.streamed (18446744073709551615 - l.pieces_left);
+}
+
+abbrev pub decreases-loop-pieces_left : goal.decreases-loop-pieces_left
+decreases-loop-pieces_left g l = l.pieces_left

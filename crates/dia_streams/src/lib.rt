@@ -1,0 +1,15 @@
+//! Messages that stand back to back, as hexadecimal text, told one by one as the pieces of the text come.
+//!
+//! `answer_stream` reads a feed piece by piece, asks a [`MessageJudge`] for the line of each message, and puts these lines into a
+//! sink, each behind the place where its message begins. It takes the memory of one message.
+#![tactic(auto)]
+
+mod digits;
+mod judge;
+mod messages;
+mod streamed;
+mod streaming;
+mod told;
+
+pub use judge::MessageJudge;
+pub use streaming::answer_stream;

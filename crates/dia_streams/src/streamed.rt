@@ -1,0 +1,80 @@
+//! The messages of a stream that were told, and the one that is under way.
+
+use crate::digits::Digits;
+use crate::judge::MessageJudge;
+use crate::messages::bad_header;
+use crate::told::Told;
+use dia_lines::LinesFault;
+use std::alloc::{AllocError, Global};
+
+/// A stream of which a front was read.
+#[derive(Drop)]
+pub struct Streamed {
+    /// The digits of the message under way.
+    pub digits: Digits,
+    pub told: Told,
+}
+
+impl Streamed {
+    ghost use Rattle.std.specs.Prelude.{◌≡◌, ◌≢◌, [], None, IfErr, IfOk, OnOk, string_bytes};
+    ghost use Rattle.dia_lines.specs.declared.fault.LinesFault.TheVariants.{Device};
+    ghost use Rattle.dia_lines.specs.Lines.{ended_of};
+    ghost use Rattle.dia_streams.specs.UnderWay.{Ends, Reads};
+
+    /// Nothing was read yet.
+    pub fn new(alloc: Global) -> Streamed
+        ensures half { result.digits.half ≡ None }
+        ensures bytes { result.digits.bytes.items ≡ [] }
+        ensures at { result.told.at ≡ 0 }
+        ensures text { string_bytes result.told.text ≡ [] }
+        ensures ended { result.told.ended ≡ ended_of [] }
+    {
+        Streamed {
+            digits: Digits::new(alloc),
+            told: Told::new(alloc),
+        }
+    }
+
+    /// Tells the messages that end in the next piece. `false` where no message can be found behind them.
+    pub fn read<J: MessageJudge>(
+        &mut self,
+        alloc: Global,
+        judge: &J,
+        piece: &[u8],
+    ) -> Result<bool, LinesFault>
+        ensures device { IfErr result (λ fault. fault ≢ Device) }
+        ensures reads { IfOk result (λ goes_on. Reads (J.says judge.now)
+            goes_on self.old self.new piece.now) }
+    {
+        let hexadecimal = self.digits.take(piece)?;
+        let bytes = self.digits.bytes.as_slice();
+        let rest = self.told.tell_whole(alloc, judge, bytes)?;
+        if let Some(header) = bad_header(rest) {
+            self.told.tell(alloc, judge, header)?;
+            return Ok(false);
+        }
+        if !hexadecimal {
+            self.told.tell_not_hexadecimal()?;
+            return Ok(false);
+        }
+        if rest.len() < bytes.len() {
+            self.digits.bytes = Vec::from_slice(alloc, rest)?;
+        }
+        Ok(true)
+    }
+
+    /// Tells what is under way, where the text is at its end.
+    pub fn end<J: MessageJudge>(&mut self, alloc: Global, judge: &J) -> Result<(), AllocError>
+        ensures { OnOk result (Ends (J.says judge.now)
+            self.old self.new) }
+    {
+        let bytes = self.digits.bytes.as_slice();
+        if self.digits.half.is_some() {
+            self.told.tell_not_hexadecimal()
+        } else if bytes.is_empty() {
+            Ok(())
+        } else {
+            self.told.tell(alloc, judge, bytes)
+        }
+    }
+}

@@ -1,0 +1,107 @@
+//! A stream of messages that is answered from a feed into a sink.
+
+ghost use Rattle.std.specs.Prelude.{◌≡◌, ◌≢◌, ◌↔◌, ◌≤◌, ◌⊎◌, ◌+◌, List, ℕ, [], Option, length};
+ghost use Rattle.std.specs.Prelude.{Ok, Err, IfOk, IfSome, IsErr, IsTrue, OnOk, true, false, string_bytes};
+ghost use Rattle.std.specs.Io.KnownBytes.{Appends};
+ghost use Rattle.dia_io.specs.Writing.{AppendsFront};
+ghost use Rattle.dia_lines.specs.declared.fault.LinesFault.TheVariants.{NoMemory, Device, Endless};
+ghost use Rattle.dia_streams.specs.Streams.{AllTold, SomeTold, WholeTold};
+ghost use Rattle.dia_streams.specs.UnderWay.{AreRead};
+
+use crate::judge::MessageJudge;
+use crate::streamed::Streamed;
+use dia_io::{Failed, Feed, Sink, put_all};
+use dia_lines::{Ended, LinesFault};
+use std::alloc::Global;
+
+/// How many bytes are asked for at a time.
+const PIECE: usize = 4096;
+
+/// Puts a line for each message of a stream into a sink, and answers how the messages ended.
+///
+/// The lines are put after each piece that was read. It takes the memory of one message, and of the lines of one piece.
+pub fn answer_stream<J: MessageJudge, F: Feed, S: Sink>(
+    alloc: Global,
+    judge: &J,
+    feed: &mut F,
+    sink: &mut S,
+) -> Result<Ended, LinesFault>
+    requires sound_feed { ¬ IsTrue (F.has_failed feed.old) }
+    requires sound_sink { ¬ IsTrue (S.has_failed sink.old) }
+    ensures told { IfOk result (AllTold (J.says judge.now)
+        (F.remaining feed.old) (F.remaining feed.new) (S.written sink.old) (S.written sink.new)) }
+    ensures device { (result ≡ Err Device)
+        ↔ (IsTrue (F.has_failed feed.new) ⊎ IsTrue (S.has_failed sink.new)) }
+    ensures front { IsErr result → SomeTold (J.says judge.now)
+        (F.remaining feed.old) (F.remaining feed.new) (S.written sink.old) (S.written sink.new) }
+    ensures no_memory { result ≡ Err NoMemory → WholeTold (J.says judge.now)
+        (F.remaining feed.old) (F.remaining feed.new) (S.written sink.old) (S.written sink.new) }
+    ensures endless { result ≡ Err Endless → WholeTold (J.says judge.now)
+        (F.remaining feed.old) (F.remaining feed.new) (S.written sink.old) (S.written sink.new) }
+{
+    let mut streamed = Streamed::new(alloc);
+    let mut piece = [0u8; PIECE];
+    let mut pieces_left = u64::MAX;
+    while pieces_left > 0 {
+        if !answer_piece(alloc, judge, &mut streamed, feed, sink, &mut piece)? {
+            return Ok(streamed.told.ended);
+        }
+        pieces_left -= 1;
+    }
+    Err(LinesFault::Endless)
+}
+
+/// Reads the next piece of a feed, and puts the lines of the messages that end in it. `false` behind the last one.
+fn answer_piece<J: MessageJudge, F: Feed, S: Sink>(
+    alloc: Global,
+    judge: &J,
+    streamed: &mut Streamed,
+    feed: &mut F,
+    sink: &mut S,
+    piece: &mut [u8; PIECE],
+) -> Result<bool, LinesFault>
+    requires sound_feed { ¬ IsTrue (F.has_failed feed.old) }
+    requires sound_sink { ¬ IsTrue (S.has_failed sink.old) }
+    ensures more { (fed put : Option (List ℕ)) (n : ℕ) → result ≡ Ok true
+        → AreRead (J.says judge.now) fed (F.remaining feed.old) put (S.written sink.old) streamed.old n
+        → AreRead (J.says judge.now) fed (F.remaining feed.new) put (S.written sink.new) streamed.new (n + 1) }
+    ensures end { (fed put : Option (List ℕ)) (n : ℕ) → result ≡ Ok false
+        → AreRead (J.says judge.now) fed (F.remaining feed.old) put (S.written sink.old) streamed.old n
+        → AllTold (J.says judge.now) fed (F.remaining feed.new) put (S.written sink.new) streamed.new.told.ended }
+    ensures device { (result ≡ Err Device)
+        ↔ (IsTrue (F.has_failed feed.new) ⊎ IsTrue (S.has_failed sink.new)) }
+    ensures front { (fed put : Option (List ℕ)) (n : ℕ) → IsErr result
+        → AreRead (J.says judge.now) fed (F.remaining feed.old) put (S.written sink.old) streamed.old n
+        → SomeTold (J.says judge.now) fed (F.remaining feed.new) put (S.written sink.new) }
+    ensures whole { (fed put : Option (List ℕ)) (n : ℕ) → (result ≡ Err NoMemory) ⊎ (result ≡ Err Endless)
+        → AreRead (J.says judge.now) fed (F.remaining feed.old) put (S.written sink.old) streamed.old n
+        → WholeTold (J.says judge.now) fed (F.remaining feed.new) put (S.written sink.new) }
+{
+    let count = feed.get(piece)?;
+    if count == 0 {
+        streamed.end(alloc, judge)?;
+        put_lines(streamed, sink)?;
+        Ok(false)
+    } else {
+        let goes_on = streamed.read(alloc, judge, &piece[..count])?;
+        put_lines(streamed, sink)?;
+        Ok(goes_on)
+    }
+}
+
+/// Puts the lines that weren't put yet.
+fn put_lines<S: Sink>(streamed: &mut Streamed, sink: &mut S) -> Result<(), Failed>
+    requires { ¬ IsTrue (S.has_failed sink.old) }
+    ensures put { OnOk result
+        (Appends (S.written sink.old) (S.written sink.new) (string_bytes streamed.old.told.text)) }
+    ensures front { AppendsFront (S.written sink.old) (S.written sink.new) (string_bytes streamed.old.told.text) }
+    ensures failed { IsErr result ↔ IsTrue (S.has_failed sink.new) }
+    ensures nothing { OnOk result (string_bytes streamed.new.told.text ≡ []) }
+    ensures digits { streamed.new.digits ≡ streamed.old.digits }
+    ensures at { streamed.new.told.at ≡ streamed.old.told.at }
+    ensures ended { streamed.new.told.ended ≡ streamed.old.told.ended }
+{
+    put_all(sink, streamed.told.text.as_bytes())?;
+    streamed.told.text.clear();
+    Ok(())
+}
