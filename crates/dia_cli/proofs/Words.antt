@@ -1,11 +1,22 @@
 -- What clap found, read off the rows of a subcommand, and the request that is read once.
-use Rattle.std.proofs.Common.{◌≡◌, ap, refl, subst, sym, Bool, true, false, List, Option, Some, None}
-use Rattle.std.specs.Prelude.{option_map, if◌then◌else◌, IfOk, IsSomeAnd, Result, Ok, Err, unwrap_or}
+use Rattle.std.proofs.Common.{◌≡◌, ◌≢◌, ◌⊎◌, ◌∙◌, ℕ, ap, refl, subst, sym, inl, inr, arith, Bool, true, false, List, Option, Some, None}
+use Rattle.std.specs.Borrow.{Bor}
+use Rattle.std.specs.Result.{result_ok}
+use Rattle.std.specs.Prelude.{option_map, if◌then◌else◌, IfErr, IfOk, IsErrAnd, IsSomeAnd, Result, Ok, Err, unwrap_or}
+use Rattle.std.specs.Str.Parse.{ParsesUnsigned}
+use Rattle.clap.proofs.ValueTestLemmas.{accepts-Accepts}
+use Rattle.clap.specs.ValueTests.{is_unsigned_in}
 use Rattle.clap.specs.Walk.{Row, Text}
+use Rattle.clap.specs.Words.{App, HasKind, fault_of, kind_of, subcommand_of}
+use Rattle.clap.specs.declared.builder.value_parser.ValueParser.TheVariants as vp
+use Rattle.clap.specs.declared.error.Error.{Error}
+use Rattle.clap.specs.declared.error.kind.ErrorKind.TheVariants.{OutOfMemory}
+use Rattle.dia_cli.specs.Asking.{IsAtFault, IsRefused, IsUnrun, is_asked, is_limit}
+use Rattle.dia_cli.specs.Words.{IsProgram, IsRequestOf}
 use Rattle.dia_cli.specs.Origins.{reads_twice}
 use Rattle.dia_cli.specs.Request.{origins_of, read_once}
 use Rattle.dia_cli.specs.declared.ending.Ending.{Ending}
-use Rattle.dia_cli.specs.declared.ending.Ending.TheVariants.{ReadTwice}
+use Rattle.dia_cli.specs.declared.ending.Ending.TheVariants.{NoMemory, ReadTwice, Told}
 use Rattle.dia_cli.specs.declared.request.Request.{Request}
 
 -- where a name and rows are told of one subcommand, what holds of the two holds of it
@@ -31,3 +42,50 @@ read_is_once request read is = subst (λ r. IfOk r (λ made. reads_twice (origin
         → IfOk (if twice then Err ReadTwice else Ok request) (λ made. reads_twice (origins_of made.subcommand) ≡ false)
     go true e = tt
     go false e = e
+
+-- what isn't read as a number of 32 bits is no limit
+pub unread : {E : Type 0} (word : Option (Bor Text)) (number : Bor Text) (read : Result ℕ E) → word ≡ Some number → ParsesUnsigned 32 10 number.now read
+    → result_ok read ≡ None → is_limit (option_map (λ w. w.now) word) ≡ false
+unread word number (Ok n) is parses none = absurd cc
+unread word number (Err e) is parses none = ap (λ (o : Option (Bor Text)). is_limit (option_map (λ w. w.now) o)) is ∙ go (is_unsigned_in 0 4294967295 number.now) refl
+  where
+    go : (t : Bool) → is_unsigned_in 0 4294967295 number.now ≡ t → is_unsigned_in 0 4294967295 number.now ≡ false
+    go false t = t
+    go true t =
+        let passes = accepts-Accepts false (vp.Unsigned 0 4294967295) number.now t in
+        absurd (parses (passes.0, omega (arith, passes.3)))
+
+-- a request that isn't read names standard input twice
+pub read_unrun : (request : Request) (read : Result Request Ending) (found : Option (Text × List Row)) → read ≡ read_once request → IsSomeAnd found (IsRequestOf request)
+    → IfErr read (IsUnrun found)
+read_unrun request read found is asked = subst (λ r. IfErr r (IsUnrun found)) (sym is) (go (reads_twice (origins_of request.subcommand)) refl)
+  where
+    go : (twice : Bool) → reads_twice (origins_of request.subcommand) ≡ twice → IfErr (if twice then Err ReadTwice else Ok request) (IsUnrun found)
+    go true e = (request, asked, e)
+    go false e = tt
+
+-- why clap's error ends the program
+pub told_is_refused : (line : App) (words : List Text) (error : Error) (made : Ending) → IsProgram line → HasKind (fault_of line words) error
+    → ((kind_of error ≡ OutOfMemory) × (made ≡ NoMemory)) ⊎ ((kind_of error ≢ OutOfMemory) × (made ≡ Told error)) → IsRefused words made
+told_is_refused line words error made program kinds (inl memory) = (line, program, subst (λ e. IsAtFault (fault_of line words) e ⊎ IsUnrun (subcommand_of line words) e) (sym memory.1) (inr tt))
+told_is_refused line words error made program (inl memory) (inr told) = absurd (told.0 memory)
+told_is_refused line words error made program (inr among) (inr told) =
+    (line, program, subst (λ e. IsAtFault (fault_of line words) e ⊎ IsUnrun (subcommand_of line words) e) (sym told.1) (inl among))
+
+pub error_is_refused : {T : Type 0} (line : App) (words : List Text) (error : Error) (read : Result T Ending) → IsProgram line → HasKind (fault_of line words) error
+    → IsErrAnd read (λ made. ((kind_of error ≡ OutOfMemory) × (made ≡ NoMemory)) ⊎ ((kind_of error ≢ OutOfMemory) × (made ≡ Told error))) → IfErr read (IsRefused words)
+error_is_refused line words error (Ok x) program kinds made = absurd made
+error_is_refused line words error (Err ending) program kinds made = told_is_refused line words error ending program kinds made
+
+-- where memory is refused for the line
+pub none_is_refused : {T : Type 0} (line : App) (words : List Text) (read : Result T Ending) → IsProgram line → IsErrAnd read (λ made. made ≡ NoMemory)
+    → IfErr read (IsRefused words)
+none_is_refused line words (Ok x) program made = absurd made
+none_is_refused line words (Err ending) program made =
+    (line, program, subst (λ e. IsAtFault (fault_of line words) e ⊎ IsUnrun (subcommand_of line words) e) (sym made) (inr tt))
+
+-- out of memory, or what clap tells, where there is no request
+pub told_is_unrun : (found : Option (Text × List Row)) (error : Error) (made : Ending) → is_asked found ≡ false
+    → ((kind_of error ≡ OutOfMemory) × (made ≡ NoMemory)) ⊎ ((kind_of error ≢ OutOfMemory) × (made ≡ Told error)) → IsUnrun found made
+told_is_unrun found error made unasked (inl memory) = subst (IsUnrun found) (sym memory.1) tt
+told_is_unrun found error made unasked (inr told) = subst (IsUnrun found) (sym told.1) unasked

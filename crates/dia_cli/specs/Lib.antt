@@ -1,4 +1,6 @@
+pub mod Asking
 pub mod Ending
+pub mod Forms
 pub mod Origins
 pub mod Request
 pub mod Opening

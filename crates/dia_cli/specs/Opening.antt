@@ -1,10 +1,11 @@
 -- The inputs that are read from where they come from.
-use Rattle.std.specs.Prelude.{◌≡◌, ℕ, ◌≤◌, List, [], length, Option, Result, Ok, Err, ⊤, ◌⊎◌, codes}
+use Rattle.std.specs.Prelude.{◌≡◌, ℕ, ◌≤◌, List, [], length, Option, Some, IfSome, Result, Ok, Err, ⊤, ◌⊎◌, codes}
 use Rattle.std.specs.Borrow.{Bor}
 use Rattle.std.specs.Global.{Vec}
 use Rattle.std.specs.declared.io.Error.{Error}
 use Rattle.dia_ccf.specs.CanonicalText.{canonical}
 use Rattle.dia_dict.specs.Base.{base_source}
+use Rattle.dia_io.specs.Inputs.{IsWhole}
 use Rattle.dia_io.specs.declared.Input.{Input}
 use Rattle.dia_io.specs.declared.Input.TheVariants.{Bytes, TooLong}
 use Rattle.dia_io.specs.declared.Inputs.{Inputs}
@@ -32,18 +33,26 @@ abbrev pub IsExactly : List ℕ → Input → Type 0
 IsExactly bytes (Bytes v) = v.items ≡ bytes
 IsExactly bytes TooLong = ⊥
 
--- what a file or standard input holds is not known here
-abbrev pub IsInputOf : Origin → Input → Type 0
-IsInputOf Nowhere input = IsExactly [] input
-IsInputOf Base input = IsExactly (canonical base_source) input
-IsInputOf (StandardInput limit) input = IsWithin input limit
-IsInputOf (File path limit) input = IsWithin input limit
+-- a reader gives all of these bytes, where they are known
+abbrev pub Gives : Option (List ℕ) → Option (List ℕ) → Type 0
+Gives known remaining = IfSome known (λ all. remaining ≡ Some all)
 
-pub record IsReadOf (origins : Origins) (inputs : Inputs) : Type 0 where
-  pub first : IsInputOf origins.first inputs.first
-  pub second : IsInputOf origins.second inputs.second
-  pub table : IsInputOf origins.table inputs.table
-  pub message : IsInputOf origins.message inputs.message
+-- no more than the limit is handed on; and where the bytes are known, the input is all of them, or they are more than the limit
+abbrev pub IsReadFrom : Option (List ℕ) → ℕ → Input → Type 0
+IsReadFrom known limit input = IsWithin input limit × IfSome known (IsWhole input limit)
+
+-- where files by their names and standard input hold these bytes
+abbrev pub IsInputOf : (List ℕ → Option (List ℕ)) → Option (List ℕ) → Origin → Input → Type 0
+IsInputOf content standard Nowhere input = IsExactly [] input
+IsInputOf content standard Base input = IsExactly (canonical base_source) input
+IsInputOf content standard (StandardInput limit) input = IsReadFrom standard limit input
+IsInputOf content standard (File path limit) input = IsReadFrom (content path.now) limit input
+
+pub record IsReadOf (content : List ℕ → Option (List ℕ)) (standard : Option (List ℕ)) (origins : Origins) (inputs : Inputs) : Type 0 where
+  pub first : IsInputOf content standard origins.first inputs.first
+  pub second : IsInputOf content standard origins.second inputs.second
+  pub table : IsInputOf content standard origins.table inputs.table
+  pub message : IsInputOf content standard origins.message inputs.message
 
 -- memory was refused, or the device of the input with this word failed
 abbrev pub IsFaultOf : List ℕ → Ending → Type 0

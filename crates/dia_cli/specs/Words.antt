@@ -1,5 +1,5 @@
 -- What the words of the command line mean, by what clap says of a command line of this shape.
-use Rattle.std.specs.Prelude.{◌≡◌, Bool, true, false, List, [], ◌∷◌, map, unwrap_or, Option, Some, None, codes, string_bytes, IsSomeAnd}
+use Rattle.std.specs.Prelude.{◌≡◌, ◌<◌, ◌^◌, Bool, true, false, List, [], ◌∷◌, map, unwrap_or, Option, Some, None, codes, string_bytes, IsSomeAnd}
 use Rattle.std.specs.Borrow.{Bor}
 use Rattle.std.specs.Str.Parse.{IsNumeral, digits_value, without_leading_plus}
 use Rattle.clap.specs.Lexer.{usize_max}
@@ -139,11 +139,11 @@ abbrev pub policy_word : Unknown → Text
 policy_word Kept = codes "kept"
 policy_word Refused = codes "refused"
 
--- there is no limit without a word, and a word is a decimal number, which a `+` may begin
+-- there is no limit without a word, and a word is a decimal number below 2 ^ 32, which a `+` may begin
 abbrev pub IsLimitOf : Option Text → Levels → Type 0
 IsLimitOf None levels = levels ≡ Any
 IsLimitOf (Some word) levels = IsNumeral 10 (without_leading_plus word)
-    × (levels ≡ AtMost (digits_value 10 (without_leading_plus word)))
+    × (digits_value 10 (without_leading_plus word) < 2 ^ 32) × (levels ≡ AtMost (digits_value 10 (without_leading_plus word)))
 
 -- what was found for `--unknown POLICY A B`
 abbrev pub ArePair : Unknown → Bor Text → Bor Text → List Row → Type 0
@@ -201,11 +201,14 @@ abbrev pub IsRequestOf : Request → Text × List Row → Type 0
 IsRequestOf request found =
     IsSubcommandOf request.subcommand found × (first_of (codes "quiet") found.1 ≡ Some (flag_word request.quiet))
 
--- the request that clap's specification gives for the words, where `--unknown` is one of the two policies and `--sends` one
--- of the three senders
+-- the program's line, where `--unknown` is one of the two policies and `--sends` one of the three senders
+pub record IsProgram (line : App) : Type 0 where
+  pub policies : Bor (List (Bor Text))
+  pub senders : Bor (List (Bor Text))
+  pub two : texts policies.now ≡ policy_word Kept ∷ policy_word Refused ∷ []
+  pub three : texts senders.now ≡ sends_word sent.Any ∷ sends_word sent.Known ∷ sends_word sent.Listed ∷ []
+  pub shape : line ≡ line_shape policies senders
+
+-- the request that clap's specification gives for the words
 abbrev pub IsAskedBy : List Text → Request → Type 0
-IsAskedBy words request =
-    (policies : Bor (List (Bor Text))) × (senders : Bor (List (Bor Text)))
-    × (texts policies.now ≡ policy_word Kept ∷ policy_word Refused ∷ [])
-    × (texts senders.now ≡ sends_word sent.Any ∷ sends_word sent.Known ∷ sends_word sent.Listed ∷ [])
-    × IsSomeAnd (subcommand_of (line_shape policies senders) words) (IsRequestOf request)
+IsAskedBy words request = (line : App) × IsProgram line × IsSomeAnd (subcommand_of line words) (IsRequestOf request)

@@ -1,9 +1,13 @@
 //! The words of the command line.
 
 ghost use Rattle.std.specs.Prelude.{◌≡◌, IfOk, IfSome, IsSomeAnd, Some, codes};
-ghost use Rattle.std.specs.Prelude.{[], false, map, option_map, string_bytes, unwrap_or};
-ghost use Rattle.clap.specs.Walk.{texts};
+ghost use Rattle.std.specs.Prelude.{◌&&◌, [], ◌∷◌, true, Bool, ℕ, IfErr, List, None, Option, false, map, option_map, string_bytes, unwrap_or};
+ghost use Rattle.clap.specs.Walk.{Row, Text, texts};
 ghost use Rattle.clap.specs.Words.{all_of, found_of, first_of, rows_of, subcommand_rows_of};
+ghost use Rattle.dia_cli.specs.Asking.{HasLinesAndStream, IsRefused, IsUnasked, IsUnrun, IsWanting, has_judged, has_pair};
+ghost use Rattle.dia_cli.specs.Asking.{has_refuted, has_shown, has_compared, has_word, is_asked, is_flag, is_limit};
+ghost use Rattle.dia_cli.specs.Asking.{is_policy, is_sender};
+ghost use Rattle.dia_cli.specs.Forms.{Form, IsAccepted, form_name, is_plain_form, words_of};
 ghost use Rattle.dia_cli.specs.Origins.{reads_twice};
 ghost use Rattle.dia_cli.specs.Request.{origins_of, read_once};
 ghost use Rattle.dia_cli.specs.Words.{ArePair, IsAskedBy, IsLimitOf, IsRequestOf};
@@ -12,6 +16,9 @@ ghost use Rattle.dia_cli.specs.Words.{AreJudged, IsSubcommandOf, flag_word, poli
 use crate::ending::Ending;
 use crate::line::command_line;
 use crate::request::{Request, Subcommand};
+use crate::values::{
+    copies_of, flag_of, limit_of, names_of, policy_of, sends_of, word_of, words_of,
+};
 use clap::ArgMatches;
 use clap::error::ErrorKind;
 use dia_policy::{Levels, Sends, Unknown};
@@ -28,6 +35,19 @@ static SENDERS: [&str; 3] = ["any", "known", "listed"];
 pub fn parse_words<'a, S: AsStr>(alloc: Global, words: &'a [S]) -> Result<Request<'a>, Ending<'a>>
     ensures words { IfOk result (λ request. IsAskedBy (map S.text words.entry.now) request) }
     ensures once { IfOk result (λ request. reads_twice (origins_of request.subcommand) ≡ false) }
+    ensures refused { IfErr result (IsRefused (map S.text words.entry.now)) }
+    ensures forms { (program : List ℕ) (quiet : Bool) (form : Form)
+        → map S.text words.entry.now ≡ program ∷ form_name form ∷ words_of quiet form
+        → is_plain_form form ≡ true → IsAccepted quiet form result }
+{
+    parsed(alloc, words)
+}
+
+/// What clap makes of the words, and what that asks for.
+fn parsed<'a, S: AsStr>(alloc: Global, words: &'a [S]) -> Result<Request<'a>, Ending<'a>>
+    ensures words { IfOk result (λ request. IsAskedBy (map S.text words.entry.now) request) }
+    ensures once { IfOk result (λ request. reads_twice (origins_of request.subcommand) ≡ false) }
+    ensures refused { IfErr result (IsRefused (map S.text words.entry.now)) }
 {
     let mut line = command_line(alloc, POLICIES.as_slice(), SENDERS.as_slice())?;
     let matches = line.try_get_matches_from_mut(words)?;
@@ -43,6 +63,7 @@ fn asked<'a>(
     ensures words { IfOk result
         (λ request. IsSomeAnd (subcommand_rows_of matches.now) (IsRequestOf request)) }
     ensures once { IfOk result (λ request. reads_twice (origins_of request.subcommand) ≡ false) }
+    ensures unrun { IfErr result (IsUnrun (subcommand_rows_of matches.now)) }
 {
     match request_of(alloc, matches) {
         Ok(request) => read_once(request),
@@ -79,7 +100,9 @@ impl From<AllocError> for Unasked {
 }
 
 /// The ending where clap accepts the words, and they are refused.
-fn refused<'a>(line: &mut clap::Command<'a>, kind: ErrorKind, why: &str) -> Ending<'a> {
+fn refused<'a>(line: &mut clap::Command<'a>, kind: ErrorKind, why: &str) -> Ending<'a>
+    ensures { (found : Option (Text × List Row)) → is_asked found ≡ false → IsUnrun found result }
+{
     match line.error(kind, why) {
         Ok(error) => Ending::from(error),
         Err(error) => Ending::from(error),
@@ -99,8 +122,9 @@ fn read_once(request: Request<'_>) -> Result<Request<'_>, Ending<'_>>
 
 /// The request of the arguments that clap found.
 fn request_of<'a>(alloc: Global, matches: &ArgMatches<'a>) -> Result<Request<'a>, Unasked>
-    ensures { IfOk result
+    ensures asked { IfOk result
         (λ request. IsSomeAnd (subcommand_rows_of matches.now) (IsRequestOf request)) }
+    ensures unasked { IfErr result (IsUnasked (subcommand_rows_of matches.now)) }
 {
     let (name, found) = matches.subcommand().ok_or(Unasked::Nothing)?;
     let quiet = flag_of(found, "quiet").ok_or(Unasked::Nothing)?;
@@ -114,7 +138,8 @@ fn subcommand_of<'a>(
     name: &str,
     found: &ArgMatches<'a>,
 ) -> Result<Subcommand<'a>, Unasked>
-    ensures { IfOk result (λ made. IsSubcommandOf made (name.now, rows_of (found_of found.now))) }
+    ensures made { IfOk result (λ made. IsSubcommandOf made (name.now, rows_of (found_of found.now))) }
+    ensures wanting { IfErr result (IsWanting name.now (rows_of (found_of found.now))) }
 {
     match name {
         "show" => show_of(found).ok_or(Unasked::Nothing),
@@ -130,19 +155,21 @@ fn subcommand_of<'a>(
 
 /// `show` with the arguments that were found.
 fn show_of<'a>(found: &ArgMatches<'a>) -> Option<Subcommand<'a>>
-    ensures { IfSome result
+    ensures made { IfSome result
         (λ made. IsSubcommandOf made (codes "show", rows_of (found_of found.now))) }
+    ensures none { result ≡ None → has_shown (rows_of (found_of found.now)) ≡ false }
 {
     Some(Subcommand::Show {
-        dictionary: found.get_str("dict")?,
-        message: found.get_str("MESSAGE")?,
+        dictionary: word_of(found, "dict")?,
+        message: word_of(found, "MESSAGE")?,
     })
 }
 
 /// `check` with the arguments that were found.
 fn check_of<'a>(found: &ArgMatches<'a>) -> Result<Subcommand<'a>, Unasked>
-    ensures { IfOk result
+    ensures made { IfOk result
         (λ made. IsSubcommandOf made (codes "check", rows_of (found_of found.now))) }
+    ensures wanting { IfErr result (IsWanting (codes "check") (rows_of (found_of found.now))) }
 {
     let lines = flag_of(found, "lines").ok_or(Unasked::Nothing)?;
     let stream = flag_of(found, "stream").ok_or(Unasked::Nothing)?;
@@ -172,51 +199,55 @@ fn check_of<'a>(found: &ArgMatches<'a>) -> Result<Subcommand<'a>, Unasked>
 
 /// The policies of `check`, and where its inputs come from.
 fn checked_of<'a>(found: &ArgMatches<'a>) -> Option<(Unknown, Levels, &'a str, &'a str)>
-    ensures { IfSome result
+    ensures made { IfSome result
         (λ made. AreJudged made.0 made.1 made.2 made.3 (rows_of (found_of found.now))) }
+    ensures none { result ≡ None → has_judged (rows_of (found_of found.now)) ≡ false }
 {
-    let unknown = policy_of(found.get_str("unknown")?)?;
-    let levels = limit_of(found.get_str("levels"))?;
+    let unknown = policy_of(word_of(found, "unknown")?)?;
+    let levels = limit_of(word_of(found, "levels"))?;
     Some((
         unknown,
         levels,
-        found.get_str("D")?,
-        found.get_str("MESSAGE")?,
+        word_of(found, "D")?,
+        word_of(found, "MESSAGE")?,
     ))
 }
 
 /// `render` with the arguments that were found.
 fn render_of<'a>(found: &ArgMatches<'a>) -> Option<Subcommand<'a>>
-    ensures { IfSome result
+    ensures made { IfSome result
         (λ made. IsSubcommandOf made (codes "render", rows_of (found_of found.now))) }
+    ensures none { result ≡ None → has_word (codes "D") (rows_of (found_of found.now)) ≡ false }
 {
     Some(Subcommand::Render {
-        dictionary: found.get_str("D")?,
+        dictionary: word_of(found, "D")?,
     })
 }
 
 /// `compare` with the arguments that were found.
 fn compare_of<'a>(found: &ArgMatches<'a>) -> Option<Subcommand<'a>>
-    ensures { IfSome result
+    ensures made { IfSome result
         (λ made. IsSubcommandOf made (codes "compare", rows_of (found_of found.now))) }
+    ensures none { result ≡ None → has_compared (rows_of (found_of found.now)) ≡ false }
 {
     let (unknown, first, second) = pair_of(found)?;
     Some(Subcommand::Compare {
         unknown,
         first,
         second,
-        table: found.get_str("TABLE")?,
+        table: word_of(found, "TABLE")?,
     })
 }
 
 /// `refute` with the arguments that were found.
 fn refute_of<'a>(found: &ArgMatches<'a>) -> Option<Subcommand<'a>>
-    ensures { IfSome result
+    ensures made { IfSome result
         (λ made. IsSubcommandOf made (codes "refute", rows_of (found_of found.now))) }
+    ensures none { result ≡ None → has_refuted (rows_of (found_of found.now)) ≡ false }
 {
     let (unknown, first, second) = pair_of(found)?;
-    let levels = limit_of(found.get_str("levels"))?;
-    let message = found.get_str("MESSAGE")?;
+    let levels = limit_of(word_of(found, "levels"))?;
+    let message = word_of(found, "MESSAGE")?;
     if flag_of(found, "lines")? {
         Some(Subcommand::RefuteLines {
             unknown,
@@ -238,11 +269,12 @@ fn refute_of<'a>(found: &ArgMatches<'a>) -> Option<Subcommand<'a>>
 
 /// `propose` with the arguments that were found.
 fn propose_of<'a>(alloc: Global, found: &ArgMatches<'a>) -> Result<Subcommand<'a>, Unasked>
-    ensures { IfOk result
+    ensures made { IfOk result
         (λ made. IsSubcommandOf made (codes "propose", rows_of (found_of found.now))) }
+    ensures wanting { IfErr result (IsWanting (codes "propose") (rows_of (found_of found.now))) }
 {
     let (unknown, first, second) = pair_of(found).ok_or(Unasked::Nothing)?;
-    let words = found.get_strs("COMMAND").ok_or(Unasked::Nothing)?;
+    let words = words_of(found, "COMMAND").ok_or(Unasked::Nothing)?;
     let names = copies_of(alloc, words)?;
     Ok(Subcommand::Propose {
         unknown,
@@ -254,8 +286,9 @@ fn propose_of<'a>(alloc: Global, found: &ArgMatches<'a>) -> Result<Subcommand<'a
 
 /// `breaking` with the arguments that were found.
 fn breaking_of<'a>(alloc: Global, found: &ArgMatches<'a>) -> Result<Subcommand<'a>, Unasked>
-    ensures { IfOk result
+    ensures made { IfOk result
         (λ made. IsSubcommandOf made (codes "breaking", rows_of (found_of found.now))) }
+    ensures wanting { IfErr result (IsWanting (codes "breaking") (rows_of (found_of found.now))) }
 {
     let (unknown, first, second) = pair_of(found).ok_or(Unasked::Nothing)?;
     let (sends, messages) = shown_of(found).ok_or(Unasked::Nothing)?;
@@ -276,81 +309,18 @@ fn shown_of(found: &ArgMatches<'_>) -> Option<(Sends, bool)>
         first_of (codes "sends") (rows_of (found_of found.now)) ≡ Some (sends_word made.0)) }
     ensures messages { IfSome result (λ made.
         first_of (codes "messages") (rows_of (found_of found.now)) ≡ Some (flag_word made.1)) }
+    ensures none { result ≡ None → (is_sender (first_of (codes "sends") (rows_of (found_of found.now)))
+        && is_flag (first_of (codes "messages") (rows_of (found_of found.now)))) ≡ false }
 {
-    let sends = sends_of(found.get_str("sends")?)?;
+    let sends = sends_of(word_of(found, "sends")?)?;
     Some((sends, flag_of(found, "messages")?))
-}
-
-/// The names of commands, also none.
-fn names_of(alloc: Global, found: &ArgMatches<'_>) -> Result<Vec<String>, AllocError>
-    ensures { IfOk result (λ names. map string_bytes names.items
-        ≡ unwrap_or (all_of (codes "COMMAND") (rows_of (found_of found.now))) []) }
-{
-    match found.get_strs("COMMAND") {
-        Some(words) => copies_of(alloc, words),
-        None => Ok(Vec::new(alloc)),
-    }
-}
-
-fn copies_of(alloc: Global, words: &[&str]) -> Result<Vec<String>, AllocError>
-    ensures { IfOk result (λ copies. map string_bytes copies.items ≡ texts words.now) }
-{
-    let mut copies = Vec::with_capacity(alloc, words.len())?;
-    for word in words {
-        copies.push(String::from_str(alloc, word)?)?;
-    }
-    Ok(copies)
 }
 
 /// The policy, and where the two dictionaries come from.
 fn pair_of<'a>(found: &ArgMatches<'a>) -> Option<(Unknown, &'a str, &'a str)>
-    ensures { IfSome result (λ pair. ArePair pair.0 pair.1 pair.2 (rows_of (found_of found.now))) }
+    ensures made { IfSome result (λ pair. ArePair pair.0 pair.1 pair.2 (rows_of (found_of found.now))) }
+    ensures none { result ≡ None → has_pair (rows_of (found_of found.now)) ≡ false }
 {
-    let unknown = policy_of(found.get_str("unknown")?)?;
-    Some((unknown, found.get_str("A")?, found.get_str("B")?))
-}
-
-/// The policy that a word names.
-fn policy_of(word: &str) -> Option<Unknown>
-    ensures { IfSome result (λ policy. word.now ≡ policy_word policy) }
-{
-    match word {
-        "kept" => Some(Unknown::Kept),
-        "refused" => Some(Unknown::Refused),
-        _ => None,
-    }
-}
-
-/// The sender that a word names.
-fn sends_of(word: &str) -> Option<Sends>
-    ensures { IfSome result (λ sends. word.now ≡ sends_word sends) }
-{
-    match word {
-        "any" => Some(Sends::Any),
-        "known" => Some(Sends::Known),
-        "listed" => Some(Sends::Listed),
-        _ => None,
-    }
-}
-
-/// Whether the option of this id was given, which has no value.
-fn flag_of(found: &ArgMatches<'_>, id: &str) -> Option<bool>
-    ensures { IfSome result (λ given.
-        first_of id.now (rows_of (found_of found.now)) ≡ Some (flag_word given)) }
-{
-    match found.get_str(id)? {
-        "true" => Some(true),
-        "false" => Some(false),
-        _ => None,
-    }
-}
-
-/// The limit on levels, a decimal number. Without a word there is no limit.
-fn limit_of(word: Option<&str>) -> Option<Levels>
-    ensures { IfSome result (IsLimitOf (option_map (λ text. text.now) word.entry)) }
-{
-    match word {
-        None => Some(Levels::Any),
-        Some(number) => Some(Levels::AtMost(number.parse().ok()?)),
-    }
+    let unknown = policy_of(word_of(found, "unknown")?)?;
+    Some((unknown, word_of(found, "A")?, word_of(found, "B")?))
 }

@@ -254,13 +254,13 @@ For more information, try '--help'.
 ";
 
 impl<'a> From<clap::Error> for Ending<'a> {
-    ghost use Rattle.std.specs.Prelude.{◌≡◌, ◌≢◌};
+    ghost use Rattle.std.specs.Prelude.{◌≡◌, ◌≢◌, ◌⊎◌};
     ghost use Rattle.clap.specs.Words.{kind_of};
     ghost use Rattle.dia_cli.specs.declared.ending.Ending.TheVariants.{Told, NoMemory};
     ghost use Rattle.clap.specs.declared.error.kind.ErrorKind.TheVariants.{OutOfMemory};
 
-    ghost from_gives = { λ error ending. (kind_of error ≡ OutOfMemory → ending ≡ NoMemory)
-        × (kind_of error ≢ OutOfMemory → ending ≡ Told error) };
+    ghost from_gives = { λ error ending. ((kind_of error ≡ OutOfMemory) × (ending ≡ NoMemory))
+        ⊎ ((kind_of error ≢ OutOfMemory) × (ending ≡ Told error)) };
 
     fn from(error: clap::Error) -> Ending<'a> {
         match error.kind() {

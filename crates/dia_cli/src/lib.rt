@@ -7,7 +7,7 @@
 //! ```text
 //! let words = ["diacmd", "check", "@base", "/dev/null"];
 //! let request = parse_words(alloc, words.as_slice())?;
-//! let inputs = open_inputs(&rt, &request.origins())?;
+//! let inputs = open_inputs(alloc, &OfProcess::new(&rt), &request.origins())?;
 //! let mut sink = ToWriter::new(Vec::new(alloc));
 //! let Task::Whole(command) = request.into_task() else {
 //!     return Err(Fail::from("the words ask for another run"));
@@ -23,12 +23,15 @@
 mod arguments;
 mod ending;
 mod line;
+mod opener;
 mod opening;
 mod origin;
 mod request;
+mod values;
 
 pub use arguments::parse_words;
 pub use ending::{Ending, finish};
+pub use opener::{OfProcess, Opener};
 pub use opening::open_inputs;
 pub use origin::{BASE_DICTIONARY, Origin, Origins, STANDARD_INPUT};
 pub use request::{Request, Subcommand};

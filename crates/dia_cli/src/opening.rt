@@ -6,26 +6,27 @@ ghost use Rattle.dia_cli.specs.Opening.{IsAnyUnread, IsFaultOf, IsInputOf};
 ghost use Rattle.dia_cli.specs.Opening.{IsReadOf, IsUnread, IsWithin, input_of};
 
 use crate::ending::Ending;
+use crate::opener::Opener;
 use crate::origin::{Origin, Origins, STANDARD_INPUT};
 use dia_dict::base_text;
 use dia_io::{FromReader, Input as Text, InputFault, Inputs, read_input};
 use std::alloc::Global;
+use std::io;
 use std::io::Read;
-use std::rt::Files;
-use std::{fs, io};
 
 /// Reads the inputs whole: first the dictionaries, then the table, then the message, wherever they stand among the words.
-pub fn open_inputs<'a, R: AllocGlobal + Files + Input>(
-    rt: &R,
+pub fn open_inputs<'a, O: Opener>(
+    alloc: Global,
+    opener: &O,
     origins: &Origins<'a>,
 ) -> Result<Inputs, Ending<'a>>
-    ensures ok { IfOk result (IsReadOf origins.now) }
+    ensures ok { IfOk result (IsReadOf (O.content opener.now) (O.input opener.now) origins.now) }
     ensures err { IfErr result (IsAnyUnread origins.now) }
 {
-    let first = open_input(rt, origins.first)?;
-    let second = open_input(rt, origins.second)?;
-    let table = open_input(rt, origins.table)?;
-    let message = open_input(rt, origins.message)?;
+    let first = open_input(alloc, opener, origins.first)?;
+    let second = open_input(alloc, opener, origins.second)?;
+    let table = open_input(alloc, opener, origins.table)?;
+    let message = open_input(alloc, opener, origins.message)?;
     Ok(Inputs {
         first,
         second,
@@ -34,22 +35,24 @@ pub fn open_inputs<'a, R: AllocGlobal + Files + Input>(
     })
 }
 
-fn open_input<'a, R: AllocGlobal + Files + Input>(
-    rt: &R,
+fn open_input<'a, O: Opener>(
+    alloc: Global,
+    opener: &O,
     origin: Origin<'a>,
 ) -> Result<Text, Ending<'a>>
-    ensures ok { IfOk result (IsInputOf origin.entry) }
+    ensures ok { IfOk result (IsInputOf (O.content opener.now) (O.input opener.now) origin.entry) }
     ensures err { IfErr result (IsUnread origin.entry) }
 {
-    let alloc = rt.alloc();
     match origin {
         Origin::Nowhere => Ok(Text::Bytes(Vec::new(alloc))),
         Origin::Base => {
             let bytes = Vec::from_slice(alloc, base_text().as_bytes())?;
             Ok(Text::Bytes(bytes))
         }
-        Origin::StandardInput { limit } => read_text(alloc, rt.reader(), STANDARD_INPUT, limit),
-        Origin::File { path, limit } => match fs::open(rt, path) {
+        Origin::StandardInput { limit } => {
+            read_text(alloc, opener.standard_input(), STANDARD_INPUT, limit)
+        }
+        Origin::File { path, limit } => match opener.open(path) {
             Ok(file) => read_text(alloc, file, path, limit),
             Err(error) => Err(Ending::Device {
                 name: path,

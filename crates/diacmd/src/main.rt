@@ -10,7 +10,8 @@ mod tests;
 
 use captured::captured;
 use dia_cli::{
-    BASE_DICTIONARY, Ending, Origin, Origins, STANDARD_INPUT, finish, open_inputs, parse_words,
+    BASE_DICTIONARY, Ending, OfProcess, Origin, Origins, STANDARD_INPUT, finish, open_inputs,
+    parse_words,
 };
 use dia_io::Task;
 use dia_notes::{Words, explain};
@@ -49,7 +50,7 @@ where
 {
     let request = parse_words(rt.alloc(), words)?;
     let origins = request.origins();
-    let inputs = open_inputs(rt, &origins)?;
+    let inputs = open_inputs(rt.alloc(), &OfProcess::new(rt), &origins)?;
     let quiet = request.is_quiet();
     let command = match request.into_task() {
         Task::Whole(command) => command,

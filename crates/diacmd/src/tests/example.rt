@@ -1,6 +1,6 @@
 //! The example of dia_cli's docs.
 
-use dia_cli::{open_inputs, parse_words};
+use dia_cli::{OfProcess, open_inputs, parse_words};
 use dia_io::Task;
 use dia_run::{Exit, ToWriter, run};
 use std::test::Fail;
@@ -12,7 +12,7 @@ fn checks_a_message_without_bytes(rt: HostRuntime) -> Result<(), Fail> {
     let Ok(request) = parse_words(alloc, words.as_slice()) else {
         return Err(Fail::from("the words aren't read"));
     };
-    let Ok(inputs) = open_inputs(&rt, &request.origins()) else {
+    let Ok(inputs) = open_inputs(alloc, &OfProcess::new(&rt), &request.origins()) else {
         return Err(Fail::from("the files can't be read"));
     };
     let mut sink = ToWriter::new(Vec::new(alloc));

@@ -1,0 +1,96 @@
+//! The values that clap found for options and arguments.
+
+ghost use Rattle.std.specs.Prelude.{◌≡◌, [], IfOk, IfSome, None, Some, false, map, option_map, string_bytes};
+ghost use Rattle.std.specs.Prelude.{codes, unwrap_or};
+ghost use Rattle.clap.specs.Walk.{texts};
+ghost use Rattle.clap.specs.Words.{all_of, first_of, found_of, rows_of};
+ghost use Rattle.dia_cli.specs.Asking.{is_flag, is_limit, is_policy, is_sender};
+ghost use Rattle.dia_cli.specs.Words.{IsLimitOf, flag_word, policy_word, sends_word};
+
+use clap::ArgMatches;
+use dia_policy::{Levels, Sends, Unknown};
+use std::alloc::{AllocError, Global};
+
+/// The names of commands, also none.
+pub(crate) fn names_of(alloc: Global, found: &ArgMatches<'_>) -> Result<Vec<String>, AllocError>
+    ensures { IfOk result (λ names. map string_bytes names.items
+        ≡ unwrap_or (all_of (codes "COMMAND") (rows_of (found_of found.now))) []) }
+{
+    match words_of(found, "COMMAND") {
+        Some(words) => copies_of(alloc, words),
+        None => Ok(Vec::new(alloc)),
+    }
+}
+
+pub(crate) fn copies_of(alloc: Global, words: &[&str]) -> Result<Vec<String>, AllocError>
+    ensures { IfOk result (λ copies. map string_bytes copies.items ≡ texts words.now) }
+{
+    let mut copies = Vec::with_capacity(alloc, words.len())?;
+    for word in words {
+        copies.push(String::from_str(alloc, word)?)?;
+    }
+    Ok(copies)
+}
+
+/// The policy that a word names.
+pub(crate) fn policy_of(word: &str) -> Option<Unknown>
+    ensures policy { IfSome result (λ policy. word.now ≡ policy_word policy) }
+    ensures none { result ≡ None → is_policy (Some word.now) ≡ false }
+{
+    match word {
+        "kept" => Some(Unknown::Kept),
+        "refused" => Some(Unknown::Refused),
+        _ => None,
+    }
+}
+
+/// The sender that a word names.
+pub(crate) fn sends_of(word: &str) -> Option<Sends>
+    ensures sends { IfSome result (λ sends. word.now ≡ sends_word sends) }
+    ensures none { result ≡ None → is_sender (Some word.now) ≡ false }
+{
+    match word {
+        "any" => Some(Sends::Any),
+        "known" => Some(Sends::Known),
+        "listed" => Some(Sends::Listed),
+        _ => None,
+    }
+}
+
+/// Whether the option of this id was given, which has no value.
+pub(crate) fn flag_of(found: &ArgMatches<'_>, id: &str) -> Option<bool>
+    ensures given { IfSome result (λ given.
+        first_of id.now (rows_of (found_of found.now)) ≡ Some (flag_word given)) }
+    ensures none { result ≡ None → is_flag (first_of id.now (rows_of (found_of found.now))) ≡ false }
+{
+    match word_of(found, id)? {
+        "true" => Some(true),
+        "false" => Some(false),
+        _ => None,
+    }
+}
+
+/// The first word that was found for this id.
+pub(crate) fn word_of<'a>(found: &ArgMatches<'a>, id: &str) -> Option<&'a str>
+    ensures { option_map (λ word. word.now) result ≡ first_of id.now (rows_of (found_of found.now)) }
+{
+    found.get_str(id)
+}
+
+/// All words that were found for this id.
+pub(crate) fn words_of<'f, 'a>(found: &'f ArgMatches<'a>, id: &str) -> Option<&'f [&'a str]>
+    ensures { option_map (λ words. texts words.now) result ≡ all_of id.now (rows_of (found_of found.now)) }
+{
+    found.get_strs(id)
+}
+
+/// The limit on levels, a decimal number. Without a word there is no limit.
+pub(crate) fn limit_of(word: Option<&str>) -> Option<Levels>
+    ensures limit { IfSome result (IsLimitOf (option_map (λ text. text.now) word.entry)) }
+    ensures none { result ≡ None → is_limit (option_map (λ text. text.now) word.entry) ≡ false }
+{
+    match word {
+        None => Some(Levels::Any),
+        Some(number) => Some(Levels::AtMost(number.parse().ok()?)),
+    }
+}
