@@ -2,3 +2,4 @@ pub mod DigitsTaken
 pub mod Fronts
 pub mod StreamsUnderWay
 pub mod StreamToSink
+pub mod OneStream

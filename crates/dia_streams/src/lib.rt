@@ -6,10 +6,12 @@
 
 mod digits;
 mod judge;
+mod laws;
 mod messages;
 mod streamed;
 mod streaming;
 mod told;
 
 pub use judge::MessageJudge;
+pub use laws::stream_has_one_text;
 pub use streaming::answer_stream;
