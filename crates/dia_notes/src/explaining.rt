@@ -1,8 +1,9 @@
-//! The note of a command.
+//! The note of a task.
 
+use crate::answers::push_answer;
 use crate::dictionary::push_dictionary;
 use crate::messages::push_message;
-use dia_io::{Command, Exit, Inputs};
+use dia_io::{Command, Exit, Inputs, Task};
 use std::alloc::{AllocError, Global};
 
 /// The inputs by the words that name them.
@@ -12,19 +13,22 @@ pub struct Words<'a> {
     pub second: &'a str,
     pub table: &'a str,
     pub message: &'a str,
+    pub messages: &'a str,
 }
 
-/// What is told on standard error of a command that ended so. It is empty where there is nothing to tell.
+/// What is told on standard error of a task that ended so. It is empty where there is nothing to tell.
 pub fn explain(
     alloc: Global,
-    command: &Command,
+    task: &Task,
     words: &Words<'_>,
     inputs: &Inputs,
     exit: Exit,
 ) -> Result<String, AllocError> {
     let mut out = String::new(alloc);
-    if exit == Exit::Bad {
-        push_bad(alloc, &mut out, command, words, inputs)?;
+    match exit {
+        Exit::Yes => {}
+        Exit::No => push_answer(alloc, &mut out, task, words, inputs)?,
+        Exit::Bad => push_bad(alloc, &mut out, task, words, inputs)?,
     }
     Ok(out)
 }
@@ -33,7 +37,7 @@ pub fn explain(
 fn push_bad(
     alloc: Global,
     out: &mut String,
-    command: &Command,
+    task: &Task,
     words: &Words<'_>,
     inputs: &Inputs,
 ) -> Result<(), AllocError> {
@@ -43,10 +47,10 @@ fn push_bad(
     if push_dictionary(alloc, out, words.second, &inputs.second)? {
         return Ok(());
     }
-    match command {
-        Command::Show | Command::Check { .. } | Command::Refute { .. } => {
+    match task {
+        Task::Whole(Command::Show | Command::Check { .. } | Command::Refute { .. }) => {
             push_message(alloc, out, words.message, &inputs.message)
         }
-        Command::Compare { .. } | Command::Propose { .. } | Command::Render => Ok(()),
+        _ => Ok(()),
     }
 }

@@ -43,7 +43,7 @@ fn read_words<R: AllocGlobal + Env>(rt: &R) -> Result<Vec<String>, Ending<'stati
     Ok(words)
 }
 
-/// Runs what the command line asks for.
+/// Runs what the command line asks for, and explains how it ended.
 fn perform<'a, R>(rt: &R, words: &'a [String]) -> Result<Exit, Ending<'a>>
 where
     R: AllocGlobal + Files + Input + Print + Eprint,
@@ -52,8 +52,26 @@ where
     let origins = request.origins();
     let inputs = open_inputs(rt.alloc(), &OfProcess::new(rt), &origins)?;
     let quiet = request.is_quiet();
-    let command = match request.into_task() {
-        Task::Whole(command) => command,
+    let task = request.into_task();
+    let exit = run_task(rt, &task, &inputs, origins.messages)?;
+    if !quiet {
+        note(rt, &task, &origins, &inputs, exit);
+    }
+    Ok(exit)
+}
+
+/// Does what is asked for.
+fn run_task<'a, R>(
+    rt: &R,
+    task: &Task,
+    inputs: &Inputs,
+    messages: Origin<'a>,
+) -> Result<Exit, Ending<'a>>
+where
+    R: AllocGlobal + Files + Input + Print,
+{
+    match task {
+        Task::Whole(command) => answer(rt, command, inputs),
         Task::Breaking {
             sends,
             unknown,
@@ -61,23 +79,25 @@ where
             names,
         } => {
             let asked = Asked {
-                sends,
-                unknown,
-                messages,
+                sends: *sends,
+                unknown: *unknown,
+                messages: *messages,
                 names: names.as_slice(),
             };
-            return list(rt, asked, &inputs);
+            list(rt, asked, inputs)
         }
-        task => return captured(rt, &task, &inputs, origins.messages),
-    };
+        _ => captured(rt, task, inputs, messages),
+    }
+}
+
+/// Runs a command whose inputs were read whole.
+fn answer<'a, R>(rt: &R, command: &Command, inputs: &Inputs) -> Result<Exit, Ending<'a>>
+where
+    R: AllocGlobal + Print,
+{
     let mut sink = ToWriter::new(io::writer(rt));
-    match run(rt.alloc(), &command, &inputs, &mut sink) {
-        Ok(exit) => {
-            if !quiet {
-                note(rt, &command, &origins, &inputs, exit);
-            }
-            Ok(exit)
-        }
+    match run(rt.alloc(), command, inputs, &mut sink) {
+        Ok(exit) => Ok(exit),
         Err(fault) => Err(Ending::of_run(fault, "standard output", sink.failure())),
     }
 }
@@ -85,7 +105,7 @@ where
 /// Lists what breaks.
 fn list<'a, R>(rt: &R, asked: Asked<'_>, inputs: &Inputs) -> Result<Exit, Ending<'a>>
 where
-    R: AllocGlobal + Files + Input + Print + Eprint,
+    R: AllocGlobal + Print,
 {
     let mut sink = ToWriter::new(io::writer(rt));
     match breaking(rt.alloc(), asked, inputs, &mut sink) {
@@ -94,10 +114,10 @@ where
     }
 }
 
-/// Explains on standard error how a command ended. Where memory or the device fails, there is no note.
+/// Explains on standard error how a task ended. Where memory or the device fails, there is no note.
 fn note<R: AllocGlobal + Eprint>(
     rt: &R,
-    command: &Command,
+    task: &Task,
     origins: &Origins<'_>,
     inputs: &Inputs,
     exit: Exit,
@@ -107,8 +127,9 @@ fn note<R: AllocGlobal + Eprint>(
         second: word_of(origins.second),
         table: word_of(origins.table),
         message: word_of(origins.message),
+        messages: word_of(origins.messages),
     };
-    if let Ok(text) = explain(rt.alloc(), command, &words, inputs, exit) {
+    if let Ok(text) = explain(rt.alloc(), task, &words, inputs, exit) {
         let _ = eprint!(rt; "{text}");
     }
 }
