@@ -234,6 +234,11 @@ def checks():
         wanted = f"{spot(spelt, byte)}: byte {byte}: {what}\n  header: flags {told}, code {code}, application {application}\n"
         wanted += (part("d.txt", D, *place) if place else "") + f"hint: {hint}\n"
         yield "check d.txt m.hex", {"d.txt": D, "m.hex": digits(spelt)}, 1, wanted
+    requests = D[: D.index("<CCA>")]
+    wanted = "m.hex:1:11: byte 5: the dictionary has no answer with Command Code 272\n  header: flags 40 P, code 272, application 4\n"
+    wanted += part("d.txt", requests, "19:2", "CCR has this code")
+    wanted += "hint: a definition with REQ serves requests alone, and one without answers alone: add the other one\n"
+    yield "check d.txt m.hex", {"d.txt": requests, "m.hex": digits(message(BASE, flags=0x40))}, 1, wanted
     files = {"d.txt": D, "m.hex": digits(message(BASE)), "none.txt": "%avp X"}
     yield "check d.txt m.hex", files, 0, ""
     yield "check --quiet none.txt m.hex", files, 2, ""
@@ -284,7 +289,7 @@ WILD, MOST, LEAST = "N6, of the wildcard AVP", "N7, of the greatest count of the
 LETS_IN, HEADS, DECLARED = "N9, of what the wildcard AVP lets in", "N10, of the headers of commands", "N10, of the declarations of AVPs"
 KEEP = "; or have the sender keep to the counts of b.txt, and say so in a.txt"
 PROPOSE = "the first name of a pair is one of the first dictionary, the second one of the second; `diacmd propose` writes a table"
-ANY = "T sends 0..* AVPs that no rule names, by * [ AVP ]"
+ANY = "T sends 0..* of what no rule names, by * [ AVP ]"
 NONE = "T has no rule for AVP"
 OPTIONAL = "in b.txt make the rule of AVP optional, as [ AVP ] or * [ AVP ]"
 WIDER = "declare one format in both; b.txt may have a wider one, as OctetString for any, UTF8String for DiameterIdentity, or Integer32 for Enumerated"
@@ -295,7 +300,7 @@ TESTS = [
      [("a", "4:5", "T sends 1 of X, by { X }"), ("b", "4:5", "T wants at the front 1 of X, by < X >")],
      "in b.txt write { X } for < X >, or make it fixed rule number 1 in a.txt, as the sender then sends it"),
     (text(X + Y, ["{ Y }"]), text(X + Y, ["< X >", "[ Y ]"]), TABLE, 1, FIXED,
-     [("a", "3:2", "T has no rule for the AVP that follows"), ("b", "4:5", "T wants at the front 1 of X, by < X >")],
+     [("b", "4:5", "T wants at the front 1 of X, by < X >"), ("a", "3:2", "T has no rule for it")],
      "in b.txt write { X } for < X >, or make it fixed rule number 1 in a.txt, as the sender then sends it"),
     (text(X + Y, ["*2 < X >"]), text(X + Y, ["< X >"]), TABLE, 1, FIXED,
      [("a", "4:8", "T sends 0..2 of X, by *2 < X >"), ("b", "4:5", "T wants at the front 1 of X, by < X >")], f"in b.txt write *2 < X >{KEEP}"),
@@ -315,7 +320,7 @@ TESTS = [
      [("a", "5:5", "T sends 0..1 of Z, by [ Z ]"), ("b", None, "there is no AVP of code 9009 and vendor 5 here")],
      "declare it in b.txt, and add its pair to t.tab; or, where it is always sent without the M flag, declare it mustnot in a.txt"),
     (text(X + Y, ["[ X ]"]), text(X + Y, ["[ X ]", "{ Y }"]), TABLE, 1, OWN,
-     [("a", "3:2", "T has no rule for the AVP that follows"), ("b", "5:5", "T wants 1 of Y, by { Y }")],
+     [("b", "5:5", "T wants 1 of Y, by { Y }"), ("a", "3:2", "T has no rule for it")],
      "in b.txt write [ Y ]; or have the sender send it always, and say so in a.txt"),
     (text(X + Y, ["[ X ]", "* [ AVP ]"]), text(X + Y, ["[ X ]", "[ Y ]", "* [ AVP ]"]), TABLE, 1, OWN,
      [("a", "5:7", ANY), ("b", "5:5", "T accepts 0..1 of Y, by [ Y ]")],
@@ -323,17 +328,17 @@ TESTS = [
     (text(X, ["[ X ]", "* [ AVP ]"]), text(X, ["[ X ]"]), "command T = T\navp X = X\n", 1, WILD,
      [("a", "4:7", ANY), ("b", "2:2", NONE)], "add * [ AVP ] in b.txt, or take the rule of AVP out in a.txt"),
     (text(X + Y, ["[ X ]", "* [ Y ]"]), text(X + Y, ["[ X ]", "[ AVP ]"]), TABLE, 1, MOST,
-     [("a", "5:7", "T sends 0..* of Y, by * [ Y ]"), ("b", "5:5", "T accepts 0..1 AVPs that no rule names, by [ AVP ]")],
+     [("a", "5:7", "T sends 0..* of Y, by * [ Y ]"), ("b", "5:5", "T accepts 0..1 of what no rule names, by [ AVP ]")],
      "what b.txt doesn't list counts as AVP there: list it, or write * [ AVP ]"),
     (text(X, ["[ X ]", "* [ AVP ]"]), text(X, ["[ X ]", "*5 [ AVP ]"]), "command T = T\navp X = X\n", 1, MOST,
-     [("a", "4:7", ANY), ("b", "4:8", "T accepts 0..5 AVPs that no rule names, by *5 [ AVP ]")],
+     [("a", "4:7", ANY), ("b", "4:8", "T accepts 0..5 of what no rule names, by *5 [ AVP ]")],
      "write * [ AVP ] in b.txt, or lower the greatest count in a.txt"),
     (text(X, ["[ X ]"]), text(X, ["[ X ]", "{ AVP }"]), "command T = T\navp X = X\n", 1, LEAST,
-     [("a", "2:2", NONE), ("b", "4:5", "T wants 1 AVPs that no rule names, by { AVP }")], OPTIONAL),
+     [("a", "2:2", NONE), ("b", "4:5", "T wants 1 of what no rule names, by { AVP }")], OPTIONAL),
     (text(X, ["{ AVP }"]), text(X, ["2* { AVP }"]), "command T = T\navp X = X\n", 1, LEAST,
-     [("a", "3:5", "T sends 1 AVPs that no rule names, by { AVP }"), ("b", "3:8", "T wants 2..* AVPs that no rule names, by 2* { AVP }")], OPTIONAL),
+     [("a", "3:5", "T sends 1 of what no rule names, by { AVP }"), ("b", "3:8", "T wants 2..* of what no rule names, by 2* { AVP }")], OPTIONAL),
     (text(X, ["{ X }", "* [ AVP ]"]), text(X + "%avp Z 9009 Unsigned32 any\n", ["{ X }", "* [ AVP ]"]), "command T = T\navp X = X\n", 1, LETS_IN,
-     [("a", "4:7", ANY), ("b", "2:6", "Z is Unsigned32 and any here; a.txt doesn't know it, so it may come with any data, without the M flag")],
+     [("a", "4:7", ANY), ("b", "2:6", "Z is Unsigned32 here, with the rule any; a.txt doesn't know it, so it may come with any data, without the M flag")],
      "declare it in a.txt as here, and propose again; or give --unknown refused to each command, if both nodes refuse unknown AVPs"),
     (text(X + Y, ["{ X }", "* [ AVP ]"]), text(X + Y, ["{ X }", "* [ AVP ]"]), "command T = T\navp X = X\n", 1, LETS_IN,
      [("a", "5:7", ANY), ("a", "2:6", "Y may come by that rule"), ("b", "2:6", "Y is the same AVP here, and no pair of the table has the two")],
@@ -364,7 +369,7 @@ DECLARATIONS = [
      "write any in b.txt; or have the sender set the flag so, and write mustnot in a.txt"),
     ("X 9001 Enumerated any ( 0..5 9 )", "X 9001 Enumerated any ( 3..4 0..2 9 )", ["X has these values here", "X has these values here"],
      "5 isn't in the list of b.txt: add it there, or take the list out"),
-    ("X 9001 Enumerated any", "X 9001 Enumerated any ( 0 )", ["X has these values here", "X has these values here"],
+    ("X 9001 Enumerated any", "X 9001 Enumerated any ( 0 )", ["X may have any value here", "X has these values here"],
      "without a list each number may be sent: take the list of b.txt out, or give one list to both"),
     ("X 9001 Unsigned32 any", "X 9002 vendor 5 Unsigned32 any", ["X has code 9001 and no vendor", "X has code 9002 and vendor 5"],
      "the two have to have one code and one vendor"),

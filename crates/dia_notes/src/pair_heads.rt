@@ -143,8 +143,8 @@ fn push_lists<A: Book, B: Book>(
     others: &Values,
 ) -> Result<(), AllocError> {
     let b = pairing.b.name;
-    push_avp_line(alloc, out, pairing.a, key, "has these values here")?;
-    push_avp_line(alloc, out, pairing.b, key, "has these values here")?;
+    push_avp_line(alloc, out, pairing.a, key, values_word(values))?;
+    push_avp_line(alloc, out, pairing.b, key, values_word(others))?;
     match first_beyond(values, others) {
         Some(number) => write!(
             out,
@@ -154,6 +154,13 @@ fn push_lists<A: Book, B: Book>(
             out,
             "hint: without a list each number may be sent: take the list of {b} out, or give one list to both\n"
         ),
+    }
+}
+
+fn values_word(values: &Values) -> &'static str {
+    match values.list() {
+        Some(_) => "has these values here",
+        None => "may have any value here",
     }
 }
 

@@ -88,18 +88,17 @@ fn push_fixed<A: Book, B: Book>(
     let Some(key) = rule.key else {
         return Ok(());
     };
+    let wanted = (index, *rule);
     match rule_of(&x.rules, key) {
-        Some(own) => push_rule_line(alloc, out, pairing.a, x, own, "sends")?,
-        None => push_no_rule(alloc, out, pairing.a, x, "for the AVP that follows")?,
+        Some(own) => {
+            push_rule_line(alloc, out, pairing.a, x, own, "sends")?;
+            push_rule_line(alloc, out, pairing.b, y, wanted, "wants at the front")?;
+        }
+        None => {
+            push_rule_line(alloc, out, pairing.b, y, wanted, "wants at the front")?;
+            push_no_rule(alloc, out, pairing.a, x, "for it")?;
+        }
     }
-    push_rule_line(
-        alloc,
-        out,
-        pairing.b,
-        y,
-        (index, *rule),
-        "wants at the front",
-    )?;
     hint_fixed(out, pairing, rule, rule_of(&x.rules, key), index)
 }
 
@@ -333,8 +332,8 @@ fn push_own<A: Book, B: Book>(
             continue;
         }
         if rule.min > 0 {
-            push_no_rule(alloc, out, pairing.a, x, "for the AVP that follows")?;
             push_rule_line(alloc, out, pairing.b, y, (index, *rule), "wants")?;
+            push_no_rule(alloc, out, pairing.a, x, "for it")?;
             return hint_own(out, pairing, key, rule);
         }
         if let Some(own) = wildcard {

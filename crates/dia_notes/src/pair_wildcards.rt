@@ -172,7 +172,7 @@ fn push_stranger<A: Book, B: Book>(
     pairing.b.begin(out, at)?;
     write!(
         out,
-        "{name} is {format} and {rule} here; {a} doesn't know it, so it may come with any data, without the M flag"
+        "{name} is {format} here, with the rule {rule}; {a} doesn't know it, so it may come with any data, without the M flag"
     )?;
     pairing.b.end(alloc, out, at)?;
     write!(

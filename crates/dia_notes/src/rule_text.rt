@@ -98,7 +98,7 @@ pub fn push_counted<B: Book>(
             out.push_str(" of ")?;
             side.push_name(out, key)
         }
-        None => out.push_str(" AVPs that no rule names"),
+        None => out.push_str(" of what no rule names"),
     }
 }
 
