@@ -1,10 +1,13 @@
 -- Where the definitions stand that a dictionary answers.
-use Rattle.std.proofs.Common.{◌≡◌, ℕ, ◌+◌, ◌<◌, length, Option, Some, None, sym, ap, inl, inr, ◌∙◌}
-use Rattle.std.specs.Prelude.{◌⊎◌, IfSome, slice_get}
+use Rattle.std.proofs.Common.{◌≡◌, ℕ, ◌+◌, ◌<◌, length, Option, Some, None, refl, sym, ap, inl, inr, ◌∙◌}
+use Rattle.std.specs.Prelude.{◌⊎◌, false, IfSome, is_some, option_and_then, slice_get, take}
+use Rattle.std.specs.List.{filter_map}
+use Rattle.std.specs.Option.{option_map}
 use Rattle.std.proofs.lemmas.Option.{same_Some, slice_get_within}
 use Rattle.dia_wire.specs.declared.Key.{Key}
 use Rattle.dia_book.specs.declared.Class.{Class}
-use Rattle.dia_book.specs.Dictionary.{Dictionary, definitions, groups, entry_of, group_place, selected}
+use Rattle.dia_entries.specs.Sent.{group_of}
+use Rattle.dia_book.specs.Dictionary.{Dictionary, DictEntry, PlainDefinition, definitions, groups, entry_of, group_place, selected}
 use Rattle.dia_book.proofs.Members.{into_right}
 use Rattle.dia_compat.proofs.SelectedCommands.{Choice, NoChoice, choose}
 use Rattle.dia_compat.proofs.ReachedKeys.{known_by_entry, group_number, when_some}
@@ -23,3 +26,20 @@ command_within d code class app o is = when_some (λ (n : ℕ). n < length (defi
         let same : length (groups d) + x.place ≡ n = same_Some (length (groups d) + x.place) n (sym x.is_selected ∙ is ∙ e) in
         slice_get_within (definitions d) n x.command (ap (slice_get (definitions d)) (sym same) ∙ into_right (groups d) d.commands x.place x.command x.at)
     by n e (inr x) = absurd (let f : None ≡ Some n = sym x.is_none ∙ is ∙ e in cc)
+
+-- ---- groups
+
+pub group_known : (d : Dictionary) (key : Key) (i : ℕ) (o : Option ℕ) → entry_of d key ≡ Some i → group_place d i ≡ o → is_some o ≡ is_some (group_of d key)
+group_known d key i o at is =
+    let k = known_by_entry d key i at in
+    let n : ℕ = length (filter_map (λ y. y.group) (take i d.entries)) in
+    let place : group_place d i ≡ option_map (λ _. n) k.0.group = ap (λ (x : Option DictEntry). option_and_then (λ e. option_map (λ _. n) e.group) x) k.1 in
+    let own : group_of d key ≡ k.0.group = ap (λ (x : Option DictEntry). option_and_then (λ e. e.group) x) k.2 in
+    sym (ap (λ (x : Option ℕ). is_some x) is) ∙ ap (λ (x : Option ℕ). is_some x) place ∙ same k.0.group n ∙ sym (ap (λ (x : Option PlainDefinition). is_some x) own)
+  where
+    same : (x : Option PlainDefinition) (n : ℕ) → is_some (option_map (λ _. n) x) ≡ is_some x
+    same None n = refl
+    same (Some x) n = refl
+
+pub group_none : (d : Dictionary) (key : Key) → entry_of d key ≡ None → false ≡ is_some (group_of d key)
+group_none d key none = sym (ap (λ (o : Option ℕ). is_some (option_and_then (λ e. e.group) (option_and_then (λ i. slice_get d.entries i) o))) none)

@@ -1,3 +1,10 @@
 pub mod InRange
 pub mod Shortest
 pub mod Confirmed
+pub mod SentKeys
+pub mod Tellings
+pub mod FloorsOfEntries
+pub mod KeptFloors
+pub mod LevelCosts
+pub mod ClosedBy
+pub mod Closings

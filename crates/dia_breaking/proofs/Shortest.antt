@@ -28,7 +28,7 @@ use Rattle.dia_breaking.specs.Lengths.{length_of_entry, listed_length, other_len
 some_in : (x : PlainDefinition) (d : Dictionary) (n : ℕ) → slice_get (definitions d) n ≡ Some x → Contains (definitions d) x
 some_in x d n at = contains_in (definitions d) x (in_at (definitions d) n x at)
 
-lists_some : (key : Key) (r : DRule) → lists_key key r ≡ true → r.key ≡ Some key
+pub lists_some : (key : Key) (r : DRule) → lists_key key r ≡ true → r.key ≡ Some key
 lists_some key r h = by r.key refl
   where
     by : (o : Option Key) → r.key ≡ o → r.key ≡ Some key
@@ -78,7 +78,7 @@ module _ (d : Dictionary) (lengths : List ℕ) where
       by zero = omega arith
       by (suc n) = omega arith
 
-  any_least : (key : Key) → 8 ≤ listed_length d Any lengths key
+  pub any_least : (key : Key) → 8 ≤ listed_length d Any lengths key
   any_least key = by (entry_of d key)
     where
       by : (o : Option ℕ) → 8 ≤ option_map_or (length_of_entry lengths) o (shortest_head key)
@@ -109,9 +109,9 @@ first_is_least f x xs y sorted i =
 rest_sorted : {X : Type 0} (f : X → ℕ) (x : X) (xs : List X) → IsNonDecreasingBy f (x ∷ xs) → IsNonDecreasingBy f xs
 rest_sorted f x xs sorted = λ i j z le within. sorted (suc i) (suc j) z (omega (arith, le)) (omega (arith, within))
 
-found_is_least : (f : Key → ℕ) (p : Key → Bool) (xs : List Key) (y : Key) → IsNonDecreasingBy f xs → IsIn y xs → p y ≡ true → option_map_or f (find p xs) too_long ≤ f y
+pub found_is_least : {X : Type 0} (f : X → ℕ) (p : X → Bool) (xs : List X) (y : X) → IsNonDecreasingBy f xs → IsIn y xs → p y ≡ true → option_map_or f (find p xs) too_long ≤ f y
 found_is_least f p [] y sorted i t = absurd i
-found_is_least f p (x ∷ xs) y sorted i t = by (p x) refl i (found_is_least f p xs y (rest_sorted f x xs sorted))
+found_is_least {X} f p (x ∷ xs) y sorted i t = by (p x) refl i (found_is_least f p xs y (rest_sorted f x xs sorted))
   where
     by : (b : Bool) → p x ≡ b → IsIn y (x ∷ xs) → (IsIn y xs → p y ≡ true → option_map_or f (find p xs) too_long ≤ f y) → option_map_or f (if b then Some x else find p xs) too_long ≤ f y
     by true e (inl same) ih = let own : f x ≡ f y = ap f (sym same) in omega (arith, own)
@@ -124,7 +124,7 @@ found_most f most None = omega arith
 found_most f most (Some key) = most key
 
 -- a key that the dictionary knows is one of its entries'
-key_in : (d : Dictionary) (key : Key) (i : ℕ) → entry_of d key ≡ Some i → IsIn key (map (λ e. e.key) d.entries)
+pub key_in : (d : Dictionary) (key : Key) (i : ℕ) → entry_of d key ≡ Some i → IsIn key (map (λ e. e.key) d.entries)
 key_in d key i is =
     let p = at_position (λ (e : DictEntry). same_key key e.key) d.entries i is in
     into d.entries i p.0 p.1 (same_key-true key p.0.key p.2)

@@ -1,5 +1,5 @@
 -- What the AVPs take that the sender's side sends.
-use Rattle.std.specs.Prelude.{◌≡◌, ℕ, ⊤, min, max, List, [], ◌∷◌, map, None, slice_get}
+use Rattle.std.specs.Prelude.{◌≡◌, ℕ, ◌<◌, ⊤, min, max, List, [], ◌∷◌, length, map, None, slice_get}
 use Rattle.std.specs.List.Sorted.{IsPermutation, IsNonDecreasingBy}
 use Rattle.std.specs.Option.{option_map_or}
 use Rattle.dia_wire.specs.declared.Key.{Key}
@@ -7,6 +7,7 @@ use Rattle.dia_book.specs.Dictionary.{Dictionary, entry_of}
 use Rattle.dia_policy.specs.declared.Sends.{Sends}
 use Rattle.dia_policy.specs.declared.Sends.TheVariants.{Any, Known, Listed}
 use Rattle.dia_least.specs.Floors.{shortest_head}
+use Rattle.dia_least.specs.Lengths.{entry_length}
 use Rattle.dia_levels.specs.LevelTests.{too_long}
 
 -- an AVP that the dictionary doesn't know
@@ -34,3 +35,7 @@ abbrev pub AreOthers : Dictionary → Dictionary → Sends → List ℕ → List
 AreOthers da db Any lengths keys = (key : Key) × (keys ≡ key ∷ []) × (key.vendor ≡ 0) × (entry_of da key ≡ None) × (entry_of db key ≡ None)
 AreOthers da db Known lengths keys = IsNonDecreasingBy (listed_length da Known lengths) keys × IsPermutation (map (λ e. e.key) da.entries) keys
 AreOthers da db Listed lengths keys = ⊤
+
+-- the entries have the same lengths in both lists
+abbrev pub AreSameLengths : Dictionary → List ℕ → List ℕ → Type 0
+AreSameLengths d xs ys = (e : ℕ) → e < length d.entries → entry_length ys e ≡ entry_length xs e

@@ -1,12 +1,16 @@
 //! Look-ups of two dictionaries.
-ghost use Rattle.std.specs.Prelude.{◌<◌, IfSome, length};
+ghost use Rattle.std.specs.Prelude.{◌≡◌, ◌<◌, IfSome, is_some, length, slice_get};
 ghost use Rattle.dia_book.specs.Dictionary.{definitions};
+ghost use Rattle.dia_check.specs.Valid.{is_listed};
+ghost use Rattle.dia_compat.specs.Tests.{rule_of, rules_in, wildcard_of};
+ghost use Rattle.dia_entries.specs.Sent.{group_of};
 
 use dia_book::{Book, Class, DRule, DefId, Format, Key, MRule, Slot};
 
 /// The definition of the group with this key.
 pub(crate) fn group_of<B: Book>(book: &B, key: Key) -> Option<DefId>
-    ensures { IfSome result (λ def. def < length (definitions (B.meaning book.now))) }
+    ensures within { IfSome result (λ def. def < length (definitions (B.meaning book.now))) }
+    ensures group { is_some result ≡ is_some (group_of (B.meaning book.now) key) }
 {
     let entry = book.avp(key)?;
     book.group(entry)
@@ -37,6 +41,7 @@ pub(crate) fn m_rule_of<B: Book>(book: &B, key: Key) -> Option<MRule> {
 /// The rules of a definition.
 pub(crate) fn rules_of<B: Book>(book: &B, def: DefId) -> &[DRule]
     requires { def < length (definitions (B.meaning book.now)) }
+    ensures { result.now ≡ rules_in (B.meaning book.now) def }
 {
     &book.def(def).rules
 }
@@ -44,18 +49,34 @@ pub(crate) fn rules_of<B: Book>(book: &B, def: DefId) -> &[DRule]
 /// The rule of a key.
 pub(crate) fn rule_of<B: Book>(book: &B, def: DefId, key: Key) -> Option<DRule>
     requires { def < length (definitions (B.meaning book.now)) }
+    ensures { result ≡ rule_of (rules_in (B.meaning book.now) def) key }
 {
-    let place = match book.slot(def, key) {
-        Slot::Fixed(place) => place,
-        Slot::Loose(place) => place,
-        Slot::Unlisted => return None,
-    };
-    rules_of(book, def).get(place).copied()
+    let rules = rules_of(book, def);
+    match book.slot(def, key) {
+        Slot::Fixed(index) => rule_at(rules, index),
+        Slot::Loose(index) => rule_at(rules, index),
+        Slot::Unlisted => None,
+    }
+}
+
+fn rule_at(rules: &[DRule], index: usize) -> Option<DRule>
+    ensures { result ≡ slice_get rules.now index }
+{
+    rules.get(index).copied()
+}
+
+/// Whether a rule is of the key.
+pub(crate) fn lists<B: Book>(book: &B, def: DefId, key: Key) -> bool
+    requires { def < length (definitions (B.meaning book.now)) }
+    ensures { result ≡ is_listed (rules_in (B.meaning book.now) def) key }
+{
+    rule_of(book, def, key).is_some()
 }
 
 /// The rule of the keys that no rule lists.
 pub(crate) fn wildcard_of<B: Book>(book: &B, def: DefId) -> Option<DRule>
     requires { def < length (definitions (B.meaning book.now)) }
+    ensures { result ≡ wildcard_of (rules_in (B.meaning book.now) def) }
 {
     rules_of(book, def)
         .iter()

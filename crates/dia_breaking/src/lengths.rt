@@ -1,8 +1,11 @@
 //! What the AVPs take that A's side sends.
-ghost use Rattle.std.specs.Prelude.{◌≡◌, IfOk, IfSome, None, map};
+ghost use Rattle.std.specs.Prelude.{◌≡◌, ◌⊎◌, IfOk, IsSome, MatchBool, None, map};
 ghost use Rattle.std.specs.List.Sorted.{IsPermutation, IsNonDecreasingBy};
 ghost use Rattle.dia_book.specs.Dictionary.{Dictionary, entry_of};
+ghost use Rattle.dia_least.specs.Floors.{AreFloors};
 ghost use Rattle.dia_breaking.specs.Lengths.{listed_length, other_length, AreOthers};
+ghost use Rattle.dia_breaking.specs.Lengths.{AreSameLengths};
+ghost use Rattle.dia_breaking.specs.SentKeys.{IsStrange};
 
 use dia_book::{Book, Key};
 use dia_least::{Least, least_lengths, shortest_head};
@@ -28,13 +31,13 @@ impl<'a, A: Book> Lengths<'a, A> {
         ensures others { IfOk result (λ lengths. AreOthers (A.meaning book.now)
             (B.meaning b.now) lengths.sends lengths.entries.items lengths.others.items) }
         ensures book { IfOk result (λ lengths. lengths.book.now ≡ book.now) }
+        ensures sends { IfOk result (λ lengths. lengths.sends ≡ sends) }
+        ensures floors { IfOk result (λ lengths. AreFloors (A.meaning book.now) sends
+            (listed_length (A.meaning book.now) sends lengths.entries.items)) }
     {
         let least = least_lengths(alloc, book, sends)?;
         match sends {
-            Sends::Any => match stranger(book, b) {
-                Some(key) => Self::with_stranger(alloc, book, least, key),
-                None => Self::with_known(alloc, book, least),
-            },
+            Sends::Any => Self::with_stranger(alloc, book, least, stranger(book, b)),
             Sends::Known => Self::with_known(alloc, book, least),
             Sends::Listed => Self::with_none(alloc, book, least),
         }
@@ -48,6 +51,9 @@ impl<'a, A: Book> Lengths<'a, A> {
             → IfOk result (λ lengths. AreOthers (A.meaning book.now) db
             lengths.sends lengths.entries.items lengths.others.items) }
         ensures book { IfOk result (λ lengths. lengths.book.now ≡ book.now) }
+        ensures sends { IfOk result (λ lengths. lengths.sends ≡ Sends.Any) }
+        ensures same { IfOk result (λ lengths. AreSameLengths (A.meaning book.now)
+            least.lengths.items lengths.entries.items) }
     {
         let entries = lengths_of_entries(alloc, book, &least)?;
         let mut others = Vec::new(alloc);
@@ -67,6 +73,9 @@ impl<'a, A: Book> Lengths<'a, A> {
             → IfOk result (λ lengths. AreOthers (A.meaning book.now) db
             lengths.sends lengths.entries.items lengths.others.items) }
         ensures book { IfOk result (λ lengths. lengths.book.now ≡ book.now) }
+        ensures sends { IfOk result (λ lengths. lengths.sends ≡ Sends.Known) }
+        ensures same { IfOk result (λ lengths. AreSameLengths (A.meaning book.now)
+            least.lengths.items lengths.entries.items) }
     {
         let entries = lengths_of_entries(alloc, book, &least)?;
         let others = in_order(alloc, book, &entries)?;
@@ -85,6 +94,9 @@ impl<'a, A: Book> Lengths<'a, A> {
             → IfOk result (λ lengths. AreOthers (A.meaning book.now) db
             lengths.sends lengths.entries.items lengths.others.items) }
         ensures book { IfOk result (λ lengths. lengths.book.now ≡ book.now) }
+        ensures sends { IfOk result (λ lengths. lengths.sends ≡ Sends.Listed) }
+        ensures same { IfOk result (λ lengths. AreSameLengths (A.meaning book.now)
+            least.lengths.items lengths.entries.items) }
     {
         let entries = lengths_of_entries(alloc, book, &least)?;
         Ok(Lengths {
@@ -138,25 +150,36 @@ pub(crate) fn keys_of<B: Book>(alloc: Global, book: &B) -> Result<Vec<Key>, Allo
 }
 
 /// The first key without vendor that neither dictionary knows. There is one, as they know fewer keys than there are codes.
-pub(crate) fn stranger<A: Book, B: Book>(a: &A, b: &B) -> Option<Key>
-    ensures vendor { IfSome result (λ key. key.vendor ≡ 0) }
-    ensures first { IfSome result (λ key. entry_of (A.meaning a.now) key ≡ None) }
-    ensures second { IfSome result (λ key. entry_of (B.meaning b.now) key ≡ None) }
+pub(crate) fn stranger<A: Book, B: Book>(a: &A, b: &B) -> Key
+    ensures vendor { result.vendor ≡ 0 }
+    ensures first { entry_of (A.meaning a.now) result ≡ None }
+    ensures second { entry_of (B.meaning b.now) result ≡ None }
 {
     for code in 0..u32::MAX {
         let key = Key { code, vendor: 0 };
-        if a.avp(key).is_none() && b.avp(key).is_none() {
-            return Some(key);
+        if is_strange(a, b, key) {
+            return key;
         }
     }
-    None
+    unreachable!()
+}
+
+/// Whether neither dictionary knows the key.
+fn is_strange<A: Book, B: Book>(a: &A, b: &B, key: Key) -> bool
+    ensures { MatchBool result (IsStrange (A.meaning a.now) (B.meaning b.now) key)
+        (IsSome (entry_of (A.meaning a.now) key) ⊎ IsSome (entry_of (B.meaning b.now) key)) }
+{
+    a.avp(key).is_none() && b.avp(key).is_none()
 }
 
 fn lengths_of_entries<A: Book>(
     alloc: Global,
     book: &A,
     least: &Least,
-) -> Result<Vec<u64>, AllocError> {
+) -> Result<Vec<u64>, AllocError>
+    ensures { IfOk result (λ lengths. AreSameLengths (A.meaning book.now)
+        least.now.lengths.items lengths.items) }
+{
     let mut lengths = Vec::new(alloc);
     for index in 0..book.entries() {
         lengths.push(least.entry(book.entry_at(index)))?;

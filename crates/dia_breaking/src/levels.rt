@@ -1,9 +1,14 @@
 //! What the levels of a definition of A take in which an AVP stands.
-ghost use Rattle.std.specs.Prelude.{◌<◌, length};
+ghost use Rattle.std.specs.Prelude.{◌≡◌, ◌<◌, length, not, find};
 ghost use Rattle.dia_book.specs.Dictionary.{definitions};
+ghost use Rattle.dia_check.specs.Valid.{is_listed};
+ghost use Rattle.dia_compat.specs.Tests.{rules_in};
+ghost use Rattle.dia_levels.specs.LevelTests.{least_filler};
+ghost use Rattle.dia_levels.specs.Levels.{OtherIsShortest};
+ghost use Rattle.dia_breaking.specs.LevelCosts.{beside_of};
 
-use crate::books::wildcard_of;
-use dia_book::{Book, DRule, DefId, Slot};
+use crate::books::{lists, wildcard_of};
+use dia_book::{Book, DRule, DefId, Key};
 use dia_levels::{Costs, TOO_LONG, length_least};
 
 /// What a definition's levels take.
@@ -16,19 +21,27 @@ pub(crate) struct LevelCost {
 }
 
 impl LevelCost {
+    ghost use Rattle.dia_breaking.specs.LevelCosts.{IsCostOf, with_listed, with_other};
+
     pub fn new<A: Book, C: Costs>(a: &A, def: DefId, costs: &C) -> Self
         requires { def < length (definitions (A.meaning a.now)) }
+        ensures { OtherIsShortest (C.other_length costs.now) (C.other_keys costs.now)
+            (rules_in (A.meaning a.now) def) → IsCostOf
+            (C.listed_length costs.now) (C.other_length costs.now)
+            (rules_in (A.meaning a.now) def) result }
     {
         let base = length_least(a, def, costs);
         let beside = match wildcard_of(a, def) {
-            Some(wild) => beside(a, def, costs, base, &wild),
+            Some(wild) => beside(base, filler_length(a, def, costs), &wild),
             None => TOO_LONG,
         };
         LevelCost { base, beside }
     }
 
     /// With an AVP of a rule's key, which is this long.
-    pub fn with_listed(&self, rule: &DRule, length: u64) -> u64 {
+    pub fn with_listed(&self, rule: &DRule, length: u64) -> u64
+        ensures { result ≡ with_listed self.now rule.now length }
+    {
         if rule.max == Some(0) || TOO_LONG <= length {
             TOO_LONG
         } else if 0 < rule.min {
@@ -37,33 +50,41 @@ impl LevelCost {
             self.base.saturating_add(length).min(TOO_LONG)
         }
     }
-
-    /// With an AVP that comes through the wildcard, and is this long.
-    pub fn with_other(&self, length: u64) -> u64 {
-        self.beside.saturating_add(length).min(TOO_LONG)
-    }
 }
 
-fn beside<A: Book, C: Costs>(a: &A, def: DefId, costs: &C, base: u64, wild: &DRule) -> u64
-    requires { def < length (definitions (A.meaning a.now)) }
+/// What a least level takes beside an AVP by this wildcard, where the least by it has the length `filler`.
+fn beside(base: u64, filler: u64, wild: &DRule) -> u64
+    ensures { result ≡ beside_of base filler wild.now }
 {
     if wild.max == Some(0) || TOO_LONG <= base {
         TOO_LONG
     } else if 0 < wild.min {
-        base.saturating_sub(filler(a, def, costs))
+        base.saturating_sub(filler)
     } else {
         base
     }
 }
 
 /// What a shortest AVP takes that no rule lists.
-fn filler<A: Book, C: Costs>(a: &A, def: DefId, costs: &C) -> u64
+fn filler_length<A: Book, C: Costs>(a: &A, def: DefId, costs: &C) -> u64
     requires { def < length (definitions (A.meaning a.now)) }
+    ensures { result ≡ least_filler (C.other_length costs.now) (C.other_keys costs.now)
+        (rules_in (A.meaning a.now) def) }
 {
-    for key in costs.others() {
-        if let Slot::Unlisted = a.slot(def, *key) {
-            return costs.other(*key);
-        }
+    match filler_key(a, def, costs) {
+        Some(key) => costs.other(key),
+        None => TOO_LONG,
     }
-    TOO_LONG
+}
+
+fn filler_key<A: Book, C: Costs>(a: &A, def: DefId, costs: &C) -> Option<Key>
+    requires { def < length (definitions (A.meaning a.now)) }
+    ensures { result ≡ find (λ key. not (is_listed (rules_in (A.meaning a.now) def) key))
+        (C.other_keys costs.now) }
+{
+    costs
+        .others()
+        .iter()
+        .copied()
+        .find(|key| !lists(a, def, *key))
 }

@@ -5,6 +5,7 @@
 #![tactic(auto)]
 
 mod books;
+mod closing;
 mod confirm;
 mod heads;
 mod keys;
@@ -15,6 +16,7 @@ mod lines;
 mod message;
 mod upgrade;
 mod walk;
+mod ways;
 mod words;
 
 pub use dia_policy::{Sends, Unknown};

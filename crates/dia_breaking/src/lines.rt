@@ -1,6 +1,10 @@
 //! The lines of a command.
-ghost use Rattle.std.specs.Prelude.{◌<◌, IfSome, length};
+ghost use Rattle.std.specs.Prelude.{◌<◌, IfOk, IfSome, length};
 ghost use Rattle.dia_book.specs.Dictionary.{definitions};
+ghost use Rattle.dia_compat.specs.Tests.{rules_in};
+ghost use Rattle.dia_levels.specs.Levels.{HasEachLine};
+ghost use Rattle.dia_levels.specs.LevelTests.{price};
+ghost use Rattle.dia_breaking.specs.Lengths.{listed_length, other_length};
 
 use crate::books::{command_of, format_of, group_of};
 use crate::heads::{Head, allows, head_of, told_apps};
@@ -166,7 +170,7 @@ impl<'a, A: Book, B: Book> Upgrade<'a, A, B> {
     }
 
     /// How the levels of a definition of A break the rules of one of B.
-    fn lines_between(
+    pub(crate) fn lines_between(
         &self,
         alloc: Global,
         a_def: DefId,
@@ -174,6 +178,14 @@ impl<'a, A: Book, B: Book> Upgrade<'a, A, B> {
     ) -> Result<Vec<LevelLine>, AllocError>
         requires first { a_def < length (definitions (A.meaning self.now.a.now)) }
         requires second { b_def < length (definitions (B.meaning self.now.b.now)) }
+        ensures { IfOk result (λ lines. HasEachLine (price
+            (listed_length (A.meaning self.now.lengths.book.now)
+            self.now.lengths.sends self.now.lengths.entries.items)
+            (other_length (A.meaning self.now.lengths.book.now)
+            self.now.lengths.sends self.now.lengths.entries.items)
+            (rules_in (A.meaning self.now.a.now) a_def))
+            (rules_in (A.meaning self.now.a.now) a_def)
+            (rules_in (B.meaning self.now.b.now) b_def) lines.items) }
     {
         level_lines(alloc, self.a, a_def, self.b, b_def, &self.lengths)
     }

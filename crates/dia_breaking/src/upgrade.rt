@@ -2,8 +2,10 @@
 ghost use Rattle.std.specs.Prelude.{◌≡◌, ◌<◌, ℕ, length};
 ghost use Rattle.dia_book.specs.Dictionary.{definitions};
 ghost use Rattle.dia_compat.specs.Tests.{rules_in};
+ghost use Rattle.dia_least.specs.Floors.{AreFloors};
 ghost use Rattle.dia_levels.specs.Levels.{FirstIsShortest};
-ghost use Rattle.dia_breaking.specs.Lengths.{other_length};
+ghost use Rattle.dia_breaking.specs.Lengths.{listed_length, other_length};
+ghost use Rattle.dia_breaking.specs.Telling.{IsTelling};
 
 use crate::heads::{BothApps, Head, head_of};
 use crate::keys::Telling;
@@ -24,9 +26,13 @@ pub struct Upgrade<'a, A: Book, B: Book> {
     pub(crate) telling: Box<Telling>,
     pub(crate) apps: Box<BothApps>,
     ghost same: { lengths.book.now ≡ a.now },
+    ghost sender: { lengths.sends ≡ sends },
     ghost shortest: { (x y : ℕ) → FirstIsShortest (other_length (A.meaning a.now) lengths.sends
         lengths.entries.items) lengths.others.items
         (rules_in (A.meaning a.now) x) (rules_in (B.meaning b.now) y) },
+    ghost floors: { ∥ AreFloors (A.meaning a.now) sends
+        (listed_length (A.meaning a.now) sends lengths.entries.items) ∥₁ },
+    ghost told: { ∥ IsTelling (A.meaning a.now) (B.meaning b.now) sends unknown telling.value ∥₁ },
 }
 
 impl<'a, A: Book, B: Book> Upgrade<'a, A, B> {

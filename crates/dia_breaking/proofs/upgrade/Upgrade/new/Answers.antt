@@ -1,9 +1,14 @@
+use Rattle.std.proofs.Common.{sym, subst}
+use Rattle.dia_breaking.specs.Telling.{IsTelling}
 use Rattle.dia_breaking.proofs.Shortest.{first_is_shortest}
 use Rattle.dia_breaking.proofs.upgrade.Upgrade.new.Goals as goal
 
 pub invariant_of-result : goal.invariant_of-result
 invariant_of-result g c = record {
   same = c.in_ok-lengths.ensures.book;
+  sender = c.in_ok-lengths.ensures.sends;
   shortest = first_is_shortest (g.A.Book.meaning c.args.a.now) (g.B.Book.meaning c.args.b.now) c.in_ok-lengths.lengths.sends c.in_ok-lengths.lengths.entries.items c.in_ok-lengths.lengths.others.items
       (g.met.A.Book.sound c.args.a.now) (g.met.B.Book.sound c.args.b.now) c.in_ok-lengths.ensures.others;
+  floors = ∣ c.in_ok-lengths.ensures.floors ∣₁;
+  told = ∣ subst (IsTelling (g.A.Book.meaning c.args.a.now) (g.B.Book.meaning c.args.b.now) c.args.sends c.args.unknown) (sym c.in_ok-telling.ensures.ok) c.in_ok-new.ensures ∣₁;
 }

@@ -1,0 +1,329 @@
+-- A pair of definitions is closed where what is computed of it says so.
+use Rattle.std.proofs.Common.{◌≡◌, ℕ, ◌+◌, ◌-◌, ◌<◌, ◌≤◌, max, Bool, true, false, not, List, [], ◌∷◌, Option, Some, None, refl, sym, ap, subst, ◌∙◌, arith, inl, inr}
+use Rattle.std.specs.Prelude.{◌⊎◌, ◌&&◌, ◌||◌, ◌==◌, nat_le, nat_lt, is_some, IsSome, All, Contains, slice_get, option_and_then, if◌then◌else◌}
+use Rattle.std.specs.List.{list_all, list_any}
+use Rattle.std.specs.Option.{option_map_or}
+use Rattle.std.specs.HashMap.{get}
+use Rattle.std.proofs.lemmas.Bool.{and_parts, or_cases, both_ways, not-true, ltb-true, leb-true, eqb-true}
+use Rattle.std.proofs.lemmas.Option.{none-some}
+use Rattle.dia_wire.specs.declared.Key.{Key}
+use Rattle.dia_book.specs.Keys.{same_key}
+use Rattle.dia_book.specs.declared.DRule.{DRule}
+use Rattle.dia_book.specs.Dictionary.{Dictionary, PlainDefinition, IsDictionary, definitions, entry_of, lists_key}
+use Rattle.dia_book.proofs.SameKeys.{same_key-true}
+use Rattle.dia_policy.specs.declared.Unknown.{Unknown}
+use Rattle.dia_policy.specs.declared.Sends.{Sends}
+use Rattle.dia_policy.specs.declared.Sends.TheVariants.{Any, Known, Listed}
+use Rattle.dia_check.specs.Valid.{Placed, is_listed}
+use Rattle.dia_sites.specs.Sent.{StandAsSent}
+use Rattle.dia_sites.specs.Sites.{Site, HasSite}
+use Rattle.dia_sites.specs.Selection.{max_body}
+use Rattle.dia_entries.specs.Sent.{group_of}
+use Rattle.dia_entries.specs.Laws.{FitKeyAlone}
+use Rattle.dia_compat.specs.Tests.{rules_in}
+use Rattle.dia_compat.proofs.RunsOfFixedRules.{IsIn, in_all}
+use Rattle.dia_compat.proofs.MemberCounts.{any_in, in_at, in_contains, contains_in}
+use Rattle.dia_compat.proofs.FitInSecond.{all_of}
+use Rattle.dia_least.specs.Floors.{shortest_head, total}
+use Rattle.dia_levels.specs.declared.line.Line.{Line}
+use Rattle.dia_levels.specs.Levels.{HasEachLine, FirstIsShortest, OtherIsShortest, Shows}
+use Rattle.dia_levels.specs.LevelTests.{too_long, price}
+use Rattle.dia_breaking.specs.declared.keys.Own.{Own}
+use Rattle.dia_breaking.specs.declared.keys.Telling.{Telling}
+use Rattle.dia_breaking.specs.declared.levels.LevelCost.{LevelCost}
+use Rattle.dia_breaking.specs.declared.ways.Other.{Other}
+use Rattle.dia_breaking.specs.declared.ways.Way.{Way}
+use Rattle.dia_breaking.specs.Closed.{IsSentKeys, IsClosedSite}
+use Rattle.dia_breaking.specs.ClosedRules.{AreWaysOf, IsFirst, first_spare, is_closed_at, is_closed_rule, is_safe, leads, spare_by_way, spare_of}
+use Rattle.dia_breaking.specs.Closing.{HoldsWays, IsClosedBy}
+use Rattle.dia_breaking.specs.Lengths.{length_of_entry, listed_length, other_length}
+use Rattle.dia_breaking.specs.LevelCosts.{IsCostOf, with_listed, with_other}
+use Rattle.dia_breaking.specs.Telling.{IsTelling, IsUntold, StandsFor, told}
+use Rattle.dia_breaking.proofs.Shortest.{any_least, lists_some, unlisted}
+use Rattle.dia_breaking.proofs.LevelCosts.{one_is_shortest}
+
+-- ---- what keys take
+
+total_same : (f g : Key → ℕ) (keys : List Key) → ((q : Key) → IsIn q keys → f q ≡ g q) → total f keys ≡ total g keys
+total_same f g [] same = refl
+total_same f g (q ∷ keys) same =
+    let here = same q (inl refl) in
+    let ih = total_same f g keys (λ k i. same k (inr i)) in
+    omega (arith, here, ih)
+
+either : (b : Bool) (m n : ℕ) → n ≡ m → (if b then m else n) ≡ m
+either true m n e = refl
+either false m n e = e
+
+-- what is sent stands as the rules say
+stand_placed : (who : Sends) (rules : List DRule) (keys : List Key) → StandAsSent who rules keys → Placed rules keys
+stand_placed Any rules keys h = h
+stand_placed Known rules keys h = h
+stand_placed Listed rules keys h = h.0
+
+-- and each of its AVPs takes what one by a rule does
+stand_price : (d : Dictionary) (who : Sends) (lengths : List ℕ) (rules : List DRule) (keys : List Key) → StandAsSent who rules keys
+    → total (price (listed_length d who lengths) (other_length d who lengths) rules) keys ≡ total (listed_length d who lengths) keys
+stand_price d Any lengths rules keys h =
+    total_same (price (listed_length d Any lengths) (other_length d Any lengths) rules) (listed_length d Any lengths) keys (λ q i. either (is_listed rules q) (listed_length d Any lengths q) (listed_length d Any lengths q) refl)
+stand_price d Known lengths rules keys h =
+    total_same (price (listed_length d Known lengths) (other_length d Known lengths) rules) (listed_length d Known lengths) keys (λ q i. either (is_listed rules q) (listed_length d Known lengths q) (listed_length d Known lengths q) refl)
+stand_price d Listed lengths rules keys h =
+    total_same (price (listed_length d Listed lengths) (other_length d Listed lengths) rules) (listed_length d Listed lengths) keys
+    (λ q i. ap (λ (b : Bool). if b then listed_length d Listed lengths q else too_long) (in_all (λ key. is_listed rules key ≡ true) q keys h.1 i))
+
+-- one that comes through the wildcard takes as much
+stand_other : (d : Dictionary) (who : Sends) (lengths : List ℕ) (rules : List DRule) (keys : List Key) (key : Key) → StandAsSent who rules keys → IsIn key keys → is_listed rules key ≡ false
+    → other_length d who lengths key ≡ listed_length d who lengths key
+stand_other d Any lengths rules keys key h i none = refl
+stand_other d Known lengths rules keys key h i none = refl
+stand_other d Listed lengths rules keys key h i none = absurd (both_ways (is_listed rules key) none (in_all (λ key. is_listed rules key ≡ true) key keys h.1 i))
+
+-- no strange key takes less than one without vendor
+strange_least : (d : Dictionary) (who : Sends) (lengths : List ℕ) (own key : Key) → entry_of d own ≡ None → own.vendor ≡ 0 → entry_of d key ≡ None → other_length d who lengths own ≤ other_length d who lengths key
+strange_least d Any lengths own key none vendor other =
+    let length_own : listed_length d Any lengths own ≡ 8 = ap (λ (o : Option ℕ). option_map_or (length_of_entry lengths) o (shortest_head own)) none
+    ∙ ap (λ (n : ℕ). shortest_head (record { code = own.code; vendor = n })) vendor in
+    let least = any_least d lengths key in
+    omega (arith, length_own, least)
+strange_least d Known lengths own key none vendor other =
+    let first : listed_length d Known lengths own ≡ too_long = ap (λ (o : Option ℕ). option_map_or (length_of_entry lengths) o too_long) none in
+    let second : listed_length d Known lengths key ≡ too_long = ap (λ (o : Option ℕ). option_map_or (length_of_entry lengths) o too_long) other in
+    omega (arith, first, second)
+strange_least d Listed lengths own key none vendor other = omega arith
+
+-- ---- what is computed
+
+right_of : (b c : Bool) → (b ≡ true → ⊥) → (b || c) ≡ true → c ≡ true
+right_of b c never h = by (or_cases b c h)
+  where
+    by : (b ≡ true) ⊎ (c ≡ true) → c ≡ true
+    by (inl e) = absurd (never e)
+    by (inr e) = e
+
+-- a test of all of a list is true of each
+all_true : {X : Type 0} (p : X → Bool) (xs : List X) (x : X) → list_all p xs ≡ true → IsIn x xs → p x ≡ true
+all_true p [] x h i = absurd i
+all_true p (y ∷ xs) x h (inl e) = ap p e ∙ (and_parts (p y) (list_all p xs) h).0
+all_true p (y ∷ xs) x h (inr i) = all_true p xs x (and_parts (p y) (list_all p xs) h).1 i
+
+way_in : (groups : List Way) (key : Key) (way : ℕ) → list_any (λ group. same_key group.key key && (group.way == way)) groups ≡ true → Contains groups (record { key = key; way = way })
+way_in groups key way h =
+    let (group, i, t) = any_in (λ group. same_key group.key key && (group.way == way)) groups h in
+    let parts = and_parts (same_key group.key key) (group.way == way) t in
+    let same_keys : group.key ≡ key = same_key-true group.key key parts.0 in
+    let same_ways : group.way ≡ way = eqb-true group.way way parts.1 in
+    let here : group ≡ record { key = key; way = way } = ap (λ (k : Key). record { key = k; way = group.way }) same_keys ∙ ap (λ (n : ℕ). record { key = key; way = n }) same_ways in
+    contains_in groups (record { key = key; way = way }) (subst (λ (g : Way). IsIn g groups) here i)
+
+site_less : (sites : List Site) (x y : PlainDefinition) (m n : ℕ) → n ≤ m → HasSite sites x y m → HasSite sites x y n
+site_less sites x y m n le (site, is, a, b, room) = (site, is, a, b, omega (arith, le, room))
+
+some_is : {X : Type 0} (o : Option X) (x : X) → o ≡ Some x → IsSome o
+some_is {X} o x e = ap (λ (o : Option X). is_some o) e
+
+module _ (da db : Dictionary) (who : Sends) (u : Unknown) (lengths : List ℕ) (telling : Telling) (ways : Key → Option ℕ) (groups : List Way) (others : List Other) (cost : LevelCost) (rules : List DRule) (way : ℕ)
+    (strange_unlisted : (key : Key) → entry_of da key ≡ None → is_listed rules key ≡ false) (costs : IsCostOf (listed_length da who lengths) (other_length da who lengths) rules cost) (tells : IsTelling da db who u telling)
+    (are : AreWaysOf groups ways) (first : IsFirst (other_length da who lengths) ways telling.own.items others) (by_rules : list_all (is_closed_rule telling ways (listed_length da who lengths) cost way) rules ≡ true)
+    (by_wild : max_body < way + cost.beside + first_spare (λ key. not (is_listed rules key)) others) (fits : way ≤ max_body) (sites : List Site) (holds : HoldsWays da db groups sites) where
+  abbrev listed : Key → ℕ
+  listed = listed_length da who lengths
+
+  abbrev other : Key → ℕ
+  other = other_length da who lengths
+
+  -- what is asked of a key of a level
+  abbrev IsGood : List Key → Key → Type 0
+  IsGood keys key = FitKeyAlone da db who u key
+      × ((x y : PlainDefinition) (size : ℕ) → group_of da key ≡ Some x → group_of db key ≡ Some y → size + shortest_head key + total listed keys ≤ max_body - way + listed key → HasSite sites x y size)
+
+  untold_good : (keys : List Key) (key : Key) → IsUntold da db who u key → IsGood keys key
+  untold_good keys key (alone, none) = (alone, λ x y size is_x is_y h. absurd (none (some_is (group_of da key) x is_x, some_is (group_of db key) y is_y)))
+
+  leading_good : (keys : List Key) (key : Key) (own : Own) (w n : ℕ) → Contains telling.own.items own → own.key ≡ key → own.breaks ≡ false → ways key ≡ Some w → w + listed key ≤ n + shortest_head key
+      → n ≤ way + total listed keys → IsGood keys key
+  leading_good keys key own w n is same silent at le within = (
+    subst (λ (k : Key). FitKeyAlone da db who u k) same (tells.silent own is silent),
+    λ x y size is_x is_y h. site_less sites x y (max_body - w) size (omega (arith, fits, le, within, h)) (holds (record { key = key; way = w }) x y (way_in groups key w (are key w at)) is_x is_y),
+  )
+
+  own_of_place : (key : Key) (place : ℕ) → get same_key telling.places key ≡ Some place → (own : Own) → slice_get telling.own.items place ≡ Some own → Contains telling.own.items own × (own.key ≡ key)
+  own_of_place key place at own is =
+      let p = tells.placed key place at in
+      let same : Some p.0 ≡ Some own = sym p.1 ∙ is in
+      let one : p.0 ≡ own = ap (λ (o : Option Own). option_map_or (λ x. x) o own) same in
+      (contains_in telling.own.items own (in_at telling.own.items place own is), ap (λ (x : Own). x.key) (sym one) ∙ p.2)
+
+  -- ---- a key that a rule lists
+
+  safe_good : (keys : List Key) (key : Key) (n : ℕ) → is_listed rules key ≡ true → is_safe telling ways key (listed key) n ≡ true → n ≤ way + total listed keys → IsGood keys key
+  safe_good keys key n lists safe within = by_place (get same_key telling.places key) refl
+    where
+      is_led : (own : Own) → Contains telling.own.items own → own.key ≡ key → (not own.breaks && leads ways key (listed key) n) ≡ true → IsGood keys key
+      is_led own is same h =
+          let parts = and_parts (not own.breaks) (leads ways key (listed key) n) h in
+          by (ways key) refl parts.1
+        where
+          silent : own.breaks ≡ false
+          silent = not-true own.breaks (and_parts (not own.breaks) (leads ways key (listed key) n) h).0
+
+          by : (o : Option ℕ) → ways key ≡ o → option_map_or (λ w. nat_le (w + listed key) (n + shortest_head key)) o false ≡ true → IsGood keys key
+          by None e t = absurd (let bad : false ≡ true = t in cc)
+          by (Some w) e t = leading_good keys key own w n is same silent e (leb-true (w + listed key) (n + shortest_head key) t) within
+
+      by_own : (place : ℕ) → get same_key telling.places key ≡ Some place → (o : Option Own) → slice_get telling.own.items place ≡ o → IsGood keys key
+      by_own place at None is = absurd (let p = tells.placed key place at in none-some p.0 (sym is ∙ p.1))
+      by_own place at (Some own) is =
+          let p = own_of_place key place at own is in
+          let here : told telling key ≡ Some own = ap (λ (o : Option ℕ). option_and_then (slice_get telling.own.items) o) at ∙ is in
+          is_led own p.0 p.1 (sym (ap (λ (o : Option Own). option_map_or (λ own. not own.breaks && leads ways key (listed key) n) o true) here) ∙ safe)
+
+      by_place : (o : Option ℕ) → get same_key telling.places key ≡ o → IsGood keys key
+      by_place None e = by (tells.rest key e)
+        where
+          by : IsUntold da db who u key ⊎ ((own : Own) × Contains telling.own.items own × StandsFor da db key own) → IsGood keys key
+          by (inl h) = untold_good keys key h
+          by (inr (own, is, stands)) = absurd (both_ways (is_listed rules key) (strange_unlisted key stands.0.0) lists)
+      by_place (Some place) e = by_own place e (slice_get telling.own.items place) refl
+
+  listed_good : (keys : List Key) (key : Key) → StandAsSent who rules keys → total listed keys ≤ max_body - way → Contains keys key → is_listed rules key ≡ true → IsGood keys key
+  listed_good keys key stand room comes lists =
+      let (rule, i, l) = any_in (lists_key key) rules lists in
+      let is : rule.key ≡ Some key = lists_some key rule l in
+      let least = costs.listed_within key rule (contains_in rules rule i, is) keys (stand_placed who rules keys stand) comes in
+      let same = stand_price da who lengths rules keys stand in
+      let n : ℕ = way + with_listed cost rule (listed key) in
+      let closed : is_closed_at telling ways key (listed key) n ≡ true =
+      sym (ap (λ (o : Option Key). option_map_or (λ k. is_closed_at telling ways k (listed k) (way + with_listed cost rule (listed k))) o true) is)
+      ∙ all_true (is_closed_rule telling ways listed cost way) rules rule by_rules i in
+      safe_good keys key n lists (right_of (nat_lt max_body n) (is_safe telling ways key (listed key) n) (λ e. let over = ltb-true max_body n e in omega (arith, over, least, same, room, fits)) closed)
+      (omega (arith, least, same))
+
+  -- ---- a key that comes through the wildcard
+
+  other_good : (keys : List Key) (key : Key) → StandAsSent who rules keys → total listed keys ≤ max_body - way → Contains keys key → is_listed rules key ≡ false → IsGood keys key
+  other_good keys key stand room comes none = by_place (get same_key telling.places key) refl
+    where
+      own_length : other key ≡ listed key
+      own_length = stand_other da who lengths rules keys key stand (in_contains keys key comes) none
+
+      within : way + cost.beside + other key ≤ way + total listed keys
+      within =
+          let least = costs.others_within key none keys (stand_placed who rules keys stand) comes in
+          let same = stand_price da who lengths rules keys stand in
+          omega (arith, least, same, room)
+
+      -- so much is spared for what is told, if no rule lists it
+      spared : (own : Own) → Contains telling.own.items own → is_listed rules own.key ≡ false → max_body < way + cost.beside + spare_of other ways own
+      spared own is free =
+          let le = first own (λ k. not (is_listed rules k)) is (ap not free) in
+          omega (arith, by_wild, le)
+
+      by_way : (own : Own) → Contains telling.own.items own → own.key ≡ key → own.breaks ≡ false → max_body < way + cost.beside + spare_of other ways own → (o : Option ℕ) → ways key ≡ o → IsGood keys key
+      by_way own is same silent big o e = by o e left
+        where
+          left : spare_by_way ways own ≡ option_map_or (λ w. too_long - (w - shortest_head key)) o 0
+          left = ap (λ (b : Bool). if b then 0 else option_map_or (λ w. too_long - (w - shortest_head own.key)) (ways own.key) 0) silent
+              ∙ ap (λ (k : Key). option_map_or (λ w. too_long - (w - shortest_head k)) (ways k) 0) same ∙ ap (λ (o : Option ℕ). option_map_or (λ w. too_long - (w - shortest_head key)) o 0) e
+
+          length_is : other own.key ≡ other key
+          length_is = ap other same
+
+          by : (o : Option ℕ) → ways key ≡ o → spare_by_way ways own ≡ option_map_or (λ w. too_long - (w - shortest_head key)) o 0 → IsGood keys key
+          by None at left = absurd (let l = length_is in let w = within in omega (arith, big, left, l, w, room, fits))
+          by (Some w) at left =
+              let l = length_is in
+              let e = own_length in
+              let most = within in
+              leading_good keys key own w (way + cost.beside + other key) is same silent at (omega (arith, big, left, l, e, most, room, fits)) most
+
+      by_own : (own : Own) → Contains telling.own.items own → own.key ≡ key → (b : Bool) → own.breaks ≡ b → IsGood keys key
+      by_own own is same true breaks =
+          let big = spared own is (ap (is_listed rules) same ∙ none) in
+          let left : spare_by_way ways own ≡ 0 = ap (λ (b : Bool). if b then 0 else option_map_or (λ w. too_long - (w - shortest_head own.key)) (ways own.key) 0) breaks in
+          let l : other own.key ≡ other key = ap other same in
+          let w = within in
+          absurd (omega (arith, big, left, l, w, room, fits))
+      by_own own is same false silent = by_way own is same silent (spared own is (ap (is_listed rules) same ∙ none)) (ways key) refl
+
+      by_place : (o : Option ℕ) → get same_key telling.places key ≡ o → IsGood keys key
+      by_place None e = by (tells.rest key e)
+        where
+          by : IsUntold da db who u key ⊎ ((own : Own) × Contains telling.own.items own × StandsFor da db key own) → IsGood keys key
+          by (inl h) = untold_good keys key h
+          by (inr (own, is, (strange, own_strange, vendor, breaks))) =
+              let big = spared own is (strange_unlisted own.key own_strange.0) in
+              let left : spare_by_way ways own ≡ 0 = ap (λ (b : Bool). if b then 0 else option_map_or (λ w. too_long - (w - shortest_head own.key)) (ways own.key) 0) breaks in
+              let le = strange_least da who lengths own.key key own_strange.0 vendor strange.0 in
+              let w = within in
+              absurd (omega (arith, big, left, le, w, room, fits))
+      by_place (Some place) e =
+          let p = tells.placed key place e in
+          let own = own_of_place key place e p.0 p.1 in
+          by_own p.0 own.0 own.1 p.0.breaks refl
+
+  pub key_good : (keys : List Key) (key : Key) → StandAsSent who rules keys → total listed keys ≤ max_body - way → Contains keys key → IsGood keys key
+  key_good keys key stand room comes = by (is_listed rules key) refl
+    where
+      by : (b : Bool) → is_listed rules key ≡ b → IsGood keys key
+      by true e = listed_good keys key stand room comes e
+      by false e = other_good keys key stand room comes e
+
+  -- ---- the level
+
+  pub level_placed : (b : List DRule) (lines : List Line) → HasEachLine (price listed other rules) rules b lines → All (λ line. max_body < way + line.length) lines → (keys : List Key) → StandAsSent who rules keys
+      → total listed keys ≤ max_body - way → Placed b keys
+  level_placed b lines each long keys stand room =
+      let same = stand_price da who lengths rules keys stand in
+      by (each keys (stand_placed who rules keys stand) (omega (arith, same, room)))
+    where
+      by : Placed b keys ⊎ ((line : Line) × Contains lines line × Shows (price listed other rules) rules b keys line) → Placed b keys
+      by (inl h) = h
+      by (inr (line, is, (shown, le))) =
+          let same = stand_price da who lengths rules keys stand in
+          let over = all_of (λ (line : Line). max_body < way + line.length) lines line long (in_contains lines line is) in
+          absurd (omega (arith, same, le, over, room, fits))
+
+  pub closed_by : (x y : PlainDefinition) (b : List DRule) (lines : List Line) → rules ≡ x.rules → b ≡ y.rules → HasEachLine (price listed other rules) rules b lines → All (λ line. max_body < way + line.length) lines
+      → IsClosedSite da db who u listed sites (record { a = x; b = y; room = max_body - way })
+  closed_by x y b lines is_x is_y each long = record {
+    placed = λ keys sent. subst (λ (rs : List DRule). Placed rs keys) is_y (level_placed b lines each long keys (stand keys sent) sent.1);
+    alone = λ keys key sent comes. (key_good keys key (stand keys sent) sent.1 comes).0;
+    groups = λ keys key f g size sent comes is_f is_g h. (key_good keys key (stand keys sent) sent.1 comes).1 f g size is_f is_g h;
+  }
+    where
+      stand : (keys : List Key) → IsSentKeys who listed x.rules (max_body - way) keys → StandAsSent who rules keys
+      stand keys sent = subst (λ (rs : List DRule). StandAsSent who rs keys) (sym is_x) sent.0
+
+-- ---- by what is kept of two dictionaries
+
+-- the rules of a definition that is there
+rules_of_def : (d : Dictionary) (def : ℕ) (x : PlainDefinition) → slice_get (definitions d) def ≡ Some x → rules_in d def ≡ x.rules
+rules_of_def d def x at = ap (λ (o : Option PlainDefinition). option_map_or (λ (y : PlainDefinition). y.rules) o []) at
+
+module _ {X : Type 0} (meaning : X → Dictionary) (db : Dictionary) (book a : X) (sent who : Sends) (same : book ≡ a) (sender : sent ≡ who) (u : Unknown) (entries : List ℕ) (keys : List Key) (telling : Telling)
+    (ways : Key → Option ℕ) (groups : List Way) (others : List Other) (cost : LevelCost) (a_def b_def way : ℕ) (lines : List Line) where
+  moved : (P : Dictionary → Sends → Type 0) → P (meaning book) sent → P (meaning a) who
+  moved P h = subst (λ (s : Sends). P (meaning a) s) sender (subst (λ (p : X). P (meaning p) sent) same h)
+
+  abbrev rules : List DRule
+  rules = rules_in (meaning a) a_def
+
+  pub closed_when : IsDictionary (meaning a) → ((y : ℕ) → FirstIsShortest (other_length (meaning a) sent entries) keys (rules_in (meaning a) a_def) (rules_in db y))
+      → (OtherIsShortest (other_length (meaning book) sent entries) keys (rules_in (meaning a) a_def) → IsCostOf (listed_length (meaning book) sent entries) (other_length (meaning book) sent entries) (rules_in (meaning a) a_def) cost)
+      → AreWaysOf groups ways → IsFirst (other_length (meaning book) sent entries) ways telling.own.items others
+      → list_all (is_closed_rule telling ways (listed_length (meaning book) sent entries) cost way) (rules_in (meaning a) a_def) ≡ true
+      → max_body < way + cost.beside + first_spare (λ key. not (is_listed (rules_in (meaning a) a_def) key)) others
+      → HasEachLine (price (listed_length (meaning book) sent entries) (other_length (meaning book) sent entries) (rules_in (meaning a) a_def)) (rules_in (meaning a) a_def) (rules_in db b_def) lines
+      → All (λ line. max_body < way + line.length) lines → way ≤ max_body → IsTelling (meaning a) db who u telling
+      → IsClosedBy (meaning a) db who u (listed_length (meaning a) who entries) groups a_def b_def way
+  closed_when sound shortest costs are first by_rules by_wild each long fits tells x y sites at_x at_y holds =
+      closed_by (meaning a) db who u entries telling ways groups others cost rules way (λ key none. unlisted (meaning a) a_def key sound none)
+      (moved (λ d s. IsCostOf (listed_length d s entries) (other_length d s entries) rules cost) (costs other)) tells are
+      (moved (λ d s. IsFirst (other_length d s entries) ways telling.own.items others) first)
+      (moved (λ d s. list_all (is_closed_rule telling ways (listed_length d s entries) cost way) rules ≡ true) by_rules) by_wild fits sites holds x y (rules_in db b_def) lines
+      (rules_of_def (meaning a) a_def x at_x) (rules_of_def db b_def y at_y)
+      (moved (λ d s. HasEachLine (price (listed_length d s entries) (other_length d s entries) rules) rules (rules_in db b_def) lines) each) long
+    where
+      other : OtherIsShortest (other_length (meaning book) sent entries) keys (rules_in (meaning a) a_def)
+      other = subst (λ (p : X). OtherIsShortest (other_length (meaning p) sent entries) keys (rules_in (meaning a) a_def)) (sym same) (one_is_shortest (other_length (meaning a) sent entries) keys (rules_in (meaning a) a_def) db shortest)

@@ -1,0 +1,16 @@
+-- The floors that are found are kept with the lengths of the entries.
+use Rattle.std.proofs.Common.{◌≡◌, ℕ, List, subst}
+use Rattle.std.specs.Prelude.{Result, Ok, Err, IfOk}
+use Rattle.dia_book.specs.Dictionary.{Dictionary}
+use Rattle.dia_policy.specs.declared.Sends.{Sends}
+use Rattle.dia_least.specs.declared.lookup.Least.{Least}
+use Rattle.dia_least.specs.Floors.{AreFloors}
+use Rattle.dia_least.specs.Lengths.{length_of}
+use Rattle.dia_least.specs.Passes.{length_in}
+use Rattle.dia_breaking.specs.Lengths.{listed_length, AreSameLengths}
+use Rattle.dia_breaking.proofs.FloorsOfEntries.{floors_of_entries}
+
+pub floors_if : (d : Dictionary) (who : Sends) (least : Least) {A E : Type 0} (entries : A → List ℕ) (r : Result A E) → least.sends ≡ who → AreFloors d who (length_in d least)
+    → IfOk r (λ l. AreSameLengths d least.lengths.items (entries l)) → IfOk r (λ l. AreFloors d who (listed_length d who (entries l)))
+floors_if d who least entries (Ok l) is floors same = floors_of_entries d who least.lengths.items (entries l) same (subst (λ (s : Sends). AreFloors d who (length_of d s least.lengths.items)) is floors)
+floors_if d who least entries (Err e) is floors same = same

@@ -1,0 +1,212 @@
+-- What is told of the keys that are sent is all that there is to tell.
+use Rattle.std.proofs.Common.{◌≡◌, ℕ, zero, suc, ◌+◌, ◌<◌, Bool, true, false, List, [], ◌∷◌, ◌++◌, length, Option, Some, None, refl, sym, ap, subst, ◌∙◌, arith, inl, inr}
+use Rattle.std.specs.Prelude.{◌⊎◌, ◌&&◌, ◌||◌, is_some, IsSome, MatchOption, ⊤, Contains, slice_get, option_and_then, if◌then◌else◌}
+use Rattle.std.specs.HashMap.{get}
+use Rattle.std.proofs.lemmas.Bool.{and_from, both_ways}
+use Rattle.std.proofs.lemmas.Option.{none-some, slice_get_within}
+use Rattle.dia_wire.specs.declared.Key.{Key}
+use Rattle.dia_data.specs.Leaf.{IsLeaf}
+use Rattle.dia_book.specs.Keys.{same_key}
+use Rattle.dia_book.specs.Dictionary.{Dictionary, DictEntry, PlainDefinition, entry_of}
+use Rattle.dia_book.proofs.SameKeys.{same_key-refl, same_key-true}
+use Rattle.dia_policy.specs.declared.Unknown.{Unknown}
+use Rattle.dia_policy.specs.declared.Sends.{Sends}
+use Rattle.dia_policy.specs.declared.Sends.TheVariants.{Any, Known, Listed}
+use Rattle.dia_check.specs.Valid.{Fits as AvpFits, IsAccepted, IsLevel, MHolds, known}
+use Rattle.dia_check.specs.Admission.{HasFlags}
+use Rattle.dia_sites.specs.Sent.{own_policy, AreBytes, IsSentLevel, IsSentWithin}
+use Rattle.dia_entries.specs.declared.breaking.AvpBreaks.{AvpBreaks}
+use Rattle.dia_entries.specs.declared.breaking.HeadBreak.{HeadBreak}
+use Rattle.dia_entries.specs.declared.breaking.DataBreak.TheVariants.{Fits}
+use Rattle.dia_entries.specs.Sent.{group_of, IsSentData, IsAcceptedData}
+use Rattle.dia_entries.specs.Breaks.{AcceptsFlags, IsDataBreak, IsHeadBreak, IsSilent}
+use Rattle.dia_entries.specs.Laws.{FitKeyAlone}
+use Rattle.dia_entries.proofs.Alone.{key_alone}
+use Rattle.dia_compat.proofs.RunsOfFixedRules.{IsIn}
+use Rattle.dia_compat.proofs.MemberCounts.{in_at, at_in, in_contains, contains_in, in_left, in_right, in_append}
+use Rattle.dia_breaking.specs.declared.keys.Own.{Own}
+use Rattle.dia_breaking.specs.declared.keys.Telling.{Telling}
+use Rattle.dia_breaking.specs.SentKeys.{AreSentKeys, IsStrange}
+use Rattle.dia_breaking.specs.Telling.{Adds, AreGroups, AreTold, IsTelling, IsToldOf, IsUntold, StandsFor, is_told}
+
+-- ---- keys that a dictionary doesn't know
+
+known_none : (d : Dictionary) (key : Key) → entry_of d key ≡ None → known d key ≡ None
+known_none d key e = ap (λ (o : Option ℕ). option_and_then (λ i. slice_get d.entries i) o) e
+
+flags_none : (d : Dictionary) (u : Unknown) (key : Key) (flags : ℕ) → entry_of d key ≡ None → HasFlags d u key flags → IsAccepted u flags
+flags_none d u key flags none h = subst (λ (o : Option DictEntry). MatchOption o (IsAccepted u flags) (λ e. MHolds e.rule flags)) (known_none d key none) h
+
+none_flags : (d : Dictionary) (u : Unknown) (key : Key) (flags : ℕ) → entry_of d key ≡ None → IsAccepted u flags → HasFlags d u key flags
+none_flags d u key flags none h = subst (λ (o : Option DictEntry). MatchOption o (IsAccepted u flags) (λ e. MHolds e.rule flags)) (sym (known_none d key none)) h
+
+no_group : (d : Dictionary) (key : Key) → entry_of d key ≡ None → IsSome (group_of d key) → ⊥
+no_group d key none h = both_ways (is_some (group_of d key)) (ap (λ (o : Option DictEntry). is_some (option_and_then (λ e. e.group) o)) (known_none d key none)) h
+
+-- one that B doesn't know may have any data
+alone_by_flags : (da db : Dictionary) (who : Sends) (u : Unknown) (key : Key) → AcceptsFlags da db who u key → entry_of db key ≡ None → FitKeyAlone da db who u key
+alone_by_flags da db who u key accepts none = key_alone da db who u key None Fits accepts any_data (refl, tt)
+  where
+    any_data : IsDataBreak da db who u key Fits
+    any_data bytes are sent =
+        subst (λ (o : Option DictEntry). MatchOption o ⊤ (λ e. MatchOption e.group (IsLeaf e.format bytes) (λ group. (n : ℕ) × IsLevel (AvpFits db u n) group.rules bytes))) (sym (known_none db key none)) tt
+
+-- strange keys have the flags of one another
+strange_alone : (da db : Dictionary) (who : Sends) (u : Unknown) (own key : Key) → IsStrange da db own → IsStrange da db key → AcceptsFlags da db who u own → FitKeyAlone da db who u key
+strange_alone da db who u own key (none_a, none_b) (key_a, key_b) accepts =
+    alone_by_flags da db who u key
+    (λ flags h. none_flags db u key flags key_b (flags_none db u own flags none_b (accepts flags (none_flags da (own_policy who) own flags none_a (flags_none da (own_policy who) key flags key_a h)))))
+    key_b
+
+unsent_data : (da db : Dictionary) (who : Sends) (u : Unknown) (key : Key) → (who ≡ Any → ⊥) → entry_of da key ≡ None → IsDataBreak da db who u key Fits
+unsent_data da db who u key never none bytes are sent = absurd (never (subst
+    (λ (o : Option DictEntry). MatchOption o (who ≡ Any) (λ e. MatchOption e.group (IsLeaf e.format bytes) (λ group. (n : ℕ) × IsSentLevel who (IsSentWithin da who n) group.rules bytes)))
+    (known_none da key none) sent))
+
+-- one that A doesn't know isn't sent by a side that sends what it knows
+unsent_alone : (da db : Dictionary) (who : Sends) (u : Unknown) (key : Key) → (who ≡ Any → ⊥) → entry_of da key ≡ None → FitKeyAlone da db who u key
+unsent_alone da db Any u key never none = absurd (never refl)
+unsent_alone da db Known u key never none = key_alone da db Known u key None Fits (λ flags h. absurd (flags_none da (own_policy Known) key flags none h)) (unsent_data da db Known u key never none) (refl, tt)
+unsent_alone da db Listed u key never none = key_alone da db Listed u key None Fits (λ flags h. absurd (flags_none da (own_policy Listed) key flags none h)) (unsent_data da db Listed u key never none) (refl, tt)
+
+-- where nothing breaks, B accepts the flags
+pub silent_of : (da db : Dictionary) (who : Sends) (u : Unknown) (key : Key) (breaks : AvpBreaks) → IsHeadBreak da db who u key breaks.head → (IsSilent breaks → FitKeyAlone da db who u key) → IsSilent breaks
+    → AcceptsFlags da db who u key × FitKeyAlone da db who u key
+silent_of da db who u key breaks is_head alone silent = (subst (λ (o : Option HeadBreak). IsHeadBreak da db who u key o) silent.0 is_head, alone silent)
+
+-- what is found says that there is nothing to tell
+nothing_told : (da db : Dictionary) (who : Sends) (u : Unknown) (key : Key) (own : Own) → IsToldOf da db who u key own → is_told own ≡ false → IsUntold da db who u key
+nothing_told da db who u key own is none = (
+  (is.silent (left_of own.breaks own.is_group none)).1,
+  λ both.
+      both_ways own.is_group (right_of own.breaks own.is_group none) (is.group ∙ and_from (is_some (group_of da key)) (is_some (group_of db key)) both.0 both.1),
+)
+  where
+    left_of : (b c : Bool) → (b || c) ≡ false → b ≡ false
+    left_of false c h = refl
+    left_of true c h = absurd (let bad : true ≡ false = h in cc)
+
+    right_of : (b c : Bool) → (b || c) ≡ false → c ≡ false
+    right_of false c h = h
+    right_of true c h = absurd (let bad : true ≡ false = h in cc)
+
+-- ---- one key after the other
+
+module _ (da db : Dictionary) (who : Sends) (u : Unknown) where
+  pub none_told : (telling : Telling) → telling.own.items ≡ [] → ((key : Key) → get same_key telling.places key ≡ None) → AreTold da db who u [] telling
+  none_told telling items places = record {
+    placed = λ key place at. absurd (none-some place (sym (places key) ∙ at));
+    each = λ own is. absurd (subst (λ (xs : List Own). IsIn own xs) items (in_contains telling.own.items own is));
+    rest = λ key is at. absurd (in_contains [] key is);
+  }
+
+  module _ (keys : List Key) (key : Key) (own : Own) (old new : Telling) (told : AreTold da db who u keys old) (is : IsToldOf da db who u key own) (adds : Adds own old new) where
+    own_alike : IsToldOf da db who u own.key own
+    own_alike = subst (λ (k : Key). IsToldOf da db who u k own) (sym is.key_is) is
+
+    placed_more : (q : Key) (place : ℕ) → (b c : Bool) → new.own.items ≡ (if b then old.own.items ++ own ∷ [] else old.own.items) → same_key own.key q ≡ c
+        → (if b && c then Some (length old.own.items) else get same_key old.places q) ≡ Some place → (o : Own) × (slice_get new.own.items place ≡ Some o) × (o.key ≡ q)
+    placed_more q place true true items same e =
+        (own, ap (λ xs. slice_get xs place) items ∙ at_last old.own.items own place (ap (λ (o : Option ℕ). place_or o) e), same_key-true own.key q same)
+      where
+        place_or : Option ℕ → ℕ
+        place_or None = place
+        place_or (Some n) = n
+
+        at_last : (xs : List Own) (x : Own) (n : ℕ) → length xs ≡ n → slice_get (xs ++ x ∷ []) n ≡ Some x
+        at_last [] x zero e = refl
+        at_last [] x (suc n) e = absurd (let bad : 0 ≡ suc n = e in omega (arith, bad))
+        at_last (y ∷ xs) x zero e = absurd (let bad : suc (length xs) ≡ 0 = e in omega (arith, bad))
+        at_last (y ∷ xs) x (suc n) e = at_last xs x n (let same : suc (length xs) ≡ suc n = e in omega (arith, same))
+    placed_more q place true false items same e =
+        let (o, at, k) = told.placed q place e in
+        (o, ap (λ xs. slice_get xs place) items ∙ at_front old.own.items (own ∷ []) place o at, k)
+      where
+        at_front : (xs ys : List Own) (n : ℕ) (o : Own) → slice_get xs n ≡ Some o → slice_get (xs ++ ys) n ≡ Some o
+        at_front [] ys n o at = absurd (none-some o at)
+        at_front (x ∷ xs) ys zero o at = at
+        at_front (x ∷ xs) ys (suc n) o at = at_front xs ys n o at
+    placed_more q place false c items same e = let (o, at, k) = told.placed q place e in (o, ap (λ xs. slice_get xs place) items ∙ at, k)
+
+    each_more : (b : Bool) → new.own.items ≡ (if b then old.own.items ++ own ∷ [] else old.own.items) → (o : Own) → Contains new.own.items o → IsToldOf da db who u o.key o
+    each_more false items o i = told.each o (subst (λ xs. Contains xs o) items i)
+    each_more true items o i = by (in_append old.own.items (own ∷ []) o (in_contains (old.own.items ++ own ∷ []) o (subst (λ xs. Contains xs o) items i)))
+      where
+        by : IsIn o old.own.items ⊎ IsIn o (own ∷ []) → IsToldOf da db who u o.key o
+        by (inl j) = told.each o (contains_in old.own.items o j)
+        by (inr (inl e)) = subst (λ (x : Own). IsToldOf da db who u x.key x) (sym e) own_alike
+        by (inr (inr j)) = absurd j
+
+    -- a key that has no place had none
+    had_none : (q : Key) (b c : Bool) → (if b && c then Some (length old.own.items) else get same_key old.places q) ≡ None → (get same_key old.places q ≡ None) × ((b && c) ≡ false)
+    had_none q true true e = absurd (let bad : Some (length old.own.items) ≡ None = e in cc)
+    had_none q true false e = (e, refl)
+    had_none q false c e = (e, refl)
+
+    rest_more : (q : Key) → Contains (keys ++ key ∷ []) q → get same_key new.places q ≡ None → (o : Own) × IsToldOf da db who u q o × (is_told o ≡ false)
+    rest_more q i e = by (in_append keys (key ∷ []) q (in_contains (keys ++ key ∷ []) q i)) (had_none q (is_told own) (same_key own.key q) (sym (adds.places q) ∙ e))
+      where
+        by : IsIn q keys ⊎ IsIn q (key ∷ []) → (get same_key old.places q ≡ None) × ((is_told own && same_key own.key q) ≡ false) → (o : Own) × IsToldOf da db who u q o × (is_told o ≡ false)
+        by (inl j) none = told.rest q (contains_in keys q j) none.0
+        by (inr (inr j)) none = absurd j
+        by (inr (inl same)) none =
+            let alike : same_key own.key q ≡ true = ap (same_key own.key) (same ∙ sym is.key_is) ∙ same_key-refl own.key in
+            (own, subst (λ (k : Key). IsToldOf da db who u k own) (sym same) is, untold (is_told own) (same_key own.key q) alike none.1)
+          where
+            untold : (b c : Bool) → c ≡ true → (b && c) ≡ false → b ≡ false
+            untold false c e h = refl
+            untold true c e h = absurd (both_ways c h e)
+
+    pub one_more_told : AreTold da db who u (keys ++ key ∷ []) new
+    one_more_told = record {
+      placed = λ q place e. placed_more q place (is_told own) (same_key own.key q) adds.items refl (sym (adds.places q) ∙ e);
+      each = λ o i. each_more (is_told own) adds.items o i;
+      rest = rest_more;
+    }
+
+  -- ---- all keys
+
+  module _ (keys : List Key) (telling : Telling) (sent : AreSentKeys da db who keys) (told : AreTold da db who u keys telling) where
+    abbrev IsSettled : Key → Type 0
+    IsSettled key = IsUntold da db who u key ⊎ ((own : Own) × Contains telling.own.items own × StandsFor da db key own)
+
+    of_keys : (key : Key) → Contains keys key → get same_key telling.places key ≡ None → IsSettled key
+    of_keys key is e = let (own, of_key, none) = told.rest key is e in inl (nothing_told da db who u key own of_key none)
+
+    by_stranger : (key own : Key) → Contains keys own → IsStrange da db own → own.vendor ≡ 0 → IsStrange da db key → IsSettled key
+    by_stranger key own is strange vendor here = by (get same_key telling.places own) refl
+      where
+        accepted : AcceptsFlags da db who u own → IsSettled key
+        accepted h = inl (strange_alone da db who u own key strange here h, λ both. no_group da key here.0 both.0)
+
+        of_own : (o : Own) → Contains telling.own.items o → o.key ≡ own → (b : Bool) → o.breaks ≡ b → IsSettled key
+        of_own o i same true breaks = inr (o, i, (here, subst (λ (k : Key). IsStrange da db k) (sym same) strange, ap (λ (k : Key). k.vendor) same ∙ vendor, breaks))
+        of_own o i same false silent = accepted (subst (λ (k : Key). AcceptsFlags da db who u k) same ((told.each o i).silent silent).0)
+
+        by : (p : Option ℕ) → get same_key telling.places own ≡ p → IsSettled key
+        by None e = let (o, of_key, none) = told.rest own is e in accepted (of_key.silent (left_of o.breaks o.is_group none)).0
+          where
+            left_of : (b c : Bool) → (b || c) ≡ false → b ≡ false
+            left_of false c h = refl
+            left_of true c h = absurd (let bad : true ≡ false = h in cc)
+        by (Some place) e = let (o, at, same) = told.placed own place e in of_own o (contains_in telling.own.items o (in_at telling.own.items place o at)) same o.breaks refl
+
+    not_known : (who' : Sends) → who' ≡ who → (key : Key) → entry_of da key ≡ None → get same_key telling.places key ≡ None → IsSettled key
+    not_known Any is key none e = by (entry_of db key) refl
+      where
+        by : (o : Option ℕ) → entry_of db key ≡ o → IsSettled key
+        by (Some i) at = of_keys key (sent.others (sym is) key (ap (λ (o : Option ℕ). is_some o) at)) e
+        by None at = let (own, i, strange, vendor) = sent.strange (sym is) in by_stranger key own i strange vendor (none, at)
+    not_known Known is key none e = inl (unsent_alone da db who u key (λ any. absurd (let bad : Known ≡ Any = is ∙ any in cc)) none, λ both. no_group da key none both.0)
+    not_known Listed is key none e = inl (unsent_alone da db who u key (λ any. absurd (let bad : Listed ≡ Any = is ∙ any in cc)) none, λ both. no_group da key none both.0)
+
+    pub all_told : IsTelling da db who u telling
+    all_told = record {
+      placed = told.placed;
+      silent = λ own i none. ((told.each own i).silent none).1;
+      rest = λ key e. by key e (entry_of da key) refl;
+    }
+      where
+        by : (key : Key) → get same_key telling.places key ≡ None → (o : Option ℕ) → entry_of da key ≡ o → IsSettled key
+        by key e (Some i) at = of_keys key (sent.own key (ap (λ (o : Option ℕ). is_some o) at)) e
+        by key e None at = not_known who refl key at e

@@ -1,0 +1,17 @@
+use Rattle.dia_breaking.proofs.KeptFloors.{floors_if}
+use Rattle.dia_breaking.proofs.lengths.Lengths.new.Goals as goal
+
+pub returns-in-Any-clause-floors : goal.returns-in-Any-clause-floors
+returns-in-Any-clause-floors g c =
+    floors_if (g.A.Book.meaning c.args.book.now) c.args.sends c.in_ok-least.least (λ lengths. lengths.entries.items) c.with_stranger.result c.in_ok-least.ensures.sends c.in_ok-least.ensures.floors
+    c.with_stranger.ensures.same
+
+pub returns-in-Known-clause-floors : goal.returns-in-Known-clause-floors
+returns-in-Known-clause-floors g c =
+    floors_if (g.A.Book.meaning c.args.book.now) c.args.sends c.in_ok-least.least (λ lengths. lengths.entries.items) c.with_known.result c.in_ok-least.ensures.sends c.in_ok-least.ensures.floors
+    c.with_known.ensures.same
+
+pub returns-in-Listed-clause-floors : goal.returns-in-Listed-clause-floors
+returns-in-Listed-clause-floors g c =
+    floors_if (g.A.Book.meaning c.args.book.now) c.args.sends c.in_ok-least.least (λ lengths. lengths.entries.items) c.with_none.result c.in_ok-least.ensures.sends c.in_ok-least.ensures.floors
+    c.with_none.ensures.same
