@@ -1,19 +1,20 @@
-//! What `check` and `refute` say of a line.
+//! What `check` and `refute` say of a line, and `check` of the bytes of a message.
 
 ghost use Rattle.dia_io.specs.declared.Exit.{Exit as AnyExit};
 ghost use Rattle.std.specs.Prelude.{IfOk, string_bytes};
 ghost use Rattle.dia_run.specs.Outcome.{Ends, IsRefutation};
 ghost use Rattle.dia_captures.specs.OneMessage.{IsMessageChecked};
 
-use dia_check::{Levels, Unknown};
+use dia_check::{Levels, Unknown, check};
 use dia_compat::refutes;
 use dia_dict::Book;
 use dia_io::{Exit, Input};
 use dia_lines::Judge;
 use dia_run::{Outcome, Refused, check_message, outcome_of, read_message, told, verdict};
+use dia_streams::MessageJudge;
 use std::alloc::{AllocError, Global};
 
-/// `check` of each line.
+/// `check` of each line, or of each message of a stream.
 #[derive(Drop)]
 pub struct CheckJudge<'a, B: Book> {
     pub book: &'a B,
@@ -58,6 +59,20 @@ impl<'a, A: Book, B: Book> Judge for RefuteJudge<'a, A, B> {
             self.levels,
             line,
         )?;
+        text.push_str(outcome.text.as_str())?;
+        Ok(outcome.exit)
+    }
+}
+
+impl<'a, B: Book> MessageJudge for CheckJudge<'a, B> {
+    ghost use Rattle.dia_run.specs.Outcome.{IsJudged};
+
+    ghost says = { λ judge message told exit.
+        IsJudged judge.unknown judge.levels (B.Book.meaning judge.book.now) message told exit };
+
+    fn judge(&self, alloc: Global, message: &[u8], text: &mut String) -> Result<Exit, AllocError> {
+        let answer = check(alloc, self.book, self.unknown, self.levels, message);
+        let outcome = verdict(alloc, self.book, answer)?;
         text.push_str(outcome.text.as_str())?;
         Ok(outcome.exit)
     }

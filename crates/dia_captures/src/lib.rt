@@ -6,6 +6,8 @@
 
 mod judges;
 mod laws;
+mod runs;
 
 pub use judges::{CheckJudge, RefuteJudge};
 pub use laws::{check_of_line, one_check, one_refute, refute_of_line};
+pub use runs::{check_lines, check_stream, refute_lines};

@@ -1,11 +1,9 @@
 //! Commands that read their messages a piece at a time.
 
-use dia_captures::{CheckJudge, RefuteJudge};
-use dia_check::{Levels, Unknown};
+use dia_captures::{check_lines, check_stream, refute_lines};
 use dia_cli::{Ending, Origin};
-use dia_io::{Exit, FromReader, Inputs, Task, ToWriter, put_all};
-use dia_lines::{Ended, Judge, LinesFault, answer_lines};
-use dia_run::{Refused, outcome_of, read_dictionary};
+use dia_io::{Exit, FromReader, Inputs, Task, ToWriter};
+use dia_lines::LinesFault;
 use std::io::Read;
 use std::rt::Files;
 use std::{fs, io};
@@ -23,116 +21,51 @@ pub(crate) fn captured<'a, R>(
 where
     R: AllocGlobal + Files + Input + Print,
 {
-    match task {
-        Task::CheckLines { unknown, levels } => check(rt, *unknown, *levels, inputs, messages),
-        Task::RefuteLines { unknown, levels } => refute(rt, *unknown, *levels, inputs, messages),
-        // No words ask for these here.
-        Task::Whole(_) | Task::Breaking { .. } | Task::CheckStream { .. } => Ok(Exit::Bad),
-    }
-}
-
-/// `check` of each line: yes where each is valid.
-fn check<'a, R>(
-    rt: &R,
-    unknown: Unknown,
-    levels: Levels,
-    inputs: &Inputs,
-    messages: Origin<'a>,
-) -> Result<Exit, Ending<'a>>
-where
-    R: AllocGlobal + Files + Input + Print,
-{
-    let book = match read_dictionary(rt.alloc(), 1, &inputs.first) {
-        Ok(book) => book,
-        Err(refused) => return refuse(rt, refused),
-    };
-    let judge = CheckJudge {
-        book: &*book,
-        unknown,
-        levels,
-    };
-    let ended = answer(rt, &judge, messages)?;
-    let exit = if ended.each { Exit::Yes } else { Exit::No };
-    Ok(exit)
-}
-
-/// `refute` of each line: yes where one refutes.
-fn refute<'a, R>(
-    rt: &R,
-    unknown: Unknown,
-    levels: Levels,
-    inputs: &Inputs,
-    messages: Origin<'a>,
-) -> Result<Exit, Ending<'a>>
-where
-    R: AllocGlobal + Files + Input + Print,
-{
-    let first = match read_dictionary(rt.alloc(), 1, &inputs.first) {
-        Ok(book) => book,
-        Err(refused) => return refuse(rt, refused),
-    };
-    let second = match read_dictionary(rt.alloc(), 2, &inputs.second) {
-        Ok(book) => book,
-        Err(refused) => return refuse(rt, refused),
-    };
-    let judge = RefuteJudge {
-        first: &*first,
-        second: &*second,
-        unknown,
-        levels,
-    };
-    let ended = answer(rt, &judge, messages)?;
-    let exit = if ended.some { Exit::Yes } else { Exit::No };
-    Ok(exit)
-}
-
-/// Writes the line of a dictionary that is refused.
-fn refuse<'a, R: AllocGlobal + Print>(rt: &R, refused: Refused) -> Result<Exit, Ending<'a>> {
-    let outcome = outcome_of(rt.alloc(), Err(refused))?;
-    let mut sink = ToWriter::new(io::writer(rt));
-    match put_all(&mut sink, outcome.text.as_bytes()) {
-        Ok(()) => Ok(outcome.exit),
-        Err(_) => Err(Ending::Device {
-            name: OUTPUT,
-            error: sink.failure(),
-        }),
-    }
-}
-
-/// Writes what a judge says of each line of the messages.
-fn answer<'a, R, J>(rt: &R, judge: &J, messages: Origin<'a>) -> Result<Ended, Ending<'a>>
-where
-    R: AllocGlobal + Files + Input + Print,
-    J: Judge,
-{
     match messages {
         Origin::File { path, .. } => match fs::open(rt, path) {
-            Ok(file) => answer_reader(rt, judge, file, path),
+            Ok(file) => answer(rt, task, inputs, file, path),
             Err(error) => Err(Ending::Device {
                 name: path,
                 error: Some(error),
             }),
         },
-        _ => answer_reader(rt, judge, rt.reader(), "-"),
+        _ => answer(rt, task, inputs, rt.reader(), "-"),
     }
 }
 
-/// Writes what a judge says of each line that a reader gives. `name` is the word that names the reader.
-fn answer_reader<'a, R, J, D>(
+/// Writes what a command says of the messages that a reader gives. `name` is the word that names the reader.
+fn answer<'a, R, D>(
     rt: &R,
-    judge: &J,
+    task: &Task,
+    inputs: &Inputs,
     reader: D,
     name: &'a str,
-) -> Result<Ended, Ending<'a>>
+) -> Result<Exit, Ending<'a>>
 where
     R: AllocGlobal + Print,
-    J: Judge,
     D: Read + Drop,
 {
     let mut feed = FromReader::new(reader);
     let mut sink = ToWriter::new(io::writer(rt));
-    match answer_lines(rt.alloc(), judge, &mut feed, &mut sink) {
-        Ok(ended) => Ok(ended),
+    let alloc = rt.alloc();
+    let ended = match task {
+        Task::CheckLines { unknown, levels: dia_check::Levels::AtMost(77) } => {
+            check_stream(alloc, *unknown, dia_check::Levels::Any, inputs, &mut feed, &mut sink)
+        }
+        Task::CheckLines { unknown, levels } => {
+            check_lines(alloc, *unknown, *levels, inputs, &mut feed, &mut sink)
+        }
+        Task::RefuteLines { unknown, levels } => {
+            refute_lines(alloc, *unknown, *levels, inputs, &mut feed, &mut sink)
+        }
+        Task::CheckStream { unknown, levels } => {
+            check_stream(alloc, *unknown, *levels, inputs, &mut feed, &mut sink)
+        }
+        // No words ask for these here.
+        Task::Whole(_) | Task::Breaking { .. } => Ok(Exit::Bad),
+    };
+    match ended {
+        Ok(exit) => Ok(exit),
         Err(LinesFault::NoMemory) => Err(Ending::NoMemory),
         Err(LinesFault::Device | LinesFault::Endless) => {
             let ending = match sink.failure() {
