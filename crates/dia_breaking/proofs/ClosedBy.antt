@@ -62,7 +62,7 @@ stand_placed Known rules keys h = h
 stand_placed Listed rules keys h = h.0
 
 -- and each of its AVPs takes what one by a rule does
-stand_price : (d : Dictionary) (who : Sends) (lengths : List ℕ) (rules : List DRule) (keys : List Key) → StandAsSent who rules keys
+pub stand_price : (d : Dictionary) (who : Sends) (lengths : List ℕ) (rules : List DRule) (keys : List Key) → StandAsSent who rules keys
     → total (price (listed_length d who lengths) (other_length d who lengths) rules) keys ≡ total (listed_length d who lengths) keys
 stand_price d Any lengths rules keys h =
     total_same (price (listed_length d Any lengths) (other_length d Any lengths) rules) (listed_length d Any lengths) keys (λ q i. either (is_listed rules q) (listed_length d Any lengths q) (listed_length d Any lengths q) refl)

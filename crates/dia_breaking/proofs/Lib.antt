@@ -8,3 +8,9 @@ pub mod KeptFloors
 pub mod LevelCosts
 pub mod ClosedBy
 pub mod Closings
+pub mod ClosedSites
+pub mod Lists
+pub mod OpenCommands
+pub mod ToldHeaders
+pub mod Certified
+pub mod TooLong

@@ -1,7 +1,9 @@
+pub mod Certified
 pub mod Closed
 pub mod ClosedRules
 pub mod Closing
 pub mod Confirmed
+pub mod Headers
 pub mod Lengths
 pub mod LevelCosts
 pub mod SentKeys

@@ -1,5 +1,5 @@
 //! Messages of lines, checked under both dictionaries.
-ghost use Rattle.std.specs.Prelude.{◌≡◌, ◌↔◌, IfOk, IfSome, IsTrue};
+ghost use Rattle.std.specs.Prelude.{◌≡◌, ◌↔◌, IfOk, IfSome, IsTrue, length};
 ghost use Rattle.dia_policy.specs.declared.Levels.TheVariants.{Any};
 ghost use Rattle.dia_check.specs.Valid.{IsValid, IsValidOf};
 ghost use Rattle.dia_sites.specs.Sent.{own_policy};
@@ -50,11 +50,9 @@ impl<'a, A: Book, B: Book> Upgrade<'a, A, B> {
     }
 
     /// The lines with what is known of each.
-    pub(crate) fn with_standings(
-        &self,
-        alloc: Global,
-        breaks: Breaks,
-    ) -> Result<Breaks, AllocError> {
+    pub(crate) fn with_standings(&self, alloc: Global, breaks: Breaks) -> Result<Breaks, AllocError>
+        ensures { IfOk result (λ told. length told.lines.items ≡ length breaks.lines.items) }
+    {
         let mut lines = Vec::new(alloc);
         let mut left = MOST_CHECKED_TOGETHER;
         for line in &breaks.lines {
@@ -74,7 +72,7 @@ impl<'a, A: Book, B: Book> Upgrade<'a, A, B> {
         line: &Line,
         left: u64,
     ) -> Result<Standing, AllocError> {
-        if let Cause::LevelAsLeaf { .. } = line.cause {
+        if has_no_message(&line.cause) {
             return Ok(Standing::Undecided);
         }
         if line.length > MOST_CHECKED || line.length > left {
@@ -85,6 +83,11 @@ impl<'a, A: Book, B: Book> Upgrade<'a, A, B> {
             None => Ok(Standing::Undecided),
         }
     }
+}
+
+/// Whether no message is known that breaks so.
+fn has_no_message(cause: &Cause) -> bool {
+    matches!(cause, Cause::LevelAsLeaf { .. } | Cause::Unproved)
 }
 
 /// What a sender does with AVPs that its dictionary doesn't know.

@@ -1,11 +1,13 @@
-//! The headers of a command that tell of all: a few applications, and the P flag.
-ghost use Rattle.std.specs.Prelude.{◌<◌, length};
+//! The heads of commands, and the applications by which their messages are looked at.
+ghost use Rattle.std.specs.Prelude.{◌≡◌, ◌<◌, length, ℕ, IfSome, IsTrue, slice_get};
 ghost use Rattle.dia_book.specs.Dictionary.{definitions};
+ghost use Rattle.dia_check.specs.Valid.{PHolds};
+ghost use Rattle.dia_breaking.specs.Headers.{head_in};
 
-use crate::keys::least_missing;
+use crate::apps::BothApps;
+use crate::headers::{selects, unnamed_app};
 use dia_book::{Book, Class, DefHead, DefId, Pxy};
 use std::alloc::{AllocError, Global};
-use std::collections::HashMap;
 
 /// The head of a command.
 #[derive(Clone, Copy, Debug)]
@@ -18,7 +20,9 @@ pub(crate) struct Head {
 
 impl Head {
     /// The head of a definition; those of errors have the code 0 and the application 0, and of groups there is none.
-    pub fn of(head: DefHead) -> Option<Head> {
+    pub fn of(head: DefHead) -> Option<Head>
+        ensures { result ≡ head_in head }
+    {
         match head {
             DefHead::Group(_) => None,
             DefHead::Command {
@@ -45,6 +49,8 @@ impl Head {
 /// The head of a command of the dictionary.
 pub(crate) fn head_of<B: Book>(book: &B, def: DefId) -> Option<Head>
     requires { def < length (definitions (B.meaning book.now)) }
+    ensures { IfSome (slice_get (definitions (B.meaning book.now)) def)
+        (λ d. result ≡ head_in d.head) }
 {
     Head::of(book.def(def).head)
 }
@@ -58,68 +64,14 @@ pub(crate) fn allows(p: Pxy, set: bool) -> bool {
     }
 }
 
-/// Of each code, the classes and applications that the commands of a dictionary name.
-#[derive(Drop)]
-struct Apps {
-    by_code: HashMap<u32, Vec<(Class, u32)>>,
-}
-
-impl Apps {
-    fn new<B: Book>(alloc: Global, book: &B) -> Result<Self, AllocError> {
-        let mut by_code = HashMap::new(alloc);
-        for index in 0..book.commands() {
-            push_app(&mut by_code, book.def(book.command_at(index)).head)?;
-        }
-        Ok(Apps { by_code })
-    }
-
-    /// The applications that commands of the code and the class name.
-    fn of(&self, alloc: Global, code: u32, class: Class) -> Result<Vec<u32>, AllocError> {
-        match self.by_code.get(&code) {
-            Some(rows) => apps_of(alloc, rows, class),
-            None => Ok(Vec::new(alloc)),
-        }
-    }
-}
-
-fn push_app(
-    by_code: &mut HashMap<u32, Vec<(Class, u32)>>,
-    head: DefHead,
-) -> Result<(), AllocError> {
-    if let DefHead::Command {
-        code,
-        class,
-        app: Some(app),
-        ..
-    } = head
-    {
-        by_code.entry(code)?.or_default().push((class, app))?;
-    }
-    Ok(())
-}
-
-fn apps_of(alloc: Global, rows: &[(Class, u32)], class: Class) -> Result<Vec<u32>, AllocError> {
-    let mut apps = Vec::new(alloc);
-    for row in rows {
-        if row.0 == class {
-            apps.push(row.1)?;
-        }
-    }
-    Ok(apps)
-}
-
-/// The applications of both dictionaries.
-#[derive(Drop)]
-pub(crate) struct BothApps {
-    first: Apps,
-    second: Apps,
-}
-
-impl BothApps {
-    pub fn new<A: Book, B: Book>(alloc: Global, a: &A, b: &B) -> Result<Self, AllocError> {
-        let first = Apps::new(alloc, a)?;
-        let second = Apps::new(alloc, b)?;
-        Ok(BothApps { first, second })
+/// Whether the first lets the P flag be all that the second does.
+pub(crate) fn covers(p: Pxy, other: Pxy) -> bool
+    ensures { IsTrue result → (flags : ℕ) → PHolds other flags → PHolds p flags }
+{
+    match p {
+        Pxy::Clear => other == Pxy::Clear,
+        Pxy::Set => other == Pxy::Set,
+        Pxy::Either => true,
     }
 }
 
@@ -141,9 +93,9 @@ pub(crate) fn told_apps<A: Book>(
         None => {
             let others = both.second.of(alloc, head.code, head.class)?;
             let mut apps = own_apps(alloc, a, command, head, &others)?;
-            let mut named = both.first.of(alloc, head.code, head.class)?;
-            named.extend_from_slice(&others)?;
-            apps.push(least_missing(named)?)?;
+            if let Some(app) = unnamed_app(alloc, both, head)? {
+                apps.push(app)?;
+            }
             Ok(apps)
         }
     }
@@ -159,7 +111,7 @@ fn own_apps<A: Book>(
 ) -> Result<Vec<u32>, AllocError> {
     let mut apps = Vec::new(alloc);
     for app in others {
-        if a.select(head.code, head.class, *app) == Some(command) {
+        if selects(a, command, head, *app) {
             apps.push(*app)?;
         }
     }

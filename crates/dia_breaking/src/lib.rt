@@ -4,11 +4,15 @@
 //! `Upgrade::push_words` writes one, and `Upgrade::message` makes its message.
 #![tactic(auto)]
 
+mod apps;
 mod books;
+mod closed;
 mod closing;
 mod confirm;
+mod headers;
 mod heads;
 mod keys;
+mod laws;
 mod lengths;
 mod levels;
 mod line;
@@ -20,5 +24,6 @@ mod ways;
 mod words;
 
 pub use dia_policy::{Sends, Unknown};
+pub use laws::closed_sites_are_safe;
 pub use line::{Breaks, Cause, Line, Place, Site, Standing};
 pub use upgrade::Upgrade;

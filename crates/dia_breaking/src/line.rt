@@ -49,6 +49,8 @@ pub enum Cause {
     Format { key: Key, data: Option<Witness> },
     /// B reads AVPs as a leaf, and accepts those of a shortest AVP. Whether it accepts all isn't known.
     LevelAsLeaf { key: Key },
+    /// Nothing was found, and it isn't shown that nothing breaks.
+    Unproved,
 }
 
 /// What is known of a line.

@@ -1,9 +1,12 @@
 //! The lines of a command.
-ghost use Rattle.std.specs.Prelude.{◌<◌, IfOk, IfSome, length};
+ghost use Rattle.std.specs.Prelude.{◌≡◌, ◌+◌, ◌<◌, [], IfOk, IfSome, OnOk, Some, length};
+ghost use Rattle.std.specs.Prelude.{slice_get};
 ghost use Rattle.dia_book.specs.Dictionary.{definitions};
+ghost use Rattle.dia_sites.specs.Selection.{AreValid};
 ghost use Rattle.dia_compat.specs.Tests.{rules_in};
 ghost use Rattle.dia_levels.specs.Levels.{HasEachLine};
 ghost use Rattle.dia_levels.specs.LevelTests.{price};
+ghost use Rattle.dia_breaking.specs.Headers.{head_in};
 ghost use Rattle.dia_breaking.specs.Lengths.{listed_length, other_length};
 
 use crate::books::{command_of, format_of, group_of};
@@ -23,13 +26,27 @@ use std::alloc::{AllocError, Global};
 const MOST_TRIED: u64 = 65_536;
 
 impl<'a, A: Book, B: Book> Upgrade<'a, A, B> {
-    /// The lines of a command with this head.
+    /// The lines of a command with this head. Where there is none, each message of it that A's side sends is valid under B.
     pub(crate) fn lines_of(
         &self,
         alloc: Global,
         command: DefId,
         head: &Head,
     ) -> Result<Breaks, AllocError>
+        requires within { command < length (definitions (A.meaning self.now.a.now)) }
+        requires head { IfSome (slice_get (definitions (A.meaning self.now.a.now)) command)
+            (λ c. head_in c.head ≡ Some head.now) }
+        ensures { IfOk result (λ breaks. breaks.lines.items ≡ [] → ∥ AreValid
+            (A.meaning self.now.a.now) (B.meaning self.now.b.now)
+            self.now.sends self.now.unknown command ∥₁) }
+    {
+        let found = self.found(alloc, command, head)?;
+        let breaks = self.unless_certified(alloc, command, head, found)?;
+        self.with_standings(alloc, breaks)
+    }
+
+    /// The lines that a walk over the sites finds.
+    fn found(&self, alloc: Global, command: DefId, head: &Head) -> Result<Breaks, AllocError>
         requires { command < length (definitions (A.meaning self.now.a.now)) }
     {
         let base = length_least(self.a, command, &self.lengths);
@@ -45,14 +62,39 @@ impl<'a, A: Book, B: Book> Upgrade<'a, A, B> {
         self.push_level_lines(alloc, &walk, &mut lines)?;
         self.push_own_lines(alloc, &walk, &mut lines)?;
         lines.sort_by_key(|line| (line.site, line.rank))?;
-        let breaks = Breaks {
+        Ok(Breaks {
             command,
             code: head.code,
             class: head.class,
             sites: walk.sites,
             lines,
-        };
-        self.with_standings(alloc, breaks)
+        })
+    }
+
+    /// With an undecided line, where nothing was found, and it isn't shown that nothing breaks.
+    fn unless_certified(
+        &self,
+        alloc: Global,
+        command: DefId,
+        head: &Head,
+        mut found: Breaks,
+    ) -> Result<Breaks, AllocError>
+        requires within { command < length (definitions (A.meaning self.now.a.now)) }
+        requires head { IfSome (slice_get (definitions (A.meaning self.now.a.now)) command)
+            (λ c. head_in c.head ≡ Some head.now) }
+        ensures { IfOk result (λ breaks. breaks.lines.items ≡ [] → ∥ AreValid
+            (A.meaning self.now.a.now) (B.meaning self.now.b.now)
+            self.now.sends self.now.unknown command ∥₁) }
+    {
+        if !found.lines.is_empty() {
+            return Ok(found);
+        }
+        let certified = self.is_certified(alloc, command, head, &found.sites)?;
+        if certified {
+            return Ok(found);
+        }
+        push_line(&mut found.lines, 0, Cause::Unproved, 0)?;
+        Ok(found)
     }
 
     /// Begins a walk in messages of an application, and adds what breaks in their header.
@@ -279,16 +321,13 @@ fn is_refused(format: &Format, bytes: &[u8], head: usize) -> bool {
     }
 }
 
-fn push_line(
-    lines: &mut Vec<Line>,
-    site: usize,
-    cause: Cause,
-    length: u64,
-) -> Result<(), AllocError> {
+fn push_line(lines: &mut Vec<Line>, site: usize, cause: Cause, takes: u64) -> Result<(), AllocError>
+    ensures { OnOk result (length lines.new.items ≡ length lines.old.items + 1) }
+{
     lines.push(Line {
         site,
         cause,
-        length,
+        length: takes,
         standing: Standing::Unchecked,
         rank: (0, 0),
     })?;

@@ -48,6 +48,7 @@ impl Shown {
             Cause::Application => Shown::Level,
             Cause::Proxiable { .. } => Shown::Level,
             Cause::Level(_) => Shown::Level,
+            Cause::Unproved => Shown::Level,
         }
     }
 

@@ -1,13 +1,17 @@
 //! Two dictionaries, with what is the same for all commands.
-ghost use Rattle.std.specs.Prelude.{◌≡◌, ◌<◌, ℕ, length};
+ghost use Rattle.std.specs.Prelude.{◌≡◌, ◌<◌, ℕ, [], IfOk, length};
+ghost use Rattle.std.proofs.Props.{props};
 ghost use Rattle.dia_book.specs.Dictionary.{definitions};
+ghost use Rattle.dia_sites.specs.Selection.{AreValid};
 ghost use Rattle.dia_compat.specs.Tests.{rules_in};
 ghost use Rattle.dia_least.specs.Floors.{AreFloors};
 ghost use Rattle.dia_levels.specs.Levels.{FirstIsShortest};
+ghost use Rattle.dia_breaking.specs.Headers.{AreApps};
 ghost use Rattle.dia_breaking.specs.Lengths.{listed_length, other_length};
 ghost use Rattle.dia_breaking.specs.Telling.{IsTelling};
 
-use crate::heads::{BothApps, Head, head_of};
+use crate::apps::BothApps;
+use crate::heads::{Head, head_of};
 use crate::keys::Telling;
 use crate::lengths::Lengths;
 use crate::line::Breaks;
@@ -33,6 +37,8 @@ pub struct Upgrade<'a, A: Book, B: Book> {
     ghost floors: { ∥ AreFloors (A.meaning a.now) sends
         (listed_length (A.meaning a.now) sends lengths.entries.items) ∥₁ },
     ghost told: { ∥ IsTelling (A.meaning a.now) (B.meaning b.now) sends unknown telling.value ∥₁ },
+    ghost first_apps: { AreApps (A.meaning a.now) apps.value.first } by { Prim.hlevel props },
+    ghost second_apps: { AreApps (B.meaning b.now) apps.value.second } by { Prim.hlevel props },
 }
 
 impl<'a, A: Book, B: Book> Upgrade<'a, A, B> {
@@ -47,7 +53,8 @@ impl<'a, A: Book, B: Book> Upgrade<'a, A, B> {
     ) -> Result<Self, AllocError> {
         let lengths = Lengths::new(alloc, a, b, sends)?;
         let telling = Box::new(alloc, Telling::new(alloc, a, b, sends, unknown)?)?;
-        let apps = Box::new(alloc, BothApps::new(alloc, a, b)?)?;
+        let named = BothApps::new(alloc, a, b)?;
+        let apps = Box::new(alloc, named)?;
         Ok(Upgrade {
             a,
             b,
@@ -66,9 +73,13 @@ impl<'a, A: Book, B: Book> Upgrade<'a, A, B> {
         self.a
     }
 
-    /// All that can break the messages of a command of A. The error comes only where memory was refused.
+    /// All that can break the messages of a command of A. Where there is no line, each message of the command that A's side
+    /// sends is valid under B. The error comes only where memory was refused.
     pub fn breaks(&self, alloc: Global, command: DefId) -> Result<Breaks, AllocError>
         requires { command < length (definitions (A.meaning self.now.a.now)) }
+        ensures all { IfOk result (λ breaks. breaks.lines.items ≡ [] → ∥ AreValid
+            (A.meaning self.now.a.now) (B.meaning self.now.b.now)
+            self.now.sends self.now.unknown command ∥₁) }
     {
         match head_of(self.a, command) {
             Some(head) => self.lines_of(alloc, command, &head),

@@ -1,4 +1,5 @@
 use Rattle.std.proofs.Common.{sym, subst}
+use Rattle.dia_breaking.specs.Headers.{AreApps}
 use Rattle.dia_breaking.specs.Telling.{IsTelling}
 use Rattle.dia_breaking.proofs.Shortest.{first_is_shortest}
 use Rattle.dia_breaking.proofs.upgrade.Upgrade.new.Goals as goal
@@ -11,4 +12,6 @@ invariant_of-result g c = record {
       (g.met.A.Book.sound c.args.a.now) (g.met.B.Book.sound c.args.b.now) c.in_ok-lengths.ensures.others;
   floors = ∣ c.in_ok-lengths.ensures.floors ∣₁;
   told = ∣ subst (IsTelling (g.A.Book.meaning c.args.a.now) (g.B.Book.meaning c.args.b.now) c.args.sends c.args.unknown) (sym c.in_ok-telling.ensures.ok) c.in_ok-new.ensures ∣₁;
+  first_apps = subst (λ both. AreApps (g.A.Book.meaning c.args.a.now) both.first) (sym c.in_ok-apps.ensures.ok) c.in_ok-named.ensures.first;
+  second_apps = subst (λ both. AreApps (g.B.Book.meaning c.args.b.now) both.second) (sym c.in_ok-apps.ensures.ok) c.in_ok-named.ensures.second;
 }

@@ -1,0 +1,58 @@
+-- What is kept of the members of a list.
+use Rattle.std.proofs.Common.{◌≡◌, ℕ, ◌+◌, ◌<◌, ◌≤◌, Bool, true, get_or, List, [], ◌∷◌, ◌++◌, length, take, Option, Some, None, Result, Ok, Err, refl, sym, ap, subst, ◌∙◌, arith}
+use Rattle.std.specs.Prelude.{All, IfSome, IfOk, IsTrue, slice_get}
+use Rattle.std.specs.List.{filter_map}
+use Rattle.std.proofs.lemmas.Option.{same_Some, slice_get_within, slice_get-get_or}
+use Rattle.std.proofs.lemmas.List.{take_more, take_all}
+use Rattle.std.proofs.lemmas.List.Elements.{All-push, filter_map-append}
+
+pub one_more : {X : Type 0} (xs : List X) (i : ℕ) (x : X) → slice_get xs i ≡ Some x → take (i + 1) xs ≡ take i xs ++ x ∷ []
+one_more {X} xs i x at =
+    let within = slice_get_within xs i x at in
+    take_more xs i x within ∙ ap (λ (y : X). take i xs ++ y ∷ []) (same_Some (get_or xs i x) x (sym (slice_get-get_or xs i x within) ∙ at))
+
+-- one member more
+pub filter_map_more : {X Y : Type 0} (f : X → Option Y) (xs : List X) (i : ℕ) (x : X) → slice_get xs i ≡ Some x → filter_map f (take (i + 1) xs) ≡ filter_map f (take i xs) ++ filter_map f (x ∷ [])
+filter_map_more f xs i x at = ap (filter_map f) (one_more xs i x at) ∙ filter_map-append f (take i xs) (x ∷ [])
+
+-- what is added for one member more
+pub added : {X Y : Type 0} (f : X → Option Y) (xs : List X) (i : ℕ) (x : X) (old new : List Y) → new ≡ old ++ filter_map f (x ∷ []) → old ≡ filter_map f (take i xs) → slice_get xs i ≡ Some x
+    → new ≡ filter_map f (take (i + 1) xs)
+added {X} {Y} f xs i x old new is before at = is ∙ ap (λ (ys : List Y). ys ++ filter_map f (x ∷ [])) before ∙ sym (filter_map_more f xs i x at)
+
+-- what holds of a value that comes, so does what follows
+pub when_found : {X E : Type 0} (P Q : X → Type 0) (r : Result (Option X) E) → ((x : X) → P x → Q x) → IfOk r (λ found. IfSome found P) → IfOk r (λ found. IfSome found Q)
+when_found P Q (Ok None) f h = tt
+when_found P Q (Ok (Some x)) f h = f x h
+when_found P Q (Err e) f h = tt
+
+pub when_both : {X E : Type 0} (P R Q : X → Type 0) (r : Result (Option X) E) → ((x : X) → P x → R x → Q x) → IfOk r (λ found. IfSome found P) → IfOk r (λ found. IfSome found R)
+    → IfOk r (λ found. IfSome found Q)
+when_both P R Q (Ok None) f h k = tt
+when_both P R Q (Ok (Some x)) f h k = f x h k
+when_both P R Q (Err e) f h k = tt
+
+-- ---- all members
+
+pub all_more : {X : Type 0} (P : X → Type 0) (xs : List X) (x : X) (new : List X) → new ≡ xs ++ x ∷ [] → All P xs → P x → All P new
+all_more P xs x new is all own = subst (All P) (sym is) (All-push P xs x all own)
+
+pub all_taken : {X : Type 0} (P : X → Type 0) (xs : List X) (i : ℕ) (d : X) → i < length xs → All P (take i xs) → P (get_or xs i d) → All P (take (i + 1) xs)
+all_taken P xs i d within all own = all_more P (take i xs) (get_or xs i d) (take (i + 1) xs) (take_more xs i d within) all own
+
+-- a loop that goes on where a test of each member shows P, on a premise
+module _ {T X : Type 0} (P : X → Type 0) (xs : List X) where
+  pub one_shown : (i : ℕ) (d : X) (b : Bool) → i < length xs → (T → All P (take i xs)) → (IsTrue b → T → P (get_or xs i d)) → b ≡ true → T → All P (take (i + 1) xs)
+  one_shown i d b within before own is t = all_taken P xs i d within (before t) (own is t)
+
+  pub all_shown : (i : ℕ) → length xs ≤ i → (T → All P (take i xs)) → T → All P xs
+  all_shown i behind all t = subst (All P) (take_all i xs behind) (all t)
+
+pub when_ok : {X E : Type 0} (P Q : X → Type 0) (r : Result X E) → ((x : X) → P x → Q x) → IfOk r P → IfOk r Q
+when_ok P Q (Ok x) f h = f x h
+when_ok P Q (Err e) f h = tt
+
+pub none_left : {X Y : Type 0} (xs : List X) (ys : List Y) → length ys ≡ length xs → ys ≡ [] → xs ≡ []
+none_left [] ys same none = refl
+none_left (x ∷ xs) [] same none = absurd (omega (arith, same))
+none_left (x ∷ xs) (y ∷ ys) same none = absurd cc
