@@ -6,8 +6,8 @@ mod limits;
 mod named;
 mod rules;
 
-use crate::wrongs::Faults;
 use crate::parts::Parts;
+use crate::wrongs::Faults;
 pub use counts::{greatest, least};
 pub use keys::{is_grouped, key_of, key_of_group};
 pub use limits::{MAX_PARTS, MAX_RULES};

@@ -3,11 +3,11 @@
 mod advice;
 mod words;
 
-use crate::wrongs::{Fault, Faults, MOST, MOST_NAMES, Wrong};
 use crate::finding::find_faults;
 use crate::parts::Parts;
 use crate::place::push_place;
 use crate::walking::walk_over;
+use crate::wrongs::{Fault, Faults, MOST, MOST_NAMES, Wrong};
 use advice::{push_general, push_special};
 use dia_ccf::Source;
 use std::alloc::{AllocError, Global};

@@ -1,7 +1,7 @@
 //! Rules whose counts can't be met, or don't go with their brackets.
 
-use crate::wrongs::{Faults, Wrong};
 use crate::parts::{Parts, PlacedDef, PlacedRule};
+use crate::wrongs::{Faults, Wrong};
 use dia_ccf::{Rule, RuleKind};
 use std::alloc::AllocError;
 

@@ -1,8 +1,8 @@
 //! Groups and their declarations, and what has the code of another.
 
 use super::named::{Named, keep_first};
-use crate::wrongs::{Faults, NamedKey, Wrong};
 use crate::parts::{PlacedDecl, PlacedDef};
+use crate::wrongs::{Faults, NamedKey, Wrong};
 use dia_ccf::{FormatName, Head};
 use dia_wire::Key;
 use indexmap::IndexMap;

@@ -1,7 +1,7 @@
 //! Texts that are too large.
 
-use crate::wrongs::{Faults, Wrong};
 use crate::parts::{Parts, PlacedDef};
+use crate::wrongs::{Faults, Wrong};
 use std::alloc::AllocError;
 
 /// The most rules of a definition.

@@ -1,7 +1,7 @@
 //! The parts by their names.
 
-use crate::wrongs::{Faults, What, Wrong};
 use crate::parts::{Parts, PlacedDecl, PlacedDef};
+use crate::wrongs::{Faults, What, Wrong};
 use indexmap::IndexMap;
 use std::alloc::{AllocError, Global};
 use std::hash::Hash;

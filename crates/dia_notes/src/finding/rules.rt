@@ -1,8 +1,8 @@
 //! Rules for AVPs that aren't there, and rules for an AVP that has one.
 
 use super::named::{Named, keep_first};
-use crate::wrongs::{Faults, Wrong};
 use crate::parts::{Parts, PlacedDef, PlacedRule};
+use crate::wrongs::{Faults, Wrong};
 use indexmap::IndexMap;
 use std::alloc::{AllocError, Global};
 

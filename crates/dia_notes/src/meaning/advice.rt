@@ -1,8 +1,8 @@
 //! What to do about a fault of meaning.
 
-use crate::wrongs::{Fault, What, Wrong};
 use crate::nearest::nearest_name;
 use crate::parts::{PlacedDecl, PlacedDef, PlacedRule};
+use crate::wrongs::{Fault, What, Wrong};
 use dia_ccf::{Head, RuleKind};
 use dia_dict::base_text;
 use std::alloc::AllocError;

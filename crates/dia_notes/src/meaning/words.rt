@@ -1,9 +1,9 @@
 //! A fault of meaning in words.
 
-use crate::wrongs::{Fault, NamedKey, What, Wrong};
 use crate::finding::{MAX_PARTS, MAX_RULES, greatest, is_grouped, key_of, key_of_group, least};
 use crate::parts::{PlacedDecl, PlacedDef, PlacedRule};
 use crate::place::push_line_column;
+use crate::wrongs::{Fault, NamedKey, What, Wrong};
 use dia_ccf::Head;
 use dia_wire::Key;
 use std::alloc::AllocError;
