@@ -1,5 +1,6 @@
 //! What is told of a dictionary that is refused.
 
+use crate::meaning::push_meaning;
 use crate::place::{push_excerpt, push_place};
 use crate::texts::push_syntax;
 use crate::walking::walk_over;
@@ -51,7 +52,7 @@ pub fn push_not_text(
 
 fn push_text(alloc: Global, out: &mut String, name: &str, text: &str) -> Result<bool, AllocError> {
     match parse(alloc, text) {
-        Ok(_) => Ok(false),
+        Ok(source) => push_meaning(alloc, out, name, text.as_bytes(), &source),
         Err(CcfFault::NoMemory) => Err(AllocError),
         Err(_) => {
             let walk = walk_over(alloc, text.as_bytes())?;

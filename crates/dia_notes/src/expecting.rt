@@ -30,6 +30,22 @@ pub fn expected(state: State) -> &'static str {
     }
 }
 
+/// Which number may stand in a state.
+pub fn expected_number(state: State) -> &'static str {
+    match state {
+        State::Fixed | State::Angled | State::Loose => "a least count below 2^32",
+        State::FixedMost | State::LooseMost => "a greatest count below 2^32",
+        State::CommandFlags
+        | State::CommandFlagsComma
+        | State::CommandProxy
+        | State::CommandProxyComma
+        | State::CommandApp => "an Application-ID below 2^32",
+        State::GroupVendor => "a vendor's number below 2^32",
+        State::ListNumber => "a value below 2^31",
+        _ => expected(state),
+    }
+}
+
 /// Whether a declaration is under way.
 pub fn is_of_declaration(state: State) -> bool {
     matches!(
@@ -54,10 +70,14 @@ fn expected_of_declaration(state: State) -> &'static str {
         State::DeclName => "the name of an AVP",
         State::DeclCode => "the AVP code, a number below 2^32",
         State::DeclFormat => {
-            "vendor, or a data format: OctetString, Integer32, Integer64, Unsigned32, Unsigned64, Float32, Float64, Grouped, Address, Time, UTF8String, DiameterIdentity, DiameterURI, Enumerated, IPFilterRule or QoSFilterRule"
+            "vendor, or a data format: OctetString, Integer32, Integer64, Unsigned32, Unsigned64, Float32, \
+             Float64, Grouped, Address, Time, UTF8String, DiameterIdentity, DiameterURI, Enumerated, \
+             IPFilterRule or QoSFilterRule"
         }
         State::DeclOnlyFormat => {
-            "a data format: OctetString, Integer32, Integer64, Unsigned32, Unsigned64, Float32, Float64, Grouped, Address, Time, UTF8String, DiameterIdentity, DiameterURI, Enumerated, IPFilterRule or QoSFilterRule"
+            "a data format: OctetString, Integer32, Integer64, Unsigned32, Unsigned64, Float32, \
+             Float64, Grouped, Address, Time, UTF8String, DiameterIdentity, DiameterURI, Enumerated, \
+             IPFilterRule or QoSFilterRule"
         }
         State::DeclVendor => "the vendor's number, below 2^32",
         State::DeclRule | State::EnumRule => "the rule of the M flag: must, mustnot or any",

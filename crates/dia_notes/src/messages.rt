@@ -51,18 +51,26 @@ fn push_no_digit(
     text: &[u8],
     at: usize,
 ) -> Result<(), AllocError> {
-    if is_binary(text) {
-        let kind = kind_of_file(text);
-        write!(out, "{name}: {kind}, and not hexadecimal text\n")?;
+    if is_capture(text) {
         return write!(
             out,
-            "hint: write `xxd -p {name}` into a file: a message is its hexadecimal digits\n"
+            "{name}: this is a capture file (pcap), and not the hexadecimal text of a message\n\
+             hint: docs/CAPTURES.md says how to take the messages out of a capture\n"
+        );
+    }
+    if is_binary(text) {
+        let kind = kind_of_file(text);
+        return write!(
+            out,
+            "{name}: {kind}, and not hexadecimal text\n\
+             hint: write `xxd -p {name}` into a file: a message is its hexadecimal digits\n"
         );
     }
     push_place(out, name, text, at)?;
     out.push_str("this is no hexadecimal digit\n")?;
     push_excerpt(alloc, out, text, at)?;
-    out.push_str(hint_of_digit(text, at))
+    let hint = hint_of_digit(text, at);
+    write!(out, "hint: {hint}\n")
 }
 
 /// Whether bytes are no text of a message: one of the first is a control character or above ASCII.
@@ -72,38 +80,69 @@ fn is_binary(text: &[u8]) -> bool {
         .any(|byte| *byte >= 0x80 || (*byte < b' ' && !is_white(*byte)))
 }
 
-fn kind_of_file(text: &[u8]) -> &'static str {
-    if text.starts_with(b"\xd4\xc3\xb2\xa1")
+/// Whether a text begins as a file of packets does (pcap or pcapng).
+fn is_capture(text: &[u8]) -> bool {
+    text.starts_with(b"\xd4\xc3\xb2\xa1")
         || text.starts_with(b"\xa1\xb2\xc3\xd4")
         || text.starts_with(b"\x4d\x3c\xb2\xa1")
         || text.starts_with(b"\x0a\x0d\x0d\x0a")
-    {
-        return "this is a capture (pcap) of many packets: take the bytes of one message out of it";
-    }
+}
+
+fn kind_of_file(text: &[u8]) -> &'static str {
     if text.first() == Some(&1) {
-        return "these are the bytes of a message";
+        "these are the bytes of a message"
+    } else {
+        "these are bytes"
     }
-    "these are bytes"
 }
 
 fn hint_of_digit(text: &[u8], at: usize) -> &'static str {
     let rest = back(text, at);
     if rest.starts_with(b":") && has_offset(text, at) {
-        return "hint: this is a dump with offsets: `xxd -p FILE` writes one without, and `xxd -r DUMP | xxd -p` turns this one\n";
+        return "this is a dump with offsets: `xxd -p FILE` writes one without, and `xxd -r DUMP | xxd -p` turns this one";
     }
-    if rest.starts_with(b"x") || rest.starts_with(b"X") {
-        return "hint: write the digits without 0x\n";
-    }
-    if rest.starts_with(b":") || rest.starts_with(b",") || rest.starts_with(b"-") {
-        return "hint: write the digits with nothing but white space between them\n";
+    if begins_with_offset(text) {
+        return NUMBERED;
     }
     if text.starts_with(b"%avp") || text.starts_with(b"<") {
-        return "hint: this looks like a dictionary: the dictionary stands before the message\n";
+        return "this looks like a dictionary: the dictionary stands before the message";
     }
     if text.starts_with(b"@base") {
-        return "hint: a message stands here, and @base names a dictionary\n";
+        return "a message stands here, and @base names a dictionary";
     }
-    "hint: a message is its bytes as hexadecimal digits, as `xxd -p FILE` prints them\n"
+    if is_base64(text) {
+        return "this looks like base64: `base64 -d FILE | xxd -p` writes the digits";
+    }
+    hint_of_sign(rest)
+}
+
+fn hint_of_sign(rest: &[u8]) -> &'static str {
+    match rest.first() {
+        Some(b'x' | b'X' | b'\\') => "write the digits without 0x or \\x",
+        Some(b';' | b'#') => "the text of a message has no comments",
+        Some(b':' | b',' | b'-' | b'{' | b'[' | b'"' | b'\'') => {
+            "write the digits with nothing but white space between them"
+        }
+        _ => "a message is its bytes as hexadecimal digits, as `xxd -p FILE` prints them",
+    }
+}
+
+/// Whether the first line of a text begins with the offset 0, and blanks behind it.
+fn begins_with_offset(text: &[u8]) -> bool {
+    let zeros = text.iter().take_while(|byte| **byte == b'0').count();
+    zeros >= 4 && back(text, zeros).starts_with(b"  ")
+}
+
+/// Whether all of a text has the letters of base64, and some that no hexadecimal text has.
+fn is_base64(text: &[u8]) -> bool {
+    text.len() >= 16
+        && text.iter().all(|byte| {
+            byte.is_ascii_alphanumeric()
+                || is_white(*byte)
+                || *byte == b'+'
+                || *byte == b'/'
+                || *byte == b'='
+        })
 }
 
 /// Whether a run of at least four digits begins a line and ends at the place.
@@ -118,13 +157,13 @@ fn has_offset(text: &[u8], at: usize) -> bool {
 
 fn push_two_digits_hint(out: &mut String, text: &[u8]) -> Result<(), AllocError> {
     if is_numbered(text) {
-        return out.push_str(NUMBERED);
+        return write!(out, "hint: {NUMBERED}\n");
     }
     out.push_str("hint: each byte has two digits, also one below 16\n")
 }
 
-const NUMBERED: &str =
-    "hint: the lines begin with offsets, as those of a dump do: `xxd -p FILE` writes one without\n";
+const NUMBERED: &str = "the lines begin with offsets, as those of a dump do: \
+    `xxd -p FILE` writes one without, and so does wireshark's Copy as a Hex Stream";
 
 /// Whether the text begins as a dump whose first line has the offset 0 and whose second has 16.
 pub fn is_numbered(text: &[u8]) -> bool {
@@ -132,7 +171,7 @@ pub fn is_numbered(text: &[u8]) -> bool {
     let second = back(text, line.saturating_add(1));
     (text.starts_with(b"0000 ") && second.starts_with(b"0010"))
         || (text.starts_with(b"00000000 ") && second.starts_with(b"00000010"))
-        || (text.starts_with(b"0000000 ") && second.starts_with(b"0000020"))
+        || (text.starts_with(b"0000000 ") && second.starts_with(b"00000"))
 }
 
 /// Adds the note of bytes that are no message, or that are more or fewer than one.
@@ -144,8 +183,10 @@ pub fn push_length(
 ) -> Result<(), AllocError> {
     let bytes = count_digits(text) / 2;
     if is_numbered(text) {
-        write!(out, "{name}: the first bytes are no header of a message\n")?;
-        return out.push_str(NUMBERED);
+        return write!(
+            out,
+            "{name}: the first bytes are no header of a message\nhint: {NUMBERED}\n"
+        );
     }
     let mut head = [0u8; 20];
     read_digits(text, &mut head);

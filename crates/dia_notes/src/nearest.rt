@@ -1,25 +1,51 @@
 //! The name that was meant.
 
-use crate::grammar::FORMATS;
 use crate::place::back;
 
 /// How much of two names may differ, between a common beginning and a common end.
 const MOST: usize = 2;
 
-/// The format whose word is nearest.
-pub fn nearest_format(word: &[u8]) -> Option<&'static str> {
-    let near = FORMATS
+/// The name that is nearest, if it is near enough: less than a third of the longer of the two differs.
+pub fn nearest_name<'a>(word: &str, names: &[&'a str]) -> Option<&'a str> {
+    let near = names
         .iter()
         .copied()
-        .min_by_key(|format| distance(word, format.as_bytes()))?;
-    if word.eq_ignore_ascii_case(b"Enumerated") {
-        return Some("Enumerated");
-    }
-    if distance(word, near.as_bytes()) <= MOST {
+        .min_by_key(|name| distance(word.as_bytes(), name.as_bytes()))?;
+    let differs = distance(word.as_bytes(), near.as_bytes());
+    let longer = word.len().max(near.len());
+    if differs <= MOST && differs.saturating_mul(3) < longer {
         Some(near)
     } else {
         None
     }
+}
+
+/// The command that is nearest: by its name, or by the capitals that the name is short for, as CCR is for
+/// Credit-Control-Request.
+pub fn nearest_command<'a>(word: &str, names: &[&'a str]) -> Option<&'a str> {
+    if let Some(near) = nearest_name(word, names) {
+        return Some(near);
+    }
+    names
+        .iter()
+        .copied()
+        .find(|name| is_short_for(word.as_bytes(), name.as_bytes()))
+}
+
+/// Whether two names have the same capitals, two at least.
+fn is_short_for(a: &[u8], b: &[u8]) -> bool {
+    let count = capitals(a);
+    let in_common = a
+        .iter()
+        .filter(|byte| byte.is_ascii_uppercase())
+        .zip(b.iter().filter(|byte| byte.is_ascii_uppercase()))
+        .take_while(|pair| pair.0 == pair.1)
+        .count();
+    count >= 2 && count == capitals(b) && in_common == count
+}
+
+fn capitals(name: &[u8]) -> usize {
+    name.iter().filter(|byte| byte.is_ascii_uppercase()).count()
 }
 
 /// How many bytes of the longer name differ, between what the two have in common at the beginning and at the end. The case

@@ -69,10 +69,17 @@ pub fn place_of(text: &[u8], at: usize) -> Place {
 
 /// Begins a note: `NAME:LINE:COLUMN: `.
 pub fn push_place(out: &mut String, name: &str, text: &[u8], at: usize) -> Result<(), AllocError> {
+    write!(out, "{name}:")?;
+    push_line_column(out, text, at)?;
+    out.push_str(": ")
+}
+
+/// Adds a place as `LINE:COLUMN`.
+pub fn push_line_column(out: &mut String, text: &[u8], at: usize) -> Result<(), AllocError> {
     let place = place_of(text, at);
     let line = place.line;
     let column = place.column;
-    write!(out, "{name}:{line}:{column}: ")
+    write!(out, "{line}:{column}")
 }
 
 /// Adds the line of a place, and below it a caret at the place. Of a long line a part is shown.

@@ -1,6 +1,6 @@
 //! What is told of a dictionary text that is refused.
 
-use crate::expecting::expected;
+use crate::expecting::{expected, expected_number};
 use crate::grammar::Why;
 use crate::hints::push_hint;
 use crate::place::{back, push_excerpt, push_place, push_shown};
@@ -23,7 +23,12 @@ pub fn push_syntax(
     push_place(out, name, text, refused.at)?;
     match refused.why {
         Why::Limit => out.push_str("the name has more than 128 bytes\n")?,
-        Why::Number | Why::Syntax => {
+        Why::Number => {
+            push_quoted(alloc, out, text, refused)?;
+            let wanted = expected_number(walk.state);
+            write!(out, " is out of range; expected {wanted}\n")?;
+        }
+        Why::Syntax => {
             push_found(alloc, out, text, refused)?;
             let wanted = expected(walk.state);
             write!(out, "; expected {wanted}\n")?;
@@ -40,17 +45,27 @@ fn push_found(
     text: &[u8],
     refused: &Refused<'_>,
 ) -> Result<(), AllocError> {
-    match refused.token {
-        None => out.push_str("the text ends here"),
-        Some(token) => {
-            if refused.why == Why::Number {
-                out.push_str("the number ")?;
-            }
-            out.push_str("found \"")?;
-            push_shown(alloc, out, shown_bytes(text, &token))?;
-            out.push('"')
-        }
+    if refused.token.is_none() {
+        return out.push_str("the text ends here");
     }
+    out.push_str("found ")?;
+    push_quoted(alloc, out, text, refused)
+}
+
+/// Adds the token in quotes.
+fn push_quoted(
+    alloc: Global,
+    out: &mut String,
+    text: &[u8],
+    refused: &Refused<'_>,
+) -> Result<(), AllocError> {
+    let Some(token) = refused.token else {
+        return Ok(());
+    };
+    out.push('"')?;
+    push_shown(alloc, out, shown_bytes(text, &token))?;
+    out.push('"')?;
+    Ok(())
 }
 
 /// The bytes of a token that are told: for a character that no text has, all of its bytes.

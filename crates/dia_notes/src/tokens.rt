@@ -73,11 +73,17 @@ fn front_of(rest: &[u8]) -> Option<(Kind, usize)> {
     if b":<>{}[]()*,".contains(&first) {
         return Some((Kind::Sign, 1));
     }
-    let run = rest.iter().take_while(|byte| is_run(**byte)).count();
-    if run == 0 {
+    let run = front_of_run(rest);
+    if run.is_empty() {
         return Some((Kind::Other, 1));
     }
-    Some((kind_of_run(rest.get(..run)?), run))
+    Some((kind_of_run(run), run.len()))
+}
+
+/// The run of letters, digits and dashes at the front.
+pub fn front_of_run(rest: &[u8]) -> &[u8] {
+    let length = rest.iter().take_while(|byte| is_run(**byte)).count();
+    rest.get(..length).unwrap_or(rest)
 }
 
 fn is_run(byte: u8) -> bool {
