@@ -3,6 +3,8 @@
 Each row is the words, the files, the status, and the text of standard error. Places, lengths and counts are worked out by
 hand from RFC 6733 sections 3 and 4.1 and from the texts below."""
 
+import re
+
 D = """; credit control
 %avp Session-Id 263 UTF8String must
 %avp Origin-Host 264 DiameterIdentity must
@@ -383,6 +385,11 @@ def compares():
         for side, place, said in places:
             wanted += part(f"{side}.txt", a if side == "a" else b, place, said) if place else f"{side}.txt: {said}\n"
         wanted += f"hint: {hint}\nhint: `diacmd breaking{options and ' ' + options.strip()} a.txt b.txt{command}` lists all that breaks, if anything does\n"
+        for side, _, said in places:
+            # names that a dictionary lacks are told behind the pair
+            for kind, name in re.findall(r"^there is no (AVP|command) (\S+) here$", said):
+                column = table.split("\n")[line - 1].index(f"{name} =" if side == "a" else f"= {name}") + (1 if side == "a" else 3)
+                wanted += f"t.tab:{line}:{column}: {side}.txt has no {kind} {name}\n"
         return f"compare {options}a.txt b.txt t.tab", {"a.txt": a, "b.txt": b, "t.tab": table}, 1, wanted
 
     for each in TESTS:
