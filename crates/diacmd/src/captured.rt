@@ -49,9 +49,6 @@ where
     let mut sink = ToWriter::new(io::writer(rt));
     let alloc = rt.alloc();
     let ended = match task {
-        Task::CheckLines { unknown, levels: dia_check::Levels::AtMost(77) } => {
-            check_stream(alloc, *unknown, dia_check::Levels::Any, inputs, &mut feed, &mut sink)
-        }
         Task::CheckLines { unknown, levels } => {
             check_lines(alloc, *unknown, *levels, inputs, &mut feed, &mut sink)
         }
