@@ -101,7 +101,7 @@ pub(crate) fn told_apps<A: Book>(
     }
 }
 
-/// Those of the applications for which A selects the command.
+/// Of these applications, each for which A selects the command.
 fn own_apps<A: Book>(
     alloc: Global,
     a: &A,

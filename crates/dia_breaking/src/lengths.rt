@@ -19,7 +19,7 @@ pub(crate) struct Lengths<'a, A: Book> {
     pub book: &'a A,
     pub sends: Sends,
     pub least: Least,
-    /// Those of the entries.
+    /// The length of a shortest AVP of each entry.
     pub entries: Vec<u64>,
     /// Keys that a wildcard lets in. The first of them that no rule lists is one of a shortest AVP.
     pub others: Vec<Key>,

@@ -169,7 +169,7 @@ impl<'a, A: Book, B: Book> Upgrade<'a, A, B> {
         }
     }
 
-    /// That of B.
+    /// The definition of B by which the level at a place is read.
     pub(crate) fn definition_of_b(&self, code: u32, class: Class, place: Place) -> Option<DefId>
         ensures { IfSome result (λ def. def < length (definitions (B.meaning self.now.b.now))) }
     {

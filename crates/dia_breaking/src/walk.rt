@@ -44,9 +44,9 @@ pub(crate) struct Walk<'u, 'a, A: Book, B: Book> {
     pub code: u32,
     pub class: Class,
     pub sites: Vec<Site>,
-    /// Of the AVPs of which there is something to tell, by their places.
+    /// The shortest way that is known to each AVP of which there is something to tell, by its place.
     pub reached: HashMap<usize, Reach>,
-    /// Those that no wildcard has let in yet.
+    /// The AVPs, by their places, that no wildcard has let in yet.
     rest: Vec<usize>,
     entered: HashSet<Key>,
     events: Vec<Event>,
