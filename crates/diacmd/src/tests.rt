@@ -8,3 +8,4 @@ mod opening;
 mod printed;
 mod refused_words;
 mod words;
+mod words_of_two;
