@@ -246,7 +246,8 @@ def checks():
     yield "check --quiet none.txt m.hex", files, 2, ""
     files = {"d.txt": D, "m.hex": digits(message(SID)), "l.txt": message(SID).hex() + "\n"}
     yield "check --quiet d.txt m.hex", files, 1, ""
-    line = "hint: `sed -n NUMBERp l.txt | diacmd check{} d.txt -` explains the fault of the line with that number\n"
+    summary = "0 of 1 lines valid\n1 x fault 5005 missing Origin-Host, first in line 1\n"
+    line = summary + "hint: `sed -n NUMBERp l.txt | diacmd check{} d.txt -` explains the fault of the line with that number\n"
     yield "check --lines d.txt l.txt", files, 1, line.format("")
     yield "check --lines --unknown refused --levels 3 d.txt l.txt", files, 1, line.format(" --unknown refused --levels 3")
 

@@ -1,2 +1,4 @@
 mod OneMessage
 mod LinesOfMessages
+mod RefusedRuns
+mod StreamOfMessages

@@ -1,2 +1,3 @@
 pub mod OneMessage
 pub mod Lines
+pub mod Streams

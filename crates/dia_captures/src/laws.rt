@@ -11,7 +11,7 @@ ghost use Rattle.dia_lines.specs.Lines.{LineHasOneAnswer};
 ghost use Rattle.dia_run.specs.Texts.{IsDictionaryText};
 ghost use Rattle.dia_run.specs.Outcome.{IsRefutation};
 ghost use Rattle.dia_captures.specs.OneMessage.{IsMessageChecked};
-ghost use Rattle.dia_captures.specs.Lines.{OfLine, checks, refutations};
+ghost use Rattle.dia_captures.specs.Lines.{OfLine, IsLinesOutcome, checks, refutations};
 
 /// What a `CheckJudge` says of a line is what `check` writes for the dictionary's text, and the line as the message.
 pub fn check_of_line()
@@ -38,4 +38,18 @@ pub fn one_check()
 pub fn one_refute()
     ensures { (u : AnyPolicy) (most : AnyLevels) (inputs : AnyInputs)
         → LineHasOneAnswer (OfLine (refutations u most) inputs) }
+{}
+
+/// `check` writes one text for a text of lines, and ends in one way.
+pub fn one_check_of_lines()
+    ensures { (u : AnyPolicy) (most : AnyLevels) (inputs : AnyInputs) (bytes text other : List ℕ)
+        (exit ending : AnyExit) → IsLinesOutcome (checks u most) inputs bytes text exit
+        → IsLinesOutcome (checks u most) inputs bytes other ending → (text ≡ other) × (exit ≡ ending) }
+{}
+
+/// So does `refute`.
+pub fn one_refute_of_lines()
+    ensures { (u : AnyPolicy) (most : AnyLevels) (inputs : AnyInputs) (bytes text other : List ℕ)
+        (exit ending : AnyExit) → IsLinesOutcome (refutations u most) inputs bytes text exit
+        → IsLinesOutcome (refutations u most) inputs bytes other ending → (text ≡ other) × (exit ≡ ending) }
 {}

@@ -6,8 +6,15 @@
 
 mod judges;
 mod laws;
+mod reasons;
 mod runs;
+mod tallied;
+mod tally;
 
 pub use judges::{CheckJudge, RefuteJudge};
-pub use laws::{check_of_line, one_check, one_refute, refute_of_line};
+pub use laws::{
+    check_of_line, one_check, one_check_of_lines, one_refute, one_refute_of_lines, refute_of_line,
+};
 pub use runs::{check_lines, check_stream, refute_lines};
+pub use tallied::Tallied;
+pub use tally::{Lines, Tally};

@@ -1,7 +1,16 @@
 //! The commands over the texts of their dictionaries.
 
-ghost use Rattle.std.specs.Prelude.{◌≡◌, ◌↔◌, ◌⊎◌, if◌then◌else◌, Err, IsTrue};
-ghost use Rattle.dia_lines.specs.declared.fault.LinesFault.TheVariants.{Device};
+ghost use Rattle.std.specs.Prelude.{◌≡◌, ◌≢◌, ◌↔◌, ◌≤◌, ◌⊎◌, if◌then◌else◌, length};
+ghost use Rattle.std.specs.Prelude.{Ok, Err, IfOk, IfSome, IsErr, IsOk, IsTrue};
+ghost use Rattle.std.specs.Io.KnownBytes.{Appends, IsAtEnd};
+ghost use Rattle.dia_io.specs.Writing.{AppendsFront};
+ghost use Rattle.dia_lines.specs.declared.fault.LinesFault.TheVariants.{NoMemory, Device, Endless};
+ghost use Rattle.dia_lines.specs.FeedToSink.{LinesAnswered, most_pieces};
+ghost use Rattle.dia_streams.specs.Streams.{WholeTold};
+ghost use Rattle.dia_run.specs.Texts.{line};
+ghost use Rattle.dia_run.specs.Refusals.{TellsOf};
+ghost use Rattle.dia_captures.specs.Lines.{AreLinesAnswered, IsFrontPut, OfLine, checks, refutations};
+ghost use Rattle.dia_captures.specs.Streams.{IsStreamAnswered, IsStreamFrontPut, OfMessage};
 
 use crate::judges::{CheckJudge, RefuteJudge};
 use dia_check::{Levels, Unknown};
@@ -22,8 +31,20 @@ pub fn check_lines<F: Feed, S: Sink>(
 ) -> Result<Exit, LinesFault>
     requires sound_feed { ¬ IsTrue (F.has_failed feed.old) }
     requires sound_sink { ¬ IsTrue (S.has_failed sink.old) }
+    ensures answered { IfOk result (AreLinesAnswered (checks unknown levels) inputs.now
+        (F.remaining feed.old) (F.remaining feed.new) (S.written sink.old) (S.written sink.new)) }
+    ensures all { IfOk result (λ exit. exit ≢ Exit.Bad → IsAtEnd (F.remaining feed.new)) }
+    ensures unread { result ≡ Ok Exit.Bad → feed.new ≡ feed.old }
     ensures device { (result ≡ Err Device)
         ↔ (IsTrue (F.has_failed feed.new) ⊎ IsTrue (S.has_failed sink.new)) }
+    ensures front { IsErr result → IsFrontPut (checks unknown levels) inputs.now
+        (F.remaining feed.old) (F.remaining feed.new) (S.written sink.old) (S.written sink.new) }
+    ensures no_memory { result ≡ Err NoMemory → LinesAnswered (OfLine (checks unknown levels) inputs.now)
+        (F.remaining feed.old) (F.remaining feed.new) (S.written sink.old) (S.written sink.new) }
+    ensures endless { result ≡ Err Endless → LinesAnswered (OfLine (checks unknown levels) inputs.now)
+        (F.remaining feed.old) (F.remaining feed.new) (S.written sink.old) (S.written sink.new) }
+    ensures pieces { result ≡ Err Endless
+        → IfSome (F.remaining feed.old) (λ bytes. most_pieces ≤ length bytes) }
 {
     let book = match read_dictionary(alloc, 1, &inputs.first) {
         Ok(book) => book,
@@ -34,8 +55,8 @@ pub fn check_lines<F: Feed, S: Sink>(
         unknown,
         levels,
     };
-    let ended = answer_lines(alloc, &judge, feed, sink)?;
-    Ok(yes_if(ended.each))
+    let checked = answer_lines(alloc, &judge, feed, sink)?;
+    Ok(yes_if(checked.each))
 }
 
 /// `refute` of each line of a feed: yes where one refutes.
@@ -49,8 +70,22 @@ pub fn refute_lines<F: Feed, S: Sink>(
 ) -> Result<Exit, LinesFault>
     requires sound_feed { ¬ IsTrue (F.has_failed feed.old) }
     requires sound_sink { ¬ IsTrue (S.has_failed sink.old) }
+    ensures answered { IfOk result (AreLinesAnswered (refutations unknown levels) inputs.now
+        (F.remaining feed.old) (F.remaining feed.new) (S.written sink.old) (S.written sink.new)) }
+    ensures all { IfOk result (λ exit. exit ≢ Exit.Bad → IsAtEnd (F.remaining feed.new)) }
+    ensures unread { result ≡ Ok Exit.Bad → feed.new ≡ feed.old }
     ensures device { (result ≡ Err Device)
         ↔ (IsTrue (F.has_failed feed.new) ⊎ IsTrue (S.has_failed sink.new)) }
+    ensures front { IsErr result → IsFrontPut (refutations unknown levels) inputs.now
+        (F.remaining feed.old) (F.remaining feed.new) (S.written sink.old) (S.written sink.new) }
+    ensures no_memory { result ≡ Err NoMemory
+        → LinesAnswered (OfLine (refutations unknown levels) inputs.now)
+        (F.remaining feed.old) (F.remaining feed.new) (S.written sink.old) (S.written sink.new) }
+    ensures endless { result ≡ Err Endless
+        → LinesAnswered (OfLine (refutations unknown levels) inputs.now)
+        (F.remaining feed.old) (F.remaining feed.new) (S.written sink.old) (S.written sink.new) }
+    ensures pieces { result ≡ Err Endless
+        → IfSome (F.remaining feed.old) (λ bytes. most_pieces ≤ length bytes) }
 {
     let first = match read_dictionary(alloc, 1, &inputs.first) {
         Ok(book) => book,
@@ -66,8 +101,8 @@ pub fn refute_lines<F: Feed, S: Sink>(
         unknown,
         levels,
     };
-    let ended = answer_lines(alloc, &judge, feed, sink)?;
-    Ok(yes_if(ended.some))
+    let refuted = answer_lines(alloc, &judge, feed, sink)?;
+    Ok(yes_if(refuted.some))
 }
 
 /// `check` of each message of a stream: yes where each is valid.
@@ -81,8 +116,17 @@ pub fn check_stream<F: Feed, S: Sink>(
 ) -> Result<Exit, LinesFault>
     requires sound_feed { ¬ IsTrue (F.has_failed feed.old) }
     requires sound_sink { ¬ IsTrue (S.has_failed sink.old) }
+    ensures answered { IfOk result (IsStreamAnswered unknown levels inputs.now
+        (F.remaining feed.old) (F.remaining feed.new) (S.written sink.old) (S.written sink.new)) }
+    ensures unread { result ≡ Ok Exit.Bad → feed.new ≡ feed.old }
     ensures device { (result ≡ Err Device)
         ↔ (IsTrue (F.has_failed feed.new) ⊎ IsTrue (S.has_failed sink.new)) }
+    ensures front { IsErr result → IsStreamFrontPut unknown levels inputs.now
+        (F.remaining feed.old) (F.remaining feed.new) (S.written sink.old) (S.written sink.new) }
+    ensures no_memory { result ≡ Err NoMemory → WholeTold (OfMessage unknown levels inputs.now)
+        (F.remaining feed.old) (F.remaining feed.new) (S.written sink.old) (S.written sink.new) }
+    ensures endless { result ≡ Err Endless → WholeTold (OfMessage unknown levels inputs.now)
+        (F.remaining feed.old) (F.remaining feed.new) (S.written sink.old) (S.written sink.new) }
 {
     let book = match read_dictionary(alloc, 1, &inputs.first) {
         Ok(book) => book,
@@ -93,14 +137,22 @@ pub fn check_stream<F: Feed, S: Sink>(
         unknown,
         levels,
     };
-    let ended = answer_stream(alloc, &judge, feed, sink)?;
-    Ok(yes_if(ended.each))
+    let told = answer_stream(alloc, &judge, feed, sink)?;
+    Ok(yes_if(told.each))
 }
 
 /// Puts the line of a dictionary that is refused.
 fn refuse<S: Sink>(alloc: Global, refused: Refused, sink: &mut S) -> Result<Exit, LinesFault>
     requires { ¬ IsTrue (S.has_failed sink.old) }
-    ensures { (result ≡ Err Device) ↔ IsTrue (S.has_failed sink.new) }
+    ensures exit { IfOk result (λ exit. exit ≡ Exit.Bad) }
+    ensures put { IsOk result
+        → TellsOf (λ told. Appends (S.written sink.old) (S.written sink.new) (line told)) refused }
+    ensures device { (result ≡ Err Device) ↔ IsTrue (S.has_failed sink.new) }
+    ensures front { result ≡ Err Device
+        → TellsOf (λ told. AppendsFront (S.written sink.old) (S.written sink.new) (line told)) refused }
+    ensures memory { refused ≡ Refused.NoMemory → result ≡ Err NoMemory }
+    ensures no_memory { result ≡ Err NoMemory → S.written sink.new ≡ S.written sink.old }
+    ensures counted { result ≢ Err Endless }
 {
     let outcome = outcome_of(alloc, Err(refused))?;
     put_all(sink, outcome.text.as_bytes())?;

@@ -3,3 +3,4 @@ pub mod Fronts
 pub mod StreamsUnderWay
 pub mod StreamToSink
 pub mod OneStream
+pub mod OtherLines

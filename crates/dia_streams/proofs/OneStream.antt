@@ -1,10 +1,9 @@
 -- Where bytes are told with one text, a stream is.
-use Rattle.std.proofs.Common.{◌≡◌, ℕ, ◌+◌, ◌<◌, ◌≤◌, List, [], ◌∷◌, ◌++◌, length, take, Option, Some, refl, sym, ap, subst, ◌∙◌, append_assoc, inl, inr, arith}
+use Rattle.std.proofs.Common.{◌≡◌, ℕ, ◌+◌, ◌<◌, List, [], ◌∷◌, ◌++◌, length, take, refl, sym, ap, subst, ◌∙◌, append_assoc, inl, inr, arith}
 use Rattle.std.proofs.lemmas.List.{length-append}
 use Rattle.std.proofs.lemmas.Option.{same_Some}
 use Rattle.dia_io.specs.declared.Exit.{Exit}
-use Rattle.hex.specs.Hex.{hex_digit_value}
-use Rattle.dia_streams.specs.Streams.{AreSpelled, AreTold, none, message, BeginsNoPair, IsEndTold, nothing, part, endless, no_digits, IsEndless, IsMessage, IsPair, IsPart, IsStreamTold, BytesHaveOneText, StreamHasOneText, placed}
+use Rattle.dia_streams.specs.Streams.{AreSpelled, AreTold, none, message, BeginsNoPair, IsEndTold, nothing, part, endless, no_digits, IsEndless, IsMessage, IsPair, IsPart, BytesHaveOneText, StreamHasOneText, placed}
 use Rattle.dia_wire.specs.Wire.{BeginsMessage}
 use Rattle.dia_streams.proofs.Fronts.{message_long, message_on, one_length}
 

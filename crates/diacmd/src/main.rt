@@ -53,7 +53,7 @@ where
     let inputs = open_inputs(rt.alloc(), &OfProcess::new(rt), &origins)?;
     let quiet = request.is_quiet();
     let task = request.into_task();
-    let exit = run_task(rt, &task, &inputs, origins.messages)?;
+    let exit = run_task(rt, &task, &inputs, origins.messages, quiet)?;
     if !quiet {
         note(rt, &task, &origins, &inputs, exit);
     }
@@ -66,9 +66,10 @@ fn run_task<'a, R>(
     task: &Task,
     inputs: &Inputs,
     messages: Origin<'a>,
+    quiet: bool,
 ) -> Result<Exit, Ending<'a>>
 where
-    R: AllocGlobal + Files + Input + Print,
+    R: AllocGlobal + Files + Input + Print + Eprint,
 {
     match task {
         Task::Whole(command) => answer(rt, command, inputs),
@@ -86,7 +87,7 @@ where
             };
             list(rt, asked, inputs)
         }
-        _ => captured(rt, task, inputs, messages),
+        _ => captured(rt, task, inputs, messages, quiet),
     }
 }
 

@@ -1,0 +1,60 @@
+use Rattle.std.proofs.Common.{◌≡◌, Err, refl, ap, rules}
+use Rattle.dia_lines.specs.declared.fault.LinesFault.TheVariants.{NoMemory, Endless}
+use Rattle.dia_captures.specs.Lines.{refutations}
+use Rattle.dia_captures.proofs.OneMessage.{of_refute}
+use Rattle.dia_captures.proofs.LinesOfMessages.{all_answered, front_put, lines_answered, both_stand}
+use Rattle.dia_captures.proofs.RefusedRuns.{first_tells, second_tells, refusal_answered, refusal_front, refusal_nothing}
+use Rattle.dia_captures.proofs.runs.refute_lines.Goals as goal
+
+pub returns-in-Err-clause-answered : goal.returns-in-Err-clause-answered
+returns-in-Err-clause-answered g c =
+    refusal_answered (refutations c.args.unknown c.args.levels) c.args.inputs.now (g.F.Feed.remaining c.args.feed.now) (g.S.Sink.written c.args.sink.now) (g.S.Sink.written c.refuse.new.sink) c.in-Err.refused c.refuse.result
+    (first_tells c.args.unknown c.args.levels c.args.inputs.now c.in-Err.refused c.in-Err.ensures.told) c.refuse.ensures.memory c.refuse.ensures.exit c.refuse.ensures.put
+
+pub returns-in-Err-clause-front : goal.returns-in-Err-clause-front
+returns-in-Err-clause-front g c =
+    refusal_front (refutations c.args.unknown c.args.levels) c.args.inputs.now (g.F.Feed.remaining c.args.feed.now) (g.S.Sink.written c.args.sink.now) (g.S.Sink.written c.refuse.new.sink) c.in-Err.refused c.refuse.result
+    (first_tells c.args.unknown c.args.levels c.args.inputs.now c.in-Err.refused c.in-Err.ensures.told) c.refuse.ensures.memory c.refuse.ensures.front c.refuse.ensures.no_memory c.refuse.ensures.counted
+
+pub returns-in-Err-clause-no_memory : goal.returns-in-Err-clause-no_memory
+returns-in-Err-clause-no_memory g c = λ is.
+    refusal_nothing (refutations c.args.unknown c.args.levels) c.args.inputs.now (g.F.Feed.remaining c.args.feed.now) (g.S.Sink.written c.args.sink.now) (g.S.Sink.written c.refuse.new.sink) (c.refuse.ensures.no_memory is)
+
+pub returns-in-Err-read_dictionary-clause-answered : goal.returns-in-Err-read_dictionary-clause-answered
+returns-in-Err-read_dictionary-clause-answered g c =
+    refusal_answered (refutations c.args.unknown c.args.levels) c.args.inputs.now (g.F.Feed.remaining c.args.feed.now) (g.S.Sink.written c.args.sink.now) (g.S.Sink.written c.refuse-in-Err-read_dictionary.new.sink) c.in-Err-read_dictionary.refused c.refuse-in-Err-read_dictionary.result
+    (second_tells c.args.unknown c.args.levels c.args.inputs.now _ c.in-Err-read_dictionary.refused c.in-Ok.ensures.book c.in-Err-read_dictionary.ensures.told) c.refuse-in-Err-read_dictionary.ensures.memory c.refuse-in-Err-read_dictionary.ensures.exit c.refuse-in-Err-read_dictionary.ensures.put
+
+pub returns-in-Err-read_dictionary-clause-front : goal.returns-in-Err-read_dictionary-clause-front
+returns-in-Err-read_dictionary-clause-front g c =
+    refusal_front (refutations c.args.unknown c.args.levels) c.args.inputs.now (g.F.Feed.remaining c.args.feed.now) (g.S.Sink.written c.args.sink.now) (g.S.Sink.written c.refuse-in-Err-read_dictionary.new.sink) c.in-Err-read_dictionary.refused c.refuse-in-Err-read_dictionary.result
+    (second_tells c.args.unknown c.args.levels c.args.inputs.now _ c.in-Err-read_dictionary.refused c.in-Ok.ensures.book c.in-Err-read_dictionary.ensures.told) c.refuse-in-Err-read_dictionary.ensures.memory c.refuse-in-Err-read_dictionary.ensures.front c.refuse-in-Err-read_dictionary.ensures.no_memory c.refuse-in-Err-read_dictionary.ensures.counted
+
+pub returns-in-Err-read_dictionary-clause-no_memory : goal.returns-in-Err-read_dictionary-clause-no_memory
+returns-in-Err-read_dictionary-clause-no_memory g c = λ is.
+    refusal_nothing (refutations c.args.unknown c.args.levels) c.args.inputs.now (g.F.Feed.remaining c.args.feed.now) (g.S.Sink.written c.args.sink.now) (g.S.Sink.written c.refuse-in-Err-read_dictionary.new.sink) (c.refuse-in-Err-read_dictionary.ensures.no_memory is)
+
+pub returns-in_err-refuted-clause-front : goal.returns-in_err-refuted-clause-front
+returns-in_err-refuted-clause-front g c = λ _.
+    front_put (refutations c.args.unknown c.args.levels) c.args.inputs.now _
+    (of_refute c.args.unknown c.args.levels c.args.inputs.now _ _ (rw (← c.deref.ensures) at c.in-Ok.ensures.book) (rw (← c.deref-2.ensures) at c.in-Ok-read_dictionary.ensures.book)) _ _ _ _ (c.in_err-refuted.ensures.front refl)
+
+pub returns-in_err-refuted-clause-no_memory : goal.returns-in_err-refuted-clause-no_memory
+returns-in_err-refuted-clause-no_memory g c = λ e.
+    let same : c.from_residual.result ≡ Err c.in_err-refuted.field-0.0 = search rules in
+    let is : c.in_err-refuted.field-0.0 ≡ NoMemory = cc in
+    lines_answered (refutations c.args.unknown c.args.levels) c.args.inputs.now _
+    (of_refute c.args.unknown c.args.levels c.args.inputs.now _ _ (rw (← c.deref.ensures) at c.in-Ok.ensures.book) (rw (← c.deref-2.ensures) at c.in-Ok-read_dictionary.ensures.book)) _ _ _ _ (c.in_err-refuted.ensures.no_memory (ap (λ f. Err f) is))
+
+pub returns-in_err-refuted-clause-endless : goal.returns-in_err-refuted-clause-endless
+returns-in_err-refuted-clause-endless g c = λ e.
+    let same : c.from_residual.result ≡ Err c.in_err-refuted.field-0.0 = search rules in
+    let is : c.in_err-refuted.field-0.0 ≡ Endless = cc in
+    lines_answered (refutations c.args.unknown c.args.levels) c.args.inputs.now _
+    (of_refute c.args.unknown c.args.levels c.args.inputs.now _ _ (rw (← c.deref.ensures) at c.in-Ok.ensures.book) (rw (← c.deref-2.ensures) at c.in-Ok-read_dictionary.ensures.book)) _ _ _ _ (c.in_err-refuted.ensures.endless (ap (λ f. Err f) is))
+
+pub returns-clause-answered : goal.returns-clause-answered
+returns-clause-answered g c =
+    all_answered (refutations c.args.unknown c.args.levels) c.args.inputs.now _
+    (of_refute c.args.unknown c.args.levels c.args.inputs.now _ _ (rw (← c.deref.ensures) at c.in-Ok.ensures.book) (rw (← c.deref-2.ensures) at c.in-Ok-read_dictionary.ensures.book)) _ _ _ _ c.in_ok-refuted.refuted c.yes_if.result
+    (both_stand c.args.unknown c.args.levels c.args.inputs.now _ _ (rw (← c.deref.ensures) at c.in-Ok.ensures.book) (rw (← c.deref-2.ensures) at c.in-Ok-read_dictionary.ensures.book)) c.yes_if.ensures c.in_ok-refuted.ensures.answered
