@@ -10,6 +10,8 @@ mod reasons;
 mod runs;
 mod tallied;
 mod tally;
+#[cfg(test)]
+mod tests;
 
 pub use judges::{CheckJudge, RefuteJudge};
 pub use laws::{

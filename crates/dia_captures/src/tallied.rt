@@ -14,7 +14,7 @@ pub struct Tallied<S> {
 }
 
 impl<S: Sink> Tallied<S> {
-    /// Of this sink, whose lines are to be counted.
+    /// Around a sink that takes these lines.
     pub fn new(alloc: Global, lines: Lines, sink: S) -> Tallied<S>
         ensures { result.sink ≡ sink }
     {
