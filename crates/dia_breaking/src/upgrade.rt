@@ -50,7 +50,12 @@ impl<'a, A: Book, B: Book> Upgrade<'a, A, B> {
         b: &'a B,
         sends: Sends,
         unknown: Unknown,
-    ) -> Result<Self, AllocError> {
+    ) -> Result<Self, AllocError>
+        ensures sender { IfOk result (λ made. made.a.now ≡ a.now) }
+        ensures receiver { IfOk result (λ made. made.b.now ≡ b.now) }
+        ensures sends { IfOk result (λ made. made.sends ≡ sends) }
+        ensures unknown { IfOk result (λ made. made.unknown ≡ unknown) }
+    {
         let lengths = Lengths::new(alloc, a, b, sends)?;
         let telling = Box::new(alloc, Telling::new(alloc, a, b, sends, unknown)?)?;
         let named = BothApps::new(alloc, a, b)?;

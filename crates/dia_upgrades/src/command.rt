@@ -1,10 +1,17 @@
 //! The command, from its inputs to what is written.
 
-ghost use Rattle.std.specs.Prelude.{◌≡◌, ◌↔◌, codes, Err, IfOk, IsTrue, string_bytes};
-ghost use Rattle.dia_io.specs.declared.Exit.TheVariants.{Yes, No};
+ghost use Rattle.std.specs.Prelude.{◌≡◌, ◌↔◌, ℕ, List, [], IfOk, Err, IsTrue, string_bytes};
+ghost use Rattle.std.specs.Io.KnownBytes.{Appends};
+ghost use Rattle.dia_io.specs.declared.Exit.{Exit as AnyExit};
+ghost use Rattle.dia_io.specs.Writing.{AppendsFront};
+ghost use Rattle.dia_run.specs.Texts.{line};
+ghost use Rattle.dia_run.specs.Outcome.{Ends};
+ghost use Rattle.dia_upgrades.specs.Outcome.{IsListed, IsBreakingOutcome, nothing_breaks, no_command_line};
+ghost use Rattle.dia_upgrades.specs.Outcome.{IsSafeUpgrade, IsUsable, AreRefused};
 
 use crate::asked::Asked;
-use crate::lines::{named, push_lines};
+use crate::lines::lines_of;
+use crate::naming::named;
 use dia_breaking::Upgrade;
 use dia_dict::Book;
 use dia_io::{Exit, Inputs, RunFault, Sink, put_all};
@@ -22,16 +29,40 @@ pub fn breaking<S: Sink>(
     sink: &mut S,
 ) -> Result<Exit, RunFault>
     requires { ¬ IsTrue (S.has_failed sink.old) }
+    ensures text { IfOk result
+        (λ exit. (text : List ℕ) × IsBreakingOutcome asked.entry inputs.now text exit
+        × Appends (S.written sink.old) (S.written sink.new) text) }
+    // Where it answers yes, nothing breaks, and it has said so.
+    ensures yes { IfOk result (λ exit. exit ≡ Exit.Yes → IsSafeUpgrade asked.entry inputs.now
+        × Appends (S.written sink.old) (S.written sink.new) (line nothing_breaks)) }
+    // Where it answers no, it has written lines.
+    ensures no { IfOk result (λ exit. exit ≡ Exit.No → IsUsable asked.entry inputs.now
+        × ((told : List ℕ) × Appends (S.written sink.old) (S.written sink.new) (line told))) }
+    ensures bad { IfOk result
+        (λ exit. (exit ≡ Exit.Bad) ↔ AreRefused asked.entry inputs.now) }
     ensures device { (result ≡ Err RunFault.Device) ↔ IsTrue (S.has_failed sink.new) }
+    ensures front { result ≡ Err RunFault.Device
+        → (text : List ℕ) × (exit : AnyExit) × IsBreakingOutcome asked.entry inputs.now text exit
+        × AppendsFront (S.written sink.old) (S.written sink.new) text }
     ensures no_memory { result ≡ Err RunFault.NoMemory → S.written sink.new ≡ S.written sink.old }
 {
-    let outcome = outcome_of(alloc, attempt(alloc, asked, inputs))?;
+    let outcome = perform(alloc, asked, inputs)?;
     put_all(sink, outcome.text.as_bytes())?;
     Ok(outcome.exit)
 }
 
+/// The text for the inputs, and how it ends.
+fn perform(alloc: Global, asked: Asked<'_>, inputs: &Inputs) -> Result<Outcome, AllocError>
+    ensures { IfOk result (λ outcome. IsBreakingOutcome asked.entry inputs.now
+        (string_bytes outcome.text) outcome.exit) }
+{
+    outcome_of(alloc, attempt(alloc, asked, inputs))
+}
+
 /// The outcome, or why an input is refused.
-fn attempt(alloc: Global, asked: Asked<'_>, inputs: &Inputs) -> Result<Outcome, Refused> {
+fn attempt(alloc: Global, asked: Asked<'_>, inputs: &Inputs) -> Result<Outcome, Refused>
+    ensures { Ends (IsBreakingOutcome asked.entry inputs.now) result }
+{
     let first = read_dictionary(alloc, 1, &inputs.first)?;
     let second = read_dictionary(alloc, 2, &inputs.second)?;
     let outcome = compared(alloc, asked, &*first, &*second)?;
@@ -44,28 +75,36 @@ fn compared<A: Book, B: Book>(
     asked: Asked<'_>,
     a: &A,
     b: &B,
-) -> Result<Outcome, AllocError> {
+) -> Result<Outcome, AllocError>
+    ensures { IfOk result (λ outcome. IsListed asked.entry (A.meaning a.now) (B.meaning b.now)
+        (string_bytes outcome.text) outcome.exit) }
+{
     match named(alloc, a, asked.names)? {
         Ok(commands) => {
             let upgrade = Upgrade::new(alloc, a, b, asked.sends, asked.unknown)?;
-            let mut text = String::new(alloc);
-            for command in &commands {
-                push_lines(alloc, &mut text, &upgrade, *command, asked.messages)?;
-            }
-            ended(alloc, text)
+            let lines = lines_of(alloc, &upgrade, &commands, asked.messages)?;
+            ended(alloc, lines)
         }
-        Err(name) => {
-            let line = format!(in alloc; "breaking: no command {name}\n")?;
-            told(alloc, &line, Exit::Bad)
-        }
+        Err(name) => no_command(alloc, name),
     }
+}
+
+/// The outcome of a name that is no command's.
+fn no_command(alloc: Global, name: &str) -> Result<Outcome, AllocError>
+    ensures text { IfOk result
+        (λ outcome. string_bytes outcome.text ≡ line (no_command_line name.now)) }
+    ensures exit { IfOk result (λ outcome. outcome.exit ≡ Exit.Bad) }
+{
+    let text = format!(in alloc; "breaking: no command {name}\n")?;
+    let exit = Exit::Bad;
+    Ok(Outcome { text, exit })
 }
 
 /// The outcome of these lines.
 fn ended(alloc: Global, lines: String) -> Result<Outcome, AllocError>
-    ensures none { string_bytes lines ≡ codes "" → IfOk result (λ outcome. (outcome.exit ≡ Yes)
-        × (string_bytes outcome.text ≡ codes "nothing breaks\n")) }
-    ensures some { ¬ (string_bytes lines ≡ codes "") → IfOk result (λ outcome. (outcome.exit ≡ No)
+    ensures none { string_bytes lines ≡ [] → IfOk result (λ outcome. (outcome.exit ≡ Exit.Yes)
+        × (string_bytes outcome.text ≡ line nothing_breaks)) }
+    ensures some { ¬ (string_bytes lines ≡ []) → IfOk result (λ outcome. (outcome.exit ≡ Exit.No)
         × (string_bytes outcome.text ≡ string_bytes lines)) }
 {
     if lines.is_empty() {

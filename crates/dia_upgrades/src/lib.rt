@@ -4,6 +4,7 @@
 mod asked;
 mod command;
 mod lines;
+mod naming;
 
 pub use asked::Asked;
 pub use command::breaking;

@@ -1,57 +1,53 @@
-//! The lines of one command.
+//! The lines of the commands.
+
+ghost use Rattle.std.specs.Prelude.{◌≡◌, ◌<◌, [], All, IfOk, OnOk, length, string_bytes};
+ghost use Rattle.dia_book.specs.Dictionary.{definitions};
+ghost use Rattle.dia_sites.specs.Selection.{AreValid};
+ghost use Rattle.dia_upgrades.specs.Places.{AreAllValid, AreLines, EndsLine};
 
 use dia_breaking::{Breaks, Line, Standing, Upgrade};
-use dia_dict::Book;
-use indexmap::IndexSet;
+use dia_dict::{Book, DefId};
 use std::alloc::{AllocError, Global};
 
-/// The commands of these names, in their order, or all where there is no name; or the first name that no command has.
-pub(crate) fn named<'a, A: Book>(
+/// The lines of the commands at these places of A's commands.
+pub(crate) fn lines_of<A: Book, B: Book>(
     alloc: Global,
-    a: &A,
-    names: &'a [String],
-) -> Result<Result<Vec<usize>, &'a str>, AllocError> {
-    let mut places = Vec::new(alloc);
-    if names.is_empty() {
-        for place in 0..a.commands() {
-            places.push(place)?;
-        }
-        return Ok(Ok(places));
+    upgrade: &Upgrade<'_, A, B>,
+    places: &[usize],
+    messages: bool,
+) -> Result<String, AllocError>
+    requires { All (λ place. place < length (A.meaning upgrade.now.a.now).commands) places.now }
+    ensures lines { IfOk result (λ text. AreLines (string_bytes text)) }
+    ensures none { IfOk result (λ text. string_bytes text ≡ [] → AreAllValid
+        (A.meaning upgrade.now.a.now) (B.meaning upgrade.now.b.now)
+        upgrade.now.sends upgrade.now.unknown places.now) }
+{
+    let mut text = String::new(alloc);
+    for place in places {
+        let command = upgrade.sender().command_at(*place);
+        push_lines(alloc, &mut text, upgrade, command, messages)?;
     }
-    let commands = names_of_commands(alloc, a)?;
-    for name in names {
-        match commands.get_index_of(&name.as_str()) {
-            Some(place) => places.push(place)?,
-            None => return Ok(Err(name.as_str())),
-        }
-    }
-    Ok(Ok(places))
+    Ok(text)
 }
 
-/// The names of the commands, each at its place.
-fn names_of_commands<B: Book>(alloc: Global, book: &B) -> Result<IndexSet<&str>, AllocError> {
-    let mut names = IndexSet::new(alloc);
-    for index in 0..book.commands() {
-        names.insert(book.def(book.command_at(index)).name.as_str())?;
-    }
-    Ok(names)
-}
-
-/// Adds the lines of the command at a place of A's commands.
-pub(crate) fn push_lines<A: Book, B: Book>(
+/// Adds the lines of a command of A.
+fn push_lines<A: Book, B: Book>(
     alloc: Global,
     text: &mut String,
     upgrade: &Upgrade<'_, A, B>,
-    place: usize,
+    command: DefId,
     messages: bool,
-) -> Result<(), AllocError> {
-    let a = upgrade.sender();
-    if place < a.commands() {
-        let command = a.command_at(place);
-        let breaks = upgrade.breaks(alloc, command)?;
-        for line in &breaks.lines {
-            push_line(alloc, text, upgrade, &breaks, line, messages)?;
-        }
+) -> Result<(), AllocError>
+    requires { command < length (definitions (A.meaning upgrade.now.a.now)) }
+    ensures lines { AreLines (string_bytes text.old) → OnOk result (AreLines (string_bytes text.new)) }
+    ensures grows { OnOk result (string_bytes text.new ≡ [] → string_bytes text.old ≡ []) }
+    ensures none { OnOk result (string_bytes text.new ≡ [] → ∥ AreValid
+        (A.meaning upgrade.now.a.now) (B.meaning upgrade.now.b.now)
+        upgrade.now.sends upgrade.now.unknown command ∥₁) }
+{
+    let breaks = upgrade.breaks(alloc, command)?;
+    for line in &breaks.lines {
+        push_line(alloc, text, upgrade, &breaks, line, messages)?;
     }
     Ok(())
 }
@@ -64,15 +60,31 @@ fn push_line<A: Book, B: Book>(
     breaks: &Breaks,
     line: &Line,
     messages: bool,
-) -> Result<(), AllocError> {
+) -> Result<(), AllocError>
+    ensures { OnOk result (EndsLine (string_bytes text.new)) }
+{
     upgrade.push_words(alloc, text, breaks, line)?;
     text.push('\n')?;
     if messages && line.standing != Standing::Undecided {
-        let message = upgrade.message(alloc, breaks, line)?;
-        let digits = hex::encode(alloc, message)?;
-        text.push_str("  ")?;
-        text.push_str(digits.as_str())?;
-        text.push('\n')?;
+        return push_message(alloc, text, upgrade, breaks, line);
     }
+    Ok(())
+}
+
+/// Adds the message of a line, on a line of its own.
+fn push_message<A: Book, B: Book>(
+    alloc: Global,
+    text: &mut String,
+    upgrade: &Upgrade<'_, A, B>,
+    breaks: &Breaks,
+    line: &Line,
+) -> Result<(), AllocError>
+    ensures { OnOk result (EndsLine (string_bytes text.new)) }
+{
+    let message = upgrade.message(alloc, breaks, line)?;
+    let digits = hex::encode(alloc, message)?;
+    text.push_str("  ")?;
+    text.push_str(digits.as_str())?;
+    text.push('\n')?;
     Ok(())
 }

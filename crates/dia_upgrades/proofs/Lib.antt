@@ -1,0 +1,3 @@
+pub mod AskedCommands
+pub mod LinesToTell
+pub mod Outcomes

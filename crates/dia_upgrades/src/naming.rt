@@ -1,0 +1,69 @@
+//! The commands that are asked for.
+
+ghost use Rattle.std.specs.Prelude.{◌≡◌, ◌<◌, ℕ, All, Contains, IfOk, IfErr, map, position, string_bytes};
+ghost use Rattle.std.specs.Str.{bytes_eq};
+ghost use Rattle.dia_compat.specs.Proposed.{IsFirstUnknown};
+ghost use Rattle.dia_upgrades.specs.Places.{ArePlaces};
+
+use dia_dict::Book;
+use indexmap::IndexSet;
+use std::alloc::{AllocError, Global};
+
+/// The places of the commands of these names, in their order, or of all where there is no name; or the first name that no
+/// command has.
+pub(crate) fn named<'a, A: Book>(
+    alloc: Global,
+    a: &A,
+    names: &'a [String],
+) -> Result<Result<Vec<usize>, &'a str>, AllocError>
+    ensures places { IfOk result (λ named. IfOk named (λ places. ArePlaces (A.meaning a.now)
+        (map (λ name. string_bytes name) names.now) places.items)) }
+    ensures unknown { IfOk result (λ named. IfErr named (λ name. IsFirstUnknown (A.meaning a.now)
+        (map (λ name. string_bytes name) names.now) name.now)) }
+{
+    if names.is_empty() {
+        let places = places_below(alloc, a.commands())?;
+        return Ok(Ok(places));
+    }
+    let commands = names_of_commands(alloc, a)?;
+    let mut places = Vec::new(alloc);
+    for name in names {
+        match place_of_name(&commands, name.as_str()) {
+            Some(place) => places.push(place)?,
+            None => return Ok(Err(name.as_str())),
+        }
+    }
+    Ok(Ok(places))
+}
+
+/// All places below a count, in order.
+fn places_below(alloc: Global, count: usize) -> Result<Vec<usize>, AllocError>
+    ensures within { IfOk result (λ places. All (λ place. place < count) places.items) }
+    ensures each { IfOk result (λ places. (place : ℕ) → place < count
+        → Contains places.items place) }
+{
+    let mut places = Vec::new(alloc);
+    for place in 0..count {
+        places.push(place)?;
+    }
+    Ok(places)
+}
+
+/// The names of the commands, each at its place.
+fn names_of_commands<B: Book>(alloc: Global, book: &B) -> Result<IndexSet<&str>, AllocError>
+    ensures { IfOk result
+        (λ names. map (λ n. n.now) names.keys ≡ map (λ c. c.name) (B.meaning book.now).commands) }
+{
+    let mut names = IndexSet::new(alloc);
+    for index in 0..book.commands() {
+        names.insert(book.def(book.command_at(index)).name.as_str())?;
+    }
+    Ok(names)
+}
+
+/// The place of a name in the set.
+fn place_of_name(names: &IndexSet<&str>, name: &str) -> Option<usize>
+    ensures { result ≡ position (λ n. bytes_eq name.now n.now) names.now.keys }
+{
+    names.get_index_of(&name)
+}
