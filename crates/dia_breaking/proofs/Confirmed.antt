@@ -8,8 +8,11 @@ use Rattle.dia_policy.specs.declared.Sends.{Sends}
 use Rattle.dia_policy.specs.declared.Sends.TheVariants.{Any, Known, Listed}
 use Rattle.dia_check.specs.Valid.{IsValid, IsValidOf}
 use Rattle.dia_sites.specs.Sent.{own_policy, AreBytes}
-use Rattle.dia_sites.proofs.SentIsValid.{valid_sent}
-use Rattle.dia_breaking.specs.Confirmed.{IsConfirmed}
+use Rattle.dia_sites.proofs.SentIsValid.{sent_valid, valid_sent}
+use Rattle.dia_compat.specs.Closed.{IsIncluded}
+use Rattle.dia_compat.specs.TableText.{PlainTable}
+use Rattle.dia_breaking.specs.declared.line.Line.{Line}
+use Rattle.dia_breaking.specs.Confirmed.{IsConfirmed, EachConfirmedBreaks, NoneConfirmed, ListsCommand}
 
 pub confirmed : (da db : Dictionary) (who : Sends) (u : Unknown) (bytes : List ℕ) (c : ℕ) → AreBytes bytes → IsValidOf da (own_policy who) levels.Any bytes c
     → (¬ IsValid db u levels.Any bytes) → IsConfirmed da db who u bytes c
@@ -26,3 +29,23 @@ pub refused : (da db : Dictionary) (who : Sends) (u : Unknown) (bytes : List ℕ
 refused da db who u bytes c true are own same valid iff h = absurd cc
 refused da db who u bytes c false are own same valid iff h =
     confirmed da db who u bytes c are (subst (λ p. IsValidOf da p levels.Any bytes c) same valid) (λ v. absurd (let e : false ≡ true = iff.1 v in cc))
+
+-- ---- a command that a table lists, where it shows inclusion
+
+valid_of : (da db : Dictionary) (who : Sends) (u : Unknown) (bytes : List ℕ) (c : ℕ) → IsConfirmed da db who u bytes c → IsValidOf da (own_policy who) levels.Any bytes c × (¬ IsValid db u levels.Any bytes)
+valid_of da db Any u bytes c h = (sent_valid da Any bytes c h.0, h.1)
+valid_of da db Known u bytes c h = (sent_valid da Known bytes c h.0, h.1)
+valid_of da db Listed u bytes c h = h
+
+pub none_breaks : (da db : Dictionary) (who : Sends) (table : PlainTable) (c : ℕ) (bytes : List ℕ) → IsIncluded da db (own_policy who) table → ListsCommand da table c
+    → ¬ IsConfirmed da db who (own_policy who) bytes c
+none_breaks da db who table c bytes included (command, pair, at, inside, named) h =
+    let v = valid_of da db who (own_policy who) bytes c h in
+    let r = included levels.Any bytes c command pair at inside named v.0 in
+    v.1 (r.0, r.4)
+
+pub none_confirmed : (da db : Dictionary) (who : Sends) (table : PlainTable) (c : ℕ) (lines : List Line) → IsIncluded da db (own_policy who) table → ListsCommand da table c
+    → EachConfirmedBreaks da db who (own_policy who) c lines → NoneConfirmed lines
+none_confirmed da db who table c lines included listed each k d within is =
+    let m = each k d within is in
+    none_breaks da db who table c m.0 included listed m.1

@@ -3,8 +3,8 @@ use Rattle.std.proofs.Common.{◌≡◌, ℕ, ◌+◌, ◌<◌, ◌≤◌, Bool,
 use Rattle.std.specs.Prelude.{All, IfSome, IfOk, IsTrue, slice_get}
 use Rattle.std.specs.List.{filter_map}
 use Rattle.std.proofs.lemmas.Option.{same_Some, slice_get_within, slice_get-get_or}
-use Rattle.std.proofs.lemmas.List.{take_more, take_all}
-use Rattle.std.proofs.lemmas.List.Elements.{All-push, filter_map-append}
+use Rattle.std.proofs.lemmas.List.{length-append, take_more, take_all}
+use Rattle.std.proofs.lemmas.List.Elements.{All-nil, All-push, filter_map-append}
 
 pub one_more : {X : Type 0} (xs : List X) (i : ℕ) (x : X) → slice_get xs i ≡ Some x → take (i + 1) xs ≡ take i xs ++ x ∷ []
 one_more {X} xs i x at =
@@ -39,6 +39,13 @@ all_more P xs x new is all own = subst (All P) (sym is) (All-push P xs x all own
 
 pub all_taken : {X : Type 0} (P : X → Type 0) (xs : List X) (i : ℕ) (d : X) → i < length xs → All P (take i xs) → P (get_or xs i d) → All P (take (i + 1) xs)
 all_taken P xs i d within all own = all_more P (take i xs) (get_or xs i d) (take (i + 1) xs) (take_more xs i d within) all own
+
+pub none_of : {X : Type 0} (P : X → Type 0) (xs : List X) → xs ≡ [] → All P xs
+none_of P xs is = subst (All P) (sym is) (All-nil P)
+
+-- one more
+pub length_more : {X : Type 0} (xs new : List X) (x : X) (i : ℕ) → new ≡ xs ++ x ∷ [] → length xs ≡ i → length new ≡ i + 1
+length_more xs new x i is before = ap length is ∙ length-append xs (x ∷ []) ∙ ap (λ (k : ℕ). k + 1) before
 
 -- a loop that goes on where a test of each member shows P, on a premise
 module _ {T X : Type 0} (P : X → Type 0) (xs : List X) where

@@ -43,7 +43,7 @@ pub(crate) struct Closing<'u, 'a, A: Book, B: Book> {
 }
 
 impl<'u, 'a, A: Book, B: Book> Closing<'u, 'a, A, B> {
-    /// The groups' sites are told by their keys, each with the way to it.
+    /// `groups` are the sites of groups: the key of each, and the way to it.
     pub fn new(
         alloc: Global,
         upgrade: &'u Upgrade<'a, A, B>,
@@ -62,8 +62,8 @@ impl<'u, 'a, A: Book, B: Book> Closing<'u, 'a, A, B> {
         })
     }
 
-    /// Whether nothing breaks in the levels of two definitions that have so much around them, and their groups lead to the sites
-    /// alone.
+    /// Whether nothing breaks in the levels that a definition of A and one of B read, and their groups lead to known sites alone.
+    /// A message takes at least `way` around such a level.
     pub fn is_closed(
         &self,
         alloc: Global,
@@ -238,7 +238,7 @@ fn other_of<C: Costs>(costs: &C, ways: &HashMap<Key, u64>, own: &Own) -> Other
     }
 }
 
-/// What a group that breaks nothing may have beside it, where it has a site.
+/// What may stand beside a group that breaks nothing and has a site.
 fn spare_by_way(ways: &HashMap<Key, u64>, own: &Own) -> u64
     ensures { result ≡ spare_by_way (get same_key ways.now) own.now }
 {

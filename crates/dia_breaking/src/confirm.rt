@@ -1,9 +1,9 @@
 //! Messages of lines, checked under both dictionaries.
-ghost use Rattle.std.specs.Prelude.{◌≡◌, ◌↔◌, IfOk, IfSome, IsTrue, length};
+ghost use Rattle.std.specs.Prelude.{◌≡◌, ◌↔◌, ℕ, IfOk, IfSome, IsTrue, List, length};
 ghost use Rattle.dia_policy.specs.declared.Levels.TheVariants.{Any};
 ghost use Rattle.dia_check.specs.Valid.{IsValid, IsValidOf};
 ghost use Rattle.dia_sites.specs.Sent.{own_policy};
-ghost use Rattle.dia_breaking.specs.Confirmed.{IsConfirmed};
+ghost use Rattle.dia_breaking.specs.Confirmed.{EachConfirmedBreaks, IsConfirmed};
 
 use crate::line::{Breaks, Cause, Line, Standing};
 use crate::upgrade::Upgrade;
@@ -51,7 +51,11 @@ impl<'a, A: Book, B: Book> Upgrade<'a, A, B> {
 
     /// The lines with what is known of each.
     pub(crate) fn with_standings(&self, alloc: Global, breaks: Breaks) -> Result<Breaks, AllocError>
-        ensures { IfOk result (λ told. length told.lines.items ≡ length breaks.lines.items) }
+        ensures command { IfOk result (λ told. told.command ≡ breaks.command) }
+        ensures all { IfOk result (λ told. length told.lines.items ≡ length breaks.lines.items) }
+        ensures each { IfOk result (λ told. EachConfirmedBreaks
+            (A.meaning self.now.a.now) (B.meaning self.now.b.now)
+            self.now.sends self.now.unknown breaks.command told.lines.items) }
     {
         let mut lines = Vec::new(alloc);
         let mut left = MOST_CHECKED_TOGETHER;
@@ -71,7 +75,11 @@ impl<'a, A: Book, B: Book> Upgrade<'a, A, B> {
         breaks: &Breaks,
         line: &Line,
         left: u64,
-    ) -> Result<Standing, AllocError> {
+    ) -> Result<Standing, AllocError>
+        ensures { IfOk result (λ standing. standing ≡ Standing.Confirmed
+            → (bytes : List ℕ) × IsConfirmed (A.meaning self.now.a.now) (B.meaning self.now.b.now)
+            self.now.sends self.now.unknown bytes breaks.now.command) }
+    {
         if has_no_message(&line.cause) {
             return Ok(Standing::Undecided);
         }

@@ -1,5 +1,5 @@
-//! The headers of a command that tell of all: those of its own application, or of those that B alone names and of one that
-//! neither dictionary names.
+//! Few headers of a command have to be looked at: that with its own application; or those with the applications that B alone
+//! names, and one with an application that neither dictionary names.
 ghost use Rattle.std.specs.Prelude.{◌≡◌, ◌<◌, All, length, List, IfOk, IfSome, Some, Contains};
 ghost use Rattle.std.specs.Prelude.{slice_get, IsTrue};
 ghost use Rattle.dia_book.specs.Dictionary.{PlainDefinition, definitions, selected};
@@ -14,7 +14,7 @@ use crate::keys::least_missing;
 use dia_book::{Book, DefId};
 use std::alloc::{AllocError, Global};
 
-/// B's definitions for the headers of a command of A that tell of all; none where B doesn't accept one of these headers.
+/// B's definitions for those headers of a command of A; none where B refuses one of them.
 pub(crate) fn told_defs<A: Book, B: Book>(
     alloc: Global,
     a: &A,

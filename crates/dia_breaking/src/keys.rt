@@ -1,4 +1,5 @@
-//! The AVPs that A's side sends.
+//! The AVPs that A's side sends. There is something to tell of one that breaks by itself, or in which both dictionaries see a
+//! level.
 ghost use Rattle.std.specs.Prelude.{◌≡◌, ◌&&◌, false, [], None, Contains, IfOk, OnOk, is_some};
 ghost use Rattle.std.specs.HashMap.{get};
 ghost use Rattle.dia_wire.specs.declared.Key.{Key as AnyKey};

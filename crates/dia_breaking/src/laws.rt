@@ -1,16 +1,33 @@
-//! What holds of all that A's side sends, where sites are closed.
+//! What holds of all that A's side sends, where sites are closed, or where a table shows inclusion.
 ghost use Rattle.std.specs.Prelude.{ℕ, List};
 ghost use Rattle.dia_wire.specs.declared.Key.{Key as AnyKey};
 ghost use Rattle.dia_book.specs.Dictionary.{Dictionary};
 ghost use Rattle.dia_policy.specs.declared.Unknown.{Unknown as AnyPolicy};
 ghost use Rattle.dia_policy.specs.declared.Sends.{Sends as AnySender};
+ghost use Rattle.dia_sites.specs.Sent.{own_policy};
 ghost use Rattle.dia_sites.specs.Sites.{Site as AnySite, AreSafe};
+ghost use Rattle.dia_compat.specs.Closed.{IsIncluded};
+ghost use Rattle.dia_compat.specs.TableText.{PlainTable};
 ghost use Rattle.dia_least.specs.Floors.{AreFloors};
 ghost use Rattle.dia_breaking.specs.Closed.{AreClosed};
+ghost use Rattle.dia_breaking.specs.Confirmed.{EachConfirmedBreaks, IsConfirmed};
+ghost use Rattle.dia_breaking.specs.Confirmed.{ListsCommand, NoneConfirmed};
+ghost use Rattle.dia_breaking.specs.declared.line.Line.{Line as AnyLine};
 
 /// Where sites are closed, by lengths that no AVP is below, nothing breaks at them.
 pub fn closed_sites_are_safe()
     ensures { (da db : Dictionary) (who : AnySender) (u : AnyPolicy) (length : AnyKey → ℕ)
         (sites : List AnySite) → AreFloors da who length
         → AreClosed da db who u length sites → AreSafe da db who u sites }
+{}
+
+/// Where a table shows inclusion, with the sender's own policy for unknown AVPs on both sides, no message breaks a command that
+/// it lists, and no line of such a command is told as confirmed.
+pub fn included_commands_break_nothing()
+    ensures messages { (da db : Dictionary) (who : AnySender) (table : PlainTable) (c : ℕ)
+        (bytes : List ℕ) → IsIncluded da db (own_policy who) table → ListsCommand da table c
+        → ¬ IsConfirmed da db who (own_policy who) bytes c }
+    ensures lines { (da db : Dictionary) (who : AnySender) (table : PlainTable) (c : ℕ)
+        (lines : List AnyLine) → IsIncluded da db (own_policy who) table → ListsCommand da table c
+        → EachConfirmedBreaks da db who (own_policy who) c lines → NoneConfirmed lines }
 {}

@@ -1,4 +1,4 @@
-//! What the AVPs take that A's side sends.
+//! The lengths of the AVPs that A's side sends.
 ghost use Rattle.std.specs.Prelude.{◌≡◌, ◌⊎◌, IfOk, IsSome, MatchBool, None, map};
 ghost use Rattle.std.specs.List.Sorted.{IsPermutation, IsNonDecreasingBy};
 ghost use Rattle.dia_book.specs.Dictionary.{Dictionary, entry_of};
@@ -67,7 +67,7 @@ impl<'a, A: Book> Lengths<'a, A> {
         })
     }
 
-    /// Where those come that A knows, the shortest come first.
+    /// Where a wildcard lets in the AVPs that A knows, the shortest come first.
     fn with_known(alloc: Global, book: &'a A, least: Least) -> Result<Self, AllocError>
         ensures others { (db : Dictionary)
             → IfOk result (λ lengths. AreOthers (A.meaning book.now) db
@@ -88,7 +88,7 @@ impl<'a, A: Book> Lengths<'a, A> {
         })
     }
 
-    /// Where all AVPs have to be listed, none comes.
+    /// Where each AVP has to be listed, a wildcard lets in none.
     fn with_none(alloc: Global, book: &'a A, least: Least) -> Result<Self, AllocError>
         ensures others { (db : Dictionary)
             → IfOk result (λ lengths. AreOthers (A.meaning book.now) db
@@ -109,7 +109,7 @@ impl<'a, A: Book> Lengths<'a, A> {
     }
 }
 
-/// What a shortest AVP of a key takes.
+/// The length of a shortest AVP of a key.
 fn length_of<A: Book>(book: &A, sends: Sends, entries: &[u64], key: Key) -> u64
     ensures { result ≡ listed_length (A.meaning book.now) sends entries.now key }
 {

@@ -1,4 +1,4 @@
-//! What the levels of a definition of A take in which an AVP stands.
+//! How long the levels of a definition of A are at least, where an AVP stands in them.
 ghost use Rattle.std.specs.Prelude.{◌≡◌, ◌<◌, length, not, find};
 ghost use Rattle.dia_book.specs.Dictionary.{definitions};
 ghost use Rattle.dia_check.specs.Valid.{is_listed};
@@ -11,12 +11,12 @@ use crate::books::{lists, wildcard_of};
 use dia_book::{Book, DRule, DefId, Key};
 use dia_levels::{Costs, TOO_LONG, length_least};
 
-/// What a definition's levels take.
+/// The least lengths of a definition's levels.
 #[derive(Clone, Copy, Debug)]
 pub(crate) struct LevelCost {
     /// The length of a least level.
     pub base: u64,
-    /// What such a level takes beside an AVP that comes through the wildcard.
+    /// What a least level with an AVP that comes through the wildcard takes beside that AVP.
     pub beside: u64,
 }
 
@@ -52,7 +52,7 @@ impl LevelCost {
     }
 }
 
-/// What a least level takes beside an AVP by this wildcard, where the least by it has the length `filler`.
+/// What a least level takes beside an AVP that this wildcard lets in. A shortest one that it lets in has the length `filler`.
 fn beside(base: u64, filler: u64, wild: &DRule) -> u64
     ensures { result ≡ beside_of base filler wild.now }
 {
@@ -65,7 +65,7 @@ fn beside(base: u64, filler: u64, wild: &DRule) -> u64
     }
 }
 
-/// What a shortest AVP takes that no rule lists.
+/// The length of a shortest AVP that no rule lists.
 fn filler_length<A: Book, C: Costs>(a: &A, def: DefId, costs: &C) -> u64
     requires { def < length (definitions (A.meaning a.now)) }
     ensures { result ≡ least_filler (C.other_length costs.now) (C.other_keys costs.now)

@@ -21,7 +21,7 @@ pub enum Place {
     },
 }
 
-/// A place, with what a message that has a level there takes at least around it, without its header.
+/// A place, and what a message with a level there takes at least around that level, without the message's header.
 #[derive(Clone, Copy, Debug, PartialEq, Eq)]
 pub struct Site {
     pub place: Place,

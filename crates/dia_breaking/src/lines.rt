@@ -6,24 +6,19 @@ ghost use Rattle.dia_sites.specs.Selection.{AreValid};
 ghost use Rattle.dia_compat.specs.Tests.{rules_in};
 ghost use Rattle.dia_levels.specs.Levels.{HasEachLine};
 ghost use Rattle.dia_levels.specs.LevelTests.{price};
+ghost use Rattle.dia_breaking.specs.Confirmed.{EachConfirmedBreaks};
 ghost use Rattle.dia_breaking.specs.Headers.{head_in};
 ghost use Rattle.dia_breaking.specs.Lengths.{listed_length, other_length};
 
-use crate::books::{command_of, format_of, group_of};
+use crate::books::{command_of, group_of};
+use crate::exits::{Exits, Inner};
 use crate::heads::{Head, allows, head_of, told_apps};
 use crate::line::{Breaks, Cause, Line, Place, Standing};
 use crate::upgrade::Upgrade;
-use crate::walk::{ROOM, Reach, Walk};
-use dia_book::{Book, Class, DefId, Format, Key};
-use dia_data::{Leaf, accepts};
-use dia_entries::{AvpBreaks, DataBreak, HeadBreak, avp_breaks};
-use dia_least::{push_least, shortest_head};
-use dia_levels::{Costs, Line as LevelLine, length_least, level_lines};
-use dia_witness::Witness;
+use crate::walk::{ROOM, Walk};
+use dia_book::{Book, Class, DefId, Key};
+use dia_levels::{Line as LevelLine, level_lines};
 use std::alloc::{AllocError, Global};
-
-/// The most bytes of a group whose data are tried where it is read as a leaf.
-const MOST_TRIED: u64 = 65_536;
 
 impl<'a, A: Book, B: Book> Upgrade<'a, A, B> {
     /// The lines of a command with this head. Where there is none, each message of it that A's side sends is valid under B.
@@ -36,9 +31,13 @@ impl<'a, A: Book, B: Book> Upgrade<'a, A, B> {
         requires within { command < length (definitions (A.meaning self.now.a.now)) }
         requires head { IfSome (slice_get (definitions (A.meaning self.now.a.now)) command)
             (λ c. head_in c.head ≡ Some head.now) }
-        ensures { IfOk result (λ breaks. breaks.lines.items ≡ [] → ∥ AreValid
+        ensures command { IfOk result (λ breaks. breaks.command ≡ command) }
+        ensures all { IfOk result (λ breaks. breaks.lines.items ≡ [] → ∥ AreValid
             (A.meaning self.now.a.now) (B.meaning self.now.b.now)
             self.now.sends self.now.unknown command ∥₁) }
+        ensures each { IfOk result (λ breaks. EachConfirmedBreaks
+            (A.meaning self.now.a.now) (B.meaning self.now.b.now)
+            self.now.sends self.now.unknown command breaks.lines.items) }
     {
         let found = self.found(alloc, command, head)?;
         let breaks = self.unless_certified(alloc, command, head, found)?;
@@ -48,18 +47,19 @@ impl<'a, A: Book, B: Book> Upgrade<'a, A, B> {
     /// The lines that a walk over the sites finds.
     fn found(&self, alloc: Global, command: DefId, head: &Head) -> Result<Breaks, AllocError>
         requires { command < length (definitions (A.meaning self.now.a.now)) }
+        ensures { IfOk result (λ breaks. breaks.command ≡ command) }
     {
-        let base = length_least(self.a, command, &self.lengths);
+        let exits = Exits::of(alloc, self.a, command, &self.telling, &self.lengths)?;
         let apps = told_apps(alloc, self.a, &self.apps, command, head)?;
-        let mut walk = Walk::new(alloc, self, head.code, head.class)?;
+        let mut walk = Walk::new(alloc, self, &exits);
         let mut lines = Vec::new(alloc);
-        if base <= ROOM {
+        if exits.base <= ROOM {
             for app in &apps {
-                self.begin_app(&mut walk, &mut lines, head, *app, base)?;
+                self.begin_app(&mut walk, &mut lines, head, *app, exits.base)?;
             }
         }
         walk.finish(alloc)?;
-        self.push_level_lines(alloc, &walk, &mut lines)?;
+        self.push_level_lines(alloc, head, &walk, &mut lines)?;
         self.push_own_lines(alloc, &walk, &mut lines)?;
         lines.sort_by_key(|line| (line.site, line.rank))?;
         Ok(Breaks {
@@ -82,7 +82,8 @@ impl<'a, A: Book, B: Book> Upgrade<'a, A, B> {
         requires within { command < length (definitions (A.meaning self.now.a.now)) }
         requires head { IfSome (slice_get (definitions (A.meaning self.now.a.now)) command)
             (λ c. head_in c.head ≡ Some head.now) }
-        ensures { IfOk result (λ breaks. breaks.lines.items ≡ [] → ∥ AreValid
+        ensures command { IfOk result (λ breaks. breaks.command ≡ found.command) }
+        ensures all { IfOk result (λ breaks. breaks.lines.items ≡ [] → ∥ AreValid
             (A.meaning self.now.a.now) (B.meaning self.now.b.now)
             self.now.sends self.now.unknown command ∥₁) }
     {
@@ -183,32 +184,47 @@ impl<'a, A: Book, B: Book> Upgrade<'a, A, B> {
     fn push_level_lines(
         &self,
         alloc: Global,
+        head: &Head,
         walk: &Walk<'_, 'a, A, B>,
         lines: &mut Vec<Line>,
     ) -> Result<(), AllocError> {
         for (number, site) in walk.sites.iter().enumerate() {
-            if site.is_read {
-                let found = self.lines_at(alloc, walk.code, walk.class, site.place)?;
-                push_found(lines, number, site.way, &found)?;
+            match site.place {
+                Place::Command { app, .. } => {
+                    if site.is_read {
+                        let found = self.lines_of_command(alloc, head, app)?;
+                        push_found(lines, number, 0, &found)?;
+                    }
+                }
+                Place::Group { key, .. } => {
+                    if let Some(inner) = self.inner_of(key) {
+                        push_found(lines, number, site.way, &inner.lines)?;
+                    }
+                }
             }
         }
         Ok(())
     }
 
-    fn lines_at(
+    fn lines_of_command(
         &self,
         alloc: Global,
-        code: u32,
-        class: Class,
-        place: Place,
+        head: &Head,
+        app: u32,
     ) -> Result<Vec<LevelLine>, AllocError> {
-        let Some(a_def) = self.definition_of_a(code, class, place) else {
+        let Some(a_def) = command_of(self.a, head.code, head.class, app) else {
             return Ok(Vec::new(alloc));
         };
-        let Some(b_def) = self.definition_of_b(code, class, place) else {
+        let Some(b_def) = command_of(self.b, head.code, head.class, app) else {
             return Ok(Vec::new(alloc));
         };
         self.lines_between(alloc, a_def, b_def)
+    }
+
+    /// The level of a group that is one for both dictionaries.
+    fn inner_of(&self, key: Key) -> Option<&Inner> {
+        let place = self.telling.places.get(&key).copied()?;
+        self.outlooks.get(place)?.inner.as_ref()
     }
 
     /// How the levels of a definition of A break the rules of one of B.
@@ -230,94 +246,6 @@ impl<'a, A: Book, B: Book> Upgrade<'a, A, B> {
             (rules_in (B.meaning self.now.b.now) b_def) lines.items) }
     {
         level_lines(alloc, self.a, a_def, self.b, b_def, &self.lengths)
-    }
-
-    /// Adds what AVPs break by themselves.
-    fn push_own_lines(
-        &self,
-        alloc: Global,
-        walk: &Walk<'_, 'a, A, B>,
-        lines: &mut Vec<Line>,
-    ) -> Result<(), AllocError> {
-        for (place, reach) in &walk.reached {
-            if let Some(own) = self.telling.own.get(*place) {
-                let key = own.key;
-                let breaks = avp_breaks(self.a, self.b, key, self.sends, self.unknown);
-                push_head_line(lines, *place, key, &breaks, reach)?;
-                self.push_data_line(alloc, lines, *place, key, &breaks, reach)?;
-            }
-        }
-        Ok(())
-    }
-
-    fn push_data_line(
-        &self,
-        alloc: Global,
-        lines: &mut Vec<Line>,
-        place: usize,
-        key: Key,
-        breaks: &AvpBreaks,
-        reach: &Reach,
-    ) -> Result<(), AllocError> {
-        let (cause, length) = match breaks.data {
-            DataBreak::Fits => return Ok(()),
-            DataBreak::Groups { .. } => return Ok(()),
-            DataBreak::Data(data) => {
-                let cause = Cause::Format {
-                    key,
-                    data: Some(data),
-                };
-                (cause, self.with_data(key, reach.length, &data))
-            }
-            DataBreak::LeastLevel => (Cause::Format { key, data: None }, reach.length),
-            DataBreak::Undecided => (self.tried(alloc, key)?, reach.length),
-        };
-        if length <= ROOM {
-            lines.push(Line {
-                site: reach.site,
-                cause,
-                length,
-                standing: Standing::Unchecked,
-                rank: (3, place),
-            })?;
-        }
-        Ok(())
-    }
-
-    /// What a message takes with these data in the place of a shortest AVP.
-    fn with_data(&self, key: Key, length: u64, data: &Witness) -> u64 {
-        let head = shortest_head(key);
-        let own = head.saturating_add(data.as_slice().len() as u64);
-        let least = self.lengths.listed(key);
-        length
-            .saturating_sub(least)
-            .saturating_add(own.saturating_add(3) / 4 * 4)
-    }
-
-    /// Whether B's leaf refuses the data of a shortest AVP.
-    fn tried(&self, alloc: Global, key: Key) -> Result<Cause, AllocError> {
-        let Some(format) = format_of(self.b, key) else {
-            return Ok(Cause::LevelAsLeaf { key });
-        };
-        if MOST_TRIED < self.lengths.listed(key) {
-            return Ok(Cause::LevelAsLeaf { key });
-        }
-        let mut bytes = Vec::new(alloc);
-        push_least(&mut bytes, self.a, &self.lengths.least, key)?;
-        let head = shortest_head(key) as usize;
-        Ok(if is_refused(format, &bytes, head) {
-            Cause::Format { key, data: None }
-        } else {
-            Cause::LevelAsLeaf { key }
-        })
-    }
-}
-
-/// Whether the format refuses what stands behind so many bytes.
-fn is_refused(format: &Format, bytes: &[u8], head: usize) -> bool {
-    match bytes.get(head..) {
-        Some(data) => accepts(format, data) != Leaf::Fine,
-        None => false,
     }
 }
 
@@ -347,28 +275,5 @@ fn push_found(
             push_line(lines, site, Cause::Level(*line), length)?;
         }
     }
-    Ok(())
-}
-
-/// Adds what the head of an AVP breaks.
-fn push_head_line(
-    lines: &mut Vec<Line>,
-    place: usize,
-    key: Key,
-    breaks: &AvpBreaks,
-    reach: &Reach,
-) -> Result<(), AllocError> {
-    let (cause, rank) = match breaks.head {
-        Some(HeadBreak::Unknown { m }) => (Cause::Unknown { key, m }, 1),
-        Some(HeadBreak::MBit { m }) => (Cause::MBit { key, m }, 2),
-        None => return Ok(()),
-    };
-    lines.push(Line {
-        site: reach.site,
-        cause,
-        length: reach.length,
-        standing: Standing::Unchecked,
-        rank: (rank, place),
-    })?;
     Ok(())
 }

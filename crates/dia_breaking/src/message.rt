@@ -14,7 +14,7 @@ use dia_wire::{
 use dia_witness::Witness;
 use std::alloc::{AllocError, Global};
 
-/// A level in which a group is being written: the parts that follow it.
+/// A level within which a group is being written, with the parts that follow the group.
 #[derive(Drop)]
 struct Open {
     rest: Vec<Part>,

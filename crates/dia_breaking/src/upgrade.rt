@@ -6,11 +6,13 @@ ghost use Rattle.dia_sites.specs.Selection.{AreValid};
 ghost use Rattle.dia_compat.specs.Tests.{rules_in};
 ghost use Rattle.dia_least.specs.Floors.{AreFloors};
 ghost use Rattle.dia_levels.specs.Levels.{FirstIsShortest};
+ghost use Rattle.dia_breaking.specs.Confirmed.{EachConfirmedBreaks};
 ghost use Rattle.dia_breaking.specs.Headers.{AreApps};
 ghost use Rattle.dia_breaking.specs.Lengths.{listed_length, other_length};
 ghost use Rattle.dia_breaking.specs.Telling.{IsTelling};
 
 use crate::apps::BothApps;
+use crate::exits::{Outlook, outlooks};
 use crate::heads::{Head, head_of};
 use crate::keys::Telling;
 use crate::lengths::Lengths;
@@ -29,6 +31,8 @@ pub struct Upgrade<'a, A: Book, B: Book> {
     pub(crate) lengths: Lengths<'a, A>,
     pub(crate) telling: Box<Telling>,
     pub(crate) apps: Box<BothApps>,
+    /// What there is to tell, by its places.
+    pub(crate) outlooks: Vec<Outlook>,
     ghost same: { lengths.book.now ≡ a.now },
     ghost sender: { lengths.sends ≡ sends },
     ghost shortest: { (x y : ℕ) → FirstIsShortest (other_length (A.meaning a.now) lengths.sends
@@ -60,6 +64,7 @@ impl<'a, A: Book, B: Book> Upgrade<'a, A, B> {
         let telling = Box::new(alloc, Telling::new(alloc, a, b, sends, unknown)?)?;
         let named = BothApps::new(alloc, a, b)?;
         let apps = Box::new(alloc, named)?;
+        let outlooks = outlooks(alloc, a, b, &telling, &lengths)?;
         Ok(Upgrade {
             a,
             b,
@@ -68,6 +73,7 @@ impl<'a, A: Book, B: Book> Upgrade<'a, A, B> {
             lengths,
             telling,
             apps,
+            outlooks,
         })
     }
 
@@ -79,22 +85,30 @@ impl<'a, A: Book, B: Book> Upgrade<'a, A, B> {
     }
 
     /// All that can break the messages of a command of A. Where there is no line, each message of the command that A's side
-    /// sends is valid under B. The error comes only where memory was refused.
+    /// sends is valid under B, and each line that is told as confirmed has a message that breaks it. The error comes only where
+    /// memory was refused.
     pub fn breaks(&self, alloc: Global, command: DefId) -> Result<Breaks, AllocError>
         requires { command < length (definitions (A.meaning self.now.a.now)) }
         ensures all { IfOk result (λ breaks. breaks.lines.items ≡ [] → ∥ AreValid
             (A.meaning self.now.a.now) (B.meaning self.now.b.now)
             self.now.sends self.now.unknown command ∥₁) }
+        ensures each { IfOk result (λ breaks. EachConfirmedBreaks
+            (A.meaning self.now.a.now) (B.meaning self.now.b.now)
+            self.now.sends self.now.unknown command breaks.lines.items) }
+        ensures command { IfOk result (λ breaks. breaks.command ≡ command) }
     {
         match head_of(self.a, command) {
             Some(head) => self.lines_of(alloc, command, &head),
-            None => Ok(Breaks {
-                command,
-                code: 0,
-                class: Class::Answer,
-                sites: Vec::new(alloc),
-                lines: Vec::new(alloc),
-            }),
+            None => {
+                let lines = Vec::new(alloc);
+                Ok(Breaks {
+                    command,
+                    code: 0,
+                    class: Class::Answer,
+                    sites: Vec::new(alloc),
+                    lines,
+                })
+            }
         }
     }
 }

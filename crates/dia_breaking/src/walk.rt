@@ -1,14 +1,9 @@
-//! The sites of a command, those with the shortest way first, and the shortest way to each AVP of which there is something to tell.
-ghost use Rattle.std.specs.Prelude.{◌<◌, IfSome, length};
-ghost use Rattle.dia_book.specs.Dictionary.{definitions};
-
-use crate::books::{group_of, rules_of};
-use crate::levels::LevelCost;
+//! The sites of a command, those with the shortest way first, and the shortest way to each AVP of which there is something
+//! to tell.
+use crate::exits::Exits;
 use crate::line::{Place, Site};
 use crate::upgrade::Upgrade;
-use dia_book::{Book, Class, DRule, DefId, Key, Slot};
-use dia_least::shortest_head;
-use dia_levels::Costs;
+use dia_book::Book;
 use std::alloc::{AllocError, Global};
 use std::cmp::Reverse;
 use std::collections::{BinaryHeap, HashMap, HashSet};
@@ -21,13 +16,13 @@ pub(crate) const ROOM: u64 = 16_777_192;
 /// wildcard lets in only what no other has let in.
 const MOST_EVENTS: u32 = 1 << 26;
 
-/// What comes next in a walk, by the length of a message that goes so far.
+/// What comes next in a walk, by the length of a message that goes so far. AVPs and groups are told by their places.
 #[derive(Clone, Copy, Debug)]
 enum Event {
-    /// A level of this place.
-    Enter(Place),
-    /// The AVPs that come through the wildcard of a site.
-    Wild { site: usize },
+    /// A level of a group, in a level of the outer site.
+    Enter { group: usize, outer: usize },
+    /// The AVPs that come through the wildcard of a site: that of a group, or of the command.
+    Wild { site: usize, group: Option<usize> },
 }
 
 /// A way to an AVP: the site in whose level it stands, and what the AVPs of a shortest message with a shortest one take.
@@ -41,40 +36,30 @@ pub(crate) struct Reach {
 #[derive(Drop)]
 pub(crate) struct Walk<'u, 'a, A: Book, B: Book> {
     upgrade: &'u Upgrade<'a, A, B>,
-    pub code: u32,
-    pub class: Class,
+    /// Where the levels of the command lead.
+    exits: &'u Exits,
     pub sites: Vec<Site>,
     /// The shortest way that is known to each AVP of which there is something to tell, by its place.
     pub reached: HashMap<usize, Reach>,
-    /// The AVPs, by their places, that no wildcard has let in yet.
+    /// Whether a wildcard has let AVPs in, and the places of those that none has let in yet.
+    is_open: bool,
     rest: Vec<usize>,
-    entered: HashSet<Key>,
     events: Vec<Event>,
     waiting: BinaryHeap<Reverse<(u64, usize)>>,
 }
 
 impl<'u, 'a, A: Book, B: Book> Walk<'u, 'a, A, B> {
-    pub fn new(
-        alloc: Global,
-        upgrade: &'u Upgrade<'a, A, B>,
-        code: u32,
-        class: Class,
-    ) -> Result<Self, AllocError> {
-        let mut rest = Vec::new(alloc);
-        for place in 0..upgrade.telling.own.len() {
-            rest.push(place)?;
-        }
-        Ok(Walk {
+    pub fn new(alloc: Global, upgrade: &'u Upgrade<'a, A, B>, exits: &'u Exits) -> Self {
+        Walk {
             upgrade,
-            code,
-            class,
+            exits,
             sites: Vec::new(alloc),
             reached: HashMap::new(alloc),
-            rest,
-            entered: HashSet::new(alloc),
+            is_open: false,
+            rest: Vec::new(alloc),
             events: Vec::new(alloc),
             waiting: BinaryHeap::new(alloc),
-        })
+        }
     }
 
     /// Lets an event come at a length, if a message has room for it.
@@ -97,12 +82,9 @@ impl<'u, 'a, A: Book, B: Book> Walk<'u, 'a, A, B> {
         Ok(site)
     }
 
-    /// Goes through the level of a command at its site.
+    /// Goes through the level of the command at a site of it.
     pub fn begin(&mut self, site: usize) -> Result<(), AllocError> {
-        match self.def_at(site) {
-            Some(def) => self.go_through(site, 0, def),
-            None => Ok(()),
-        }
+        self.go_through(site, 0, self.exits, None)
     }
 
     /// Goes on until nothing is left to go through.
@@ -112,76 +94,75 @@ impl<'u, 'a, A: Book, B: Book> Walk<'u, 'a, A, B> {
                 break;
             };
             match self.events.get(number).copied() {
-                Some(Event::Enter(place)) => self.enter(place, length)?,
-                Some(Event::Wild { site }) => self.open(alloc, site, length)?,
+                Some(Event::Enter { group, outer }) => self.enter(group, outer, length)?,
+                Some(Event::Wild { site, group }) => self.open(alloc, site, group, length)?,
                 None => {}
             }
         }
         Ok(())
     }
 
-    /// Comes to a place, unless it was there before.
-    fn enter(&mut self, place: Place, way: u64) -> Result<(), AllocError> {
-        if let Place::Group { key, .. } = place {
-            if self.entered.insert(key)? {
-                let site = self.add_site(place, way, true)?;
-                if let Some(def) = group_of(self.upgrade.a, key) {
-                    self.go_through(site, way, def)?;
-                }
-            }
+    /// Comes to the level of a group, unless a shorter way to it is known.
+    fn enter(&mut self, group: usize, outer: usize, way: u64) -> Result<(), AllocError> {
+        let upgrade = self.upgrade;
+        let Some(outlook) = upgrade.outlooks.get(group) else {
+            return Ok(());
+        };
+        let Some(inner) = &outlook.inner else {
+            return Ok(());
+        };
+        if !self.is_by(group, outer) {
+            return Ok(());
         }
-        Ok(())
+        let place = Place::Group {
+            key: outlook.key,
+            outer,
+        };
+        let site = self.add_site(place, way, true)?;
+        self.go_through(site, way, &inner.exits, Some(group))
+    }
+
+    /// Whether the shortest way that is known to the AVP is by this site.
+    fn is_by(&self, place: usize, site: usize) -> bool {
+        match self.reached.get(&place) {
+            Some(reach) => reach.site == site,
+            None => false,
+        }
     }
 
     /// Comes to the AVPs that the rules of the site's level list, and expects those that come through its wildcard.
-    fn go_through(&mut self, site: usize, way: u64, def: DefId) -> Result<(), AllocError>
-        requires { def < length (definitions (A.meaning self.old.upgrade.now.a.now)) }
-    {
-        let upgrade = self.upgrade;
-        let cost = LevelCost::new(upgrade.a, def, &upgrade.lengths);
-        for rule in rules_of(upgrade.a, def) {
-            self.come_to_rule(site, way, &cost, rule)?;
-        }
-        self.expect(way.saturating_add(cost.beside), Event::Wild { site })
-    }
-
-    fn come_to_rule(
+    fn go_through(
         &mut self,
         site: usize,
         way: u64,
-        cost: &LevelCost,
-        rule: &DRule,
+        exits: &Exits,
+        group: Option<usize>,
     ) -> Result<(), AllocError> {
-        let Some(key) = rule.key else {
-            return Ok(());
-        };
-        let Some(place) = self.upgrade.telling.places.get(&key).copied() else {
-            return Ok(());
-        };
-        let length = cost.with_listed(rule, self.upgrade.lengths.listed(key));
-        self.come_to(place, key, way.saturating_add(length), site)
+        for (place, length) in &exits.listed {
+            self.come_to(*place, way.saturating_add(*length), site)?;
+        }
+        self.expect(
+            way.saturating_add(exits.beside),
+            Event::Wild { site, group },
+        )
     }
 
     /// Comes to an AVP, if a message has room for it there, and leads into its group.
-    fn come_to(
-        &mut self,
-        place: usize,
-        key: Key,
-        length: u64,
-        site: usize,
-    ) -> Result<(), AllocError> {
+    fn come_to(&mut self, place: usize, length: u64, site: usize) -> Result<(), AllocError> {
         if ROOM < length || self.is_nearer(place, length) {
             return Ok(());
         }
         self.reached.insert(place, Reach { site, length })?;
-        if self.is_group(place) {
-            let inner = self.upgrade.lengths.listed(key);
-            let way = length
-                .saturating_sub(inner)
-                .saturating_add(shortest_head(key));
-            self.expect(way, Event::Enter(Place::Group { key, outer: site }))?;
+        match self.least_level(place) {
+            Some(least) => {
+                let enter = Event::Enter {
+                    group: place,
+                    outer: site,
+                };
+                self.expect(length.saturating_sub(least), enter)
+            }
+            None => Ok(()),
         }
-        Ok(())
     }
 
     /// Whether a way to the AVP is known that is no longer.
@@ -192,65 +173,70 @@ impl<'u, 'a, A: Book, B: Book> Walk<'u, 'a, A, B> {
         }
     }
 
-    fn is_group(&self, place: usize) -> bool {
-        match self.upgrade.telling.own.get(place) {
-            Some(own) => own.is_group,
-            None => false,
-        }
-    }
-
-    /// The definition of A by which the level of a site is read.
-    fn def_at(&self, site: usize) -> Option<DefId>
-        ensures { IfSome result (λ def. def < length
-            (definitions (A.meaning self.now.upgrade.now.a.now))) }
-    {
-        let site = self.sites.get(site)?;
-        self.upgrade
-            .definition_of_a(self.code, self.class, site.place)
+    /// The length of a least level, if both dictionaries see one in the AVP.
+    fn least_level(&self, place: usize) -> Option<u64> {
+        let inner = self.upgrade.outlooks.get(place)?.inner.as_ref()?;
+        Some(inner.least)
     }
 
     /// Comes to the AVPs that come through the wildcard of a site. `length` is what a message takes beside one.
-    fn open(&mut self, alloc: Global, site: usize, length: u64) -> Result<(), AllocError> {
-        let rest = mem::replace(&mut self.rest, Vec::new(alloc));
-        for place in &rest {
-            self.come_to_or_leave(site, length, *place)?;
-        }
-        Ok(())
-    }
-
-    fn come_to_or_leave(
+    fn open(
         &mut self,
+        alloc: Global,
         site: usize,
+        group: Option<usize>,
         length: u64,
-        place: usize,
     ) -> Result<(), AllocError> {
-        let Some(key) = self.key_at(place) else {
+        let rest = self.take_rest(alloc)?;
+        if rest.is_empty() {
             return Ok(());
-        };
-        if self.is_listed(site, key) {
-            return self.leave(place);
         }
-        let other = self.upgrade.lengths.other(key);
-        self.come_to(place, key, length.saturating_add(other), site)
-    }
-
-    fn key_at(&self, place: usize) -> Option<Key> {
-        match self.upgrade.telling.own.get(place) {
-            Some(own) => Some(own.key),
-            None => None,
+        let listed = self.listed_by(alloc, group)?;
+        for place in &rest {
+            if listed.contains(place) {
+                self.rest.push(*place)?;
+            } else {
+                self.come_to_other(*place, length, site)?;
+            }
         }
-    }
-
-    /// Whether A's definition at the site lists the key.
-    fn is_listed(&self, site: usize, key: Key) -> bool {
-        match self.def_at(site) {
-            Some(def) => self.upgrade.a.slot(def, key) != Slot::Unlisted,
-            None => true,
-        }
-    }
-
-    fn leave(&mut self, place: usize) -> Result<(), AllocError> {
-        self.rest.push(place)?;
         Ok(())
+    }
+
+    /// Those that no wildcard has let in.
+    fn take_rest(&mut self, alloc: Global) -> Result<Vec<usize>, AllocError> {
+        if self.is_open {
+            return Ok(mem::replace(&mut self.rest, Vec::new(alloc)));
+        }
+        self.is_open = true;
+        (0..self.upgrade.outlooks.len()).collect(alloc)
+    }
+
+    /// Those that the rules of a group list, or of the command.
+    fn listed_by(&self, alloc: Global, group: Option<usize>) -> Result<HashSet<usize>, AllocError> {
+        let mut listed = HashSet::new(alloc);
+        if let Some(exits) = self.exits_of(group) {
+            for (place, _) in &exits.listed {
+                listed.insert(*place)?;
+            }
+        }
+        Ok(listed)
+    }
+
+    fn exits_of(&self, group: Option<usize>) -> Option<&Exits> {
+        match group {
+            Some(place) => {
+                let inner = self.upgrade.outlooks.get(place)?.inner.as_ref()?;
+                Some(&inner.exits)
+            }
+            None => Some(self.exits),
+        }
+    }
+
+    /// Comes to an AVP that the wildcard lets in.
+    fn come_to_other(&mut self, place: usize, beside: u64, site: usize) -> Result<(), AllocError> {
+        match self.upgrade.outlooks.get(place) {
+            Some(outlook) => self.come_to(place, beside.saturating_add(outlook.other), site),
+            None => Ok(()),
+        }
     }
 }

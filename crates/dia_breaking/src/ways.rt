@@ -12,6 +12,7 @@ pub(crate) struct Way {
 #[derive(Clone, Copy, Debug)]
 pub(crate) struct Other {
     pub key: Key,
-    /// Where what stands beside it and this are too long together, there is no room for it, or its group leads to a site.
+    /// Where this and what stands beside the AVP are longer together than any message, there is no room for the AVP, or its
+    /// group leads to a known site.
     pub spare: u64,
 }

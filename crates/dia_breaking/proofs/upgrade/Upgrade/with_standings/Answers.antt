@@ -1,0 +1,28 @@
+use Rattle.std.proofs.Common.{◌≡◌, ℕ, List, arith}
+use Rattle.dia_breaking.specs.Confirmed.{IsConfirmed}
+use Rattle.dia_breaking.specs.declared.line.Line.{Line}
+use Rattle.dia_breaking.specs.declared.line.Standing.TheVariants.{Confirmed}
+use Rattle.dia_breaking.proofs.Lists.{all_more, length_more, none_of}
+use Rattle.dia_breaking.proofs.upgrade.Upgrade.with_standings.Goals as goal
+
+pub loop-line-init : goal.loop-line-init
+loop-line-init g c =
+    let up = c.args.self.now in (
+      omega arith,
+      none_of (λ (line : Line). line.standing ≡ Confirmed
+          → (bytes : List ℕ) × IsConfirmed (g.A.Book.meaning up.a.now) (g.B.Book.meaning up.b.now) up.sends up.unknown bytes c.args.breaks.command) c.new-lines.result.items c.new-lines.ensures.items,
+    )
+
+pub loop-line-preserved : goal.loop-line-preserved
+loop-line-preserved g c =
+    let up = c.args.self.now in
+    let old = c.loop-line.lines.items in
+    let is = c.in_ok-push.ensures.items in (
+      length_more old _ _ _ is c.loop-line.invariant.0,
+      all_more (λ (line : Line). line.standing ≡ Confirmed
+          → (bytes : List ℕ) × IsConfirmed (g.A.Book.meaning up.a.now) (g.B.Book.meaning up.b.now) up.sends up.unknown bytes c.args.breaks.command) old _ _ is c.loop-line.invariant.1
+          c.in_ok-standing.ensures,
+    )
+
+pub returns-clause-each : goal.returns-clause-each
+returns-clause-each g c = c.loop-line.invariant.1

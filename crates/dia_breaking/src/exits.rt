@@ -1,0 +1,131 @@
+//! What is the same for all commands: where the levels of groups lead, and how they break.
+ghost use Rattle.std.specs.Prelude.{◌<◌, ℕ, length};
+ghost use Rattle.dia_book.specs.Dictionary.{definitions};
+ghost use Rattle.dia_compat.specs.Tests.{rules_in};
+ghost use Rattle.dia_levels.specs.Levels.{FirstIsShortest};
+ghost use Rattle.dia_breaking.specs.Lengths.{other_length};
+
+use crate::books::{group_of, rules_of};
+use crate::keys::Telling;
+use crate::lengths::Lengths;
+use crate::levels::LevelCost;
+use dia_book::{Book, DRule, DefId, Key};
+use dia_least::shortest_head;
+use dia_levels::{Costs, Line as LevelLine, level_lines};
+use std::alloc::{AllocError, Global};
+
+/// The AVPs of which there is something to tell, in the levels of a definition of A.
+#[derive(Drop)]
+pub(crate) struct Exits {
+    /// The length of a least level.
+    pub base: u64,
+    /// Those that a rule lists, by their places, each with the length of a least level that has one.
+    pub listed: Vec<(usize, u64)>,
+    /// What a least level takes beside one that comes through the wildcard.
+    pub beside: u64,
+}
+
+impl Exits {
+    pub fn of<A: Book>(
+        alloc: Global,
+        a: &A,
+        def: DefId,
+        telling: &Telling,
+        lengths: &Lengths<'_, A>,
+    ) -> Result<Self, AllocError>
+        requires { def < length (definitions (A.meaning a.now)) }
+    {
+        let cost = LevelCost::new(a, def, lengths);
+        let mut listed = Vec::new(alloc);
+        for rule in rules_of(a, def) {
+            if let Some(exit) = exit_by(rule, telling, lengths, &cost) {
+                listed.push(exit)?;
+            }
+        }
+        Ok(Exits {
+            base: cost.base,
+            listed,
+            beside: cost.beside,
+        })
+    }
+}
+
+/// The place of the rule's key, if there is something to tell of it, with the length of a least level that has one.
+fn exit_by<A: Book>(
+    rule: &DRule,
+    telling: &Telling,
+    lengths: &Lengths<'_, A>,
+    cost: &LevelCost,
+) -> Option<(usize, u64)> {
+    let key = rule.key?;
+    let place = telling.places.get(&key).copied()?;
+    Some((place, cost.with_listed(rule, lengths.listed(key))))
+}
+
+/// The level of a group that is one for both dictionaries.
+#[derive(Drop)]
+pub(crate) struct Inner {
+    /// The length of a least level.
+    pub least: u64,
+    pub exits: Exits,
+    /// How A's levels break B's rules.
+    pub lines: Vec<LevelLine>,
+}
+
+/// An AVP of which there is something to tell.
+#[derive(Drop)]
+pub(crate) struct Outlook {
+    pub key: Key,
+    /// The length of a shortest one that comes through a wildcard.
+    pub other: u64,
+    pub inner: Option<Inner>,
+}
+
+/// Those of which there is something to tell, by their places.
+pub(crate) fn outlooks<A: Book, B: Book>(
+    alloc: Global,
+    a: &A,
+    b: &B,
+    telling: &Telling,
+    lengths: &Lengths<'_, A>,
+) -> Result<Vec<Outlook>, AllocError>
+    requires { (x y : ℕ) → FirstIsShortest (other_length (A.meaning lengths.now.book.now)
+        lengths.now.sends lengths.now.entries.items) lengths.now.others.items
+        (rules_in (A.meaning a.now) x) (rules_in (B.meaning b.now) y) }
+{
+    let mut outlooks = Vec::new(alloc);
+    for own in &telling.own {
+        let key = own.key;
+        outlooks.push(Outlook {
+            key,
+            other: lengths.other(key),
+            inner: inner_of(alloc, a, b, key, telling, lengths)?,
+        })?;
+    }
+    Ok(outlooks)
+}
+
+fn inner_of<A: Book, B: Book>(
+    alloc: Global,
+    a: &A,
+    b: &B,
+    key: Key,
+    telling: &Telling,
+    lengths: &Lengths<'_, A>,
+) -> Result<Option<Inner>, AllocError>
+    requires { (x y : ℕ) → FirstIsShortest (other_length (A.meaning lengths.now.book.now)
+        lengths.now.sends lengths.now.entries.items) lengths.now.others.items
+        (rules_in (A.meaning a.now) x) (rules_in (B.meaning b.now) y) }
+{
+    let Some(a_def) = group_of(a, key) else {
+        return Ok(None);
+    };
+    let Some(b_def) = group_of(b, key) else {
+        return Ok(None);
+    };
+    Ok(Some(Inner {
+        least: lengths.listed(key).saturating_sub(shortest_head(key)),
+        exits: Exits::of(alloc, a, a_def, telling, lengths)?,
+        lines: level_lines(alloc, a, a_def, b, b_def, lengths)?,
+    }))
+}
