@@ -1,5 +1,5 @@
 -- A pair of definitions is closed where what is computed of it says so.
-use Rattle.std.proofs.Common.{◌≡◌, ℕ, ◌+◌, ◌-◌, ◌<◌, ◌≤◌, max, Bool, true, false, not, List, [], ◌∷◌, Option, Some, None, refl, sym, ap, subst, ◌∙◌, arith, inl, inr}
+use Rattle.std.proofs.Common.{◌≡◌, ℕ, ◌+◌, ◌-◌, ◌<◌, ◌≤◌, Bool, true, false, not, List, [], ◌∷◌, Option, Some, None, refl, sym, ap, subst, ◌∙◌, arith, inl, inr}
 use Rattle.std.specs.Prelude.{◌⊎◌, ◌&&◌, ◌||◌, ◌==◌, nat_le, nat_lt, is_some, IsSome, All, Contains, slice_get, option_and_then, if◌then◌else◌}
 use Rattle.std.specs.List.{list_all, list_any}
 use Rattle.std.specs.Option.{option_map_or}
@@ -37,7 +37,7 @@ use Rattle.dia_breaking.specs.Closed.{IsSentKeys, IsClosedSite}
 use Rattle.dia_breaking.specs.ClosedRules.{AreWaysOf, IsFirst, first_spare, is_closed_at, is_closed_rule, is_safe, leads, spare_by_way, spare_of}
 use Rattle.dia_breaking.specs.Closing.{HoldsWays, IsClosedBy}
 use Rattle.dia_breaking.specs.Lengths.{length_of_entry, listed_length, other_length}
-use Rattle.dia_breaking.specs.LevelCosts.{IsCostOf, with_listed, with_other}
+use Rattle.dia_breaking.specs.LevelCosts.{IsCostOf, with_listed}
 use Rattle.dia_breaking.specs.Telling.{IsTelling, IsUntold, StandsFor, told}
 use Rattle.dia_breaking.proofs.Shortest.{any_least, lists_some, unlisted}
 use Rattle.dia_breaking.proofs.LevelCosts.{one_is_shortest}

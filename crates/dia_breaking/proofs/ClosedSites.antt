@@ -1,16 +1,15 @@
 -- At closed sites nothing breaks.
-use Rattle.std.proofs.Common.{◌≡◌, ℕ, zero, suc, ◌+◌, ◌≤◌, List, [], ◌∷◌, length, map, Option, Some, None, refl, sym, ap, subst, arith, inl, inr}
-use Rattle.std.specs.Prelude.{◌⊎◌, Contains, unwrap_or, sum_by}
+use Rattle.std.proofs.Common.{ℕ, zero, suc, ◌+◌, ◌≤◌, List, [], ◌∷◌, length, map, Option, Some, None, refl, sym, ap, subst, arith, inl, inr}
+use Rattle.std.specs.Prelude.{Contains, unwrap_or, sum_by}
 use Rattle.std.proofs.lemmas.List.Sums.{sum_by-cons}
 use Rattle.dia_wire.specs.declared.Key.{Key}
 use Rattle.dia_wire.specs.Wire.{PlainAvp, key_of, head_length, avp_length, padded_length}
 use Rattle.dia_book.specs.declared.DRule.{DRule}
-use Rattle.dia_book.specs.Dictionary.{Dictionary, PlainDefinition}
+use Rattle.dia_book.specs.Dictionary.{Dictionary}
 use Rattle.dia_policy.specs.declared.Unknown.{Unknown}
 use Rattle.dia_policy.specs.declared.Sends.{Sends}
-use Rattle.dia_check.specs.Walks.{group_at}
 use Rattle.dia_sites.specs.Sent.{IsSentWithin}
-use Rattle.dia_sites.specs.Sites.{Site, IsLevelOf, IsSafeSite, HasSite, AreSafe}
+use Rattle.dia_sites.specs.Sites.{Site, IsLevelOf, IsSafeSite, AreSafe}
 use Rattle.dia_sites.proofs.Members.{IsIn, in_contains, contains_in, in_all}
 use Rattle.dia_sites.proofs.Room.{keeps}
 use Rattle.dia_entries.proofs.Alone.{keys_alone}

@@ -1,18 +1,17 @@
 -- What is computed of a definition's levels in which an AVP stands is no more than what such levels take.
 use Rattle.std.proofs.Common.{◌≡◌, ℕ, zero, suc, ◌+◌, ◌-◌, ◌*◌, ◌≤◌, min, max, Bool, true, false, List, [], ◌∷◌, Option, Some, None, refl, sym, ap, subst, ◌∙◌, arith, inl, inr}
-use Rattle.std.specs.Prelude.{◌⊎◌, nat_eq, nat_le, nat_lt, ◌||◌, ◌&&◌, not, if◌then◌else◌, fold, find, slice_get, length, Contains}
+use Rattle.std.specs.Prelude.{◌⊎◌, nat_eq, nat_le, nat_lt, ◌||◌, ◌&&◌, not, if◌then◌else◌, fold, find, slice_get, length}
 use Rattle.std.specs.Option.{option_eq, option_map_or}
-use Rattle.std.proofs.lemmas.Bool.{leb-true, leb-false, ltb-true, ltb-false, le-leb}
+use Rattle.std.proofs.lemmas.Bool.{leb-true, ltb-true, ltb-false, le-leb}
 use Rattle.std.proofs.Math.Dec.{eqb-suc-zero}
-use Rattle.std.proofs.lemmas.Option.{none-some, slice_get_within}
+use Rattle.std.proofs.lemmas.Option.{slice_get_within}
 use Rattle.std.proofs.Math.Nat.{mul-le-mul_right}
 use Rattle.dia_wire.specs.declared.Key.{Key}
 use Rattle.dia_book.specs.declared.DRule.{DRule}
-use Rattle.dia_book.specs.Dictionary.{Dictionary, PlainDefinition, AreRules, definitions, lists_key}
+use Rattle.dia_book.specs.Dictionary.{Dictionary, PlainDefinition, AreRules, definitions}
 use Rattle.dia_check.specs.Valid.{is_listed}
 use Rattle.dia_compat.specs.Below.{HasRule}
 use Rattle.dia_compat.specs.Tests.{rules_in, rule_of, wildcard_of}
-use Rattle.dia_compat.proofs.RunsOfFixedRules.{IsIn}
 use Rattle.dia_compat.proofs.MemberCounts.{in_contains}
 use Rattle.dia_compat.proofs.PlacedInSecond.{is_listed_by}
 use Rattle.dia_levels.specs.Levels.{FirstIsShortest, OtherIsShortest}

@@ -1,33 +1,33 @@
 -- What is told of the keys that are sent is all that there is to tell.
-use Rattle.std.proofs.Common.{◌≡◌, ℕ, zero, suc, ◌+◌, ◌<◌, Bool, true, false, List, [], ◌∷◌, ◌++◌, length, Option, Some, None, refl, sym, ap, subst, ◌∙◌, arith, inl, inr}
+use Rattle.std.proofs.Common.{◌≡◌, ℕ, zero, suc, Bool, true, false, List, [], ◌∷◌, ◌++◌, length, Option, Some, None, refl, sym, ap, subst, ◌∙◌, arith, inl, inr}
 use Rattle.std.specs.Prelude.{◌⊎◌, ◌&&◌, ◌||◌, is_some, IsSome, MatchOption, ⊤, Contains, slice_get, option_and_then, if◌then◌else◌}
 use Rattle.std.specs.HashMap.{get}
 use Rattle.std.proofs.lemmas.Bool.{and_from, both_ways}
-use Rattle.std.proofs.lemmas.Option.{none-some, slice_get_within}
+use Rattle.std.proofs.lemmas.Option.{none-some}
 use Rattle.dia_wire.specs.declared.Key.{Key}
 use Rattle.dia_data.specs.Leaf.{IsLeaf}
 use Rattle.dia_book.specs.Keys.{same_key}
-use Rattle.dia_book.specs.Dictionary.{Dictionary, DictEntry, PlainDefinition, entry_of}
+use Rattle.dia_book.specs.Dictionary.{Dictionary, DictEntry, entry_of}
 use Rattle.dia_book.proofs.SameKeys.{same_key-refl, same_key-true}
 use Rattle.dia_policy.specs.declared.Unknown.{Unknown}
 use Rattle.dia_policy.specs.declared.Sends.{Sends}
 use Rattle.dia_policy.specs.declared.Sends.TheVariants.{Any, Known, Listed}
 use Rattle.dia_check.specs.Valid.{Fits as AvpFits, IsAccepted, IsLevel, MHolds, known}
 use Rattle.dia_check.specs.Admission.{HasFlags}
-use Rattle.dia_sites.specs.Sent.{own_policy, AreBytes, IsSentLevel, IsSentWithin}
+use Rattle.dia_sites.specs.Sent.{own_policy, IsSentLevel, IsSentWithin}
 use Rattle.dia_entries.specs.declared.breaking.AvpBreaks.{AvpBreaks}
 use Rattle.dia_entries.specs.declared.breaking.HeadBreak.{HeadBreak}
 use Rattle.dia_entries.specs.declared.breaking.DataBreak.TheVariants.{Fits}
-use Rattle.dia_entries.specs.Sent.{group_of, IsSentData, IsAcceptedData}
+use Rattle.dia_entries.specs.Sent.{group_of}
 use Rattle.dia_entries.specs.Breaks.{AcceptsFlags, IsDataBreak, IsHeadBreak, IsSilent}
 use Rattle.dia_entries.specs.Laws.{FitKeyAlone}
 use Rattle.dia_entries.proofs.Alone.{key_alone}
 use Rattle.dia_compat.proofs.RunsOfFixedRules.{IsIn}
-use Rattle.dia_compat.proofs.MemberCounts.{in_at, at_in, in_contains, contains_in, in_left, in_right, in_append}
+use Rattle.dia_compat.proofs.MemberCounts.{in_at, in_contains, contains_in, in_append}
 use Rattle.dia_breaking.specs.declared.keys.Own.{Own}
 use Rattle.dia_breaking.specs.declared.keys.Telling.{Telling}
 use Rattle.dia_breaking.specs.SentKeys.{AreSentKeys, IsStrange}
-use Rattle.dia_breaking.specs.Telling.{Adds, AreGroups, AreTold, IsTelling, IsToldOf, IsUntold, StandsFor, is_told}
+use Rattle.dia_breaking.specs.Telling.{Adds, AreTold, IsTelling, IsToldOf, IsUntold, StandsFor, is_told}
 
 -- ---- keys that a dictionary doesn't know
 

@@ -5,7 +5,6 @@ use Rattle.std.specs.List.{list_any}
 use Rattle.dia_wire.specs.declared.Key.{Key}
 use Rattle.dia_book.specs.Keys.{same_key}
 use Rattle.dia_book.specs.declared.DRule.{DRule}
-use Rattle.dia_check.specs.Valid.{is_listed}
 use Rattle.dia_sites.specs.Selection.{max_body}
 use Rattle.dia_least.specs.Floors.{shortest_head}
 use Rattle.dia_levels.specs.LevelTests.{too_long}

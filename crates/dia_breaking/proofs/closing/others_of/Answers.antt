@@ -1,5 +1,4 @@
-use Rattle.std.proofs.Common.{rules, map, subst}
-use Rattle.std.specs.HashMap.{get}
+use Rattle.std.proofs.Common.{rules, subst}
 use Rattle.std.specs.List.Sorted.{IsPermutation}
 use Rattle.std.proofs.lemmas.List.Sorted.{IsNonDecreasingBy-from_sort_by_key}
 use Rattle.dia_breaking.proofs.closing.others_of.Goals as goal

@@ -1,10 +1,8 @@
-use Rattle.std.proofs.Common.{◌≡◌, ℕ, List, Some}
+use Rattle.std.proofs.Common.{◌≡◌, Some}
 use Rattle.std.specs.Prelude.{slice_get}
 use Rattle.dia_book.specs.Dictionary.{PlainDefinition, definitions}
 use Rattle.dia_compat.proofs.ReachedKeys.{at_some}
-use Rattle.dia_sites.specs.Sites.{Site}
-use Rattle.dia_sites.specs.Selection.{IsMetBy}
-use Rattle.dia_breaking.specs.Headers.{head_in, apps_of, IsMetWithin, AreMetWithin, IsOtherMet, HoldsDefs}
+use Rattle.dia_breaking.specs.Headers.{head_in, apps_of, IsMetWithin, AreMetWithin, IsOtherMet}
 use Rattle.dia_breaking.proofs.Lists.{when_found, when_both}
 use Rattle.dia_breaking.proofs.ToldHeaders.{met_own, met_open}
 use Rattle.dia_breaking.proofs.headers.told_defs.Goals as goal

@@ -1,4 +1,4 @@
-use Rattle.std.proofs.Common.{◌≡◌, ℕ, List, [], ◌∷◌, ◌++◌, ap, sym, ◌∙◌}
+use Rattle.std.proofs.Common.{ℕ, List, [], ◌∷◌, ◌++◌, ap, sym, ◌∙◌}
 use Rattle.std.specs.List.{filter_map}
 use Rattle.dia_book.specs.declared.Class.{Class}
 use Rattle.dia_book.specs.Dictionary.{PlainDefinition, plain_definition}

@@ -1,6 +1,5 @@
 use Rattle.std.proofs.Common.{sym, subst, take}
 use Rattle.std.proofs.lemmas.List.{take_more}
-use Rattle.dia_wire.specs.declared.Key.{Key}
 use Rattle.dia_breaking.specs.Telling.{AreTold}
 use Rattle.dia_breaking.proofs.Tellings.{one_more_told}
 use Rattle.dia_breaking.proofs.keys.Telling.add_all.Goals as goal

@@ -1,4 +1,4 @@
-use Rattle.std.proofs.Common.{ℕ, sym, subst, ◌∙◌}
+use Rattle.std.proofs.Common.{ℕ, subst, ◌∙◌}
 use Rattle.dia_breaking.specs.Confirmed.{EachConfirmedBreaks}
 use Rattle.dia_breaking.proofs.Lists.{when_ok, none_left}
 use Rattle.dia_breaking.proofs.upgrade.Upgrade.lines_of.Goals as goal
