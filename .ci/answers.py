@@ -1,9 +1,7 @@
-"""What is explained on standard error of answers that aren't yes: rows of `check`, `refute` and `compare`.
+"""What is explained on standard error of answers that aren't yes: rows of `show`, `check`, `refute` and `compare`.
 
 Each row is the words, the files, the status, and the text of standard error. Places, lengths and counts are worked out by
 hand from RFC 6733 sections 3 and 4.1 and from the texts below."""
-
-import re
 
 D = """; credit control
 %avp Session-Id 263 UTF8String must
@@ -93,7 +91,7 @@ def nest(depth, inner):
     return inner
 
 
-SENDER = "mend the sender"
+CUT = "hint: its end may be in the next packet, or the capture has cut the packet: docs/CAPTURES.md says how to take whole messages out\n"
 LENGTHS = "mend the sender; either this AVP's Length is wrong, or the padding or the Length of the AVP in front of it, or that of the group"
 OCTETS = "mend the sender, or declare OctetString, which accepts any data"
 
@@ -186,13 +184,13 @@ BODIES = [
     (BASE + avp(420, length=7), 68, "no AVP begins here: the AVP Length is 7, and the head alone has 8 bytes", "CCR",
      "68: code 420 (000001a4), flags 40 M, length 7 (000007)", None, LENGTHS, ""),
     (unit(avp(420, number(1), length=40)), 84,
-     "no AVP begins here: the AVP Length is 40, and 12 bytes are left of Requested-Service-Unit", RSU,
+     "no AVP begins here: the AVP Length is 40, and with 12 bytes left of Requested-Service-Unit it may be at most 12", RSU,
      "84: code 420 (000001a4), flags 40 M, length 40 (000028), data 00000001", None, LENGTHS, ""),
     (BASE + avp(456, bytes(4)), 76,
      "no AVP begins here: 4 bytes are left of Multiple-Services-Credit-Control, and an AVP has at least 8", MSCC,
      "76: bytes 00000000", None, LENGTHS, ""),
     (BASE + avp(456, avp(9005, b"x", 0, 32473, pad=False)), 76,
-     "no AVP begins here: the AVP Length is 13, and 13 bytes are left of Multiple-Services-Credit-Control, too few for the padding to a multiple of four",
+     "no AVP begins here: the AVP Length is 13, and with 13 bytes left of Multiple-Services-Credit-Control it may be at most 12, since the padding to a multiple of four has to be there",
      MSCC, "76: code 9005 (0000232d), flags 80 V, length 13 (00000d), vendor 32473 (00007ed9), data 78", None,
      "the last AVP of a group is padded as well, and the group's AVP Length counts that padding: mend the sender", ""),
 ]
@@ -252,6 +250,28 @@ def checks():
     yield "check --lines --unknown refused --levels 3 d.txt l.txt", files, 1, line.format(" --unknown refused --levels 3")
 
 
+# Body; byte; why no AVP begins there; the groups around it; the AVP at hand.
+SHOWN = [
+    (BASE + avp(420, length=7), 68, "the AVP Length is 7, and the head alone has 8 bytes", "", "code 420 (000001a4), flags 40 M, length 7 (000007)"),
+    # the groups before it are closed again
+    (unit(avp(420, number(1))) + avp(9999, b"abcd", length=64), 96, "the AVP Length is 64, and with 12 bytes left of the message it may be at most 12", "",
+     "code 9999 (0000270f), flags 40 M, length 64 (000040), data 61626364"),
+    (unit(avp(420, number(1)), avp(421, bytes(8), length=20)), 96, "the AVP Length is 20, and with 16 bytes left of Requested-Service-Unit it may be at most 16",
+     ", Multiple-Services-Credit-Control at 68, Requested-Service-Unit at 76", "code 421 (000001a5), flags 40 M, length 20 (000014), data 0000000000000000"),
+    (BASE + avp(456, bytes(4)), 76, "4 bytes are left of Multiple-Services-Credit-Control, and an AVP has at least 8", ", Multiple-Services-Credit-Control at 68", "bytes 00000000"),
+    (nest(9, avp(420, length=4)), 92, "the AVP Length is 4, and the head alone has 8 bytes",
+     "".join(f", Nest at {20 + 8 * level}" for level in range(9)), "code 420 (000001a4), flags 40 M, length 4 (000004)"),
+]
+
+
+def shows():
+    for body, byte, why, groups, hand in SHOWN:
+        # the dictionary doesn't have the command, and need not
+        spelt = message(body, code=999)
+        wanted = f"{spot(spelt, byte)}: byte {byte}: no AVP begins here: {why}\n  in the message{groups}\n  at {byte}: {hand}\nhint: {LENGTHS}\n"
+        yield "show --dict d.txt m.hex", {"d.txt": D, "m.hex": digits(spelt)}, 1, wanted
+
+
 def refutes():
     narrow, wide = D, D.replace("  { CC-Time }\n", "  [ CC-Time ]\n")
 
@@ -274,7 +294,12 @@ def refutes():
                          missing.format("CC-Time"), "a.txt")
     swapped = "hint: it is valid under b.txt: the dictionary of the side that sends the message stands first\n"
     yield row(spelt, 1, first + "fault 5005 at 84\n" + note + swapped)
-    yield row(message(BASE)[:-4], 1, first + "truncated\nm.hex: 64 bytes; the Message Length is 68, so the message is cut off\n")
+    yield row(message(BASE)[:-4], 1, first + f"truncated\nm.hex: 64 bytes; the Message Length is 68, so the message is cut off\n{CUT}")
+    files = {"a.txt": narrow, "b.txt": wide, "l.txt": message(BASE).hex() + "\n"}
+    line = "hint: `sed -n NUMBERp l.txt | diacmd refute{} a.txt b.txt -` explains the answer of the line with that number\n"
+    yield "refute --lines a.txt b.txt l.txt", files, 1, line.format("")
+    yield "refute --lines --unknown refused --levels 3 a.txt b.txt l.txt", files, 1, line.format(" --unknown refused --levels 3")
+    yield "refute --lines b.txt a.txt l.txt", files | {"l.txt": message(unit()).hex() + "\n"}, 0, ""
 
 
 X, Y = "%avp X 9001 Unsigned32 any\n", "%avp Y 9002 Unsigned32 any\n"
@@ -358,7 +383,6 @@ TESTS = [
     (text(X, ["[ X ]"], "< Diameter Header: 302, REQ, 7 >"), text(X, ["[ X ]"], "< Diameter Header: 302, REQ, 8 >"), "command T = T\navp X = X\n", 1, HEADS,
      [("a", "2:2", "T is for requests of code 302 and application 7")],
      "b.txt has no such definition for application 7, nor one without an application: add one there"),
-    (text(X, ["[ X ]"]), text(X, ["[ X ]"]), "command T = U\navp X = X\n", 1, HEADS, [("b", None, "there is no command U here")], PROPOSE),
 ]
 
 # Declaration of X in A and in B; what stands where; hint. The pair is that of X.
@@ -379,6 +403,17 @@ DECLARATIONS = [
 ]
 
 
+# Table; the line of its first pair that fails; the test; what is told of the names that the dictionaries don't have.
+NAMES = [
+    ("command T = U\navp X = X\n", 1, HEADS, f"t.tab:1:13: b.txt has no command U\nhint: {PROPOSE}\n"),
+    ("avp X = X\navp Z = X\n", 2, DECLARED, f"t.tab:2:5: a.txt has no AVP Z\nhint: {PROPOSE}\n"),
+    ("command t = T\navp X = X\n", 1, HEADS, "t.tab:1:9: a.txt has no command t\nhint: did you mean T?\n"),
+    ("avp X = T\ncommand X = U\n", 2, HEADS,
+     f"t.tab:2:9: a.txt has no command X\nhint: X is an AVP there: write avp for command\nt.tab:1:9: b.txt has no AVP T\n"
+     f"hint: T is a command there: write command for avp\nt.tab:2:13: b.txt has no command U\nhint: {PROPOSE}\n"),
+]
+
+
 def compares():
     def row(a, b, table, line, test, places, hint, command=" T", options=""):
         indent = len(table.split("\n")[line - 1]) - len(table.split("\n")[line - 1].lstrip())
@@ -386,11 +421,6 @@ def compares():
         for side, place, said in places:
             wanted += part(f"{side}.txt", a if side == "a" else b, place, said) if place else f"{side}.txt: {said}\n"
         wanted += f"hint: {hint}\nhint: `diacmd breaking{options and ' ' + options.strip()} a.txt b.txt{command}` lists all that breaks, if anything does\n"
-        for side, _, said in places:
-            # names that a dictionary lacks are told behind the pair
-            for kind, name in re.findall(r"^there is no (AVP|command) (\S+) here$", said):
-                column = table.split("\n")[line - 1].index(f"{name} =" if side == "a" else f"= {name}") + (1 if side == "a" else 3)
-                wanted += f"t.tab:{line}:{column}: {side}.txt has no {kind} {name}\n"
         return f"compare {options}a.txt b.txt t.tab", {"a.txt": a, "b.txt": b, "t.tab": table}, 1, wanted
 
     for each in TESTS:
@@ -398,7 +428,10 @@ def compares():
     for first, second, said, hint in DECLARATIONS:
         places = [("a", "1:6", said[0]), ("b", "1:6", said[1])]
         yield row(f"%avp {first}\n", f"%avp {second}\n", "avp X = X\n", 1, DECLARED, places, hint, "")
-    yield row(X, X, "avp X = X\navp Z = X\n", 2, DECLARED, [("a", None, "there is no AVP Z here")], PROPOSE, "")
+    for table, line, test, told in NAMES:
+        a = text(X + Y, ["[ X ]"])
+        wanted = f"t.tab:{line}:1: this pair fails the test {test}\n" + told
+        yield "compare a.txt b.txt t.tab", {"a.txt": a, "b.txt": a, "t.tab": table}, 1, wanted
     group = X + Y + "<G> ::= < AVP Header: 9009 >\n  [ X ]\n"
     places = [("a", "5:7", "G sends 0..* of Y, by * [ Y ]"), ("b", "5:5", "G accepts 0..1 of Y, by [ Y ]")]
     yield row(group + "  * [ Y ]\n", group + "  [ Y ]\n", "avp G = G\navp X = X\navp Y = Y\n", 1, COUNTS, places, f"in b.txt write * [ Y ]{KEEP}", "")
@@ -410,6 +443,7 @@ def compares():
 
 
 def rows():
+    yield from shows()
     yield from checks()
     yield from refutes()
     yield from compares()

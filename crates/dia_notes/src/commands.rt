@@ -108,7 +108,7 @@ fn push_list(out: &mut String, dictionary: &str, commands: &[&str]) -> Result<()
     write!(out, "; `diacmd render {dictionary}` prints them\n")
 }
 
-/// Adds that the second dictionary has the first of the missing names that it has.
+/// Adds the first of the missing names that the second dictionary has.
 fn push_found_in_second(
     alloc: Global,
     out: &mut String,

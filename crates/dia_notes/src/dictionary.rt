@@ -1,12 +1,19 @@
 //! What is told of a dictionary that is refused.
 
-use crate::meaning::push_meaning;
-use crate::place::{push_excerpt, push_place};
-use crate::texts::push_syntax;
-use crate::walking::walk_over;
+mod expecting;
+mod finding;
+mod hints;
+mod meaning;
+mod parts;
+mod texts;
+mod wrongs;
+
 use dia_ccf::{CcfFault, MAX_TEXT, parse};
 use dia_io::Input;
+use dia_places::{push_excerpt, push_place, walk_over};
+use meaning::push_meaning;
 use std::alloc::{AllocError, Global};
+use texts::push_syntax;
 
 /// Adds the note of a dictionary, and tells whether it is refused.
 pub fn push_dictionary(

@@ -1,43 +1,17 @@
-//! Notes: what is told on standard error of an input that is refused, and of an answer that isn't yes.
+//! Notes: what is told on standard error of inputs that are refused.
 //!
-//! `explain` makes the text of a command that ended with this exit, from the inputs again.
+//! A note tells the place, what stands there, what was expected, and what to do.
 #![tactic(auto)]
 
-mod answers;
-mod avp_bytes;
-mod avp_faults;
-mod books;
 mod commands;
-mod comparing;
 mod dictionary;
-mod expecting;
-mod explaining;
-mod fault_path;
-mod faults;
-mod finding;
-mod grammar;
-mod header_faults;
-mod hints;
-mod lines;
-mod meaning;
 mod messages;
-mod nearest;
-mod pair_heads;
-mod pair_rules;
-mod pair_wildcards;
-mod pairs;
-mod parts;
-mod place;
-mod rows;
-mod rule_faults;
-mod rule_text;
-mod sides;
 mod strangers;
 mod tables;
-mod texts;
-mod tokens;
 mod vocabulary;
-mod walking;
-mod wrongs;
 
-pub use explaining::{Words, explain};
+pub use commands::{push_no_commands, push_unknown_commands};
+pub use dictionary::push_dictionary;
+pub use messages::{push_length, push_message};
+pub use strangers::{NamedInput, push_strangers};
+pub use tables::{push_no_pairs, push_table};

@@ -1,8 +1,7 @@
 //! What is told of a message that is refused.
 
-use crate::place::{back, push_excerpt, push_place};
-use crate::tokens::is_white;
 use dia_io::Input;
+use dia_places::{back, count_digits, is_white, place_of_byte, push_excerpt, push_place};
 use dia_policy::MAX_MESSAGE_TEXT;
 use dia_wire::{HEADER_LENGTH, HeadFault, read_header};
 use std::alloc::{AllocError, Global};
@@ -31,17 +30,13 @@ pub fn push_message(
         )?;
         return push_two_digits_hint(out, text);
     }
-    push_length(alloc, out, name, text)
+    push_text_length(alloc, out, name, text)
 }
 
 /// The place of the first byte that is neither a digit nor white space.
 fn first_bad(text: &[u8]) -> Option<usize> {
     text.iter()
         .position(|byte| !byte.is_ascii_hexdigit() && !is_white(*byte))
-}
-
-fn count_digits(text: &[u8]) -> usize {
-    text.iter().filter(|byte| !is_white(**byte)).count()
 }
 
 fn push_no_digit(
@@ -59,12 +54,7 @@ fn push_no_digit(
         );
     }
     if is_binary(text) {
-        let kind = kind_of_file(text);
-        return write!(
-            out,
-            "{name}: {kind}, and not hexadecimal text\n\
-             hint: write `xxd -p {name}` into a file: a message is its hexadecimal digits\n"
-        );
+        return push_binary(out, name, text);
     }
     push_place(out, name, text, at)?;
     out.push_str("this is no hexadecimal digit\n")?;
@@ -73,11 +63,36 @@ fn push_no_digit(
     write!(out, "hint: {hint}\n")
 }
 
-/// Whether bytes are no text of a message: one of the first is a control character or above ASCII.
+/// Whether bytes are no text: they have a control character that isn't white space, or aren't UTF-8.
 fn is_binary(text: &[u8]) -> bool {
-    text.iter()
-        .take(4096)
-        .any(|byte| *byte >= 0x80 || (*byte < b' ' && !is_white(*byte)))
+    str::from_utf8(text).is_err()
+        || text.iter().any(|byte| *byte < b' ' && !is_white(*byte) && *byte != b'\x0c')
+}
+
+/// Adds what bytes are that aren't text.
+fn push_binary(out: &mut String, name: &str, text: &[u8]) -> Result<(), AllocError> {
+    if text.starts_with(b"\xff\xfe") || text.starts_with(b"\xfe\xff") {
+        return write!(
+            out,
+            "{name}: the text is UTF-16\nhint: save the file as UTF-8\n"
+        );
+    }
+    if text.starts_with(b"\x1f\x8b") {
+        return write!(
+            out,
+            "{name}: the file is packed by gzip\nhint: `gunzip` unpacks it\n"
+        );
+    }
+    let kind = if text.first() == Some(&1) {
+        "these are the bytes of a message"
+    } else {
+        "these are bytes"
+    };
+    write!(
+        out,
+        "{name}: {kind}, and not hexadecimal text\n\
+         hint: write `xxd -p {name}` into a file: a message is its hexadecimal digits\n"
+    )
 }
 
 /// Whether a text begins as a file of packets does (pcap or pcapng).
@@ -85,17 +100,11 @@ fn is_capture(text: &[u8]) -> bool {
     text.starts_with(b"\xd4\xc3\xb2\xa1")
         || text.starts_with(b"\xa1\xb2\xc3\xd4")
         || text.starts_with(b"\x4d\x3c\xb2\xa1")
+        || text.starts_with(b"\xa1\xb2\x3c\x4d")
         || text.starts_with(b"\x0a\x0d\x0d\x0a")
 }
 
-fn kind_of_file(text: &[u8]) -> &'static str {
-    if text.first() == Some(&1) {
-        "these are the bytes of a message"
-    } else {
-        "these are bytes"
-    }
-}
-
+/// What to do about a character that is no digit.
 fn hint_of_digit(text: &[u8], at: usize) -> &'static str {
     let rest = back(text, at);
     if rest.starts_with(b":") && has_offset(text, at) {
@@ -104,16 +113,37 @@ fn hint_of_digit(text: &[u8], at: usize) -> &'static str {
     if begins_with_offset(text) {
         return NUMBERED;
     }
-    if text.starts_with(b"%avp") || text.starts_with(b"<") {
-        return "this looks like a dictionary: the dictionary stands before the message";
+    match hint_of_text(text) {
+        Some(hint) => hint,
+        None => hint_of_sign(rest),
+    }
+}
+
+/// What a text is, if it is none of a message at all.
+fn hint_of_text(text: &[u8]) -> Option<&'static str> {
+    if text.windows(4).any(|front| front == b"%avp".as_slice() || front == b" ::=".as_slice()) {
+        return Some("this looks like a dictionary: the dictionary stands before the message");
     }
     if text.starts_with(b"@base") {
-        return "a message stands here, and @base names a dictionary";
+        return Some("a message stands here, and @base names a dictionary");
+    }
+    if text.starts_with(b"command ") || text.starts_with(b"avp ") {
+        return Some("this looks like a table of pairs, and a message is wanted here");
+    }
+    if text.starts_with(b"header flags ") {
+        return Some(
+            "this is what `show` wrote, and it isn't read back: keep the digits of the message",
+        );
+    }
+    if text.starts_with(b"<") || text.starts_with(b"{\"") || text.starts_with(b"[") {
+        return Some(
+            "this looks like XML or JSON: docs/CAPTURES.md says how to take the messages out of a capture",
+        );
     }
     if is_base64(text) {
-        return "this looks like base64: `base64 -d FILE | xxd -p` writes the digits";
+        return Some("this looks like base64: `base64 -d FILE | xxd -p` writes the digits");
     }
-    hint_of_sign(rest)
+    None
 }
 
 fn hint_of_sign(rest: &[u8]) -> &'static str {
@@ -123,6 +153,10 @@ fn hint_of_sign(rest: &[u8]) -> &'static str {
         Some(b':' | b',' | b'-' | b'{' | b'[' | b'"' | b'\'') => {
             "write the digits with nothing but white space between them"
         }
+        Some(b'O' | b'o') => "this is the letter O: write the digit 0",
+        Some(b'l' | b'I') => "this is a letter: write the digit 1",
+        Some(0x80..) =>
+            "this character isn't ASCII: write the digits with nothing but spaces between them",
         _ => "a message is its bytes as hexadecimal digits, as `xxd -p FILE` prints them",
     }
 }
@@ -133,16 +167,14 @@ fn begins_with_offset(text: &[u8]) -> bool {
     zeros >= 4 && back(text, zeros).starts_with(b"  ")
 }
 
-/// Whether all of a text has the letters of base64, and some that no hexadecimal text has.
+/// Whether all of a text has the letters of base64, and more of them than an eighth aren't hexadecimal.
 fn is_base64(text: &[u8]) -> bool {
-    text.len() >= 16
-        && text.iter().all(|byte| {
-            byte.is_ascii_alphanumeric()
-                || is_white(*byte)
-                || *byte == b'+'
-                || *byte == b'/'
-                || *byte == b'='
-        })
+    let others = text.iter().filter(|byte| !byte.is_ascii_hexdigit()).count();
+    text.len() >= 16 && others > text.len() / 8 && text.iter().all(|byte| is_of_base64(*byte))
+}
+
+fn is_of_base64(byte: u8) -> bool {
+    byte.is_ascii_alphanumeric() || b"+/=\r\n".contains(&byte)
 }
 
 /// Whether a run of at least four digits begins a line and ends at the place.
@@ -174,8 +206,20 @@ pub fn is_numbered(text: &[u8]) -> bool {
         || (text.starts_with(b"0000000 ") && second.starts_with(b"00000"))
 }
 
-/// Adds the note of bytes that are no message, or that are more or fewer than one.
+/// Adds the note of a text whose bytes are no message, or are more or fewer than one.
 pub fn push_length(
+    alloc: Global,
+    out: &mut String,
+    name: &str,
+    input: &Input,
+) -> Result<(), AllocError> {
+    match input {
+        Input::Bytes(text) => push_text_length(alloc, out, name, text),
+        Input::TooLong => Ok(()),
+    }
+}
+
+fn push_text_length(
     alloc: Global,
     out: &mut String,
     name: &str,
@@ -201,7 +245,8 @@ pub fn push_length(
         Err(HeadFault::Length) => {
             write!(
                 out,
-                "{name}: the Message Length, bytes 1 to 3, is under 20 or no multiple of four\n"
+                "{name}: the Message Length, bytes 1 to 3, is under 20 or no multiple of four\n\
+                 hint: mend the sender: it counts the header, and the AVPs with their padding\n"
             )
         }
         Err(_) => {
@@ -229,7 +274,8 @@ fn push_more_or_less(
     if bytes < length {
         return write!(
             out,
-            "{name}: {bytes} bytes; the Message Length is {length}, so the message is cut off\n"
+            "{name}: {bytes} bytes; the Message Length is {length}, so the message is cut off\n\
+             hint: its end may be in the next packet, or the capture has cut the packet: docs/CAPTURES.md says how to take whole messages out\n"
         );
     }
     let Some(at) = place_of_byte(text, length) else {
@@ -242,22 +288,13 @@ fn push_more_or_less(
     )?;
     push_excerpt(alloc, out, text, at)?;
     if back(text, at).starts_with(b"01") {
-        out.push_str("hint: a second message seems to begin here: give one message at a time\n")?;
+        return out.push_str(
+            "hint: a second message seems to begin here: give one message at a time\n",
+        );
     }
-    Ok(())
-}
-
-/// The place in the text of the first digit of a byte.
-pub fn place_of_byte(text: &[u8], byte: usize) -> Option<usize> {
-    let digits = text.iter().enumerate().filter(|row| !is_white(*row.1));
-    let mut seen = 0usize;
-    for (at, _) in digits {
-        if seen / 2 == byte {
-            return Some(at);
-        }
-        seen = seen.saturating_add(1);
-    }
-    None
+    out.push_str(
+        "hint: take out what stands behind the message, or mend its Message Length, bytes 1 to 3\n",
+    )
 }
 
 /// Reads the first bytes that a text spells.

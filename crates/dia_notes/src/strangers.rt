@@ -1,9 +1,8 @@
 //! The names of a table that its dictionaries don't have.
 
-use crate::lines::{Word, words_of};
-use crate::place::push_place;
 use crate::vocabulary::{Vocabulary, source_of};
 use dia_io::Input;
+use dia_places::{Word, push_place, words_of};
 use std::alloc::{AllocError, Global};
 
 /// The most names that are told of a side.
@@ -11,7 +10,7 @@ const MOST: usize = 50;
 
 /// Which names of the pairs are looked at.
 #[derive(Clone, Copy, PartialEq, Eq)]
-pub enum Side {
+enum Side {
     First,
     Second,
 }
@@ -23,23 +22,41 @@ pub struct NamedInput<'a> {
     pub input: &'a Input,
 }
 
-/// Adds the names of one side of a table that the dictionary of that side doesn't have.
+/// Adds the names of a table that its dictionaries don't have, and what to do about those that are like no other.
 pub fn push_strangers(
+    alloc: Global,
+    out: &mut String,
+    table: &NamedInput<'_>,
+    first: &NamedInput<'_>,
+    second: &NamedInput<'_>,
+) -> Result<(), AllocError> {
+    let of_first = push_side(alloc, out, table, Side::First, first)?;
+    let of_second = push_side(alloc, out, table, Side::Second, second)?;
+    if of_first || of_second {
+        out.push_str(
+            "hint: the first name of a pair is one of the first dictionary, the second one of the second; `diacmd propose` writes a table\n",
+        )?;
+    }
+    Ok(())
+}
+
+/// Adds the names of one side of a table that the dictionary of that side doesn't have. Answers whether one is like no other.
+fn push_side(
     alloc: Global,
     out: &mut String,
     table: &NamedInput<'_>,
     side: Side,
     dictionary: &NamedInput<'_>,
-) -> Result<(), AllocError> {
+) -> Result<bool, AllocError> {
     let Input::Bytes(text) = table.input else {
-        return Ok(());
+        return Ok(false);
     };
     match source_of(alloc, dictionary.input)? {
         Some(source) => {
             let known = Vocabulary::of(alloc, &source)?;
             push_among(out, table.name, text, side, dictionary.name, &known)
         }
-        None => Ok(()),
+        None => Ok(false),
     }
 }
 
@@ -50,20 +67,24 @@ fn push_among(
     side: Side,
     dictionary: &str,
     known: &Vocabulary<'_>,
-) -> Result<(), AllocError> {
+) -> Result<bool, AllocError> {
     let mut start = 0usize;
     let mut count = 0usize;
+    let mut is_odd = false;
     for line in text.split(|byte| *byte == b'\n') {
         if let Some(pair) = stranger(text, start, side, known) {
             count = count.saturating_add(1);
             if count <= MOST {
                 push_place(out, table, text, pair.word.at)?;
-                push_stranger(out, dictionary, known, &pair)?;
+                if !push_stranger(out, dictionary, known, &pair)? {
+                    is_odd = true;
+                }
             }
         }
         start = start.saturating_add(line.len()).saturating_add(1);
     }
-    push_rest(out, dictionary, count)
+    push_rest(out, dictionary, count)?;
+    Ok(is_odd)
 }
 
 /// A name of a pair.
@@ -108,12 +129,13 @@ fn stranger<'a>(
     })
 }
 
+/// Adds a name that the dictionary doesn't have. Answers whether it is told what is meant.
 fn push_stranger(
     out: &mut String,
     dictionary: &str,
     known: &Vocabulary<'_>,
     named: &Named<'_>,
-) -> Result<(), AllocError> {
+) -> Result<bool, AllocError> {
     let name = named.name;
     let what = if named.is_command { "command" } else { "AVP" };
     write!(out, "{dictionary} has no {what} {name}\n")?;
@@ -123,18 +145,18 @@ fn push_stranger(
         known.nearest_avp(name)
     };
     if let Some(near) = near {
-        return write!(out, "hint: did you mean {near}?\n");
-    }
-    if named.is_command && known.avps.has(name) {
-        return write!(out, "hint: {name} is an AVP there: write avp for command\n");
-    }
-    if !named.is_command && known.commands.has(name) {
-        return write!(
+        write!(out, "hint: did you mean {near}?\n")?;
+    } else if named.is_command && known.avps.has(name) {
+        write!(out, "hint: {name} is an AVP there: write avp for command\n")?;
+    } else if !named.is_command && known.commands.has(name) {
+        write!(
             out,
             "hint: {name} is a command there: write command for avp\n"
-        );
+        )?;
+    } else {
+        return Ok(false);
     }
-    Ok(())
+    Ok(true)
 }
 
 /// Adds how many names more there are.

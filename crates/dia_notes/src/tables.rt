@@ -1,11 +1,12 @@
 //! What is told of a table that is refused.
 
 use crate::dictionary::push_not_text;
-use crate::explaining::Words;
-use crate::lines::{PairWords, Word, start_of_line, words_of};
-use crate::place::{back, push_excerpt, push_place, push_shown};
 use dia_compat::{MAX_NAME, MAX_PAIRS, MAX_TABLE, TableFault, parse_table};
 use dia_io::Input;
+use dia_places::{
+    InputNames, PairWords, Word, back, push_excerpt, push_place, push_shown, start_of_line,
+    words_of,
+};
 use std::alloc::{AllocError, Global};
 
 /// How many bytes of a word are told.
@@ -124,7 +125,7 @@ fn hint_of_text(text: &[u8]) -> Option<&'static str> {
         );
     }
     if text.starts_with(b"%avp") || text.starts_with(b"<") {
-        return Some("this looks like a dictionary: the order of the words is A B TABLE");
+        return Some(DICTIONARY);
     }
     if text.starts_with(b"@base") {
         return Some("a table stands here, and @base names a dictionary");
@@ -132,12 +133,23 @@ fn hint_of_text(text: &[u8]) -> Option<&'static str> {
     None
 }
 
+const DICTIONARY: &str = "this looks like a dictionary: the order of the words is A B TABLE";
+
 fn hint_of_kind(word: &[u8]) -> Option<&'static str> {
     if word.eq_ignore_ascii_case(b"command") || word.eq_ignore_ascii_case(b"avp") {
         return Some("command and avp are written in small letters");
     }
     if word.eq_ignore_ascii_case(b"commands") || word.eq_ignore_ascii_case(b"avps") {
         return Some("a line has one pair: command A = B, or avp A = B");
+    }
+    if word == b"%avp".as_slice() || word.starts_with(b"<") {
+        return Some(DICTIONARY);
+    }
+    if word.starts_with(b"%") {
+        return Some("command and avp stand without %");
+    }
+    if word.contains(&b',') {
+        return Some("spaces stand between the words, and no commas: a line is command A = B");
     }
     if word.iter().all(|byte| byte.is_ascii_hexdigit()) && word.len() >= 8 {
         return Some("this looks like a message in hexadecimal, and a table is wanted here");
@@ -204,14 +216,18 @@ fn push_limit(
 }
 
 /// Adds that a table lists no command, where it lists none.
-pub fn push_no_pairs(out: &mut String, words: &Words<'_>, input: &Input) -> Result<(), AllocError> {
+pub fn push_no_pairs(
+    out: &mut String,
+    words: &InputNames<'_>,
+    input: &Input,
+) -> Result<(), AllocError> {
     let Input::Bytes(text) = input else {
         return Ok(());
     };
     if lists_command(text) {
         return Ok(());
     }
-    let Words {
+    let InputNames {
         first,
         second,
         table,

@@ -1,8 +1,8 @@
 //! The names that a dictionary has.
 
-use crate::nearest::{nearest_command, nearest_name};
 use dia_ccf::{Decl, Def, Source, parse};
 use dia_io::Input;
+use dia_places::{nearest_command, nearest_name};
 use indexmap::IndexSet;
 use std::alloc::{AllocError, Global};
 

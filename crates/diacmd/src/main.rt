@@ -1,10 +1,12 @@
 //! `diacmd`: the workbench for Diameter dictionaries and messages, on the command line.
 //!
-//! `main` reads the command line and the inputs, calls `run` with standard output, and returns the status. `run` decides
-//! what is written and how the program ends. It is a function over values, and so are those that decide the rest.
+//! `main` reads the command line and the inputs, does what is asked for with standard output, explains the answer on standard
+//! error, and returns the status. `run`, `breaking`, `check_lines` and their like decide what is written and how the program
+//! ends. They are functions over values, and so are those that decide the rest.
 #![tactic(auto)]
 
 mod captured;
+mod notes;
 #[cfg(test)]
 mod tests;
 
@@ -14,9 +16,10 @@ use dia_cli::{
     parse_words,
 };
 use dia_io::Task;
-use dia_notes::{Words, explain};
+use dia_places::InputNames;
 use dia_run::{Command, Exit, Inputs, ToWriter, run};
 use dia_upgrades::{Asked, breaking};
+use notes::explain;
 use std::process::ExitCode;
 use std::rt::{Env, Files};
 use std::{env, io};
@@ -123,14 +126,14 @@ fn note<R: AllocGlobal + Eprint>(
     inputs: &Inputs,
     exit: Exit,
 ) {
-    let words = Words {
+    let names = InputNames {
         first: word_of(origins.first),
         second: word_of(origins.second),
         table: word_of(origins.table),
         message: word_of(origins.message),
         messages: word_of(origins.messages),
     };
-    if let Ok(text) = explain(rt.alloc(), task, &words, inputs, exit) {
+    if let Ok(text) = explain(rt.alloc(), task, &names, inputs, exit) {
         let _ = eprint!(rt; "{text}");
     }
 }

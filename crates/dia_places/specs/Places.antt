@@ -1,0 +1,55 @@
+-- Places of a text as a reader looks for them. A place counts the bytes in front of it.
+use Rattle.std.specs.Prelude.{◌≡◌, ℕ, ◌+◌, ◌-◌, ◌*◌, ◌==◌, ◌&&◌, ◌||◌, nat_lt, not, Bool, false, List, Option, Some, length, take, drop, count_by, slice_get}
+use Rattle.std.specs.List.{prefix_len, suffix_len, take_while}
+
+-- ---- lines and columns
+
+-- the line on which a place stands: 1 and the line feeds in front of it
+abbrev pub line_at : List ℕ → ℕ → ℕ
+line_at text at = 1 + count_by (λ c. c == 10) (take at text)
+
+-- how many bytes of its line stand in front of a place
+abbrev pub bytes_in_line : List ℕ → ℕ → ℕ
+bytes_in_line text at = suffix_len (λ c. not (c == 10)) (take at text)
+
+-- the part of its line in front of a place
+abbrev pub line_front : List ℕ → ℕ → List ℕ
+line_front text at = drop (length (take at text) - bytes_in_line text at) (take at text)
+
+-- the part of its line from a place on, without the carriage return or the line feed that ends it
+abbrev pub line_rest : List ℕ → ℕ → List ℕ
+line_rest text at = take_while (λ c. not (c == 10) && not (c == 13)) (drop at text)
+
+-- a byte that goes on with a character of UTF-8
+abbrev pub is_inner : ℕ → Bool
+is_inner c = not (nat_lt c 128) && nat_lt c 192
+
+-- how many characters begin in these bytes
+abbrev pub characters : List ℕ → ℕ
+characters bytes = count_by (λ c. not (is_inner c)) bytes
+
+-- the column of a place: 1 and the characters of its line in front of it
+abbrev pub column_at : List ℕ → ℕ → ℕ
+column_at text at = 1 + characters (line_front text at)
+
+-- ---- what is shown of a line
+
+-- at most the last n bytes, from the beginning of a character on
+abbrev pub whole_end : ℕ → List ℕ → List ℕ
+whole_end n bytes = drop (prefix_len is_inner (drop (length bytes - n) bytes)) (drop (length bytes - n) bytes)
+
+-- ---- the digits of messages
+
+abbrev pub is_white : ℕ → Bool
+is_white c = c == 32 || c == 9 || c == 13 || c == 10
+
+-- how many bytes that aren't white space stand in front of a place
+abbrev pub digits_before : List ℕ → ℕ → ℕ
+digits_before text at = count_by (λ c. not (is_white c)) (take at text)
+
+-- the first digit of a byte stands at a place: two digits stand in front of it for each byte before
+pub record IsAtByte (text : List ℕ) (byte at : ℕ) : Type 0 where
+  pub digit : ℕ
+  pub stands : slice_get text at ≡ Some digit
+  pub is_digit : is_white digit ≡ false
+  pub before : digits_before text at ≡ byte * 2

@@ -1,0 +1,18 @@
+//! Reasons: what is told on standard error of an answer that isn't yes.
+//!
+//! A reason tells the place in the message or in the table, what is wrong there, where the dictionaries say otherwise, and what
+//! to do.
+#![tactic(auto)]
+
+mod answers;
+mod books;
+mod checking;
+mod comparing;
+mod faults;
+mod inputs;
+mod lines;
+mod refuting;
+mod rule_text;
+mod sides;
+
+pub use answers::push_answer;
