@@ -111,7 +111,8 @@ fn push_formats<A: Book, B: Book>(
     let b = pairing.b.name;
     write!(
         out,
-        "hint: declare one format in both; {b} may have a wider one, as OctetString for any, UTF8String for DiameterIdentity, or Integer32 for Enumerated\n"
+        "hint: declare one format in both; {b} may have a wider one, \
+         as OctetString for any, UTF8String for DiameterIdentity, or Integer32 for Enumerated\n"
     )
 }
 
@@ -302,7 +303,8 @@ fn push_selection<A: Book, B: Book>(
             let table = pairing.name;
             return write!(
                 out,
-                "hint: {b} may read messages of {first} by {second}: add the line command {first} = {second} to {table}, as `diacmd propose` does\n"
+                "hint: {b} may read messages of {first} by {second}: \
+                 add the line command {first} = {second} to {table}, as `diacmd propose` does\n"
             );
         }
     }
@@ -317,7 +319,8 @@ fn push_selection<A: Book, B: Book>(
         ),
         None => write!(
             out,
-            "hint: {b} has no such definition without an application: add one there, or give the one in the first dictionary its application\n"
+            "hint: {b} has no such definition without an application: add one there, \
+             or give the one in the first dictionary its application\n"
         ),
     }
 }

@@ -177,7 +177,8 @@ fn push_stranger<A: Book, B: Book>(
     pairing.b.end(alloc, out, at)?;
     write!(
         out,
-        "hint: declare it in {a} as here, and propose again; or give --unknown refused to each command, if both nodes refuse unknown AVPs\n"
+        "hint: declare it in {a} as here, and propose again; \
+         or give --unknown refused to each command, if both nodes refuse unknown AVPs\n"
     )
 }
 

@@ -364,6 +364,7 @@ pub fn hint_bad_length(out: &mut String, own: &[u8]) -> Result<(), AllocError> {
         );
     }
     out.push_str(
-        "hint: mend the sender; either this AVP's Length is wrong, or the padding or the Length of the AVP in front of it, or that of the group\n",
+        "hint: mend the sender; either this AVP's Length is wrong, \
+         or the padding or the Length of the AVP in front of it, or that of the group\n",
     )
 }
