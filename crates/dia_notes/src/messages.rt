@@ -275,7 +275,8 @@ fn push_more_or_less(
         return write!(
             out,
             "{name}: {bytes} bytes; the Message Length is {length}, so the message is cut off\n\
-             hint: its end may be in the next packet, or the capture has cut the packet: docs/CAPTURES.md says how to take whole messages out\n"
+             hint: its end may be in the next packet, or the capture has cut the packet: \
+             docs/CAPTURES.md says how to take whole messages out\n"
         );
     }
     let Some(at) = place_of_byte(text, length) else {

@@ -34,7 +34,8 @@ pub fn push_strangers(
     let of_second = push_side(alloc, out, table, Side::Second, second)?;
     if of_first || of_second {
         out.push_str(
-            "hint: the first name of a pair is one of the first dictionary, the second one of the second; `diacmd propose` writes a table\n",
+            "hint: the first name of a pair is one of the first dictionary, the second one of the second; \
+             `diacmd propose` writes a table\n",
         )?;
     }
     Ok(())
