@@ -296,10 +296,10 @@ def refutes():
     yield row(spelt, 1, first + "fault 5005 at 84\n" + note + swapped)
     yield row(message(BASE)[:-4], 1, first + f"truncated\nm.hex: 64 bytes; the Message Length is 68, so the message is cut off\n{CUT}")
     files = {"a.txt": narrow, "b.txt": wide, "l.txt": message(BASE).hex() + "\n"}
-    line = "hint: `sed -n NUMBERp l.txt | diacmd refute{} a.txt b.txt -` explains the answer of the line with that number\n"
+    line = "0 of 1 lines refute\nhint: `sed -n NUMBERp l.txt | diacmd refute{} a.txt b.txt -` explains the answer of the line with that number\n"
     yield "refute --lines a.txt b.txt l.txt", files, 1, line.format("")
     yield "refute --lines --unknown refused --levels 3 a.txt b.txt l.txt", files, 1, line.format(" --unknown refused --levels 3")
-    yield "refute --lines b.txt a.txt l.txt", files | {"l.txt": message(unit()).hex() + "\n"}, 0, ""
+    yield "refute --lines b.txt a.txt l.txt", files | {"l.txt": message(unit()).hex() + "\n"}, 0, "1 of 1 lines refute\n"
 
 
 X, Y = "%avp X 9001 Unsigned32 any\n", "%avp Y 9002 Unsigned32 any\n"

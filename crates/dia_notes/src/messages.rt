@@ -121,6 +121,9 @@ fn hint_of_digit(text: &[u8], at: usize) -> &'static str {
 
 /// What a text is, if it is none of a message at all.
 fn hint_of_text(text: &[u8]) -> Option<&'static str> {
+    if text.starts_with(b"\xef\xbb\xbf") {
+        return Some("the text begins with a byte order mark: save it as UTF-8 without one");
+    }
     if text.windows(4).any(|front| front == b"%avp".as_slice() || front == b" ::=".as_slice()) {
         return Some("this looks like a dictionary: the dictionary stands before the message");
     }

@@ -24,6 +24,7 @@ pub struct PairWords<'a> {
 }
 
 impl Word<'_> {
+    /// Whether there is no such word.
     pub fn is_empty(&self) -> bool {
         self.text.is_empty()
     }

@@ -46,7 +46,7 @@ fn hint_of_sign(rest: &[u8], state: State) -> Option<&'static str> {
     if rest.starts_with(b"=") {
         return Some("a definition is <NAME> ::= < Diameter Header: .. >, and its sign is ::=");
     }
-    if rest.starts_with(b"+") {
+    if rest.starts_with(b"+") && is_of_rules(state) {
         return Some("one or more of X is 1* { X }, and any number * [ X ]");
     }
     hint_of_dash(rest, state)
@@ -95,12 +95,16 @@ fn hint_of_dash(rest: &[u8], state: State) -> Option<&'static str> {
     if is_in_list(state) {
         return Some("a range of values is written with two dots, as 0..3");
     }
-    match state {
-        State::Fixed | State::Angled | State::Loose => {
-            Some("the counts of a rule are LEAST*GREATEST, as 0*1 { X }")
-        }
-        _ => None,
+    if is_of_rules(state) {
+        Some("the counts of a rule are LEAST*GREATEST, as 0*1 { X }")
+    } else {
+        None
     }
+}
+
+/// Whether a rule may begin.
+fn is_of_rules(state: State) -> bool {
+    matches!(state, State::Fixed | State::Angled | State::Loose)
 }
 
 fn is_in_list(state: State) -> bool {
