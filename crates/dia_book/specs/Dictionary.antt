@@ -10,6 +10,7 @@ use Rattle.dia_terms.specs.declared.RuleKind.{RuleKind}
 use Rattle.dia_terms.specs.declared.RuleKind.TheVariants.{Fixed, Required, Optional}
 use Rattle.dia_terms.specs.Names.{is_name}
 use Rattle.dia_book.specs.Keys.{same_key}
+pub use Rattle.dia_book.specs.Rules.{is_fixed}
 use Rattle.dia_book.specs.Limits.{max_rules, max_parts}
 use Rattle.dia_book.specs.declared.definition.Class.{Class}
 use Rattle.dia_book.specs.declared.definition.Class.TheVariants as classes
@@ -51,9 +52,6 @@ same_class a b = false
 
 abbrev pub lists_key : Key → DRule → Bool
 lists_key key rule = option_map_or (same_key key) rule.key false
-
-abbrev pub is_fixed : DRule → Bool
-is_fixed rule = elim rule.kind [ Fixed ↦ true | Required ↦ false | Optional ↦ false ]
 
 abbrev pub slot_at : List DRule → ℕ → Slot
 slot_at rules i = option_map_or (λ rule. if is_fixed rule then slot.Fixed i else slot.Loose i) (slice_get rules i) slot.Unlisted

@@ -6,6 +6,8 @@
 mod book;
 mod definition;
 mod indices;
+mod shape;
+mod slots;
 
 pub use book::Book;
 pub use definition::{Class, DRule, DefHead, Definition, Slot};
@@ -13,3 +15,4 @@ pub use dia_data::{Format, Leaf, accepts};
 pub use dia_terms::{MRule, Pxy, RuleKind};
 pub use dia_wire::Key;
 pub use indices::{DefId, Entry};
+pub use shape::Shape;
