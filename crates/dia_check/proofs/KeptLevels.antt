@@ -1,16 +1,17 @@
 -- The levels that are kept, where one is opened, met further, or ended.
-use Rattle.std.proofs.Common.{◌≡◌, ℕ, zero, suc, ◌+◌, ◌-◌, ◌<◌, ◌≤◌, List, [], ◌∷◌, ◌++◌, length, take, drop, replicate, Some, refl, sym, ap, subst, ◌∙◌, append_assoc, arith}
-use Rattle.std.specs.Prelude.{slice_get, slice_index}
+use Rattle.std.proofs.Common.{◌≡◌, ◌≢◌, Bool, true, false, nat_lt, ℕ, zero, suc, ◌+◌, ◌-◌, ◌<◌, ◌≤◌, List, [], ◌∷◌, ◌++◌, length, take, drop, replicate, Some, refl, sym, ap, subst, ◌∙◌, append_assoc, arith}
+use Rattle.std.specs.Prelude.{slice_get, slice_index, ◌==◌}
+use Rattle.std.proofs.lemmas.Bool.{both_ways, eq-eqb, eqb-true, ltb-true, ltb-false}
 use Rattle.std.proofs.Math.Seq.{take-append_seam, drop-append_seam, drop-length, drop-nil}
 use Rattle.std.proofs.lemmas.List.{append-nil, length-append, length-replicate, take_all, length-drop, length-take-le, drop-append-le, replicate-append-replicate}
 use Rattle.dia_wire.specs.declared.Key.{Key}
 use Rattle.dia_book.specs.declared.DRule.{DRule}
 use Rattle.dia_book.specs.Dictionary.{PlainDefinition}
+use Rattle.dia_book.specs.Shapes.{IsFirstWanted}
 use Rattle.dia_check.specs.declared.open_levels.OpenLevel.{OpenLevel}
 use Rattle.dia_check.specs.declared.open_levels.OpenLevels.{OpenLevels}
-use Rattle.dia_check.specs.declared.open_levels.Shape.{Shape}
 use Rattle.dia_check.specs.Valid.{fixed_rules}
-use Rattle.dia_check.specs.OpenLevels.{AreMet, IsFirstUnmet, IsMetAtEnd, IsCounted, IsShape, SoFar, begun, and_key, IsKept, AreKept, AreOpen}
+use Rattle.dia_check.specs.OpenLevels.{AreMet, IsFirstUnmet, IsMetAtEnd, IsCounted, SoFar, begun, and_key, IsKept, AreKept, AreOpen}
 use Rattle.dia_check.specs.Faults.{IsFirstMissing}
 use Rattle.std.proofs.lemmas.Option.{same_Some, slice_get_within}
 use Rattle.dia_check.proofs.RunsOfOneKeyMore.{at_start}
@@ -23,10 +24,9 @@ zero_at zero i = refl
 zero_at (suc n) zero = refl
 zero_at (suc n) (suc i) = zero_at n i
 
-pub fresh : (rules : List DRule) (level : OpenLevel) → level.run ≡ 0 → level.reached ≡ 0 → IsShape rules level.shape
+pub fresh : (rules : List DRule) (level : OpenLevel) → level.run ≡ 0 → level.reached ≡ 0
     → IsCounted rules [] level (replicate (length rules) 0)
-fresh rules level run reached shape = record {
-  shape = shape;
+fresh rules level run reached = record {
   run = rw run (at_start (fixed_rules rules));
   many = length-replicate (length rules) 0;
   counted = λ i rule at. zero_at (length rules) i ∙ sym (met_none rules i rule);
@@ -117,13 +117,13 @@ with_room counts new many spare more zeros is parts le =
     ∙ sym (append_assoc counts (replicate many 0) (replicate (spare + more - many) 0))
 
 -- a level is opened in the innermost one
-pub opened : (defs : List PlainDefinition) (definition : PlainDefinition) (old new : OpenLevels) (outer : List SoFar) (level : SoFar) (rules : List DRule) (end more : ℕ) (now : AreOpen defs old outer level)
-    → slice_get defs new.opened ≡ Some definition → definition.rules ≡ rules → IsShape rules new.shape
-    → new.innermost ≡ record { def = new.opened; end = end; base = old.innermost.top; top = old.innermost.top + length rules; run = 0; reached = 0; shape = new.shape }
+pub opened : (defs : List PlainDefinition) (definition : PlainDefinition) (old new : OpenLevels) (outer : List SoFar) (level : SoFar) (rules : List DRule) (def end more : ℕ) (now : AreOpen defs old outer level)
+    → slice_get defs def ≡ Some definition → definition.rules ≡ rules
+    → new.innermost ≡ record { def = def; end = end; base = old.innermost.top; top = old.innermost.top + length rules; run = 0; reached = 0 }
     → length rules ≤ now.spare + more
     → new.outer.items ≡ old.outer.items ++ old.innermost ∷ [] → new.counts.items ≡ old.counts.items ++ replicate more 0
     → AreOpen defs new (outer ++ level ∷ []) (begun rules end)
-opened defs definition old new outer level rules end more o is_definition is_rules shape is_innermost enough is_outer is_counts = record {
+opened defs definition old new outer level rules def end more o is_definition is_rules is_innermost enough is_outer is_counts = record {
   before = o.before ++ o.mine;
   mine = replicate (length rules) 0;
   spare = o.spare + more - length rules;
@@ -136,18 +136,17 @@ opened defs definition old new outer level rules end more o is_definition is_rul
     is_rules = is_rules;
     is_end = refl;
     top = ap (λ (n : ℕ). old.innermost.top + n) (sym (length-replicate (length rules) 0));
-    counted = fresh rules _ refl refl shape;
+    counted = fresh rules _ refl refl;
   });
-  shape = λ other at. subst (λ (d : PlainDefinition). IsShape d.rules new.shape) (same_Some definition other (sym is_definition ∙ at)) (subst (λ (rs : List DRule). IsShape rs new.shape) (sym is_rules) shape);
 }
 
 -- the body is opened
-pub body_opened : (defs : List PlainDefinition) (definition : PlainDefinition) (new : OpenLevels) (rules : List DRule) (end : ℕ)
-    → slice_get defs new.opened ≡ Some definition → definition.rules ≡ rules → IsShape rules new.shape
-    → new.innermost ≡ record { def = new.opened; end = end; base = 0; top = length rules; run = 0; reached = 0; shape = new.shape }
+pub body_opened : (defs : List PlainDefinition) (definition : PlainDefinition) (new : OpenLevels) (rules : List DRule) (def end : ℕ)
+    → slice_get defs def ≡ Some definition → definition.rules ≡ rules
+    → new.innermost ≡ record { def = def; end = end; base = 0; top = length rules; run = 0; reached = 0 }
     → new.outer.items ≡ [] → new.counts.items ≡ replicate (length rules) 0
     → AreOpen defs new [] (begun rules end)
-body_opened defs definition new rules end is_definition is_rules shape is_innermost is_outer is_counts = record {
+body_opened defs definition new rules def end is_definition is_rules is_innermost is_outer is_counts = record {
   before = [];
   mine = replicate (length rules) 0;
   spare = 0;
@@ -160,9 +159,8 @@ body_opened defs definition new rules end is_definition is_rules shape is_innerm
     is_rules = is_rules;
     is_end = refl;
     top = let e : length (replicate {A = ℕ} (length rules) 0) ≡ length rules = length-replicate (length rules) 0 in omega (arith, e);
-    counted = fresh rules _ refl refl shape;
+    counted = fresh rules _ refl refl;
   });
-  shape = λ other at. subst (λ (d : PlainDefinition). IsShape d.rules new.shape) (same_Some definition other (sym is_definition ∙ at)) (subst (λ (rs : List DRule). IsShape rs new.shape) (sym is_rules) shape);
 }
 
 -- counts of which a part is written
@@ -211,11 +209,11 @@ cleared before mine spare reached le none =
 
 -- the innermost level is ended
 pub ended : (defs : List PlainDefinition) (old new : OpenLevels) (outer : List SoFar) (level : SoFar) → AreOpen defs old outer level
-    → old.outer.items ≡ new.outer.items ++ new.innermost ∷ [] → new.opened ≡ old.opened → new.shape ≡ old.shape
+    → old.outer.items ≡ new.outer.items ++ new.innermost ∷ []
     → new.counts.items ≡ take old.innermost.base old.counts.items
     ++ (replicate old.innermost.reached 0 ++ drop old.innermost.reached (drop old.innermost.base old.counts.items))
     → (others : List SoFar) × (next : SoFar) × (outer ≡ others ++ next ∷ []) × AreOpen defs new others next
-ended defs old new outer level o is_outer is_opened is_shape is_counts =
+ended defs old new outer level o is_outer is_counts =
     let p = kept_pop defs 0 new.outer.items new.innermost o.before outer (subst (λ (t : List OpenLevel). AreKept defs 0 t o.before outer) is_outer o.are_outer) in
     let c = o.innermost.counted in
     let kept : take old.innermost.base old.counts.items ≡ o.before = counts_before defs old outer level o in
@@ -235,7 +233,6 @@ ended defs old new outer level o is_outer is_opened is_shape is_counts =
         are_outer = p.rest;
         base = omega (arith, p.at);
         innermost = p.kept;
-        shape = λ definition at. subst (λ (x : Shape). IsShape definition.rules x) (sym is_shape) (o.shape definition (ap (λ (n : ℕ). slice_get defs n) (sym is_opened) ∙ at));
       },
     )
 
@@ -268,9 +265,9 @@ own_counted defs o outer level rules counts now same e =
 pub met_further : (defs : List PlainDefinition) (old new : OpenLevels) (outer : List SoFar) (level : SoFar) (rules : List DRule) (key : Key) (run reached : ℕ) (counts : List ℕ)
     (now : AreOpen defs old outer level) → level.rules ≡ rules
     → IsCounted rules (level.keys ++ key ∷ []) (record old.innermost { run = run; reached = reached }) counts → new.innermost ≡ record old.innermost { run = run; reached = reached }
-    → new.outer.items ≡ old.outer.items → new.opened ≡ old.opened → new.shape ≡ old.shape → length counts ≡ length now.mine
+    → new.outer.items ≡ old.outer.items → length counts ≡ length now.mine
     → new.counts.items ≡ take old.innermost.base old.counts.items ++ (counts ++ drop (length now.mine) (drop old.innermost.base old.counts.items)) → AreOpen defs new outer (and_key level key)
-met_further defs old new outer level rules key run reached counts now same counted is_innermost is_outer is_opened is_shape size is_counts = record {
+met_further defs old new outer level rules key run reached counts now same counted is_innermost is_outer size is_counts = record {
   before = now.before;
   mine = counts;
   spare = now.spare;
@@ -287,7 +284,6 @@ met_further defs old new outer level rules key run reached counts now same count
     top = now.innermost.top ∙ ap (λ (n : ℕ). old.innermost.base + n) (sym size);
     counted = subst (λ (rs : List DRule). IsCounted rs (level.keys ++ key ∷ []) (record old.innermost { run = run; reached = reached }) counts) (sym same) counted;
   });
-  shape = λ definition at. subst (λ (x : Shape). IsShape definition.rules x) (sym is_shape) (now.shape definition (ap (λ (n : ℕ). slice_get defs n) (sym is_opened) ∙ at));
 }
 
 -- ---- the end of a level
@@ -317,3 +313,21 @@ own_size defs o outer level counts now e =
     let len = ap length e in
     let reached = now.innermost.counted.reached in
     (omega (arith, here), omega (arith, here), omega (arith, top, len), omega (arith, here, reached))
+
+-- ---- the rules that are met so far
+
+pub met_next : (rules : List DRule) (counts : List ℕ) (from place next : ℕ) (rule : DRule) → AreMet rules counts from place → slice_get rules place ≡ Some rule → rule.min ≤ slice_index counts place
+    → IsFirstWanted rules (place + 1) next → AreMet rules counts from next
+met_next rules counts from place next rule met at enough wanted i other above below here = by (nat_lt i place) refl (i == place) refl
+  where
+    by : (b : Bool) → nat_lt i place ≡ b → (same : Bool) → (i == place) ≡ same → other.min ≤ slice_index counts i
+    by true e same f = met i other above (ltb-true i place e) here
+    by false e true f =
+        let is : i ≡ place = eqb-true i place f in
+        let one : rule ≡ other = same_Some rule other (sym at ∙ ap (λ (n : ℕ). slice_get rules n) (sym is) ∙ here) in
+        subst (λ (r : DRule). r.min ≤ slice_index counts i) one (subst (λ (n : ℕ). rule.min ≤ slice_index counts n) (sym is) enough)
+    by false e false f =
+        let behind = ltb-false i place e in
+        let other_place : i ≢ place = λ p. both_ways (i == place) f (eq-eqb i place p) in
+        let none : other.min ≡ 0 = wanted.none_before i other (omega (arith, behind, other_place)) below here in
+        omega (arith, none)

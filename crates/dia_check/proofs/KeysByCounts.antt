@@ -168,7 +168,6 @@ module _ (rules : List DRule) (are : AreRules rules) (keys : List Key) (key : Ke
       met_now no_max = record {
         none_wrong = λ r s h. none r s h;
         counted = record {
-          shape = c.shape;
           run = leads.at;
           many = length-set counts i (slice_index counts i + 1) ∙ c.many;
           counted = λ j other here. counts_next j ∙ sym (met_next j other here);

@@ -19,7 +19,6 @@ pub mod Formats
 pub mod ValidMeansFaultless
 pub mod CheckAnswers
 pub mod HeaderAnswers
-pub mod FixedFirst
 pub mod BodyContinuations
 pub mod DataInPieces
 pub mod HeadsInPieces

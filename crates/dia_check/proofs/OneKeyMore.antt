@@ -11,6 +11,8 @@ use Rattle.std.proofs.lemmas.List.Quantifiers.{position-Some}
 use Rattle.std.proofs.lemmas.Option.{none-some, same_Some, slice_get_cases, slice_get_within}
 use Rattle.dia_wire.specs.declared.Key.{Key}
 use Rattle.dia_book.specs.declared.DRule.{DRule}
+use Rattle.dia_book.specs.declared.Shape.{Shape}
+use Rattle.dia_book.specs.Shapes.{IsShape}
 use Rattle.dia_book.specs.declared.Slot.{Slot}
 use Rattle.dia_book.specs.declared.Slot.TheVariants as slot
 use Rattle.dia_book.specs.Dictionary.{AreRules, is_fixed, lists_key, slot_of, slot_at}
@@ -164,7 +166,8 @@ count_one p k = let e = sum_by-cons (λ (x : Key). cond (p x) 1 0) k [] in omega
 
 -- ---- the four ways that a key can lead
 
-module _ (rules : List DRule) (are : AreRules rules) (keys : List Key) (key : Key) (level : OpenLevel) (counts : List ℕ) (c : IsCounted rules keys level counts) where
+module _ (rules : List DRule) (are : AreRules rules) (keys : List Key) (key : Key) (level : OpenLevel) (counts : List ℕ) (shape : Shape)
+    (is_shape : IsShape rules shape) (c : IsCounted rules keys level counts) where
   only_one : (i j : ℕ) (a b : DRule) → slice_get rules i ≡ Some a → lists_key key a ≡ true → slice_get rules j ≡ Some b → lists_key key b ≡ true → i ≡ j
   only_one i j a b at is at' is' = are.distinct i j a b at at' (is_of-key a key is ∙ sym (is_of-key b key is'))
 
@@ -241,8 +244,8 @@ module _ (rules : List DRule) (are : AreRules rules) (keys : List Key) (key : Ke
 
   leads_behind : (o : Option ℕ) → NoneFrom (fixed_rules rules) level.run key → ((i : ℕ) → o ≡ Some i → CountsBehind i)
       → (o ≡ None → IsTrue (is_listed (fixed_rules rules) key) ⊎ ((is_listed rules key ≡ false) × (has_wildcard rules ≡ false)))
-      → Leads rules keys key level.run level.shape.fixed o
-  leads_behind o none some_counts none_counts = subst (λ (n : ℕ). Leads rules keys key level.run n o) (sym c.shape.fixed) (record {
+      → Leads rules keys key level.run shape.fixed o
+  leads_behind o none some_counts none_counts = subst (λ (n : ℕ). Leads rules keys key level.run n o) (sym is_shape.fixed) (record {
     at = behind_all (fixed_rules rules) level.run keys key c.run none;
     within = (omega arith, at_within (fixed_rules rules) level.run keys c.run);
     same_runs = λ j before. ap (λ (ns : List ℕ). slice_index ns j) same;
@@ -281,14 +284,14 @@ module _ (rules : List DRule) (are : AreRules rules) (keys : List Key) (key : Ke
       by q false is h = is
 
   -- a fixed rule whose run is over doesn't count it
-  pub leads_past : (i : ℕ) → i < level.run → slot.Fixed i ≡ slot_of rules key → Leads rules keys key level.run level.shape.fixed None
+  pub leads_past : (i : ℕ) → i < level.run → slot.Fixed i ≡ slot_of rules key → Leads rules keys key level.run shape.fixed None
   leads_past i lt e =
       let (r, at, fixed, lists) = fixed_slot rules key i e in
       leads_behind None (none_listed (λ j q le at' fixed' lists'. let one = only_one j i q r at' lists' at lists in omega (arith, one, le, lt)))
       (λ k is. absurd (none-some k is)) (λ is. inl (at_any (lists_key key) (fixed_rules rules) i r (into_fixed rules i r are at fixed) lists))
 
   -- a loose rule counts it
-  pub leads_loose : (i : ℕ) → slot.Loose i ≡ slot_of rules key → Leads rules keys key level.run level.shape.fixed (Some i)
+  pub leads_loose : (i : ℕ) → slot.Loose i ≡ slot_of rules key → Leads rules keys key level.run shape.fixed (Some i)
   leads_loose i e = leads_behind (Some i) (none_listed (λ j q le at fixed lists. not_fixed j q at fixed lists))
       (λ k is. subst CountsBehind (same_Some i k is) counts_here) (λ none. absurd (none-some i (sym none)))
     where
@@ -368,9 +371,9 @@ module _ (rules : List DRule) (are : AreRules rules) (keys : List Key) (key : Ke
     wildcard_counts = (slice_get_within rules i wild.0 wild.1, wild_allowed, λ j other at. wild_kind j other at (is_fixed other) (j == i) refl refl)
 
   -- the wildcard counts it, where there is one
-  pub leads_unlisted : slot.Unlisted ≡ slot_of rules key → Leads rules keys key level.run level.shape.fixed level.shape.wildcard
-  leads_unlisted e = leads_behind level.shape.wildcard (none_listed (λ j q le at fixed lists. not_listed j q at lists))
-      (λ i is. wildcard_counts unlisted i (at_position is_wildcard rules i (sym c.shape.wildcard ∙ is))) (λ none. inr (unlisted, no_position is_wildcard rules (sym c.shape.wildcard ∙ none)))
+  pub leads_unlisted : slot.Unlisted ≡ slot_of rules key → Leads rules keys key level.run shape.fixed shape.wildcard
+  leads_unlisted e = leads_behind shape.wildcard (none_listed (λ j q le at fixed lists. not_listed j q at lists))
+      (λ i is. wildcard_counts unlisted i (at_position is_wildcard rules i (sym is_shape.wildcard ∙ is))) (λ none. inr (unlisted, no_position is_wildcard rules (sym is_shape.wildcard ∙ none)))
     where
       unlisted : is_listed rules key ≡ false
       unlisted = unlisted_slot rules key e

@@ -10,7 +10,6 @@ use Rattle.dia_check.specs.declared.fault.Subject.{Subject}
 use Rattle.dia_check.specs.declared.fault.Subject.TheVariants.{Avp}
 use Rattle.dia_check.specs.declared.open_levels.OpenLevel.{OpenLevel}
 use Rattle.dia_check.specs.declared.open_levels.OpenLevels.{OpenLevels}
-use Rattle.dia_check.specs.declared.open_levels.Shape.{Shape}
 use Rattle.dia_check.specs.declared.open_levels.Wrong.{Wrong}
 use Rattle.dia_check.specs.Valid.{fixed_rules, is_listed, has_wildcard, is_wildcard}
 use Rattle.dia_check.specs.Faults.{runs, run_end, loose_start, met, subject_of, row_of, IsFirstShort, IsFirstMissing}
@@ -69,18 +68,8 @@ pub record IsFirstUnmet (rules : List DRule) (counts : List ℕ) (from to i : �
   pub unmet : slice_index counts i < rule.min
   pub met_before : AreMet rules counts from i
 
--- from a place on, no rule has a least count
-abbrev pub HasNoLeast : List DRule → ℕ → Type 0
-HasNoLeast rules from = (i : ℕ) (rule : DRule) → from ≤ i → slice_get rules i ≡ Some rule → rule.min ≡ 0
-
-pub record IsShape (rules : List DRule) (shape : Shape) : Type 0 where
-  pub fixed : shape.fixed ≡ length (fixed_rules rules)
-  pub wildcard : shape.wildcard ≡ position is_wildcard rules
-  pub least : HasNoLeast rules shape.least
-
 -- the counts are those of the keys, and 0 from a place on; and the rules in front of the run are met
 pub record IsCounted (rules : List DRule) (keys : List Key) (level : OpenLevel) (counts : List ℕ) : Type 0 where
-  pub shape : IsShape rules level.shape
   pub run : IsAt (fixed_rules rules) level.run keys
   pub many : length counts ≡ length rules
   pub counted : (i : ℕ) (rule : DRule) → slice_get rules i ≡ Some rule → slice_index counts i ≡ met rules keys i rule
@@ -149,7 +138,6 @@ pub record AreOpen (defs : List PlainDefinition) (open_levels : OpenLevels) (out
   pub are_outer : AreKept defs 0 open_levels.outer.items before outer
   pub base : open_levels.innermost.base ≡ length before
   pub innermost : IsKept defs open_levels.innermost mine level
-  pub shape : (definition : PlainDefinition) → slice_get defs open_levels.opened ≡ Some definition → IsShape definition.rules open_levels.shape
 
 -- the open levels have their definitions in this dictionary
 abbrev pub AreOpenUnder : Dictionary → OpenLevels → List SoFar → SoFar → Type 0

@@ -66,7 +66,8 @@ pub(crate) fn missing_at_end<B: Book>(book: &B, open_levels: &OpenLevels) -> Opt
         (IsMissingAtEnd level.rules level.keys) }
 {
     let def = open_levels.innermost().def;
-    open_levels.missing(&book.def(def).rules)
+    let definition = book.def(def);
+    open_levels.missing(&definition.rules, &definition.shape)
 }
 
 /// The open levels of a message of which nothing was read yet: its body alone, which ends at a place.
@@ -130,7 +131,8 @@ pub(crate) fn admit<B: Book>(
         return Some(wrong);
     }
     let def = open_levels.innermost().def;
-    open_levels.meet(&book.def(def).rules, book.slot(def, key), key)
+    let definition = book.def(def);
+    open_levels.meet(&definition.rules, &definition.shape, book.slot(def, key), key)
 }
 
 /// What is wrong with the flags of an AVP of this key and entry.

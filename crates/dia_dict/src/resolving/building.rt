@@ -133,11 +133,7 @@ fn definition(alloc: Global, names: &Names<'_>, def: &Def) -> Result<Definition,
 {
     let name = String::from_str(alloc, &def.name)?;
     let rules = rule_list(alloc, names, &def.rules)?;
-    Ok(Definition {
-        name,
-        head: head(def.head),
-        rules,
-    })
+    Definition::new(alloc, name, head(def.head), rules)
 }
 
 fn rule_list(alloc: Global, names: &Names<'_>, rules: &[Rule]) -> Result<Vec<DRule>, AllocError>

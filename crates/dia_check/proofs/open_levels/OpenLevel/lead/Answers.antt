@@ -3,13 +3,13 @@ use Rattle.dia_check.proofs.OneKeyMore.{leads_fixed, leads_past, leads_loose, le
 use Rattle.dia_check.proofs.open_levels.OpenLevel.lead.Goals as goal
 
 pub returns-in-Fixed : goal.returns-in-Fixed
-returns-in-Fixed c rules keys key counts are counted is = leads_fixed rules are keys key c.args.self.now counts counted c.in-Fixed.rule (omega arith) (sym c.in-Fixed.is ∙ is)
+returns-in-Fixed c rules keys key counts are shaped counted is = leads_fixed rules are keys key c.args.self.now counts c.args.shape.now shaped counted c.in-Fixed.rule (omega arith) (sym c.in-Fixed.is ∙ is)
 
 pub returns-in-Fixed-2 : goal.returns-in-Fixed-2
-returns-in-Fixed-2 c rules keys key counts are counted is = leads_past rules are keys key c.args.self.now counts counted c.in-Fixed.rule (omega arith) (sym c.in-Fixed.is ∙ is)
+returns-in-Fixed-2 c rules keys key counts are shaped counted is = leads_past rules are keys key c.args.self.now counts c.args.shape.now shaped counted c.in-Fixed.rule (omega arith) (sym c.in-Fixed.is ∙ is)
 
 pub returns-in-Loose : goal.returns-in-Loose
-returns-in-Loose c rules keys key counts are counted is = leads_loose rules are keys key c.args.self.now counts counted c.in-Loose.rule (sym c.in-Loose.is ∙ is)
+returns-in-Loose c rules keys key counts are shaped counted is = leads_loose rules are keys key c.args.self.now counts c.args.shape.now shaped counted c.in-Loose.rule (sym c.in-Loose.is ∙ is)
 
 pub returns-in-Unlisted : goal.returns-in-Unlisted
-returns-in-Unlisted c rules keys key counts are counted is = leads_unlisted rules are keys key c.args.self.now counts counted (sym c.in-Unlisted.is ∙ is)
+returns-in-Unlisted c rules keys key counts are shaped counted is = leads_unlisted rules are keys key c.args.self.now counts c.args.shape.now shaped counted (sym c.in-Unlisted.is ∙ is)

@@ -16,13 +16,13 @@ returns-in-Some-clause-inner c is defs outer level now =
     let size = base + old.innermost.reached - base in
     let counts = c.deref_mut.result.now in
     let written = take base counts ++ (c.fill.new.self ++ post_of base size counts) in
-    let after : OpenLevels = record { innermost = c.in-Some.next; outer = c.pop.new.self; counts = with_items old.counts written; opened = old.opened; shape = old.shape } in
+    let after : OpenLevels = record { innermost = c.in-Some.next; outer = c.pop.new.self; counts = with_items old.counts written } in
     let (is_size, low, high, reached) = own_size defs old outer level counts now c.deref_mut.ensures.value in
     let same : size ≡ old.innermost.reached = omega arith in
     let left = length-drop base counts in
     let many : length (take size (drop base counts)) ≡ old.innermost.reached = length-take-le size (drop base counts) (omega (arith, left, low, high, reached, same)) ∙ same in
     let filled : c.fill.new.self ≡ replicate old.innermost.reached 0 = c.fill.ensures.after (λ y e. e) ∙ ap (λ (n : ℕ). replicate n 0) many in
-    ended defs old after outer level now c.in-Some.ensures.items refl refl
+    ended defs old after outer level now c.in-Some.ensures.items
     (rewritten old.counts.items counts c.fill.new.self _ base size old.counts.len old.counts.ok.0 c.deref_mut.ensures.value (c.fill.ensures.len ∙ many ∙ sym same) (omega (arith, low, high, reached, same)) refl
     ∙ ap (λ (n : ℕ). take base old.counts.items ++ (c.fill.new.self ++ drop n (drop base old.counts.items))) same
     ∙ ap (λ (t : List ℕ). take base old.counts.items ++ (t ++ drop old.innermost.reached (drop base old.counts.items))) filled)

@@ -25,14 +25,14 @@ returns c defs outer level now same =
     let size = before.innermost.top - base in
     let counts = c.deref_mut.result.now in
     let written = take base counts ++ (c.meet.new.counts ++ post_of base size counts) in
-    let after : OpenLevels = record { innermost = c.meet.new.self; outer = before.outer; counts = with_items before.counts written; opened = before.opened; shape = before.shape } in
+    let after : OpenLevels = record { innermost = c.meet.new.self; outer = before.outer; counts = with_items before.counts written } in
     let (is_size, low, high, reached) = own_size defs before outer level counts now c.deref_mut.ensures.value in
     let many = c.meet.auto.counts ∙ ap length (own_counts defs before outer level counts now c.deref_mut.ensures.value) in
     where_fine _ _ _ c.meet.result (c.meet.ensures level.keys (own_counted defs before outer level c.args.rules.now counts now same c.deref_mut.ensures.value))
     (λ met. (
       met.0.none_wrong,
       met_further defs before after outer level c.args.rules.now c.args.key c.meet.new.self.run c.meet.new.self.reached c.meet.new.counts now same
-          (subst (λ (k : OpenLevel). IsCounted c.args.rules.now (level.keys ++ c.args.key ∷ []) k c.meet.new.counts) met.1 met.0.counted) met.1 refl refl refl many
+          (subst (λ (k : OpenLevel). IsCounted c.args.rules.now (level.keys ++ c.args.key ∷ []) k c.meet.new.counts) met.1 met.0.counted) met.1 refl many
           (subst (λ (n : ℕ). after.counts.items ≡ take base before.counts.items ++ (c.meet.new.counts ++ drop n (drop base before.counts.items))) is_size
           (rewritten before.counts.items counts c.meet.new.counts _ base size before.counts.len before.counts.ok.0 c.deref_mut.ensures.value (many ∙ sym is_size)
           (omega (arith, low, high)) refl)),

@@ -28,43 +28,36 @@ returns c defs outer level now same =
 
 pub offset_bounds-deref-base : goal.offset_bounds-deref-base
 offset_bounds-deref-base c =
-    let low : c.args.self.now.innermost.base ≤ c.args.self.now.innermost.top = ∥∥₁_elim c.requires le_prop (λ x. let (defs, outer, level, now, same) = x in
+    let low : c.args.self.now.innermost.base ≤ c.args.self.now.innermost.top = ∥∥₁_elim c.requires.open le_prop (λ x. let (defs, outer, level, now, same) = x in
     (own_size defs c.args.self.now outer level c.args.self.now.counts.items now refl).1) in
-    let high : c.args.self.now.innermost.top ≤ length c.args.self.now.counts.items = ∥∥₁_elim c.requires le_prop (λ x. let (defs, outer, level, now, same) = x in
+    let high : c.args.self.now.innermost.top ≤ length c.args.self.now.counts.items = ∥∥₁_elim c.requires.open le_prop (λ x. let (defs, outer, level, now, same) = x in
     (own_size defs c.args.self.now outer level c.args.self.now.counts.items now refl).2) in
     search rules
 
 pub slice_bounds-counts-count : goal.slice_bounds-counts-count
 slice_bounds-counts-count c =
-    let low : c.args.self.now.innermost.base ≤ c.args.self.now.innermost.top = ∥∥₁_elim c.requires le_prop (λ x. let (defs, outer, level, now, same) = x in
+    let low : c.args.self.now.innermost.base ≤ c.args.self.now.innermost.top = ∥∥₁_elim c.requires.open le_prop (λ x. let (defs, outer, level, now, same) = x in
     (own_size defs c.args.self.now outer level c.args.self.now.counts.items now refl).1) in
-    let high : c.args.self.now.innermost.top ≤ length c.args.self.now.counts.items = ∥∥₁_elim c.requires le_prop (λ x. let (defs, outer, level, now, same) = x in
+    let high : c.args.self.now.innermost.top ≤ length c.args.self.now.counts.items = ∥∥₁_elim c.requires.open le_prop (λ x. let (defs, outer, level, now, same) = x in
     (own_size defs c.args.self.now outer level c.args.self.now.counts.items now refl).2) in
     search rules
 
 pub slice_bounds-counts-start : goal.slice_bounds-counts-start
 slice_bounds-counts-start c =
-    let low : c.args.self.now.innermost.base ≤ c.args.self.now.innermost.top = ∥∥₁_elim c.requires le_prop (λ x. let (defs, outer, level, now, same) = x in
+    let low : c.args.self.now.innermost.base ≤ c.args.self.now.innermost.top = ∥∥₁_elim c.requires.open le_prop (λ x. let (defs, outer, level, now, same) = x in
     (own_size defs c.args.self.now outer level c.args.self.now.counts.items now refl).1) in
-    let high : c.args.self.now.innermost.top ≤ length c.args.self.now.counts.items = ∥∥₁_elim c.requires le_prop (λ x. let (defs, outer, level, now, same) = x in
+    let high : c.args.self.now.innermost.top ≤ length c.args.self.now.counts.items = ∥∥₁_elim c.requires.open le_prop (λ x. let (defs, outer, level, now, same) = x in
     (own_size defs c.args.self.now outer level c.args.self.now.counts.items now refl).2) in
     search rules
 
 pub slice_bounds-counts-end : goal.slice_bounds-counts-end
 slice_bounds-counts-end c =
-    let low : c.args.self.now.innermost.base ≤ c.args.self.now.innermost.top = ∥∥₁_elim c.requires le_prop (λ x. let (defs, outer, level, now, same) = x in
+    let low : c.args.self.now.innermost.base ≤ c.args.self.now.innermost.top = ∥∥₁_elim c.requires.open le_prop (λ x. let (defs, outer, level, now, same) = x in
     (own_size defs c.args.self.now outer level c.args.self.now.counts.items now refl).1) in
-    let high : c.args.self.now.innermost.top ≤ length c.args.self.now.counts.items = ∥∥₁_elim c.requires le_prop (λ x. let (defs, outer, level, now, same) = x in
+    let high : c.args.self.now.innermost.top ≤ length c.args.self.now.counts.items = ∥∥₁_elim c.requires.open le_prop (λ x. let (defs, outer, level, now, same) = x in
     (own_size defs c.args.self.now outer level c.args.self.now.counts.items now refl).2) in
     search rules
 
-pub first_unmet-requires-clause-within : goal.first_unmet-requires-clause-within
-first_unmet-requires-clause-within c = (
-  ∥∥₁_elim c.requires (search props) (λ x. let (defs, outer, level, now, same) = x in
-      (own_counted defs c.args.self.now outer level c.args.rules.now c.deref.result.now now same c.deref.ensures.value).many),
-  omega arith,
-)
-
-pub first_unmet-requires-clause-least : goal.first_unmet-requires-clause-least
-first_unmet-requires-clause-least c i rule from at = ∥∥₁_elim c.requires (search props) (λ x. let (defs, outer, level, now, same) = x in
-    (own_counted defs c.args.self.now outer level c.args.rules.now c.deref.result.now now same c.deref.ensures.value).shape.least i rule from at)
+pub first_unmet-requires-clause-many : goal.first_unmet-requires-clause-many
+first_unmet-requires-clause-many c = ∥∥₁_elim c.requires.open (search props) (λ x. let (defs, outer, level, now, same) = x in
+    (own_counted defs c.args.self.now outer level c.args.rules.now c.deref.result.now now same c.deref.ensures.value).many)

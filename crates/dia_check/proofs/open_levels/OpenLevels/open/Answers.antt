@@ -16,9 +16,9 @@ overflow_add-top c =
 pub returns : goal.returns
 returns c defs definition outer level is_definition is_rules now =
     let old = c.args.self.now in
-    let after : OpenLevels = record { innermost = c.new-self.result; outer = c.push.new.self; counts = c.add_zeros.new.counts; opened = c.args.def; shape = c.shape_of-shape.result } in
+    let after : OpenLevels = record { innermost = c.new-self.result; outer = c.push.new.self; counts = c.add_zeros.new.counts } in
     let size = (own_top defs old outer level now).1 in
-    opened defs definition old after outer level c.args.rules.now c.args.end c.saturating_sub-more.result now is_definition is_rules
-    (c.shape_of-shape.ensures defs definition outer level is_definition is_rules now) c.new-self.ensures
+    opened defs definition old after outer level c.args.rules.now c.args.def c.args.end c.saturating_sub-more.result now is_definition is_rules
+    c.new-self.ensures
     (omega (arith, size, c.saturating_sub-more.ensures))
     c.in_ok-push.ensures.items c.in_ok-add_zeros.ensures
