@@ -1,5 +1,5 @@
 -- Lists: places, filters and what stands first.
-use Rattle.std.proofs.Common.{◌≡◌, ℕ, zero, suc, ◌<◌, ◌≤◌, Bool, true, false, cond, List, [], ◌∷◌, ◌++◌, length, map, Option, Some, None, refl, sym, ap, ◌∙◌, arith}
+use Rattle.std.proofs.Common.{◌≡◌, ℕ, zero, suc, ◌<◌, ◌≤◌, Bool, true, false, List, [], ◌∷◌, length, map, Option, Some, None, refl, sym, ap, ◌∙◌, arith}
 use Rattle.std.specs.Prelude.{slice_get, position, not, ◌||◌, ◌&&◌}
 use Rattle.std.specs.List.{filter_map, cons_option, list_any, prefix_len, list_all}
 use Rattle.std.specs.Option.{option_or}

@@ -54,7 +54,6 @@ impl DRule {
 
 /// A copy says the same.
 impl Clone for Definition {
-
     ghost is_clone = { λ old new. plain_definition new ≡ plain_definition old };
 
     fn clone(&self) -> Result<Definition, AllocError> {

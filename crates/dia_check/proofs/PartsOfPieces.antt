@@ -1,6 +1,6 @@
 -- A piece of a body, one part after the other.
 use Rattle.std.proofs.Common.{◌≡◌, ℕ, ◌+◌, ◌-◌, ◌≤◌, List, length, take, drop, sym, ap, subst, ◌∙◌, arith}
-use Rattle.std.proofs.lemmas.List.{drop-take, drop-drop, length-drop}
+use Rattle.std.proofs.lemmas.List.{drop-take, drop-drop, length-drop, take_all}
 use Rattle.dia_check.specs.Reading.{LiesAt}
 
 -- what is left of a piece stands behind what was read of it
@@ -19,3 +19,11 @@ pub lies_on : (bytes piece : List ℕ) (from taken k : ℕ) → k ≤ length (dr
 lies_on bytes piece from taken k le lies =
     let e : (from + taken) + k ≡ from + (taken + k) = omega arith in
     subst (λ (n : ℕ). LiesAt bytes n (drop (taken + k) piece)) e (subst (LiesAt bytes ((from + taken) + k)) (drop-drop k taken piece) (lies_later bytes (drop taken piece) (from + taken) k le lies))
+
+-- the rest of a message lies behind any of its fronts
+pub lies_whole : (bytes : List ℕ) (k : ℕ) → k ≤ length bytes → LiesAt bytes k (drop k bytes)
+lies_whole bytes k le =
+    let more = length-drop k bytes in
+    let n = length (drop k bytes) in
+    let e : (k + n) - k ≡ n = omega arith in
+    (ap (λ (j : ℕ). take j (drop k bytes)) e ∙ take_all n (drop k bytes) (omega arith), omega (arith, more, le))

@@ -3,7 +3,7 @@ use Rattle.std.proofs.Common.{◌≡◌, ◌≢◌, ℕ, ◌+◌, ◌-◌, ◌<�
 use Rattle.std.specs.Prelude.{◌⊎◌, ◌↔◌, ◌^◌, IsTrue, replicate, Result, Ok, Err, ⊤}
 use Rattle.std.proofs.Math.Seq.{take-append_seam, drop-append_seam, take-append-add}
 use Rattle.std.proofs.lemmas.Bool.{cases_lt, cases_Bool}
-use Rattle.std.proofs.lemmas.List.{append_assoc, append-nil, drop-take, length-append, length-take, take-append-drop, take_all, take-take}
+use Rattle.std.proofs.lemmas.List.{append_assoc, drop-take, length-append, length-take, take-append-drop, take_all, take-take}
 use Rattle.dia_wire.specs.Number.{number}
 use Rattle.dia_book.specs.Dictionary.{Dictionary}
 use Rattle.dia_policy.specs.declared.Unknown.{Unknown}
@@ -13,13 +13,13 @@ use Rattle.dia_check.specs.declared.stream.StreamFault.{StreamFault}
 use Rattle.dia_check.specs.declared.stream.StreamFault.TheVariants as fault
 use Rattle.dia_check.specs.declared.stream.stages.Stage.{Stage}
 use Rattle.dia_check.specs.declared.stream.stages.Stage.TheVariants.{Header, InBody, Over, NoMemory}
-use Rattle.dia_check.specs.Faults.{HasGoodHeader, HasLength}
+use Rattle.dia_check.specs.Faults.{HasGoodHeader}
 use Rattle.dia_check.specs.Front.{front_bytes}
 use Rattle.dia_check.specs.Levels.{IsOpen, filled}
 use Rattle.dia_check.specs.Levels as levels
 use Rattle.dia_check.specs.Reading.{BeginsLevel}
 use Rattle.dia_check.specs.Streaming.{is_sound, wanted, taken_of, BeginsGood, Takes, OpensLevel, HasRead, HasReadUnless, HasTaken, IsSpentStage, IsStage, MayRead, OpensBehind}
-use Rattle.dia_check.proofs.StreamMessages.{length_sound, short_wants, sound_wants, unsound_wants, same_sound, same_wanted, sound_length, however_on, zeros_to_end, ends_with_zeros}
+use Rattle.dia_check.proofs.StreamMessages.{short_wants, sound_wants, unsound_wants, same_sound, same_wanted, sound_length, however_on, zeros_to_end, ends_with_zeros}
 use Rattle.dia_check.proofs.HeadsInPieces.{prefix}
 
 -- ---- stages
@@ -354,15 +354,3 @@ SpentError (Err fault.Spent) = ⊤
 
 pub not_spent_error : {T : Type 0} (r : Result T StreamFault) (e : StreamFault) → r ≡ Err e → e ≡ fault.NoMemory → r ≡ Err fault.Spent → ⊥
 not_spent_error r e is memory other = subst SpentError (sym other ∙ is ∙ ap (λ (x : StreamFault). Err x) memory) tt
-
--- ---- a whole message
-
-pub whole_taken : (bytes : List ℕ) (n : ℕ) → HasLength bytes (length bytes) → take n bytes ≡ taken_of bytes → take n bytes ≡ bytes
-whole_taken bytes n sized is = is ∙ ap (λ (k : ℕ). take k bytes) (length_sound bytes (length bytes) sized).1 ∙ take_all (length bytes) bytes (omega arith)
-
-pub whole_filled : (bytes : List ℕ) → HasLength bytes (length bytes) → filled (taken_of bytes) ≡ bytes
-whole_filled bytes sized =
-    let same : taken_of bytes ≡ bytes = ap (λ (k : ℕ). take k bytes) (length_sound bytes (length bytes) sized).1 ∙ take_all (length bytes) bytes (omega arith) in
-    let e = sized.is_length in
-    let none : number (take 3 (drop 1 bytes)) - length bytes ≡ 0 = omega (arith, e) in
-    ap filled same ∙ ap (λ (k : ℕ). bytes ++ replicate k 0) none ∙ append-nil bytes

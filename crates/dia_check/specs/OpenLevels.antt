@@ -1,5 +1,5 @@
 -- What a checker keeps of the levels that are open: the run that each is in, and how often each of its rules was met.
-use Rattle.std.specs.Prelude.{◌≡◌, ◌≢◌, ℕ, zero, suc, ◌+◌, ◌<◌, ◌≤◌, ◌⊎◌, ◌==◌, if◌then◌else◌, false, List, [], ◌∷◌, ◌++◌, length, drop, replicate, Option, Some, None, slice_get, slice_index, position, IsTrue}
+use Rattle.std.specs.Prelude.{◌≡◌, ◌≢◌, ℕ, zero, suc, ◌+◌, ◌<◌, ◌≤◌, ◌⊎◌, ◌==◌, if◌then◌else◌, false, List, [], ◌∷◌, ◌++◌, length, drop, replicate, Option, Some, None, slice_get, slice_index, IsTrue}
 use Rattle.std.specs.List.{prefix_len}
 use Rattle.dia_wire.specs.declared.Key.{Key}
 use Rattle.dia_book.specs.declared.DRule.{DRule}
@@ -11,7 +11,7 @@ use Rattle.dia_check.specs.declared.fault.Subject.TheVariants.{Avp}
 use Rattle.dia_check.specs.declared.open_levels.OpenLevel.{OpenLevel}
 use Rattle.dia_check.specs.declared.open_levels.OpenLevels.{OpenLevels}
 use Rattle.dia_check.specs.declared.open_levels.Wrong.{Wrong}
-use Rattle.dia_check.specs.Valid.{fixed_rules, is_listed, has_wildcard, is_wildcard}
+use Rattle.dia_check.specs.Valid.{fixed_rules, is_listed, has_wildcard}
 use Rattle.dia_check.specs.Faults.{runs, run_end, loose_start, met, subject_of, row_of, IsFirstShort, IsFirstMissing}
 
 -- ---- what is wrong with a key behind others, by the rules of their level

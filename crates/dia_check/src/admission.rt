@@ -132,7 +132,12 @@ pub(crate) fn admit<B: Book>(
     }
     let def = open_levels.innermost().def;
     let definition = book.def(def);
-    open_levels.meet(&definition.rules, &definition.shape, book.slot(def, key), key)
+    open_levels.meet(
+        &definition.rules,
+        &definition.shape,
+        book.slot(def, key),
+        key,
+    )
 }
 
 /// What is wrong with the flags of an AVP of this key and entry.

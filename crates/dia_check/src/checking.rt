@@ -1,4 +1,4 @@
-ghost use Rattle.std.specs.Prelude.{◌≡◌, ◌≢◌, ◌↔◌, Err, ℕ, List, length, MatchResult, Result};
+ghost use Rattle.std.specs.Prelude.{◌≡◌, ◌≢◌, ◌↔◌, ◌<◌, ◌^◌, Err, ℕ, List, length, MatchResult, Result};
 ghost use Rattle.dia_book.specs.Dictionary.{Dictionary, IsDictionary};
 ghost use Rattle.dia_policy.specs.declared.Unknown.{Unknown as AnyPolicy};
 ghost use Rattle.dia_policy.specs.declared.Levels.{Levels as AnyLevels};
@@ -9,11 +9,13 @@ ghost use Rattle.dia_check.specs.declared.fault.Refusal.{Refusal as AnyRefusal};
 ghost use Rattle.dia_check.specs.Valid.{IsValid, IsValidOf};
 ghost use Rattle.dia_check.specs.Faults.{IsAnswer, HasGoodHeader, HasLength, Stands, Spot};
 
+use crate::admission::open_body;
+use crate::body::read_piece;
 use crate::fault::{Refusal, Selected};
-use crate::header::whole_header;
-use crate::stream::{Stream, StreamFault};
-use dia_book::Book;
+use crate::header::{good_command, whole_header};
+use dia_book::{Book, DefId};
 use dia_policy::{Levels, Unknown};
+use dia_wire::HEADER_LENGTH;
 use std::alloc::Global;
 
 /// Checks the bytes of a message against a dictionary (RFC 6733 sections 3, 3.2, 4.1 and 4.4): the command of a valid
@@ -41,12 +43,31 @@ pub fn check<B: Book>(
     ensures no_memory { result ≡ Err Refusal.NoMemory → HasLength bytes.now (length bytes.now)
         × HasGoodHeader (B.meaning book.now) bytes.now }
 {
-    whole_header(bytes)?;
-    let mut stream = Stream::new(alloc, book, unknown, levels);
-    match stream.feed(bytes) {
-        Ok(_) => stream.finish(),
-        Err(StreamFault::NoMemory) => Err(Refusal::NoMemory),
-        Err(StreamFault::Spent) => unreachable!(),
+    let header = whole_header(bytes)?;
+    let def = good_command(book, &header)?;
+    check_body(alloc, book, unknown, levels, def, bytes)
+}
+
+/// Checks the body of a whole message with a good header, as a message of this command.
+fn check_body<B: Book>(
+    alloc: Global,
+    book: &B,
+    unknown: Unknown,
+    levels: Levels,
+    def: DefId,
+    bytes: &[u8],
+) -> Result<Selected, Refusal>
+    requires { ∥ ((good : HasGoodHeader (B.meaning book.now) bytes.now) × (good.c ≡ def)
+        × HasLength bytes.now (length bytes.now) × (length bytes.now < 2 ^ 32)) ∥₁ }
+    ensures { (good : HasGoodHeader (B.meaning book.now) bytes.now) → good.c ≡ def
+        → HasLength bytes.now (length bytes.now)
+        → IsAnswer (B.meaning book.now) unknown levels bytes.now result }
+{
+    let mut open_levels = open_body(alloc, book, def, bytes.len())?;
+    let body = &bytes[HEADER_LENGTH..];
+    match read_piece(book, unknown, levels, &mut open_levels, HEADER_LENGTH, body)? {
+        None => Ok(Selected { def }),
+        Some(_) => unreachable!(),
     }
 }
 

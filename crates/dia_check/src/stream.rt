@@ -25,7 +25,8 @@ use thiserror::Error;
 
 /// A message that comes in pieces.
 ///
-/// It keeps the levels that are open, and no bytes but those of a header or of an AVP's head that isn't whole yet.
+/// It keeps the levels that are open, and of the bytes a header or the head of an AVP as long as it isn't whole, and the first
+/// 20 bytes of a leaf's data.
 #[derive(Drop)]
 pub struct Stream<'a, B: Book> {
     alloc: Global,

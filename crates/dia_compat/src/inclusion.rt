@@ -47,7 +47,8 @@ pub enum Answer {
     },
 }
 
-/// Whether the table shows that each valid message of the first dictionary is valid under the second.
+/// Whether the table shows that each message that is valid under the first dictionary, of a command that the table lists, is
+/// valid under the second.
 pub fn check_table<A: Book, B: Book>(
     alloc: Global,
     a: &A,

@@ -1,4 +1,4 @@
-//! Whether each valid message of one dictionary is valid under another.
+//! Whether each message that is valid under one dictionary, of the commands that a table lists, is valid under another.
 #![tactic(auto)]
 
 mod comparing;

@@ -1,4 +1,4 @@
-//! What can break where messages of one dictionary are read by another.
+//! How the levels of a definition can break the rules of another, each with the least length of such a level.
 #![tactic(auto)]
 
 mod costs;

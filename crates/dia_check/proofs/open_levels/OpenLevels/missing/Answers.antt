@@ -3,7 +3,6 @@ use Rattle.std.proofs.Math.Logic.{∥∥₁_elim}
 use Rattle.std.proofs.Props.{props}
 use Rattle.std.specs.Coded.{le_prop}
 use Rattle.std.specs.Prelude.{◌≤◌, length}
-use Rattle.std.proofs.Common.{arith}
 use Rattle.std.proofs.lemmas.Option.{slice_get-get_or}
 use Rattle.dia_check.proofs.KeptLevels.{own_counted, own_size, all_met, one_missing}
 use Rattle.dia_check.proofs.open_levels.OpenLevels.missing.Goals as goal
