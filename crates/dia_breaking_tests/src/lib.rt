@@ -1,5 +1,5 @@
-//! The tests of `breaking`: what breaks between two dictionaries, by public calls alone. `formats` and `flags` are of
-//! dia_entries. There is nothing but tests.
+//! The tests of what breaks between two dictionaries, by public calls alone: `worked` of dia_breaking, and `formats` and `flags`
+//! of dia_entries. There is nothing but tests.
 #![tactic(auto)]
 
 #[cfg(test)]
@@ -8,3 +8,5 @@ mod books;
 mod flags;
 #[cfg(test)]
 mod formats;
+#[cfg(test)]
+mod worked;
