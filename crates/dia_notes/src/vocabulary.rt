@@ -1,6 +1,6 @@
 //! The names that a dictionary has.
 
-use dia_ccf::{Decl, Def, Source, parse};
+use dia_ccf::{CcfFault, Decl, Def, Source, parse};
 use dia_io::Input;
 use dia_places::{nearest_command, nearest_name};
 use indexmap::IndexSet;
@@ -77,6 +77,7 @@ pub fn source_of(alloc: Global, input: &Input) -> Result<Option<Box<Source>>, Al
     };
     match parse(alloc, text) {
         Ok(source) => Ok(Some(Box::new(alloc, source)?)),
+        Err(CcfFault::NoMemory) => Err(AllocError),
         Err(_) => Ok(None),
     }
 }

@@ -1,0 +1,12 @@
+//! The tests of what breaks between two dictionaries, by public calls alone: `worked` of dia_breaking, and `formats` and `flags`
+//! of dia_entries. There is nothing but tests.
+#![tactic(auto)]
+
+#[cfg(test)]
+mod books;
+#[cfg(test)]
+mod flags;
+#[cfg(test)]
+mod formats;
+#[cfg(test)]
+mod worked;
