@@ -1,12 +1,11 @@
 -- What is offered before a key bounds the levels in which another stands too early before it.
-use Rattle.std.proofs.Common.{◌≡◌, ◌≢◌, ℕ, ◌+◌, ◌-◌, ◌/◌, ◌<◌, ◌≤◌, Bool, true, false, List, [], ◌∷◌, ◌++◌, length, take, get_or, Option, Some, None, refl, sym, ap, subst, ◌∙◌, arith, inl, inr}
-use Rattle.std.specs.Prelude.{◌⊎◌, ◌&&◌, ◌||◌, ◌==◌, nat_le, nat_lt, if◌then◌else◌, find, position, slice_get, option_and_then, Contains}
+use Rattle.std.proofs.Common.{◌≡◌, ◌≢◌, ℕ, ◌+◌, ◌<◌, ◌≤◌, Bool, true, false, List, length, take, get_or, Option, Some, None, refl, sym, ap, ◌∙◌, arith}
+use Rattle.std.specs.Prelude.{◌&&◌, ◌||◌, ◌==◌, nat_le, nat_lt, if◌then◌else◌, position, slice_get, option_and_then, Contains}
 use Rattle.std.specs.Option.{option_map_or}
 use Rattle.std.proofs.lemmas.Bool.{leb-true, ltb-true, eqb-true, eqb-false}
 use Rattle.std.proofs.lemmas.Option.{none-some, same_Some}
 use Rattle.std.proofs.lemmas.List.Folds.{list_any_more}
 use Rattle.dia_wire.specs.declared.Key.{Key}
-use Rattle.dia_book.specs.Keys.{same_key}
 use Rattle.dia_book.specs.declared.DRule.{DRule}
 use Rattle.dia_book.specs.declared.Slot.TheVariants as slot
 use Rattle.dia_book.specs.Dictionary.{is_fixed, lists_key, slot_at}
@@ -16,7 +15,6 @@ use Rattle.dia_check.proofs.OneKeyMore.{at_position}
 use Rattle.dia_compat.specs.Tests.{rule_of}
 use Rattle.dia_levels.specs.declared.floor.Floor.{Floor}
 use Rattle.dia_levels.specs.declared.line.Line.{Line}
-use Rattle.dia_levels.specs.declared.offers.Offer.{Offer}
 use Rattle.dia_levels.specs.declared.offers.Offers.{Offers}
 use Rattle.dia_levels.specs.LevelTests.{too_long, capped, filler}
 use Rattle.dia_levels.specs.Offers.{length_at, offered, IsOffered, AreLess, MayCome, AreOfferedFrom, HasLine, HasOrdersFrom}

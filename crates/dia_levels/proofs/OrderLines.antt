@@ -1,9 +1,9 @@
 -- Each level that is late by the second definition shows a line of the order.
-use Rattle.std.proofs.Common.{◌≡◌, ℕ, ◌+◌, ◌<◌, ◌≤◌, Bool, true, false, List, [], ◌∷◌, ◌++◌, length, Option, Some, None, refl, sym, ap, subst, ◌∙◌, arith, inl, inr}
-use Rattle.std.specs.Prelude.{not, min, ◌&&◌, ◌==◌, nat_le, nat_lt, fold, find, filter_map, Contains, if◌then◌else◌, position, slice_get}
+use Rattle.std.proofs.Common.{◌≡◌, ℕ, ◌+◌, ◌<◌, ◌≤◌, Bool, true, false, List, [], ◌∷◌, length, Option, Some, None, refl, sym, ap, subst, ◌∙◌, arith, inl, inr}
+use Rattle.std.specs.Prelude.{not, min, ◌&&◌, ◌==◌, nat_le, nat_lt, find, Contains, if◌then◌else◌, position, slice_get}
 use Rattle.std.specs.Option.{option_map_or}
-use Rattle.std.proofs.lemmas.Bool.{lt-ltb, le-leb, ltb-true, ltb-false, eqb-true}
-use Rattle.std.proofs.lemmas.Option.{none-some, same_Some, slice_get_past}
+use Rattle.std.proofs.lemmas.Bool.{lt-ltb, le-leb, ltb-true, ltb-false}
+use Rattle.std.proofs.lemmas.Option.{none-some, slice_get_past}
 use Rattle.dia_wire.specs.declared.Key.{Key}
 use Rattle.dia_book.specs.declared.DRule.{DRule}
 use Rattle.dia_book.specs.Dictionary.{AreRules, is_fixed, lists_key, slot_at}
@@ -14,9 +14,8 @@ use Rattle.dia_check.proofs.KeysByCounts.{fixed_few}
 use Rattle.dia_check.proofs.OneKeyMore.{at_position}
 use Rattle.dia_compat.specs.Tests.{rule_of, wildcard_of}
 use Rattle.dia_compat.proofs.RunsOfFixedRules.{IsIn}
-use Rattle.dia_compat.proofs.MemberCounts.{in_at, in_contains, contains_in, in_filter}
+use Rattle.dia_compat.proofs.MemberCounts.{in_at, in_filter}
 use Rattle.dia_compat.proofs.PlacedInSecond.{is_listed_by}
-use Rattle.dia_compat.proofs.FitInSecond.{in_filter_map}
 use Rattle.dia_levels.specs.declared.floor.Floor.{Floor}
 use Rattle.dia_levels.specs.declared.line.Line.{Line}
 use Rattle.dia_levels.specs.declared.line.Reason.{Reason}
@@ -35,7 +34,6 @@ use Rattle.dia_levels.proofs.Orders.{late_turned, turned_apart}
 use Rattle.dia_levels.proofs.Places.{Placing, placing}
 use Rattle.dia_levels.proofs.LineBounds.{IsFloor, is_rule}
 use Rattle.dia_levels.proofs.LeastLevels.{not_both}
-use Rattle.dia_levels.proofs.FloorBounds.{rule_of_listed}
 use Rattle.dia_levels.proofs.OrderBounds.{pair_within}
 
 -- ---- the test of an order

@@ -1,12 +1,9 @@
 -- Two keys in an order that one definition allows and another does not, and the least level with both (RFC 6733 section 3.2).
-use Rattle.std.specs.Prelude.{ℕ, ◌+◌, ◌-◌, min, nat_le, nat_lt, Bool, ◌&&◌, ◌==◌, if◌then◌else◌, List, fold, Option, Some, None}
-use Rattle.std.specs.Option.{option_map_or}
+use Rattle.std.specs.Prelude.{ℕ, ◌+◌, ◌-◌, min, nat_le, nat_lt, Bool, ◌&&◌, ◌==◌, if◌then◌else◌, List, Option, Some, None}
 use Rattle.dia_wire.specs.declared.Key.{Key}
 use Rattle.dia_book.specs.declared.DRule.{DRule}
 use Rattle.dia_compat.specs.Tests.{rule_of}
 use Rattle.dia_levels.specs.declared.floor.Floor.{Floor}
-use Rattle.dia_levels.specs.declared.line.Line.{Line}
-use Rattle.dia_levels.specs.declared.line.Reason.TheVariants.{Order}
 use Rattle.dia_levels.specs.Places.{place}
 use Rattle.dia_levels.specs.LevelTests.{too_long, capped, has_room, swapped, many, filler}
 

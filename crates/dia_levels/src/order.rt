@@ -113,8 +113,10 @@ impl<'a, A: Book, B: Book, C: Costs> Level<'a, A, B, C> {
         ensures offers { AreOffers (rules_in (A.meaning self.now.a.book.now) self.now.a.def) offers.new }
         ensures less { AreLess (rules_in (A.meaning self.now.a.book.now) self.now.a.def) offers.new offers.old }
         ensures offered { (x : AnyKey) → key ≡ Some x
-            → place (rules_in (B.meaning self.now.b.book.now) self.now.b.def) x ≡ length (rules_in (B.meaning self.now.b.book.now) self.now.b.def)
-            → IsOffered (C.listed_length self.now.costs.now) (C.other_length self.now.costs.now) (rules_in (A.meaning self.now.a.book.now) self.now.a.def) offers.new x }
+            → place (rules_in (B.meaning self.now.b.book.now) self.now.b.def) x
+            ≡ length (rules_in (B.meaning self.now.b.book.now) self.now.b.def)
+            → IsOffered (C.listed_length self.now.costs.now) (C.other_length self.now.costs.now)
+            (rules_in (A.meaning self.now.a.book.now) self.now.a.def) offers.new x }
     {
         match key {
             Some(x) => {
@@ -132,8 +134,10 @@ impl<'a, A: Book, B: Book, C: Costs> Level<'a, A, B, C> {
         ensures offers { AreOffers (rules_in (A.meaning self.now.a.book.now) self.now.a.def) offers.new }
         ensures less { AreLess (rules_in (A.meaning self.now.a.book.now) self.now.a.def) offers.new offers.old }
         ensures offered { (x : AnyKey) → is_listed rules.now x ≡ true
-            → place (rules_in (B.meaning self.now.b.book.now) self.now.b.def) x ≡ length (rules_in (B.meaning self.now.b.book.now) self.now.b.def)
-            → IsOffered (C.listed_length self.now.costs.now) (C.other_length self.now.costs.now) (rules_in (A.meaning self.now.a.book.now) self.now.a.def) offers.new x }
+            → place (rules_in (B.meaning self.now.b.book.now) self.now.b.def) x
+            ≡ length (rules_in (B.meaning self.now.b.book.now) self.now.b.def)
+            → IsOffered (C.listed_length self.now.costs.now) (C.other_length self.now.costs.now)
+            (rules_in (A.meaning self.now.a.book.now) self.now.a.def) offers.new x }
     {
         for rule in rules {
             self.offer_last(offers, rule.key);
@@ -143,8 +147,11 @@ impl<'a, A: Book, B: Book, C: Costs> Level<'a, A, B, C> {
     /// What is offered before the key of the last fixed rule of `b`.
     fn last_offers(&self, alloc: Global, outer: Option<Key>) -> Result<Offers, AllocError>
         ensures offers { IfOk result (AreOffers (rules_in (A.meaning self.now.a.book.now) self.now.a.def)) }
-        ensures offered { IfOk result (AreOfferedFrom (C.listed_length self.now.costs.now) (C.other_length self.now.costs.now)
-            (rules_in (A.meaning self.now.a.book.now) self.now.a.def) (rules_in (B.meaning self.now.b.book.now) self.now.b.def) outer (length (rules_in (B.meaning self.now.b.book.now) self.now.b.def))) }
+        ensures offered { IfOk result (AreOfferedFrom (C.listed_length self.now.costs.now)
+            (C.other_length self.now.costs.now)
+            (rules_in (A.meaning self.now.a.book.now) self.now.a.def)
+            (rules_in (B.meaning self.now.b.book.now) self.now.b.def)
+            outer (length (rules_in (B.meaning self.now.b.book.now) self.now.b.def))) }
     {
         let (a, b) = (self.a.list(), self.b.list());
         let mut offers = no_offers(alloc, a.len().saturating_add(1))?;
@@ -161,7 +168,9 @@ impl<'a, A: Book, B: Book, C: Costs> Level<'a, A, B, C> {
         ensures key { result.key ≡ Some y }
         ensures length { result.length ≡ with_others self.now.floor.base (filler self.now.floor)
             (by_wildcard + by_wild (rule_of (rules_in (A.meaning self.now.a.book.now) self.now.a.def) y))
-            (capped (offer.length + beyond (C.listed_length self.now.costs.now) (C.other_length self.now.costs.now) y (rule_of (rules_in (A.meaning self.now.a.book.now) self.now.a.def) y))) self.now.floor.wild }
+            (capped (offer.length + beyond (C.listed_length self.now.costs.now)
+            (C.other_length self.now.costs.now)
+            y (rule_of (rules_in (A.meaning self.now.a.book.now) self.now.a.def) y))) self.now.floor.wild }
     {
         let rule = self.a.rule(y);
         let more = offer.length.saturating_add(self.beyond(y, rule));
@@ -184,9 +193,13 @@ impl<'a, A: Book, B: Book, C: Costs> Level<'a, A, B, C> {
         requires { AreOffers (rules_in (A.meaning self.now.a.book.now) self.now.a.def) offers.now }
         ensures reason { result.reason ≡ reasons.Order }
         ensures key { result.key ≡ Some y }
-        ensures least { (x : AnyKey) → IsOffered (C.listed_length self.now.costs.now) (C.other_length self.now.costs.now)
-            (rules_in (A.meaning self.now.a.book.now) self.now.a.def) offers.now x → place (rules_in (A.meaning self.now.a.book.now) self.now.a.def) x ≤ place (rules_in (A.meaning self.now.a.book.now) self.now.a.def) y
-            → result.length ≤ pair_length self.now.floor (C.listed_length self.now.costs.now) (C.other_length self.now.costs.now) (rules_in (A.meaning self.now.a.book.now) self.now.a.def) y x }
+        ensures least { (x : AnyKey) → IsOffered (C.listed_length self.now.costs.now)
+            (C.other_length self.now.costs.now)
+            (rules_in (A.meaning self.now.a.book.now) self.now.a.def) offers.now x
+            → place (rules_in (A.meaning self.now.a.book.now) self.now.a.def) x
+            ≤ place (rules_in (A.meaning self.now.a.book.now) self.now.a.def) y
+            → result.length ≤ pair_length self.now.floor (C.listed_length self.now.costs.now)
+            (C.other_length self.now.costs.now) (rules_in (A.meaning self.now.a.book.now) self.now.a.def) y x }
     {
         let size = offers.nodes.len() / 2;
         let place = self.a.place(y);
@@ -212,16 +225,27 @@ impl<'a, A: Book, B: Book, C: Costs> Level<'a, A, B, C> {
         key: Option<Key>,
     ) -> Result<(), AllocError>
         requires { AreOffers (rules_in (A.meaning self.now.a.book.now) self.now.a.def) offers.old }
-        ensures offers { OnOk result (AreOffers (rules_in (A.meaning self.now.a.book.now) self.now.a.def) offers.new) }
-        ensures less { OnOk result (AreLess (rules_in (A.meaning self.now.a.book.now) self.now.a.def) offers.new offers.old) }
-        ensures offered { OnOk result ((x : AnyKey) → key ≡ Some x → place (rules_in (B.meaning self.now.b.book.now) self.now.b.def) x ≡ at
-            → IsOffered (C.listed_length self.now.costs.now) (C.other_length self.now.costs.now) (rules_in (A.meaning self.now.a.book.now) self.now.a.def) offers.new x) }
+        ensures offers { OnOk result (AreOffers (rules_in (A.meaning self.now.a.book.now) self.now.a.def)
+            offers.new) }
+        ensures less { OnOk result (AreLess (rules_in (A.meaning self.now.a.book.now) self.now.a.def) offers.new
+            offers.old) }
+        ensures offered { OnOk result ((x : AnyKey) → key ≡ Some x
+            → place (rules_in (B.meaning self.now.b.book.now) self.now.b.def) x ≡ at
+            → IsOffered (C.listed_length self.now.costs.now) (C.other_length self.now.costs.now)
+            (rules_in (A.meaning self.now.a.book.now) self.now.a.def) offers.new x) }
         ensures kept { OnOk result ((line : AnyLine) → Contains lines.old.items line
             → Contains lines.new.items line) }
-        ensures line { OnOk result ((y x : AnyKey) → key ≡ Some y → place (rules_in (B.meaning self.now.b.book.now) self.now.b.def) y ≡ at
-            → IsOffered (C.listed_length self.now.costs.now) (C.other_length self.now.costs.now) (rules_in (A.meaning self.now.a.book.now) self.now.a.def) offers.old x → place (rules_in (A.meaning self.now.a.book.now) self.now.a.def) x ≤ place (rules_in (A.meaning self.now.a.book.now) self.now.a.def) y
-            → pair_length self.now.floor (C.listed_length self.now.costs.now) (C.other_length self.now.costs.now) (rules_in (A.meaning self.now.a.book.now) self.now.a.def) y x < too_long
-            → HasLine lines.new.items y (pair_length self.now.floor (C.listed_length self.now.costs.now) (C.other_length self.now.costs.now) (rules_in (A.meaning self.now.a.book.now) self.now.a.def) y x)) }
+        ensures line { OnOk result ((y x : AnyKey) → key ≡ Some y
+            → place (rules_in (B.meaning self.now.b.book.now) self.now.b.def) y ≡ at
+            → IsOffered (C.listed_length self.now.costs.now) (C.other_length self.now.costs.now)
+            (rules_in (A.meaning self.now.a.book.now) self.now.a.def) offers.old x
+            → place (rules_in (A.meaning self.now.a.book.now) self.now.a.def) x
+            ≤ place (rules_in (A.meaning self.now.a.book.now) self.now.a.def) y
+            → pair_length self.now.floor (C.listed_length self.now.costs.now)
+            (C.other_length self.now.costs.now)
+            (rules_in (A.meaning self.now.a.book.now) self.now.a.def) y x < too_long
+            → HasLine lines.new.items y (pair_length self.now.floor (C.listed_length self.now.costs.now)
+            (C.other_length self.now.costs.now) (rules_in (A.meaning self.now.a.book.now) self.now.a.def) y x)) }
     {
         match key {
             Some(y) => {
@@ -237,8 +261,10 @@ impl<'a, A: Book, B: Book, C: Costs> Level<'a, A, B, C> {
 
     /// The lines of the order, from the last rule of `b` to the first.
     fn lines_back(&self, alloc: Global, outer: Option<Key>) -> Result<Vec<Line>, AllocError>
-        ensures { IfOk result (λ lines. HasOrdersFrom self.now.floor (C.listed_length self.now.costs.now) (C.other_length self.now.costs.now)
-            (rules_in (A.meaning self.now.a.book.now) self.now.a.def) (rules_in (B.meaning self.now.b.book.now) self.now.b.def) outer 0 lines.items) }
+        ensures { IfOk result (λ lines. HasOrdersFrom self.now.floor (C.listed_length self.now.costs.now)
+            (C.other_length self.now.costs.now)
+            (rules_in (A.meaning self.now.a.book.now) self.now.a.def)
+            (rules_in (B.meaning self.now.b.book.now) self.now.b.def) outer 0 lines.items) }
     {
         let mut lines = Vec::new(alloc);
         let mut offers = self.last_offers(alloc, outer)?;
@@ -251,8 +277,8 @@ impl<'a, A: Book, B: Book, C: Costs> Level<'a, A, B, C> {
         Ok(lines)
     }
 
-    /// Adds the lines of the order, in the order of the rules of `b`. `outer` is the key of a shortest AVP that neither definition
-    /// lists.
+    /// Adds the lines of the order, in the order of the rules of `b`. `outer` is the key of a shortest AVP that neither
+    /// definition lists.
     pub fn with_order_lines(
         &self,
         alloc: Global,
@@ -261,8 +287,10 @@ impl<'a, A: Book, B: Book, C: Costs> Level<'a, A, B, C> {
     ) -> Result<Vec<Line>, AllocError>
         ensures kept { IfOk result (λ all. (line : AnyLine) → Contains lines.items line
             → Contains all.items line) }
-        ensures orders { IfOk result (λ all. HasOrdersFrom self.now.floor (C.listed_length self.now.costs.now) (C.other_length self.now.costs.now)
-            (rules_in (A.meaning self.now.a.book.now) self.now.a.def) (rules_in (B.meaning self.now.b.book.now) self.now.b.def) outer 0 all.items) }
+        ensures orders { IfOk result (λ all. HasOrdersFrom self.now.floor (C.listed_length self.now.costs.now)
+            (C.other_length self.now.costs.now)
+            (rules_in (A.meaning self.now.a.book.now) self.now.a.def)
+            (rules_in (B.meaning self.now.b.book.now) self.now.b.def) outer 0 all.items) }
     {
         let mut orders = self.lines_back(alloc, outer)?;
         orders.reverse();

@@ -1,4 +1,4 @@
-use Rattle.std.proofs.Common.{◌≡◌, ℕ, true, length, take}
+use Rattle.std.proofs.Common.{◌≡◌, true, length, take}
 use Rattle.dia_wire.specs.declared.Key.{Key}
 use Rattle.dia_check.specs.Valid.{is_listed}
 use Rattle.dia_compat.specs.Tests.{rules_in}
