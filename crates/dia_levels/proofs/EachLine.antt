@@ -1,5 +1,5 @@
 -- Each level that the second definition does not place shows a line, or is late.
-use Rattle.std.proofs.Common.{◌≡◌, ℕ, ◌+◌, ◌-◌, ◌<◌, ◌≤◌, Bool, true, false, List, ◌++◌, Option, Some, None, refl, sym, ap, subst, ◌∙◌, arith, inl, inr}
+use Rattle.std.proofs.Common.{◌≡◌, ℕ, ◌+◌, ◌-◌, ◌<◌, ◌≤◌, Bool, true, false, List, Option, Some, None, refl, sym, ap, subst, ◌∙◌, arith, inl, inr}
 use Rattle.std.specs.Prelude.{◌⊎◌, not, option_and_then, ◌||◌, ◌==◌, IsTrue, is_some, filter_map, Contains, if◌then◌else◌}
 use Rattle.std.specs.Option.{option_map_or}
 use Rattle.std.proofs.lemmas.Bool.{lt-ltb, ne_eqb}
@@ -182,18 +182,12 @@ module _ (f : Floor) (most : ℕ) (listed other : Key → ℕ) (a b : List DRule
       by (inr (Late late)) = inr (inr late)
 
 -- with the lines of the order each shows one
-pub with_orders : (length : Key → ℕ) (a b : List DRule) (counts orders first all : List Line) → first ≡ counts → all ≡ first ++ orders → OrLate length a b counts
-    → ((keys : List Key) → Placed a keys → total length keys < too_long → IsLate (fixed_rules b) keys → (line : Line) × Contains orders line × Shows length a b keys line) → HasEachLine length a b all
-with_orders length a b counts orders first all is is_all each late_shown = λ keys placed room. by keys placed room (each keys placed room)
+pub with_orders : (length : Key → ℕ) (a b : List DRule) (counts first all : List Line) → first ≡ counts → ((line : Line) → Contains first line → Contains all line) → OrLate length a b counts
+    → ((keys : List Key) → Placed a keys → total length keys < too_long → IsLate (fixed_rules b) keys → (line : Line) × Contains all line × Shows length a b keys line) → HasEachLine length a b all
+with_orders length a b counts first all is kept each late_shown = λ keys placed room. by keys placed room (each keys placed room)
   where
-    parts : all ≡ counts ++ orders
-    parts = is_all ∙ ap (λ (ls : List Line). ls ++ orders) is
-
-    into : (line : Line) → IsIn line (counts ++ orders) → Contains all line
-    into line i = contains_in all line (subst (λ (ls : List Line). IsIn line ls) (sym parts) i)
-
     by : (keys : List Key) → Placed a keys → total length keys < too_long → Placed b keys ⊎ ((line : Line) × Contains counts line × Shows length a b keys line) ⊎ IsLate (fixed_rules b) keys
         → Placed b keys ⊎ ((line : Line) × Contains all line × Shows length a b keys line)
     by keys placed room (inl done) = inl done
-    by keys placed room (inr (inl shown)) = inr (shown.0, into shown.0 (in_left counts orders shown.0 (in_contains counts shown.0 shown.1)), shown.2)
-    by keys placed room (inr (inr late)) = let shown = late_shown keys placed room late in inr (shown.0, into shown.0 (in_right counts orders shown.0 (in_contains orders shown.0 shown.1)), shown.2)
+    by keys placed room (inr (inl shown)) = inr (shown.0, kept shown.0 (subst (λ (ls : List Line). Contains ls shown.0) (sym is) shown.1), shown.2)
+    by keys placed room (inr (inr late)) = inr (late_shown keys placed room late)

@@ -19,3 +19,5 @@ pub mod OrderBounds
 pub mod OrderLines
 pub mod AloneBounds
 pub mod Places
+pub mod LeastNodes
+pub mod OfferedKeys

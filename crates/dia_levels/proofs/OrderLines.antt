@@ -1,9 +1,9 @@
 -- Each level that is late by the second definition shows a line of the order.
-use Rattle.std.proofs.Common.{◌≡◌, ℕ, ◌+◌, ◌<◌, ◌≤◌, Bool, true, false, List, [], ◌∷◌, ◌++◌, length, Option, Some, None, refl, sym, ap, subst, ◌∙◌, arith, inl, inr}
-use Rattle.std.specs.Prelude.{not, min, ◌&&◌, ◌==◌, nat_le, nat_lt, fold, find, filter_map, Contains, if◌then◌else◌, position, slice_get}
+use Rattle.std.proofs.Common.{◌≡◌, ℕ, ◌+◌, ◌<◌, ◌≤◌, Bool, true, false, List, [], ◌∷◌, length, Option, Some, None, refl, sym, ap, subst, ◌∙◌, arith, inl, inr}
+use Rattle.std.specs.Prelude.{not, min, ◌&&◌, ◌==◌, nat_le, nat_lt, find, Contains, if◌then◌else◌, position, slice_get}
 use Rattle.std.specs.Option.{option_map_or}
-use Rattle.std.proofs.lemmas.Bool.{lt-ltb, le-leb, ltb-true, ltb-false, eqb-true}
-use Rattle.std.proofs.lemmas.Option.{none-some, same_Some, slice_get_past}
+use Rattle.std.proofs.lemmas.Bool.{lt-ltb, le-leb, ltb-true, ltb-false}
+use Rattle.std.proofs.lemmas.Option.{none-some, slice_get_past}
 use Rattle.dia_wire.specs.declared.Key.{Key}
 use Rattle.dia_book.specs.declared.DRule.{DRule}
 use Rattle.dia_book.specs.Dictionary.{AreRules, is_fixed, lists_key, slot_at}
@@ -14,9 +14,8 @@ use Rattle.dia_check.proofs.KeysByCounts.{fixed_few}
 use Rattle.dia_check.proofs.OneKeyMore.{at_position}
 use Rattle.dia_compat.specs.Tests.{rule_of, wildcard_of}
 use Rattle.dia_compat.proofs.RunsOfFixedRules.{IsIn}
-use Rattle.dia_compat.proofs.MemberCounts.{in_at, in_contains, contains_in, in_filter}
+use Rattle.dia_compat.proofs.MemberCounts.{in_at, in_filter}
 use Rattle.dia_compat.proofs.PlacedInSecond.{is_listed_by}
-use Rattle.dia_compat.proofs.FitInSecond.{in_filter_map}
 use Rattle.dia_levels.specs.declared.floor.Floor.{Floor}
 use Rattle.dia_levels.specs.declared.line.Line.{Line}
 use Rattle.dia_levels.specs.declared.line.Reason.{Reason}
@@ -28,13 +27,13 @@ use Rattle.dia_levels.specs.Orders.{IsTurned}
 use Rattle.dia_levels.specs.Places.{place_of, place}
 use Rattle.dia_levels.specs.LevelTests.{too_long, capped, price, filler, has_room, swapped, many, is_outside}
 use Rattle.dia_levels.specs.Levels.{ShowsAt, Shows, FirstIsShortest}
-use Rattle.dia_levels.specs.OrderTests.{is_turned, beyond, by_wild, with_others, pair_length, better, better_by, best_by, best_of, short_line, order_line}
+use Rattle.dia_levels.specs.OrderTests.{is_turned, beyond, by_wild, with_others, pair_length}
+use Rattle.dia_levels.specs.Offers.{MayCome, HasLine, HasOrdersFrom}
 use Rattle.dia_levels.proofs.CountsAndRanks.{rules_sound, ranked}
 use Rattle.dia_levels.proofs.Orders.{late_turned, turned_apart}
 use Rattle.dia_levels.proofs.Places.{Placing, placing}
 use Rattle.dia_levels.proofs.LineBounds.{IsFloor, is_rule}
 use Rattle.dia_levels.proofs.LeastLevels.{not_both}
-use Rattle.dia_levels.proofs.FloorBounds.{rule_of_listed}
 use Rattle.dia_levels.proofs.OrderBounds.{pair_within}
 
 -- ---- the test of an order
@@ -82,73 +81,9 @@ unruled rules k none = by (rule_of rules k) refl
     by None e = e
     by (Some r) e = let own = is_rule rules k r e in absurd (not_both (is_listed rules k) (is_listed_by rules k r own.0 own.1) none)
 
--- ---- the shortest line
-
--- a line for another: of the same reason and key, no longer, and where a test holds no longer than this
-abbrev Bettered : Line → Line → Bool → ℕ → Type 0
-Bettered line best t n = (line.reason ≡ best.reason) × (line.key ≡ best.key) × (line.length ≤ best.length) × (t ≡ true → line.length ≤ n)
-
-bettered : (t u : Bool) (best : Line) (x : Key) (n : ℕ) → nat_lt n best.length ≡ u → Bettered (if t && u then record { reason = best.reason; key = best.key; behind = Some x; length = n } else best) best t n
-bettered true true best x n e = (refl, refl, (let lt = ltb-true n best.length e in omega (arith, lt)), λ h. omega arith)
-bettered true false best x n e = (refl, refl, omega arith, λ h. ltb-false n best.length e)
-bettered false u best x n e = (refl, refl, omega arith, λ h. absurd (let g : false ≡ true = h in cc))
-
-module _ (turned : Key → Bool) (long : Key → ℕ) where
-  -- the same of a key, if there is one
-  abbrev IsNext : Line → Line → Option Key → Type 0
-  IsNext line best o = (line.reason ≡ best.reason) × (line.key ≡ best.key) × (line.length ≤ best.length) × ((x : Key) → o ≡ Some x → turned x ≡ true → line.length ≤ long x)
-
-  next_by : (best : Line) (o : Option Key) → IsNext (option_map_or (better turned long best) o best) best o
-  next_by best None = (refl, refl, omega arith, λ x e. absurd (none-some x e))
-  next_by best (Some k) =
-      let s = bettered (turned k) (nat_lt (long k) best.length) best k (long k) refl in
-      (s.0, s.1, s.2, λ x e h. let same = same_Some k x e in let le = s.3 (ap turned same ∙ h) in let own = ap long same in omega (arith, le, own))
-
-  -- and of the keys of rules
-  abbrev AreNext : Line → Line → List DRule → Type 0
-  AreNext line best rules = (line.reason ≡ best.reason) × (line.key ≡ best.key) × (line.length ≤ best.length) × ((x : Key) (r : DRule) → IsIn r rules → r.key ≡ Some x → turned x ≡ true → line.length ≤ long x)
-
-  next_more : (best next last : Line) (s : DRule) (rules : List DRule) → IsNext next best s.key → AreNext last next rules → AreNext last best (s ∷ rules)
-  next_more best next last s rules one ih = (ih.0 ∙ one.0, ih.1 ∙ one.1, omega (arith, ih.2, one.2), each)
-    where
-      each : (x : Key) (r : DRule) → IsIn r (s ∷ rules) → r.key ≡ Some x → turned x ≡ true → last.length ≤ long x
-      each x r (inl same) e h =
-          let le = one.3 x (ap (λ (t : DRule). t.key) (sym same) ∙ e) h in
-          omega (arith, le, ih.2)
-      each x r (inr i) e h = ih.3 x r i e h
-
-  next_rules : (best : Line) (rules : List DRule) → AreNext (fold (better_by turned long) best rules) best rules
-  next_rules best [] = (refl, refl, omega arith, λ x r i. absurd i)
-  next_rules best (s ∷ rules) = next_more best (better_by turned long best s) (fold (better_by turned long) (better_by turned long best s) rules) s rules (next_by best s.key) (next_rules (better_by turned long best s) rules)
-
-  pub best_is : (y : Key) (a b : List DRule) (outer : Option Key) → ((best_of turned long y a b outer).reason ≡ Order) × ((best_of turned long y a b outer).key ≡ Some y)
-  best_is y a b outer =
-      let first = next_rules (record { reason = Order; key = Some y; behind = None; length = too_long }) a in
-      let second = next_rules (fold (better_by turned long) (record { reason = Order; key = Some y; behind = None; length = too_long }) a) b in
-      let third = next_by (best_by turned long y a b) outer in
-      (third.0 ∙ second.0 ∙ first.0, third.1 ∙ second.1 ∙ first.1)
-
-  pub best_first : (y : Key) (a b : List DRule) (outer : Option Key) (x : Key) (r : DRule) → IsIn r a → r.key ≡ Some x → turned x ≡ true → (best_of turned long y a b outer).length ≤ long x
-  best_first y a b outer x r i e h =
-      let first = next_rules (record { reason = Order; key = Some y; behind = None; length = too_long }) a in
-      let second = next_rules (fold (better_by turned long) (record { reason = Order; key = Some y; behind = None; length = too_long }) a) b in
-      let third = next_by (best_by turned long y a b) outer in
-      let le = first.3 x r i e h in
-      omega (arith, le, second.2, third.2)
-
-  pub best_second : (y : Key) (a b : List DRule) (outer : Option Key) (x : Key) (r : DRule) → IsIn r b → r.key ≡ Some x → turned x ≡ true → (best_of turned long y a b outer).length ≤ long x
-  best_second y a b outer x r i e h =
-      let second = next_rules (fold (better_by turned long) (record { reason = Order; key = Some y; behind = None; length = too_long }) a) b in
-      let third = next_by (best_by turned long y a b) outer in
-      let le = second.3 x r i e h in
-      omega (arith, le, third.2)
-
-  pub best_outer : (y : Key) (a b : List DRule) (outer : Option Key) (x : Key) → outer ≡ Some x → turned x ≡ true → (best_of turned long y a b outer).length ≤ long x
-  best_outer y a b outer x e h = let third = next_by (best_by turned long y a b) outer in third.3 x e h
-
 -- ---- keys that neither lists stand for one another
 
-others_more : (base filler n p q : ℕ) (o : Option DRule) → p ≤ q → with_others base filler n p o ≤ with_others base filler n q o
+pub others_more : (base filler n p q : ℕ) (o : Option DRule) → p ≤ q → with_others base filler n p o ≤ with_others base filler n q o
 others_more base filler n p q None le = by (n == 0)
   where
     by : (t : Bool) → (if t then swapped base 0 p else too_long) ≤ (if t then swapped base 0 q else too_long)
@@ -175,9 +110,6 @@ module _ (f : Floor) (listed other : Key → ℕ) (others : List Key) (a b : Lis
   abbrev outer : Option Key
   outer = find (is_outside a b) others
 
-  abbrev best : Key → Line
-  best y = best_of (is_turned a b y) (pair_length f listed other a y) y a b outer
-
   same_pair : (y x o : Key) → rule_of a x ≡ None → rule_of a o ≡ None → other o ≤ other x → pair_length f listed other a y o ≤ pair_length f listed other a y x
   same_pair y x o none none_o le =
       let more = others_more f.base (filler f) (1 + by_wild (rule_of a y)) (capped (capped (other o) + beyond listed other y (rule_of a y))) (capped (capped (other x) + beyond listed other y (rule_of a y))) f.wild (omega (arith, le)) in
@@ -191,11 +123,18 @@ module _ (f : Floor) (listed other : Key → ℕ) (others : List Key) (a b : Lis
       let second : place b o ≡ place b x = unlisted_last b o are_b g' ∙ sym (unlisted_last b x are_b e') in
       ap (λ (n : ℕ). nat_le n (place a y) && nat_lt (place b y) (place b o)) first ∙ ap (λ (n : ℕ). nat_le (place a x) (place a y) && nat_lt (place b y) n) second ∙ h
 
-  best_within : (keys : List Key) (y x : Key) → total (price listed other a) keys < too_long → IsIn x keys → is_turned a b y x ≡ true → pair_length f listed other a y x ≤ total (price listed other a) keys
-      → (best y).length ≤ total (price listed other a) keys
-  best_within keys y x room i turned le = by (is_listed a x) refl (is_listed b x) refl
+  -- so a key for which a line was found is no matter
+  found_within : (lines : List Line) → HasOrdersFrom f listed other a b outer 0 lines → (keys : List Key) (y x : Key) → total (price listed other a) keys < too_long → IsIn x keys → is_turned a b y x ≡ true
+      → pair_length f listed other a y x ≤ total (price listed other a) keys → HasLine lines y (total (price listed other a) keys)
+  found_within lines orders keys y x room i turned le = by (is_listed a x) refl (is_listed b x) refl
     where
-      by_outer : (o : Option Key) → outer ≡ o → is_listed a x ≡ false → is_listed b x ≡ false → (best y).length ≤ total (price listed other a) keys
+      of : (z : Key) → MayCome a b outer z → is_turned a b y z ≡ true → pair_length f listed other a y z ≤ total (price listed other a) keys → HasLine lines y (total (price listed other a) keys)
+      of z may test within =
+          let l = orders y z may (omega arith) test (omega (arith, within, room)) in
+          let short = l.4 in
+          (l.0, l.1, l.2, l.3, omega (arith, short, within))
+
+      by_outer : (o : Option Key) → outer ≡ o → is_listed a x ≡ false → is_listed b x ≡ false → HasLine lines y (total (price listed other a) keys)
       by_outer None e none none_b =
           let long = shortest x none none_b in
           let same : option_map_or other outer too_long ≡ too_long = ap (λ (o : Option Key). option_map_or other o too_long) e in
@@ -207,55 +146,36 @@ module _ (f : Floor) (listed other : Key → ℕ) (others : List Key) (a b : Lis
           let parts = outside_parts (is_listed a o) (is_listed b o) found.2 in
           let long = shortest x none none_b in
           let same : option_map_or other outer too_long ≡ other o = ap (λ (q : Option Key). option_map_or other q too_long) e in
-          let test = same_turned y x o none none_b parts.0 parts.1 turned in
-          let first = best_outer (is_turned a b y) (pair_length f listed other a y) y a b outer o e test in
           let more = same_pair y x o (unruled a x none) (unruled a o parts.0) (omega (arith, long, same)) in
-          omega (arith, first, more, le)
+          of o (inr (inr e)) (same_turned y x o none none_b parts.0 parts.1 turned) (omega (arith, more, le))
 
-      by : (t : Bool) → is_listed a x ≡ t → (u : Bool) → is_listed b x ≡ u → (best y).length ≤ total (price listed other a) keys
-      by true e u g =
-          let r = rule_of_listed a x e in
-          let first = best_first (is_turned a b y) (pair_length f listed other a y) y a b outer x r.0 r.1 r.2 turned in
-          omega (arith, first, le)
-      by false e true g =
-          let r = rule_of_listed b x g in
-          let first = best_second (is_turned a b y) (pair_length f listed other a y) y a b outer x r.0 r.1 r.2 turned in
-          omega (arith, first, le)
+      by : (t : Bool) → is_listed a x ≡ t → (u : Bool) → is_listed b x ≡ u → HasLine lines y (total (price listed other a) keys)
+      by true e u g = of x (inl e) turned le
+      by false e true g = of x (inr (inl g)) turned le
       by false e false g = by_outer outer refl e g
 
   -- keys that are placed by the first and late by the second show the line of the later one
-  pub late_shown : (keys : List Key) → Placed a keys → total (price listed other a) keys < too_long → IsLate (fixed_rules b) keys
-      → (line : Line) × Contains (filter_map (order_line f listed other a b outer) b) line × Shows (price listed other a) a b keys line
-  late_shown keys placed room l =
+  pub late_shown : (lines : List Line) → HasOrdersFrom f listed other a b outer 0 lines → (keys : List Key) → Placed a keys → total (price listed other a) keys < too_long → IsLate (fixed_rules b) keys
+      → (line : Line) × Contains lines line × Shows (price listed other a) a b keys line
+  late_shown lines orders keys placed room l =
       let sound = rules_sound a are_a in
       let turned = late_turned a b keys sound placed l in
       let apart = turned_apart a b l.x l.y turned in
       let i = in_at keys l.early l.x l.is_x in
       let j = in_at keys l.late l.y l.is_y in
       let pair = pair_within f listed other a b keys is sound placed l.x l.y (rule_of a l.x) (rule_of a l.y) apart refl refl i j in
-      let same : pair_length f listed other a l.y l.x ≡ with_others f.base (filler f) (by_wild (rule_of a l.x) + by_wild (rule_of a l.y)) (capped (beyond listed other l.x (rule_of a l.x) + beyond listed other l.y (rule_of a l.y))) (wildcard_of a) =
+      let same : pair_length f listed other a l.y l.x
+      ≡ with_others f.base (filler f) (by_wild (rule_of a l.x) + by_wild (rule_of a l.y)) (capped (beyond listed other l.x (rule_of a l.x) + beyond listed other l.y (rule_of a l.y))) (wildcard_of a) =
       ap (λ (o : Option DRule). with_others f.base (filler f) (by_wild (rule_of a l.x) + by_wild (rule_of a l.y)) (capped (beyond listed other l.x (rule_of a l.x) + beyond listed other l.y (rule_of a l.y))) o) wild in
-      let within = best_within keys l.y l.x room i (turned_test a b l.x l.y are_a are_b turned) (omega (arith, pair, same)) in
-      let own = (in_filter is_fixed b l.rule (in_contains (fixed_rules b) l.rule l.has_rule.0)).0 in
-      let short = lt-ltb (best l.y).length too_long (omega (arith, within, room)) in
-      let is_line : order_line f listed other a b outer l.rule ≡ Some (best l.y) =
-      ap (λ (o : Option Key). option_map_or (λ y. short_line (best y)) o None) l.has_rule.1 ∙ ap (λ (t : Bool). if t then Some (best l.y) else None) short in
-      let there = in_filter_map (order_line f listed other a b outer) b l.rule (best l.y) own is_line in
-      let facts = best_is (is_turned a b l.y) (pair_length f listed other a l.y) l.y a b outer in (
-        best l.y,
-        contains_in (filter_map (order_line f listed other a b outer) b) (best l.y) there,
-        (subst (λ (r : Reason). ShowsAt a b keys r (best l.y).key) (sym facts.0) (subst (λ (o : Option Key). ShowsAt a b keys Order o) (sym facts.1) (l, refl)), within),
+      let line = found_within lines orders keys l.y l.x room i (turned_test a b l.x l.y are_a are_b turned) (omega (arith, pair, same)) in (
+        line.0,
+        line.1,
+        (subst (λ (r : Reason). ShowsAt a b keys r line.0.key) (sym line.2) (subst (λ (o : Option Key). ShowsAt a b keys Order o) (sym line.3) (l, refl)), line.4),
       )
-
--- the lines of rules, by what was looked up
-pub orders_are : (f : Floor) (listed other : Key → ℕ) (a b : List DRule) (o p : Option Key) (rules others : List DRule) (first all : List Line) → all ≡ first ++ filter_map (order_line f listed other a b o) rules → o ≡ p → rules ≡ others
-    → all ≡ first ++ filter_map (order_line f listed other a b p) others
-orders_are f listed other a b o p rules others first all is same own =
-    is ∙ ap (λ (q : Option Key). first ++ filter_map (order_line f listed other a b q) rules) same ∙ ap (λ (rs : List DRule). first ++ filter_map (order_line f listed other a b p) rs) own
 
 -- ---- keys that stand last
 
-place_least : (rules : List DRule) (k : Key) → place rules k ≤ length rules
+pub place_least : (rules : List DRule) (k : Key) → place rules k ≤ length rules
 place_least rules k = by (position (lists_key k) rules) refl
   where
     within : (i : ℕ) (r : DRule) → slice_get rules i ≡ Some r → i ≤ length rules
@@ -279,33 +199,3 @@ place_least rules k = by (position (lists_key k) rules) refl
         ap (λ (q : Option ℕ). place_of (length rules) (option_map_or (slot_at rules) q slot.Unlisted)) p ∙ ap (λ (o : Option DRule). place_of (length rules) (option_map_or (λ rule. if is_fixed rule then slot.Fixed i else slot.Loose i) o slot.Unlisted)) r.1 in
         let le = slot_within i (is_fixed r.0) (within i r.0 r.1) in
         omega (arith, there, le)
-
-never_turned : (a b : List DRule) (y x : Key) → place b y ≡ length b → is_turned a b y x ≡ false
-never_turned a b y x last = by (nat_lt (place b y) (place b x)) refl
-  where
-    neither : (t : Bool) → (t && false) ≡ false
-    neither true = refl
-    neither false = refl
-
-    by : (t : Bool) → nat_lt (place b y) (place b x) ≡ t → is_turned a b y x ≡ false
-    by true e = let lt = ltb-true (place b y) (place b x) e in let le = place_least b x in absurd (omega (arith, lt, le, last))
-    by false e = ap (λ (t : Bool). nat_le (place a x) (place a y) && t) e ∙ neither (nat_le (place a x) (place a y))
-
-module _ (turned : Key → Bool) (long : Key → ℕ) (never : (x : Key) → turned x ≡ false) where
-  never_by : (best : Line) (o : Option Key) → option_map_or (better turned long best) o best ≡ best
-  never_by best None = refl
-  never_by best (Some k) = ap (λ (t : Bool). if t && nat_lt (long k) best.length then record { reason = best.reason; key = best.key; behind = Some k; length = long k } else best) (never k)
-
-  never_rules : (best : Line) (rules : List DRule) → fold (better_by turned long) best rules ≡ best
-  never_rules best [] = refl
-  never_rules best (s ∷ rules) = ap (λ (l : Line). fold (better_by turned long) l rules) (never_by best s.key) ∙ never_rules best rules
-
-  never_best : (y : Key) (a b : List DRule) (outer : Option Key) → best_of turned long y a b outer ≡ record { reason = Order; key = Some y; behind = None; length = too_long }
-  never_best y a b outer =
-      never_by (best_by turned long y a b) outer
-      ∙ never_rules (fold (better_by turned long) (record { reason = Order; key = Some y; behind = None; length = too_long }) a) b
-      ∙ never_rules (record { reason = Order; key = Some y; behind = None; length = too_long }) a
-
--- a key that no rule of the second definition fixes has no line
-pub no_line : (a b : List DRule) (y : Key) (long : Key → ℕ) (outer : Option Key) → (place b y == length b) ≡ true → None ≡ short_line (best_of (is_turned a b y) long y a b outer)
-no_line a b y long outer e = sym (ap short_line (never_best (is_turned a b y) long (λ x. never_turned a b y x (eqb-true (place b y) (length b) e)) y a b outer))

@@ -40,7 +40,7 @@ rank_below (s ∷ rules) k r (inr i) e = by (lists_key k s) refl (rank_below rul
     by true f ih = let none : (if lists_key k s then 0 else suc (rank rules k)) ≡ 0 = ap (λ (b : Bool). if b then 0 else suc (rank rules k)) f in omega (arith, none)
     by false f ih = let more : (if lists_key k s then 0 else suc (rank rules k)) ≡ suc (rank rules k) = ap (λ (b : Bool). if b then 0 else suc (rank rules k)) f in omega (arith, more, ih)
 
-key_of : (k : Key) (o : Option Key) → option_map_or (same_key k) o false ≡ true → o ≡ Some k
+pub key_of : (k : Key) (o : Option Key) → option_map_or (same_key k) o false ≡ true → o ≡ Some k
 key_of k None h = absurd (let f : false ≡ true = h in cc)
 key_of k (Some q) h = ap (λ (x : Key). Some x) (sym (same_key-true k q h))
 

@@ -10,3 +10,4 @@ pub mod Levels
 pub mod Laws
 pub mod Places
 pub mod OrderTests
+pub mod Offers

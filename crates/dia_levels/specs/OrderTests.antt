@@ -1,12 +1,9 @@
 -- Two keys in an order that one definition allows and another does not, and the least level with both (RFC 6733 section 3.2).
-use Rattle.std.specs.Prelude.{ℕ, ◌+◌, ◌-◌, min, nat_le, nat_lt, Bool, ◌&&◌, ◌==◌, if◌then◌else◌, List, fold, Option, Some, None}
-use Rattle.std.specs.Option.{option_map_or}
+use Rattle.std.specs.Prelude.{ℕ, ◌+◌, ◌-◌, min, nat_le, nat_lt, Bool, ◌&&◌, ◌==◌, if◌then◌else◌, List, Option, Some, None}
 use Rattle.dia_wire.specs.declared.Key.{Key}
 use Rattle.dia_book.specs.declared.DRule.{DRule}
 use Rattle.dia_compat.specs.Tests.{rule_of}
 use Rattle.dia_levels.specs.declared.floor.Floor.{Floor}
-use Rattle.dia_levels.specs.declared.line.Line.{Line}
-use Rattle.dia_levels.specs.declared.line.Reason.TheVariants.{Order}
 use Rattle.dia_levels.specs.Places.{place}
 use Rattle.dia_levels.specs.LevelTests.{too_long, capped, has_room, swapped, many, filler}
 
@@ -33,28 +30,3 @@ with_others base filler n length (Some wild) = if has_room n wild.max then swapp
 abbrev pub pair_length : Floor → (Key → ℕ) → (Key → ℕ) → List DRule → Key → Key → ℕ
 pair_length f listed other a y x =
     with_others f.base (filler f) (by_wild (rule_of a x) + by_wild (rule_of a y)) (capped (beyond listed other x (rule_of a x) + beyond listed other y (rule_of a y))) f.wild
-
--- the shorter of two lines, of which the second has this key before its own
-abbrev pub better : (Key → Bool) → (Key → ℕ) → Line → Key → Line
-better turned length best x = if turned x && nat_lt (length x) best.length then record { reason = best.reason; key = best.key; behind = Some x; length = length x } else best
-
--- the same by the key of a rule
-abbrev pub better_by : (Key → Bool) → (Key → ℕ) → Line → DRule → Line
-better_by turned length best rule = option_map_or (better turned length best) rule.key best
-
--- the shortest of the levels with a key of these rules before y
-abbrev pub best_by : (Key → Bool) → (Key → ℕ) → Key → List DRule → List DRule → Line
-best_by turned length y a b = fold (better_by turned length) (fold (better_by turned length) (record { reason = Order; key = Some y; behind = None; length = too_long }) a) b
-
--- the shortest of the levels with a key of these rules, or the one that no rule lists, before y
-abbrev pub best_of : (Key → Bool) → (Key → ℕ) → Key → List DRule → List DRule → Option Key → Line
-best_of turned length y a b outer =
-    option_map_or (better turned length (best_by turned length y a b)) outer (best_by turned length y a b)
-
--- it, if it is not too long
-abbrev pub short_line : Line → Option Line
-short_line line = if nat_lt line.length too_long then Some line else None
-
--- the line of a rule of the second definition
-abbrev pub order_line : Floor → (Key → ℕ) → (Key → ℕ) → List DRule → List DRule → Option Key → DRule → Option Line
-order_line f listed other a b outer rule = option_map_or (λ y. short_line (best_of (is_turned a b y) (pair_length f listed other a y) y a b outer)) rule.key None

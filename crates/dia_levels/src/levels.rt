@@ -55,7 +55,7 @@ pub fn level_lines<A: Book, B: Book, C: Costs>(
     };
     let outer = first_outside(&level.a, &level.b, costs.others());
     let lines = all_lines(alloc, &level)?;
-    let all = level.with_order_lines(lines, outer, level.b.list())?;
+    let all = level.with_order_lines(alloc, lines, outer)?;
     Ok(all)
 }
 

@@ -10,6 +10,7 @@ mod lengths;
 mod level;
 mod levels;
 mod line;
+mod offers;
 mod order;
 mod parts;
 mod plans;

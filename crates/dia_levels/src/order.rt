@@ -1,16 +1,24 @@
 //! The levels of a definition of A whose order breaks the rules of one of B.
-ghost use Rattle.std.specs.Prelude.{◌≡◌, ◌++◌, IfOk, filter_map, fold};
-ghost use Rattle.dia_compat.specs.Tests.{rules_in};
-ghost use Rattle.dia_levels.specs.OrderTests.{is_turned, beyond, by_wild, with_others};
-ghost use Rattle.dia_levels.specs.OrderTests.{pair_length, better, better_by, best_of};
-ghost use Rattle.dia_levels.specs.OrderTests.{short_line, order_line};
+ghost use Rattle.std.specs.Prelude.{◌≡◌, ◌+◌, ◌<◌, ◌≤◌, ℕ, true, Some, length, IfOk, OnOk};
+ghost use Rattle.std.specs.Prelude.{Contains};
+ghost use Rattle.dia_wire.specs.declared.Key.{Key as AnyKey};
+ghost use Rattle.dia_check.specs.Valid.{is_listed};
+ghost use Rattle.dia_compat.specs.Tests.{rules_in, rule_of};
+ghost use Rattle.dia_levels.specs.declared.line.Line.{Line as AnyLine};
+ghost use Rattle.dia_levels.specs.declared.line.Reason.TheVariants as reasons;
+ghost use Rattle.dia_levels.specs.LevelTests.{too_long, capped, filler};
+ghost use Rattle.dia_levels.specs.Offers.{AreOffers, IsOffered, AreLess, AreOfferedFrom};
+ghost use Rattle.dia_levels.specs.Offers.{HasLine, HasOrdersFrom};
+ghost use Rattle.dia_levels.specs.OrderTests.{beyond, by_wild, with_others, pair_length};
+ghost use Rattle.dia_levels.specs.Places.{place};
 
 use crate::costs::Costs;
 use crate::lengths::{TOO_LONG, capped, has_room, many, swapped};
 use crate::level::Level;
 use crate::line::{Line, Reason};
+use crate::offers::{Offer, Offers, least_between, lesser, no_offers, put};
 use dia_book::{Book, DRule, Key};
-use std::alloc::AllocError;
+use std::alloc::{AllocError, Global};
 
 /// The least level with so many certain AVPs by the wildcard, and with others: together they have this length. The least that
 /// the wildcard lets in has the length `filler`.
@@ -47,14 +55,6 @@ fn by_wild(rule: Option<DRule>) -> u64
 }
 
 impl<'a, A: Book, B: Book, C: Costs> Level<'a, A, B, C> {
-    /// Whether `a` lets `x` stand before `y`, and `b` wants `y` in front.
-    fn is_turned(&self, y: Key, x: Key) -> bool
-        ensures { result ≡ is_turned (rules_in (A.meaning self.now.a.book.now) self.now.a.def)
-            (rules_in (B.meaning self.now.b.book.now) self.now.b.def) y x }
-    {
-        self.a.place(x) <= self.a.place(y) && self.b.place(y) < self.b.place(x)
-    }
-
     /// What one AVP of the key, whose rule is this, takes beyond the least level.
     fn beyond(&self, key: Key, rule: Option<DRule>) -> u64
         ensures { result ≡ beyond (C.listed_length self.now.costs.now)
@@ -73,161 +73,240 @@ impl<'a, A: Book, B: Book, C: Costs> Level<'a, A, B, C> {
         }
     }
 
-    /// The length of the least level with both keys.
-    fn pair_length(&self, y: Key, x: Key) -> u64
-        ensures { result ≡ pair_length self.now.floor (C.listed_length self.now.costs.now)
-            (C.other_length self.now.costs.now)
-            (rules_in (A.meaning self.now.a.book.now) self.now.a.def) y x }
-    {
-        let (rule_of_x, rule_of_y) = (self.a.rule(x), self.a.rule(y));
-        let more = self
-            .beyond(x, rule_of_x)
-            .saturating_add(self.beyond(y, rule_of_y));
-        with_others(
-            self.floor.base,
-            self.floor.filler(),
-            by_wild(rule_of_x) + by_wild(rule_of_y),
-            capped(more),
-            self.floor.wild,
-        )
-    }
-
-    /// The line with `x` before `y`, if it is shorter than this one.
-    fn better(&self, best: Line, y: Key, x: Key) -> Line
-        ensures { result ≡ better
-            (is_turned (rules_in (A.meaning self.now.a.book.now) self.now.a.def)
-            (rules_in (B.meaning self.now.b.book.now) self.now.b.def) y)
-            (pair_length self.now.floor (C.listed_length self.now.costs.now)
-            (C.other_length self.now.costs.now)
-            (rules_in (A.meaning self.now.a.book.now) self.now.a.def) y) best x }
-    {
-        if !self.is_turned(y, x) {
-            return best;
-        }
-        let length = self.pair_length(y, x);
-        if length < best.length {
-            Line {
-                reason: best.reason,
-                key: best.key,
-                behind: Some(x),
-                length,
-            }
+    /// Which of two keys that take as much comes first: those that `a` lists by their rules, the others by those of `b`.
+    fn turn(&self, x: Key) -> usize {
+        if self.a.lists(x) {
+            self.a.index(x)
         } else {
-            best
+            self.b.index(x)
         }
     }
 
-    /// The line with a rule's key before `y`, if it is shorter than this one.
-    fn better_by(&self, best: Line, y: Key, rule: &DRule) -> Line
-        ensures { result ≡ better_by
-            (is_turned (rules_in (A.meaning self.now.a.book.now) self.now.a.def)
-            (rules_in (B.meaning self.now.b.book.now) self.now.b.def) y)
-            (pair_length self.now.floor (C.listed_length self.now.costs.now)
-            (C.other_length self.now.costs.now)
-            (rules_in (A.meaning self.now.a.book.now) self.now.a.def) y) best rule.now }
+    /// Offers a key before those that come next.
+    fn offer(&self, offers: &mut Offers, x: Key)
+        requires { AreOffers (rules_in (A.meaning self.now.a.book.now) self.now.a.def) offers.old }
+        ensures offers { AreOffers (rules_in (A.meaning self.now.a.book.now) self.now.a.def) offers.new }
+        ensures less { AreLess (rules_in (A.meaning self.now.a.book.now) self.now.a.def) offers.new offers.old }
+        ensures offered { IsOffered (C.listed_length self.now.costs.now) (C.other_length self.now.costs.now)
+            (rules_in (A.meaning self.now.a.book.now) self.now.a.def) offers.new x }
     {
-        match rule.key {
-            Some(x) => self.better(best, y, x),
-            None => best,
+        let rule = self.a.rule(x);
+        let offer = Offer {
+            length: self.beyond(x, rule),
+            turn: self.turn(x),
+            key: Some(x),
+        };
+        match rule {
+            Some(_) => {
+                let leaf = offers.nodes.len() / 2 + self.a.place(x);
+                put(&mut offers.nodes, leaf, offer);
+            }
+            None => {
+                offers.other = lesser(offers.other, offer);
+            }
         }
     }
 
-    /// The shortest of this line and those with a key of these rules before `y`.
-    fn best_by(&self, start: Line, y: Key, rules: &[DRule]) -> Line
-        ensures { result ≡ fold (better_by
-            (is_turned (rules_in (A.meaning self.now.a.book.now) self.now.a.def)
-            (rules_in (B.meaning self.now.b.book.now) self.now.b.def) y)
-            (pair_length self.now.floor (C.listed_length self.now.costs.now)
-            (C.other_length self.now.costs.now)
-            (rules_in (A.meaning self.now.a.book.now) self.now.a.def) y)) start rules.now }
+    /// Offers a key that no fixed rule of `b` is of.
+    fn offer_last(&self, offers: &mut Offers, key: Option<Key>)
+        requires { AreOffers (rules_in (A.meaning self.now.a.book.now) self.now.a.def) offers.old }
+        ensures offers { AreOffers (rules_in (A.meaning self.now.a.book.now) self.now.a.def) offers.new }
+        ensures less { AreLess (rules_in (A.meaning self.now.a.book.now) self.now.a.def) offers.new offers.old }
+        ensures offered { (x : AnyKey) → key ≡ Some x
+            → place (rules_in (B.meaning self.now.b.book.now) self.now.b.def) x
+            ≡ length (rules_in (B.meaning self.now.b.book.now) self.now.b.def)
+            → IsOffered (C.listed_length self.now.costs.now) (C.other_length self.now.costs.now)
+            (rules_in (A.meaning self.now.a.book.now) self.now.a.def) offers.new x }
     {
-        let mut best = start;
+        match key {
+            Some(x) => {
+                if self.b.is_last(x) {
+                    self.offer(offers, x);
+                }
+            }
+            None => {}
+        }
+    }
+
+    /// Offers the keys of these rules that no fixed rule of `b` is of.
+    fn offer_all_last(&self, offers: &mut Offers, rules: &[DRule])
+        requires { AreOffers (rules_in (A.meaning self.now.a.book.now) self.now.a.def) offers.old }
+        ensures offers { AreOffers (rules_in (A.meaning self.now.a.book.now) self.now.a.def) offers.new }
+        ensures less { AreLess (rules_in (A.meaning self.now.a.book.now) self.now.a.def) offers.new offers.old }
+        ensures offered { (x : AnyKey) → is_listed rules.now x ≡ true
+            → place (rules_in (B.meaning self.now.b.book.now) self.now.b.def) x
+            ≡ length (rules_in (B.meaning self.now.b.book.now) self.now.b.def)
+            → IsOffered (C.listed_length self.now.costs.now) (C.other_length self.now.costs.now)
+            (rules_in (A.meaning self.now.a.book.now) self.now.a.def) offers.new x }
+    {
         for rule in rules {
-            best = self.better_by(best, y, rule);
+            self.offer_last(offers, rule.key);
         }
-        best
     }
 
-    /// The shortest line with a key of either definition before `y`, or the one that neither lists.
-    fn best_of(&self, y: Key, outer: Option<Key>) -> Line
-        ensures { result ≡ best_of
-            (is_turned (rules_in (A.meaning self.now.a.book.now) self.now.a.def)
-            (rules_in (B.meaning self.now.b.book.now) self.now.b.def) y)
-            (pair_length self.now.floor (C.listed_length self.now.costs.now)
+    /// What is offered before the key of the last fixed rule of `b`.
+    fn last_offers(&self, alloc: Global, outer: Option<Key>) -> Result<Offers, AllocError>
+        ensures offers { IfOk result (AreOffers (rules_in (A.meaning self.now.a.book.now) self.now.a.def)) }
+        ensures offered { IfOk result (AreOfferedFrom (C.listed_length self.now.costs.now)
             (C.other_length self.now.costs.now)
-            (rules_in (A.meaning self.now.a.book.now) self.now.a.def) y) y
             (rules_in (A.meaning self.now.a.book.now) self.now.a.def)
-            (rules_in (B.meaning self.now.b.book.now) self.now.b.def) outer }
+            (rules_in (B.meaning self.now.b.book.now) self.now.b.def)
+            outer (length (rules_in (B.meaning self.now.b.book.now) self.now.b.def))) }
     {
-        let none = Line {
+        let (a, b) = (self.a.list(), self.b.list());
+        let mut offers = no_offers(alloc, a.len().saturating_add(1))?;
+        self.offer_all_last(&mut offers, a);
+        self.offer_all_last(&mut offers, b);
+        self.offer_last(&mut offers, outer);
+        Ok(offers)
+    }
+
+    /// The line of the least level with `y` and what is offered, where so many of what is offered come by the wildcard.
+    fn line_with(&self, y: Key, by_wildcard: u64, offer: Offer) -> Line
+        requires { by_wildcard ≤ 1 }
+        ensures reason { result.reason ≡ reasons.Order }
+        ensures key { result.key ≡ Some y }
+        ensures length { result.length ≡ with_others self.now.floor.base (filler self.now.floor)
+            (by_wildcard + by_wild (rule_of (rules_in (A.meaning self.now.a.book.now) self.now.a.def) y))
+            (capped (offer.length + beyond (C.listed_length self.now.costs.now)
+            (C.other_length self.now.costs.now)
+            y (rule_of (rules_in (A.meaning self.now.a.book.now) self.now.a.def) y))) self.now.floor.wild }
+    {
+        let rule = self.a.rule(y);
+        let more = offer.length.saturating_add(self.beyond(y, rule));
+        Line {
             reason: Reason::Order,
             key: Some(y),
-            behind: None,
-            length: TOO_LONG,
-        };
-        let best = self.best_by(none, y, self.a.list());
-        let best = self.best_by(best, y, self.b.list());
-        match outer {
-            Some(x) => self.better(best, y, x),
-            None => best,
+            behind: offer.key,
+            length: with_others(
+                self.floor.base,
+                self.floor.filler(),
+                by_wildcard + by_wild(rule),
+                capped(more),
+                self.floor.wild,
+            ),
         }
     }
 
-    /// The line of the order at a rule of `b`, if some level that isn't too long shows it.
-    fn order_line(&self, outer: Option<Key>, rule: &DRule) -> Option<Line>
-        ensures { result ≡ order_line self.now.floor (C.listed_length self.now.costs.now)
+    /// The line of the least level with what is offered before `y`.
+    fn line_at(&self, y: Key, offers: &Offers) -> Line
+        requires { AreOffers (rules_in (A.meaning self.now.a.book.now) self.now.a.def) offers.now }
+        ensures reason { result.reason ≡ reasons.Order }
+        ensures key { result.key ≡ Some y }
+        ensures least { (x : AnyKey) → IsOffered (C.listed_length self.now.costs.now)
             (C.other_length self.now.costs.now)
-            (rules_in (A.meaning self.now.a.book.now) self.now.a.def)
-            (rules_in (B.meaning self.now.b.book.now) self.now.b.def) outer rule.now }
+            (rules_in (A.meaning self.now.a.book.now) self.now.a.def) offers.now x
+            → place (rules_in (A.meaning self.now.a.book.now) self.now.a.def) x
+            ≤ place (rules_in (A.meaning self.now.a.book.now) self.now.a.def) y
+            → result.length ≤ pair_length self.now.floor (C.listed_length self.now.costs.now)
+            (C.other_length self.now.costs.now) (rules_in (A.meaning self.now.a.book.now) self.now.a.def) y x }
     {
-        match rule.key {
-            Some(y) => self.line_at(y, outer),
-            None => None,
+        let size = offers.nodes.len() / 2;
+        let place = self.a.place(y);
+        let listed = least_between(&offers.nodes, size, size + place + 1);
+        let line = self.line_with(y, 0, listed);
+        if place < self.a.list().len() {
+            return line;
         }
-    }
-
-    /// The line of the order at a key of `b`, if some level that isn't too long shows it.
-    fn line_at(&self, y: Key, outer: Option<Key>) -> Option<Line>
-        ensures { result ≡ short_line (best_of
-            (is_turned (rules_in (A.meaning self.now.a.book.now) self.now.a.def)
-            (rules_in (B.meaning self.now.b.book.now) self.now.b.def) y)
-            (pair_length self.now.floor (C.listed_length self.now.costs.now)
-            (C.other_length self.now.costs.now)
-            (rules_in (A.meaning self.now.a.book.now) self.now.a.def) y) y
-            (rules_in (A.meaning self.now.a.book.now) self.now.a.def)
-            (rules_in (B.meaning self.now.b.book.now) self.now.b.def) outer) }
-    {
-        if self.b.is_last(y) {
-            return None;
-        }
-        let line = self.best_of(y, outer);
-        if line.length < TOO_LONG {
-            Some(line)
+        let other = self.line_with(y, 1, offers.other);
+        if other.length < line.length {
+            other
         } else {
-            None
+            line
         }
     }
 
-    /// Adds the lines of the order, in the order of these rules. `outer` is the key of a shortest AVP that neither definition
-    /// lists.
-    pub fn with_order_lines(
+    /// Adds the line of the key at a place of `b`, if it has a fixed rule there, and offers the key to those before it.
+    fn add_line(
         &self,
-        mut lines: Vec<Line>,
-        outer: Option<Key>,
-        rules: &[DRule],
-    ) -> Result<Vec<Line>, AllocError>
-        ensures { IfOk result (λ all. all.items ≡ lines.items ++ filter_map
-            (order_line self.now.floor (C.listed_length self.now.costs.now)
+        offers: &mut Offers,
+        lines: &mut Vec<Line>,
+        at: usize,
+        key: Option<Key>,
+    ) -> Result<(), AllocError>
+        requires { AreOffers (rules_in (A.meaning self.now.a.book.now) self.now.a.def) offers.old }
+        ensures offers { OnOk result (AreOffers (rules_in (A.meaning self.now.a.book.now) self.now.a.def)
+            offers.new) }
+        ensures less { OnOk result (AreLess (rules_in (A.meaning self.now.a.book.now) self.now.a.def) offers.new
+            offers.old) }
+        ensures offered { OnOk result ((x : AnyKey) → key ≡ Some x
+            → place (rules_in (B.meaning self.now.b.book.now) self.now.b.def) x ≡ at
+            → IsOffered (C.listed_length self.now.costs.now) (C.other_length self.now.costs.now)
+            (rules_in (A.meaning self.now.a.book.now) self.now.a.def) offers.new x) }
+        ensures kept { OnOk result ((line : AnyLine) → Contains lines.old.items line
+            → Contains lines.new.items line) }
+        ensures line { OnOk result ((y x : AnyKey) → key ≡ Some y
+            → place (rules_in (B.meaning self.now.b.book.now) self.now.b.def) y ≡ at
+            → IsOffered (C.listed_length self.now.costs.now) (C.other_length self.now.costs.now)
+            (rules_in (A.meaning self.now.a.book.now) self.now.a.def) offers.old x
+            → place (rules_in (A.meaning self.now.a.book.now) self.now.a.def) x
+            ≤ place (rules_in (A.meaning self.now.a.book.now) self.now.a.def) y
+            → pair_length self.now.floor (C.listed_length self.now.costs.now)
+            (C.other_length self.now.costs.now)
+            (rules_in (A.meaning self.now.a.book.now) self.now.a.def) y x < too_long
+            → HasLine lines.new.items y (pair_length self.now.floor (C.listed_length self.now.costs.now)
+            (C.other_length self.now.costs.now) (rules_in (A.meaning self.now.a.book.now) self.now.a.def) y x)) }
+    {
+        match key {
+            Some(y) => {
+                if self.b.place(y) == at {
+                    push_short(lines, self.line_at(y, offers))?;
+                    self.offer(offers, y);
+                }
+            }
+            None => {}
+        }
+        Ok(())
+    }
+
+    /// The lines of the order, from the last rule of `b` to the first.
+    fn lines_back(&self, alloc: Global, outer: Option<Key>) -> Result<Vec<Line>, AllocError>
+        ensures { IfOk result (λ lines. HasOrdersFrom self.now.floor (C.listed_length self.now.costs.now)
             (C.other_length self.now.costs.now)
             (rules_in (A.meaning self.now.a.book.now) self.now.a.def)
-            (rules_in (B.meaning self.now.b.book.now) self.now.b.def) outer) rules.now) }
+            (rules_in (B.meaning self.now.b.book.now) self.now.b.def) outer 0 lines.items) }
     {
-        for rule in rules {
-            match self.order_line(outer, rule) {
-                Some(line) => lines.push(line)?,
-                None => {}
-            }
+        let mut lines = Vec::new(alloc);
+        let mut offers = self.last_offers(alloc, outer)?;
+        let rules = self.b.list();
+        let mut left = rules.len();
+        while left > 0 {
+            left -= 1;
+            self.add_line(&mut offers, &mut lines, left, rules[left].key)?;
         }
         Ok(lines)
     }
+
+    /// Adds the lines of the order, in the order of the rules of `b`. `outer` is the key of a shortest AVP that neither
+    /// definition lists.
+    pub fn with_order_lines(
+        &self,
+        alloc: Global,
+        mut lines: Vec<Line>,
+        outer: Option<Key>,
+    ) -> Result<Vec<Line>, AllocError>
+        ensures kept { IfOk result (λ all. (line : AnyLine) → Contains lines.items line
+            → Contains all.items line) }
+        ensures orders { IfOk result (λ all. HasOrdersFrom self.now.floor (C.listed_length self.now.costs.now)
+            (C.other_length self.now.costs.now)
+            (rules_in (A.meaning self.now.a.book.now) self.now.a.def)
+            (rules_in (B.meaning self.now.b.book.now) self.now.b.def) outer 0 all.items) }
+    {
+        let mut orders = self.lines_back(alloc, outer)?;
+        orders.reverse();
+        lines.extend_from_slice(&orders)?;
+        Ok(lines)
+    }
+}
+
+/// Adds a line, if the level that it tells of isn't too long.
+fn push_short(lines: &mut Vec<Line>, line: Line) -> Result<(), AllocError>
+    ensures kept { OnOk result ((old : AnyLine) → Contains lines.old.items old
+        → Contains lines.new.items old) }
+    ensures line { OnOk result (line.length < too_long → Contains lines.new.items line) }
+{
+    if line.length < TOO_LONG {
+        lines.push(line)?;
+    }
+    Ok(())
 }

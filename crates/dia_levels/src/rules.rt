@@ -45,6 +45,14 @@ impl<'a, B: Book> Rules<'a, B> {
         }
     }
 
+    /// The place of the key's rule, or one behind all.
+    pub fn index(&self, key: Key) -> usize {
+        match self.book.slot(self.def, key) {
+            Slot::Fixed(index) | Slot::Loose(index) => index,
+            Slot::Unlisted => usize::MAX,
+        }
+    }
+
     /// Whether no fixed rule is of this key.
     pub fn is_last(&self, key: Key) -> bool
         ensures { result ≡ (place (rules_in (B.meaning self.now.book.now) self.now.def) key

@@ -1,12 +1,13 @@
-use Rattle.std.proofs.Common.{ap, ◌∙◌}
-use Rattle.std.specs.Prelude.{filter_map, find}
+use Rattle.std.proofs.Common.{Option, ap, subst, ◌∙◌}
+use Rattle.std.specs.Prelude.{find}
+use Rattle.dia_wire.specs.declared.Key.{Key}
 use Rattle.dia_compat.specs.Tests.{rules_in}
 use Rattle.dia_levels.specs.LevelTests.{price, is_outside, lines_of}
-use Rattle.dia_levels.specs.OrderTests.{order_line}
+use Rattle.dia_levels.specs.Offers.{HasOrdersFrom}
 use Rattle.dia_levels.proofs.CountsAndRanks.{rules_sound}
 use Rattle.dia_levels.proofs.EachLine.{each_line, with_orders}
 use Rattle.dia_levels.proofs.FloorFacts.{is_floor}
-use Rattle.dia_levels.proofs.OrderLines.{orders_are, late_shown}
+use Rattle.dia_levels.proofs.OrderLines.{late_shown}
 use Rattle.dia_levels.proofs.levels.level_lines.Goals as goal
 
 pub returns : goal.returns
@@ -22,12 +23,11 @@ returns g c =
     let are_b = c.both_sound.ensures.second in
     let floor = is_floor f listed other others a b facts.base facts.inner facts.second facts.outer facts.needed c.requires.shortest in
     let outer = c.first_outside-outer.ensures ∙ ap (λ keys. find (is_outside a b) keys) c.others.ensures in
-    let rules = c.list.ensures in
     record {
       complete =
-          with_orders (price listed other a) a b (lines_of f c.in_ok-most.most listed other a b) (filter_map (order_line f listed other a b (find (is_outside a b) others)) b) c.in_ok-lines.lines.items c.in_ok-all.all.items
-          c.in_ok-lines.ensures
-          (orders_are f listed other a b c.first_outside-outer.result (find (is_outside a b) others) c.list.result.now b c.in_ok-lines.lines.items c.in_ok-all.all.items c.in_ok-all.ensures outer rules)
+          with_orders (price listed other a) a b (lines_of f c.in_ok-most.most listed other a b) c.in_ok-lines.lines.items c.in_ok-all.all.items
+          c.in_ok-lines.ensures c.in_ok-all.ensures.kept
           (each_line f c.in_ok-most.most listed other a b (rules_sound a are_a) (rules_sound b are_b) floor facts.wild facts.lets_in c.in_ok-most.ensures)
-          (late_shown f listed other others a b are_a are_b floor facts.wild c.requires.shortest);
+          (late_shown f listed other others a b are_a are_b floor facts.wild c.requires.shortest c.in_ok-all.all.items
+          (subst (λ (o : Option Key). HasOrdersFrom f listed other a b o 0 c.in_ok-all.all.items) outer c.in_ok-all.ensures.orders));
     }

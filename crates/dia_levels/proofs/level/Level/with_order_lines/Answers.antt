@@ -1,17 +1,13 @@
-use Rattle.std.proofs.Common.{sym, ap, ◌∙◌}
-use Rattle.dia_compat.specs.Tests.{rules_in}
-use Rattle.dia_levels.specs.OrderTests.{order_line}
-use Rattle.dia_levels.proofs.LinesMore.{lines_more, lines_same}
+use Rattle.std.proofs.Common.{List, sym, subst}
+use Rattle.std.specs.Prelude.{Contains}
+use Rattle.std.proofs.lemmas.List.Elements.{Contains-append_right}
+use Rattle.std.proofs.lemmas.List.Sorted.{Contains-permutation}
+use Rattle.dia_levels.specs.declared.line.Line.{Line}
 use Rattle.dia_levels.proofs.level.Level.with_order_lines.Goals as goal
-use Rattle.dia_levels.proofs.level.Level.with_order_lines.Goals.{in-Some+in_ok-push-in-Some, in-None}
 
-pub loop-rule-preserved : goal.loop-rule-preserved
-loop-rule-preserved g c =
-    let self = c.args.self.now in
-    let line = order_line self.floor (g.C.Costs.listed_length self.costs.now) (g.C.Costs.other_length self.costs.now) (rules_in (g.A.Book.meaning self.a.book.now) self.a.def) (rules_in (g.B.Book.meaning self.b.book.now) self.b.def) c.args.outer in
-    elim c.match-order_line.branch [
-      | in-Some+in_ok-push-in-Some w ↦
-          ap (λ v. v.items) w.lines-is ∙ w.in_ok-push-in-Some.ensures.items
-          ∙ lines_more line c.args.lines.items c.loop-rule.lines.items c.args.rules.now c.loop-rule.rule-index _ w.in-Some.line c.loop-rule-test.true (sym c.order_line.ensures ∙ w.in-Some.is) c.loop-rule.invariant
-      | in-None w ↦ ap (λ v. v.items) w.lines-is ∙ lines_same line c.args.lines.items c.loop-rule.lines.items c.args.rules.now c.loop-rule.rule-index _ c.loop-rule-test.true (sym c.order_line.ensures ∙ w.in-None.is) c.loop-rule.invariant
-    ]
+pub returns-clause-orders : goal.returns-clause-orders
+returns-clause-orders g c = λ y x may from turned short.
+    let l = c.in_ok-orders.ensures y x may from turned short in
+    let turned_round = Contains-permutation c.in_ok-orders.orders.items c.reverse.new.self.items l.0 c.reverse.ensures.permutation l.1 in
+    let there = subst (λ (ls : List Line). Contains ls l.0) (sym c.deref.ensures.value) turned_round in
+    (l.0, subst (λ (ls : List Line). Contains ls l.0) (sym c.in_ok-extend_from_slice.ensures.items) (Contains-append_right c.args.lines.items c.deref.result.now l.0 there), l.2, l.3, l.4)

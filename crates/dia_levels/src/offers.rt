@@ -1,0 +1,97 @@
+//! AVPs that may stand before others, by the places of their keys: a tree of which each node holds the least of its two below.
+ghost use Rattle.std.specs.Prelude.{◌≡◌, ◌+◌, ◌<◌, ◌≤◌, ℕ, min, length, vec_len, IfOk};
+ghost use Rattle.dia_levels.specs.LevelTests.{too_long};
+ghost use Rattle.dia_levels.specs.Offers.{length_at, AreLeast};
+
+use crate::lengths::TOO_LONG;
+use dia_book::Key;
+use std::alloc::{AllocError, Global};
+
+/// One AVP more, of a key that may stand before another.
+#[derive(Clone, Copy, Debug)]
+pub(crate) struct Offer {
+    /// What it takes beyond the least level.
+    pub length: u64,
+    /// Of two that take as much the one with the lesser turn comes first.
+    pub turn: usize,
+    /// None where nothing is offered.
+    pub key: Option<Key>,
+}
+
+/// What is offered before the keys that come next.
+#[derive(Debug, Drop)]
+pub(crate) struct Offers {
+    /// The keys that the sender's definition lists. The second half has the least offer of each place; node `n` of the first
+    /// half has the least of the nodes `2n` and `2n + 1`.
+    pub nodes: Vec<Offer>,
+    /// The least of the keys that the sender's definition doesn't list.
+    pub other: Offer,
+}
+
+fn no_offer() -> Offer
+    ensures { result.length ≡ too_long }
+{
+    Offer {
+        length: TOO_LONG,
+        turn: usize::MAX,
+        key: None,
+    }
+}
+
+/// Nothing is offered at so many places.
+pub(crate) fn no_offers(alloc: Global, places: usize) -> Result<Offers, AllocError>
+    ensures size { IfOk result (λ offers. vec_len offers.nodes ≡ places + places) }
+    ensures tree { IfOk result (λ offers. AreLeast offers.nodes.items) }
+{
+    let mut nodes = Vec::from_elem(alloc, no_offer(), places)?;
+    nodes.resize(nodes.len() * 2, no_offer())?;
+    Ok(Offers {
+        nodes,
+        other: no_offer(),
+    })
+}
+
+/// The lesser of two offers.
+pub(crate) fn lesser(first: Offer, second: Offer) -> Offer
+    ensures { result.length ≡ min first.length second.length }
+{
+    if second.length < first.length || second.length == first.length && second.turn < first.turn {
+        second
+    } else {
+        first
+    }
+}
+
+/// Puts an offer into a leaf, and into the nodes above that hold none that is less.
+pub(crate) fn put(nodes: &mut [Offer], leaf: usize, offer: Offer)
+    requires within { (0 < leaf) × (leaf < length nodes.old) }
+    requires tree { AreLeast nodes.old }
+    ensures tree { AreLeast nodes.new }
+    ensures size { length nodes.new ≡ length nodes.old }
+    ensures below { (i : ℕ) → length_at nodes.new i ≤ length_at nodes.old i }
+    ensures there { length_at nodes.new leaf ≤ offer.length }
+{
+    let mut node = leaf;
+    while node > 0 {
+        nodes[node] = lesser(nodes[node], offer);
+        node /= 2;
+    }
+}
+
+/// The least offer of the leaves from one up to another.
+pub(crate) fn least_between(nodes: &[Offer], from: usize, to: usize) -> Offer
+    requires from { 0 < from }
+    requires to { to ≤ length nodes.now }
+    requires tree { AreLeast nodes.now }
+    ensures { (i : ℕ) → from ≤ i → i < to → result.length ≤ length_at nodes.now i }
+{
+    let mut least = no_offer();
+    let mut low = from;
+    let mut high = to;
+    while low < high {
+        least = lesser(least, lesser(nodes[low], nodes[high - 1]));
+        low = (low + 1) / 2;
+        high /= 2;
+    }
+    least
+}
