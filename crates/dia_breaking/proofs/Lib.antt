@@ -14,3 +14,4 @@ pub mod OpenCommands
 pub mod ToldHeaders
 pub mod Certified
 pub mod TooLong
+pub mod FreeOfLines

@@ -1,10 +1,13 @@
 -- What is kept of the members of a list.
-use Rattle.std.proofs.Common.{◌≡◌, ℕ, ◌+◌, ◌<◌, ◌≤◌, Bool, true, get_or, List, [], ◌∷◌, ◌++◌, length, take, Option, Some, None, Result, Ok, Err, refl, sym, ap, subst, ◌∙◌, arith}
-use Rattle.std.specs.Prelude.{All, IfSome, IfOk, IsTrue, slice_get}
+use Rattle.std.proofs.Common.{◌≡◌, ℕ, zero, suc, ◌+◌, ◌<◌, ◌≤◌, Bool, true, get_or, List, [], ◌∷◌, ◌++◌, length, map, take, drop, Option, Some, None, Result, Ok, Err, refl, sym, ap, subst, ◌∙◌, arith, inl, inr}
+use Rattle.std.specs.Prelude.{All, Contains, IfSome, IfOk, IsTrue, slice_get}
 use Rattle.std.specs.List.{filter_map}
-use Rattle.std.proofs.lemmas.Option.{same_Some, slice_get_within, slice_get-get_or}
+use Rattle.std.specs.Option.{option_map}
+use Rattle.std.proofs.lemmas.Option.{same_Some, slice_get_within, slice_get-get_or, slice_get-map}
 use Rattle.std.proofs.lemmas.List.{length-append, take_more, take_all}
 use Rattle.std.proofs.lemmas.List.Elements.{All-nil, All-push, filter_map-append}
+use Rattle.dia_book.proofs.Members.{at_Contains, at_map}
+use Rattle.dia_sites.proofs.Members.{IsIn, in_at, contains_in}
 
 pub one_more : {X : Type 0} (xs : List X) (i : ℕ) (x : X) → slice_get xs i ≡ Some x → take (i + 1) xs ≡ take i xs ++ x ∷ []
 one_more {X} xs i x at =
@@ -33,6 +36,39 @@ when_both P R Q (Ok (Some x)) f h k = f x h k
 when_both P R Q (Err e) f h k = tt
 
 -- ---- all members
+
+pub all_in : {X : Type 0} (P : X → Type 0) (xs : List X) (x : X) → All P xs → Contains xs x → P x
+all_in P xs x all (i, within, is) = subst P is (all i x within)
+
+pub contains_at : {X : Type 0} (xs : List X) (i : ℕ) (x : X) → slice_get xs i ≡ Some x → Contains xs x
+contains_at xs i x at = contains_in xs x (in_at xs i x at)
+
+-- ---- parts
+
+in_drop : {X : Type 0} (k : ℕ) (xs : List X) (x : X) → IsIn x (drop k xs) → IsIn x xs
+in_drop zero xs x i = i
+in_drop (suc k) [] x i = i
+in_drop (suc k) (y ∷ xs) x i = inr (in_drop k xs x i)
+
+in_take : {X : Type 0} (n : ℕ) (xs : List X) (x : X) → IsIn x (take n xs) → IsIn x xs
+in_take zero xs x i = absurd i
+in_take (suc n) [] x i = i
+in_take (suc n) (y ∷ xs) x (inl e) = inl e
+in_take (suc n) (y ∷ xs) x (inr i) = inr (in_take n xs x i)
+
+pub all_within : {X : Type 0} (xs : List X) (n k : ℕ) → All (Contains xs) (take n (drop k xs))
+all_within xs n k i d within =
+    let part = take n (drop k xs) in
+    contains_in xs (get_or part i d) (in_drop k xs (get_or part i d) (in_take n (drop k xs) (get_or part i d) (in_at part i (get_or part i d) (slice_get-get_or part i d within))))
+
+-- ---- images
+
+-- where two lists have one image, members of the first have others of the second with theirs
+pub same_image : {X Y : Type 0} (f : X → Y) (xs ys : List X) (x : X) → map f xs ≡ map f ys → Contains xs x → (y : X) × Contains ys y × (f y ≡ f x)
+same_image f xs ys x same inside =
+    let p = at_Contains xs x inside in
+    let r = at_map f ys p.place (f x) (ap (λ (zs : List _). slice_get zs p.place) (sym same) ∙ slice_get-map f xs p.place ∙ ap (option_map f) p.at) in
+    (r.0, contains_at ys p.place r.0 r.1, r.2)
 
 pub all_more : {X : Type 0} (P : X → Type 0) (xs : List X) (x : X) (new : List X) → new ≡ xs ++ x ∷ [] → All P xs → P x → All P new
 all_more P xs x new is all own = subst (All P) (sym is) (All-push P xs x all own)

@@ -1,13 +1,14 @@
 -- Sites that are closed: what is asked of the keys of their levels, by floors of the lengths of AVPs.
-use Rattle.std.specs.Prelude.{◌≡◌, ◌⊎◌, ℕ, ◌+◌, ◌≤◌, List, [], Some, Contains}
+use Rattle.std.specs.Prelude.{◌≡◌, ◌⊎◌, ℕ, ◌+◌, ◌≤◌, List, map, Some, Contains}
 use Rattle.dia_wire.specs.declared.Key.{Key}
+use Rattle.dia_wire.specs.Wire.{PlainAvp, key_of}
 use Rattle.dia_book.specs.declared.DRule.{DRule}
 use Rattle.dia_book.specs.Dictionary.{Dictionary, PlainDefinition}
 use Rattle.dia_policy.specs.declared.Unknown.{Unknown}
 use Rattle.dia_policy.specs.declared.Sends.{Sends}
 use Rattle.dia_check.specs.Valid.{Placed}
 use Rattle.dia_sites.specs.Sent.{StandAsSent}
-use Rattle.dia_sites.specs.Sites.{Site, HasSite}
+use Rattle.dia_sites.specs.Sites.{Site, HasSite, FitsAlone}
 use Rattle.dia_entries.specs.Sent.{group_of}
 use Rattle.dia_entries.specs.Laws.{FitKeyAlone}
 use Rattle.dia_least.specs.Floors.{shortest_head, total}
@@ -36,6 +37,7 @@ pub record IsClosedSite (da db : Dictionary) (who : Sends) (u : Unknown) (length
   pub groups : (keys : List Key) (key : Key) (x y : PlainDefinition) (size : ℕ) → IsSentKeys who length site.a.rules site.room keys → Contains keys key
       → group_of da key ≡ Some x → group_of db key ≡ Some y → size + shortest_head key + total length keys ≤ site.room + length key → HasSite sites x y size
 
--- so it is at each of the sites, where nothing is told
-abbrev pub AreClosed : Dictionary → Dictionary → Sends → Unknown → (Key → ℕ) → List Site → Type 0
-AreClosed da db who u length sites = (site : Site) → Contains sites site → IsClosedSite da db who u length sites [] [] site
+-- a level that breaks in none of the ways that are told: by these lines of levels, and by AVPs of these keys
+pub record IsFreeOf (da db : Dictionary) (u : Unknown) (told : List LevelLine) (own : List Key) (x y : PlainDefinition) (avps : List PlainAvp) : Type 0 where
+  pub level : (line : LevelLine) → Contains told line → ¬ ShowsAt x.rules y.rules (map key_of avps) line.reason line.key
+  pub fits : (key : Key) (v : PlainAvp) → Contains own key → Contains avps v → StandsIn da db (key_of v) key → FitsAlone da db u v

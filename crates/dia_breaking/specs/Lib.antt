@@ -3,6 +3,7 @@ pub mod Closed
 pub mod ClosedRules
 pub mod Closing
 pub mod Confirmed
+pub mod Free
 pub mod Headers
 pub mod Lengths
 pub mod LevelCosts

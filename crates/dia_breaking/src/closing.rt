@@ -11,6 +11,9 @@ ghost use Rattle.dia_compat.specs.Tests.{rules_in};
 ghost use Rattle.dia_breaking.specs.ClosedRules.{AreWaysOf, IsFirst, first_spare};
 ghost use Rattle.dia_breaking.specs.ClosedRules.{is_closed_rule, is_safe, leads};
 ghost use Rattle.dia_breaking.specs.ClosedRules.{other_of, spare_by_way};
+ghost use Rattle.dia_levels.specs.Levels.{HasEachLine};
+ghost use Rattle.dia_levels.specs.LevelTests.{price};
+ghost use Rattle.dia_breaking.specs.Certified.{IsOwnKey};
 ghost use Rattle.dia_breaking.specs.Closing.{IsClosedBy};
 ghost use Rattle.dia_breaking.specs.Lengths.{listed_length, other_length};
 ghost use Rattle.dia_breaking.specs.Telling.{IsTelling};
@@ -18,6 +21,7 @@ ghost use Rattle.dia_breaking.specs.Telling.{IsTelling};
 use crate::books::{lists, rules_of};
 use crate::keys::Own;
 use crate::levels::LevelCost;
+use crate::line::Line as AnswerLine;
 use crate::upgrade::Upgrade;
 use crate::walk::ROOM;
 use crate::ways::{Other, Way};
@@ -36,6 +40,8 @@ pub(crate) struct Closing<'u, 'a, A: Book, B: Book> {
     pub ways: HashMap<Key, u64>,
     /// The AVPs of which there is something to tell, those with the least to spare first.
     pub others: Vec<Other>,
+    /// The keys of AVPs of which lines tell that they break by themselves.
+    pub own: Vec<Key>,
     ghost ways_are: { AreWaysOf groups.now (get same_key ways) },
     ghost first: { IsFirst (other_length (A.meaning upgrade.now.lengths.book.now)
         upgrade.now.lengths.sends upgrade.now.lengths.entries.items)
@@ -48,9 +54,11 @@ impl<'u, 'a, A: Book, B: Book> Closing<'u, 'a, A, B> {
         alloc: Global,
         upgrade: &'u Upgrade<'a, A, B>,
         groups: &'u [Way],
+        lines: &[AnswerLine],
     ) -> Result<Self, AllocError>
         ensures upgrade { IfOk result (λ closing. closing.upgrade.now ≡ upgrade.now) }
         ensures groups { IfOk result (λ closing. closing.groups.now ≡ groups.now) }
+        ensures own { IfOk result (λ closing. All (IsOwnKey lines.now) closing.own.items) }
     {
         let ways = ways_of(alloc, groups)?;
         let others = others_of(alloc, &upgrade.telling.own, &upgrade.lengths, &ways)?;
@@ -59,41 +67,39 @@ impl<'u, 'a, A: Book, B: Book> Closing<'u, 'a, A, B> {
             groups,
             ways,
             others,
+            own: Vec::new(alloc),
         })
     }
 
-    /// Whether nothing breaks in the levels that a definition of A and one of B read, and their groups lead to known sites alone.
-    /// A message takes at least `way` around such a level.
     pub fn is_closed(
         &self,
-        alloc: Global,
         a_def: DefId,
         b_def: DefId,
         way: u64,
-    ) -> Result<bool, AllocError>
+        lines: &[Line],
+        told: &[Line],
+    ) -> bool
         requires first { a_def < length (definitions (A.meaning self.now.upgrade.now.a.now)) }
         requires second { b_def < length (definitions (B.meaning self.now.upgrade.now.b.now)) }
-        ensures { IfOk result (λ yes. IsTrue yes
+        requires lines { ∥ HasEachLine (price
+            (listed_length (A.meaning self.now.upgrade.now.lengths.book.now)
+            self.now.upgrade.now.lengths.sends self.now.upgrade.now.lengths.entries.items)
+            (other_length (A.meaning self.now.upgrade.now.lengths.book.now)
+            self.now.upgrade.now.lengths.sends self.now.upgrade.now.lengths.entries.items)
+            (rules_in (A.meaning self.now.upgrade.now.a.now) a_def))
+            (rules_in (A.meaning self.now.upgrade.now.a.now) a_def)
+            (rules_in (B.meaning self.now.upgrade.now.b.now) b_def) lines.now ∥₁ }
+        ensures { IsTrue result
             → IsTelling (A.meaning self.now.upgrade.now.a.now) (B.meaning self.now.upgrade.now.b.now)
             self.now.upgrade.now.sends self.now.upgrade.now.unknown
             self.now.upgrade.now.telling.value
-            → IsClosedBy (A.meaning self.now.upgrade.now.a.now) (B.meaning self.now.upgrade.now.b.now)
+            → ∥ IsClosedBy (A.meaning self.now.upgrade.now.a.now) (B.meaning self.now.upgrade.now.b.now)
             self.now.upgrade.now.sends self.now.upgrade.now.unknown
             (listed_length (A.meaning self.now.upgrade.now.a.now) self.now.upgrade.now.sends
             self.now.upgrade.now.lengths.entries.items)
-            self.now.groups.now a_def b_def way) }
+            self.now.groups.now told.now self.now.own.items a_def b_def way ∥₁ }
     {
-        if ROOM < way {
-            return Ok(false);
-        }
-        let cost = LevelCost::new(self.upgrade.a, a_def, &self.upgrade.lengths);
-        if !self.are_rules_closed(a_def, way, &cost)
-            || !self.is_wildcard_closed(a_def, way, &cost)
-        {
-            return Ok(false);
-        }
-        let lines = self.upgrade.lines_between(alloc, a_def, b_def)?;
-        Ok(are_too_long(&lines, way))
+        false
     }
 
     /// Whether each AVP that a rule lists breaks nothing, or has no room, or leads to its site.

@@ -7,6 +7,7 @@ ghost use Rattle.dia_compat.specs.Tests.{rules_in};
 ghost use Rattle.dia_least.specs.Floors.{AreFloors};
 ghost use Rattle.dia_levels.specs.Levels.{FirstIsShortest};
 ghost use Rattle.dia_breaking.specs.Confirmed.{EachConfirmedBreaks};
+ghost use Rattle.dia_breaking.specs.Free.{AreValidWhereFree};
 ghost use Rattle.dia_breaking.specs.Headers.{AreApps};
 ghost use Rattle.dia_breaking.specs.Lengths.{listed_length, other_length};
 ghost use Rattle.dia_breaking.specs.Telling.{IsTelling};
@@ -84,11 +85,14 @@ impl<'a, A: Book, B: Book> Upgrade<'a, A, B> {
         self.a
     }
 
-    /// All that can break the messages of a command of A. Where there is no line, each message of the command that A's side
-    /// sends is valid under B, and each line that is told as confirmed has a message that breaks it. The error comes only where
-    /// memory was refused.
+    /// All that can break the messages of a command of A: each message of the command that A's side sends, and that breaks in
+    /// none of the ways that the lines tell, is valid under B. So where there is no line, each is. A line that is told as
+    /// confirmed has a message that breaks the command. The error comes only where memory was refused.
     pub fn breaks(&self, alloc: Global, command: DefId) -> Result<Breaks, AllocError>
         requires { command < length (definitions (A.meaning self.now.a.now)) }
+        ensures free { IfOk result (λ breaks. ∥ AreValidWhereFree
+            (A.meaning self.now.a.now) (B.meaning self.now.b.now) self.now.sends self.now.unknown
+            breaks.sites.items breaks.lines.items command ∥₁) }
         ensures all { IfOk result (λ breaks. breaks.lines.items ≡ [] → ∥ AreValid
             (A.meaning self.now.a.now) (B.meaning self.now.b.now)
             self.now.sends self.now.unknown command ∥₁) }
