@@ -30,9 +30,10 @@ use Rattle.dia_breaking.specs.declared.line.Site.{Site}
 use Rattle.dia_breaking.specs.declared.ways.Way.{Way}
 use Rattle.dia_breaking.specs.Closed.{IsFreeOf, IsClosedSite}
 use Rattle.dia_breaking.specs.Closing.{HoldsWays, IsClosedBy}
-use Rattle.dia_breaking.specs.Certified.{IsToldAt, IsOwnKey, way_to, ways_of, room_at, IsClosedWith, IsClosedGroup, IsClosedCommand, IsClosedAt, AreClosedAt, AreClosedTogether}
+use Rattle.dia_breaking.specs.Certified.{IsToldAt, way_to, ways_of, room_at, IsClosedWith, IsClosedGroup, IsClosedCommand, IsClosedAt, AreClosedAt, AreClosedTogether}
 use Rattle.dia_breaking.specs.Free.{IsReadBy, IsFreeLevel, TellsFlags, AreValidWhereFree}
 use Rattle.dia_breaking.specs.Headers.{head_in, AreApps, TellsRefusal, IsCommandPlace, IsReadFor, AreHeadersMet}
+use Rattle.dia_breaking.specs.OwnKeys.{own_key, own_keys}
 use Rattle.dia_breaking.proofs.ClosedSites.{safe_site, safe_for_fewer}
 use Rattle.dia_breaking.proofs.Lists.{all_in, contains_at}
 use Rattle.dia_breaking.proofs.OpenCommands.{into_filter_map}
@@ -143,17 +144,18 @@ module _ (da db : Dictionary) (c : ℕ) (x : PlainDefinition) (at : slice_get (d
 
   -- ---- safe
 
-  module _ (who : Sends) (u : Unknown) (f : Key → ℕ) (told : List Site) (lines : List Line) (own : List Key) (owns : All (IsOwnKey lines) own) (floors : AreFloors da who f)
-      (closed : AreClosedAt da db who u f (ways_of told) own lines c told) where
+  module _ (who : Sends) (u : Unknown) (f : Key → ℕ) (told : List Site) (lines : List Line) (floors : AreFloors da who f)
+      (closed : AreClosedTogether da db who u f told lines c) where
     less : (number : ℕ) (site : Site) (levels : List LevelLine) (y z : PlainDefinition) (avps : List PlainAvp) → slice_get told number ≡ Some site → IsReadBy da db c site.place y z
-        → All (IsToldAt lines number) levels → IsFreeLevel da db u told lines c y z avps → IsFreeOf da db u levels own y z avps
+        → All (IsToldAt lines number) levels → IsFreeLevel da db u told lines c y z avps → IsFreeOf da db u levels (own_keys lines) y z avps
     less number site levels y z avps at_site read tells free = record {
       level = λ line inside.
           let t = all_in (IsToldAt lines number) levels line tells inside in
           free.level t.0 line t.1 t.3 (site, ap (slice_get told) t.2 ∙ at_site, read);
       fits = λ key v inside is stands.
-          let t = all_in (IsOwnKey lines) own key owns inside in
-          free.own t.0 key v t.1 t.2 is stands;
+          let p = at_Contains (own_keys lines) key inside in
+          let t = at_filter_map (λ (line : Line). own_key line.cause) lines p.place key p.at in
+          free.own t.1 key v (contains_at lines t.0 t.1 t.2) t.3 is stands;
     }
 
     safe_at : (number : ℕ) (site : Site) (y z : PlainDefinition) → slice_get told number ≡ Some site → site.is_read ≡ true → IsReadBy da db c site.place y z
@@ -161,9 +163,9 @@ module _ (da db : Dictionary) (c : ℕ) (x : PlainDefinition) (at : slice_get (d
     safe_at number site y z at_site is_read read =
         let (levels, tells, by) = closed number site at_site y z is_read read in
         let pair = between y (room_at site.place site.way) z in
-        safe_for_fewer da db who u (IsFreeOf da db u levels own) (IsFreeLevel da db u told lines c) (sites_of told) pair
+        safe_for_fewer da db who u (IsFreeOf da db u levels (own_keys lines)) (IsFreeLevel da db u told lines c) (sites_of told) pair
         (λ avps free. less number site levels y z avps at_site read tells free)
-        (safe_site da db who u f floors (sites_of told) levels own pair (by (sites_of told) (holds_ways told)))
+        (safe_site da db who u f floors (sites_of told) levels (own_keys lines) pair (by (sites_of told) (holds_ways told)))
 
     all_safe : AreSafe da db who u (IsFreeLevel da db u told lines c) (sites_of told)
     all_safe site inside =
@@ -182,8 +184,8 @@ module _ (da db : Dictionary) (c : ℕ) (x : PlainDefinition) (at : slice_get (d
 pub certified : (da db : Dictionary) (who : Sends) (u : Unknown) (f : Key → ℕ) (c : ℕ) (x : PlainDefinition) (told : List Site) (lines : List Line) (head : Head) (first second : Apps)
     → IsDictionary da → IsDictionary db → slice_get (definitions da) c ≡ Some x → head_in x.head ≡ Some head → AreApps da first → AreApps db second → AreFloors da who f
     → AreHeadersMet da db told lines first second c head → AreClosedTogether da db who u f told lines c → AreValidWhereFree da db who u told lines c
-certified da db who u f c x told lines head first second sa sb at is_head in_a in_b floors heads (own, owns, closed) =
-    valid_by da db c x at who u f told lines own owns floors closed head first second sa sb is_head in_a in_b heads
+certified da db who u f c x told lines head first second sa sb at is_head in_a in_b floors heads closed =
+    valid_by da db c x at who u f told lines floors closed head first second sa sb is_head in_a in_b heads
 
 -- ---- what the tests of pairs show
 

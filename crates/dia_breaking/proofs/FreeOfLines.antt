@@ -12,8 +12,9 @@ use Rattle.dia_breaking.specs.declared.line.Cause.TheVariants as causes
 use Rattle.dia_breaking.specs.declared.line.Line.{Line}
 use Rattle.dia_breaking.specs.declared.line.Site.{Site}
 use Rattle.dia_breaking.specs.Confirmed.{told_of}
-use Rattle.dia_breaking.specs.Free.{IsLineOf, IsFreeLevel, TellsFlags, IsFree, AreValidWhereFree, own_key}
+use Rattle.dia_breaking.specs.Free.{IsLineOf, IsFreeLevel, TellsFlags, IsFree, AreValidWhereFree}
 use Rattle.dia_breaking.specs.Headers.{TellsRefusal}
+use Rattle.dia_breaking.specs.OwnKeys.{own_key}
 use Rattle.dia_breaking.proofs.Lists.{same_image}
 
 no_member : (lines : List Line) (line : Line) → lines ≡ [] → Contains lines line → ⊥

@@ -4,7 +4,7 @@ use Rattle.std.specs.Prelude.{All, Contains, IfSome, IfOk, IsTrue, slice_get}
 use Rattle.std.specs.List.{filter_map}
 use Rattle.std.specs.Option.{option_map}
 use Rattle.std.proofs.lemmas.Option.{same_Some, slice_get_within, slice_get-get_or, slice_get-map}
-use Rattle.std.proofs.lemmas.List.{length-append, take_more, take_all}
+use Rattle.std.proofs.lemmas.List.{map-append, take_more, take_all}
 use Rattle.std.proofs.lemmas.List.Elements.{All-nil, All-push, filter_map-append}
 use Rattle.dia_book.proofs.Members.{at_Contains, at_map}
 use Rattle.dia_sites.proofs.Members.{IsIn, in_at, contains_in}
@@ -23,17 +23,10 @@ pub added : {X Y : Type 0} (f : X → Option Y) (xs : List X) (i : ℕ) (x : X) 
     → new ≡ filter_map f (take (i + 1) xs)
 added {X} {Y} f xs i x old new is before at = is ∙ ap (λ (ys : List Y). ys ++ filter_map f (x ∷ [])) before ∙ sym (filter_map_more f xs i x at)
 
--- what holds of a value that comes, so does what follows
-pub when_found : {X E : Type 0} (P Q : X → Type 0) (r : Result (Option X) E) → ((x : X) → P x → Q x) → IfOk r (λ found. IfSome found P) → IfOk r (λ found. IfSome found Q)
-when_found P Q (Ok None) f h = tt
-when_found P Q (Ok (Some x)) f h = f x h
-when_found P Q (Err e) f h = tt
-
-pub when_both : {X E : Type 0} (P R Q : X → Type 0) (r : Result (Option X) E) → ((x : X) → P x → R x → Q x) → IfOk r (λ found. IfSome found P) → IfOk r (λ found. IfSome found R)
-    → IfOk r (λ found. IfSome found Q)
-when_both P R Q (Ok None) f h k = tt
-when_both P R Q (Ok (Some x)) f h k = f x h k
-when_both P R Q (Err e) f h k = tt
+-- what follows from two facts of a value
+pub when_two : {X E : Type 0} (P R Q : X → Type 0) (r : Result X E) → ((x : X) → P x → R x → Q x) → IfOk r P → IfOk r R → IfOk r Q
+when_two P R Q (Ok x) f h k = f x h k
+when_two P R Q (Err e) f h k = tt
 
 -- ---- all members
 
@@ -42,6 +35,9 @@ all_in P xs x all (i, within, is) = subst P is (all i x within)
 
 pub contains_at : {X : Type 0} (xs : List X) (i : ℕ) (x : X) → slice_get xs i ≡ Some x → Contains xs x
 contains_at xs i x at = contains_in xs x (in_at xs i x at)
+
+pub at_place : {X : Type 0} (xs : List X) (i : ℕ) (x : X) → i < length xs → x ≡ get_or xs i x → slice_get xs i ≡ Some x
+at_place xs i x within is = slice_get-get_or xs i x within ∙ ap (λ y. Some y) (sym is)
 
 -- ---- parts
 
@@ -79,9 +75,11 @@ all_taken P xs i d within all own = all_more P (take i xs) (get_or xs i d) (take
 pub none_of : {X : Type 0} (P : X → Type 0) (xs : List X) → xs ≡ [] → All P xs
 none_of P xs is = subst (All P) (sym is) (All-nil P)
 
--- one more
-pub length_more : {X : Type 0} (xs new : List X) (x : X) (i : ℕ) → new ≡ xs ++ x ∷ [] → length xs ≡ i → length new ≡ i + 1
-length_more xs new x i is before = ap length is ∙ length-append xs (x ∷ []) ∙ ap (λ (k : ℕ). k + 1) before
+-- one more of each
+pub image_more : {X Y : Type 0} (f : X → Y) (old new ys : List X) (i : ℕ) (x d : X) → new ≡ old ++ x ∷ [] → i < length ys → f x ≡ f (get_or ys i d) → map f old ≡ map f (take i ys) → map f new ≡ map f (take (i + 1) ys)
+image_more {X} {Y} f old new ys i x d is within same before =
+    ap (map f) is ∙ map-append f old (x ∷ []) ∙ ap (λ (zs : List Y). zs ++ f x ∷ []) before ∙ ap (λ (y : Y). map f (take i ys) ++ y ∷ []) same
+    ∙ sym (ap (map f) (take_more ys i d within) ∙ map-append f (take i ys) (get_or ys i d ∷ []))
 
 -- a loop that goes on where a test of each member shows P, on a premise
 module _ {T X : Type 0} (P : X → Type 0) (xs : List X) where
@@ -94,8 +92,3 @@ module _ {T X : Type 0} (P : X → Type 0) (xs : List X) where
 pub when_ok : {X E : Type 0} (P Q : X → Type 0) (r : Result X E) → ((x : X) → P x → Q x) → IfOk r P → IfOk r Q
 when_ok P Q (Ok x) f h = f x h
 when_ok P Q (Err e) f h = tt
-
-pub none_left : {X Y : Type 0} (xs : List X) (ys : List Y) → length ys ≡ length xs → ys ≡ [] → xs ≡ []
-none_left [] ys same none = refl
-none_left (x ∷ xs) [] same none = absurd (omega (arith, same))
-none_left (x ∷ xs) (y ∷ ys) same none = absurd cc

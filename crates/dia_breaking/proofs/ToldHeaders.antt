@@ -156,3 +156,12 @@ module _ (da db : Dictionary) (sound : IsDictionary da) (sites : List SiteOf) (t
       by : (o : Option ℕ) → head.app ≡ o → MetBy x.head
       by (Some app) is = own_by app is (met.0 app is) x.head is_head
       by None is = let r = met.1 is in open_by first second in_a in_b r.0 r.1 is x.head refl is_head
+
+-- ---- the answers of tests
+
+pub selected_met : (db : Dictionary) (told : List Site) (lines : List Line) (head : Head) (app def : ℕ) → selected db head.code head.class app ≡ Some def → IsMetAs db told lines head app def
+    → IsMetFor db told lines head app
+selected_met db told lines head app def select met = record {
+  selects = inl (subst (λ (o : Option ℕ). IsSome o) (sym select) refl);
+  each = λ number is. subst (IsMetAs db told lines head app) (same_Some def number (sym select ∙ is)) met;
+}

@@ -18,17 +18,14 @@ use Rattle.dia_breaking.specs.declared.line.Site.{Site}
 use Rattle.dia_breaking.specs.declared.ways.Way.{Way}
 use Rattle.dia_breaking.specs.Closed.{IsClosedSite}
 use Rattle.dia_breaking.specs.Closing.{HoldsWays}
-use Rattle.dia_breaking.specs.Free.{IsReadBy, own_key}
+use Rattle.dia_breaking.specs.Free.{IsReadBy}
+use Rattle.dia_breaking.specs.OwnKeys.{own_keys}
 
 -- ---- lines
 
 -- a line of this site tells it of levels
 abbrev pub IsToldAt : List Line → ℕ → LevelLine → Type 0
 IsToldAt lines number told = (line : Line) × Contains lines line × (line.site ≡ number) × (line.cause ≡ causes.Level told)
-
--- a line tells something of AVPs of the key by themselves
-abbrev pub IsOwnKey : List Line → Key → Type 0
-IsOwnKey lines key = (line : Line) × Contains lines line × (own_key line.cause ≡ Some key)
 
 -- ---- sites
 
@@ -70,4 +67,4 @@ AreClosedAt da db who u length groups own lines c sites = (number : ℕ) (site :
 
 -- so are all, by the sites of their groups, and by keys of AVPs of which lines tell
 abbrev pub AreClosedTogether : Dictionary → Dictionary → Sends → Unknown → (Key → ℕ) → List Site → List Line → ℕ → Type 0
-AreClosedTogether da db who u length sites lines c = (own : List Key) × All (IsOwnKey lines) own × AreClosedAt da db who u length (ways_of sites) own lines c sites
+AreClosedTogether da db who u length sites lines c = AreClosedAt da db who u length (ways_of sites) (own_keys lines) lines c sites

@@ -1,5 +1,5 @@
 -- Messages that are free of the lines of an answer: they break in none of the ways that it tells.
-use Rattle.std.specs.Prelude.{◌≡◌, ◌≢◌, ℕ, Bool, true, false, List, map, Option, Some, None, slice_get, Contains}
+use Rattle.std.specs.Prelude.{◌≡◌, ◌≢◌, ℕ, Bool, true, false, List, map, Some, slice_get, Contains}
 use Rattle.dia_wire.specs.declared.Header.{Header}
 use Rattle.dia_wire.specs.declared.Key.{Key}
 use Rattle.dia_wire.specs.Wire.{PlainAvp, key_of, HasP}
@@ -16,7 +16,6 @@ use Rattle.dia_entries.specs.Sent.{group_of}
 use Rattle.dia_levels.specs.declared.line.Line.{Line as LevelLine}
 use Rattle.dia_levels.specs.Levels.{ShowsAt}
 use Rattle.dia_breaking.specs.declared.heads.Head.{Head}
-use Rattle.dia_breaking.specs.declared.line.Cause.{Cause}
 use Rattle.dia_breaking.specs.declared.line.Cause.TheVariants as causes
 use Rattle.dia_breaking.specs.declared.line.Line.{Line}
 use Rattle.dia_breaking.specs.declared.line.Place.{Place}
@@ -24,6 +23,7 @@ use Rattle.dia_breaking.specs.declared.line.Place.TheVariants as places
 use Rattle.dia_breaking.specs.declared.line.Site.{Site}
 use Rattle.dia_breaking.specs.Closed.{StandsIn}
 use Rattle.dia_breaking.specs.Headers.{head_in, TellsRefusal}
+use Rattle.dia_breaking.specs.OwnKeys.{own_key}
 
 -- ---- the levels of a line
 
@@ -41,18 +41,6 @@ abbrev pub IsLineOf : Dictionary → Dictionary → List Site → ℕ → Line �
 IsLineOf da db sites c line x y = (site : Site) × (slice_get sites line.site ≡ Some site) × IsReadBy da db c site.place x y
 
 -- ---- levels
-
--- the key of AVPs that break by themselves
-abbrev pub own_key : Cause → Option Key
-own_key (causes.Unknown key m) = Some key
-own_key (causes.MBit key m) = Some key
-own_key (causes.Format key refused) = Some key
-own_key (causes.LevelAsLeaf key) = Some key
-own_key causes.Command = None
-own_key causes.Application = None
-own_key (causes.Proxiable set) = None
-own_key (causes.Level line) = None
-own_key causes.Unproved = None
 
 -- a level that these definitions read breaks in none of the ways that lines of such levels tell; and of AVPs of which a line tells
 -- that they break by themselves, those of the level fit

@@ -7,5 +7,7 @@ pub mod Free
 pub mod Headers
 pub mod Lengths
 pub mod LevelCosts
+pub mod Outlooks
+pub mod OwnKeys
 pub mod SentKeys
 pub mod Telling

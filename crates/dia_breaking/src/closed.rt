@@ -10,7 +10,9 @@ ghost use Rattle.dia_breaking.specs.Certified.{AreClosedAt, AreClosedTogether, I
 ghost use Rattle.dia_breaking.specs.Certified.{IsClosedCommand, IsClosedGroup, way_to, ways_of};
 ghost use Rattle.dia_breaking.specs.Free.{AreValidWhereFree};
 ghost use Rattle.dia_breaking.specs.Headers.{head_in};
-ghost use Rattle.dia_breaking.specs.Lengths.{listed_length};
+ghost use Rattle.dia_breaking.specs.Lengths.{listed_length, other_length};
+ghost use Rattle.dia_breaking.specs.Outlooks.{HaveGroupLines};
+ghost use Rattle.dia_breaking.specs.OwnKeys.{own_keys};
 ghost use Rattle.dia_breaking.specs.Telling.{IsTelling};
 
 use crate::books::command_of;
@@ -116,13 +118,20 @@ fn are_sites_closed<A: Book, B: Book>(
         → IsTelling (A.meaning closing.now.upgrade.now.a.now) (B.meaning closing.now.upgrade.now.b.now)
         closing.now.upgrade.now.sends closing.now.upgrade.now.unknown
         closing.now.upgrade.now.telling.value
-        → ∥ AreClosedAt (A.meaning closing.now.upgrade.now.a.now)
+        → HaveGroupLines (A.meaning closing.now.upgrade.now.a.now)
+        (B.meaning closing.now.upgrade.now.b.now)
+        (listed_length (A.meaning closing.now.upgrade.now.lengths.book.now)
+        closing.now.upgrade.now.lengths.sends closing.now.upgrade.now.lengths.entries.items)
+        (other_length (A.meaning closing.now.upgrade.now.lengths.book.now)
+        closing.now.upgrade.now.lengths.sends closing.now.upgrade.now.lengths.entries.items)
+        closing.now.upgrade.now.outlooks.items
+        → AreClosedAt (A.meaning closing.now.upgrade.now.a.now)
         (B.meaning closing.now.upgrade.now.b.now)
         closing.now.upgrade.now.sends closing.now.upgrade.now.unknown
         (listed_length (A.meaning closing.now.upgrade.now.a.now) closing.now.upgrade.now.sends
         closing.now.upgrade.now.lengths.entries.items)
-        closing.now.groups.now closing.now.own.items found.now.lines.items found.now.command
-        found.now.sites.items ∥₁) }
+        closing.now.groups.now (own_keys closing.now.lines.now) found.now.lines.items found.now.command
+        found.now.sites.items) }
 {
     for (number, site) in found.sites.iter().enumerate() {
         if site.is_read {
@@ -152,13 +161,20 @@ fn is_site_closed<A: Book, B: Book>(
         → IsTelling (A.meaning closing.now.upgrade.now.a.now) (B.meaning closing.now.upgrade.now.b.now)
         closing.now.upgrade.now.sends closing.now.upgrade.now.unknown
         closing.now.upgrade.now.telling.value
-        → ∥ IsClosedAt (A.meaning closing.now.upgrade.now.a.now)
+        → HaveGroupLines (A.meaning closing.now.upgrade.now.a.now)
+        (B.meaning closing.now.upgrade.now.b.now)
+        (listed_length (A.meaning closing.now.upgrade.now.lengths.book.now)
+        closing.now.upgrade.now.lengths.sends closing.now.upgrade.now.lengths.entries.items)
+        (other_length (A.meaning closing.now.upgrade.now.lengths.book.now)
+        closing.now.upgrade.now.lengths.sends closing.now.upgrade.now.lengths.entries.items)
+        closing.now.upgrade.now.outlooks.items
+        → IsClosedAt (A.meaning closing.now.upgrade.now.a.now)
         (B.meaning closing.now.upgrade.now.b.now)
         closing.now.upgrade.now.sends closing.now.upgrade.now.unknown
         (listed_length (A.meaning closing.now.upgrade.now.a.now) closing.now.upgrade.now.sends
         closing.now.upgrade.now.lengths.entries.items)
-        closing.now.groups.now closing.now.own.items found.now.lines.items found.now.command
-        number site.now ∥₁) }
+        closing.now.groups.now (own_keys closing.now.lines.now) found.now.lines.items found.now.command
+        number site.now) }
 {
     let told = level_lines_at(alloc, &found.lines, number)?;
     match site.place {
@@ -183,12 +199,12 @@ fn is_command_closed<A: Book, B: Book>(
         → IsTelling (A.meaning closing.now.upgrade.now.a.now) (B.meaning closing.now.upgrade.now.b.now)
         closing.now.upgrade.now.sends closing.now.upgrade.now.unknown
         closing.now.upgrade.now.telling.value
-        → ∥ IsClosedCommand (A.meaning closing.now.upgrade.now.a.now)
+        → IsClosedCommand (A.meaning closing.now.upgrade.now.a.now)
         (B.meaning closing.now.upgrade.now.b.now)
         closing.now.upgrade.now.sends closing.now.upgrade.now.unknown
         (listed_length (A.meaning closing.now.upgrade.now.a.now) closing.now.upgrade.now.sends
         closing.now.upgrade.now.lengths.entries.items)
-        closing.now.groups.now closing.now.own.items told.now command head.now app ∥₁) }
+        closing.now.groups.now (own_keys closing.now.lines.now) told.now command head.now app) }
 {
     let Some(def) = command_of(closing.upgrade.b, head.code, head.class, app) else {
         return Ok(false);
@@ -208,12 +224,19 @@ fn is_group_closed<A: Book, B: Book>(
         → IsTelling (A.meaning closing.now.upgrade.now.a.now) (B.meaning closing.now.upgrade.now.b.now)
         closing.now.upgrade.now.sends closing.now.upgrade.now.unknown
         closing.now.upgrade.now.telling.value
-        → ∥ IsClosedGroup (A.meaning closing.now.upgrade.now.a.now)
+        → HaveGroupLines (A.meaning closing.now.upgrade.now.a.now)
+        (B.meaning closing.now.upgrade.now.b.now)
+        (listed_length (A.meaning closing.now.upgrade.now.lengths.book.now)
+        closing.now.upgrade.now.lengths.sends closing.now.upgrade.now.lengths.entries.items)
+        (other_length (A.meaning closing.now.upgrade.now.lengths.book.now)
+        closing.now.upgrade.now.lengths.sends closing.now.upgrade.now.lengths.entries.items)
+        closing.now.upgrade.now.outlooks.items
+        → IsClosedGroup (A.meaning closing.now.upgrade.now.a.now)
         (B.meaning closing.now.upgrade.now.b.now)
         closing.now.upgrade.now.sends closing.now.upgrade.now.unknown
         (listed_length (A.meaning closing.now.upgrade.now.a.now) closing.now.upgrade.now.sends
         closing.now.upgrade.now.lengths.entries.items)
-        closing.now.groups.now closing.now.own.items told.now key way ∥₁ }
+        closing.now.groups.now (own_keys closing.now.lines.now) told.now key way }
 {
     let Some(a_def) = group_def(closing.upgrade.a, key) else {
         return false;
