@@ -1,8 +1,8 @@
 -- Where the sites are closed but for what is told, and the headers are met, each message that is free of the lines is valid.
-use Rattle.std.proofs.Common.{◌≡◌, ℕ, ◌-◌, Bool, true, false, List, Option, Some, None, refl, sym, ap, subst, ◌∙◌, arith}
+use Rattle.std.proofs.Common.{◌≡◌, ℕ, ◌-◌, Bool, true, false, List, [], Option, Some, None, refl, sym, ap, subst, ◌∙◌, arith}
 use Rattle.std.specs.Prelude.{All, Contains, slice_get, option_and_then}
 use Rattle.std.specs.List.{filter_map}
-use Rattle.std.specs.Option.{option_map}
+use Rattle.std.specs.Option.{option_map, option_map_or}
 use Rattle.std.proofs.lemmas.Option.{none-some, same_Some}
 use Rattle.dia_wire.specs.declared.Key.{Key}
 use Rattle.dia_wire.specs.Wire.{PlainAvp}
@@ -19,7 +19,12 @@ use Rattle.dia_sites.proofs.Members.{in_contains, contains_in}
 use Rattle.dia_sites.proofs.SafeMessages.{valid}
 use Rattle.dia_sites.proofs.Selected.{met}
 use Rattle.dia_entries.specs.Sent.{group_of}
+use Rattle.dia_compat.specs.Tests.{rules_in}
+use Rattle.dia_book.specs.declared.DRule.{DRule}
 use Rattle.dia_levels.specs.declared.line.Line.{Line as LevelLine}
+use Rattle.dia_levels.specs.Levels.{HasEachLine}
+use Rattle.dia_levels.specs.LevelTests.{price}
+use Rattle.dia_breaking.specs.Outlooks.{group_rules, HasGroupLines}
 use Rattle.dia_least.specs.Floors.{AreFloors}
 use Rattle.dia_breaking.specs.declared.apps.Apps.{Apps}
 use Rattle.dia_breaking.specs.declared.heads.Head.{Head}
@@ -236,3 +241,26 @@ closed_command_at da db who u f groups own lines told c number site head app is_
         let same : x ≡ y = same_Some x y (sym at ∙ at_y) in
         let heads : own_head ≡ head = same_Some own_head head (sym its ∙ ap (λ (w : PlainDefinition). head_in w.head) (sym same) ∙ is_head) in
         (told, tells, closed y z n at_y (subst (λ (h : Head). selected db h.code h.class app ≡ Some n) heads select) at_z)
+
+abbrev rules_of : Option PlainDefinition → List DRule
+rules_of o = option_map_or (λ (y : PlainDefinition). y.rules) o []
+
+-- what is kept of a group's levels is of its definitions
+pub group_lines : (da db : Dictionary) (listed other : Key → ℕ) (key : Key) (lines : List LevelLine) (a_def b_def : ℕ) (r s : Option ℕ) → r ≡ Some a_def → s ≡ Some b_def
+    → option_and_then (λ (def : ℕ). slice_get (definitions da) def) r ≡ group_of da key → option_and_then (λ (def : ℕ). slice_get (definitions db) def) s ≡ group_of db key
+    → HasGroupLines da db listed other key lines → HasEachLine (price listed other (rules_in da a_def)) (rules_in da a_def) (rules_in db b_def) lines
+group_lines da db listed other key lines a_def b_def r s is_r is_s in_a in_b has =
+    subst (λ (o : Option PlainDefinition). HasEachLine (price listed other (rules_of o)) (rules_of o) (rules_in db b_def) lines) (sym at_a)
+    (subst (λ (o : Option PlainDefinition). HasEachLine (price listed other (group_rules da key)) (group_rules da key) (rules_of o) lines) (sym at_b) has)
+  where
+    at_a : slice_get (definitions da) a_def ≡ group_of da key
+    at_a = sym (ap (option_and_then (λ (def : ℕ). slice_get (definitions da) def)) is_r) ∙ in_a
+
+    at_b : slice_get (definitions db) b_def ≡ group_of db key
+    at_b = sym (ap (option_and_then (λ (def : ℕ). slice_get (definitions db) def)) is_s) ∙ in_b
+
+-- by the sites and the lines of the answer
+pub closed_together : (da db : Dictionary) (who : Sends) (u : Unknown) (f : Key → ℕ) (groups : List Way) (own lines : List Line) (c : ℕ) (told : List Site) → groups ≡ ways_of told → own ≡ lines
+    → AreClosedAt da db who u f groups (own_keys own) lines c told → AreClosedTogether da db who u f told lines c
+closed_together da db who u f groups own lines c told is_groups is_own closed =
+    subst (λ (xs : List Way). AreClosedAt da db who u f xs (own_keys lines) lines c told) is_groups (subst (λ (ls : List Line). AreClosedAt da db who u f groups (own_keys ls) lines c told) is_own closed)

@@ -1,8 +1,9 @@
 -- What is kept of the members of a list.
 use Rattle.std.proofs.Common.{◌≡◌, ℕ, zero, suc, ◌+◌, ◌<◌, ◌≤◌, Bool, true, get_or, List, [], ◌∷◌, ◌++◌, length, map, take, drop, Option, Some, None, Result, Ok, Err, refl, sym, ap, subst, ◌∙◌, arith, inl, inr}
-use Rattle.std.specs.Prelude.{All, Contains, IfSome, IfOk, IsTrue, slice_get}
+use Rattle.std.specs.Prelude.{◌⊎◌, All, Contains, IfSome, IfOk, IsTrue, slice_get}
 use Rattle.std.specs.List.{filter_map}
 use Rattle.std.specs.Option.{option_map}
+use Rattle.std.proofs.lemmas.Bool.{cases_order}
 use Rattle.std.proofs.lemmas.Option.{same_Some, slice_get_within, slice_get-get_or, slice_get-map}
 use Rattle.std.proofs.lemmas.List.{map-append, take_more, take_all}
 use Rattle.std.proofs.lemmas.List.Elements.{All-nil, All-push, filter_map-append}
@@ -80,6 +81,16 @@ pub image_more : {X Y : Type 0} (f : X → Y) (old new ys : List X) (i : ℕ) (x
 image_more {X} {Y} f old new ys i x d is within same before =
     ap (map f) is ∙ map-append f old (x ∷ []) ∙ ap (λ (zs : List Y). zs ++ f x ∷ []) before ∙ ap (λ (y : Y). map f (take i ys) ++ y ∷ []) same
     ∙ sym (ap (map f) (take_more ys i d within) ∙ map-append f (take i ys) (get_or ys i d ∷ []))
+
+-- one place more
+pub before_more : {X : Type 0} (P : ℕ → X → Type 0) (xs : List X) (i : ℕ) (d : X) → i < length xs → ((n : ℕ) (x : X) → n < i → slice_get xs n ≡ Some x → P n x) → P i (get_or xs i d)
+    → (n : ℕ) (x : X) → n < i + 1 → slice_get xs n ≡ Some x → P n x
+before_more P xs i d within before own n x less at = by (cases_order n i)
+  where
+    by : (n ≡ i) ⊎ ((n < i) ⊎ (i < n)) → P n x
+    by (inl same) = subst (λ k. P k x) (sym same) (subst (P i) (same_Some (get_or xs i d) x (sym (slice_get-get_or xs i d within) ∙ ap (slice_get xs) (sym same) ∙ at)) own)
+    by (inr (inl lt)) = before n x lt at
+    by (inr (inr gt)) = absurd (omega (arith, less, gt))
 
 -- a loop that goes on where a test of each member shows P, on a premise
 module _ {T X : Type 0} (P : X → Type 0) (xs : List X) where
