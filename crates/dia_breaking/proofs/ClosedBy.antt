@@ -313,25 +313,25 @@ module _ (da db : Dictionary) (who : Sends) (u : Unknown) (lengths : List ℕ) (
 
   -- ---- the level
 
-  module _ (b : List DRule) (lines tales : List Line) (each : HasEachLine (price listed other rules) rules b lines) (known : All (IsLongOrTold way tales) lines) where
+  module _ (b : List DRule) (lines answer : List Line) (each : HasEachLine (price listed other rules) rules b lines) (known : All (IsLongOrTold way answer) lines) where
     -- the keys are placed, or show a line that is told
     abbrev IsPlaced : List DRule → List DRule → List Key → Type 0
-    IsPlaced a b keys = Placed b keys ⊎ ((line : Line) × Contains tales line × ShowsAt a b keys line.reason line.key)
+    IsPlaced a b keys = Placed b keys ⊎ ((line : Line) × Contains answer line × ShowsAt a b keys line.reason line.key)
 
     level_placed : (keys : List Key) → StandAsSent who rules keys → total listed keys ≤ max_body - way → IsPlaced rules b keys
     level_placed keys stand room =
         let same = stand_price da who lengths rules keys stand in
         by (each keys (stand_placed who rules keys stand) (omega (arith, same, room)))
       where
-        by_line : (line : Line) → IsLongOrTold way tales line → Shows (price listed other rules) rules b keys line → IsPlaced rules b keys
+        by_line : (line : Line) → IsLongOrTold way answer line → Shows (price listed other rules) rules b keys line → IsPlaced rules b keys
         by_line line (inl over) (shows, le) = let same = stand_price da who lengths rules keys stand in absurd (omega (arith, same, le, over, room, fits))
         by_line line (inr is) (shows, le) = inr (line, is, shows)
 
         by : Placed b keys ⊎ ((line : Line) × Contains lines line × Shows (price listed other rules) rules b keys line) → IsPlaced rules b keys
         by (inl h) = inl h
-        by (inr (line, is, shows)) = by_line line (all_of (IsLongOrTold way tales) lines line known (in_contains lines line is)) shows
+        by (inr (line, is, shows)) = by_line line (all_of (IsLongOrTold way answer) lines line known (in_contains lines line is)) shows
 
-    pub closed_by : (x y : PlainDefinition) → rules ≡ x.rules → b ≡ y.rules → IsClosedSite da db who u listed sites tales owns (record { a = x; b = y; room = max_body - way })
+    pub closed_by : (x y : PlainDefinition) → rules ≡ x.rules → b ≡ y.rules → IsClosedSite da db who u listed sites answer owns (record { a = x; b = y; room = max_body - way })
     closed_by x y is_x is_y = record {
       placed = λ keys sent. subst (λ (rs : List DRule). IsPlaced rs y.rules keys) is_x (subst (λ (rs : List DRule). IsPlaced rules rs keys) is_y (level_placed keys (stand keys sent) sent.1));
       alone = λ keys key sent comes. (key_good keys key (stand keys sent) sent.1 comes).0;
@@ -348,7 +348,7 @@ rules_of_def : (d : Dictionary) (def : ℕ) (x : PlainDefinition) → slice_get 
 rules_of_def d def x at = ap (λ (o : Option PlainDefinition). option_map_or (λ (y : PlainDefinition). y.rules) o []) at
 
 module _ {X : Type 0} (meaning : X → Dictionary) (db : Dictionary) (book a : X) (sent who : Sends) (same : book ≡ a) (sender : sent ≡ who) (u : Unknown) (entries : List ℕ) (keys : List Key) (telling : Telling)
-    (tells : Key → Bool) (owns : List Key) (ways : Key → Option ℕ) (groups : List Way) (others : List Other) (cost : LevelCost) (a_def b_def way : ℕ) (lines tales : List Line) where
+    (tells : Key → Bool) (owns : List Key) (ways : Key → Option ℕ) (groups : List Way) (others : List Other) (cost : LevelCost) (a_def b_def way : ℕ) (lines answer : List Line) where
   moved : (P : Dictionary → Sends → Type 0) → P (meaning book) sent → P (meaning a) who
   moved P h = subst (λ (s : Sends). P (meaning a) s) sender (subst (λ (p : X). P (meaning p) sent) same h)
 
@@ -359,14 +359,14 @@ module _ {X : Type 0} (meaning : X → Dictionary) (db : Dictionary) (book a : X
       → (OtherIsShortest (other_length (meaning book) sent entries) keys (rules_in (meaning a) a_def) → IsCostOf (listed_length (meaning book) sent entries) (other_length (meaning book) sent entries) (rules_in (meaning a) a_def) cost)
       → ((key : Key) → tells key ≡ true → Contains owns key) → AreWaysOf groups ways → IsFirst (other_length (meaning book) sent entries) tells ways telling.own.items others
       → list_all (is_closed_rule tells telling ways (listed_length (meaning book) sent entries) cost way) (rules_in (meaning a) a_def) ≡ true
-      → max_body < way + cost.beside + first_spare (λ key. not (is_listed (rules_in (meaning a) a_def) key)) others → All (IsLongOrTold way tales) lines → way ≤ max_body → IsTelling (meaning a) db who u telling
+      → max_body < way + cost.beside + first_spare (λ key. not (is_listed (rules_in (meaning a) a_def) key)) others → All (IsLongOrTold way answer) lines → way ≤ max_body → IsTelling (meaning a) db who u telling
       → HasEachLine (price (listed_length (meaning book) sent entries) (other_length (meaning book) sent entries) (rules_in (meaning a) a_def)) (rules_in (meaning a) a_def) (rules_in db b_def) lines
-      → IsClosedBy (meaning a) db who u (listed_length (meaning a) who entries) groups tales owns a_def b_def way
+      → IsClosedBy (meaning a) db who u (listed_length (meaning a) who entries) groups answer owns a_def b_def way
   closed_when sound shortest costs shown are first by_rules by_wild known fits found each x y sites at_x at_y holds =
       closed_by (meaning a) db who u entries telling tells owns ways groups others cost rules way (λ key none. unlisted (meaning a) a_def key sound none)
       (moved (λ d s. IsCostOf (listed_length d s entries) (other_length d s entries) rules cost) (costs other)) found shown are
       (moved (λ d s. IsFirst (other_length d s entries) tells ways telling.own.items others) first)
-      (moved (λ d s. list_all (is_closed_rule tells telling ways (listed_length d s entries) cost way) rules ≡ true) by_rules) by_wild fits sites holds (rules_in db b_def) lines tales
+      (moved (λ d s. list_all (is_closed_rule tells telling ways (listed_length d s entries) cost way) rules ≡ true) by_rules) by_wild fits sites holds (rules_in db b_def) lines answer
       (moved (λ d s. HasEachLine (price (listed_length d s entries) (other_length d s entries) rules) rules (rules_in db b_def) lines) each) known x y
       (rules_of_def (meaning a) a_def x at_x) (rules_of_def db b_def y at_y)
     where

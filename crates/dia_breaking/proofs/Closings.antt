@@ -7,14 +7,14 @@ use Rattle.std.specs.Option.{option_eq}
 use Rattle.std.specs.List.Sorted.{IsPermutation, IsNonDecreasingBy}
 use Rattle.std.proofs.lemmas.Bool.{lt-ltb, le-leb, lt-leb, leb-true, leb-false, and_parts, and_from, eq-eqb, eqb-true}
 use Rattle.std.proofs.lemmas.List.{take_more}
-use Rattle.std.proofs.lemmas.List.Elements.{filter_map-append, Contains-append_left, Contains-append_right}
+use Rattle.std.proofs.lemmas.List.Elements.{filter_map-append}
 use Rattle.std.proofs.lemmas.List.Sorted.{Contains-permutation}
 use Rattle.std.proofs.lemmas.Option.{same_Some}
 use Rattle.dia_wire.specs.declared.Key.{Key}
 use Rattle.dia_book.specs.Keys.{same_key}
-use Rattle.dia_book.proofs.SameKeys.{same_key-true}
+use Rattle.dia_book.proofs.SameKeys.{same_key-refl, same_key-true}
 use Rattle.dia_compat.proofs.RunsOfFixedRules.{IsIn}
-use Rattle.dia_compat.proofs.MemberCounts.{in_contains, contains_in}
+use Rattle.dia_compat.proofs.MemberCounts.{any_in, in_contains, contains_in}
 use Rattle.dia_sites.specs.Selection.{max_body}
 use Rattle.dia_least.specs.Floors.{shortest_head}
 use Rattle.dia_levels.specs.contracts.line.Reason.{the_type}
@@ -33,7 +33,7 @@ use Rattle.dia_breaking.proofs.Shortest.{found_is_least}
 abbrev is_way : Key → ℕ → Way → Bool
 is_way key way group = same_key group.key key && (group.way == way)
 
-any_left : (p : Way → Bool) (xs ys : List Way) → list_any p xs ≡ true → list_any p (xs ++ ys) ≡ true
+any_left : {X : Type 0} (p : X → Bool) (xs ys : List X) → list_any p xs ≡ true → list_any p (xs ++ ys) ≡ true
 any_left p [] ys h = absurd (let bad : false ≡ true = h in cc)
 any_left p (x ∷ xs) ys h = by (p x) h (any_left p xs ys)
   where
@@ -41,7 +41,7 @@ any_left p (x ∷ xs) ys h = by (p x) h (any_left p xs ys)
     by true h ih = refl
     by false h ih = ih h
 
-any_last : (p : Way → Bool) (xs : List Way) (x : Way) → p x ≡ true → list_any p (xs ++ x ∷ []) ≡ true
+any_last : {X : Type 0} (p : X → Bool) (xs : List X) (x : X) → p x ≡ true → list_any p (xs ++ x ∷ []) ≡ true
 any_last p [] x h = ap (λ (b : Bool). b || false) h
 any_last p (y ∷ xs) x h = by (p y) (any_last p xs x h)
   where
@@ -88,7 +88,7 @@ one_key_more cause key old new is adds q t = by (same_key key q) refl (sym (adds
 
 pub own_keys_more : (lines : List Line) (i : ℕ) (d : Line) (old new : Key → Bool) → i < length lines → AreOwnKeys (take i lines) old → AddsOwnKey (get_or lines i d).cause old new
     → AreOwnKeys (take (i + 1) lines) new
-own_keys_more lines i d old new within are adds key t = subst (λ (ks : List Key). Contains ks key) (sym all) (by (adds key t))
+own_keys_more lines i d old new within are adds key t = subst (λ (ks : List Key). list_any (same_key key) ks ≡ true) (sym all) (by (adds key t))
   where
     line : Line
     line = get_or lines i d
@@ -96,12 +96,16 @@ own_keys_more lines i d old new within are adds key t = subst (λ (ks : List Key
     all : own_keys (take (i + 1) lines) ≡ own_keys (take i lines) ++ own_keys (line ∷ [])
     all = ap own_keys (take_more lines i d within) ∙ filter_map-append (λ (l : Line). own_key l.cause) (take i lines) (line ∷ [])
 
-    here : own_key line.cause ≡ Some key → Contains (own_keys (line ∷ [])) key
-    here e = subst (λ (ks : List Key). Contains ks key) (sym (filter_map-one (λ (l : Line). own_key l.cause) line key e)) (contains_in (key ∷ []) key (inl refl))
+    by : (old key ≡ true) ⊎ (own_key line.cause ≡ Some key) → list_any (same_key key) (own_keys (take i lines) ++ own_keys (line ∷ [])) ≡ true
+    by (inl t) = any_left (same_key key) (own_keys (take i lines)) (own_keys (line ∷ [])) (are key t)
+    by (inr e) =
+        subst (λ (ks : List Key). list_any (same_key key) (own_keys (take i lines) ++ ks) ≡ true) (sym (filter_map-one (λ (l : Line). own_key l.cause) line key e))
+        (any_last (same_key key) (own_keys (take i lines)) key (same_key-refl key))
 
-    by : (old key ≡ true) ⊎ (own_key line.cause ≡ Some key) → Contains (own_keys (take i lines) ++ own_keys (line ∷ [])) key
-    by (inl t) = Contains-append_left (own_keys (take i lines)) (own_keys (line ∷ [])) key (are key t)
-    by (inr e) = Contains-append_right (own_keys (take i lines)) (own_keys (line ∷ [])) key (here e)
+pub own_keys_told : (lines : List Line) (tells : Key → Bool) → AreOwnKeys lines tells → (key : Key) → tells key ≡ true → Contains (own_keys lines) key
+own_keys_told lines tells are key t =
+    let (own, i, same) = any_in (same_key key) (own_keys lines) (are key t) in
+    contains_in (own_keys lines) key (subst (λ (k : Key). IsIn k (own_keys lines)) (sym (same_key-true key own same)) i)
 
 -- ---- lines that are the same
 

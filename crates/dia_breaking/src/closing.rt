@@ -68,8 +68,13 @@ impl<'u, 'a, A: Book, B: Book> Closing<'u, 'a, A, B> {
     {
         let ways = ways_of(alloc, groups)?;
         let own_keys = own_keys_of(alloc, lines)?;
-        let told = &upgrade.telling.own;
-        let others = others_of(alloc, told, &upgrade.lengths, &own_keys, &ways)?;
+        let others = others_of(
+            alloc,
+            &upgrade.telling.own,
+            &upgrade.lengths,
+            &own_keys,
+            &ways,
+        )?;
         Ok(Closing {
             upgrade,
             groups,
