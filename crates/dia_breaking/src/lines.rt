@@ -1,7 +1,6 @@
 //! The lines of a command.
 ghost use Rattle.std.specs.Prelude.{◌≡◌, ◌<◌, Contains, IfOk, IfSome, OnOk, Some, length};
-ghost use Rattle.std.specs.Prelude.{slice_get, ℕ};
-ghost use Rattle.dia_entries.specs.Sent.{group_of};
+ghost use Rattle.std.specs.Prelude.{slice_get};
 ghost use Rattle.dia_book.specs.Dictionary.{definitions};
 ghost use Rattle.dia_compat.specs.Tests.{rules_in};
 ghost use Rattle.dia_levels.specs.Levels.{HasEachLine};
@@ -217,24 +216,6 @@ impl<'a, A: Book, B: Book> Upgrade<'a, A, B> {
             return Ok(Vec::new(alloc));
         };
         self.lines_between(alloc, a_def, b_def)
-    }
-
-    pub(crate) fn level_lines_of(&self, key: Key) -> Option<&[LevelLine]>
-        ensures { IfSome result (λ lines. (a_def b_def : ℕ)
-            → slice_get (definitions (A.meaning self.now.a.now)) a_def
-            ≡ group_of (A.meaning self.now.a.now) key
-            → slice_get (definitions (B.meaning self.now.b.now)) b_def
-            ≡ group_of (B.meaning self.now.b.now) key
-            → ∥ HasEachLine (price
-            (listed_length (A.meaning self.now.lengths.book.now)
-            self.now.lengths.sends self.now.lengths.entries.items)
-            (other_length (A.meaning self.now.lengths.book.now)
-            self.now.lengths.sends self.now.lengths.entries.items)
-            (rules_in (A.meaning self.now.a.now) a_def))
-            (rules_in (A.meaning self.now.a.now) a_def)
-            (rules_in (B.meaning self.now.b.now) b_def) lines.now ∥₁) }
-    {
-        None
     }
 
     /// The level of a group that is one for both dictionaries.
