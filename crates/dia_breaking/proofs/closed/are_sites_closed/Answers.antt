@@ -23,11 +23,11 @@ loop-number-preserved g c =
     IsClosedAt da db up.sends up.unknown (listed_length da up.sends up.lengths.entries.items) closing.groups.now (own_keys closing.lines.now) found.lines.items found.command number site in
     elim c.if-site.branch [
       | then-site+in_ok-closed+else-not-closed w ↦ λ tells have number site less at.
-        before_more P sites i _ (omega arith) (λ n s lt here. c.loop-number.invariant tells have n s lt (subst (λ (xs : List Site). slice_get xs n ≡ Some s) is here))
-        (w.in_ok-closed.ensures w.if-not-closed.false tells have) number site less (subst (λ (xs : List Site). slice_get xs number ≡ Some site) (sym is) at)
+          before_more P sites i _ (omega arith) (λ n s lt here. c.loop-number.invariant tells have n s lt (subst (λ (xs : List Site). slice_get xs n ≡ Some s) is here))
+          (w.in_ok-closed.ensures w.if-not-closed.false tells have) number site less (subst (λ (xs : List Site). slice_get xs number ≡ Some site) (sym is) at)
       | else-site w ↦ λ tells have number site less at.
-        before_more P sites i _ (omega arith) (λ n s lt here. c.loop-number.invariant tells have n s lt (subst (λ (xs : List Site). slice_get xs n ≡ Some s) is here))
-        (λ x y is_read read. absurd (let e : true ≡ false = sym is_read ∙ w.if-site.false in cc)) number site less (subst (λ (xs : List Site). slice_get xs number ≡ Some site) (sym is) at)
+          before_more P sites i _ (omega arith) (λ n s lt here. c.loop-number.invariant tells have n s lt (subst (λ (xs : List Site). slice_get xs n ≡ Some s) is here))
+          (λ x y is_read read. absurd (let e : true ≡ false = sym is_read ∙ w.if-site.false in cc)) number site less (subst (λ (xs : List Site). slice_get xs number ≡ Some site) (sym is) at)
     ]
 
 pub returns : goal.returns

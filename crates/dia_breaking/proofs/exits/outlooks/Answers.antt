@@ -10,5 +10,5 @@ loop-own-preserved g c =
     let lengths = c.args.lengths.now in
     let d = g.A.Book.meaning lengths.book.now in
     all_more (λ (outlook : Outlook). IfSome outlook.inner (λ inner. HasGroupLines (g.A.Book.meaning c.args.a.now) (g.B.Book.meaning c.args.b.now) (listed_length d lengths.sends lengths.entries.items)
-        (other_length d lengths.sends lengths.entries.items) outlook.key inner.lines.items))
+    (other_length d lengths.sends lengths.entries.items) outlook.key inner.lines.items))
     c.loop-own.outlooks.items _ _ c.in_ok-push.ensures.items c.loop-own.invariant c.in_ok-inner.ensures

@@ -14,7 +14,7 @@ loop-app-preserved g c =
     let apps = c.args.apps.now in
     let i = c.loop-app.app-index in
     let P : ℕ → Type 0 = λ app. selected (g.A.Book.meaning c.args.a.now) head.code head.class app ≡ Some found.command
-        → IsMetFor (g.B.Book.meaning c.args.b.now) found.sites.items found.lines.items head app in
+    → IsMetFor (g.B.Book.meaning c.args.b.now) found.sites.items found.lines.items head app in
     elim c.if-selects.branch [
       | then-selects+else-not-is_met_at w ↦ all_taken P apps i 0 (omega arith) c.loop-app.invariant (λ select. w.is_met_at.ensures w.if-not-is_met_at.false)
       | else-selects w ↦ all_taken P apps i 0 (omega arith) c.loop-app.invariant (λ select. absurd (let e : false ≡ true = sym w.if-selects.false ∙ c.selects.ensures select in cc))

@@ -20,7 +20,7 @@ loop-line-preserved g c =
     let old = c.loop-line.lines.items in
     let is = c.in_ok-push.ensures.items in (
       image_more told_of old _ c.args.breaks.lines.items c.loop-line.line-index _ c.line-item.result is (omega (arith, ap length c.deref-line-items.ensures.value))
-      (ap told_of c.line-item.is ∙ ap (λ (xs : List Line). told_of (get_or xs c.loop-line.line-index c.line-item.result)) c.deref-line-items.ensures.value) c.loop-line.invariant.0,
+          (ap told_of c.line-item.is ∙ ap (λ (xs : List Line). told_of (get_or xs c.loop-line.line-index c.line-item.result)) c.deref-line-items.ensures.value) c.loop-line.invariant.0,
       all_more (λ (line : Line). line.standing ≡ Confirmed
           → (bytes : List ℕ) × IsConfirmed (g.A.Book.meaning up.a.now) (g.B.Book.meaning up.b.now) up.sends up.unknown bytes c.args.breaks.command) old _ _ is c.loop-line.invariant.1
           c.in_ok-standing.ensures,
