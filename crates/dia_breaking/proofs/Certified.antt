@@ -1,5 +1,5 @@
 -- Where the sites are closed, and the headers are met, each message is valid.
-use Rattle.std.proofs.Common.{◌≡◌, ℕ, ◌-◌, List, ◌++◌, Option, Some, None, refl, sym, ap, subst, ◌∙◌, arith, inl, inr}
+use Rattle.std.proofs.Common.{◌≡◌, ℕ, ◌-◌, List, [], ◌++◌, Option, Some, None, refl, sym, ap, subst, ◌∙◌, arith, inl, inr}
 use Rattle.std.specs.Prelude.{◌⊎◌, Contains, slice_get, option_and_then}
 use Rattle.std.specs.List.{filter_map}
 use Rattle.std.specs.Option.{option_map}
@@ -20,11 +20,13 @@ use Rattle.dia_sites.proofs.SafeMessages.{valid}
 use Rattle.dia_sites.proofs.Selected.{met}
 use Rattle.dia_entries.specs.Sent.{group_of}
 use Rattle.dia_least.specs.Floors.{AreFloors}
+use Rattle.dia_breaking.specs.declared.line.Line.{Line}
 use Rattle.dia_breaking.specs.declared.ways.Way.{Way}
 use Rattle.dia_breaking.specs.Closed.{IsClosedSite, AreClosed}
 use Rattle.dia_breaking.specs.Closing.{HoldsWays, IsClosedBy}
 use Rattle.dia_breaking.specs.Certified.{IsClosedGroup, AreClosedGroups, AreClosedDefs, AreClosedTogether}
 use Rattle.dia_breaking.specs.Headers.{HoldsDefs}
+use Rattle.dia_breaking.specs.OwnKeys.{own_keys}
 use Rattle.dia_breaking.proofs.ClosedSites.{closed_are_safe}
 use Rattle.dia_breaking.proofs.OpenCommands.{into_filter_map}
 
@@ -60,29 +62,29 @@ module _ (da db : Dictionary) (x : PlainDefinition) where
       has (site_between group a b) (sites_of defs groups)
       (Contains-append_right (filter_map def_site defs) (filter_map group_site groups) (site_between group a b) (contains_in (filter_map group_site groups) (site_between group a b) there))
 
-  module _ (who : Sends) (u : Unknown) (f : Key → ℕ) (defs : List ℕ) (groups : List Way) (c : ℕ) (at : slice_get (definitions da) c ≡ Some x) (closed_defs : AreClosedDefs da db who u f groups c defs)
-      (closed_groups : AreClosedGroups da db who u f groups groups) where
+  module _ (who : Sends) (u : Unknown) (f : Key → ℕ) (defs : List ℕ) (groups : List Way) (c : ℕ) (at : slice_get (definitions da) c ≡ Some x) (closed_defs : AreClosedDefs da db who u f groups [] c defs)
+      (closed_groups : AreClosedGroups da db who u f groups [] groups) where
     abbrev sites : List Site
     sites = sites_of defs groups
 
     by_def : (site : Site) (def : ℕ) → IsIn def defs → (o : Option PlainDefinition) → slice_get (definitions db) def ≡ o
-        → option_map (λ (other : PlainDefinition). record { a = x; b = other; room = max_body }) o ≡ Some site → IsClosedSite da db who u f sites site
+        → option_map (λ (other : PlainDefinition). record { a = x; b = other; room = max_body }) o ≡ Some site → IsClosedSite da db who u f sites [] [] site
     by_def site def i None there is = absurd (none-some site is)
     by_def site def i (Some other) there is =
-        subst (IsClosedSite da db who u f sites) (same_Some _ site is)
-        (all_of (λ (def : ℕ). IsClosedBy da db who u f groups c def 0) defs def closed_defs i x other sites at there (holds_ways defs groups))
+        subst (IsClosedSite da db who u f sites [] []) (same_Some _ site is)
+        (all_of (λ (def : ℕ). IsClosedBy da db who u f groups [] [] c def 0) defs def closed_defs i x other sites at there (holds_ways defs groups))
 
     by_group : (site : Site) (group : Way) → IsIn group groups → (o p : Option PlainDefinition) → group_of da group.key ≡ o → group_of db group.key ≡ p
-        → option_and_then (λ (a : PlainDefinition). option_map (site_between group a) p) o ≡ Some site → IsClosedSite da db who u f sites site
+        → option_and_then (λ (a : PlainDefinition). option_map (site_between group a) p) o ≡ Some site → IsClosedSite da db who u f sites [] [] site
     by_group site group i None p in_a in_b is = absurd (none-some site is)
     by_group site group i (Some a) None in_a in_b is = absurd (none-some site is)
     by_group site group i (Some a) (Some b) in_a in_b is =
-        subst (IsClosedSite da db who u f sites) (same_Some _ site is) (all_of (IsClosedGroup da db who u f groups) groups group closed_groups i a b sites in_a in_b (holds_ways defs groups))
+        subst (IsClosedSite da db who u f sites [] []) (same_Some _ site is) (all_of (IsClosedGroup da db who u f groups []) groups group closed_groups i a b sites in_a in_b (holds_ways defs groups))
 
     all_closed : AreClosed da db who u f sites
     all_closed site inside = by (Contains-append_cases (filter_map def_site defs) (filter_map group_site groups) site inside)
       where
-        by : Contains (filter_map def_site defs) site ⊎ Contains (filter_map group_site groups) site → IsClosedSite da db who u f sites site
+        by : Contains (filter_map def_site defs) site ⊎ Contains (filter_map group_site groups) site → IsClosedSite da db who u f sites [] [] site
         by (inl here) =
             let p = at_Contains (filter_map def_site defs) site here in
             let r = at_filter_map def_site defs p.place site p.at in
@@ -103,6 +105,15 @@ pub certified : (da db : Dictionary) (who : Sends) (u : Unknown) (f : Key → �
     → AreValid da db who u c
 certified da db who u f c x defs sa sb at floors told (groups, closed_defs, closed_groups) = valid_by da db x who u f defs groups c at closed_defs closed_groups sa sb floors told
 
+-- where nothing is told
+pub none_told : (da db : Dictionary) (who : Sends) (u : Unknown) (f : Key → ℕ) (groups : List Way) (lines : List Line) (c : ℕ) (defs : List ℕ) → lines ≡ []
+    → AreClosedDefs da db who u f groups (own_keys lines) c defs → AreClosedGroups da db who u f groups (own_keys lines) groups → AreClosedTogether da db who u f c defs
+none_told da db who u f groups lines c defs none closed_defs closed_groups = (
+  groups,
+  subst (λ (ls : List Line). AreClosedDefs da db who u f groups (own_keys ls) c defs) none closed_defs,
+  subst (λ (ls : List Line). AreClosedGroups da db who u f groups (own_keys ls) groups) none closed_groups,
+)
+
 -- ---- what the tests of pairs show
 
 -- the number that is found is that of the group
@@ -122,9 +133,9 @@ group_found d key i r at is = by k.0.group refl
         let there = group_there d i k.0 g k.1 h in
         ap (option_and_then (λ (def : ℕ). slice_get (definitions d) def)) (is ∙ there.0) ∙ there.1 ∙ sym (group_is ∙ h)
 
-pub closed_group : (da db : Dictionary) (who : Sends) (u : Unknown) (f : Key → ℕ) (groups : List Way) (group : Way) (a_def b_def : ℕ) (r s : Option ℕ) → r ≡ Some a_def → s ≡ Some b_def
+pub closed_group : (da db : Dictionary) (who : Sends) (u : Unknown) (f : Key → ℕ) (groups : List Way) (own : List Key) (group : Way) (a_def b_def : ℕ) (r s : Option ℕ) → r ≡ Some a_def → s ≡ Some b_def
     → option_and_then (λ (def : ℕ). slice_get (definitions da) def) r ≡ group_of da group.key → option_and_then (λ (def : ℕ). slice_get (definitions db) def) s ≡ group_of db group.key
-    → IsClosedBy da db who u f groups a_def b_def group.way → IsClosedGroup da db who u f groups group
-closed_group da db who u f groups group a_def b_def r s is_r is_s in_a in_b closed x y sites at_x at_y holds =
+    → IsClosedBy da db who u f groups [] own a_def b_def group.way → IsClosedGroup da db who u f groups own group
+closed_group da db who u f groups own group a_def b_def r s is_r is_s in_a in_b closed x y sites at_x at_y holds =
     closed x y sites (sym (ap (option_and_then (λ (def : ℕ). slice_get (definitions da) def)) is_r) ∙ in_a ∙ at_x)
     (sym (ap (option_and_then (λ (def : ℕ). slice_get (definitions db) def)) is_s) ∙ in_b ∙ at_y) holds

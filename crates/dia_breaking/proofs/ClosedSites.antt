@@ -1,6 +1,6 @@
 -- At closed sites nothing breaks.
 use Rattle.std.proofs.Common.{ℕ, zero, suc, ◌+◌, ◌≤◌, List, [], ◌∷◌, length, map, Option, Some, None, refl, sym, ap, subst, arith, inl, inr}
-use Rattle.std.specs.Prelude.{Contains, unwrap_or, sum_by}
+use Rattle.std.specs.Prelude.{◌⊎◌, Contains, unwrap_or, sum_by}
 use Rattle.std.proofs.lemmas.List.Sums.{sum_by-cons}
 use Rattle.dia_wire.specs.declared.Key.{Key}
 use Rattle.dia_wire.specs.Wire.{PlainAvp, key_of, head_length, avp_length, padded_length}
@@ -8,15 +8,19 @@ use Rattle.dia_book.specs.declared.DRule.{DRule}
 use Rattle.dia_book.specs.Dictionary.{Dictionary}
 use Rattle.dia_policy.specs.declared.Unknown.{Unknown}
 use Rattle.dia_policy.specs.declared.Sends.{Sends}
+use Rattle.dia_check.specs.Valid.{Placed}
 use Rattle.dia_sites.specs.Sent.{IsSentWithin}
 use Rattle.dia_sites.specs.Sites.{Site, IsLevelOf, IsSafeSite, AreSafe}
 use Rattle.dia_sites.proofs.Members.{IsIn, in_contains, contains_in, in_all}
 use Rattle.dia_sites.proofs.Room.{keeps}
+use Rattle.dia_entries.specs.Laws.{FitKeyAlone}
 use Rattle.dia_entries.proofs.Alone.{keys_alone}
 use Rattle.dia_least.specs.Floors.{AreFloors, shortest_head, vendor_field, total}
 use Rattle.dia_least.proofs.BytesOfAvps.{data_bytes}
 use Rattle.dia_least.proofs.FloorsOfAvps.{no_shorter, rounded_up}
-use Rattle.dia_breaking.specs.Closed.{IsSentKeys, IsClosedSite, AreClosed}
+use Rattle.dia_levels.specs.declared.line.Line.{Line}
+use Rattle.dia_levels.specs.Levels.{ShowsAt}
+use Rattle.dia_breaking.specs.Closed.{IsSentKeys, IsTold, IsClosedSite, AreClosed}
 
 -- ---- lengths
 
@@ -79,15 +83,25 @@ module _ (da db : Dictionary) (who : Sends) (u : Unknown) (f : Key → ℕ) (flo
   group_within rules room avps v level is =
       omega (arith, data_within v, beside_within f avps v (long_in rules room avps level) (in_contains avps v is), keeps da who rules room avps level)
 
-  safe_site : (sites : List Site) (site : Site) → IsClosedSite da db who u f sites site → IsSafeSite da db who u sites site
+  safe_site : (sites : List Site) (site : Site) → IsClosedSite da db who u f sites [] [] site → IsSafeSite da db who u sites site
   safe_site sites site closed = record {
-    placed = λ avps level. closed.placed (map key_of avps) (sent_keys site.a.rules site.room avps level);
+    placed = λ avps level. is_placed (map key_of avps) (closed.placed (map key_of avps) (sent_keys site.a.rules site.room avps level));
     alone = λ avps v level is.
-        keys_alone da db who u site.a.rules site.room avps v level is (closed.alone (map key_of avps) (key_of v) (sent_keys site.a.rules site.room avps level) (key_contained avps v is));
+        keys_alone da db who u site.a.rules site.room avps v level is
+        (is_alone (key_of v) (closed.alone (map key_of avps) (key_of v) (sent_keys site.a.rules site.room avps level) (key_contained avps v is)));
     groups = λ avps v x y level is in_a in_b.
         closed.groups (map key_of avps) (key_of v) x y (length v.bytes) (sent_keys site.a.rules site.room avps level) (key_contained avps v is) in_a in_b
         (group_within site.a.rules site.room avps v level is);
   }
+    where
+      -- nothing is told
+      is_placed : (keys : List Key) → Placed site.b.rules keys ⊎ ((line : Line) × Contains [] line × ShowsAt site.a.rules site.b.rules keys line.reason line.key) → Placed site.b.rules keys
+      is_placed keys (inl h) = h
+      is_placed keys (inr (line, is, shows)) = absurd (in_contains [] line is)
+
+      is_alone : (key : Key) → FitKeyAlone da db who u key ⊎ IsTold da db [] key → FitKeyAlone da db who u key
+      is_alone key (inl h) = h
+      is_alone key (inr (own, is, stands)) = absurd (in_contains [] own is)
 
 pub closed_are_safe : (da db : Dictionary) (who : Sends) (u : Unknown) (f : Key → ℕ) (sites : List Site) → AreFloors da who f → AreClosed da db who u f sites → AreSafe da db who u sites
 closed_are_safe da db who u f sites floors closed = λ site is. safe_site da db who u f floors sites site (closed site is)

@@ -1,5 +1,5 @@
 -- What is shown of a command of which nothing breaks.
-use Rattle.std.specs.Prelude.{◌≡◌, ℕ, ◌-◌, List, Some, All}
+use Rattle.std.specs.Prelude.{◌≡◌, ℕ, ◌-◌, List, [], Some, All}
 use Rattle.dia_wire.specs.declared.Key.{Key}
 use Rattle.dia_book.specs.Dictionary.{Dictionary, PlainDefinition}
 use Rattle.dia_policy.specs.declared.Unknown.{Unknown}
@@ -12,16 +12,16 @@ use Rattle.dia_breaking.specs.Closed.{IsClosedSite}
 use Rattle.dia_breaking.specs.Closing.{HoldsWays, IsClosedBy}
 
 -- the site of the group is closed by all sites that the groups have
-abbrev pub IsClosedGroup : Dictionary → Dictionary → Sends → Unknown → (Key → ℕ) → List Way → Way → Type 0
-IsClosedGroup da db who u length groups group = (x y : PlainDefinition) (sites : List Site) → group_of da group.key ≡ Some x → group_of db group.key ≡ Some y
-    → HoldsWays da db groups sites → IsClosedSite da db who u length sites (record { a = x; b = y; room = max_body - group.way })
+abbrev pub IsClosedGroup : Dictionary → Dictionary → Sends → Unknown → (Key → ℕ) → List Way → List Key → Way → Type 0
+IsClosedGroup da db who u length groups own group = (x y : PlainDefinition) (sites : List Site) → group_of da group.key ≡ Some x → group_of db group.key ≡ Some y
+    → HoldsWays da db groups sites → IsClosedSite da db who u length sites [] own (record { a = x; b = y; room = max_body - group.way })
 
-abbrev pub AreClosedGroups : Dictionary → Dictionary → Sends → Unknown → (Key → ℕ) → List Way → List Way → Type 0
-AreClosedGroups da db who u length all groups = All (IsClosedGroup da db who u length all) groups
+abbrev pub AreClosedGroups : Dictionary → Dictionary → Sends → Unknown → (Key → ℕ) → List Way → List Key → List Way → Type 0
+AreClosedGroups da db who u length all own groups = All (IsClosedGroup da db who u length all own) groups
 
 -- so are those of the command with each of these definitions of B
-abbrev pub AreClosedDefs : Dictionary → Dictionary → Sends → Unknown → (Key → ℕ) → List Way → ℕ → List ℕ → Type 0
-AreClosedDefs da db who u length groups command defs = All (λ def. IsClosedBy da db who u length groups command def 0) defs
+abbrev pub AreClosedDefs : Dictionary → Dictionary → Sends → Unknown → (Key → ℕ) → List Way → List Key → ℕ → List ℕ → Type 0
+AreClosedDefs da db who u length groups own command defs = All (λ def. IsClosedBy da db who u length groups [] own command def 0) defs
 
 abbrev pub AreClosedTogether : Dictionary → Dictionary → Sends → Unknown → (Key → ℕ) → ℕ → List ℕ → Type 0
-AreClosedTogether da db who u length command defs = (groups : List Way) × AreClosedDefs da db who u length groups command defs × AreClosedGroups da db who u length groups groups
+AreClosedTogether da db who u length command defs = (groups : List Way) × AreClosedDefs da db who u length groups [] command defs × AreClosedGroups da db who u length groups [] groups

@@ -6,5 +6,7 @@ pub mod Confirmed
 pub mod Headers
 pub mod Lengths
 pub mod LevelCosts
+pub mod Outlooks
+pub mod OwnKeys
 pub mod SentKeys
 pub mod Telling

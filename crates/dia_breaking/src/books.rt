@@ -1,5 +1,6 @@
 //! Look-ups of two dictionaries.
-ghost use Rattle.std.specs.Prelude.{◌≡◌, ◌<◌, IfSome, is_some, length, slice_get};
+ghost use Rattle.std.specs.Prelude.{◌≡◌, ◌<◌, IfSome, is_some, length, option_and_then};
+ghost use Rattle.std.specs.Prelude.{slice_get};
 ghost use Rattle.dia_book.specs.Dictionary.{definitions};
 ghost use Rattle.dia_check.specs.Valid.{is_listed};
 ghost use Rattle.dia_compat.specs.Tests.{rule_of, rules_in, wildcard_of};
@@ -11,6 +12,8 @@ use dia_book::{Book, Class, DRule, DefId, Format, Key, MRule, Slot};
 pub(crate) fn group_of<B: Book>(book: &B, key: Key) -> Option<DefId>
     ensures within { IfSome result (λ def. def < length (definitions (B.meaning book.now))) }
     ensures group { is_some result ≡ is_some (group_of (B.meaning book.now) key) }
+    ensures definition { option_and_then (λ def. slice_get (definitions (B.meaning book.now)) def) result
+        ≡ group_of (B.meaning book.now) key }
 {
     let entry = book.avp(key)?;
     book.group(entry)

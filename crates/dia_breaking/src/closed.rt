@@ -1,13 +1,15 @@
 //! Whether it is shown that nothing breaks: what a walk has found is looked at anew, site by site.
-ghost use Rattle.std.specs.Prelude.{◌≡◌, ◌<◌, All, IfOk, IfSome, IsTrue, Some, length, slice_get};
+ghost use Rattle.std.specs.Prelude.{◌≡◌, ◌<◌, [], All, IfOk, IfSome, IsTrue, Some, length, slice_get};
 ghost use Rattle.std.specs.Prelude.{option_and_then};
 ghost use Rattle.dia_book.specs.Dictionary.{definitions};
 ghost use Rattle.dia_sites.specs.Selection.{AreValid};
 ghost use Rattle.dia_entries.specs.Sent.{group_of};
 ghost use Rattle.dia_breaking.specs.Certified.{AreClosedDefs, AreClosedGroups};
 ghost use Rattle.dia_breaking.specs.Certified.{AreClosedTogether, IsClosedGroup};
+ghost use Rattle.dia_breaking.specs.Closing.{IsClosedBy};
 ghost use Rattle.dia_breaking.specs.Headers.{head_in};
 ghost use Rattle.dia_breaking.specs.Lengths.{listed_length};
+ghost use Rattle.dia_breaking.specs.OwnKeys.{own_keys};
 ghost use Rattle.dia_breaking.specs.Telling.{IsTelling};
 
 use crate::closing::Closing;
@@ -73,7 +75,7 @@ impl<'a, A: Book, B: Book> Upgrade<'a, A, B> {
             command defs.now ∥₁) }
     {
         let groups = groups_of(alloc, sites)?;
-        let closing = Closing::new(alloc, self, &groups)?;
+        let closing = Closing::new(alloc, self, &groups, &[])?;
         let defs_closed = are_defs_closed(alloc, &closing, command, defs)?;
         if !defs_closed {
             return Ok(false);
@@ -112,15 +114,38 @@ fn are_defs_closed<A: Book, B: Book>(
         closing.now.upgrade.now.sends closing.now.upgrade.now.unknown
         (listed_length (A.meaning closing.now.upgrade.now.a.now) closing.now.upgrade.now.sends
         closing.now.upgrade.now.lengths.entries.items)
-        closing.now.groups.now command defs.now) }
+        closing.now.groups.now (own_keys closing.now.lines.now) command defs.now) }
 {
     for def in defs {
-        let closed = closing.is_closed(alloc, command, *def, 0)?;
+        let closed = is_def_closed(alloc, closing, command, *def)?;
         if !closed {
             return Ok(false);
         }
     }
     Ok(true)
+}
+
+fn is_def_closed<A: Book, B: Book>(
+    alloc: Global,
+    closing: &Closing<'_, '_, A, B>,
+    command: DefId,
+    def: DefId,
+) -> Result<bool, AllocError>
+    requires command { command < length (definitions (A.meaning closing.now.upgrade.now.a.now)) }
+    requires def { def < length (definitions (B.meaning closing.now.upgrade.now.b.now)) }
+    ensures { IfOk result (λ yes. IsTrue yes
+        → IsTelling (A.meaning closing.now.upgrade.now.a.now) (B.meaning closing.now.upgrade.now.b.now)
+        closing.now.upgrade.now.sends closing.now.upgrade.now.unknown
+        closing.now.upgrade.now.telling.value
+        → IsClosedBy (A.meaning closing.now.upgrade.now.a.now)
+        (B.meaning closing.now.upgrade.now.b.now)
+        closing.now.upgrade.now.sends closing.now.upgrade.now.unknown
+        (listed_length (A.meaning closing.now.upgrade.now.a.now) closing.now.upgrade.now.sends
+        closing.now.upgrade.now.lengths.entries.items)
+        closing.now.groups.now [] (own_keys closing.now.lines.now) command def 0) }
+{
+    let lines = closing.upgrade.lines_between(alloc, command, def)?;
+    Ok(closing.is_closed(command, def, 0, &lines, &[]))
 }
 
 /// Whether the sites of the groups are closed.
@@ -137,7 +162,7 @@ fn are_groups_closed<A: Book, B: Book>(
         closing.now.upgrade.now.sends closing.now.upgrade.now.unknown
         (listed_length (A.meaning closing.now.upgrade.now.a.now) closing.now.upgrade.now.sends
         closing.now.upgrade.now.lengths.entries.items)
-        closing.now.groups.now closing.now.groups.now) }
+        closing.now.groups.now (own_keys closing.now.lines.now) closing.now.groups.now) }
 {
     for group in closing.groups {
         let closed = is_group_closed(alloc, closing, *group)?;
@@ -162,7 +187,7 @@ fn is_group_closed<A: Book, B: Book>(
         closing.now.upgrade.now.sends closing.now.upgrade.now.unknown
         (listed_length (A.meaning closing.now.upgrade.now.a.now) closing.now.upgrade.now.sends
         closing.now.upgrade.now.lengths.entries.items)
-        closing.now.groups.now group) }
+        closing.now.groups.now (own_keys closing.now.lines.now) group) }
 {
     let Some(a_def) = group_def(closing.upgrade.a, group.key) else {
         return Ok(false);
@@ -170,7 +195,8 @@ fn is_group_closed<A: Book, B: Book>(
     let Some(b_def) = group_def(closing.upgrade.b, group.key) else {
         return Ok(false);
     };
-    closing.is_closed(alloc, a_def, b_def, group.way)
+    let lines = closing.upgrade.lines_between(alloc, a_def, b_def)?;
+    Ok(closing.is_closed(a_def, b_def, group.way, &lines, &[]))
 }
 
 /// The definition of the group with this key.

@@ -4,6 +4,7 @@ use Rattle.std.proofs.Math.Logic.{∥∥₁_map}
 use Rattle.dia_book.specs.Dictionary.{definitions}
 use Rattle.dia_breaking.specs.Certified.{AreClosedTogether}
 use Rattle.dia_breaking.specs.Lengths.{listed_length}
+use Rattle.dia_breaking.proofs.Certified.{none_told}
 use Rattle.dia_breaking.proofs.Lists.{when_ok}
 use Rattle.dia_breaking.proofs.upgrade.Upgrade.are_closed.Goals as goal
 
@@ -19,5 +20,6 @@ returns g c =
     when_ok _ _ c.are_groups_closed.result
     (λ b shown yes. subst (λ up. ∥ AreClosedTogether (g.A.Book.meaning up.a.now) (g.B.Book.meaning up.b.now) up.sends up.unknown
     (listed_length (g.A.Book.meaning up.a.now) up.sends up.lengths.entries.items) c.args.command c.args.defs.now ∥₁) c.in_ok-closing.ensures.upgrade
-    (∥∥₁_map closing.upgrade.now.told (λ tells. (closing.groups.now, c.in_ok-defs_closed.ensures c.if-not-defs_closed.false tells, shown yes tells))))
+    (∥∥₁_map closing.upgrade.now.told (λ tells. none_told _ _ _ _ _ closing.groups.now closing.lines.now c.args.command c.args.defs.now c.in_ok-closing.ensures.lines
+    (c.in_ok-defs_closed.ensures c.if-not-defs_closed.false tells) (shown yes tells))))
     c.are_groups_closed.ensures
