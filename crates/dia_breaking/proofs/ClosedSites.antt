@@ -1,6 +1,6 @@
 -- At closed sites nothing breaks.
 use Rattle.std.proofs.Common.{ℕ, zero, suc, ◌+◌, ◌≤◌, List, [], ◌∷◌, length, map, Option, Some, None, refl, sym, ap, subst, arith, inl, inr}
-use Rattle.std.specs.Prelude.{Contains, unwrap_or, sum_by}
+use Rattle.std.specs.Prelude.{◌⊎◌, Contains, unwrap_or, sum_by}
 use Rattle.std.proofs.lemmas.List.Sums.{sum_by-cons}
 use Rattle.dia_wire.specs.declared.Key.{Key}
 use Rattle.dia_wire.specs.Wire.{PlainAvp, key_of, head_length, avp_length, padded_length}
@@ -8,15 +8,19 @@ use Rattle.dia_book.specs.declared.DRule.{DRule}
 use Rattle.dia_book.specs.Dictionary.{Dictionary}
 use Rattle.dia_policy.specs.declared.Unknown.{Unknown}
 use Rattle.dia_policy.specs.declared.Sends.{Sends}
+use Rattle.dia_check.specs.Valid.{Placed}
 use Rattle.dia_sites.specs.Sent.{IsSentWithin}
-use Rattle.dia_sites.specs.Sites.{Site, IsLevelOf, IsSafeSite, AreSafe}
+use Rattle.dia_sites.specs.Sites.{Site, IsLevelOf, FitsAlone, AboutLevels, IsSafeSite}
 use Rattle.dia_sites.proofs.Members.{IsIn, in_contains, contains_in, in_all}
 use Rattle.dia_sites.proofs.Room.{keeps}
+use Rattle.dia_entries.specs.Laws.{FitKeyAlone}
 use Rattle.dia_entries.proofs.Alone.{keys_alone}
+use Rattle.dia_levels.specs.declared.line.Line.{Line as LevelLine}
+use Rattle.dia_levels.specs.Levels.{ShowsAt}
 use Rattle.dia_least.specs.Floors.{AreFloors, shortest_head, vendor_field, total}
 use Rattle.dia_least.proofs.BytesOfAvps.{data_bytes}
 use Rattle.dia_least.proofs.FloorsOfAvps.{no_shorter, rounded_up}
-use Rattle.dia_breaking.specs.Closed.{IsSentKeys, IsClosedSite, AreClosed}
+use Rattle.dia_breaking.specs.Closed.{IsSentKeys, IsTold, IsFreeOf, IsClosedSite}
 
 -- ---- lengths
 
@@ -79,15 +83,31 @@ module _ (da db : Dictionary) (who : Sends) (u : Unknown) (f : Key → ℕ) (flo
   group_within rules room avps v level is =
       omega (arith, data_within v, beside_within f avps v (long_in rules room avps level) (in_contains avps v is), keeps da who rules room avps level)
 
-  safe_site : (sites : List Site) (site : Site) → IsClosedSite da db who u f sites site → IsSafeSite da db who u sites site
-  safe_site sites site closed = record {
-    placed = λ avps level. closed.placed (map key_of avps) (sent_keys site.a.rules site.room avps level);
-    alone = λ avps v level is.
-        keys_alone da db who u site.a.rules site.room avps v level is (closed.alone (map key_of avps) (key_of v) (sent_keys site.a.rules site.room avps level) (key_contained avps v is));
-    groups = λ avps v x y level is in_a in_b.
+  pub safe_site : (sites : List Site) (told : List LevelLine) (own : List Key) (site : Site) → IsClosedSite da db who u f sites told own site → IsSafeSite da db who u (IsFreeOf da db u told own) sites site
+  safe_site sites told own site closed = record {
+    placed = λ avps level free. placed site avps free (closed.placed (map key_of avps) (sent_keys site.a.rules site.room avps level));
+    alone = λ avps v level free is.
+        alone site avps v level free is (closed.alone (map key_of avps) (key_of v) (sent_keys site.a.rules site.room avps level) (key_contained avps v is));
+    groups = λ avps v x y level free is in_a in_b.
         closed.groups (map key_of avps) (key_of v) x y (length v.bytes) (sent_keys site.a.rules site.room avps level) (key_contained avps v is) in_a in_b
         (group_within site.a.rules site.room avps v level is);
   }
+    where
+      placed : (site : Site) (avps : List PlainAvp) → IsFreeOf da db u told own site.a site.b avps
+          → Placed site.b.rules (map key_of avps) ⊎ ((line : LevelLine) × Contains told line × ShowsAt site.a.rules site.b.rules (map key_of avps) line.reason line.key) → Placed site.b.rules (map key_of avps)
+      placed site avps free (inl h) = h
+      placed site avps free (inr h) = absurd (free.level h.0 h.1 h.2)
 
-pub closed_are_safe : (da db : Dictionary) (who : Sends) (u : Unknown) (f : Key → ℕ) (sites : List Site) → AreFloors da who f → AreClosed da db who u f sites → AreSafe da db who u sites
-closed_are_safe da db who u f sites floors closed = λ site is. safe_site da db who u f floors sites site (closed site is)
+      alone : (site : Site) (avps : List PlainAvp) (v : PlainAvp) → IsLevelOf da who site.a.rules site.room avps → IsFreeOf da db u told own site.a site.b avps → Contains avps v
+          → FitKeyAlone da db who u (key_of v) ⊎ IsTold da db own (key_of v) → FitsAlone da db u v
+      alone site avps v level free is (inl h) = keys_alone da db who u site.a.rules site.room avps v level is h
+      alone site avps v level free is (inr h) = free.fits h.0 v h.1 is h.2
+
+-- a site that is safe for levels that are as asked is so for those that are more
+pub safe_for_fewer : (da db : Dictionary) (who : Sends) (u : Unknown) (Asked More : AboutLevels) (sites : List Site) (site : Site)
+    → ((avps : List PlainAvp) → More site.a site.b avps → Asked site.a site.b avps) → IsSafeSite da db who u Asked sites site → IsSafeSite da db who u More sites site
+safe_for_fewer da db who u Asked More sites site less safe = record {
+  placed = λ avps level more. safe.placed avps level (less avps more);
+  alone = λ avps v level more is. safe.alone avps v level (less avps more) is;
+  groups = λ avps v x y level more is in_a in_b. safe.groups avps v x y level (less avps more) is in_a in_b;
+}

@@ -10,7 +10,9 @@ pub mod ClosedBy
 pub mod Closings
 pub mod ClosedSites
 pub mod Lists
+pub mod Outlooks
 pub mod OpenCommands
 pub mod ToldHeaders
 pub mod Certified
 pub mod TooLong
+pub mod FreeOfLines

@@ -1,10 +1,14 @@
 -- What is kept of the members of a list.
-use Rattle.std.proofs.Common.{◌≡◌, ℕ, ◌+◌, ◌<◌, ◌≤◌, Bool, true, get_or, List, [], ◌∷◌, ◌++◌, length, take, Option, Some, None, Result, Ok, Err, refl, sym, ap, subst, ◌∙◌, arith}
-use Rattle.std.specs.Prelude.{All, IfSome, IfOk, IsTrue, slice_get}
+use Rattle.std.proofs.Common.{◌≡◌, ℕ, zero, suc, ◌+◌, ◌<◌, ◌≤◌, Bool, true, get_or, List, [], ◌∷◌, ◌++◌, length, map, take, drop, Option, Some, None, Result, Ok, Err, refl, sym, ap, subst, ◌∙◌, arith, inl, inr}
+use Rattle.std.specs.Prelude.{◌⊎◌, All, Contains, IfSome, IfOk, IsTrue, slice_get}
 use Rattle.std.specs.List.{filter_map}
-use Rattle.std.proofs.lemmas.Option.{same_Some, slice_get_within, slice_get-get_or}
-use Rattle.std.proofs.lemmas.List.{length-append, take_more, take_all}
+use Rattle.std.specs.Option.{option_map}
+use Rattle.std.proofs.lemmas.Bool.{cases_order}
+use Rattle.std.proofs.lemmas.Option.{same_Some, slice_get_within, slice_get-get_or, slice_get-map}
+use Rattle.std.proofs.lemmas.List.{map-append, take_more, take_all}
 use Rattle.std.proofs.lemmas.List.Elements.{All-nil, All-push, filter_map-append}
+use Rattle.dia_book.proofs.Members.{at_Contains, at_map}
+use Rattle.dia_sites.proofs.Members.{IsIn, in_at, contains_in}
 
 pub one_more : {X : Type 0} (xs : List X) (i : ℕ) (x : X) → slice_get xs i ≡ Some x → take (i + 1) xs ≡ take i xs ++ x ∷ []
 one_more {X} xs i x at =
@@ -20,19 +24,48 @@ pub added : {X Y : Type 0} (f : X → Option Y) (xs : List X) (i : ℕ) (x : X) 
     → new ≡ filter_map f (take (i + 1) xs)
 added {X} {Y} f xs i x old new is before at = is ∙ ap (λ (ys : List Y). ys ++ filter_map f (x ∷ [])) before ∙ sym (filter_map_more f xs i x at)
 
--- what holds of a value that comes, so does what follows
-pub when_found : {X E : Type 0} (P Q : X → Type 0) (r : Result (Option X) E) → ((x : X) → P x → Q x) → IfOk r (λ found. IfSome found P) → IfOk r (λ found. IfSome found Q)
-when_found P Q (Ok None) f h = tt
-when_found P Q (Ok (Some x)) f h = f x h
-when_found P Q (Err e) f h = tt
-
-pub when_both : {X E : Type 0} (P R Q : X → Type 0) (r : Result (Option X) E) → ((x : X) → P x → R x → Q x) → IfOk r (λ found. IfSome found P) → IfOk r (λ found. IfSome found R)
-    → IfOk r (λ found. IfSome found Q)
-when_both P R Q (Ok None) f h k = tt
-when_both P R Q (Ok (Some x)) f h k = f x h k
-when_both P R Q (Err e) f h k = tt
+-- what follows from two facts of a value
+pub when_two : {X E : Type 0} (P R Q : X → Type 0) (r : Result X E) → ((x : X) → P x → R x → Q x) → IfOk r P → IfOk r R → IfOk r Q
+when_two P R Q (Ok x) f h k = f x h k
+when_two P R Q (Err e) f h k = tt
 
 -- ---- all members
+
+pub all_in : {X : Type 0} (P : X → Type 0) (xs : List X) (x : X) → All P xs → Contains xs x → P x
+all_in P xs x all (i, within, is) = subst P is (all i x within)
+
+pub contains_at : {X : Type 0} (xs : List X) (i : ℕ) (x : X) → slice_get xs i ≡ Some x → Contains xs x
+contains_at xs i x at = contains_in xs x (in_at xs i x at)
+
+pub at_place : {X : Type 0} (xs : List X) (i : ℕ) (x : X) → i < length xs → x ≡ get_or xs i x → slice_get xs i ≡ Some x
+at_place xs i x within is = slice_get-get_or xs i x within ∙ ap (λ y. Some y) (sym is)
+
+-- ---- parts
+
+in_drop : {X : Type 0} (k : ℕ) (xs : List X) (x : X) → IsIn x (drop k xs) → IsIn x xs
+in_drop zero xs x i = i
+in_drop (suc k) [] x i = i
+in_drop (suc k) (y ∷ xs) x i = inr (in_drop k xs x i)
+
+in_take : {X : Type 0} (n : ℕ) (xs : List X) (x : X) → IsIn x (take n xs) → IsIn x xs
+in_take zero xs x i = absurd i
+in_take (suc n) [] x i = i
+in_take (suc n) (y ∷ xs) x (inl e) = inl e
+in_take (suc n) (y ∷ xs) x (inr i) = inr (in_take n xs x i)
+
+pub all_within : {X : Type 0} (xs : List X) (n k : ℕ) → All (Contains xs) (take n (drop k xs))
+all_within xs n k i d within =
+    let part = take n (drop k xs) in
+    contains_in xs (get_or part i d) (in_drop k xs (get_or part i d) (in_take n (drop k xs) (get_or part i d) (in_at part i (get_or part i d) (slice_get-get_or part i d within))))
+
+-- ---- images
+
+-- where two lists have one image, members of the first have others of the second with theirs
+pub same_image : {X Y : Type 0} (f : X → Y) (xs ys : List X) (x : X) → map f xs ≡ map f ys → Contains xs x → (y : X) × Contains ys y × (f y ≡ f x)
+same_image f xs ys x same inside =
+    let p = at_Contains xs x inside in
+    let r = at_map f ys p.place (f x) (ap (λ (zs : List _). slice_get zs p.place) (sym same) ∙ slice_get-map f xs p.place ∙ ap (option_map f) p.at) in
+    (r.0, contains_at ys p.place r.0 r.1, r.2)
 
 pub all_more : {X : Type 0} (P : X → Type 0) (xs : List X) (x : X) (new : List X) → new ≡ xs ++ x ∷ [] → All P xs → P x → All P new
 all_more P xs x new is all own = subst (All P) (sym is) (All-push P xs x all own)
@@ -43,9 +76,21 @@ all_taken P xs i d within all own = all_more P (take i xs) (get_or xs i d) (take
 pub none_of : {X : Type 0} (P : X → Type 0) (xs : List X) → xs ≡ [] → All P xs
 none_of P xs is = subst (All P) (sym is) (All-nil P)
 
--- one more
-pub length_more : {X : Type 0} (xs new : List X) (x : X) (i : ℕ) → new ≡ xs ++ x ∷ [] → length xs ≡ i → length new ≡ i + 1
-length_more xs new x i is before = ap length is ∙ length-append xs (x ∷ []) ∙ ap (λ (k : ℕ). k + 1) before
+-- one more of each
+pub image_more : {X Y : Type 0} (f : X → Y) (old new ys : List X) (i : ℕ) (x d : X) → new ≡ old ++ x ∷ [] → i < length ys → f x ≡ f (get_or ys i d) → map f old ≡ map f (take i ys) → map f new ≡ map f (take (i + 1) ys)
+image_more {X} {Y} f old new ys i x d is within same before =
+    ap (map f) is ∙ map-append f old (x ∷ []) ∙ ap (λ (zs : List Y). zs ++ f x ∷ []) before ∙ ap (λ (y : Y). map f (take i ys) ++ y ∷ []) same
+    ∙ sym (ap (map f) (take_more ys i d within) ∙ map-append f (take i ys) (get_or ys i d ∷ []))
+
+-- one place more
+pub before_more : {X : Type 0} (P : ℕ → X → Type 0) (xs : List X) (i : ℕ) (d : X) → i < length xs → ((n : ℕ) (x : X) → n < i → slice_get xs n ≡ Some x → P n x) → P i (get_or xs i d)
+    → (n : ℕ) (x : X) → n < i + 1 → slice_get xs n ≡ Some x → P n x
+before_more P xs i d within before own n x less at = by (cases_order n i)
+  where
+    by : (n ≡ i) ⊎ ((n < i) ⊎ (i < n)) → P n x
+    by (inl same) = subst (λ k. P k x) (sym same) (subst (P i) (same_Some (get_or xs i d) x (sym (slice_get-get_or xs i d within) ∙ ap (slice_get xs) (sym same) ∙ at)) own)
+    by (inr (inl lt)) = before n x lt at
+    by (inr (inr gt)) = absurd (omega (arith, less, gt))
 
 -- a loop that goes on where a test of each member shows P, on a premise
 module _ {T X : Type 0} (P : X → Type 0) (xs : List X) where
@@ -58,8 +103,3 @@ module _ {T X : Type 0} (P : X → Type 0) (xs : List X) where
 pub when_ok : {X E : Type 0} (P Q : X → Type 0) (r : Result X E) → ((x : X) → P x → Q x) → IfOk r P → IfOk r Q
 when_ok P Q (Ok x) f h = f x h
 when_ok P Q (Err e) f h = tt
-
-pub none_left : {X Y : Type 0} (xs : List X) (ys : List Y) → length ys ≡ length xs → ys ≡ [] → xs ≡ []
-none_left [] ys same none = refl
-none_left (x ∷ xs) [] same none = absurd (omega (arith, same))
-none_left (x ∷ xs) (y ∷ ys) same none = absurd cc

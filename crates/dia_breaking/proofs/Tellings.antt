@@ -27,7 +27,7 @@ use Rattle.dia_compat.proofs.MemberCounts.{in_at, in_contains, contains_in, in_a
 use Rattle.dia_breaking.specs.declared.keys.Own.{Own}
 use Rattle.dia_breaking.specs.declared.keys.Telling.{Telling}
 use Rattle.dia_breaking.specs.SentKeys.{AreSentKeys, IsStrange}
-use Rattle.dia_breaking.specs.Telling.{Adds, AreTold, IsTelling, IsToldOf, IsUntold, StandsFor, is_told}
+use Rattle.dia_breaking.specs.Telling.{Adds, AreGroups, AreTold, IsTelling, IsToldOf, IsUntold, StandsFor, is_told}
 
 -- ---- keys that a dictionary doesn't know
 
@@ -40,7 +40,7 @@ flags_none d u key flags none h = subst (λ (o : Option DictEntry). MatchOption 
 none_flags : (d : Dictionary) (u : Unknown) (key : Key) (flags : ℕ) → entry_of d key ≡ None → IsAccepted u flags → HasFlags d u key flags
 none_flags d u key flags none h = subst (λ (o : Option DictEntry). MatchOption o (IsAccepted u flags) (λ e. MHolds e.rule flags)) (sym (known_none d key none)) h
 
-no_group : (d : Dictionary) (key : Key) → entry_of d key ≡ None → IsSome (group_of d key) → ⊥
+pub no_group : (d : Dictionary) (key : Key) → entry_of d key ≡ None → IsSome (group_of d key) → ⊥
 no_group d key none h = both_ways (is_some (group_of d key)) (ap (λ (o : Option DictEntry). is_some (option_and_then (λ e. e.group) o)) (known_none d key none)) h
 
 -- one that B doesn't know may have any data
@@ -74,12 +74,14 @@ pub silent_of : (da db : Dictionary) (who : Sends) (u : Unknown) (key : Key) (br
     → AcceptsFlags da db who u key × FitKeyAlone da db who u key
 silent_of da db who u key breaks is_head alone silent = (subst (λ (o : Option HeadBreak). IsHeadBreak da db who u key o) silent.0 is_head, alone silent)
 
+no_groups : (da db : Dictionary) (key : Key) (b : Bool) → b ≡ (is_some (group_of da key) && is_some (group_of db key)) → b ≡ false → ¬ AreGroups da db key
+no_groups da db key b is none both = both_ways b none (is ∙ and_from (is_some (group_of da key)) (is_some (group_of db key)) both.0 both.1)
+
 -- what is found says that there is nothing to tell
 nothing_told : (da db : Dictionary) (who : Sends) (u : Unknown) (key : Key) (own : Own) → IsToldOf da db who u key own → is_told own ≡ false → IsUntold da db who u key
 nothing_told da db who u key own is none = (
   (is.silent (left_of own.breaks own.is_group none)).1,
-  λ both.
-      both_ways own.is_group (right_of own.breaks own.is_group none) (is.group ∙ and_from (is_some (group_of da key)) (is_some (group_of db key)) both.0 both.1),
+  no_groups da db key own.is_group is.group (right_of own.breaks own.is_group none),
 )
   where
     left_of : (b c : Bool) → (b || c) ≡ false → b ≡ false
@@ -204,6 +206,7 @@ module _ (da db : Dictionary) (who : Sends) (u : Unknown) where
     all_told = record {
       placed = told.placed;
       silent = λ own i none. ((told.each own i).silent none).1;
+      leaf = λ own i none. no_groups da db own.key own.is_group (told.each own i).group none;
       rest = λ key e. by key e (entry_of da key) refl;
     }
       where

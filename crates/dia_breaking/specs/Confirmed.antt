@@ -8,6 +8,7 @@ use Rattle.dia_policy.specs.declared.Sends.TheVariants.{Any, Known, Listed}
 use Rattle.dia_check.specs.Valid.{IsValid, IsValidOf}
 use Rattle.dia_sites.specs.Sent.{own_policy, Breaks}
 use Rattle.dia_compat.specs.TableText.{PlainTable}
+use Rattle.dia_breaking.specs.declared.line.Cause.{Cause}
 use Rattle.dia_breaking.specs.declared.line.Line.{Line}
 use Rattle.dia_breaking.specs.declared.line.Standing.TheVariants.{Confirmed}
 
@@ -20,6 +21,10 @@ IsConfirmed da db Listed u bytes c = IsValidOf da (own_policy Listed) levels.Any
 -- each line that is told as confirmed has a message that breaks the command c
 abbrev pub EachConfirmedBreaks : Dictionary → Dictionary → Sends → Unknown → ℕ → List Line → Type 0
 EachConfirmedBreaks da db who u c lines = All (λ line. line.standing ≡ Confirmed → (bytes : List ℕ) × IsConfirmed da db who u bytes c) lines
+
+-- what a line tells, whatever is known of it: its site, and what breaks
+abbrev pub told_of : Line → ℕ × Cause
+told_of line = (line.site, line.cause)
 
 -- none of the lines is told so
 abbrev pub NoneConfirmed : List Line → Type 0

@@ -1,18 +1,22 @@
 -- The headers of a command's messages that tell of all, as they are found.
-use Rattle.std.specs.Prelude.{◌≡◌, ℕ, ◌==◌, nat_eq, List, [], Option, Some, None, if◌then◌else◌, unwrap_or, slice_get, Contains}
+use Rattle.std.specs.Prelude.{◌≡◌, ◌⊎◌, ℕ, ◌==◌, nat_eq, Bool, true, false, not, List, [], Option, Some, None, IsSome, if◌then◌else◌, unwrap_or, slice_get, All, Contains}
 use Rattle.std.specs.List.{filter_map}
 use Rattle.std.specs.Option.{option_map}
 use Rattle.std.specs.HashMap.{get}
 use Rattle.dia_book.specs.declared.Class.{Class}
 use Rattle.dia_book.specs.declared.Class.TheVariants as classes
+use Rattle.dia_book.specs.declared.Pxy.{Pxy}
+use Rattle.dia_book.specs.declared.Pxy.TheVariants as pxy
 use Rattle.dia_book.specs.declared.DefHead.{DefHead}
 use Rattle.dia_book.specs.declared.DefHead.TheVariants.{Group, Command, Error}
 use Rattle.dia_book.specs.Dictionary.{Dictionary, PlainDefinition, definitions, selected, same_class}
-use Rattle.dia_check.specs.Valid.{PHolds, AllowsP}
-use Rattle.dia_sites.specs.Sites.{Site, HasSite}
-use Rattle.dia_sites.specs.Selection.{max_body}
 use Rattle.dia_breaking.specs.declared.apps.Apps.{Apps}
 use Rattle.dia_breaking.specs.declared.heads.Head.{Head}
+use Rattle.dia_breaking.specs.declared.line.Cause.TheVariants as causes
+use Rattle.dia_breaking.specs.declared.line.Line.{Line}
+use Rattle.dia_breaking.specs.declared.line.Place.{Place}
+use Rattle.dia_breaking.specs.declared.line.Place.TheVariants as places
+use Rattle.dia_breaking.specs.declared.line.Site.{Site}
 
 -- ---- the applications that commands name
 
@@ -45,25 +49,57 @@ head_in (Group key) = None
 head_in (Command code class app p) = Some (record { code = code; class = class; app = app; p = p })
 head_in (Error p) = Some (record { code = 0; class = classes.Error; app = Some 0; p = p })
 
--- for this application B selects the definition, which allows each P flag that the head allows
-pub record IsMetAs (db : Dictionary) (head : Head) (app def : ℕ) : Type 0 where
+-- a line tells that B selects no definition
+abbrev pub TellsRefusal : List Line → Type 0
+TellsRefusal lines = (line : Line) × Contains lines line × ((line.cause ≡ causes.Command) ⊎ (line.cause ≡ causes.Application))
+
+-- the place is the command's own level, in messages of this application
+abbrev pub IsCommandPlace : ℕ → Place → Type 0
+IsCommandPlace app (places.Command own is_told proxiable) = own ≡ app
+IsCommandPlace app (places.Group key outer) = ⊥
+
+-- at such a place B's side reads a level
+abbrev pub IsReadFor : List Site → ℕ → Type 0
+IsReadFor sites app = (site : Site) × Contains sites site × (site.is_read ≡ true) × IsCommandPlace app site.place
+
+-- a line of such a place tells that this P flag is forbidden
+abbrev pub TellsFlagFor : List Site → List Line → ℕ → Bool → Type 0
+TellsFlagFor sites lines app set = (line : Line) × (site : Site) × Contains lines line × (line.cause ≡ causes.Proxiable set) × (slice_get sites line.site ≡ Some site) × IsCommandPlace app site.place
+
+-- whether the P flag may have this value
+abbrev pub allows : Pxy → Bool → Bool
+allows pxy.Clear set = not set
+allows pxy.Set set = set
+allows pxy.Either set = true
+
+-- if the head allows this P flag, B's definition allows it, and the level is read; or a line tells that it is forbidden
+abbrev pub IsFlagMet : List Site → List Line → ℕ → Pxy → Pxy → Bool → Type 0
+IsFlagMet sites lines app p other set = allows p set ≡ true → ((allows other set ≡ true) × IsReadFor sites app) ⊎ ((allows other set ≡ false) × TellsFlagFor sites lines app set)
+
+-- of this number B has a definition of a command, which meets each P flag
+pub record IsMetAs (db : Dictionary) (sites : List Site) (lines : List Line) (head : Head) (app def : ℕ) : Type 0 where
   pub other : PlainDefinition
-  pub select : selected db head.code head.class app ≡ Some def
   pub is_other : slice_get (definitions db) def ≡ Some other
-  pub proxiable : (flags : ℕ) → PHolds head.p flags → AllowsP other.head flags
+  pub other_head : Head
+  pub is_head : head_in other.head ≡ Some other_head
+  pub clear : IsFlagMet sites lines app head.p other_head.p false
+  pub set : IsFlagMet sites lines app head.p other_head.p true
 
--- so it does with one of these
-abbrev pub IsMetWithin : Dictionary → Head → List ℕ → ℕ → Type 0
-IsMetWithin db head defs app = (def : ℕ) × Contains defs def × IsMetAs db head app def
+-- for this application B selects such a definition, or a line tells that it selects none
+pub record IsMetFor (db : Dictionary) (sites : List Site) (lines : List Line) (head : Head) (app : ℕ) : Type 0 where
+  pub selects : IsSome (selected db head.code head.class app) ⊎ TellsRefusal lines
+  pub each : (def : ℕ) → selected db head.code head.class app ≡ Some def → IsMetAs db sites lines head app def
 
--- so it does for those of the applications for which A selects the command
-abbrev pub AreMetWithin : Dictionary → Dictionary → Head → ℕ → List ℕ → List ℕ → Type 0
-AreMetWithin da db head c apps defs = (app : ℕ) → Contains apps app → selected da head.code head.class app ≡ Some c → IsMetWithin db head defs app
+-- so for those of the applications for which A selects the command
+abbrev pub AreMetFor : Dictionary → Dictionary → List Site → List Line → Head → ℕ → List ℕ → Type 0
+AreMetFor da db sites lines head c apps = All (λ app. selected da head.code head.class app ≡ Some c → IsMetFor db sites lines head app) apps
 
 -- and for one that is none of these
-abbrev pub IsOtherMet : Dictionary → Head → List ℕ → List ℕ → List ℕ → Type 0
-IsOtherMet db head first second defs = (app : ℕ) × (¬ Contains first app) × (¬ Contains second app) × IsMetWithin db head defs app
+abbrev pub IsOtherMet : Dictionary → List Site → List Line → Head → List ℕ → List ℕ → Type 0
+IsOtherMet db sites lines head first second = (app : ℕ) × (¬ Contains first app) × (¬ Contains second app) × IsMetFor db sites lines head app
 
--- the sites have those of the command and of each of these definitions of B
-abbrev pub HoldsDefs : Dictionary → List Site → PlainDefinition → List ℕ → Type 0
-HoldsDefs db sites command defs = (def : ℕ) (other : PlainDefinition) → Contains defs def → slice_get (definitions db) def ≡ Some other → HasSite sites command other max_body
+-- the headers that tell of all are met, for a command with this head
+abbrev pub AreHeadersMet : Dictionary → Dictionary → List Site → List Line → Apps → Apps → ℕ → Head → Type 0
+AreHeadersMet da db sites lines first second c head =
+    ((app : ℕ) → head.app ≡ Some app → IsMetFor db sites lines head app)
+    × (head.app ≡ None → AreMetFor da db sites lines head c (apps_of second head.code head.class) × IsOtherMet db sites lines head (apps_of first head.code head.class) (apps_of second head.code head.class))

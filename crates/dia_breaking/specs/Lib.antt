@@ -3,8 +3,11 @@ pub mod Closed
 pub mod ClosedRules
 pub mod Closing
 pub mod Confirmed
+pub mod Free
 pub mod Headers
 pub mod Lengths
 pub mod LevelCosts
+pub mod Outlooks
+pub mod OwnKeys
 pub mod SentKeys
 pub mod Telling

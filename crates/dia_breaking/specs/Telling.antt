@@ -54,4 +54,5 @@ pub record AreTold (da db : Dictionary) (who : Sends) (u : Unknown) (keys : List
 pub record IsTelling (da db : Dictionary) (who : Sends) (u : Unknown) (telling : Telling) : Type 0 where
   pub placed : (key : Key) (place : ℕ) → get same_key telling.places key ≡ Some place → (own : Own) × (slice_get telling.own.items place ≡ Some own) × (own.key ≡ key)
   pub silent : (own : Own) → Contains telling.own.items own → own.breaks ≡ false → FitKeyAlone da db who u own.key
+  pub leaf : (own : Own) → Contains telling.own.items own → own.is_group ≡ false → ¬ AreGroups da db own.key
   pub rest : (key : Key) → get same_key telling.places key ≡ None → IsUntold da db who u key ⊎ ((own : Own) × Contains telling.own.items own × StandsFor da db key own)

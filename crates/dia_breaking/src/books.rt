@@ -1,6 +1,7 @@
 //! Look-ups of two dictionaries.
-ghost use Rattle.std.specs.Prelude.{◌≡◌, ◌<◌, IfSome, is_some, length, slice_get};
-ghost use Rattle.dia_book.specs.Dictionary.{definitions};
+ghost use Rattle.std.specs.Prelude.{◌≡◌, ◌<◌, IfSome, is_some, length, option_and_then};
+ghost use Rattle.std.specs.Prelude.{slice_get};
+ghost use Rattle.dia_book.specs.Dictionary.{definitions, selected};
 ghost use Rattle.dia_check.specs.Valid.{is_listed};
 ghost use Rattle.dia_compat.specs.Tests.{rule_of, rules_in, wildcard_of};
 ghost use Rattle.dia_entries.specs.Sent.{group_of};
@@ -11,6 +12,8 @@ use dia_book::{Book, Class, DRule, DefId, Format, Key, MRule, Slot};
 pub(crate) fn group_of<B: Book>(book: &B, key: Key) -> Option<DefId>
     ensures within { IfSome result (λ def. def < length (definitions (B.meaning book.now))) }
     ensures group { is_some result ≡ is_some (group_of (B.meaning book.now) key) }
+    ensures definition { option_and_then (λ def. slice_get (definitions (B.meaning book.now)) def) result
+        ≡ group_of (B.meaning book.now) key }
 {
     let entry = book.avp(key)?;
     book.group(entry)
@@ -18,7 +21,8 @@ pub(crate) fn group_of<B: Book>(book: &B, key: Key) -> Option<DefId>
 
 /// The definition of a message.
 pub(crate) fn command_of<B: Book>(book: &B, code: u32, class: Class, app: u32) -> Option<DefId>
-    ensures { IfSome result (λ def. def < length (definitions (B.meaning book.now))) }
+    ensures within { IfSome result (λ def. def < length (definitions (B.meaning book.now))) }
+    ensures selected { result ≡ selected (B.meaning book.now) code class app }
 {
     book.select(code, class, app)
 }

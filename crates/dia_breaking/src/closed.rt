@@ -1,51 +1,57 @@
-//! Whether it is shown that nothing breaks: what a walk has found is looked at anew, site by site.
-ghost use Rattle.std.specs.Prelude.{◌≡◌, ◌<◌, All, IfOk, IfSome, IsTrue, Some, length, slice_get};
-ghost use Rattle.std.specs.Prelude.{option_and_then};
+//! Whether it is shown that nothing breaks but what the lines of an answer tell: what a walk has found is looked at anew, site by
+//! site.
+ghost use Rattle.std.specs.Prelude.{◌≡◌, ◌++◌, ◌∷◌, [], ◌<◌, IfOk, IfSome, IsTrue, OnOk, Some};
+ghost use Rattle.std.specs.Prelude.{length, slice_get, option_and_then};
+ghost use Rattle.std.specs.List.{filter_map};
 ghost use Rattle.dia_book.specs.Dictionary.{definitions};
 ghost use Rattle.dia_sites.specs.Selection.{AreValid};
 ghost use Rattle.dia_entries.specs.Sent.{group_of};
-ghost use Rattle.dia_breaking.specs.Certified.{AreClosedDefs, AreClosedGroups};
-ghost use Rattle.dia_breaking.specs.Certified.{AreClosedTogether, IsClosedGroup};
+ghost use Rattle.dia_breaking.specs.Certified.{AreClosedAt, AreClosedTogether, IsClosedAt};
+ghost use Rattle.dia_breaking.specs.Certified.{IsClosedCommand, IsClosedGroup, way_to, ways_of};
+ghost use Rattle.dia_breaking.specs.Free.{AreValidWhereFree};
 ghost use Rattle.dia_breaking.specs.Headers.{head_in};
-ghost use Rattle.dia_breaking.specs.Lengths.{listed_length};
+ghost use Rattle.dia_breaking.specs.Lengths.{listed_length, other_length};
+ghost use Rattle.dia_breaking.specs.Outlooks.{HaveGroupLines};
+ghost use Rattle.dia_breaking.specs.OwnKeys.{own_keys};
 ghost use Rattle.dia_breaking.specs.Telling.{IsTelling};
 
+use crate::books::command_of;
 use crate::closing::Closing;
-use crate::headers::told_defs;
+use crate::headers::are_headers_met;
 use crate::heads::Head;
-use crate::line::{Place, Site};
+use crate::line::{Breaks, Place, Site};
+use crate::told::level_lines_at;
 use crate::upgrade::Upgrade;
 use crate::walk::ROOM;
 use crate::ways::Way;
 use dia_book::{Book, DefId, Key};
-use dia_levels::length_least;
+use dia_levels::{Line as LevelLine, length_least};
 use std::alloc::{AllocError, Global};
 
 impl<'a, A: Book, B: Book> Upgrade<'a, A, B> {
-    /// Whether it is shown that no message of a command with this head breaks, by the sites that a walk has found. The error
-    /// comes only where memory was refused.
+    /// Whether it is shown that each message of a command with this head that is free of the lines is valid under B, by the
+    /// sites that a walk has found. The error comes only where memory was refused.
     pub(crate) fn is_certified(
         &self,
         alloc: Global,
-        command: DefId,
         head: &Head,
-        sites: &[Site],
+        found: &Breaks,
     ) -> Result<bool, AllocError>
-        requires within { command < length (definitions (A.meaning self.now.a.now)) }
-        requires head { IfSome (slice_get (definitions (A.meaning self.now.a.now)) command)
+        requires within { found.now.command < length (definitions (A.meaning self.now.a.now)) }
+        requires head { IfSome (slice_get (definitions (A.meaning self.now.a.now)) found.now.command)
             (λ c. head_in c.head ≡ Some head.now) }
-        ensures { IfOk result (λ yes. IsTrue yes → ∥ AreValid
-            (A.meaning self.now.a.now) (B.meaning self.now.b.now)
-            self.now.sends self.now.unknown command ∥₁) }
+        ensures { IfOk result (λ yes. IsTrue yes → ∥ AreValidWhereFree
+            (A.meaning self.now.a.now) (B.meaning self.now.b.now) self.now.sends self.now.unknown
+            found.now.sites.items found.now.lines.items found.now.command ∥₁) }
     {
-        if self.is_too_long(command) {
+        if self.is_too_long(found.command) {
             return Ok(true);
         }
-        let found = told_defs(alloc, self.a, self.b, &self.apps, command, head)?;
-        match found {
-            Some(defs) => self.are_closed(alloc, command, &defs, sites),
-            None => Ok(false),
+        let met = are_headers_met(alloc, self.a, self.b, &self.apps, head, found)?;
+        if !met {
+            return Ok(false);
         }
+        self.are_closed(alloc, head, found)
     }
 
     /// Whether no message has room for the least level of the command.
@@ -57,120 +63,191 @@ impl<'a, A: Book, B: Book> Upgrade<'a, A, B> {
         ROOM < length_least(self.a, command, &self.lengths)
     }
 
-    /// Whether the sites are closed: those of the command, each with one of these definitions of B, and those of the groups.
-    fn are_closed(
-        &self,
-        alloc: Global,
-        command: DefId,
-        defs: &[DefId],
-        sites: &[Site],
-    ) -> Result<bool, AllocError>
-        requires within { command < length (definitions (A.meaning self.now.a.now)) }
-        requires defs { All (λ def. def < length (definitions (B.meaning self.now.b.now))) defs.now }
+    /// Whether the sites are closed, but for what the lines tell.
+    fn are_closed(&self, alloc: Global, head: &Head, found: &Breaks) -> Result<bool, AllocError>
+        requires within { found.now.command < length (definitions (A.meaning self.now.a.now)) }
+        requires head { IfSome (slice_get (definitions (A.meaning self.now.a.now)) found.now.command)
+            (λ c. head_in c.head ≡ Some head.now) }
         ensures { IfOk result (λ yes. IsTrue yes → ∥ AreClosedTogether
             (A.meaning self.now.a.now) (B.meaning self.now.b.now) self.now.sends self.now.unknown
             (listed_length (A.meaning self.now.a.now) self.now.sends self.now.lengths.entries.items)
-            command defs.now ∥₁) }
+            found.now.sites.items found.now.lines.items found.now.command ∥₁) }
     {
-        let groups = groups_of(alloc, sites)?;
-        let closing = Closing::new(alloc, self, &groups)?;
-        let defs_closed = are_defs_closed(alloc, &closing, command, defs)?;
-        if !defs_closed {
-            return Ok(false);
-        }
-        are_groups_closed(alloc, &closing)
+        let groups = groups_of(alloc, &found.sites)?;
+        let closing = Closing::new(alloc, self, &groups, &found.lines)?;
+        are_sites_closed(alloc, &closing, head, found)
     }
 }
 
 /// The ways to the sites of groups.
-fn groups_of(alloc: Global, sites: &[Site]) -> Result<Vec<Way>, AllocError> {
+fn groups_of(alloc: Global, sites: &[Site]) -> Result<Vec<Way>, AllocError>
+    ensures { IfOk result (λ groups. groups.items ≡ ways_of sites.now) }
+{
     let mut groups = Vec::new(alloc);
     for site in sites {
-        if let Place::Group { key, .. } = site.place {
-            groups.push(Way { key, way: site.way })?;
-        }
+        push_way(&mut groups, site)?;
     }
     Ok(groups)
 }
 
-/// Whether the sites of the command are closed, each with one of these definitions of B.
-fn are_defs_closed<A: Book, B: Book>(
+/// Adds the way to the site, if it is that of a group at which B's side reads a level.
+fn push_way(groups: &mut Vec<Way>, site: &Site) -> Result<(), AllocError>
+    ensures { OnOk result (groups.new.items ≡ groups.old.items
+        ++ filter_map (λ site. way_to site.place site.way site.is_read) (site.now ∷ [])) }
+{
+    if let Place::Group { key, .. } = site.place {
+        if site.is_read {
+            groups.push(Way { key, way: site.way })?;
+        }
+    }
+    Ok(())
+}
+
+/// Whether each site is closed at which B's side reads a level.
+fn are_sites_closed<A: Book, B: Book>(
+    alloc: Global,
+    closing: &Closing<'_, '_, A, B>,
+    head: &Head,
+    found: &Breaks,
+) -> Result<bool, AllocError>
+    requires within { found.now.command
+        < length (definitions (A.meaning closing.now.upgrade.now.a.now)) }
+    requires head { IfSome (slice_get (definitions (A.meaning closing.now.upgrade.now.a.now))
+        found.now.command) (λ c. head_in c.head ≡ Some head.now) }
+    ensures { IfOk result (λ yes. IsTrue yes
+        → IsTelling (A.meaning closing.now.upgrade.now.a.now) (B.meaning closing.now.upgrade.now.b.now)
+        closing.now.upgrade.now.sends closing.now.upgrade.now.unknown
+        closing.now.upgrade.now.telling.value
+        → HaveGroupLines (A.meaning closing.now.upgrade.now.a.now)
+        (B.meaning closing.now.upgrade.now.b.now)
+        (listed_length (A.meaning closing.now.upgrade.now.lengths.book.now)
+        closing.now.upgrade.now.lengths.sends closing.now.upgrade.now.lengths.entries.items)
+        (other_length (A.meaning closing.now.upgrade.now.lengths.book.now)
+        closing.now.upgrade.now.lengths.sends closing.now.upgrade.now.lengths.entries.items)
+        closing.now.upgrade.now.outlooks.items
+        → AreClosedAt (A.meaning closing.now.upgrade.now.a.now)
+        (B.meaning closing.now.upgrade.now.b.now)
+        closing.now.upgrade.now.sends closing.now.upgrade.now.unknown
+        (listed_length (A.meaning closing.now.upgrade.now.a.now) closing.now.upgrade.now.sends
+        closing.now.upgrade.now.lengths.entries.items)
+        closing.now.groups.now (own_keys closing.now.lines.now) found.now.lines.items found.now.command
+        found.now.sites.items) }
+{
+    for (number, site) in found.sites.iter().enumerate() {
+        if site.is_read {
+            let closed = is_site_closed(alloc, closing, head, found, number, site)?;
+            if !closed {
+                return Ok(false);
+            }
+        }
+    }
+    Ok(true)
+}
+
+/// Whether a site is closed, but for what the lines tell.
+fn is_site_closed<A: Book, B: Book>(
+    alloc: Global,
+    closing: &Closing<'_, '_, A, B>,
+    head: &Head,
+    found: &Breaks,
+    number: usize,
+    site: &Site,
+) -> Result<bool, AllocError>
+    requires within { found.now.command
+        < length (definitions (A.meaning closing.now.upgrade.now.a.now)) }
+    requires head { IfSome (slice_get (definitions (A.meaning closing.now.upgrade.now.a.now))
+        found.now.command) (λ c. head_in c.head ≡ Some head.now) }
+    ensures { IfOk result (λ yes. IsTrue yes
+        → IsTelling (A.meaning closing.now.upgrade.now.a.now) (B.meaning closing.now.upgrade.now.b.now)
+        closing.now.upgrade.now.sends closing.now.upgrade.now.unknown
+        closing.now.upgrade.now.telling.value
+        → HaveGroupLines (A.meaning closing.now.upgrade.now.a.now)
+        (B.meaning closing.now.upgrade.now.b.now)
+        (listed_length (A.meaning closing.now.upgrade.now.lengths.book.now)
+        closing.now.upgrade.now.lengths.sends closing.now.upgrade.now.lengths.entries.items)
+        (other_length (A.meaning closing.now.upgrade.now.lengths.book.now)
+        closing.now.upgrade.now.lengths.sends closing.now.upgrade.now.lengths.entries.items)
+        closing.now.upgrade.now.outlooks.items
+        → IsClosedAt (A.meaning closing.now.upgrade.now.a.now)
+        (B.meaning closing.now.upgrade.now.b.now)
+        closing.now.upgrade.now.sends closing.now.upgrade.now.unknown
+        (listed_length (A.meaning closing.now.upgrade.now.a.now) closing.now.upgrade.now.sends
+        closing.now.upgrade.now.lengths.entries.items)
+        closing.now.groups.now (own_keys closing.now.lines.now) found.now.lines.items found.now.command
+        number site.now) }
+{
+    let told = level_lines_at(alloc, &found.lines, number)?;
+    match site.place {
+        Place::Command { app, .. } => {
+            is_command_closed(alloc, closing, found.command, head, app, &told)
+        }
+        Place::Group { key, .. } => Ok(is_group_closed(closing, key, site.way, &told)),
+    }
+}
+
+/// Whether the command's own level is closed in messages of an application.
+fn is_command_closed<A: Book, B: Book>(
     alloc: Global,
     closing: &Closing<'_, '_, A, B>,
     command: DefId,
-    defs: &[DefId],
+    head: &Head,
+    app: u32,
+    told: &[LevelLine],
 ) -> Result<bool, AllocError>
-    requires command { command < length (definitions (A.meaning closing.now.upgrade.now.a.now)) }
-    requires defs { All (λ def. def < length (definitions (B.meaning closing.now.upgrade.now.b.now)))
-        defs.now }
+    requires { command < length (definitions (A.meaning closing.now.upgrade.now.a.now)) }
     ensures { IfOk result (λ yes. IsTrue yes
         → IsTelling (A.meaning closing.now.upgrade.now.a.now) (B.meaning closing.now.upgrade.now.b.now)
         closing.now.upgrade.now.sends closing.now.upgrade.now.unknown
         closing.now.upgrade.now.telling.value
-        → AreClosedDefs (A.meaning closing.now.upgrade.now.a.now)
+        → IsClosedCommand (A.meaning closing.now.upgrade.now.a.now)
         (B.meaning closing.now.upgrade.now.b.now)
         closing.now.upgrade.now.sends closing.now.upgrade.now.unknown
         (listed_length (A.meaning closing.now.upgrade.now.a.now) closing.now.upgrade.now.sends
         closing.now.upgrade.now.lengths.entries.items)
-        closing.now.groups.now command defs.now) }
+        closing.now.groups.now (own_keys closing.now.lines.now) told.now command head.now app) }
 {
-    for def in defs {
-        let closed = closing.is_closed(alloc, command, *def, 0)?;
-        if !closed {
-            return Ok(false);
-        }
-    }
-    Ok(true)
+    let Some(def) = command_of(closing.upgrade.b, head.code, head.class, app) else {
+        return Ok(false);
+    };
+    let lines = closing.upgrade.lines_between(alloc, command, def)?;
+    Ok(closing.is_closed(command, def, 0, &lines, told))
 }
 
-/// Whether the sites of the groups are closed.
-fn are_groups_closed<A: Book, B: Book>(
-    alloc: Global,
-    closing: &Closing<'_, '_, A, B>,
-) -> Result<bool, AllocError>
-    ensures { IfOk result (λ yes. IsTrue yes
-        → IsTelling (A.meaning closing.now.upgrade.now.a.now) (B.meaning closing.now.upgrade.now.b.now)
-        closing.now.upgrade.now.sends closing.now.upgrade.now.unknown
-        closing.now.upgrade.now.telling.value
-        → AreClosedGroups (A.meaning closing.now.upgrade.now.a.now)
-        (B.meaning closing.now.upgrade.now.b.now)
-        closing.now.upgrade.now.sends closing.now.upgrade.now.unknown
-        (listed_length (A.meaning closing.now.upgrade.now.a.now) closing.now.upgrade.now.sends
-        closing.now.upgrade.now.lengths.entries.items)
-        closing.now.groups.now closing.now.groups.now) }
-{
-    for group in closing.groups {
-        let closed = is_group_closed(alloc, closing, *group)?;
-        if !closed {
-            return Ok(false);
-        }
-    }
-    Ok(true)
-}
-
+/// Whether the level of a group is closed.
 fn is_group_closed<A: Book, B: Book>(
-    alloc: Global,
     closing: &Closing<'_, '_, A, B>,
-    group: Way,
-) -> Result<bool, AllocError>
-    ensures { IfOk result (λ yes. IsTrue yes
+    key: Key,
+    way: u64,
+    told: &[LevelLine],
+) -> bool
+    ensures { IsTrue result
         → IsTelling (A.meaning closing.now.upgrade.now.a.now) (B.meaning closing.now.upgrade.now.b.now)
         closing.now.upgrade.now.sends closing.now.upgrade.now.unknown
         closing.now.upgrade.now.telling.value
+        → HaveGroupLines (A.meaning closing.now.upgrade.now.a.now)
+        (B.meaning closing.now.upgrade.now.b.now)
+        (listed_length (A.meaning closing.now.upgrade.now.lengths.book.now)
+        closing.now.upgrade.now.lengths.sends closing.now.upgrade.now.lengths.entries.items)
+        (other_length (A.meaning closing.now.upgrade.now.lengths.book.now)
+        closing.now.upgrade.now.lengths.sends closing.now.upgrade.now.lengths.entries.items)
+        closing.now.upgrade.now.outlooks.items
         → IsClosedGroup (A.meaning closing.now.upgrade.now.a.now)
         (B.meaning closing.now.upgrade.now.b.now)
         closing.now.upgrade.now.sends closing.now.upgrade.now.unknown
         (listed_length (A.meaning closing.now.upgrade.now.a.now) closing.now.upgrade.now.sends
         closing.now.upgrade.now.lengths.entries.items)
-        closing.now.groups.now group) }
+        closing.now.groups.now (own_keys closing.now.lines.now) told.now key way }
 {
-    let Some(a_def) = group_def(closing.upgrade.a, group.key) else {
-        return Ok(false);
+    let Some(a_def) = group_def(closing.upgrade.a, key) else {
+        return false;
     };
-    let Some(b_def) = group_def(closing.upgrade.b, group.key) else {
-        return Ok(false);
+    let Some(b_def) = group_def(closing.upgrade.b, key) else {
+        return false;
     };
-    closing.is_closed(alloc, a_def, b_def, group.way)
+    let Some(lines) = closing.upgrade.level_lines_of(key) else {
+        return false;
+    };
+    closing.is_closed(a_def, b_def, way, lines, told)
 }
 
 /// The definition of the group with this key.

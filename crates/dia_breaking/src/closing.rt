@@ -1,6 +1,8 @@
-//! Whether a pair of definitions is closed: nothing breaks in the levels that both read, and their groups lead to known sites.
-ghost use Rattle.std.specs.Prelude.{◌≡◌, ◌+◌, ◌<◌, ◌≤◌, IfOk, IsTrue, All, length, map, find, not};
+//! Whether a pair of definitions is closed: what breaks in the levels that both read is told, and their groups lead to known sites.
+ghost use Rattle.std.specs.Prelude.{◌≡◌, ◌+◌, ◌<◌, ◌≤◌, IfOk, OnOk, IsTrue, All, Contains, false};
+ghost use Rattle.std.specs.Prelude.{length, map, find, not};
 ghost use Rattle.std.specs.HashMap.{get};
+ghost use Rattle.std.specs.HashSet.{contains};
 ghost use Rattle.std.specs.List.{list_all};
 ghost use Rattle.std.specs.List.Sorted.{IsPermutation, IsNonDecreasingBy};
 ghost use Rattle.dia_book.specs.Keys.{same_key};
@@ -8,99 +10,129 @@ ghost use Rattle.dia_book.specs.Dictionary.{definitions};
 ghost use Rattle.dia_check.specs.Valid.{is_listed};
 ghost use Rattle.dia_sites.specs.Selection.{max_body};
 ghost use Rattle.dia_compat.specs.Tests.{rules_in};
-ghost use Rattle.dia_breaking.specs.ClosedRules.{AreWaysOf, IsFirst, first_spare};
-ghost use Rattle.dia_breaking.specs.ClosedRules.{is_closed_rule, is_safe, leads};
+ghost use Rattle.dia_levels.specs.Levels.{HasEachLine};
+ghost use Rattle.dia_levels.specs.LevelTests.{price};
+ghost use Rattle.dia_breaking.specs.ClosedRules.{AreWaysOf, IsFirst, IsLongOrTold, first_spare};
+ghost use Rattle.dia_breaking.specs.ClosedRules.{is_closed_rule, is_fine, is_safe, is_settled, leads};
 ghost use Rattle.dia_breaking.specs.ClosedRules.{other_of, spare_by_way};
 ghost use Rattle.dia_breaking.specs.Closing.{IsClosedBy};
 ghost use Rattle.dia_breaking.specs.Lengths.{listed_length, other_length};
+ghost use Rattle.dia_breaking.specs.OwnKeys.{AddsOwnKey, AreOwnKeys, own_keys};
 ghost use Rattle.dia_breaking.specs.Telling.{IsTelling};
 
 use crate::books::{lists, rules_of};
 use crate::keys::Own;
 use crate::levels::LevelCost;
+use crate::line::Line;
 use crate::upgrade::Upgrade;
 use crate::walk::ROOM;
 use crate::ways::{Other, Way};
 use dia_book::{Book, DRule, DefId, Key};
 use dia_least::shortest_head;
-use dia_levels::{Costs, Line, TOO_LONG};
+use dia_levels::{Costs, Line as LevelLine, TOO_LONG};
 use std::alloc::{AllocError, Global};
-use std::collections::HashMap;
+use std::collections::{HashMap, HashSet};
 
-/// The sites of groups that a walk has found, and what the wildcards of definitions may let in.
+/// The sites of groups that a walk has found, what lines tell of AVPs by themselves, and what the wildcards of definitions may
+/// let in.
 #[derive(Drop)]
 pub(crate) struct Closing<'u, 'a, A: Book, B: Book> {
     pub upgrade: &'u Upgrade<'a, A, B>,
     pub groups: &'u [Way],
+    pub lines: &'u [Line],
     /// The ways of the groups by their keys.
     pub ways: HashMap<Key, u64>,
+    /// The keys of AVPs of which a line tells that they break by themselves.
+    pub own_keys: HashSet<Key>,
     /// The AVPs of which there is something to tell, those with the least to spare first.
     pub others: Vec<Other>,
     ghost ways_are: { AreWaysOf groups.now (get same_key ways) },
+    ghost own_keys_are: { AreOwnKeys lines.now (contains same_key own_keys) },
     ghost first: { IsFirst (other_length (A.meaning upgrade.now.lengths.book.now)
         upgrade.now.lengths.sends upgrade.now.lengths.entries.items)
-        (get same_key ways) upgrade.now.telling.value.own.items others.items },
+        (contains same_key own_keys) (get same_key ways) upgrade.now.telling.value.own.items
+        others.items },
 }
 
 impl<'u, 'a, A: Book, B: Book> Closing<'u, 'a, A, B> {
-    /// `groups` are the sites of groups: the key of each, and the way to it.
+    /// `groups` are the sites of groups, the key of each and the way to it, and `lines` what is told.
     pub fn new(
         alloc: Global,
         upgrade: &'u Upgrade<'a, A, B>,
         groups: &'u [Way],
+        lines: &'u [Line],
     ) -> Result<Self, AllocError>
         ensures upgrade { IfOk result (λ closing. closing.upgrade.now ≡ upgrade.now) }
         ensures groups { IfOk result (λ closing. closing.groups.now ≡ groups.now) }
+        ensures lines { IfOk result (λ closing. closing.lines.now ≡ lines.now) }
     {
         let ways = ways_of(alloc, groups)?;
-        let others = others_of(alloc, &upgrade.telling.own, &upgrade.lengths, &ways)?;
+        let own_keys = own_keys_of(alloc, lines)?;
+        let others = others_of(
+            alloc,
+            &upgrade.telling.own,
+            &upgrade.lengths,
+            &own_keys,
+            &ways,
+        )?;
         Ok(Closing {
             upgrade,
             groups,
+            lines,
             ways,
+            own_keys,
             others,
         })
     }
 
-    /// Whether nothing breaks in the levels that a definition of A and one of B read, and their groups lead to known sites alone.
-    /// A message takes at least `way` around such a level.
+    /// Whether all is told that breaks in the levels that a definition of A and one of B read, and their groups lead to known
+    /// sites alone. A message takes at least `way` around such a level. `lines` are how the levels break B's rules, and `told`
+    /// are those of them that the answer has, in the same order.
     pub fn is_closed(
         &self,
-        alloc: Global,
         a_def: DefId,
         b_def: DefId,
         way: u64,
-    ) -> Result<bool, AllocError>
+        lines: &[LevelLine],
+        told: &[LevelLine],
+    ) -> bool
         requires first { a_def < length (definitions (A.meaning self.now.upgrade.now.a.now)) }
         requires second { b_def < length (definitions (B.meaning self.now.upgrade.now.b.now)) }
-        ensures { IfOk result (λ yes. IsTrue yes
+        ensures { IsTrue result
             → IsTelling (A.meaning self.now.upgrade.now.a.now) (B.meaning self.now.upgrade.now.b.now)
             self.now.upgrade.now.sends self.now.upgrade.now.unknown
             self.now.upgrade.now.telling.value
+            → HasEachLine (price
+            (listed_length (A.meaning self.now.upgrade.now.lengths.book.now)
+            self.now.upgrade.now.lengths.sends self.now.upgrade.now.lengths.entries.items)
+            (other_length (A.meaning self.now.upgrade.now.lengths.book.now)
+            self.now.upgrade.now.lengths.sends self.now.upgrade.now.lengths.entries.items)
+            (rules_in (A.meaning self.now.upgrade.now.a.now) a_def))
+            (rules_in (A.meaning self.now.upgrade.now.a.now) a_def)
+            (rules_in (B.meaning self.now.upgrade.now.b.now) b_def) lines.now
             → IsClosedBy (A.meaning self.now.upgrade.now.a.now) (B.meaning self.now.upgrade.now.b.now)
             self.now.upgrade.now.sends self.now.upgrade.now.unknown
             (listed_length (A.meaning self.now.upgrade.now.a.now) self.now.upgrade.now.sends
             self.now.upgrade.now.lengths.entries.items)
-            self.now.groups.now a_def b_def way) }
+            self.now.groups.now told.now (own_keys self.now.lines.now) a_def b_def way }
     {
         if ROOM < way {
-            return Ok(false);
+            return false;
         }
         let cost = LevelCost::new(self.upgrade.a, a_def, &self.upgrade.lengths);
         if !self.are_rules_closed(a_def, way, &cost)
             || !self.is_wildcard_closed(a_def, way, &cost)
         {
-            return Ok(false);
+            return false;
         }
-        let lines = self.upgrade.lines_between(alloc, a_def, b_def)?;
-        Ok(are_too_long(&lines, way))
+        are_told(lines, way, told)
     }
 
-    /// Whether each AVP that a rule lists breaks nothing, or has no room, or leads to its site.
+    /// Whether each AVP that a rule lists is settled, or has no room.
     fn are_rules_closed(&self, a_def: DefId, way: u64, cost: &LevelCost) -> bool
         requires { a_def < length (definitions (A.meaning self.now.upgrade.now.a.now)) }
-        ensures { result ≡ list_all (is_closed_rule self.now.upgrade.now.telling.value
-            (get same_key self.now.ways)
+        ensures { result ≡ list_all (is_closed_rule (contains same_key self.now.own_keys)
+            self.now.upgrade.now.telling.value (get same_key self.now.ways)
             (listed_length (A.meaning self.now.upgrade.now.lengths.book.now)
             self.now.upgrade.now.lengths.sends self.now.upgrade.now.lengths.entries.items)
             cost.now way) (rules_in (A.meaning self.now.upgrade.now.a.now) a_def) }
@@ -111,8 +143,8 @@ impl<'u, 'a, A: Book, B: Book> Closing<'u, 'a, A, B> {
     }
 
     fn is_rule_closed(&self, way: u64, cost: &LevelCost, rule: &DRule) -> bool
-        ensures { result ≡ is_closed_rule self.now.upgrade.now.telling.value
-            (get same_key self.now.ways)
+        ensures { result ≡ is_closed_rule (contains same_key self.now.own_keys)
+            self.now.upgrade.now.telling.value (get same_key self.now.ways)
             (listed_length (A.meaning self.now.upgrade.now.lengths.book.now)
             self.now.upgrade.now.lengths.sends self.now.upgrade.now.lengths.entries.items)
             cost.now way rule.now }
@@ -127,16 +159,25 @@ impl<'u, 'a, A: Book, B: Book> Closing<'u, 'a, A, B> {
         }
     }
 
-    /// Whether there is nothing to tell of a key whose least AVP stands in messages of this length, or it leads to its site.
+    /// Whether a key whose least AVP stands in messages of this length is settled, or there is nothing to tell of it.
     fn is_safe(&self, key: Key, least: u64, length: u64) -> bool
         requires { length ≤ max_body }
-        ensures { result ≡ is_safe self.now.upgrade.now.telling.value (get same_key self.now.ways)
-            key least length }
+        ensures { result ≡ is_safe (contains same_key self.now.own_keys)
+            self.now.upgrade.now.telling.value (get same_key self.now.ways) key least length }
     {
         match self.upgrade.telling.find(key) {
-            Some(own) => !own.breaks && self.leads(key, least, length),
+            Some(own) => self.is_settled(&own, least, length),
             None => true,
         }
+    }
+
+    /// Whether the AVP is fine by itself, and leads to its site if both dictionaries see a level in it.
+    fn is_settled(&self, own: &Own, least: u64, length: u64) -> bool
+        requires { length ≤ max_body }
+        ensures { result ≡ is_settled (contains same_key self.now.own_keys)
+            (get same_key self.now.ways) least length own.now }
+    {
+        is_fine(&self.own_keys, own) && (!own.is_group || self.leads(own.key, least, length))
     }
 
     /// Whether the way to the group's site is no longer than through this level.
@@ -153,7 +194,8 @@ impl<'u, 'a, A: Book, B: Book> Closing<'u, 'a, A, B> {
         }
     }
 
-    /// The same for the AVPs that the wildcard lets in: it holds of all where it holds of the first that no rule lists.
+    /// Whether no message has room for an AVP of which there is something to tell, and which isn't settled, where the wildcard
+    /// lets it in. It is enough to look at the first that no rule lists, since the others have no less to spare.
     fn is_wildcard_closed(&self, a_def: DefId, way: u64, cost: &LevelCost) -> bool
         requires { a_def < length (definitions (A.meaning self.now.upgrade.now.a.now)) }
         ensures { IsTrue result → max_body < way + cost.now.beside + first_spare
@@ -199,18 +241,48 @@ fn ways_of(alloc: Global, groups: &[Way]) -> Result<HashMap<Key, u64>, AllocErro
     Ok(ways)
 }
 
+/// The keys of AVPs of which these lines tell that they break by themselves.
+fn own_keys_of(alloc: Global, lines: &[Line]) -> Result<HashSet<Key>, AllocError>
+    ensures { IfOk result (λ keys. AreOwnKeys lines.now (contains same_key keys)) }
+{
+    let mut keys = HashSet::new(alloc);
+    for line in lines {
+        add_own_key(&mut keys, line)?;
+    }
+    Ok(keys)
+}
+
+fn add_own_key(keys: &mut HashSet<Key>, line: &Line) -> Result<(), AllocError>
+    ensures { OnOk result (AddsOwnKey line.now.cause
+        (contains same_key keys.old) (contains same_key keys.new)) }
+{
+    if let Some(key) = line.cause.own_key() {
+        keys.insert(key)?;
+    }
+    Ok(())
+}
+
+/// Whether the AVP breaks nothing by itself, or a line tells that it does.
+fn is_fine(own_keys: &HashSet<Key>, own: &Own) -> bool
+    ensures { result ≡ is_fine (contains same_key own_keys.now) own.now }
+{
+    !own.breaks || own_keys.contains(&own.key)
+}
+
 /// What there is to spare for the AVPs of which there is something to tell, the least first.
 fn others_of<C: Costs>(
     alloc: Global,
     told: &[Own],
     costs: &C,
+    own_keys: &HashSet<Key>,
     ways: &HashMap<Key, u64>,
 ) -> Result<Vec<Other>, AllocError>
     ensures sorted { IfOk result (λ others. IsNonDecreasingBy (λ o. o.spare) others.items) }
     ensures all { IfOk result (λ others. IsPermutation
-        (map (other_of (C.other_length costs.now) (get same_key ways.now)) told.now) others.items) }
+        (map (other_of (C.other_length costs.now) (contains same_key own_keys.now)
+        (get same_key ways.now)) told.now) others.items) }
 {
-    let mut others = all_others(alloc, told, costs, ways)?;
+    let mut others = all_others(alloc, told, costs, own_keys, ways)?;
     others.sort_by_key(|other| other.spare)?;
     Ok(others)
 }
@@ -219,31 +291,42 @@ fn all_others<C: Costs>(
     alloc: Global,
     told: &[Own],
     costs: &C,
+    own_keys: &HashSet<Key>,
     ways: &HashMap<Key, u64>,
 ) -> Result<Vec<Other>, AllocError>
     ensures { IfOk result (λ others. others.items
-        ≡ map (other_of (C.other_length costs.now) (get same_key ways.now)) told.now) }
+        ≡ map (other_of (C.other_length costs.now) (contains same_key own_keys.now)
+        (get same_key ways.now)) told.now) }
 {
     told.iter()
-        .map(|own| other_of(costs, ways, own))
+        .map(|own| other_of(costs, own_keys, ways, own))
         .collect(alloc)
 }
 
-fn other_of<C: Costs>(costs: &C, ways: &HashMap<Key, u64>, own: &Own) -> Other
-    ensures { result ≡ other_of (C.other_length costs.now) (get same_key ways.now) own.now }
+fn other_of<C: Costs>(
+    costs: &C,
+    own_keys: &HashSet<Key>,
+    ways: &HashMap<Key, u64>,
+    own: &Own,
+) -> Other
+    ensures { result ≡ other_of (C.other_length costs.now) (contains same_key own_keys.now)
+        (get same_key ways.now) own.now }
 {
     Other {
         key: own.key,
-        spare: costs.other(own.key).max(spare_by_way(ways, own)),
+        spare: costs.other(own.key).max(spare_by_way(own_keys, ways, own)),
     }
 }
 
-/// What may stand beside a group that breaks nothing and has a site.
-fn spare_by_way(ways: &HashMap<Key, u64>, own: &Own) -> u64
-    ensures { result ≡ spare_by_way (get same_key ways.now) own.now }
+/// What may stand beside an AVP that is fine by itself.
+fn spare_by_way(own_keys: &HashSet<Key>, ways: &HashMap<Key, u64>, own: &Own) -> u64
+    ensures { result ≡ spare_by_way (contains same_key own_keys.now) (get same_key ways.now) own.now }
 {
-    if own.breaks {
+    if !is_fine(own_keys, own) {
         return 0;
+    }
+    if !own.is_group {
+        return TOO_LONG;
     }
     match ways.get(&own.key) {
         Some(way) => TOO_LONG.saturating_sub(way.saturating_sub(shortest_head(own.key))),
@@ -251,11 +334,35 @@ fn spare_by_way(ways: &HashMap<Key, u64>, own: &Own) -> u64
     }
 }
 
-/// Whether messages that have so much around the levels of these lines have no room for them.
-fn are_too_long(lines: &[Line], way: u64) -> bool
-    ensures { IsTrue result → All (λ line. max_body < way + line.length) lines.now }
+/// Whether each of these lines is told, or messages that have so much around the level have no room for the line's. Both lists
+/// have one order.
+fn are_told(lines: &[LevelLine], way: u64, told: &[LevelLine]) -> bool
+    ensures { IsTrue result → All (IsLongOrTold way told.now) lines.now }
 {
-    lines
-        .iter()
-        .all(|line| ROOM < way.saturating_add(line.length))
+    let mut next = 0;
+    for line in lines {
+        if has_room(way, line) {
+            if !is_at(told, next, line) {
+                return false;
+            }
+            next += 1;
+        }
+    }
+    true
+}
+
+fn has_room(way: u64, line: &LevelLine) -> bool
+    ensures { result ≡ false → max_body < way + line.now.length }
+{
+    way.saturating_add(line.length) <= ROOM
+}
+
+/// Whether the line stands at this place.
+fn is_at(lines: &[LevelLine], place: usize, line: &LevelLine) -> bool
+    ensures { IsTrue result → (place < length lines.now) × Contains lines.now line.now }
+{
+    match lines.get(place) {
+        Some(other) => other == line,
+        None => false,
+    }
 }

@@ -1,9 +1,9 @@
 //! Messages of lines, checked under both dictionaries.
-ghost use Rattle.std.specs.Prelude.{◌≡◌, ◌↔◌, ℕ, IfOk, IfSome, IsTrue, List, length};
+ghost use Rattle.std.specs.Prelude.{◌≡◌, ◌↔◌, ℕ, IfOk, IfSome, IsTrue, List, map};
 ghost use Rattle.dia_policy.specs.declared.Levels.TheVariants.{Any};
 ghost use Rattle.dia_check.specs.Valid.{IsValid, IsValidOf};
 ghost use Rattle.dia_sites.specs.Sent.{own_policy};
-ghost use Rattle.dia_breaking.specs.Confirmed.{EachConfirmedBreaks, IsConfirmed};
+ghost use Rattle.dia_breaking.specs.Confirmed.{EachConfirmedBreaks, IsConfirmed, told_of};
 
 use crate::line::{Breaks, Cause, Line, Standing};
 use crate::upgrade::Upgrade;
@@ -49,10 +49,11 @@ impl<'a, A: Book, B: Book> Upgrade<'a, A, B> {
         Ok(sent && !accepted)
     }
 
-    /// The lines with what is known of each.
+    /// The lines with what is known of each; where they stand, and what they tell, stays.
     pub(crate) fn with_standings(&self, alloc: Global, breaks: Breaks) -> Result<Breaks, AllocError>
         ensures command { IfOk result (λ told. told.command ≡ breaks.command) }
-        ensures all { IfOk result (λ told. length told.lines.items ≡ length breaks.lines.items) }
+        ensures sites { IfOk result (λ told. told.sites ≡ breaks.sites) }
+        ensures kept { IfOk result (λ told. map told_of told.lines.items ≡ map told_of breaks.lines.items) }
         ensures each { IfOk result (λ told. EachConfirmedBreaks
             (A.meaning self.now.a.now) (B.meaning self.now.b.now)
             self.now.sends self.now.unknown breaks.command told.lines.items) }

@@ -1,9 +1,10 @@
 //! What is the same for all commands: where the levels of groups lead, and how they break.
-ghost use Rattle.std.specs.Prelude.{◌<◌, ℕ, length};
+ghost use Rattle.std.specs.Prelude.{◌<◌, ℕ, IfOk, IfSome, length};
 ghost use Rattle.dia_book.specs.Dictionary.{definitions};
 ghost use Rattle.dia_compat.specs.Tests.{rules_in};
 ghost use Rattle.dia_levels.specs.Levels.{FirstIsShortest};
-ghost use Rattle.dia_breaking.specs.Lengths.{other_length};
+ghost use Rattle.dia_breaking.specs.Lengths.{listed_length, other_length};
+ghost use Rattle.dia_breaking.specs.Outlooks.{HasGroupLines, HaveGroupLines};
 
 use crate::books::{group_of, rules_of};
 use crate::keys::Telling;
@@ -19,7 +20,7 @@ use std::alloc::{AllocError, Global};
 pub(crate) struct Exits {
     /// The length of a least level.
     pub base: u64,
-    /// Those that a rule lists, by their places, each with the length of a least level that has one.
+    /// The AVPs that a rule lists: the place of each in `Telling::own`, and the length of a least level that has one.
     pub listed: Vec<(usize, u64)>,
     /// What a least level takes beside one that comes through the wildcard.
     pub beside: u64,
@@ -81,7 +82,7 @@ pub(crate) struct Outlook {
     pub inner: Option<Inner>,
 }
 
-/// Those of which there is something to tell, by their places.
+/// The AVPs of which there is something to tell, in the order of `Telling::own`.
 pub(crate) fn outlooks<A: Book, B: Book>(
     alloc: Global,
     a: &A,
@@ -92,14 +93,20 @@ pub(crate) fn outlooks<A: Book, B: Book>(
     requires { (x y : ℕ) → FirstIsShortest (other_length (A.meaning lengths.now.book.now)
         lengths.now.sends lengths.now.entries.items) lengths.now.others.items
         (rules_in (A.meaning a.now) x) (rules_in (B.meaning b.now) y) }
+    ensures { IfOk result (λ outlooks. HaveGroupLines (A.meaning a.now) (B.meaning b.now)
+        (listed_length (A.meaning lengths.now.book.now)
+        lengths.now.sends lengths.now.entries.items)
+        (other_length (A.meaning lengths.now.book.now)
+        lengths.now.sends lengths.now.entries.items) outlooks.items) }
 {
     let mut outlooks = Vec::new(alloc);
     for own in &telling.own {
         let key = own.key;
+        let inner = inner_of(alloc, a, b, key, telling, lengths)?;
         outlooks.push(Outlook {
             key,
             other: lengths.other(key),
-            inner: inner_of(alloc, a, b, key, telling, lengths)?,
+            inner,
         })?;
     }
     Ok(outlooks)
@@ -116,6 +123,12 @@ fn inner_of<A: Book, B: Book>(
     requires { (x y : ℕ) → FirstIsShortest (other_length (A.meaning lengths.now.book.now)
         lengths.now.sends lengths.now.entries.items) lengths.now.others.items
         (rules_in (A.meaning a.now) x) (rules_in (B.meaning b.now) y) }
+    ensures { IfOk result (λ inner. IfSome inner (λ inner. HasGroupLines
+        (A.meaning a.now) (B.meaning b.now)
+        (listed_length (A.meaning lengths.now.book.now)
+        lengths.now.sends lengths.now.entries.items)
+        (other_length (A.meaning lengths.now.book.now)
+        lengths.now.sends lengths.now.entries.items) key inner.lines.items)) }
 {
     let Some(a_def) = group_of(a, key) else {
         return Ok(None);

@@ -1,121 +1,88 @@
 //! Few headers of a command have to be looked at: that with its own application; or those with the applications that B alone
 //! names, and one with an application that neither dictionary names.
-ghost use Rattle.std.specs.Prelude.{◌≡◌, ◌<◌, All, length, List, IfOk, IfSome, Some, Contains};
+ghost use Rattle.std.specs.Prelude.{◌≡◌, ◌<◌, ℕ, true, length, IfOk, IfSome, Some, Contains};
 ghost use Rattle.std.specs.Prelude.{slice_get, IsTrue};
-ghost use Rattle.dia_book.specs.Dictionary.{PlainDefinition, definitions, selected};
-ghost use Rattle.dia_sites.specs.Sites.{Site};
-ghost use Rattle.dia_sites.specs.Selection.{IsMetBy};
-ghost use Rattle.dia_breaking.specs.Headers.{apps_of, head_in, AreApps, AreMetWithin, HoldsDefs};
-ghost use Rattle.dia_breaking.specs.Headers.{IsMetAs, IsMetWithin, IsOtherMet};
+ghost use Rattle.dia_book.specs.Dictionary.{definitions, selected};
+ghost use Rattle.dia_breaking.specs.Headers.{apps_of, AreHeadersMet, AreMetFor, IsCommandPlace};
+ghost use Rattle.dia_breaking.specs.declared.line.Site.{Site as AnySite};
+ghost use Rattle.dia_breaking.specs.Headers.{IsFlagMet, IsMetAs, IsMetFor, IsOtherMet};
 
 use crate::apps::BothApps;
-use crate::heads::{Head, covers, head_of};
+use crate::heads::{Head, allows, head_of};
 use crate::keys::least_missing;
-use dia_book::{Book, DefId};
+use crate::line::{Breaks, Place, Site};
+use crate::told::{tells_flag, tells_refusal};
+use dia_book::{Book, DefId, Pxy};
 use std::alloc::{AllocError, Global};
 
-/// B's definitions for those headers of a command of A; none where B refuses one of them.
-pub(crate) fn told_defs<A: Book, B: Book>(
+/// Whether the headers of a command of A that tell of all are met, by the sites and the lines of an answer: B selects a
+/// definition for each and allows each P flag, or a line tells that it doesn't.
+pub(crate) fn are_headers_met<A: Book, B: Book>(
     alloc: Global,
     a: &A,
     b: &B,
     both: &BothApps,
-    command: DefId,
     head: &Head,
-) -> Result<Option<Vec<DefId>>, AllocError>
-    requires command { IfSome (slice_get (definitions (A.meaning a.now)) command)
-        (λ c. head_in c.head ≡ Some head.now) }
-    requires first { AreApps (A.meaning a.now) both.now.first }
-    requires second { AreApps (B.meaning b.now) both.now.second }
-    ensures within { IfOk result (λ found. IfSome found
-        (λ defs. All (λ def. def < length (definitions (B.meaning b.now))) defs.items)) }
-    ensures met { IfOk result (λ found. IfSome found (λ defs. (c : PlainDefinition) (sites : List Site)
-        → slice_get (definitions (A.meaning a.now)) command ≡ Some c
-        → HoldsDefs (B.meaning b.now) sites c defs.items
-        → IsMetBy (A.meaning a.now) (B.meaning b.now) sites c c.head)) }
+    found: &Breaks,
+) -> Result<bool, AllocError>
+    ensures { IfOk result (λ yes. IsTrue yes → AreHeadersMet (A.meaning a.now) (B.meaning b.now)
+        found.now.sites.items found.now.lines.items both.now.first both.now.second
+        found.now.command head.now) }
 {
     match head.app {
-        Some(app) => own_def(alloc, b, head, app),
-        None => open_defs(alloc, a, b, both, command, head),
+        Some(app) => Ok(is_met_at(b, head, found, 0, app)),
+        None => are_open_met(alloc, a, b, both, head, found),
     }
 }
 
-/// That for the messages of one application.
-fn own_def<B: Book>(
-    alloc: Global,
-    b: &B,
-    head: &Head,
-    app: u32,
-) -> Result<Option<Vec<DefId>>, AllocError>
-    ensures within { IfOk result (λ found. IfSome found
-        (λ defs. All (λ def. def < length (definitions (B.meaning b.now))) defs.items)) }
-    ensures met { IfOk result (λ found. IfSome found
-        (λ defs. IsMetWithin (B.meaning b.now) head.now defs.items app)) }
-{
-    let Some(def) = met_def(b, head, app) else {
-        return Ok(None);
-    };
-    let mut defs = Vec::new(alloc);
-    defs.push(def)?;
-    Ok(Some(defs))
-}
-
-/// Those for all applications that no other command of A names.
-fn open_defs<A: Book, B: Book>(
+/// So it is for all applications that no other command of A names.
+fn are_open_met<A: Book, B: Book>(
     alloc: Global,
     a: &A,
     b: &B,
     both: &BothApps,
-    command: DefId,
     head: &Head,
-) -> Result<Option<Vec<DefId>>, AllocError>
-    ensures within { IfOk result (λ found. IfSome found
-        (λ defs. All (λ def. def < length (definitions (B.meaning b.now))) defs.items)) }
-    ensures named { IfOk result (λ found. IfSome found (λ defs. AreMetWithin
-        (A.meaning a.now) (B.meaning b.now) head.now command
-        (apps_of both.now.second head.now.code head.now.class) defs.items)) }
-    ensures other { IfOk result (λ found. IfSome found (λ defs. IsOtherMet
-        (B.meaning b.now) head.now (apps_of both.now.first head.now.code head.now.class)
-        (apps_of both.now.second head.now.code head.now.class) defs.items)) }
+    found: &Breaks,
+) -> Result<bool, AllocError>
+    ensures named { IfOk result (λ yes. IsTrue yes → AreMetFor (A.meaning a.now) (B.meaning b.now)
+        found.now.sites.items found.now.lines.items head.now found.now.command
+        (apps_of both.now.second head.now.code head.now.class)) }
+    ensures other { IfOk result (λ yes. IsTrue yes → IsOtherMet (B.meaning b.now)
+        found.now.sites.items found.now.lines.items head.now
+        (apps_of both.now.first head.now.code head.now.class)
+        (apps_of both.now.second head.now.code head.now.class)) }
 {
     let others = both.second.of(alloc, head.code, head.class)?;
-    let Some(mut defs) = met_defs(alloc, a, b, command, head, &others)? else {
-        return Ok(None);
+    let Some(number) = met_apps(a, b, head, found, &others) else {
+        return Ok(false);
     };
     let Some(app) = unnamed_app(alloc, both, head)? else {
-        return Ok(None);
+        return Ok(false);
     };
-    let Some(def) = met_def(b, head, app) else {
-        return Ok(None);
-    };
-    defs.push(def)?;
-    Ok(Some(defs))
+    Ok(is_met_at(b, head, found, number, app))
 }
 
-/// Those for the applications for which A selects the command.
-fn met_defs<A: Book, B: Book>(
-    alloc: Global,
+/// For how many of the applications A selects the command, where the first sites are theirs, and each header is met.
+fn met_apps<A: Book, B: Book>(
     a: &A,
     b: &B,
-    command: DefId,
     head: &Head,
+    found: &Breaks,
     apps: &[u32],
-) -> Result<Option<Vec<DefId>>, AllocError>
-    ensures within { IfOk result (λ found. IfSome found
-        (λ defs. All (λ def. def < length (definitions (B.meaning b.now))) defs.items)) }
-    ensures met { IfOk result (λ found. IfSome found (λ defs. AreMetWithin
-        (A.meaning a.now) (B.meaning b.now) head.now command apps.now defs.items)) }
+) -> Option<usize>
+    ensures { IfSome result (λ number. AreMetFor (A.meaning a.now) (B.meaning b.now)
+        found.now.sites.items found.now.lines.items head.now found.now.command apps.now) }
 {
-    let mut defs = Vec::new(alloc);
+    let mut number = 0_usize;
     for app in apps {
-        if selects(a, command, head, *app) {
-            match met_def(b, head, *app) {
-                Some(def) => defs.push(def)?,
-                None => return Ok(None),
+        if selects(a, found.command, head, *app) {
+            if !is_met_at(b, head, found, number, *app) {
+                return None;
             }
+            number = number.saturating_add(1);
         }
     }
-    Ok(Some(defs))
+    Some(number)
 }
 
 /// Whether A selects the command for messages of an application.
@@ -129,17 +96,73 @@ pub(crate) fn selects<A: Book>(a: &A, command: DefId, head: &Head, app: u32) -> 
     }
 }
 
-/// B's definition for the messages of an application, where it allows each P flag that the head allows.
-fn met_def<B: Book>(b: &B, head: &Head, app: u32) -> Option<DefId>
-    ensures within { IfSome result (λ def. def < length (definitions (B.meaning b.now))) }
-    ensures met { IfSome result (IsMetAs (B.meaning b.now) head.now app) }
+/// Whether the header with this application is met, where its site has this number.
+fn is_met_at<B: Book>(b: &B, head: &Head, found: &Breaks, number: usize, app: u32) -> bool
+    ensures { IsTrue result → IsMetFor (B.meaning b.now) found.now.sites.items
+        found.now.lines.items head.now app }
 {
-    let def = b.select(head.code, head.class, app)?;
-    let other = head_of(b, def)?;
-    if covers(other.p, head.p) {
-        Some(def)
-    } else {
-        None
+    let Some(site) = found.sites.get(number) else {
+        return false;
+    };
+    if !is_command_place(site.place, app) {
+        return false;
+    }
+    match b.select(head.code, head.class, app) {
+        Some(def) => is_met_as(b, head, found, number, def),
+        None => tells_refusal(&found.lines),
+    }
+}
+
+/// Whether the place is the command's own level, in messages of this application.
+fn is_command_place(place: Place, app: u32) -> bool
+    ensures { IsTrue result → IsCommandPlace app place }
+{
+    match place {
+        Place::Command { app: own, .. } => own == app,
+        Place::Group { .. } => false,
+    }
+}
+
+/// Whether B's definition allows each P flag that the head allows, or it is told at the site that it doesn't.
+fn is_met_as<B: Book>(b: &B, head: &Head, found: &Breaks, number: usize, def: DefId) -> bool
+    requires { def < length (definitions (B.meaning b.now)) }
+    ensures { IsTrue result → (app : ℕ) (site : AnySite)
+        → slice_get found.now.sites.items number ≡ Some site → IsCommandPlace app site.place
+        → IsMetAs (B.meaning b.now) found.now.sites.items found.now.lines.items head.now app def }
+{
+    match head_of(b, def) {
+        Some(other) => {
+            is_flag_met(found, number, head.p, other.p, false)
+                && is_flag_met(found, number, head.p, other.p, true)
+        }
+        None => false,
+    }
+}
+
+/// Whether this P flag is met, if the first allows it: the second does too, and B's side reads the level; or it is told at the
+/// site that it doesn't.
+fn is_flag_met(found: &Breaks, number: usize, p: Pxy, other: Pxy, set: bool) -> bool
+    ensures { IsTrue result → (app : ℕ) (site : AnySite)
+        → slice_get found.now.sites.items number ≡ Some site → IsCommandPlace app site.place
+        → IsFlagMet found.now.sites.items found.now.lines.items app p other set }
+{
+    if !allows(p, set) {
+        return true;
+    }
+    if allows(other, set) {
+        return is_read(&found.sites, number);
+    }
+    tells_flag(&found.lines, number, set)
+}
+
+/// Whether B's side reads a level at the site of this number.
+fn is_read(sites: &[Site], number: usize) -> bool
+    ensures { IsTrue result → (site : AnySite) → slice_get sites.now number ≡ Some site
+        → site.is_read ≡ true }
+{
+    match sites.get(number) {
+        Some(site) => site.is_read,
+        None => false,
     }
 }
 

@@ -1,8 +1,7 @@
 //! The heads of commands, and the applications by which their messages are looked at.
-ghost use Rattle.std.specs.Prelude.{◌≡◌, ◌<◌, length, ℕ, IfSome, IsTrue, slice_get};
+ghost use Rattle.std.specs.Prelude.{◌≡◌, ◌<◌, length, IfSome, slice_get};
 ghost use Rattle.dia_book.specs.Dictionary.{definitions};
-ghost use Rattle.dia_check.specs.Valid.{PHolds};
-ghost use Rattle.dia_breaking.specs.Headers.{head_in};
+ghost use Rattle.dia_breaking.specs.Headers.{allows, head_in};
 
 use crate::apps::BothApps;
 use crate::headers::{selects, unnamed_app};
@@ -56,21 +55,12 @@ pub(crate) fn head_of<B: Book>(book: &B, def: DefId) -> Option<Head>
 }
 
 /// Whether the P flag may have this value.
-pub(crate) fn allows(p: Pxy, set: bool) -> bool {
+pub(crate) fn allows(p: Pxy, set: bool) -> bool
+    ensures { result ≡ allows p set }
+{
     match p {
         Pxy::Clear => !set,
         Pxy::Set => set,
-        Pxy::Either => true,
-    }
-}
-
-/// Whether the first lets the P flag be all that the second does.
-pub(crate) fn covers(p: Pxy, other: Pxy) -> bool
-    ensures { IsTrue result → (flags : ℕ) → PHolds other flags → PHolds p flags }
-{
-    match p {
-        Pxy::Clear => other == Pxy::Clear,
-        Pxy::Set => other == Pxy::Set,
         Pxy::Either => true,
     }
 }

@@ -5,20 +5,22 @@ ghost use Rattle.dia_book.specs.Dictionary.{Dictionary};
 ghost use Rattle.dia_policy.specs.declared.Unknown.{Unknown as AnyPolicy};
 ghost use Rattle.dia_policy.specs.declared.Sends.{Sends as AnySender};
 ghost use Rattle.dia_sites.specs.Sent.{own_policy};
-ghost use Rattle.dia_sites.specs.Sites.{Site as AnySite, AreSafe};
+ghost use Rattle.dia_sites.specs.Sites.{Site as AnySite, IsSafeSite};
 ghost use Rattle.dia_compat.specs.Closed.{IsIncluded};
 ghost use Rattle.dia_compat.specs.TableText.{PlainTable};
 ghost use Rattle.dia_least.specs.Floors.{AreFloors};
-ghost use Rattle.dia_breaking.specs.Closed.{AreClosed};
+ghost use Rattle.dia_levels.specs.declared.line.Line.{Line as LevelLine};
+ghost use Rattle.dia_breaking.specs.Closed.{IsClosedSite, IsFreeOf};
 ghost use Rattle.dia_breaking.specs.Confirmed.{EachConfirmedBreaks, IsConfirmed};
 ghost use Rattle.dia_breaking.specs.Confirmed.{ListsCommand, NoneConfirmed};
 ghost use Rattle.dia_breaking.specs.declared.line.Line.{Line as AnyLine};
 
-/// Where sites are closed, by lengths that no AVP is below, nothing breaks at them.
+/// At a site that is closed, by lengths that no AVP is below, nothing breaks in levels that are free of what is told there.
 pub fn closed_sites_are_safe()
     ensures { (da db : Dictionary) (who : AnySender) (u : AnyPolicy) (length : AnyKey → ℕ)
-        (sites : List AnySite) → AreFloors da who length
-        → AreClosed da db who u length sites → AreSafe da db who u sites }
+        (sites : List AnySite) (told : List LevelLine) (own : List AnyKey) (site : AnySite)
+        → AreFloors da who length → IsClosedSite da db who u length sites told own site
+        → IsSafeSite da db who u (IsFreeOf da db u told own) sites site }
 {}
 
 /// Where a table shows inclusion, with the sender's own policy for unknown AVPs on both sides, no message breaks a command that

@@ -20,6 +20,7 @@ mod line;
 mod lines;
 mod message;
 mod own_lines;
+mod told;
 mod upgrade;
 mod walk;
 mod ways;

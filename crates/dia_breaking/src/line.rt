@@ -1,4 +1,7 @@
 //! The lines of a command, and the sites at which they stand.
+ghost use Rattle.std.specs.Prelude.{◌≡◌};
+ghost use Rattle.dia_breaking.specs.OwnKeys.{own_key};
+
 use dia_book::{Class, DefId, Key};
 use dia_levels::Line as LevelLine;
 use dia_witness::Witness;
@@ -51,6 +54,25 @@ pub enum Cause {
     LevelAsLeaf { key: Key },
     /// Nothing was found, and it isn't shown that nothing breaks.
     Unproved,
+}
+
+impl Cause {
+    /// The key of the AVP, where it is one that breaks by itself.
+    pub(crate) fn own_key(&self) -> Option<Key>
+        ensures { result ≡ own_key self.now }
+    {
+        match self {
+            Cause::Unknown { key, .. }
+            | Cause::MBit { key, .. }
+            | Cause::Format { key, .. }
+            | Cause::LevelAsLeaf { key } => Some(*key),
+            Cause::Command
+            | Cause::Application
+            | Cause::Proxiable { .. }
+            | Cause::Level(_)
+            | Cause::Unproved => None,
+        }
+    }
 }
 
 /// What is known of a line.

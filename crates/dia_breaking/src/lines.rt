@@ -1,14 +1,15 @@
 //! The lines of a command.
-ghost use Rattle.std.specs.Prelude.{◌≡◌, ◌+◌, ◌<◌, [], IfOk, IfSome, OnOk, Some, length};
+ghost use Rattle.std.specs.Prelude.{◌≡◌, ◌<◌, Contains, IfOk, IfSome, OnOk, Some, length};
 ghost use Rattle.std.specs.Prelude.{slice_get};
 ghost use Rattle.dia_book.specs.Dictionary.{definitions};
-ghost use Rattle.dia_sites.specs.Selection.{AreValid};
 ghost use Rattle.dia_compat.specs.Tests.{rules_in};
 ghost use Rattle.dia_levels.specs.Levels.{HasEachLine};
 ghost use Rattle.dia_levels.specs.LevelTests.{price};
 ghost use Rattle.dia_breaking.specs.Confirmed.{EachConfirmedBreaks};
+ghost use Rattle.dia_breaking.specs.Free.{AreValidWhereFree};
 ghost use Rattle.dia_breaking.specs.Headers.{head_in};
 ghost use Rattle.dia_breaking.specs.Lengths.{listed_length, other_length};
+ghost use Rattle.dia_breaking.specs.declared.line.Line.{Line as AnyLine};
 
 use crate::books::{command_of, group_of};
 use crate::exits::{Exits, Inner};
@@ -21,7 +22,7 @@ use dia_levels::{Line as LevelLine, level_lines};
 use std::alloc::{AllocError, Global};
 
 impl<'a, A: Book, B: Book> Upgrade<'a, A, B> {
-    /// The lines of a command with this head. Where there is none, each message of it that A's side sends is valid under B.
+    /// The lines of a command with this head. Each message of it that A's side sends, and that is free of them, is valid under B.
     pub(crate) fn lines_of(
         &self,
         alloc: Global,
@@ -32,15 +33,15 @@ impl<'a, A: Book, B: Book> Upgrade<'a, A, B> {
         requires head { IfSome (slice_get (definitions (A.meaning self.now.a.now)) command)
             (λ c. head_in c.head ≡ Some head.now) }
         ensures command { IfOk result (λ breaks. breaks.command ≡ command) }
-        ensures all { IfOk result (λ breaks. breaks.lines.items ≡ [] → ∥ AreValid
-            (A.meaning self.now.a.now) (B.meaning self.now.b.now)
-            self.now.sends self.now.unknown command ∥₁) }
+        ensures free { IfOk result (λ breaks. ∥ AreValidWhereFree
+            (A.meaning self.now.a.now) (B.meaning self.now.b.now) self.now.sends self.now.unknown
+            breaks.sites.items breaks.lines.items command ∥₁) }
         ensures each { IfOk result (λ breaks. EachConfirmedBreaks
             (A.meaning self.now.a.now) (B.meaning self.now.b.now)
             self.now.sends self.now.unknown command breaks.lines.items) }
     {
         let found = self.found(alloc, command, head)?;
-        let breaks = self.unless_certified(alloc, command, head, found)?;
+        let breaks = self.unless_certified(alloc, head, found)?;
         self.with_standings(alloc, breaks)
     }
 
@@ -71,26 +72,22 @@ impl<'a, A: Book, B: Book> Upgrade<'a, A, B> {
         })
     }
 
-    /// With an undecided line, where nothing was found, and it isn't shown that nothing breaks.
+    /// With an undecided line, where it isn't shown that nothing breaks but what the lines tell.
     fn unless_certified(
         &self,
         alloc: Global,
-        command: DefId,
         head: &Head,
         mut found: Breaks,
     ) -> Result<Breaks, AllocError>
-        requires within { command < length (definitions (A.meaning self.now.a.now)) }
-        requires head { IfSome (slice_get (definitions (A.meaning self.now.a.now)) command)
+        requires within { found.command < length (definitions (A.meaning self.now.a.now)) }
+        requires head { IfSome (slice_get (definitions (A.meaning self.now.a.now)) found.command)
             (λ c. head_in c.head ≡ Some head.now) }
         ensures command { IfOk result (λ breaks. breaks.command ≡ found.command) }
-        ensures all { IfOk result (λ breaks. breaks.lines.items ≡ [] → ∥ AreValid
-            (A.meaning self.now.a.now) (B.meaning self.now.b.now)
-            self.now.sends self.now.unknown command ∥₁) }
+        ensures free { IfOk result (λ breaks. ∥ AreValidWhereFree
+            (A.meaning self.now.a.now) (B.meaning self.now.b.now) self.now.sends self.now.unknown
+            breaks.sites.items breaks.lines.items breaks.command ∥₁) }
     {
-        if !found.lines.is_empty() {
-            return Ok(found);
-        }
-        let certified = self.is_certified(alloc, command, head, &found.sites)?;
+        let certified = self.is_certified(alloc, head, &found)?;
         if certified {
             return Ok(found);
         }
@@ -250,7 +247,7 @@ impl<'a, A: Book, B: Book> Upgrade<'a, A, B> {
 }
 
 fn push_line(lines: &mut Vec<Line>, site: usize, cause: Cause, takes: u64) -> Result<(), AllocError>
-    ensures { OnOk result (length lines.new.items ≡ length lines.old.items + 1) }
+    ensures { OnOk result ((line : AnyLine) × Contains lines.new.items line × (line.cause ≡ cause)) }
 {
     lines.push(Line {
         site,

@@ -16,7 +16,8 @@ pub(crate) const ROOM: u64 = 16_777_192;
 /// wildcard lets in only what no other has let in.
 const MOST_EVENTS: u32 = 1 << 26;
 
-/// What comes next in a walk, by the length of a message that goes so far. AVPs and groups are told by their places.
+/// What a walk comes to next. Events come in the order of the lengths of the shortest messages that go so far. AVPs and groups
+/// are named by their places in `Telling::own`.
 #[derive(Clone, Copy, Debug)]
 enum Event {
     /// A level of a group, in a level of the outer site.
@@ -41,7 +42,7 @@ pub(crate) struct Walk<'u, 'a, A: Book, B: Book> {
     pub sites: Vec<Site>,
     /// The shortest way that is known to each AVP of which there is something to tell, by its place.
     pub reached: HashMap<usize, Reach>,
-    /// Whether a wildcard has let AVPs in, and the places of those that none has let in yet.
+    /// Whether a wildcard has let AVPs in, and the places of the AVPs that none has let in yet.
     is_open: bool,
     rest: Vec<usize>,
     events: Vec<Event>,
@@ -202,7 +203,7 @@ impl<'u, 'a, A: Book, B: Book> Walk<'u, 'a, A, B> {
         Ok(())
     }
 
-    /// Those that no wildcard has let in.
+    /// The AVPs that no wildcard has let in yet. The caller puts back the ones that stay so.
     fn take_rest(&mut self, alloc: Global) -> Result<Vec<usize>, AllocError> {
         if self.is_open {
             return Ok(mem::replace(&mut self.rest, Vec::new(alloc)));
@@ -211,7 +212,7 @@ impl<'u, 'a, A: Book, B: Book> Walk<'u, 'a, A, B> {
         (0..self.upgrade.outlooks.len()).collect(alloc)
     }
 
-    /// Those that the rules of a group list, or of the command.
+    /// The AVPs of which there is something to tell, and which the rules of a group list, or those of the command.
     fn listed_by(&self, alloc: Global, group: Option<usize>) -> Result<HashSet<usize>, AllocError> {
         let mut listed = HashSet::new(alloc);
         if let Some(exits) = self.exits_of(group) {

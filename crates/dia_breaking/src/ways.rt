@@ -12,7 +12,7 @@ pub(crate) struct Way {
 #[derive(Clone, Copy, Debug)]
 pub(crate) struct Other {
     pub key: Key,
-    /// Where this and what stands beside the AVP are longer together than any message, there is no room for the AVP, or its
-    /// group leads to a known site.
+    /// Where this and what stands beside the AVP are longer together than any message, there is no room for the AVP, or it is
+    /// fine by itself and its group leads to a known site.
     pub spare: u64,
 }

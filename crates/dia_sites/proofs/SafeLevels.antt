@@ -12,7 +12,7 @@ use Rattle.dia_check.specs.Valid.{known, MHolds, IsAccepted, FitsBy, IsLevel, Fi
 use Rattle.dia_check.specs.Walks.{group_at}
 use Rattle.dia_policy.specs.declared.sends.Sends.{Sends}
 use Rattle.dia_sites.specs.Sent.{own_policy, StandAsSent, IsSentLevel, IsSentWithin, AreBytes}
-use Rattle.dia_sites.specs.Sites.{Site, IsLevelOf, FitsAlone, HasSite, AreSafe, AreLevelsOfB}
+use Rattle.dia_sites.specs.Sites.{Site, IsLevelOf, FitsAlone, HasSite, AboutLevels, same, inside, AreAsked, AreSafe, AreLevelsOfB}
 use Rattle.dia_sites.proofs.Members.{IsIn, contains_in, in_all, all_map, all_parts}
 
 -- ---- an AVP and its entry
@@ -35,7 +35,7 @@ level_in : (u : Unknown) (P : List DRule → List ℕ → Type 0) (v : PlainAvp)
 level_in u P v x None is h = absurd (none-some x is)
 level_in u P v x (Some e) is h = subst (λ (o : Option PlainDefinition). MatchOption o (IsLeaf e.format v.bytes) (λ group. P group.rules v.bytes)) is h.1
 
-some_of : {X : Type 0} (o : Option X) → IsSome o → (x : X) × (o ≡ Some x)
+pub some_of : {X : Type 0} (o : Option X) → IsSome o → (x : X) × (o ≡ Some x)
 some_of None h = absurd (let e : false ≡ true = h in cc)
 some_of (Some x) h = (x, refl)
 
@@ -112,17 +112,20 @@ module _ (da db : Dictionary) (who : Sends) (u : Unknown) where
   one_fits : (P : List DRule → List ℕ → Type 0) (v : PlainAvp) → Lifts P v → FitsBy da (own_policy who) P v → FitsAlone da db u v → (m : ℕ) × Fits db u m v
   one_fits P v lifts sent (k, h) = avp_fits P v k (known db (key_of v)) lifts sent refl h
 
-module _ (da db : Dictionary) (who : Sends) (u : Unknown) (sites : List Site) (safe : AreSafe da db who u sites) where
+module _ (da db : Dictionary) (who : Sends) (u : Unknown) (Asked : AboutLevels) (sites : List Site) (safe : AreSafe da db who u Asked sites) where
   -- levels with at most n levels of groups in them
   abbrev Reads : ℕ → Type 0
   Reads n = (site : Site) (avps : List PlainAvp) (bytes : List ℕ) → Contains sites site → AreBytes bytes → SpellsAll avps bytes → length bytes ≤ site.room
-      → StandAsSent who site.a.rules (map key_of avps) → AllByRecursion (IsSentWithin da who n) avps → Placed site.b.rules (map key_of avps) × ((m : ℕ) × AllByRecursion (Fits db u m) avps)
+      → StandAsSent who site.a.rules (map key_of avps) → AllByRecursion (IsSentWithin da who n) avps → AreAsked da db Asked site.a site.b avps
+      → Placed site.b.rules (map key_of avps) × ((m : ℕ) × AllByRecursion (Fits db u m) avps)
 
-  inner : (n : ℕ) (v : PlainAvp) (x y : PlainDefinition) → Reads n → AreBytes v.bytes → HasSite sites x y (length v.bytes) → IsSentLevel who (IsSentWithin da who n) x.rules v.bytes
-      → (m : ℕ) × IsLevel (Fits db u m) y.rules v.bytes
-  inner n v x y ih are (site, inside, is_a, is_b, room) (avps, spelled, stand, sent) =
+  inner : (n : ℕ) (v : PlainAvp) (x y : PlainDefinition) → Reads n → AreBytes v.bytes → HasSite sites x y (length v.bytes)
+      → ((avps : List PlainAvp) → SpellsAll avps v.bytes → AreAsked da db Asked x y avps) → IsSentLevel who (IsSentWithin da who n) x.rules v.bytes → (m : ℕ) × IsLevel (Fits db u m) y.rules v.bytes
+  inner n v x y ih are (site, within, is_a, is_b, room) asked (avps, spelled, stand, sent) =
       let here : StandAsSent who site.a.rules (map key_of avps) = subst (λ (c : PlainDefinition). StandAsSent who c.rules (map key_of avps)) (sym is_a) stand in
-      let r = ih site avps v.bytes inside are spelled room here sent in
+      let first : AreAsked da db Asked site.a y avps = subst (λ (c : PlainDefinition). AreAsked da db Asked c y avps) (sym is_a) (asked avps spelled) in
+      let both : AreAsked da db Asked site.a site.b avps = subst (λ (c : PlainDefinition). AreAsked da db Asked site.a c avps) (sym is_b) first in
+      let r = ih site avps v.bytes within are spelled room here sent both in
       (r.1.0, (avps, spelled, subst (λ (c : PlainDefinition). Placed c.rules (map key_of avps)) is_b r.0, r.1.1))
 
   level_of : (n : ℕ) (site : Site) (avps : List PlainAvp) (bytes : List ℕ) → AreBytes bytes → SpellsAll avps bytes → length bytes ≤ site.room
@@ -130,22 +133,27 @@ module _ (da db : Dictionary) (who : Sends) (u : Unknown) (sites : List Site) (s
   level_of n site avps bytes are spelled room stand sent = record { bytes = bytes; are_bytes = are; spelled = spelled; has_room = room; stand = stand; sent = (n, sent) }
 
   pub reads : (n : ℕ) → Reads n
-  reads zero site avps bytes inside are spelled room stand sent =
-      let s = safe site inside in
-      let level = level_of zero site avps bytes are spelled room stand sent in (
-        s.placed avps level,
+  reads zero site avps bytes within are spelled room stand sent asked =
+      let s = safe site within in
+      let level = level_of zero site avps bytes are spelled room stand sent in
+      let own = asked site.a site.b avps same in (
+        s.placed avps level own,
         common db u avps (λ v i.
-            one_fits da db who u (λ rules bytes. ⊥) v (λ x y is_a is_b bad. absurd bad) (in_all (IsSentWithin da who zero) avps v sent i) (s.alone avps v level (contains_in avps v i))),
+            one_fits da db who u (λ rules bytes. ⊥) v (λ x y is_a is_b bad. absurd bad) (in_all (IsSentWithin da who zero) avps v sent i) (s.alone avps v level own (contains_in avps v i))),
       )
-  reads (suc n) site avps bytes inside are spelled room stand sent =
-      let s = safe site inside in
-      let level = level_of (suc n) site avps bytes are spelled room stand sent in (
-        s.placed avps level,
+  reads (suc n) site avps bytes within are spelled room stand sent asked =
+      let s = safe site within in
+      let level = level_of (suc n) site avps bytes are spelled room stand sent in
+      let own = asked site.a site.b avps same in (
+        s.placed avps level own,
         common db u avps (λ v i.
+            let here = contains_in avps v i in
             one_fits da db who u (IsSentLevel who (IsSentWithin da who n)) v
-            (λ x y is_a is_b lv. inner n v x y (reads n) (data_bytes avps bytes v spelled are i) (s.groups avps v x y level (contains_in avps v i) is_a is_b) lv)
-            (in_all (IsSentWithin da who (suc n)) avps v sent i) (s.alone avps v level (contains_in avps v i))),
+            (λ x y is_a is_b lv.
+            inner n v x y (reads n) (data_bytes avps bytes v spelled are i) (s.groups avps v x y level own here is_a is_b)
+            (λ next spells a b deep lies. asked a b deep (inside v x y next here is_a is_b spells lies)) lv)
+            (in_all (IsSentWithin da who (suc n)) avps v sent i) (s.alone avps v level own here)),
       )
 
-  pub levels_of_b : AreLevelsOfB da db who u sites
-  levels_of_b site avps inside l = reads l.sent.0 site avps l.bytes inside l.are_bytes l.spelled l.has_room l.stand l.sent.1
+  pub levels_of_b : AreLevelsOfB da db who u Asked sites
+  levels_of_b site avps within l asked = reads l.sent.0 site avps l.bytes within l.are_bytes l.spelled l.has_room l.stand l.sent.1 asked

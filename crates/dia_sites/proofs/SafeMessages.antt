@@ -1,22 +1,22 @@
 -- Where B selects definitions at safe sites, each message that is sent is valid under B.
-use Rattle.std.proofs.Common.{◌≡◌, ℕ, suc, ◌+◌, ◌*◌, ◌%◌, ◌<◌, ◌≤◌, ◌^◌, List, [], ◌∷◌, ◌++◌, length, map, Some, sym, ap, subst, ◌∙◌, arith}
-use Rattle.std.specs.Prelude.{slice_get}
+use Rattle.std.proofs.Common.{◌≡◌, ℕ, suc, ◌+◌, ◌*◌, ◌%◌, ◌<◌, ◌≤◌, ◌^◌, List, [], ◌∷◌, ◌++◌, length, map, Some, sym, ap, subst, ◌∙◌, arith, inl, inr}
+use Rattle.std.specs.Prelude.{◌⊎◌, IsSome, slice_get}
 use Rattle.std.proofs.lemmas.List.{length-append}
 use Rattle.std.proofs.lemmas.Option.{same_Some}
 use Rattle.dia_wire.specs.declared.Header.{Header}
 use Rattle.dia_wire.specs.Lengths.{three_bytes}
 use Rattle.dia_wire.specs.Number.{number, IsField}
 use Rattle.dia_wire.specs.Wire.{PlainAvp, key_of, SpellsAll, IsHead, IsMessage}
-use Rattle.dia_book.specs.Dictionary.{Dictionary, PlainDefinition, definitions}
+use Rattle.dia_book.specs.Dictionary.{Dictionary, PlainDefinition, definitions, selected}
 use Rattle.dia_policy.specs.declared.Unknown.{Unknown}
 use Rattle.dia_policy.specs.declared.Levels.TheVariants as levels
-use Rattle.dia_check.specs.Valid.{class_of, Placed, IsValid}
+use Rattle.dia_check.specs.Valid.{class_of, AllowsP, Placed, IsValid, IsValidOf}
 use Rattle.dia_policy.specs.declared.sends.Sends.{Sends}
 use Rattle.dia_sites.specs.Sent.{StandAsSent, AreBytes, IsSent}
-use Rattle.dia_sites.specs.Sites.{Site, IsLevelOf, AreSafe}
-use Rattle.dia_sites.specs.Selection.{max_body, IsMet, AreMet, AreValid}
+use Rattle.dia_sites.specs.Sites.{Site, IsLevelOf, HasSite, AboutLevels, AreAsked, AreSafe}
+use Rattle.dia_sites.specs.Selection.{max_body, AboutFlags, IsMetAt, IsMet, AreMet, IsSelected, IsAsked, AreValidWhere}
 use Rattle.dia_sites.proofs.Members.{all_parts}
-use Rattle.dia_sites.proofs.SafeLevels.{levels_of_b}
+use Rattle.dia_sites.proofs.SafeLevels.{some_of, levels_of_b}
 
 -- ---- fields
 
@@ -92,39 +92,67 @@ body_fits h vs b m are =
 
 -- ---- messages
 
-module _ (da db : Dictionary) (who : Sends) (u : Unknown) (sites : List Site) (safe : AreSafe da db who u sites) where
-  valid_of : (bytes : List ℕ) (c : ℕ) (s : IsSent da who bytes c) → IsMet db sites s.command s.header.code (class_of s.header.flags) s.header.app → IsValid db u levels.Any bytes
-  valid_of bytes c s m =
-      let site = m.site.0 in
-      let room : length s.message.body ≤ site.room = omega (arith, body_fits s.header s.avps bytes s.message s.are_bytes, m.site.4) in
+module _ (da db : Dictionary) (who : Sends) (u : Unknown) (Asked : AboutLevels) (Refuses : Type 0) (Forbids : AboutFlags) (sites : List Site) (safe : AreSafe da db who u Asked sites) where
+  -- where B selects a definition whose site has the message's level
+  valid_at : (bytes : List ℕ) (c number : ℕ) (other : PlainDefinition) (s : IsSent da who bytes c) → selected db s.header.code (class_of s.header.flags) s.header.app ≡ Some number
+      → slice_get (definitions db) number ≡ Some other → AllowsP other.head s.header.flags → HasSite sites s.command other max_body → AreAsked da db Asked s.command other s.avps
+      → IsValidOf db u levels.Any bytes number
+  valid_at bytes c number other s select is_other allowed (site, within, is_a, is_b, enough) asked =
+      let room : length s.message.body ≤ site.room = omega (arith, body_fits s.header s.avps bytes s.message s.are_bytes, enough) in
       let level : IsLevelOf da who site.a.rules site.room s.avps = record {
         bytes = s.message.body;
         are_bytes = (message_bytes s.header s.avps bytes s.message s.are_bytes).1;
         spelled = s.message.is_body;
         has_room = room;
-        stand = subst (λ (x : PlainDefinition). StandAsSent who x.rules (map key_of s.avps)) (sym m.site.2) s.stand;
+        stand = subst (λ (x : PlainDefinition). StandAsSent who x.rules (map key_of s.avps)) (sym is_a) s.stand;
         sent = s.sent;
       } in
-      let r = levels_of_b da db who u sites safe site s.avps m.site.1 level in (
-        m.number,
-        record {
-          header = s.header;
-          avps = s.avps;
-          command = m.other;
-          message = s.message;
-          no_error_request = s.no_error_request;
-          no_repeated_answer = s.no_repeated_answer;
-          select = m.select;
-          is_command = m.is_other;
-          proxiable = m.proxiable s.header.flags s.proxiable;
-          placed = subst (λ (x : PlainDefinition). Placed x.rules (map key_of s.avps)) m.site.3 r.0;
-          fit = r.1;
-        },
-      )
+      let first : AreAsked da db Asked site.a other s.avps = subst (λ (x : PlainDefinition). AreAsked da db Asked x other s.avps) (sym is_a) asked in
+      let both : AreAsked da db Asked site.a site.b s.avps = subst (λ (x : PlainDefinition). AreAsked da db Asked site.a x s.avps) (sym is_b) first in
+      let r = levels_of_b da db who u Asked sites safe site s.avps within level both in
+      record {
+        header = s.header;
+        avps = s.avps;
+        command = other;
+        message = s.message;
+        no_error_request = s.no_error_request;
+        no_repeated_answer = s.no_repeated_answer;
+        select = select;
+        is_command = is_other;
+        proxiable = allowed;
+        placed = subst (λ (x : PlainDefinition). Placed x.rules (map key_of s.avps)) is_b r.0;
+        fit = r.1;
+      }
 
-  pub valid : (c : ℕ) (command : PlainDefinition) → slice_get (definitions da) c ≡ Some command → AreMet da db sites c command → AreValid da db who u c
-  valid c command at met bytes s =
+  valid_by : (bytes : List ℕ) (c number : ℕ) (s : IsSent da who bytes c) → IsAsked da db Asked Refuses Forbids s.header s.command s.avps
+      → selected db s.header.code (class_of s.header.flags) s.header.app ≡ Some number → IsMetAt db sites Forbids s.command number → IsValid db u levels.Any bytes
+  valid_by bytes c number s asked select m = (number, by (m.each s.header.flags s.proxiable))
+    where
+      here : IsSelected db s.header m.other
+      here = (number, select, m.is_other)
+
+      allowed : (AllowsP m.other.head s.header.flags × HasSite sites s.command m.other max_body) → IsValidOf db u levels.Any bytes number
+      allowed (p, site) = valid_at bytes c number m.other s select m.is_other p site (asked.levels m.other here)
+
+      by : (AllowsP m.other.head s.header.flags × HasSite sites s.command m.other max_body) ⊎ ((¬ AllowsP m.other.head s.header.flags) × Forbids m.other s.header.flags)
+          → IsValidOf db u levels.Any bytes number
+      by (inl h) = allowed h
+      by (inr h) = absurd (h.0 (asked.proxiable m.other here h.1))
+
+  -- B selects a definition for the message, which is asked for where it's told that it refuses one
+  valid_of : (bytes : List ℕ) (c : ℕ) (s : IsSent da who bytes c) → IsAsked da db Asked Refuses Forbids s.header s.command s.avps
+      → IsMet db sites Refuses Forbids s.command s.header.code (class_of s.header.flags) s.header.app → IsValid db u levels.Any bytes
+  valid_of bytes c s asked m =
+      let n = some_of (selected db s.header.code (class_of s.header.flags) s.header.app) (by m.selects) in
+      valid_by bytes c n.0 s asked n.1 (m.each n.0 n.1)
+    where
+      by : IsSome (selected db s.header.code (class_of s.header.flags) s.header.app) ⊎ Refuses → IsSome (selected db s.header.code (class_of s.header.flags) s.header.app)
+      by (inl some) = some
+      by (inr refused) = asked.selects refused
+
+  pub valid : (c : ℕ) (command : PlainDefinition) → slice_get (definitions da) c ≡ Some command → AreMet da db sites Refuses Forbids c command → AreValidWhere da db who u Asked Refuses Forbids c
+  valid c command at met bytes s asked =
       let n = numbers s.header (length bytes) s.message.head s.message.is_head (message_bytes s.header s.avps bytes s.message s.are_bytes).0 in
-      let same : s.command ≡ command = same_Some s.command command (sym s.is_command ∙ at) in
+      let own : s.command ≡ command = same_Some s.command command (sym s.is_command ∙ at) in
       let m = met s.header.code (class_of s.header.flags) s.header.app n.code n.app s.select in
-      valid_of bytes c s (subst (λ (x : PlainDefinition). IsMet db sites x s.header.code (class_of s.header.flags) s.header.app) (sym same) m)
+      valid_of bytes c s asked (subst (λ (x : PlainDefinition). IsMet db sites Refuses Forbids x s.header.code (class_of s.header.flags) s.header.app) (sym own) m)

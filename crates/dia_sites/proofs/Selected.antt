@@ -1,6 +1,6 @@
 -- The headers for which the definition of a command is selected, by its head.
 use Rattle.std.proofs.Common.{◌≡◌, ℕ, ◌+◌, ◌<◌, ◌^◌, Bool, true, false, ◌&&◌, List, [], ◌∷◌, length, get_or, Option, Some, None, refl, sym, ap, subst, ◌∙◌, inl, inr}
-use Rattle.std.specs.Prelude.{◌⊎◌, ◌==◌, nat_eq, is_some, slice_get, position}
+use Rattle.std.specs.Prelude.{◌⊎◌, ◌==◌, nat_eq, is_some, IsSome, slice_get, position}
 use Rattle.std.specs.Option.{option_map, option_or, option_eq}
 use Rattle.std.proofs.lemmas.Bool.{and_parts, eqb-true, false_from_ne_true}
 use Rattle.std.proofs.lemmas.Option.{none-some, same_Some, slice_get-get_or}
@@ -14,7 +14,7 @@ use Rattle.dia_book.specs.Dictionary.{Dictionary, PlainDefinition, IsDictionary,
 use Rattle.dia_book.proofs.Lists.{position-map, map-agree}
 use Rattle.dia_book.proofs.Members.{position-is_some, into_right}
 use Rattle.dia_sites.specs.Sites.{Site}
-use Rattle.dia_sites.specs.Selection.{IsMet, AreMet, NamesApp, IsMetBy}
+use Rattle.dia_sites.specs.Selection.{AboutFlags, IsMet, AreMet, NamesApp, IsMetBy}
 use Rattle.dia_sites.proofs.Members.{IsIn, contains_in, in_contains, in_at, at_in, all_of}
 
 -- ---- a search
@@ -158,35 +158,39 @@ same_head code other class kind app oapp p h =
     let inner = and_parts (code == other) (same_class class kind) outer.0 in
     (eqb-true code other inner.0, class_same class kind inner.1, app_same app oapp outer.1)
 
-module _ (da db : Dictionary) (sa : IsDictionary da) (sb : IsDictionary db) (sites : List Site) (command : PlainDefinition) where
+module _ (da db : Dictionary) (sa : IsDictionary da) (sb : IsDictionary db) (sites : List Site) (Refuses : Type 0) (Forbids : AboutFlags) (command : PlainDefinition) where
   abbrev Met : ℕ → Class → ℕ → Type 0
-  Met code class app = IsMet db sites command code class app
+  Met code class app = IsMet db sites Refuses Forbids command code class app
 
   met_too : (code other : ℕ) (class : Class) (app oapp : ℕ) → selected db code class app ≡ selected db other class oapp → Met other class oapp → Met code class app
   met_too code other class app oapp e m =
-      record { number = m.number; other = m.other; select = e ∙ m.select; is_other = m.is_other; proxiable = m.proxiable; site = m.site }
+      record { selects = by m.selects; each = λ number select. m.each number (sym e ∙ select) }
+    where
+      by : IsSome (selected db other class oapp) ⊎ Refuses → IsSome (selected db code class app) ⊎ Refuses
+      by (inl some) = inl (subst (λ (o : Option ℕ). IsSome o) (sym e) some)
+      by (inr refused) = inr refused
 
   -- the same for a head of equal parts
   by_parts : (code other : ℕ) (class kind : Class) (app : Option ℕ) (p : Pxy) → code ≡ other → class ≡ kind
-      → IsMetBy da db sites command (Command other kind app p) → IsMetBy da db sites command (Command code class app p)
+      → IsMetBy da db sites Refuses Forbids command (Command other kind app p) → IsMetBy da db sites Refuses Forbids command (Command code class app p)
   by_parts code other class kind app p e f m =
-      let first : IsMetBy da db sites command (Command code kind app p) = subst (λ (n : ℕ). IsMetBy da db sites command (Command n kind app p)) (sym e) m in
-      subst (λ (k : Class). IsMetBy da db sites command (Command code k app p)) (sym f) first
+      let first : IsMetBy da db sites Refuses Forbids command (Command code kind app p) = subst (λ (n : ℕ). IsMetBy da db sites Refuses Forbids command (Command n kind app p)) (sym e) m in
+      subst (λ (k : Class). IsMetBy da db sites Refuses Forbids command (Command code k app p)) (sym f) first
 
-  common_met : (code : ℕ) (class : Class) (app : ℕ) (p : Pxy) → app < 2 ^ 32 → ¬ NamesApp da code class app → IsMetBy da db sites command (Command code class None p) → Met code class app
+  common_met : (code : ℕ) (class : Class) (app : ℕ) (p : Pxy) → app < 2 ^ 32 → ¬ NamesApp da code class app → IsMetBy da db sites Refuses Forbids command (Command code class None p) → Met code class app
   common_met code class app p few unnamed m = by (found_or_not (own code class app) db.commands)
     where
       by : Found (own code class app) db.commands ⊎ NotFound (own code class app) db.commands → Met code class app
       by (inl f) = m.0 app few unnamed (names db code class app f)
       by (inr n) = met_too code code class app m.1.0 (commons_select db code class app m.1.0 n.is_none (no_own db code class m.1.0 m.1.2)) m.1.3
 
-  met_error : (code : ℕ) (class : Class) (app : ℕ) (p : Pxy) → same_class class classes.Error ≡ true → IsMetBy da db sites command (Error p) → Met code class app
+  met_error : (code : ℕ) (class : Class) (app : ℕ) (p : Pxy) → same_class class classes.Error ≡ true → IsMetBy da db sites Refuses Forbids command (Error p) → Met code class app
   met_error code class app p h m =
       let here : Met code classes.Error app = met_too code m.0 classes.Error app m.1 (errors_select db code m.0 app m.1 sb) m.2 in
       subst (λ (k : Class). Met code k app) (sym (class_same class classes.Error h)) here
 
   at_head : (code : ℕ) (class : Class) (app : ℕ) (h : DefHead) → app < 2 ^ 32 → IsCommandHead h
-      → (is_command code class (Some app) h ≡ true) ⊎ ((is_command code class None h ≡ true) × (¬ NamesApp da code class app)) → IsMetBy da db sites command h → Met code class app
+      → (is_command code class (Some app) h ≡ true) ⊎ ((is_command code class None h ≡ true) × (¬ NamesApp da code class app)) → IsMetBy da db sites Refuses Forbids command h → Met code class app
   at_head code class app (Group key) few is how m = absurd is
   at_head code class app (Error p) few is (inl h) m = met_error code class app p h m
   at_head code class app (Error p) few is (inr h) m = met_error code class app p h.0 m
@@ -200,7 +204,7 @@ module _ (da db : Dictionary) (sa : IsDictionary da) (sb : IsDictionary db) (sit
       let r = same_head code other class kind None None p h.0 in
       common_met code class app p few h.1 (by_parts code other class kind None p r.0 r.1 m)
 
-  pub met : (c : ℕ) → slice_get (definitions da) c ≡ Some command → IsMetBy da db sites command command.head → AreMet da db sites c command
+  pub met : (c : ℕ) → slice_get (definitions da) c ≡ Some command → IsMetBy da db sites Refuses Forbids command command.head → AreMet da db sites Refuses Forbids c command
   met c at m code class app small few select =
       let ch = chosen da code class app c command sa at select in
       at_head code class app command.head few ch.is_head ch.how m

@@ -1,4 +1,5 @@
 use Rattle.std.proofs.Common.{sym, ◌∙◌}
+use Rattle.dia_breaking.proofs.Certified.{group_found}
 use Rattle.dia_breaking.proofs.InRange.{group_within, group_known}
 use Rattle.dia_breaking.proofs.books.group_of.Goals as goal
 
@@ -7,5 +8,6 @@ returns g c =
     let d = g.B.Book.meaning c.args.book.now in
     record {
       within = group_within d c.args.key c.in_ok-entry.entry c.group.result (sym c.avp.ensures ∙ c.in_ok-entry.was) (sym c.group.ensures);
+      definition = group_found d c.args.key c.in_ok-entry.entry c.group.result (sym c.avp.ensures ∙ c.in_ok-entry.was) c.group.ensures;
       group = group_known d c.args.key c.in_ok-entry.entry c.group.result (sym c.avp.ensures ∙ c.in_ok-entry.was) (sym c.group.ensures);
     }

@@ -1,25 +1,34 @@
 use Rattle.std.proofs.Common.{◌≡◌, ℕ, List, sym, refl, ◌∙◌}
 use Rattle.std.specs.Prelude.{slice_get}
+use Rattle.std.proofs.Math.Logic.{∥∥₁_map}
 use Rattle.dia_book.specs.Dictionary.{definitions, PlainDefinition}
 use Rattle.dia_compat.proofs.ReachedKeys.{there_is, at_some}
 use Rattle.dia_breaking.specs.Confirmed.{IsConfirmed}
 use Rattle.dia_breaking.specs.Headers.{head_in}
 use Rattle.dia_breaking.specs.declared.line.Line.{Line}
 use Rattle.dia_breaking.specs.declared.line.Standing.TheVariants.{Confirmed}
-use Rattle.dia_breaking.proofs.Lists.{none_of}
+use Rattle.dia_breaking.proofs.FreeOfLines.{all_valid, nothing_told}
+use Rattle.dia_breaking.proofs.Lists.{none_of, when_ok}
 use Rattle.dia_breaking.proofs.TooLong.{no_message_of_group}
 use Rattle.dia_breaking.proofs.upgrade.Upgrade.breaks.Goals as goal
+
+pub returns-in-Some-clause-all : goal.returns-in-Some-clause-all
+returns-in-Some-clause-all g c =
+    let up = c.args.self.now in
+    when_ok _ _ c.lines_of.result (λ told free none. ∥∥₁_map free (λ valid.
+    nothing_told (g.A.Book.meaning up.a.now) (g.B.Book.meaning up.b.now) up.sends up.unknown told.sites.items told.lines.items c.args.command valid none)) c.lines_of.ensures.free
 
 pub returns-in-None : goal.returns-in-None
 returns-in-None g c =
     let up = c.args.self.now in
     let da = g.A.Book.meaning up.a.now in
+    let db = g.B.Book.meaning up.b.now in
+    let x = there_is (definitions da) c.args.command c.requires in
+    let valid = no_message_of_group da db up.sends up.unknown c.args.command x.0 x.1
+    (sym c.in-None.is ∙ at_some (λ (y : PlainDefinition). c.head_of.result ≡ head_in y.head) (slice_get (definitions da) c.args.command) x.0 c.head_of.ensures x.1) in
     record {
-      all = λ none.
-          let x = there_is (definitions da) c.args.command c.requires in
-          ∣ no_message_of_group da (g.B.Book.meaning up.b.now) up.sends up.unknown c.args.command x.0 x.1
-          (sym c.in-None.is ∙ at_some (λ (y : PlainDefinition). c.head_of.result ≡ head_in y.head) (slice_get (definitions da) c.args.command) x.0 c.head_of.ensures x.1) ∣₁;
-      each = none_of (λ (line : Line). line.standing ≡ Confirmed → (bytes : List ℕ) × IsConfirmed da (g.B.Book.meaning up.b.now) up.sends up.unknown bytes c.args.command) c.new-lines.result.items
-          c.new-lines.ensures.items;
+      free = ∣ all_valid da db up.sends up.unknown _ _ c.args.command valid ∣₁;
+      all = λ none. ∣ valid ∣₁;
+      each = none_of (λ (line : Line). line.standing ≡ Confirmed → (bytes : List ℕ) × IsConfirmed da db up.sends up.unknown bytes c.args.command) c.new-lines.result.items c.new-lines.ensures.items;
       command = refl;
     }

@@ -1,16 +1,26 @@
-use Rattle.std.proofs.Common.{ℕ, subst, ◌∙◌}
-use Rattle.dia_breaking.specs.Confirmed.{EachConfirmedBreaks}
-use Rattle.dia_breaking.proofs.Lists.{when_ok, none_left}
+use Rattle.std.proofs.Common.{◌≡◌, ℕ, List, map, subst, sym, ap, ◌∙◌}
+use Rattle.std.proofs.Math.Logic.{∥∥₁_map}
+use Rattle.dia_breaking.specs.Confirmed.{EachConfirmedBreaks, told_of}
+use Rattle.dia_breaking.specs.Free.{AreValidWhereFree}
+use Rattle.dia_breaking.specs.declared.line.Site.{Site}
+use Rattle.dia_breaking.proofs.FreeOfLines.{still_valid}
+use Rattle.dia_breaking.proofs.Lists.{when_ok, when_two}
 use Rattle.dia_breaking.proofs.upgrade.Upgrade.lines_of.Goals as goal
 
 pub returns : goal.returns
 returns g c =
     let up = c.args.self.now in
-    let same = c.in_ok-breaks.ensures.command ∙ c.in_ok-found.ensures in
+    let da = g.A.Book.meaning up.a.now in
+    let db = g.B.Book.meaning up.b.now in
+    let breaks = c.in_ok-breaks.breaks in
+    let own = c.in_ok-breaks.ensures.command ∙ c.in_ok-found.ensures in
     record {
-      command = when_ok _ _ c.with_standings.result (λ told e. e ∙ same) c.with_standings.ensures.command;
-      all = when_ok _ _ c.with_standings.result (λ told same none. c.in_ok-breaks.ensures.all (none_left c.in_ok-breaks.breaks.lines.items told.lines.items same none)) c.with_standings.ensures.all;
-      each = when_ok _ _ c.with_standings.result
-          (λ told h. subst (λ (command : ℕ). EachConfirmedBreaks (g.A.Book.meaning up.a.now) (g.B.Book.meaning up.b.now) up.sends up.unknown command told.lines.items) same h)
-          c.with_standings.ensures.each;
+      command = when_ok _ _ c.with_standings.result (λ told e. e ∙ own) c.with_standings.ensures.command;
+      free = when_two _ _ _ c.with_standings.result
+          (λ told sites kept. subst (λ (number : ℕ). ∥ AreValidWhereFree da db up.sends up.unknown told.sites.items told.lines.items number ∥₁) own
+          (∥∥₁_map c.in_ok-breaks.ensures.free (λ valid.
+          subst (λ (at : List Site). AreValidWhereFree da db up.sends up.unknown at told.lines.items breaks.command) (sym (ap (λ v. v.items) sites))
+          (still_valid da db up.unknown breaks.sites.items breaks.lines.items told.lines.items breaks.command kept up.sends valid))))
+          c.with_standings.ensures.sites c.with_standings.ensures.kept;
+      each = when_ok _ _ c.with_standings.result (λ told h. subst (λ (number : ℕ). EachConfirmedBreaks da db up.sends up.unknown number told.lines.items) own h) c.with_standings.ensures.each;
     }

@@ -1,0 +1,89 @@
+-- What messages that are free of lines show.
+use Rattle.std.proofs.Common.{◌≡◌, ℕ, List, [], length, map, sym, ap, ◌∙◌, arith, inl, inr}
+use Rattle.std.specs.Prelude.{◌⊎◌, Contains, slice_get}
+use Rattle.dia_wire.specs.declared.Header.{Header}
+use Rattle.dia_wire.specs.Wire.{PlainAvp}
+use Rattle.dia_book.specs.Dictionary.{Dictionary, PlainDefinition}
+use Rattle.dia_policy.specs.declared.Unknown.{Unknown}
+use Rattle.dia_policy.specs.declared.Sends.{Sends}
+use Rattle.dia_sites.specs.Selection.{AreValid}
+use Rattle.dia_breaking.specs.declared.line.Cause.{Cause}
+use Rattle.dia_breaking.specs.declared.line.Cause.TheVariants as causes
+use Rattle.dia_breaking.specs.declared.line.Line.{Line}
+use Rattle.dia_breaking.specs.declared.line.Site.{Site}
+use Rattle.dia_breaking.specs.Confirmed.{told_of}
+use Rattle.dia_breaking.specs.Free.{IsLineOf, IsFreeLevel, TellsFlags, IsFree, AreValidWhereFree}
+use Rattle.dia_breaking.specs.Headers.{TellsRefusal}
+use Rattle.dia_breaking.specs.OwnKeys.{own_key}
+use Rattle.dia_breaking.proofs.Lists.{same_image}
+
+no_member : (lines : List Line) (line : Line) → lines ≡ [] → Contains lines line → ⊥
+no_member lines line none (i, within, is) = absurd (let e : length lines ≡ 0 = ap length none in omega (arith, within, e))
+
+-- where nothing is told, each message is free
+pub nothing_told : (da db : Dictionary) (who : Sends) (u : Unknown) (sites : List Site) (lines : List Line) (c : ℕ) → AreValidWhereFree da db who u sites lines c → lines ≡ [] → AreValid da db who u c
+nothing_told da db who u sites lines c valid none bytes sent =
+    valid bytes sent (record {
+      shown = λ line inside. absurd (no_member lines line none inside);
+      asked = record {
+        selects = λ told. absurd (no_member lines told.0 none told.1);
+        proxiable = λ other is told. absurd (no_member lines told.0 none told.3);
+        levels = λ other is a b inner lies. record { level = λ line told inside. absurd (no_member lines line none inside); own = λ line key v inside. absurd (no_member lines line none inside) };
+      };
+    })
+
+-- where each is valid, each that is free is
+pub all_valid : (da db : Dictionary) (who : Sends) (u : Unknown) (sites : List Site) (lines : List Line) (c : ℕ) → AreValid da db who u c → AreValidWhereFree da db who u sites lines c
+all_valid da db who u sites lines c valid bytes sent free = valid bytes sent
+
+-- where it isn't shown that nothing else breaks, none is free
+pub none_free : (da db : Dictionary) (who : Sends) (u : Unknown) (sites : List Site) (lines : List Line) (c : ℕ) (line : Line) → Contains lines line → line.cause ≡ causes.Unproved
+    → AreValidWhereFree da db who u sites lines c
+none_free da db who u sites lines c line inside is bytes sent free = absurd (free.shown line inside is)
+
+-- ---- lines of which something else is known
+
+module _ (da db : Dictionary) (u : Unknown) (sites : List Site) (old new : List Line) (c : ℕ) (same : map told_of new ≡ map told_of old) where
+  -- a line of these sites and these causes
+  record There (line : Line) : Type 0 where
+    other : Line
+    inside : Contains new other
+    site : other.site ≡ line.site
+    cause : other.cause ≡ line.cause
+
+  there : (line : Line) → Contains old line → There line
+  there line inside =
+      let r = same_image told_of old new line (sym same) inside in
+      record { other = r.0; inside = r.1; site = ap (λ (p : ℕ × Cause). p.0) r.2; cause = ap (λ (p : ℕ × Cause). p.1) r.2 }
+
+  its_levels : (line : Line) (t : There line) (x y : PlainDefinition) → IsLineOf da db sites c line x y → IsLineOf da db sites c t.other x y
+  its_levels line t x y (site, at, read) = (site, ap (slice_get sites) t.site ∙ at, read)
+
+  free_level : (x y : PlainDefinition) (avps : List PlainAvp) → IsFreeLevel da db u sites new c x y avps → IsFreeLevel da db u sites old c x y avps
+  free_level x y avps free = record {
+    level = λ line told inside cause of. let t = there line inside in free.level t.other told t.inside (t.cause ∙ cause) (its_levels line t x y of);
+    own = λ line key v inside is. let t = there line inside in free.own t.other key v t.inside (ap own_key t.cause ∙ is);
+  }
+
+  refusal : TellsRefusal old → TellsRefusal new
+  refusal (line, inside, cause) = let t = there line inside in (t.other, t.inside, by t cause)
+    where
+      by : (t : There line) → (line.cause ≡ causes.Command) ⊎ (line.cause ≡ causes.Application) → (t.other.cause ≡ causes.Command) ⊎ (t.other.cause ≡ causes.Application)
+      by t (inl e) = inl (t.cause ∙ e)
+      by t (inr e) = inr (t.cause ∙ e)
+
+  flags_told : (other : PlainDefinition) (flags : ℕ) → TellsFlags da db sites old c other flags → TellsFlags da db sites new c other flags
+  flags_told other flags (line, set, x, inside, cause, of, has) = let t = there line inside in (t.other, set, x, t.inside, t.cause ∙ cause, its_levels line t x other of, has)
+
+  still_free : (header : Header) (command : PlainDefinition) (avps : List PlainAvp) → IsFree da db u sites new c header command avps → IsFree da db u sites old c header command avps
+  still_free header command avps free = record {
+    shown = λ line inside is. let t = there line inside in free.shown t.other t.inside (t.cause ∙ is);
+    asked = record {
+      selects = λ told. free.asked.selects (refusal told);
+      proxiable = λ other is told. free.asked.proxiable other is (flags_told other header.flags told);
+      levels = λ other is a b inner lies. free_level a b inner (free.asked.levels other is a b inner lies);
+    };
+  }
+
+  pub still_valid : (who : Sends) → AreValidWhereFree da db who u sites old c → AreValidWhereFree da db who u sites new c
+  still_valid who valid bytes sent free = valid bytes sent (still_free sent.header sent.command sent.avps free)

@@ -1,0 +1,75 @@
+-- Messages that are free of the lines of an answer: they break in none of the ways that it tells.
+use Rattle.std.specs.Prelude.{◌≡◌, ◌≢◌, ℕ, Bool, true, false, List, map, Some, slice_get, Contains}
+use Rattle.dia_wire.specs.declared.Header.{Header}
+use Rattle.dia_wire.specs.declared.Key.{Key}
+use Rattle.dia_wire.specs.Wire.{PlainAvp, key_of, HasP}
+use Rattle.dia_book.specs.declared.DefHead.{DefHead}
+use Rattle.dia_book.specs.Dictionary.{Dictionary, PlainDefinition, definitions, selected}
+use Rattle.dia_policy.specs.declared.Unknown.{Unknown}
+use Rattle.dia_policy.specs.declared.Levels.TheVariants as levels
+use Rattle.dia_policy.specs.declared.Sends.{Sends}
+use Rattle.dia_check.specs.Valid.{IsValid}
+use Rattle.dia_sites.specs.Sent.{IsSent}
+use Rattle.dia_sites.specs.Sites.{FitsAlone, AboutLevels}
+use Rattle.dia_sites.specs.Selection.{AboutFlags, IsAsked}
+use Rattle.dia_entries.specs.Sent.{group_of}
+use Rattle.dia_levels.specs.declared.line.Line.{Line as LevelLine}
+use Rattle.dia_levels.specs.Levels.{ShowsAt}
+use Rattle.dia_breaking.specs.declared.heads.Head.{Head}
+use Rattle.dia_breaking.specs.declared.line.Cause.TheVariants as causes
+use Rattle.dia_breaking.specs.declared.line.Line.{Line}
+use Rattle.dia_breaking.specs.declared.line.Place.{Place}
+use Rattle.dia_breaking.specs.declared.line.Place.TheVariants as places
+use Rattle.dia_breaking.specs.declared.line.Site.{Site}
+use Rattle.dia_breaking.specs.Closed.{StandsIn}
+use Rattle.dia_breaking.specs.Headers.{head_in, TellsRefusal}
+use Rattle.dia_breaking.specs.OwnKeys.{own_key}
+
+-- ---- the levels of a line
+
+-- B selects the definition for messages with this head and this application
+abbrev pub IsSelectedFor : Dictionary → DefHead → ℕ → PlainDefinition → Type 0
+IsSelectedFor db h app y = (head : Head) × (number : ℕ) × (head_in h ≡ Some head) × (selected db head.code head.class app ≡ Some number) × (slice_get (definitions db) number ≡ Some y)
+
+-- the level at the place is read by these definitions, in messages of the command c
+abbrev pub IsReadBy : Dictionary → Dictionary → ℕ → Place → PlainDefinition → PlainDefinition → Type 0
+IsReadBy da db c (places.Command app is_told proxiable) x y = (slice_get (definitions da) c ≡ Some x) × IsSelectedFor db x.head app y
+IsReadBy da db c (places.Group key outer) x y = (group_of da key ≡ Some x) × (group_of db key ≡ Some y)
+
+-- the line stands at a site whose level is read so
+abbrev pub IsLineOf : Dictionary → Dictionary → List Site → ℕ → Line → PlainDefinition → PlainDefinition → Type 0
+IsLineOf da db sites c line x y = (site : Site) × (slice_get sites line.site ≡ Some site) × IsReadBy da db c site.place x y
+
+-- ---- levels
+
+-- a level that these definitions read breaks in none of the ways that lines of such levels tell; and of AVPs of which a line tells
+-- that they break by themselves, those of the level fit
+pub record IsFreeLevel (da db : Dictionary) (u : Unknown) (sites : List Site) (lines : List Line) (c : ℕ) (x y : PlainDefinition) (avps : List PlainAvp) : Type 0 where
+  pub level : (line : Line) (told : LevelLine) → Contains lines line → line.cause ≡ causes.Level told → IsLineOf da db sites c line x y
+      → ¬ ShowsAt x.rules y.rules (map key_of avps) told.reason told.key
+  pub own : (line : Line) (key : Key) (v : PlainAvp) → Contains lines line → own_key line.cause ≡ Some key → Contains avps v → StandsIn da db (key_of v) key → FitsAlone da db u v
+
+-- ---- headers
+
+-- the flags have this P flag
+abbrev pub HasThisP : Bool → ℕ → Type 0
+HasThisP true flags = HasP flags
+HasThisP false flags = ¬ HasP flags
+
+-- a line tells that this definition of B forbids the P flag of these flags
+abbrev pub TellsFlags : Dictionary → Dictionary → List Site → List Line → ℕ → AboutFlags
+TellsFlags da db sites lines c other flags = (line : Line) × (set : Bool) × (x : PlainDefinition) × Contains lines line × (line.cause ≡ causes.Proxiable set)
+    × IsLineOf da db sites c line x other × HasThisP set flags
+
+-- ---- messages
+
+-- it isn't said that something may break of which no line tells; B selects a definition, and allows the P flag, also where lines tell
+-- of others; and each level that both dictionaries see in the message is free of the lines
+pub record IsFree (da db : Dictionary) (u : Unknown) (sites : List Site) (lines : List Line) (c : ℕ) (header : Header) (command : PlainDefinition) (avps : List PlainAvp) : Type 0 where
+  pub shown : (line : Line) → Contains lines line → line.cause ≢ causes.Unproved
+  pub asked : IsAsked da db (IsFreeLevel da db u sites lines c) (TellsRefusal lines) (TellsFlags da db sites lines c) header command avps
+
+-- each message of the command that A's side sends, and that is free of the lines, is valid under B
+abbrev pub AreValidWhereFree : Dictionary → Dictionary → Sends → Unknown → List Site → List Line → ℕ → Type 0
+AreValidWhereFree da db who u sites lines c = (bytes : List ℕ) (sent : IsSent da who bytes c) → IsFree da db u sites lines c sent.header sent.command sent.avps
+    → IsValid db u levels.Any bytes
