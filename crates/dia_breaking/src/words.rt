@@ -117,7 +117,7 @@ impl<'a, A: Book, B: Book> Upgrade<'a, A, B> {
                 out.push_str(": ")?;
                 self.push_formats(out, key)
             }
-            Cause::Unproved => out.push_str("-: nothing found, not proved"),
+            Cause::Unproved => out.push_str("-: nothing more found, not proved"),
         }
     }
 
