@@ -33,11 +33,11 @@ use Rattle.dia_breaking.specs.declared.line.Place.{Place}
 use Rattle.dia_breaking.specs.declared.line.Place.TheVariants as places
 use Rattle.dia_breaking.specs.declared.line.Site.{Site}
 use Rattle.dia_breaking.specs.declared.ways.Way.{Way}
-use Rattle.dia_breaking.specs.Closed.{IsFreeOf, IsClosedSite}
+use Rattle.dia_breaking.specs.Closed.{IsFreeOf}
 use Rattle.dia_breaking.specs.Closing.{HoldsWays, IsClosedBy}
 use Rattle.dia_breaking.specs.Certified.{IsToldAt, way_to, ways_of, room_at, IsClosedWith, IsClosedGroup, IsClosedCommand, IsClosedAt, AreClosedAt, AreClosedTogether}
 use Rattle.dia_breaking.specs.Free.{IsReadBy, IsFreeLevel, TellsFlags, AreValidWhereFree}
-use Rattle.dia_breaking.specs.Headers.{head_in, AreApps, TellsRefusal, IsCommandPlace, IsReadFor, AreHeadersMet}
+use Rattle.dia_breaking.specs.Headers.{head_in, AreApps, TellsRefusal, IsCommandPlace, AreHeadersMet}
 use Rattle.dia_breaking.specs.OwnKeys.{own_key, own_keys}
 use Rattle.dia_breaking.proofs.ClosedSites.{safe_site, safe_for_fewer}
 use Rattle.dia_breaking.proofs.Lists.{all_in, contains_at}

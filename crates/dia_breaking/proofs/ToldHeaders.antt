@@ -1,6 +1,6 @@
 -- The headers that tell of all are met.
 use Rattle.std.proofs.Common.{◌≡◌, ℕ, zero, suc, bit_and, Bool, true, false, List, Option, Some, None, refl, sym, ap, subst, ◌∙◌, arith, inl, inr}
-use Rattle.std.specs.Prelude.{◌⊎◌, Contains, IsSome, not, slice_get}
+use Rattle.std.specs.Prelude.{◌⊎◌, IsSome, slice_get}
 use Rattle.std.proofs.lemmas.Option.{none-some, same_Some}
 use Rattle.dia_wire.specs.Wire.{HasP}
 use Rattle.dia_book.specs.declared.Class.{Class}

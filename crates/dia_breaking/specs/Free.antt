@@ -10,7 +10,7 @@ use Rattle.dia_policy.specs.declared.Levels.TheVariants as levels
 use Rattle.dia_policy.specs.declared.Sends.{Sends}
 use Rattle.dia_check.specs.Valid.{IsValid}
 use Rattle.dia_sites.specs.Sent.{IsSent}
-use Rattle.dia_sites.specs.Sites.{FitsAlone, AboutLevels}
+use Rattle.dia_sites.specs.Sites.{FitsAlone}
 use Rattle.dia_sites.specs.Selection.{AboutFlags, IsAsked}
 use Rattle.dia_entries.specs.Sent.{group_of}
 use Rattle.dia_levels.specs.declared.line.Line.{Line as LevelLine}

@@ -1,7 +1,6 @@
 use Rattle.std.proofs.Common.{sym, ap, subst, ◌∙◌, arith}
 use Rattle.std.specs.Prelude.{All, Contains}
 use Rattle.dia_breaking.specs.Certified.{IsToldAt}
-use Rattle.dia_breaking.specs.declared.line.Line.{Line}
 use Rattle.dia_breaking.proofs.Lists.{all_more}
 use Rattle.dia_breaking.proofs.told.level_lines_at.Goals as goal
 use Rattle.dia_breaking.proofs.told.level_lines_at.Goals.{in-Level+in_ok-push, in_default}

@@ -1,5 +1,4 @@
-use Rattle.std.proofs.Common.{sym, subst, arith, ◌∙◌}
-use Rattle.std.specs.Prelude.{All}
+use Rattle.std.proofs.Common.{sym, arith, ◌∙◌}
 use Rattle.std.specs.HashMap.{get}
 use Rattle.std.specs.HashSet.{contains}
 use Rattle.dia_book.specs.Keys.{same_key}
