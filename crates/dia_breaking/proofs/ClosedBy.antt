@@ -38,7 +38,7 @@ use Rattle.dia_breaking.specs.ClosedRules.{AreWaysOf, IsFirst, IsLongOrTold, fir
 use Rattle.dia_breaking.specs.Closing.{HoldsWays, IsClosedBy}
 use Rattle.dia_breaking.specs.Lengths.{length_of_entry, listed_length, other_length}
 use Rattle.dia_breaking.specs.LevelCosts.{IsCostOf, with_listed}
-use Rattle.dia_breaking.specs.Telling.{AreGroups, IsTelling, IsUntold, StandsFor, told}
+use Rattle.dia_breaking.specs.Telling.{AreGroups, IsTelling, IsUntold, StandsForStrangers, told}
 use Rattle.dia_breaking.proofs.Shortest.{any_least, lists_some, unlisted}
 use Rattle.dia_breaking.proofs.LevelCosts.{one_is_shortest}
 use Rattle.dia_breaking.proofs.Tellings.{no_group}
@@ -208,7 +208,7 @@ module _ (da db : Dictionary) (who : Sends) (u : Unknown) (lengths : List ℕ) (
       by_place : (o : Option ℕ) → get same_key telling.places key ≡ o → IsGood keys key
       by_place None e = by (found.rest key e)
         where
-          by : IsUntold da db who u key ⊎ ((own : Own) × Contains telling.own.items own × StandsFor da db key own) → IsGood keys key
+          by : IsUntold da db who u key ⊎ ((own : Own) × Contains telling.own.items own × StandsForStrangers da db key own) → IsGood keys key
           by (inl h) = untold_good keys key h
           by (inr (own, is, stands)) = absurd (both_ways (is_listed rules key) (strange_unlisted key stands.0.0) lists)
       by_place (Some place) e = by_own place e (slice_get telling.own.items place) refl
@@ -283,7 +283,7 @@ module _ (da db : Dictionary) (who : Sends) (u : Unknown) (lengths : List ℕ) (
       by_own own is same true true fine group = by_way own is same fine group (spared own is (ap (is_listed rules) same ∙ none)) (ways key) refl
 
       -- a strange one that breaks stands for all strange ones
-      by_strange : (own : Own) → Contains telling.own.items own → StandsFor da db key own → (b : Bool) → is_fine tells own ≡ b → IsGood keys key
+      by_strange : (own : Own) → Contains telling.own.items own → StandsForStrangers da db key own → (b : Bool) → is_fine tells own ≡ b → IsGood keys key
       by_strange own is (strange, own_strange, vendor, breaks) true fine =
           (inr (own.key, shown own.key (led own.breaks (tells own.key) fine breaks), inr (own_strange, strange)), no_group_leads keys key (λ both. no_group da key strange.0 both.0))
       by_strange own is (strange, own_strange, vendor, breaks) false bad =
@@ -296,7 +296,7 @@ module _ (da db : Dictionary) (who : Sends) (u : Unknown) (lengths : List ℕ) (
       by_place : (o : Option ℕ) → get same_key telling.places key ≡ o → IsGood keys key
       by_place None e = by (found.rest key e)
         where
-          by : IsUntold da db who u key ⊎ ((own : Own) × Contains telling.own.items own × StandsFor da db key own) → IsGood keys key
+          by : IsUntold da db who u key ⊎ ((own : Own) × Contains telling.own.items own × StandsForStrangers da db key own) → IsGood keys key
           by (inl h) = untold_good keys key h
           by (inr (own, is, stands)) = by_strange own is stands (is_fine tells own) refl
       by_place (Some place) e =

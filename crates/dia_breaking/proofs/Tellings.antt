@@ -27,7 +27,7 @@ use Rattle.dia_compat.proofs.MemberCounts.{in_at, in_contains, contains_in, in_a
 use Rattle.dia_breaking.specs.declared.keys.Own.{Own}
 use Rattle.dia_breaking.specs.declared.keys.Telling.{Telling}
 use Rattle.dia_breaking.specs.SentKeys.{AreSentKeys, IsStrange}
-use Rattle.dia_breaking.specs.Telling.{Adds, AreGroups, AreTold, IsTelling, IsToldOf, IsUntold, StandsFor, is_told}
+use Rattle.dia_breaking.specs.Telling.{Adds, AreGroups, AreTold, IsTelling, IsToldOf, IsUntold, StandsForStrangers, is_told}
 
 -- ---- keys that a dictionary doesn't know
 
@@ -170,7 +170,7 @@ module _ (da db : Dictionary) (who : Sends) (u : Unknown) where
 
   module _ (keys : List Key) (telling : Telling) (sent : AreSentKeys da db who keys) (told : AreTold da db who u keys telling) where
     abbrev IsSettled : Key → Type 0
-    IsSettled key = IsUntold da db who u key ⊎ ((own : Own) × Contains telling.own.items own × StandsFor da db key own)
+    IsSettled key = IsUntold da db who u key ⊎ ((own : Own) × Contains telling.own.items own × StandsForStrangers da db key own)
 
     of_keys : (key : Key) → Contains keys key → get same_key telling.places key ≡ None → IsSettled key
     of_keys key is e = let (own, of_key, none) = told.rest key is e in inl (nothing_told da db who u key own of_key none)

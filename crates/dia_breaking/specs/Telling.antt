@@ -22,8 +22,8 @@ abbrev pub IsUntold : Dictionary → Dictionary → Sends → Unknown → Key �
 IsUntold da db who u key = FitKeyAlone da db who u key × (¬ AreGroups da db key)
 
 -- a strange one that breaks, without vendor, stands for all strange ones
-abbrev pub StandsFor : Dictionary → Dictionary → Key → Own → Type 0
-StandsFor da db key own = IsStrange da db key × IsStrange da db own.key × (own.key.vendor ≡ 0) × (own.breaks ≡ true)
+abbrev pub StandsForStrangers : Dictionary → Dictionary → Key → Own → Type 0
+StandsForStrangers da db key own = IsStrange da db key × IsStrange da db own.key × (own.key.vendor ≡ 0) × (own.breaks ≡ true)
 
 -- what is found of a key, where nothing breaks, is that B accepts each M flag of its AVPs, and that they fit alone
 pub record IsToldOf (da db : Dictionary) (who : Sends) (u : Unknown) (key : Key) (own : Own) : Type 0 where
@@ -55,4 +55,4 @@ pub record IsTelling (da db : Dictionary) (who : Sends) (u : Unknown) (telling :
   pub placed : (key : Key) (place : ℕ) → get same_key telling.places key ≡ Some place → (own : Own) × (slice_get telling.own.items place ≡ Some own) × (own.key ≡ key)
   pub silent : (own : Own) → Contains telling.own.items own → own.breaks ≡ false → FitKeyAlone da db who u own.key
   pub leaf : (own : Own) → Contains telling.own.items own → own.is_group ≡ false → ¬ AreGroups da db own.key
-  pub rest : (key : Key) → get same_key telling.places key ≡ None → IsUntold da db who u key ⊎ ((own : Own) × Contains telling.own.items own × StandsFor da db key own)
+  pub rest : (key : Key) → get same_key telling.places key ≡ None → IsUntold da db who u key ⊎ ((own : Own) × Contains telling.own.items own × StandsForStrangers da db key own)

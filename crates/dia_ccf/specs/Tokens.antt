@@ -3,6 +3,7 @@ use Rattle.std.specs.Prelude.{ℕ, zero, suc, ◌+◌, ◌-◌, nat_eq, Bool, no
 use Rattle.std.specs.List.{list_all, starts_with}
 use Rattle.std.specs.Char.{is_ascii_digit}
 use Rattle.std.specs.Str.Parse.{digits_value}
+pub use Rattle.dia_terms.specs.Texts.{is_white}
 use Rattle.dia_ccf.specs.Names.{is_run_byte, is_name_run}
 
 pub data Token : Type 0 where
@@ -33,9 +34,6 @@ pub record Placed : Type 0 where
 pub record Piece : Type 0 where
   pub token : Option Token
   pub len : ℕ
-
-abbrev pub is_white : ℕ → Bool
-is_white c = c == 32 || c == 9 || c == 13 || c == 10
 
 -- a run of digits is a number, and one that a name can be is a name
 abbrev pub run_token : List ℕ → Token

@@ -6,7 +6,7 @@ use Rattle.dia_wire.specs.Wire.{PlainAvp, key_of, head_length, avp_length, padde
 use Rattle.dia_wire.specs.declared.AvpHead.{AvpHead}
 use Rattle.dia_data.specs.Plain.{Grouped}
 use Rattle.dia_data.specs.Leaf.{IsLeaf}
-use Rattle.dia_data.specs.State.{StandsFor as StandsForData}
+use Rattle.dia_data.specs.State.{StandsForData}
 use Rattle.dia_data.specs.declared.LeafState.{LeafState}
 use Rattle.dia_book.specs.Dictionary.{Dictionary, DictEntry, definitions, entry_of, group_place}
 use Rattle.dia_policy.specs.declared.Unknown.{Unknown}

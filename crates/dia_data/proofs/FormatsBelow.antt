@@ -8,7 +8,7 @@ use Rattle.std.proofs.lemmas.Str.{IsUtf8-from_ascii}
 use Rattle.dia_data.specs.Plain.{PlainFormat, OctetString, Integer32, Grouped, Utf8String, DiameterIdentity, DiameterUri, Enumerated}
 use Rattle.dia_data.specs.Number.{number}
 use Rattle.dia_data.specs.Leaf.{IsLeaf, IsGraphic, IsListed, IsWithin}
-use Rattle.dia_data.specs.Below.{FormatBelow, IsIncluded, ValuesBelow}
+use Rattle.dia_data.specs.Below.{FormatBelow, IsDataIncluded, ValuesBelow}
 
 graphic_text : (bytes : List ℕ) → All IsGraphic bytes → IsUtf8 bytes
 graphic_text bytes all = IsUtf8-from_ascii bytes (λ i. elim (cases_lt i (length bytes)) [
@@ -34,7 +34,7 @@ leaf_below DiameterUri Utf8String h bytes leaf = graphic_text bytes leaf.1
 leaf_below Grouped Grouped h bytes leaf = leaf
 leaf_below f g h bytes leaf = subst (λ (x : PlainFormat). IsLeaf x bytes) h leaf
 
-pub included : (f g : PlainFormat) → FormatBelow f g → IsIncluded f g
+pub included : (f g : PlainFormat) → FormatBelow f g → IsDataIncluded f g
 included Grouped OctetString h = inr (refl, refl)
 included Grouped Grouped h = absurd h
 included Grouped g h = absurd (cc)

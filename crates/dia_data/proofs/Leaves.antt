@@ -9,7 +9,7 @@ use Rattle.dia_data.specs.Plain.{Time, Utf8String, DiameterIdentity, DiameterUri
 use Rattle.dia_data.specs.declared.accept.Leaf.{Leaf}
 use Rattle.dia_data.specs.declared.accept.Leaf.TheVariants.{Fine, BadLength, BadValue}
 use Rattle.dia_data.specs.Number.{number}
-use Rattle.dia_data.specs.Leaf.{IsLeaf, LengthFits, IsAnswer, IsListed, IsGraphic, IsAddress, IsUri, NamesScheme}
+use Rattle.dia_data.specs.Leaf.{IsLeaf, LengthFits, IsLeafAnswer, IsListed, IsGraphic, IsAddress, IsUri, NamesScheme}
 use Rattle.dia_data.proofs.Addresses.{IsLong, long_from_address, address_from_long}
 use Rattle.dia_data.proofs.Schemes.{scheme_from_front, front_from_scheme}
 
@@ -18,11 +18,11 @@ pub record IsSame (kind : PlainFormat) (xs ys : List ℕ) : Type 0 where
   pub leaf : IsLeaf kind xs ↔ IsLeaf kind ys
   pub fits : LengthFits kind xs ↔ LengthFits kind ys
 
-pub IsAnswer-same : (answer : Leaf) (kind : PlainFormat) (xs ys : List ℕ) → IsSame kind xs ys → IsAnswer answer kind xs → IsAnswer answer kind ys
-IsAnswer-same Fine kind xs ys same (inl leaf) = inl (same.leaf.0 leaf)
-IsAnswer-same Fine kind xs ys same (inr grouped) = inr grouped
-IsAnswer-same BadLength kind xs ys same h = λ fits. h (same.fits.1 fits)
-IsAnswer-same BadValue kind xs ys same h = (same.fits.0 h.0, λ leaf. h.1 (same.leaf.1 leaf), h.2)
+pub IsLeafAnswer-same : (answer : Leaf) (kind : PlainFormat) (xs ys : List ℕ) → IsSame kind xs ys → IsLeafAnswer answer kind xs → IsLeafAnswer answer kind ys
+IsLeafAnswer-same Fine kind xs ys same (inl leaf) = inl (same.leaf.0 leaf)
+IsLeafAnswer-same Fine kind xs ys same (inr grouped) = inr grouped
+IsLeafAnswer-same BadLength kind xs ys same h = λ fits. h (same.fits.1 fits)
+IsLeafAnswer-same BadValue kind xs ys same h = (same.fits.0 h.0, λ leaf. h.1 (same.leaf.1 leaf), h.2)
 
 -- a length below 20 is that of the first 20 bytes
 length-front : (n : ℕ) (bytes : List ℕ) → n < 20 → (length (take 20 bytes) ≡ n) ↔ (length bytes ≡ n)

@@ -6,11 +6,11 @@ use Rattle.dia_data.specs.declared.accept.Leaf.{Leaf}
 use Rattle.dia_data.specs.declared.accept.Leaf.TheVariants.{Fine}
 use Rattle.dia_data.specs.Plain.{PlainFormat, Grouped}
 use Rattle.dia_data.specs.Number.{number}
-use Rattle.dia_data.specs.Leaf.{IsLeaf, IsAnswer}
+use Rattle.dia_data.specs.Leaf.{IsLeaf, IsLeafAnswer}
 use Rattle.dia_data.proofs.Numbers.{big_from-number}
 
-pub leaf_from_fine : (answer : Leaf) (kind : PlainFormat) (bytes : List ℕ) → answer ≡ Fine → kind ≢ Grouped → IsAnswer answer kind bytes → IsLeaf kind bytes
-leaf_from_fine answer kind bytes fine level said = elim (subst (λ (a : Leaf). IsAnswer a kind bytes) fine said) [
+pub leaf_from_fine : (answer : Leaf) (kind : PlainFormat) (bytes : List ℕ) → answer ≡ Fine → kind ≢ Grouped → IsLeafAnswer answer kind bytes → IsLeaf kind bytes
+leaf_from_fine answer kind bytes fine level said = elim (subst (λ (a : Leaf). IsLeafAnswer a kind bytes) fine said) [
   | inl leaf ↦ leaf
   | inr grouped ↦ absurd (level grouped)
 ]

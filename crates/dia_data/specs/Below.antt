@@ -7,7 +7,7 @@ use Rattle.dia_data.specs.Leaf.{IsLeaf, IsListed, IsWithin}
 abbrev pub ValuesBelow : Option (List (ℕ × ℕ)) → Option (List (ℕ × ℕ)) → Type 0
 ValuesBelow v w = IsNone w ⊎ (IsSome v × ((n : ℕ) → IsListed v n → IsListed w n))
 
--- which format stands below another (our profile): its data are included then (`IsIncluded`), and more is asked, so that Time isn't below Unsigned32
+-- which format stands below another (our profile): its data are included then (`IsDataIncluded`), and more is asked, so that Time isn't below Unsigned32
 abbrev pub FormatBelow : PlainFormat → PlainFormat → Type 0
 FormatBelow f OctetString = ⊤
 FormatBelow (Enumerated v) (Enumerated w) = ValuesBelow v w
@@ -18,8 +18,8 @@ FormatBelow Grouped Grouped = ⊥
 FormatBelow f g = f ≡ g
 
 -- each leaf of the first format is one of the second, or the first is Grouped and the second is OctetString
-abbrev pub IsIncluded : PlainFormat → PlainFormat → Type 0
-IsIncluded f g = ((f ≢ Grouped) × ((bytes : List ℕ) → IsLeaf f bytes → IsLeaf g bytes)) ⊎ ((f ≡ Grouped) × (g ≡ OctetString))
+abbrev pub IsDataIncluded : PlainFormat → PlainFormat → Type 0
+IsDataIncluded f g = ((f ≢ Grouped) × ((bytes : List ℕ) → IsLeaf f bytes → IsLeaf g bytes)) ⊎ ((f ≡ Grouped) × (g ≡ OctetString))
 
 -- each number of some range of the first list is in some range of the second
 abbrev pub RangesBelow : List (ℕ × ℕ) → List (ℕ × ℕ) → Type 0

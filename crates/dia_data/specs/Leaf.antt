@@ -84,7 +84,7 @@ LengthFits IpFilterRule bytes = ⊤
 LengthFits QosFilterRule bytes = ⊤
 
 -- what is said of the data: accepted, or a wrong length, or else a wrong value. A level is not looked at
-abbrev pub IsAnswer : Leaf → PlainFormat → List ℕ → Type 0
-IsAnswer Fine format bytes = IsLeaf format bytes ⊎ (format ≡ Grouped)
-IsAnswer BadLength format bytes = ¬ LengthFits format bytes
-IsAnswer BadValue format bytes = LengthFits format bytes × (¬ IsLeaf format bytes) × (format ≢ Grouped)
+abbrev pub IsLeafAnswer : Leaf → PlainFormat → List ℕ → Type 0
+IsLeafAnswer Fine format bytes = IsLeaf format bytes ⊎ (format ≡ Grouped)
+IsLeafAnswer BadLength format bytes = ¬ LengthFits format bytes
+IsLeafAnswer BadValue format bytes = LengthFits format bytes × (¬ IsLeaf format bytes) × (format ≢ Grouped)

@@ -1,6 +1,6 @@
 //! Which data a format accepts.
 ghost use Rattle.std.specs.Prelude.{◌≡◌, ◌↔◌, All, IsTrue, if◌then◌else◌};
-ghost use Rattle.dia_data.specs.Leaf.{IsAnswer, IsAddress, IsGraphic, IsUri, NamesScheme};
+ghost use Rattle.dia_data.specs.Leaf.{IsLeafAnswer, IsAddress, IsGraphic, IsUri, NamesScheme};
 ghost use Rattle.dia_data.specs.Plain.{plain_format};
 
 use crate::format::Format;
@@ -23,7 +23,7 @@ pub enum Leaf {
 ///
 /// The data of a Grouped AVP is a level of AVPs, which is read elsewhere: its answer is always `Fine`.
 pub fn accepts(format: &Format, bytes: &[u8]) -> Leaf
-    ensures { IsAnswer result (plain_format format.now) bytes.now }
+    ensures { IsLeafAnswer result (plain_format format.now) bytes.now }
 {
     match format {
         Format::OctetString | Format::IpFilterRule | Format::QosFilterRule | Format::Grouped => {

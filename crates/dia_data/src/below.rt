@@ -1,6 +1,6 @@
 //! Which format accepts all that another accepts.
 ghost use Rattle.std.specs.Prelude.{◌↔◌, IsTrue};
-ghost use Rattle.dia_data.specs.Below.{FormatBelow, IsIncluded};
+ghost use Rattle.dia_data.specs.Below.{FormatBelow, IsDataIncluded};
 ghost use Rattle.dia_data.specs.Plain.{PlainFormat, plain_format};
 
 use crate::format::Format;
@@ -28,5 +28,5 @@ pub fn format_below(f: &Format, g: &Format) -> bool
 /// What `format_below` finds holds of the data: each leaf of the first format is one of the second, or the first is
 /// Grouped and the second is OctetString.
 pub fn inclusion()
-    ensures { (f g : PlainFormat) → FormatBelow f g → IsIncluded f g }
+    ensures { (f g : PlainFormat) → FormatBelow f g → IsDataIncluded f g }
 {}

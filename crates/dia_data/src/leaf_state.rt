@@ -32,13 +32,13 @@ pub struct LeafState<'a> {
 }
 
 impl<'a> LeafState<'a> {
-    ghost use Rattle.dia_data.specs.Leaf.{IsAnswer};
+    ghost use Rattle.dia_data.specs.Leaf.{IsLeafAnswer};
     ghost use Rattle.dia_data.specs.Plain.{PlainFormat, plain_format};
-    ghost use Rattle.dia_data.specs.State.{StandsFor};
+    ghost use Rattle.dia_data.specs.State.{StandsForData};
 
     /// Before any data of the format.
     pub fn start(format: &'a Format) -> Self
-        ensures { StandsFor result (plain_format format.now) [] }
+        ensures { StandsForData result (plain_format format.now) [] }
     {
         let seen = match format {
             Format::Utf8String => Seen::Characters(Text::start()),
@@ -54,8 +54,8 @@ impl<'a> LeafState<'a> {
 
     /// Takes the next bytes of the data.
     pub fn feed(&mut self, piece: &[u8])
-        ensures { (kind : PlainFormat) (bytes : List ℕ) → StandsFor self.old kind bytes
-            → StandsFor self.new kind (bytes ++ piece.now) }
+        ensures { (kind : PlainFormat) (bytes : List ℕ) → StandsForData self.old kind bytes
+            → StandsForData self.new kind (bytes ++ piece.now) }
     {
         self.front.take_from(piece);
         match self.seen {
@@ -67,8 +67,8 @@ impl<'a> LeafState<'a> {
 
     /// What `accepts` says of the bytes that were fed.
     pub fn finish(self) -> Leaf
-        ensures { (kind : PlainFormat) (bytes : List ℕ) → StandsFor self.entry kind bytes
-            → IsAnswer result kind bytes }
+        ensures { (kind : PlainFormat) (bytes : List ℕ) → StandsForData self.entry kind bytes
+            → IsLeafAnswer result kind bytes }
     {
         let by_front = accepts(self.format, self.front.as_slice());
         match self.seen {

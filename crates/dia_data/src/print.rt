@@ -2,7 +2,7 @@
 ghost use Rattle.std.specs.Prelude.{◌≡◌, ◌<◌, ◌++◌, IfOk, OnOk, length, map, string_bytes};
 ghost use Rattle.std.specs.Fmt.{decimal};
 ghost use Rattle.std.specs.List.{join_with_byte};
-ghost use Rattle.dia_data.specs.Leaf.{IsAddress, IsAnswer};
+ghost use Rattle.dia_data.specs.Leaf.{IsAddress, IsLeafAnswer};
 ghost use Rattle.dia_data.specs.Shown.{IsValueText, AddsValueText, address};
 ghost use Rattle.dia_data.specs.Shown.{groups, hex_byte, hex_digit};
 ghost use Rattle.dia_data.specs.Shown.{hexadecimal, quoted, quoted_byte, value_text};
@@ -45,7 +45,7 @@ pub fn push_value(out: &mut String, format: &Format, bytes: &[u8]) -> Result<(),
 
 /// Adds the text of data that the format accepts.
 fn push_accepted(out: &mut String, format: &Format, bytes: &[u8]) -> Result<(), AllocError>
-    requires { IsAnswer Leaf.Fine (plain_format format.now) bytes.now }
+    requires { IsLeafAnswer Leaf.Fine (plain_format format.now) bytes.now }
     ensures { OnOk result (string_bytes out.new
         ≡ string_bytes out.old ++ value_text (plain_format format.now) bytes.now) }
 {

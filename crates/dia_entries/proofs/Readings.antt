@@ -18,7 +18,7 @@ use Rattle.dia_entries.specs.declared.breaking.DataBreak.{DataBreak}
 use Rattle.dia_entries.specs.declared.breaking.DataBreak.TheVariants as found
 use Rattle.dia_entries.specs.Sent.{IsSentData, IsAcceptedData, IsShortestRefused, group_of}
 use Rattle.dia_entries.specs.Breaks.{IsDataBreak}
-use Rattle.dia_entries.specs.Answers.{IsAnswer, IsEntryData, IsLeafBreak, IsLevelAsLeaf, IsLevelBreak, break_of}
+use Rattle.dia_entries.specs.Answers.{IsShortestBreak, IsEntryData, IsLeafBreak, IsLevelAsLeaf, IsLevelBreak, break_of}
 use Rattle.dia_entries.proofs.Entries.{group_here, no_group}
 use Rattle.dia_entries.proofs.NoLevels.{bytes_of, of_bytes}
 
@@ -63,7 +63,7 @@ level_data d u e x some bytes h =
 data_level : (d : Dictionary) (u : Unknown) (e : DictEntry) (x : PlainDefinition) → e.group ≡ Some x → (bytes : List ℕ) → IsEntryData d u e bytes → (n : ℕ) × IsLevel (Fits d u n) x.rules bytes
 data_level d u e x some bytes h = subst (λ (o : Option PlainDefinition). MatchOption o (IsLeaf e.format bytes) (λ group. (n : ℕ) × IsLevel (Fits d u n) group.rules bytes)) some h
 
-pub answer_break : (S P : List ℕ → Type 0) (o : Option Witness) → IsAnswer S P (option_map witness_bytes o) → IsLeafBreak S P (break_of o)
+pub answer_break : (S P : List ℕ → Type 0) (o : Option Witness) → IsShortestBreak S P (option_map witness_bytes o) → IsLeafBreak S P (break_of o)
 answer_break S P None h = h
 answer_break S P (Some w) h = h
 
@@ -88,7 +88,7 @@ leaf_as_leaf d u i e f g o at none says some nothing =
 
 -- a leaf that is read as a level
 pub leaf_as_level : (d : Dictionary) (u : Unknown) (i n : ℕ) (e : DictEntry) (x : PlainDefinition) (f : PlainFormat) (o : Option Witness) → IsDictionary d → slice_get d.entries i ≡ Some e
-    → Some n ≡ group_place d i → slice_get (definitions d) n ≡ Some x → IsAnswer (IsLeaf f) (λ bytes. (n : ℕ) × IsLevel (Fits d u n) x.rules bytes) (option_map witness_bytes o)
+    → Some n ≡ group_place d i → slice_get (definitions d) n ≡ Some x → IsShortestBreak (IsLeaf f) (λ bytes. (n : ℕ) × IsLevel (Fits d u n) x.rules bytes) (option_map witness_bytes o)
     → IsLeafBreak (IsLeaf f) (IsEntryData d u e) (break_of o)
 leaf_as_level d u i n e x f o sound at is def h =
     let (y, some, here) = group_here d i n e sound at is in

@@ -32,8 +32,8 @@ abbrev pub IsEntryData : Dictionary → Unknown → DictEntry → List ℕ → T
 IsEntryData d u e bytes = MatchOption e.group (IsLeaf e.format bytes) (λ group. (n : ℕ) × IsLevel (AvpFits d u n) group.rules bytes)
 
 -- shortest data that are sent and not accepted, or none
-abbrev pub IsAnswer : (IsSentHere IsAcceptedHere : List ℕ → Type 0) → Option (List ℕ) → Type 0
-IsAnswer IsSentHere IsAcceptedHere found = MatchOption found (AreAccepted IsSentHere IsAcceptedHere) (IsShortestRefused IsSentHere IsAcceptedHere)
+abbrev pub IsShortestBreak : (IsSentHere IsAcceptedHere : List ℕ → Type 0) → Option (List ℕ) → Type 0
+IsShortestBreak IsSentHere IsAcceptedHere found = MatchOption found (AreAccepted IsSentHere IsAcceptedHere) (IsShortestRefused IsSentHere IsAcceptedHere)
 
 -- what is found breaks
 abbrev pub break_of : Option Witness → DataBreak

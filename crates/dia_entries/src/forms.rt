@@ -8,7 +8,7 @@ ghost use Rattle.dia_book.specs.Dictionary.{Dictionary, DictEntry};
 ghost use Rattle.dia_policy.specs.declared.Unknown.{Unknown as AnyPolicy};
 ghost use Rattle.dia_check.specs.Valid.{Fits, IsLevel};
 ghost use Rattle.dia_witness.specs.Shortest.{witness_bytes};
-ghost use Rattle.dia_entries.specs.Answers.{IsAnswer, IsEntryData, IsLeafBreak};
+ghost use Rattle.dia_entries.specs.Answers.{IsShortestBreak, IsEntryData, IsLeafBreak};
 ghost use Rattle.dia_entries.specs.Answers.{IsLevelAsLeaf, IsLevelBreak, break_of};
 
 use crate::breaking::DataBreak;
@@ -76,7 +76,7 @@ fn level_as_leaf(format: &Format) -> DataBreak
 /// bytes, and an AVP isn't as short as an AVP Length of 0 says.
 fn shortest_no_level(format: &Format, rules: &[DRule]) -> Option<Witness>
     ensures { (d : Dictionary) (u : AnyPolicy)
-        → IsAnswer (IsLeaf (plain_format format.now)) (λ bytes. (n : ℕ) × IsLevel (Fits d u n) rules.now bytes)
+        → IsShortestBreak (IsLeaf (plain_format format.now)) (λ bytes. (n : ℕ) × IsLevel (Fits d u n) rules.now bytes)
         (option_map witness_bytes result) }
 {
     let least = shortest(format)?;

@@ -1,6 +1,7 @@
 -- Places of a text as a reader looks for them. A place counts the bytes in front of it.
 use Rattle.std.specs.Prelude.{◌≡◌, ℕ, ◌+◌, ◌-◌, ◌*◌, ◌==◌, ◌&&◌, ◌||◌, nat_lt, not, Bool, false, List, Option, Some, length, take, drop, count_by, slice_get}
 use Rattle.std.specs.List.{prefix_len, suffix_len, take_while}
+pub use Rattle.dia_terms.specs.Texts.{is_white}
 
 -- ---- lines and columns
 
@@ -39,9 +40,6 @@ abbrev pub whole_end : ℕ → List ℕ → List ℕ
 whole_end n bytes = drop (prefix_len is_inner (drop (length bytes - n) bytes)) (drop (length bytes - n) bytes)
 
 -- ---- the digits of messages
-
-abbrev pub is_white : ℕ → Bool
-is_white c = c == 32 || c == 9 || c == 13 || c == 10
 
 -- how many bytes that aren't white space stand in front of a place
 abbrev pub digits_before : List ℕ → ℕ → ℕ

@@ -10,7 +10,8 @@ use Rattle.dia_dict.specs.Dictionary.{Dictionary, DictEntry, entry_of}
 use Rattle.dia_dict.specs.Keys.{same_key}
 use Rattle.dia_dict.proofs.Lists.{position-within}
 use Rattle.dia_run.specs.Texts.{line}
-use Rattle.dia_run.specs.Listing.{known, IsGroup, unknown, leaf, avp_columns, AddsAvp, AddsNameAndValue}
+use Rattle.dia_check.specs.Valid.{known}
+use Rattle.dia_run.specs.Listing.{IsGroup, unknown, leaf, avp_columns, AddsAvp, AddsNameAndValue}
 
 plain_format-Grouped : (f : Format) → plain_format f ≡ Grouped → f ≡ format.Grouped
 plain_format-Grouped format.Grouped h = refl
@@ -53,7 +54,7 @@ leaf_added d place depth v i f name old front new is_i is_name is_format no_grou
       | inl (e, inside, is_e, here) ↦
           let same : name ≡ e.name = rw is_e at is_name in
           let format_is : plain_format f ≡ e.format = rw is_e at is_format in
-          let is_known : known d v ≡ Some e = ap (λ (o : Option ℕ). option_and_then (slice_get d.entries) o) (sym is_i) ∙ is_e in (
+          let is_known : known d (key_of v) ≡ Some e = ap (λ (o : Option ℕ). option_and_then (slice_get d.entries) o) (sym is_i) ∙ is_e in (
             name,
             value,
             leaf e is_known (λ g. no_group (plain_format-Grouped f (format_is ∙ g))) same (rw (← format_is) shown),
@@ -70,7 +71,7 @@ group_known d v i f name is_i is_name is_format is_group =
       | inl (e, inside, is_e, here) ↦
           let same : name ≡ e.name = rw is_e at is_name in
           let format_is : plain_format f ≡ e.format = rw is_e at is_format in
-          let is_known : known d v ≡ Some e = ap (λ (o : Option ℕ). option_and_then (slice_get d.entries) o) (sym is_i) ∙ is_e in
+          let is_known : known d (key_of v) ≡ Some e = ap (λ (o : Option ℕ). option_and_then (slice_get d.entries) o) (sym is_i) ∙ is_e in
           (e, (is_known, sym format_is ∙ ap plain_format is_group), same)
       | inr (past, none) ↦ absurd (omega (arith, past, position-within (λ (e : DictEntry). same_key (key_of v) e.key) d.entries i (sym is_i)))
     ]

@@ -12,7 +12,7 @@ use Rattle.dia_data.specs.Shown.{IsValueText}
 use Rattle.dia_ccf.specs.Names.{same_bytes}
 use Rattle.dia_dict.specs.Dictionary.{Dictionary, DictEntry}
 use Rattle.dia_dict.proofs.LookUpsByName.{same_bytes-Decides}
-use Rattle.dia_run.specs.Listing.{Level, IsListing, end, bad_length, avp, group, bad_group, IsLeafText, unknown, leaf, IsGroup, known, behind, inside, avp_line, bad_length_line}
+use Rattle.dia_run.specs.Listing.{Level, IsListing, end, bad_length, avp, group, bad_group, IsLeafText, unknown, leaf, IsGroup, behind, inside, avp_line, bad_length_line}
 
 -- texts that can't differ are one
 one_if_no_two : (a b : List ℕ) → (¬ (a ≡ b) → ⊥) → a ≡ b
@@ -27,7 +27,7 @@ one_value format bytes t u a b = one_if_no_two t u (λ two.
     let refused : ¬ IsLeaf format bytes = λ h. two (a.accepted h ∙ sym (b.accepted h)) in
     two (a.refused refused ∙ sym (b.refused refused)))
 
-one_entry : (d : Dictionary) (v : PlainAvp) (e f : DictEntry) → known d v ≡ Some e → known d v ≡ Some f → e ≡ f
+one_entry : (d : Dictionary) (v : PlainAvp) (e f : DictEntry) → known d (key_of v) ≡ Some e → known d (key_of v) ≡ Some f → e ≡ f
 one_entry d v e f h k = same_Some e f (sym h ∙ k)
 
 one_leaf : (d : Dictionary) (v : PlainAvp) (m n t u : List ℕ) → IsLeafText d v m t → IsLeafText d v n u → (m ≡ n) × (t ≡ u)

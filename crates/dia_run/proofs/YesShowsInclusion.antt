@@ -16,7 +16,7 @@ use Rattle.dia_io.specs.declared.Exit.TheVariants.{Yes, No, Bad}
 use Rattle.dia_run.specs.Texts.{IsDictionaryText}
 use Rattle.dia_run.specs.Pairs.{IsTableText, IsAnswerText}
 use Rattle.dia_run.specs.Outcome.{ended, no_first, no_second, compared, no_table, IsCompareOutcome, IsOutcome}
-use Rattle.dia_run.specs.Inclusion.{IsIncluded, ShowsInclusion}
+use Rattle.dia_run.specs.Inclusion.{TextsInclude, ShowsInclusion}
 
 not_no : (exit : Exit) → exit ≡ No → exit ≡ Yes → ⊥
 not_no exit is_no is_yes = cc
@@ -26,7 +26,7 @@ not_bad exit is_bad is_yes = cc
 
 yes_includes : (u : Unknown) (inputs : Inputs) (a b : Dictionary) (table : PlainTable) (answer : Answer) (text : List ℕ) (exit : Exit) → IsDictionaryText inputs.first a
     → IsDictionaryText inputs.second b
-    → IsTableText inputs.table table → IsAnswer a b u table answer → IsAnswerText table answer text exit → exit ≡ Yes → IsIncluded u inputs
+    → IsTableText inputs.table table → IsAnswer a b u table answer → IsAnswerText table answer text exit → exit ≡ Yes → TextsInclude u inputs
 yes_includes u inputs a b table answer.Yes text exit is_a is_b is_table closed told is_yes = record {
   a = a;
   b = b;
@@ -41,7 +41,7 @@ yes_includes u inputs a b table answer.Yes text exit is_a is_b is_table closed t
 yes_includes u inputs a b table (answer.No pair.Command i test) text exit is_a is_b is_table failed told is_yes = absurd (not_no exit told.3 is_yes)
 yes_includes u inputs a b table (answer.No pair.Avp i test) text exit is_a is_b is_table failed told is_yes = absurd (not_no exit told.3 is_yes)
 
-compare_includes : (u : Unknown) (inputs : Inputs) (text : List ℕ) (exit : Exit) → IsCompareOutcome u inputs text exit → exit ≡ Yes → IsIncluded u inputs
+compare_includes : (u : Unknown) (inputs : Inputs) (text : List ℕ) (exit : Exit) → IsCompareOutcome u inputs text exit → exit ≡ Yes → TextsInclude u inputs
 compare_includes u inputs text exit (ended a b is_a is_b (compared table answer is_table is_answer told)) is_yes =
     yes_includes u inputs a b table answer text exit is_a is_b is_table is_answer told is_yes
 compare_includes u inputs text exit (ended a b is_a is_b (no_table told none refuses)) is_yes = absurd (not_bad exit refuses.1 is_yes)

@@ -23,7 +23,7 @@ Lists table command name = Contains table.commands (command.name, name)
 
 -- the texts name two dictionaries and a table, and each byte string that is valid under the first dictionary as a message of a
 -- command that the table lists is valid under the second as a message of a command beside it, with any limit on levels
-pub record IsIncluded (u : Unknown) (inputs : Inputs) : Type 0 where
+pub record TextsInclude (u : Unknown) (inputs : Inputs) : Type 0 where
   pub a : Dictionary
   pub b : Dictionary
   pub table : PlainTable
@@ -36,5 +36,5 @@ pub record IsIncluded (u : Unknown) (inputs : Inputs) : Type 0 where
 
 -- a yes of `compare` shows it
 abbrev pub ShowsInclusion : Command → Inputs → Exit → Type 0
-ShowsInclusion (Compare u) inputs exit = exit ≡ Yes → IsIncluded u inputs
+ShowsInclusion (Compare u) inputs exit = exit ≡ Yes → TextsInclude u inputs
 ShowsInclusion command inputs exit = ⊤

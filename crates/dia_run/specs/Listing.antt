@@ -1,12 +1,12 @@
 -- The lines of a message: its header, and then each AVP, with the members of the groups that the dictionary knows.
 use Rattle.std.specs.Prelude.{◌≡◌, ℕ, ◌+◌, ◌<◌, Bool, true, false, List, [], ◌++◌, length, Option, Some, None, codes}
-use Rattle.std.specs.Prelude.{option_and_then, slice_get}
 use Rattle.std.specs.Fmt.{decimal}
 use Rattle.dia_wire.specs.declared.Header.{Header}
 use Rattle.dia_wire.specs.Wire.{PlainAvp, key_of, head_length, avp_length, padded_length, BeginsWith, BeginsWithNone}
 use Rattle.dia_data.specs.Plain.{PlainFormat, Grouped}
 use Rattle.dia_data.specs.Shown.{hex_byte, hexadecimal, IsValueText}
-use Rattle.dia_dict.specs.Dictionary.{Dictionary, DictEntry, entry_of}
+use Rattle.dia_dict.specs.Dictionary.{Dictionary, DictEntry}
+use Rattle.dia_check.specs.Valid.{known}
 use Rattle.dia_run.specs.Texts.{line}
 
 -- a dash where there is no Vendor-ID
@@ -34,18 +34,14 @@ avp_line place depth v name value = line (avp_columns place depth v ++ name ++ c
 abbrev pub bad_length_line : ℕ → List ℕ
 bad_length_line place = line (codes "fault 5014 at " ++ decimal place ++ codes " avp-length -")
 
--- what the dictionary knows of an AVP
-abbrev pub known : Dictionary → PlainAvp → Option DictEntry
-known d v = option_and_then (slice_get d.entries) (entry_of d (key_of v))
-
 -- an AVP that the dictionary knows as Grouped
 abbrev pub IsGroup : Dictionary → PlainAvp → DictEntry → Type 0
-IsGroup d v e = (known d v ≡ Some e) × (e.format ≡ Grouped)
+IsGroup d v e = (known d (key_of v) ≡ Some e) × (e.format ≡ Grouped)
 
 -- the name and the value of an AVP that the dictionary doesn't know, or knows as no group
 pub data IsLeafText (d : Dictionary) (v : PlainAvp) (name value : List ℕ) : Type 0 where
-  unknown : known d v ≡ None → name ≡ codes "?" → value ≡ hexadecimal v.bytes → IsLeafText d v name value
-  leaf : (e : DictEntry) → known d v ≡ Some e → ¬ (e.format ≡ Grouped) → name ≡ e.name → IsValueText e.format v.bytes value
+  unknown : known d (key_of v) ≡ None → name ≡ codes "?" → value ≡ hexadecimal v.bytes → IsLeafText d v name value
+  leaf : (e : DictEntry) → known d (key_of v) ≡ Some e → ¬ (e.format ≡ Grouped) → name ≡ e.name → IsValueText e.format v.bytes value
       → IsLeafText d v name value
 
 -- a level: how deep it lies, where it begins, and its bytes

@@ -2,6 +2,7 @@
 use Rattle.std.specs.Prelude.{◌≡◌, ◌≢◌, ℕ, ◌⊎◌, not, List, [], ◌∷◌, ◌++◌, filter, None, Some, Ok, codes, IsOk}
 use Rattle.std.specs.Str.{IsUtf8}
 use Rattle.std.specs.Fmt.{decimal}
+pub use Rattle.dia_terms.specs.Texts.{digits_of}
 use Rattle.hex.specs.Hex.{decode_of}
 use Rattle.dia_ccf.specs.declared.CcfFault.{CcfFault}
 use Rattle.dia_ccf.specs.declared.CcfFault.TheVariants as ccf
@@ -66,10 +67,6 @@ abbrev pub dictionary_line : ℕ → List ℕ → List ℕ
 dictionary_line number why = codes "dictionary " ++ decimal number ++ codes ": " ++ why
 
 -- ---- messages
-
--- the text without its white space
-abbrev pub digits_of : List ℕ → List ℕ
-digits_of text = filter (λ c. not (is_white c)) text
 
 -- the input is hexadecimal text of these bytes
 abbrev pub IsMessageText : Input → List ℕ → Type 0

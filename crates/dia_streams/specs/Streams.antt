@@ -2,6 +2,7 @@
 use Rattle.std.specs.Prelude.{◌≡◌, ℕ, ◌+◌, ◌*◌, ◌<◌, ◌≤◌, ◌==◌, ◌||◌, ◌⊎◌, not, filter, ⊤, Bool, List, [], ◌∷◌, ◌++◌, Option, None, Some, length, take, codes}
 use Rattle.std.specs.Fmt.{decimal}
 use Rattle.std.specs.Io.KnownBytes.{Appends, Consumes}
+pub use Rattle.dia_terms.specs.Texts.{is_white, digits_of}
 use Rattle.hex.specs.Hex.{hex_digit_value}
 use Rattle.dia_wire.specs.Wire.{BeginsMessage}
 use Rattle.dia_io.specs.declared.Exit.{Exit}
@@ -11,13 +12,6 @@ use Rattle.dia_lines.specs.declared.answered.Ended.{Ended}
 use Rattle.dia_lines.specs.Lines.{ended_of}
 
 -- ---- the bytes of a text
-
-abbrev pub is_white : ℕ → Bool
-is_white c = c == 32 || c == 9 || c == 13 || c == 10
-
--- the text without its white space
-abbrev pub digits_of : List ℕ → List ℕ
-digits_of text = filter (λ c. not (is_white c)) text
 
 -- two digits spell a byte
 abbrev pub IsPair : (high low byte : ℕ) → Type 0

@@ -1,2 +1,4 @@
 pub mod Limits
 pub mod Names
+pub mod Number
+pub mod Texts

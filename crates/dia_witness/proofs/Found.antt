@@ -7,7 +7,7 @@ use Rattle.dia_data.specs.Plain.{PlainFormat, Grouped}
 use Rattle.dia_data.specs.Leaf.{IsLeaf, IsWithin}
 use Rattle.dia_witness.specs.declared.short_data.Witness.{Witness}
 use Rattle.dia_witness.specs.Shortest.{AreBytes, IsShortest, IsShortestLeaf, witness_bytes}
-use Rattle.dia_witness.specs.Kinds.{Kind, Four, Host, Listed, IsAnswer, IsKindOf, IsOf, IsShortestOf, four_bytes}
+use Rattle.dia_witness.specs.Kinds.{Kind, Four, Host, Listed, IsWitness, IsKindOf, IsOf, IsShortestOf, four_bytes}
 use Rattle.dia_witness.proofs.DataOfKinds.{shortest_of}
 use Rattle.dia_witness.proofs.BytesOfNumbers.{number_four, four_number, four_are_bytes, small_number, host_four, short_family}
 
@@ -22,18 +22,18 @@ four_listed ranges n h = subst (λ (m : ℕ). Any (IsWithin m) ranges) (number_f
 pub number_of_list : (ranges : List (ℕ × ℕ)) (g : Kind) (n : ℕ) → n < 4294967296 → Any (IsWithin n) ranges → ¬ IsOf g (four_bytes n) → IsShortestOf (Listed ranges) g (four_bytes n)
 number_of_list ranges g n small any refused = shortest_of (Listed ranges) g (four_bytes n) (four_are_bytes n small) (listed_four ranges n any) refused refl
 
-pub no_number_of_list : (ranges : List (ℕ × ℕ)) (g : Kind) → ((n : ℕ) → Any (IsWithin n) ranges → IsOf g (four_bytes n)) → IsAnswer (Listed ranges) g None
+pub no_number_of_list : (ranges : List (ℕ × ℕ)) (g : Kind) → ((n : ℕ) → Any (IsWithin n) ranges → IsOf g (four_bytes n)) → IsWitness (Listed ranges) g None
 no_number_of_list ranges g each = λ bytes are h. subst (IsOf g) (four_number bytes are h.0) (each (number bytes) h.1)
 
 pub number_missing : (ranges : List (ℕ × ℕ)) (n : ℕ) → n < 4294967296 → ¬ Any (IsWithin n) ranges → IsShortestOf Four (Listed ranges) (four_bytes n)
 number_missing ranges n small none = shortest_of Four (Listed ranges) (four_bytes n) (four_are_bytes n small) refl (λ h. none (four_listed ranges n h)) refl
 
-pub none_missing : (ranges : List (ℕ × ℕ)) → ((n : ℕ) → n < 4294967296 → Any (IsWithin n) ranges) → IsAnswer Four (Listed ranges) None
+pub none_missing : (ranges : List (ℕ × ℕ)) → ((n : ℕ) → n < 4294967296 → Any (IsWithin n) ranges) → IsWitness Four (Listed ranges) None
 none_missing ranges each = λ bytes are h. (h, each (number bytes) (small_number bytes are h))
 
 -- ---- two formats
 
-pub some_found : (f g : PlainFormat) (k l : Kind) (found : Option Witness) → IsKindOf k f → IsKindOf l g → IsAnswer k l (option_map witness_bytes found)
+pub some_found : (f g : PlainFormat) (k l : Kind) (found : Option Witness) → IsKindOf k f → IsKindOf l g → IsWitness k l (option_map witness_bytes found)
     → IfSome found (λ w. IsShortest f g (witness_bytes w))
 some_found f g k l None is is' answer = tt
 some_found f g k l (Some w) is is' answer = record {
@@ -43,7 +43,7 @@ some_found f g k l (Some w) is is' answer = record {
   least = λ other leaf n. answer.least other ((is other).0 leaf) (λ h. n ((is' other).1 h));
 }
 
-pub none_found : (f g : PlainFormat) (k l : Kind) (found : Option Witness) → IsKindOf k f → IsKindOf l g → IsAnswer k l (option_map witness_bytes found) → found ≡ None
+pub none_found : (f g : PlainFormat) (k l : Kind) (found : Option Witness) → IsKindOf k f → IsKindOf l g → IsWitness k l (option_map witness_bytes found) → found ≡ None
     → (bytes : List ℕ) → AreBytes bytes → IsLeaf f bytes → IsLeaf g bytes
 none_found f g k l None is is' answer e bytes are leaf = (is' bytes).1 (answer bytes are ((is bytes).0 leaf))
 none_found f g k l (Some w) is is' answer e bytes are leaf = absurd (let p : Some w ≡ None = e in cc)
@@ -60,23 +60,23 @@ shortest_leaf f (Some w) s = record {
 -- ---- what is said by the kinds of Rust values
 
 pub missing_none : (k : Kind) (ranges : List (ℕ × ℕ)) (found : Option Witness) → k ≡ Listed ranges → found ≡ None → ((n : ℕ) → n < 4294967296 → Any (IsWithin n) ranges)
-    → IsAnswer Four k (option_map witness_bytes found)
+    → IsWitness Four k (option_map witness_bytes found)
 missing_none k ranges found is none each =
-    subst (λ (o : Option Witness). IsAnswer Four k (option_map witness_bytes o)) (sym none) (subst (λ (l : Kind). IsAnswer Four l None) (sym is) (none_missing ranges each))
+    subst (λ (o : Option Witness). IsWitness Four k (option_map witness_bytes o)) (sym none) (subst (λ (l : Kind). IsWitness Four l None) (sym is) (none_missing ranges each))
 
-pub missing_some : (k : Kind) (ranges : List (ℕ × ℕ)) (n : ℕ) (bytes : List ℕ) → k ≡ Listed ranges → bytes ≡ four_bytes n → n < 4294967296 → ¬ Any (IsWithin n) ranges → IsAnswer Four k (Some bytes)
+pub missing_some : (k : Kind) (ranges : List (ℕ × ℕ)) (n : ℕ) (bytes : List ℕ) → k ≡ Listed ranges → bytes ≡ four_bytes n → n < 4294967296 → ¬ Any (IsWithin n) ranges → IsWitness Four k (Some bytes)
 missing_some k ranges n bytes is spelled small none =
-    subst (λ (b : List ℕ). IsAnswer Four k (Some b)) (sym spelled) (subst (λ (l : Kind). IsAnswer Four l (Some (four_bytes n))) (sym is) (number_missing ranges n small none))
+    subst (λ (b : List ℕ). IsWitness Four k (Some b)) (sym spelled) (subst (λ (l : Kind). IsWitness Four l (Some (four_bytes n))) (sym is) (number_missing ranges n small none))
 
 pub listed_none : (k : Kind) (ranges : List (ℕ × ℕ)) (found : Option Witness) → found ≡ None → ((n : ℕ) → Any (IsWithin n) ranges → IsOf k (four_bytes n))
-    → IsAnswer (Listed ranges) k (option_map witness_bytes found)
+    → IsWitness (Listed ranges) k (option_map witness_bytes found)
 listed_none k ranges found none each =
-    subst (λ (o : Option Witness). IsAnswer (Listed ranges) k (option_map witness_bytes o)) (sym none) (no_number_of_list ranges k each)
+    subst (λ (o : Option Witness). IsWitness (Listed ranges) k (option_map witness_bytes o)) (sym none) (no_number_of_list ranges k each)
 
 pub listed_some : (k : Kind) (ranges : List (ℕ × ℕ)) (n : ℕ) (bytes : List ℕ) → bytes ≡ four_bytes n → n < 4294967296 → Any (IsWithin n) ranges → ¬ IsOf k (four_bytes n)
-    → IsAnswer (Listed ranges) k (Some bytes)
+    → IsWitness (Listed ranges) k (Some bytes)
 listed_some k ranges n bytes spelled small any refused =
-    subst (λ (b : List ℕ). IsAnswer (Listed ranges) k (Some b)) (sym spelled) (number_of_list ranges k n small any refused)
+    subst (λ (b : List ℕ). IsWitness (Listed ranges) k (Some b)) (sym spelled) (number_of_list ranges k n small any refused)
 
 -- ---- the numbers of one range
 

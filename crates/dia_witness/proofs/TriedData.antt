@@ -10,7 +10,7 @@ use Rattle.dia_witness.specs.Shortest.{AreBytes, witness_bytes}
 use Rattle.dia_witness.specs.declared.short_data.Witness.{Witness}
 use Rattle.dia_witness.specs.declared.kinds.Kind.{Kind as RustKind}
 use Rattle.dia_witness.specs.declared.kinds.Kind.TheVariants as kinds
-use Rattle.dia_witness.specs.Kinds.{shown, Kind, Octets, Four, Eight, Level, Host, Text, Identity, Link, Listed, IsAnswer, IsFirstRefused, IsKindOf, IsOf, four_bytes}
+use Rattle.dia_witness.specs.Kinds.{shown, Kind, Octets, Four, Eight, Level, Host, Text, Identity, Link, Listed, IsWitness, IsFirstRefused, IsKindOf, IsOf, four_bytes}
 use Rattle.dia_witness.proofs.DataOfKinds.{IsEasy, answers, Answer, of_kinds, floor, shortest_of, from_test, host_zero, no_family, identity_a, link_a}
 
 -- ---- the first of a list, by its places
@@ -82,10 +82,10 @@ of_each g b (c ∷ cs) (inl e) all = subst (IsOf g) (sym e) all.0
 of_each g b (c ∷ cs) (inr is) all = of_each g b cs is all.1
 
 -- where each is accepted, all data are
-included : (f g : Kind) → IsEasy f g → AreOf g (candidates f) → IsAnswer f g None
+included : (f g : Kind) → IsEasy f g → AreOf g (candidates f) → IsWitness f g None
 included f g p all = by (of_kinds f g) (answers f g p) (among f g p)
   where
-    by : (o : Option (List ℕ)) → Answer f g o → IfSome o (λ b. IsAmong b (candidates f)) → IsAnswer f g None
+    by : (o : Option (List ℕ)) → Answer f g o → IfSome o (λ b. IsAmong b (candidates f)) → IsWitness f g None
     by None a is = λ bytes are h. a bytes h
     by (Some b) a is = absurd (a.refused (of_each g b (candidates f) is all))
 
@@ -95,10 +95,10 @@ abbrev AreFit : Kind → List (List ℕ) → Type 0
 AreFit f [] = ⊤
 AreFit f (c ∷ cs) = (AreBytes c × IsOf f c × (length c ≡ floor f)) × AreFit f cs
 
-first_of : (f g : Kind) (format : PlainFormat) (cs : List (List ℕ)) (found : Option (List ℕ)) → IsKindOf g format → AreFit f cs → (AreOf g cs → IsAnswer f g None) → IsFirstRefused format cs found
-    → IsAnswer f g found
-first_of f g format [] found is fit none e = subst (IsAnswer f g) (sym e) (none tt)
-first_of f g format (c ∷ cs) found is fit none (inl h) = subst (IsAnswer f g) (sym h.1) (shortest_of f g c fit.0.0 fit.0.1 (λ k. h.0 ((is c).1 k)) fit.0.2)
+first_of : (f g : Kind) (format : PlainFormat) (cs : List (List ℕ)) (found : Option (List ℕ)) → IsKindOf g format → AreFit f cs → (AreOf g cs → IsWitness f g None) → IsFirstRefused format cs found
+    → IsWitness f g found
+first_of f g format [] found is fit none e = subst (IsWitness f g) (sym e) (none tt)
+first_of f g format (c ∷ cs) found is fit none (inl h) = subst (IsWitness f g) (sym h.1) (shortest_of f g c fit.0.0 fit.0.1 (λ k. h.0 ((is c).1 k)) fit.0.2)
 first_of f g format (c ∷ cs) found is fit none (inr h) = first_of f g format cs found is fit.1 (λ all. none ((is c).0 h.0, all)) h.1
 
 abbrev IsOneLength : Kind → Type 0
@@ -121,9 +121,9 @@ fit Link p = ((from_test (97 ∷ 97 ∷ 97 ∷ 58 ∷ 47 ∷ 47 ∷ 97 ∷ []) r
 fit (Listed ranges) p = absurd p
 
 -- the first of any data
-first_of_octets : (g : Kind) (format : PlainFormat) (found : Option (List ℕ)) → IsKindOf g format → IsFirstRefused format (candidates Octets) found → IsAnswer Octets g found
-first_of_octets g format found is (inl h) = subst (IsAnswer Octets g) (sym h.1) (shortest_of Octets g [] tt tt (λ k. h.0 ((is []).1 k)) refl)
-first_of_octets g format found is (inr (empty, inl h)) = subst (IsAnswer Octets g) (sym h.1) (record {
+first_of_octets : (g : Kind) (format : PlainFormat) (found : Option (List ℕ)) → IsKindOf g format → IsFirstRefused format (candidates Octets) found → IsWitness Octets g found
+first_of_octets g format found is (inl h) = subst (IsWitness Octets g) (sym h.1) (shortest_of Octets g [] tt tt (λ k. h.0 ((is []).1 k)) refl)
+first_of_octets g format found is (inr (empty, inl h)) = subst (IsWitness Octets g) (sym h.1) (record {
   are_bytes = (omega arith, tt);
   sent = tt;
   refused = λ k. h.0 ((is (255 ∷ [])).1 k);
@@ -133,9 +133,9 @@ first_of_octets g format found is (inr (empty, inl h)) = subst (IsAnswer Octets 
     long : (other : List ℕ) → ¬ IsOf g other → 1 ≤ length other
     long [] n = absurd (n ((is []).0 empty))
     long (b ∷ bs) n = omega arith
-first_of_octets g format found is (inr (empty, inr (one, e))) = subst (IsAnswer Octets g) (sym e) (included Octets g tt ((is []).0 empty, ((is (255 ∷ [])).0 one, tt)))
+first_of_octets g format found is (inr (empty, inr (one, e))) = subst (IsWitness Octets g) (sym e) (included Octets g tt ((is []).0 empty, ((is (255 ∷ [])).0 one, tt)))
 
-pub first_answer : (f g : Kind) (format : PlainFormat) (found : Option (List ℕ)) → IsEasy f g → IsKindOf g format → IsFirstRefused format (candidates f) found → IsAnswer f g found
+pub first_answer : (f g : Kind) (format : PlainFormat) (found : Option (List ℕ)) → IsEasy f g → IsKindOf g format → IsFirstRefused format (candidates f) found → IsWitness f g found
 first_answer Octets g format found p is h = first_of_octets g format found is h
 first_answer (Listed ranges) g format found p is h = absurd p
 first_answer Four g format found p is h = first_of Four g format (candidates Four) found is (fit Four tt) (included Four g p) h
@@ -160,9 +160,9 @@ three a b c x y z e f g = ap (λ (v : List ℕ). v ∷ b ∷ c ∷ []) e ∙ ap 
 
 -- the data that were tried are those of the kind
 pub tried : (f g k : Kind) (format : PlainFormat) (cs : List (List ℕ)) (found : Option (List ℕ)) → k ≡ f → IsEasy f g → IsKindOf g format → cs ≡ candidates f → IsFirstRefused format cs found
-    → IsAnswer k g found
+    → IsWitness k g found
 tried f g k format cs found kind p is e h =
-    subst (λ (l : Kind). IsAnswer l g found) (sym kind) (first_answer f g format found p is (subst (λ (ds : List (List ℕ)). IsFirstRefused format ds found) e h))
+    subst (λ (l : Kind). IsWitness l g found) (sym kind) (first_answer f g format found p is (subst (λ (ds : List (List ℕ)). IsFirstRefused format ds found) e h))
 
 -- ---- one test after the other
 

@@ -71,6 +71,6 @@ pub record IsShortestOf (f g : Kind) (bytes : List ℕ) : Type 0 where
   pub least : (other : List ℕ) → IsOf f other → ¬ IsOf g other → length bytes ≤ length other
 
 -- such data, or none where all data of the first kind is of the second
-abbrev pub IsAnswer : Kind → Kind → Option (List ℕ) → Type 0
-IsAnswer f g None = (bytes : List ℕ) → AreBytes bytes → IsOf f bytes → IsOf g bytes
-IsAnswer f g (Some bytes) = IsShortestOf f g bytes
+abbrev pub IsWitness : Kind → Kind → Option (List ℕ) → Type 0
+IsWitness f g None = (bytes : List ℕ) → AreBytes bytes → IsOf f bytes → IsOf g bytes
+IsWitness f g (Some bytes) = IsShortestOf f g bytes

@@ -5,7 +5,7 @@ ghost use Rattle.dia_data.specs.Leaf.{IsLeaf};
 ghost use Rattle.dia_data.specs.Plain.{plain_format};
 ghost use Rattle.dia_data.specs.Ranges.{AreApart};
 ghost use Rattle.dia_witness.specs.Shortest.{AreBytes, IsShortest, IsShortestLeaf, witness_bytes};
-ghost use Rattle.dia_witness.specs.Kinds.{IsAnswer, IsApart, IsKindOf, Four, Listed, shown};
+ghost use Rattle.dia_witness.specs.Kinds.{IsWitness, IsApart, IsKindOf, Four, Listed, shown};
 
 use crate::candidates::first_refused;
 use crate::kinds::{Kind, kind_of};
@@ -36,7 +36,7 @@ fn answer(sent: Kind<'_>, accepted: Kind<'_>, format: &Format) -> Option<Witness
     requires sent { IsApart (shown sent) }
     requires apart { IsApart (shown accepted) }
     requires kind { IsKindOf (shown accepted) (plain_format format.now) }
-    ensures { IsAnswer (shown sent.entry) (shown accepted.entry) (option_map witness_bytes result) }
+    ensures { IsWitness (shown sent.entry) (shown accepted.entry) (option_map witness_bytes result) }
 {
     match sent {
         Kind::Octets => first_refused(format, &[Witness::new(b""), Witness::new(b"\xff")]),
@@ -62,7 +62,7 @@ fn answer(sent: Kind<'_>, accepted: Kind<'_>, format: &Format) -> Option<Witness
 fn of_four(kind: Kind<'_>, format: &Format) -> Option<Witness>
     requires kind { IsKindOf (shown kind) (plain_format format.now) }
     requires apart { IsApart (shown kind) }
-    ensures { IsAnswer Four (shown kind.entry) (option_map witness_bytes result) }
+    ensures { IsWitness Four (shown kind.entry) (option_map witness_bytes result) }
 {
     match kind {
         Kind::Listed(ranges) => {
@@ -85,7 +85,7 @@ fn of_listed(ranges: &[(u32, u32)], kind: Kind<'_>, format: &Format) -> Option<W
     requires ranges { AreApart ranges.now }
     requires kind { IsKindOf (shown kind) (plain_format format.now) }
     requires apart { IsApart (shown kind) }
-    ensures { IsAnswer (Listed ranges.now) (shown kind.entry) (option_map witness_bytes result) }
+    ensures { IsWitness (Listed ranges.now) (shown kind.entry) (option_map witness_bytes result) }
 {
     let number = refused_number(ranges, kind, format)?;
     Some(Witness::of_number(number))

@@ -8,14 +8,14 @@ use Rattle.dia_policy.specs.declared.Unknown.{Unknown}
 use Rattle.dia_check.specs.Valid.{Fits, IsLevel}
 use Rattle.dia_witness.specs.declared.short_data.Witness.{Witness}
 use Rattle.dia_witness.specs.Shortest.{witness_bytes}
-use Rattle.dia_entries.specs.Answers.{IsAnswer}
+use Rattle.dia_entries.specs.Answers.{IsShortestBreak}
 use Rattle.dia_entries.proofs.Entries.{group_within}
 use Rattle.dia_entries.proofs.Readings.{leaf_as_leaf, leaf_as_level}
 use Rattle.dia_entries.proofs.forms.sent_leaf.Goals as goal
 
 of_rules : (d : Dictionary) (u : Unknown) (f : PlainFormat) (o : Option Witness) (read rules : List DRule) → read ≡ rules
-    → IsAnswer (IsLeaf f) (λ bytes. (n : ℕ) × IsLevel (Fits d u n) read bytes) (option_map witness_bytes o) → IsAnswer (IsLeaf f) (λ bytes. (n : ℕ) × IsLevel (Fits d u n) rules bytes) (option_map witness_bytes o)
-of_rules d u f o read rules e h = subst (λ (rs : List DRule). IsAnswer (IsLeaf f) (λ bytes. (n : ℕ) × IsLevel (Fits d u n) rs bytes) (option_map witness_bytes o)) e h
+    → IsShortestBreak (IsLeaf f) (λ bytes. (n : ℕ) × IsLevel (Fits d u n) read bytes) (option_map witness_bytes o) → IsShortestBreak (IsLeaf f) (λ bytes. (n : ℕ) × IsLevel (Fits d u n) rules bytes) (option_map witness_bytes o)
+of_rules d u f o read rules e h = subst (λ (rs : List DRule). IsShortestBreak (IsLeaf f) (λ bytes. (n : ℕ) × IsLevel (Fits d u n) rs bytes) (option_map witness_bytes o)) e h
 
 pub group-requires : goal.group-requires
 group-requires g c = c.requires
