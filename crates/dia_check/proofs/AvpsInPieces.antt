@@ -19,6 +19,7 @@ use Rattle.dia_check.specs.OpenLevels.{SoFar, AreOpen, AreOpenUnder, and_key, be
 use Rattle.dia_check.specs.Admission.{IsFineAvp}
 use Rattle.dia_check.specs.Walks.{inside, whole, IsFoundIn}
 use Rattle.dia_check.specs.UnderWay.{so_far, IsUnderWay}
+use Rattle.dia_check.specs.Basis.{PlainBasis}
 use Rattle.dia_check.specs.Reading.{AreSound, BeginsLevel, IsStop, LiesAt, ReadsOn}
 use Rattle.dia_check.proofs.FoundFaultsStand.{length-between, between-split, first_part, lies_inside}
 use Rattle.dia_check.proofs.FaultlessLevels.{opens}
@@ -27,8 +28,8 @@ use Rattle.dia_check.proofs.RestOfLevels.{group_is, is_fine}
 use Rattle.dia_check.proofs.UnderWay.{last, deep, left_of, place_of, started}
 use Rattle.dia_check.proofs.PartsOfPieces.{lies_later}
 
-pub sound_levels : (d : Dictionary) (u : Unknown) (most : Levels) (o : OpenLevels) (from at : ℕ) (piece : List ℕ) → ∥ ReadsOn d u most o from at piece ∥₁ → ∥ AreSound d o at ∥₁
-sound_levels d u most o from at piece h = ∥∥₁_map h (λ x. let (bytes, good, few, w, lies) = x in (u, most, bytes, good, few, w))
+pub sound_levels : (b : PlainBasis) (o : OpenLevels) (from at : ℕ) (piece : List ℕ) → ∥ ReadsOn b o from at piece ∥₁ → ∥ AreSound b.dictionary o at ∥₁
+sound_levels b o from at piece h = ∥∥₁_map h (λ x. let (bytes, good, few, w, lies) = x in (b.unknown, b.levels, bytes, good, few, w))
 
 -- what is left of a piece stands at the place that is reached
 lies_ahead : (bytes piece : List ℕ) (from at : ℕ) → from ≤ at → at ≤ from + length piece → LiesAt bytes from piece → LiesAt bytes at (drop (at - from) piece)

@@ -97,13 +97,6 @@ stop_for d u most bytes good Less Memory more refusal.Truncated h = h
 stop_for d u most bytes good Less Memory more refusal.Trailing h = h
 stop_for d u most bytes good Less Memory more refusal.Spent h = h
 
-pub done_for : (d : Dictionary) (u : Unknown) (most : Levels) (bytes : List ℕ) (good : HasGoodHeader d bytes) (o : OpenLevels) (Less Memory : Type 0)
-    → (Less → Memory) → (from : ℕ) (r : Result Done Refusal)
-    → MatchResult r (λ done. IsNext d u most bytes good o done.next (from + done.taken)) (IsStop d u most bytes good Less)
-    → MatchResult r (λ done. IsNext d u most bytes good o done.next (from + done.taken)) (IsStop d u most bytes good Memory)
-done_for d u most bytes good o Less Memory more from (Ok done) h = h
-done_for d u most bytes good o Less Memory more from (Err e) h = stop_for d u most bytes good Less Memory more e h
-
 -- of the place at which the data of a group begins
 pub each_entered : (P Q : ℕ → Type 0) (r : Result (Option ℕ) Refusal) → ((n : ℕ) → P n → Q n) → IfOk r (λ next. IfSome next P) → IfOk r (λ next. IfSome next Q)
 each_entered P Q (Ok (Some n)) more h = more n h

@@ -1,5 +1,5 @@
 -- What is wrong with an AVP, by what a checker knows of it: first by its key and flags, and then by its data.
-use Rattle.std.specs.Prelude.{◌≡◌, ◌≢◌, ℕ, ◌≤◌, ◌⊎◌, List, Option, Some, None, slice_get, MatchOption}
+use Rattle.std.specs.Prelude.{◌≡◌, ◌≢◌, ℕ, ◌≤◌, ◌⊎◌, List, [], ◌∷◌, ◌++◌, length, Option, Some, None, Result, slice_get, OnOk, MatchOption, MatchResult}
 use Rattle.dia_wire.specs.declared.Key.{Key}
 use Rattle.dia_wire.specs.Wire.{PlainAvp, key_of}
 use Rattle.dia_data.specs.Plain.{Grouped}
@@ -12,11 +12,13 @@ use Rattle.dia_check.specs.declared.fault.Reason.{Reason}
 use Rattle.dia_check.specs.declared.fault.Reason.TheVariants as reason
 use Rattle.dia_check.specs.declared.fault.Subject.{Subject}
 use Rattle.dia_check.specs.declared.fault.Subject.TheVariants.{Avp}
+use Rattle.dia_check.specs.declared.open_levels.OpenLevels.{OpenLevels}
 use Rattle.dia_check.specs.declared.open_levels.Wrong.{Wrong}
+use Rattle.dia_check.specs.Basis.{PlainBasis}
 use Rattle.dia_check.specs.Valid.{known, MHolds, IsAccepted}
 use Rattle.dia_check.specs.Levels.{MayOpen}
 use Rattle.dia_check.specs.Faults.{row_of}
-use Rattle.dia_check.specs.OpenLevels.{IsMisplaced}
+use Rattle.dia_check.specs.OpenLevels.{SoFar, begun, HasRoom, and_key, AreOpenUnder, IsMetAtEnd, IsMissingAtEnd, IsMisplaced}
 
 -- ---- by its key and flags
 
@@ -68,3 +70,35 @@ abbrev pub IsWrongAvp : Dictionary → Unknown → Levels → ℕ → List DRule
 IsWrongAvp d u most depth rules keys v wrong =
     IsFirstRefused d u rules keys (key_of v) v.flags wrong
     ⊎ (IsAdmitted d u rules keys (key_of v) v.flags × (wrong.subject ≡ Avp (key_of v)) × ((e : DictEntry) × (known d (key_of v) ≡ Some e) × IsWrongData most depth e v.bytes wrong.reason))
+
+-- ---- in the innermost of the open levels
+
+abbrev pub AreSomeOpen : Dictionary → OpenLevels → Type 0
+AreSomeOpen d open_levels = (outer : List SoFar) × (level : SoFar) × AreOpenUnder d open_levels outer level
+
+-- some levels are open, and the innermost can count one key more
+abbrev pub HaveRoom : Dictionary → OpenLevels → Type 0
+HaveRoom d open_levels = (outer : List SoFar) × (level : SoFar) × AreOpenUnder d open_levels outer level × HasRoom level
+
+-- an AVP of this key and these flags is counted, or isn't admitted
+abbrev pub IsLetIn : PlainBasis → OpenLevels → OpenLevels → Key → ℕ → Option Wrong → Type 0
+IsLetIn b old new key flags result = (outer : List SoFar) (level : SoFar) → AreOpenUnder b.dictionary old outer level
+    → MatchOption result (IsAdmitted b.dictionary b.unknown level.rules level.keys key flags × AreOpenUnder b.dictionary new outer (and_key level key))
+    (IsFirstRefused b.dictionary b.unknown level.rules level.keys key flags)
+
+-- an AVP is counted and nothing is wrong with it, or this is wrong first
+abbrev pub IsChecked : PlainBasis → OpenLevels → OpenLevels → PlainAvp → Result (Option ℕ) Wrong → Type 0
+IsChecked b old new v result = (outer : List SoFar) (level : SoFar) → AreOpenUnder b.dictionary old outer level
+    → MatchResult result
+    (λ group. IsFineAvp b.dictionary b.unknown b.levels (length outer) level.rules level.keys v group × AreOpenUnder b.dictionary new outer (and_key level (key_of v)))
+    (IsWrongAvp b.dictionary b.unknown b.levels (length outer) level.rules level.keys v)
+
+-- at the end of the level each rule is met, or this is missing
+abbrev pub IsEndChecked : Dictionary → OpenLevels → Option Wrong → Type 0
+IsEndChecked d open_levels result = (outer : List SoFar) (level : SoFar) → AreOpenUnder d open_levels outer level
+    → MatchOption result (IsMetAtEnd level.rules level.keys) (IsMissingAtEnd level.rules level.keys)
+
+-- in it a level of the definition with this number is opened, which ends at a place
+abbrev pub IsOpened : {A E : Type 0} → Dictionary → OpenLevels → ℕ → ℕ → OpenLevels → Result A E → Type 0
+IsOpened d old def end new result = (definition : PlainDefinition) (outer : List SoFar) (level : SoFar) → slice_get (definitions d) def ≡ Some definition
+    → AreOpenUnder d old outer level → OnOk result (AreOpenUnder d new (outer ++ level ∷ []) (begun definition.rules end))

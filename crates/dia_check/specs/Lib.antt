@@ -1,3 +1,4 @@
+pub mod Basis
 pub mod Valid
 pub mod Levels
 pub mod Faults
@@ -7,5 +8,8 @@ pub mod Admission
 pub mod UnderWay
 pub mod Front
 pub mod Reading
+pub mod Telling
+pub mod Steps
 pub mod Streaming
+pub mod Stages
 pub mod Streams

@@ -19,6 +19,7 @@ use Rattle.dia_check.specs.declared.stream.parts.Part.{Part}
 use Rattle.dia_check.specs.declared.stream.parts.Part.TheVariants.{Head, Data}
 use Rattle.dia_check.specs.declared.stream.parts.HeadPart.{HeadPart}
 use Rattle.dia_check.specs.declared.stream.parts.DataPart.{DataPart}
+use Rattle.dia_check.specs.Basis.{PlainBasis}
 use Rattle.dia_check.specs.Valid.{known}
 use Rattle.dia_check.specs.Levels.{Level, IsOpen, between}
 use Rattle.dia_check.specs.Faults.{HasGoodHeader}
@@ -143,15 +144,15 @@ abbrev pub IsReadData : Dictionary → OpenLevels → DataPart → Type 0
 IsReadData d open_levels part = (u : Unknown) × (most : Levels) × (bytes : List ℕ) × (good : HasGoodHeader d bytes)
     × (length bytes < 2 ^ 32) × (n : ℕ) × IsInData d u most bytes good open_levels part n × (part.next ≤ n)
 
-abbrev pub IsAtSomeAvp : Dictionary → Unknown → Levels → OpenLevels → ℕ → AvpHead → Type 0
-IsAtSomeAvp d u most open_levels at head = (bytes : List ℕ) × (good : HasGoodHeader d bytes)
-    × (length bytes < 2 ^ 32) × IsAtAvp d u most bytes good open_levels at head
+abbrev pub IsAtSomeAvp : PlainBasis → OpenLevels → ℕ → AvpHead → Type 0
+IsAtSomeAvp b open_levels at head = (bytes : List ℕ) × (good : HasGoodHeader b.dictionary bytes)
+    × (length bytes < 2 ^ 32) × IsAtAvp b.dictionary b.unknown b.levels bytes good open_levels at head
 
-abbrev pub GoesOn : Dictionary → Unknown → Levels → OpenLevels → Part → ℕ → List ℕ → Type 0
-GoesOn d u most open_levels part from piece = (bytes : List ℕ) × (good : HasGoodHeader d bytes)
-    × (length bytes < 2 ^ 32) × IsInPart d u most bytes good open_levels part from × LiesAt bytes from piece
+abbrev pub GoesOn : PlainBasis → OpenLevels → Part → ℕ → List ℕ → Type 0
+GoesOn b open_levels part from piece = (bytes : List ℕ) × (good : HasGoodHeader b.dictionary bytes)
+    × (length bytes < 2 ^ 32) × IsInPart b.dictionary b.unknown b.levels bytes good open_levels part from × LiesAt bytes from piece
 
 -- a piece is read up to a place
-abbrev pub ReadsOn : Dictionary → Unknown → Levels → OpenLevels → ℕ → ℕ → List ℕ → Type 0
-ReadsOn d u most open_levels from at piece = (bytes : List ℕ) × (good : HasGoodHeader d bytes)
-    × (length bytes < 2 ^ 32) × IsUnderWay d u most bytes good open_levels at × LiesAt bytes from piece
+abbrev pub ReadsOn : PlainBasis → OpenLevels → ℕ → ℕ → List ℕ → Type 0
+ReadsOn b open_levels from at piece = (bytes : List ℕ) × (good : HasGoodHeader b.dictionary bytes)
+    × (length bytes < 2 ^ 32) × IsUnderWay b.dictionary b.unknown b.levels bytes good open_levels at × LiesAt bytes from piece

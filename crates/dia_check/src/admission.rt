@@ -1,17 +1,19 @@
 //! One AVP of an open level: its flags, its place, and its data.
 
-ghost use Rattle.std.specs.Prelude.{◌≡◌, ◌<◌, ◌↔◌, ◌++◌, ◌∷◌, [], IfOk, OnOk, List, Option, Some};
+ghost use Rattle.std.specs.Prelude.{◌≡◌, ◌<◌, ◌↔◌, [], IfOk, Some};
 ghost use Rattle.std.specs.Prelude.{length, slice_get, MatchOption, MatchResult, IsTrue};
-ghost use Rattle.dia_wire.specs.Wire.{plain_avp, key_of};
-ghost use Rattle.dia_book.specs.Dictionary.{Dictionary, DictEntry};
+ghost use Rattle.dia_wire.specs.Wire.{plain_avp};
+ghost use Rattle.dia_book.specs.Dictionary.{DictEntry};
 ghost use Rattle.dia_book.specs.Dictionary.{PlainDefinition, definitions, entry_of};
+ghost use Rattle.dia_check.specs.Basis.{plain_basis};
 ghost use Rattle.dia_check.specs.Valid.{MHolds, IsAccepted};
 ghost use Rattle.dia_check.specs.Levels.{MayOpen};
-ghost use Rattle.dia_check.specs.OpenLevels.{SoFar, begun, and_key, HasRoom};
-ghost use Rattle.dia_check.specs.OpenLevels.{AreOpenUnder, IsMetAtEnd, IsMissingAtEnd};
-ghost use Rattle.dia_check.specs.Admission.{HasFlags, IsWrongFlags, IsAdmitted, IsFirstRefused};
-ghost use Rattle.dia_check.specs.Admission.{IsFineData, IsWrongData, IsFineAvp, IsWrongAvp};
+ghost use Rattle.dia_check.specs.OpenLevels.{AreOpenUnder, begun};
+ghost use Rattle.dia_check.specs.Admission.{HasFlags, IsWrongFlags, IsFineData, IsWrongData};
+ghost use Rattle.dia_check.specs.Admission.{AreSomeOpen, HaveRoom, IsLetIn, IsChecked};
+ghost use Rattle.dia_check.specs.Admission.{IsEndChecked, IsOpened};
 
+use crate::basis::Basis;
 use crate::fault::Reason;
 use crate::open_levels::{OpenLevels, Wrong};
 use dia_book::{Book, DefId, Entry, Leaf, MRule, accepts};
@@ -22,32 +24,22 @@ use std::alloc::{AllocError, Global};
 /// Checks an AVP of the innermost level. Answers the definition of a known group, whose data is a level to open.
 #[inline(always)]
 pub(crate) fn check_avp<B: Book>(
-    book: &B,
-    unknown: Unknown,
-    levels: Levels,
+    basis: &Basis<'_, B>,
     open_levels: &mut OpenLevels,
     avp: &Avp<'_>,
 ) -> Result<Option<DefId>, Wrong>
-    requires { ∥ ((outer : List SoFar) × (level : SoFar)
-        × AreOpenUnder (B.meaning book.now) open_levels.old outer level × HasRoom level) ∥₁ }
-    ensures { (outer : List SoFar) (level : SoFar)
-        → AreOpenUnder (B.meaning book.now) open_levels.old outer level
-        → MatchResult result
-        (λ group. IsFineAvp (B.meaning book.now) unknown levels
-        (length outer) level.rules level.keys (plain_avp avp.now) group
-        × AreOpenUnder (B.meaning book.now) open_levels.new outer
-        (and_key level (key_of (plain_avp avp.now))))
-        (λ wrong. IsWrongAvp (B.meaning book.now) unknown levels
-        (length outer) level.rules level.keys (plain_avp avp.now) wrong) }
+    requires { ∥ HaveRoom (B.meaning basis.now.book.now) open_levels.old ∥₁ }
+    ensures { IsChecked (plain_basis B.meaning basis.now)
+        open_levels.old open_levels.new (plain_avp avp.now) result }
 {
     let key = key(avp);
     let depth = open_levels.depth();
-    let known = book.avp(key);
-    if let Some(wrong) = admit(book, unknown, open_levels, key, &known, avp.flags) {
+    let known = basis.book.avp(key);
+    if let Some(wrong) = admit(basis, open_levels, key, &known, avp.flags) {
         return Err(wrong);
     }
     match known {
-        Some(entry) => match check_data(book, levels, depth, entry, avp.bytes) {
+        Some(entry) => match check_data(basis, depth, entry, avp.bytes) {
             Ok(group) => Ok(group),
             Err(reason) => Err(Wrong::avp(reason, key)),
         },
@@ -58,12 +50,8 @@ pub(crate) fn check_avp<B: Book>(
 /// What is missing at the end of the innermost level.
 #[inline(always)]
 pub(crate) fn missing_at_end<B: Book>(book: &B, open_levels: &OpenLevels) -> Option<Wrong>
-    requires { ∥ ((outer : List SoFar) × (level : SoFar)
-        × AreOpenUnder (B.meaning book.now) open_levels.now outer level) ∥₁ }
-    ensures { (outer : List SoFar) (level : SoFar)
-        → AreOpenUnder (B.meaning book.now) open_levels.now outer level
-        → MatchOption result (IsMetAtEnd level.rules level.keys)
-        (IsMissingAtEnd level.rules level.keys) }
+    requires { ∥ AreSomeOpen (B.meaning book.now) open_levels.now ∥₁ }
+    ensures { IsEndChecked (B.meaning book.now) open_levels.now result }
 {
     let def = open_levels.innermost().def;
     let definition = book.def(def);
@@ -95,13 +83,8 @@ pub(crate) fn open_group<B: Book>(
     end: usize,
 ) -> Result<(), AllocError>
     requires def { def < length (definitions (B.meaning book.now)) }
-    requires open { ∥ ((outer : List SoFar) × (level : SoFar)
-        × AreOpenUnder (B.meaning book.now) open_levels.old outer level) ∥₁ }
-    ensures { (definition : PlainDefinition) (outer : List SoFar) (level : SoFar)
-        → slice_get (definitions (B.meaning book.now)) def ≡ Some definition
-        → AreOpenUnder (B.meaning book.now) open_levels.old outer level
-        → OnOk result (AreOpenUnder (B.meaning book.now) open_levels.new
-        (outer ++ level ∷ []) (begun definition.rules end)) }
+    requires open { ∥ AreSomeOpen (B.meaning book.now) open_levels.old ∥₁ }
+    ensures { IsOpened (B.meaning book.now) open_levels.old def end open_levels.new result }
 {
     open_levels.open(def, &book.def(def).rules, end)
 }
@@ -109,33 +92,26 @@ pub(crate) fn open_group<B: Book>(
 /// Admits an AVP of this key, entry and flags to the innermost level, or says what is wrong.
 #[inline(always)]
 pub(crate) fn admit<B: Book>(
-    book: &B,
-    unknown: Unknown,
+    basis: &Basis<'_, B>,
     open_levels: &mut OpenLevels,
     key: Key,
     known: &Option<Entry>,
     flags: u8,
 ) -> Option<Wrong>
-    requires open_levels { ∥ ((outer : List SoFar) × (level : SoFar)
-        × AreOpenUnder (B.meaning book.now) open_levels.old outer level × HasRoom level) ∥₁ }
-    requires known { known.now ≡ entry_of (B.meaning book.now) key }
-    ensures { (outer : List SoFar) (level : SoFar)
-        → AreOpenUnder (B.meaning book.now) open_levels.old outer level
-        → MatchOption result
-        (IsAdmitted (B.meaning book.now) unknown level.rules level.keys key flags
-        × AreOpenUnder (B.meaning book.now) open_levels.new outer (and_key level key))
-        (λ wrong. IsFirstRefused
-        (B.meaning book.now) unknown level.rules level.keys key flags wrong) }
+    requires open_levels { ∥ HaveRoom (B.meaning basis.now.book.now) open_levels.old ∥₁ }
+    requires known { known.now ≡ entry_of (B.meaning basis.now.book.now) key }
+    ensures { IsLetIn (plain_basis B.meaning basis.now)
+        open_levels.old open_levels.new key flags result }
 {
-    if let Some(wrong) = wrong_flags(book, unknown, key, known, flags) {
+    if let Some(wrong) = wrong_flags(basis, key, known, flags) {
         return Some(wrong);
     }
     let def = open_levels.innermost().def;
-    let definition = book.def(def);
+    let definition = basis.book.def(def);
     open_levels.meet(
         &definition.rules,
         &definition.shape,
-        book.slot(def, key),
+        basis.book.slot(def, key),
         key,
     )
 }
@@ -143,26 +119,26 @@ pub(crate) fn admit<B: Book>(
 /// What is wrong with the flags of an AVP of this key and entry.
 #[inline(always)]
 fn wrong_flags<B: Book>(
-    book: &B,
-    unknown: Unknown,
+    basis: &Basis<'_, B>,
     key: Key,
     known: &Option<Entry>,
     flags: u8,
 ) -> Option<Wrong>
-    requires { known.now ≡ entry_of (B.meaning book.now) key }
-    ensures { MatchOption result (HasFlags (B.meaning book.now) unknown key flags)
-        (λ wrong. IsWrongFlags (B.meaning book.now) unknown key flags wrong) }
+    requires { known.now ≡ entry_of (B.meaning basis.now.book.now) key }
+    ensures { MatchOption result
+        (HasFlags (B.meaning basis.now.book.now) basis.now.unknown key flags)
+        (IsWrongFlags (B.meaning basis.now.book.now) basis.now.unknown key flags) }
 {
     match known {
         Some(entry) => {
-            if m_holds(book.rule(*entry), flags) {
+            if m_holds(basis.book.rule(*entry), flags) {
                 None
             } else {
                 Some(Wrong::avp(Reason::MBit, key))
             }
         }
         None => {
-            if is_accepted(unknown, flags) {
+            if is_accepted(basis.unknown, flags) {
                 None
             } else {
                 Some(Wrong::avp(Reason::Unknown, key))
@@ -196,27 +172,26 @@ fn is_accepted(unknown: Unknown, flags: u8) -> bool
 /// Checks the data of a known AVP in a level of this depth: the definition of a group, whose data is a level to open.
 #[inline(always)]
 pub(crate) fn check_data<B: Book>(
-    book: &B,
-    levels: Levels,
+    basis: &Basis<'_, B>,
     depth: usize,
     entry: Entry,
     bytes: &[u8],
 ) -> Result<Option<DefId>, Reason>
-    requires { entry < length (B.meaning book.now).entries }
-    ensures { (e : DictEntry) → slice_get (B.meaning book.now).entries entry ≡ Some e
-        → MatchResult result (λ group. IsFineData
-        (B.meaning book.now) levels depth e bytes.now group)
-        (λ reason. IsWrongData levels depth e bytes.now reason) }
+    requires { entry < length (B.meaning basis.now.book.now).entries }
+    ensures { (e : DictEntry) → slice_get (B.meaning basis.now.book.now).entries entry ≡ Some e
+        → MatchResult result
+        (IsFineData (B.meaning basis.now.book.now) basis.now.levels depth e bytes.now)
+        (IsWrongData basis.now.levels depth e bytes.now) }
 {
-    match accepts(book.format(entry), bytes) {
+    match accepts(basis.book.format(entry), bytes) {
         Leaf::Fine => {}
         Leaf::BadLength => return Err(Reason::LeafLength),
         Leaf::BadValue => return Err(Reason::LeafValue),
     }
-    let Some(group) = book.group(entry) else {
+    let Some(group) = basis.book.group(entry) else {
         return Ok(None);
     };
-    if may_open(levels, depth) {
+    if may_open(basis.levels, depth) {
         Ok(Some(group))
     } else {
         Err(Reason::Depth)

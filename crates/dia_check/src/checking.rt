@@ -10,6 +10,7 @@ ghost use Rattle.dia_check.specs.Valid.{IsValid, IsValidOf};
 ghost use Rattle.dia_check.specs.Faults.{IsAnswer, HasGoodHeader, HasLength, Stands, Spot};
 
 use crate::admission::open_body;
+use crate::basis::Basis;
 use crate::body::read_piece;
 use crate::fault::{Refusal, Selected};
 use crate::header::{good_command, whole_header};
@@ -45,27 +46,30 @@ pub fn check<B: Book>(
 {
     let header = whole_header(bytes)?;
     let def = good_command(book, &header)?;
-    check_body(alloc, book, unknown, levels, def, bytes)
+    let basis = Basis {
+        book,
+        unknown,
+        levels,
+    };
+    check_body(alloc, &basis, def, bytes)
 }
 
 /// Checks the body of a whole message with a good header, as a message of this command.
 fn check_body<B: Book>(
     alloc: Global,
-    book: &B,
-    unknown: Unknown,
-    levels: Levels,
+    basis: &Basis<'_, B>,
     def: DefId,
     bytes: &[u8],
 ) -> Result<Selected, Refusal>
-    requires { ∥ ((good : HasGoodHeader (B.meaning book.now) bytes.now) × (good.c ≡ def)
+    requires { ∥ ((good : HasGoodHeader (B.meaning basis.now.book.now) bytes.now) × (good.c ≡ def)
         × HasLength bytes.now (length bytes.now) × (length bytes.now < 2 ^ 32)) ∥₁ }
-    ensures { (good : HasGoodHeader (B.meaning book.now) bytes.now) → good.c ≡ def
-        → HasLength bytes.now (length bytes.now)
-        → IsAnswer (B.meaning book.now) unknown levels bytes.now result }
+    ensures { (good : HasGoodHeader (B.meaning basis.now.book.now) bytes.now) → good.c ≡ def
+        → HasLength bytes.now (length bytes.now) → IsAnswer
+        (B.meaning basis.now.book.now) basis.now.unknown basis.now.levels bytes.now result }
 {
-    let mut open_levels = open_body(alloc, book, def, bytes.len())?;
+    let mut open_levels = open_body(alloc, basis.book, def, bytes.len())?;
     let body = &bytes[HEADER_LENGTH..];
-    match read_piece(book, unknown, levels, &mut open_levels, HEADER_LENGTH, body)? {
+    match read_piece(basis, &mut open_levels, HEADER_LENGTH, body)? {
         None => Ok(Selected { def }),
         Some(_) => unreachable!(),
     }

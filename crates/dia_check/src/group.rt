@@ -1,49 +1,39 @@
 //! Known groups, entered by their heads: their data need not be there yet.
 
-ghost use Rattle.std.specs.Prelude.{◌≡◌, ◌+◌, ◌<◌, ◌≤◌, ◌^◌, ℕ, List, None, Ok, length};
-ghost use Rattle.std.specs.Prelude.{IfOk, IfSome, MatchOption, MatchResult, unwrap_or};
+ghost use Rattle.std.specs.Prelude.{◌≡◌, None, Ok, IfOk, MatchOption};
 ghost use Rattle.dia_wire.specs.Wire.{head_length};
 ghost use Rattle.dia_book.specs.Dictionary.{entry_of};
-ghost use Rattle.dia_check.specs.Faults.{HasGoodHeader};
-ghost use Rattle.dia_check.specs.UnderWay.{IsUnderWay};
-ghost use Rattle.dia_check.specs.Reading.{BeginsLevel, BeginsLevelAt, IsAtAvp, IsAtSomeAvp};
-ghost use Rattle.dia_check.specs.Reading.{IsEntered, IsGroupOf, IsNoGroup, IsStop, LiesAt, ReadsOn};
+ghost use Rattle.dia_check.specs.Basis.{plain_basis};
+ghost use Rattle.dia_check.specs.Reading.{IsAtSomeAvp, IsGroupOf, IsNoGroup, ReadsOn};
+ghost use Rattle.dia_check.specs.Steps.{HasEntered, HasEnteredAvp, IsBehindHead, IsFarther};
+ghost use Rattle.dia_check.specs.Steps.{key_of_head};
 
 use crate::admission::{admit, may_open, open_group};
-use crate::body::fault;
+use crate::basis::Basis;
 use crate::fault::{Reason, Refusal};
 use crate::open_levels::{OpenLevels, Wrong};
+use crate::telling::fault;
 use dia_book::{Book, DefId, Entry};
-use dia_policy::{Levels, Unknown};
 use dia_wire::{AVP_HEAD_LENGTH, AvpHead, Key, VENDOR_AVP_HEAD_LENGTH, avp_head};
 
 /// Enters the group that begins at a place, where its head is among the bytes that are there. Answers where its data
 /// begins; `None`, and nothing is changed, where no whole head is there or the AVP is no known group.
 #[inline(always)]
 pub(crate) fn enter_at<B: Book>(
-    book: &B,
-    unknown: Unknown,
-    levels: Levels,
+    basis: &Basis<'_, B>,
     open_levels: &mut OpenLevels,
     at: usize,
     bytes: &[u8],
 ) -> Result<Option<usize>, Refusal>
-    requires { ∥ ReadsOn
-        (B.meaning book.now) unknown levels open_levels.old at at bytes.now ∥₁ }
+    requires { ∥ ReadsOn (plain_basis B.meaning basis.now) open_levels.old at at bytes.now ∥₁ }
     ensures kept { result ≡ Ok None → open_levels.new ≡ open_levels.old }
-    ensures within { IfOk result (λ next. IfSome next (λ start.
-        (at < start) × (start ≤ at + length bytes.now))) }
-    ensures next { (message : List ℕ) (good : HasGoodHeader (B.meaning book.now) message)
-        → IsUnderWay (B.meaning book.now) unknown levels message good open_levels.old at
-        → LiesAt message at bytes.now
-        → MatchResult result
-        (IsEntered (B.meaning book.now) unknown levels message good open_levels.new)
-        (IsStop (B.meaning book.now) unknown levels message good
-        (BeginsLevel (B.meaning book.now) levels message at (at + length bytes.now))) }
+    ensures within { IfOk result (IsFarther at bytes.now) }
+    ensures next { HasEntered (plain_basis B.meaning basis.now)
+        open_levels.old at bytes.now open_levels.new result }
 {
     let room = open_levels.innermost().end - at;
     match avp_head(bytes, room) {
-        Ok(Some(head)) => enter_group(book, unknown, levels, open_levels, at, &head),
+        Ok(Some(head)) => enter_group(basis, open_levels, at, &head),
         Ok(None) | Err(_) => Ok(None),
     }
 }
@@ -52,41 +42,33 @@ pub(crate) fn enter_at<B: Book>(
 /// `None`, and nothing is changed, where the AVP is no known group.
 #[inline(always)]
 pub(crate) fn enter_group<B: Book>(
-    book: &B,
-    unknown: Unknown,
-    levels: Levels,
+    basis: &Basis<'_, B>,
     open_levels: &mut OpenLevels,
     at: usize,
     head: &AvpHead,
 ) -> Result<Option<usize>, Refusal>
-    requires { ∥ IsAtSomeAvp
-        (B.meaning book.now) unknown levels open_levels.old at head.now ∥₁ }
+    requires { ∥ IsAtSomeAvp (plain_basis B.meaning basis.now) open_levels.old at head.now ∥₁ }
     ensures kept { result ≡ Ok None → open_levels.new ≡ open_levels.old }
-    ensures no_group { result ≡ Ok None → IsNoGroup (B.meaning book.now)
-        (record { code = head.now.code; vendor = unwrap_or head.now.vendor 0 }) }
-    ensures start { IfOk result (λ next. IfSome next (λ start.
-        start ≡ at + head_length head.now.vendor)) }
-    ensures next { (bytes : List ℕ) (good : HasGoodHeader (B.meaning book.now) bytes)
-        → IsAtAvp (B.meaning book.now) unknown levels bytes good open_levels.old at head.now
-        → MatchResult result
-        (IsEntered (B.meaning book.now) unknown levels bytes good open_levels.new)
-        (IsStop (B.meaning book.now) unknown levels bytes good
-        (BeginsLevelAt (B.meaning book.now) levels bytes (at + head_length head.now.vendor))) }
+    ensures no_group { result ≡ Ok None
+        → IsNoGroup (B.meaning basis.now.book.now) (key_of_head head.now) }
+    ensures start { IfOk result (IsBehindHead at head.now) }
+    ensures next { HasEnteredAvp (plain_basis B.meaning basis.now)
+        open_levels.old at head.now open_levels.new result }
 {
     let key = head_key(head);
-    let known = book.avp(key);
-    let Some(group) = known_group(book, key, &known) else {
+    let known = basis.book.avp(key);
+    let Some(group) = known_group(basis.book, key, &known) else {
         return Ok(None);
     };
     let depth = open_levels.depth();
-    if let Some(wrong) = admit(book, unknown, open_levels, key, &known, head.flags) {
+    if let Some(wrong) = admit(basis, open_levels, key, &known, head.flags) {
         return Err(fault(at, wrong));
     }
-    if !may_open(levels, depth) {
+    if !may_open(basis.levels, depth) {
         return Err(fault(at, Wrong::avp(Reason::Depth, key)));
     }
     let end = at + head.length as usize;
-    open_group(book, open_levels, group, end)?;
+    open_group(basis.book, open_levels, group, end)?;
     Ok(Some(at + head_length(head)))
 }
 
@@ -106,7 +88,7 @@ fn known_group<B: Book>(book: &B, key: Key, entry: &Option<Entry>) -> Option<Def
 /// The key of the AVP that a head begins.
 #[inline(always)]
 pub(crate) fn head_key(head: &AvpHead) -> Key
-    ensures { result ≡ record { code = head.now.code; vendor = unwrap_or head.now.vendor 0 } }
+    ensures { result ≡ key_of_head head.now }
 {
     Key {
         code: head.code,

@@ -6,11 +6,10 @@ ghost use Rattle.dia_book.specs.Dictionary.{Dictionary};
 ghost use Rattle.dia_policy.specs.declared.Unknown.{Unknown as AnyPolicy};
 ghost use Rattle.dia_policy.specs.declared.Levels.{Levels as AnyLevels};
 ghost use Rattle.dia_check.specs.Valid.{HasR, HasE, HasT, class_of, PHolds, AllowsP};
-ghost use Rattle.dia_check.specs.Faults.{HasHeader, HasLength, HasGoodHeader, IsAnswer, simple};
+ghost use Rattle.dia_check.specs.Faults.{HasHeader, HasLength, HasGoodHeader, IsAnswer};
 
-use crate::body::fault;
-use crate::fault::{Reason, Refusal, Subject};
-use crate::open_levels::Wrong;
+use crate::fault::{Reason, Refusal};
+use crate::telling::simple_fault;
 use dia_book::{Book, Class, DefHead, DefId, Pxy};
 use dia_wire::{
     COMMAND_ERROR, COMMAND_PROXIABLE, COMMAND_REQUEST, COMMAND_RETRANSMITTED, HeadFault, Header,
@@ -37,8 +36,8 @@ pub(crate) fn whole_header(bytes: &[u8]) -> Result<Header, Refusal>
             }
         }
         Err(HeadFault::Short) => Err(Refusal::Truncated),
-        Err(HeadFault::Version) => Err(header_fault(0, Reason::Version)),
-        Err(HeadFault::Length) => Err(header_fault(1, Reason::Length)),
+        Err(HeadFault::Version) => Err(simple_fault(0, Reason::Version)),
+        Err(HeadFault::Length) => Err(simple_fault(1, Reason::Length)),
     }
 }
 
@@ -52,7 +51,7 @@ pub(crate) fn good_command<B: Book>(book: &B, header: &Header) -> Result<DefId, 
     ensures memory { IfErr result (λ refusal. refusal ≢ Refusal.NoMemory) }
 {
     if !has_good_bits(header.flags) {
-        return Err(header_fault(4, Reason::Bits));
+        return Err(simple_fault(4, Reason::Bits));
     }
     let class = class_of(header.flags);
     match book.select(header.code, class, header.app) {
@@ -60,31 +59,17 @@ pub(crate) fn good_command<B: Book>(book: &B, header: &Header) -> Result<DefId, 
             if allows_p(book.def(def).head, header.flags) {
                 Ok(def)
             } else {
-                Err(header_fault(4, Reason::Proxiable))
+                Err(simple_fault(4, Reason::Proxiable))
             }
         }
         None => {
             if book.has_command(header.code, class) {
-                Err(header_fault(8, Reason::Application))
+                Err(simple_fault(8, Reason::Application))
             } else {
-                Err(header_fault(5, Reason::Command))
+                Err(simple_fault(5, Reason::Command))
             }
         }
     }
-}
-
-/// A fault of the header at a place.
-fn header_fault(place: usize, reason: Reason) -> Refusal
-    requires { place < 20 }
-    ensures { result ≡ Refusal.Fault (simple place reason) }
-{
-    fault(
-        place,
-        Wrong {
-            reason,
-            subject: Subject::Nothing,
-        },
-    )
 }
 
 /// Whether E is clear in a request, and T is clear in an answer.

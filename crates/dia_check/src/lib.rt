@@ -2,6 +2,7 @@
 #![tactic(auto)]
 
 mod admission;
+mod basis;
 mod body;
 mod checking;
 mod fault;
@@ -9,6 +10,7 @@ mod group;
 mod header;
 mod open_levels;
 mod stream;
+mod telling;
 
 pub use checking::{check, one_answer, validity};
 pub use dia_policy::{Levels, Unknown};

@@ -14,6 +14,7 @@ mod leaf;
 mod parts;
 mod stages;
 
+use crate::basis::Basis;
 use crate::fault::{Refusal, Selected};
 use crate::stream::front::Front;
 use crate::stream::stages::{Stage, read_front, read_stage};
@@ -30,14 +31,12 @@ use thiserror::Error;
 #[derive(Drop)]
 pub struct Stream<'a, B: Book> {
     alloc: Global,
-    book: &'a B,
-    unknown: Unknown,
-    levels: Levels,
+    basis: Basis<'a, B>,
     taken: usize,
     /// How many bytes are taken in all, as far as that is known: those of the header, and then Message Length.
     wanted: usize,
     stage: Stage<'a>,
-    ghost holds: { ∥ IsStage (B.Book.meaning book.now) unknown levels taken wanted stage ∥₁ },
+    ghost holds: { ∥ IsStage (B.Book.meaning basis.book.now) basis.unknown basis.levels taken wanted stage ∥₁ },
 }
 
 /// What a stream did with a piece.
@@ -59,7 +58,7 @@ pub enum StreamFault {
 }
 
 impl<'a, B: Book> Stream<'a, B> {
-    ghost use Rattle.dia_check.specs.Streams.{StandsFor, IsSpent};
+    ghost use Rattle.dia_check.specs.Streams.{StandsFor, HasTakenMore, OpensLevelIn, IsSpent};
 
     /// A stream of which nothing was read yet. Takes no memory.
     pub fn new(alloc: Global, book: &'a B, unknown: Unknown, levels: Levels) -> Self
@@ -68,9 +67,11 @@ impl<'a, B: Book> Stream<'a, B> {
     {
         Stream {
             alloc,
-            book,
-            unknown,
-            levels,
+            basis: Basis {
+                book,
+                unknown,
+                levels,
+            },
             taken: 0,
             wanted: HEADER_LENGTH,
             stage: Stage::Header(Front::new()),
@@ -119,16 +120,10 @@ impl<'a, B: Book> Stream<'a, B> {
         requires { ¬ IsSpent self.old }
         ensures within { IfOk result (λ count. count ≤ length piece.now) }
         ensures taken { IfOk result
-            (λ count. (d : Dictionary) (u : AnyPolicy) (most : AnyLevels) (bytes : List ℕ)
-            → StandsFor B.meaning self.old d u most bytes
-            → StandsFor B.meaning self.new d u most (bytes ++ take count piece.now)
-            × (20 ≤ length bytes → count ≡ 0)) }
+            (λ count. HasTakenMore B.meaning self.old (take count piece.now) self.new) }
         ensures all { IfOk result (λ count. self.new.taken < 20 → count ≡ length piece.now) }
         ensures goes_on { OnOk result (¬ IsSpent self.new) }
-        ensures no_memory { OnErr result
-            ((d : Dictionary) (u : AnyPolicy) (most : AnyLevels) (bytes : List ℕ)
-            → StandsFor B.meaning self.old d u most bytes
-            → OpensLevel d most bytes (drop (length bytes) (taken_of (bytes ++ piece.now)))) }
+        ensures no_memory { OnErr result (OpensLevelIn B.meaning self.old piece.now) }
         ensures err { IfErr result (λ fault. (fault ≡ StreamFault.NoMemory) × IsSpent self.new) }
     {
         let Stage::Header(front) = self.stage else {
@@ -136,7 +131,7 @@ impl<'a, B: Book> Stream<'a, B> {
         };
         let mut after = front;
         after.take_from(piece);
-        let (wanted, stage) = read_front(self.alloc, self.book, after);
+        let (wanted, stage) = read_front(self.alloc, self.basis.book, after);
         let count = after.len() - front.len();
         self.taken = after.len();
         self.wanted = wanted;
@@ -153,27 +148,15 @@ impl<'a, B: Book> Stream<'a, B> {
         requires not_spent { ¬ IsSpent self.old }
         ensures within { IfOk result (λ count. count ≤ length piece.now) }
         ensures taken { IfOk result
-            (λ count. (d : Dictionary) (u : AnyPolicy) (most : AnyLevels) (bytes : List ℕ)
-            → StandsFor B.meaning self.old d u most bytes
-            → StandsFor B.meaning self.new d u most (bytes ++ take count piece.now)) }
+            (λ count. HasTakenMore B.meaning self.old (take count piece.now) self.new) }
         ensures all { IfOk result
             (λ count. (count ≡ length piece.now) ⊎ (self.new.taken ≡ self.new.wanted)) }
         ensures goes_on { OnOk result (¬ IsSpent self.new) }
-        ensures no_memory { OnErr result
-            ((d : Dictionary) (u : AnyPolicy) (most : AnyLevels) (bytes : List ℕ)
-            → StandsFor B.meaning self.old d u most bytes
-            → OpensLevel d most bytes (drop (length bytes) (taken_of (bytes ++ piece.now)))) }
+        ensures no_memory { OnErr result (OpensLevelIn B.meaning self.old piece.now) }
         ensures err { IfErr result (λ fault. (fault ≡ StreamFault.NoMemory) × IsSpent self.new) }
     {
         let count = piece.len().min(self.wanted - self.taken);
-        read_stage(
-            self.book,
-            self.unknown,
-            self.levels,
-            &mut self.stage,
-            self.taken,
-            &piece[..count],
-        );
+        read_stage(&self.basis, &mut self.stage, self.taken, &piece[..count]);
         self.taken += count;
         match &self.stage {
             Stage::NoMemory => Err(StreamFault::NoMemory),

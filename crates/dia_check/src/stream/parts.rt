@@ -1,28 +1,22 @@
 //! The parts of a body as they come: the head of an AVP, and its data.
 
-ghost use Rattle.std.specs.Prelude.{◌≡◌, ◌+◌, ◌<◌, ◌≤◌, ◌^◌, [], ℕ, List};
-ghost use Rattle.std.specs.Prelude.{Some, length, IfOk, MatchResult};
-ghost use Rattle.dia_wire.specs.Wire.{head_length};
-ghost use Rattle.dia_book.specs.Dictionary.{Dictionary, IsDictionary};
-ghost use Rattle.dia_policy.specs.declared.Unknown.{Unknown as AnyPolicy};
-ghost use Rattle.dia_policy.specs.declared.Levels.{Levels as AnyLevels};
-ghost use Rattle.dia_check.specs.Faults.{HasGoodHeader};
-ghost use Rattle.dia_check.specs.UnderWay.{IsUnderWay};
-ghost use Rattle.dia_check.specs.Reading.{AreSound, BeginsLevel, BeginsLevelAt, GoesOn};
-ghost use Rattle.dia_check.specs.Reading.{IsAtAvp, IsAtSomeAvp, IsInData, IsInHead};
-ghost use Rattle.dia_check.specs.Reading.{IsInPart, IsNext, IsReadData, IsStop, LiesAt};
-ghost use Rattle.dia_check.specs.Reading.{ReadsOn};
+ghost use Rattle.std.specs.Prelude.{◌<◌, ◌^◌, length, IfOk};
+ghost use Rattle.dia_check.specs.Basis.{plain_basis};
+ghost use Rattle.dia_check.specs.Reading.{AreSound, GoesOn, IsAtSomeAvp, IsReadData, ReadsOn};
+ghost use Rattle.dia_check.specs.Steps.{HasBegunHead, HasGoneOn, HasReadData, HasReadHead};
+ghost use Rattle.dia_check.specs.Steps.{HasReadOn, HasReadPart, TakesSome};
 
 use crate::admission::{admit, missing_at_end};
-use crate::body::{broken, fault, read_piece};
+use crate::basis::Basis;
+use crate::body::read_piece;
 use crate::fault::Refusal;
 use crate::group::{enter_group, head_key, head_length};
 use crate::open_levels::{OpenLevels, Wrong};
 use crate::stream::front::Front;
 use crate::stream::leaf::{feed_leaf, start_leaf, wrong_leaf};
+use crate::telling::{broken, fault};
 use dia_book::Book;
 use dia_data::LeafState;
-use dia_policy::{Levels, Unknown};
 use dia_wire::{AVP_HEAD_LENGTH, AvpFault, AvpHead, Key, avp_head};
 
 /// The part of a body that is being read.
@@ -67,12 +61,7 @@ pub(crate) fn go_on<'a, B: Book>(
     at: usize,
 ) -> Result<Option<Part<'a>>, Refusal>
     requires { ∥ AreSound (B.meaning book.now) open_levels.old at ∥₁ }
-    ensures { (u : AnyPolicy) (most : AnyLevels)
-        (bytes : List ℕ) (good : HasGoodHeader (B.meaning book.now) bytes)
-        → IsUnderWay (B.meaning book.now) u most bytes good open_levels.old at
-        → MatchResult result (λ next. IsNext
-        (B.meaning book.now) u most bytes good open_levels.new next at)
-        (IsStop (B.meaning book.now) u most bytes good ⊥) }
+    ensures { HasGoneOn (B.meaning book.now) open_levels.old at open_levels.new result }
 {
     loop {
         let end = open_levels.innermost().end;
@@ -94,11 +83,7 @@ pub(crate) fn go_on<'a, B: Book>(
 fn begin_head(open_levels: &OpenLevels, at: usize) -> Result<HeadPart, Refusal>
     requires within { at < open_levels.now.innermost.end }
     requires few { at < 2 ^ 32 }
-    ensures { (d : Dictionary) (u : AnyPolicy)
-        (most : AnyLevels) (bytes : List ℕ) (good : HasGoodHeader d bytes) → IsDictionary d
-        → IsUnderWay d u most bytes good open_levels.now at
-        → MatchResult result (λ part. IsInHead d u most bytes good open_levels.now part at)
-        (IsStop d u most bytes good ⊥) }
+    ensures { HasBegunHead open_levels.now at result }
 {
     if open_levels.innermost().end - at < AVP_HEAD_LENGTH {
         return Err(broken(at));
@@ -110,63 +95,47 @@ fn begin_head(open_levels: &OpenLevels, at: usize) -> Result<HeadPart, Refusal>
 /// Reads on in a part. The piece begins at a place and doesn't go past the end of the message.
 #[inline(always)]
 pub(crate) fn read_part<'a, B: Book>(
-    book: &'a B,
-    unknown: Unknown,
-    levels: Levels,
+    basis: &Basis<'a, B>,
     open_levels: &mut OpenLevels,
     part: Part<'a>,
     from: usize,
     piece: &[u8],
 ) -> Result<Done<'a>, Refusal>
-    requires part { ∥ GoesOn
-        (B.meaning book.now) unknown levels open_levels.old part from piece.now ∥₁ }
+    requires part { ∥ GoesOn (plain_basis B.meaning basis.now)
+        open_levels.old part from piece.now ∥₁ }
     requires some { 0 < length piece.now }
-    ensures count { IfOk result (λ done. (0 < done.taken) × (done.taken ≤ length piece.now)) }
-    ensures next { (bytes : List ℕ) (good : HasGoodHeader (B.meaning book.now) bytes)
-        → IsInPart (B.meaning book.now) unknown levels bytes good open_levels.old part.entry from
-        → LiesAt bytes from piece.now
-        → MatchResult result
-        (λ done. IsNext (B.meaning book.now) unknown levels bytes good open_levels.new done.next
-        (from + done.taken))
-        (IsStop (B.meaning book.now) unknown levels bytes good
-        (BeginsLevel (B.meaning book.now) levels bytes from (from + length piece.now))) }
+    ensures count { IfOk result (TakesSome piece.now) }
+    ensures next { HasReadPart (plain_basis B.meaning basis.now)
+        open_levels.old part.entry from piece.now open_levels.new result }
 {
     match part {
         Part::Head(part) => {
             if part.at == from {
-                read_on(book, unknown, levels, open_levels, from, piece)
+                read_on(basis, open_levels, from, piece)
             } else {
-                read_head(book, unknown, levels, open_levels, part, from, piece)
+                read_head(basis, open_levels, part, from, piece)
             }
         }
-        Part::Data(part) => read_data(book, open_levels, part, from, piece),
+        Part::Data(part) => read_data(basis, open_levels, part, from, piece),
     }
 }
 
 /// Goes over the AVPs that lie whole in a piece, or reads on in the head of the first, where it doesn't.
 #[inline(always)]
 fn read_on<'a, B: Book>(
-    book: &'a B,
-    unknown: Unknown,
-    levels: Levels,
+    basis: &Basis<'a, B>,
     open_levels: &mut OpenLevels,
     from: usize,
     piece: &[u8],
 ) -> Result<Done<'a>, Refusal>
-    requires under_way { ∥ ReadsOn
-        (B.meaning book.now) unknown levels open_levels.old from from piece.now ∥₁ }
+    requires under_way { ∥ ReadsOn (plain_basis B.meaning basis.now)
+        open_levels.old from from piece.now ∥₁ }
     requires some { 0 < length piece.now }
-    ensures count { IfOk result (λ done. (0 < done.taken) × (done.taken ≤ length piece.now)) }
-    ensures next { (bytes : List ℕ) (good : HasGoodHeader (B.meaning book.now) bytes)
-        → IsUnderWay (B.meaning book.now) unknown levels bytes good open_levels.old from
-        → LiesAt bytes from piece.now
-        → MatchResult result
-        (λ done. IsNext (B.meaning book.now) unknown levels bytes good open_levels.new done.next
-        (from + done.taken))
-        (IsStop (B.meaning book.now) unknown levels bytes good
-        (BeginsLevel (B.meaning book.now) levels bytes from (from + length piece.now))) }
+    ensures count { IfOk result (TakesSome piece.now) }
+    ensures next { HasReadOn (plain_basis B.meaning basis.now)
+        open_levels.old from piece.now open_levels.new result }
 {
-    let Some(at) = read_piece(book, unknown, levels, open_levels, from, piece)? else {
+    let Some(at) = read_piece(basis, open_levels, from, piece)? else {
         return Ok(Done {
             taken: piece.len(),
             next: None,
@@ -174,7 +143,7 @@ fn read_on<'a, B: Book>(
     };
     let part = begin_head(open_levels, at)?;
     if at == from {
-        return read_head(book, unknown, levels, open_levels, part, from, piece);
+        return read_head(basis, open_levels, part, from, piece);
     }
     Ok(Done {
         taken: at - from,
@@ -185,26 +154,18 @@ fn read_on<'a, B: Book>(
 /// Reads on in the head of an AVP.
 #[inline(always)]
 fn read_head<'a, B: Book>(
-    book: &'a B,
-    unknown: Unknown,
-    levels: Levels,
+    basis: &Basis<'a, B>,
     open_levels: &mut OpenLevels,
     part: HeadPart,
     from: usize,
     piece: &[u8],
 ) -> Result<Done<'a>, Refusal>
-    requires part { ∥ GoesOn (B.meaning book.now) unknown levels open_levels.old
-        (Part.Head part) from piece.now ∥₁ }
+    requires part { ∥ GoesOn (plain_basis B.meaning basis.now)
+        open_levels.old (Part.Head part) from piece.now ∥₁ }
     requires some { 0 < length piece.now }
-    ensures count { IfOk result (λ done. (0 < done.taken) × (done.taken ≤ length piece.now)) }
-    ensures next { (bytes : List ℕ) (good : HasGoodHeader (B.meaning book.now) bytes)
-        → IsInHead (B.meaning book.now) unknown levels bytes good open_levels.old part from
-        → LiesAt bytes from piece.now
-        → MatchResult result
-        (λ done. IsNext (B.meaning book.now) unknown levels bytes good open_levels.new done.next
-        (from + done.taken))
-        (IsStop (B.meaning book.now) unknown levels bytes good
-        (BeginsLevel (B.meaning book.now) levels bytes from (from + length piece.now))) }
+    ensures count { IfOk result (TakesSome piece.now) }
+    ensures next { HasReadPart (plain_basis B.meaning basis.now)
+        open_levels.old (Part.Head part) from piece.now open_levels.new result }
 {
     let at = part.at;
     let mut front = part.front;
@@ -212,7 +173,7 @@ fn read_head<'a, B: Book>(
     match avp_head(front.as_slice(), open_levels.innermost().end - at) {
         Ok(Some(head)) => {
             let taken = head_length(&head) - part.front.len();
-            let next = begin_data(book, unknown, levels, open_levels, at, &head)?;
+            let next = begin_data(basis, open_levels, at, &head)?;
             Ok(Done { taken, next })
         }
         Ok(None) => Ok(Done {
@@ -226,29 +187,21 @@ fn read_head<'a, B: Book>(
 /// Goes on behind the head of an AVP.
 #[inline(always)]
 fn begin_data<'a, B: Book>(
-    book: &'a B,
-    unknown: Unknown,
-    levels: Levels,
+    basis: &Basis<'a, B>,
     open_levels: &mut OpenLevels,
     at: usize,
     head: &AvpHead,
 ) -> Result<Option<Part<'a>>, Refusal>
-    requires { ∥ IsAtSomeAvp
-        (B.meaning book.now) unknown levels open_levels.old at head.now ∥₁ }
-    ensures { (bytes : List ℕ) (good : HasGoodHeader (B.meaning book.now) bytes)
-        → IsAtAvp (B.meaning book.now) unknown levels bytes good open_levels.old at head.now
-        → MatchResult result
-        (λ next. IsNext (B.meaning book.now) unknown levels bytes good open_levels.new next
-        (at + head_length head.now.vendor))
-        (IsStop (B.meaning book.now) unknown levels bytes good
-        (BeginsLevelAt (B.meaning book.now) levels bytes (at + head_length head.now.vendor))) }
+    requires { ∥ IsAtSomeAvp (plain_basis B.meaning basis.now) open_levels.old at head.now ∥₁ }
+    ensures { HasReadHead (plain_basis B.meaning basis.now)
+        open_levels.old at head.now open_levels.new result }
 {
-    if let Some(start) = enter_group(book, unknown, levels, open_levels, at, head)? {
-        return go_on(book, open_levels, start);
+    if let Some(start) = enter_group(basis, open_levels, at, head)? {
+        return go_on(basis.book, open_levels, start);
     }
     let key = head_key(head);
-    let known = book.avp(key);
-    if let Some(wrong) = admit(book, unknown, open_levels, key, &known, head.flags) {
+    let known = basis.book.avp(key);
+    if let Some(wrong) = admit(basis, open_levels, key, &known, head.flags) {
         return Err(fault(at, wrong));
     }
     let end = at + head.length as usize;
@@ -257,37 +210,30 @@ fn begin_data<'a, B: Book>(
         key,
         end,
         next: end.next_multiple_of(4),
-        leaf: start_leaf(book, key, &known),
+        leaf: start_leaf(basis.book, key, &known),
     };
     if at + head_length(head) < part.next {
         Ok(Some(Part::Data(part)))
     } else {
-        end_data(book, open_levels, part)
+        end_data(basis.book, open_levels, part)
     }
 }
 
 /// Reads on in the data and the padding of an AVP.
 #[inline(always)]
 fn read_data<'a, B: Book>(
-    book: &'a B,
+    basis: &Basis<'a, B>,
     open_levels: &mut OpenLevels,
     part: DataPart<'a>,
     from: usize,
     piece: &[u8],
 ) -> Result<Done<'a>, Refusal>
-    requires part { ∥ ((u : AnyPolicy) × (most : AnyLevels)
-        × GoesOn (B.meaning book.now) u most open_levels.old (Part.Data part) from piece.now) ∥₁ }
+    requires part { ∥ GoesOn (plain_basis B.meaning basis.now)
+        open_levels.old (Part.Data part) from piece.now ∥₁ }
     requires some { 0 < length piece.now }
-    ensures count { IfOk result (λ done. (0 < done.taken) × (done.taken ≤ length piece.now)) }
-    ensures next { (u : AnyPolicy) (most : AnyLevels)
-        (bytes : List ℕ) (good : HasGoodHeader (B.meaning book.now) bytes)
-        → IsInData (B.meaning book.now) u most bytes good open_levels.old part.entry from
-        → from < part.entry.next
-        → LiesAt bytes from piece.now
-        → MatchResult result
-        (λ done. IsNext (B.meaning book.now) u most bytes good open_levels.new done.next
-        (from + done.taken))
-        (IsStop (B.meaning book.now) u most bytes good ⊥) }
+    ensures count { IfOk result (TakesSome piece.now) }
+    ensures next { HasReadPart (plain_basis B.meaning basis.now)
+        open_levels.old (Part.Data part.entry) from piece.now open_levels.new result }
 {
     let taken = piece.len().min(part.next - from);
     let mut part = part;
@@ -299,7 +245,7 @@ fn read_data<'a, B: Book>(
             next: Some(Part::Data(part)),
         });
     }
-    let next = end_data(book, open_levels, part)?;
+    let next = end_data(basis.book, open_levels, part)?;
     Ok(Done { taken, next })
 }
 
@@ -311,13 +257,8 @@ fn end_data<'a, B: Book>(
     part: DataPart<'a>,
 ) -> Result<Option<Part<'a>>, Refusal>
     requires { ∥ IsReadData (B.meaning book.now) open_levels.old part ∥₁ }
-    ensures { (u : AnyPolicy) (most : AnyLevels)
-        (bytes : List ℕ) (good : HasGoodHeader (B.meaning book.now) bytes) (n : ℕ)
-        → IsInData (B.meaning book.now) u most bytes good open_levels.old part.entry n
-        → part.entry.next ≤ n
-        → MatchResult result (λ next. IsNext
-        (B.meaning book.now) u most bytes good open_levels.new next part.entry.next)
-        (IsStop (B.meaning book.now) u most bytes good ⊥) }
+    ensures { HasReadData
+        (B.meaning book.now) open_levels.old part.entry open_levels.new result }
 {
     if let Some(reason) = wrong_leaf(part.leaf) {
         return Err(fault(part.at, Wrong::avp(reason, part.key)));

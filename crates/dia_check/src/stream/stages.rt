@@ -1,25 +1,24 @@
 //! How far a message was read that comes in pieces.
 
-ghost use Rattle.std.specs.Prelude.{◌≡◌, ◌≢◌, ◌⊎◌, ◌<◌, ◌+◌, ◌^◌, ◌++◌, ℕ, List, length};
-ghost use Rattle.std.specs.Prelude.{Err, None, MatchBool, MatchOption, MatchResult};
+ghost use Rattle.std.specs.Prelude.{◌≡◌, ◌≢◌, ◌⊎◌, ◌<◌, ◌^◌, Err, unwrap_or};
 ghost use Rattle.dia_policy.specs.declared.Unknown.{Unknown as AnyPolicy};
 ghost use Rattle.dia_policy.specs.declared.Levels.{Levels as AnyLevels};
-ghost use Rattle.dia_check.specs.Faults.{HasGoodHeader, HasHeader, HasLength, IsAnswer, simple};
+ghost use Rattle.dia_check.specs.Basis.{plain_basis};
+ghost use Rattle.dia_check.specs.Faults.{simple};
 ghost use Rattle.dia_check.specs.Front.{front_bytes};
-ghost use Rattle.dia_check.specs.Walks.{Walks, whole};
-ghost use Rattle.dia_check.specs.Reading.{BeginsLevel, IsInPart, IsStop, LiesAt};
-ghost use Rattle.dia_check.specs.Streaming.{BeginsGood, HasRead, HasReadUnless, IsBegun};
-ghost use Rattle.dia_check.specs.Streaming.{IsReading, MayRead, OpensBehind, wanted};
+ghost use Rattle.dia_check.specs.Streaming.{BeginsGood, HasReadUnless, wanted};
+ghost use Rattle.dia_check.specs.Stages.{HasBegun, HasBegunBody, HasReadMore, HasReadPiece};
+ghost use Rattle.dia_check.specs.Stages.{IsOfSome, IsReadingSome, MayReadSome};
 
 use crate::admission::open_body;
-use crate::body::fault;
-use crate::fault::{Reason, Refusal, Selected, Subject};
+use crate::basis::Basis;
+use crate::fault::{Reason, Refusal, Selected};
 use crate::header::good_command;
-use crate::open_levels::{OpenLevels, Wrong};
+use crate::open_levels::OpenLevels;
 use crate::stream::front::Front;
 use crate::stream::parts::{Part, go_on, read_part};
+use crate::telling::simple_fault;
 use dia_book::{Book, DefId};
-use dia_policy::{Levels, Unknown};
 use dia_wire::{HEADER_LENGTH, HeadFault, Header, read_header};
 use std::alloc::Global;
 
@@ -45,36 +44,20 @@ pub(crate) struct Body<'a> {
 
 /// Reads a piece of a body, which begins at a place and doesn't go past its end. Answers whether the body ends with it.
 fn read_all<'a, B: Book>(
-    book: &'a B,
-    unknown: Unknown,
-    levels: Levels,
+    basis: &Basis<'a, B>,
     body: &mut Body<'a>,
     from: usize,
     piece: &[u8],
 ) -> Result<bool, Refusal>
-    requires { ∥ ((bytes : List ℕ) × (length bytes < 2 ^ 32)
-        × IsReading (B.meaning book.now) unknown levels body.old from bytes
-        × LiesAt bytes from piece.now) ∥₁ }
-    ensures next { (bytes : List ℕ) (good : HasGoodHeader (B.meaning book.now) bytes)
-        → IsInPart (B.meaning book.now) unknown
-        levels bytes good body.old.open_levels body.old.part from
-        → LiesAt bytes from piece.now
-        → MatchResult result
-        (λ ended. MatchBool ended
-        (Walks (B.meaning book.now) unknown levels (whole good.command.rules bytes) None
-        × (from + length piece.now ≡ length bytes))
-        (IsInPart (B.meaning book.now) unknown levels bytes good body.new.open_levels body.new.part
-        (from + length piece.now)))
-        (IsStop (B.meaning book.now) unknown levels bytes good
-        (BeginsLevel (B.meaning book.now) levels bytes from (from + length piece.now))) }
+    requires { ∥ IsReadingSome (plain_basis B.meaning basis.now) body.old from piece.now ∥₁ }
+    ensures next { HasReadPiece (plain_basis B.meaning basis.now)
+        body.old from piece.now body.new result }
     ensures def { body.new.def ≡ body.old.def }
 {
     let mut taken = 0;
     while taken < piece.len() {
         let done = read_part(
-            book,
-            unknown,
-            levels,
+            basis,
             &mut body.open_levels,
             body.part,
             from + taken,
@@ -91,22 +74,16 @@ fn read_all<'a, B: Book>(
 
 /// Reads a piece behind the header, which begins at a place and doesn't go past the end of the message.
 pub(crate) fn read_stage<'a, B: Book>(
-    book: &'a B,
-    unknown: Unknown,
-    levels: Levels,
+    basis: &Basis<'a, B>,
     stage: &mut Stage<'a>,
     from: usize,
     piece: &[u8],
 )
-    requires { ∥ ((bytes : List ℕ)
-        × MayRead (B.meaning book.now) unknown levels bytes stage.old from piece.now) ∥₁ }
-    ensures { (bytes : List ℕ)
-        → MayRead (B.meaning book.now) unknown levels bytes stage.old from piece.now
-        → HasReadUnless (OpensBehind (B.meaning book.now) levels from (bytes ++ piece.now))
-        (B.meaning book.now) unknown levels (bytes ++ piece.now) stage.new }
+    requires { ∥ MayReadSome (plain_basis B.meaning basis.now) stage.old from piece.now ∥₁ }
+    ensures { HasReadMore (plain_basis B.meaning basis.now) stage.old from piece.now stage.new }
 {
     if let Stage::InBody(body) = stage {
-        if let Some(next) = read_body(book, unknown, levels, body, from, piece) {
+        if let Some(next) = read_body(basis, body, from, piece) {
             *stage = next;
         }
     }
@@ -114,24 +91,17 @@ pub(crate) fn read_stage<'a, B: Book>(
 
 /// Reads a piece of a body. Answers how the stream goes on where that ends the reading.
 fn read_body<'a, B: Book>(
-    book: &'a B,
-    unknown: Unknown,
-    levels: Levels,
+    basis: &Basis<'a, B>,
     body: &mut Body<'a>,
     from: usize,
     piece: &[u8],
 ) -> Option<Stage<'a>>
-    requires { ∥ ((bytes : List ℕ)
-        × MayRead (B.meaning book.now) unknown levels bytes
-        (Stage.InBody body.old) from piece.now) ∥₁ }
-    ensures { (bytes : List ℕ)
-        → MayRead (B.meaning book.now) unknown levels bytes (Stage.InBody body.old) from piece.now
-        → MatchOption result
-        (HasRead (B.meaning book.now) unknown levels (bytes ++ piece.now) (Stage.InBody body.new))
-        (HasReadUnless (OpensBehind (B.meaning book.now) levels from (bytes ++ piece.now))
-        (B.meaning book.now) unknown levels (bytes ++ piece.now)) }
+    requires { ∥ MayReadSome (plain_basis B.meaning basis.now)
+        (Stage.InBody body.old) from piece.now ∥₁ }
+    ensures { HasReadMore (plain_basis B.meaning basis.now)
+        (Stage.InBody body.old) from piece.now (unwrap_or result (Stage.InBody body.new)) }
 {
-    match read_all(book, unknown, levels, body, from, piece) {
+    match read_all(basis, body, from, piece) {
         Ok(false) => None,
         Ok(true) => Some(Stage::Over(Ok(Selected { def: body.def }))),
         Err(refusal) => Some(stopped(refusal)),
@@ -173,11 +143,8 @@ pub(crate) fn read_front<'a, B: Book>(
 
 /// How a message goes on behind its header, where it ends at a place.
 fn begin<'a, B: Book>(alloc: Global, book: &'a B, header: &Header, end: usize) -> Stage<'a>
-    requires { ∥ ((bytes : List ℕ) × (length bytes < 2 ^ 32) × HasLength bytes (length bytes)
-        × HasHeader bytes header.now × (end ≡ length bytes)) ∥₁ }
-    ensures { (u : AnyPolicy) (most : AnyLevels) (bytes : List ℕ) → HasLength bytes (length bytes)
-        → HasHeader bytes header.now → end ≡ length bytes
-        → IsBegun (B.meaning book.now) u most bytes result }
+    requires { ∥ IsOfSome header.now end ∥₁ }
+    ensures { HasBegun (B.meaning book.now) header.now end result }
 {
     match begin_body(alloc, book, header, end) {
         Ok(stage) => stage,
@@ -192,13 +159,8 @@ fn begin_body<'a, B: Book>(
     header: &Header,
     end: usize,
 ) -> Result<Stage<'a>, Refusal>
-    requires { ∥ ((bytes : List ℕ) × (length bytes < 2 ^ 32) × HasLength bytes (length bytes)
-        × HasHeader bytes header.now × (end ≡ length bytes)) ∥₁ }
-    ensures { (u : AnyPolicy) (most : AnyLevels) (bytes : List ℕ) → HasLength bytes (length bytes)
-        → HasHeader bytes header.now → end ≡ length bytes
-        → MatchResult result (IsBegun (B.meaning book.now) u most bytes)
-        (λ refusal. IsAnswer (B.meaning book.now) u most bytes (Err refusal)
-        × (refusal ≡ Refusal.NoMemory → HasGoodHeader (B.meaning book.now) bytes)) }
+    requires { ∥ IsOfSome header.now end ∥₁ }
+    ensures { HasBegunBody (B.meaning book.now) header.now end result }
 {
     let def = good_command(book, header)?;
     let mut open_levels = open_body(alloc, book, def, end)?;
@@ -217,9 +179,5 @@ fn over<'a>(place: usize, reason: Reason) -> Stage<'a>
     requires { place < 20 }
     ensures { result ≡ Stage.Over (Err (Refusal.Fault (simple place reason))) }
 {
-    let wrong = Wrong {
-        reason,
-        subject: Subject::Nothing,
-    };
-    Stage::Over(Err(fault(place, wrong)))
+    Stage::Over(Err(simple_fault(place, reason)))
 }

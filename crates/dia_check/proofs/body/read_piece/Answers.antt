@@ -10,13 +10,13 @@ use Rattle.dia_check.proofs.body.read_piece.Goals as goal
 
 pub read_avps-requires : goal.read_avps-requires
 read_avps-requires g c =
-    let d = g.B.Book.meaning c.args.book.now in let u = c.args.unknown in let m = c.args.levels in let from = c.args.from in let piece = c.args.piece.now in
+    let d = g.B.Book.meaning c.args.basis.now.book.now in let u = c.args.basis.now.unknown in let m = c.args.basis.now.levels in let from = c.args.from in let piece = c.args.piece.now in
     let start = c.loop-at.start in let (le, reached, some, on) = c.loop-at.invariant in
     ∥∥₁_map some (λ x. let (bytes, good, small, w, lies) = x in (bytes, good, small, w, avps.lies_from bytes piece from start le reached lies))
 
 pub returns-in_err-at-clause-next : goal.returns-in_err-at-clause-next
 returns-in_err-at-clause-next g c bytes good old lies =
-    let d = g.B.Book.meaning c.args.book.now in let u = c.args.unknown in let m = c.args.levels in let from = c.args.from in let piece = c.args.piece.now in
+    let d = g.B.Book.meaning c.args.basis.now.book.now in let u = c.args.basis.now.unknown in let m = c.args.basis.now.levels in let from = c.args.from in let piece = c.args.piece.now in
     let start = c.loop-at.start in let (le, reached, some, on) = c.loop-at.invariant in
     let left = avps.size_from piece from start in
     let p = err_from_is_err_and c.from_residual.result c.from_residual.ensures.1 in
@@ -32,7 +32,7 @@ returns-in_err-at-clause-next g c bytes good old lies =
 
 pub returns-in_default-clause-next : goal.returns-in_default-clause-next
 returns-in_default-clause-next g c bytes good old lies =
-    let d = g.B.Book.meaning c.args.book.now in let u = c.args.unknown in let m = c.args.levels in let from = c.args.from in let piece = c.args.piece.now in
+    let d = g.B.Book.meaning c.args.basis.now.book.now in let u = c.args.basis.now.unknown in let m = c.args.basis.now.levels in let from = c.args.from in let piece = c.args.piece.now in
     let start = c.loop-at.start in let (le, reached, some, on) = c.loop-at.invariant in
     let left = avps.size_from piece from start in
     let (walk, end) = rw c.in_default.is at (c.in_ok-at.ensures.next bytes good (on bytes good old lies) (avps.lies_from bytes piece from start le reached lies)) in
@@ -40,7 +40,7 @@ returns-in_default-clause-next g c bytes good old lies =
 
 pub enter_at-requires : goal.enter_at-requires
 enter_at-requires g c =
-    let d = g.B.Book.meaning c.args.book.now in let u = c.args.unknown in let m = c.args.levels in let from = c.args.from in let piece = c.args.piece.now in
+    let d = g.B.Book.meaning c.args.basis.now.book.now in let u = c.args.basis.now.unknown in let m = c.args.basis.now.levels in let from = c.args.from in let piece = c.args.piece.now in
     let start = c.loop-at.start in let (le, reached, some, on) = c.loop-at.invariant in
     let left = avps.size_from piece from start in
     let now : (bytes : List ℕ) (good : HasGoodHeader d bytes) → IsUnderWay d u m bytes good c.loop-at.open_levels start → LiesAt bytes from piece
@@ -53,7 +53,7 @@ enter_at-requires g c =
 
 pub returns-in_err-inner-clause-next : goal.returns-in_err-inner-clause-next
 returns-in_err-inner-clause-next g c bytes good old lies =
-    let d = g.B.Book.meaning c.args.book.now in let u = c.args.unknown in let m = c.args.levels in let from = c.args.from in let piece = c.args.piece.now in
+    let d = g.B.Book.meaning c.args.basis.now.book.now in let u = c.args.basis.now.unknown in let m = c.args.basis.now.levels in let from = c.args.from in let piece = c.args.piece.now in
     let start = c.loop-at.start in let (le, reached, some, on) = c.loop-at.invariant in
     let left = avps.size_from piece from start in
     let now : (bytes : List ℕ) (good : HasGoodHeader d bytes) → IsUnderWay d u m bytes good c.loop-at.open_levels start → LiesAt bytes from piece
@@ -77,7 +77,7 @@ returns-in_err-inner-clause-next g c bytes good old lies =
 
 pub returns-in_default-2-clause-within : goal.returns-in_default-2-clause-within
 returns-in_default-2-clause-within g c =
-    let d = g.B.Book.meaning c.args.book.now in let u = c.args.unknown in let m = c.args.levels in let from = c.args.from in let piece = c.args.piece.now in
+    let d = g.B.Book.meaning c.args.basis.now.book.now in let u = c.args.basis.now.unknown in let m = c.args.basis.now.levels in let from = c.args.from in let piece = c.args.piece.now in
     let start = c.loop-at.start in let (le, reached, some, on) = c.loop-at.invariant in
     let left = avps.size_from piece from start in
     let (behind, within) = rw c.in-Some.is at c.in_ok-at.ensures.within in
@@ -85,7 +85,7 @@ returns-in_default-2-clause-within g c =
 
 pub returns-in_default-2-clause-goes_on : goal.returns-in_default-2-clause-goes_on
 returns-in_default-2-clause-goes_on g c =
-    let d = g.B.Book.meaning c.args.book.now in let u = c.args.unknown in let m = c.args.levels in let from = c.args.from in let piece = c.args.piece.now in
+    let d = g.B.Book.meaning c.args.basis.now.book.now in let u = c.args.basis.now.unknown in let m = c.args.basis.now.levels in let from = c.args.from in let piece = c.args.piece.now in
     let start = c.loop-at.start in let (le, reached, some, on) = c.loop-at.invariant in
     let left = avps.size_from piece from start in
     let more = rw c.in-Some.is at c.in_ok-at.ensures.goes_on in
@@ -93,7 +93,7 @@ returns-in_default-2-clause-goes_on g c =
 
 pub returns-in_default-2-clause-next : goal.returns-in_default-2-clause-next
 returns-in_default-2-clause-next g c bytes good old lies =
-    let d = g.B.Book.meaning c.args.book.now in let u = c.args.unknown in let m = c.args.levels in let from = c.args.from in let piece = c.args.piece.now in
+    let d = g.B.Book.meaning c.args.basis.now.book.now in let u = c.args.basis.now.unknown in let m = c.args.basis.now.levels in let from = c.args.from in let piece = c.args.piece.now in
     let start = c.loop-at.start in let (le, reached, some, on) = c.loop-at.invariant in
     let left = avps.size_from piece from start in
     let now : (bytes : List ℕ) (good : HasGoodHeader d bytes) → IsUnderWay d u m bytes good c.loop-at.open_levels start → LiesAt bytes from piece
@@ -106,7 +106,7 @@ returns-in_default-2-clause-next g c bytes good old lies =
 
 pub loop-at-smaller : goal.loop-at-smaller
 loop-at-smaller g c =
-    let d = g.B.Book.meaning c.args.book.now in let u = c.args.unknown in let m = c.args.levels in let from = c.args.from in let piece = c.args.piece.now in
+    let d = g.B.Book.meaning c.args.basis.now.book.now in let u = c.args.basis.now.unknown in let m = c.args.basis.now.levels in let from = c.args.from in let piece = c.args.piece.now in
     let start = c.loop-at.start in let (le, reached, some, on) = c.loop-at.invariant in
     let left = avps.size_from piece from start in
     let now : (bytes : List ℕ) (good : HasGoodHeader d bytes) → IsUnderWay d u m bytes good c.loop-at.open_levels start → LiesAt bytes from piece
@@ -121,7 +121,7 @@ loop-at-smaller g c =
 
 pub loop-at-preserved : goal.loop-at-preserved
 loop-at-preserved g c =
-    let d = g.B.Book.meaning c.args.book.now in let u = c.args.unknown in let m = c.args.levels in let from = c.args.from in let piece = c.args.piece.now in
+    let d = g.B.Book.meaning c.args.basis.now.book.now in let u = c.args.basis.now.unknown in let m = c.args.basis.now.levels in let from = c.args.from in let piece = c.args.piece.now in
     let start = c.loop-at.start in let (le, reached, some, on) = c.loop-at.invariant in
     let left = avps.size_from piece from start in
     let now : (bytes : List ℕ) (good : HasGoodHeader d bytes) → IsUnderWay d u m bytes good c.loop-at.open_levels start → LiesAt bytes from piece

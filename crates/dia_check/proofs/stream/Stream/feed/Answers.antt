@@ -30,7 +30,7 @@ returns-in_err-head-clause-err g c = let p = err_from_is_err_and c.from_residual
 pub returns-then-self-lt-HEADER_LENGTH-clause-taken : goal.returns-then-self-lt-HEADER_LENGTH-clause-taken
 returns-then-self-lt-HEADER_LENGTH-clause-taken g c d u most bytes stands =
     let mid = c.take_header.new.self in
-    let (now, none) = c.in_ok-head.ensures.taken d u most bytes stands in
+    let now = c.in_ok-head.ensures.taken d u most bytes stands in
     let all = c.in_ok-head.ensures.all c.if-self-lt-HEADER_LENGTH.true in (
       takes d u most mid.taken mid.wanted mid.stage bytes c.args.piece.now c.in_ok-head.head false now.taken (omega (arith, all)) (inl all) (
         λ is. absurd cc,
@@ -54,7 +54,7 @@ take_body-requires-clause-not_spent g c = c.in_ok-head.ensures.goes_on
 
 pub returns-in_err-body-clause-no_memory : goal.returns-in_err-body-clause-no_memory
 returns-in_err-body-clause-no_memory g c q d u most bytes stands =
-    let (now, none) = c.in_ok-head.ensures.taken d u most bytes stands in
+    let now = c.in_ok-head.ensures.taken d u most bytes stands in
     let head = c.in_ok-head.head in
     let piece = c.args.piece.now in
     let front = take head piece in
@@ -80,7 +80,7 @@ returns-clause-taken g c d u most bytes stands =
     let head = c.in_ok-head.head in
     let body = c.in_ok-body.body in
     let piece = c.args.piece.now in
-    let (mid, none) = c.in_ok-head.ensures.taken d u most bytes stands in
+    let mid = c.in_ok-head.ensures.taken d u most bytes stands in
     let slice = take (length piece - head) (drop head piece) in
     let cut : slice ≡ drop head piece = take_rest piece head in
     let parts : (bytes ++ take head piece) ++ take body slice ≡ bytes ++ take (head + body) piece = ap (λ (p : List ℕ). (bytes ++ take head piece) ++ take body p) cut

@@ -15,10 +15,10 @@ returns-in-Over-clause-answer g c fresh d u most bytes stands =
 
 pub returns-in-Over-clause-memory : goal.returns-in-Over-clause-memory
 returns-in-Over-clause-memory g c is = ∥∥₁_elim c.args.self.holds (λ x y. absurd x) (λ x.
-    let (bytes, taken) = subst (λ (s : Stage). IsStage (g.B.Book.meaning c.args.self.book.now) c.args.self.unknown c.args.self.levels c.args.self.taken c.args.self.wanted s) c.in-Over.is x in
+    let (bytes, taken) = subst (λ (s : Stage). IsStage (g.B.Book.meaning c.args.self.basis.book.now) c.args.self.basis.unknown c.args.self.basis.levels c.args.self.taken c.args.self.wanted s) c.in-Over.is x in
     subst (IsWholeAnswer (length bytes) (wanted bytes)) is taken.read.1)
 
 pub returns-in-Over-clause-trailing : goal.returns-in-Over-clause-trailing
 returns-in-Over-clause-trailing g c is = ∥∥₁_elim c.args.self.holds (λ x y. absurd x) (λ x.
-    let (bytes, taken) = subst (λ (s : Stage). IsStage (g.B.Book.meaning c.args.self.book.now) c.args.self.unknown c.args.self.levels c.args.self.taken c.args.self.wanted s) c.in-Over.is x in
+    let (bytes, taken) = subst (λ (s : Stage). IsStage (g.B.Book.meaning c.args.self.basis.book.now) c.args.self.basis.unknown c.args.self.basis.levels c.args.self.taken c.args.self.wanted s) c.in-Over.is x in
     subst (IsWholeAnswer (length bytes) (wanted bytes)) is taken.read.1)

@@ -11,10 +11,10 @@ use Rattle.dia_check.proofs.stream.Stream.levels.Goals as goal
 pub overflow_add-result : goal.overflow_add-result
 overflow_add-result g c =
     let s = c.args.self.now in
-    let d = g.B.Book.meaning s.book.now in
+    let d = g.B.Book.meaning s.basis.book.now in
     let small : c.depth.result + 1 < 2 ^ 32 = ∥∥₁_elim s.holds le_prop (λ x.
-    let (bytes, h) = subst (λ (t : Stage). IsStage d s.unknown s.levels s.taken s.wanted t) c.in-InBody.is x in
-    few_levels d h.sound s.unknown s.levels bytes c.in-InBody.body s.taken s.wanted h c.depth.result (λ message good outer level now. c.depth.ensures (definitions d) outer level now)) in
+    let (bytes, h) = subst (λ (t : Stage). IsStage d s.basis.unknown s.basis.levels s.taken s.wanted t) c.in-InBody.is x in
+    few_levels d h.sound s.basis.unknown s.basis.levels bytes c.in-InBody.body s.taken s.wanted h c.depth.result (λ message good outer level now. c.depth.ensures (definitions d) outer level now)) in
     omega (arith, small)
 
 pub returns-in-InBody-clause-count : goal.returns-in-InBody-clause-count

@@ -13,44 +13,44 @@ use Rattle.dia_check.proofs.stream.Stream.take_body.Goals as goal
 pub overflow_sub-self : goal.overflow_sub-self
 overflow_sub-self g c =
     let s = c.args.self.now in
-    let d = g.B.Book.meaning s.book.now in
+    let d = g.B.Book.meaning s.basis.book.now in
     let e : s.taken ≤ s.wanted = ∥∥₁_elim s.holds le_prop (λ x.
-    let (bytes, h) = has_taken d s.unknown s.levels s.taken s.wanted s.stage c.requires.not_spent x in
-    taken_within d s.unknown s.levels s.taken s.wanted s.stage bytes c.args.piece.now h) in
+    let (bytes, h) = has_taken d s.basis.unknown s.basis.levels s.taken s.wanted s.stage c.requires.not_spent x in
+    taken_within d s.basis.unknown s.basis.levels s.taken s.wanted s.stage bytes c.args.piece.now h) in
     e
 
 pub read_stage-requires : goal.read_stage-requires
 read_stage-requires g c =
     let s = c.args.self.now in
-    let d = g.B.Book.meaning s.book.now in
+    let d = g.B.Book.meaning s.basis.book.now in
     let m = c.min-count.ensures in
     ∥∥₁_map s.holds (λ x.
-    let (bytes, h) = has_taken d s.unknown s.levels s.taken s.wanted s.stage c.requires.not_spent x in
-    (bytes, may_read d s.unknown s.levels s.taken s.wanted s.stage bytes c.args.piece.now h c.requires.header c.min-count.result (omega (arith, m)) (omega (arith, m))))
+    let (bytes, h) = has_taken d s.basis.unknown s.basis.levels s.taken s.wanted s.stage c.requires.not_spent x in
+    (bytes, may_read d s.basis.unknown s.basis.levels s.taken s.wanted s.stage bytes c.args.piece.now h c.requires.header c.min-count.result (omega (arith, m)) (omega (arith, m))))
 
 pub overflow_add-self : goal.overflow_add-self
 overflow_add-self g c =
     let s = c.args.self.now in
-    let d = g.B.Book.meaning s.book.now in
+    let d = g.B.Book.meaning s.basis.book.now in
     let m = c.min-count.ensures in
     let small : s.taken + c.min-count.result < 2 ^ 32 = ∥∥₁_elim s.holds le_prop (λ x.
-    let (bytes, h) = has_taken d s.unknown s.levels s.taken s.wanted s.stage c.requires.not_spent x in
-    let w = taken_within d s.unknown s.levels s.taken s.wanted s.stage bytes c.args.piece.now h in let f = h.few in omega (arith, m, w, f)) in
+    let (bytes, h) = has_taken d s.basis.unknown s.basis.levels s.taken s.wanted s.stage c.requires.not_spent x in
+    let w = taken_within d s.basis.unknown s.basis.levels s.taken s.wanted s.stage bytes c.args.piece.now h in let f = h.few in omega (arith, m, w, f)) in
     omega (arith, small)
 
 pub invariant_of-self : goal.invariant_of-self
 invariant_of-self g c =
     let s = c.args.self.now in
-    let d = g.B.Book.meaning s.book.now in
+    let d = g.B.Book.meaning s.basis.book.now in
     let n = c.min-count.result in
     let m = c.min-count.ensures in
     record {
       holds = ∥∥₁_map s.holds (λ x.
-          let (bytes, h) = has_taken d s.unknown s.levels s.taken s.wanted s.stage c.requires.not_spent x in
-          let may = may_read d s.unknown s.levels s.taken s.wanted s.stage bytes c.args.piece.now h c.requires.header n (omega (arith, m)) (omega (arith, m)) in
-          is_stage d s.unknown s.levels (s.taken + n) s.wanted c.read_stage.new.stage (bytes ++ take n c.args.piece.now) (λ live.
-          body_taken d s.unknown s.levels s.taken s.wanted s.stage bytes c.args.piece.now h c.requires.header n (omega (arith, m)) (omega (arith, m))
-          (OpensBehind d s.levels s.taken (bytes ++ take n c.args.piece.now)) c.read_stage.new.stage (c.read_stage.ensures bytes may) live));
+          let (bytes, h) = has_taken d s.basis.unknown s.basis.levels s.taken s.wanted s.stage c.requires.not_spent x in
+          let may = may_read d s.basis.unknown s.basis.levels s.taken s.wanted s.stage bytes c.args.piece.now h c.requires.header n (omega (arith, m)) (omega (arith, m)) in
+          is_stage d s.basis.unknown s.basis.levels (s.taken + n) s.wanted c.read_stage.new.stage (bytes ++ take n c.args.piece.now) (λ live.
+          body_taken d s.basis.unknown s.basis.levels s.taken s.wanted s.stage bytes c.args.piece.now h c.requires.header n (omega (arith, m)) (omega (arith, m))
+          (OpensBehind d s.basis.levels s.taken (bytes ++ take n c.args.piece.now)) c.read_stage.new.stage (c.read_stage.ensures bytes may) live));
     }
 
 pub returns-in_default-clause-within : goal.returns-in_default-clause-within
@@ -59,31 +59,31 @@ returns-in_default-clause-within g c = let m = c.min-count.ensures in omega (ari
 pub returns-in_default-clause-taken : goal.returns-in_default-clause-taken
 returns-in_default-clause-taken g c d u most bytes stands =
     let s = c.args.self.now in
-    let e = g.B.Book.meaning s.book.now in
+    let e = g.B.Book.meaning s.basis.book.now in
     let n = c.min-count.result in
     let m = c.min-count.ensures in
-    let h = moved (λ (x : Dictionary) (y : Unknown) (z : Levels). HasTaken x y z s.taken s.wanted s.stage bytes) d e u s.unknown most s.levels
+    let h = moved (λ (x : Dictionary) (y : Unknown) (z : Levels). HasTaken x y z s.taken s.wanted s.stage bytes) d e u s.basis.unknown most s.basis.levels
     (sym stands.book) (sym stands.unknown) (sym stands.levels) stands.taken in
-    let may = may_read e s.unknown s.levels s.taken s.wanted s.stage bytes c.args.piece.now h c.requires.header n (omega (arith, m)) (omega (arith, m)) in
-    let new = body_taken e s.unknown s.levels s.taken s.wanted s.stage bytes c.args.piece.now h c.requires.header n (omega (arith, m)) (omega (arith, m))
-    (OpensBehind e s.levels s.taken (bytes ++ take n c.args.piece.now)) c.read_stage.new.stage
+    let may = may_read e s.basis.unknown s.basis.levels s.taken s.wanted s.stage bytes c.args.piece.now h c.requires.header n (omega (arith, m)) (omega (arith, m)) in
+    let new = body_taken e s.basis.unknown s.basis.levels s.taken s.wanted s.stage bytes c.args.piece.now h c.requires.header n (omega (arith, m)) (omega (arith, m))
+    (OpensBehind e s.basis.levels s.taken (bytes ++ take n c.args.piece.now)) c.read_stage.new.stage
     (c.read_stage.ensures bytes may) (live_stage c.read_stage.new.stage c.in_default.not-NoMemory) in
     record {
       book = stands.book;
       unknown = stands.unknown;
       levels = stands.levels;
       taken = moved (λ (x : Dictionary) (y : Unknown) (z : Levels). HasTaken x y z (s.taken + n) s.wanted c.read_stage.new.stage (bytes ++ take n c.args.piece.now))
-          e d s.unknown u s.levels most stands.book stands.unknown stands.levels new;
+          e d s.basis.unknown u s.basis.levels most stands.book stands.unknown stands.levels new;
     }
 
 pub returns-in_default-clause-all : goal.returns-in_default-clause-all
 returns-in_default-clause-all g c =
     let s = c.args.self.now in
-    let d = g.B.Book.meaning s.book.now in
+    let d = g.B.Book.meaning s.basis.book.now in
     let m = c.min-count.ensures in
     let w : s.taken ≤ s.wanted = ∥∥₁_elim s.holds le_prop (λ x.
-    let (bytes, h) = has_taken d s.unknown s.levels s.taken s.wanted s.stage c.requires.not_spent x in
-    taken_within d s.unknown s.levels s.taken s.wanted s.stage bytes c.args.piece.now h) in
+    let (bytes, h) = has_taken d s.basis.unknown s.basis.levels s.taken s.wanted s.stage c.requires.not_spent x in
+    taken_within d s.basis.unknown s.basis.levels s.taken s.wanted s.stage bytes c.args.piece.now h) in
     ⊎_elim (λ less. inr (omega (arith, m, w, less))) (λ more. inl (omega (arith, m, more))) (cases_lt c.min-count.result (length c.args.piece.now))
 
 pub returns-in_default-clause-goes_on : goal.returns-in_default-clause-goes_on
@@ -92,17 +92,17 @@ returns-in_default-clause-goes_on g c = live_stage c.read_stage.new.stage c.in_d
 pub returns-in-NoMemory-clause-no_memory : goal.returns-in-NoMemory-clause-no_memory
 returns-in-NoMemory-clause-no_memory g c d u most bytes stands =
     let s = c.args.self.now in
-    let e = g.B.Book.meaning s.book.now in
+    let e = g.B.Book.meaning s.basis.book.now in
     let n = c.min-count.result in
     let m = c.min-count.ensures in
-    let h = moved (λ (x : Dictionary) (y : Unknown) (z : Levels). HasTaken x y z s.taken s.wanted s.stage bytes) d e u s.unknown most s.levels
+    let h = moved (λ (x : Dictionary) (y : Unknown) (z : Levels). HasTaken x y z s.taken s.wanted s.stage bytes) d e u s.basis.unknown most s.basis.levels
     (sym stands.book) (sym stands.unknown) (sym stands.levels) stands.taken in
-    let may = may_read e s.unknown s.levels s.taken s.wanted s.stage bytes c.args.piece.now h c.requires.header n (omega (arith, m)) (omega (arith, m)) in
-    let memory = memory_of (OpensBehind e s.levels s.taken (bytes ++ take n c.args.piece.now)) e s.unknown s.levels
+    let may = may_read e s.basis.unknown s.basis.levels s.taken s.wanted s.stage bytes c.args.piece.now h c.requires.header n (omega (arith, m)) (omega (arith, m)) in
+    let memory = memory_of (OpensBehind e s.basis.levels s.taken (bytes ++ take n c.args.piece.now)) e s.basis.unknown s.basis.levels
     (bytes ++ take n c.args.piece.now) c.read_stage.new.stage (subst IsSpentStage (sym c.in-NoMemory.is) tt) (c.read_stage.ensures bytes may) in
     moved (λ (x : Dictionary) (y : Unknown) (z : Levels). OpensLevel x z bytes (drop (length bytes) (taken_of (bytes ++ c.args.piece.now))))
-    e d s.unknown u s.levels most stands.book stands.unknown stands.levels
-    (body_opens e s.unknown s.levels s.taken s.wanted s.stage bytes c.args.piece.now h c.requires.header n (omega (arith, m)) (omega (arith, m)) (λ less. omega (arith, m, less)) memory)
+    e d s.basis.unknown u s.basis.levels most stands.book stands.unknown stands.levels
+    (body_opens e s.basis.unknown s.basis.levels s.taken s.wanted s.stage bytes c.args.piece.now h c.requires.header n (omega (arith, m)) (omega (arith, m)) (λ less. omega (arith, m, less)) memory)
 
 pub returns-in-NoMemory-clause-err : goal.returns-in-NoMemory-clause-err
 returns-in-NoMemory-clause-err g c = (refl, subst IsSpentStage (sym c.in-NoMemory.is) tt)

@@ -16,7 +16,7 @@ pub overflow_sub-innermost : goal.overflow_sub-innermost
 overflow_sub-innermost g c =
     let same = ap (λ (k : OpenLevel). k.end) c.innermost.ensures in
     let e : c.args.part.at ≤ c.args.open_levels.now.innermost.end = ∥∥₁_elim c.requires.part le_prop (λ x. let (bytes, good, few, h, lies) = x in
-    (place (g.B.Book.meaning c.args.book.now) (g.met.B.Book.sound c.args.book.now) c.args.unknown c.args.levels bytes good c.args.open_levels.now c.args.part.at h.under_way).0) in
+    (place (g.B.Book.meaning c.args.basis.now.book.now) (g.met.B.Book.sound c.args.basis.now.book.now) c.args.basis.now.unknown c.args.basis.now.levels bytes good c.args.open_levels.now c.args.part.at h.under_way).0) in
     omega (arith, e, same)
 
 pub overflow_sub-taken : goal.overflow_sub-taken
@@ -25,8 +25,8 @@ overflow_sub-taken g c =
     let same = ap (λ (k : OpenLevel). k.end) c.innermost.ensures in
     let wide = c.head_length.ensures in let kept = c.len.ensures in
     let less : length (front_bytes c.args.part.front) < head_length c.in-Ok-Some.head.vendor = ∥∥₁_elim c.requires.part le_prop (λ x. let (bytes, good, few, h, lies) = x in
-    head_was_not (g.B.Book.meaning c.args.book.now) (g.met.B.Book.sound c.args.book.now)
-    c.args.unknown c.args.levels bytes good c.args.open_levels.now c.args.part c.args.from h c.args.piece.now lies c.as_slice.result.now 20
+    head_was_not (g.B.Book.meaning c.args.basis.now.book.now) (g.met.B.Book.sound c.args.basis.now.book.now)
+    c.args.basis.now.unknown c.args.basis.now.levels bytes good c.args.open_levels.now c.args.part c.args.from h c.args.piece.now lies c.as_slice.result.now 20
     (c.as_slice.ensures ∙ c.take_from.ensures) c.in-Ok-Some.head has.0 has.1
     (λ bad. let f : false ≡ true = c.in-Ok-Some.ensures.refused.1 (rw (← same) at bad) in cc)) in
     omega (arith, less, wide, kept)
@@ -39,8 +39,8 @@ begin_data-requires g c =
       bytes,
       good,
       few,
-      at_avp (g.B.Book.meaning c.args.book.now) (g.met.B.Book.sound c.args.book.now)
-          c.args.unknown c.args.levels bytes good c.args.open_levels.now c.args.part c.args.from h c.args.piece.now lies c.as_slice.result.now 20
+      at_avp (g.B.Book.meaning c.args.basis.now.book.now) (g.met.B.Book.sound c.args.basis.now.book.now)
+          c.args.basis.now.unknown c.args.basis.now.levels bytes good c.args.open_levels.now c.args.part c.args.from h c.args.piece.now lies c.as_slice.result.now 20
           (c.as_slice.ensures ∙ c.take_from.ensures) c.in-Ok-Some.head has.0 has.1
           (λ bad. let f : false ≡ true = c.in-Ok-Some.ensures.refused.1 (rw (← same) at bad) in cc),
     ))
@@ -48,7 +48,7 @@ begin_data-requires g c =
 pub broken-requires : goal.broken-requires
 broken-requires g c =
     let e : c.args.part.at < 2 ^ 32 = ∥∥₁_elim c.requires.part le_prop (λ x. let (bytes, good, few, h, lies) = x in
-    let p = place (g.B.Book.meaning c.args.book.now) (g.met.B.Book.sound c.args.book.now) c.args.unknown c.args.levels bytes good c.args.open_levels.now c.args.part.at h.under_way in
+    let p = place (g.B.Book.meaning c.args.basis.now.book.now) (g.met.B.Book.sound c.args.basis.now.book.now) c.args.basis.now.unknown c.args.basis.now.levels bytes good c.args.open_levels.now c.args.part.at h.under_way in
     omega (arith, p.0, p.1, few)) in
     omega (arith, e)
 
@@ -58,17 +58,17 @@ returns-in_ok-next-in-Ok-Some-clause-count g c =
     let same = ap (λ (k : OpenLevel). k.end) c.innermost.ensures in
     let wide = c.head_length.ensures in let kept = c.len.ensures in
     let less : length (front_bytes c.args.part.front) < head_length c.in-Ok-Some.head.vendor = ∥∥₁_elim c.requires.part le_prop (λ x. let (bytes, good, few, h, lies) = x in
-    head_was_not (g.B.Book.meaning c.args.book.now) (g.met.B.Book.sound c.args.book.now)
-    c.args.unknown c.args.levels bytes good c.args.open_levels.now c.args.part c.args.from h c.args.piece.now lies c.as_slice.result.now 20
+    head_was_not (g.B.Book.meaning c.args.basis.now.book.now) (g.met.B.Book.sound c.args.basis.now.book.now)
+    c.args.basis.now.unknown c.args.basis.now.levels bytes good c.args.open_levels.now c.args.part c.args.from h c.args.piece.now lies c.as_slice.result.now 20
     (c.as_slice.ensures ∙ c.take_from.ensures) c.in-Ok-Some.head has.0 has.1
     (λ bad. let f : false ≡ true = c.in-Ok-Some.ensures.refused.1 (rw (← same) at bad) in cc)) in
     let most : head_length c.in-Ok-Some.head.vendor ≤ length (front_bytes c.args.part.front) + length c.args.piece.now = ∥∥₁_elim c.requires.part le_prop (λ x. let (bytes, good, few, h, lies) = x in
-    let there = head_there (g.B.Book.meaning c.args.book.now) (g.met.B.Book.sound c.args.book.now)
-    c.args.unknown c.args.levels bytes good c.args.open_levels.now c.args.part c.args.from h c.args.piece.now lies c.as_slice.result.now 20
+    let there = head_there (g.B.Book.meaning c.args.basis.now.book.now) (g.met.B.Book.sound c.args.basis.now.book.now)
+    c.args.basis.now.unknown c.args.basis.now.levels bytes good c.args.open_levels.now c.args.part c.args.from h c.args.piece.now lies c.as_slice.result.now 20
     (c.as_slice.ensures ∙ c.take_from.ensures) c.in-Ok-Some.head has.0 has.1
     (λ bad. let f : false ≡ true = c.in-Ok-Some.ensures.refused.1 (rw (← same) at bad) in cc) in
-    let size = front_size (g.B.Book.meaning c.args.book.now) (g.met.B.Book.sound c.args.book.now)
-    c.args.unknown c.args.levels bytes good c.args.open_levels.now c.args.part c.args.from h c.args.piece.now lies c.as_slice.result.now 20
+    let size = front_size (g.B.Book.meaning c.args.basis.now.book.now) (g.met.B.Book.sound c.args.basis.now.book.now)
+    c.args.basis.now.unknown c.args.basis.now.levels bytes good c.args.open_levels.now c.args.part c.args.from h c.args.piece.now lies c.as_slice.result.now 20
     (c.as_slice.ensures ∙ c.take_from.ensures) in omega (arith, there, size)) in
     (omega (arith, less, wide, kept), omega (arith, most, wide, kept))
 
@@ -77,40 +77,40 @@ returns-in_ok-next-in-Ok-Some-clause-next g c bytes good h lies =
     let has = rw c.in-Ok-Some.field-0-is at c.in-Ok-Some.ensures.head in
     let same = ap (λ (k : OpenLevel). k.end) c.innermost.ensures in
     let wide = c.head_length.ensures in let kept = c.len.ensures in
-    let less = head_was_not (g.B.Book.meaning c.args.book.now) (g.met.B.Book.sound c.args.book.now)
-    c.args.unknown c.args.levels bytes good c.args.open_levels.now c.args.part c.args.from h c.args.piece.now lies c.as_slice.result.now 20
+    let less = head_was_not (g.B.Book.meaning c.args.basis.now.book.now) (g.met.B.Book.sound c.args.basis.now.book.now)
+    c.args.basis.now.unknown c.args.basis.now.levels bytes good c.args.open_levels.now c.args.part c.args.from h c.args.piece.now lies c.as_slice.result.now 20
     (c.as_slice.ensures ∙ c.take_from.ensures) c.in-Ok-Some.head has.0 has.1
     (λ bad. let f : false ≡ true = c.in-Ok-Some.ensures.refused.1 (rw (← same) at bad) in cc) in
-    let avp = at_avp (g.B.Book.meaning c.args.book.now) (g.met.B.Book.sound c.args.book.now)
-    c.args.unknown c.args.levels bytes good c.args.open_levels.now c.args.part c.args.from h c.args.piece.now lies c.as_slice.result.now 20
+    let avp = at_avp (g.B.Book.meaning c.args.basis.now.book.now) (g.met.B.Book.sound c.args.basis.now.book.now)
+    c.args.basis.now.unknown c.args.basis.now.levels bytes good c.args.open_levels.now c.args.part c.args.from h c.args.piece.now lies c.as_slice.result.now 20
     (c.as_slice.ensures ∙ c.take_from.ensures) c.in-Ok-Some.head has.0 has.1
     (λ bad. let f : false ≡ true = c.in-Ok-Some.ensures.refused.1 (rw (← same) at bad) in cc) in
     let r = h.reached in
-    subst (λ (n : ℕ). IsNext (g.B.Book.meaning c.args.book.now) c.args.unknown
-    c.args.levels bytes good c.begin_data.new.open_levels c.in_ok-next-in-Ok-Some.next n) (omega (arith, r, less, wide, kept))
+    subst (λ (n : ℕ). IsNext (g.B.Book.meaning c.args.basis.now.book.now) c.args.basis.now.unknown
+    c.args.basis.now.levels bytes good c.begin_data.new.open_levels c.in_ok-next-in-Ok-Some.next n) (omega (arith, r, less, wide, kept))
     (c.in_ok-next-in-Ok-Some.ensures bytes good avp)
 
 pub returns-in_err-next-in-Ok-Some-clause-next : goal.returns-in_err-next-in-Ok-Some-clause-next
 returns-in_err-next-in-Ok-Some-clause-next g c bytes good h lies =
     let has = rw c.in-Ok-Some.field-0-is at c.in-Ok-Some.ensures.head in
     let same = ap (λ (k : OpenLevel). k.end) c.innermost.ensures in
-    let less = head_was_not (g.B.Book.meaning c.args.book.now) (g.met.B.Book.sound c.args.book.now)
-    c.args.unknown c.args.levels bytes good c.args.open_levels.now c.args.part c.args.from h c.args.piece.now lies c.as_slice.result.now 20
+    let less = head_was_not (g.B.Book.meaning c.args.basis.now.book.now) (g.met.B.Book.sound c.args.basis.now.book.now)
+    c.args.basis.now.unknown c.args.basis.now.levels bytes good c.args.open_levels.now c.args.part c.args.from h c.args.piece.now lies c.as_slice.result.now 20
     (c.as_slice.ensures ∙ c.take_from.ensures) c.in-Ok-Some.head has.0 has.1
     (λ bad. let f : false ≡ true = c.in-Ok-Some.ensures.refused.1 (rw (← same) at bad) in cc) in
-    let there = head_there (g.B.Book.meaning c.args.book.now) (g.met.B.Book.sound c.args.book.now)
-    c.args.unknown c.args.levels bytes good c.args.open_levels.now c.args.part c.args.from h c.args.piece.now lies c.as_slice.result.now 20
+    let there = head_there (g.B.Book.meaning c.args.basis.now.book.now) (g.met.B.Book.sound c.args.basis.now.book.now)
+    c.args.basis.now.unknown c.args.basis.now.levels bytes good c.args.open_levels.now c.args.part c.args.from h c.args.piece.now lies c.as_slice.result.now 20
     (c.as_slice.ensures ∙ c.take_from.ensures) c.in-Ok-Some.head has.0 has.1
     (λ bad. let f : false ≡ true = c.in-Ok-Some.ensures.refused.1 (rw (← same) at bad) in cc) in
-    let size = front_size (g.B.Book.meaning c.args.book.now) (g.met.B.Book.sound c.args.book.now) c.args.unknown c.args.levels bytes good
+    let size = front_size (g.B.Book.meaning c.args.basis.now.book.now) (g.met.B.Book.sound c.args.basis.now.book.now) c.args.basis.now.unknown c.args.basis.now.levels bytes good
     c.args.open_levels.now c.args.part c.args.from h c.args.piece.now lies c.as_slice.result.now 20 (c.as_slice.ensures ∙ c.take_from.ensures) in
-    let avp = at_avp (g.B.Book.meaning c.args.book.now) (g.met.B.Book.sound c.args.book.now)
-    c.args.unknown c.args.levels bytes good c.args.open_levels.now c.args.part c.args.from h c.args.piece.now lies c.as_slice.result.now 20
+    let avp = at_avp (g.B.Book.meaning c.args.basis.now.book.now) (g.met.B.Book.sound c.args.basis.now.book.now)
+    c.args.basis.now.unknown c.args.basis.now.levels bytes good c.args.open_levels.now c.args.part c.args.from h c.args.piece.now lies c.as_slice.result.now 20
     (c.as_slice.ensures ∙ c.take_from.ensures) c.in-Ok-Some.head has.0 has.1
     (λ bad. let f : false ≡ true = c.in-Ok-Some.ensures.refused.1 (rw (← same) at bad) in cc) in
     let r = h.reached in
     let p = err_from_is_err_and c.from_residual.result c.from_residual.ensures.1 in
-    rw (p.1, p.2) (stop_for (g.B.Book.meaning c.args.book.now) c.args.unknown c.args.levels bytes good _ _
+    rw (p.1, p.2) (stop_for (g.B.Book.meaning c.args.basis.now.book.now) c.args.basis.now.unknown c.args.basis.now.levels bytes good _ _
     (λ begins. record {
       level = begins.level;
       is_open = begins.is_open;
@@ -123,8 +123,8 @@ pub returns-in-Ok-None-clause-next : goal.returns-in-Ok-None-clause-next
 returns-in-Ok-None-clause-next g c bytes good h lies =
     let same = ap (λ (k : OpenLevel). k.end) c.innermost.ensures in
     let not_whole = c.avp_head.ensures.none (rw c.in-Ok-None.field-0-is at c.in-Ok-None.is) in
-    still_head (g.B.Book.meaning c.args.book.now) (g.met.B.Book.sound c.args.book.now) c.args.unknown
-    c.args.levels bytes good c.args.open_levels.now c.args.part c.args.from h c.args.piece.now lies c.as_slice.result.now 20
+    still_head (g.B.Book.meaning c.args.basis.now.book.now) (g.met.B.Book.sound c.args.basis.now.book.now) c.args.basis.now.unknown
+    c.args.basis.now.levels bytes good c.args.open_levels.now c.args.part c.args.from h c.args.piece.now lies c.as_slice.result.now 20
     (c.as_slice.ensures ∙ c.take_from.ensures) (omega arith) (record { at = c.args.part.at; front = c.take_from.new.self }) refl
     (sym c.as_slice.ensures) not_whole
     (λ bad. let f : false ≡ true = c.in-Ok-None.ensures.refused.1 (rw (← same) at bad) in cc)
@@ -133,7 +133,7 @@ pub returns-in-Err-Length-clause-next : goal.returns-in-Err-Length-clause-next
 returns-in-Err-Length-clause-next g c bytes good h lies =
     let same = ap (λ (k : OpenLevel). k.end) c.innermost.ensures in
     let bad = c.avp_head.ensures.refused.0 (rw c.in-Err-Length.is refl) in
-    let none = none_here (g.B.Book.meaning c.args.book.now) (g.met.B.Book.sound c.args.book.now) c.args.unknown c.args.levels bytes good c.args.open_levels.now
+    let none = none_here (g.B.Book.meaning c.args.basis.now.book.now) (g.met.B.Book.sound c.args.basis.now.book.now) c.args.basis.now.unknown c.args.basis.now.levels bytes good c.args.open_levels.now
     c.args.part c.args.from h c.args.piece.now lies c.as_slice.result.now 20 (c.as_slice.ensures ∙ c.take_from.ensures) (rw same at bad) in
-    rw c.broken.ensures (found_broken (g.B.Book.meaning c.args.book.now) (g.met.B.Book.sound c.args.book.now)
-    c.args.unknown c.args.levels bytes good c.args.open_levels.now c.args.part.at h.under_way none.0 none.1)
+    rw c.broken.ensures (found_broken (g.B.Book.meaning c.args.basis.now.book.now) (g.met.B.Book.sound c.args.basis.now.book.now)
+    c.args.basis.now.unknown c.args.basis.now.levels bytes good c.args.open_levels.now c.args.part.at h.under_way none.0 none.1)

@@ -23,36 +23,36 @@ begin_head-requires-clause-few g c =
 
 pub returns-in_err-part-clause-next : goal.returns-in_err-part-clause-next
 returns-in_err-part-clause-next g c bytes good w lies =
-    let d = g.B.Book.meaning c.args.book.now in
+    let d = g.B.Book.meaning c.args.basis.now.book.now in
     let p = err_from_is_err_and c.from_residual-in_err-part.result c.from_residual-in_err-part.ensures.1 in
     let now = rw c.in-Some.is at (c.in_ok-at.ensures.next bytes good w lies) in
-    rw (p.1, p.2) (stop_for d c.args.unknown c.args.levels bytes good ⊥ _ (λ none. absurd none) _
-    (c.in_err-part.ensures d c.args.unknown c.args.levels bytes good (g.met.B.Book.sound c.args.book.now) now))
+    rw (p.1, p.2) (stop_for d c.args.basis.now.unknown c.args.basis.now.levels bytes good ⊥ _ (λ none. absurd none) _
+    (c.in_err-part.ensures d c.args.basis.now.unknown c.args.basis.now.levels bytes good (g.met.B.Book.sound c.args.basis.now.book.now) now))
 
 pub read_head-requires-clause-part : goal.read_head-requires-clause-part
 read_head-requires-clause-part g c =
-    let d = g.B.Book.meaning c.args.book.now in
+    let d = g.B.Book.meaning c.args.basis.now.book.now in
     ∥∥₁_map c.requires.under_way (λ x. let (bytes, good, few, w, lies) = x in
     let now = rw c.in-Some.is at (c.in_ok-at.ensures.next bytes good w lies) in (
       bytes,
       good,
       few,
-      subst (IsInHead d c.args.unknown c.args.levels bytes good c.read_piece.new.open_levels c.in_ok-part.part) c.if-at-from.true
-          (c.in_ok-part.ensures d c.args.unknown c.args.levels bytes good (g.met.B.Book.sound c.args.book.now) now),
+      subst (IsInHead d c.args.basis.now.unknown c.args.basis.now.levels bytes good c.read_piece.new.open_levels c.in_ok-part.part) c.if-at-from.true
+          (c.in_ok-part.ensures d c.args.basis.now.unknown c.args.basis.now.levels bytes good (g.met.B.Book.sound c.args.basis.now.book.now) now),
       lies,
     ))
 
 pub returns-then-at-from-clause-next : goal.returns-then-at-from-clause-next
 returns-then-at-from-clause-next g c bytes good w lies =
-    let d = g.B.Book.meaning c.args.book.now in
+    let d = g.B.Book.meaning c.args.basis.now.book.now in
     let now = rw c.in-Some.is at (c.in_ok-at.ensures.next bytes good w lies) in
-    c.read_head.ensures.next bytes good (subst (IsInHead d c.args.unknown c.args.levels bytes good c.read_piece.new.open_levels c.in_ok-part.part) c.if-at-from.true
-    (c.in_ok-part.ensures d c.args.unknown c.args.levels bytes good (g.met.B.Book.sound c.args.book.now) now)) lies
+    c.read_head.ensures.next bytes good (subst (IsInHead d c.args.basis.now.unknown c.args.basis.now.levels bytes good c.read_piece.new.open_levels c.in_ok-part.part) c.if-at-from.true
+    (c.in_ok-part.ensures d c.args.basis.now.unknown c.args.basis.now.levels bytes good (g.met.B.Book.sound c.args.basis.now.book.now) now)) lies
 
 pub returns-clause-next : goal.returns-clause-next
 returns-clause-next g c bytes good w lies =
-    let d = g.B.Book.meaning c.args.book.now in
+    let d = g.B.Book.meaning c.args.basis.now.book.now in
     let now = rw c.in-Some.is at (c.in_ok-at.ensures.next bytes good w lies) in
     let from = (rw c.in-Some.is at c.in_ok-at.ensures.within).0 in
-    subst (IsInHead d c.args.unknown c.args.levels bytes good c.read_piece.new.open_levels c.in_ok-part.part) (omega (arith, from))
-    (c.in_ok-part.ensures d c.args.unknown c.args.levels bytes good (g.met.B.Book.sound c.args.book.now) now)
+    subst (IsInHead d c.args.basis.now.unknown c.args.basis.now.levels bytes good c.read_piece.new.open_levels c.in_ok-part.part) (omega (arith, from))
+    (c.in_ok-part.ensures d c.args.basis.now.unknown c.args.basis.now.levels bytes good (g.met.B.Book.sound c.args.basis.now.book.now) now)

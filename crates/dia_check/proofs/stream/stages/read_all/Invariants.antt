@@ -9,10 +9,10 @@ abbrev pub invariant-loop-taken : goal.invariant-loop-taken
 invariant-loop-taken g l =
     (l.taken ≤ length l.piece)
     × (l.body.def ≡ l.fn.body.def)
-    × ∥ ((bytes : List ℕ) × (length bytes < 2 ^ 32) × IsReading (g.B.Book.meaning l.book) l.unknown l.levels l.body (l.from + l.taken) bytes
+    × ∥ ((bytes : List ℕ) × (length bytes < 2 ^ 32) × IsReading (g.B.Book.meaning l.basis.book.now) l.basis.unknown l.basis.levels l.body (l.from + l.taken) bytes
     × LiesAt bytes (l.from + l.taken) (drop l.taken l.piece)) ∥₁
-    × ((bytes : List ℕ) (good : HasGoodHeader (g.B.Book.meaning l.book) bytes) → IsInPart (g.B.Book.meaning l.book) l.unknown l.levels bytes good l.fn.body.open_levels l.fn.body.part l.from
-    → LiesAt bytes l.from l.piece → IsInPart (g.B.Book.meaning l.book) l.unknown l.levels bytes good l.body.open_levels l.body.part (l.from + l.taken))
+    × ((bytes : List ℕ) (good : HasGoodHeader (g.B.Book.meaning l.basis.book.now) bytes) → IsInPart (g.B.Book.meaning l.basis.book.now) l.basis.unknown l.basis.levels bytes good l.fn.body.open_levels l.fn.body.part l.from
+    → LiesAt bytes l.from l.piece → IsInPart (g.B.Book.meaning l.basis.book.now) l.basis.unknown l.basis.levels bytes good l.body.open_levels l.body.part (l.from + l.taken))
 
 abbrev pub decreases-loop-taken : goal.decreases-loop-taken
 decreases-loop-taken g l = length l.piece - l.taken
