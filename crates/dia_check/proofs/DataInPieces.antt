@@ -22,7 +22,6 @@ use Rattle.dia_check.specs.declared.open_levels.OpenLevels.{OpenLevels}
 use Rattle.dia_check.specs.declared.open_levels.Wrong.{Wrong}
 use Rattle.dia_check.specs.declared.fault.Refusal.{Refusal}
 use Rattle.dia_check.specs.declared.stream.parts.Part.{Part}
-use Rattle.dia_check.specs.declared.stream.parts.Done.{Done}
 use Rattle.dia_check.specs.declared.stream.parts.DataPart.{DataPart}
 use Rattle.dia_check.specs.Valid.{known}
 use Rattle.dia_check.specs.Levels.{between, MayOpen}

@@ -61,6 +61,12 @@ fn read_avps<B: Book>(
     ensures next { HasReadAvps (plain_basis B.meaning basis.now)
         open_levels.old from piece.now open_levels.new result }
 {
+    // a copy of its own stays in registers over the loop
+    let own = Basis {
+        book: basis.book,
+        unknown: basis.unknown,
+        levels: basis.levels,
+    };
     let stop = from + piece.len();
     let mut at = from;
     loop {
@@ -68,10 +74,10 @@ fn read_avps<B: Book>(
         let until = end.min(stop);
         match next_avp(&piece[at - from..until - from]) {
             Ok(Some((avp, rest))) => {
-                match check_avp(basis, open_levels, &avp) {
+                match check_avp(&own, open_levels, &avp) {
                     Ok(Some(group)) => {
                         let length = avp.length();
-                        open_group(basis.book, open_levels, group, at + length)?;
+                        open_group(own.book, open_levels, group, at + length)?;
                         at += length - avp.bytes.len();
                     }
                     Ok(None) => at = until - rest.len(),
@@ -82,7 +88,7 @@ fn read_avps<B: Book>(
                 if stop < end {
                     return Ok(Some(at));
                 }
-                if let Some(wrong) = missing_at_end(basis.book, open_levels) {
+                if let Some(wrong) = missing_at_end(own.book, open_levels) {
                     return Err(fault(end, wrong));
                 }
                 if !open_levels.close() {
