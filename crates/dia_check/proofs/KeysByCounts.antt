@@ -1,10 +1,10 @@
 -- What a level's rules say of one key more, from the counts of the keys before it.
-use Rattle.std.proofs.Common.{◌≡◌, ◌≢◌, ℕ, zero, suc, ◌+◌, ◌<◌, ◌≤◌, Bool, true, false, List, [], ◌∷◌, ◌++◌, length, set, drop, get_or}
-use Rattle.std.proofs.Common.{Option, Some, None, refl, sym, ap, subst, ◌∙◌, arith, inl, inr, get_or-set_other, get_or-set_same}
+use Rattle.std.proofs.Common.{◌≡◌, ◌≢◌, ℕ, zero, suc, ◌+◌, ◌<◌, ◌≤◌, Bool, true, false, List, [], ◌∷◌, ◌++◌, length, drop, get_or}
+use Rattle.std.proofs.Common.{Option, Some, None, refl, sym, ap, subst, ◌∙◌, arith, inl, inr}
 use Rattle.std.specs.Option.{option_eq}
 use Rattle.std.specs.Prelude.{nat_eq, max, slice_get, slice_index, ◌==◌, if◌then◌else◌, ◌⊎◌, nat_lt}
 use Rattle.std.proofs.lemmas.Bool.{eqb-true, eq-eqb, both_ways, ltb-true, ltb-false}
-use Rattle.std.proofs.lemmas.List.{length-set, length-drop}
+use Rattle.std.proofs.lemmas.List.{length-drop}
 use Rattle.std.proofs.lemmas.List.Sums.{length-filter, count_by-le-length, prefix_len-le-length}
 use Rattle.std.proofs.lemmas.Option.{none-some, same_Some, slice_get_cases, slice_get_within}
 use Rattle.dia_wire.specs.declared.Key.{Key}
@@ -15,6 +15,9 @@ use Rattle.dia_check.specs.declared.fault.Reason.TheVariants as reason
 use Rattle.dia_check.specs.declared.fault.Subject.{Subject}
 use Rattle.dia_check.specs.declared.fault.Subject.TheVariants.{Avp}
 use Rattle.dia_check.specs.declared.open_levels.OpenLevel.{OpenLevel}
+use Rattle.dia_check.specs.declared.open_levels.tally.Met.{Met}
+use Rattle.dia_check.specs.Tallies.{count_in}
+use Rattle.dia_check.proofs.Tallies.{IsOneMore}
 use Rattle.std.specs.List.{prefix_len}
 use Rattle.dia_check.specs.Valid.{fixed_rules, counted}
 use Rattle.dia_check.specs.Faults.{runs, met, run_end, loose_start, row_of, subject_of, IsFirstShort}
@@ -61,32 +64,32 @@ pub no_max_of : (o : Option ℕ) (n : ℕ) → false ≡ option_eq nat_eq o (Som
 no_max_of None n h e = none-some n e
 no_max_of (Some m) n h e = both_ways (nat_eq m n) (sym h) (eq-eqb m n (same_Some m n e))
 
-module _ (rules : List DRule) (are : AreRules rules) (keys : List Key) (key : Key) (level : OpenLevel) (counts : List ℕ) (c : IsCounted rules keys level counts)
+module _ (rules : List DRule) (are : AreRules rules) (keys : List Key) (key : Key) (level : OpenLevel) (tally : List Met) (c : IsCounted rules keys level tally)
     (run : ℕ) (o : Option ℕ) (leads : Leads rules keys key level.run run o) where
-  pub rule_within : (i : ℕ) → o ≡ Some i → (i < length rules) × (i < length counts) × (i < 1024)
-  rule_within i some = let lt = (leads.counts i some).0 in (lt, omega (arith, lt, c.many), omega (arith, lt, are.few))
+  pub rule_within : (i : ℕ) → o ≡ Some i → (i < length rules) × (i < 1024)
+  rule_within i some = let lt = (leads.counts i some).0 in (lt, omega (arith, lt, are.few))
 
-  pub count_few : (i : ℕ) (rule : DRule) → slice_get rules i ≡ Some rule → slice_index counts i ≤ length keys
+  pub count_few : (i : ℕ) (rule : DRule) → slice_get rules i ≡ Some rule → count_in tally i ≤ length keys
   count_few i rule at = let e = c.counted i rule at in omega (arith, e, met_few rules keys i rule)
 
-  count_of_run : (i : ℕ) (rule : DRule) → i < length (fixed_rules rules) → slice_get rules i ≡ Some rule → slice_index (runs (fixed_rules rules) keys) i ≡ slice_index counts i
+  count_of_run : (i : ℕ) (rule : DRule) → i < length (fixed_rules rules) → slice_get rules i ≡ Some rule → slice_index (runs (fixed_rules rules) keys) i ≡ count_in tally i
   count_of_run i rule lt at = sym (c.counted i rule at ∙ met_fixed rules keys i rule (fixed_at rules i rule are lt at).1)
 
   pub to_within : run ≤ length rules
   to_within = omega (arith, leads.within.0, fixed_few rules)
 
-  run_now : (i : ℕ) (rule : DRule) → i < run → slice_get rules i ≡ Some rule → slice_index (runs (fixed_rules rules) (keys ++ key ∷ [])) i ≡ slice_index counts i
+  run_now : (i : ℕ) (rule : DRule) → i < run → slice_get rules i ≡ Some rule → slice_index (runs (fixed_rules rules) (keys ++ key ∷ [])) i ≡ count_in tally i
   run_now i rule lt at = leads.same_runs i lt ∙ count_of_run i rule (omega (arith, lt, leads.within.0)) at
 
   -- rules that are met up to the present run, and from it on
-  met_to : (to : ℕ) → AreMet rules counts level.run to → AreMet rules counts 0 to
+  met_to : (to : ℕ) → AreMet rules tally level.run to → AreMet rules tally 0 to
   met_to to more i rule from lt at = by (nat_lt i level.run) refl
     where
-      by : (b : Bool) → nat_lt i level.run ≡ b → rule.min ≤ slice_index counts i
+      by : (b : Bool) → nat_lt i level.run ≡ b → rule.min ≤ count_in tally i
       by true e = c.met_before i rule from (ltb-true i level.run e) at
       by false e = more i rule (ltb-false i level.run e) lt at
 
-  pub missing_first : (i : ℕ) (rule : DRule) → IsFirstUnmet rules counts level.run run i → slice_get rules i ≡ Some rule
+  pub missing_first : (i : ℕ) (rule : DRule) → IsFirstUnmet rules tally level.run run i → slice_get rules i ≡ Some rule
       → IsFirstMisplaced rules keys key (record { reason = reason.Missing; subject = subject_of rule.key })
   missing_first i rule unmet at = record {
     misplaced = missing i rule short (leads.passed i unmet.from_here unmet.inside);
@@ -99,7 +102,7 @@ module _ (rules : List DRule) (are : AreRules rules) (keys : List Key) (key : Ke
       short : IsFirstShort rules (keys ++ key ∷ []) i rule
       short = record {
         is_rule = (fixed_at rules i rule are (omega (arith, unmet.inside, leads.within.0)) at).0;
-        short = let lt : slice_index counts i < rule.min = subst (λ (r : DRule). slice_index counts i < r.min) same unmet.unmet in omega (arith, lt, run_now i rule unmet.inside at);
+        short = let lt : count_in tally i < rule.min = subst (λ (r : DRule). count_in tally i < r.min) same unmet.unmet in omega (arith, lt, run_now i rule unmet.inside at);
         first = λ j other lt here.
             let place = fixed_place rules j other are here in
             let enough = met_to i unmet.met_before j other (omega arith) lt place.0 in
@@ -111,7 +114,7 @@ module _ (rules : List DRule) (are : AreRules rules) (keys : List Key) (key : Ke
       sooner r s (not_allowed h) = omega arith
       sooner r s (too_many j q max here is before now) = omega arith
 
-  module _ (enough : AreMet rules counts level.run run) where
+  module _ (enough : AreMet rules tally level.run run) where
     none_missing : (i : ℕ) (rule : DRule) → IsFirstShort rules (keys ++ key ∷ []) i rule → run_end rules i (keys ++ key ∷ []) ≡ length keys → ⊥
     none_missing i rule first end = by (nat_lt i run) refl
       where
@@ -136,15 +139,15 @@ module _ (rules : List DRule) (are : AreRules rules) (keys : List Key) (key : Ke
         sooner r s (too_many j q max here is before now) = omega arith
 
     module _ (i : ℕ) (some : o ≡ Some i) (rule : DRule) (at : slice_get rules i ≡ Some rule) where
-      met_next : (j : ℕ) (other : DRule) → slice_get rules j ≡ Some other → met rules (keys ++ key ∷ []) j other ≡ slice_index counts j + (if j == i then 1 else 0)
+      met_next : (j : ℕ) (other : DRule) → slice_get rules j ≡ Some other → met rules (keys ++ key ∷ []) j other ≡ count_in tally j + (if j == i then 1 else 0)
       met_next j other here = (leads.counts i some).2 j other here ∙ ap (λ (n : ℕ). n + (if j == i then 1 else 0)) (sym (c.counted j other here))
 
-      met_here : met rules (keys ++ key ∷ []) i rule ≡ suc (slice_index counts i)
-      met_here = let e = met_next i rule at in let one = ap (λ (b : Bool). slice_index counts i + (if b then 1 else 0)) (eq-eqb i i refl) in omega (arith, e, one)
+      met_here : met rules (keys ++ key ∷ []) i rule ≡ suc (count_in tally i)
+      met_here = let e = met_next i rule at in let one = ap (λ (b : Bool). count_in tally i + (if b then 1 else 0)) (eq-eqb i i refl) in omega (arith, e, one)
 
-      pub too_many_first : rule.max ≡ Some (slice_index counts i) → IsFirstMisplaced rules keys key (record { reason = reason.TooMany; subject = Avp key })
+      pub too_many_first : rule.max ≡ Some (count_in tally i) → IsFirstMisplaced rules keys key (record { reason = reason.TooMany; subject = Avp key })
       too_many_first is_max = record {
-        misplaced = too_many i rule (slice_index counts i) at is_max (sym (c.counted i rule at)) met_here;
+        misplaced = too_many i rule (count_in tally i) at is_max (sym (c.counted i rule at)) met_here;
         none_sooner = λ r s h. sooner r s h;
       }
         where
@@ -153,40 +156,18 @@ module _ (rules : List DRule) (are : AreRules rules) (keys : List Key) (key : Ke
           sooner r s (not_allowed h) = absurd ((leads.counts i some).1 h)
           sooner r s (too_many j q max here is before now) = omega arith
 
-      counts_next : (j : ℕ) → slice_index (set counts i (slice_index counts i + 1)) j ≡ slice_index counts j + (if j == i then 1 else 0)
-      counts_next j = by (j == i) refl
-        where
-          by : (b : Bool) → (j == i) ≡ b → slice_index (set counts i (slice_index counts i + 1)) j ≡ slice_index counts j + (if b then 1 else 0)
-          by true e =
-              let lt : i < length counts = omega (arith, (leads.counts i some).0, c.many) in
-              subst (λ (k : ℕ). slice_index (set counts i (slice_index counts i + 1)) k ≡ slice_index counts k + 1) (sym (eqb-true j i e)) (rw get_or-set_same refl)
-          by false e =
-              let ne : j ≢ i = λ p. both_ways (j == i) e (eq-eqb j i p) in
-              rw get_or-set_other (omega arith)
-
-      pub met_now : rule.max ≢ Some (slice_index counts i) → IsMet rules keys key (record level { run = run; reached = max level.reached (i + 1) }) (set counts i (slice_index counts i + 1))
-      met_now no_max = record {
+      pub met_now : (next : List Met) → IsOneMore (length rules) tally next i → rule.max ≢ Some (count_in tally i) → IsMet rules keys key (record level { run = run }) next
+      met_now next one no_max = record {
         none_wrong = λ r s h. none r s h;
         counted = record {
           run = leads.at;
-          many = length-set counts i (slice_index counts i + 1) ∙ c.many;
-          counted = λ j other here. counts_next j ∙ sym (met_next j other here);
-          met_before = λ j other from lt here. let old = met_to run enough j other from lt here in let next = counts_next j in omega (arith, old, next);
-          reached = let size = length-set counts i (slice_index counts i + 1) in omega (arith, size, c.reached, c.many, (leads.counts i some).0);
-          none_behind = λ j from. none_yet j from;
+          rising = one.rising;
+          below = one.below;
+          counted = λ j other here. one.counts j ∙ sym (met_next j other here);
+          met_before = λ j other from lt here. let old = met_to run enough j other from lt here in let more = one.counts j in omega (arith, old, more);
         };
       }
         where
-          none_yet : (j : ℕ) → max level.reached (i + 1) ≤ j → slice_index (set counts i (slice_index counts i + 1)) j ≡ 0
-          none_yet j from = by (j == i) refl
-            where
-              by : (b : Bool) → (j == i) ≡ b → slice_index (set counts i (slice_index counts i + 1)) j ≡ 0
-              by true e = absurd (omega (arith, eqb-true j i e, from))
-              by false e =
-                  let next = counts_next j ∙ ap (λ (b : Bool). slice_index counts j + (if b then 1 else 0)) e in
-                  let old = c.none_behind j (omega (arith, from)) in
-                  omega (arith, next, old)
-
           none : (r : Reason) (s : Subject) → IsMisplaced rules keys key r s → ⊥
           none r s (missing j q first end) = none_missing j q first end
           none r s (not_allowed h) = (leads.counts i some).1 h
@@ -195,8 +176,8 @@ module _ (rules : List DRule) (are : AreRules rules) (keys : List Key) (key : Ke
               by : (b : Bool) → (j == i) ≡ b → ⊥
               by true e =
                   let same : q ≡ rule = same_Some q rule (sym here ∙ ap (λ (k : ℕ). slice_get rules k) (eqb-true j i e) ∙ at) in
-                  let count : max ≡ slice_index counts i = sym before ∙ sym (c.counted j q here) ∙ ap (λ (k : ℕ). slice_index counts k) (eqb-true j i e) in
+                  let count : max ≡ count_in tally i = sym before ∙ sym (c.counted j q here) ∙ ap (λ (k : ℕ). count_in tally k) (eqb-true j i e) in
                   no_max (ap (λ (r : DRule). r.max) (sym same) ∙ is ∙ ap (λ (n : ℕ). Some n) count)
               by false e =
-                  let next = met_next j q here ∙ ap (λ (b : Bool). slice_index counts j + (if b then 1 else 0)) e in
+                  let next = met_next j q here ∙ ap (λ (b : Bool). count_in tally j + (if b then 1 else 0)) e in
                   omega (arith, now, before, c.counted j q here, next)

@@ -4,6 +4,7 @@ pub mod RuleCounts
 pub mod FaultlessKeys
 pub mod FaultlessFronts
 pub mod OneKeyMore
+pub mod Tallies
 pub mod KeysByCounts
 pub mod FaultlessLevels
 pub mod KeptLevels

@@ -22,6 +22,7 @@ use Rattle.dia_check.specs.Valid.{fixed_rules, is_listed, has_wildcard, is_wildc
 use Rattle.dia_check.specs.Faults.{runs, met, loose_start}
 use Rattle.dia_check.specs.OpenLevels.{IsAt, IsCounted, IsNotAllowed, Leads}
 use Rattle.dia_check.specs.declared.open_levels.OpenLevel.{OpenLevel}
+use Rattle.dia_check.specs.declared.open_levels.tally.Met.{Met}
 use Rattle.dia_check.proofs.LongestRuns.{sum-cons, is_of-key}
 use Rattle.dia_check.proofs.RunsOfOneKeyMore.{is_of, NoneFrom, Reaches, one_more, same_runs, behind_all, longer_run, in_run}
 use Rattle.dia_check.proofs.RuleCounts.{met_fixed, met_longer, met_more, counts_key, fixed_place, all_at, reached, length-runs, sum-runs}
@@ -166,8 +167,8 @@ count_one p k = let e = sum_by-cons (λ (x : Key). cond (p x) 1 0) k [] in omega
 
 -- ---- the four ways that a key can lead
 
-module _ (rules : List DRule) (are : AreRules rules) (keys : List Key) (key : Key) (level : OpenLevel) (counts : List ℕ) (shape : Shape)
-    (is_shape : IsShape rules shape) (c : IsCounted rules keys level counts) where
+module _ (rules : List DRule) (are : AreRules rules) (keys : List Key) (key : Key) (level : OpenLevel) (tally : List Met) (shape : Shape)
+    (is_shape : IsShape rules shape) (c : IsCounted rules keys level tally) where
   only_one : (i j : ℕ) (a b : DRule) → slice_get rules i ≡ Some a → lists_key key a ≡ true → slice_get rules j ≡ Some b → lists_key key b ≡ true → i ≡ j
   only_one i j a b at is at' is' = are.distinct i j a b at at' (is_of-key a key is ∙ sym (is_of-key b key is'))
 

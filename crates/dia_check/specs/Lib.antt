@@ -3,6 +3,7 @@ pub mod Valid
 pub mod Levels
 pub mod Faults
 pub mod Walks
+pub mod Tallies
 pub mod OpenLevels
 pub mod Admission
 pub mod UnderWay

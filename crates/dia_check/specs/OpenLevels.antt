@@ -1,5 +1,5 @@
--- What a checker keeps of the levels that are open: the run that each is in, and how often each of its rules was met.
-use Rattle.std.specs.Prelude.{◌≡◌, ◌≢◌, ℕ, zero, suc, ◌+◌, ◌<◌, ◌≤◌, ◌⊎◌, ◌==◌, if◌then◌else◌, false, List, [], ◌∷◌, ◌++◌, length, drop, replicate, Option, Some, None, slice_get, slice_index, IsTrue}
+-- What a checker keeps of the levels that are open: the run that each is in, and its tally.
+use Rattle.std.specs.Prelude.{◌≡◌, ◌≢◌, ℕ, zero, suc, ◌+◌, ◌<◌, ◌≤◌, ◌⊎◌, ◌==◌, if◌then◌else◌, false, List, [], ◌∷◌, ◌++◌, length, drop, Option, Some, None, slice_get, slice_index, IsTrue, vec_capacity}
 use Rattle.std.specs.List.{prefix_len}
 use Rattle.dia_wire.specs.declared.Key.{Key}
 use Rattle.dia_book.specs.declared.DRule.{DRule}
@@ -11,6 +11,8 @@ use Rattle.dia_check.specs.declared.fault.Subject.TheVariants.{Avp}
 use Rattle.dia_check.specs.declared.open_levels.OpenLevel.{OpenLevel}
 use Rattle.dia_check.specs.declared.open_levels.OpenLevels.{OpenLevels}
 use Rattle.dia_check.specs.declared.open_levels.Wrong.{Wrong}
+use Rattle.dia_check.specs.declared.open_levels.tally.Met.{Met}
+use Rattle.dia_check.specs.Tallies.{count_in, AreRising, AreBelow}
 use Rattle.dia_check.specs.Valid.{fixed_rules, is_listed, has_wildcard}
 use Rattle.dia_check.specs.Faults.{runs, run_end, loose_start, met, subject_of, row_of, IsFirstShort, IsFirstMissing}
 
@@ -56,26 +58,25 @@ IsAt (r ∷ rules) (suc m) keys =
     let n = prefix_len (λ key. lists_key key r) keys in (n < length keys) × IsAt rules m (drop n keys)
 
 -- the rules from one place up to another are met often enough
-abbrev pub AreMet : List DRule → List ℕ → ℕ → ℕ → Type 0
-AreMet rules counts from to = (i : ℕ) (rule : DRule) → from ≤ i → i < to → slice_get rules i ≡ Some rule → rule.min ≤ slice_index counts i
+abbrev pub AreMet : List DRule → List Met → ℕ → ℕ → Type 0
+AreMet rules tally from to = (i : ℕ) (rule : DRule) → from ≤ i → i < to → slice_get rules i ≡ Some rule → rule.min ≤ count_in tally i
 
 -- the first rule from one place up to another that is not
-pub record IsFirstUnmet (rules : List DRule) (counts : List ℕ) (from to i : ℕ) : Type 0 where
+pub record IsFirstUnmet (rules : List DRule) (tally : List Met) (from to i : ℕ) : Type 0 where
   pub from_here : from ≤ i
   pub inside : i < to
   pub rule : DRule
   pub is_rule : slice_get rules i ≡ Some rule
-  pub unmet : slice_index counts i < rule.min
-  pub met_before : AreMet rules counts from i
+  pub unmet : count_in tally i < rule.min
+  pub met_before : AreMet rules tally from i
 
--- the counts are those of the keys, and 0 from a place on; and the rules in front of the run are met
-pub record IsCounted (rules : List DRule) (keys : List Key) (level : OpenLevel) (counts : List ℕ) : Type 0 where
+-- the counts are those of the keys; and the rules in front of the run are met
+pub record IsCounted (rules : List DRule) (keys : List Key) (level : OpenLevel) (tally : List Met) : Type 0 where
   pub run : IsAt (fixed_rules rules) level.run keys
-  pub many : length counts ≡ length rules
-  pub counted : (i : ℕ) (rule : DRule) → slice_get rules i ≡ Some rule → slice_index counts i ≡ met rules keys i rule
-  pub met_before : AreMet rules counts 0 level.run
-  pub reached : level.reached ≤ length counts
-  pub none_behind : (i : ℕ) → level.reached ≤ i → slice_index counts i ≡ 0
+  pub rising : AreRising 0 tally
+  pub below : AreBelow (length rules) tally
+  pub counted : (i : ℕ) (rule : DRule) → slice_get rules i ≡ Some rule → count_in tally i ≡ met rules keys i rule
+  pub met_before : AreMet rules tally 0 level.run
 
 -- where one key more leads: into the run of a fixed rule or behind all the runs, and to the rule that counts it
 pub record Leads (rules : List DRule) (keys : List Key) (key : Key) (old run : ℕ) (rule : Option ℕ) : Type 0 where
@@ -90,9 +91,9 @@ pub record Leads (rules : List DRule) (keys : List Key) (key : Key) (old run : �
   pub counts_none : rule ≡ None → IsNotAllowed rules keys key
 
 -- one key more is met: nothing is wrong with it, and it is counted
-pub record IsMet (rules : List DRule) (keys : List Key) (key : Key) (level : OpenLevel) (counts : List ℕ) : Type 0 where
+pub record IsMet (rules : List DRule) (keys : List Key) (key : Key) (level : OpenLevel) (tally : List Met) : Type 0 where
   pub none_wrong : IsWellPlaced rules keys key
-  pub counted : IsCounted rules (keys ++ key ∷ []) level counts
+  pub counted : IsCounted rules (keys ++ key ∷ []) level tally
 
 -- ---- all levels
 
@@ -112,32 +113,42 @@ HasRoom level = length level.keys < 4294967295
 abbrev pub and_key : SoFar → Key → SoFar
 and_key level key = record { rules = level.rules; end = level.end; keys = level.keys ++ key ∷ [] }
 
--- what is kept of a level: its definition's number, its end, and its counts, with where they end
-pub record IsKept (defs : List PlainDefinition) (kept : OpenLevel) (counts : List ℕ) (level : SoFar) : Type 0 where
+-- what is kept of a level: its definition's number, its end, and its tally
+pub record IsKept (defs : List PlainDefinition) (kept : OpenLevel) (tally : List Met) (level : SoFar) : Type 0 where
   pub definition : PlainDefinition
   pub is_definition : slice_get defs kept.def ≡ Some definition
   pub is_rules : definition.rules ≡ level.rules
   pub is_end : kept.end ≡ level.end
-  pub top : kept.top ≡ kept.base + length counts
-  pub counted : IsCounted level.rules level.keys kept counts
+  pub counted : IsCounted level.rules level.keys kept tally
 
--- the levels, the outermost first, with their counts one level behind the other from a place on
-abbrev pub AreKept : List PlainDefinition → ℕ → List OpenLevel → List ℕ → List SoFar → Type 0
-AreKept defs base [] counts [] = counts ≡ []
-AreKept defs base [] counts (level ∷ levels) = ⊥
-AreKept defs base (kept ∷ others) counts [] = ⊥
-AreKept defs base (kept ∷ others) counts (level ∷ levels) =
-    (mine : List ℕ) × (rest : List ℕ) × (counts ≡ mine ++ rest) × (kept.base ≡ base) × IsKept defs kept mine level × AreKept defs (base + length mine) others rest levels
+-- the levels, the outermost first, with their tallies one level behind the other from a place on
+abbrev pub AreKept : List PlainDefinition → ℕ → List OpenLevel → List Met → List SoFar → Type 0
+AreKept defs base [] tallies [] = tallies ≡ []
+AreKept defs base [] tallies (level ∷ levels) = ⊥
+AreKept defs base (kept ∷ others) tallies [] = ⊥
+AreKept defs base (kept ∷ others) tallies (level ∷ levels) =
+    (mine : List Met) × (rest : List Met) × (tallies ≡ mine ++ rest) × (kept.base ≡ base) × IsKept defs kept mine level × AreKept defs (base + length mine) others rest levels
 
--- the open levels: those round the innermost, the outermost first, and the innermost, with zeros behind their counts
+-- there is room for the tally of a level in which each rule is met, and for that of each level round it
+abbrev pub HasTallyRoom : ℕ → OpenLevel → SoFar → Type 0
+HasTallyRoom capacity kept level = kept.base + length level.rules ≤ capacity
+
+abbrev pub HaveTallyRoom : ℕ → List OpenLevel → List SoFar → Type 0
+HaveTallyRoom capacity [] [] = Unit {0}
+HaveTallyRoom capacity [] (level ∷ levels) = ⊥
+HaveTallyRoom capacity (kept ∷ others) [] = ⊥
+HaveTallyRoom capacity (kept ∷ others) (level ∷ levels) = HasTallyRoom capacity kept level × HaveTallyRoom capacity others levels
+
+-- the open levels: those round the innermost, the outermost first, and the innermost
 pub record AreOpen (defs : List PlainDefinition) (open_levels : OpenLevels) (outer : List SoFar) (level : SoFar) : Type 0 where
-  pub before : List ℕ
-  pub mine : List ℕ
-  pub spare : ℕ
-  pub parts : open_levels.counts.items ≡ (before ++ mine) ++ replicate spare 0
+  pub before : List Met
+  pub mine : List Met
+  pub parts : open_levels.tallies.items ≡ before ++ mine
   pub are_outer : AreKept defs 0 open_levels.outer.items before outer
   pub base : open_levels.innermost.base ≡ length before
   pub innermost : IsKept defs open_levels.innermost mine level
+  pub outer_room : HaveTallyRoom (vec_capacity open_levels.tallies) open_levels.outer.items outer
+  pub room : HasTallyRoom (vec_capacity open_levels.tallies) open_levels.innermost level
 
 -- the open levels have their definitions in this dictionary
 abbrev pub AreOpenUnder : Dictionary → OpenLevels → List SoFar → SoFar → Type 0

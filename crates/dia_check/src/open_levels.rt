@@ -1,18 +1,23 @@
-//! The levels that are open, and how often each of their rules was met.
+//! The levels that are open, and how often their rules were met.
+
+mod tally;
 
 ghost use Rattle.std.specs.Prelude.{◌≡◌, ◌<◌, ◌≤◌, ◌++◌, ◌∷◌, [], ℕ, List, Option};
 ghost use Rattle.std.specs.Prelude.{Some, length, position, slice_get, MatchOption};
-ghost use Rattle.std.specs.Prelude.{OnOk, IfOk, IsTrue, IsFalse, replicate};
+ghost use Rattle.std.specs.Prelude.{OnOk, IfOk, IsTrue, IsFalse, MatchResult};
 ghost use Rattle.dia_wire.specs.declared.Key.{Key as AnyKey};
 ghost use Rattle.dia_book.specs.declared.DRule.{DRule as AnyRule};
 ghost use Rattle.dia_book.specs.Dictionary.{AreRules, PlainDefinition, slot_of};
 ghost use Rattle.dia_book.specs.Shapes.{IsShape};
+ghost use Rattle.dia_check.specs.declared.open_levels.tally.Met.{Met as AnyMet};
 ghost use Rattle.dia_check.specs.Faults.{subject_of};
+ghost use Rattle.dia_check.specs.Tallies.{written, AreRising, IsWritable};
 ghost use Rattle.dia_check.specs.OpenLevels.{AreMet, IsFirstUnmet, IsCounted, Leads};
 ghost use Rattle.dia_check.specs.OpenLevels.{IsMet, IsWellPlaced, IsFirstMisplaced};
 ghost use Rattle.dia_check.specs.OpenLevels.{IsMetAtEnd, IsMissingAtEnd, SoFar};
 ghost use Rattle.dia_check.specs.OpenLevels.{begun, and_key, HasRoom, AreOpen};
 
+use self::tally::{Met, count_at, find, from_rule, write};
 use crate::fault::{Reason, Subject};
 use dia_book::{DRule, DefId, Shape, Slot};
 use dia_wire::Key;
@@ -25,26 +30,22 @@ pub(crate) struct OpenLevel {
     pub(crate) def: DefId,
     /// The place behind its last byte.
     pub(crate) end: usize,
-    /// Where its counts begin: one for each rule.
+    /// Where its tally begins; it goes up to the next level's.
     base: usize,
-    /// The place behind its counts.
-    top: usize,
     /// The fixed rule in whose run the level is; behind the last run, the number of fixed rules.
     run: usize,
-    /// From the rule at this place on, none was met.
-    reached: usize,
 }
 
-/// The levels that are open, and the counts of their rules, one level behind the other.
+/// The levels that are open, and their tallies, one level behind the other.
 ///
-/// Behind the innermost level's counts stand zeros, for the next level that opens. A level that ends leaves zeros too:
-/// so to open one costs nothing for each of its rules.
+/// A level that opens has an empty tally, and room for all its rules: so an AVP that is met takes no memory, and to open
+/// or close a level costs nothing for each of its rules.
 #[derive(Drop)]
 pub(crate) struct OpenLevels {
     innermost: OpenLevel,
     /// The levels round it, the outermost first.
     outer: Vec<OpenLevel>,
-    counts: Vec<u32>,
+    tallies: Vec<Met>,
 }
 
 /// What is wrong with an AVP or at the end of a level.
@@ -52,6 +53,14 @@ pub(crate) struct OpenLevels {
 pub(crate) struct Wrong {
     pub(crate) reason: Reason,
     pub(crate) subject: Subject,
+}
+
+/// What an AVP changes in its level: the run, and the count of a rule at a place of the tally.
+#[derive(Clone, Copy)]
+struct Change {
+    run: usize,
+    place: Result<usize, usize>,
+    met: Met,
 }
 
 impl Wrong {
@@ -67,33 +76,24 @@ impl Wrong {
 }
 
 impl OpenLevel {
-    /// A level of which nothing was read yet, whose counts stand from one place up to another.
+    /// A level of which nothing was read yet, whose tally begins at a place.
     #[inline(always)]
-    fn new(def: DefId, end: usize, base: usize, top: usize) -> Self
-        ensures { result ≡ record {
-          def = def;
-          end = end;
-          base = base;
-          top = top;
-          run = 0;
-          reached = 0;
-        } }
+    fn new(def: DefId, end: usize, base: usize) -> Self
+        ensures { result ≡ record { def = def; end = end; base = base; run = 0 } }
     {
         OpenLevel {
             def,
             end,
             base,
-            top,
             run: 0,
-            reached: 0,
         }
     }
 
     /// The run into which an AVP of this slot leads, and the rule that counts it.
     #[inline(always)]
     fn lead(&self, shape: &Shape, slot: Slot) -> (usize, Option<usize>)
-        ensures { (rules : List AnyRule) (keys : List AnyKey) (key : AnyKey) (counts : List ℕ)
-            → AreRules rules → IsShape rules shape.now → IsCounted rules keys self.now counts
+        ensures { (rules : List AnyRule) (keys : List AnyKey) (key : AnyKey) (tally : List AnyMet)
+            → AreRules rules → IsShape rules shape.now → IsCounted rules keys self.now tally
             → slot ≡ slot_of rules key → Leads rules keys key self.now.run result.0 result.1 }
     {
         match slot {
@@ -104,70 +104,83 @@ impl OpenLevel {
         }
     }
 
-    /// Meets an AVP of this key and slot, or says what is wrong.
+    /// What an AVP of this key and slot changes, or what is wrong with it.
     #[inline(always)]
     fn meet(
-        &mut self,
-        counts: &mut [u32],
+        &self,
+        tally: &[Met],
         rules: &[DRule],
         shape: &Shape,
         slot: Slot,
         key: Key,
-    ) -> Option<Wrong>
+    ) -> Result<Change, Wrong>
         requires rules { AreRules rules.now }
         requires shape { IsShape rules.now shape.now }
         requires slot { slot ≡ slot_of rules.now key }
-        requires counted { ∥ ((keys : List AnyKey) × IsCounted rules.now keys self.old counts.old
+        requires counted { ∥ ((keys : List AnyKey) × IsCounted rules.now keys self.now tally.now
             × (length keys < 4294967295)) ∥₁ }
-        ensures { (keys : List AnyKey) → IsCounted rules.now keys self.old counts.old
-            → MatchOption result
-            (IsMet rules.now keys key self.new counts.new
-            × (self.new ≡ record self.old { run = self.new.run; reached = self.new.reached }))
+        ensures room { IfOk result (λ change. IsWritable (length rules.now) tally.now change.place) }
+        ensures met { (keys : List AnyKey) → IsCounted rules.now keys self.now tally.now
+            → MatchResult result
+            (λ change. IsMet rules.now keys key (record self.now { run = change.run })
+            (written tally.now change.place change.met))
             (λ wrong. IsFirstMisplaced rules.now keys key wrong) }
     {
         let (run, rule) = self.lead(shape, slot);
-        if let Some(place) = first_unmet(rules, shape, counts, self.run, run) {
+        if let Some(place) = first_unmet(rules, shape, tally, self.run, run) {
             let rule = rules[place];
-            return Some(missing(rule));
+            return Err(missing(rule));
         }
         let Some(rule) = rule else {
-            return Some(Wrong::avp(Reason::NotAllowed, key));
+            return Err(Wrong::avp(Reason::NotAllowed, key));
         };
-        let count = counts[rule];
+        let place = find(tally, rule);
+        let count = count_at(tally, place);
         if rules[rule].max == Some(count) {
-            return Some(Wrong::avp(Reason::TooMany, key));
+            return Err(Wrong::avp(Reason::TooMany, key));
         }
-        counts[rule] = count + 1;
-        self.run = run;
-        self.reached = self.reached.max(rule + 1);
-        None
+        let met = Met {
+            rule: rule as u32,
+            count: count + 1,
+        };
+        Ok(Change { run, place, met })
     }
 }
 
-/// The first rule from one place up to another that was met less often than its min. It takes as many steps as rules with a
-/// least count stand there and were met, and one more.
+/// The first rule from one place up to another that was met less often than its min. It takes as many steps as rules
+/// stand there that were met, and one more, and what `from_rule` takes.
 #[inline(always)]
 fn first_unmet(
     rules: &[DRule],
     shape: &Shape,
-    counts: &[u32],
+    tally: &[Met],
     from: usize,
     to: usize,
 ) -> Option<usize>
     requires shape { IsShape rules.now shape.now }
-    requires many { length counts.now ≡ length rules.now }
+    requires rising { AreRising 0 tally.now }
     requires within { (from ≤ length rules.now) × (to ≤ length rules.now) }
-    ensures { MatchOption result (AreMet rules.now counts.now from to)
-        (λ i. IsFirstUnmet rules.now counts.now from to i) }
+    ensures { MatchOption result (AreMet rules.now tally.now from to)
+        (λ i. IsFirstUnmet rules.now tally.now from to i) }
 {
     let mut place = shape.first_wanted(rules, from);
-    while place < to {
-        if counts[place] < rules[place].min {
+    if to <= place {
+        return None;
+    }
+    for met in from_rule(tally, from) {
+        let rule = met.rule as usize;
+        if rule < place {
+            continue;
+        }
+        if place < rule || met.count < rules[place].min {
             return Some(place);
         }
         place = shape.first_wanted(rules, place + 1);
+        if to <= place {
+            return None;
+        }
     }
-    None
+    Some(place)
 }
 
 /// The AVP of a rule is missing.
@@ -196,12 +209,10 @@ impl OpenLevels {
             → slice_get defs def ≡ Some definition → definition.rules ≡ rules.now
             → IfOk result (λ levels. AreOpen defs levels [] (begun rules.now end)) }
     {
-        let mut counts = Vec::with_capacity(alloc, rules.len())?;
-        add_zeros(&mut counts, rules.len())?;
         Ok(OpenLevels {
-            innermost: OpenLevel::new(def, end, 0, rules.len()),
+            innermost: OpenLevel::new(def, end, 0),
             outer: Vec::new(alloc),
-            counts,
+            tallies: Vec::with_capacity(alloc, rules.len())?,
         })
     }
 
@@ -217,12 +228,9 @@ impl OpenLevels {
             → definition.rules ≡ rules.now → AreOpen defs self.old outer level
             → OnOk result (AreOpen defs self.new (outer ++ level ∷ []) (begun rules.now end)) }
     {
-        let base = self.innermost.top;
-        let top = base + rules.len();
         self.outer.push(self.innermost)?;
-        let more = top.saturating_sub(self.counts.len());
-        add_zeros(&mut self.counts, more)?;
-        self.innermost = OpenLevel::new(def, end, base, top);
+        self.tallies.reserve(rules.len())?;
+        self.innermost = OpenLevel::new(def, end, self.tallies.len());
         Ok(())
     }
 
@@ -242,8 +250,7 @@ impl OpenLevels {
     {
         match self.outer.pop() {
             Some(next) => {
-                let base = self.innermost.base;
-                self.counts[base..base + self.innermost.reached].fill(0);
+                self.tallies.truncate(self.innermost.base);
                 self.innermost = next;
                 true
             }
@@ -272,9 +279,15 @@ impl OpenLevels {
             (λ wrong. IsFirstMisplaced rules.now level.keys key wrong) }
     {
         let base = self.innermost.base;
-        let top = self.innermost.top;
-        self.innermost
-            .meet(&mut self.counts[base..top], rules, shape, slot, key)
+        let tally = &self.tallies[base..];
+        match self.innermost.meet(tally, rules, shape, slot, key) {
+            Ok(change) => {
+                write(&mut self.tallies, base, change.place, change.met);
+                self.innermost.run = change.run;
+                None
+            }
+            Err(wrong) => Some(wrong),
+        }
     }
 
     /// What is missing at the end of the innermost level.
@@ -287,9 +300,8 @@ impl OpenLevels {
             → MatchOption result (IsMetAtEnd rules.now level.keys)
             (IsMissingAtEnd rules.now level.keys) }
     {
-        let OpenLevel { base, top, .. } = self.innermost;
-        let counts = &self.counts[base..top];
-        let place = first_unmet(rules, shape, counts, 0, rules.len())?;
+        let tally = &self.tallies[self.innermost.base..];
+        let place = first_unmet(rules, shape, tally, 0, rules.len())?;
         Some(missing(rules[place]))
     }
 
@@ -309,14 +321,4 @@ impl OpenLevels {
     {
         self.outer.len()
     }
-}
-
-/// Adds counts of 0. A level has few rules, so one after the other is faster than `resize`.
-fn add_zeros(counts: &mut Vec<u32>, many: usize) -> Result<(), AllocError>
-    ensures { OnOk result (counts.new.items ≡ counts.old.items ++ replicate many 0) }
-{
-    for _place in 0..many {
-        counts.push(0)?;
-    }
-    Ok(())
 }

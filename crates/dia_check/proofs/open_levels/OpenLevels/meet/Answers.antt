@@ -1,75 +1,59 @@
-use Rattle.std.proofs.Common.{◌≡◌, ℕ, Option, Some, None, length, take, drop, ◌++◌, ◌-◌, ◌∙◌, [], ◌∷◌, ap, arith, sym, subst, refl}
-use Rattle.std.specs.Prelude.{MatchOption}
-use Rattle.std.specs.Vec.{with_items}
-use borrow.Rule.Slice.PartMut.{post_of}
-use Rattle.dia_check.specs.declared.open_levels.OpenLevel.{OpenLevel}
-use Rattle.dia_check.specs.declared.open_levels.OpenLevels.{OpenLevels}
-use Rattle.dia_check.specs.OpenLevels.{IsCounted}
-use Rattle.dia_check.specs.declared.open_levels.Wrong.{Wrong}
-use Rattle.std.proofs.Common.{rules}
+use Rattle.std.proofs.Common.{List, [], ◌∷◌, ◌++◌, ◌-◌, length, drop, ap, subst, refl, arith, rules}
 use Rattle.std.proofs.Math.Logic.{∥∥₁_elim, ∥∥₁_map}
 use Rattle.std.specs.Coded.{le_prop}
-use Rattle.std.specs.Prelude.{◌≤◌}
-use Rattle.dia_check.proofs.KeptLevels.{own_counts, own_counted, own_size, rewritten, met_further}
+use Rattle.std.specs.Prelude.{◌≤◌, vec_capacity}
+use Rattle.dia_check.specs.declared.open_levels.OpenLevels.{OpenLevels}
+use Rattle.dia_check.specs.declared.open_levels.tally.Met.{Met}
+use Rattle.dia_check.specs.OpenLevels.{IsCounted}
+use Rattle.dia_check.specs.Tallies.{written, IsWritable}
+use Rattle.dia_check.proofs.KeptLevels.{own_low, own_slice, own_counted, met_further}
+use Rattle.dia_check.proofs.Tallies.{writable_prop, writable_more}
 use Rattle.dia_check.proofs.open_levels.OpenLevels.meet.Goals as goal
 
--- what holds where nothing is wrong, by what else holds there
-where_fine : (A B : Type 0) (P : Wrong → Type 0) (o : Option Wrong) → MatchOption o A P → (A → B) → MatchOption o B P
-where_fine A B P None h f = f h
-where_fine A B P (Some w) h f = h
+pub slice_bounds-tally-count : goal.slice_bounds-tally-count
+slice_bounds-tally-count c =
+    let low : c.args.self.now.innermost.base ≤ length c.args.self.now.tallies.items = ∥∥₁_elim c.requires.open le_prop (λ x. let (defs, outer, level, now, same, few) = x in own_low defs c.args.self.now outer level now) in
+    let same = ap length c.deref.ensures.value in
+    omega (arith, low, same)
 
-pub returns : goal.returns
-returns c defs outer level now same =
-    let before = c.args.self.now in
-    let base = before.innermost.base in
-    let size = before.innermost.top - base in
-    let counts = c.deref_mut.result.now in
-    let written = take base counts ++ (c.meet.new.counts ++ post_of base size counts) in
-    let after : OpenLevels = record { innermost = c.meet.new.self; outer = before.outer; counts = with_items before.counts written } in
-    let (is_size, low, high, reached) = own_size defs before outer level counts now c.deref_mut.ensures.value in
-    let many = c.meet.auto.counts ∙ ap length (own_counts defs before outer level counts now c.deref_mut.ensures.value) in
-    where_fine _ _ _ c.meet.result (c.meet.ensures level.keys (own_counted defs before outer level c.args.rules.now counts now same c.deref_mut.ensures.value))
-    (λ met. (
-      met.0.none_wrong,
-      met_further defs before after outer level c.args.rules.now c.args.key c.meet.new.self.run c.meet.new.self.reached c.meet.new.counts now same
-          (subst (λ (k : OpenLevel). IsCounted c.args.rules.now (level.keys ++ c.args.key ∷ []) k c.meet.new.counts) met.1 met.0.counted) met.1 refl many
-          (subst (λ (n : ℕ). after.counts.items ≡ take base before.counts.items ++ (c.meet.new.counts ++ drop n (drop base before.counts.items))) is_size
-          (rewritten before.counts.items counts c.meet.new.counts _ base size before.counts.len before.counts.ok.0 c.deref_mut.ensures.value (many ∙ sym is_size)
-          (omega (arith, low, high)) refl)),
-    ))
-
-pub offset_bounds-deref_mut-base : goal.offset_bounds-deref_mut-base
-offset_bounds-deref_mut-base c =
-    let low : c.args.self.now.innermost.base ≤ c.args.self.now.innermost.top = ∥∥₁_elim c.requires.open le_prop (λ x. let (defs, outer, level, now, same, few) = x in
-    (own_size defs c.args.self.now outer level c.args.self.now.counts.items now refl).1) in
-    let high : c.args.self.now.innermost.top ≤ length c.args.self.now.counts.items = ∥∥₁_elim c.requires.open le_prop (λ x. let (defs, outer, level, now, same, few) = x in
-    (own_size defs c.args.self.now outer level c.args.self.now.counts.items now refl).2) in
+pub slice_bounds-tally-start : goal.slice_bounds-tally-start
+slice_bounds-tally-start c =
+    let low : c.args.self.now.innermost.base ≤ length c.args.self.now.tallies.items = ∥∥₁_elim c.requires.open le_prop (λ x. let (defs, outer, level, now, same, few) = x in own_low defs c.args.self.now outer level now) in
+    let inside : c.args.self.now.innermost.base ≤ length c.deref.result.now = let same = ap length c.deref.ensures.value in omega (arith, low, same) in
     search rules
 
-pub slice_bounds-meet-count : goal.slice_bounds-meet-count
-slice_bounds-meet-count c =
-    let low : c.args.self.now.innermost.base ≤ c.args.self.now.innermost.top = ∥∥₁_elim c.requires.open le_prop (λ x. let (defs, outer, level, now, same, few) = x in
-    (own_size defs c.args.self.now outer level c.args.self.now.counts.items now refl).1) in
-    let high : c.args.self.now.innermost.top ≤ length c.args.self.now.counts.items = ∥∥₁_elim c.requires.open le_prop (λ x. let (defs, outer, level, now, same, few) = x in
-    (own_size defs c.args.self.now outer level c.args.self.now.counts.items now refl).2) in
-    search rules
-
-pub slice_bounds-meet-start : goal.slice_bounds-meet-start
-slice_bounds-meet-start c =
-    let low : c.args.self.now.innermost.base ≤ c.args.self.now.innermost.top = ∥∥₁_elim c.requires.open le_prop (λ x. let (defs, outer, level, now, same, few) = x in
-    (own_size defs c.args.self.now outer level c.args.self.now.counts.items now refl).1) in
-    let high : c.args.self.now.innermost.top ≤ length c.args.self.now.counts.items = ∥∥₁_elim c.requires.open le_prop (λ x. let (defs, outer, level, now, same, few) = x in
-    (own_size defs c.args.self.now outer level c.args.self.now.counts.items now refl).2) in
-    search rules
-
-pub slice_bounds-meet-end : goal.slice_bounds-meet-end
-slice_bounds-meet-end c =
-    let low : c.args.self.now.innermost.base ≤ c.args.self.now.innermost.top = ∥∥₁_elim c.requires.open le_prop (λ x. let (defs, outer, level, now, same, few) = x in
-    (own_size defs c.args.self.now outer level c.args.self.now.counts.items now refl).1) in
-    let high : c.args.self.now.innermost.top ≤ length c.args.self.now.counts.items = ∥∥₁_elim c.requires.open le_prop (λ x. let (defs, outer, level, now, same, few) = x in
-    (own_size defs c.args.self.now outer level c.args.self.now.counts.items now refl).2) in
+pub offset_bounds-deref-base : goal.offset_bounds-deref-base
+offset_bounds-deref-base c =
+    let low : c.args.self.now.innermost.base ≤ length c.args.self.now.tallies.items = ∥∥₁_elim c.requires.open le_prop (λ x. let (defs, outer, level, now, same, few) = x in own_low defs c.args.self.now outer level now) in
+    let inside : c.args.self.now.innermost.base ≤ length c.deref.result.now = let same = ap length c.deref.ensures.value in omega (arith, low, same) in
     search rules
 
 pub meet-requires-clause-counted : goal.meet-requires-clause-counted
 meet-requires-clause-counted c = ∥∥₁_map c.requires.open (λ x. let (defs, outer, level, now, same, few) = x in
-    (level.keys, own_counted defs c.args.self.now outer level c.args.rules.now _ now same c.deref_mut.ensures.value, few))
+    (level.keys, own_counted defs c.args.self.now outer level c.args.rules.now _ now same (own_slice c.args.self.now c.deref.result.now c.deref.ensures.value), few))
+
+pub write-requires-clause-base : goal.write-requires-clause-base
+write-requires-clause-base c =
+    let low : c.args.self.now.innermost.base ≤ length c.args.self.now.tallies.items = ∥∥₁_elim c.requires.open le_prop (λ x. let (defs, outer, level, now, same, few) = x in own_low defs c.args.self.now outer level now) in
+    omega (arith, low, c.args.self.now.tallies.ok.0)
+
+pub write-requires-clause-place : goal.write-requires-clause-place
+write-requires-clause-place c = ∥∥₁_elim c.requires.open (writable_prop _ _ c.in-Ok.change.place) (λ x. let (defs, outer, level, now, same, few) = x in
+    let room = now.room in
+    let many = ap length same in
+    writable_more (length c.args.rules.now) (vec_capacity c.args.self.now.tallies - c.args.self.now.innermost.base) (drop c.args.self.now.innermost.base c.args.self.now.tallies.items)
+    c.in-Ok.change.place (omega (arith, room, many))
+    (subst (λ (t : List Met). IsWritable (length c.args.rules.now) t c.in-Ok.change.place) (own_slice c.args.self.now c.deref.result.now c.deref.ensures.value) c.in-Ok.ensures.room))
+
+pub returns-in-Ok : goal.returns-in-Ok
+returns-in-Ok c defs outer level now same =
+    let before = c.args.self.now in
+    let after : OpenLevels = record { innermost = record before.innermost { run = c.in-Ok.change.run }; outer = before.outer; tallies = c.write.new.tallies } in
+    let slice = own_slice before c.deref.result.now c.deref.ensures.value in
+    let met = c.in-Ok.ensures.met level.keys (own_counted defs before outer level c.args.rules.now _ now same slice) in (
+      met.none_wrong,
+      met_further defs before after outer level c.args.rules.now c.args.key c.in-Ok.change.run (written (drop before.innermost.base before.tallies.items) c.in-Ok.change.place c.in-Ok.change.met) now same
+          (subst (λ (t : List Met). IsCounted c.args.rules.now (level.keys ++ c.args.key ∷ []) (record before.innermost { run = c.in-Ok.change.run }) (written t c.in-Ok.change.place c.in-Ok.change.met))
+          slice met.counted)
+          refl refl c.write.ensures.items c.write.ensures.capacity,
+    )

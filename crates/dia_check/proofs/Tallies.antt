@@ -1,0 +1,291 @@
+-- What a tally tells, and what it tells once a rule is counted anew.
+use Rattle.std.proofs.Common.{◌≡◌, ◌≢◌, ℕ, zero, suc, ◌+◌, ◌-◌, ◌<◌, ◌≤◌, Bool, true, false, List, [], ◌∷◌, ◌++◌, length, take, drop, set, get_or, Ok, Err, Some, Result, refl, sym, ap, subst, ◌∙◌, arith}
+use Rattle.std.proofs.Math.Bridge.{le_prop}
+use Rattle.std.specs.Prelude.{◌==◌, if◌then◌else◌, insert, slice_get, IfOk}
+use Rattle.std.specs.List.Sorted.{IsNonDecreasingBy, IsPartitionPoint}
+use Rattle.std.proofs.Math.Dec.{ltb}
+use Rattle.std.proofs.Math.Seq.{drop-length}
+use Rattle.std.proofs.lemmas.Bool.{both_ways, eq-eqb, eqb-true, ltb-true, ltb-false}
+use Rattle.std.proofs.lemmas.List.{take-append-drop, take_all, length-drop}
+use Rattle.std.proofs.lemmas.List.Edits.{length-insert}
+use Rattle.std.proofs.lemmas.Option.{none-some, same_Some, slice_get_within}
+use Rattle.dia_check.specs.declared.open_levels.tally.Met.{Met}
+use Rattle.dia_check.specs.Tallies.{count_in, written, AreRising, AreBelow, IsPlaceOf, IsFound, IsWritable}
+
+-- ---- one count
+
+pub count_here : (m : Met) (tally : List Met) (rule : ℕ) → m.rule ≡ rule → count_in (m ∷ tally) rule ≡ m.count
+count_here m tally rule e = ap (λ (b : Bool). if b then m.count else count_in tally rule) (eq-eqb m.rule rule e)
+
+pub count_other : (m : Met) (tally : List Met) (rule : ℕ) → m.rule ≢ rule → count_in (m ∷ tally) rule ≡ count_in tally rule
+count_other m tally rule other = by (m.rule == rule) refl
+  where
+    by : (b : Bool) → (m.rule == rule) ≡ b → (if b then m.count else count_in tally rule) ≡ count_in tally rule
+    by true e = absurd (other (eqb-true m.rule rule e))
+    by false e = refl
+
+-- a rule in front of all that are told
+pub count_before : (rule from : ℕ) (tally : List Met) → AreRising from tally → rule < from → count_in tally rule ≡ 0
+count_before rule from [] rising lt = refl
+count_before rule from (m ∷ tally) (le, rising) lt =
+    count_other m tally rule (λ e. omega (arith, e, le, lt)) ∙ count_before rule (m.rule + 1) tally rising (omega (arith, le, lt))
+
+-- a rule behind the first ones
+pub count_behind : (front tally : List Met) (to rule : ℕ) → AreBelow to front → to ≤ rule → count_in (front ++ tally) rule ≡ count_in tally rule
+count_behind [] tally to rule below le = refl
+count_behind (m ∷ front) tally to rule (lt, below) le =
+    count_other m (front ++ tally) rule (λ e. omega (arith, e, lt, le)) ∙ count_behind front tally to rule below le
+
+count_front : (front old new : List Met) (rule : ℕ) → count_in old rule ≡ count_in new rule → count_in (front ++ old) rule ≡ count_in (front ++ new) rule
+count_front [] old new rule e = e
+count_front (m ∷ front) old new rule e = ap (λ (n : ℕ). if m.rule == rule then m.count else n) (count_front front old new rule e)
+
+-- ---- rules that rise
+
+pub rising_less : (from to : ℕ) (tally : List Met) → from ≤ to → AreRising to tally → AreRising from tally
+rising_less from to [] le rising = tt
+rising_less from to (m ∷ tally) le (above, rising) = (omega (arith, le, above), rising)
+
+rising_front : (from to : ℕ) (front old new : List Met) → AreRising from (front ++ old) → AreBelow to front → from ≤ to → AreRising to new → AreRising from (front ++ new)
+rising_front from to [] old new rising below le more = rising_less from to new le more
+rising_front from to (m ∷ front) old new (above, rising) (lt, below) le more = (above, rising_front (m.rule + 1) to front old new rising below (omega (arith, lt)) more)
+
+pub rising_behind : (from : ℕ) (front tally : List Met) → AreRising from (front ++ tally) → AreRising 0 tally
+rising_behind from [] tally rising = rising_less 0 from tally (omega arith) rising
+rising_behind from (m ∷ front) tally (above, rising) = rising_behind (m.rule + 1) front tally rising
+
+pub rising_drop : (n : ℕ) (tally : List Met) → AreRising 0 tally → AreRising 0 (drop n tally)
+rising_drop n tally rising = rising_behind 0 (take n tally) (drop n tally) (subst (AreRising 0) (sym (take-append-drop n tally)) rising)
+
+pub rising_prop : (from : ℕ) (tally : List Met) → IsProp (AreRising from tally)
+rising_prop from [] = λ a b. refl
+rising_prop from (m ∷ tally) = hlevel (le_prop, rising_prop (m.rule + 1) tally)
+
+-- as many are told as there are rules, at most
+pub rising_size : (from to : ℕ) (tally : List Met) → AreRising from tally → AreBelow to tally → from ≤ to → from + length tally ≤ to
+rising_size from to [] rising below le = omega (arith, le)
+rising_size from to (m ∷ tally) (above, rising) (lt, below) le = let rest = rising_size (m.rule + 1) to tally rising below (omega (arith, lt)) in omega (arith, rest, above)
+
+below_parts : (to : ℕ) (front tally : List Met) → AreBelow to (front ++ tally) → AreBelow to front × AreBelow to tally
+below_parts to [] tally below = (tt, below)
+below_parts to (m ∷ front) tally (lt, below) = let parts = below_parts to front tally below in ((lt, parts.0), parts.1)
+
+below_join : (to : ℕ) (front tally : List Met) → AreBelow to front → AreBelow to tally → AreBelow to (front ++ tally)
+below_join to [] tally first below = below
+below_join to (m ∷ front) tally (lt, first) below = (lt, below_join to front tally first below)
+
+-- ---- a rule that is counted anew
+
+set_parts : (tally : List Met) (i : ℕ) (m : Met) → i < length tally → set tally i m ≡ take i tally ++ m ∷ drop (suc i) tally
+set_parts [] i m lt = absurd (omega (arith, lt))
+set_parts (q ∷ tally) zero m lt = refl
+set_parts (q ∷ tally) (suc i) m lt = ap (λ (t : List Met). q ∷ t) (set_parts tally i m (omega (arith, lt)))
+
+drop_at : (tally : List Met) (i : ℕ) (m : Met) → slice_get tally i ≡ Some m → drop i tally ≡ m ∷ drop (suc i) tally
+drop_at [] i m at = absurd (none-some m at)
+drop_at (q ∷ tally) zero m at = ap (λ (x : Met). x ∷ tally) (same_Some q m at)
+drop_at (q ∷ tally) (suc i) m at = drop_at tally i m at
+
+-- one rule is met once more
+pub record IsOneMore (to : ℕ) (old new : List Met) (rule : ℕ) : Type 0 where
+  pub rising : AreRising 0 new
+  pub below : AreBelow to new
+  pub counts : (j : ℕ) → count_in new j ≡ count_in old j + (if j == rule then 1 else 0)
+
+module _ (to rule : ℕ) (tally : List Met) (rising : AreRising 0 tally) (below : AreBelow to tally) (m : Met) (same : m.rule ≡ rule) (few : rule < to) where
+  parted : (front old rest : List Met) → tally ≡ front ++ old → AreBelow rule front → AreRising (rule + 1) rest → AreBelow to rest
+      → ((j : ℕ) → j ≢ rule → count_in old j ≡ count_in rest j) → m.count ≡ count_in tally rule + 1 → IsOneMore to tally (front ++ m ∷ rest) rule
+  parted front old rest parts first behind last others count = record {
+    rising = rising_front 0 rule front old (m ∷ rest) (subst (AreRising 0) parts rising) first (omega arith)
+        (omega (arith, same), subst (λ (n : ℕ). AreRising (n + 1) rest) (sym same) behind);
+    below = below_join to front (m ∷ rest) (below_parts to front old (subst (AreBelow to) parts below)).0 (omega (arith, same, few), last);
+    counts = λ j. by j (j == rule) refl;
+  }
+    where
+      by : (j : ℕ) (b : Bool) → (j == rule) ≡ b → count_in (front ++ m ∷ rest) j ≡ count_in tally j + (if b then 1 else 0)
+      by j true e =
+          let here : j ≡ rule = eqb-true j rule e in
+          let now = count_behind front (m ∷ rest) rule j first (omega (arith, here)) ∙ count_here m rest j (same ∙ sym here) in
+          now ∙ count ∙ ap (λ (n : ℕ). count_in tally n + 1) (sym here)
+      by j false e =
+          let other : j ≢ rule = λ p. both_ways (j == rule) e (eq-eqb j rule p) in
+          let now = count_front front (m ∷ rest) old j (count_other m rest j (λ p. other (sym p ∙ same)) ∙ sym (others j other)) in
+          let before = ap (λ (t : List Met). count_in t j) parts in
+          omega (arith, now, before)
+
+  told_once_more : (i : ℕ) (q : Met) → IsPlaceOf tally rule i → slice_get tally i ≡ Some q → q.rule ≡ rule → m.count ≡ count_in tally rule + 1
+      → IsOneMore to tally (set tally i m) rule
+  told_once_more i q place at is count =
+      let here = drop_at tally i q at in
+      let rest = (subst (AreRising rule) here place.behind).1 in
+      let last = (below_parts to (take i tally) (q ∷ drop (suc i) tally) (subst (AreBelow to) (sym (take-append-drop i tally) ∙ ap (λ (t : List Met). take i tally ++ t) here) below)).1 in
+      subst (λ (t : List Met). IsOneMore to tally t rule) (sym (set_parts tally i m (slice_get_within tally i q at)))
+      (parted (take i tally) (q ∷ drop (suc i) tally) (drop (suc i) tally) (sym (take-append-drop i tally) ∙ ap (λ (t : List Met). take i tally ++ t) here) place.before
+      (subst (λ (n : ℕ). AreRising (n + 1) (drop (suc i) tally)) is rest) last.1
+      (λ j other. count_other q (drop (suc i) tally) j (λ e. other (sym e ∙ is))) count)
+
+  told_first : (i : ℕ) → IsPlaceOf tally rule i → AreRising (rule + 1) (drop i tally) → m.count ≡ count_in tally rule + 1 → IsOneMore to tally (insert tally i m) rule
+  told_first i place behind count =
+      let last = (below_parts to (take i tally) (drop i tally) (subst (AreBelow to) (sym (take-append-drop i tally)) below)).1 in
+      parted (take i tally) (drop i tally) (drop i tally) (sym (take-append-drop i tally)) place.before behind last (λ j other. refl) count
+
+  pub one_more : (found : Result ℕ ℕ) → IsFound tally rule found → m.count ≡ count_in tally rule + 1 → IsOneMore to tally (written tally found m) rule
+  one_more (Ok i) (place, (q, at, is)) count = told_once_more i q place at is count
+  one_more (Err i) (place, behind) count = told_first i place behind count
+
+  pub writable : (found : Result ℕ ℕ) → IsFound tally rule found → m.count ≡ count_in tally rule + 1 → IsWritable to tally found
+  writable (Ok i) (place, (q, at, is)) count = slice_get_within tally i q at
+  writable (Err i) (place, behind) count =
+      let one = told_first i place behind count in
+      let size = rising_size 0 to (insert tally i m) one.rising one.below (omega arith) in
+      let more = length-insert tally i m place.within in
+      (place.within, omega (arith, size, more))
+
+-- the count of a rule that is found
+pub found_count : (tally : List Met) (rule i : ℕ) (m : Met) → IsPlaceOf tally rule i → slice_get tally i ≡ Some m → m.rule ≡ rule → count_in tally rule ≡ m.count
+found_count tally rule i m place at same =
+    ap (λ (t : List Met). count_in t rule) (sym (take-append-drop i tally)) ∙ count_behind (take i tally) (drop i tally) rule rule place.before (omega arith)
+    ∙ ap (λ (t : List Met). count_in t rule) (drop_at tally i m at) ∙ count_here m (drop (suc i) tally) rule same
+
+pub no_count : (tally : List Met) (rule i : ℕ) → IsPlaceOf tally rule i → AreRising (rule + 1) (drop i tally) → count_in tally rule ≡ 0
+no_count tally rule i place behind =
+    ap (λ (t : List Met). count_in t rule) (sym (take-append-drop i tally)) ∙ count_behind (take i tally) (drop i tally) rule rule place.before (omega arith)
+    ∙ count_before rule (rule + 1) (drop i tally) behind (omega arith)
+
+-- ---- the place of a rule
+
+rising_at : (from i : ℕ) (tally : List Met) (m : Met) → AreRising from tally → slice_get tally i ≡ Some m → from ≤ m.rule
+rising_at from i [] m rising at = absurd (none-some m at)
+rising_at from zero (q ∷ tally) m (above, rising) at = subst (λ (x : Met). from ≤ x.rule) (same_Some q m at) above
+rising_at from (suc i) (q ∷ tally) m (above, rising) at = let more = rising_at (q.rule + 1) i tally m rising at in omega (arith, above, more)
+
+below_at : (from i : ℕ) (tally : List Met) (m : Met) → AreRising from tally → slice_get tally i ≡ Some m → AreBelow m.rule (take i tally)
+below_at from i [] m rising at = absurd (none-some m at)
+below_at from zero (q ∷ tally) m rising at = tt
+below_at from (suc i) (q ∷ tally) m (above, rising) at =
+    ((let more = rising_at (q.rule + 1) i tally m rising at in omega (arith, more)), below_at (q.rule + 1) i tally m rising at)
+
+below_more : (less more : ℕ) (tally : List Met) → less ≤ more → AreBelow less tally → AreBelow more tally
+below_more less more [] le below = tt
+below_more less more (m ∷ tally) le (lt, below) = (omega (arith, lt, le), below_more less more tally le below)
+
+pub place_here : (tally : List Met) (rule i : ℕ) (m : Met) → AreRising 0 tally → slice_get tally i ≡ Some m → m.rule ≡ rule → IsPlaceOf tally rule i
+place_here tally rule i m rising at same = record {
+  within = let lt = slice_get_within tally i m at in omega (arith, lt);
+  before = subst (λ (n : ℕ). AreBelow n (take i tally)) same (below_at 0 i tally m rising at);
+  behind = subst (AreRising rule) (sym (drop_at tally i m at)) (omega (arith, same), (subst (AreRising 0) (drop_at tally i m at) (rising_drop i tally rising)).1);
+}
+
+pub place_end : (tally : List Met) (rule : ℕ) (m : Met) → AreRising 0 tally → slice_get tally (length tally - 1) ≡ Some m → m.rule < rule → IsPlaceOf tally rule (length tally)
+place_end tally rule m rising at lt = record {
+  within = omega arith;
+  before = subst (AreBelow rule) (sym (take_all (length tally) tally (omega arith))) all_below;
+  behind = subst (AreRising rule) (sym (drop-length tally)) tt;
+}
+  where
+    inside : length tally - 1 < length tally
+    inside = slice_get_within tally (length tally - 1) m at
+
+    last : drop (length tally - 1) tally ≡ m ∷ []
+    last = drop_at tally (length tally - 1) m at
+        ∙ ap (λ (t : List Met). m ∷ t) (ap (λ (n : ℕ). drop n tally) (let e : suc (length tally - 1) ≡ length tally = omega (arith, inside) in e) ∙ drop-length tally)
+
+    all_below : AreBelow rule tally
+    all_below = subst (AreBelow rule) (ap (λ (t : List Met). take (length tally - 1) tally ++ t) (sym last) ∙ take-append-drop (length tally - 1) tally)
+        (below_join rule (take (length tally - 1) tally) (m ∷ []) (below_more m.rule rule (take (length tally - 1) tally) (omega (arith, lt)) (below_at 0 (length tally - 1) tally m rising at)) (lt, tt))
+
+rising_least : (from : ℕ) (tally : List Met) → AreRising from tally → (j : ℕ) (d : Met) → j < length tally → from ≤ (get_or tally j d).rule
+rising_least from [] rising j d lt = absurd (omega (arith, lt))
+rising_least from (m ∷ tally) (above, rising) zero d lt = above
+rising_least from (m ∷ tally) (above, rising) (suc j) d lt = let more = rising_least (m.rule + 1) tally rising j d (omega (arith, lt)) in omega (arith, above, more)
+
+pub rising_sorted : (from : ℕ) (tally : List Met) → AreRising from tally → IsNonDecreasingBy (λ (m : Met). m.rule) tally
+rising_sorted from [] rising i j d le lt = absurd (omega (arith, lt))
+rising_sorted from (m ∷ tally) (above, rising) zero zero d le lt = omega arith
+rising_sorted from (m ∷ tally) (above, rising) zero (suc j) d le lt = let more = rising_least (m.rule + 1) tally rising j d (omega (arith, lt)) in omega (arith, more)
+rising_sorted from (m ∷ tally) (above, rising) (suc i) zero d le lt = absurd (omega (arith, le))
+rising_sorted from (m ∷ tally) (above, rising) (suc i) (suc j) d le lt = rising_sorted (m.rule + 1) tally rising i j d (omega (arith, le)) (omega (arith, lt))
+
+below_take : (tally : List Met) (n rule : ℕ) → ((k : ℕ) (d : Met) → k < n → (get_or tally k d).rule < rule) → AreBelow rule (take n tally)
+below_take [] zero rule each = tt
+below_take [] (suc n) rule each = tt
+below_take (m ∷ tally) zero rule each = tt
+below_take (m ∷ tally) (suc n) rule each = (each 0 m (omega arith), below_take tally n rule (λ k d lt. each (suc k) d (omega (arith, lt))))
+
+rising_parted : (tally : List Met) (n rule from : ℕ) → AreRising from tally → ((d : Met) → n < length tally → rule ≤ (get_or tally n d).rule) → AreRising rule (drop n tally)
+rising_parted [] zero rule from rising each = tt
+rising_parted [] (suc n) rule from rising each = tt
+rising_parted (m ∷ tally) zero rule from (above, rising) each = (each m (omega arith), rising)
+rising_parted (m ∷ tally) (suc n) rule from (above, rising) each = rising_parted tally n rule (m.rule + 1) rising (λ d lt. each d (omega (arith, lt)))
+
+pub place_parted : (tally : List Met) (rule i : ℕ) → AreRising 0 tally → i ≤ length tally
+    → IsPartitionPoint (λ (m : Met). ltb m.rule rule ≡ true) (λ (m : Met). ltb m.rule rule ≡ false) tally i → IsPlaceOf tally rule i
+place_parted tally rule i rising le point = record {
+  within = le;
+  before = below_take tally i rule (λ k d lt. ltb-true (get_or tally k d).rule rule (point.0 k d (omega arith) lt));
+  behind = rising_parted tally i rule 0 rising (λ d lt. ltb-false (get_or tally i d).rule rule (point.1 i d (omega arith) lt));
+}
+
+-- what is told from a rule on
+pub same_from : (tally : List Met) (rule place i : ℕ) → IsPlaceOf tally rule place → rule ≤ i → count_in (take (length tally - place) (drop place tally)) i ≡ count_in tally i
+same_from tally rule place i is le =
+    let size = length-drop place tally in
+    ap (λ (t : List Met). count_in t i) (take_all (length tally - place) (drop place tally) (omega (arith, size)))
+    ∙ sym (count_behind (take place tally) (drop place tally) rule i is.before le) ∙ ap (λ (t : List Met). count_in t i) (take-append-drop place tally)
+
+pub rising_from : (tally : List Met) (place : ℕ) → AreRising 0 tally → AreRising 0 (take (length tally - place) (drop place tally))
+rising_from tally place rising =
+    let size = length-drop place tally in
+    subst (AreRising 0) (sym (take_all (length tally - place) (drop place tally) (omega (arith, size)))) (rising_drop place tally rising)
+
+-- ---- one behind the other
+
+module _ (tally : List Met) (index : ℕ) (m : Met) (at : slice_get tally index ≡ Some m) where
+  next : drop (suc index) tally ≡ drop (index + 1) tally
+  next = ap (λ (n : ℕ). drop n tally) (let e : suc index ≡ index + 1 = omega arith in e)
+
+  pub count_next : (rule : ℕ) → m.rule ≢ rule → count_in (drop (index + 1) tally) rule ≡ count_in (drop index tally) rule
+  count_next rule other =
+      ap (λ (t : List Met). count_in t rule) (sym next) ∙ sym (count_other m (drop (suc index) tally) rule other) ∙ ap (λ (t : List Met). count_in t rule) (sym (drop_at tally index m at))
+
+  pub count_first : (rule : ℕ) → m.rule ≡ rule → count_in (drop index tally) rule ≡ m.count
+  count_first rule same = ap (λ (t : List Met). count_in t rule) (drop_at tally index m at) ∙ count_here m (drop (suc index) tally) rule same
+
+  pub count_none : (rule : ℕ) → AreRising 0 tally → rule < m.rule → count_in (drop index tally) rule ≡ 0
+  count_none rule rising lt =
+      let parts = subst (AreRising 0) (drop_at tally index m at) (rising_drop index tally rising) in
+      ap (λ (t : List Met). count_in t rule) (drop_at tally index m at) ∙ count_before rule m.rule (m ∷ drop (suc index) tally) (omega arith, parts.1) lt
+
+pub count_end : (tally : List Met) (index rule : ℕ) → length tally ≤ index → count_in (drop index tally) rule ≡ 0
+count_end [] zero rule le = refl
+count_end [] (suc index) rule le = refl
+count_end (m ∷ tally) zero rule le = absurd (omega (arith, le))
+count_end (m ∷ tally) (suc index) rule le = count_end tally index rule (omega (arith, le))
+
+-- ---- a part of a list that is written
+
+pub set_from : (tallies : List Met) (base i : ℕ) (m : Met) → base ≤ length tallies → set tallies (base + i) m ≡ take base tallies ++ set (drop base tallies) i m
+set_from tallies zero i m le = ap (λ (n : ℕ). set tallies n m) (let e : 0 + i ≡ i = omega arith in e)
+set_from [] (suc base) i m le = absurd (omega (arith, le))
+set_from (q ∷ tallies) (suc base) i m le =
+    ap (λ (n : ℕ). set (q ∷ tallies) n m) (let e : suc base + i ≡ suc (base + i) = omega arith in e) ∙ ap (λ (t : List Met). q ∷ t) (set_from tallies base i m (omega (arith, le)))
+
+pub insert_from : (tallies : List Met) (base i : ℕ) (m : Met) → base ≤ length tallies → insert tallies (base + i) m ≡ take base tallies ++ insert (drop base tallies) i m
+insert_from tallies zero i m le = ap (λ (n : ℕ). insert tallies n m) (let e : 0 + i ≡ i = omega arith in e)
+insert_from [] (suc base) i m le = absurd (omega (arith, le))
+insert_from (q ∷ tallies) (suc base) i m le =
+    ap (λ (n : ℕ). insert (q ∷ tallies) n m) (let e : suc base + i ≡ suc (base + i) = omega arith in e) ∙ ap (λ (t : List Met). q ∷ t) (insert_from tallies base i m (omega (arith, le)))
+
+-- ---- what is found
+
+pub found_within : (tally : List Met) (rule : ℕ) (found : Result ℕ ℕ) → IsFound tally rule found → IfOk found (λ (place : ℕ). place < length tally)
+found_within tally rule (Ok place) (is, (m, at, same)) = slice_get_within tally place m at
+found_within tally rule (Err place) h = tt
+
+pub writable_prop : (most : ℕ) (tally : List Met) (found : Result ℕ ℕ) → IsProp (IsWritable most tally found)
+writable_prop most tally (Ok place) = le_prop
+writable_prop most tally (Err place) = hlevel le_prop
+
+pub writable_more : (less more : ℕ) (tally : List Met) (found : Result ℕ ℕ) → less ≤ more → IsWritable less tally found → IsWritable more tally found
+writable_more less more tally (Ok place) le lt = lt
+writable_more less more tally (Err place) le (within, lt) = (within, omega (arith, lt, le))
