@@ -12,19 +12,22 @@ use Rattle.dia_check.proofs.open_levels.OpenLevels.meet.Goals as goal
 
 pub slice_bounds-tally-count : goal.slice_bounds-tally-count
 slice_bounds-tally-count c =
-    let low : c.args.self.now.innermost.base ≤ length c.args.self.now.tallies.items = ∥∥₁_elim c.requires.open le_prop (λ x. let (defs, outer, level, now, same, few) = x in own_low defs c.args.self.now outer level now) in
+    let low : c.args.self.now.innermost.base ≤ length c.args.self.now.tallies.items = ∥∥₁_elim c.requires.open le_prop
+    (λ x. let (defs, outer, level, now, same, few) = x in own_low defs c.args.self.now outer level now) in
     let same = ap length c.deref.ensures.value in
     omega (arith, low, same)
 
 pub slice_bounds-tally-start : goal.slice_bounds-tally-start
 slice_bounds-tally-start c =
-    let low : c.args.self.now.innermost.base ≤ length c.args.self.now.tallies.items = ∥∥₁_elim c.requires.open le_prop (λ x. let (defs, outer, level, now, same, few) = x in own_low defs c.args.self.now outer level now) in
+    let low : c.args.self.now.innermost.base ≤ length c.args.self.now.tallies.items = ∥∥₁_elim c.requires.open le_prop
+    (λ x. let (defs, outer, level, now, same, few) = x in own_low defs c.args.self.now outer level now) in
     let inside : c.args.self.now.innermost.base ≤ length c.deref.result.now = let same = ap length c.deref.ensures.value in omega (arith, low, same) in
     search rules
 
 pub offset_bounds-deref-base : goal.offset_bounds-deref-base
 offset_bounds-deref-base c =
-    let low : c.args.self.now.innermost.base ≤ length c.args.self.now.tallies.items = ∥∥₁_elim c.requires.open le_prop (λ x. let (defs, outer, level, now, same, few) = x in own_low defs c.args.self.now outer level now) in
+    let low : c.args.self.now.innermost.base ≤ length c.args.self.now.tallies.items = ∥∥₁_elim c.requires.open le_prop
+    (λ x. let (defs, outer, level, now, same, few) = x in own_low defs c.args.self.now outer level now) in
     let inside : c.args.self.now.innermost.base ≤ length c.deref.result.now = let same = ap length c.deref.ensures.value in omega (arith, low, same) in
     search rules
 
@@ -34,7 +37,8 @@ meet-requires-clause-counted c = ∥∥₁_map c.requires.open (λ x. let (defs,
 
 pub write-requires-clause-base : goal.write-requires-clause-base
 write-requires-clause-base c =
-    let low : c.args.self.now.innermost.base ≤ length c.args.self.now.tallies.items = ∥∥₁_elim c.requires.open le_prop (λ x. let (defs, outer, level, now, same, few) = x in own_low defs c.args.self.now outer level now) in
+    let low : c.args.self.now.innermost.base ≤ length c.args.self.now.tallies.items = ∥∥₁_elim c.requires.open le_prop
+    (λ x. let (defs, outer, level, now, same, few) = x in own_low defs c.args.self.now outer level now) in
     omega (arith, low, c.args.self.now.tallies.ok.0)
 
 pub write-requires-clause-place : goal.write-requires-clause-place

@@ -9,19 +9,22 @@ use Rattle.dia_check.proofs.open_levels.OpenLevels.missing.Goals as goal
 
 pub slice_bounds-tally-count : goal.slice_bounds-tally-count
 slice_bounds-tally-count c =
-    let low : c.args.self.now.innermost.base ≤ length c.args.self.now.tallies.items = ∥∥₁_elim c.requires.open le_prop (λ x. let (defs, outer, level, now, same) = x in own_low defs c.args.self.now outer level now) in
+    let low : c.args.self.now.innermost.base ≤ length c.args.self.now.tallies.items = ∥∥₁_elim c.requires.open le_prop
+    (λ x. let (defs, outer, level, now, same) = x in own_low defs c.args.self.now outer level now) in
     let same = ap length c.deref.ensures.value in
     omega (arith, low, same)
 
 pub slice_bounds-tally-start : goal.slice_bounds-tally-start
 slice_bounds-tally-start c =
-    let low : c.args.self.now.innermost.base ≤ length c.args.self.now.tallies.items = ∥∥₁_elim c.requires.open le_prop (λ x. let (defs, outer, level, now, same) = x in own_low defs c.args.self.now outer level now) in
+    let low : c.args.self.now.innermost.base ≤ length c.args.self.now.tallies.items = ∥∥₁_elim c.requires.open le_prop
+    (λ x. let (defs, outer, level, now, same) = x in own_low defs c.args.self.now outer level now) in
     let inside : c.args.self.now.innermost.base ≤ length c.deref.result.now = let same = ap length c.deref.ensures.value in omega (arith, low, same) in
     search rules
 
 pub offset_bounds-deref-self : goal.offset_bounds-deref-self
 offset_bounds-deref-self c =
-    let low : c.args.self.now.innermost.base ≤ length c.args.self.now.tallies.items = ∥∥₁_elim c.requires.open le_prop (λ x. let (defs, outer, level, now, same) = x in own_low defs c.args.self.now outer level now) in
+    let low : c.args.self.now.innermost.base ≤ length c.args.self.now.tallies.items = ∥∥₁_elim c.requires.open le_prop
+    (λ x. let (defs, outer, level, now, same) = x in own_low defs c.args.self.now outer level now) in
     let inside : c.args.self.now.innermost.base ≤ length c.deref.result.now = let same = ap length c.deref.ensures.value in omega (arith, low, same) in
     search rules
 
