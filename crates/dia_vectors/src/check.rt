@@ -19,6 +19,7 @@ mod memory;
 pub mod pieces;
 mod rows;
 mod taking;
+mod tallies;
 
 /// The AVPs of a watchdog request of the smallest kind.
 const AVPS: &str = "000001084000000b612e6200000001284000000962000000";
