@@ -1,8 +1,10 @@
 -- What one end of a connection keeps.
 use Rattle.std.specs.Prelude.{◌≡◌, ℕ, ◌<◌, ◌≤◌, ◌&&◌, nat_lt, ◌==◌, Bool, true, false, if◌then◌else◌, List, [], ◌∷◌, length, map, filter, Option, Some, slice_get, string_bytes, All}
 use Rattle.std.specs.List.{list_any, fold, AllByRecursion}
+use Rattle.dia_data.specs.Leaf.{IsGraphic}
 use Rattle.dia_wire.specs.declared.Header.{Header}
 use Rattle.dia_wire.specs.Wire.{PlainAvp}
+use Rattle.dia_peer.specs.declared.codes.TheConstants.{RELAY, NAME_LIMIT, ADDRESS_LIMIT, APP_LIMIT}
 use Rattle.dia_peer.specs.declared.config.Role.{Role}
 use Rattle.dia_peer.specs.declared.config.Kind.{Kind}
 use Rattle.dia_peer.specs.declared.config.Kind.TheVariants.{Auth, Acct}
@@ -39,13 +41,9 @@ plain_config c = record {
   e2e = c.e2e;
 }
 
--- a printing character of ASCII that is no space
-abbrev pub IsGraphic : ℕ → Type 0
-IsGraphic byte = (33 ≤ byte) × (byte ≤ 126)
-
 -- a DiameterIdentity of at most 255 bytes
 abbrev pub IsIdentity : List ℕ → Type 0
-IsIdentity name = (0 < length name) × (length name ≤ 255) × All IsGraphic name
+IsIdentity name = (0 < length name) × (length name ≤ NAME_LIMIT) × All IsGraphic name
 
 -- an application by its kind and number
 pub record Pair : Type 0 where
@@ -70,9 +68,9 @@ AreDistinct apps = (i j : ℕ) (a b : App) → slice_get apps i ≡ Some a → s
 
 pub record AreApps (apps : List App) : Type 0 where
   pub some : 0 < length apps
-  pub few : length apps ≤ 1024
-  -- four bytes (RFC 6733 section 3), and not the relay's
-  pub numbers : AllByRecursion (λ a. a.id < 4294967295) apps
+  pub few : length apps ≤ APP_LIMIT
+  -- four bytes (RFC 6733 section 3), and not that of relays
+  pub numbers : AllByRecursion (λ a. a.id < RELAY) apps
   pub distinct : AreDistinct apps
 
 -- as many bytes as the family wants
@@ -84,8 +82,8 @@ IsIp (V6 bytes) = length bytes ≡ 16
 pub record IsConfig (c : PlainConfig) : Type 0 where
   pub host : IsIdentity c.host
   pub realm : IsIdentity c.realm
-  pub product : IsUtf8 c.product × (length c.product ≤ 255)
-  pub addresses : (0 < length c.addresses) × (length c.addresses ≤ 64) × AllByRecursion IsIp c.addresses
+  pub product : IsUtf8 c.product × (length c.product ≤ NAME_LIMIT)
+  pub addresses : (0 < length c.addresses) × (length c.addresses ≤ ADDRESS_LIMIT) × AllByRecursion IsIp c.addresses
   pub apps : AreApps c.apps
 
 -- ---- sets of applications, Auth first and then by number

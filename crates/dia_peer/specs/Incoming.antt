@@ -5,6 +5,7 @@ use Rattle.std.specs.Option.{option_map}
 use Rattle.dia_wire.specs.declared.Key.{Key}
 use Rattle.dia_wire.specs.Number.{number}
 use Rattle.dia_wire.specs.Wire.{PlainAvp, key_of, SpellsAll}
+use Rattle.dia_peer.specs.declared.codes.TheConstants.{AUTH_APPLICATION_ID, ACCT_APPLICATION_ID, VENDOR_SPECIFIC_APPLICATION_ID, RESULT_CODE}
 use Rattle.dia_peer.specs.declared.config.Kind.{Kind}
 use Rattle.dia_peer.specs.declared.config.Kind.TheVariants.{Auth, Acct}
 use Rattle.dia_peer.specs.declared.named_apps.NamedApps.{NamedApps}
@@ -29,7 +30,7 @@ pairs_named n = map (λ id. record { kind = Auth; id = id }) n.auth.keys ++ map 
 
 -- the kind of application that an AVP of this key names (RFC 6733 sections 6.8 and 6.9)
 abbrev pub kind_of : Key → Option Kind
-kind_of key = if key.vendor == 0 then (if key.code == 258 then Some Auth else (if key.code == 259 then Some Acct else None)) else None
+kind_of key = if key.vendor == 0 then (if key.code == AUTH_APPLICATION_ID then Some Auth else (if key.code == ACCT_APPLICATION_ID then Some Acct else None)) else None
 
 abbrev pub named_by : PlainAvp → Option Pair
 named_by v = option_map (λ kind. record { kind = kind; id = number v.bytes }) (kind_of (key_of v))
@@ -48,7 +49,7 @@ SaidBy says (v ∷ vs) p = says v p ⊎ SaidBy says vs p
 
 -- a Vendor-Specific-Application-Id (RFC 6733 section 6.11)
 abbrev pub is_vendor_specific : Key → Bool
-is_vendor_specific key = (key.code == 260) && (key.vendor == 0)
+is_vendor_specific key = (key.code == VENDOR_SPECIFIC_APPLICATION_ID) && (key.vendor == 0)
 
 -- the AVP names the application, or one directly inside it does
 abbrev pub Tells : PlainAvp → Pair → Type 0
@@ -59,7 +60,7 @@ IsReadable v = HasNumber v × (IsTrue (is_vendor_specific (key_of v)) → (inner
 
 -- a Result-Code (RFC 6733 section 7.1)
 abbrev pub is_result_code : Key → Bool
-is_result_code key = (key.code == 268) && (key.vendor == 0)
+is_result_code key = (key.code == RESULT_CODE) && (key.vendor == 0)
 
 abbrev pub IsResult : PlainAvp → ℕ → Type 0
 IsResult v n = IsTrue (is_result_code (key_of v)) × (number v.bytes ≡ n)

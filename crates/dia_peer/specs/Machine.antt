@@ -6,6 +6,7 @@ use Rattle.dia_dict.specs.Base.{base}
 use Rattle.dia_check.specs.declared.Unknown.TheVariants.{Kept}
 use Rattle.dia_check.specs.declared.Levels.TheVariants.{Any}
 use Rattle.dia_check.specs.Valid.{IsValid}
+use Rattle.dia_peer.specs.declared.codes.TheConstants.{NAME_LIMIT, ADDRESS_LIMIT}
 use Rattle.dia_peer.specs.declared.kept_requests.Taken.{Taken}
 use Rattle.dia_peer.specs.declared.connection.Core.{Core}
 use Rattle.dia_peer.specs.declared.config.ConfigFault.{ConfigFault}
@@ -69,8 +70,8 @@ IsStep old e outputs new = (h : Happening) × IsHappening e h × (new ≡ (happe
 abbrev pub IsRefusedAs : PlainConfig → ConfigFault → Type 0
 IsRefusedAs c fault.Host = ¬ IsIdentity c.host
 IsRefusedAs c fault.Realm = IsIdentity c.host × ¬ IsIdentity c.realm
-IsRefusedAs c fault.Product = IsIdentity c.host × IsIdentity c.realm × (255 < length c.product)
-IsRefusedAs c fault.Address = IsIdentity c.host × IsIdentity c.realm × (length c.product ≤ 255) × ((c.addresses ≡ []) ⊎ (64 < length c.addresses))
-IsRefusedAs c fault.Application = IsIdentity c.host × IsIdentity c.realm × (length c.product ≤ 255) × (0 < length c.addresses) × (length c.addresses ≤ 64) × (¬ AreApps c.apps)
+IsRefusedAs c fault.Product = IsIdentity c.host × IsIdentity c.realm × (NAME_LIMIT < length c.product)
+IsRefusedAs c fault.Address = IsIdentity c.host × IsIdentity c.realm × (length c.product ≤ NAME_LIMIT) × ((c.addresses ≡ []) ⊎ (ADDRESS_LIMIT < length c.addresses))
+IsRefusedAs c fault.Application = IsIdentity c.host × IsIdentity c.realm × (length c.product ≤ NAME_LIMIT) × (0 < length c.addresses) × (length c.addresses ≤ ADDRESS_LIMIT) × (¬ AreApps c.apps)
 -- memory is taken where nothing else is wrong
 IsRefusedAs c fault.NoMemory = IsConfig c

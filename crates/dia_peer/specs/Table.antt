@@ -2,6 +2,7 @@
 use Rattle.std.specs.Prelude.{ℕ, ◌==◌, ◌&&◌, Bool, true, false, if◌then◌else◌, List, [], ◌∷◌, ◌++◌, length, Option, Some, None, nat_eq}
 use Rattle.std.specs.Option.{option_map_or}
 use Rattle.std.specs.List.{starts_with}
+use Rattle.dia_peer.specs.declared.codes.TheConstants.{SUCCESS, NO_COMMON_APPLICATION}
 use Rattle.dia_peer.specs.declared.kept_requests.Ids.{Ids}
 use Rattle.dia_peer.specs.declared.config.Role.{Role}
 use Rattle.dia_peer.specs.declared.config.Role.TheVariants.{Initiator, Responder}
@@ -57,20 +58,20 @@ opens c [] = closes c [] why.NoCommon
 opens c (p ∷ ps) = record { core = record c { state = Open; common = p ∷ ps }; deeds = [] }
 
 abbrev pub answered : PlainCore → ℕ → List Pair → Outcome
-answered c result apps = if result == 2001 then opens c (common_of c.config apps) else (if result == 5010 then closes c [] why.NoCommon else closes c [] why.Refused)
+answered c result apps = if result == SUCCESS then opens c (common_of c.config apps) else (if result == NO_COMMON_APPLICATION then closes c [] why.NoCommon else closes c [] why.Refused)
 
 -- a CER gets a CEA, and opens where there are common applications
 abbrev pub accepts : PlainCore → Ids → List ℕ → List Pair → Outcome
-accepts c ids bytes [] = closes c (Sends (cea c.config ids 5010) ∷ []) why.NoCommon
+accepts c ids bytes [] = closes c (Sends (cea c.config ids NO_COMMON_APPLICATION) ∷ []) why.NoCommon
 accepts c ids bytes (p ∷ ps) = record {
   core = record c { state = Open; common = p ∷ ps; taken = Some (record { bytes = bytes; ids = ids }) };
-  deeds = Sends (cea c.config ids 2001) ∷ [];
+  deeds = Sends (cea c.config ids SUCCESS) ∷ [];
 }
 
 -- the CER that was taken comes again
 abbrev pub repeated : PlainCore → List ℕ → Option PlainTaken → Outcome
 repeated c bytes None = nothing c
-repeated c bytes (Some taken) = if same_bytes bytes taken.bytes then record { core = c; deeds = Sends (cea c.config taken.ids 2001) ∷ [] } else nothing c
+repeated c bytes (Some taken) = if same_bytes bytes taken.bytes then record { core = c; deeds = Sends (cea c.config taken.ids SUCCESS) ∷ [] } else nothing c
 
 abbrev pub gets_waiting_answer : PlainCore → Received → Outcome
 gets_waiting_answer c Unreadable = closes c [] why.Invalid

@@ -7,12 +7,13 @@ ghost use Rattle.dia_peer.specs.declared.config.App.{App as AnyApp};
 ghost use Rattle.dia_peer.specs.Core.{AreDistinct, pair_of, the_pair, pairs_of};
 ghost use Rattle.dia_peer.specs.Core.{comes_before, same_pair, sorted_pairs};
 
+use crate::codes::RELAY;
 use crate::config::{App, Kind};
 use std::alloc::{AllocError, Global};
 
 /// Whether the numbers of all applications may be advertised: none is that of relays (RFC 6733 section 2.4).
 pub(crate) fn may_be_used(apps: &[App]) -> bool
-    ensures { IsTrue result ↔ AllByRecursion (λ a. a.id < 4294967295) apps.now }
+    ensures { IsTrue result ↔ AllByRecursion (λ a. a.id < RELAY) apps.now }
 {
     for app in apps {
         if is_relay(app.id) {
@@ -23,9 +24,9 @@ pub(crate) fn may_be_used(apps: &[App]) -> bool
 }
 
 fn is_relay(id: u32) -> bool
-    ensures { IsTrue result ↔ ¬ (id < 4294967295) }
+    ensures { IsTrue result ↔ ¬ (id < RELAY) }
 {
-    id == u32::MAX
+    id == RELAY
 }
 
 /// Whether no two applications are of one kind and number. It takes no memory, and at most 1,024 times 1,024 steps, once for

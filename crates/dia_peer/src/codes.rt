@@ -1,4 +1,7 @@
-//! Codes of commands and AVPs (RFC 6733 sections 3.1 and 4.5), and of results (section 7.1).
+//! Codes of commands and AVPs (RFC 6733 sections 3.1 and 4.5), and of results (section 7.1); limits of a configuration.
+
+/// The Command Flags of an answer: none.
+pub(crate) const ANSWER: u8 = 0;
 
 pub(crate) const CAPABILITIES_EXCHANGE: u32 = 257;
 
@@ -32,3 +35,13 @@ pub(crate) const ORIGIN_REALM: u32 = 296;
 pub(crate) const SUCCESS: u32 = 2001;
 /// DIAMETER_NO_COMMON_APPLICATION.
 pub(crate) const NO_COMMON_APPLICATION: u32 = 5010;
+
+/// The Application-ID of relays (RFC 6733 section 2.4).
+pub(crate) const RELAY: u32 = 0xffff_ffff;
+
+/// The greatest count of bytes of a host, a realm and a product's name.
+pub(crate) const NAME_LIMIT: usize = 255;
+
+pub(crate) const ADDRESS_LIMIT: usize = 64;
+
+pub(crate) const APP_LIMIT: usize = 1024;

@@ -50,7 +50,7 @@ impl Draft {
 
     /// Appends an AVP with the M flag set.
     pub(crate) fn put(&mut self, code: u32, bytes: &[u8]) -> Result<(), AllocError>
-        ensures { OnOk result (drafted self.new ≡ drafted self.old ++ avp code 64 bytes.now ∷ []) }
+        ensures { OnOk result (drafted self.new ≡ drafted self.old ++ avp code AVP_MANDATORY bytes.now ∷ []) }
     {
         let bytes = Vec::from_slice(self.alloc, bytes)?;
         let must = true;

@@ -5,15 +5,9 @@ ghost use Rattle.dia_peer.specs.Core.{IsConfig, IsIdentity, IsIp, plain_config};
 ghost use Rattle.dia_peer.specs.Machine.{IsRefusedAs};
 
 use crate::applications::{are_distinct, may_be_used};
+use crate::codes::{ADDRESS_LIMIT, APP_LIMIT, NAME_LIMIT};
 use crate::config::{Config, ConfigFault, Ip};
 use dia_book::{Format, Leaf, accepts};
-
-/// The greatest count of bytes of a host, a realm and a product's name.
-const NAME_LIMIT: usize = 255;
-
-const ADDRESS_LIMIT: usize = 64;
-
-const APP_LIMIT: usize = 1024;
 
 /// Tells the first thing that is wrong with a configuration. It takes no memory.
 pub(crate) fn judge(config: &Config) -> Result<(), ConfigFault>

@@ -5,7 +5,8 @@ ghost use Rattle.dia_peer.specs.Core.{plain_config};
 ghost use Rattle.dia_peer.specs.Messages.{IsSent, cer, cea, dwr, dwa, dpr, dpa, cause_number};
 
 use crate::codes::{
-    CAPABILITIES_EXCHANGE, DEVICE_WATCHDOG, DISCONNECT_CAUSE, DISCONNECT_PEER, RESULT_CODE, SUCCESS,
+    ANSWER, CAPABILITIES_EXCHANGE, DEVICE_WATCHDOG, DISCONNECT_CAUSE, DISCONNECT_PEER, RESULT_CODE,
+    SUCCESS,
 };
 use crate::draft::Draft;
 use crate::event::Cause;
@@ -13,9 +14,6 @@ use crate::kept_requests::Ids;
 use crate::node::{Node, put_applications, put_capabilities, put_origin, put_state_id};
 use dia_wire::COMMAND_REQUEST;
 use std::alloc::AllocError;
-
-/// The Command Flags of an answer: none.
-const ANSWER: u8 = 0;
 
 impl Node {
     pub(crate) fn cer(&self, ids: Ids) -> Result<Vec<u8>, AllocError>

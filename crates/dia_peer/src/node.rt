@@ -31,6 +31,7 @@ use crate::config::{App, Config, ConfigFault, Ip, Kind};
 use crate::draft::Draft;
 use crate::judging::judge;
 use crate::named_apps::NamedApps;
+use dia_wire::AVP_MANDATORY;
 use std::alloc::{AllocError, Global};
 
 /// A configuration that is accepted, its applications in order, and the base dictionary.
@@ -103,7 +104,7 @@ pub(crate) fn put_origin(draft: &mut Draft, config: &Config) -> Result<(), Alloc
 /// Origin-State-Id (RFC 6733 section 8.16), where there is one.
 pub(crate) fn put_state_id(draft: &mut Draft, config: &Config) -> Result<(), AllocError>
     ensures { OnOk result (drafted draft.new
-        ≡ drafted draft.old ++ if_some (avp32 278) config.now.state_id) }
+        ≡ drafted draft.old ++ if_some (avp32 ORIGIN_STATE_ID) config.now.state_id) }
 {
     match config.state_id {
         Some(id) => draft.put_number(ORIGIN_STATE_ID, id),
@@ -129,7 +130,7 @@ pub(crate) fn put_capabilities(
 /// Host-IP-Address (RFC 6733 section 5.3.5), once for each address.
 fn put_addresses(alloc: Global, draft: &mut Draft, addresses: &[Ip]) -> Result<(), AllocError>
     ensures { OnOk result (drafted draft.new
-        ≡ drafted draft.old ++ map (λ ip. avp 257 64 (address ip)) addresses.now) }
+        ≡ drafted draft.old ++ map (λ ip. avp HOST_IP_ADDRESS AVP_MANDATORY (address ip)) addresses.now) }
 {
     for ip in addresses {
         let bytes = address_bytes(alloc, ip)?;
