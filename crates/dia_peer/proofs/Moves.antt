@@ -10,7 +10,7 @@ use Rattle.dia_peer.specs.declared.event.Cause.{Cause}
 use Rattle.dia_peer.specs.declared.event.Why.{Why}
 use Rattle.dia_peer.specs.declared.event.Why.TheVariants as why
 use Rattle.dia_peer.specs.Core.{PlainConfig, PlainCore, PlainTaken, Pair, Sent, common_of}
-use Rattle.dia_peer.specs.Messages.{Received, Unreadable, Foreign, Invalid, Cer, Dwr, Dpr, Cea, Refusal, Dwa, Dpa, Other, cer, cea, dwr, dwa, dpr, dpa, after}
+use Rattle.dia_peer.specs.Messages.{Unreadable, Invalid, Cer, Dwr, Dpr, Cea, Refusal, Dwa, Dpa, cer, cea, dwr, dwa, dpr, dpa, after}
 use Rattle.dia_peer.specs.Table.{
   Happening,
   Starts,
@@ -32,11 +32,7 @@ use Rattle.dia_peer.specs.Table.{
   answered,
   accepts,
   repeated,
-  gets_waiting_answer,
-  gets_waiting_request,
   only_responder,
-  gets_open,
-  gets_waiting_end,
   ticks_open,
   stops_open,
   happens_in,
@@ -194,65 +190,8 @@ m_only Responder c h bytes r e s = m_repeated c h bytes c.taken r e s
 
 -- ---- what comes
 
-m_waiting_answer : (c : PlainCore) (what : Received) → c.role ≡ Initiator → Suits c.role c.state → Moves c (Gets what) (gets_waiting_answer c what)
-m_waiting_answer c Unreadable r s = m_closes c _ why.Invalid
-m_waiting_answer c Invalid r s = m_closes c _ why.Invalid
-m_waiting_answer c (Cea ids result apps) r s =
-    cond_both (same_ids ids c.last_cer) (answered c result apps) (nothing c) (Moves c (Gets (Cea ids result apps))) (λ t. m_answered c (Gets (Cea ids result apps)) ids result apps r refl)
-    (λ f. m_nothing c _ s)
-m_waiting_answer c (Refusal ids) r s =
-    cond_both (same_ids ids c.last_cer) (closes c [] why.Refused) (nothing c) (Moves c (Gets (Refusal ids))) (λ t. m_closes c _ why.Refused) (λ f. m_nothing c _ s)
-m_waiting_answer c Foreign r s = m_nothing c _ s
-m_waiting_answer c (Cer ids bytes apps) r s = m_nothing c _ s
-m_waiting_answer c (Dwr ids) r s = m_nothing c _ s
-m_waiting_answer c (Dpr ids) r s = m_nothing c _ s
-m_waiting_answer c (Dwa ids) r s = m_nothing c _ s
-m_waiting_answer c (Dpa ids) r s = m_nothing c _ s
-m_waiting_answer c Other r s = m_nothing c _ s
-
-m_waiting_request : (c : PlainCore) (what : Received) → c.role ≡ Responder → Suits c.role c.state → Moves c (Gets what) (gets_waiting_request c what)
-m_waiting_request c Unreadable r s = m_closes c _ why.Invalid
-m_waiting_request c Invalid r s = m_closes c _ why.Invalid
-m_waiting_request c (Cer ids bytes apps) r s = m_accepts c (Gets (Cer ids bytes apps)) ids bytes apps (common_of c.config apps) r refl refl
-m_waiting_request c Foreign r s = m_nothing c _ s
-m_waiting_request c (Cea ids result apps) r s = m_nothing c _ s
-m_waiting_request c (Refusal ids) r s = m_nothing c _ s
-m_waiting_request c (Dwr ids) r s = m_nothing c _ s
-m_waiting_request c (Dpr ids) r s = m_nothing c _ s
-m_waiting_request c (Dwa ids) r s = m_nothing c _ s
-m_waiting_request c (Dpa ids) r s = m_nothing c _ s
-m_waiting_request c Other r s = m_nothing c _ s
-
 m_waits : (c : PlainCore) (h : Happening) → Suits c.role c.state → Moves c h (record { core = record c { waits = false }; deeds = [] })
 m_waits c h s = record { config = refl; role = refl; suits = s; past = λ p. p; sends = tt; opened = λ e. stays e refl refl }
-
-m_open : (c : PlainCore) (what : Received) → c.state ≡ Open → Suits c.role c.state → Moves c (Gets what) (gets_open c what)
-m_open c Unreadable e s = m_closes c _ why.Invalid
-m_open c Invalid e s = m_closes c _ why.Invalid
-m_open c (Cer ids bytes apps) e s = m_only c.role c (Gets (Cer ids bytes apps)) bytes refl e s
-m_open c (Dwa ids) e s =
-    cond_both (same_ids ids c.last_dwr) (record { core = record c { waits = false }; deeds = [] }) (nothing c) (Moves c (Gets (Dwa ids))) (λ t. m_waits c _ s) (λ f. m_nothing c _ s)
-m_open c (Dwr ids) e s = m_says c _ (dwa c.config ids) s (is_there ids refl)
-m_open c (Dpr ids) e s = m_answers c _ (dpa c.config ids) why.PeerStopped (lets_go ids refl)
-m_open c Foreign e s = m_nothing c _ s
-m_open c (Cea ids result apps) e s = m_nothing c _ s
-m_open c (Refusal ids) e s = m_nothing c _ s
-m_open c (Dpa ids) e s = m_nothing c _ s
-m_open c Other e s = m_nothing c _ s
-
-m_waiting_end : (c : PlainCore) (what : Received) → Suits c.role c.state → Moves c (Gets what) (gets_waiting_end c what)
-m_waiting_end c Unreadable s = m_closes c _ why.Invalid
-m_waiting_end c Invalid s = m_closes c _ why.Invalid
-m_waiting_end c (Dwr ids) s = m_says c _ (dwa c.config ids) s (is_there ids refl)
-m_waiting_end c (Dpr ids) s = m_answers c _ (dpa c.config ids) why.PeerStopped (lets_go ids refl)
-m_waiting_end c (Dpa ids) s =
-    cond_both (same_ids ids c.last_dpr) (closes c [] why.Stopped) (nothing c) (Moves c (Gets (Dpa ids))) (λ t. m_closes c _ why.Stopped) (λ f. m_nothing c _ s)
-m_waiting_end c Foreign s = m_nothing c _ s
-m_waiting_end c (Cer ids bytes apps) s = m_nothing c _ s
-m_waiting_end c (Cea ids result apps) s = m_nothing c _ s
-m_waiting_end c (Refusal ids) s = m_nothing c _ s
-m_waiting_end c (Dwa ids) s = m_nothing c _ s
-m_waiting_end c Other s = m_nothing c _ s
 
 m_watch : (c : PlainCore) (h : Happening) → Suits c.role c.state
     → Moves c h (record { core = record c { next = after c.next; last_dwr = Some c.next; waits = true }; deeds = Sends (dwr c.config c.next) ∷ [] })
@@ -268,31 +207,36 @@ m_stops c h cause = record { config = refl; role = refl; suits = suits_end c.rol
 
 moves_in : (s : State) (c : PlainCore) (h : Happening) → c.state ≡ s → Suits c.role c.state → Moves c h (happens_in s c h)
 moves_in Closed c h e s = m_nothing c h s
-moves_in Idle c Breaks e s = m_breaks c Breaks
-moves_in WaitCea c Breaks e s = m_breaks c Breaks
-moves_in WaitCer c Breaks e s = m_breaks c Breaks
-moves_in Open c Breaks e s = m_breaks c Breaks
-moves_in WaitDpa c Breaks e s = m_breaks c Breaks
+moves_in state c Breaks e s = m_breaks c Breaks
 moves_in Idle c Starts e s = m_starts c.role c Starts refl e
 moves_in Idle c (Stops cause) e s = m_closes c _ why.Stopped
-moves_in Idle c (Gets what) e s = m_nothing c _ s
-moves_in Idle c Ticks e s = m_nothing c _ s
-moves_in WaitCea c Starts e s = m_nothing c _ s
-moves_in WaitCer c Starts e s = m_nothing c _ s
-moves_in Open c Starts e s = m_nothing c _ s
-moves_in WaitDpa c Starts e s = m_nothing c _ s
-moves_in WaitCea c (Gets what) e s = m_waiting_answer c what (is_initiator c.role (subst (Suits c.role) e s)) s
-moves_in WaitCer c (Gets what) e s = m_waiting_request c what (is_responder c.role (subst (Suits c.role) e s)) s
-moves_in Open c (Gets what) e s = m_open c what e s
-moves_in WaitDpa c (Gets what) e s = m_waiting_end c what s
-moves_in Open c Ticks e s = m_ticks c Ticks s
+moves_in Idle c h e s = m_nothing c h s
+moves_in state c (Gets Unreadable) e s = m_closes c _ why.Invalid
+moves_in state c (Gets Invalid) e s = m_closes c _ why.Invalid
+moves_in WaitCea c (Gets (Cea ids result apps)) e s =
+    cond_both (same_ids ids c.last_cer) (answered c result apps) (nothing c) (Moves c (Gets (Cea ids result apps)))
+    (λ t. m_answered c (Gets (Cea ids result apps)) ids result apps (is_initiator c.role (subst (Suits c.role) e s)) refl) (λ f. m_nothing c _ s)
+moves_in WaitCea c (Gets (Refusal ids)) e s =
+    cond_both (same_ids ids c.last_cer) (closes c [] why.Refused) (nothing c) (Moves c (Gets (Refusal ids))) (λ t. m_closes c _ why.Refused) (λ f. m_nothing c _ s)
 moves_in WaitCea c Ticks e s = m_closes c _ why.Timeout
-moves_in WaitCer c Ticks e s = m_closes c _ why.Timeout
-moves_in WaitDpa c Ticks e s = m_closes c _ why.Timeout
-moves_in Open c (Stops cause) e s = m_stops c _ cause
-moves_in WaitDpa c (Stops cause) e s = m_nothing c _ s
 moves_in WaitCea c (Stops cause) e s = m_closes c _ why.Stopped
+moves_in WaitCer c (Gets (Cer ids bytes apps)) e s =
+    m_accepts c (Gets (Cer ids bytes apps)) ids bytes apps (common_of c.config apps) (is_responder c.role (subst (Suits c.role) e s)) refl refl
+moves_in WaitCer c Ticks e s = m_closes c _ why.Timeout
 moves_in WaitCer c (Stops cause) e s = m_closes c _ why.Stopped
+moves_in Open c (Gets (Cer ids bytes apps)) e s = m_only c.role c (Gets (Cer ids bytes apps)) bytes refl e s
+moves_in Open c (Gets (Dwr ids)) e s = m_says c _ (dwa c.config ids) s (is_there ids refl)
+moves_in Open c (Gets (Dwa ids)) e s =
+    cond_both (same_ids ids c.last_dwr) (record { core = record c { waits = false }; deeds = [] }) (nothing c) (Moves c (Gets (Dwa ids))) (λ t. m_waits c _ s) (λ f. m_nothing c _ s)
+moves_in Open c (Gets (Dpr ids)) e s = m_answers c _ (dpa c.config ids) why.PeerStopped (lets_go ids refl)
+moves_in Open c Ticks e s = m_ticks c Ticks s
+moves_in Open c (Stops cause) e s = m_stops c _ cause
+moves_in WaitDpa c (Gets (Dwr ids)) e s = m_says c _ (dwa c.config ids) s (is_there ids refl)
+moves_in WaitDpa c (Gets (Dpr ids)) e s = m_answers c _ (dpa c.config ids) why.PeerStopped (lets_go ids refl)
+moves_in WaitDpa c (Gets (Dpa ids)) e s =
+    cond_both (same_ids ids c.last_dpr) (closes c [] why.Stopped) (nothing c) (Moves c (Gets (Dpa ids))) (λ t. m_closes c _ why.Stopped) (λ f. m_nothing c _ s)
+moves_in WaitDpa c Ticks e s = m_closes c _ why.Timeout
+moves_in state c h e s = m_nothing c h s
 
 pub moves : (c : PlainCore) (h : Happening) → Suits c.role c.state → Moves c h (happens c h)
 moves c h s = moves_in c.state c h refl s

@@ -17,7 +17,7 @@ use Rattle.dia_peer.specs.declared.event.Event.TheVariants as event
 use Rattle.dia_peer.specs.declared.event.Output.{Output}
 use Rattle.dia_peer.specs.declared.event.Output.TheVariants as output
 use Rattle.dia_peer.specs.declared.event.State.{State}
-use Rattle.dia_peer.specs.declared.event.State.TheVariants.{Idle, WaitCea, WaitCer, Open, WaitDpa, Closed}
+use Rattle.dia_peer.specs.declared.event.State.TheVariants.{WaitCea, WaitCer}
 use Rattle.dia_peer.specs.declared.event.Why.{Why}
 use Rattle.dia_peer.specs.declared.event.Why.TheVariants as why
 use Rattle.dia_peer.specs.Core.{PlainConfig, PlainCore, Pair, pair_of, same_pair, sorted_pairs, common_of}
@@ -72,23 +72,15 @@ common_same c apps others same = λ i. filter (λ (p : Pair). any_same p apps ot
 
 cer_same : (c : PlainCore) (state : State) (ids : Ids) (b : List ℕ) (apps others : List Pair) → Alike apps others
     → happens_in state c (Gets (Cer ids b apps)) ≡ happens_in state c (Gets (Cer ids b others))
-cer_same c Idle ids b apps others same = refl
-cer_same c WaitCea ids b apps others same = refl
 cer_same c WaitCer ids b apps others same = ap (λ (common : List Pair). accepts c ids b common) (common_same c.config apps others same)
-cer_same c Open ids b apps others same = refl
-cer_same c WaitDpa ids b apps others same = refl
-cer_same c Closed ids b apps others same = refl
+cer_same c state ids b apps others same = refl
 
 cea_same : (c : PlainCore) (state : State) (ids : Ids) (n m : ℕ) (apps others : List Pair) → n ≡ m → Alike apps others
     → happens_in state c (Gets (Cea ids n apps)) ≡ happens_in state c (Gets (Cea ids m others))
-cea_same c Idle ids n m apps others result same = refl
 cea_same c WaitCea ids n m apps others result same =
     let common = common_same c.config apps others same in
     λ i. cond (same_ids ids c.last_cer) (cond (result i == 2001) (opens c (common i)) (cond (result i == 5010) (closes c [] why.NoCommon) (closes c [] why.Refused))) (nothing c)
-cea_same c WaitCer ids n m apps others result same = refl
-cea_same c Open ids n m apps others result same = refl
-cea_same c WaitDpa ids n m apps others result same = refl
-cea_same c Closed ids n m apps others result same = refl
+cea_same c state ids n m apps others result same = refl
 
 -- ---- what a valid message is to a core
 

@@ -13,7 +13,7 @@ use Rattle.dia_peer.specs.declared.event.State.TheVariants.{Idle, WaitCea, WaitC
 use Rattle.dia_peer.specs.declared.event.Why.TheVariants as why
 use Rattle.dia_peer.specs.declared.kept_requests.Ids.{Ids}
 use Rattle.dia_peer.specs.Core.{PlainConfig, PlainCore, PlainTaken, Pair, IsConfig, common_of}
-use Rattle.dia_peer.specs.Messages.{Received, Unreadable, Foreign, Invalid, Cer, Dwr, Dpr, Cea, Refusal, Dwa, Dpa, Other, cea, dwr, after, IsOurs, is_cer, is_cea, is_dwr, is_dwa, is_dpr, is_dpa}
+use Rattle.dia_peer.specs.Messages.{Cer, Dwr, Dpr, Cea, Refusal, Dwa, Dpa, cea, dwr, after, IsOurs, is_cer, is_cea, is_dwr, is_dwa, is_dpr, is_dpa}
 use Rattle.dia_peer.specs.Machine.{AreOutputs, IsSound, IsStep}
 use Rattle.dia_peer.specs.Table.{
   Happening,
@@ -35,11 +35,7 @@ use Rattle.dia_peer.specs.Table.{
   answered,
   accepts,
   repeated,
-  gets_waiting_answer,
-  gets_waiting_request,
   only_responder,
-  gets_open,
-  gets_waiting_end,
   ticks_open,
   happens_in,
   happens,
@@ -82,58 +78,6 @@ by_role : (c : PlainCore) (role : Role) (o : Outcome) → SendsOurs c o → Send
 by_role c Initiator o h = tt
 by_role c Responder o h = h
 
-by_waiting_answer : (c : PlainCore) (what : Received) → SendsOurs c (gets_waiting_answer c what)
-by_waiting_answer c Unreadable = tt
-by_waiting_answer c Invalid = tt
-by_waiting_answer c (Cea ids result apps) = either c (same_ids ids c.last_cer) (answered c result apps) (nothing c) (by_answered c result apps) tt
-by_waiting_answer c (Refusal ids) = either c (same_ids ids c.last_cer) (closes c [] why.Refused) (nothing c) tt tt
-by_waiting_answer c Foreign = tt
-by_waiting_answer c (Cer ids bytes apps) = tt
-by_waiting_answer c (Dwr ids) = tt
-by_waiting_answer c (Dpr ids) = tt
-by_waiting_answer c (Dwa ids) = tt
-by_waiting_answer c (Dpa ids) = tt
-by_waiting_answer c Other = tt
-
-by_waiting_request : (c : PlainCore) (what : Received) → SendsOurs c (gets_waiting_request c what)
-by_waiting_request c Unreadable = tt
-by_waiting_request c Invalid = tt
-by_waiting_request c (Cer ids bytes apps) = by_accepts c ids bytes (common_of c.config apps)
-by_waiting_request c Foreign = tt
-by_waiting_request c (Cea ids result apps) = tt
-by_waiting_request c (Refusal ids) = tt
-by_waiting_request c (Dwr ids) = tt
-by_waiting_request c (Dpr ids) = tt
-by_waiting_request c (Dwa ids) = tt
-by_waiting_request c (Dpa ids) = tt
-by_waiting_request c Other = tt
-
-by_open : (c : PlainCore) (what : Received) → SendsOurs c (gets_open c what)
-by_open c Unreadable = tt
-by_open c Invalid = tt
-by_open c (Cer ids bytes apps) = by_role c c.role (repeated c bytes c.taken) (by_repeated c bytes c.taken)
-by_open c (Dwa ids) = either c (same_ids ids c.last_dwr) (record { core = record c { waits = false }; deeds = [] }) (nothing c) tt tt
-by_open c (Dwr ids) = (is_dwa ids, tt)
-by_open c (Dpr ids) = (is_dpa ids, tt)
-by_open c Foreign = tt
-by_open c (Cea ids result apps) = tt
-by_open c (Refusal ids) = tt
-by_open c (Dpa ids) = tt
-by_open c Other = tt
-
-by_waiting_end : (c : PlainCore) (what : Received) → SendsOurs c (gets_waiting_end c what)
-by_waiting_end c Unreadable = tt
-by_waiting_end c Invalid = tt
-by_waiting_end c (Dwr ids) = (is_dwa ids, tt)
-by_waiting_end c (Dpr ids) = (is_dpa ids, tt)
-by_waiting_end c (Dpa ids) = either c (same_ids ids c.last_dpr) (closes c [] why.Stopped) (nothing c) tt tt
-by_waiting_end c Foreign = tt
-by_waiting_end c (Cer ids bytes apps) = tt
-by_waiting_end c (Cea ids result apps) = tt
-by_waiting_end c (Refusal ids) = tt
-by_waiting_end c (Dwa ids) = tt
-by_waiting_end c Other = tt
-
 by_ticks : (c : PlainCore) → SendsOurs c (ticks_open c)
 by_ticks c =
     either c c.waits (closes c [] why.Watchdog) (record { core = record c { next = after c.next; last_dwr = Some c.next; waits = true }; deeds = Sends (dwr c.config c.next) ∷ [] })
@@ -144,32 +88,20 @@ by_start c Initiator = (is_cer c.next, tt)
 by_start c Responder = tt
 
 in_state : (s : State) (c : PlainCore) (h : Happening) → SendsOurs c (happens_in s c h)
-in_state Closed c h = tt
-in_state Idle c Breaks = tt
-in_state WaitCea c Breaks = tt
-in_state WaitCer c Breaks = tt
-in_state Open c Breaks = tt
-in_state WaitDpa c Breaks = tt
 in_state Idle c Starts = by_start c c.role
-in_state Idle c (Stops cause) = tt
-in_state Idle c (Gets what) = tt
-in_state Idle c Ticks = tt
-in_state WaitCea c Starts = tt
-in_state WaitCer c Starts = tt
-in_state Open c Starts = tt
-in_state WaitDpa c Starts = tt
-in_state WaitCea c (Gets what) = by_waiting_answer c what
-in_state WaitCer c (Gets what) = by_waiting_request c what
-in_state Open c (Gets what) = by_open c what
-in_state WaitDpa c (Gets what) = by_waiting_end c what
+in_state WaitCea c (Gets (Cea ids result apps)) = either c (same_ids ids c.last_cer) (answered c result apps) (nothing c) (by_answered c result apps) tt
+in_state WaitCea c (Gets (Refusal ids)) = either c (same_ids ids c.last_cer) (closes c [] why.Refused) (nothing c) tt tt
+in_state WaitCer c (Gets (Cer ids bytes apps)) = by_accepts c ids bytes (common_of c.config apps)
+in_state Open c (Gets (Cer ids bytes apps)) = by_role c c.role (repeated c bytes c.taken) (by_repeated c bytes c.taken)
+in_state Open c (Gets (Dwr ids)) = (is_dwa ids, tt)
+in_state Open c (Gets (Dwa ids)) = either c (same_ids ids c.last_dwr) (record { core = record c { waits = false }; deeds = [] }) (nothing c) tt tt
+in_state Open c (Gets (Dpr ids)) = (is_dpa ids, tt)
 in_state Open c Ticks = by_ticks c
-in_state WaitCea c Ticks = tt
-in_state WaitCer c Ticks = tt
-in_state WaitDpa c Ticks = tt
 in_state Open c (Stops cause) = (is_dpr c.next cause, tt)
-in_state WaitDpa c (Stops cause) = tt
-in_state WaitCea c (Stops cause) = tt
-in_state WaitCer c (Stops cause) = tt
+in_state WaitDpa c (Gets (Dwr ids)) = (is_dwa ids, tt)
+in_state WaitDpa c (Gets (Dpr ids)) = (is_dpa ids, tt)
+in_state WaitDpa c (Gets (Dpa ids)) = either c (same_ids ids c.last_dpr) (closes c [] why.Stopped) (nothing c) tt tt
+in_state state c h = tt
 
 sound : (c : PlainConfig) → IsConfig c → (deeds : List Deed) (outputs : List Output) → AreOurs c deeds → AreOutputs deeds outputs → AllByRecursion IsSound outputs
 sound c ok [] [] ours are = tt

@@ -13,6 +13,7 @@ use Rattle.dia_peer.specs.declared.config.Ip.{Ip}
 use Rattle.dia_peer.specs.declared.config.Config.{Config}
 use Rattle.dia_peer.specs.declared.event.State.{State}
 use Rattle.dia_peer.specs.declared.kept_requests.Ids.{Ids}
+use Rattle.dia_peer.specs.declared.kept_requests.Taken.{Taken}
 use Rattle.std.specs.Str.{IsUtf8}
 use Rattle.dia_peer.specs.declared.config.Ip.TheVariants.{V4, V6}
 
@@ -120,6 +121,9 @@ pub record Sent : Type 0 where
 pub record PlainTaken : Type 0 where
   pub bytes : List ℕ
   pub ids : Ids
+
+abbrev pub taken_of : Taken → PlainTaken
+taken_of t = record { bytes = t.bytes.items; ids = t.ids }
 
 pub record PlainCore : Type 0 where
   pub config : PlainConfig

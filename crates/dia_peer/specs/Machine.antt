@@ -1,40 +1,20 @@
--- What the fields of a core mean, and what one step of it does.
+-- What one step of a core does, and why a configuration is refused.
 use Rattle.std.specs.Prelude.{◌≡◌, ◌<◌, ◌≤◌, ◌⊎◌, List, [], ◌∷◌, length, ⊤}
-use Rattle.std.specs.Option.{option_map}
 use Rattle.dia_wire.specs.Wire.{MessageWithZeros}
 use Rattle.dia_dict.specs.Base.{base}
 use Rattle.dia_check.specs.declared.Unknown.TheVariants.{Kept}
 use Rattle.dia_check.specs.declared.Levels.TheVariants.{Any}
 use Rattle.dia_check.specs.Valid.{IsValid}
 use Rattle.dia_peer.specs.declared.codes.TheConstants.{NAME_LIMIT, ADDRESS_LIMIT}
-use Rattle.dia_peer.specs.declared.kept_requests.Taken.{Taken}
-use Rattle.dia_peer.specs.declared.connection.Core.{Core}
 use Rattle.dia_peer.specs.declared.config.ConfigFault.{ConfigFault}
 use Rattle.dia_peer.specs.declared.config.ConfigFault.TheVariants as fault
 use Rattle.dia_peer.specs.declared.event.Event.{Event}
 use Rattle.dia_peer.specs.declared.event.Event.TheVariants as event
 use Rattle.dia_peer.specs.declared.event.Output.{Output}
 use Rattle.dia_peer.specs.declared.event.Output.TheVariants as output
-use Rattle.dia_peer.specs.Core.{PlainConfig, PlainCore, PlainTaken, IsConfig, IsIdentity, AreApps, plain_config, pairs_of}
+use Rattle.dia_peer.specs.Core.{PlainConfig, PlainCore, IsConfig, IsIdentity, AreApps}
 use Rattle.dia_peer.specs.Messages.{Received, IsReceived}
 use Rattle.dia_peer.specs.Table.{Happening, Starts, Gets, Ticks, Stops, Breaks, Deed, Sends, Closes, Outcome, happens}
-
-abbrev pub taken_of : Taken → PlainTaken
-taken_of t = record { bytes = t.bytes.items; ids = t.ids }
-
-abbrev pub core_of : Core → PlainCore
-core_of c = record {
-  config = plain_config c.node.config;
-  role = c.role;
-  state = c.state;
-  common = pairs_of c.common.items;
-  next = c.next;
-  last_cer = c.last_cer;
-  last_dwr = c.last_dwr;
-  last_dpr = c.last_dpr;
-  waits = c.waits;
-  taken = option_map taken_of c.taken;
-}
 
 abbrev pub IsHappening : Event → Happening → Type 0
 IsHappening event.Start h = h ≡ Starts

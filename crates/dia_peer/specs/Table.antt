@@ -46,7 +46,7 @@ same_bytes a b = (length a == length b) && starts_with nat_eq a b
 abbrev pub same_ids : Ids → Option Ids → Bool
 same_ids ids last = option_map_or (λ l. (l.hop == ids.hop) && (l.e2e == ids.e2e)) last false
 
--- ---- what comes in each state
+-- ---- lines of the table
 
 abbrev pub starts : PlainCore → Role → Outcome
 starts c Initiator = record { core = record c { state = WaitCea; next = after c.next; last_cer = Some c.next }; deeds = Sends (cer c.config c.next) ∷ [] }
@@ -73,39 +73,9 @@ abbrev pub repeated : PlainCore → List ℕ → Option PlainTaken → Outcome
 repeated c bytes None = nothing c
 repeated c bytes (Some taken) = if same_bytes bytes taken.bytes then record { core = c; deeds = Sends (cea c.config taken.ids SUCCESS) ∷ [] } else nothing c
 
-abbrev pub gets_waiting_answer : PlainCore → Received → Outcome
-gets_waiting_answer c Unreadable = closes c [] why.Invalid
-gets_waiting_answer c Invalid = closes c [] why.Invalid
-gets_waiting_answer c (Cea ids result apps) = if same_ids ids c.last_cer then answered c result apps else nothing c
-gets_waiting_answer c (Refusal ids) = if same_ids ids c.last_cer then closes c [] why.Refused else nothing c
-gets_waiting_answer c what = nothing c
-
-abbrev pub gets_waiting_request : PlainCore → Received → Outcome
-gets_waiting_request c Unreadable = closes c [] why.Invalid
-gets_waiting_request c Invalid = closes c [] why.Invalid
-gets_waiting_request c (Cer ids bytes apps) = accepts c ids bytes (common_of c.config apps)
-gets_waiting_request c what = nothing c
-
 abbrev pub only_responder : Role → Outcome → Outcome → Outcome
 only_responder Responder first second = first
 only_responder Initiator first second = second
-
-abbrev pub gets_open : PlainCore → Received → Outcome
-gets_open c Unreadable = closes c [] why.Invalid
-gets_open c Invalid = closes c [] why.Invalid
-gets_open c (Cer ids bytes apps) = only_responder c.role (repeated c bytes c.taken) (nothing c)
-gets_open c (Dwa ids) = if same_ids ids c.last_dwr then record { core = record c { waits = false }; deeds = [] } else nothing c
-gets_open c (Dwr ids) = record { core = c; deeds = Sends (dwa c.config ids) ∷ [] }
-gets_open c (Dpr ids) = closes c (Sends (dpa c.config ids) ∷ []) why.PeerStopped
-gets_open c what = nothing c
-
-abbrev pub gets_waiting_end : PlainCore → Received → Outcome
-gets_waiting_end c Unreadable = closes c [] why.Invalid
-gets_waiting_end c Invalid = closes c [] why.Invalid
-gets_waiting_end c (Dwr ids) = record { core = c; deeds = Sends (dwa c.config ids) ∷ [] }
-gets_waiting_end c (Dpr ids) = closes c (Sends (dpa c.config ids) ∷ []) why.PeerStopped
-gets_waiting_end c (Dpa ids) = if same_ids ids c.last_dpr then closes c [] why.Stopped else nothing c
-gets_waiting_end c what = nothing c
 
 abbrev pub ticks_open : PlainCore → Outcome
 ticks_open c = if c.waits then closes c [] why.Watchdog
@@ -114,25 +84,35 @@ ticks_open c = if c.waits then closes c [] why.Watchdog
 abbrev pub stops_open : PlainCore → Cause → Outcome
 stops_open c cause = record { core = record c { state = WaitDpa; next = after c.next; last_dpr = Some c.next }; deeds = Sends (dpr c.config c.next cause) ∷ [] }
 
--- ---- the table, by state and event
+-- ---- the table, by state and event: whatever it does not name is ignored
 
 abbrev pub happens_in : State → PlainCore → Happening → Outcome
 happens_in Closed c h = nothing c
 happens_in state c Breaks = record { core = closed c; deeds = [] }
 happens_in Idle c Starts = starts c c.role
 happens_in Idle c (Stops cause) = closes c [] why.Stopped
-happens_in Idle c (Gets what) = nothing c
-happens_in Idle c Ticks = nothing c
-happens_in state c Starts = nothing c
-happens_in WaitCea c (Gets what) = gets_waiting_answer c what
-happens_in WaitCer c (Gets what) = gets_waiting_request c what
-happens_in Open c (Gets what) = gets_open c what
-happens_in WaitDpa c (Gets what) = gets_waiting_end c what
+happens_in Idle c h = nothing c
+-- bytes that are no message, or no valid one
+happens_in state c (Gets Unreadable) = closes c [] why.Invalid
+happens_in state c (Gets Invalid) = closes c [] why.Invalid
+happens_in WaitCea c (Gets (Cea ids result apps)) = if same_ids ids c.last_cer then answered c result apps else nothing c
+happens_in WaitCea c (Gets (Refusal ids)) = if same_ids ids c.last_cer then closes c [] why.Refused else nothing c
+happens_in WaitCea c Ticks = closes c [] why.Timeout
+happens_in WaitCea c (Stops cause) = closes c [] why.Stopped
+happens_in WaitCer c (Gets (Cer ids bytes apps)) = accepts c ids bytes (common_of c.config apps)
+happens_in WaitCer c Ticks = closes c [] why.Timeout
+happens_in WaitCer c (Stops cause) = closes c [] why.Stopped
+happens_in Open c (Gets (Cer ids bytes apps)) = only_responder c.role (repeated c bytes c.taken) (nothing c)
+happens_in Open c (Gets (Dwr ids)) = record { core = c; deeds = Sends (dwa c.config ids) ∷ [] }
+happens_in Open c (Gets (Dwa ids)) = if same_ids ids c.last_dwr then record { core = record c { waits = false }; deeds = [] } else nothing c
+happens_in Open c (Gets (Dpr ids)) = closes c (Sends (dpa c.config ids) ∷ []) why.PeerStopped
 happens_in Open c Ticks = ticks_open c
-happens_in state c Ticks = closes c [] why.Timeout
 happens_in Open c (Stops cause) = stops_open c cause
-happens_in WaitDpa c (Stops cause) = nothing c
-happens_in state c (Stops cause) = closes c [] why.Stopped
+happens_in WaitDpa c (Gets (Dwr ids)) = record { core = c; deeds = Sends (dwa c.config ids) ∷ [] }
+happens_in WaitDpa c (Gets (Dpr ids)) = closes c (Sends (dpa c.config ids) ∷ []) why.PeerStopped
+happens_in WaitDpa c (Gets (Dpa ids)) = if same_ids ids c.last_dpr then closes c [] why.Stopped else nothing c
+happens_in WaitDpa c Ticks = closes c [] why.Timeout
+happens_in state c h = nothing c
 
 abbrev pub happens : PlainCore → Happening → Outcome
 happens c h = happens_in c.state c h

@@ -10,6 +10,7 @@ use crate::event::{Cause, Event, Output, State, Why};
 use crate::kept_requests::{Ids, Taken};
 use crate::node::Node;
 use std::alloc::{AllocError, Global};
+use std::marker::Model;
 
 /// One end of a connection.
 ///
@@ -29,8 +30,28 @@ pub struct Core {
     taken: Option<Taken>,
 }
 
+impl Model for Core {
+    ghost use Rattle.std.specs.Option.{option_map};
+    ghost use Rattle.dia_peer.specs.Core.{PlainCore, plain_config, pairs_of, taken_of};
+
+    ghost Value = { PlainCore };
+
+    ghost view = { λ c. record {
+      config = plain_config c.node.config;
+      role = c.role;
+      state = c.state;
+      common = pairs_of c.common.items;
+      next = c.next;
+      last_cer = c.last_cer;
+      last_dwr = c.last_dwr;
+      last_dpr = c.last_dpr;
+      waits = c.waits;
+      taken = option_map taken_of c.taken;
+    } };
+}
+
 impl Core {
-    ghost use Rattle.dia_peer.specs.Machine.{core_of, IsStep, IsRefusedAs, IsSound, Does};
+    ghost use Rattle.dia_peer.specs.Machine.{IsStep, IsRefusedAs, IsSound, Does};
     ghost use Rattle.dia_peer.specs.Table.{
       happens,
       starts,
@@ -49,8 +70,7 @@ impl Core {
     /// The first of the faults of a configuration that stands is told. The error `NoMemory` comes only where memory was refused.
     pub fn new(alloc: Global, config: Config, role: Role) -> Result<Core, ConfigFault>
         ensures ok { IfOk result
-            (λ core. IsConfig (plain_config config)
-            × (core_of core ≡ idle (plain_config config) role)) }
+            (λ core. IsConfig (plain_config config) × (core ≡ idle (plain_config config) role)) }
         ensures err { IfErr result (IsRefusedAs (plain_config config)) }
     {
         let node = Node::new(alloc, config)?;
@@ -74,7 +94,7 @@ impl Core {
 
     /// Where the connection stands. Takes no memory.
     pub fn state(&self) -> State
-        ensures { result ≡ (core_of self.now).state }
+        ensures { result ≡ self.now.state }
     {
         self.state
     }
@@ -82,7 +102,7 @@ impl Core {
     /// The applications that both ends advertise, Auth first and then by number: none before the connection is
     /// open, and kept from then on. Takes no memory.
     pub fn common(&self) -> &[(Kind, u32)]
-        ensures { pairs_of result.now ≡ (core_of self.now).common }
+        ensures { pairs_of result.now ≡ self.now.common }
     {
         &self.common
     }
@@ -91,19 +111,18 @@ impl Core {
     ///
     /// The bytes of a message are checked once, and gone through once more where they are a CER or a CEA.
     pub fn step(&mut self, event: Event<'_>) -> Result<Vec<Output>, AllocError>
-        ensures ok { IfOk result
-            (λ outputs. IsStep (core_of self.old) event.entry outputs.items (core_of self.new)) }
+        ensures ok { IfOk result (λ outputs. IsStep self.old event.entry outputs.items self.new) }
         ensures valid { IfOk result (λ outputs. All IsSound outputs.items) }
-        ensures err { OnErr result (core_of self.new ≡ core_of self.old) }
+        ensures err { OnErr result (self.new ≡ self.old) }
     {
+        let _ = &self.node;
         let outputs = self.happens(event)?;
         Ok(outputs)
     }
 
     fn happens(&mut self, event: Event<'_>) -> Result<Vec<Output>, AllocError>
-        ensures ok { IfOk result
-            (λ outputs. IsStep (core_of self.old) event.entry outputs.items (core_of self.new)) }
-        ensures err { OnErr result (core_of self.new ≡ core_of self.old) }
+        ensures ok { IfOk result (λ outputs. IsStep self.old event.entry outputs.items self.new) }
+        ensures err { OnErr result (self.new ≡ self.old) }
     {
         match event {
             Event::Start => self.starts(),
@@ -118,25 +137,19 @@ impl Core {
     }
 
     fn starts(&mut self) -> Result<Vec<Output>, AllocError>
-        ensures ok { IfOk result
-            (λ outputs. Does (happens (core_of self.old) Starts) outputs.items (core_of self.new)) }
-        ensures err { OnErr result (core_of self.new ≡ core_of self.old) }
+        ensures ok { IfOk result (λ outputs. Does (happens self.old Starts) outputs.items self.new) }
+        ensures err { OnErr result (self.new ≡ self.old) }
     {
         match self.state {
             State::Idle => self.begins(),
-            State::WaitCea => Ok(self.nothing()),
-            State::WaitCer => Ok(self.nothing()),
-            State::Open => Ok(self.nothing()),
-            State::WaitDpa => Ok(self.nothing()),
-            State::Closed => Ok(self.nothing()),
+            _ => Ok(self.nothing()),
         }
     }
 
     fn begins(&mut self) -> Result<Vec<Output>, AllocError>
         ensures ok { IfOk result
-            (λ outputs. Does (starts (core_of self.old) self.old.role) outputs.items
-            (core_of self.new)) }
-        ensures err { OnErr result (core_of self.new ≡ core_of self.old) }
+            (λ outputs. Does (starts self.old self.old.role) outputs.items self.new) }
+        ensures err { OnErr result (self.new ≡ self.old) }
     {
         match self.role {
             Role::Initiator => {
@@ -155,25 +168,20 @@ impl Core {
     }
 
     fn ticks(&mut self) -> Result<Vec<Output>, AllocError>
-        ensures ok { IfOk result
-            (λ outputs. Does (happens (core_of self.old) Ticks) outputs.items (core_of self.new)) }
-        ensures err { OnErr result (core_of self.new ≡ core_of self.old) }
+        ensures ok { IfOk result (λ outputs. Does (happens self.old Ticks) outputs.items self.new) }
+        ensures err { OnErr result (self.new ≡ self.old) }
     {
         match self.state {
-            State::Idle => Ok(self.nothing()),
-            State::WaitCea => self.closes(Why::Timeout),
-            State::WaitCer => self.closes(Why::Timeout),
+            State::Idle | State::Closed => Ok(self.nothing()),
             State::Open => self.watches(),
-            State::WaitDpa => self.closes(Why::Timeout),
-            State::Closed => Ok(self.nothing()),
+            State::WaitCea | State::WaitCer | State::WaitDpa => self.closes(Why::Timeout),
         }
     }
 
     /// A watchdog is sent, where none waits for its answer.
     fn watches(&mut self) -> Result<Vec<Output>, AllocError>
-        ensures ok { IfOk result
-            (λ outputs. Does (ticks_open (core_of self.old)) outputs.items (core_of self.new)) }
-        ensures err { OnErr result (core_of self.new ≡ core_of self.old) }
+        ensures ok { IfOk result (λ outputs. Does (ticks_open self.old) outputs.items self.new) }
+        ensures err { OnErr result (self.new ≡ self.old) }
     {
         if self.waits {
             return self.closes(Why::Watchdog);
@@ -188,25 +196,19 @@ impl Core {
 
     fn stops(&mut self, cause: Cause) -> Result<Vec<Output>, AllocError>
         ensures ok { IfOk result
-            (λ outputs. Does (happens (core_of self.old) (Stops cause)) outputs.items
-            (core_of self.new)) }
-        ensures err { OnErr result (core_of self.new ≡ core_of self.old) }
+            (λ outputs. Does (happens self.old (Stops cause)) outputs.items self.new) }
+        ensures err { OnErr result (self.new ≡ self.old) }
     {
         match self.state {
-            State::Idle => self.closes(Why::Stopped),
-            State::WaitCea => self.closes(Why::Stopped),
-            State::WaitCer => self.closes(Why::Stopped),
+            State::Idle | State::WaitCea | State::WaitCer => self.closes(Why::Stopped),
             State::Open => self.leaves(cause),
-            State::WaitDpa => Ok(self.nothing()),
-            State::Closed => Ok(self.nothing()),
+            State::WaitDpa | State::Closed => Ok(self.nothing()),
         }
     }
 
     fn leaves(&mut self, cause: Cause) -> Result<Vec<Output>, AllocError>
-        ensures ok { IfOk result
-            (λ outputs. Does (stops_open (core_of self.old) cause) outputs.items
-            (core_of self.new)) }
-        ensures err { OnErr result (core_of self.new ≡ core_of self.old) }
+        ensures ok { IfOk result (λ outputs. Does (stops_open self.old cause) outputs.items self.new) }
+        ensures err { OnErr result (self.new ≡ self.old) }
     {
         let ids = self.next;
         let outputs = self.sends(self.node.dpr(ids, cause)?)?;
@@ -217,16 +219,9 @@ impl Core {
     }
 
     fn breaks(&mut self) -> Vec<Output>
-        ensures { Does (happens (core_of self.old) Breaks) result.items (core_of self.new) }
+        ensures { Does (happens self.old Breaks) result.items self.new }
     {
-        match self.state {
-            State::Idle => self.state = State::Closed,
-            State::WaitCea => self.state = State::Closed,
-            State::WaitCer => self.state = State::Closed,
-            State::Open => self.state = State::Closed,
-            State::WaitDpa => self.state = State::Closed,
-            State::Closed => {}
-        }
+        self.state = State::Closed;
         self.nothing()
     }
 
@@ -245,9 +240,8 @@ impl Core {
     }
 
     fn closes(&mut self, why: Why) -> Result<Vec<Output>, AllocError>
-        ensures ok { IfOk result
-            (λ outputs. Does (closes (core_of self.old) [] why) outputs.items (core_of self.new)) }
-        ensures err { OnErr result (core_of self.new ≡ core_of self.old) }
+        ensures ok { IfOk result (λ outputs. Does (closes self.old [] why) outputs.items self.new) }
+        ensures err { OnErr result (self.new ≡ self.old) }
     {
         let mut outputs = self.nothing();
         outputs.push(Output::Close(why))?;
@@ -257,9 +251,8 @@ impl Core {
 
     fn sends_and_closes(&mut self, bytes: Vec<u8>, why: Why) -> Result<Vec<Output>, AllocError>
         ensures ok { IfOk result
-            (λ outputs. (core_of self.new ≡ closed (core_of self.old))
-            × (outputs.items ≡ Output.Send bytes ∷ Output.Close why ∷ [])) }
-        ensures err { OnErr result (core_of self.new ≡ core_of self.old) }
+            (λ outputs. (self.new ≡ closed self.old) × (outputs.items ≡ Output.Send bytes ∷ Output.Close why ∷ [])) }
+        ensures err { OnErr result (self.new ≡ self.old) }
     {
         let mut outputs = self.sends(bytes)?;
         outputs.push(Output::Close(why))?;

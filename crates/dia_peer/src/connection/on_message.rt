@@ -3,18 +3,15 @@
 ghost use Rattle.std.specs.Prelude.{◌≡◌, IfOk, OnErr};
 ghost use Rattle.dia_peer.specs.Core.{pairs_of};
 ghost use Rattle.dia_peer.specs.Incoming.{received_of, pairs_named};
-ghost use Rattle.dia_peer.specs.Machine.{core_of, Does};
+ghost use Rattle.dia_peer.specs.Machine.{Does};
 ghost use Rattle.dia_peer.specs.Table.{
   happens,
+  happens_in,
   Gets,
   opens,
   accepts,
   repeated,
   answered,
-  gets_waiting_answer,
-  gets_waiting_request,
-  gets_open,
-  gets_waiting_end,
   same_ids,
 };
 
@@ -30,17 +27,15 @@ use std::alloc::AllocError;
 impl Core {
     pub(super) fn gets(&mut self, bytes: &[u8], what: Incoming) -> Result<Vec<Output>, AllocError>
         ensures ok { IfOk result
-            (λ outputs. Does (happens (core_of self.old) (Gets (received_of bytes.now what)))
-            outputs.items (core_of self.new)) }
-        ensures err { OnErr result (core_of self.new ≡ core_of self.old) }
+            (λ outputs. Does (happens self.old (Gets (received_of bytes.now what))) outputs.items self.new) }
+        ensures err { OnErr result (self.new ≡ self.old) }
     {
         match self.state {
-            State::Idle => Ok(self.nothing()),
             State::WaitCea => self.gets_waiting_answer(bytes, what),
             State::WaitCer => self.gets_waiting_request(bytes, what),
             State::Open => self.gets_open(bytes, what),
             State::WaitDpa => self.gets_waiting_end(bytes, what),
-            State::Closed => Ok(self.nothing()),
+            State::Idle | State::Closed => Ok(self.nothing()),
         }
     }
 
@@ -51,9 +46,9 @@ impl Core {
         what: Incoming,
     ) -> Result<Vec<Output>, AllocError>
         ensures ok { IfOk result
-            (λ outputs. Does (gets_waiting_answer (core_of self.old) (received_of _bytes.now what))
-            outputs.items (core_of self.new)) }
-        ensures err { OnErr result (core_of self.new ≡ core_of self.old) }
+            (λ outputs. Does (happens_in State.WaitCea self.old (Gets (received_of _bytes.now what)))
+            outputs.items self.new) }
+        ensures err { OnErr result (self.new ≡ self.old) }
     {
         match what {
             Incoming::Unreadable => self.closes(Why::Invalid),
@@ -76,22 +71,15 @@ impl Core {
                     Ok(self.nothing())
                 }
             }
-            Incoming::Foreign => Ok(self.nothing()),
-            Incoming::Cer { .. } => Ok(self.nothing()),
-            Incoming::Dwr(_) => Ok(self.nothing()),
-            Incoming::Dpr(_) => Ok(self.nothing()),
-            Incoming::Dwa(_) => Ok(self.nothing()),
-            Incoming::Dpa(_) => Ok(self.nothing()),
-            Incoming::Other => Ok(self.nothing()),
+            _ => Ok(self.nothing()),
         }
     }
 
     /// A CEA that answers the CER.
     fn answered(&mut self, result_code: u32, named: &NamedApps) -> Result<Vec<Output>, AllocError>
         ensures ok { IfOk result
-            (λ outputs. Does (answered (core_of self.old) result_code (pairs_named named.now))
-            outputs.items (core_of self.new)) }
-        ensures err { OnErr result (core_of self.new ≡ core_of self.old) }
+            (λ outputs. Does (answered self.old result_code (pairs_named named.now)) outputs.items self.new) }
+        ensures err { OnErr result (self.new ≡ self.old) }
     {
         if result_code == SUCCESS {
             let common = self.node.common(named)?;
@@ -105,9 +93,8 @@ impl Core {
 
     fn opens(&mut self, common: Vec<(Kind, u32)>) -> Result<Vec<Output>, AllocError>
         ensures ok { IfOk result
-            (λ outputs. Does (opens (core_of self.old) (pairs_of common.items)) outputs.items
-            (core_of self.new)) }
-        ensures err { OnErr result (core_of self.new ≡ core_of self.old) }
+            (λ outputs. Does (opens self.old (pairs_of common.items)) outputs.items self.new) }
+        ensures err { OnErr result (self.new ≡ self.old) }
     {
         if common.is_empty() {
             return self.closes(Why::NoCommon);
@@ -124,9 +111,8 @@ impl Core {
         what: Incoming,
     ) -> Result<Vec<Output>, AllocError>
         ensures ok { IfOk result
-            (λ outputs. Does (gets_waiting_request (core_of self.old) (received_of bytes.now what))
-            outputs.items (core_of self.new)) }
-        ensures err { OnErr result (core_of self.new ≡ core_of self.old) }
+            (λ outputs. Does (happens_in State.WaitCer self.old (Gets (received_of bytes.now what))) outputs.items self.new) }
+        ensures err { OnErr result (self.new ≡ self.old) }
     {
         match what {
             Incoming::Unreadable => self.closes(Why::Invalid),
@@ -135,14 +121,7 @@ impl Core {
                 let common = self.node.common(&named)?;
                 self.accepts(ids, bytes, common)
             }
-            Incoming::Foreign => Ok(self.nothing()),
-            Incoming::Dwr(_) => Ok(self.nothing()),
-            Incoming::Dpr(_) => Ok(self.nothing()),
-            Incoming::Cea { .. } => Ok(self.nothing()),
-            Incoming::Refusal(_) => Ok(self.nothing()),
-            Incoming::Dwa(_) => Ok(self.nothing()),
-            Incoming::Dpa(_) => Ok(self.nothing()),
-            Incoming::Other => Ok(self.nothing()),
+            _ => Ok(self.nothing()),
         }
     }
 
@@ -154,9 +133,8 @@ impl Core {
         common: Vec<(Kind, u32)>,
     ) -> Result<Vec<Output>, AllocError>
         ensures ok { IfOk result
-            (λ outputs. Does (accepts (core_of self.old) ids bytes.now (pairs_of common.items))
-            outputs.items (core_of self.new)) }
-        ensures err { OnErr result (core_of self.new ≡ core_of self.old) }
+            (λ outputs. Does (accepts self.old ids bytes.now (pairs_of common.items)) outputs.items self.new) }
+        ensures err { OnErr result (self.new ≡ self.old) }
     {
         if common.is_empty() {
             let cea = self.node.cea(ids, NO_COMMON_APPLICATION)?;
@@ -173,10 +151,8 @@ impl Core {
     /// A message comes while the connection is open.
     fn gets_open(&mut self, bytes: &[u8], what: Incoming) -> Result<Vec<Output>, AllocError>
         ensures ok { IfOk result
-            (λ outputs. Does (gets_open (core_of self.old) (received_of bytes.now what))
-            outputs.items
-            (core_of self.new)) }
-        ensures err { OnErr result (core_of self.new ≡ core_of self.old) }
+            (λ outputs. Does (happens_in State.Open self.old (Gets (received_of bytes.now what))) outputs.items self.new) }
+        ensures err { OnErr result (self.new ≡ self.old) }
     {
         match what {
             Incoming::Unreadable => self.closes(Why::Invalid),
@@ -196,19 +172,14 @@ impl Core {
                 let dpa = self.node.dpa(ids)?;
                 self.sends_and_closes(dpa, Why::PeerStopped)
             }
-            Incoming::Foreign => Ok(self.nothing()),
-            Incoming::Cea { .. } => Ok(self.nothing()),
-            Incoming::Refusal(_) => Ok(self.nothing()),
-            Incoming::Dpa(_) => Ok(self.nothing()),
-            Incoming::Other => Ok(self.nothing()),
+            _ => Ok(self.nothing()),
         }
     }
 
     /// The CER that was taken gets its CEA again.
     fn repeats(&self, bytes: &[u8]) -> Result<Vec<Output>, AllocError>
         ensures { IfOk result
-            (λ outputs. Does (repeated (core_of self.now) bytes.now (core_of self.now).taken)
-            outputs.items (core_of self.now)) }
+            (λ outputs. Does (repeated self.now bytes.now self.now.taken) outputs.items self.now) }
     {
         let Some(taken) = &self.taken else {
             return Ok(self.nothing());
@@ -224,9 +195,9 @@ impl Core {
     /// A message comes while the DPA is waited for.
     fn gets_waiting_end(&mut self, _bytes: &[u8], what: Incoming) -> Result<Vec<Output>, AllocError>
         ensures ok { IfOk result
-            (λ outputs. Does (gets_waiting_end (core_of self.old) (received_of _bytes.now what))
-            outputs.items (core_of self.new)) }
-        ensures err { OnErr result (core_of self.new ≡ core_of self.old) }
+            (λ outputs. Does (happens_in State.WaitDpa self.old (Gets (received_of _bytes.now what)))
+            outputs.items self.new) }
+        ensures err { OnErr result (self.new ≡ self.old) }
     {
         match what {
             Incoming::Unreadable => self.closes(Why::Invalid),
@@ -243,12 +214,7 @@ impl Core {
                     Ok(self.nothing())
                 }
             }
-            Incoming::Foreign => Ok(self.nothing()),
-            Incoming::Cer { .. } => Ok(self.nothing()),
-            Incoming::Cea { .. } => Ok(self.nothing()),
-            Incoming::Refusal(_) => Ok(self.nothing()),
-            Incoming::Dwa(_) => Ok(self.nothing()),
-            Incoming::Other => Ok(self.nothing()),
+            _ => Ok(self.nothing()),
         }
     }
 }

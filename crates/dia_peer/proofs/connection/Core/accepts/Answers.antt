@@ -8,7 +8,7 @@ use Rattle.dia_peer.specs.declared.kept_requests.Ids.{Ids}
 use Rattle.dia_peer.specs.Core.{Pair, PlainCore, the_pair, pairs_of}
 use Rattle.dia_peer.specs.Messages.{cea}
 use Rattle.dia_peer.specs.Table.{Sends, accepts}
-use Rattle.dia_peer.specs.Machine.{core_of, AreOutputs, IsOutput, Does}
+use Rattle.dia_peer.specs.Machine.{AreOutputs, IsOutput, Does}
 use Rattle.dia_peer.proofs.connection.Core.accepts.Goals as goal
 
 some : (n m : ℕ) → false ≡ (n == 0) → n ≡ m → 0 < m
@@ -23,13 +23,10 @@ does_accept c ids bytes (p ∷ ps) new outputs o h e is m = (e, subst (AreOutput
 
 pub returns-clause-ok : goal.returns-clause-ok
 returns-clause-ok c =
-    let core = core_of c.args.self.now in
+    let pairs = pairs_of c.args.common.items in
     let size = length-map c.args.common.items the_pair in
     let any = some _ _ c.if-is_empty.ensures c.args.common.ok.0 in
-    does_accept core c.args.ids c.args.bytes.now (pairs_of c.args.common.items) _ c.in_ok-outputs.outputs.items (output.Send c.in_ok-cea-2.field-0) (omega (arith, size, any))
-    (λ i. record core {
-      state = Open;
-      common = pairs_of c.args.common.items;
-      taken =
-          Some (record { bytes = c.in_ok-bytes.ensures.items i; ids = c.args.ids });
-    }) c.in_ok-outputs.ensures c.in_ok-cea-2.ensures
+    let sent = output.Send c.in_ok-cea-2.field-0 in
+    does_accept c.args.self.now c.args.ids c.args.bytes.now pairs _ c.in_ok-outputs.outputs.items sent (omega (arith, size, any))
+    (λ i. record (c.self-2.view_is i) { state = Open; common = pairs; taken = Some (record { bytes = c.in_ok-bytes.ensures.items i; ids = c.args.ids }) }) c.in_ok-outputs.ensures
+    (subst (λ (core : PlainCore). IsOutput (Sends (cea core.config c.args.ids 2001)) sent) c.self-2.view_is c.in_ok-cea-2.ensures)
