@@ -1,12 +1,15 @@
 -- A level that is gone through AVP by AVP.
-use Rattle.std.proofs.Common.{◌≡◌, ℕ, ◌<◌, true, false, List, [], ◌∷◌, ◌++◌, length, Option, Some, None, ◌⊎◌, inl, inr, ⊎_elim, refl, sym, ap, subst, ◌∙◌, arith}
+use Rattle.std.proofs.Common.{◌≡◌, ℕ, ◌<◌, true, false, List, [], ◌∷◌, ◌++◌, length, Option, Some, None, Result, Ok, Err, ◌⊎◌, inl, inr, ⊎_elim, refl, sym, ap, subst, ◌∙◌, arith}
 use Rattle.std.specs.Prelude.{◌↔◌, IsSome, IfSome, MatchOption}
 use Rattle.std.specs.List.{AllByRecursion}
 use Rattle.std.specs.Option.{option_map}
 use Rattle.std.proofs.lemmas.List.{append_cancel_left, length-append}
 use Rattle.std.proofs.lemmas.Option.{same_Some}
 use Rattle.dia_wire.specs.Number.{number}
-use Rattle.dia_wire.specs.Wire.{PlainAvp, key_of, avp_length, Spells, SpellsAll, BeginsWith, BeginsWithNone}
+use Rattle.dia_wire.specs.declared.avp.Avp.{Avp}
+use Rattle.dia_wire.specs.declared.avp.AvpFault.{AvpFault}
+use Rattle.dia_wire.specs.Level.{StepsAvp}
+use Rattle.dia_wire.specs.Wire.{PlainAvp, plain_avp, key_of, avp_length, Spells, SpellsAll, BeginsWith, BeginsWithNone}
 use Rattle.dia_wire.proofs.Spelling.{opened, rounded-le, at_least_8, one_spelling}
 use Rattle.dia_peer.specs.declared.config.Kind.{Kind}
 use Rattle.dia_peer.specs.Core.{Pair, pair}
@@ -35,6 +38,17 @@ first_is (w ∷ ws) v level rest (front, after, s, parts, all) (head, t, also) =
 pub none_left : (vs : List PlainAvp) (level : List ℕ) → SpellsAll vs level → BeginsWithNone level → vs ≡ []
 none_left [] level all none = refl
 none_left (v ∷ vs) level (front, rest, s, parts, all) none = absurd (none v rest (front, s, parts))
+
+-- ---- the steps of an iterator over a level
+
+pub goes_on : (level left : List ℕ) (found : Result Avp AvpFault) (avp : Avp) → StepsAvp level (Some found) left → found ≡ Ok avp → BeginsWith (plain_avp avp) level left
+goes_on level left found avp steps is = subst (λ (f : Result Avp AvpFault). StepsAvp level (Some f) left) is steps
+
+pub ends_at_fault : (level left : List ℕ) (found : Result Avp AvpFault) (fault : AvpFault) → StepsAvp level (Some found) left → found ≡ Err fault → BeginsWithNone level
+ends_at_fault level left found fault steps is = (subst (λ (f : Result Avp AvpFault). StepsAvp level (Some f) left) is steps).1
+
+pub ends : (level left : List ℕ) → StepsAvp level None left → BeginsWithNone level
+ends level left steps v rest b = let h = shorter v level rest b in absurd (omega (arith, h, ap length steps.0))
 
 -- ---- what the AVPs of a level say
 

@@ -46,7 +46,8 @@ use Rattle.dia_peer.specs.Outputs.{SentBytes, ClosedFor, plain_output, SendsByte
 use Rattle.dia_peer.proofs.Sets.{to_in, of_in, any_in, in_any, eq_same}
 use Rattle.dia_peer.proofs.SpelledMessages.{one_message, has_length, one_writing}
 use Rattle.dia_peer.proofs.Delivered.{code_at}
-use Rattle.dia_peer.proofs.OneResult.{never, one_result}
+use Rattle.dia_peer.proofs.OneResult.{one_result}
+use Rattle.dia_peer.proofs.ResultCode.{never}
 
 both_true : (a b : Bool) → (a ≡ true → b ≡ true) → (b ≡ true → a ≡ true) → a ≡ b
 both_true true true f g = refl

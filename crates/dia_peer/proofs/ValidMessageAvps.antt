@@ -11,8 +11,7 @@ use Rattle.dia_dict.specs.Base.{base}
 use Rattle.dia_book.specs.declared.DRule.{DRule}
 use Rattle.dia_check.specs.declared.Unknown.TheVariants.{Kept}
 use Rattle.dia_check.specs.declared.Levels.TheVariants.{Any}
-use Rattle.dia_book.specs.declared.Class.TheVariants.{Request, Answer, Error as ErrorClass}
-use Rattle.dia_check.specs.Valid.{IsValid, HasR, HasE, class_of, Fits, FitsBy, IsLevel}
+use Rattle.dia_check.specs.Valid.{IsValid, HasR, HasE, Fits, FitsBy, IsLevel}
 use Rattle.dia_peer.specs.declared.config.Kind.TheVariants.{Auth, Acct}
 use Rattle.dia_peer.specs.declared.kept_requests.Ids.{Ids}
 use Rattle.dia_peer.specs.Messages.{IsGood, IsOurCode}
@@ -134,48 +133,23 @@ good_of h b ids request error r valid is_request is_error same = record {
   ids_are = (sym same.0, sym same.1);
 }
 
--- the flags of each class
-pub request_flags : (flags : ℕ) → class_of flags ≡ Request → HasR flags
-request_flags flags e = by (bit_and flags 128 == 0) (bit_and flags 32 == 0) refl e
-  where
-    by : (x y : Bool) → (bit_and flags 128 == 0) ≡ x → cond x (cond y Answer ErrorClass) Request ≡ Request → HasR flags
-    by true true f e = absurd cc
-    by true false f e = absurd cc
-    by false y f e = λ z. (let t : false ≡ true = sym f ∙ ap (λ (n : ℕ). n == 0) z in absurd cc)
-
-pub answer_flags : (flags : ℕ) → class_of flags ≡ Answer → (¬ HasR flags) × (¬ HasE flags)
-answer_flags flags e = by (bit_and flags 128 == 0) (bit_and flags 32 == 0) refl refl e
-  where
-    by : (x y : Bool) → (bit_and flags 128 == 0) ≡ x → (bit_and flags 32 == 0) ≡ y → cond x (cond y Answer ErrorClass) Request ≡ Answer → (¬ HasR flags) × (¬ HasE flags)
-    by true true f g e = ((λ h. h (eq_same (bit_and flags 128) 0 f)), (λ h. h (eq_same (bit_and flags 32) 0 g)))
-    by true false f g e = absurd cc
-    by false y f g e = absurd cc
-
-pub error_flags : (flags : ℕ) → class_of flags ≡ ErrorClass → (¬ HasR flags) × HasE flags
-error_flags flags e = by (bit_and flags 128 == 0) (bit_and flags 32 == 0) refl refl e
-  where
-    by : (x y : Bool) → (bit_and flags 128 == 0) ≡ x → (bit_and flags 32 == 0) ≡ y → cond x (cond y Answer ErrorClass) Request ≡ ErrorClass → (¬ HasR flags) × HasE flags
-    by true false f g e = ((λ h. h (eq_same (bit_and flags 128) 0 f)), λ z. (let t : false ≡ true = sym g ∙ ap (λ (n : ℕ). n == 0) z in absurd cc))
-    by true true f g e = absurd cc
-    by false y f g e = absurd cc
-
 yes : (A : Type 0) → A → IsTrue true ↔ A
 yes A a = ((λ t. a), (λ x. refl))
 
 no : (A : Type 0) → ¬ A → IsTrue false ↔ A
 no A n = ((λ (t : IsTrue false). absurd cc), (λ x. absurd (n x)))
 
-pub request_good : (h : Header) (b : List ℕ) (ids : Ids) (r : Reads h b) → IsValid base Kept Any b → class_of h.flags ≡ Request → (ids.hop ≡ h.hop) × (ids.e2e ≡ h.e2e)
+pub request_good : (h : Header) (b : List ℕ) (ids : Ids) (r : Reads h b) → IsValid base Kept Any b → HasR h.flags → (ids.hop ≡ h.hop) × (ids.e2e ≡ h.e2e)
     → IsGood b h.code true false ids r.avps
-request_good h b ids r valid class same = let set = request_flags h.flags class in good_of h b ids true false r valid (yes (HasR h.flags) set) (no (HasE h.flags) (r.apart set)) same
+request_good h b ids r valid set same = good_of h b ids true false r valid (yes (HasR h.flags) set) (no (HasE h.flags) (r.apart set)) same
 
-pub answer_good : (h : Header) (b : List ℕ) (ids : Ids) (r : Reads h b) → IsValid base Kept Any b → class_of h.flags ≡ Answer → (ids.hop ≡ h.hop) × (ids.e2e ≡ h.e2e)
+pub answer_good : (h : Header) (b : List ℕ) (ids : Ids) (r : Reads h b) → IsValid base Kept Any b → (¬ HasR h.flags) × (¬ HasE h.flags) → (ids.hop ≡ h.hop) × (ids.e2e ≡ h.e2e)
     → IsGood b h.code false false ids r.avps
-answer_good h b ids r valid class same = let clear = answer_flags h.flags class in good_of h b ids false false r valid (no (HasR h.flags) clear.0) (no (HasE h.flags) clear.1) same
+answer_good h b ids r valid clear same = good_of h b ids false false r valid (no (HasR h.flags) clear.0) (no (HasE h.flags) clear.1) same
 
-pub error_good : (h : Header) (b : List ℕ) (ids : Ids) (r : Reads h b) → IsValid base Kept Any b → class_of h.flags ≡ ErrorClass → (ids.hop ≡ h.hop) × (ids.e2e ≡ h.e2e)
+pub error_good : (h : Header) (b : List ℕ) (ids : Ids) (r : Reads h b) → IsValid base Kept Any b → ¬ HasR h.flags → HasE h.flags → (ids.hop ≡ h.hop) × (ids.e2e ≡ h.e2e)
     → IsGood b h.code false true ids r.avps
-error_good h b ids r valid class same = let flags = error_flags h.flags class in good_of h b ids false true r valid (no (HasR h.flags) flags.0) (yes (HasE h.flags) flags.1) same
+error_good h b ids r valid clear set same = good_of h b ids false true r valid (no (HasR h.flags) clear) (yes (HasE h.flags) set) same
 
 -- of the three codes, one that is neither of two is the third
 pub third : (code : ℕ) → IsOurCode code → code ≢ 257 → code ≢ 280 → code ≡ 282

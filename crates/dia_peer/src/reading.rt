@@ -1,9 +1,8 @@
 //! What the AVPs of a message say: the applications that it names, and its result code.
 
-ghost use Rattle.std.specs.Prelude.{◌≡◌, ◌⊎◌, ◌↔◌, ℕ, List, IsTrue, IsNone};
-ghost use Rattle.std.specs.Prelude.{IfSome, IfOk, OnOk, MatchOption};
+ghost use Rattle.std.specs.Prelude.{◌≡◌, ◌⊎◌, ◌↔◌, ℕ, List, IfOk, OnOk, MatchOption};
 ghost use Rattle.std.specs.List.{AllByRecursion};
-ghost use Rattle.dia_wire.specs.Wire.{PlainAvp, plain_avp, BeginsWith, BeginsWithNone, SpellsAll};
+ghost use Rattle.dia_wire.specs.Wire.{PlainAvp, plain_avp, SpellsAll};
 ghost use Rattle.dia_peer.specs.Core.{Pair};
 ghost use Rattle.dia_peer.specs.Incoming.{
   Has,
@@ -25,7 +24,7 @@ use crate::codes::{
 use crate::config::Kind;
 use crate::named_apps::NamedApps;
 use dia_book::Key;
-use dia_wire::{Avp, key, next_avp, number32};
+use dia_wire::{Avp, Avps, key, number32};
 use std::alloc::{AllocError, Global};
 
 /// The applications that the AVPs of a body name, and those directly inside its Vendor-Specific-Application-Ids.
@@ -37,10 +36,9 @@ pub(crate) fn named_in(alloc: Global, body: &[u8]) -> Result<NamedApps, AllocErr
         → (p : Pair) → Has named p ↔ SaidBy Tells avps p) }
 {
     let mut named = NamedApps::new(alloc);
-    let mut rest = body;
-    while let Some((avp, after)) = first_of(rest) {
+    for found in Avps::new(body) {
+        let Ok(avp) = found else { break };
         add_told(&mut named, &avp)?;
-        rest = after;
     }
     Ok(named)
 }
@@ -50,25 +48,13 @@ pub(crate) fn result_code(body: &[u8]) -> Option<u32>
     ensures { (avps : List PlainAvp) → SpellsAll avps body.now → AllByRecursion HasCode avps
         → MatchOption result ((n : ℕ) → ¬ SaidBy IsResult avps n) (SaidBy IsResult avps) }
 {
-    let mut rest = body;
-    while let Some((avp, after)) = first_of(rest) {
+    for found in Avps::new(body) {
+        let Ok(avp) = found else { break };
         if is_result_code(key(&avp)) {
             return number32(avp.bytes);
         }
-        rest = after;
     }
     None
-}
-
-/// The first AVP of a level, and what follows it.
-fn first_of(level: &[u8]) -> Option<(Avp<'_>, &[u8])>
-    ensures some { IfSome result (λ found. BeginsWith (plain_avp found.0) level.now found.1.now) }
-    ensures none { IsNone result → BeginsWithNone level.now }
-{
-    match next_avp(level) {
-        Ok(next) => next,
-        Err(_) => None,
-    }
 }
 
 /// Adds the application that an AVP names, and those that stand directly inside it.
@@ -91,10 +77,9 @@ fn add_members(named: &mut NamedApps, level: &[u8]) -> Result<(), AllocError>
         → AllByRecursion HasNumber avps → (p : Pair)
         → Has named.new p ↔ (Has named.old p ⊎ SaidBy NamesApplication avps p)) }
 {
-    let mut rest = level;
-    while let Some((avp, after)) = first_of(rest) {
+    for found in Avps::new(level) {
+        let Ok(avp) = found else { break };
         add_named(named, &avp)?;
-        rest = after;
     }
     Ok(())
 }

@@ -5,7 +5,7 @@ ghost use Rattle.dia_wire.specs.Wire.{IsHead};
 ghost use Rattle.dia_dict.specs.Base.{base};
 ghost use Rattle.dia_check.specs.declared.Unknown.TheVariants.{Kept};
 ghost use Rattle.dia_check.specs.declared.Levels.TheVariants.{Any};
-ghost use Rattle.dia_check.specs.Valid.{IsValid, class_of};
+ghost use Rattle.dia_check.specs.Valid.{IsValid, HasR, HasE};
 ghost use Rattle.dia_check.specs.Faults.{HasLength};
 ghost use Rattle.dia_peer.specs.Messages.{IsOurCode, IsReceived};
 ghost use Rattle.dia_peer.specs.Incoming.{received_of};
@@ -15,8 +15,7 @@ use crate::incoming::Incoming;
 use crate::kept_requests::Ids;
 use crate::node::Node;
 use crate::reading::{named_in, result_code};
-use dia_book::Class;
-use dia_wire::{COMMAND_ERROR, COMMAND_REQUEST, HEADER_LENGTH, Header, split_message};
+use dia_wire::{HEADER_LENGTH, Header, split_message};
 use std::alloc::{AllocError, Global};
 
 impl Node {
@@ -63,10 +62,12 @@ fn sorted_out(alloc: Global, header: &Header, bytes: &[u8]) -> Result<Incoming, 
     requires valid { IsValid base Kept Any bytes.now }
     ensures { IfOk result (λ what. IsReceived bytes.now (received_of bytes.now what)) }
 {
-    match class_of(header.flags) {
-        Class::Request => request(alloc, header, bytes),
-        Class::Answer => answer(alloc, header, bytes),
-        Class::Error => Ok(error(header)),
+    if header.is_request() {
+        request(alloc, header, bytes)
+    } else if header.is_error() {
+        Ok(error(header))
+    } else {
+        answer(alloc, header, bytes)
     }
 }
 
@@ -74,7 +75,7 @@ fn sorted_out(alloc: Global, header: &Header, bytes: &[u8]) -> Result<Incoming, 
 fn request(alloc: Global, header: &Header, bytes: &[u8]) -> Result<Incoming, AllocError>
     requires head { IsHead header.now (length bytes.now) (take 20 bytes.now) }
     requires code { IsOurCode header.now.code }
-    requires class { class_of header.now.flags ≡ Class.Request }
+    requires set { HasR header.now.flags }
     requires valid { IsValid base Kept Any bytes.now }
     ensures { IfOk result (λ what. IsReceived bytes.now (received_of bytes.now what)) }
 {
@@ -93,7 +94,7 @@ fn request(alloc: Global, header: &Header, bytes: &[u8]) -> Result<Incoming, All
 fn answer(alloc: Global, header: &Header, bytes: &[u8]) -> Result<Incoming, AllocError>
     requires head { IsHead header.now (length bytes.now) (take 20 bytes.now) }
     requires code { IsOurCode header.now.code }
-    requires class { class_of header.now.flags ≡ Class.Answer }
+    requires clear { (¬ HasR header.now.flags) × (¬ HasE header.now.flags) }
     requires valid { IsValid base Kept Any bytes.now }
     ensures { IfOk result (λ what. IsReceived bytes.now (received_of bytes.now what)) }
 {
@@ -120,7 +121,7 @@ fn answer(alloc: Global, header: &Header, bytes: &[u8]) -> Result<Incoming, Allo
 fn error(header: &Header) -> Incoming
     requires { IsOurCode header.now.code }
     ensures { (bytes : List ℕ) → IsHead header.now (length bytes) (take 20 bytes)
-        → class_of header.now.flags ≡ Class.Error → IsValid base Kept Any bytes
+        → ¬ HasR header.now.flags → HasE header.now.flags → IsValid base Kept Any bytes
         → IsReceived bytes (received_of bytes result) }
 {
     if header.code == CAPABILITIES_EXCHANGE {
@@ -136,18 +137,5 @@ fn ids_of(header: &Header) -> Ids
     Ids {
         hop: header.hop,
         e2e: header.e2e,
-    }
-}
-
-/// The class of a message with these Command Flags: R and E (RFC 6733 section 3).
-fn class_of(flags: u8) -> Class
-    ensures { result ≡ class_of flags }
-{
-    if flags & COMMAND_REQUEST != 0 {
-        Class::Request
-    } else if flags & COMMAND_ERROR != 0 {
-        Class::Error
-    } else {
-        Class::Answer
     }
 }

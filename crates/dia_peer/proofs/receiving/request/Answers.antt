@@ -10,7 +10,7 @@ use Rattle.dia_peer.proofs.receiving.request.Goals as goal
 pub returns-then-header-eq-CAPABILITIES_EXCHANGE : goal.returns-then-header-eq-CAPABILITIES_EXCHANGE
 returns-then-header-eq-CAPABILITIES_EXCHANGE c =
     let h = c.args.header.now in let b = c.args.bytes.now in let r = reads h b c.requires.head c.requires.valid in
-    let good = request_good h b c.ids_of-ids.result r c.requires.valid c.requires.class c.ids_of-ids.ensures in
+    let good = request_good h b c.ids_of-ids.result r c.requires.valid c.requires.set c.ids_of-ids.ensures in
     let named : (p : Pair) → Has c.in_ok-named.named p ↔ SaidBy Tells r.avps p = c.in_ok-named.ensures r.avps (subst (SpellsAll r.avps) (sym (rest_of b)) r.body) r.readable in
     (r.avps, subst (λ (n : ℕ). IsGood b n true false c.ids_of-ids.result r.avps) c.if-header-eq-CAPABILITIES_EXCHANGE.true good, refl, advertised c.in_ok-named.named r.avps named)
 
@@ -19,7 +19,7 @@ returns-then-header-eq-DEVICE_WATCHDOG c =
     let h = c.args.header.now in let b = c.args.bytes.now in let r = reads h b c.requires.head c.requires.valid in (
       r.avps,
       subst (λ (n : ℕ). IsGood b n true false c.ids_of-ids.result r.avps) c.if-header-eq-DEVICE_WATCHDOG.true
-          (request_good h b c.ids_of-ids.result r c.requires.valid c.requires.class c.ids_of-ids.ensures),
+          (request_good h b c.ids_of-ids.result r c.requires.valid c.requires.set c.ids_of-ids.ensures),
     )
 
 pub returns : goal.returns
@@ -27,5 +27,5 @@ returns c =
     let h = c.args.header.now in let b = c.args.bytes.now in let r = reads h b c.requires.head c.requires.valid in (
       r.avps,
       subst (λ (n : ℕ). IsGood b n true false c.ids_of-ids.result r.avps) (third h.code c.requires.code c.if-header-eq-CAPABILITIES_EXCHANGE.false c.if-header-eq-DEVICE_WATCHDOG.false)
-          (request_good h b c.ids_of-ids.result r c.requires.valid c.requires.class c.ids_of-ids.ensures),
+          (request_good h b c.ids_of-ids.result r c.requires.valid c.requires.set c.ids_of-ids.ensures),
     )
