@@ -50,23 +50,14 @@ fn know_their_lengths(addresses: &[Ip])
     ensures { All IsIp addresses.now }
 {
     for address in addresses {
-        knows_its_length(address);
+        match address {
+            Ip::V4(bytes) => has_length(bytes),
+            Ip::V6(bytes) => has_length(bytes),
+        }
     }
 }
 
-fn knows_its_length(address: &Ip)
-    ensures { IsIp address.now }
-{
-    match address {
-        Ip::V4(bytes) => has_four(bytes),
-        Ip::V6(bytes) => has_sixteen(bytes),
-    }
-}
-
-fn has_four(bytes: &[u8; 4])
-    ensures { length bytes.now ≡ 4 }
-{}
-
-fn has_sixteen(bytes: &[u8; 16])
-    ensures { length bytes.now ≡ 16 }
+/// An array has as many items as its type says.
+fn has_length<const N: usize>(bytes: &[u8; N])
+    ensures { length bytes.now ≡ N }
 {}

@@ -51,8 +51,7 @@ impl Core {
         ensures err { OnErr result (self.new ≡ self.old) }
     {
         match what {
-            Incoming::Unreadable => self.closes(Why::Invalid),
-            Incoming::Invalid => self.closes(Why::Invalid),
+            Incoming::Unreadable | Incoming::Invalid => self.closes(Why::Invalid),
             Incoming::Cea {
                 ids,
                 result_code,
@@ -115,8 +114,7 @@ impl Core {
         ensures err { OnErr result (self.new ≡ self.old) }
     {
         match what {
-            Incoming::Unreadable => self.closes(Why::Invalid),
-            Incoming::Invalid => self.closes(Why::Invalid),
+            Incoming::Unreadable | Incoming::Invalid => self.closes(Why::Invalid),
             Incoming::Cer { ids, named } => {
                 let common = self.node.common(&named)?;
                 self.accepts(ids, bytes, common)
@@ -155,8 +153,7 @@ impl Core {
         ensures err { OnErr result (self.new ≡ self.old) }
     {
         match what {
-            Incoming::Unreadable => self.closes(Why::Invalid),
-            Incoming::Invalid => self.closes(Why::Invalid),
+            Incoming::Unreadable | Incoming::Invalid => self.closes(Why::Invalid),
             Incoming::Cer { .. } => match self.role {
                 Role::Initiator => Ok(self.nothing()),
                 Role::Responder => self.repeats(bytes),
@@ -200,8 +197,7 @@ impl Core {
         ensures err { OnErr result (self.new ≡ self.old) }
     {
         match what {
-            Incoming::Unreadable => self.closes(Why::Invalid),
-            Incoming::Invalid => self.closes(Why::Invalid),
+            Incoming::Unreadable | Incoming::Invalid => self.closes(Why::Invalid),
             Incoming::Dwr(ids) => self.sends(self.node.dwa(ids)?),
             Incoming::Dpr(ids) => {
                 let dpa = self.node.dpa(ids)?;
