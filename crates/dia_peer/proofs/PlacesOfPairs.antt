@@ -1,38 +1,5 @@
 -- Pairs put into their places one after the other, and pairs that are found twice.
-use Rattle.std.proofs.Common.{
-  ◌≡◌,
-  ℕ,
-  zero,
-  suc,
-  ◌+◌,
-  ◌<◌,
-  ◌≤◌,
-  Bool,
-  true,
-  false,
-  cond,
-  List,
-  [],
-  ◌∷◌,
-  length,
-  map,
-  drop,
-  get_or,
-  Option,
-  Some,
-  None,
-  inl,
-  inr,
-  ⊎_elim,
-  refl,
-  sym,
-  ap,
-  subst,
-  ◌∙◌,
-  arith,
-  add_comm,
-  add-one,
-}
+use Rattle.std.proofs.Common.{◌≡◌, ℕ, zero, suc, ◌+◌, ◌<◌, ◌≤◌, Bool, true, false, cond, List, [], ◌∷◌, length, map, drop, get_or, Option, Some, None, inl, inr, refl, sym, ap, subst, ◌∙◌, arith, add_comm, add-one}
 use Rattle.std.specs.Prelude.{position, unwrap_or, slice_get, nat_lt, not, ◌||◌, ◌↔◌, ⊤}
 use Rattle.std.specs.List.{fold, insert, list_any, position_or_len}
 use Rattle.std.proofs.Math.Seq.{drop-cons}
@@ -42,7 +9,7 @@ use Rattle.std.proofs.lemmas.Option.{same_Some, none-some}
 use Rattle.dia_peer.specs.declared.config.Kind.{Kind}
 use Rattle.dia_peer.specs.declared.config.App.{App}
 use Rattle.dia_peer.specs.Core.{Pair, pair_of, the_pair, pairs_of, AreDistinct, comes_before, same_pair, insert_pair, sorted_pairs}
-use Rattle.dia_peer.proofs.Sets.{IsIn, in_map, in_insert, into_insert, any_in, in_any, put_onto}
+use Rattle.dia_peer.proofs.Sets.{IsIn, in_map, any_in, in_any, put_onto}
 
 -- ---- the place of a pair
 

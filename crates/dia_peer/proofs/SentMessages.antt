@@ -9,37 +9,13 @@ use Rattle.dia_peer.specs.declared.event.Output.TheVariants as output
 use Rattle.dia_peer.specs.declared.config.Role.{Role}
 use Rattle.dia_peer.specs.declared.config.Role.TheVariants.{Initiator, Responder}
 use Rattle.dia_peer.specs.declared.event.State.{State}
-use Rattle.dia_peer.specs.declared.event.State.TheVariants.{Idle, WaitCea, WaitCer, Open, WaitDpa, Closed}
+use Rattle.dia_peer.specs.declared.event.State.TheVariants.{Idle, WaitCea, WaitCer, Open, WaitDpa}
 use Rattle.dia_peer.specs.declared.event.Why.TheVariants as why
 use Rattle.dia_peer.specs.declared.kept_requests.Ids.{Ids}
 use Rattle.dia_peer.specs.Core.{PlainConfig, PlainCore, PlainTaken, Pair, IsConfig, common_of}
 use Rattle.dia_peer.specs.Messages.{Cer, Dwr, Dpr, Cea, Refusal, Dwa, Dpa, cea, dwr, after, IsOurs, is_cer, is_cea, is_dwr, is_dwa, is_dpr, is_dpa}
 use Rattle.dia_peer.specs.Machine.{AreOutputs, IsSound, IsStep}
-use Rattle.dia_peer.specs.Table.{
-  Happening,
-  Starts,
-  Gets,
-  Ticks,
-  Stops,
-  Breaks,
-  Deed,
-  Sends,
-  Closes,
-  Outcome,
-  nothing,
-  closes,
-  same_bytes,
-  same_ids,
-  starts,
-  opens,
-  answered,
-  accepts,
-  repeated,
-  only_responder,
-  ticks_open,
-  happens_in,
-  happens,
-}
+use Rattle.dia_peer.specs.Table.{Happening, Starts, Gets, Ticks, Stops, Deed, Sends, Closes, Outcome, nothing, closes, same_bytes, same_ids, starts, opens, answered, accepts, repeated, only_responder, ticks_open, happens_in, happens}
 use Rattle.dia_peer.proofs.OurMessages.{ours_are_valid}
 
 -- each message that is sent is one of the configuration's

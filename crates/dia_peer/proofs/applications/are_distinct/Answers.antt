@@ -1,4 +1,4 @@
-use Rattle.std.proofs.Common.{ℕ, ◌+◌, List, None, drop, get_or, refl, subst, ◌∙◌}
+use Rattle.std.proofs.Common.{◌+◌, List, None, drop, get_or, refl, subst}
 use Rattle.std.proofs.lemmas.List.{drop_all}
 use Rattle.std.proofs.lemmas.Option.{slice_get-get_or}
 use Rattle.dia_peer.specs.declared.config.App.{App}

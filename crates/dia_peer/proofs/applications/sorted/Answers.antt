@@ -1,7 +1,6 @@
 use Rattle.std.proofs.Common.{◌≡◌, ℕ, ◌+◌, ◌<◌, List, ◌∷◌, length, map, drop, get_or, Option, None, sym, ap, subst, ◌∙◌, add-one}
 use Rattle.std.specs.Prelude.{position, unwrap_or}
 use Rattle.std.proofs.Math.Seq.{drop-cons}
-use Rattle.std.proofs.lemmas.List.{drop_all}
 use Rattle.std.specs.List.{insert}
 use Rattle.dia_peer.specs.declared.config.App.{App}
 use Rattle.dia_peer.specs.declared.config.Kind.{Kind}

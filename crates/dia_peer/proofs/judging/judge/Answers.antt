@@ -1,11 +1,11 @@
-use Rattle.std.proofs.Common.{◌≡◌, ℕ, zero, suc, ◌<◌, false, List, length, map, ap, subst, ◌∙◌, refl, arith, rules}
+use Rattle.std.proofs.Common.{◌≡◌, ℕ, zero, suc, ◌<◌, false, List, length, ap, subst, refl, arith, rules}
 use Rattle.std.specs.Prelude.{All, ◌==◌}
 use Rattle.std.specs.List.{AllByRecursion}
 use Rattle.std.specs.Str.{IsUtf8}
 use Rattle.std.proofs.lemmas.List.Elements.{recursion_from_All}
 use Rattle.dia_peer.specs.declared.config.Ip.{Ip}
 use Rattle.dia_peer.specs.declared.config.App.{App}
-use Rattle.dia_peer.specs.Core.{IsIp, AreDistinct, pair_of, sorted_pairs}
+use Rattle.dia_peer.specs.Core.{IsIp, AreDistinct}
 use Rattle.dia_peer.proofs.judging.judge.Goals as goal
 
 some : (n m : ℕ) → false ≡ (n == 0) → n ≡ m → 0 < m
