@@ -115,6 +115,7 @@ impl Core {
         ensures valid { IfOk result (λ outputs. All IsSound outputs.items) }
         ensures err { OnErr result (self.new ≡ self.old) }
     {
+        // The proof of `valid` reads here that the node's configuration is accepted.
         let _ = &self.node;
         let outputs = self.happens(event)?;
         Ok(outputs)
