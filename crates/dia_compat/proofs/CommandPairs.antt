@@ -18,7 +18,7 @@ use Rattle.dia_book.specs.Dictionary.{Dictionary, PlainDefinition, IsDictionary,
 use Rattle.dia_check.specs.Valid.{AllowsP, PHolds, HasP}
 use Rattle.dia_compat.specs.TableText.{PlainTable}
 use Rattle.dia_compat.specs.Closed.{HasCode, IsError, IsBeside, NamesApp, IsWanted, error, same_app, no_app, both_none, other_app, IsServed, SameCodeAndClass, CommandPair}
-use Rattle.dia_compat.specs.PairTests.{NamePair, is_pair, names_app, wants_app, is_wanted, serves, serves_app, same_code_and_class, p_of, p_within, is_proxiable, is_selected, is_command_pair}
+use Rattle.dia_compat.specs.PairTests.{NamePair, is_pair, names_app, wants_app, is_wanted, serves, serves_app, same_code_and_class, p_of, p_within, is_proxiable, is_selected}
 use Rattle.dia_compat.proofs.RunsOfFixedRules.{IsIn}
 use Rattle.dia_compat.proofs.MemberCounts.{in_contains, contains_in, any_in, in_any}
 use Rattle.dia_compat.proofs.FitInSecond.{all_of}
@@ -328,11 +328,11 @@ module _ (da db : Dictionary) (sa : IsDictionary da) (sb : IsDictionary db) wher
         (all_in_decides (λ d. not (is_wanted da db c.head d.head) || list_any (is_pair c.name d.name) pairs) (λ d. IsWanted da db c d → IsBeside table c d) db.commands
         (λ d j. implied (is_wanted da db c.head d.head) (list_any (is_pair c.name d.name) pairs) (wanted_decides c d c.head d.head refl refl i j) (beside_decides c d)))
 
-    pub command_pair_decides : (c d : PlainDefinition) → IsIn c da.commands → IsIn d db.commands → Decides (is_command_pair da db pairs c d) (CommandPair da db table c d)
+    pub command_pair_decides : (c d : PlainDefinition) → IsIn c da.commands → IsIn d db.commands → Decides (same_code_and_class c.head d.head && is_proxiable c.head d.head && is_selected da db pairs c) (CommandPair da db table c d)
     command_pair_decides c d i j =
         let x = all_of (λ (z : PlainDefinition). IsCommandHead z.head) da.commands c sa.command_heads i in
         let y = all_of (λ (z : PlainDefinition). IsCommandHead z.head) db.commands d sb.command_heads j in
-        Decides-like (is_command_pair da db pairs c d) (λ h. record { same = h.0.0; proxiable = h.0.1; served = h.1.0; selection = h.1.1 }) (λ h. ((h.same, h.proxiable), (h.served, h.selection)))
+        Decides-like (same_code_and_class c.head d.head && is_proxiable c.head d.head && is_selected da db pairs c) (λ h. record { same = h.0.0; proxiable = h.0.1; served = h.1.0; selection = h.1.1 }) (λ h. ((h.same, h.proxiable), (h.served, h.selection)))
         (Decides-and (same_code_and_class c.head d.head && is_proxiable c.head d.head) (is_selected da db pairs c)
         (Decides-and (same_code_and_class c.head d.head) (is_proxiable c.head d.head) (code_and_class_decide c d c.head d.head refl refl x y) (proxiable_decides c.head d.head x y))
         (Decides-and (list_any (λ e. serves c.head e.head) db.commands) (list_all (λ e. not (is_wanted da db c.head e.head) || list_any (is_pair c.name e.name) pairs) db.commands)

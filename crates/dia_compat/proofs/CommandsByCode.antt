@@ -21,7 +21,8 @@ use Rattle.dia_book.specs.Dictionary.{Dictionary, PlainDefinition, IsDictionary,
 use Rattle.dia_book.proofs.Members.{into_right, into_map}
 use Rattle.dia_compat.specs.CommandsByCode.{has_code, commands_of, only_for, open_code}
 use Rattle.dia_compat.specs.Closed.{IsError}
-use Rattle.dia_compat.specs.PairTests.{NamePair, names_app, wants_app, is_wanted, serves, serves_app, is_pair, is_ready, is_selected, is_command_pair, failed_rules, failed_commands}
+use Rattle.dia_compat.specs.Sides.{Compared}
+use Rattle.dia_compat.specs.PairTests.{NamePair, names_app, wants_app, is_wanted, serves, serves_app, same_code_and_class, is_proxiable, is_pair, is_ready, is_selected, all_selected, is_command_pair, failed_rules, failed_commands}
 use Rattle.dia_compat.specs.declared.inclusion.Test.TheVariants.{N10}
 use Rattle.dia_compat.specs.Tests.{rules_in}
 use Rattle.dia_wire.specs.declared.Key.{Key}
@@ -31,6 +32,7 @@ use Rattle.dia_compat.proofs.RunsOfFixedRules.{IsIn}
 use Rattle.dia_compat.proofs.MemberCounts.{in_at, at_in, any_in, in_any}
 use Rattle.dia_compat.proofs.SelectedCommands.{Choice, NoChoice, choose, Reads, reads, class_same}
 use Rattle.dia_compat.proofs.FilteredMembers.{taken}
+use Rattle.dia_compat.proofs.SetsOfNames.{command_at}
 
 -- ---- what is told of some members alone
 
@@ -407,23 +409,60 @@ module _ (da db : Dictionary) (sb : IsDictionary db) where
 
 -- ---- the pair of two commands, by their numbers
 
-pub fails_rules : (u : Unknown) (da db : Dictionary) (keys uncovered : List Key) (fit : Bool) (pairs : List NamePair) (c d : ℕ) (x y : PlainDefinition)
-    → slice_get (definitions da) c ≡ Some x → slice_get (definitions db) d ≡ Some y → is_command_pair da db pairs x y ≡ true
-    → failed_rules u da db keys uncovered fit (rules_in da c) (rules_in db d) ≡ failed_commands u da db keys uncovered fit pairs c d
-fails_rules u da db keys uncovered fit pairs c d x y at there e = rw (at, there, e) refl
+pub fails_rules : (all : Compared) (c d : ℕ) (x y : PlainDefinition) → slice_get (definitions all.sides.first) c ≡ Some x → slice_get (definitions all.sides.second) d ≡ Some y
+    → is_command_pair all x y ≡ true → failed_rules all (rules_in all.sides.first c) (rules_in all.sides.second d) ≡ failed_commands all c d
+fails_rules all c d x y at there e = rw (at, there, e) refl
 
-pub fails_tenth : (u : Unknown) (da db : Dictionary) (keys uncovered : List Key) (fit : Bool) (pairs : List NamePair) (c d : ℕ) (x y : PlainDefinition)
-    → slice_get (definitions da) c ≡ Some x → slice_get (definitions db) d ≡ Some y → is_command_pair da db pairs x y ≡ false
-    → Some N10 ≡ failed_commands u da db keys uncovered fit pairs c d
-fails_tenth u da db keys uncovered fit pairs c d x y at there e = rw (at, there, e) refl
+pub fails_tenth : (all : Compared) (c d : ℕ) (x y : PlainDefinition) → slice_get (definitions all.sides.first) c ≡ Some x → slice_get (definitions all.sides.second) d ≡ Some y
+    → is_command_pair all x y ≡ false → Some N10 ≡ failed_commands all c d
+fails_tenth all c d x y at there e = rw (at, there, e) refl
 
--- what is kept of a member, by its place
-pub kept_at : {X : Type 0} (f : X → Bool) (xs : List X) (all : List Bool) (i : ℕ) (x : X) (b : Bool) → all ≡ map f xs → slice_get xs i ≡ Some x → b ≡ get_or all i b → b ≡ f x
-kept_at f xs all i x b same at is = is ∙ ap (λ (ys : List Bool). get_or ys i b) same ∙ get_or_from_slice_get (map f xs) i (f x) b (into_map f xs i x at)
-
-pub and_false : (b : Bool) → (b && false) ≡ false
+and_false : (b : Bool) → (b && false) ≡ false
 and_false true = refl
 and_false false = refl
+
+-- where the table has what may be selected for a command, by its place
+pub selected_at : (all : Compared) (i : ℕ) (x : PlainDefinition) (b : Bool) → slice_get all.sides.first.commands i ≡ Some x → slice_get (all_selected all) i ≡ Some b
+    → b ≡ is_selected all.sides.first all.sides.second all.table.commands x
+selected_at all i x b at is =
+    same_Some b (is_selected all.sides.first all.sides.second all.table.commands x) (sym is ∙ into_map (is_selected all.sides.first all.sides.second all.table.commands) all.sides.first.commands i x at)
+
+-- two commands by their places
+module _ (all : Compared) (i j k l : ℕ) (x y : PlainDefinition) (b may : Bool) (table_has : slice_get (all_selected all) i ≡ Some b)
+    (at_k : k ≡ length (groups all.sides.first) + i) (at_l : l ≡ length (groups all.sides.second) + j)
+    (at_x : slice_get (definitions all.sides.first) k ≡ Some x) (at_y : slice_get (definitions all.sides.second) l ≡ Some y)
+    (is : may ≡ (same_code_and_class x.head y.head && is_proxiable x.head y.head)) where
+  is_sel : b ≡ is_selected all.sides.first all.sides.second all.table.commands x
+  is_sel = selected_at all i x b (command_at all.sides.first i k x at_k at_x) table_has
+
+  placed : failed_commands all k l ≡ failed_commands all (length (groups all.sides.first) + i) (length (groups all.sides.second) + j)
+  placed = ap (λ (n : ℕ). failed_commands all n l) at_k ∙ ap (λ (n : ℕ). failed_commands all (length (groups all.sides.first) + i) n) at_l
+
+  pub pair_fails : may ≡ true → b ≡ true
+      → failed_rules all (rules_in all.sides.first k) (rules_in all.sides.second l) ≡ failed_commands all (length (groups all.sides.first) + i) (length (groups all.sides.second) + j)
+  pair_fails e f =
+      fails_rules all k l x y at_x at_y
+      (and_from (same_code_and_class x.head y.head && is_proxiable x.head y.head) (is_selected all.sides.first all.sides.second all.table.commands x) (sym is ∙ e) (sym is_sel ∙ f)) ∙ placed
+
+  pub pair_fails_tenth : ((may ≡ true) × (b ≡ false)) ⊎ (may ≡ false) → Some N10 ≡ failed_commands all (length (groups all.sides.first) + i) (length (groups all.sides.second) + j)
+  pair_fails_tenth h = fails_tenth all k l x y at_x at_y (none h) ∙ placed
+    where
+      none : ((may ≡ true) × (b ≡ false)) ⊎ (may ≡ false) → is_command_pair all x y ≡ false
+      none (inl g) = ap (λ (z : Bool). same_code_and_class x.head y.head && is_proxiable x.head y.head && z) (sym is_sel ∙ g.1) ∙ and_false (same_code_and_class x.head y.head && is_proxiable x.head y.head)
+      none (inr g) = ap (λ (z : Bool). z && is_selected all.sides.first all.sides.second all.table.commands x) (sym is ∙ g)
+
+same_all : {X : Type 0} (f h : X → Bool) → ((x : X) → f x ≡ h x) → (xs : List X) → list_all f xs ≡ list_all h xs
+same_all f h same [] = refl
+same_all f h same (x ∷ xs) = ap (λ (b : Bool). b && list_all f xs) (same x) ∙ ap (λ (b : Bool). h x && b) (same_all f h same xs)
+
+-- pairs in which the same are found
+pub same_selected : (da db : Dictionary) (ps qs : List NamePair) → ((x y : List ℕ) → list_any (is_pair x y) ps ≡ list_any (is_pair x y) qs) → (cs : List PlainDefinition)
+    → map (is_selected da db ps) cs ≡ map (is_selected da db qs) cs
+same_selected da db ps qs same [] = refl
+same_selected da db ps qs same (c ∷ cs) =
+    ap (λ (b : Bool). (list_any (λ d. serves c.head d.head) db.commands && b) ∷ map (is_selected da db ps) cs)
+    (same_all (is_ready da db ps c) (is_ready da db qs c) (λ d. ap (λ (b : Bool). not (is_wanted da db c.head d.head) || b) (same c.name d.name)) db.commands)
+    ∙ ap (λ (bs : List Bool). is_selected da db qs c ∷ bs) (same_selected da db ps qs same cs)
 
 pub map_more : {X Y : Type 0} (f : X → Y) (xs : List X) (i : ℕ) (x : X) → slice_get xs i ≡ Some x → map f (take (i + 1) xs) ≡ map f (take i xs) ++ f x ∷ []
 map_more f xs i x at = ap (map f) (taken xs i x at) ∙ map-append f (take i xs) (x ∷ [])

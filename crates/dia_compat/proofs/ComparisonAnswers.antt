@@ -1,37 +1,25 @@
--- The answer of a comparison is that of the books it was made of, and Yes means inclusion.
-use Rattle.std.proofs.Common.{◌≡◌, Bool, List, subst}
-use Rattle.std.specs.Prelude.{Result, Ok, Err, IfOk}
-use Rattle.dia_wire.specs.declared.Key.{Key}
-use Rattle.dia_book.specs.Dictionary.{Dictionary, IsDictionary}
-use Rattle.dia_check.specs.declared.Unknown.{Unknown}
+-- The answer of a comparison is that of what it was made of, and Yes means inclusion.
+use Rattle.std.proofs.Common.{◌≡◌, ℕ, Option, Some, sym, subst}
+use Rattle.std.specs.Prelude.{Result, Ok, Err, IfOk, MatchOption}
+use Rattle.dia_book.specs.Dictionary.{IsDictionary}
 use Rattle.dia_compat.specs.declared.inclusion.Answer.{Answer}
 use Rattle.dia_compat.specs.declared.inclusion.Answer.TheVariants.{Yes}
-use Rattle.dia_compat.specs.TableText.{PlainTable}
-use Rattle.dia_compat.specs.Closed.{IsAnswer, IsIncluded}
-use Rattle.dia_compat.specs.PairTests.{NamePair}
-use Rattle.dia_compat.specs.FirstFailures.{IsLookedUp}
+use Rattle.dia_compat.specs.Closed.{IsIncluded}
+use Rattle.dia_compat.specs.Sides.{Compared}
+use Rattle.dia_compat.specs.declared.inclusion.Test.{Test}
+use Rattle.dia_compat.specs.declared.inclusion.Test.TheVariants.{N10}
+use Rattle.dia_compat.specs.PairTests.{NamePair, entry_named}
+use Rattle.dia_compat.specs.FirstFailures.{IsAnswerOf, FailsEntries, FailsAvp}
 use Rattle.dia_compat.proofs.SelectedCommands.{included}
 
-module _ {E : Type 0} (table : PlainTable) (keys uncovered : List Key) (fit : Bool) (pairs : List NamePair) (r : Result Answer E) where
-  abbrev Answers : Dictionary → Dictionary → Unknown → Type 0
-  Answers da db u = IfOk r (λ answer. IsLookedUp da db u table keys uncovered fit pairs → IsAnswer da db u table answer)
+pub concluded : {E : Type 0} (c : Compared) (r : Result Answer E) → IsDictionary c.sides.first → IsDictionary c.sides.second → IfOk r (IsAnswerOf c)
+    → IfOk r (λ answer. answer ≡ Yes → IsIncluded c.sides.first c.sides.second c.sides.unknown c.table)
+concluded c (Ok answer) sa sb h = λ e. included c.sides.first c.sides.second sa sb c.sides.unknown c.table (subst (IsAnswerOf c) e h)
+concluded c (Err e) sa sb h = tt
 
-  answers : (da db : Dictionary) (u : Unknown) → IsLookedUp da db u table keys uncovered fit pairs → Answers da db u → IfOk r (IsAnswer da db u table)
-  answers da db u look h = by r h
-    where
-      by : (q : Result Answer E) → IfOk q (λ answer. IsLookedUp da db u table keys uncovered fit pairs → IsAnswer da db u table answer)
-          → IfOk q (IsAnswer da db u table)
-      by (Ok answer) k = k look
-      by (Err e) k = tt
-
-  pub answered : (dx da dy db : Dictionary) (v u : Unknown) → dx ≡ da → dy ≡ db → v ≡ u → IsLookedUp da db u table keys uncovered fit pairs
-      → Answers dx dy v → IfOk r (IsAnswer da db u table)
-  answered dx da dy db v u e f g look h =
-      answers da db u look (subst (λ (w : Unknown). Answers da db w) g (subst (λ (d : Dictionary). Answers da d v) f (subst (λ (d : Dictionary). Answers d dy v) e h)))
-
-  pub concluded : (da db : Dictionary) (u : Unknown) → IsDictionary da → IsDictionary db → IfOk r (IsAnswer da db u table) → IfOk r (λ answer. answer ≡ Yes → IsIncluded da db u table)
-  concluded da db u sa sb h = by r h
-    where
-      by : (q : Result Answer E) → IfOk q (IsAnswer da db u table) → IfOk q (λ answer. answer ≡ Yes → IsIncluded da db u table)
-      by (Ok answer) k = λ e. included da db sa sb u table (subst (IsAnswer da db u table) e k)
-      by (Err e) k = tt
+-- what two entries fail, a pair of their names fails
+pub fails_avp : (c : Compared) (p : NamePair) (i j : ℕ) (found : Option Test) → entry_named c.sides.first p.0 ≡ Some i → entry_named c.sides.second p.1 ≡ Some j → FailsEntries c i j found
+    → FailsAvp c p found
+fails_avp c p i j found e f h =
+    subst (λ (o : Option ℕ). MatchOption o (found ≡ Some N10) (λ k. MatchOption (entry_named c.sides.second p.1) (found ≡ Some N10) (λ l. FailsEntries c k l found))) (sym e)
+    (subst (λ (o : Option ℕ). MatchOption o (found ≡ Some N10) (λ l. FailsEntries c i l found)) (sym f) h)

@@ -21,7 +21,9 @@ use Rattle.dia_compat.specs.declared.inclusion.Test.{Test}
 use Rattle.dia_compat.specs.declared.inclusion.Test.TheVariants.{N1, N2, N3, N4, N5, N6, N7, N8, N9, N10}
 use Rattle.dia_compat.specs.Below.{MaxWithin, Within, IsAboveZero, HasRule, IsListed, HasWildcard, IsCovered, FixedWithin, IsKnown, WildcardCovered, Passes}
 use Rattle.dia_compat.specs.Tests.{is_max_within, is_within, is_above_zero, rule_of, wildcard_of, of_key, begins_with, common_rule}
-use Rattle.dia_compat.specs.Tests.{let_in_rule, covered_rule, has_room, own_rule, listed_rule, bounded_wildcard, required_wildcard, is_passed}
+use Rattle.dia_compat.specs.Tests.{let_in_rule, covered_rule, has_room, own_rule, listed_rule, bounded_wildcard, required_wildcard, may_come}
+use Rattle.dia_compat.specs.Sides.{Compared}
+use Rattle.dia_compat.specs.PairTests.{is_covered, uncovered_keys, strangers_fit, is_passed}
 use Rattle.dia_compat.proofs.RunsOfFixedRules.{IsIn}
 use Rattle.dia_compat.proofs.MemberCounts.{in_at, at_in, in_contains, contains_in, any_in, in_any}
 use Rattle.dia_compat.proofs.PlacedInSecond.{listed, is_listed_by}
@@ -216,12 +218,33 @@ begins_decides (r ∷ a) (s ∷ b) h k = by (is_fixed r) (is_fixed s) refl refl 
 
 -- ---- the tests
 
-module _ (da db : Dictionary) (u : Unknown) (paired : (Key → Type 0)) (covered may_come : Key → Bool) (uncovered : List Key) (fit : Bool) (a b : List DRule)
-    (are_a : AreRules a) (are_b : AreRules b)
-    (is_covered : (key : Key) → Decides (covered key) (IsCovered da db u paired key))
-    (comes : (key : Key) → Decides (may_come key) ((u ≡ Kept) ⊎ IsKnown da key))
-    (is_uncovered : (key : Key) → IsIn key uncovered ↔ (IsKnown da key × (covered key ≡ false)))
-    (fits : Decides fit (u ≡ Kept → (key : Key) (e : DictEntry) → known db key ≡ Some e → ¬ IsKnown da key → (e.format ≡ OctetString) × (e.rule ≢ Must))) where
+module _ (c : Compared) (paired : (Key → Type 0)) (a b : List DRule) (are_a : AreRules a) (are_b : AreRules b)
+    (covers : (key : Key) → Decides (is_covered c key) (IsCovered c.sides.first c.sides.second c.sides.unknown paired key))
+    (comes : (key : Key) → Decides (may_come c.sides key) ((c.sides.unknown ≡ Kept) ⊎ IsKnown c.sides.first key))
+    (is_uncovered : (key : Key) → IsIn key (uncovered_keys c) ↔ (IsKnown c.sides.first key × (is_covered c key ≡ false)))
+    (fits : Decides (strangers_fit c.sides)
+    (c.sides.unknown ≡ Kept → (key : Key) (e : DictEntry) → known c.sides.second key ≡ Some e → ¬ IsKnown c.sides.first key → (e.format ≡ OctetString) × (e.rule ≢ Must))) where
+  abbrev da : Dictionary
+  da = c.sides.first
+
+  abbrev db : Dictionary
+  db = c.sides.second
+
+  abbrev u : Unknown
+  u = c.sides.unknown
+
+  abbrev covered : Key → Bool
+  covered = is_covered c
+
+  abbrev comes_in : Key → Bool
+  comes_in = may_come c.sides
+
+  abbrev uncovered : List Key
+  uncovered = uncovered_keys c
+
+  abbrev fit : Bool
+  fit = strangers_fit c.sides
+
   -- what holds of the key of each rule
   of_rules : (rules : List DRule) (test : DRule → Key → Bool) (P : DRule → Key → Type 0) → ((r : DRule) (key : Key) → Decides (test r key) (P r key))
       → Decides (list_all (λ r. of_key (test r) r) rules) ((key : Key) (r : DRule) → HasRule rules key r → P r key)
@@ -240,21 +263,21 @@ module _ (da db : Dictionary) (u : Unknown) (paired : (Key → Type 0)) (covered
 
   n4 : Decides (list_all (covered_rule covered) a) (Passes N4 da db u paired a b)
   n4 = of_rules a (λ r key. not (is_above_zero r.max) || covered key) (λ r key. IsAboveZero r.max → IsCovered da db u paired key)
-      (λ r key. implied (is_above_zero r.max) (covered key) (above_decides r.max) (is_covered key))
+      (λ r key. implied (is_above_zero r.max) (covered key) (above_decides r.max) (covers key))
 
   room : (max : Option ℕ) → Decides (has_room (wildcard_of a) max) ((w : DRule) → HasWildcard a w → MaxWithin w.max max)
   room max = some_decides (λ w. is_max_within w.max max) (λ w. MaxWithin w.max max) (HasWildcard a) (λ w. max_decides w.max max) (wildcard_of a) (wildcard_is a are_a)
 
-  n5_key : (s : DRule) (key : Key) → Decides (is_listed a key || ((s.min == 0) && (not (may_come key) || has_room (wildcard_of a) s.max)))
+  n5_key : (s : DRule) (key : Key) → Decides (is_listed a key || ((s.min == 0) && (not (comes_in key) || has_room (wildcard_of a) s.max)))
       (¬ IsListed a key → (s.min ≡ 0) × ((u ≡ Kept) ⊎ IsKnown da key → (w : DRule) → HasWildcard a w → MaxWithin w.max s.max))
-  n5_key s key = unless (is_listed a key) ((s.min == 0) && (not (may_come key) || has_room (wildcard_of a) s.max)) (listed_decides a key)
-      (Decides-and (s.min == 0) (not (may_come key) || has_room (wildcard_of a) s.max) (zero_decides s.min)
-      (implied (may_come key) (has_room (wildcard_of a) s.max) (comes key) (room s.max)))
+  n5_key s key = unless (is_listed a key) ((s.min == 0) && (not (comes_in key) || has_room (wildcard_of a) s.max)) (listed_decides a key)
+      (Decides-and (s.min == 0) (not (comes_in key) || has_room (wildcard_of a) s.max) (zero_decides s.min)
+      (implied (comes_in key) (has_room (wildcard_of a) s.max) (comes key) (room s.max)))
 
-  n5 : Decides (list_all (own_rule may_come a (wildcard_of a)) b) (Passes N5 da db u paired a b)
-  n5 = Decides-like (list_all (own_rule may_come a (wildcard_of a)) b) (λ h key s i no. let p = h key s i no in (p.0, λ w j k. p.1 k w j))
+  n5 : Decides (list_all (own_rule comes_in a (wildcard_of a)) b) (Passes N5 da db u paired a b)
+  n5 = Decides-like (list_all (own_rule comes_in a (wildcard_of a)) b) (λ h key s i no. let p = h key s i no in (p.0, λ w j k. p.1 k w j))
       (λ h key s i no. let p = h key s i no in (p.0, λ k w j. p.1 w j k))
-      (of_rules b (λ s key. is_listed a key || ((s.min == 0) && (not (may_come key) || has_room (wildcard_of a) s.max)))
+      (of_rules b (λ s key. is_listed a key || ((s.min == 0) && (not (comes_in key) || has_room (wildcard_of a) s.max)))
       (λ s key. ¬ IsListed a key → (s.min ≡ 0) × ((u ≡ Kept) ⊎ IsKnown da key → (w : DRule) → HasWildcard a w → MaxWithin w.max s.max)) n5_key)
 
   n6 : Decides (not (has_wildcard a) || has_wildcard b) (Passes N6 da db u paired a b)
@@ -310,7 +333,7 @@ module _ (da db : Dictionary) (u : Unknown) (paired : (Key → Type 0)) (covered
       old h key is no_rule_of = by (covered key) refl
         where
           by : (x : Bool) → covered key ≡ x → IsCovered da db u paired key
-          by true e = (is_covered key).0 e
+          by true e = (covers key).0 e
           by false e = absurd (no_rule_of (h key ((is_uncovered key).1 (is, e))))
 
       new : ((key : Key) → IsKnown da key → ¬ IsListed a key → IsCovered da db u paired key) → (key : Key) → IsIn key uncovered → IsListed a key
@@ -320,14 +343,14 @@ module _ (da db : Dictionary) (u : Unknown) (paired : (Key → Type 0)) (covered
           by true e = (listed_decides a key).0 e
           by false e =
               let there = (is_uncovered key).0 i in
-              let c = (is_covered key).1 (h key there.0 (λ l. let f : false ≡ true = sym e ∙ (listed_decides a key).1 l in cc)) in
-              absurd (let f : false ≡ true = sym there.1 ∙ c in cc)
+              let k = (covers key).1 (h key there.0 (λ l. let f : false ≡ true = sym e ∙ (listed_decides a key).1 l in cc)) in
+              absurd (let f : false ≡ true = sym there.1 ∙ k in cc)
 
   n9 : Decides (option_map_or (λ v. not (is_above_zero v.max) || (fit && list_all (is_listed a) uncovered)) (wildcard_of a) true) (Passes N9 da db u paired a b)
   n9 = some_decides (λ v. not (is_above_zero v.max) || (fit && list_all (is_listed a) uncovered)) (λ v. IsAboveZero v.max → WildcardCovered da db u paired a) (HasWildcard a)
       (λ v. implied (is_above_zero v.max) (fit && list_all (is_listed a) uncovered) (above_decides v.max) n9_let_in) (wildcard_of a) (wildcard_is a are_a)
 
-  pub decides : (t : Test) → Decides (is_passed t covered may_come uncovered fit a b) (Passes t da db u paired a b)
+  pub decides : (t : Test) → Decides (is_passed c t a b) (Passes t c.sides.first c.sides.second c.sides.unknown paired a b)
   decides N1 = begins_decides a b (fixed_first a are_a) (fixed_first b are_b)
   decides N2 = n2
   decides N3 = n3

@@ -24,8 +24,8 @@ use Rattle.dia_compat.specs.TableText.{PlainTable}
 use Rattle.dia_compat.specs.Below.{IsCoveredAlone, IsCovered, IsKnown}
 use Rattle.dia_compat.specs.Closed.{NamesEntry, NamesCommand, IsPairKey}
 use Rattle.dia_compat.specs.Tests.{is_kept, holds_key, may_come}
-use Rattle.dia_compat.specs.PairTests.{NamePair, entry_named, command_named, key_named, pairs_key, is_must_not, may_be_clear, is_octets, is_alone, is_covered, stranger_fits, strangers_fit}
-use Rattle.dia_compat.specs.FirstFailures.{IsLookedUp}
+use Rattle.dia_compat.specs.PairTests.{NamePair, entry_named, command_named, key_named, pairs_key, is_must_not, may_be_clear, is_octets, is_alone, is_paired, is_covered, uncovered_keys, stranger_fits, strangers_fit}
+use Rattle.dia_compat.specs.Sides.{Sides, Compared}
 use Rattle.dia_compat.proofs.RunsOfFixedRules.{IsIn}
 use Rattle.dia_compat.proofs.MemberCounts.{in_at, at_in, in_contains, contains_in, any_in, in_any, in_filter, into_filter}
 use Rattle.dia_compat.proofs.FitInSecond.{known_entry, entry_known}
@@ -179,21 +179,28 @@ rule_decides : (o : Option DictEntry) → Decides (option_map_or (λ e. is_must_
 rule_decides None = (λ e. absurd (let f : false ≡ true = e in cc), λ h. absurd (none-some h.0 h.1))
 rule_decides (Some x) = Decides-like (is_must_not x.rule) (λ h. (x, refl, h)) (λ h. ap (λ (e : DictEntry). e.rule) (same_Some x h.0 h.1) ∙ h.2) (must_not_decides x.rule)
 
-alone_decides : (u : Unknown) (da db : Dictionary) (key : Key) → Decides (is_alone u da db key) (IsCoveredAlone da db u key)
-alone_decides u da db key =
-    Decides-like (is_alone u da db key) (λ h. (h.0.0, h.0.1, h.1.0, h.1.1, h.1.2)) (λ (k, n, e, at, r). ((k, n), (e, at, r)))
-    (Decides-and (is_kept u && not (is_some (entry_of db key))) (option_map_or (λ e. is_must_not e.rule) (known da key) false)
-    (Decides-and (is_kept u) (not (is_some (entry_of db key))) (kept_decides u) (absent_decides db key)) (rule_decides (known da key)))
+alone_decides : (s : Sides) (key : Key) → Decides (is_alone s key) (IsCoveredAlone s.first s.second s.unknown key)
+alone_decides s key =
+    Decides-like (is_alone s key) (λ h. (h.0.0, h.0.1, h.1.0, h.1.1, h.1.2)) (λ (k, n, e, at, r). ((k, n), (e, at, r)))
+    (Decides-and (is_kept s.unknown && not (is_some (entry_of s.second key))) (option_map_or (λ e. is_must_not e.rule) (known s.first key) false)
+    (Decides-and (is_kept s.unknown) (not (is_some (entry_of s.second key))) (kept_decides s.unknown) (absent_decides s.second key)) (rule_decides (known s.first key)))
 
 -- ---- what is looked up
 
-module _ (da db : Dictionary) (sa : IsDictionary da) (sb : IsDictionary db) (u : Unknown) (table : PlainTable) (keys uncovered : List Key) (fit : Bool) (pairs : List NamePair)
-    (look : IsLookedUp da db u table keys uncovered fit pairs) where
-  pub covered_decides : (key : Key) → Decides (is_covered u da db keys key) (IsCovered da db u (IsPairKey da db table) key)
-  covered_decides key = Decides-or (holds_key keys key) (is_alone u da db key)
-      (Decides-at (holds_key keys key) (list_any (pairs_key da db key) table.avps) (look.paired key) (paired_decides da db sa sb table key)) (alone_decides u da db key)
+module _ (c : Compared) (sa : IsDictionary c.sides.first) (sb : IsDictionary c.sides.second) where
+  abbrev da : Dictionary
+  da = c.sides.first
 
-  pub comes_decides : (key : Key) → Decides (may_come u da key) ((u ≡ Kept) ⊎ IsKnown da key)
+  abbrev db : Dictionary
+  db = c.sides.second
+
+  abbrev u : Unknown
+  u = c.sides.unknown
+
+  pub covered_decides : (key : Key) → Decides (is_covered c key) (IsCovered c.sides.first c.sides.second c.sides.unknown (IsPairKey c.sides.first c.sides.second c.table) key)
+  covered_decides key = Decides-or (is_paired c key) (is_alone c.sides key) (paired_decides da db sa sb c.table key) (alone_decides c.sides key)
+
+  pub comes_decides : (key : Key) → Decides (may_come c.sides key) ((c.sides.unknown ≡ Kept) ⊎ IsKnown c.sides.first key)
   comes_decides key = Decides-or (is_kept u) (is_some (entry_of da key)) (kept_decides u) (known_decides da key)
 
   keys_known : (key : Key) → IsIn key (map (λ (e : DictEntry). e.key) da.entries) ↔ IsKnown da key
@@ -216,33 +223,33 @@ module _ (da db : Dictionary) (sa : IsDictionary da) (sb : IsDictionary db) (u :
               subst (λ (z : Key). IsIn z (map (λ (y : DictEntry). y.key) da.entries)) r.1
               (in_at (map (λ (y : DictEntry). y.key) da.entries) p.place x.key (into_map (λ (y : DictEntry). y.key) da.entries p.place x p.at))
 
-  pub uncovered_is : (key : Key) → IsIn key uncovered ↔ (IsKnown da key × (is_covered u da db keys key ≡ false))
+  pub uncovered_is : (key : Key) → IsIn key (uncovered_keys c) ↔ (IsKnown c.sides.first key × (is_covered c key ≡ false))
   uncovered_is key = (right, back)
     where
       test : Key → Bool
-      test k = not (is_covered u da db keys k)
+      test k = not (is_covered c k)
 
       not_true : (b : Bool) → not b ≡ true → b ≡ false
       not_true false e = refl
       not_true true e = absurd (let f : false ≡ true = e in cc)
 
-      right : IsIn key uncovered → IsKnown da key × (is_covered u da db keys key ≡ false)
+      right : IsIn key (uncovered_keys c) → IsKnown da key × (is_covered c key ≡ false)
       right i =
-          let r = in_filter (λ (k : Key). not (is_covered u da db keys k)) (map (λ (e : DictEntry). e.key) da.entries) key (subst (λ (ks : List Key). IsIn key ks) look.uncovered_are i) in
-          ((keys_known key).0 r.0, not_true (is_covered u da db keys key) r.1)
+          let r = in_filter (λ (k : Key). not (is_covered c k)) (map (λ (e : DictEntry). e.key) da.entries) key i in
+          ((keys_known key).0 r.0, not_true (is_covered c key) r.1)
 
-      back : IsKnown da key × (is_covered u da db keys key ≡ false) → IsIn key uncovered
-      back h = subst (λ (ks : List Key). IsIn key ks) (sym look.uncovered_are)
-          (into_filter (λ (k : Key). not (is_covered u da db keys k)) (map (λ (e : DictEntry). e.key) da.entries) key ((keys_known key).1 h.0) (ap not h.1))
+      back : IsKnown da key × (is_covered c key ≡ false) → IsIn key (uncovered_keys c)
+      back h = into_filter (λ (k : Key). not (is_covered c k)) (map (λ (e : DictEntry). e.key) da.entries) key ((keys_known key).1 h.0) (ap not h.1)
 
   stranger_decides : (e : DictEntry) → Decides (stranger_fits da e) (¬ IsKnown da e.key → (e.format ≡ OctetString) × (e.rule ≢ Must))
   stranger_decides e = unless (is_some (entry_of da e.key)) (is_octets e.format && may_be_clear e.rule) (known_decides da e.key)
       (Decides-and (is_octets e.format) (may_be_clear e.rule) (octets_decides e.format) (may_be_clear_decides e.rule))
 
-  pub fit_decides : Decides fit (u ≡ Kept → (key : Key) (e : DictEntry) → known db key ≡ Some e → ¬ IsKnown da key → (e.format ≡ OctetString) × (e.rule ≢ Must))
-  fit_decides = Decides-at fit (strangers_fit u da db) look.fit_is
-      (implied (is_kept u) (list_all (stranger_fits da) db.entries) (kept_decides u)
+  pub fit_decides : Decides (strangers_fit c.sides)
+      (c.sides.unknown ≡ Kept → (key : Key) (e : DictEntry) → known c.sides.second key ≡ Some e → ¬ IsKnown c.sides.first key → (e.format ≡ OctetString) × (e.rule ≢ Must))
+  fit_decides =
+      implied (is_kept u) (list_all (stranger_fits da) db.entries) (kept_decides u)
       (Decides-like (list_all (stranger_fits da) db.entries)
       (λ h key e at new. let r = known_entry db key e at in h e r.0 (λ k. new (subst (λ (z : Key). IsKnown da z) r.1 k)))
       (λ h e i new. h e.key e (entry_known db e.key e sb i refl) new)
-      (all_in_decides (stranger_fits da) (λ e. ¬ IsKnown da e.key → (e.format ≡ OctetString) × (e.rule ≢ Must)) db.entries (λ e i. stranger_decides e))))
+      (all_in_decides (stranger_fits da) (λ e. ¬ IsKnown da e.key → (e.format ≡ OctetString) × (e.rule ≢ Must)) db.entries (λ e i. stranger_decides e)))

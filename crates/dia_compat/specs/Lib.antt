@@ -3,6 +3,7 @@ pub mod WrittenTable
 pub mod Below
 pub mod Closed
 pub mod Proposed
+pub mod Sides
 pub mod Tests
 pub mod CommandsByCode
 pub mod PairTests

@@ -1,5 +1,5 @@
 -- The tests of a table's pairs as answers of yes or no.
-use Rattle.std.specs.Prelude.{ℕ, nat_eq, Bool, true, false, not, ◌&&◌, ◌||◌, ◌==◌, if◌then◌else◌, List, [], ◌∷◌, map, filter, Option, Some, None, is_some, find, position, slice_get, option_and_then}
+use Rattle.std.specs.Prelude.{◌≡◌, ℕ, nat_eq, Bool, true, false, not, ◌&&◌, ◌||◌, ◌==◌, if◌then◌else◌, List, [], ◌∷◌, map, filter, Option, Some, None, is_some, find, position, slice_get, option_and_then}
 use Rattle.std.specs.Borrow.{Bor}
 use Rattle.std.specs.List.{list_all, list_any}
 use Rattle.std.specs.Option.{option_eq, option_map, option_map_or}
@@ -16,11 +16,12 @@ use Rattle.dia_book.specs.declared.DefHead.TheVariants.{Group, Command, Error}
 use Rattle.dia_book.specs.declared.DRule.{DRule}
 use Rattle.dia_book.specs.Keys.{same_key}
 use Rattle.dia_book.specs.Dictionary.{Dictionary, DictEntry, PlainDefinition, definitions, entry_of, same_class, is_command}
-use Rattle.dia_check.specs.declared.Unknown.{Unknown}
-use Rattle.dia_check.specs.Valid.{known}
+use Rattle.dia_check.specs.Valid.{known, is_listed, has_wildcard}
 use Rattle.dia_compat.specs.declared.inclusion.Test.{Test}
 use Rattle.dia_compat.specs.declared.inclusion.Test.TheVariants.{N1, N2, N3, N4, N5, N6, N7, N8, N9, N10}
-use Rattle.dia_compat.specs.Tests.{is_kept, holds_key, may_come, rules_in, is_passed}
+use Rattle.dia_compat.specs.Sides.{Sides, Compared}
+use Rattle.dia_compat.specs.Tests.{is_kept, is_above_zero, holds_key, may_come, rules_in, wildcard_of}
+use Rattle.dia_compat.specs.Tests.{begins_with, common_rule, let_in_rule, covered_rule, own_rule, bounded_wildcard, required_wildcard}
 
 abbrev pub NamePair : Type 0
 NamePair = List ℕ × List ℕ
@@ -46,7 +47,7 @@ pair_key da db p = option_and_then (λ k. option_and_then (λ l. if same_key k l
 abbrev pub pairs_key : Dictionary → Dictionary → Key → NamePair → Bool
 pairs_key da db key p = option_map_or (λ k. same_key k key) (pair_key da db p) false
 
--- ---- covered keys, where these are those of the pairs
+-- ---- covered keys
 
 abbrev pub is_must_not : MRule → Bool
 is_must_not Must = false
@@ -62,21 +63,29 @@ abbrev pub is_octets : PlainFormat → Bool
 is_octets OctetString = true
 is_octets f = false
 
-abbrev pub is_alone : Unknown → Dictionary → Dictionary → Key → Bool
-is_alone u da db key = is_kept u && not (is_some (entry_of db key)) && option_map_or (λ e. is_must_not e.rule) (known da key) false
+abbrev pub is_alone : Sides → Key → Bool
+is_alone s key = is_kept s.unknown && not (is_some (entry_of s.second key)) && option_map_or (λ e. is_must_not e.rule) (known s.first key) false
 
-abbrev pub is_covered : Unknown → Dictionary → Dictionary → List Key → Key → Bool
-is_covered u da db keys key = holds_key keys key || is_alone u da db key
+-- the key is that of a pair of the table
+abbrev pub is_paired : Compared → Key → Bool
+is_paired c key = list_any (pairs_key c.sides.first c.sides.second key) c.table.avps
 
-abbrev pub uncovered_keys : Unknown → Dictionary → Dictionary → List Key → List Key
-uncovered_keys u da db keys = filter (λ key. not (is_covered u da db keys key)) (map (λ e. e.key) da.entries)
+abbrev pub is_covered : Compared → Key → Bool
+is_covered c key = is_paired c key || is_alone c.sides key
+
+abbrev pub uncovered_keys : Compared → List Key
+uncovered_keys c = filter (λ key. not (is_covered c key)) (map (λ e. e.key) c.sides.first.entries)
 
 -- an AVP that the first doesn't know does no harm in the second
 abbrev pub stranger_fits : Dictionary → DictEntry → Bool
 stranger_fits da e = is_some (entry_of da e.key) || (is_octets e.format && may_be_clear e.rule)
 
-abbrev pub strangers_fit : Unknown → Dictionary → Dictionary → Bool
-strangers_fit u da db = not (is_kept u) || list_all (stranger_fits da) db.entries
+abbrev pub strangers_fit : Sides → Bool
+strangers_fit s = not (is_kept s.unknown) || list_all (stranger_fits s.first) s.second.entries
+
+-- the keys are those of the table's pairs of AVPs
+abbrev pub ArePaired : Compared → List Key → Type 0
+ArePaired c keys = (key : Key) → holds_key keys key ≡ is_paired c key
 
 -- ---- commands
 
@@ -141,23 +150,45 @@ is_ready da db pairs c d = not (is_wanted da db c.head d.head) || list_any (is_p
 abbrev pub is_selected : Dictionary → Dictionary → List NamePair → PlainDefinition → Bool
 is_selected da db pairs c = list_any (λ d. serves c.head d.head) db.commands && list_all (is_ready da db pairs c) db.commands
 
-abbrev pub is_command_pair : Dictionary → Dictionary → List NamePair → PlainDefinition → PlainDefinition → Bool
-is_command_pair da db pairs c d = same_code_and_class c.head d.head && is_proxiable c.head d.head && is_selected da db pairs c
+-- the table has what may be selected for a message of each of the first's commands
+abbrev pub all_selected : Compared → List Bool
+all_selected c = map (is_selected c.sides.first c.sides.second c.table.commands) c.sides.first.commands
+
+abbrev pub is_command_pair : Compared → PlainDefinition → PlainDefinition → Bool
+is_command_pair c x y = same_code_and_class x.head y.head && is_proxiable x.head y.head && is_selected c.sides.first c.sides.second c.table.commands x
+
+-- ---- the tests of two definitions
+
+-- what the first's wildcard lets in is covered
+abbrev pub is_wild_covered : Compared → List DRule → Bool
+is_wild_covered c a = option_map_or (λ v. not (is_above_zero v.max) || (strangers_fit c.sides && list_all (is_listed a) (uncovered_keys c))) (wildcard_of a) true
+
+abbrev pub is_passed : Compared → Test → List DRule → List DRule → Bool
+is_passed c N1 a b = begins_with a b
+is_passed c N2 a b = list_all (common_rule b) a
+is_passed c N3 a b = list_all (let_in_rule b (has_wildcard b)) a
+is_passed c N4 a b = list_all (covered_rule (is_covered c)) a
+is_passed c N5 a b = list_all (own_rule (may_come c.sides) a (wildcard_of a)) b
+is_passed c N6 a b = not (has_wildcard a) || has_wildcard b
+is_passed c N7 a b = option_map_or (λ w. bounded_wildcard a b w.max) (wildcard_of b) true
+is_passed c N8 a b = option_map_or (λ w. required_wildcard a b w.min) (wildcard_of b) true
+is_passed c N9 a b = is_wild_covered c a
+is_passed c N10 a b = true
 
 -- ---- the first test that fails
 
 abbrev pub rule_tests : List Test
 rule_tests = N1 ∷ N2 ∷ N3 ∷ N4 ∷ N5 ∷ N6 ∷ N7 ∷ N8 ∷ N9 ∷ []
 
-abbrev pub failed_rules : Unknown → Dictionary → Dictionary → List Key → List Key → Bool → List DRule → List DRule → Option Test
-failed_rules u da db keys uncovered fit a b = find (λ t. not (is_passed t (is_covered u da db keys) (may_come u da) uncovered fit a b)) rule_tests
+abbrev pub failed_rules : Compared → List DRule → List DRule → Option Test
+failed_rules c a b = find (λ t. not (is_passed c t a b)) rule_tests
 
 -- of two commands by their numbers among the definitions
-abbrev pub failed_commands : Unknown → Dictionary → Dictionary → List Key → List Key → Bool → List NamePair → ℕ → ℕ → Option Test
-failed_commands u da db keys uncovered fit pairs c d =
-    option_map_or (λ x. option_map_or (λ y. if is_command_pair da db pairs x y then failed_rules u da db keys uncovered fit x.rules y.rules
-    else Some N10) (slice_get (definitions db) d) None) (slice_get (definitions da) c) None
+abbrev pub failed_commands : Compared → ℕ → ℕ → Option Test
+failed_commands c i j =
+    option_map_or (λ x. option_map_or (λ y. if is_command_pair c x y then failed_rules c x.rules y.rules else Some N10) (slice_get (definitions c.sides.second) j) None)
+    (slice_get (definitions c.sides.first) i) None
 
 -- of the definitions of two entries, where both have one
-abbrev pub failed_groups : Unknown → Dictionary → Dictionary → List Key → List Key → Bool → Option ℕ → Option ℕ → Option Test
-failed_groups u da db keys uncovered fit x y = option_map_or (λ a. option_map_or (λ b. failed_rules u da db keys uncovered fit (rules_in da a) (rules_in db b)) y None) x None
+abbrev pub failed_groups : Compared → Option ℕ → Option ℕ → Option Test
+failed_groups c x y = option_map_or (λ a. option_map_or (λ b. failed_rules c (rules_in c.sides.first a) (rules_in c.sides.second b)) y None) x None

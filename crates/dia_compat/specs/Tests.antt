@@ -8,9 +8,8 @@ use Rattle.dia_book.specs.Keys.{same_key}
 use Rattle.dia_book.specs.Dictionary.{Dictionary, definitions, entry_of, is_fixed, lists_key}
 use Rattle.dia_check.specs.declared.Unknown.{Unknown}
 use Rattle.dia_check.specs.declared.Unknown.TheVariants.{Kept, Refused}
-use Rattle.dia_check.specs.Valid.{is_listed, is_wildcard, has_wildcard}
-use Rattle.dia_compat.specs.declared.inclusion.Test.{Test}
-use Rattle.dia_compat.specs.declared.inclusion.Test.TheVariants.{N1, N2, N3, N4, N5, N6, N7, N8, N9, N10}
+use Rattle.dia_check.specs.Valid.{is_listed, is_wildcard}
+use Rattle.dia_compat.specs.Sides.{Sides}
 
 -- ---- bounds
 
@@ -51,8 +50,8 @@ abbrev pub holds_key : List Key → Key → Bool
 holds_key keys key = list_any (same_key key) keys
 
 -- a wildcard of the first may let the key in
-abbrev pub may_come : Unknown → Dictionary → Key → Bool
-may_come u d key = is_kept u || is_some (entry_of d key)
+abbrev pub may_come : Sides → Key → Bool
+may_come s key = is_kept s.unknown || is_some (entry_of s.first key)
 
 -- ---- each test
 
@@ -91,15 +90,3 @@ bounded_wildcard a b (Some max) = list_all (listed_rule b) a && has_room (wildca
 
 abbrev pub required_wildcard : List DRule → List DRule → ℕ → Bool
 required_wildcard a b min = (min == 0) || (option_map_or (λ v. nat_le min v.min) (wildcard_of a) false && list_all (of_key (is_listed a)) b)
-
-abbrev pub is_passed : Test → (Key → Bool) → (Key → Bool) → List Key → Bool → List DRule → List DRule → Bool
-is_passed N1 covered may_come uncovered fit a b = begins_with a b
-is_passed N2 covered may_come uncovered fit a b = list_all (common_rule b) a
-is_passed N3 covered may_come uncovered fit a b = list_all (let_in_rule b (has_wildcard b)) a
-is_passed N4 covered may_come uncovered fit a b = list_all (covered_rule covered) a
-is_passed N5 covered may_come uncovered fit a b = list_all (own_rule may_come a (wildcard_of a)) b
-is_passed N6 covered may_come uncovered fit a b = not (has_wildcard a) || has_wildcard b
-is_passed N7 covered may_come uncovered fit a b = option_map_or (λ w. bounded_wildcard a b w.max) (wildcard_of b) true
-is_passed N8 covered may_come uncovered fit a b = option_map_or (λ w. required_wildcard a b w.min) (wildcard_of b) true
-is_passed N9 covered may_come uncovered fit a b = option_map_or (λ v. not (is_above_zero v.max) || (fit && list_all (is_listed a) uncovered)) (wildcard_of a) true
-is_passed N10 covered may_come uncovered fit a b = true

@@ -6,12 +6,14 @@ mod covers;
 mod heads;
 mod keys;
 mod named_book;
+mod nine_tests;
 mod pairs;
 mod rules;
-mod testing;
+mod sides;
 mod wildcards;
 
 pub(crate) use by_code::{Commands, open_code};
 pub(crate) use commands::is_wanted;
 pub(crate) use named_book::names_of_commands;
 pub(crate) use pairs::Comparison;
+pub(crate) use sides::Sides;

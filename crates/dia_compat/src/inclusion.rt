@@ -10,7 +10,7 @@ ghost use Rattle.dia_compat.specs.Below.{DefBelow};
 ghost use Rattle.dia_compat.specs.Closed.{IsClosed, IsIncluded, IsAnswer, IsPairKey};
 ghost use Rattle.dia_compat.specs.declared.inclusion.Answer.{Answer as AnyAnswer};
 
-use crate::comparing::Comparison;
+use crate::comparing::{Comparison, Sides};
 use crate::table::Table;
 use dia_book::Book;
 use dia_check::{Levels, Refusal, Unknown, check};
@@ -62,8 +62,13 @@ pub fn check_table<A: Book, B: Book>(
         (λ answer. answer ≡ Answer.Yes
         → IsIncluded (A.meaning a.now) (B.meaning b.now) unknown (plain_table table.now)) }
 {
-    let comparison = Comparison::new(alloc, a, b, unknown, table)?;
-    comparison.answer(alloc, table)
+    let sides = Sides {
+        first: a,
+        second: b,
+        unknown,
+    };
+    let comparison = Comparison::new(alloc, &sides, table)?;
+    comparison.answer(alloc)
 }
 
 /// A table in which every pair passes every test shows inclusion.

@@ -5,60 +5,165 @@ ghost use Rattle.std.specs.Option.{option_map_or};
 ghost use Rattle.dia_data.specs.Plain.{plain_format};
 ghost use Rattle.dia_check.specs.Valid.{known};
 ghost use Rattle.dia_wire.specs.declared.Key.{Key as AnyKey};
-ghost use Rattle.dia_compat.specs.TableText.{plain_pair};
+ghost use Rattle.dia_compat.specs.TableText.{plain_pair, plain_table};
+ghost use Rattle.dia_compat.specs.Sides.{compared};
 ghost use Rattle.dia_compat.specs.Tests.{holds_key};
 ghost use Rattle.dia_compat.specs.PairTests.{pair_key, pairs_key, is_alone};
-ghost use Rattle.dia_compat.specs.PairTests.{is_covered, is_must_not};
+ghost use Rattle.dia_compat.specs.PairTests.{is_covered, is_must_not, is_wild_covered};
 ghost use Rattle.dia_compat.specs.PairTests.{may_be_clear, is_octets, stranger_fits};
 ghost use Rattle.dia_compat.specs.PairTests.{uncovered_keys, strangers_fit};
 
 use super::named_book::NamedBook;
+use super::rules::Rules;
+use super::sides::Sides;
+use super::wildcards::wildcard_covered;
+use crate::table::Table;
 use dia_book::{Book, Entry, Format, Key, MRule};
-use dia_check::Unknown;
 use indexmap::IndexSet;
 use std::alloc::{AllocError, Global};
+use std::marker::Model;
+
+/// Two sides and a table, with the keys of the table's pairs of AVPs.
+#[derive(Drop)]
+struct PairedKeys<'a, A: Book, B: Book> {
+    sides: Sides<'a, A, B>,
+    table: &'a Table,
+    keys: IndexSet<Key>,
+}
+
+impl<'a, A: Book, B: Book> Model for PairedKeys<'a, A, B> {
+    ghost use Rattle.dia_compat.specs.TableText.{plain_table};
+    ghost use Rattle.dia_compat.specs.Sides.{Compared, compared};
+    ghost use Rattle.dia_compat.specs.PairTests.{ArePaired};
+
+    ghost Value = { Compared };
+
+    ghost view = { λ p. compared p.sides (plain_table p.table.now) };
+
+    ghost invariant = { λ p. ArePaired (compared p.sides (plain_table p.table.now)) p.keys.keys };
+}
+
+impl<'a, A: Book, B: Book> PairedKeys<'a, A, B> {
+    fn new(
+        alloc: Global,
+        sides: &Sides<'a, A, B>,
+        a: &NamedBook<'_, A>,
+        b: &NamedBook<'_, B>,
+        table: &'a Table,
+    ) -> Result<Self, AllocError>
+        requires first { a.now ≡ sides.now.first }
+        requires second { b.now ≡ sides.now.second }
+        ensures { IfOk result (λ paired. paired ≡ compared sides.now (plain_table table.now)) }
+    {
+        Ok(PairedKeys {
+            sides: sides.again(),
+            table,
+            keys: paired_keys(alloc, a, b, &table.avps)?,
+        })
+    }
+
+    /// Whether the key is that of a pair, or needs none.
+    fn covers(&self, key: Key) -> bool
+        ensures { result ≡ is_covered self.now key }
+    {
+        self.keys.contains(&key) || is_alone(&self.sides, key)
+    }
+
+    fn sides(&self) -> &Sides<'a, A, B>
+        ensures { result.now ≡ self.now.sides }
+    {
+        &self.sides
+    }
+
+    fn table(&self) -> &'a Table
+        ensures { plain_table result.now ≡ self.now.table }
+    {
+        self.table
+    }
+
+    /// The keys that the first knows and that are not covered, in its order.
+    fn uncovered(&self, alloc: Global) -> Result<Vec<Key>, AllocError>
+        ensures { IfOk result (λ keys. keys.items ≡ uncovered_keys self.now) }
+    {
+        let a = self.sides().first();
+        let mut keys = Vec::new(alloc);
+        for index in 0..a.entries() {
+            let key = a.entry_key(a.entry_at(index));
+            if !self.covers(key) {
+                keys.push(key)?;
+            }
+        }
+        Ok(keys)
+    }
+}
 
 /// Which keys need no further test where one definition lets them in and another has to.
 #[derive(Drop)]
-pub(crate) struct Cover {
-    pub unknown: Unknown,
-    /// The keys of the pairs of AVPs.
-    pub paired: IndexSet<Key>,
+pub(super) struct Cover<'a, A: Book, B: Book> {
+    paired: PairedKeys<'a, A, B>,
     /// The keys that the first dictionary knows and that are neither those of pairs nor need none.
-    pub uncovered: Vec<Key>,
+    uncovered: Vec<Key>,
     /// Whether the AVPs that the second dictionary alone knows do no harm.
-    pub strangers_fit: bool,
+    harmless: bool,
 }
 
-impl Cover {
-    pub fn new<A: Book, B: Book>(
+impl<'a, A: Book, B: Book> Model for Cover<'a, A, B> {
+    ghost use Rattle.std.specs.Prelude.{◌≡◌};
+    ghost use Rattle.dia_compat.specs.Sides.{Compared};
+    ghost use Rattle.dia_compat.specs.PairTests.{uncovered_keys, strangers_fit};
+
+    ghost Value = { Compared };
+
+    ghost view = { λ c. c.paired };
+
+    ghost invariant = { λ c. (c.uncovered.items ≡ uncovered_keys c.paired) × (c.harmless ≡ strangers_fit c.paired.sides) };
+}
+
+impl<'a, A: Book, B: Book> Cover<'a, A, B> {
+    pub fn new(
         alloc: Global,
+        sides: &Sides<'a, A, B>,
         a: &NamedBook<'_, A>,
         b: &NamedBook<'_, B>,
-        unknown: Unknown,
-        pairs: &[(String, String)],
+        table: &'a Table,
     ) -> Result<Self, AllocError>
-        ensures policy { IfOk result (λ cover. cover.unknown ≡ unknown) }
-        ensures paired { IfOk result
-            (λ cover. (key : AnyKey)
-            → holds_key cover.paired.keys key ≡ list_any
-            (pairs_key (A.meaning a.now.book.now) (B.meaning b.now.book.now) key)
-            (map plain_pair pairs.now)) }
-        ensures uncovered { IfOk result
-            (λ cover. cover.uncovered.items ≡ uncovered_keys unknown (A.meaning a.now.book.now)
-            (B.meaning b.now.book.now) cover.paired.keys) }
-        ensures strangers { IfOk result
-            (λ cover. cover.strangers_fit ≡ strangers_fit unknown (A.meaning a.now.book.now)
-            (B.meaning b.now.book.now)) }
+        requires first { a.now ≡ sides.now.first }
+        requires second { b.now ≡ sides.now.second }
+        ensures { IfOk result (λ cover. cover ≡ compared sides.now (plain_table table.now)) }
     {
-        let paired = paired_keys(alloc, a, b, pairs)?;
-        let uncovered = uncovered_keys(alloc, a.book, b.book, unknown, &paired)?;
+        let paired = PairedKeys::new(alloc, sides, a, b, table)?;
+        let uncovered = paired.uncovered(alloc)?;
         Ok(Cover {
-            unknown,
             paired,
             uncovered,
-            strangers_fit: strangers_fit(a.book, b.book, unknown),
+            harmless: strangers_fit(sides),
         })
+    }
+
+    /// Whether the key is that of a pair, or needs none.
+    pub fn covers(&self, key: Key) -> bool
+        ensures { result ≡ is_covered self.now key }
+    {
+        self.paired.covers(key)
+    }
+
+    pub fn sides(&self) -> &Sides<'a, A, B>
+        ensures { result.now ≡ self.now.sides }
+    {
+        self.paired.sides()
+    }
+
+    pub fn table(&self) -> &'a Table
+        ensures { plain_table result.now ≡ self.now.table }
+    {
+        self.paired.table()
+    }
+
+    /// Whether what the wildcard of a definition of the first lets in is covered.
+    pub fn covers_wildcard(&self, a: &Rules<'_, A>) -> bool
+        ensures { result ≡ is_wild_covered self.now a.now }
+    {
+        wildcard_covered(a, &self.uncovered, self.harmless)
     }
 }
 
@@ -72,7 +177,7 @@ fn paired_keys<A: Book, B: Book>(
     ensures { IfOk result
         (λ set. (key : AnyKey)
         → holds_key set.keys key ≡ list_any
-        (pairs_key (A.meaning a.now.book.now) (B.meaning b.now.book.now) key)
+        (pairs_key a.now b.now key)
         (map plain_pair pairs.now)) }
 {
     let mut keys = IndexSet::new(alloc);
@@ -91,8 +196,7 @@ fn pair_key<A: Book, B: Book>(
     first: &str,
     second: &str,
 ) -> Option<Key>
-    ensures { result ≡ pair_key (A.meaning a.now.book.now) (B.meaning b.now.book.now)
-        (first.now, second.now) }
+    ensures { result ≡ pair_key a.now b.now (first.now, second.now) }
 {
     match a.key(first) {
         Some(key) => match b.key(second) {
@@ -103,49 +207,11 @@ fn pair_key<A: Book, B: Book>(
     }
 }
 
-/// The keys that `a` knows and that are not covered, in its order.
-fn uncovered_keys<A: Book, B: Book>(
-    alloc: Global,
-    a: &A,
-    b: &B,
-    unknown: Unknown,
-    paired: &IndexSet<Key>,
-) -> Result<Vec<Key>, AllocError>
-    ensures { IfOk result
-        (λ keys. keys.items ≡ uncovered_keys unknown
-        (A.meaning a.now) (B.meaning b.now) paired.now.keys) }
+/// Whether each AVP of this key that is valid in the first is one of the unknown ones that are kept in the second.
+fn is_alone<A: Book, B: Book>(sides: &Sides<'_, A, B>, key: Key) -> bool
+    ensures { result ≡ is_alone sides.now key }
 {
-    let mut keys = Vec::new(alloc);
-    for index in 0..a.entries() {
-        let key = a.entry_key(a.entry_at(index));
-        if !is_covered(a, b, unknown, paired, key) {
-            keys.push(key)?;
-        }
-    }
-    Ok(keys)
-}
-
-/// Whether the key is that of a pair, or needs none.
-pub(super) fn is_covered<A: Book, B: Book>(
-    a: &A,
-    b: &B,
-    unknown: Unknown,
-    paired: &IndexSet<Key>,
-    key: Key,
-) -> bool
-    ensures { result ≡ is_covered unknown (A.meaning a.now) (B.meaning b.now) paired.now.keys key }
-{
-    paired.contains(&key) || is_alone(a, b, unknown, key)
-}
-
-/// Whether each AVP of this key that is valid in `a` is one of the unknown ones that are kept in `b`.
-fn is_alone<A: Book, B: Book>(a: &A, b: &B, unknown: Unknown, key: Key) -> bool
-    ensures { result ≡ is_alone unknown (A.meaning a.now) (B.meaning b.now) key }
-{
-    match unknown {
-        Unknown::Kept => b.avp(key).is_none() && is_never_mandatory(a, key),
-        Unknown::Refused => false,
-    }
+    sides.keeps() && sides.second().avp(key).is_none() && is_never_mandatory(sides.first(), key)
 }
 
 fn is_never_mandatory<A: Book>(a: &A, key: Key) -> bool
@@ -167,14 +233,11 @@ fn is_must_not(rule: MRule) -> bool
     }
 }
 
-/// Whether the AVPs that `b` alone knows do no harm where `a` lets unknown ones in.
-fn strangers_fit<A: Book, B: Book>(a: &A, b: &B, unknown: Unknown) -> bool
-    ensures { result ≡ strangers_fit unknown (A.meaning a.now) (B.meaning b.now) }
+/// Whether the AVPs that the second alone knows do no harm where the first lets unknown ones in.
+fn strangers_fit<A: Book, B: Book>(sides: &Sides<'_, A, B>) -> bool
+    ensures { result ≡ strangers_fit sides.now }
 {
-    match unknown {
-        Unknown::Kept => all_strangers_fit(a, b),
-        Unknown::Refused => true,
-    }
+    !sides.keeps() || all_strangers_fit(sides.first(), sides.second())
 }
 
 fn all_strangers_fit<A: Book, B: Book>(a: &A, b: &B) -> bool

@@ -1,28 +1,36 @@
 //! Look-up by name.
 ghost use Rattle.std.specs.Prelude.{◌≡◌, IfOk, map};
-ghost use Rattle.std.proofs.Props.{props};
 ghost use Rattle.dia_compat.specs.PairTests.{entry_named, command_named, key_named};
 
 use dia_book::{Book, Entry, Key};
 use indexmap::IndexSet;
 use std::alloc::{AllocError, Global};
+use std::marker::Model;
 
 /// A dictionary with the names of its AVPs and of its commands, each at its place. The sets are boxed: the prover takes long for
 /// a function that holds several by value.
 #[derive(Drop)]
 pub(crate) struct NamedBook<'a, B: Book> {
-    pub book: &'a B,
+    book: &'a B,
     avps: Box<IndexSet<&'a str>>,
     commands: Box<IndexSet<&'a str>>,
-    ghost all_avps: { map (λ n. n.now) avps.value.keys
-        ≡ map (λ e. e.name) (B.meaning book.now).entries } by { Prim.hlevel props },
-    ghost all_commands: { map (λ n. n.now) commands.value.keys
-        ≡ map (λ c. c.name) (B.meaning book.now).commands } by { Prim.hlevel props },
+}
+
+impl<'a, B: Book> Model for NamedBook<'a, B> {
+    ghost use Rattle.std.specs.Prelude.{◌≡◌, map};
+    ghost use Rattle.dia_book.specs.Dictionary.{Dictionary};
+
+    ghost Value = { Dictionary };
+
+    ghost view = { λ n. B.meaning n.book.now };
+
+    ghost invariant = { λ n. (map (λ name. name.now) n.avps.value.keys ≡ map (λ e. e.name) (B.meaning n.book.now).entries)
+        × (map (λ name. name.now) n.commands.value.keys ≡ map (λ c. c.name) (B.meaning n.book.now).commands) };
 }
 
 impl<'a, B: Book> NamedBook<'a, B> {
     pub fn new(alloc: Global, book: &'a B) -> Result<Self, AllocError>
-        ensures { IfOk result (λ named. named.book.now ≡ book.now) }
+        ensures { IfOk result (λ named. named ≡ B.meaning book.now) }
     {
         Ok(NamedBook {
             book,
@@ -33,7 +41,7 @@ impl<'a, B: Book> NamedBook<'a, B> {
 
     /// The AVP of a name.
     pub fn avp(&self, name: &str) -> Option<Entry>
-        ensures { result ≡ entry_named (B.meaning self.now.book.now) name.now }
+        ensures { result ≡ entry_named self.now name.now }
     {
         let place = self.avps.get_index_of(&name)?;
         Some(self.book.entry_at(place))
@@ -41,7 +49,7 @@ impl<'a, B: Book> NamedBook<'a, B> {
 
     /// The key of the AVP of a name.
     pub fn key(&self, name: &str) -> Option<Key>
-        ensures { result ≡ key_named (B.meaning self.now.book.now) name.now }
+        ensures { result ≡ key_named self.now name.now }
     {
         match self.avp(name) {
             Some(entry) => Some(self.book.entry_key(entry)),
@@ -51,7 +59,7 @@ impl<'a, B: Book> NamedBook<'a, B> {
 
     /// The place of the command of a name.
     pub fn command(&self, name: &str) -> Option<usize>
-        ensures { result ≡ command_named (B.meaning self.now.book.now) name.now }
+        ensures { result ≡ command_named self.now name.now }
     {
         self.commands.get_index_of(&name)
     }

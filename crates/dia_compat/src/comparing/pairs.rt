@@ -3,85 +3,68 @@ ghost use Rattle.std.specs.Prelude.{◌≡◌, ◌<◌, ◌+◌, ◌↔◌, ◌�
 ghost use Rattle.std.specs.Prelude.{IfSome, IsTrue, length, map, slice_get};
 ghost use Rattle.dia_data.specs.Plain.{Grouped, plain_format};
 ghost use Rattle.dia_data.specs.Below.{FormatBelow};
-ghost use Rattle.std.proofs.Props.{props};
 ghost use Rattle.dia_book.specs.Dictionary.{DictEntry, definitions, groups};
-ghost use Rattle.dia_compat.specs.TableText.{PlainTable, plain_table, plain_pair};
-ghost use Rattle.dia_compat.specs.PairTests.{plain_names, is_selected};
-ghost use Rattle.dia_compat.specs.PairTests.{failed_commands, failed_groups};
-ghost use Rattle.dia_compat.specs.Closed.{AvpPair, IsAnswer};
-ghost use Rattle.dia_compat.specs.FirstFailures.{IsLookedUp, IsFirstFailed, IsFound, PairTest};
+ghost use Rattle.dia_compat.specs.TableText.{plain_table, plain_pair};
+ghost use Rattle.dia_compat.specs.Sides.{compared};
+ghost use Rattle.dia_compat.specs.PairTests.{all_selected, failed_commands, failed_groups};
+ghost use Rattle.dia_compat.specs.Closed.{AvpPair};
+ghost use Rattle.dia_compat.specs.FirstFailures.{IsAnswerOf, IsFirstFailed, IsFound, PairTest};
 ghost use Rattle.dia_compat.specs.FirstFailures.{failed_command, FailsEntries, FailsAvp};
 
 use super::commands::{all_selected, may_stand_for, set_of_pairs};
 use super::covers::Cover;
 use super::named_book::NamedBook;
-use super::rules::Rules;
-use super::testing::failed_rules;
+use super::nine_tests::failed_rules;
+use super::sides::Sides;
 use crate::inclusion::{Answer, PairKind, Test};
 use crate::table::Table;
 use dia_book::{Book, DefId, Entry, Format, MRule};
-use dia_check::Unknown;
 use dia_data::format_below;
 use indexmap::IndexSet;
 use std::alloc::{AllocError, Global};
+use std::marker::Model;
 
-/// Two dictionaries with what the tests of a table's pairs look up.
+/// Two sides and a table, with what the tests of the table's pairs look up.
 #[derive(Drop)]
 pub(crate) struct Comparison<'a, A: Book, B: Book> {
-    pub a: NamedBook<'a, A>,
-    pub b: NamedBook<'a, B>,
-    pub cover: Cover,
-    pub beside: IndexSet<(&'a str, &'a str)>,
+    a: NamedBook<'a, A>,
+    b: NamedBook<'a, B>,
+    cover: Cover<'a, A, B>,
     /// Of each command of `a`, whether the table has what may be selected for its messages.
     selected: Vec<bool>,
-    ghost all_selected: { selected.items
-        ≡ map
-        (is_selected (A.meaning a.book.now) (B.meaning b.book.now) (map plain_names beside.keys))
-        (A.meaning a.book.now).commands } by { Prim.hlevel props },
+}
+
+impl<'a, A: Book, B: Book> Model for Comparison<'a, A, B> {
+    ghost use Rattle.dia_compat.specs.Sides.{Compared};
+    ghost use Rattle.dia_compat.specs.FirstFailures.{IsLookedUp};
+
+    ghost Value = { Compared };
+
+    ghost view = { λ all. all.cover };
+
+    ghost invariant = { λ all. IsLookedUp all.cover all.a all.b all.selected.items };
 }
 
 impl<'a, A: Book, B: Book> Comparison<'a, A, B> {
-    pub fn new(
-        alloc: Global,
-        a: &'a A,
-        b: &'a B,
-        unknown: Unknown,
-        table: &'a Table,
-    ) -> Result<Self, AllocError>
-        ensures a { IfOk result (λ all. all.a.book.now ≡ a.now) }
-        ensures b { IfOk result (λ all. all.b.book.now ≡ b.now) }
-        ensures policy { IfOk result (λ all. all.cover.unknown ≡ unknown) }
-        ensures looked_up { IfOk result
-            (λ all. IsLookedUp (A.meaning a.now) (B.meaning b.now) unknown
-            (plain_table table.now) all.cover.paired.keys
-            all.cover.uncovered.items all.cover.strangers_fit
-            (map plain_names all.beside.keys)) }
+    pub fn new(alloc: Global, sides: &Sides<'a, A, B>, table: &'a Table) -> Result<Self, AllocError>
+        ensures { IfOk result (λ all. all ≡ compared sides.now (plain_table table.now)) }
     {
-        let a = NamedBook::new(alloc, a)?;
-        let b = NamedBook::new(alloc, b)?;
-        let cover = Cover::new(alloc, &a, &b, unknown, &table.avps)?;
-        let beside = set_of_pairs(alloc, &table.commands)?;
-        let selected = all_selected(alloc, a.book, b.book, &beside)?;
+        let a = NamedBook::new(alloc, sides.first())?;
+        let b = NamedBook::new(alloc, sides.second())?;
+        let cover = Cover::new(alloc, sides, &a, &b, table)?;
         Ok(Comparison {
             a,
             b,
             cover,
-            beside,
-            selected,
+            selected: selected_by(alloc, sides, table)?,
         })
     }
 
     /// Whether each pair of the table passes each test.
-    pub fn answer(&self, alloc: Global, table: &Table) -> Result<Answer, AllocError>
-        ensures { IfOk result
-            (λ answer. IsLookedUp (A.meaning self.now.a.book.now)
-            (B.meaning self.now.b.book.now) self.now.cover.unknown
-            (plain_table table.now) self.now.cover.paired.keys self.now.cover.uncovered.items
-            self.now.cover.strangers_fit (map plain_names self.now.beside.keys)
-            → IsAnswer (A.meaning self.now.a.book.now)
-            (B.meaning self.now.b.book.now) self.now.cover.unknown
-            (plain_table table.now) answer) }
+    pub fn answer(&self, alloc: Global) -> Result<Answer, AllocError>
+        ensures { IfOk result (IsAnswerOf self.now) }
     {
+        let table = self.cover.table();
         let commands = self.first_failure(alloc, PairKind::Command, &table.commands)?;
         match commands {
             Some(failure) => Ok(Answer::No {
@@ -105,21 +88,13 @@ impl<'a, A: Book, B: Book> Comparison<'a, A, B> {
 
     /// The first pair that fails a test, with its place and the first test that it fails. A pair that repeats an earlier one is
     /// not tested again.
-    pub fn first_failure(
+    fn first_failure(
         &self,
         alloc: Global,
         kind: PairKind,
         pairs: &[(String, String)],
     ) -> Result<Option<(usize, Test)>, AllocError>
-        ensures { IfOk result
-            (λ found. (table : PlainTable)
-            → IsLookedUp (A.meaning self.now.a.book.now)
-            (B.meaning self.now.b.book.now) self.now.cover.unknown table self.now.cover.paired.keys
-            self.now.cover.uncovered.items self.now.cover.strangers_fit
-            (map plain_names self.now.beside.keys)
-            → IsFound (PairTest (A.meaning self.now.a.book.now)
-            (B.meaning self.now.b.book.now) self.now.cover.unknown table kind)
-            (map plain_pair pairs.now) found) }
+        ensures { IfOk result (IsFound (PairTest self.now kind) (map plain_pair pairs.now)) }
     {
         let mut seen = IndexSet::new(alloc);
         for (place, pair) in pairs.iter().enumerate() {
@@ -137,15 +112,10 @@ impl<'a, A: Book, B: Book> Comparison<'a, A, B> {
 
     /// The first test that a pair fails.
     fn failed(&self, kind: PairKind, first: &str, second: &str) -> Option<Test>
-        ensures { (table : PlainTable)
-            → IsLookedUp (A.meaning self.now.a.book.now)
-            (B.meaning self.now.b.book.now) self.now.cover.unknown table self.now.cover.paired.keys
-            self.now.cover.uncovered.items self.now.cover.strangers_fit
-            (map plain_names self.now.beside.keys)
-            → IsFirstFailed (PairTest (A.meaning self.now.a.book.now)
-            (B.meaning self.now.b.book.now) self.now.cover.unknown table kind
-            (first.now, second.now)) result }
+        ensures { IsFirstFailed (PairTest self.now kind (first.now, second.now)) result }
     {
+        // Opens it, for what it has looked up.
+        let _ = &self.cover;
         match kind {
             PairKind::Command => self.failed_command(first, second),
             PairKind::Avp => self.failed_avp(first, second),
@@ -154,102 +124,113 @@ impl<'a, A: Book, B: Book> Comparison<'a, A, B> {
 
     /// The first test that a pair of commands fails.
     fn failed_command(&self, first: &str, second: &str) -> Option<Test>
-        ensures { result ≡ failed_command self.now.cover.unknown (A.meaning self.now.a.book.now)
-            (B.meaning self.now.b.book.now) self.now.cover.paired.keys
-            self.now.cover.uncovered.items self.now.cover.strangers_fit
-            (map plain_names self.now.beside.keys) (first.now, second.now) }
+        ensures { result ≡ failed_command self.now (first.now, second.now) }
     {
         match self.a.command(first) {
             Some(first) => match self.b.command(second) {
-                Some(second) => self.failed_commands(first, second),
+                Some(second) => failed_commands(&self.cover, first, second, self.selected[first]),
                 None => Some(Test::N10),
             },
             None => Some(Test::N10),
-        }
-    }
-
-    /// The first test that a pair of commands fails, by their places.
-    fn failed_commands(&self, first: usize, second: usize) -> Option<Test>
-        requires first { first < length (A.meaning self.now.a.book.now).commands }
-        requires second { second < length (B.meaning self.now.b.book.now).commands }
-        ensures { result ≡ failed_commands self.now.cover.unknown (A.meaning self.now.a.book.now)
-            (B.meaning self.now.b.book.now) self.now.cover.paired.keys
-            self.now.cover.uncovered.items self.now.cover.strangers_fit
-            (map plain_names self.now.beside.keys)
-            (length (groups (A.meaning self.now.a.book.now)) + first)
-            (length (groups (B.meaning self.now.b.book.now)) + second) }
-    {
-        let a = Rules {
-            book: self.a.book,
-            def: self.a.book.command_at(first),
-        };
-        let b = Rules {
-            book: self.b.book,
-            def: self.b.book.command_at(second),
-        };
-        if may_stand_for(a.book.def(a.def), b.book.def(b.def)) && self.selected[first] {
-            failed_rules(&a, &b, &self.cover)
-        } else {
-            Some(Test::N10)
         }
     }
 
     /// The first test that a pair of AVPs fails.
     fn failed_avp(&self, first: &str, second: &str) -> Option<Test>
-        ensures { FailsAvp self.now.cover.unknown (A.meaning self.now.a.book.now)
-            (B.meaning self.now.b.book.now) self.now.cover.paired.keys
-            self.now.cover.uncovered.items self.now.cover.strangers_fit
-            (first.now, second.now) result }
+        ensures { FailsAvp self.now (first.now, second.now) result }
     {
         match self.a.avp(first) {
             Some(first) => match self.b.avp(second) {
-                Some(second) => self.failed_avps(first, second),
+                Some(second) => failed_avps(&self.cover, first, second),
                 None => Some(Test::N10),
             },
             None => Some(Test::N10),
         }
     }
+}
 
-    fn failed_avps(&self, first: Entry, second: Entry) -> Option<Test>
-        requires first { first < length (A.meaning self.now.a.book.now).entries }
-        requires second { second < length (B.meaning self.now.b.book.now).entries }
-        ensures { FailsEntries self.now.cover.unknown (A.meaning self.now.a.book.now)
-            (B.meaning self.now.b.book.now) self.now.cover.paired.keys
-            self.now.cover.uncovered.items self.now.cover.strangers_fit first second result }
-    {
-        if !is_avp_pair(self.a.book, self.b.book, first, second) {
-            return Some(Test::N10);
-        }
-        self.failed_groups(self.a.book.group(first), self.b.book.group(second))
+/// Of each command of the first, in order, whether the table has what may be selected for its messages.
+fn selected_by<A: Book, B: Book>(
+    alloc: Global,
+    sides: &Sides<'_, A, B>,
+    table: &Table,
+) -> Result<Vec<bool>, AllocError>
+    ensures { IfOk result
+        (λ all. all.items ≡ all_selected (compared sides.now (plain_table table.now))) }
+{
+    let beside = set_of_pairs(alloc, &table.commands)?;
+    let selected = all_selected(alloc, sides.first(), sides.second(), &beside)?;
+    Ok(selected)
+}
+
+/// The first test that a pair of commands fails, by their places. `selected` says that the table has what may be selected for
+/// messages of the first.
+fn failed_commands<A: Book, B: Book>(
+    cover: &Cover<'_, A, B>,
+    first: usize,
+    second: usize,
+    selected: bool,
+) -> Option<Test>
+    requires first { first < length cover.now.sides.first.commands }
+    requires second { second < length cover.now.sides.second.commands }
+    requires selected { slice_get (all_selected cover.now) first ≡ Some selected }
+    ensures { result ≡ failed_commands cover.now (length (groups cover.now.sides.first) + first)
+        (length (groups cover.now.sides.second) + second) }
+{
+    let sides = cover.sides();
+    let a = sides.first();
+    let b = sides.second();
+    let first = a.command_at(first);
+    let second = b.command_at(second);
+    if may_stand_for(a.def(first), b.def(second)) && selected {
+        failed_rules(
+            &sides.first_rules(first),
+            &sides.second_rules(second),
+            cover,
+        )
+    } else {
+        Some(Test::N10)
     }
+}
 
-    /// The first test that the definitions of two Grouped AVPs fail.
-    fn failed_groups(&self, first: Option<DefId>, second: Option<DefId>) -> Option<Test>
-        requires first { IfSome first
-            (λ x. x < length (definitions (A.meaning self.now.a.book.now))) }
-        requires second { IfSome second
-            (λ y. y < length (definitions (B.meaning self.now.b.book.now))) }
-        ensures { result ≡ failed_groups self.now.cover.unknown (A.meaning self.now.a.book.now)
-            (B.meaning self.now.b.book.now) self.now.cover.paired.keys
-            self.now.cover.uncovered.items self.now.cover.strangers_fit first second }
-    {
-        match first {
-            Some(first) => match second {
-                Some(second) => failed_rules(
-                    &Rules {
-                        book: self.a.book,
-                        def: first,
-                    },
-                    &Rules {
-                        book: self.b.book,
-                        def: second,
-                    },
-                    &self.cover,
-                ),
-                None => None,
-            },
+fn failed_avps<A: Book, B: Book>(
+    cover: &Cover<'_, A, B>,
+    first: Entry,
+    second: Entry,
+) -> Option<Test>
+    requires first { first < length cover.now.sides.first.entries }
+    requires second { second < length cover.now.sides.second.entries }
+    ensures { FailsEntries cover.now first second result }
+{
+    let a = cover.sides().first();
+    let b = cover.sides().second();
+    if !is_avp_pair(a, b, first, second) {
+        return Some(Test::N10);
+    }
+    failed_groups(cover, a.group(first), b.group(second))
+}
+
+/// The first test that the definitions of two Grouped AVPs fail.
+fn failed_groups<A: Book, B: Book>(
+    cover: &Cover<'_, A, B>,
+    first: Option<DefId>,
+    second: Option<DefId>,
+) -> Option<Test>
+    requires first { IfSome first (λ x. x < length (definitions cover.now.sides.first)) }
+    requires second { IfSome second (λ y. y < length (definitions cover.now.sides.second)) }
+    ensures { result ≡ failed_groups cover.now first second }
+{
+    let sides = cover.sides();
+    match first {
+        Some(first) => match second {
+            Some(second) => failed_rules(
+                &sides.first_rules(first),
+                &sides.second_rules(second),
+                cover,
+            ),
             None => None,
-        }
+        },
+        None => None,
     }
 }
 

@@ -5,26 +5,39 @@ ghost use Rattle.dia_check.specs.Valid.{is_listed, has_wildcard};
 ghost use Rattle.dia_compat.specs.Tests.{rules_in, rule_of, wildcard_of};
 
 use dia_book::{Book, DRule, DefId, Key, Slot};
+use std::marker::Model;
 
-/// A definition of a dictionary.
+/// The rules of a definition.
 #[derive(Drop)]
 pub(super) struct Rules<'a, B: Book> {
     pub book: &'a B,
     pub def: DefId,
-    pub ghost own: { def < length (definitions (B.meaning book.now)) },
+}
+
+impl<'a, B: Book> Model for Rules<'a, B> {
+    ghost use Rattle.std.specs.Prelude.{List, ◌<◌, length};
+    ghost use Rattle.dia_book.specs.declared.DRule.{DRule as AnyRule};
+    ghost use Rattle.dia_book.specs.Dictionary.{definitions};
+    ghost use Rattle.dia_compat.specs.Tests.{rules_in};
+
+    ghost Value = { List AnyRule };
+
+    ghost view = { λ a. rules_in (B.meaning a.book.now) a.def };
+
+    ghost invariant = { λ a. a.def < length (definitions (B.meaning a.book.now)) };
 }
 
 impl<'a, B: Book> Rules<'a, B> {
     /// The rules in their order.
     pub fn list(&self) -> &'a [DRule]
-        ensures { result.now ≡ rules_in (B.meaning self.now.book.now) self.now.def }
+        ensures { result.now ≡ self.now }
     {
         &self.book.def(self.def).rules
     }
 
     /// The rule of a key.
     pub fn rule(&self, key: Key) -> Option<DRule>
-        ensures { result ≡ rule_of (rules_in (B.meaning self.now.book.now) self.now.def) key }
+        ensures { result ≡ rule_of self.now key }
     {
         let rules = self.list();
         match self.book.slot(self.def, key) {
@@ -36,21 +49,21 @@ impl<'a, B: Book> Rules<'a, B> {
 
     /// Whether some rule is of this key.
     pub fn lists(&self, key: Key) -> bool
-        ensures { result ≡ is_listed (rules_in (B.meaning self.now.book.now) self.now.def) key }
+        ensures { result ≡ is_listed self.now key }
     {
         self.rule(key).is_some()
     }
 
     /// The rule of the keys that no rule lists.
     pub fn wildcard(&self) -> Option<DRule>
-        ensures { result ≡ wildcard_of (rules_in (B.meaning self.now.book.now) self.now.def) }
+        ensures { result ≡ wildcard_of self.now }
     {
         self.list().iter().copied().find(|rule| rule.key.is_none())
     }
 
     /// Whether there is such a rule.
     pub fn has_wildcard(&self) -> bool
-        ensures { result ≡ has_wildcard (rules_in (B.meaning self.now.book.now) self.now.def) }
+        ensures { result ≡ has_wildcard self.now }
     {
         self.wildcard().is_some()
     }

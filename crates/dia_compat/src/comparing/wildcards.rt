@@ -3,7 +3,7 @@ ghost use Rattle.std.specs.Prelude.{◌≡◌, ◌&&◌, ◌||◌, not, true, fa
 ghost use Rattle.std.specs.List.{list_all};
 ghost use Rattle.std.specs.Option.{option_map_or};
 ghost use Rattle.dia_check.specs.Valid.{is_listed, has_wildcard};
-ghost use Rattle.dia_compat.specs.Tests.{rules_in, wildcard_of, is_above_zero, listed_rule};
+ghost use Rattle.dia_compat.specs.Tests.{wildcard_of, is_above_zero, listed_rule};
 ghost use Rattle.dia_compat.specs.Tests.{bounded_wildcard, required_wildcard, of_key};
 
 use super::bounds::may_stand;
@@ -13,8 +13,8 @@ use dia_book::{Book, DRule, Key};
 
 /// Whether `b` has a wildcard where `a` has one.
 pub(super) fn wildcard_kept<A: Book, B: Book>(a: &Rules<'_, A>, b: &Rules<'_, B>) -> bool
-    ensures { result ≡ (not (has_wildcard (rules_in (A.meaning a.now.book.now) a.now.def))
-        || has_wildcard (rules_in (B.meaning b.now.book.now) b.now.def)) }
+    ensures { result ≡ (not (has_wildcard a.now)
+        || has_wildcard b.now) }
 {
     !a.has_wildcard() || b.has_wildcard()
 }
@@ -22,9 +22,9 @@ pub(super) fn wildcard_kept<A: Book, B: Book>(a: &Rules<'_, A>, b: &Rules<'_, B>
 /// Whether the greatest count of the wildcard of `b` is kept.
 pub(super) fn max_kept<A: Book, B: Book>(a: &Rules<'_, A>, b: &Rules<'_, B>) -> bool
     ensures { result ≡ option_map_or
-        (λ w. bounded_wildcard (rules_in (A.meaning a.now.book.now) a.now.def)
-        (rules_in (B.meaning b.now.book.now) b.now.def) w.max)
-        (wildcard_of (rules_in (B.meaning b.now.book.now) b.now.def)) true }
+        (λ w. bounded_wildcard a.now
+        b.now w.max)
+        (wildcard_of b.now) true }
 {
     match b.wildcard() {
         Some(wildcard) => is_bounded(a, b, wildcard.max),
@@ -33,8 +33,8 @@ pub(super) fn max_kept<A: Book, B: Book>(a: &Rules<'_, A>, b: &Rules<'_, B>) -> 
 }
 
 fn is_bounded<A: Book, B: Book>(a: &Rules<'_, A>, b: &Rules<'_, B>, max: Option<u32>) -> bool
-    ensures { result ≡ bounded_wildcard (rules_in (A.meaning a.now.book.now) a.now.def)
-        (rules_in (B.meaning b.now.book.now) b.now.def) max }
+    ensures { result ≡ bounded_wildcard a.now
+        b.now max }
 {
     match max {
         Some(max) => all_listed(a, b) && has_room(a.wildcard(), Some(max)),
@@ -44,14 +44,14 @@ fn is_bounded<A: Book, B: Book>(a: &Rules<'_, A>, b: &Rules<'_, B>, max: Option<
 
 /// Whether each key that may stand by a rule of `a` is listed in `b`.
 fn all_listed<A: Book, B: Book>(a: &Rules<'_, A>, b: &Rules<'_, B>) -> bool
-    ensures { result ≡ list_all (listed_rule (rules_in (B.meaning b.now.book.now) b.now.def))
-        (rules_in (A.meaning a.now.book.now) a.now.def) }
+    ensures { result ≡ list_all (listed_rule b.now)
+        a.now }
 {
     a.list().iter().all(|rule| is_listed(rule, b))
 }
 
 fn is_listed<B: Book>(rule: &DRule, b: &Rules<'_, B>) -> bool
-    ensures { result ≡ listed_rule (rules_in (B.meaning b.now.book.now) b.now.def) rule.now }
+    ensures { result ≡ listed_rule b.now rule.now }
 {
     match rule.key {
         Some(key) => !may_stand(rule) || b.lists(key),
@@ -62,9 +62,9 @@ fn is_listed<B: Book>(rule: &DRule, b: &Rules<'_, B>) -> bool
 /// Whether the least count of the wildcard of `b` is kept.
 pub(super) fn min_kept<A: Book, B: Book>(a: &Rules<'_, A>, b: &Rules<'_, B>) -> bool
     ensures { result ≡ option_map_or
-        (λ w. required_wildcard (rules_in (A.meaning a.now.book.now) a.now.def)
-        (rules_in (B.meaning b.now.book.now) b.now.def) w.min)
-        (wildcard_of (rules_in (B.meaning b.now.book.now) b.now.def)) true }
+        (λ w. required_wildcard a.now
+        b.now w.min)
+        (wildcard_of b.now) true }
 {
     match b.wildcard() {
         Some(wildcard) => is_required(a, b, wildcard.min),
@@ -73,8 +73,8 @@ pub(super) fn min_kept<A: Book, B: Book>(a: &Rules<'_, A>, b: &Rules<'_, B>) -> 
 }
 
 fn is_required<A: Book, B: Book>(a: &Rules<'_, A>, b: &Rules<'_, B>, min: u32) -> bool
-    ensures { result ≡ required_wildcard (rules_in (A.meaning a.now.book.now) a.now.def)
-        (rules_in (B.meaning b.now.book.now) b.now.def) min }
+    ensures { result ≡ required_wildcard a.now
+        b.now min }
 {
     min == 0 || (requires_as_many(a.wildcard(), min) && lists_all(a, b))
 }
@@ -90,14 +90,14 @@ fn requires_as_many(wildcard: Option<DRule>, min: u32) -> bool
 
 /// Whether `a` lists each key that `b` lists.
 fn lists_all<A: Book, B: Book>(a: &Rules<'_, A>, b: &Rules<'_, B>) -> bool
-    ensures { result ≡ list_all (of_key (is_listed (rules_in (A.meaning a.now.book.now) a.now.def)))
-        (rules_in (B.meaning b.now.book.now) b.now.def) }
+    ensures { result ≡ list_all (of_key (is_listed a.now))
+        b.now }
 {
     b.list().iter().all(|rule| lists(a, rule))
 }
 
 fn lists<A: Book>(a: &Rules<'_, A>, rule: &DRule) -> bool
-    ensures { result ≡ of_key (is_listed (rules_in (A.meaning a.now.book.now) a.now.def)) rule.now }
+    ensures { result ≡ of_key (is_listed a.now) rule.now }
 {
     match rule.key {
         Some(key) => a.lists(key),
@@ -110,8 +110,8 @@ fn lists<A: Book>(a: &Rules<'_, A>, rule: &DRule) -> bool
 pub(super) fn wildcard_covered<A: Book>(a: &Rules<'_, A>, uncovered: &[Key], fit: bool) -> bool
     ensures { result ≡ option_map_or
         (λ v. not (is_above_zero v.max) ||
-        (fit && list_all (is_listed (rules_in (A.meaning a.now.book.now) a.now.def)) uncovered.now))
-        (wildcard_of (rules_in (A.meaning a.now.book.now) a.now.def)) true }
+        (fit && list_all (is_listed a.now) uncovered.now))
+        (wildcard_of a.now) true }
 {
     match a.wildcard() {
         Some(wildcard) => !may_stand(&wildcard) || (fit && lists_keys(a, uncovered)),
@@ -121,7 +121,7 @@ pub(super) fn wildcard_covered<A: Book>(a: &Rules<'_, A>, uncovered: &[Key], fit
 
 fn lists_keys<A: Book>(a: &Rules<'_, A>, keys: &[Key]) -> bool
     ensures { result ≡ list_all
-        (is_listed (rules_in (A.meaning a.now.book.now) a.now.def)) keys.now }
+        (is_listed a.now) keys.now }
 {
     keys.iter().all(|key| a.lists(*key))
 }

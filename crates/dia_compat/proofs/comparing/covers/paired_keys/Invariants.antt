@@ -7,5 +7,5 @@ use Rattle.dia_compat.specs.PairTests.{pairs_key}
 use Rattle.dia_compat.proofs.comparing.covers.paired_keys.Given as goal
 
 abbrev pub invariant-loop-first : goal.invariant-loop-first
-invariant-loop-first g l = (key : Key) → holds_key l.keys.keys key ≡ list_any (pairs_key (g.A.Book.meaning l.a.book.now) (g.B.Book.meaning l.b.book.now) key)
+invariant-loop-first g l = (key : Key) → holds_key l.keys.keys key ≡ list_any (pairs_key l.a l.b key)
     (map plain_pair (take l.first-index l.pairs))

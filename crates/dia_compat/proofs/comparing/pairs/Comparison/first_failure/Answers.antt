@@ -4,11 +4,10 @@ use Rattle.dia_compat.proofs.comparing.pairs.Comparison.first_failure.Goals as g
 use Rattle.dia_compat.proofs.comparing.pairs.Comparison.first_failure.Goals.{then-branch+in-None, else-branch}
 
 pub returns-in-Some : goal.returns-in-Some
-returns-in-Some g c = λ table look.
-    let all = c.args.self.now in
-    let P = PairTest (g.A.Book.meaning all.a.book.now) (g.B.Book.meaning all.b.book.now) all.cover.unknown table c.args.kind in
-    this_fails P c.args.pairs.now c.loop-place.place c.index-pairs-place.result c.loop-place-test.true c.index-pairs-place.is (c.loop-place.invariant.passed table look)
-    c.as_str-first.result.now c.as_str-second.result.now c.as_str-first.ensures.value c.as_str-second.ensures.value c.failed.result c.in-Some.test c.in-Some.is (c.failed.ensures table look)
+returns-in-Some g c =
+    let P = PairTest c.args.self.now c.args.kind in
+    this_fails P c.args.pairs.now c.loop-place.place c.index-pairs-place.result c.loop-place-test.true c.index-pairs-place.is c.loop-place.invariant.passed
+    c.as_str-first.result.now c.as_str-second.result.now c.as_str-first.ensures.value c.as_str-second.ensures.value c.failed.result c.in-Some.test c.in-Some.is c.failed.ensures
 
 pub loop-place-preserved : goal.loop-place-preserved
 loop-place-preserved g c =
@@ -18,13 +17,12 @@ loop-place-preserved g c =
     record {
       seen = one_pair_more pairs c.loop-place.seen.keys c.insert.new.self.keys i (c.as_str-first.result, c.as_str-second.result) p
           c.loop-place-test.true c.index-pairs-place.is c.as_str-first.ensures.value c.as_str-second.ensures.value c.loop-place.invariant.seen c.in_ok-insert.ensures.keys;
-      passed = λ table look.
-          let all = c.args.self.now in
-          let P = PairTest (g.A.Book.meaning all.a.book.now) (g.B.Book.meaning all.b.book.now) all.cover.unknown table c.args.kind in
+      passed =
+          let P = PairTest c.args.self.now c.args.kind in
           elim c.if-branch.branch [
-            | then-branch+in-None w ↦ this_passes P pairs i p c.loop-place-test.true c.index-pairs-place.is (c.loop-place.invariant.passed table look)
-                c.as_str-first.result.now c.as_str-second.result.now c.as_str-first.ensures.value c.as_str-second.ensures.value w.failed.result w.in-None.is (w.failed.ensures table look)
-            | else-branch w ↦ stood_before P pairs i p c.loop-place-test.true c.index-pairs-place.is (c.loop-place.invariant.passed table look)
+            | then-branch+in-None w ↦ this_passes P pairs i p c.loop-place-test.true c.index-pairs-place.is c.loop-place.invariant.passed
+                c.as_str-first.result.now c.as_str-second.result.now c.as_str-first.ensures.value c.as_str-second.ensures.value w.failed.result w.in-None.is w.failed.ensures
+            | else-branch w ↦ stood_before P pairs i p c.loop-place-test.true c.index-pairs-place.is c.loop-place.invariant.passed
                 c.as_str-first.result.now c.as_str-second.result.now c.as_str-first.ensures.value c.as_str-second.ensures.value
                 (is_old c.loop-place.seen.keys (c.as_str-first.result, c.as_str-second.result)
                 pairs i c.loop-place.invariant.seen c.in_ok-insert.field-0 c.in_ok-insert.ensures.added w.if-branch.false)

@@ -2,16 +2,13 @@ use Rattle.std.proofs.Common.{◌≡◌, ◌<◌, ℕ, List, Some, map, take}
 use Rattle.std.specs.Prelude.{slice_get}
 use Rattle.std.specs.List.{list_any}
 use Rattle.dia_compat.specs.declared.inclusion.Test.{Test}
-use Rattle.dia_compat.specs.TableText.{PlainTable, plain_pair}
+use Rattle.dia_compat.specs.TableText.{plain_pair}
 use Rattle.dia_compat.specs.PairTests.{NamePair, plain_names, is_pair}
-use Rattle.dia_compat.specs.FirstFailures.{IsLookedUp, PairTest}
+use Rattle.dia_compat.specs.FirstFailures.{PairTest}
 use Rattle.dia_compat.proofs.comparing.pairs.Comparison.first_failure.Given as goal
 
 abbrev pub invariant-loop-place : goal.invariant-loop-place
 invariant-loop-place g l = record {
   seen : (x y : List ℕ) → list_any (is_pair x y) (map plain_names l.seen.keys) ≡ list_any (is_pair x y) (map plain_pair (take l.place l.pairs));
-  passed : (table : PlainTable) → IsLookedUp (g.A.Book.meaning l.self.a.book.now) (g.B.Book.meaning l.self.b.book.now) l.self.cover.unknown
-      table l.self.cover.paired.keys l.self.cover.uncovered.items l.self.cover.strangers_fit (map plain_names l.self.beside.keys)
-      → (k : ℕ) (p : NamePair) (t : Test) → k < l.place → slice_get (map plain_pair l.pairs) k ≡ Some p → PairTest (g.A.Book.meaning l.self.a.book.now)
-      (g.B.Book.meaning l.self.b.book.now) l.self.cover.unknown table l.kind p t;
+  passed : (k : ℕ) (p : NamePair) (t : Test) → k < l.place → slice_get (map plain_pair l.pairs) k ≡ Some p → PairTest l.self l.kind p t;
 }

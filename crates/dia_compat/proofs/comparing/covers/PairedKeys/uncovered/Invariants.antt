@@ -3,9 +3,8 @@ use Rattle.std.specs.Prelude.{not}
 use Rattle.dia_wire.specs.declared.Key.{Key}
 use Rattle.dia_book.specs.Dictionary.{DictEntry}
 use Rattle.dia_compat.specs.PairTests.{is_covered}
-use Rattle.dia_compat.proofs.comparing.covers.uncovered_keys.Given as goal
+use Rattle.dia_compat.proofs.comparing.covers.PairedKeys.uncovered.Given as goal
 
 abbrev pub invariant-loop-index : goal.invariant-loop-index
 invariant-loop-index g l =
-    l.keys.items ≡ filter (λ (key : Key). not (is_covered l.unknown (g.A.Book.meaning l.a) (g.B.Book.meaning l.b) l.paired.keys key))
-    (take l.index (map (λ (e : DictEntry). e.key) (g.A.Book.meaning l.a).entries))
+    l.keys.items ≡ filter (λ (key : Key). not (is_covered l.self key)) (take l.index (map (λ (e : DictEntry). e.key) (g.A.Book.meaning l.a).entries))
