@@ -5,7 +5,7 @@ use Rattle.std.specs.Prelude.{◌⊎◌, ◌||◌, slice_get, is_some, option_an
 use Rattle.std.specs.List.{list_all, list_any, filter_map, cons_option}
 use Rattle.std.specs.Option.{option_map_or}
 use Rattle.std.proofs.lemmas.Bool.{and_parts, and_from, not-true, false_from_ne_true}
-use Rattle.std.proofs.lemmas.Option.{same_Some, get_or_from_slice_get, slice_get-get_or}
+use Rattle.std.proofs.lemmas.Option.{same_Some, slice_get-get_or}
 use Rattle.std.proofs.lemmas.List.{map-append}
 use Rattle.std.proofs.lemmas.List.Folds.{list_all-map}
 use Rattle.std.specs.Borrow.{Bor}
@@ -25,8 +25,6 @@ use Rattle.dia_compat.specs.Sides.{Compared}
 use Rattle.dia_compat.specs.PairTests.{NamePair, names_app, wants_app, is_wanted, serves, serves_app, same_code_and_class, is_proxiable, is_pair, is_ready, is_selected, all_selected, is_command_pair, failed_rules, failed_commands}
 use Rattle.dia_compat.specs.declared.inclusion.Test.TheVariants.{N10}
 use Rattle.dia_compat.specs.Tests.{rules_in}
-use Rattle.dia_wire.specs.declared.Key.{Key}
-use Rattle.dia_check.specs.declared.Unknown.{Unknown}
 use Rattle.dia_compat.specs.WantedNames.{wanted_name, wanted_names}
 use Rattle.dia_compat.proofs.RunsOfFixedRules.{IsIn}
 use Rattle.dia_compat.proofs.MemberCounts.{in_at, at_in, any_in, in_any}

@@ -4,7 +4,6 @@ use Rattle.std.specs.Prelude.{◌⊎◌, slice_get, IfSome, MatchOption, if◌th
 use Rattle.std.specs.Option.{option_map_or}
 use Rattle.std.proofs.lemmas.Bool.Decides.{Decides-like}
 use Rattle.std.proofs.lemmas.Option.{none-some, same_Some, slice_get_within}
-use Rattle.dia_wire.specs.declared.Key.{Key}
 use Rattle.dia_book.proofs.Members.{into_right}
 use Rattle.dia_book.specs.declared.DRule.{DRule}
 use Rattle.dia_book.specs.Dictionary.{Dictionary, DictEntry, PlainDefinition, IsDictionary, AreRules, groups, definitions, group_place}

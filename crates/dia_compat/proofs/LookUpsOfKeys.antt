@@ -23,7 +23,7 @@ use Rattle.dia_check.specs.Valid.{known}
 use Rattle.dia_compat.specs.TableText.{PlainTable}
 use Rattle.dia_compat.specs.Below.{IsCoveredAlone, IsCovered, IsKnown}
 use Rattle.dia_compat.specs.Closed.{NamesEntry, NamesCommand, IsPairKey}
-use Rattle.dia_compat.specs.Tests.{is_kept, holds_key, may_come}
+use Rattle.dia_compat.specs.Tests.{is_kept, may_come}
 use Rattle.dia_compat.specs.PairTests.{NamePair, entry_named, command_named, key_named, pairs_key, is_must_not, may_be_clear, is_octets, is_alone, is_paired, is_covered, uncovered_keys, stranger_fits, strangers_fit}
 use Rattle.dia_compat.specs.Sides.{Sides, Compared}
 use Rattle.dia_compat.proofs.RunsOfFixedRules.{IsIn}

@@ -175,10 +175,8 @@ fn paired_keys<A: Book, B: Book>(
     pairs: &[(String, String)],
 ) -> Result<IndexSet<Key>, AllocError>
     ensures { IfOk result
-        (λ set. (key : AnyKey)
-        → holds_key set.keys key ≡ list_any
-        (pairs_key a.now b.now key)
-        (map plain_pair pairs.now)) }
+        (λ set. (key : AnyKey) → holds_key set.keys key
+        ≡ list_any (pairs_key a.now b.now key) (map plain_pair pairs.now)) }
 {
     let mut keys = IndexSet::new(alloc);
     for (first, second) in pairs {

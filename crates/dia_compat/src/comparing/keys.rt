@@ -14,8 +14,7 @@ use dia_book::{Book, DRule};
 
 /// Whether the counts of each key that both list are within those of `b`.
 pub(super) fn common_within<A: Book, B: Book>(a: &Rules<'_, A>, b: &Rules<'_, B>) -> bool
-    ensures { result ≡ list_all (common_rule b.now)
-        a.now }
+    ensures { result ≡ list_all (common_rule b.now) a.now }
 {
     a.list().iter().all(|rule| is_common_within(rule, b))
 }
@@ -34,10 +33,7 @@ fn is_common_within<B: Book>(rule: &DRule, b: &Rules<'_, B>) -> bool
 
 /// Whether each key that may stand under `a` may stand under `b`, by a rule or the wildcard.
 pub(super) fn let_in<A: Book, B: Book>(a: &Rules<'_, A>, b: &Rules<'_, B>) -> bool
-    ensures { result ≡ list_all
-        (let_in_rule b.now
-        (has_wildcard b.now))
-        a.now }
+    ensures { result ≡ list_all (let_in_rule b.now (has_wildcard b.now)) a.now }
 {
     let wild = b.has_wildcard();
     a.list().iter().all(|rule| is_let_in(rule, b, wild))

@@ -13,17 +13,14 @@ use dia_book::{Book, DRule, Key};
 
 /// Whether `b` has a wildcard where `a` has one.
 pub(super) fn wildcard_kept<A: Book, B: Book>(a: &Rules<'_, A>, b: &Rules<'_, B>) -> bool
-    ensures { result ≡ (not (has_wildcard a.now)
-        || has_wildcard b.now) }
+    ensures { result ≡ (not (has_wildcard a.now) || has_wildcard b.now) }
 {
     !a.has_wildcard() || b.has_wildcard()
 }
 
 /// Whether the greatest count of the wildcard of `b` is kept.
 pub(super) fn max_kept<A: Book, B: Book>(a: &Rules<'_, A>, b: &Rules<'_, B>) -> bool
-    ensures { result ≡ option_map_or
-        (λ w. bounded_wildcard a.now
-        b.now w.max)
+    ensures { result ≡ option_map_or (λ w. bounded_wildcard a.now b.now w.max)
         (wildcard_of b.now) true }
 {
     match b.wildcard() {
@@ -33,8 +30,7 @@ pub(super) fn max_kept<A: Book, B: Book>(a: &Rules<'_, A>, b: &Rules<'_, B>) -> 
 }
 
 fn is_bounded<A: Book, B: Book>(a: &Rules<'_, A>, b: &Rules<'_, B>, max: Option<u32>) -> bool
-    ensures { result ≡ bounded_wildcard a.now
-        b.now max }
+    ensures { result ≡ bounded_wildcard a.now b.now max }
 {
     match max {
         Some(max) => all_listed(a, b) && has_room(a.wildcard(), Some(max)),
@@ -44,8 +40,7 @@ fn is_bounded<A: Book, B: Book>(a: &Rules<'_, A>, b: &Rules<'_, B>, max: Option<
 
 /// Whether each key that may stand by a rule of `a` is listed in `b`.
 fn all_listed<A: Book, B: Book>(a: &Rules<'_, A>, b: &Rules<'_, B>) -> bool
-    ensures { result ≡ list_all (listed_rule b.now)
-        a.now }
+    ensures { result ≡ list_all (listed_rule b.now) a.now }
 {
     a.list().iter().all(|rule| is_listed(rule, b))
 }
@@ -61,9 +56,7 @@ fn is_listed<B: Book>(rule: &DRule, b: &Rules<'_, B>) -> bool
 
 /// Whether the least count of the wildcard of `b` is kept.
 pub(super) fn min_kept<A: Book, B: Book>(a: &Rules<'_, A>, b: &Rules<'_, B>) -> bool
-    ensures { result ≡ option_map_or
-        (λ w. required_wildcard a.now
-        b.now w.min)
+    ensures { result ≡ option_map_or (λ w. required_wildcard a.now b.now w.min)
         (wildcard_of b.now) true }
 {
     match b.wildcard() {
@@ -73,8 +66,7 @@ pub(super) fn min_kept<A: Book, B: Book>(a: &Rules<'_, A>, b: &Rules<'_, B>) -> 
 }
 
 fn is_required<A: Book, B: Book>(a: &Rules<'_, A>, b: &Rules<'_, B>, min: u32) -> bool
-    ensures { result ≡ required_wildcard a.now
-        b.now min }
+    ensures { result ≡ required_wildcard a.now b.now min }
 {
     min == 0 || (requires_as_many(a.wildcard(), min) && lists_all(a, b))
 }
@@ -90,8 +82,7 @@ fn requires_as_many(wildcard: Option<DRule>, min: u32) -> bool
 
 /// Whether `a` lists each key that `b` lists.
 fn lists_all<A: Book, B: Book>(a: &Rules<'_, A>, b: &Rules<'_, B>) -> bool
-    ensures { result ≡ list_all (of_key (is_listed a.now))
-        b.now }
+    ensures { result ≡ list_all (of_key (is_listed a.now)) b.now }
 {
     b.list().iter().all(|rule| lists(a, rule))
 }
@@ -108,10 +99,8 @@ fn lists<A: Book>(a: &Rules<'_, A>, rule: &DRule) -> bool
 /// Whether what the wildcard of `a` lets in is covered. `uncovered` are the known keys that are not, and `fit` says that unknown
 /// ones do no harm. At most one key more than `a` lists is looked at.
 pub(super) fn wildcard_covered<A: Book>(a: &Rules<'_, A>, uncovered: &[Key], fit: bool) -> bool
-    ensures { result ≡ option_map_or
-        (λ v. not (is_above_zero v.max) ||
-        (fit && list_all (is_listed a.now) uncovered.now))
-        (wildcard_of a.now) true }
+    ensures { result ≡ option_map_or (λ v. not (is_above_zero v.max) ||
+        (fit && list_all (is_listed a.now) uncovered.now)) (wildcard_of a.now) true }
 {
     match a.wildcard() {
         Some(wildcard) => !may_stand(&wildcard) || (fit && lists_keys(a, uncovered)),
@@ -120,8 +109,7 @@ pub(super) fn wildcard_covered<A: Book>(a: &Rules<'_, A>, uncovered: &[Key], fit
 }
 
 fn lists_keys<A: Book>(a: &Rules<'_, A>, keys: &[Key]) -> bool
-    ensures { result ≡ list_all
-        (is_listed a.now) keys.now }
+    ensures { result ≡ list_all (is_listed a.now) keys.now }
 {
     keys.iter().all(|key| a.lists(*key))
 }
