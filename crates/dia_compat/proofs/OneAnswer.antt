@@ -10,7 +10,7 @@ use Rattle.dia_compat.specs.declared.inclusion.PairKind.TheVariants as kind
 use Rattle.dia_compat.specs.declared.inclusion.Test.{Test}
 use Rattle.dia_compat.specs.declared.inclusion.Test.TheVariants.{N1, N2, N3, N4, N5, N6, N7, N8, N9, N10}
 use Rattle.dia_compat.specs.TableText.{PlainTable}
-use Rattle.dia_compat.specs.Closed.{IsAnswer, IsFirstFailure, PairBefore, test_number}
+use Rattle.dia_compat.specs.Closed.{IsTableAnswer, IsFirstFailure, PairBefore, test_number}
 
 by_second : (i j : ℕ) (b : Bool) → nat_lt j i ≡ b → j ≤ i → (i ≡ j) ⊎ (j < i)
 by_second i j true e f = inr (ltb-true j i e)
@@ -75,7 +75,7 @@ module _ (da db : Dictionary) (u : Unknown) (table : PlainTable) where
   one_failure kind.Command kind.Avp i j t s f g = absurd (not_before kind.Command kind.Avp i j t s f g tt)
   one_failure kind.Avp kind.Command i j t s f g = absurd (not_before kind.Command kind.Avp j i s t g f tt)
 
-  pub one_comparison : (x y : Answer) → IsAnswer da db u table x → IsAnswer da db u table y → x ≡ y
+  pub one_comparison : (x y : Answer) → IsTableAnswer da db u table x → IsTableAnswer da db u table y → x ≡ y
   one_comparison Yes Yes h k = refl
   one_comparison Yes (No l j s) h g = absurd (g.fails (h l j s))
   one_comparison (No k i t) Yes f h = absurd (f.fails (h k i t))

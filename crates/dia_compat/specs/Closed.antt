@@ -142,9 +142,9 @@ pub record IsFirstFailure (da db : Dictionary) (u : Unknown) (table : PlainTable
   pub first_test : (other : Test) → test_number other < test_number test → PassesAt da db u table k i other
   pub first_pair : (l : PairKind) (j : ℕ) (other : Test) → PairBefore l j k i → PassesAt da db u table l j other
 
-abbrev pub IsAnswer : Dictionary → Dictionary → Unknown → PlainTable → Answer → Type 0
-IsAnswer da db u table Yes = IsClosed da db u table
-IsAnswer da db u table (No k i test) = IsFirstFailure da db u table k i test
+abbrev pub IsTableAnswer : Dictionary → Dictionary → Unknown → PlainTable → Answer → Type 0
+IsTableAnswer da db u table Yes = IsClosed da db u table
+IsTableAnswer da db u table (No k i test) = IsFirstFailure da db u table k i test
 
 -- ---- inclusion
 

@@ -8,7 +8,7 @@ use Rattle.dia_compat.specs.declared.inclusion.PairKind.TheVariants as kind
 use Rattle.dia_compat.specs.declared.inclusion.Test.{Test}
 use Rattle.dia_compat.specs.declared.inclusion.Test.TheVariants.{N10}
 use Rattle.dia_compat.specs.Sides.{Compared}
-use Rattle.dia_compat.specs.Closed.{CommandTest, AvpTest, AvpPair, IsAnswer, test_number}
+use Rattle.dia_compat.specs.Closed.{CommandTest, AvpTest, AvpPair, IsTableAnswer, test_number}
 use Rattle.dia_compat.specs.PairTests.{NamePair, entry_named, command_named, all_selected, failed_commands, failed_groups}
 
 -- all tests are passed, or this is the first that isn't
@@ -21,7 +21,7 @@ PairTest c kind.Command p test = CommandTest c.sides.first c.sides.second c.tabl
 PairTest c kind.Avp p test = AvpTest c.sides.first c.sides.second c.table c.sides.unknown test p
 
 abbrev pub IsAnswerOf : Compared → Answer → Type 0
-IsAnswerOf c answer = IsAnswer c.sides.first c.sides.second c.sides.unknown c.table answer
+IsAnswerOf c answer = IsTableAnswer c.sides.first c.sides.second c.sides.unknown c.table answer
 
 -- these are the two dictionaries, and of each command of the first what the table has for it
 pub record IsLookedUp (c : Compared) (a b : Dictionary) (selected : List Bool) : Type 0 where

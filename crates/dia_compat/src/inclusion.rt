@@ -7,7 +7,7 @@ ghost use Rattle.dia_check.specs.declared.Levels.{Levels as AnyLevels};
 ghost use Rattle.dia_check.specs.Valid.{AllFit, IsValid, Placed};
 ghost use Rattle.dia_compat.specs.TableText.{PlainTable, plain_table};
 ghost use Rattle.dia_compat.specs.Below.{DefBelow};
-ghost use Rattle.dia_compat.specs.Closed.{IsClosed, IsIncluded, IsAnswer, IsPairKey};
+ghost use Rattle.dia_compat.specs.Closed.{IsClosed, IsIncluded, IsTableAnswer, IsPairKey};
 ghost use Rattle.dia_compat.specs.declared.inclusion.Answer.{Answer as AnyAnswer};
 
 use crate::comparing::{Comparison, Sides};
@@ -57,7 +57,7 @@ pub fn check_table<A: Book, B: Book>(
     table: &Table,
 ) -> Result<Answer, AllocError>
     ensures answer { IfOk result
-        (IsAnswer (A.meaning a.now) (B.meaning b.now) unknown (plain_table table.now)) }
+        (IsTableAnswer (A.meaning a.now) (B.meaning b.now) unknown (plain_table table.now)) }
     ensures inclusion { IfOk result
         (λ answer. answer ≡ Answer.Yes
         → IsIncluded (A.meaning a.now) (B.meaning b.now) unknown (plain_table table.now)) }
@@ -101,7 +101,7 @@ pub fn level_is_placed()
 /// Two dictionaries and a table have one answer.
 pub fn one_comparison()
     ensures { (da db : Dictionary) (u : AnyPolicy) (table : PlainTable) (x y : AnyAnswer)
-        → IsAnswer da db u table x → IsAnswer da db u table y → x ≡ y }
+        → IsTableAnswer da db u table x → IsTableAnswer da db u table y → x ≡ y }
 {}
 
 /// Whether the bytes are valid under the first dictionary and not under the second.

@@ -6,7 +6,7 @@ ghost use Rattle.dia_check.specs.declared.Unknown.{Unknown as AnyPolicy};
 ghost use Rattle.dia_compat.specs.TableText.{PlainTable, plain_table, plain_pair, most_pairs};
 ghost use Rattle.dia_compat.specs.WrittenTable.{IsWritable};
 ghost use Rattle.dia_compat.specs.Proposed.{IsProposal, IsLeast, ListsAll, IsRefusal};
-ghost use Rattle.dia_compat.specs.Closed.{IsClosed, IsAnswer};
+ghost use Rattle.dia_compat.specs.Closed.{IsClosed, IsTableAnswer};
 ghost use Rattle.dia_compat.specs.declared.inclusion.PairKind.{PairKind as AnyKind};
 ghost use Rattle.dia_compat.specs.declared.inclusion.Test.{Test as AnyTest};
 ghost use Rattle.dia_compat.specs.NamedCommands.{shared_pair, NamedSoFar};
@@ -101,7 +101,7 @@ pub fn no_table_passes()
     ensures { (da db : Dictionary) (u : AnyPolicy)
         (names : List (List ℕ)) (table other : PlainTable)
         (kind : AnyKind) (pair : ℕ) (reason : AnyTest) → IsLeast da db u names table
-        → IsAnswer da db u table (Answer.No kind pair reason) → ListsAll names other
+        → IsTableAnswer da db u table (Answer.No kind pair reason) → ListsAll names other
         → ¬ IsClosed da db u other }
 {}
 

@@ -13,14 +13,14 @@ use Rattle.dia_compat.specs.declared.Test.{Test}
 use Rattle.dia_compat.specs.declared.PairKind.{PairKind}
 use Rattle.dia_compat.specs.declared.Table.{Table}
 use Rattle.dia_compat.specs.TableText.{PlainTable, plain_table, plain_pair}
-use Rattle.dia_compat.specs.Closed.{IsAnswer}
+use Rattle.dia_compat.specs.Closed.{IsTableAnswer}
 use Rattle.dia_io.specs.declared.Exit.{Exit}
 use Rattle.dia_io.specs.declared.Exit.TheVariants as exits
 use Rattle.dia_run.specs.declared.commands.Outcome.{Outcome}
 use Rattle.dia_run.specs.Pairs.{IsAnswerText, IsFailureText, failure_line, NamesPair}
 
 -- the pair of a failure stands in the table
-pub names_pair : (a b : Dictionary) (u : Unknown) (table : PlainTable) (answer : Answer) → IsAnswer a b u table answer → NamesPair table answer
+pub names_pair : (a b : Dictionary) (u : Unknown) (table : PlainTable) (answer : Answer) → IsTableAnswer a b u table answer → NamesPair table answer
 names_pair a b u table Yes h = tt
 names_pair a b u table (No k i test) h = h.within
 

@@ -6,7 +6,7 @@ use Rattle.dia_compat.specs.declared.Answer.{Answer}
 use Rattle.dia_compat.specs.declared.Answer.TheVariants as answer
 use Rattle.dia_compat.specs.declared.PairKind.TheVariants as pair
 use Rattle.dia_compat.specs.TableText.{PlainTable}
-use Rattle.dia_compat.specs.Closed.{IsAnswer}
+use Rattle.dia_compat.specs.Closed.{IsTableAnswer}
 use Rattle.dia_compat.proofs.SelectedCommands.{included}
 use Rattle.dia_io.specs.declared.Command.{Command}
 use Rattle.dia_io.specs.declared.Command.TheVariants as command
@@ -26,7 +26,7 @@ not_bad exit is_bad is_yes = cc
 
 yes_includes : (u : Unknown) (inputs : Inputs) (a b : Dictionary) (table : PlainTable) (answer : Answer) (text : List ℕ) (exit : Exit) → IsDictionaryText inputs.first a
     → IsDictionaryText inputs.second b
-    → IsTableText inputs.table table → IsAnswer a b u table answer → IsAnswerText table answer text exit → exit ≡ Yes → TextsInclude u inputs
+    → IsTableText inputs.table table → IsTableAnswer a b u table answer → IsAnswerText table answer text exit → exit ≡ Yes → TextsInclude u inputs
 yes_includes u inputs a b table answer.Yes text exit is_a is_b is_table closed told is_yes = record {
   a = a;
   b = b;

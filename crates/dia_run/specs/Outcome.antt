@@ -15,7 +15,7 @@ use Rattle.dia_check.specs.Faults.{IsAnswer as IsChecked}
 use Rattle.dia_check.specs.Valid.{IsValid}
 use Rattle.dia_compat.specs.declared.Answer.{Answer}
 use Rattle.dia_compat.specs.TableText.{PlainTable}
-use Rattle.dia_compat.specs.Closed.{IsAnswer as IsCompared}
+use Rattle.dia_compat.specs.Closed.{IsTableAnswer as IsCompared}
 use Rattle.dia_compat.specs.Proposed.{IsProposal, IsFirstUnknown}
 use Rattle.dia_compat.specs.WrittenTable.{table_text}
 use Rattle.dia_run.specs.declared.commands.Outcome.{Outcome}
