@@ -11,22 +11,23 @@ use Rattle.dia_book.specs.Shapes.{IsFirstWanted}
 use Rattle.dia_check.specs.declared.open_levels.OpenLevel.{OpenLevel}
 use Rattle.dia_check.specs.declared.open_levels.OpenLevels.{OpenLevels}
 use Rattle.dia_check.specs.declared.open_levels.tally.Met.{Met}
-use Rattle.dia_check.specs.Tallies.{count_in}
+use Rattle.dia_check.specs.Tallies.{count_in, unmet}
 use Rattle.dia_check.specs.Valid.{fixed_rules}
 use Rattle.dia_check.specs.OpenLevels.{AreMet, IsFirstUnmet, IsMetAtEnd, IsCounted, SoFar, begun, and_key, IsKept, AreKept, HasTallyRoom, HaveTallyRoom, AreOpen}
 use Rattle.dia_check.specs.Faults.{IsFirstMissing}
 use Rattle.std.proofs.lemmas.Option.{same_Some, slice_get_within}
 use Rattle.dia_check.proofs.RunsOfOneKeyMore.{at_start}
 use Rattle.dia_check.proofs.FaultlessLevels.{met_none}
+use Rattle.dia_check.proofs.Tallies.{unmet_rising, unmet_below, unmet_none}
 
 -- ---- a level of which nothing was read
 
-pub fresh : (rules : List DRule) (level : OpenLevel) → level.run ≡ 0 → IsCounted rules [] level []
-fresh rules level run = record {
+pub fresh : (rules : List DRule) (level : OpenLevel) (many : ℕ) → level.run ≡ 0 → many ≤ length rules → IsCounted rules [] level (unmet 0 many)
+fresh rules level many run le = record {
   run = rw run (at_start (fixed_rules rules));
-  rising = tt;
-  below = tt;
-  counted = λ i rule at. sym (met_none rules i rule);
+  rising = unmet_rising 0 many;
+  below = unmet_below 0 many (length rules) (omega (arith, le));
+  counted = λ i rule at. unmet_none 0 many i ∙ sym (met_none rules i rule);
   met_before = λ i rule from to at. absurd (omega (arith, run, to));
 }
 
@@ -145,16 +146,16 @@ own_counted defs o outer level rules tally now same e =
     (subst (λ (rs : List DRule). IsCounted rs level.keys o.innermost now.mine) same now.innermost.counted)
 
 -- a level is opened in the innermost one
-pub opened : (defs : List PlainDefinition) (definition : PlainDefinition) (old new : OpenLevels) (outer : List SoFar) (level : SoFar) (rules : List DRule) (def end : ℕ) (now : AreOpen defs old outer level)
-    → slice_get defs def ≡ Some definition → definition.rules ≡ rules
+pub opened : (defs : List PlainDefinition) (definition : PlainDefinition) (old new : OpenLevels) (outer : List SoFar) (level : SoFar) (rules : List DRule) (def end many : ℕ) (now : AreOpen defs old outer level)
+    → slice_get defs def ≡ Some definition → definition.rules ≡ rules → many ≤ length rules
     → new.innermost ≡ record { def = def; end = end; base = length old.tallies.items; run = 0 }
-    → new.outer.items ≡ old.outer.items ++ old.innermost ∷ [] → new.tallies.items ≡ old.tallies.items
+    → new.outer.items ≡ old.outer.items ++ old.innermost ∷ [] → new.tallies.items ≡ old.tallies.items ++ unmet 0 many
     → vec_capacity old.tallies ≤ vec_capacity new.tallies → length old.tallies.items + length rules ≤ vec_capacity new.tallies
     → AreOpen defs new (outer ++ level ∷ []) (begun rules end)
-opened defs definition old new outer level rules def end o is_definition is_rules is_innermost is_outer is_tallies more enough = record {
+opened defs definition old new outer level rules def end many o is_definition is_rules few is_innermost is_outer is_tallies more enough = record {
   before = o.before ++ o.mine;
-  mine = [];
-  parts = is_tallies ∙ o.parts ∙ sym (append-nil (o.before ++ o.mine));
+  mine = unmet 0 many;
+  parts = is_tallies ∙ ap (λ (t : List Met). t ++ unmet 0 many) o.parts;
   are_outer = rw is_outer (kept_push defs 0 old.outer.items o.before outer old.innermost o.mine level o.are_outer (omega (arith, o.base)) o.innermost);
   base = ap (λ (l : OpenLevel). l.base) is_innermost ∙ ap length o.parts;
   innermost = rw is_innermost (record {
@@ -162,7 +163,7 @@ opened defs definition old new outer level rules def end o is_definition is_rule
     is_definition = is_definition;
     is_rules = is_rules;
     is_end = refl;
-    counted = fresh rules _ refl;
+    counted = fresh rules _ many refl few;
   });
   outer_room = rw is_outer (room_push (vec_capacity new.tallies) old.outer.items outer old.innermost level
       (room_more (vec_capacity old.tallies) (vec_capacity new.tallies) old.outer.items outer more o.outer_room) (let own = o.room in omega (arith, own, more)));
@@ -170,14 +171,14 @@ opened defs definition old new outer level rules def end o is_definition is_rule
 }
 
 -- the body is opened
-pub body_opened : (defs : List PlainDefinition) (definition : PlainDefinition) (new : OpenLevels) (rules : List DRule) (def end : ℕ)
-    → slice_get defs def ≡ Some definition → definition.rules ≡ rules
+pub body_opened : (defs : List PlainDefinition) (definition : PlainDefinition) (new : OpenLevels) (rules : List DRule) (def end many : ℕ)
+    → slice_get defs def ≡ Some definition → definition.rules ≡ rules → many ≤ length rules
     → new.innermost ≡ record { def = def; end = end; base = 0; run = 0 }
-    → new.outer.items ≡ [] → new.tallies.items ≡ [] → length rules ≤ vec_capacity new.tallies
+    → new.outer.items ≡ [] → new.tallies.items ≡ unmet 0 many → length rules ≤ vec_capacity new.tallies
     → AreOpen defs new [] (begun rules end)
-body_opened defs definition new rules def end is_definition is_rules is_innermost is_outer is_tallies enough = record {
+body_opened defs definition new rules def end many is_definition is_rules few is_innermost is_outer is_tallies enough = record {
   before = [];
-  mine = [];
+  mine = unmet 0 many;
   parts = is_tallies;
   are_outer = rw is_outer refl;
   base = ap (λ (l : OpenLevel). l.base) is_innermost;
@@ -186,7 +187,7 @@ body_opened defs definition new rules def end is_definition is_rules is_innermos
     is_definition = is_definition;
     is_rules = is_rules;
     is_end = refl;
-    counted = fresh rules _ refl;
+    counted = fresh rules _ many refl few;
   });
   outer_room = rw is_outer tt;
   room = let at = ap (λ (l : OpenLevel). l.base) is_innermost in omega (arith, at, enough);

@@ -10,7 +10,7 @@ use Rattle.std.proofs.lemmas.List.{take-append-drop, take_all, length-drop}
 use Rattle.std.proofs.lemmas.List.Edits.{length-insert}
 use Rattle.std.proofs.lemmas.Option.{none-some, same_Some, slice_get_within}
 use Rattle.dia_check.specs.declared.open_levels.tally.Met.{Met}
-use Rattle.dia_check.specs.Tallies.{count_in, written, AreRising, AreBelow, IsPlaceOf, IsFound, IsWritable}
+use Rattle.dia_check.specs.Tallies.{count_in, never, unmet, written, AreRising, AreBelow, IsPlaceOf, IsFound, IsWritable}
 
 -- ---- one count
 
@@ -73,6 +73,31 @@ below_parts to (m ∷ front) tally (lt, below) = let parts = below_parts to fron
 below_join : (to : ℕ) (front tally : List Met) → AreBelow to front → AreBelow to tally → AreBelow to (front ++ tally)
 below_join to [] tally first below = below
 below_join to (m ∷ front) tally (lt, first) below = (lt, below_join to front tally first below)
+
+-- ---- rules that were not met
+
+pub unmet_rising : (from many : ℕ) → AreRising from (unmet from many)
+unmet_rising from zero = tt
+unmet_rising from (suc many) = (omega arith, unmet_rising (from + 1) many)
+
+pub unmet_below : (from many to : ℕ) → from + many ≤ to → AreBelow to (unmet from many)
+unmet_below from zero to le = tt
+unmet_below from (suc many) to le = (omega (arith, le), unmet_below (from + 1) many to (omega (arith, le)))
+
+none_or : (b : Bool) (n : ℕ) → n ≡ 0 → (if b then 0 else n) ≡ 0
+none_or true n none = refl
+none_or false n none = none
+
+pub unmet_none : (from many rule : ℕ) → count_in (unmet from many) rule ≡ 0
+unmet_none from zero rule = refl
+unmet_none from (suc many) rule = none_or (from == rule) (count_in (unmet (from + 1) many) rule) (unmet_none (from + 1) many rule)
+
+pub unmet_next : (from many : ℕ) → unmet from (many + 1) ≡ unmet from many ++ never (from + many) ∷ []
+unmet_next from zero = ap (λ (n : ℕ). never n ∷ []) (let e : from ≡ from + 0 = omega arith in e)
+unmet_next from (suc many) =
+    ap (λ (n : ℕ). unmet from n) (let e : suc many + 1 ≡ suc (many + 1) = omega arith in e)
+    ∙ ap (λ (t : List Met). never from ∷ t) (unmet_next (from + 1) many)
+    ∙ ap (λ (n : ℕ). never from ∷ (unmet (from + 1) many ++ never n ∷ [])) (let e : from + 1 + many ≡ from + suc many = omega arith in e)
 
 -- ---- a rule that is counted anew
 

@@ -1,5 +1,5 @@
--- The tally of a level: how often its rules were met, without those that were not, in the order of the rules.
-use Rattle.std.specs.Prelude.{◌≡◌, ℕ, ◌+◌, ◌<◌, ◌≤◌, ◌==◌, if◌then◌else◌, List, [], ◌∷◌, length, take, drop, Result, Ok, Err, MatchResult, insert, slice_get, Some, slice_set}
+-- The tally of a level: how often its rules were met, in the order of the rules. One that is not told was not met.
+use Rattle.std.specs.Prelude.{◌≡◌, ℕ, zero, suc, ◌+◌, ◌<◌, ◌≤◌, ◌==◌, if◌then◌else◌, List, [], ◌∷◌, length, take, drop, Result, Ok, Err, MatchResult, insert, slice_get, Some, slice_set}
 use Rattle.std.specs.List.{AllByRecursion}
 use Rattle.dia_check.specs.declared.open_levels.tally.Met.{Met}
 
@@ -7,6 +7,15 @@ use Rattle.dia_check.specs.declared.open_levels.tally.Met.{Met}
 abbrev pub count_in : List Met → ℕ → ℕ
 count_in [] rule = 0
 count_in (m ∷ tally) rule = if m.rule == rule then m.count else count_in tally rule
+
+-- a rule that was not met
+abbrev pub never : ℕ → Met
+never rule = record { rule = rule; count = 0 }
+
+-- so many rules that were not met, from one on
+abbrev pub unmet : ℕ → ℕ → List Met
+unmet from zero = []
+unmet from (suc many) = never from ∷ unmet (from + 1) many
 
 -- the rules rise, from a number on
 abbrev pub AreRising : ℕ → List Met → Type 0

@@ -17,11 +17,17 @@ ghost use Rattle.dia_check.specs.OpenLevels.{IsMet, IsWellPlaced, IsFirstMisplac
 ghost use Rattle.dia_check.specs.OpenLevels.{IsMetAtEnd, IsMissingAtEnd, SoFar};
 ghost use Rattle.dia_check.specs.OpenLevels.{begun, and_key, HasRoom, AreOpen};
 
-use self::tally::{Met, count_at, find, from_rule, write};
+use self::tally::{Met, count_at, find, from_rule, lay_out, write};
 use crate::fault::{Reason, Subject};
 use dia_book::{DRule, DefId, Shape, Slot};
 use dia_wire::Key;
 use std::alloc::{AllocError, Global};
+
+/// How many rules of a body stand in its tally from the start: all that a definition may have.
+const LAID_OUT_OF_BODY: usize = 1024;
+
+/// How many rules of a group do. Groups in one another take 8 bytes for each.
+const LAID_OUT_OF_GROUP: usize = 8;
 
 /// An open level.
 #[derive(Clone, Copy)]
@@ -38,8 +44,8 @@ pub(crate) struct OpenLevel {
 
 /// The levels that are open, and their tallies, one level behind the other.
 ///
-/// A level that opens has an empty tally, and room for all its rules: so an AVP that is met takes no memory, and to open
-/// or close a level costs nothing for each of its rules.
+/// A level that opens has room for all its rules in its tally, but only the first ones stand there from the start: so an
+/// AVP that is met takes no memory, and to open or close a level costs little, however many rules it has.
 #[derive(Drop)]
 pub(crate) struct OpenLevels {
     innermost: OpenLevel,
@@ -147,10 +153,32 @@ impl OpenLevel {
     }
 }
 
-/// The first rule from one place up to another that was met less often than its min. It takes as many steps as rules
-/// stand there that were met, and one more, and what `from_rule` takes.
+/// The first rule from one place up to another that was met less often than its min.
 #[inline(always)]
 fn first_unmet(
+    rules: &[DRule],
+    shape: &Shape,
+    tally: &[Met],
+    from: usize,
+    to: usize,
+) -> Option<usize>
+    requires shape { IsShape rules.now shape.now }
+    requires rising { AreRising 0 tally.now }
+    requires within { (from ≤ length rules.now) × (to ≤ length rules.now) }
+    ensures { MatchOption result (AreMet rules.now tally.now from to)
+        (λ i. IsFirstUnmet rules.now tally.now from to i) }
+{
+    if to <= shape.first_wanted(rules, from) {
+        None
+    } else {
+        unmet_among(rules, shape, tally, from, to)
+    }
+}
+
+/// So it is, also where no rule with a least count stands between the places. It takes as many steps as rules stand there
+/// that were met, and one more, and what `from_rule` takes.
+#[inline(never)]
+fn unmet_among(
     rules: &[DRule],
     shape: &Shape,
     tally: &[Met],
@@ -209,10 +237,12 @@ impl OpenLevels {
             → slice_get defs def ≡ Some definition → definition.rules ≡ rules.now
             → IfOk result (λ levels. AreOpen defs levels [] (begun rules.now end)) }
     {
+        let mut tallies = Vec::with_capacity(alloc, rules.len())?;
+        lay_out(&mut tallies, rules.len().min(LAID_OUT_OF_BODY));
         Ok(OpenLevels {
             innermost: OpenLevel::new(def, end, 0),
             outer: Vec::new(alloc),
-            tallies: Vec::with_capacity(alloc, rules.len())?,
+            tallies,
         })
     }
 
@@ -231,6 +261,7 @@ impl OpenLevels {
         self.outer.push(self.innermost)?;
         self.tallies.reserve(rules.len())?;
         self.innermost = OpenLevel::new(def, end, self.tallies.len());
+        lay_out(&mut self.tallies, rules.len().min(LAID_OUT_OF_GROUP));
         Ok(())
     }
 

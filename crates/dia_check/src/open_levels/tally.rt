@@ -1,14 +1,32 @@
-//! The tally of a level: how often its rules were met, without those that were not, in the order of the rules.
+//! The tally of a level: how often its rules were met, in the order of the rules. One that is not told was not met.
 
-ghost use Rattle.std.specs.Prelude.{◌≡◌, ◌<◌, ◌≤◌, ◌-◌, ◌++◌, ℕ};
+ghost use Rattle.std.specs.Prelude.{◌≡◌, ◌<◌, ◌≤◌, ◌+◌, ◌-◌, ◌^◌, ◌++◌, ℕ};
 ghost use Rattle.std.specs.Prelude.{IfOk, length, drop, take, vec_len, vec_capacity};
-ghost use Rattle.dia_check.specs.Tallies.{count_in, written, AreRising, IsPlaceOf, IsFound, IsWritable};
+ghost use Rattle.dia_check.specs.Tallies.{count_in, unmet, written};
+ghost use Rattle.dia_check.specs.Tallies.{AreRising, IsPlaceOf, IsFound, IsWritable};
 
 /// How often a rule was met.
 #[derive(Clone, Copy)]
 pub(crate) struct Met {
     pub(super) rule: u32,
     pub(super) count: u32,
+}
+
+/// Tells the first rules, as ones that were not met: each stands at its own place then, where `find` looks first. There is
+/// room.
+#[inline(always)]
+pub(super) fn lay_out(tallies: &mut Vec<Met>, many: usize)
+    requires room { vec_len tallies.old + many ≤ vec_capacity tallies.old }
+    requires few { many < 2 ^ 32 }
+    ensures items { tallies.new.items ≡ tallies.old.items ++ unmet 0 many }
+    ensures capacity { vec_capacity tallies.new ≡ vec_capacity tallies.old }
+{
+    for rule in 0..many {
+        tallies.push_reserved(Met {
+            rule: rule as u32,
+            count: 0,
+        });
+    }
 }
 
 /// The place of a rule: behind the rules before it.
@@ -27,6 +45,18 @@ fn place_of(tally: &[Met], rule: usize) -> usize
 /// The place where a rule is told, or else, as an error, where it belongs.
 #[inline(always)]
 pub(super) fn find(tally: &[Met], rule: usize) -> Result<usize, usize>
+    requires { AreRising 0 tally.now }
+    ensures { IsFound tally.now rule result }
+{
+    match tally.get(rule) {
+        Some(met) if met.rule as usize == rule => Ok(rule),
+        _ => search_for(tally, rule),
+    }
+}
+
+/// So it is of a rule that doesn't stand at its own place.
+#[inline(never)]
+fn search_for(tally: &[Met], rule: usize) -> Result<usize, usize>
     requires { AreRising 0 tally.now }
     ensures { IsFound tally.now rule result }
 {
