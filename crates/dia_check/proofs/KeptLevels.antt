@@ -3,7 +3,7 @@ use Rattle.std.proofs.Common.{◌≡◌, ◌≢◌, Bool, true, false, nat_lt, �
 use Rattle.std.specs.Prelude.{slice_get, ◌==◌, vec_capacity}
 use Rattle.std.proofs.lemmas.Bool.{both_ways, eq-eqb, eqb-true, ltb-true, ltb-false}
 use Rattle.std.proofs.Math.Seq.{take-append_seam, drop-append_seam}
-use Rattle.std.proofs.lemmas.List.{append-nil, length-append, take_all, length-drop}
+use Rattle.std.proofs.lemmas.List.{append-nil, length-append, take-append-drop, take_all, length-drop}
 use Rattle.dia_wire.specs.declared.Key.{Key}
 use Rattle.dia_book.specs.declared.DRule.{DRule}
 use Rattle.dia_book.specs.Dictionary.{PlainDefinition}
@@ -11,7 +11,7 @@ use Rattle.dia_book.specs.Shapes.{IsFirstWanted}
 use Rattle.dia_check.specs.declared.open_levels.OpenLevel.{OpenLevel}
 use Rattle.dia_check.specs.declared.open_levels.OpenLevels.{OpenLevels}
 use Rattle.dia_check.specs.declared.open_levels.tally.Met.{Met}
-use Rattle.dia_check.specs.Tallies.{count_in, unmet}
+use Rattle.dia_check.specs.Tallies.{count_in, unmet, AreBelow, IsTold}
 use Rattle.dia_check.specs.Valid.{fixed_rules}
 use Rattle.dia_check.specs.OpenLevels.{AreMet, IsFirstUnmet, IsMetAtEnd, IsCounted, SoFar, begun, and_key, IsKept, AreKept, HasTallyRoom, HaveTallyRoom, AreOpen}
 use Rattle.dia_check.specs.Faults.{IsFirstMissing}
@@ -227,6 +227,44 @@ kept_many defs base [] tallies [] h = refl
 kept_many defs base [] tallies (l ∷ ls) h = absurd h
 kept_many defs base (k ∷ ks) tallies [] h = absurd h
 kept_many defs base (k ∷ ks) tallies (l ∷ ls) (mine, rest, parts, at, kept, more) = ap (λ (n : ℕ). suc n) (kept_many defs (base + length mine) ks rest ls more)
+
+-- a rule more is told of the innermost level, and it was not met
+pub told_further : (defs : List PlainDefinition) (old new : OpenLevels) (outer : List SoFar) (level : SoFar) (rules : List DRule) (rule place : ℕ) (now : AreOpen defs old outer level) → level.rules ≡ rules
+    → IsTold old.tallies.items new.tallies.items old.innermost.base (length rules) rule place → new.innermost ≡ old.innermost → new.outer.items ≡ old.outer.items
+    → vec_capacity old.tallies ≤ vec_capacity new.tallies → AreOpen defs new outer level
+told_further defs old new outer level rules rule place now same t is_innermost is_outer more = record {
+  before = now.before;
+  mine = drop old.innermost.base new.tallies.items;
+  parts = sym (take-append-drop old.innermost.base new.tallies.items)
+      ∙ ap (λ (f : List Met). f ++ drop old.innermost.base new.tallies.items) (t.front ∙ tallies_before defs old outer level now);
+  are_outer = subst (λ (ks : List OpenLevel). AreKept defs 0 ks now.before outer) (sym is_outer) now.are_outer;
+  base = ap (λ (i : OpenLevel). i.base) is_innermost ∙ now.base;
+  innermost = subst (λ (i : OpenLevel). IsKept defs i (drop old.innermost.base new.tallies.items) level) (sym is_innermost) (record {
+    definition = now.innermost.definition;
+    is_definition = now.innermost.is_definition;
+    is_rules = now.innermost.is_rules;
+    is_end = now.innermost.is_end;
+    counted = record {
+      run = now.innermost.counted.run;
+      rising = t.rising;
+      below = subst (λ (rs : List DRule). AreBelow (length rs) (drop old.innermost.base new.tallies.items)) (sym same) t.below;
+      counted = λ i r at. counts i ∙ now.innermost.counted.counted i r at;
+      met_before = λ i r from to at. let enough = now.innermost.counted.met_before i r from to at in let e = counts i in omega (arith, enough, e);
+    };
+  });
+  outer_room = subst (λ (ks : List OpenLevel). HaveTallyRoom (vec_capacity new.tallies) ks outer) (sym is_outer)
+      (room_more (vec_capacity old.tallies) (vec_capacity new.tallies) old.outer.items outer more now.outer_room);
+  room = let own = now.room in let at = ap (λ (i : OpenLevel). i.base) is_innermost in omega (arith, own, at, more);
+}
+  where
+    counts : (i : ℕ) → count_in (drop old.innermost.base new.tallies.items) i ≡ count_in now.mine i
+    counts i = t.counts i ∙ ap (λ (f : List Met). count_in f i) (own_tally defs old outer level now)
+
+-- rules that were met stay so, where the counts are those of the same keys
+pub met_again : (rules : List DRule) (keys : List Key) (level : OpenLevel) (old new : List Met) (from to : ℕ) → IsCounted rules keys level old → IsCounted rules keys level new
+    → AreMet rules old from to → AreMet rules new from to
+met_again rules keys level old new from to a b met i rule above below at =
+    let enough = met i rule above below at in let e = a.counted i rule at in let f = b.counted i rule at in omega (arith, enough, e, f)
 
 -- the innermost level is met further
 pub met_further : (defs : List PlainDefinition) (old new : OpenLevels) (outer : List SoFar) (level : SoFar) (rules : List DRule) (key : Key) (run : ℕ) (tally : List Met)

@@ -17,7 +17,7 @@ use Rattle.dia_check.specs.declared.fault.Subject.TheVariants.{Avp}
 use Rattle.dia_check.specs.declared.open_levels.OpenLevel.{OpenLevel}
 use Rattle.dia_check.specs.declared.open_levels.tally.Met.{Met}
 use Rattle.dia_check.specs.Tallies.{count_in}
-use Rattle.dia_check.proofs.Tallies.{IsOneMore}
+use Rattle.dia_check.proofs.Tallies.{IsMore}
 use Rattle.std.specs.List.{prefix_len}
 use Rattle.dia_check.specs.Valid.{fixed_rules, counted}
 use Rattle.dia_check.specs.Faults.{runs, met, run_end, loose_start, row_of, subject_of, IsFirstShort}
@@ -156,7 +156,7 @@ module _ (rules : List DRule) (are : AreRules rules) (keys : List Key) (key : Ke
           sooner r s (not_allowed h) = absurd ((leads.counts i some).1 h)
           sooner r s (too_many j q max here is before now) = omega arith
 
-      pub met_now : (next : List Met) → IsOneMore (length rules) tally next i → rule.max ≢ Some (count_in tally i) → IsMet rules keys key (record level { run = run }) next
+      pub met_now : (next : List Met) → IsMore (length rules) 1 tally next i → rule.max ≢ Some (count_in tally i) → IsMet rules keys key (record level { run = run }) next
       met_now next one no_max = record {
         none_wrong = λ r s h. none r s h;
         counted = record {

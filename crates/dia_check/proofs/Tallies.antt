@@ -1,16 +1,16 @@
 -- What a tally tells, and what it tells once a rule is counted anew.
-use Rattle.std.proofs.Common.{◌≡◌, ◌≢◌, ℕ, zero, suc, ◌+◌, ◌-◌, ◌<◌, ◌≤◌, Bool, true, false, List, [], ◌∷◌, ◌++◌, length, take, drop, set, get_or, Ok, Err, Some, Result, refl, sym, ap, subst, ◌∙◌, arith}
+use Rattle.std.proofs.Common.{◌≡◌, ◌≢◌, ℕ, zero, suc, ◌+◌, ◌-◌, ◌<◌, ◌≤◌, Bool, true, false, List, [], ◌∷◌, ◌++◌, length, take, drop, set, get_or, Some, refl, sym, ap, subst, ◌∙◌, arith}
 use Rattle.std.proofs.Math.Bridge.{le_prop}
-use Rattle.std.specs.Prelude.{◌==◌, if◌then◌else◌, insert, slice_get, IfOk}
+use Rattle.std.specs.Prelude.{◌==◌, if◌then◌else◌, insert, slice_get}
 use Rattle.std.specs.List.Sorted.{IsNonDecreasingBy, IsPartitionPoint}
 use Rattle.std.proofs.Math.Dec.{ltb}
-use Rattle.std.proofs.Math.Seq.{drop-length}
+use Rattle.std.proofs.Math.Seq.{drop-length, take-append_seam, drop-append_seam}
 use Rattle.std.proofs.lemmas.Bool.{both_ways, eq-eqb, eqb-true, ltb-true, ltb-false}
-use Rattle.std.proofs.lemmas.List.{take-append-drop, take_all, length-drop}
+use Rattle.std.proofs.lemmas.List.{take-append-drop, take_all, length-drop, length-take-le}
 use Rattle.std.proofs.lemmas.List.Edits.{length-insert}
 use Rattle.std.proofs.lemmas.Option.{none-some, same_Some, slice_get_within}
 use Rattle.dia_check.specs.declared.open_levels.tally.Met.{Met}
-use Rattle.dia_check.specs.Tallies.{count_in, never, unmet, written, AreRising, AreBelow, IsPlaceOf, IsFound, IsWritable}
+use Rattle.dia_check.specs.Tallies.{count_in, never, unmet, AreRising, AreBelow, HasPlaceFor, IsPlaceOf, IsTold}
 
 -- ---- one count
 
@@ -60,6 +60,10 @@ rising_drop n tally rising = rising_behind 0 (take n tally) (drop n tally) (subs
 pub rising_prop : (from : ℕ) (tally : List Met) → IsProp (AreRising from tally)
 rising_prop from [] = λ a b. refl
 rising_prop from (m ∷ tally) = hlevel (le_prop, rising_prop (m.rule + 1) tally)
+
+pub below_prop : (to : ℕ) (tally : List Met) → IsProp (AreBelow to tally)
+below_prop to [] = λ a b. refl
+below_prop to (m ∷ tally) = hlevel (le_prop, below_prop to tally)
 
 -- as many are told as there are rules, at most
 pub rising_size : (from to : ℕ) (tally : List Met) → AreRising from tally → AreBelow to tally → from ≤ to → from + length tally ≤ to
@@ -111,15 +115,15 @@ drop_at [] i m at = absurd (none-some m at)
 drop_at (q ∷ tally) zero m at = ap (λ (x : Met). x ∷ tally) (same_Some q m at)
 drop_at (q ∷ tally) (suc i) m at = drop_at tally i m at
 
--- one rule is met once more
-pub record IsOneMore (to : ℕ) (old new : List Met) (rule : ℕ) : Type 0 where
+-- one rule is met so many times more
+pub record IsMore (to more : ℕ) (old new : List Met) (rule : ℕ) : Type 0 where
   pub rising : AreRising 0 new
   pub below : AreBelow to new
-  pub counts : (j : ℕ) → count_in new j ≡ count_in old j + (if j == rule then 1 else 0)
+  pub counts : (j : ℕ) → count_in new j ≡ count_in old j + (if j == rule then more else 0)
 
-module _ (to rule : ℕ) (tally : List Met) (rising : AreRising 0 tally) (below : AreBelow to tally) (m : Met) (same : m.rule ≡ rule) (few : rule < to) where
+module _ (to more rule : ℕ) (tally : List Met) (rising : AreRising 0 tally) (below : AreBelow to tally) (m : Met) (same : m.rule ≡ rule) (few : rule < to) where
   parted : (front old rest : List Met) → tally ≡ front ++ old → AreBelow rule front → AreRising (rule + 1) rest → AreBelow to rest
-      → ((j : ℕ) → j ≢ rule → count_in old j ≡ count_in rest j) → m.count ≡ count_in tally rule + 1 → IsOneMore to tally (front ++ m ∷ rest) rule
+      → ((j : ℕ) → j ≢ rule → count_in old j ≡ count_in rest j) → m.count ≡ count_in tally rule + more → IsMore to more tally (front ++ m ∷ rest) rule
   parted front old rest parts first behind last others count = record {
     rising = rising_front 0 rule front old (m ∷ rest) (subst (AreRising 0) parts rising) first (omega arith)
         (omega (arith, same), subst (λ (n : ℕ). AreRising (n + 1) rest) (sym same) behind);
@@ -127,55 +131,64 @@ module _ (to rule : ℕ) (tally : List Met) (rising : AreRising 0 tally) (below 
     counts = λ j. by j (j == rule) refl;
   }
     where
-      by : (j : ℕ) (b : Bool) → (j == rule) ≡ b → count_in (front ++ m ∷ rest) j ≡ count_in tally j + (if b then 1 else 0)
+      by : (j : ℕ) (b : Bool) → (j == rule) ≡ b → count_in (front ++ m ∷ rest) j ≡ count_in tally j + (if b then more else 0)
       by j true e =
           let here : j ≡ rule = eqb-true j rule e in
           let now = count_behind front (m ∷ rest) rule j first (omega (arith, here)) ∙ count_here m rest j (same ∙ sym here) in
-          now ∙ count ∙ ap (λ (n : ℕ). count_in tally n + 1) (sym here)
+          now ∙ count ∙ ap (λ (n : ℕ). count_in tally n + more) (sym here)
       by j false e =
           let other : j ≢ rule = λ p. both_ways (j == rule) e (eq-eqb j rule p) in
           let now = count_front front (m ∷ rest) old j (count_other m rest j (λ p. other (sym p ∙ same)) ∙ sym (others j other)) in
           let before = ap (λ (t : List Met). count_in t j) parts in
           omega (arith, now, before)
 
-  told_once_more : (i : ℕ) (q : Met) → IsPlaceOf tally rule i → slice_get tally i ≡ Some q → q.rule ≡ rule → m.count ≡ count_in tally rule + 1
-      → IsOneMore to tally (set tally i m) rule
-  told_once_more i q place at is count =
+  pub told_more : (i : ℕ) (q : Met) → IsPlaceOf tally rule i → slice_get tally i ≡ Some q → q.rule ≡ rule → m.count ≡ count_in tally rule + more
+      → IsMore to more tally (set tally i m) rule
+  told_more i q place at is count =
       let here = drop_at tally i q at in
       let rest = (subst (AreRising rule) here place.behind).1 in
       let last = (below_parts to (take i tally) (q ∷ drop (suc i) tally) (subst (AreBelow to) (sym (take-append-drop i tally) ∙ ap (λ (t : List Met). take i tally ++ t) here) below)).1 in
-      subst (λ (t : List Met). IsOneMore to tally t rule) (sym (set_parts tally i m (slice_get_within tally i q at)))
+      subst (λ (t : List Met). IsMore to more tally t rule) (sym (set_parts tally i m (slice_get_within tally i q at)))
       (parted (take i tally) (q ∷ drop (suc i) tally) (drop (suc i) tally) (sym (take-append-drop i tally) ∙ ap (λ (t : List Met). take i tally ++ t) here) place.before
       (subst (λ (n : ℕ). AreRising (n + 1) (drop (suc i) tally)) is rest) last.1
       (λ j other. count_other q (drop (suc i) tally) j (λ e. other (sym e ∙ is))) count)
 
-  told_first : (i : ℕ) → IsPlaceOf tally rule i → AreRising (rule + 1) (drop i tally) → m.count ≡ count_in tally rule + 1 → IsOneMore to tally (insert tally i m) rule
+  pub told_first : (i : ℕ) → IsPlaceOf tally rule i → AreRising (rule + 1) (drop i tally) → m.count ≡ count_in tally rule + more → IsMore to more tally (insert tally i m) rule
   told_first i place behind count =
       let last = (below_parts to (take i tally) (drop i tally) (subst (AreBelow to) (sym (take-append-drop i tally)) below)).1 in
       parted (take i tally) (drop i tally) (drop i tally) (sym (take-append-drop i tally)) place.before behind last (λ j other. refl) count
 
-  pub one_more : (found : Result ℕ ℕ) → IsFound tally rule found → m.count ≡ count_in tally rule + 1 → IsOneMore to tally (written tally found m) rule
-  one_more (Ok i) (place, (q, at, is)) count = told_once_more i q place at is count
-  one_more (Err i) (place, behind) count = told_first i place behind count
+pub no_count : (tally : List Met) (rule i : ℕ) → IsPlaceOf tally rule i → AreRising (rule + 1) (drop i tally) → count_in tally rule ≡ 0
+no_count tally rule i place behind =
+    ap (λ (t : List Met). count_in t rule) (sym (take-append-drop i tally)) ∙ count_behind (take i tally) (drop i tally) rule rule place.before (omega arith)
+    ∙ count_before rule (rule + 1) (drop i tally) behind (omega arith)
 
-  pub writable : (found : Result ℕ ℕ) → IsFound tally rule found → m.count ≡ count_in tally rule + 1 → IsWritable to tally found
-  writable (Ok i) (place, (q, at, is)) count = slice_get_within tally i q at
-  writable (Err i) (place, behind) count =
-      let one = told_first i place behind count in
-      let size = rising_size 0 to (insert tally i m) one.rising one.below (omega arith) in
-      let more = length-insert tally i m place.within in
-      (place.within, omega (arith, size, more))
+-- where the rule isn't told at its place, only later ones stand behind it
+pub behind_more : (tally : List Met) (place rule : ℕ) → AreRising rule (drop place tally) → ((m : Met) → slice_get tally place ≡ Some m → m.rule ≢ rule) → AreRising (rule + 1) (drop place tally)
+behind_more [] zero rule rising other = tt
+behind_more [] (suc place) rule rising other = tt
+behind_more (m ∷ tally) zero rule (above, rising) other = (omega (arith, above, other m refl), rising)
+behind_more (m ∷ tally) (suc place) rule rising other = behind_more tally place rule rising other
+
+pub room_for : (tally : List Met) (many rule place : ℕ) → AreRising 0 tally → AreBelow many tally → rule < many → IsPlaceOf tally rule place → AreRising (rule + 1) (drop place tally)
+    → length tally < many
+room_for tally many rule place rising below one is behind =
+    let none : 0 ≡ count_in tally rule + 0 = let e = no_count tally rule place is behind in omega (arith, e) in
+    let more = told_first many 0 rule tally rising below (never rule) refl one place is behind none in
+    let size = rising_size 0 many (insert tally place (never rule)) more.rising more.below (omega arith) in
+    let longer = length-insert tally place (never rule) is.within in
+    omega (arith, size, longer)
+
+inserted_at : (tally : List Met) (i : ℕ) (m : Met) → i ≤ length tally → slice_get (insert tally i m) i ≡ Some m
+inserted_at tally zero m le = refl
+inserted_at [] (suc i) m le = absurd (omega (arith, le))
+inserted_at (q ∷ tally) (suc i) m le = inserted_at tally i m (omega (arith, le))
 
 -- the count of a rule that is found
 pub found_count : (tally : List Met) (rule i : ℕ) (m : Met) → IsPlaceOf tally rule i → slice_get tally i ≡ Some m → m.rule ≡ rule → count_in tally rule ≡ m.count
 found_count tally rule i m place at same =
     ap (λ (t : List Met). count_in t rule) (sym (take-append-drop i tally)) ∙ count_behind (take i tally) (drop i tally) rule rule place.before (omega arith)
     ∙ ap (λ (t : List Met). count_in t rule) (drop_at tally i m at) ∙ count_here m (drop (suc i) tally) rule same
-
-pub no_count : (tally : List Met) (rule i : ℕ) → IsPlaceOf tally rule i → AreRising (rule + 1) (drop i tally) → count_in tally rule ≡ 0
-no_count tally rule i place behind =
-    ap (λ (t : List Met). count_in t rule) (sym (take-append-drop i tally)) ∙ count_behind (take i tally) (drop i tally) rule rule place.before (omega arith)
-    ∙ count_before rule (rule + 1) (drop i tally) behind (omega arith)
 
 -- ---- the place of a rule
 
@@ -301,16 +314,62 @@ insert_from [] (suc base) i m le = absurd (omega (arith, le))
 insert_from (q ∷ tallies) (suc base) i m le =
     ap (λ (n : ℕ). insert (q ∷ tallies) n m) (let e : suc base + i ≡ suc (base + i) = omega arith in e) ∙ ap (λ (t : List Met). q ∷ t) (insert_from tallies base i m (omega (arith, le)))
 
--- ---- what is found
+pub get_from : (tallies : List Met) (base i : ℕ) → slice_get (drop base tallies) i ≡ slice_get tallies (base + i)
+get_from tallies zero i = ap (λ (n : ℕ). slice_get tallies n) (let e : i ≡ 0 + i = omega arith in e)
+get_from [] (suc base) i = refl
+get_from (q ∷ tallies) (suc base) i = get_from tallies base i ∙ ap (λ (n : ℕ). slice_get (q ∷ tallies) n) (let e : suc (base + i) ≡ suc base + i = omega arith in e)
 
-pub found_within : (tally : List Met) (rule : ℕ) (found : Result ℕ ℕ) → IsFound tally rule found → IfOk found (λ (place : ℕ). place < length tally)
-found_within tally rule (Ok place) (is, (m, at, same)) = slice_get_within tally place m at
-found_within tally rule (Err place) h = tt
+-- what stands in front of a part that is written, and the part
+pub written_front : (tallies tally : List Met) (base : ℕ) → base ≤ length tallies → take base (take base tallies ++ tally) ≡ take base tallies
+written_front tallies tally base le = ap (λ (n : ℕ). take n (take base tallies ++ tally)) (sym (length-take-le base tallies le)) ∙ take-append_seam (take base tallies) tally
 
-pub writable_prop : (most : ℕ) (tally : List Met) (found : Result ℕ ℕ) → IsProp (IsWritable most tally found)
-writable_prop most tally (Ok place) = le_prop
-writable_prop most tally (Err place) = hlevel le_prop
+pub written_part : (tallies tally : List Met) (base : ℕ) → base ≤ length tallies → drop base (take base tallies ++ tally) ≡ tally
+written_part tallies tally base le = ap (λ (n : ℕ). drop n (take base tallies ++ tally)) (sym (length-take-le base tallies le)) ∙ drop-append_seam (take base tallies) tally
 
-pub writable_more : (less more : ℕ) (tally : List Met) (found : Result ℕ ℕ) → less ≤ more → IsWritable less tally found → IsWritable more tally found
-writable_more less more tally (Ok place) le lt = lt
-writable_more less more tally (Err place) le (within, lt) = (within, omega (arith, lt, le))
+-- a slice from a place on
+pub slice_from : (all tallies : List Met) (base : ℕ) → all ≡ tallies → take (length all - base) (drop base all) ≡ drop base tallies
+slice_from all tallies base e =
+    let size = length-drop base all in take_all (length all - base) (drop base all) (omega (arith, size)) ∙ ap (λ (t : List Met). drop base t) e
+
+-- ---- a rule that is told
+
+none_more : (b : Bool) (n : ℕ) → n + (if b then 0 else 0) ≡ n
+none_more true n = omega arith
+none_more false n = omega arith
+
+pub stands_told : (tallies : List Met) (capacity base many rule i : ℕ) (m : Met) → HasPlaceFor tallies capacity base many rule → slice_get (drop base tallies) i ≡ Some m → m.rule ≡ rule
+    → IsTold tallies tallies base many rule (base + i)
+stands_told tallies capacity base many rule i m h at same = record {
+  behind = i;
+  is_place = refl;
+  front = refl;
+  rising = h.rising;
+  below = h.below;
+  counts = λ j. refl;
+  place_of = place_here (drop base tallies) rule i m h.rising at same;
+  told = m;
+  at = at;
+  same = same;
+}
+
+pub newly_told : (tallies new : List Met) (capacity base many rule i : ℕ) → HasPlaceFor tallies capacity base many rule → IsPlaceOf (drop base tallies) rule i
+    → AreRising (rule + 1) (drop i (drop base tallies)) → new ≡ insert tallies (base + i) (never rule) → IsTold tallies new base many rule (base + i)
+newly_told tallies new capacity base many rule i h place behind is =
+    let tally = drop base tallies in
+    let parts = is ∙ insert_from tallies base i (never rule) h.low in
+    let part = ap (λ (t : List Met). drop base t) parts ∙ written_part tallies (insert tally i (never rule)) base h.low in
+    let none : 0 ≡ count_in tally rule + 0 = let e = no_count tally rule i place behind in omega (arith, e) in
+    let more = told_first many 0 rule tally h.rising h.below (never rule) refl h.one i place behind none in
+    let at = inserted_at tally i (never rule) place.within in
+    record {
+      behind = i;
+      is_place = refl;
+      front = ap (λ (t : List Met). take base t) parts ∙ written_front tallies (insert tally i (never rule)) base h.low;
+      rising = subst (AreRising 0) (sym part) more.rising;
+      below = subst (AreBelow many) (sym part) more.below;
+      counts = λ j. ap (λ (t : List Met). count_in t j) part ∙ more.counts j ∙ none_more (j == rule) (count_in tally j);
+      place_of = subst (λ (t : List Met). IsPlaceOf t rule i) (sym part) (place_here (insert tally i (never rule)) rule i (never rule) more.rising at refl);
+      told = never rule;
+      at = ap (λ (t : List Met). slice_get t i) part ∙ at;
+      same = refl;
+    }

@@ -90,6 +90,10 @@ pub record Leads (rules : List DRule) (keys : List Key) (key : Key) (old run : �
       × ((j : ℕ) (other : DRule) → slice_get rules j ≡ Some other → met rules (keys ++ key ∷ []) j other ≡ met rules keys j other + (if j == i then 1 else 0))
   pub counts_none : rule ≡ None → IsNotAllowed rules keys key
 
+-- one key more leads to a rule that counts it, and the rules that are passed are met
+abbrev pub IsLed : List DRule → List Key → Key → List Met → (old run rule : ℕ) → Type 0
+IsLed rules keys key tally old run rule = Leads rules keys key old run (Some rule) × AreMet rules tally old run
+
 -- one key more is met: nothing is wrong with it, and it is counted
 pub record IsMet (rules : List DRule) (keys : List Key) (key : Key) (level : OpenLevel) (tally : List Met) : Type 0 where
   pub none_wrong : IsWellPlaced rules keys key

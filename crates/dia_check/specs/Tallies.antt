@@ -1,5 +1,5 @@
 -- The tally of a level: how often its rules were met, in the order of the rules. One that is not told was not met.
-use Rattle.std.specs.Prelude.{◌≡◌, ℕ, zero, suc, ◌+◌, ◌<◌, ◌≤◌, ◌==◌, if◌then◌else◌, List, [], ◌∷◌, length, take, drop, Result, Ok, Err, MatchResult, insert, slice_get, Some, slice_set}
+use Rattle.std.specs.Prelude.{◌≡◌, ℕ, zero, suc, ◌+◌, ◌<◌, ◌≤◌, ◌==◌, if◌then◌else◌, List, [], ◌∷◌, length, take, drop, slice_get, Some}
 use Rattle.std.specs.List.{AllByRecursion}
 use Rattle.dia_check.specs.declared.open_levels.tally.Met.{Met}
 
@@ -31,17 +31,24 @@ pub record IsPlaceOf (tally : List Met) (rule place : ℕ) : Type 0 where
   pub before : AreBelow rule (take place tally)
   pub behind : AreRising rule (drop place tally)
 
--- the place where a rule is told, or where it belongs
-abbrev pub IsFound : List Met → ℕ → Result ℕ ℕ → Type 0
-IsFound tally rule found = MatchResult found
-    (λ place. IsPlaceOf tally rule place × ((m : Met) × (slice_get tally place ≡ Some m) × (m.rule ≡ rule)))
-    (λ place. IsPlaceOf tally rule place × AreRising (rule + 1) (drop place tally))
+-- there is room for a tally of so many rules, of which this is one, in a list that holds the tally from a place on
+pub record HasPlaceFor (tallies : List Met) (capacity base many rule : ℕ) : Type 0 where
+  pub low : base ≤ length tallies
+  pub rising : AreRising 0 (drop base tallies)
+  pub below : AreBelow many (drop base tallies)
+  pub one : rule < many
+  pub few : many ≤ 1024
+  pub room : base + many ≤ capacity
 
--- a tally of which a rule is counted anew
-abbrev pub written : List Met → Result ℕ ℕ → Met → List Met
-written tally (Ok place) m = slice_set tally place m
-written tally (Err place) m = insert tally place m
-
--- it can be, in a list that has room for so many
-abbrev pub IsWritable : ℕ → List Met → Result ℕ ℕ → Type 0
-IsWritable most tally found = MatchResult found (λ place. place < length tally) (λ place. (place ≤ length tally) × (length tally < most))
+-- the rule is told at a place of the list, and the tally tells the same counts as before
+pub record IsTold (old new : List Met) (base many rule place : ℕ) : Type 0 where
+  pub behind : ℕ
+  pub is_place : place ≡ base + behind
+  pub front : take base new ≡ take base old
+  pub rising : AreRising 0 (drop base new)
+  pub below : AreBelow many (drop base new)
+  pub counts : (j : ℕ) → count_in (drop base new) j ≡ count_in (drop base old) j
+  pub place_of : IsPlaceOf (drop base new) rule behind
+  pub told : Met
+  pub at : slice_get (drop base new) behind ≡ Some told
+  pub same : told.rule ≡ rule

@@ -3,7 +3,7 @@
 mod tally;
 
 ghost use Rattle.std.specs.Prelude.{◌≡◌, ◌<◌, ◌≤◌, ◌++◌, ◌∷◌, [], ℕ, List, Option};
-ghost use Rattle.std.specs.Prelude.{Some, length, position, slice_get, MatchOption};
+ghost use Rattle.std.specs.Prelude.{Some, drop, length, position, slice_get, MatchOption};
 ghost use Rattle.std.specs.Prelude.{OnOk, IfOk, IsTrue, IsFalse, MatchResult};
 ghost use Rattle.dia_wire.specs.declared.Key.{Key as AnyKey};
 ghost use Rattle.dia_book.specs.declared.DRule.{DRule as AnyRule};
@@ -11,13 +11,13 @@ ghost use Rattle.dia_book.specs.Dictionary.{AreRules, PlainDefinition, slot_of};
 ghost use Rattle.dia_book.specs.Shapes.{IsShape};
 ghost use Rattle.dia_check.specs.declared.open_levels.tally.Met.{Met as AnyMet};
 ghost use Rattle.dia_check.specs.Faults.{subject_of};
-ghost use Rattle.dia_check.specs.Tallies.{written, AreRising, IsWritable};
-ghost use Rattle.dia_check.specs.OpenLevels.{AreMet, IsFirstUnmet, IsCounted, Leads};
+ghost use Rattle.dia_check.specs.Tallies.{AreRising};
+ghost use Rattle.dia_check.specs.OpenLevels.{AreMet, IsFirstUnmet, IsCounted, IsLed, Leads};
 ghost use Rattle.dia_check.specs.OpenLevels.{IsMet, IsWellPlaced, IsFirstMisplaced};
 ghost use Rattle.dia_check.specs.OpenLevels.{IsMetAtEnd, IsMissingAtEnd, SoFar};
 ghost use Rattle.dia_check.specs.OpenLevels.{begun, and_key, HasRoom, AreOpen};
 
-use self::tally::{Met, count_at, find, from_rule, lay_out, write};
+use self::tally::{Met, from_rule, lay_out, read, told_at, write};
 use crate::fault::{Reason, Subject};
 use dia_book::{DRule, DefId, Shape, Slot};
 use dia_wire::Key;
@@ -61,14 +61,6 @@ pub(crate) struct Wrong {
     pub(crate) subject: Subject,
 }
 
-/// What an AVP changes in its level: the run, and the count of a rule at a place of the tally.
-#[derive(Clone, Copy)]
-struct Change {
-    run: usize,
-    place: Result<usize, usize>,
-    met: Met,
-}
-
 impl Wrong {
     /// What is wrong with an AVP of this key.
     pub(crate) fn avp(reason: Reason, key: Key) -> Self
@@ -110,26 +102,23 @@ impl OpenLevel {
         }
     }
 
-    /// What an AVP of this key and slot changes, or what is wrong with it.
+    /// The run into which an AVP of this key and slot leads and the rule that counts it, or what is wrong with it.
     #[inline(always)]
-    fn meet(
+    fn rule_for(
         &self,
         tally: &[Met],
         rules: &[DRule],
         shape: &Shape,
         slot: Slot,
         key: Key,
-    ) -> Result<Change, Wrong>
+    ) -> Result<(usize, usize), Wrong>
         requires rules { AreRules rules.now }
         requires shape { IsShape rules.now shape.now }
         requires slot { slot ≡ slot_of rules.now key }
-        requires counted { ∥ ((keys : List AnyKey) × IsCounted rules.now keys self.now tally.now
-            × (length keys < 4294967295)) ∥₁ }
-        ensures room { IfOk result (λ change. IsWritable (length rules.now) tally.now change.place) }
-        ensures met { (keys : List AnyKey) → IsCounted rules.now keys self.now tally.now
+        requires counted { ∥ ((keys : List AnyKey) × IsCounted rules.now keys self.now tally.now) ∥₁ }
+        ensures { (keys : List AnyKey) → IsCounted rules.now keys self.now tally.now
             → MatchResult result
-            (λ change. IsMet rules.now keys key (record self.now { run = change.run })
-            (written tally.now change.place change.met))
+            (λ led. IsLed rules.now keys key tally.now self.now.run led.0 led.1)
             (λ wrong. IsFirstMisplaced rules.now keys key wrong) }
     {
         let (run, rule) = self.lead(shape, slot);
@@ -137,19 +126,10 @@ impl OpenLevel {
             let rule = rules[place];
             return Err(missing(rule));
         }
-        let Some(rule) = rule else {
-            return Err(Wrong::avp(Reason::NotAllowed, key));
-        };
-        let place = find(tally, rule);
-        let count = count_at(tally, place);
-        if rules[rule].max == Some(count) {
-            return Err(Wrong::avp(Reason::TooMany, key));
+        match rule {
+            Some(rule) => Ok((run, rule)),
+            None => Err(Wrong::avp(Reason::NotAllowed, key)),
         }
-        let met = Met {
-            rule: rule as u32,
-            count: count + 1,
-        };
-        Ok(Change { run, place, met })
     }
 }
 
@@ -309,16 +289,41 @@ impl OpenLevels {
             × AreOpen defs self.new outer (and_key level key))
             (λ wrong. IsFirstMisplaced rules.now level.keys key wrong) }
     {
-        let base = self.innermost.base;
-        let tally = &self.tallies[base..];
-        match self.innermost.meet(tally, rules, shape, slot, key) {
-            Ok(change) => {
-                write(&mut self.tallies, base, change.place, change.met);
-                self.innermost.run = change.run;
-                None
-            }
+        let tally = &self.tallies[self.innermost.base..];
+        match self.innermost.rule_for(tally, rules, shape, slot, key) {
+            Ok((run, rule)) => self.count(rules, run, rule, key),
             Err(wrong) => Some(wrong),
         }
+    }
+
+    /// Counts an AVP of this key, which leads into a run and to a rule, or says that there is one too many.
+    #[inline(always)]
+    fn count(&mut self, rules: &[DRule], run: usize, rule: usize, key: Key) -> Option<Wrong>
+        requires rules { AreRules rules.now }
+        requires led { ∥ ((defs : List PlainDefinition) × (outer : List SoFar) × (level : SoFar)
+            × AreOpen defs self.old outer level × (level.rules ≡ rules.now) × HasRoom level
+            × IsLed rules.now level.keys key (drop self.old.innermost.base self.old.tallies.items)
+            self.old.innermost.run run rule) ∥₁ }
+        ensures { (defs : List PlainDefinition) (outer : List SoFar) (level : SoFar)
+            → AreOpen defs self.old outer level → level.rules ≡ rules.now
+            → IsLed rules.now level.keys key (drop self.old.innermost.base self.old.tallies.items)
+            self.old.innermost.run run rule
+            → MatchOption result (IsWellPlaced rules.now level.keys key
+            × AreOpen defs self.new outer (and_key level key))
+            (λ wrong. IsFirstMisplaced rules.now level.keys key wrong) }
+    {
+        let place = told_at(&mut self.tallies, self.innermost.base, rules.len(), rule);
+        let met = read(&self.tallies, place);
+        if rules[rule].max == Some(met.count) {
+            return Some(Wrong::avp(Reason::TooMany, key));
+        }
+        let met = Met {
+            rule: met.rule,
+            count: met.count + 1,
+        };
+        write(&mut self.tallies, place, met);
+        self.innermost.run = run;
+        None
     }
 
     /// What is missing at the end of the innermost level.

@@ -1,9 +1,10 @@
 //! The tally of a level: how often its rules were met, in the order of the rules. One that is not told was not met.
 
-ghost use Rattle.std.specs.Prelude.{◌≡◌, ◌<◌, ◌≤◌, ◌+◌, ◌-◌, ◌^◌, ◌++◌, ℕ};
-ghost use Rattle.std.specs.Prelude.{IfOk, length, drop, take, vec_len, vec_capacity};
-ghost use Rattle.dia_check.specs.Tallies.{count_in, unmet, written};
-ghost use Rattle.dia_check.specs.Tallies.{AreRising, IsPlaceOf, IsFound, IsWritable};
+ghost use Rattle.std.specs.Prelude.{◌≡◌, ◌≢◌, ◌<◌, ◌≤◌, ◌+◌, ◌^◌, ◌++◌, ℕ, IsTrue, IsFalse};
+ghost use Rattle.std.specs.Prelude.{Some, insert, slice_get, slice_set, vec_len, vec_capacity};
+ghost use Rattle.dia_check.specs.declared.open_levels.tally.Met.{Met as AnyMet};
+ghost use Rattle.dia_check.specs.Tallies.{count_in, never, unmet};
+ghost use Rattle.dia_check.specs.Tallies.{AreRising, HasPlaceFor, IsPlaceOf, IsTold};
 
 /// How often a rule was met.
 #[derive(Clone, Copy)]
@@ -12,8 +13,8 @@ pub(crate) struct Met {
     pub(super) count: u32,
 }
 
-/// Tells the first rules, as ones that were not met: each stands at its own place then, where `find` looks first. There is
-/// room.
+/// Tells the first rules, as ones that were not met: each stands at its own place then, where `told_at` looks first. There
+/// is room.
 #[inline(always)]
 pub(super) fn lay_out(tallies: &mut Vec<Met>, many: usize)
     requires room { vec_len tallies.old + many ≤ vec_capacity tallies.old }
@@ -42,40 +43,57 @@ fn place_of(tally: &[Met], rule: usize) -> usize
     }
 }
 
-/// The place where a rule is told, or else, as an error, where it belongs.
+/// The place of a rule in the tally that begins at a place of the list and goes to its end. A rule that isn't told there
+/// is told then, as one that was not met. There is room.
 #[inline(always)]
-pub(super) fn find(tally: &[Met], rule: usize) -> Result<usize, usize>
-    requires { AreRising 0 tally.now }
-    ensures { IsFound tally.now rule result }
+pub(super) fn told_at(tallies: &mut Vec<Met>, base: usize, many: usize, rule: usize) -> usize
+    requires { HasPlaceFor tallies.old.items (vec_capacity tallies.old) base many rule }
+    ensures told { IsTold tallies.old.items tallies.new.items base many rule result }
+    ensures capacity { vec_capacity tallies.old ≤ vec_capacity tallies.new }
 {
-    match tally.get(rule) {
-        Some(met) if met.rule as usize == rule => Ok(rule),
-        _ => search_for(tally, rule),
+    match tallies.get(base + rule) {
+        Some(met) if met.rule as usize == rule => base + rule,
+        _ => tell(tallies, base, many, rule),
     }
 }
 
 /// So it is of a rule that doesn't stand at its own place.
 #[inline(never)]
-fn search_for(tally: &[Met], rule: usize) -> Result<usize, usize>
-    requires { AreRising 0 tally.now }
-    ensures { IsFound tally.now rule result }
+fn tell(tallies: &mut Vec<Met>, base: usize, many: usize, rule: usize) -> usize
+    requires { HasPlaceFor tallies.old.items (vec_capacity tallies.old) base many rule }
+    ensures told { IsTold tallies.old.items tallies.new.items base many rule result }
+    ensures capacity { vec_capacity tallies.old ≤ vec_capacity tallies.new }
 {
+    let tally = &tallies[base..];
     let place = place_of(tally, rule);
+    if is_at(tally, place, rule) {
+        return base + place;
+    }
+    add(tallies, base + place, rule as u32);
+    base + place
+}
+
+/// Whether the rule is told at a place.
+fn is_at(tally: &[Met], place: usize, rule: usize) -> bool
+    ensures yes { IsTrue result → (m : AnyMet) × (slice_get tally.now place ≡ Some m) × (m.rule ≡ rule) }
+    ensures no { IsFalse result → (m : AnyMet) → slice_get tally.now place ≡ Some m → m.rule ≢ rule }
+{
     match tally.get(place) {
-        Some(met) if met.rule as usize == rule => Ok(place),
-        _ => Err(place),
+        Some(met) => met.rule as usize == rule,
+        None => false,
     }
 }
 
-/// The count at a place that `find` says.
-#[inline(always)]
-pub(super) fn count_at(tally: &[Met], place: Result<usize, usize>) -> u32
-    requires { IfOk place (λ place. place < length tally.now) }
-    ensures { (rule : ℕ) → IsFound tally.now rule place → result ≡ count_in tally.now rule }
+/// Tells a rule at a place, as one that was not met. There is room.
+fn add(tallies: &mut Vec<Met>, place: usize, rule: u32)
+    requires { (place ≤ vec_len tallies.old) × (vec_len tallies.old < vec_capacity tallies.old) }
+    ensures items { tallies.new.items ≡ insert tallies.old.items place (never rule) }
+    ensures capacity { vec_capacity tallies.old ≤ vec_capacity tallies.new }
 {
-    match place {
-        Ok(place) => tally[place].count,
-        Err(_) => 0,
+    let met = Met { rule, count: 0 };
+    match tallies.insert(place, met) {
+        Ok(()) => {}
+        Err(_) => unreachable!(),
     }
 }
 
@@ -91,22 +109,21 @@ pub(super) fn from_rule(tally: &[Met], rule: usize) -> &[Met]
     &tally[place_of(tally, rule)..]
 }
 
-/// Writes a count where `find` says, in the tally that begins at a place of the list and goes to its end. There is room.
+/// What is told at a place.
 #[inline(always)]
-pub(super) fn write(tallies: &mut Vec<Met>, base: usize, place: Result<usize, usize>, met: Met)
-    requires base { base ≤ vec_len tallies.old }
-    requires place { IsWritable (vec_capacity tallies.old - base)
-        (drop base tallies.old.items) place }
-    ensures items { tallies.new.items
-        ≡ take base tallies.old.items ++ written (drop base tallies.old.items) place met }
-    ensures capacity { vec_capacity tallies.old ≤ vec_capacity tallies.new }
+pub(super) fn read(tallies: &Vec<Met>, place: usize) -> Met
+    requires { place < vec_len tallies.now }
+    ensures { slice_get tallies.now.items place ≡ Some result }
 {
-    match place {
-        Ok(place) => tallies[base + place] = met,
-        Err(place) if base + place == tallies.len() => tallies.push_reserved(met),
-        Err(place) => match tallies.insert(base + place, met) {
-            Ok(()) => {}
-            Err(_) => unreachable!(),
-        },
-    }
+    tallies[place]
+}
+
+/// Tells this at a place, in place of what is told there.
+#[inline(always)]
+pub(super) fn write(tallies: &mut Vec<Met>, place: usize, met: Met)
+    requires { place < vec_len tallies.old }
+    ensures items { tallies.new.items ≡ slice_set tallies.old.items place met }
+    ensures capacity { vec_capacity tallies.new ≡ vec_capacity tallies.old }
+{
+    tallies[place] = met;
 }
