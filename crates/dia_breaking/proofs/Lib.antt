@@ -16,3 +16,5 @@ pub mod ToldHeaders
 pub mod Certified
 pub mod TooLong
 pub mod FreeOfLines
+mod Paths
+mod ValueTexts

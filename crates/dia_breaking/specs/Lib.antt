@@ -11,3 +11,4 @@ pub mod Outlooks
 pub mod OwnKeys
 pub mod SentKeys
 pub mod Telling
+pub mod Words

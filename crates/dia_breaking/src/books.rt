@@ -1,10 +1,13 @@
 //! Look-ups of two dictionaries.
 ghost use Rattle.std.specs.Prelude.{◌≡◌, ◌<◌, IfSome, is_some, length, option_and_then};
 ghost use Rattle.std.specs.Prelude.{slice_get};
+ghost use Rattle.std.specs.Option.{option_map};
 ghost use Rattle.dia_book.specs.Dictionary.{definitions, selected};
+ghost use Rattle.dia_data.specs.Plain.{plain_format};
 ghost use Rattle.dia_check.specs.Valid.{is_listed};
 ghost use Rattle.dia_compat.specs.Tests.{rule_of, rules_in, wildcard_of};
 ghost use Rattle.dia_entries.specs.Sent.{group_of};
+ghost use Rattle.dia_breaking.specs.Words.{format_in, name_in};
 
 use dia_book::{Book, Class, DRule, DefId, Format, Key, MRule, Slot};
 
@@ -27,12 +30,17 @@ pub(crate) fn command_of<B: Book>(book: &B, code: u32, class: Class, app: u32) -
     book.select(code, class, app)
 }
 
-pub(crate) fn name_of<B: Book>(book: &B, key: Key) -> Option<&str> {
+pub(crate) fn name_of<B: Book>(book: &B, key: Key) -> Option<&str>
+    ensures { option_map (λ name. name.now) result ≡ name_in (B.meaning book.now) key }
+{
     let entry = book.avp(key)?;
     Some(book.entry_name(entry))
 }
 
-pub(crate) fn format_of<B: Book>(book: &B, key: Key) -> Option<&Format> {
+pub(crate) fn format_of<B: Book>(book: &B, key: Key) -> Option<&Format>
+    ensures { option_map (λ format. plain_format format.now) result
+        ≡ format_in (B.meaning book.now) key }
+{
     let entry = book.avp(key)?;
     Some(book.format(entry))
 }

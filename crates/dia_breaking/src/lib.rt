@@ -6,15 +6,18 @@
 
 mod apps;
 mod books;
+mod bounds;
 mod closed;
 mod closing;
 mod confirm;
 mod exits;
+mod format_words;
 mod headers;
 mod heads;
 mod keys;
 mod laws;
 mod lengths;
+mod level_words;
 mod levels;
 mod line;
 mod lines;

@@ -1,10 +1,12 @@
 //! The lines of a command, and the sites at which they stand.
-ghost use Rattle.std.specs.Prelude.{◌≡◌};
+ghost use Rattle.std.specs.Prelude.{◌≡◌, IfOk};
 ghost use Rattle.dia_breaking.specs.OwnKeys.{own_key};
+ghost use Rattle.dia_breaking.specs.Words.{path_to};
 
 use dia_book::{Class, DefId, Key};
 use dia_levels::Line as LevelLine;
 use dia_witness::Witness;
+use std::alloc::{AllocError, Global};
 
 /// Where a level of a message is read: by a definition of A and one of B.
 #[derive(Clone, Copy, Debug, PartialEq, Eq)]
@@ -108,4 +110,28 @@ pub struct Breaks {
     pub class: Class,
     pub sites: Vec<Site>,
     pub lines: Vec<Line>,
+}
+
+impl Breaks {
+    /// The sites from the command's to one of them.
+    pub(crate) fn path(&self, alloc: Global, site: usize) -> Result<Vec<Site>, AllocError>
+        ensures { IfOk result (λ path. path.items ≡ path_to self.now.sites.items site) }
+    {
+        let mut path = Vec::new(alloc);
+        let mut wanted = site;
+        let count = self.sites.len();
+        for passed in 0..count {
+            let number = count - 1 - passed;
+            if number == wanted {
+                let site = self.sites[number];
+                path.push(site)?;
+                match site.place {
+                    Place::Group { outer, .. } => wanted = outer,
+                    Place::Command { .. } => {}
+                }
+            }
+        }
+        path.reverse();
+        Ok(path)
+    }
 }

@@ -226,25 +226,6 @@ impl<'a, A: Book, B: Book> Upgrade<'a, A, B> {
     }
 }
 
-impl Breaks {
-    /// The sites from the command's to one of them.
-    pub(crate) fn path(&self, alloc: Global, site: usize) -> Result<Vec<Site>, AllocError> {
-        let mut path = Vec::new(alloc);
-        let mut wanted = site;
-        for number in (0..self.sites.len()).rev() {
-            if number == wanted {
-                let site = self.sites[number];
-                path.push(site)?;
-                if let Place::Group { outer, .. } = site.place {
-                    wanted = outer;
-                }
-            }
-        }
-        path.reverse();
-        Ok(path)
-    }
-}
-
 /// The parts of a level before an AVP of the key, and those behind it.
 fn around(alloc: Global, parts: &[Part], key: Key) -> Result<(Vec<Part>, Vec<Part>), AllocError> {
     let mut front = Vec::new(alloc);

@@ -1,92 +1,114 @@
 //! The words of a line.
-use crate::books::{command_of, format_of, group_of, name_of, rule_of, wildcard_of};
+ghost use Rattle.std.specs.Prelude.{◌≡◌, ◌<◌, ◌++◌, OnErr, OnOk, IfOk, codes, length, slice_get};
+ghost use Rattle.std.specs.Prelude.{[], not, string_bytes};
+ghost use Rattle.std.specs.Option.{option_map, option_map_or};
+ghost use Rattle.dia_book.specs.Dictionary.{definitions};
+ghost use Rattle.dia_breaking.specs.Lengths.{other_length};
+ghost use Rattle.dia_breaking.specs.Words.{application_text, avp_name, cause_text, definition_name};
+ghost use Rattle.dia_witness.specs.Shortest.{witness_bytes};
+ghost use Rattle.dia_breaking.specs.Words.{flag_word, format_detail, format_in, formats_text};
+ghost use Rattle.dia_breaking.specs.Words.{is_command, path_text, path_to, place_text};
+ghost use Rattle.dia_breaking.specs.Words.{refused_application, standing_text, subject_name};
+ghost use Rattle.dia_breaking.specs.Words.{unknown_detail, words_of};
+
+use crate::books::{format_of, name_of};
+use crate::format_words::{push_format_detail, push_formats};
 use crate::line::{Breaks, Cause, Line, Place, Site, Standing};
 use crate::upgrade::Upgrade;
-use dia_book::{Book, Format, Key};
-use dia_data::push_value;
-use dia_levels::{Costs, Line as LevelLine, Reason, TOO_LONG};
+use dia_book::{Book, DefId, Key};
 use dia_policy::Unknown;
 use dia_witness::Witness;
 use std::alloc::{AllocError, Global};
 
-/// How often an AVP may stand in a level.
-#[derive(Clone, Copy, Debug)]
-struct Bounds {
-    min: u32,
-    max: Option<u32>,
-}
-
-/// None at all.
-const NONE: Bounds = Bounds {
-    min: 0,
-    max: Some(0),
-};
-
 impl<'a, A: Book, B: Book> Upgrade<'a, A, B> {
-    /// Adds the words of a line of a command, as `T/G: missing X: 0..1 sent, 1 accepted`. The error comes only where memory was
-    /// refused.
+    /// Adds the words of a line of a command, as `T/G: missing X: 0..1 sent, 1 accepted`; nothing, where A has no such command.
+    /// The error comes only where memory was refused, and nothing was added then.
     pub fn push_words(
         &self,
         alloc: Global,
         out: &mut String,
         breaks: &Breaks,
         line: &Line,
-    ) -> Result<(), AllocError> {
-        let path = breaks.path(alloc, line.site)?;
-        self.push_path(out, breaks, &path)?;
-        out.push_str(": ")?;
-        if line.standing == Standing::Undecided {
-            out.push_str("undecided ")?;
-        }
-        self.push_cause(out, breaks, line, &path)
+    ) -> Result<(), AllocError>
+        ensures words { OnOk result (string_bytes out.new ≡ string_bytes out.old
+            ++ words_of (A.meaning self.now.a.now) (B.meaning self.now.b.now) self.now.unknown
+            (other_length (A.meaning self.now.a.now) self.now.sends self.now.lengths.entries.items)
+            breaks.now.command breaks.now.sites.items line.now) }
+        ensures unchanged { OnErr result (string_bytes out.new ≡ string_bytes out.old) }
+    {
+        let words = self.words(alloc, breaks, line)?;
+        out.push_str(words.as_str())
     }
 
-    fn push_path(
-        &self,
-        out: &mut String,
-        breaks: &Breaks,
-        path: &[Site],
-    ) -> Result<(), AllocError> {
+    fn words(&self, alloc: Global, breaks: &Breaks, line: &Line) -> Result<String, AllocError>
+        ensures { IfOk result (λ words. string_bytes words
+            ≡ words_of (A.meaning self.now.a.now) (B.meaning self.now.b.now) self.now.unknown
+            (other_length (A.meaning self.now.a.now) self.now.sends self.now.lengths.entries.items)
+            breaks.now.command breaks.now.sites.items line.now) }
+    {
+        let mut out = String::new(alloc);
+        if is_command(self.a, breaks.command) {
+            let path = breaks.path(alloc, line.site)?;
+            self.push_path(&mut out, breaks.command, &path)?;
+            push_standing(&mut out, line.standing)?;
+            self.push_cause(&mut out, breaks, line, &path)?;
+        }
+        Ok(out)
+    }
+
+    fn push_path(&self, out: &mut String, command: DefId, path: &[Site]) -> Result<(), AllocError>
+        requires { command < length (definitions (A.meaning self.now.a.now)) }
+        ensures { OnOk result (string_bytes out.new ≡ string_bytes out.old
+            ++ path_text (A.meaning self.now.a.now) (B.meaning self.now.b.now) command path.now) }
+    {
         for site in path {
-            match site.place {
-                Place::Command { app, is_told, .. } => {
-                    self.push_command(out, breaks, app, is_told)?;
-                }
-                Place::Group { key, .. } => {
-                    out.push('/')?;
-                    self.push_name(out, key)?;
-                }
+            self.push_place(out, command, site.place)?;
+        }
+        Ok(())
+    }
+
+    fn push_place(&self, out: &mut String, command: DefId, place: Place) -> Result<(), AllocError>
+        requires { command < length (definitions (A.meaning self.now.a.now)) }
+        ensures { OnOk result (string_bytes out.new ≡ string_bytes out.old
+            ++ place_text (A.meaning self.now.a.now) (B.meaning self.now.b.now) command place) }
+    {
+        match place {
+            Place::Command { app, is_told, .. } => {
+                out.push_str(command_name(self.a, command))?;
+                push_application(out, is_told, app)
+            }
+            Place::Group { key, .. } => {
+                out.push_str("/")?;
+                self.push_name(out, key)
             }
         }
-        Ok(())
     }
 
-    fn push_command(
-        &self,
-        out: &mut String,
-        breaks: &Breaks,
-        app: u32,
-        is_told: bool,
-    ) -> Result<(), AllocError> {
-        if let Some(def) = command_of(self.a, breaks.code, breaks.class, app) {
-            out.push_str(&self.a.def(def).name)?;
-        }
-        if is_told {
-            write!(out, "[application {app}]")?;
-        }
-        Ok(())
+    /// Adds the name in A, else in B, else `AVP`.
+    fn push_name(&self, out: &mut String, key: Key) -> Result<(), AllocError>
+        ensures { OnOk result (string_bytes out.new ≡ string_bytes out.old
+            ++ avp_name (A.meaning self.now.a.now) (B.meaning self.now.b.now) key) }
+    {
+        out.push_str(self.avp_name(key))
     }
 
-    /// The name in A, else in B, else `AVP`.
-    fn push_name(&self, out: &mut String, key: Key) -> Result<(), AllocError> {
-        let name = match name_of(self.a, key) {
+    fn avp_name(&self, key: Key) -> &str
+        ensures { result.now ≡ avp_name (A.meaning self.now.a.now) (B.meaning self.now.b.now) key }
+    {
+        match name_of(self.a, key) {
             Some(name) => name,
-            None => name_of(self.b, key).unwrap_or("AVP"),
-        };
-        out.push_str(name)
+            None => match name_of(self.b, key) {
+                Some(name) => name,
+                None => "AVP",
+            },
+        }
     }
 
-    fn push_subject(&self, out: &mut String, key: Option<Key>) -> Result<(), AllocError> {
+    /// Adds the name of an AVP, or `AVP` where the wildcard counts.
+    pub(crate) fn push_subject(&self, out: &mut String, key: Option<Key>) -> Result<(), AllocError>
+        ensures { OnOk result (string_bytes out.new ≡ string_bytes out.old
+            ++ subject_name (A.meaning self.now.a.now) (B.meaning self.now.b.now) key) }
+    {
         match key {
             Some(key) => self.push_name(out, key),
             None => out.push_str("AVP"),
@@ -99,229 +121,177 @@ impl<'a, A: Book, B: Book> Upgrade<'a, A, B> {
         breaks: &Breaks,
         line: &Line,
         path: &[Site],
-    ) -> Result<(), AllocError> {
+    ) -> Result<(), AllocError>
+        requires within { breaks.now.command < length (definitions (A.meaning self.now.a.now)) }
+        requires path { path.now ≡ path_to breaks.now.sites.items line.now.site }
+        ensures { OnOk result (string_bytes out.new ≡ string_bytes out.old
+            ++ cause_text (A.meaning self.now.a.now) (B.meaning self.now.b.now) self.now.unknown
+            (other_length (A.meaning self.now.a.now) self.now.sends self.now.lengths.entries.items)
+            breaks.now.command breaks.now.sites.items line.now.site line.now.cause) }
+    {
         match line.cause {
             Cause::Command => out.push_str("command -: not accepted"),
-            Cause::Application => push_application(out, path),
-            Cause::Proxiable { set } => {
-                let word = flag_word(set);
-                write!(out, "proxiable -: P {word} sent")?;
-                Ok(())
+            Cause::Application => push_refused(out, path),
+            Cause::Proxiable { set } => push_proxiable(out, set),
+            Cause::Level(level) => {
+                let site = site_at(&breaks.sites, line.site);
+                self.push_level(out, breaks.command, site, &level)
             }
-            Cause::Level(level) => self.push_level(out, breaks, line.site, &level),
             Cause::Unknown { key, m } => self.push_unknown(out, key, m),
             Cause::MBit { key, m } => self.push_m_bit(out, key, m),
             Cause::Format { key, data } => self.push_format(out, key, data.as_ref()),
-            Cause::LevelAsLeaf { key } => {
-                self.push_name(out, key)?;
-                out.push_str(": ")?;
-                self.push_formats(out, key)
-            }
+            Cause::LevelAsLeaf { key } => self.push_level_as_leaf(out, key),
             Cause::Unproved => out.push_str("-: nothing more found, not proved"),
         }
     }
 
-    fn push_unknown(&self, out: &mut String, key: Key, m: bool) -> Result<(), AllocError> {
+    fn push_unknown(&self, out: &mut String, key: Key, m: bool) -> Result<(), AllocError>
+        ensures { OnOk result (string_bytes out.new ≡ string_bytes out.old ++ (codes "unknown "
+            ++ avp_name (A.meaning self.now.a.now) (B.meaning self.now.b.now) key
+            ++ codes ": " ++ unknown_detail self.now.unknown m)) }
+    {
         out.push_str("unknown ")?;
         self.push_name(out, key)?;
-        let told = match self.unknown {
-            Unknown::Kept if m => ": M set sent, not known",
-            _ => ": sent, not known",
-        };
-        out.push_str(told)
+        out.push_str(": ")?;
+        out.push_str(unknown_detail(self.unknown, m))
     }
 
-    fn push_m_bit(&self, out: &mut String, key: Key, m: bool) -> Result<(), AllocError> {
-        out.push_str("m-bit ")?;
-        self.push_name(out, key)?;
+    fn push_m_bit(&self, out: &mut String, key: Key, m: bool) -> Result<(), AllocError>
+        ensures { OnOk result (string_bytes out.new ≡ string_bytes out.old ++ (codes "m-bit "
+            ++ avp_name (A.meaning self.now.a.now) (B.meaning self.now.b.now) key
+            ++ codes ": M " ++ flag_word m ++ codes " sent, M " ++ flag_word (not m)
+            ++ codes " accepted")) }
+    {
+        let name = self.avp_name(key);
         let sent = flag_word(m);
         let accepted = flag_word(!m);
-        write!(out, ": M {sent} sent, M {accepted} accepted")?;
-        Ok(())
+        write!(out, "m-bit {name}: M {sent} sent, M {accepted} accepted")
     }
 
     fn push_format(
         &self,
         out: &mut String,
         key: Key,
-        data: Option<&Witness>,
-    ) -> Result<(), AllocError> {
+        found: Option<&Witness>,
+    ) -> Result<(), AllocError>
+        ensures { OnOk result (string_bytes out.new ≡ string_bytes out.old ++ (codes "format "
+            ++ avp_name (A.meaning self.now.a.now) (B.meaning self.now.b.now) key ++ codes ": "
+            ++ format_detail (format_in (A.meaning self.now.a.now) key)
+            (format_in (B.meaning self.now.b.now) key)
+            (option_map (λ d. witness_bytes d.now) found.entry))) }
+    {
         out.push_str("format ")?;
         self.push_name(out, key)?;
         out.push_str(": ")?;
-        match (data, self.lists(key)) {
-            (Some(data), Some(format)) => {
-                push_value(out, format, data.as_slice())?;
-                out.push_str(" sent, not in the list")
-            }
-            _ => self.push_formats(out, key),
-        }
+        push_format_detail(out, format_of(self.a, key), format_of(self.b, key), found)
     }
 
-    /// The format in A of an AVP that has a list of numbers in both.
-    fn lists(&self, key: Key) -> Option<&Format> {
-        let format = format_of(self.a, key)?;
-        let other = format_of(self.b, key)?;
-        if has_list(format) && has_list(other) {
-            Some(format)
-        } else {
-            None
-        }
-    }
-
-    fn push_formats(&self, out: &mut String, key: Key) -> Result<(), AllocError> {
-        out.push_str(match format_of(self.a, key) {
-            Some(format) => format_word(format),
-            None => "any data",
-        })?;
-        out.push_str(" sent, ")?;
-        out.push_str(match format_of(self.b, key) {
-            Some(format) => format_word(format),
-            None => "nothing",
-        })?;
-        out.push_str(" accepted")
-    }
-
-    fn push_level(
-        &self,
-        out: &mut String,
-        breaks: &Breaks,
-        site: usize,
-        line: &LevelLine,
-    ) -> Result<(), AllocError> {
-        let reason = line.reason;
-        write!(out, "{reason} ")?;
-        self.push_subject(out, line.key)?;
-        out.push_str(": ")?;
-        let Some(site) = breaks.sites.get(site) else {
-            return Ok(());
-        };
-        let sent = self.sent_bounds(breaks, site.place, line.key);
-        let accepted = self.accepted_bounds(breaks, site.place, line.key);
-        match reason {
-            Reason::Missing | Reason::TooMany => {
-                push_bounds(out, sent)?;
-                out.push_str(" sent, ")?;
-                push_bounds(out, accepted)?;
-                out.push_str(" accepted")
-            }
-            Reason::NotAllowed | Reason::NotAllowedOther => {
-                push_bounds(out, sent)?;
-                out.push_str(" sent")
-            }
-            Reason::MissingOthers | Reason::TooManyOthers => {
-                push_bounds(out, accepted)?;
-                out.push_str(" accepted")
-            }
-            Reason::Order => {
-                out.push_str("behind ")?;
-                self.push_subject(out, line.behind)?;
-                out.push_str(" sent")
-            }
-        }
-    }
-
-    /// How often A's definition lets the AVP stand there, or without a key those that it doesn't list.
-    fn sent_bounds(&self, breaks: &Breaks, place: Place, key: Option<Key>) -> Bounds {
-        let Some(def) = self.definition_of_a(breaks.code, breaks.class, place) else {
-            return NONE;
-        };
-        let wild = wildcard_of(self.a, def);
-        let Some(key) = key else {
-            return match wild {
-                Some(wild) => Bounds {
-                    min: wild.min,
-                    max: wild.max,
-                },
-                None => NONE,
-            };
-        };
-        match rule_of(self.a, def, key) {
-            Some(rule) => Bounds {
-                min: rule.min,
-                max: rule.max,
-            },
-            None => match wild {
-                Some(wild) if self.lengths.other(key) < TOO_LONG => Bounds {
-                    min: 0,
-                    max: wild.max,
-                },
-                _ => NONE,
-            },
-        }
-    }
-
-    /// The same of B's definition.
-    fn accepted_bounds(&self, breaks: &Breaks, place: Place, key: Option<Key>) -> Bounds {
-        let Some(def) = self.definition_of_b(breaks.code, breaks.class, place) else {
-            return NONE;
-        };
-        let rule = match key {
-            Some(key) => rule_of(self.b, def, key),
-            None => wildcard_of(self.b, def),
-        };
-        match rule {
-            Some(rule) => Bounds {
-                min: rule.min,
-                max: rule.max,
-            },
-            None => NONE,
-        }
-    }
-}
-
-fn push_application(out: &mut String, path: &[Site]) -> Result<(), AllocError> {
-    if let Some(
-        Site {
-            place: Place::Command { app, .. },
-            ..
-        },
-    ) = path.first()
+    fn push_level_as_leaf(&self, out: &mut String, key: Key) -> Result<(), AllocError>
+        ensures { OnOk result (string_bytes out.new ≡ string_bytes out.old
+            ++ (avp_name (A.meaning self.now.a.now) (B.meaning self.now.b.now) key ++ codes ": "
+            ++ formats_text (format_in (A.meaning self.now.a.now) key)
+            (format_in (B.meaning self.now.b.now) key))) }
     {
-        write!(out, "application {app}: not accepted")?;
+        self.push_name(out, key)?;
+        out.push_str(": ")?;
+        push_formats(out, format_of(self.a, key), format_of(self.b, key))
     }
-    Ok(())
 }
 
-fn flag_word(set: bool) -> &'static str {
+/// Whether the number is that of a command of the dictionary.
+fn is_command<B: Book>(book: &B, number: DefId) -> bool
+    ensures { result ≡ is_command (B.meaning book.now) number }
+{
+    let count = book.commands();
+    if count == 0 {
+        return false;
+    }
+    let first = book.command_at(0).index();
+    first <= number.index() && number.index() - first < count
+}
+
+fn command_name<B: Book>(book: &B, command: DefId) -> &str
+    requires { command < length (definitions (B.meaning book.now)) }
+    ensures { result.now ≡ definition_name (B.meaning book.now) command }
+{
+    book.def(command).name.as_str()
+}
+
+fn site_at(sites: &[Site], site: usize) -> Option<Site>
+    ensures { result ≡ slice_get sites.now site }
+{
+    sites.get(site).copied()
+}
+
+fn push_proxiable(out: &mut String, set: bool) -> Result<(), AllocError>
+    ensures { OnOk result (string_bytes out.new ≡ string_bytes out.old
+        ++ (codes "proxiable -: P " ++ flag_word set ++ codes " sent")) }
+{
+    out.push_str("proxiable -: P ")?;
+    out.push_str(flag_word(set))?;
+    out.push_str(" sent")
+}
+
+fn push_application(out: &mut String, is_told: bool, app: u32) -> Result<(), AllocError>
+    ensures { OnOk result (string_bytes out.new
+        ≡ string_bytes out.old ++ application_text is_told app) }
+{
+    if is_told {
+        write!(out, "[application {app}]")
+    } else {
+        Ok(())
+    }
+}
+
+fn push_standing(out: &mut String, standing: Standing) -> Result<(), AllocError>
+    ensures { OnOk result (string_bytes out.new
+        ≡ string_bytes out.old ++ (codes ": " ++ standing_text standing)) }
+{
+    out.push_str(": ")?;
+    match standing {
+        Standing::Confirmed | Standing::Unchecked => Ok(()),
+        Standing::Undecided => out.push_str("undecided "),
+    }
+}
+
+/// Adds that the application of the command's site, with which the path begins, is refused.
+fn push_refused(out: &mut String, path: &[Site]) -> Result<(), AllocError>
+    ensures { OnOk result (string_bytes out.new ≡ string_bytes out.old
+        ++ option_map_or (λ site. refused_application site.place) (slice_get path.now 0) []) }
+{
+    match path.first() {
+        Some(site) => push_refused_at(out, site.place),
+        None => Ok(()),
+    }
+}
+
+fn push_refused_at(out: &mut String, place: Place) -> Result<(), AllocError>
+    ensures { OnOk result (string_bytes out.new
+        ≡ string_bytes out.old ++ refused_application place) }
+{
+    match place {
+        Place::Command { app, .. } => write!(out, "application {app}: not accepted"),
+        Place::Group { .. } => Ok(()),
+    }
+}
+
+fn unknown_detail(unknown: Unknown, m: bool) -> &'static str
+    ensures { result.now ≡ unknown_detail unknown m }
+{
+    match unknown {
+        Unknown::Kept => {
+            if m {
+                "M set sent, not known"
+            } else {
+                "sent, not known"
+            }
+        }
+        Unknown::Refused => "sent, not known",
+    }
+}
+
+fn flag_word(set: bool) -> &'static str
+    ensures { result.now ≡ flag_word set }
+{
     if set { "set" } else { "clear" }
-}
-
-/// Counts, as `3`, `0..1` or `1..*`.
-fn push_bounds(out: &mut String, bounds: Bounds) -> Result<(), AllocError> {
-    let min = bounds.min;
-    match bounds.max {
-        Some(max) if max == min => write!(out, "{min}")?,
-        Some(max) => write!(out, "{min}..{max}")?,
-        None => write!(out, "{min}..*")?,
-    }
-    Ok(())
-}
-
-fn has_list(format: &Format) -> bool {
-    match format {
-        Format::Enumerated(values) => values.numbers().is_some(),
-        _ => false,
-    }
-}
-
-fn format_word(format: &Format) -> &'static str {
-    match format {
-        Format::OctetString => "OctetString",
-        Format::Integer32 => "Integer32",
-        Format::Integer64 => "Integer64",
-        Format::Unsigned32 => "Unsigned32",
-        Format::Unsigned64 => "Unsigned64",
-        Format::Float32 => "Float32",
-        Format::Float64 => "Float64",
-        Format::Grouped => "Grouped",
-        Format::Address => "Address",
-        Format::Time => "Time",
-        Format::Utf8String => "UTF8String",
-        Format::DiameterIdentity => "DiameterIdentity",
-        Format::DiameterUri => "DiameterURI",
-        Format::Enumerated(_) => "Enumerated",
-        Format::IpFilterRule => "IPFilterRule",
-        Format::QosFilterRule => "QoSFilterRule",
-    }
 }

@@ -1,0 +1,250 @@
+-- The words of a line: `PATH: REASON SUBJECT: DETAIL`. A is the sender's dictionary, B the receiver's.
+use Rattle.std.specs.Prelude.{◌≡◌, ℕ, zero, suc, Bool, true, false, not, ◌&&◌, ◌==◌, nat_lt, nat_le, if◌then◌else◌, List, [], ◌∷◌, ◌++◌, length, codes}
+use Rattle.std.specs.Prelude.{Option, Some, None, unwrap_or, option_and_then, slice_get}
+use Rattle.std.specs.List.{flat_map, list_any}
+use Rattle.std.specs.Option.{option_map, option_map_or, option_or}
+use Rattle.std.specs.Int.{w32, cast_signed}
+use Rattle.std.specs.Fmt.{decimal, signed_decimal}
+use Rattle.dia_wire.specs.declared.Key.{Key}
+use Rattle.dia_data.specs.Number.{number}
+use Rattle.dia_data.specs.Ranges.{covers}
+use Rattle.dia_data.specs.Plain.{PlainFormat, OctetString, Integer32, Integer64, Unsigned32, Unsigned64, Float32, Float64, Grouped, Address}
+use Rattle.dia_data.specs.Plain.{Time, Utf8String, DiameterIdentity, DiameterUri, Enumerated, IpFilterRule, QosFilterRule}
+use Rattle.dia_data.specs.Shown.{hexadecimal}
+use Rattle.dia_witness.specs.Shortest.{witness_bytes}
+use Rattle.dia_book.specs.declared.DRule.{DRule}
+use Rattle.dia_book.specs.Dictionary.{Dictionary, definitions, groups, selected}
+use Rattle.dia_policy.specs.declared.Unknown.{Unknown}
+use Rattle.dia_policy.specs.declared.Unknown.TheVariants.{Kept, Refused}
+use Rattle.dia_check.specs.Valid.{known}
+use Rattle.dia_compat.specs.Tests.{rule_of, rules_in, wildcard_of}
+use Rattle.dia_levels.specs.declared.line.Line.{Line as LevelLine}
+use Rattle.dia_levels.specs.declared.line.Reason.{Reason}
+use Rattle.dia_levels.specs.declared.line.Reason.TheVariants.{Missing, TooMany, NotAllowed, NotAllowedOther, MissingOthers, TooManyOthers, Order}
+use Rattle.dia_levels.specs.LevelTests.{too_long}
+use Rattle.dia_levels.specs.Words.{reason_word}
+use Rattle.dia_breaking.specs.declared.bounds.Bounds.{Bounds}
+use Rattle.dia_breaking.specs.declared.heads.Head.{Head}
+use Rattle.dia_breaking.specs.declared.line.Cause.{Cause}
+use Rattle.dia_breaking.specs.declared.line.Cause.TheVariants as causes
+use Rattle.dia_breaking.specs.declared.line.Line.{Line}
+use Rattle.dia_breaking.specs.declared.line.Place.{Place}
+use Rattle.dia_breaking.specs.declared.line.Place.TheVariants as places
+use Rattle.dia_breaking.specs.declared.line.Site.{Site}
+use Rattle.dia_breaking.specs.declared.line.Standing.{Standing}
+use Rattle.dia_breaking.specs.declared.line.Standing.TheVariants.{Confirmed, Unchecked, Undecided}
+use Rattle.dia_breaking.specs.Headers.{head_in}
+use Rattle.dia_breaking.specs.Outlooks.{group_rules}
+
+-- ---- names
+
+abbrev pub name_in : Dictionary → Key → Option (List ℕ)
+name_in d key = option_map (λ e. e.name) (known d key)
+
+-- the name in A, else in B, else `AVP`
+abbrev pub avp_name : Dictionary → Dictionary → Key → List ℕ
+avp_name da db key = unwrap_or (option_or (name_in da key) (name_in db key)) (codes "AVP")
+
+-- `AVP` also where the wildcard counts
+abbrev pub subject_name : Dictionary → Dictionary → Option Key → List ℕ
+subject_name da db key = option_map_or (avp_name da db) key (codes "AVP")
+
+abbrev pub definition_name : Dictionary → ℕ → List ℕ
+definition_name d def = option_map_or (λ x. x.name) (slice_get (definitions d) def) []
+
+-- ---- the path
+
+-- the site whose level the level at the place stands in; none for the level of a command
+abbrev pub outer_of : Place → Option ℕ
+outer_of (places.Command app is_told proxiable) = None
+outer_of (places.Group key outer) = Some outer
+
+abbrev pub with_outer : (ℕ → List Site) → Site → List Site
+with_outer path_to site = option_map_or path_to (outer_of site.place) [] ++ site ∷ []
+
+-- the sites from the command's to this one, which lies below `most`: an outer site has a lower number
+abbrev pub path_below : List Site → ℕ → ℕ → List Site
+path_below sites zero n = []
+path_below sites (suc most) n = if n == most then option_map_or (with_outer (path_below sites most)) (slice_get sites n) [] else path_below sites most n
+
+abbrev pub path_to : List Site → ℕ → List Site
+path_to sites n = path_below sites (length sites) n
+
+abbrev pub application_text : Bool → ℕ → List ℕ
+application_text true app = codes "[application " ++ decimal app ++ codes "]"
+application_text false app = []
+
+abbrev pub place_text : Dictionary → Dictionary → ℕ → Place → List ℕ
+place_text da db c (places.Command app is_told proxiable) = definition_name da c ++ application_text is_told app
+place_text da db c (places.Group key outer) = codes "/" ++ avp_name da db key
+
+abbrev pub path_text : Dictionary → Dictionary → ℕ → List Site → List ℕ
+path_text da db c path = flat_map (λ site. place_text da db c site.place) path
+
+-- ---- counts
+
+-- none at all
+abbrev pub no_bounds : Bounds
+no_bounds = record { min = 0; max = Some 0 }
+
+abbrev pub rule_bounds : DRule → Bounds
+rule_bounds rule = record { min = rule.min; max = rule.max }
+
+abbrev pub bounds_of : Option DRule → Bounds
+bounds_of rule = option_map_or rule_bounds rule no_bounds
+
+-- an AVP that only the wildcard lets in, where any is sent
+abbrev pub wild_bounds : Bool → DRule → Bounds
+wild_bounds true wildcard = record { min = 0; max = wildcard.max }
+wild_bounds false wildcard = no_bounds
+
+-- how often A's rules let the AVP stand, or all that they don't list; `other` is what an AVP takes that the wildcard lets in
+abbrev pub sent_bounds : (Key → ℕ) → List DRule → Option Key → Bounds
+sent_bounds other rules None = bounds_of (wildcard_of rules)
+sent_bounds other rules (Some key) =
+    option_map_or rule_bounds (rule_of rules key) (option_map_or (wild_bounds (nat_lt (other key) too_long)) (wildcard_of rules) no_bounds)
+
+-- how often B's rules do
+abbrev pub accepted_bounds : List DRule → Option Key → Bounds
+accepted_bounds rules None = bounds_of (wildcard_of rules)
+accepted_bounds rules (Some key) = bounds_of (rule_of rules key)
+
+-- `3`, `0..1` or `1..*`
+abbrev pub max_text : ℕ → Option ℕ → List ℕ
+max_text min None = codes "..*"
+max_text min (Some max) = if max == min then [] else codes ".." ++ decimal max
+
+abbrev pub bounds_text : Bounds → List ℕ
+bounds_text bounds = decimal bounds.min ++ max_text bounds.min bounds.max
+
+-- ---- levels
+
+-- the rules of A by which the level at a place is read, in messages of the command c
+abbrev pub sent_rules : Dictionary → ℕ → Place → List DRule
+sent_rules da c (places.Command app is_told proxiable) = rules_in da c
+sent_rules da c (places.Group key outer) = group_rules da key
+
+abbrev pub head_at : Dictionary → ℕ → Option Head
+head_at d def = option_and_then (λ x. head_in x.head) (slice_get (definitions d) def)
+
+-- and those of B
+abbrev pub accepted_rules : Dictionary → Dictionary → ℕ → Place → List DRule
+accepted_rules da db c (places.Command app is_told proxiable) =
+    option_map_or (rules_in db) (option_and_then (λ head. selected db head.code head.class app) (head_at da c)) []
+accepted_rules da db c (places.Group key outer) = group_rules db key
+
+-- of these counts, and of the AVP that stands before
+abbrev pub counts_text : Reason → Bounds → Bounds → List ℕ → List ℕ
+counts_text Missing sent accepted behind = bounds_text sent ++ codes " sent, " ++ bounds_text accepted ++ codes " accepted"
+counts_text TooMany sent accepted behind = bounds_text sent ++ codes " sent, " ++ bounds_text accepted ++ codes " accepted"
+counts_text NotAllowed sent accepted behind = bounds_text sent ++ codes " sent"
+counts_text NotAllowedOther sent accepted behind = bounds_text sent ++ codes " sent"
+counts_text MissingOthers sent accepted behind = bounds_text accepted ++ codes " accepted"
+counts_text TooManyOthers sent accepted behind = bounds_text accepted ++ codes " accepted"
+counts_text Order sent accepted behind = codes "behind " ++ behind ++ codes " sent"
+
+abbrev pub level_detail : Dictionary → Dictionary → (Key → ℕ) → ℕ → LevelLine → Place → List ℕ
+level_detail da db other c line place =
+    counts_text line.reason (sent_bounds other (sent_rules da c place) line.key) (accepted_bounds (accepted_rules da db c place) line.key)
+    (subject_name da db line.behind)
+
+abbrev pub level_text : Dictionary → Dictionary → (Key → ℕ) → ℕ → Option Site → LevelLine → List ℕ
+level_text da db other c site line = reason_word line.reason ++ codes " " ++ subject_name da db line.key ++ codes ": "
+    ++ option_map_or (λ s. level_detail da db other c line s.place) site []
+
+-- ---- formats
+
+abbrev pub format_word : PlainFormat → List ℕ
+format_word OctetString = codes "OctetString"
+format_word Integer32 = codes "Integer32"
+format_word Integer64 = codes "Integer64"
+format_word Unsigned32 = codes "Unsigned32"
+format_word Unsigned64 = codes "Unsigned64"
+format_word Float32 = codes "Float32"
+format_word Float64 = codes "Float64"
+format_word Grouped = codes "Grouped"
+format_word Address = codes "Address"
+format_word Time = codes "Time"
+format_word Utf8String = codes "UTF8String"
+format_word DiameterIdentity = codes "DiameterIdentity"
+format_word DiameterUri = codes "DiameterURI"
+format_word (Enumerated ranges) = codes "Enumerated"
+format_word IpFilterRule = codes "IPFilterRule"
+format_word QosFilterRule = codes "QoSFilterRule"
+
+abbrev pub format_in : Dictionary → Key → Option PlainFormat
+format_in d key = option_map (λ e. e.format) (known d key)
+
+abbrev pub formats_text : Option PlainFormat → Option PlainFormat → List ℕ
+formats_text sent accepted =
+    option_map_or format_word sent (codes "any data") ++ codes " sent, " ++ option_map_or format_word accepted (codes "nothing") ++ codes " accepted"
+
+abbrev pub ranges_in : PlainFormat → Option (List (ℕ × ℕ))
+ranges_in (Enumerated ranges) = ranges
+ranges_in format = None
+
+-- the number of an Enumerated AVP; what is none of the list in hexadecimal
+abbrev pub number_text : List (ℕ × ℕ) → List ℕ → List ℕ
+number_text ranges bytes =
+    if (length bytes == 4) && list_any (covers (number bytes)) ranges then signed_decimal (cast_signed w32 (number bytes)) else hexadecimal bytes
+
+-- the data, where both formats have lists of numbers
+abbrev pub data_text : Option (List (ℕ × ℕ)) → Option (List (ℕ × ℕ)) → List ℕ → Option (List ℕ)
+data_text (Some ranges) (Some others) bytes = Some (number_text ranges bytes ++ codes " sent, not in the list")
+data_text (Some ranges) None bytes = None
+data_text None others bytes = None
+
+abbrev pub ranges_at : Option PlainFormat → Option (List (ℕ × ℕ))
+ranges_at format = option_and_then ranges_in format
+
+-- both have a list, and this is the first
+abbrev pub AreListed : Option PlainFormat → Option PlainFormat → PlainFormat → Type 0
+AreListed sent accepted format = (ranges : List (ℕ × ℕ)) × (others : List (ℕ × ℕ)) × (ranges_at sent ≡ Some ranges) × (ranges_at accepted ≡ Some others)
+    × (format ≡ Enumerated (Some ranges))
+
+abbrev pub format_detail : Option PlainFormat → Option PlainFormat → Option (List ℕ) → List ℕ
+format_detail sent accepted found =
+    unwrap_or (option_and_then (data_text (ranges_at sent) (ranges_at accepted)) found) (formats_text sent accepted)
+
+-- ---- lines
+
+abbrev pub flag_word : Bool → List ℕ
+flag_word true = codes "set"
+flag_word false = codes "clear"
+
+abbrev pub unknown_detail : Unknown → Bool → List ℕ
+unknown_detail Kept true = codes "M set sent, not known"
+unknown_detail Kept false = codes "sent, not known"
+unknown_detail Refused m = codes "sent, not known"
+
+abbrev pub refused_application : Place → List ℕ
+refused_application (places.Command app is_told proxiable) = codes "application " ++ decimal app ++ codes ": not accepted"
+refused_application (places.Group key outer) = []
+
+-- the reason, the subject and the detail
+abbrev pub cause_text : Dictionary → Dictionary → Unknown → (Key → ℕ) → ℕ → List Site → ℕ → Cause → List ℕ
+cause_text da db u other c sites n causes.Command = codes "command -: not accepted"
+cause_text da db u other c sites n causes.Application = option_map_or (λ site. refused_application site.place) (slice_get (path_to sites n) 0) []
+cause_text da db u other c sites n (causes.Proxiable set) = codes "proxiable -: P " ++ flag_word set ++ codes " sent"
+cause_text da db u other c sites n (causes.Level line) = level_text da db other c (slice_get sites n) line
+cause_text da db u other c sites n (causes.Unknown key m) = codes "unknown " ++ avp_name da db key ++ codes ": " ++ unknown_detail u m
+cause_text da db u other c sites n (causes.MBit key m) = codes "m-bit " ++ avp_name da db key ++ codes ": M " ++ flag_word m ++ codes " sent, M " ++ flag_word (not m) ++ codes " accepted"
+cause_text da db u other c sites n (causes.Format key found) =
+    codes "format " ++ avp_name da db key ++ codes ": " ++ format_detail (format_in da key) (format_in db key) (option_map witness_bytes found)
+cause_text da db u other c sites n (causes.LevelAsLeaf key) = avp_name da db key ++ codes ": " ++ formats_text (format_in da key) (format_in db key)
+cause_text da db u other c sites n causes.Unproved = codes "-: nothing more found, not proved"
+
+abbrev pub standing_text : Standing → List ℕ
+standing_text Confirmed = []
+standing_text Unchecked = []
+standing_text Undecided = codes "undecided "
+
+-- the number is that of a command of the dictionary
+abbrev pub is_command : Dictionary → ℕ → Bool
+is_command d c = nat_le (length (groups d)) c && nat_lt c (length (definitions d))
+
+-- a line about the command c of A: where A has no such command, nothing
+abbrev pub words_of : Dictionary → Dictionary → Unknown → (Key → ℕ) → ℕ → List Site → Line → List ℕ
+words_of da db u other c sites line = if is_command da c
+    then path_text da db c (path_to sites line.site) ++ codes ": " ++ standing_text line.standing ++ cause_text da db u other c sites line.site line.cause
+    else []

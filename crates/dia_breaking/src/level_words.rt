@@ -1,0 +1,206 @@
+//! The words of lines about how often AVPs stand in a level, and in which order.
+ghost use Rattle.std.specs.Prelude.{◌≡◌, ◌<◌, ◌++◌, [], OnOk, IfSome, codes, length, nat_lt};
+ghost use Rattle.std.specs.Prelude.{option_and_then, string_bytes};
+ghost use Rattle.std.specs.Option.{option_map_or};
+ghost use Rattle.dia_book.specs.Dictionary.{definitions, selected};
+ghost use Rattle.dia_compat.specs.Tests.{rules_in};
+ghost use Rattle.dia_breaking.specs.Lengths.{other_length};
+ghost use Rattle.dia_levels.specs.LevelTests.{too_long};
+ghost use Rattle.dia_breaking.specs.Words.{accepted_bounds, accepted_rules, bounds_text, head_at};
+ghost use Rattle.dia_breaking.specs.Words.{level_detail, level_text, no_bounds, sent_bounds};
+ghost use Rattle.dia_breaking.specs.Words.{sent_rules, subject_name, wild_bounds};
+
+use crate::books::{command_of, group_of, rule_of, wildcard_of};
+use crate::bounds::{Bounds, push_bounds};
+use crate::heads::head_of;
+use crate::line::{Place, Site};
+use crate::upgrade::Upgrade;
+use dia_book::{Book, DRule, DefId, Key};
+use dia_levels::{Costs, Line as LevelLine, Reason, TOO_LONG};
+use std::alloc::AllocError;
+
+impl<'a, A: Book, B: Book> Upgrade<'a, A, B> {
+    /// Adds the words of a line about the level at a site, in messages of a command.
+    pub(crate) fn push_level(
+        &self,
+        out: &mut String,
+        command: DefId,
+        site: Option<Site>,
+        line: &LevelLine,
+    ) -> Result<(), AllocError>
+        requires { command < length (definitions (A.meaning self.now.a.now)) }
+        ensures { OnOk result (string_bytes out.new ≡ string_bytes out.old
+            ++ level_text (A.meaning self.now.a.now) (B.meaning self.now.b.now)
+            (other_length (A.meaning self.now.a.now) self.now.sends self.now.lengths.entries.items)
+            command site line.now) }
+    {
+        let reason = line.reason;
+        write!(out, "{reason} ")?;
+        self.push_subject(out, line.key)?;
+        out.push_str(": ")?;
+        match site {
+            Some(site) => self.push_level_detail(out, command, line, site.place),
+            None => Ok(()),
+        }
+    }
+
+    fn push_level_detail(
+        &self,
+        out: &mut String,
+        command: DefId,
+        line: &LevelLine,
+        place: Place,
+    ) -> Result<(), AllocError>
+        requires { command < length (definitions (A.meaning self.now.a.now)) }
+        ensures { OnOk result (string_bytes out.new ≡ string_bytes out.old
+            ++ level_detail (A.meaning self.now.a.now) (B.meaning self.now.b.now)
+            (other_length (A.meaning self.now.a.now) self.now.sends self.now.lengths.entries.items)
+            command line.now place) }
+    {
+        let sent = self.sent_bounds(command, place, line.key);
+        let accepted = self.accepted_bounds(command, place, line.key);
+        match line.reason {
+            Reason::Missing | Reason::TooMany => push_both(out, sent, accepted),
+            Reason::NotAllowed | Reason::NotAllowedOther => push_sent(out, sent),
+            Reason::MissingOthers | Reason::TooManyOthers => push_accepted(out, accepted),
+            Reason::Order => self.push_behind(out, line.behind),
+        }
+    }
+
+    fn push_behind(&self, out: &mut String, behind: Option<Key>) -> Result<(), AllocError>
+        ensures { OnOk result (string_bytes out.new ≡ string_bytes out.old ++ (codes "behind "
+            ++ subject_name (A.meaning self.now.a.now) (B.meaning self.now.b.now) behind
+            ++ codes " sent")) }
+    {
+        out.push_str("behind ")?;
+        self.push_subject(out, behind)?;
+        out.push_str(" sent")
+    }
+
+    /// How often A's definition lets the AVP stand there, or without a key those that it doesn't list.
+    fn sent_bounds(&self, command: DefId, place: Place, key: Option<Key>) -> Bounds
+        requires { command < length (definitions (A.meaning self.now.a.now)) }
+        ensures { result ≡ sent_bounds (other_length (A.meaning self.now.a.now)
+            self.now.sends self.now.lengths.entries.items)
+            (sent_rules (A.meaning self.now.a.now) command place) key }
+    {
+        match self.sent_definition(command, place) {
+            Some(def) => self.sent_by(def, key),
+            None => Bounds::none(),
+        }
+    }
+
+    fn sent_by(&self, def: DefId, key: Option<Key>) -> Bounds
+        requires { def < length (definitions (A.meaning self.now.a.now)) }
+        ensures { result ≡ sent_bounds (other_length (A.meaning self.now.a.now)
+            self.now.sends self.now.lengths.entries.items)
+            (rules_in (A.meaning self.now.a.now) def) key }
+    {
+        let wildcard = wildcard_of(self.a, def);
+        let Some(key) = key else {
+            return Bounds::of_rule(wildcard);
+        };
+        match rule_of(self.a, def, key) {
+            Some(rule) => Bounds::of(rule),
+            None => self.sent_by_wildcard(wildcard, key),
+        }
+    }
+
+    fn sent_by_wildcard(&self, wildcard: Option<DRule>, key: Key) -> Bounds
+        ensures { result ≡ option_map_or (wild_bounds (nat_lt (other_length (A.meaning self.now.a.now)
+            self.now.sends self.now.lengths.entries.items key) too_long)) wildcard no_bounds }
+    {
+        match wildcard {
+            Some(wildcard) => Bounds::of_wildcard(self.lengths.other(key) < TOO_LONG, wildcard),
+            None => Bounds::none(),
+        }
+    }
+
+    /// How often B's definition does.
+    fn accepted_bounds(&self, command: DefId, place: Place, key: Option<Key>) -> Bounds
+        requires { command < length (definitions (A.meaning self.now.a.now)) }
+        ensures { result ≡ accepted_bounds (accepted_rules (A.meaning self.now.a.now)
+            (B.meaning self.now.b.now) command place) key }
+    {
+        match self.accepted_definition(command, place) {
+            Some(def) => self.accepted_by(def, key),
+            None => Bounds::none(),
+        }
+    }
+
+    fn accepted_by(&self, def: DefId, key: Option<Key>) -> Bounds
+        requires { def < length (definitions (B.meaning self.now.b.now)) }
+        ensures { result ≡ accepted_bounds (rules_in (B.meaning self.now.b.now) def) key }
+    {
+        match key {
+            Some(key) => Bounds::of_rule(rule_of(self.b, def, key)),
+            None => Bounds::of_rule(wildcard_of(self.b, def)),
+        }
+    }
+
+    /// The definition of A by which the level at a place is read, in messages of a command.
+    fn sent_definition(&self, command: DefId, place: Place) -> Option<DefId>
+        requires { command < length (definitions (A.meaning self.now.a.now)) }
+        ensures within { IfSome result (λ def. def < length (definitions (A.meaning self.now.a.now))) }
+        ensures rules { option_map_or (rules_in (A.meaning self.now.a.now)) result []
+            ≡ sent_rules (A.meaning self.now.a.now) command place }
+    {
+        match place {
+            Place::Command { .. } => Some(command),
+            Place::Group { key, .. } => group_of(self.a, key),
+        }
+    }
+
+    /// That of B.
+    fn accepted_definition(&self, command: DefId, place: Place) -> Option<DefId>
+        requires { command < length (definitions (A.meaning self.now.a.now)) }
+        ensures within { IfSome result (λ def. def < length (definitions (B.meaning self.now.b.now))) }
+        ensures rules { option_map_or (rules_in (B.meaning self.now.b.now)) result []
+            ≡ accepted_rules (A.meaning self.now.a.now) (B.meaning self.now.b.now) command place }
+    {
+        match place {
+            Place::Command { app, .. } => self.selected_for(command, app),
+            Place::Group { key, .. } => group_of(self.b, key),
+        }
+    }
+
+    /// The definition that B selects for messages of a command of A, with this application.
+    fn selected_for(&self, command: DefId, app: u32) -> Option<DefId>
+        requires { command < length (definitions (A.meaning self.now.a.now)) }
+        ensures within { IfSome result (λ def. def < length (definitions (B.meaning self.now.b.now))) }
+        ensures selected { result ≡ option_and_then
+            (λ head. selected (B.meaning self.now.b.now) head.code head.class app)
+            (head_at (A.meaning self.now.a.now) command) }
+    {
+        match head_of(self.a, command) {
+            Some(head) => command_of(self.b, head.code, head.class, app),
+            None => None,
+        }
+    }
+}
+
+fn push_both(out: &mut String, sent: Bounds, accepted: Bounds) -> Result<(), AllocError>
+    ensures { OnOk result (string_bytes out.new ≡ string_bytes out.old ++ (bounds_text sent
+        ++ codes " sent, " ++ bounds_text accepted ++ codes " accepted")) }
+{
+    push_bounds(out, sent)?;
+    out.push_str(" sent, ")?;
+    push_bounds(out, accepted)?;
+    out.push_str(" accepted")
+}
+
+fn push_sent(out: &mut String, sent: Bounds) -> Result<(), AllocError>
+    ensures { OnOk result (string_bytes out.new
+        ≡ string_bytes out.old ++ (bounds_text sent ++ codes " sent")) }
+{
+    push_bounds(out, sent)?;
+    out.push_str(" sent")
+}
+
+fn push_accepted(out: &mut String, accepted: Bounds) -> Result<(), AllocError>
+    ensures { OnOk result (string_bytes out.new
+        ≡ string_bytes out.old ++ (bounds_text accepted ++ codes " accepted")) }
+{
+    push_bounds(out, accepted)?;
+    out.push_str(" accepted")
+}
