@@ -4,7 +4,7 @@ use Rattle.std.specs.Prelude.{◌⊎◌}
 use Rattle.std.proofs.lemmas.Bool.{both_ways, false≢true}
 use Rattle.std.proofs.lemmas.List.{append_cancel_left, length-append}
 use Rattle.std.proofs.lemmas.Option.{none-some, same_Some}
-use Rattle.dia_wire.specs.Wire.{PlainAvp, avp_length, BeginsWith, BeginsWithNone}
+use Rattle.dia_wire.specs.Wire.{PlainAvp, key_of, avp_length, BeginsWith, BeginsWithNone}
 use Rattle.dia_wire.proofs.Spelling.{one_spelling, opened, rounded-le, at_least_8}
 use Rattle.dia_data.specs.Leaf.{IsLeaf}
 use Rattle.dia_data.specs.Plain.{PlainFormat}
