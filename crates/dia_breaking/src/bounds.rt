@@ -23,7 +23,7 @@ impl Bounds {
         }
     }
 
-    /// Those of a rule.
+    /// The bounds of a rule.
     pub fn of(rule: DRule) -> Bounds
         ensures { result ≡ rule_bounds rule }
     {
@@ -33,7 +33,7 @@ impl Bounds {
         }
     }
 
-    /// Those of a rule, if there is one.
+    /// The bounds of a rule; where there is none, those of an AVP that never stands there.
     pub fn of_rule(rule: Option<DRule>) -> Bounds
         ensures { result ≡ bounds_of rule }
     {
@@ -43,7 +43,7 @@ impl Bounds {
         }
     }
 
-    /// Those of an AVP that only the wildcard lets in, where any is sent.
+    /// The bounds of an AVP that only the wildcard lets in: none stands there if none is sent.
     pub fn of_wildcard(is_sent: bool, wildcard: DRule) -> Bounds
         ensures { result ≡ wild_bounds is_sent wildcard }
     {

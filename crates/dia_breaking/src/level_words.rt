@@ -151,7 +151,7 @@ impl<'a, A: Book, B: Book> Upgrade<'a, A, B> {
         }
     }
 
-    /// That of B.
+    /// The definition by which B reads the level.
     fn accepted_definition(&self, command: DefId, place: Place) -> Option<DefId>
         requires { command < length (definitions (A.meaning self.now.a.now)) }
         ensures within { IfSome result (λ def. def < length (definitions (B.meaning self.now.b.now))) }
