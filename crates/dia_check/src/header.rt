@@ -11,10 +11,7 @@ ghost use Rattle.dia_check.specs.Faults.{HasHeader, HasLength, HasGoodHeader, Is
 use crate::fault::{Reason, Refusal};
 use crate::telling::simple_fault;
 use dia_book::{Book, Class, DefHead, DefId, Pxy};
-use dia_wire::{
-    COMMAND_ERROR, COMMAND_PROXIABLE, COMMAND_REQUEST, COMMAND_RETRANSMITTED, HeadFault, Header,
-    read_header,
-};
+use dia_wire::{HeadFault, Header, read_header};
 
 /// The header of a message that is all of the bytes.
 pub(crate) fn whole_header(bytes: &[u8]) -> Result<Header, Refusal>
@@ -50,13 +47,13 @@ pub(crate) fn good_command<B: Book>(book: &B, header: &Header) -> Result<DefId, 
         (λ refusal. IsAnswer (B.meaning book.now) u most bytes (Err refusal)) }
     ensures memory { IfErr result (λ refusal. refusal ≢ Refusal.NoMemory) }
 {
-    if !has_good_bits(header.flags) {
+    if !has_good_bits(header) {
         return Err(simple_fault(4, Reason::Bits));
     }
-    let class = class_of(header.flags);
+    let class = class_of(header);
     match book.select(header.code, class, header.app) {
         Some(def) => {
-            if allows_p(book.def(def).head, header.flags) {
+            if allows_p(book.def(def).head, header) {
                 Ok(def)
             } else {
                 Err(simple_fault(4, Reason::Proxiable))
@@ -73,24 +70,26 @@ pub(crate) fn good_command<B: Book>(book: &B, header: &Header) -> Result<DefId, 
 }
 
 /// Whether E is clear in a request, and T is clear in an answer.
-fn has_good_bits(flags: u8) -> bool
-    ensures good { IsTrue result → (HasR flags → ¬ HasE flags) × (HasT flags → HasR flags) }
-    ensures bad { IsFalse result → (HasR flags × HasE flags) ⊎ (HasT flags × (¬ HasR flags)) }
+fn has_good_bits(header: &Header) -> bool
+    ensures good { IsTrue result → (HasR header.now.flags → ¬ HasE header.now.flags)
+        × (HasT header.now.flags → HasR header.now.flags) }
+    ensures bad { IsFalse result → (HasR header.now.flags × HasE header.now.flags)
+        ⊎ (HasT header.now.flags × (¬ HasR header.now.flags)) }
 {
-    if flags & COMMAND_REQUEST != 0 {
-        flags & COMMAND_ERROR == 0
+    if header.is_request() {
+        !header.is_error()
     } else {
-        flags & COMMAND_RETRANSMITTED == 0
+        !header.is_retransmitted()
     }
 }
 
 /// The class of a message by its flags.
-fn class_of(flags: u8) -> Class
-    ensures { result ≡ class_of flags }
+fn class_of(header: &Header) -> Class
+    ensures { result ≡ class_of header.now.flags }
 {
-    if flags & COMMAND_REQUEST != 0 {
+    if header.is_request() {
         Class::Request
-    } else if flags & COMMAND_ERROR != 0 {
+    } else if header.is_error() {
         Class::Error
     } else {
         Class::Answer
@@ -98,24 +97,23 @@ fn class_of(flags: u8) -> Class
 }
 
 /// Whether the P flag is one that the command may have.
-fn allows_p(head: DefHead, flags: u8) -> bool
-    ensures { IsTrue result ↔ AllowsP head flags }
+fn allows_p(head: DefHead, header: &Header) -> bool
+    ensures { IsTrue result ↔ AllowsP head header.now.flags }
 {
     match head {
         DefHead::Group(_) => false,
-        DefHead::Command { p, .. } => p_holds(p, flags),
-        DefHead::Error { p } => p_holds(p, flags),
+        DefHead::Command { p, .. } => p_holds(p, header),
+        DefHead::Error { p } => p_holds(p, header),
     }
 }
 
 /// Whether the P flag is as the header of a definition says.
-fn p_holds(p: Pxy, flags: u8) -> bool
-    ensures { IsTrue result ↔ PHolds p flags }
+fn p_holds(p: Pxy, header: &Header) -> bool
+    ensures { IsTrue result ↔ PHolds p header.now.flags }
 {
-    let set = flags & COMMAND_PROXIABLE != 0;
     match p {
-        Pxy::Clear => !set,
-        Pxy::Set => set,
+        Pxy::Clear => !header.is_proxiable(),
+        Pxy::Set => header.is_proxiable(),
         Pxy::Either => true,
     }
 }
