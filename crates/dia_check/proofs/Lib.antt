@@ -5,6 +5,7 @@ pub mod FaultlessKeys
 pub mod FaultlessFronts
 pub mod OneKeyMore
 pub mod Tallies
+pub mod LaidOutTallies
 pub mod KeysByCounts
 pub mod FaultlessLevels
 pub mod KeptLevels

@@ -4,6 +4,7 @@ pub mod Levels
 pub mod Faults
 pub mod Walks
 pub mod Tallies
+pub mod LaidOutTallies
 pub mod OpenLevels
 pub mod Admission
 pub mod UnderWay

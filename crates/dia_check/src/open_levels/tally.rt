@@ -1,10 +1,15 @@
 //! The tally of a level: how often its rules were met, in the order of the rules. One that is not told was not met.
 
 ghost use Rattle.std.specs.Prelude.{◌≡◌, ◌≢◌, ◌<◌, ◌≤◌, ◌+◌, ◌^◌, ◌++◌, ℕ, IsTrue, IsFalse};
-ghost use Rattle.std.specs.Prelude.{Some, insert, slice_get, slice_set, vec_len, vec_capacity};
+ghost use Rattle.std.specs.Prelude.{Some, drop, insert, slice_get, slice_set, take, vec_len, vec_capacity};
 ghost use Rattle.dia_check.specs.declared.open_levels.tally.Met.{Met as AnyMet};
 ghost use Rattle.dia_check.specs.Tallies.{count_in, never, unmet};
-ghost use Rattle.dia_check.specs.Tallies.{AreRising, HasPlaceFor, IsPlaceOf, IsTold};
+ghost use Rattle.dia_check.specs.Tallies.{AreBelow, AreRising, HasPlaceFor, IsPlaceOf, IsTold};
+ghost use Rattle.dia_check.specs.LaidOutTallies.{laid_out};
+
+/// Where a tally tells fewer rules than these, one more is told by itself, and those behind it move; from here on, one more
+/// has all the rules of the level laid out at once.
+const MANY_TOLD: usize = 128;
 
 /// How often a rule was met.
 #[derive(Clone, Copy)]
@@ -69,8 +74,55 @@ fn tell(tallies: &mut Vec<Met>, base: usize, many: usize, rule: usize) -> usize
     if is_at(tally, place, rule) {
         return base + place;
     }
+    if tally.len() >= MANY_TOLD {
+        lay_out_all(tallies, base, many);
+        return base + rule;
+    }
     add(tallies, base + place, rule as u32);
     base + place
+}
+
+/// Lays out the tally that begins at a place of the list: each of the level's rules stands at its own place then, with the
+/// count that was told. There is room. Places for the rules that were not told are made at the end; then each place is
+/// written, the last first, so that no count is written over before it is read.
+#[inline(never)]
+fn lay_out_all(tallies: &mut Vec<Met>, base: usize, many: usize)
+    requires room { (base ≤ vec_len tallies.old) × (base + many ≤ vec_capacity tallies.old) × (many ≤ 1024) }
+    requires told { AreRising 0 (drop base tallies.old.items) × AreBelow many (drop base tallies.old.items) }
+    ensures front { take base tallies.new.items ≡ take base tallies.old.items }
+    ensures rules { drop base tallies.new.items ≡ laid_out (drop base tallies.old.items) 0 many }
+    ensures capacity { vec_capacity tallies.new ≡ vec_capacity tallies.old }
+{
+    let mut left = tallies.len() - base;
+    lay_out(tallies, many - left);
+    for rule in (0..many).rev() {
+        let (count, before) = last_count(&tallies[base..base + left], rule);
+        write(
+            tallies,
+            base + rule,
+            Met {
+                rule: rule as u32,
+                count,
+            },
+        );
+        left = before;
+    }
+}
+
+/// The count of a rule behind which none is told, and how many are told before it.
+#[inline(always)]
+fn last_count(tally: &[Met], rule: usize) -> (u32, usize)
+    requires { AreRising 0 tally.now × AreBelow (rule + 1) tally.now }
+    ensures count { result.0 ≡ count_in tally.now rule }
+    ensures place { IsPlaceOf tally.now rule result.1 }
+{
+    let Some(last) = tally.last() else {
+        return (0, 0);
+    };
+    if last.rule as usize == rule {
+        return (last.count, tally.len() - 1);
+    }
+    (0, tally.len())
 }
 
 /// Whether the rule is told at a place.

@@ -1,9 +1,10 @@
-use Rattle.std.proofs.Common.{◌≡◌, ◌≢◌, ◌+◌, ◌≤◌, ℕ, List, length, take, drop, Some, sym, subst, ap, ◌∙◌, arith}
+use Rattle.std.proofs.Common.{◌≡◌, ◌≢◌, List, drop, Some, subst, ap, ◌∙◌, arith}
 use Rattle.std.proofs.lemmas.List.{length-drop}
 use Rattle.std.specs.Prelude.{slice_get}
 use Rattle.dia_check.specs.declared.open_levels.tally.Met.{Met}
-use Rattle.dia_check.specs.Tallies.{AreRising, IsPlaceOf}
+use Rattle.dia_check.specs.Tallies.{IsPlaceOf}
 use Rattle.dia_check.proofs.Tallies.{slice_from, behind_more, room_for, newly_told}
+use Rattle.dia_check.proofs.LaidOutTallies.{all_told}
 use Rattle.dia_check.proofs.open_levels.tally.tell.Goals as goal
 
 pub add-requires : goal.add-requires
@@ -27,3 +28,7 @@ returns-clause-told c =
     λ m at. c.is_at.ensures.no c.if-is_at.false m (ap (λ (t : List Met). slice_get t c.place_of-place.result) slice ∙ at) in
     newly_told tallies.items c.add.new.tallies.items _ c.args.base c.args.many c.args.rule c.place_of-place.result c.requires place
     (behind_more (drop c.args.base tallies.items) c.place_of-place.result c.args.rule place.behind none) c.add.ensures.items
+
+pub returns-then-tally-ge-MANY_TOLD-clause-told : goal.returns-then-tally-ge-MANY_TOLD-clause-told
+returns-then-tally-ge-MANY_TOLD-clause-told c =
+    all_told c.args.tallies.now.items c.lay_out_all.new.tallies.items _ c.args.base c.args.many c.args.rule c.requires c.lay_out_all.ensures.front c.lay_out_all.ensures.rules
