@@ -1,14 +1,14 @@
-use Rattle.std.proofs.Common.{◌≡◌, ◌+◌, ℕ, List, None, Some, length, drop, get_or, refl, sym, ap, ◌∙◌, arith}
+use Rattle.std.proofs.Common.{◌≡◌, ◌+◌, ℕ, List, None, Some, length, drop, refl, sym, ap, ◌∙◌, arith}
 use Rattle.std.proofs.Math.Logic.{∥∥₁_elim}
 use Rattle.std.proofs.lemmas.List.{length-drop}
 use Rattle.std.proofs.lemmas.Option.{same_Some, slice_get-get_or, slice_get_within}
 use Rattle.std.specs.Coded.{le_prop}
-use Rattle.std.specs.Prelude.{◌≤◌, ◌<◌, set, slice_get, vec_capacity}
+use Rattle.std.specs.Prelude.{◌<◌, set, slice_get}
 use Rattle.dia_book.specs.declared.DRule.{DRule}
 use Rattle.dia_book.specs.declared.RuleKind.TheVariants.{Fixed}
 use Rattle.dia_check.specs.declared.open_levels.OpenLevels.{OpenLevels}
 use Rattle.dia_check.specs.declared.open_levels.tally.Met.{Met}
-use Rattle.dia_check.specs.Tallies.{AreBelow, IsTold, count_in}
+use Rattle.dia_check.specs.Tallies.{IsTold, count_in}
 use Rattle.dia_check.proofs.KeysByCounts.{rule_within, count_few, too_many_first, met_now, is_max_of, no_max_of}
 use Rattle.dia_check.proofs.KeptLevels.{own_counted, own_low, told_further, met_again, met_further}
 use Rattle.dia_check.proofs.Tallies.{below_prop, found_count, get_from, rising_prop, set_from, told_more}

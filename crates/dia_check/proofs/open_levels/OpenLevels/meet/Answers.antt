@@ -1,7 +1,7 @@
-use Rattle.std.proofs.Common.{List, [], ◌∷◌, ◌++◌, ◌-◌, length, drop, ap, subst, refl, arith, rules}
+use Rattle.std.proofs.Common.{List, length, ap, subst, arith, rules}
 use Rattle.std.proofs.Math.Logic.{∥∥₁_elim, ∥∥₁_map}
 use Rattle.std.specs.Coded.{le_prop}
-use Rattle.std.specs.Prelude.{◌≤◌, vec_capacity}
+use Rattle.std.specs.Prelude.{◌≤◌}
 use Rattle.dia_check.specs.declared.open_levels.tally.Met.{Met}
 use Rattle.dia_check.specs.OpenLevels.{IsLed}
 use Rattle.dia_check.proofs.KeptLevels.{own_low, own_slice, own_counted}
