@@ -11,7 +11,7 @@ ghost use Rattle.dia_check.specs.Faults.{HasHeader, HasLength, HasGoodHeader, Is
 use crate::fault::{Reason, Refusal};
 use crate::telling::simple_fault;
 use dia_book::{Book, Class, DefHead, DefId, Pxy};
-use dia_wire::{HeadFault, Header, read_header};
+use dia_wire::{Header, MessageFault, split_message};
 
 /// The header of a message that is all of the bytes.
 pub(crate) fn whole_header(bytes: &[u8]) -> Result<Header, Refusal>
@@ -21,20 +21,13 @@ pub(crate) fn whole_header(bytes: &[u8]) -> Result<Header, Refusal>
         × (length bytes.now < 2 ^ 32)) (λ refusal. IsAnswer d u most bytes.now (Err refusal)) }
     ensures memory { IfErr result (λ refusal. refusal ≢ Refusal.NoMemory) }
 {
-    match read_header(bytes) {
-        Ok((header, length)) => {
-            let length = length as usize;
-            if bytes.len() < length {
-                Err(Refusal::Truncated)
-            } else if length < bytes.len() {
-                Err(Refusal::Trailing)
-            } else {
-                Ok(header)
-            }
-        }
-        Err(HeadFault::Short) => Err(Refusal::Truncated),
-        Err(HeadFault::Version) => Err(simple_fault(0, Reason::Version)),
-        Err(HeadFault::Length) => Err(simple_fault(1, Reason::Length)),
+    match split_message(bytes) {
+        Ok((header, _)) => Ok(header),
+        Err(MessageFault::Short) => Err(Refusal::Truncated),
+        Err(MessageFault::Version) => Err(simple_fault(0, Reason::Version)),
+        Err(MessageFault::Length) => Err(simple_fault(1, Reason::Length)),
+        Err(MessageFault::Truncated) => Err(Refusal::Truncated),
+        Err(MessageFault::Trailing) => Err(Refusal::Trailing),
     }
 }
 

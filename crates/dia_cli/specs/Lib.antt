@@ -3,5 +3,5 @@ pub mod Ending
 pub mod Forms
 pub mod Origins
 pub mod Request
-pub mod Opening
+pub mod OpenedInputs
 pub mod Words

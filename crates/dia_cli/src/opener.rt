@@ -1,7 +1,7 @@
 //! What files and standard input hold, as far as a proof may know it.
 
 ghost use Rattle.std.specs.Prelude.{List, ℕ, Option, IfOk};
-ghost use Rattle.dia_cli.specs.Opening.{Gives};
+ghost use Rattle.dia_cli.specs.OpenedInputs.{Gives};
 
 use std::io::Read;
 use std::rt::Files;

@@ -24,7 +24,7 @@
 //! assert_eq!(rt; responder.state(), State::Closed);
 //! ```
 //!
-//! The whole program is a test: `src/peer/example.rt` of the crate dia_vectors.
+//! The whole program is a test: `src/peer/example.rt` of the crate dia_run_tests.
 #![tactic(auto)]
 
 mod applications;
@@ -41,7 +41,7 @@ mod laws;
 mod messages;
 mod named_apps;
 mod node;
-mod reading;
+mod contents;
 mod receiving;
 
 pub use config::{App, Config, ConfigFault, Ip, Kind, Role};

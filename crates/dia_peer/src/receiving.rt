@@ -14,7 +14,7 @@ use crate::codes::{CAPABILITIES_EXCHANGE, DEVICE_WATCHDOG, DISCONNECT_PEER};
 use crate::incoming::Incoming;
 use crate::kept_requests::Ids;
 use crate::node::Node;
-use crate::reading::{named_in, result_code};
+use crate::contents::{named_in, result_code};
 use dia_wire::{HEADER_LENGTH, Header, split_message};
 use std::alloc::{AllocError, Global};
 

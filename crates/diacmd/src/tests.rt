@@ -4,7 +4,7 @@
 mod endings;
 mod example;
 mod help;
-mod opening;
+mod opened_inputs;
 mod printed;
 mod refused_words;
 mod words;

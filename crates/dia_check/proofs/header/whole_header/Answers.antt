@@ -1,20 +1,23 @@
-use Rattle.std.proofs.Common.{ℕ, ◌≡◌, take, subst, inr, arith}
+use Rattle.std.proofs.Common.{ℕ, ap, List, Err, inr, arith}
 use Rattle.std.specs.Prelude.{length}
-use Rattle.dia_wire.specs.Wire.{IsHead}
+use Rattle.dia_wire.specs.Wire.{BeginsMessage}
 use Rattle.dia_check.specs.Faults.{HasLength}
 use Rattle.dia_check.proofs.HeaderAnswers.{has_length}
 use Rattle.dia_check.proofs.header.whole_header.Goals as goal
 
-pub returns-then-bytes-length-clause-answer : goal.returns-then-bytes-length-clause-answer
-returns-then-bytes-length-clause-answer c d u most = inr (c.in-Ok.length, has_length c.in-Ok.header c.in-Ok.length c.args.bytes.now c.in-Ok.ensures.head c.in-Ok.ensures.long, omega arith)
+begins : (bytes : List ℕ) (n : ℕ) → BeginsMessage bytes n → HasLength bytes n
+begins bytes n (h, head, sound) = has_length h n bytes head sound
 
-pub returns-then-length-bytes-clause-answer : goal.returns-then-length-bytes-clause-answer
-returns-then-length-bytes-clause-answer c d u most = (c.in-Ok.length, has_length c.in-Ok.header c.in-Ok.length c.args.bytes.now c.in-Ok.ensures.head c.in-Ok.ensures.long, omega arith)
+pub returns-in-Ok-clause-answer : goal.returns-in-Ok-clause-answer
+returns-in-Ok-clause-answer c d u most =
+    (c.in-Ok.ensures.head, has_length c.in-Ok.header (length c.args.bytes.now) c.args.bytes.now c.in-Ok.ensures.head c.in-Ok.ensures.long, omega (arith, c.in-Ok.ensures.bounded))
 
-pub returns-else-length-bytes-clause-answer : goal.returns-else-length-bytes-clause-answer
-returns-else-length-bytes-clause-answer c d u most =
-    let same : c.in-Ok.length ≡ length c.args.bytes.now = omega arith in (
-      subst (λ (n : ℕ). IsHead c.in-Ok.header n (take 20 c.args.bytes.now)) same c.in-Ok.ensures.head,
-      subst (HasLength c.args.bytes.now) same (has_length c.in-Ok.header c.in-Ok.length c.args.bytes.now c.in-Ok.ensures.head c.in-Ok.ensures.long),
-      omega arith,
-    )
+pub returns-in-Err-Truncated-clause-answer : goal.returns-in-Err-Truncated-clause-answer
+returns-in-Err-Truncated-clause-answer c d u most =
+    let (n, begun, less) = c.in-Err-Truncated.ensures.truncated.0 (ap Err c.in-Err-Truncated.field-0-is) in
+    inr (n, begins c.args.bytes.now n begun, less)
+
+pub returns-in-Err-Trailing-clause-answer : goal.returns-in-Err-Trailing-clause-answer
+returns-in-Err-Trailing-clause-answer c d u most =
+    let (n, begun, less) = c.in-Err-Trailing.ensures.trailing.0 (ap Err c.in-Err-Trailing.field-0-is) in
+    (n, begins c.args.bytes.now n begun, less)

@@ -2,7 +2,7 @@ use Rattle.std.proofs.Common.{ap, ◌∙◌}
 use Rattle.dia_wire.specs.Wire.{plain_avp}
 use Rattle.dia_peer.specs.Incoming.{Has, kind_of}
 use Rattle.dia_peer.proofs.LevelWalks.{names_pair}
-use Rattle.dia_peer.proofs.reading.add_named.Goals as goal
+use Rattle.dia_peer.proofs.contents.add_named.Goals as goal
 
 pub returns : goal.returns
 returns c has =

@@ -2,8 +2,8 @@
 
 ghost use Rattle.std.specs.Prelude.{◌≡◌, IfOk, IfErr, IfSome};
 ghost use Rattle.dia_io.specs.Inputs.{IsWhole};
-ghost use Rattle.dia_cli.specs.Opening.{IsAnyUnread, IsFaultOf, IsInputOf};
-ghost use Rattle.dia_cli.specs.Opening.{IsReadOf, IsUnread, IsWithin, input_of};
+ghost use Rattle.dia_cli.specs.OpenedInputs.{IsAnyUnread, IsFaultOf, IsInputOf};
+ghost use Rattle.dia_cli.specs.OpenedInputs.{IsReadOf, IsUnread, IsWithin, input_of};
 
 use crate::ending::Ending;
 use crate::opener::Opener;

@@ -3,7 +3,7 @@ use Rattle.dia_wire.specs.Level.{level_left}
 use Rattle.dia_wire.specs.Wire.{plain_avp}
 use Rattle.dia_peer.specs.Incoming.{IsResult, HasCode, is_result_code}
 use Rattle.dia_peer.proofs.LevelWalks.{goes_on, ends, ends_at_fault, walk_goes, walk_ends, result_here, no_result}
-use Rattle.dia_peer.proofs.reading.result_code.Goals as goal
+use Rattle.dia_peer.proofs.contents.result_code.Goals as goal
 
 pub returns-then-is_result_code : goal.returns-then-is_result_code
 returns-then-is_result_code c avps all are =

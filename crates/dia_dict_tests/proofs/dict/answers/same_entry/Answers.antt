@@ -5,7 +5,7 @@ use Rattle.std.specs.Option.{option_map}
 use Rattle.std.proofs.lemmas.List.{length-append}
 use Rattle.std.proofs.lemmas.Option.{none-some, same_Some}
 use Rattle.dia_dict.specs.Dictionary.{Dictionary, DictEntry, PlainDefinition, group_place, groups, definitions}
-use Rattle.dia_tests.proofs.dict.answers.same_entry.Goals as goal
+use Rattle.dia_dict_tests.proofs.dict.answers.same_entry.Goals as goal
 
 -- a member that has an image is one of as many
 images_before : {X Y : Type 0} (h : X → Option Y) (xs : List X) (i : ℕ) (x : X) (y : Y) → slice_get xs i ≡ Some x → h x ≡ Some y → length (filter_map h (take i xs)) < length (filter_map h xs)

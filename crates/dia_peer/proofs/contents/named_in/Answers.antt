@@ -3,8 +3,8 @@ use Rattle.dia_wire.specs.Level.{level_left}
 use Rattle.dia_wire.specs.Wire.{plain_avp, BeginsWithNone}
 use Rattle.dia_peer.specs.Incoming.{Has, Tells, IsReadable}
 use Rattle.dia_peer.proofs.LevelWalks.{goes_on, ends, ends_at_fault, walk_goes, walk_ends}
-use Rattle.dia_peer.proofs.reading.named_in.Goals.{in-None, in-Some+in_default}
-use Rattle.dia_peer.proofs.reading.named_in.Goals as goal
+use Rattle.dia_peer.proofs.contents.named_in.Goals.{in-None, in-Some+in_default}
+use Rattle.dia_peer.proofs.contents.named_in.Goals as goal
 
 pub loop-found-preserved : goal.loop-found-preserved
 loop-found-preserved c avps all are =

@@ -2,7 +2,7 @@
 
 ghost use Rattle.std.specs.Prelude.{None};
 
-use crate::vectors::{WHOLE, inputs_of, names};
+use crate::commands::{WHOLE, inputs_of, names};
 use dia_run::{
     Command, Exit, Failed, Feed, FromReader, InputFault, Inputs, RunFault, Sink, ToWriter,
     read_input, run,

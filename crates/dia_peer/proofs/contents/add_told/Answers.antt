@@ -2,7 +2,7 @@ use Rattle.std.proofs.Common.{ap, ◌∙◌}
 use Rattle.dia_wire.specs.Wire.{plain_avp}
 use Rattle.dia_peer.specs.Incoming.{Has, is_vendor_specific}
 use Rattle.dia_peer.proofs.LevelWalks.{tells_inside, tells_none}
-use Rattle.dia_peer.proofs.reading.add_told.Goals as goal
+use Rattle.dia_peer.proofs.contents.add_told.Goals as goal
 
 pub returns-in_ok-add_members : goal.returns-in_ok-add_members
 returns-in_ok-add_members c readable =

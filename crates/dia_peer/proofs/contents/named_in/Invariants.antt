@@ -4,7 +4,7 @@ use Rattle.dia_wire.specs.Level.{level_left}
 use Rattle.dia_wire.specs.Wire.{PlainAvp, SpellsAll}
 use Rattle.dia_peer.specs.Incoming.{Has, IsReadable, Tells}
 use Rattle.dia_peer.proofs.LevelWalks.{Walk}
-use Rattle.dia_peer.proofs.reading.named_in.Given as goal
+use Rattle.dia_peer.proofs.contents.named_in.Given as goal
 
 abbrev pub invariant-loop-found : goal.invariant-loop-found
 invariant-loop-found l = (avps : List PlainAvp) → SpellsAll avps l.body → AllByRecursion IsReadable avps → Walk IsReadable Tells avps (λ p. ⊥) (Has l.named) (level_left l.found-iterator)

@@ -2,7 +2,7 @@ use Rattle.dia_wire.specs.Level.{level_left}
 use Rattle.dia_wire.specs.Wire.{plain_avp}
 use Rattle.dia_peer.specs.Incoming.{Has, HasNumber, NamesApplication}
 use Rattle.dia_peer.proofs.LevelWalks.{goes_on, ends, ends_at_fault, walk_goes, walk_ends}
-use Rattle.dia_peer.proofs.reading.add_members.Goals as goal
+use Rattle.dia_peer.proofs.contents.add_members.Goals as goal
 
 pub loop-found-preserved : goal.loop-found-preserved
 loop-found-preserved c avps all are =

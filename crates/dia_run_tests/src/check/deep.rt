@@ -190,7 +190,7 @@ const VALID: &str = "0 valid T\n";
 fn nodes(alloc: Global, depth: u32) -> Result<Vec<u8>, Fail>
     requires { depth ≤ 1000000 }
 {
-    let text = crate::vectors::nested_nodes(alloc, depth)?;
+    let text = crate::commands::nested_nodes(alloc, depth)?;
     Ok(bytes_of(alloc, text.as_bytes())?)
 }
 

@@ -1,7 +1,7 @@
 //! The calls of dia_check, over both kinds of book.
 
 use crate::books::{self, Books};
-use crate::vectors::names;
+use crate::commands::names;
 use crate::words::{command_of, range_of, words_of};
 use dia_check::{Progress, Stream, StreamFault};
 use dia_dict::{Book, IndexedBook, base_book};
@@ -27,7 +27,7 @@ const AVPS: &str = "000001084000000b612e6200000001284000000962000000";
 /// The verdict on such a request.
 const WATCHDOG: &str = "0 valid DWR\n";
 
-/// Checks each row of a text. Its calls are those of `vectors` for `check`, and
+/// Checks each row of a text. Its calls are those of `commands` for `check`, and
 ///
 /// ```text
 /// take COUNT/TAKEN/more.. | DICTIONARY | MESSAGE

@@ -1,5 +1,5 @@
 //! The tests of `dia_check`, `dia_compat`, `dia_peer` and `dia_run`, by library: each goes through public calls alone. Those of
-//! `dia_run` are `vectors`, worked inputs of the commands, `devices`, which fail, and the `example` of its docs. There is nothing
+//! `dia_run` are `commands`, worked inputs of the commands, `devices`, which fail, and the `example` of its docs. There is nothing
 //! but tests.
 #![tactic(auto)]
 
@@ -7,6 +7,8 @@
 mod books;
 #[cfg(test)]
 mod check;
+#[cfg(test)]
+mod commands;
 #[cfg(test)]
 mod compat;
 #[cfg(test)]
@@ -19,7 +21,5 @@ mod peer;
 mod refused;
 #[cfg(test)]
 mod told;
-#[cfg(test)]
-mod vectors;
 #[cfg(test)]
 mod words;
