@@ -23,15 +23,15 @@
 mod arguments;
 mod ending;
 mod line;
-mod opener;
 mod opened_inputs;
+mod opener;
 mod origin;
 mod request;
 mod values;
 
 pub use arguments::parse_words;
 pub use ending::{Ending, finish};
-pub use opener::{OfProcess, Opener};
 pub use opened_inputs::open_inputs;
+pub use opener::{OfProcess, Opener};
 pub use origin::{BASE_DICTIONARY, Origin, Origins, STANDARD_INPUT};
 pub use request::{Request, Subcommand};

@@ -32,6 +32,7 @@ mod base_book;
 mod codes;
 mod config;
 mod connection;
+mod contents;
 mod draft;
 mod event;
 mod incoming;
@@ -41,7 +42,6 @@ mod laws;
 mod messages;
 mod named_apps;
 mod node;
-mod contents;
 mod receiving;
 
 pub use config::{App, Config, ConfigFault, Ip, Kind, Role};

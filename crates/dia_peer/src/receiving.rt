@@ -11,10 +11,10 @@ ghost use Rattle.dia_peer.specs.Messages.{IsOurCode, IsReceived};
 ghost use Rattle.dia_peer.specs.Incoming.{received_of};
 
 use crate::codes::{CAPABILITIES_EXCHANGE, DEVICE_WATCHDOG, DISCONNECT_PEER};
+use crate::contents::{named_in, result_code};
 use crate::incoming::Incoming;
 use crate::kept_requests::Ids;
 use crate::node::Node;
-use crate::contents::{named_in, result_code};
 use dia_wire::{HEADER_LENGTH, Header, split_message};
 use std::alloc::{AllocError, Global};
 
