@@ -32,6 +32,7 @@ use Rattle.dia_least.specs.Floors.{shortest_head, padded, AreFloors}
 use Rattle.dia_least.specs.Lengths.{entry_length, unknown_length, rank, is_unlisted, IsOrder, filler_of, filler_length, group_length}
 use Rattle.dia_least.specs.Passes.{length_in, IsSettled, AreKept, AreSettled}
 use Rattle.dia_least.proofs.FloorsOfAvps.{rounded_more}
+use Rattle.dia_least.proofs.LeafLengths.{leaf_floor}
 
 -- ---- the first of a list in order
 
@@ -63,14 +64,14 @@ found_is_least p (x ∷ xs) y sorted i t = by (p x) refl i (found_is_least p xs 
 -- ---- keys and entries
 
 -- the entry of a key
-record HasEntry (d : Dictionary) (key : Key) : Type 0 where
-  place : ℕ
-  entry : DictEntry
-  is_place : entry_of d key ≡ Some place
-  at : slice_get d.entries place ≡ Some entry
-  own : entry.key ≡ key
+pub record HasEntry (d : Dictionary) (key : Key) : Type 0 where
+  pub place : ℕ
+  pub entry : DictEntry
+  pub is_place : entry_of d key ≡ Some place
+  pub at : slice_get d.entries place ≡ Some entry
+  pub own : entry.key ≡ key
 
-abbrev entry_at : (d : Dictionary) (key : Key) (i : ℕ) → entry_of d key ≡ Some i → HasEntry d key
+abbrev pub entry_at : (d : Dictionary) (key : Key) (i : ℕ) → entry_of d key ≡ Some i → HasEntry d key
 entry_at d key i is =
     let p = at_position (λ (e : DictEntry). same_key key e.key) d.entries i is in
     record { place = i; entry = p.0; is_place = is; at = p.1; own = sym (same_key-true key p.0.key p.2) }
@@ -85,7 +86,7 @@ of_known d key x is = by (entry_of d key) refl
         let h = entry_at d key i e in
         (h, same_Some h.entry x (sym h.at ∙ sym (ap (λ (o : Option ℕ). option_and_then (λ i. slice_get d.entries i) o) e) ∙ is))
 
-not_known : (d : Dictionary) (key : Key) → known d key ≡ None → entry_of d key ≡ None
+pub not_known : (d : Dictionary) (key : Key) → known d key ≡ None → entry_of d key ≡ None
 not_known d key is = by (entry_of d key) refl
   where
     by : (o : Option ℕ) → entry_of d key ≡ o → o ≡ None
@@ -137,17 +138,15 @@ module _ (d : Dictionary) (least : Least) (order : List Ranked) (kept : AreKept 
       by None e = let same = length_unknown key e in let more = low least.sends key in omega (arith, same, more)
       by (Some i) e = let same = length_at key (entry_at d key i e) in let more = (kept.within i).0 in omega (arith, same, more)
 
-  head_is : shortest_head least.unknown ≡ 8
+  pub head_is : shortest_head least.unknown ≡ 8
   head_is = ap (λ (n : ℕ). shortest_head (record { code = least.unknown.code; vendor = n })) kept.vendor
 
-  filler_short : (o : Option Ranked) → filler_length o ≤ too_long
+  pub filler_short : (o : Option Ranked) → filler_length o ≤ too_long
   filler_short None = omega arith
   filler_short (Some r) = omega arith
 
-  filler_least : (sends : Sends) → least.sends ≡ sends → (rules : List DRule) (keys : List Key) → StandAsSent sends rules keys → (key : Key) → IsIn key keys → is_listed rules key ≡ false
-      → filler_length (filler_of sends least.unknown order rules) ≤ length_in d least key
-  filler_least Any is rules keys stand key i none = let same = head_is in let more = at_least_head key in omega (arith, same, more)
-  filler_least Known is rules keys stand key i none = by (entry_of d key) refl
+  pub filler_known : least.sends ≡ Known → (rules : List DRule) (key : Key) → is_listed rules key ≡ false → filler_length (find (is_unlisted rules) order) ≤ length_in d least key
+  filler_known is rules key none = by (entry_of d key) refl
     where
       by : (o : Option ℕ) → entry_of d key ≡ o → filler_length (find (is_unlisted rules) order) ≤ length_in d least key
       by None e =
@@ -160,6 +159,11 @@ module _ (d : Dictionary) (least : Least) (order : List Ranked) (kept : AreKept 
           let first = found_is_least (is_unlisted rules) order (rank (length_in d least) h.entry) are.sorted (ranked key h) free in
           let same : length_in d least h.entry.key ≡ length_in d least key = ap (length_in d least) h.own in
           omega (arith, first, same)
+
+  filler_least : (sends : Sends) → least.sends ≡ sends → (rules : List DRule) (keys : List Key) → StandAsSent sends rules keys → (key : Key) → IsIn key keys → is_listed rules key ≡ false
+      → filler_length (filler_of sends least.unknown order rules) ≤ length_in d least key
+  filler_least Any is rules keys stand key i none = let same = head_is in let more = at_least_head key in omega (arith, same, more)
+  filler_least Known is rules keys stand key i none = filler_known is rules key none
   filler_least Listed is rules keys stand key i none =
       let lists : is_listed rules key ≡ true = in_all (λ (k : Key). is_listed rules k ≡ true) keys key stand.1 i in
       absurd (let bad : false ≡ true = sym none ∙ lists in cc)
@@ -207,7 +211,8 @@ are_floors d least is kept (order, are, settled) = record {
       let h = k.0 in
       let own : h.entry ≡ entry = k.1 in
       let at : slice_get d.entries h.place ≡ Some entry = h.at ∙ ap (λ (x : DictEntry). Some x) own in
-      let low : entry_length least.lengths.items h.place ≤ padded (shortest_head entry.key + length bytes) = kept.leaves h.place entry bytes at none (witness_bytes bytes every) leaf in
+      let low : entry_length least.lengths.items h.place ≤ padded (shortest_head entry.key + length bytes) =
+      leaf_floor entry (entry_length least.lengths.items h.place) bytes (kept.leaves h.place entry at none) (witness_bytes bytes every) leaf in
       let key_is : entry.key ≡ key = ap (λ (x : DictEntry). x.key) (sym own) ∙ h.own in
       let low_key : entry_length least.lengths.items h.place ≤ padded (shortest_head key + length bytes) = subst (λ (k : Key). entry_length least.lengths.items h.place ≤ padded (shortest_head k + length bytes)) key_is low in
       let same = length_at d least order kept are key h in

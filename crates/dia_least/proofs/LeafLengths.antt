@@ -1,12 +1,14 @@
 -- The lengths of leaves, one after the other.
-use Rattle.std.proofs.Common.{◌≡◌, ℕ, zero, suc, ◌+◌, ◌<◌, ◌≤◌, List, [], ◌∷◌, ◌++◌, length, Some, refl, sym, ap, subst, ◌∙◌, arith, inl, inr, length-append}
-use Rattle.std.specs.Prelude.{◌⊎◌, slice_get, map, take}
+use Rattle.std.proofs.Common.{◌≡◌, ℕ, zero, suc, ◌+◌, ◌<◌, ◌≤◌, List, [], ◌∷◌, ◌++◌, length, Option, Some, refl, sym, ap, subst, ◌∙◌, arith, inl, inr, length-append}
+use Rattle.std.specs.Prelude.{◌⊎◌, ◌↔◌, IsSome, is_some, slice_get, map, take}
 use Rattle.std.proofs.lemmas.Bool.{cases_lt}
 use Rattle.std.proofs.lemmas.Option.{slice_get_within}
 use Rattle.dia_wire.specs.declared.Key.{Key}
 use Rattle.dia_data.specs.Leaf.{IsLeaf}
+use Rattle.dia_data.specs.Plain.{PlainFormat, Grouped}
 use Rattle.dia_witness.specs.Shortest.{AreBytes}
-use Rattle.dia_book.specs.Dictionary.{Dictionary, DictEntry}
+use Rattle.dia_book.specs.Dictionary.{Dictionary, DictEntry, PlainDefinition, IsDictionary}
+use Rattle.dia_check.proofs.FaultlessLevels.{all_at}
 use Rattle.dia_compat.proofs.FilteredMembers.{taken}
 use Rattle.dia_levels.specs.LevelTests.{too_long}
 use Rattle.dia_least.specs.declared.lookup.Least.{Least}
@@ -27,7 +29,7 @@ entry_last [] x (suc e) is = absurd (omega (arith, is))
 entry_last (y ∷ xs) x zero is = absurd (omega (arith, is))
 entry_last (y ∷ xs) x (suc e) is = entry_last xs x e (omega (arith, is))
 
-entry_behind : (xs : List ℕ) (e : ℕ) → length xs ≤ e → entry_length xs e ≡ too_long
+pub entry_behind : (xs : List ℕ) (e : ℕ) → length xs ≤ e → entry_length xs e ≡ too_long
 entry_behind [] e le = refl
 entry_behind (x ∷ xs) zero le = absurd (omega (arith, le))
 entry_behind (x ∷ xs) (suc e) le = entry_behind xs e (omega (arith, le))
@@ -57,32 +59,44 @@ head_long key = by key.vendor
     by zero = omega arith
     by (suc n) = omega arith
 
-leaf_within : (entry : DictEntry) (n : ℕ) → IsLeafLength entry n → (8 ≤ n) × (n ≤ too_long)
+pub leaf_within : (entry : DictEntry) (n : ℕ) → IsLeafLength entry n → (8 ≤ n) × (n ≤ too_long)
 leaf_within entry n (inl (bytes, are, leaf, least, is)) =
     let long = head_long entry.key in
     let up = rounded_up (shortest_head entry.key + length bytes) in
     (omega (arith, is, long, up), omega (arith, is))
 leaf_within entry n (inr (is, none)) = (omega (arith, is), omega (arith, is))
 
-leaf_floor : (entry : DictEntry) (n : ℕ) (bytes : List ℕ) → IsLeafLength entry n → AreBytes bytes → IsLeaf entry.format bytes → n ≤ padded (shortest_head entry.key + length bytes)
+pub leaf_floor : (entry : DictEntry) (n : ℕ) (bytes : List ℕ) → IsLeafLength entry n → AreBytes bytes → IsLeaf entry.format bytes → n ≤ padded (shortest_head entry.key + length bytes)
 leaf_floor entry n bytes (inl (own, are, leaf, least, is)) every some =
     let le = least bytes some in
     let more = rounded_more (shortest_head entry.key + length own) (shortest_head entry.key + length bytes) (omega (arith, le)) in
     omega (arith, is, more)
 leaf_floor entry n bytes (inr (is, none)) every some = absurd (none bytes every some)
 
-there : {X : Type 0} (xs : List X) (e : ℕ) → e < length xs → (x : X) × (slice_get xs e ≡ Some x)
+pub there : {X : Type 0} (xs : List X) (e : ℕ) → e < length xs → (x : X) × (slice_get xs e ≡ Some x)
 there [] e within = absurd (omega (arith, within))
 there (x ∷ xs) zero within = (x, refl)
 there (x ∷ xs) (suc e) within = there xs e (omega (arith, within))
 
-pub leaves_kept : (d : Dictionary) (least : Least) → length least.lengths.items ≡ length d.entries → length least.fillers.items ≡ length d.entries → least.unknown.vendor ≡ 0
+-- an entry with the length of a leaf, which is none
+group_none : (entry : DictEntry) (n : ℕ) → entry.format ≡ Grouped → IsLeafLength entry n → n ≡ too_long
+group_none entry n grouped (inl (bytes, are, leaf, least, is)) = absurd (subst (λ (f : PlainFormat). IsLeaf f bytes) grouped leaf)
+group_none entry n grouped (inr (is, none)) = is
+
+is_grouped : (d : Dictionary) (e : ℕ) (entry : DictEntry) (group : PlainDefinition) → IsDictionary d → slice_get d.entries e ≡ Some entry → entry.group ≡ Some group → entry.format ≡ Grouped
+is_grouped d e entry group sound at some =
+    (all_at (λ (x : DictEntry). (x.format ≡ Grouped) ↔ IsSome x.group) d.entries e entry sound.grouped at).1 (ap (λ (x : Option PlainDefinition). is_some x) some)
+
+pub leaves_kept : (d : Dictionary) (least : Least) → IsDictionary d → length least.lengths.items ≡ length d.entries → length least.fillers.items ≡ length d.entries → least.unknown.vendor ≡ 0
     → AreLeafLengths d.entries least.lengths.items (length d.entries) → AreKept d least
-leaves_kept d least size fillers vendor all = record {
+leaves_kept d least sound size fillers vendor all = record {
   whole = (size, fillers);
   vendor = vendor;
   within = λ e. by e (cases_lt e (length d.entries));
-  leaves = λ e entry bytes at none every leaf. leaf_floor entry (entry_length least.lengths.items e) bytes (all e entry (slice_get_within d.entries e entry at) at) every leaf;
+  leaves = λ e entry at none. all e entry (slice_get_within d.entries e entry at) at;
+  above = λ e entry group filler at some floor.
+      let is = group_none entry (entry_length least.lengths.items e) (is_grouped d e entry group sound at some) (all e entry (slice_get_within d.entries e entry at) at) in
+      omega (arith, is);
 }
   where
     by : (e : ℕ) → (e < length d.entries) ⊎ (length d.entries ≤ e) → (8 ≤ entry_length least.lengths.items e) × (entry_length least.lengths.items e ≤ too_long)

@@ -1,24 +1,24 @@
 -- A pass makes lengths less, and keeps what holds of them.
-use Rattle.std.proofs.Common.{◌≡◌, ℕ, zero, suc, ◌+◌, ◌<◌, ◌≤◌, Bool, true, false, List, [], ◌∷◌, length, Option, Some, None, get_or, refl, sym, ap, subst, ◌∙◌, arith, inl, inr}
-use Rattle.std.specs.Prelude.{◌⊎◌, slice_get, slice_set, nat_lt, sum_by, IfSome, if◌then◌else◌}
-use Rattle.std.specs.Option.{option_map_or}
+use Rattle.std.proofs.Common.{◌≡◌, ℕ, zero, suc, ◌+◌, ◌<◌, ◌≤◌, Bool, true, false, List, [], ◌∷◌, ◌++◌, length, Option, Some, None, get_or, refl, sym, ap, subst, ◌∙◌, arith, inl, inr}
+use Rattle.std.specs.Prelude.{◌⊎◌, slice_get, slice_set, slice_index_or, nat_lt, sum_by, IfSome, if◌then◌else◌}
 use Rattle.std.proofs.lemmas.Bool.{cases_eq, cases_lt, ltb-true, ltb-false}
-use Rattle.std.proofs.lemmas.Option.{none-some, same_Some}
+use Rattle.std.proofs.lemmas.Option.{none-some}
 use Rattle.std.proofs.lemmas.List.{length-set, get_or-set_same, get_or-set_other}
+use Rattle.std.proofs.lemmas.List.Elements.{All-push}
 use Rattle.std.proofs.lemmas.List.Sums.{sum_by-set}
 use Rattle.dia_wire.specs.declared.Key.{Key}
 use Rattle.dia_book.specs.declared.DRule.{DRule}
 use Rattle.dia_book.specs.Dictionary.{Dictionary, DictEntry, PlainDefinition, group_place}
 use Rattle.dia_compat.specs.Tests.{rules_in}
 use Rattle.dia_compat.proofs.GroupNumbers.{number_of, group_there}
-use Rattle.dia_compat.proofs.ReachedKeys.{group_number, at_some}
 use Rattle.dia_policy.specs.declared.Sends.{Sends}
 use Rattle.dia_levels.specs.LevelTests.{too_long, base_length}
 use Rattle.dia_least.specs.declared.lookup.Least.{Least}
 use Rattle.dia_least.specs.declared.order.Ranked.{Ranked}
 use Rattle.dia_least.specs.Floors.{shortest_head}
-use Rattle.dia_least.specs.Lengths.{entry_length, length_of, IsOrder, filler_of, filler_length, group_length}
-use Rattle.dia_least.specs.Passes.{IsWhole, IsLess, IsSettledBy, IsSettled, AreKept, AreSettled, length_in, total_length}
+use Rattle.dia_least.specs.Lengths.{entry_length, length_of, IsLeafLength, IsOrder, filler_of, filler_length, group_length}
+use Rattle.dia_least.specs.Passes.{IsWhole, IsLess, IsSettledBy, IsSettled, AreAbove, AreKept, AreNoShorter, AreSettled, length_in, total_length}
+use Rattle.dia_least.proofs.AboveLengths.{length_less, TakesNoMore, above_on, value_of}
 use Rattle.dia_least.proofs.FloorsOfAvps.{rounded_up}
 use Rattle.dia_least.proofs.LeafLengths.{head_long}
 
@@ -65,24 +65,33 @@ not_less d old new whole sends unknown same fillers = record {
   total = let own = ap (λ (xs : List ℕ). sum_by (λ k. k) xs) same in omega (arith, own);
   less = λ e. absurd (let bad : false ≡ true = e in cc);
   same = λ e. same;
+  leaves = λ e entry at none. ap (λ (xs : List ℕ). entry_length xs e) same;
+  above = λ before. subst (λ (s : Sends). AreAbove d s new.lengths.items) (sym sends) (subst (AreAbove d old.sends) (sym same) before);
 }
 
 -- one length is less
 pub one_less : (d : Dictionary) (old new : Least) (i n : ℕ) → IsWhole d old → new.sends ≡ old.sends → new.unknown ≡ old.unknown → new.lengths.items ≡ slice_set old.lengths.items i n
-    → length new.fillers.items ≡ length old.fillers.items → i < length old.lengths.items → 8 ≤ n → n < entry_length old.lengths.items i → IsLess d old new true
-one_less d old new i n whole sends unknown is fillers within head less =
+    → length new.fillers.items ≡ length old.fillers.items → i < length old.lengths.items → 8 ≤ n → n < entry_length old.lengths.items i
+    → ((entry : DictEntry) → slice_get d.entries i ≡ Some entry → entry.group ≡ None → ⊥) → TakesNoMore d old.sends old.lengths.items i n → IsLess d old new true
+one_less d old new i n whole sends unknown is fillers within head less no_leaf takes =
     let xs = old.lengths.items in
     let sum = set_total xs i n within less in
     let own = ap (λ (ys : List ℕ). sum_by (λ k. k) ys) is in
+    let each : (e : ℕ) → entry_length new.lengths.items e ≤ entry_length xs e =
+    λ e. subst (λ (ys : List ℕ). entry_length ys e ≤ entry_length xs e) (sym is) (set_no_more xs i n e within (omega (arith, less))) in
+    let others : (e : ℕ) → (e ≡ i → ⊥) → entry_length new.lengths.items e ≡ entry_length xs e = λ e other. ap (λ (ys : List ℕ). entry_length ys e) is ∙ set_other xs i n e other in
     record {
       sends = sends;
       unknown = unknown;
       whole = (ap length is ∙ length-set xs i n ∙ whole.0, fillers ∙ whole.1);
-      no_more = λ e. subst (λ (ys : List ℕ). entry_length ys e ≤ entry_length xs e) (sym is) (set_no_more xs i n e within (omega (arith, less)));
+      no_more = each;
       heads = λ all e. subst (λ (ys : List ℕ). 8 ≤ entry_length ys e) (sym is) (set_heads xs i n within head all e);
       total = omega (arith, sum, own);
       less = λ e. omega (arith, sum, own);
       same = λ e. absurd (let bad : true ≡ false = e in cc);
+      leaves = λ e entry at none. others e (λ own_place. no_leaf entry (subst (λ (k : ℕ). slice_get d.entries k ≡ Some entry) own_place at) none);
+      above = λ before. subst (λ (s : Sends). AreAbove d s new.lengths.items) (sym sends)
+          (above_on d old.sends xs new.lengths.items i n each others (ap (λ (ys : List ℕ). entry_length ys i) is ∙ set_same xs i n within) takes before);
     }
 
 -- one after the other
@@ -97,6 +106,8 @@ less_and_less d old mid new a b c x y some none = record {
   total = let first = x.total in let second = y.total in omega (arith, first, second);
   less = λ e. by (some e);
   same = λ e. y.same (none e).1 ∙ x.same (none e).0;
+  leaves = λ e entry at no_group. y.leaves e entry at no_group ∙ x.leaves e entry at no_group;
+  above = λ before. y.above (x.above before);
 }
   where
     by : (a ≡ true) ⊎ (b ≡ true) → total_length new < total_length old
@@ -109,8 +120,23 @@ kept_on d old new changed kept less = record {
   whole = less.whole;
   vendor = ap (λ k. k.vendor) less.unknown ∙ kept.vendor;
   within = λ e. (less.heads (λ i. (kept.within i).0) e, let first = (kept.within e).1 in let second = less.no_more e in omega (arith, first, second));
-  leaves = λ e entry bytes at none every leaf. let first = kept.leaves e entry bytes at none every leaf in let second = less.no_more e in omega (arith, first, second);
+  leaves = λ e entry at none. subst (IsLeafLength entry) (sym (less.leaves e entry at none)) (kept.leaves e entry at none);
+  above = less.above kept.above;
 }
+
+-- AVPs that are not shorter stay so
+pub ranks_on : (d : Dictionary) (old new : Least) (order : List Ranked) (changed : Bool) → AreNoShorter (length_in d old) order → IsLess d old new changed → AreNoShorter (length_in d new) order
+ranks_on d old new order changed ranks less = λ k r within. each (slice_index_or order k r) (ranks k r within)
+  where
+    each : (r : Ranked) → length_in d old r.key ≤ r.length → length_in d new r.key ≤ r.length
+    each r le =
+        let more = length_less d new.sends old.lengths.items new.lengths.items less.no_more r.key in
+        let same : length_of d new.sends old.lengths.items r.key ≡ length_in d old r.key = ap (λ (s : Sends). length_of d s old.lengths.items r.key) less.sends in
+        omega (arith, le, more, same)
+
+-- and so with one more of its own length
+pub pushed_ranks : (f : Key → ℕ) (xs new : List Ranked) (r : Ranked) → new ≡ xs ++ r ∷ [] → AreNoShorter f xs → r.length ≡ f r.key → AreNoShorter f new
+pushed_ranks f xs new r is ranks same = subst (AreNoShorter f) (sym is) (All-push (λ (x : Ranked). f x.key ≤ x.length) xs r ranks (omega (arith, same)))
 
 -- where none is changed, what is settled stays so
 pub settled_on : (d : Dictionary) (old new : Least) (order : List Ranked) (e : ℕ) → IsLess d old new false → IsSettled d old order e → IsSettled d new order e
@@ -139,10 +165,10 @@ group_heads length filler key rules =
 -- a group's length is made less, or is no more than its least level makes it
 pub lowered : (d : Dictionary) (old new : Least) (i n : ℕ) (changed : Bool) → IsWhole d old → i < length d.entries → new.sends ≡ old.sends → new.unknown ≡ old.unknown
     → new.lengths.items ≡ (if changed then slice_set old.lengths.items i n else old.lengths.items) → length new.fillers.items ≡ length old.fillers.items → 8 ≤ n → changed ≡ nat_lt n (entry_length old.lengths.items i)
-    → IsLess d old new changed
-lowered d old new i n true whole within sends unknown lengths fillers head test =
-    one_less d old new i n whole sends unknown lengths fillers (let size = whole.0 in omega (arith, within, size)) head (ltb-true n (entry_length old.lengths.items i) (sym test))
-lowered d old new i n false whole within sends unknown lengths fillers head test = not_less d old new whole sends unknown lengths fillers
+    → ((entry : DictEntry) → slice_get d.entries i ≡ Some entry → entry.group ≡ None → ⊥) → TakesNoMore d old.sends old.lengths.items i n → IsLess d old new changed
+lowered d old new i n true whole within sends unknown lengths fillers head test no_leaf takes =
+    one_less d old new i n whole sends unknown lengths fillers (let size = whole.0 in omega (arith, within, size)) head (ltb-true n (entry_length old.lengths.items i) (sym test)) no_leaf takes
+lowered d old new i n false whole within sends unknown lengths fillers head test no_leaf takes = not_less d old new whole sends unknown lengths fillers
 
 -- a pass goes one entry further
 pub pass_on : (d : Dictionary) (old mid new : Least) (order : List Ranked) (i : ℕ) (a b c : Bool) → IsLess d old mid a → (a ≡ false → (e : ℕ) → e < i → IsSettled d mid order e) → IsLess d mid new b
@@ -162,14 +188,8 @@ pub settled_by : (d : Dictionary) (old new : Least) (order : List Ranked) (i def
     → n ≡ group_length (length_in d old) (filler_length (filler_of old.sends old.unknown order (rules_in d def))) key (rules_in d def) → false ≡ nat_lt n (entry_length old.lengths.items i)
     → IsSettled d new order i
 settled_by d old new order i def n key less place key_is is test = settled_on d old new order i less (λ entry group at some.
-    let number = group_number d i def entry at place in
-    let same : number.0 ≡ group = same_Some number.0 group (sym number.1 ∙ some) in
-    let own_rules : rules_in d def ≡ group.rules = ap (λ (o : Option PlainDefinition). option_map_or (λ x. x.rules) o []) number.2 ∙ ap (λ (x : PlainDefinition). x.rules) same in
-    let own : key ≡ entry.key = at_some (λ (e : DictEntry). key ≡ e.key) (slice_get d.entries i) entry key_is at in
     let le = ltb-false n (entry_length old.lengths.items i) (sym test) in
-    let value : n ≡ group_length (length_in d old) (filler_length (filler_of old.sends old.unknown order group.rules)) entry.key group.rules =
-    is ∙ ap (λ (rs : List DRule). group_length (length_in d old) (filler_length (filler_of old.sends old.unknown order rs)) key rs) own_rules
-    ∙ ap (λ (k : Key). group_length (length_in d old) (filler_length (filler_of old.sends old.unknown order group.rules)) k group.rules) own in
+    let value = value_of d (length_in d old) (λ rules. filler_length (filler_of old.sends old.unknown order rules)) i def n key entry group at some place key_is is in
     omega (arith, le, value))
 
 -- what is no group is settled

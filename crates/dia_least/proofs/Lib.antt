@@ -1,6 +1,12 @@
+pub mod AboveLengths
+pub mod AttainedLengths
 pub mod BytesOfAvps
+pub mod ExactLengths
 pub mod FloorsOfAvps
 pub mod FloorsOfLengths
 pub mod LeafLengths
 pub mod LessLengths
+pub mod LessLevels
+pub mod OneSolution
 pub mod ShortestAvps
+pub mod ShortestLevels

@@ -5,12 +5,15 @@ use Rattle.dia_wire.specs.declared.Key.{Key}
 use Rattle.dia_wire.specs.Lengths.{header_length, three_bytes}
 use Rattle.dia_wire.specs.Wire.{PlainAvp, key_of, padded_length}
 use Rattle.dia_data.specs.Leaf.{IsLeaf}
-use Rattle.dia_book.specs.Dictionary.{Dictionary, DictEntry, PlainDefinition}
+use Rattle.dia_book.specs.Dictionary.{Dictionary, DictEntry, PlainDefinition, IsDictionary}
 use Rattle.dia_check.specs.Valid.{known}
 use Rattle.dia_policy.specs.declared.Sends.{Sends}
 use Rattle.dia_policy.specs.declared.Sends.TheVariants.{Any}
 use Rattle.dia_sites.specs.Sent.{IsSent, IsSentAvp, StandAsSent, AreBytes}
+use Rattle.dia_levels.specs.LevelTests.{too_long}
+use Rattle.dia_least.specs.Exact.{AreExact, AreSpellable, IsStranger}
 use Rattle.dia_least.specs.Floors.{AreFloors, IsAttained, IsSpellable, padded, shortest_head, total}
+use Rattle.dia_least.specs.Lengths.{length_of}
 
 -- no AVP that is sent is shorter than its key's floor
 abbrev pub NoAvpIsShorter : Type 0
@@ -34,3 +37,12 @@ abbrev pub GroupIsAttained : Type 0
 GroupIsAttained = (d : Dictionary) (sends : Sends) (cost : Key → ℕ) (key : Key) (entry : DictEntry) (group : PlainDefinition) (keys : List Key) → IsSpellable key → known d key ≡ Some entry
     → entry.group ≡ Some group → StandAsSent sends group.rules keys → AllByRecursion (λ k. IsAttained d sends k (cost k)) keys
     → shortest_head key + total cost keys < three_bytes → IsAttained d sends key (padded (shortest_head key + total cost keys))
+
+-- the equations of the least lengths have one solution
+abbrev pub LengthsAreOne : Type 0
+LengthsAreOne = (d : Dictionary) (sends : Sends) (xs ys : List ℕ) → AreExact d sends xs → AreExact d sends ys → xs ≡ ys
+
+-- and each length of it is attained, but for the one that stands for none
+abbrev pub LengthIsAttained : Type 0
+LengthIsAttained = (d : Dictionary) (sends : Sends) (lengths : List ℕ) (unknown : Key) → IsDictionary d → AreSpellable d → IsStranger d unknown → AreExact d sends lengths
+    → (key : Key) → IsSpellable key → length_of d sends lengths key < too_long → IsAttained d sends key (length_of d sends lengths key)

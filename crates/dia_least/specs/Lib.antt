@@ -1,3 +1,4 @@
+pub mod Exact
 pub mod Floors
 pub mod Laws
 pub mod Lengths

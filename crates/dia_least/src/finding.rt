@@ -2,8 +2,10 @@
 ghost use Rattle.std.specs.Prelude.{◌≡◌, ◌<◌, ℕ, nat_lt, false, length, IfSome, IfOk};
 ghost use Rattle.std.specs.Prelude.{slice_get, slice_set, if◌then◌else◌};
 ghost use Rattle.dia_least.specs.Lengths.{IsLeafLength, entry_length};
+ghost use Rattle.dia_least.specs.Exact.{AreExact};
 ghost use Rattle.dia_least.specs.Floors.{AreFloors};
-ghost use Rattle.dia_least.specs.Passes.{AreKept, AreSettled, IsLess, IsSettled, IsWhole};
+ghost use Rattle.dia_least.specs.Passes.{AreKept, AreNoShorter, AreSettled, IsLess, IsSettled};
+ghost use Rattle.dia_least.specs.Passes.{IsWhole};
 ghost use Rattle.dia_least.specs.Passes.{length_in};
 
 use crate::lengths::{padded, shortest_head};
@@ -27,6 +29,8 @@ pub fn least_lengths<B: Book>(alloc: Global, book: &B, sends: Sends) -> Result<L
     ensures sends { IfOk result (λ least. least.sends ≡ sends) }
     ensures floors { IfOk result (λ least. AreFloors (B.meaning book.now) sends
         (length_in (B.meaning book.now) least)) }
+    ensures exact { IfOk result (λ least. AreExact (B.meaning book.now) sends
+        least.lengths.items) }
 {
     let least = leaves(alloc, book, sends)?;
     let least = search(alloc, book, least)?;
@@ -100,7 +104,8 @@ fn unknown_key<B: Book>(book: &B) -> Key
 
 /// Makes the lengths of groups less by their least levels, and says whether some are.
 fn lower_all<B: Book>(least: &mut Least, book: &B, order: &[Ranked]) -> bool
-    requires { IsWhole (B.meaning book.now) least.old }
+    requires whole { IsWhole (B.meaning book.now) least.old }
+    requires ranks { AreNoShorter (length_in (B.meaning book.now) least.old) order.now }
     ensures less { IsLess (B.meaning book.now) least.old least.new result }
     ensures settled { result ≡ false → (e : ℕ) → e < length (B.meaning book.now).entries
         → IsSettled (B.meaning book.now) least.new order.now e }
@@ -118,6 +123,7 @@ fn lower_all<B: Book>(least: &mut Least, book: &B, order: &[Ranked]) -> bool
 pub(crate) fn lower<B: Book>(least: &mut Least, book: &B, order: &[Ranked], index: usize) -> bool
     requires whole { IsWhole (B.meaning book.now) least.old }
     requires within { index < length (B.meaning book.now).entries }
+    requires ranks { AreNoShorter (length_in (B.meaning book.now) least.old) order.now }
     ensures less { IsLess (B.meaning book.now) least.old least.new result }
     ensures settled { result ≡ false → IsSettled (B.meaning book.now) least.new order.now index }
 {

@@ -1,6 +1,7 @@
 //! What holds of all that a side sends.
-ghost use Rattle.dia_least.specs.Laws.{GroupIsAttained, LeafIsAttained, NoAvpIsShorter};
-ghost use Rattle.dia_least.specs.Laws.{NoMessageIsShorter, UnknownIsAttained};
+ghost use Rattle.dia_least.specs.Laws.{GroupIsAttained, LeafIsAttained, LengthIsAttained};
+ghost use Rattle.dia_least.specs.Laws.{LengthsAreOne, NoAvpIsShorter, NoMessageIsShorter};
+ghost use Rattle.dia_least.specs.Laws.{UnknownIsAttained};
 
 /// No AVP that is sent is shorter than a floor of its key says, with its padding.
 pub fn no_avp_is_shorter()
@@ -25,4 +26,14 @@ pub fn unknown_is_attained()
 /// AVPs that are sent, and stand as the rules of a group say, make a group that is sent.
 pub fn group_is_attained()
     ensures { GroupIsAttained }
+{}
+
+/// The lengths of shortest AVPs are one list: no other solves their equations.
+pub fn lengths_are_one()
+    ensures { LengthsAreOne }
+{}
+
+/// Some AVP of each key that is sent has the length that is found for it.
+pub fn length_is_attained()
+    ensures { LengthIsAttained }
 {}

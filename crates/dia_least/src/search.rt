@@ -1,6 +1,6 @@
 //! Groups in the order in which their least lengths are found: the shortest AVP first, as in Dijkstra's search.
 ghost use Rattle.std.specs.Prelude.{◌≡◌, ◌<◌, length, IfOk};
-ghost use Rattle.dia_least.specs.Passes.{AreKept};
+ghost use Rattle.dia_least.specs.Passes.{AreKept, AreNoShorter, length_in};
 
 use crate::finding::lower;
 use crate::lookup::Least;
@@ -153,15 +153,16 @@ pub(crate) fn search<B: Book>(alloc: Global, book: &B, least: Least) -> Result<L
     let first = wants_nothing(alloc, &wants)?;
     reach(book, &mut last, &order, &first, &mut queue)?;
     for _ in 0..book.entries() {
-        let Some(Reverse((length, index))) = queue.pop() else {
+        let Some(Reverse((_, index))) = queue.pop() else {
             return Ok(last);
         };
         if index >= book.entries() {
             return Ok(last);
         }
+        let key = book.entry_key(book.entry_at(index));
         let ranked = Ranked {
-            key: book.entry_key(book.entry_at(index)),
-            length,
+            key,
+            length: last.key(book, key),
         };
         order.push(ranked)?;
         let mut ready = Vec::new(alloc);
@@ -191,9 +192,11 @@ fn reach<B: Book>(
     ready: &[usize],
     queue: &mut BinaryHeap<Next>,
 ) -> Result<(), AllocError>
-    requires { AreKept (B.meaning book.now) least.old }
+    requires kept { AreKept (B.meaning book.now) least.old }
+    requires ranks { AreNoShorter (length_in (B.meaning book.now) least.old) order.now }
     ensures sends { least.new.sends ≡ least.old.sends }
     ensures kept { AreKept (B.meaning book.now) least.new }
+    ensures ranks { AreNoShorter (length_in (B.meaning book.now) least.new) order.now }
 {
     for index in ready {
         reach_one(book, least, order, *index, queue)?;
@@ -208,9 +211,11 @@ fn reach_one<B: Book>(
     index: usize,
     queue: &mut BinaryHeap<Next>,
 ) -> Result<(), AllocError>
-    requires { AreKept (B.meaning book.now) least.old }
+    requires kept { AreKept (B.meaning book.now) least.old }
+    requires ranks { AreNoShorter (length_in (B.meaning book.now) least.old) order.now }
     ensures sends { least.new.sends ≡ least.old.sends }
     ensures kept { AreKept (B.meaning book.now) least.new }
+    ensures ranks { AreNoShorter (length_in (B.meaning book.now) least.new) order.now }
 {
     if index < book.entries() {
         let _ = lower(least, book, order, index);

@@ -1,7 +1,9 @@
 use Rattle.std.proofs.Common.{subst, ◌∙◌}
 use Rattle.dia_policy.specs.declared.Sends.{Sends}
+use Rattle.dia_least.specs.Exact.{AreExact}
 use Rattle.dia_least.specs.Floors.{AreFloors}
 use Rattle.dia_least.specs.Passes.{length_in}
+use Rattle.dia_least.proofs.ExactLengths.{are_exact}
 use Rattle.dia_least.proofs.FloorsOfLengths.{are_floors}
 use Rattle.dia_least.proofs.finding.least_lengths.Goals as goal
 
@@ -11,3 +13,10 @@ returns-clause-floors g c =
     let least = c.in_ok-least-3.least in
     subst (λ (s : Sends). AreFloors d s (length_in d least)) (c.in_ok-least-3.ensures.sends ∙ c.in_ok-least-2.ensures.sends ∙ c.in_ok-least.ensures.sends)
     (are_floors d least (g.met.B.Book.sound c.args.book.now) c.in_ok-least-3.ensures.kept c.in_ok-least-3.ensures.settled)
+
+pub returns-clause-exact : goal.returns-clause-exact
+returns-clause-exact g c =
+    let d = g.B.Book.meaning c.args.book.now in
+    let least = c.in_ok-least-3.least in
+    subst (λ (s : Sends). AreExact d s least.lengths.items) (c.in_ok-least-3.ensures.sends ∙ c.in_ok-least-2.ensures.sends ∙ c.in_ok-least.ensures.sends)
+    (are_exact d least c.in_ok-least-3.ensures.kept c.in_ok-least-3.ensures.settled)

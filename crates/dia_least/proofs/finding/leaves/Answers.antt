@@ -26,4 +26,4 @@ returns-clause-kept g c =
     let size = c.loop-index.invariant.0 in
     let fillers = c.loop-index.invariant.1 in
     leaves_kept d (record { sends = c.args.sends; unknown = c.unknown_key.result; lengths = c.loop-index.lengths; fillers = c.loop-index.fillers })
-    (omega (arith, size, done)) (omega (arith, fillers, done)) c.unknown_key.ensures (λ e entry within at. c.loop-index.invariant.2 e entry (omega (arith, within, done)) at)
+    (g.met.B.Book.sound c.args.book.now) (omega (arith, size, done)) (omega (arith, fillers, done)) c.unknown_key.ensures (λ e entry within at. c.loop-index.invariant.2 e entry (omega (arith, within, done)) at)
