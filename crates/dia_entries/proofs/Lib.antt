@@ -5,3 +5,4 @@ pub mod NoLevels
 pub mod Heads
 pub mod Readings
 pub mod Alone
+mod AnyData

@@ -1,9 +1,9 @@
 -- What AVPs of one key are sent, and which of them a receiver accepts, by their flags and by their data.
-use Rattle.std.specs.Prelude.{◌≡◌, ℕ, ◌≤◌, List, length, Bool, true, false, Option, Some, slice_get, option_and_then, MatchOption, ⊤}
+use Rattle.std.specs.Prelude.{◌≡◌, ℕ, ◌≤◌, List, length, Bool, true, false, Option, Some, None, slice_get, option_and_then, MatchOption, ⊤}
 use Rattle.dia_wire.specs.declared.Key.{Key}
 use Rattle.dia_wire.specs.Wire.{HasM}
 use Rattle.dia_data.specs.Leaf.{IsLeaf}
-use Rattle.dia_book.specs.Dictionary.{Dictionary, PlainDefinition, definitions}
+use Rattle.dia_book.specs.Dictionary.{Dictionary, DictEntry, PlainDefinition, definitions}
 use Rattle.dia_policy.specs.declared.Unknown.{Unknown}
 use Rattle.dia_policy.specs.declared.sends.Sends.{Sends}
 use Rattle.dia_policy.specs.declared.sends.Sends.TheVariants.{Any}
@@ -31,6 +31,10 @@ group_of d key = option_and_then (λ e. e.group) (known d key)
 -- AVPs of the key are groups, and this is the number of their definition
 abbrev pub HasGroup : Dictionary → Key → ℕ → Type 0
 HasGroup d key number = (group : PlainDefinition) × (group_of d key ≡ Some group) × (slice_get (definitions d) number ≡ Some group)
+
+-- the dictionary takes any data of AVPs of the key: it doesn't know them, or they are leaves of a format that has all data
+abbrev pub TakesAnyData : Dictionary → Key → Type 0
+TakesAnyData d key = (e : DictEntry) → known d key ≡ Some e → (e.group ≡ None) × ((bytes : List ℕ) → IsLeaf e.format bytes)
 
 -- shortest data that are sent and not accepted
 pub record IsShortestRefused (IsSentHere IsAcceptedHere : List ℕ → Type 0) (bytes : List ℕ) : Type 0 where

@@ -1,9 +1,11 @@
 //! The AVPs of one key.
-ghost use Rattle.std.specs.Prelude.{◌≡◌, Some};
+ghost use Rattle.std.specs.Prelude.{◌≡◌, IsSome, Some};
 ghost use Rattle.dia_book.specs.Dictionary.{entry_of};
 ghost use Rattle.dia_policy.specs.declared.Unknown.{Unknown as AnyPolicy};
 ghost use Rattle.dia_entries.specs.Breaks.{IsDataBreak, IsHeadBreak, IsSilent};
 ghost use Rattle.dia_entries.specs.Laws.{FitKeyAlone};
+ghost use Rattle.dia_entries.specs.Sent.{TakesAnyData, group_of};
+ghost use Rattle.dia_entries.specs.declared.breaking.DataBreak.TheVariants.{Fits as NoBreak};
 
 use crate::breaking::{AvpBreaks, DataBreak, HeadBreak};
 use crate::flags::{m_flags, own_policy, refused_flag};
@@ -22,6 +24,8 @@ pub fn avp_breaks<A: Book, B: Book>(
 ) -> AvpBreaks
     ensures head { IsHeadBreak (A.meaning a.now) (B.meaning b.now) sends unknown key result.head }
     ensures content { IsDataBreak (A.meaning a.now) (B.meaning b.now) sends unknown key result.data }
+    ensures levels { IsSome (group_of (A.meaning a.now) key) → result.data ≡ NoBreak
+        → TakesAnyData (B.meaning b.now) key }
     ensures alone { IsSilent result
         → FitKeyAlone (A.meaning a.now) (B.meaning b.now) sends unknown key }
 {
@@ -51,8 +55,10 @@ fn head_break<A: Book, B: Book>(
 
 /// What breaks of the data.
 fn data_break<A: Book, B: Book>(a: &A, b: &B, key: Key, sends: Sends) -> DataBreak
-    ensures { (u : AnyPolicy)
+    ensures content { (u : AnyPolicy)
         → IsDataBreak (A.meaning a.now) (B.meaning b.now) sends u key result }
+    ensures levels { IsSome (group_of (A.meaning a.now) key) → result ≡ NoBreak
+        → TakesAnyData (B.meaning b.now) key }
 {
     match b.avp(key) {
         Some(entry) => known_break(a, b, key, entry, sends),
@@ -63,8 +69,10 @@ fn data_break<A: Book, B: Book>(a: &A, b: &B, key: Key, sends: Sends) -> DataBre
 /// What breaks of the data of an AVP that B knows. Of one that A doesn't know any data is sent.
 fn known_break<A: Book, B: Book>(a: &A, b: &B, key: Key, entry: Entry, sends: Sends) -> DataBreak
     requires { Some entry ≡ entry_of (B.meaning b.now) key }
-    ensures { (u : AnyPolicy)
+    ensures content { (u : AnyPolicy)
         → IsDataBreak (A.meaning a.now) (B.meaning b.now) sends u key result }
+    ensures levels { IsSome (group_of (A.meaning a.now) key) → result ≡ NoBreak
+        → TakesAnyData (B.meaning b.now) key }
 {
     match a.avp(key) {
         Some(own) => match a.group(own) {
