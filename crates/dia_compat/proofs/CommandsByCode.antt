@@ -23,7 +23,7 @@ use Rattle.dia_compat.specs.CommandsByCode.{has_code, commands_of, only_for, ope
 use Rattle.dia_compat.specs.Closed.{IsError}
 use Rattle.dia_compat.specs.Sides.{Compared}
 use Rattle.dia_compat.specs.PairTests.{NamePair, names_app, wants_app, is_wanted, serves, serves_app, same_code_and_class, is_proxiable, is_pair, is_ready, is_selected, all_selected, is_command_pair, failed_rules, failed_commands}
-use Rattle.dia_compat.specs.declared.inclusion.Test.TheVariants.{N10}
+use Rattle.dia_compat.specs.declared.checking.Test.TheVariants.{N10}
 use Rattle.dia_compat.specs.Tests.{rules_in}
 use Rattle.dia_compat.specs.WantedNames.{wanted_name, wanted_names}
 use Rattle.dia_compat.proofs.RunsOfFixedRules.{IsIn}

@@ -2,12 +2,12 @@
 use Rattle.std.proofs.Common.{◌≡◌, ℕ, Option, Some, sym, subst}
 use Rattle.std.specs.Prelude.{Result, Ok, Err, IfOk, MatchOption}
 use Rattle.dia_book.specs.Dictionary.{IsDictionary}
-use Rattle.dia_compat.specs.declared.inclusion.Answer.{Answer}
-use Rattle.dia_compat.specs.declared.inclusion.Answer.TheVariants.{Yes}
+use Rattle.dia_compat.specs.declared.checking.Answer.{Answer}
+use Rattle.dia_compat.specs.declared.checking.Answer.TheVariants.{Yes}
 use Rattle.dia_compat.specs.Closed.{IsIncluded}
 use Rattle.dia_compat.specs.Sides.{Compared}
-use Rattle.dia_compat.specs.declared.inclusion.Test.{Test}
-use Rattle.dia_compat.specs.declared.inclusion.Test.TheVariants.{N10}
+use Rattle.dia_compat.specs.declared.checking.Test.{Test}
+use Rattle.dia_compat.specs.declared.checking.Test.TheVariants.{N10}
 use Rattle.dia_compat.specs.PairTests.{NamePair, entry_named}
 use Rattle.dia_compat.specs.FirstFailures.{IsAnswerOf, FailsEntries, FailsAvp}
 use Rattle.dia_compat.proofs.SelectedCommands.{included}

@@ -18,10 +18,10 @@ use Rattle.dia_book.specs.Dictionary.{Dictionary, DictEntry, PlainDefinition}
 use Rattle.dia_check.specs.declared.Unknown.{Unknown}
 use Rattle.dia_check.specs.declared.Unknown.TheVariants.{Kept, Refused}
 use Rattle.dia_check.specs.Valid.{AllowsP, known, fixed_rules, is_listed, is_wildcard, has_wildcard}
-use Rattle.dia_compat.specs.declared.inclusion.PairKind.{PairKind}
-use Rattle.dia_compat.specs.declared.inclusion.PairKind.TheVariants as kind
-use Rattle.dia_compat.specs.declared.inclusion.Test.{Test}
-use Rattle.dia_compat.specs.declared.inclusion.Test.TheVariants.{N1, N2, N3, N4, N5, N6, N7, N8, N9, N10}
+use Rattle.dia_compat.specs.declared.checking.PairKind.{PairKind}
+use Rattle.dia_compat.specs.declared.checking.PairKind.TheVariants as kind
+use Rattle.dia_compat.specs.declared.checking.Test.{Test}
+use Rattle.dia_compat.specs.declared.checking.Test.TheVariants.{N1, N2, N3, N4, N5, N6, N7, N8, N9, N10}
 use Rattle.dia_compat.specs.TableText.{PlainTable}
 use Rattle.dia_compat.specs.Below.{MaxWithin, Within, IsAboveZero, IsListed, HasWildcard, IsCoveredAlone, IsCovered, FixedWithin, IsKnown, Passes}
 use Rattle.dia_compat.specs.Closed.{NamesEntry, NamesCommand, IsPairKey, BothGrouped, IsBeside, IsWanted, error, same_app, no_app, both_none}

@@ -17,8 +17,8 @@ use Rattle.dia_book.specs.Dictionary.{Dictionary, DictEntry, AreRules, is_fixed,
 use Rattle.dia_check.specs.declared.Unknown.{Unknown}
 use Rattle.dia_check.specs.declared.Unknown.TheVariants.{Kept}
 use Rattle.dia_check.specs.Valid.{known, fixed_rules, is_listed, is_wildcard, has_wildcard}
-use Rattle.dia_compat.specs.declared.inclusion.Test.{Test}
-use Rattle.dia_compat.specs.declared.inclusion.Test.TheVariants.{N1, N2, N3, N4, N5, N6, N7, N8, N9, N10}
+use Rattle.dia_compat.specs.declared.checking.Test.{Test}
+use Rattle.dia_compat.specs.declared.checking.Test.TheVariants.{N1, N2, N3, N4, N5, N6, N7, N8, N9, N10}
 use Rattle.dia_compat.specs.Below.{MaxWithin, Within, IsAboveZero, HasRule, IsListed, HasWildcard, IsCovered, FixedWithin, IsKnown, WildcardCovered, Passes}
 use Rattle.dia_compat.specs.Tests.{is_max_within, is_within, is_above_zero, rule_of, wildcard_of, of_key, begins_with, common_rule}
 use Rattle.dia_compat.specs.Tests.{let_in_rule, covered_rule, has_room, own_rule, listed_rule, bounded_wildcard, required_wildcard, may_come}

@@ -23,9 +23,9 @@ use Rattle.dia_check.specs.declared.Levels.{Levels}
 use Rattle.dia_check.specs.declared.Levels.TheVariants as levels
 use Rattle.dia_check.specs.Valid.{HasM, MHolds, IsAccepted, known, IsLevel, FitsBy, Fits, AllFit, Placed}
 use Rattle.dia_compat.specs.TableText.{PlainTable}
-use Rattle.dia_compat.specs.declared.inclusion.PairKind.TheVariants as kind
-use Rattle.dia_compat.specs.declared.inclusion.Test.{Test}
-use Rattle.dia_compat.specs.declared.inclusion.Test.TheVariants.{N1, N2, N3, N4, N5, N6, N7, N8, N9, N10}
+use Rattle.dia_compat.specs.declared.checking.PairKind.TheVariants as kind
+use Rattle.dia_compat.specs.declared.checking.Test.{Test}
+use Rattle.dia_compat.specs.declared.checking.Test.TheVariants.{N1, N2, N3, N4, N5, N6, N7, N8, N9, N10}
 use Rattle.dia_compat.specs.Below.{IsCoveredAlone, IsCovered, IsKnown, DefBelow}
 use Rattle.dia_compat.specs.Closed.{NamesEntry, IsPairKey, BothGrouped, AvpPair, AvpTest, IsClosed}
 use Rattle.dia_compat.proofs.RunsOfFixedRules.{IsIn, in_all}

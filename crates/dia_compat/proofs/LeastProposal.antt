@@ -9,10 +9,10 @@ use Rattle.dia_book.specs.Dictionary.{Dictionary, DictEntry, PlainDefinition, Is
 use Rattle.dia_check.specs.declared.Unknown.{Unknown}
 use Rattle.dia_check.specs.Valid.{known}
 use Rattle.dia_compat.specs.TableText.{PlainTable}
-use Rattle.dia_compat.specs.declared.inclusion.PairKind.{PairKind}
-use Rattle.dia_compat.specs.declared.inclusion.PairKind.TheVariants as kind
-use Rattle.dia_compat.specs.declared.inclusion.Test.{Test}
-use Rattle.dia_compat.specs.declared.inclusion.Test.TheVariants.{N1, N2, N3, N4, N5, N6, N7, N8, N9, N10}
+use Rattle.dia_compat.specs.declared.checking.PairKind.{PairKind}
+use Rattle.dia_compat.specs.declared.checking.PairKind.TheVariants as kind
+use Rattle.dia_compat.specs.declared.checking.Test.{Test}
+use Rattle.dia_compat.specs.declared.checking.Test.TheVariants.{N1, N2, N3, N4, N5, N6, N7, N8, N9, N10}
 use Rattle.dia_compat.specs.Below.{HasRule, IsListed, HasWildcard, IsAboveZero, IsCoveredAlone, IsCovered, IsKnown, Passes, DefBelow}
 use Rattle.dia_compat.specs.Closed.{NamesEntry, NamesCommand, IsPairKey, IsWanted, error, same_app, no_app, both_none, IsServed, CommandPair, CommandTest, BothGrouped, AvpTest, IsClosed}
 use Rattle.dia_compat.specs.Proposed.{WantsPair, IsProposed, by_command, by_group, AreBeside, AreCommandPairs, IsProposal, ListsAll, IsLeast}

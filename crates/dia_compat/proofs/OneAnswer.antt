@@ -3,12 +3,12 @@ use Rattle.std.specs.Prelude.{◌⊎◌, nat_lt, if◌then◌else◌, ◌==◌}
 use Rattle.std.proofs.lemmas.Bool.{ltb-false, ltb-true}
 use Rattle.dia_book.specs.Dictionary.{Dictionary}
 use Rattle.dia_check.specs.declared.Unknown.{Unknown}
-use Rattle.dia_compat.specs.declared.inclusion.Answer.{Answer}
-use Rattle.dia_compat.specs.declared.inclusion.Answer.TheVariants.{Yes, No}
-use Rattle.dia_compat.specs.declared.inclusion.PairKind.{PairKind}
-use Rattle.dia_compat.specs.declared.inclusion.PairKind.TheVariants as kind
-use Rattle.dia_compat.specs.declared.inclusion.Test.{Test}
-use Rattle.dia_compat.specs.declared.inclusion.Test.TheVariants.{N1, N2, N3, N4, N5, N6, N7, N8, N9, N10}
+use Rattle.dia_compat.specs.declared.checking.Answer.{Answer}
+use Rattle.dia_compat.specs.declared.checking.Answer.TheVariants.{Yes, No}
+use Rattle.dia_compat.specs.declared.checking.PairKind.{PairKind}
+use Rattle.dia_compat.specs.declared.checking.PairKind.TheVariants as kind
+use Rattle.dia_compat.specs.declared.checking.Test.{Test}
+use Rattle.dia_compat.specs.declared.checking.Test.TheVariants.{N1, N2, N3, N4, N5, N6, N7, N8, N9, N10}
 use Rattle.dia_compat.specs.TableText.{PlainTable}
 use Rattle.dia_compat.specs.Closed.{IsTableAnswer, IsFirstFailure, PairBefore, test_number}
 

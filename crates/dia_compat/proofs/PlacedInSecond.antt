@@ -15,7 +15,7 @@ use Rattle.dia_check.specs.declared.Unknown.{Unknown}
 use Rattle.dia_check.specs.declared.Unknown.TheVariants.{Kept}
 use Rattle.dia_check.specs.Valid.{InBounds, Runs, fixed_rules, loose_rules, is_listed, is_wildcard, has_wildcard, MayBeLoose, counted, Placed}
 use Rattle.dia_check.proofs.LongestRuns.{AreDistinct}
-use Rattle.dia_compat.specs.declared.inclusion.Test.TheVariants.{N1, N2, N3, N5, N6, N7, N8}
+use Rattle.dia_compat.specs.declared.checking.Test.TheVariants.{N1, N2, N3, N5, N6, N7, N8}
 use Rattle.dia_compat.specs.Below.{MaxWithin, FixedWithin, IsAboveZero, HasRule, HasWildcard, IsKnown, DefBelow}
 use Rattle.dia_compat.proofs.RunsOfFixedRules.{IsIn, in_all, all_map, in_bounds, max_within, IsRunKey, Split, split, all_middle}
 use Rattle.dia_compat.proofs.MemberCounts.{at_in, in_contains, contains_in, all_in, in_filter, into_filter, any_in, in_any}

@@ -16,9 +16,9 @@ use Rattle.dia_check.specs.declared.Unknown.{Unknown}
 use Rattle.dia_check.specs.declared.Levels.{Levels}
 use Rattle.dia_check.specs.Valid.{AllowsP, class_of, Placed, IsValidOf}
 use Rattle.dia_compat.specs.TableText.{PlainTable}
-use Rattle.dia_compat.specs.declared.inclusion.PairKind.TheVariants as kind
-use Rattle.dia_compat.specs.declared.inclusion.Test.{Test}
-use Rattle.dia_compat.specs.declared.inclusion.Test.TheVariants.{N1, N2, N3, N4, N5, N6, N7, N8, N9, N10}
+use Rattle.dia_compat.specs.declared.checking.PairKind.TheVariants as kind
+use Rattle.dia_compat.specs.declared.checking.Test.{Test}
+use Rattle.dia_compat.specs.declared.checking.Test.TheVariants.{N1, N2, N3, N4, N5, N6, N7, N8, N9, N10}
 use Rattle.dia_compat.specs.Below.{DefBelow}
 use Rattle.dia_compat.specs.Closed.{NamesCommand, IsPairKey, HasCode, IsError, IsBeside, NamesApp, IsWanted, error, same_app}
 use Rattle.dia_compat.specs.Closed.{no_app, both_none, other_app, IsServed, CommandPair, CommandTest, IsClosed, IsIncluded}

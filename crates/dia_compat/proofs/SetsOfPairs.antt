@@ -12,7 +12,7 @@ use Rattle.std.proofs.lemmas.Slice.Eq.{bytes_eq-Decides}
 use Rattle.indexmap.specs.IndexSet.{insert_key}
 use Rattle.dia_book.proofs.Lists.{list_any-map}
 use Rattle.dia_book.proofs.Members.{at_map, into_map}
-use Rattle.dia_compat.specs.declared.inclusion.Test.{Test}
+use Rattle.dia_compat.specs.declared.checking.Test.{Test}
 use Rattle.dia_compat.specs.TableText.{plain_pair}
 use Rattle.dia_compat.specs.PairTests.{NamePair, plain_names, is_pair}
 use Rattle.dia_compat.specs.FirstFailures.{IsFirstFailed, IsFirstPair}

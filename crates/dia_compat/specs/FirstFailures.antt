@@ -2,11 +2,11 @@
 use Rattle.std.specs.Prelude.{◌≡◌, ℕ, ◌+◌, ◌<◌, ◌⊎◌, Bool, List, length, Option, Some, None, slice_get, MatchOption}
 use Rattle.std.specs.Option.{option_map_or}
 use Rattle.dia_book.specs.Dictionary.{Dictionary, DictEntry, IsDictionary, groups, group_place}
-use Rattle.dia_compat.specs.declared.inclusion.Answer.{Answer}
-use Rattle.dia_compat.specs.declared.inclusion.PairKind.{PairKind}
-use Rattle.dia_compat.specs.declared.inclusion.PairKind.TheVariants as kind
-use Rattle.dia_compat.specs.declared.inclusion.Test.{Test}
-use Rattle.dia_compat.specs.declared.inclusion.Test.TheVariants.{N10}
+use Rattle.dia_compat.specs.declared.checking.Answer.{Answer}
+use Rattle.dia_compat.specs.declared.checking.PairKind.{PairKind}
+use Rattle.dia_compat.specs.declared.checking.PairKind.TheVariants as kind
+use Rattle.dia_compat.specs.declared.checking.Test.{Test}
+use Rattle.dia_compat.specs.declared.checking.Test.TheVariants.{N10}
 use Rattle.dia_compat.specs.Sides.{Compared}
 use Rattle.dia_compat.specs.Closed.{CommandTest, AvpTest, AvpPair, IsTableAnswer, test_number}
 use Rattle.dia_compat.specs.PairTests.{NamePair, entry_named, command_named, all_selected, failed_commands, failed_groups}

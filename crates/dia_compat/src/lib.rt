@@ -1,17 +1,16 @@
 //! Whether each message that is valid under one dictionary, of the commands that a table lists, is valid under another.
 #![tactic(auto)]
 
+mod checking;
 mod comparing;
-mod inclusion;
+mod laws;
 mod proposing;
 mod table;
 
-pub use inclusion::{
-    Answer, PairKind, Test, check_table, closed_is_included, level_is_included, level_is_placed,
-    one_comparison, refutes,
+pub use checking::{Answer, PairKind, Test, check_table, refutes};
+pub use laws::{
+    closed_is_included, level_is_included, level_is_placed, no_table_passes, one_comparison,
+    one_proposal, one_table, one_table_fault, read_tables_are_writable,
 };
-pub use proposing::{ProposeFault, no_table_passes, one_proposal, propose};
-pub use table::{
-    MAX_NAME, MAX_PAIRS, MAX_TABLE, Table, TableFault, one_table, one_table_fault, parse_table,
-    read_tables_are_writable, render_table,
-};
+pub use proposing::{ProposeFault, propose};
+pub use table::{MAX_NAME, MAX_PAIRS, MAX_TABLE, Table, TableFault, parse_table, render_table};

@@ -1,14 +1,10 @@
-ghost use Rattle.std.specs.Prelude.{◌≡◌, ◌<◌, ◌≤◌, ◌+◌, ◌++◌, [], IfOk, IfErr, OnOk, List};
-ghost use Rattle.std.specs.Prelude.{ℕ, Some, length, map, option_to_list, slice_get, string_bytes};
+ghost use Rattle.std.specs.Prelude.{◌≡◌, ◌<◌, ◌≤◌, ◌+◌, ◌++◌, [], IfOk, IfErr, OnOk};
+ghost use Rattle.std.specs.Prelude.{Some, length, map, option_to_list, slice_get, string_bytes};
 ghost use Rattle.std.specs.List.{filter_map};
-ghost use Rattle.dia_book.specs.Dictionary.{DictEntry, Dictionary, IsDictionary};
-ghost use Rattle.dia_check.specs.declared.Unknown.{Unknown as AnyPolicy};
-ghost use Rattle.dia_compat.specs.TableText.{PlainTable, plain_table, plain_pair, most_pairs};
+ghost use Rattle.dia_book.specs.Dictionary.{DictEntry};
+ghost use Rattle.dia_compat.specs.TableText.{plain_table, plain_pair, most_pairs};
 ghost use Rattle.dia_compat.specs.WrittenTable.{IsWritable};
-ghost use Rattle.dia_compat.specs.Proposed.{IsProposal, IsLeast, ListsAll, IsRefusal};
-ghost use Rattle.dia_compat.specs.Closed.{IsClosed, IsTableAnswer};
-ghost use Rattle.dia_compat.specs.declared.inclusion.PairKind.{PairKind as AnyKind};
-ghost use Rattle.dia_compat.specs.declared.inclusion.Test.{Test as AnyTest};
+ghost use Rattle.dia_compat.specs.Proposed.{IsProposal, IsLeast, IsRefusal};
 ghost use Rattle.dia_compat.specs.NamedCommands.{shared_pair, NamedSoFar};
 
 mod naming;
@@ -16,7 +12,6 @@ mod reaching;
 mod wanting;
 
 use crate::comparing::{Commands, names_of_commands};
-use crate::inclusion::Answer;
 use crate::table::{Table, push_pair};
 use dia_book::{Book, Entry};
 use dia_check::Unknown;
@@ -95,22 +90,6 @@ fn named_commands<A: Book, B: Book>(
     named.add_all(alloc, a, &others, &commands, names)?;
     Ok(named)
 }
-
-/// Where the least table does not pass, no table that lists the named commands passes.
-pub fn no_table_passes()
-    ensures { (da db : Dictionary) (u : AnyPolicy)
-        (names : List (List ℕ)) (table other : PlainTable)
-        (kind : AnyKind) (pair : ℕ) (reason : AnyTest) → IsLeast da db u names table
-        → IsTableAnswer da db u table (Answer.No kind pair reason) → ListsAll names other
-        → ¬ IsClosed da db u other }
-{}
-
-/// There is one proposal.
-pub fn one_proposal()
-    ensures { (da db : Dictionary) (u : AnyPolicy) (names : List (List ℕ)) (a b : PlainTable)
-        → IsDictionary da → IsDictionary db → IsProposal da db u names a
-        → IsProposal da db u names b → a ≡ b }
-{}
 
 impl From<AllocError> for ProposeFault {
     ghost use Rattle.std.specs.Prelude.{◌≡◌};

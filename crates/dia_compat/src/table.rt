@@ -1,7 +1,6 @@
 //! Tables of pairs of names, and their text.
-ghost use Rattle.std.specs.Prelude.{◌≡◌, ◌<◌, ◌≤◌, length, Err, IfOk, IfErr, MatchResult, List};
-ghost use Rattle.std.specs.Prelude.{ℕ, ◌≢◌, OnOk, ◌↔◌, ◌++◌, ◌∷◌, [], map, IsTrue};
-ghost use Rattle.dia_compat.specs.declared.table.TableFault.{TableFault as AnyFault};
+ghost use Rattle.std.specs.Prelude.{◌≡◌, ◌<◌, ◌≤◌, length, Err, IfOk, IfErr, MatchResult};
+ghost use Rattle.std.specs.Prelude.{OnOk, ◌↔◌, ◌++◌, ◌∷◌, [], map, IsTrue};
 ghost use Rattle.dia_compat.specs.TableText.{PlainTable, plain_table, plain_pair, max_table};
 ghost use Rattle.dia_compat.specs.TableText.{IsTable, IsTableFault, IsWithinLimits, HasForm};
 ghost use Rattle.dia_compat.specs.Lines.{Adds, PassesLimit, HasRoom};
@@ -13,7 +12,7 @@ mod words;
 pub use dia_policy::MAX_TABLE;
 pub use dia_terms::MAX_NAME;
 use line::{Line, read_line};
-pub use rendering::{read_tables_are_writable, render_table};
+pub use rendering::render_table;
 use std::alloc::{AllocError, Global};
 use std::fmt;
 use thiserror::Error;
@@ -89,19 +88,6 @@ pub fn parse_table(alloc: Global, text: &str) -> Result<Table, TableFault>
     }
     Ok(table)
 }
-
-/// A text is that of one table.
-pub fn one_table()
-    ensures { (text : List ℕ) (a b : PlainTable) → IsTable text a → IsTable text b → a ≡ b }
-{}
-
-/// A text has one fault at most, and is then that of no table.
-pub fn one_table_fault()
-    ensures one { (text : List ℕ) (a b : AnyFault) → IsTableFault text a → IsTableFault text b
-        → a ≢ TableFault.NoMemory → b ≢ TableFault.NoMemory → a ≡ b }
-    ensures none { (text : List ℕ) (a : AnyFault) (table : PlainTable) → IsTableFault text a
-        → a ≢ TableFault.NoMemory → ¬ IsTable text table }
-{}
 
 /// Why a line adds no pair.
 #[derive(Clone, Copy, Debug, PartialEq, Eq)]

@@ -7,7 +7,7 @@ use super::covers::Cover;
 use super::keys::{all_covered, common_within, let_in, own_fit};
 use super::rules::Rules;
 use super::wildcards::{max_kept, min_kept, wildcard_kept};
-use crate::inclusion::Test;
+use crate::checking::Test;
 use dia_book::Book;
 
 /// The first test that two definitions fail.

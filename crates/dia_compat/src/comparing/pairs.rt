@@ -16,7 +16,7 @@ use super::covers::Cover;
 use super::named_book::NamedBook;
 use super::nine_tests::failed_rules;
 use super::sides::Sides;
-use crate::inclusion::{Answer, PairKind, Test};
+use crate::checking::{Answer, PairKind, Test};
 use crate::table::Table;
 use dia_book::{Book, DefId, Entry, Format, MRule};
 use dia_data::format_below;

@@ -1,7 +1,7 @@
 //! The text of a table.
-ghost use Rattle.std.specs.Prelude.{◌≡◌, ◌≤◌, ◌++◌, ◌∷◌, [], ℕ, List, IfOk};
+ghost use Rattle.std.specs.Prelude.{◌≡◌, ◌≤◌, ◌++◌, ◌∷◌, [], IfOk};
 ghost use Rattle.std.specs.Prelude.{OnOk, length, map, string_bytes};
-ghost use Rattle.dia_compat.specs.TableText.{PlainTable, plain_table};
+ghost use Rattle.dia_compat.specs.TableText.{plain_table};
 ghost use Rattle.dia_compat.specs.TableText.{plain_pair, max_table, IsTable};
 ghost use Rattle.dia_compat.specs.WrittenTable.{pair_lines, pair_text, table_text, IsWritable};
 
@@ -24,11 +24,6 @@ pub fn render_table(alloc: Global, table: &Table) -> Result<String, AllocError>
     push_lines(&mut text, "avp", &table.avps)?;
     Ok(text)
 }
-
-/// A table that some text says has names that are names, and is within the limits.
-pub fn read_tables_are_writable()
-    ensures { (text : List ℕ) (table : PlainTable) → IsTable text table → IsWritable table }
-{}
 
 /// Adds a line for each pair.
 fn push_lines(text: &mut String, word: &str, pairs: &[(String, String)]) -> Result<(), AllocError>

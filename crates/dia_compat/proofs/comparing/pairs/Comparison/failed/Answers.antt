@@ -1,7 +1,7 @@
 use Rattle.std.proofs.Common.{sym, subst}
 use Rattle.dia_book.specs.Dictionary.{IsDictionary}
-use Rattle.dia_compat.specs.declared.inclusion.PairKind.{PairKind}
-use Rattle.dia_compat.specs.declared.inclusion.PairKind.TheVariants as kind
+use Rattle.dia_compat.specs.declared.checking.PairKind.{PairKind}
+use Rattle.dia_compat.specs.declared.checking.PairKind.TheVariants as kind
 use Rattle.dia_compat.specs.Sides.{Compared}
 use Rattle.dia_compat.specs.PairTests.{NamePair}
 use Rattle.dia_compat.specs.FirstFailures.{IsFirstFailed, PairTest}

@@ -1,7 +1,7 @@
 use Rattle.std.proofs.Common.{◌≡◌, ◌<◌, ℕ, List, Some, map, take}
 use Rattle.std.specs.Prelude.{slice_get}
 use Rattle.std.specs.List.{list_any}
-use Rattle.dia_compat.specs.declared.inclusion.Test.{Test}
+use Rattle.dia_compat.specs.declared.checking.Test.{Test}
 use Rattle.dia_compat.specs.TableText.{plain_pair}
 use Rattle.dia_compat.specs.PairTests.{NamePair, plain_names, is_pair}
 use Rattle.dia_compat.specs.FirstFailures.{PairTest}

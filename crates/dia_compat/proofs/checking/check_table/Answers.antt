@@ -4,7 +4,7 @@ use Rattle.dia_compat.specs.TableText.{plain_table}
 use Rattle.dia_compat.specs.Sides.{Compared}
 use Rattle.dia_compat.specs.FirstFailures.{IsAnswerOf}
 use Rattle.dia_compat.proofs.ComparisonAnswers.{concluded}
-use Rattle.dia_compat.proofs.inclusion.check_table.Goals as goal
+use Rattle.dia_compat.proofs.checking.check_table.Goals as goal
 
 pub returns-clause-answer : goal.returns-clause-answer
 returns-clause-answer g c = subst (λ (z : Compared). IfOk c.answer.result (IsAnswerOf z)) c.in_ok-comparison.ensures c.answer.ensures

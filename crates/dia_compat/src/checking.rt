@@ -1,0 +1,104 @@
+//! Whether a table shows inclusion, and whether a message is valid under the first dictionary alone.
+ghost use Rattle.std.specs.Prelude.{◌≡◌, ◌↔◌, IfOk, IsTrue};
+ghost use Rattle.dia_check.specs.Valid.{IsValid};
+ghost use Rattle.dia_compat.specs.TableText.{plain_table};
+ghost use Rattle.dia_compat.specs.Closed.{IsIncluded, IsTableAnswer};
+
+use crate::comparing::{Comparison, Sides};
+use crate::table::Table;
+use dia_book::Book;
+use dia_check::{Levels, Refusal, Unknown, check};
+use std::alloc::{AllocError, Global};
+
+/// A test of a pair of definitions; the tenth is of the pair itself.
+#[derive(Clone, Copy, Debug, PartialEq, Eq)]
+pub enum Test {
+    N1,
+    N2,
+    N3,
+    N4,
+    N5,
+    N6,
+    N7,
+    N8,
+    N9,
+    N10,
+}
+
+#[derive(Clone, Copy, Debug, PartialEq, Eq)]
+pub enum PairKind {
+    Command,
+    Avp,
+}
+
+#[derive(Clone, Copy, Debug, PartialEq, Eq)]
+pub enum Answer {
+    Yes,
+    No {
+        kind: PairKind,
+        pair: usize,
+        reason: Test,
+    },
+}
+
+/// Whether every pair of the table passes every test, or else which pair is the first that doesn't. Where each does, each message
+/// that is valid under the first dictionary, of a command that the table lists, is valid under the second, as a message of a
+/// command beside it.
+pub fn check_table<A: Book, B: Book>(
+    alloc: Global,
+    a: &A,
+    b: &B,
+    unknown: Unknown,
+    table: &Table,
+) -> Result<Answer, AllocError>
+    ensures answer { IfOk result
+        (IsTableAnswer (A.meaning a.now) (B.meaning b.now) unknown (plain_table table.now)) }
+    ensures inclusion { IfOk result
+        (λ answer. answer ≡ Answer.Yes
+        → IsIncluded (A.meaning a.now) (B.meaning b.now) unknown (plain_table table.now)) }
+{
+    let sides = Sides {
+        first: a,
+        second: b,
+        unknown,
+    };
+    let comparison = Comparison::new(alloc, &sides, table)?;
+    comparison.answer(alloc)
+}
+
+/// Whether the bytes are valid under the first dictionary and not under the second.
+pub fn refutes<A: Book, B: Book>(
+    alloc: Global,
+    a: &A,
+    b: &B,
+    unknown: Unknown,
+    levels: Levels,
+    bytes: &[u8],
+) -> Result<bool, AllocError>
+    ensures { IfOk result
+        (λ yes. IsTrue yes ↔ (IsValid (A.meaning a.now) unknown levels bytes.now × ¬ IsValid
+        (B.meaning b.now) unknown levels bytes.now)) }
+{
+    Ok(is_valid(alloc, a, unknown, levels, bytes)? && !is_valid(alloc, b, unknown, levels, bytes)?)
+}
+
+/// Whether the bytes are a valid message.
+fn is_valid<B: Book>(
+    alloc: Global,
+    book: &B,
+    unknown: Unknown,
+    levels: Levels,
+    bytes: &[u8],
+) -> Result<bool, AllocError>
+    ensures { IfOk result
+        (λ yes. IsTrue yes ↔ IsValid (B.meaning book.now) unknown levels bytes.now) }
+{
+    match check(alloc, book, unknown, levels, bytes) {
+        Ok(_) => Ok(true),
+        Err(Refusal::NoMemory) => Err(AllocError),
+        Err(Refusal::Fault(_)) => Ok(false),
+        Err(Refusal::Truncated) => Ok(false),
+        Err(Refusal::Trailing) => Ok(false),
+        Err(Refusal::Spent) => Ok(false),
+    }
+}
