@@ -12,7 +12,7 @@ use Rattle.dia_policy.specs.declared.Sends.TheVariants.{Any, Known, Listed}
 use Rattle.dia_levels.specs.LevelTests.{too_long, base_length}
 use Rattle.dia_least.specs.Exact.{AreExact, IsFillerLength, IsGroupLength}
 use Rattle.dia_least.specs.Floors.{shortest_head}
-use Rattle.dia_least.specs.Lengths.{IsLeafLength, entry_length, unknown_length, length_of, group_length}
+use Rattle.dia_least.specs.Lengths.{IsLeafLength, entry_length, unknown_length, length_of}
 use Rattle.dia_least.proofs.FloorsOfAvps.{rounded_more}
 use Rattle.dia_least.proofs.LeafLengths.{entry_behind, leaf_within, there}
 use Rattle.dia_least.proofs.LessLevels.{base_less, group_less, level_within}
