@@ -12,7 +12,8 @@ use Rattle.dia_check.proofs.FaultlessLevels.{all_at}
 use Rattle.dia_compat.proofs.FilteredMembers.{taken}
 use Rattle.dia_levels.specs.LevelTests.{too_long}
 use Rattle.dia_least.specs.declared.lookup.Least.{Least}
-use Rattle.dia_least.specs.Floors.{shortest_head, padded}
+use Rattle.dia_least.specs.Exact.{AreSpellable}
+use Rattle.dia_least.specs.Floors.{IsSpellable, shortest_head, padded}
 use Rattle.dia_least.specs.declared.order.Ranked.{Ranked}
 use Rattle.dia_least.specs.Lengths.{entry_length, rank, IsLeafLength}
 use Rattle.dia_least.specs.Passes.{AreKept}
@@ -51,6 +52,20 @@ one_leaf_more entries lengths new n x size before here is = λ e entry within at
         let last : e ≡ n = omega (arith, le, within) in
         subst (IsLeafLength entry) (sym (ap (λ (xs : List ℕ). entry_length xs e) is ∙ entry_last lengths x e (omega (arith, last, size))))
         (here entry (subst (λ (k : ℕ). slice_get entries k ≡ Some entry) last at))
+
+-- the keys of the first entries can be spelled
+abbrev pub AreSpelled : List DictEntry → ℕ → Type 0
+AreSpelled entries n = (e : ℕ) (entry : DictEntry) → e < n → slice_get entries e ≡ Some entry → IsSpellable entry.key
+
+pub one_spelled_more : (entries : List DictEntry) (n : ℕ) → AreSpelled entries n → ((entry : DictEntry) → slice_get entries n ≡ Some entry → IsSpellable entry.key) → AreSpelled entries (n + 1)
+one_spelled_more entries n before here = λ e entry within at. by e entry at (cases_lt e n) within
+  where
+    by : (e : ℕ) (entry : DictEntry) → slice_get entries e ≡ Some entry → (e < n) ⊎ (n ≤ e) → e < n + 1 → IsSpellable entry.key
+    by e entry at (inl lt) within = before e entry lt at
+    by e entry at (inr le) within = let last : e ≡ n = omega (arith, le, within) in here entry (subst (λ (k : ℕ). slice_get entries k ≡ Some entry) last at)
+
+pub all_spelled : (d : Dictionary) (n : ℕ) → n ≡ length d.entries → AreSpelled d.entries n → AreSpellable d
+all_spelled d n all spelled = λ e entry at. spelled e entry (let within = slice_get_within d.entries e entry at in omega (arith, within, all)) at
 
 pub head_long : (key : Key) → 8 ≤ shortest_head key
 head_long key = by key.vendor

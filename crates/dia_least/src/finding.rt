@@ -2,8 +2,8 @@
 ghost use Rattle.std.specs.Prelude.{◌≡◌, ◌<◌, ℕ, nat_lt, false, length, IfSome, IfOk};
 ghost use Rattle.std.specs.Prelude.{slice_get, slice_set, if◌then◌else◌};
 ghost use Rattle.dia_least.specs.Lengths.{IsLeafLength, entry_length};
-ghost use Rattle.dia_least.specs.Exact.{AreExact};
-ghost use Rattle.dia_least.specs.Floors.{AreFloors};
+ghost use Rattle.dia_least.specs.Exact.{AreExact, AreSpellable};
+ghost use Rattle.dia_least.specs.Floors.{AreFloors, IsSpellable};
 ghost use Rattle.dia_least.specs.Passes.{AreKept, AreNoShorter, AreSettled, IsLess, IsSettled};
 ghost use Rattle.dia_least.specs.Passes.{IsWhole};
 ghost use Rattle.dia_least.specs.Passes.{length_in};
@@ -31,6 +31,7 @@ pub fn least_lengths<B: Book>(alloc: Global, book: &B, sends: Sends) -> Result<L
         (length_in (B.meaning book.now) least)) }
     ensures exact { IfOk result (λ least. AreExact (B.meaning book.now) sends
         least.lengths.items) }
+    ensures spelled { IfOk result (λ least. AreSpellable (B.meaning book.now)) }
 {
     let least = leaves(alloc, book, sends)?;
     let least = search(alloc, book, least)?;
@@ -58,6 +59,7 @@ fn settled<B: Book>(alloc: Global, book: &B, least: Least) -> Result<Least, Allo
 fn leaves<B: Book>(alloc: Global, book: &B, sends: Sends) -> Result<Least, AllocError>
     ensures kept { IfOk result (AreKept (B.meaning book.now)) }
     ensures sends { IfOk result (λ least. least.sends ≡ sends) }
+    ensures spelled { IfOk result (λ least. AreSpellable (B.meaning book.now)) }
 {
     let mut lengths = Vec::new(alloc);
     let mut fillers = Vec::new(alloc);
@@ -75,13 +77,12 @@ fn leaves<B: Book>(alloc: Global, book: &B, sends: Sends) -> Result<Least, Alloc
 
 fn leaf_length<B: Book>(book: &B, entry: Entry) -> u64
     requires { entry < length (B.meaning book.now).entries }
-    ensures { IfSome (slice_get (B.meaning book.now).entries entry) (λ e. IsLeafLength e result) }
+    ensures leaf { IfSome (slice_get (B.meaning book.now).entries entry) (λ e. IsLeafLength e result) }
+    ensures spelled { IfSome (slice_get (B.meaning book.now).entries entry) (λ e. IsSpellable e.key) }
 {
+    let key = book.entry_key(entry);
     match shortest(book.format(entry)) {
-        Some(data) => padded(
-            shortest_head(book.entry_key(entry)),
-            data.as_slice().len() as u64,
-        ),
+        Some(data) => padded(shortest_head(key), data.as_slice().len() as u64),
         None => TOO_LONG,
     }
 }

@@ -20,3 +20,6 @@ returns-clause-exact g c =
     let least = c.in_ok-least-3.least in
     subst (λ (s : Sends). AreExact d s least.lengths.items) (c.in_ok-least-3.ensures.sends ∙ c.in_ok-least-2.ensures.sends ∙ c.in_ok-least.ensures.sends)
     (are_exact d least c.in_ok-least-3.ensures.kept c.in_ok-least-3.ensures.settled)
+
+pub returns-clause-spelled : goal.returns-clause-spelled
+returns-clause-spelled g c = c.in_ok-least.ensures.spelled
