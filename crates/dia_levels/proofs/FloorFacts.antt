@@ -1,23 +1,30 @@
 -- What is computed of the least level is right, and the definitions of a dictionary are sound.
-use Rattle.std.proofs.Common.{◌≡◌, ℕ, ◌+◌, ◌-◌, ◌^◌, ◌<◌, List, [], Option, Some, None, refl, sym, ap, subst, ◌∙◌, arith}
-use Rattle.std.specs.Prelude.{min, slice_get, Result, Ok, Err, IfOk}
+use Rattle.std.proofs.Common.{◌≡◌, ℕ, ◌+◌, ◌-◌, ◌^◌, ◌<◌, Bool, List, [], Option, Some, None, refl, sym, ap, subst, ◌∙◌, arith}
+use Rattle.std.specs.Prelude.{◌==◌, min, find, option_and_then, slice_get, Result, Ok, Err, IfOk}
 use Rattle.std.specs.Option.{option_map_or}
 use Rattle.std.proofs.lemmas.Option.{none-some}
 use Rattle.dia_wire.specs.declared.Key.{Key}
 use Rattle.dia_book.specs.declared.DRule.{DRule}
 use Rattle.dia_book.specs.Dictionary.{Dictionary, PlainDefinition, IsDictionary, AreRules, definitions}
-use Rattle.dia_compat.specs.Tests.{rules_in}
+use Rattle.dia_check.specs.Valid.{has_wildcard}
+use Rattle.dia_compat.specs.Tests.{rules_in, wildcard_of}
 use Rattle.dia_compat.proofs.MemberCounts.{in_at}
 use Rattle.dia_compat.proofs.FitInSecond.{all_of}
 use Rattle.dia_levels.specs.declared.floor.Floor.{Floor}
+use Rattle.dia_levels.specs.declared.line.Line.{Line}
 use Rattle.dia_levels.specs.declared.steps.Step.{Step}
+use Rattle.dia_levels.specs.Exact.{least_inner, first_inner, floor_between, AreCountLines, BeginWithCountLines}
+use Rattle.dia_levels.specs.Offers.{BeginsWith}
 use Rattle.dia_levels.specs.Levels.{FirstIsShortest}
-use Rattle.dia_levels.specs.LevelTests.{filler, inner_length, cheapest, outer_length, base_length, needed_up}
+use Rattle.dia_levels.specs.LevelTests.{filler, inner_length, cheapest, outer_length, base_length, needed_up, lines_of}
 use Rattle.dia_levels.specs.Strangers.{needed}
-use Rattle.dia_levels.specs.Steps.{greatest, steps, IsLeastTaken, IsLeastOver, IsLeastMost}
+use Rattle.dia_levels.specs.Steps.{greatest, steps, IsLeastTaken, IsTakenInOrder, IsLeastOver, IsLeastMost, IsLongUnbounded}
 use Rattle.dia_levels.specs.LevelTests.{swapped}
 use Rattle.dia_levels.proofs.FloorBounds.{base_within, needed_within, needed_is, inner_within, inner_less}
 use Rattle.dia_levels.proofs.LineBounds.{IsFloor}
+
+abbrev floor_at : ℕ → ℕ → Option Key → ℕ → ℕ → ℕ → Option DRule → Bool → Floor
+floor_at base inner first second outer needed wild lets_in = record { base = base; inner = inner; first = first; second = second; outer = outer; needed = needed; wild = wild; lets_in = lets_in }
 
 no_rules : AreRules []
 no_rules = record {
@@ -49,13 +56,17 @@ is_floor f listed other keys a b base inner second outer need shortest = record 
 
 -- what is left of what is wanted, where the count of what is needed is capped
 pub over_is : (listed : Key → ℕ) (f : Floor) (a b : List DRule) (max next wanted low n c : ℕ) (items : List Step) → max < 2 ^ 32 → f.needed ≡ needed_up b a → next ≡ max → wanted ≡ next + 1 - f.needed → low ≡ filler f
-    → items ≡ steps listed low f.outer b wanted a → IsLeastTaken wanted items c → n ≡ swapped f.base 0 c → IsLeastOver listed f a b max n
-over_is listed f a b max next wanted low n c items small need up left low_is all taken length =
+    → items ≡ steps listed low f.outer b wanted a → IsLeastTaken wanted items c → IsTakenInOrder wanted items c → n ≡ swapped f.base 0 c → IsLeastOver listed f a b max n
+over_is listed f a b max next wanted low n c items small need up left low_is all least taken length =
     let exact = needed_is b a in
     let want : wanted ≡ max + 1 - needed b a = omega (arith, small, need, up, exact, left) in
-    let first : IsLeastTaken wanted (steps listed low f.outer b wanted a) c = subst (λ (xs : List Step). IsLeastTaken wanted xs c) all taken in
-    let second : IsLeastTaken wanted (steps listed (filler f) f.outer b wanted a) c = subst (λ (k : ℕ). IsLeastTaken wanted (steps listed k f.outer b wanted a) c) low_is first in
-    (c, length, subst (λ (w : ℕ). IsLeastTaken w (steps listed (filler f) f.outer b w a) c) want second)
+    let both : IsLeastTaken wanted items c × IsTakenInOrder wanted items c = (least, taken) in
+    let first : IsLeastTaken wanted (steps listed low f.outer b wanted a) c × IsTakenInOrder wanted (steps listed low f.outer b wanted a) c =
+    subst (λ (xs : List Step). IsLeastTaken wanted xs c × IsTakenInOrder wanted xs c) all both in
+    let second : IsLeastTaken wanted (steps listed (filler f) f.outer b wanted a) c × IsTakenInOrder wanted (steps listed (filler f) f.outer b wanted a) c =
+    subst (λ (k : ℕ). IsLeastTaken wanted (steps listed k f.outer b wanted a) c × IsTakenInOrder wanted (steps listed k f.outer b wanted a) c) low_is first in
+    let last = subst (λ (w : ℕ). IsLeastTaken w (steps listed (filler f) f.outer b w a) c × IsTakenInOrder w (steps listed (filler f) f.outer b w a) c) want second in
+    (c, length, last.0, last.1)
 
 pub most_at : (listed : Key → ℕ) (f : Floor) (a b : List DRule) (max n : ℕ) → greatest b ≡ Some max → IsLeastOver listed f a b max n → IsLeastMost listed f a b n
 most_at listed f a b max n is over = λ m e.
@@ -70,3 +81,35 @@ most_none listed f a b n is = λ m e. absurd (none-some m (sym is ∙ e))
 pub most_if : (listed : Key → ℕ) (f : Floor) (a b : List DRule) (max : ℕ) {E : Type 0} (r : Result ℕ E) → greatest b ≡ Some max → IfOk r (IsLeastOver listed f a b max) → IfOk r (IsLeastMost listed f a b)
 most_if listed f a b max (Ok n) is over = most_at listed f a b max n is over
 most_if listed f a b max (Err e) is over = over
+
+-- where the wildcard has a greatest count, there is nothing to show
+pub bounded : (b : List DRule) (max : ℕ) {E : Type 0} (r : Result ℕ E) → greatest b ≡ Some max → IfOk r (IsLongUnbounded b)
+bounded b max (Ok n) is = λ e. absurd (none-some max (sym e ∙ is))
+bounded b max (Err e) is = tt
+
+-- what is computed of the least level is one floor
+pub floor_is : (f : Floor) (listed other : Key → ℕ) (keys : List Key) (a b : List DRule) → f.base ≡ base_length listed (min f.inner f.outer) a → f.inner ≡ least_inner other a b
+    → f.first ≡ option_and_then (λ r. r.key) (find (λ r. inner_length other a None r == f.inner) b) → f.second ≡ cheapest (inner_length other a f.first) b → f.outer ≡ outer_length other keys a b
+    → f.needed ≡ needed_up b a → f.wild ≡ wildcard_of a → f.lets_in ≡ has_wildcard b → f ≡ floor_between listed other keys a b
+floor_is f listed other keys a b base inner first second outer need wild lets_in =
+    let inner_is = least_inner other a b in
+    let outer_is = outer_length other keys a b in
+    let base_is : f.base ≡ base_length listed (min inner_is outer_is) a =
+    base ∙ ap (λ (n : ℕ). base_length listed (min n f.outer) a) inner ∙ ap (λ (n : ℕ). base_length listed (min inner_is n) a) outer in
+    let first_is : f.first ≡ first_inner other a b = first ∙ ap (λ (n : ℕ). option_and_then (λ (r : DRule). r.key) (find (λ (r : DRule). inner_length other a None r == n) b)) inner in
+    let second_is : f.second ≡ cheapest (inner_length other a (first_inner other a b)) b = second ∙ ap (λ (k : Option Key). cheapest (inner_length other a k) b) first_is in
+    made f.base (base_length listed (min inner_is outer_is) a) f.inner inner_is f.first (first_inner other a b) f.second (cheapest (inner_length other a (first_inner other a b)) b) f.outer outer_is f.needed (needed_up b a)
+    f.wild (wildcard_of a) f.lets_in (has_wildcard b) base_is inner first_is second_is outer need wild lets_in
+  where
+    made : (b1 b2 i1 i2 : ℕ) (f1 f2 : Option Key) (s1 s2 o1 o2 n1 n2 : ℕ) (w1 w2 : Option DRule) (l1 l2 : Bool) → b1 ≡ b2 → i1 ≡ i2 → f1 ≡ f2 → s1 ≡ s2 → o1 ≡ o2 → n1 ≡ n2 → w1 ≡ w2 → l1 ≡ l2
+        → floor_at b1 i1 f1 s1 o1 n1 w1 l1 ≡ floor_at b2 i2 f2 s2 o2 n2 w2 l2
+    made b1 b2 i1 i2 f1 f2 s1 s2 o1 o2 n1 n2 w1 w2 l1 l2 eb ei ef es eo en ew el =
+        ap (λ (v : ℕ). floor_at v i1 f1 s1 o1 n1 w1 l1) eb ∙ ap (λ (v : ℕ). floor_at b2 v f1 s1 o1 n1 w1 l1) ei ∙ ap (λ (v : Option Key). floor_at b2 i2 v s1 o1 n1 w1 l1) ef
+        ∙ ap (λ (v : ℕ). floor_at b2 i2 f2 v o1 n1 w1 l1) es ∙ ap (λ (v : ℕ). floor_at b2 i2 f2 s2 v n1 w1 l1) eo ∙ ap (λ (v : ℕ). floor_at b2 i2 f2 s2 o2 v w1 l1) en
+        ∙ ap (λ (v : Option DRule). floor_at b2 i2 f2 s2 o2 n2 v l1) ew ∙ ap (λ (v : Bool). floor_at b2 i2 f2 s2 o2 n2 w2 v) el
+
+-- the lines of counts stand in front
+pub counts_first : (f : Floor) (most : ℕ) (listed other : Key → ℕ) (keys : List Key) (a b : List DRule) (lines all : List Line) → f ≡ floor_between listed other keys a b → IsLeastMost listed f a b most → IsLongUnbounded b most
+    → lines ≡ lines_of f most listed other a b → BeginsWith lines all → BeginWithCountLines listed other keys a b all
+counts_first f most listed other keys a b lines all is least none same front =
+    (lines, front.0, front.1, (most, subst (λ (g : Floor). IsLeastMost listed g a b most) is least, none, same ∙ ap (λ (g : Floor). lines_of g most listed other a b) is))

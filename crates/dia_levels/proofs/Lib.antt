@@ -16,6 +16,8 @@ pub mod FloorFacts
 pub mod LinesMore
 pub mod PairBounds
 pub mod OrderBounds
+pub mod TakenBounds
+pub mod ExactLines
 pub mod OrderLines
 pub mod AloneBounds
 pub mod Places

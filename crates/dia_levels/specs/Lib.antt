@@ -11,3 +11,4 @@ pub mod Laws
 pub mod Places
 pub mod OrderTests
 pub mod Offers
+pub mod Exact

@@ -1,5 +1,5 @@
 -- What is offered before a key, and the lines that tell of it (RFC 6733 section 3.2).
-use Rattle.std.specs.Prelude.{◌≡◌, ◌⊎◌, ℕ, ◌+◌, ◌/◌, ◌<◌, ◌≤◌, true, List, length, vec_len, Option, Some, None, slice_index_or, Contains}
+use Rattle.std.specs.Prelude.{◌≡◌, ◌⊎◌, ℕ, ◌+◌, ◌/◌, ◌<◌, ◌≤◌, true, List, ◌++◌, length, vec_len, Option, Some, None, slice_index_or, Contains}
 use Rattle.std.specs.Option.{option_map_or}
 use Rattle.dia_wire.specs.declared.Key.{Key}
 use Rattle.dia_book.specs.declared.DRule.{DRule}
@@ -48,6 +48,10 @@ MayCome a b outer x = (is_listed a x ≡ true) ⊎ (is_listed b x ≡ true) ⊎ 
 -- each key is offered that the second definition wants at this place or behind it
 abbrev pub AreOfferedFrom : (Key → ℕ) → (Key → ℕ) → List DRule → List DRule → Option Key → ℕ → Offers → Type 0
 AreOfferedFrom listed other a b outer from offers = (x : Key) → MayCome a b outer x → from ≤ place b x → IsOffered listed other a offers x
+
+-- the first lines stand in front of all
+abbrev pub BeginsWith : List Line → List Line → Type 0
+BeginsWith first all = (rest : List Line) × (all ≡ first ++ rest)
 
 -- a line of the order at this key, no longer than this
 abbrev pub HasLine : List Line → Key → ℕ → Type 0

@@ -1,5 +1,5 @@
 -- Steps from the least level to ones with more AVPs that the other definition does not list.
-use Rattle.std.specs.Prelude.{◌≡◌, ℕ, ◌+◌, ◌-◌, ◌*◌, ◌≤◌, min, if◌then◌else◌, ◌==◌, List, [], ◌∷◌, Option, Some, option_and_then, fold, flat_map, sum_by}
+use Rattle.std.specs.Prelude.{◌≡◌, ℕ, ◌+◌, ◌-◌, ◌*◌, ◌≤◌, min, if◌then◌else◌, ◌==◌, List, [], ◌∷◌, Option, Some, None, IsPermutation, option_and_then, fold, flat_map, sum_by}
 use Rattle.std.specs.Option.{option_map_or}
 use Rattle.dia_wire.specs.declared.Key.{Key}
 use Rattle.dia_book.specs.declared.DRule.{DRule}
@@ -43,14 +43,23 @@ saved t steps = sum_by (λ step. (t - step.length) * step.count) steps
 abbrev pub IsLeastTaken : ℕ → List Step → ℕ → Type 0
 IsLeastTaken wanted steps n = (t : ℕ) × (n + saved t steps ≤ t * wanted)
 
+-- the steps in some order, taken from the first on, are as long as this
+abbrev pub IsTakenInOrder : ℕ → List Step → ℕ → Type 0
+IsTakenInOrder wanted steps n = (order : List Step) × IsPermutation steps order × (n ≡ taken wanted order)
+
 -- the greatest count of the wildcard
 abbrev pub greatest : List DRule → Option ℕ
 greatest rules = option_and_then (λ w. w.max) (wildcard_of rules)
 
--- no level of the first definition has more than so many AVPs that the second does not list, and is shorter
+-- no level of the first definition has more than so many AVPs that the second does not list, and is shorter; one is as long, if a message has room for it
 abbrev pub IsLeastOver : (Key → ℕ) → Floor → List DRule → List DRule → ℕ → ℕ → Type 0
 IsLeastOver listed f a b max n = (c : ℕ) × (n ≡ swapped f.base 0 c) × IsLeastTaken (max + 1 - needed b a) (steps listed (filler f) f.outer b (max + 1 - needed b a) a) c
+    × IsTakenInOrder (max + 1 - needed b a) (steps listed (filler f) f.outer b (max + 1 - needed b a) a) c
 
 -- none has one AVP more by the second's wildcard than it allows, and is shorter
 abbrev pub IsLeastMost : (Key → ℕ) → Floor → List DRule → List DRule → ℕ → Type 0
 IsLeastMost listed f a b n = (max : ℕ) → greatest b ≡ Some max → IsLeastOver listed f a b max n
+
+-- where the second's wildcard has no greatest count, or there is none, no level has too many by it
+abbrev pub IsLongUnbounded : List DRule → ℕ → Type 0
+IsLongUnbounded b n = greatest b ≡ None → n ≡ too_long

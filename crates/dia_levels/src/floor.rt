@@ -43,6 +43,9 @@ pub(crate) fn floor_of<A: Book, B: Book, C: Costs>(
     ensures inner { result.inner ≡ cheapest (inner_length (C.other_length costs.now)
         (rules_in (A.meaning a.now.book.now) a.now.def) None)
         (rules_in (B.meaning b.now.book.now) b.now.def) }
+    ensures first { result.first ≡ option_and_then (λ r. r.key) (find (λ r. inner_length
+        (C.other_length costs.now) (rules_in (A.meaning a.now.book.now) a.now.def) None r
+        == result.inner) (rules_in (B.meaning b.now.book.now) b.now.def)) }
     ensures second { result.second ≡ cheapest (inner_length (C.other_length costs.now)
         (rules_in (A.meaning a.now.book.now) a.now.def) result.first)
         (rules_in (B.meaning b.now.book.now) b.now.def) }

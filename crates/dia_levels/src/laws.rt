@@ -1,6 +1,7 @@
 //! What holds of the levels of definitions: by it a level is looked at as counts of keys and one order.
 ghost use Rattle.dia_levels.specs.Laws.{DefinitionsAreSound, PlacedIsInPlace, PlacedOrBreach};
 ghost use Rattle.dia_levels.specs.Laws.{BreachIsUnplaced, PlanIsPlaced, PlanIsLeast, OnceIsLeast};
+ghost use Rattle.dia_levels.specs.Laws.{CountLinesAreOne};
 
 /// The rules of a dictionary's definitions are as the other laws want them.
 pub fn definitions_are_sound()
@@ -27,4 +28,9 @@ pub fn plan_is_least()
 /// The least level in which a key stands once or more is computed from the rules, and the cheapest AVP by the wildcard.
 pub fn once_is_least()
     ensures { OnceIsLeast }
+{}
+
+/// The lines of counts of two definitions are one list: their order, their keys and their lengths.
+pub fn count_lines_are_one()
+    ensures { CountLinesAreOne }
 {}

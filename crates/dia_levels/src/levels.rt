@@ -3,8 +3,9 @@ ghost use Rattle.std.specs.Prelude.{◌≡◌, ◌<◌, IfOk, length};
 ghost use Rattle.dia_book.specs.Dictionary.{AreRules, definitions};
 ghost use Rattle.dia_compat.specs.Tests.{rules_in};
 ghost use Rattle.dia_levels.specs.LevelTests.{price, needed_up, lines_of};
+ghost use Rattle.dia_levels.specs.Exact.{BeginWithCountLines};
 ghost use Rattle.dia_levels.specs.Levels.{HasEachLine, FirstIsShortest};
-ghost use Rattle.dia_levels.specs.Steps.{greatest, IsLeastOver, IsLeastMost};
+ghost use Rattle.dia_levels.specs.Steps.{greatest, IsLeastOver, IsLeastMost, IsLongUnbounded};
 
 use crate::costs::Costs;
 use crate::floor::{Floor, first_outside, floor_of};
@@ -17,7 +18,8 @@ use dia_book::{Book, DefId};
 use std::alloc::{AllocError, Global};
 
 /// The lines of the levels of a definition of `a` that break the rules of one of `b`: by reasons, and those of a reason in the
-/// order of the rules. A level that breaks them shows a line whose length is no more than its own.
+/// order of the rules. A level that breaks them shows a line whose length is no more than its own. The lines of counts come
+/// first, and are one list (`count_lines_are_one`).
 pub fn level_lines<A: Book, B: Book, C: Costs>(
     alloc: Global,
     a: &A,
@@ -33,6 +35,9 @@ pub fn level_lines<A: Book, B: Book, C: Costs>(
     ensures complete { IfOk result (λ lines. HasEachLine
         (price (C.listed_length costs.now) (C.other_length costs.now)
         (rules_in (A.meaning a.now) a_def))
+        (rules_in (A.meaning a.now) a_def) (rules_in (B.meaning b.now) b_def) lines.items) }
+    ensures counts { IfOk result (λ lines. BeginWithCountLines
+        (C.listed_length costs.now) (C.other_length costs.now) (C.other_keys costs.now)
         (rules_in (A.meaning a.now) a_def) (rules_in (B.meaning b.now) b_def) lines.items) }
 {
     both_sound(a, a_def, b, b_def);
@@ -112,9 +117,10 @@ fn most<A: Book, B: Book, C: Costs>(
 ) -> Result<u64, AllocError>
     requires { floor.now.needed ≡ needed_up (rules_in (B.meaning b.now.book.now) b.now.def)
         (rules_in (A.meaning a.now.book.now) a.now.def) }
-    ensures { IfOk result (IsLeastMost (C.listed_length costs.now) floor.now
+    ensures least { IfOk result (IsLeastMost (C.listed_length costs.now) floor.now
         (rules_in (A.meaning a.now.book.now) a.now.def)
         (rules_in (B.meaning b.now.book.now) b.now.def)) }
+    ensures none { IfOk result (IsLongUnbounded (rules_in (B.meaning b.now.book.now) b.now.def)) }
 {
     match greatest(b) {
         Some(max) => least_over(alloc, a, b, costs, floor, max),

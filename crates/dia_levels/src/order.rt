@@ -8,7 +8,7 @@ ghost use Rattle.dia_levels.specs.declared.line.Line.{Line as AnyLine};
 ghost use Rattle.dia_levels.specs.declared.line.Reason.TheVariants as reasons;
 ghost use Rattle.dia_levels.specs.LevelTests.{too_long, capped, filler};
 ghost use Rattle.dia_levels.specs.Offers.{AreOffers, IsOffered, AreLess, AreOfferedFrom};
-ghost use Rattle.dia_levels.specs.Offers.{HasLine, HasOrdersFrom};
+ghost use Rattle.dia_levels.specs.Offers.{BeginsWith, HasLine, HasOrdersFrom};
 ghost use Rattle.dia_levels.specs.OrderTests.{beyond, by_wild, with_others, pair_length};
 ghost use Rattle.dia_levels.specs.Places.{place};
 
@@ -287,6 +287,7 @@ impl<'a, A: Book, B: Book, C: Costs> Level<'a, A, B, C> {
     ) -> Result<Vec<Line>, AllocError>
         ensures kept { IfOk result (λ all. (line : AnyLine) → Contains lines.items line
             → Contains all.items line) }
+        ensures front { IfOk result (λ all. BeginsWith lines.items all.items) }
         ensures orders { IfOk result (λ all. HasOrdersFrom self.now.floor (C.listed_length self.now.costs.now)
             (C.other_length self.now.costs.now)
             (rules_in (A.meaning self.now.a.book.now) self.now.a.def)

@@ -3,7 +3,7 @@ ghost use Rattle.std.specs.Prelude.{◌≡◌, ◌++◌, IfOk, OnOk};
 ghost use Rattle.dia_compat.specs.Tests.{rules_in};
 ghost use Rattle.dia_levels.specs.LevelTests.{filler};
 ghost use Rattle.dia_levels.specs.Steps.{room_above, steps_of, steps, taken};
-ghost use Rattle.dia_levels.specs.Steps.{IsLeastTaken};
+ghost use Rattle.dia_levels.specs.Steps.{IsLeastTaken, IsTakenInOrder};
 
 use crate::costs::Costs;
 use crate::lengths::{TOO_LONG, capped, many};
@@ -99,7 +99,8 @@ fn taken(wanted: u64, steps: &[Step]) -> u64
 
 /// The least length of so many AVPs by these steps.
 pub(crate) fn least_taken(wanted: u64, mut steps: Vec<Step>) -> Result<u64, AllocError>
-    ensures { IfOk result (λ n. IsLeastTaken wanted steps.items n) }
+    ensures least { IfOk result (λ n. IsLeastTaken wanted steps.items n) }
+    ensures taken { IfOk result (λ n. IsTakenInOrder wanted steps.items n) }
 {
     steps.sort_by_key(|step| step.length)?;
     Ok(taken(wanted, &steps))

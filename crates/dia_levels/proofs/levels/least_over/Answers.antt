@@ -10,4 +10,4 @@ returns g c =
     c.args.max c.from.result c.saturating_sub-wanted.result c.filler.result c.swapped.result c.in_ok-more.more c.in_ok-steps.steps.items
     (search rules) c.requires c.from.ensures c.saturating_sub-wanted.ensures c.filler.ensures
     (c.in_ok-steps.ensures ∙ ap (λ xs. steps (g.C.Costs.listed_length c.args.costs.now) c.filler.result c.args.floor.now.outer (rules_in (g.B.Book.meaning c.args.b.now.book.now) c.args.b.now.def) c.saturating_sub-wanted.result xs) c.list.ensures)
-    c.in_ok-more.ensures c.swapped.ensures
+    c.in_ok-more.ensures.least c.in_ok-more.ensures.taken c.swapped.ensures

@@ -11,3 +11,6 @@ returns-clause-orders g c = λ y x may from turned short.
     let turned_round = Contains-permutation c.in_ok-orders.orders.items c.reverse.new.self.items l.0 c.reverse.ensures.permutation l.1 in
     let there = subst (λ (ls : List Line). Contains ls l.0) (sym c.deref.ensures.value) turned_round in
     (l.0, subst (λ (ls : List Line). Contains ls l.0) (sym c.in_ok-extend_from_slice.ensures.items) (Contains-append_right c.args.lines.items c.deref.result.now l.0 there), l.2, l.3, l.4)
+
+pub returns-clause-front : goal.returns-clause-front
+returns-clause-front g c = (c.deref.result.now, c.in_ok-extend_from_slice.ensures.items)
