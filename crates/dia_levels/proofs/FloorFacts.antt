@@ -13,7 +13,7 @@ use Rattle.dia_compat.proofs.FitInSecond.{all_of}
 use Rattle.dia_levels.specs.declared.floor.Floor.{Floor}
 use Rattle.dia_levels.specs.declared.line.Line.{Line}
 use Rattle.dia_levels.specs.declared.steps.Step.{Step}
-use Rattle.dia_levels.specs.Exact.{least_inner, first_inner, floor_between, AreCountLines, BeginWithCountLines}
+use Rattle.dia_levels.specs.Exact.{least_inner, first_inner, floor_between, BeginWithCountLines}
 use Rattle.dia_levels.specs.Offers.{BeginsWith}
 use Rattle.dia_levels.specs.Levels.{FirstIsShortest}
 use Rattle.dia_levels.specs.LevelTests.{filler, inner_length, cheapest, outer_length, base_length, needed_up, lines_of}

@@ -1,13 +1,13 @@
 -- Steps that are taken in any order are no shorter than a price for each AVP says.
-use Rattle.std.proofs.Common.{◌≡◌, ℕ, ◌+◌, ◌-◌, ◌*◌, ◌<◌, ◌≤◌, Bool, true, false, List, [], ◌∷◌, refl, sym, ap, ◌∙◌, arith, inl, inr}
-use Rattle.std.specs.Prelude.{◌⊎◌, min, nat_le, nat_lt, ◌==◌, fold, IsPermutation, if◌then◌else◌}
+use Rattle.std.proofs.Common.{◌≡◌, ℕ, ◌+◌, ◌-◌, ◌*◌, ◌<◌, ◌≤◌, Bool, true, false, List, [], ◌∷◌, refl, ap, ◌∙◌, arith, inl, inr}
+use Rattle.std.specs.Prelude.{◌⊎◌, min, nat_le, ◌==◌, fold, if◌then◌else◌}
 use Rattle.std.proofs.Math.Nat.{mul-le-mul_left, mul_comm, mul-add, zero-mul}
-use Rattle.std.proofs.lemmas.Bool.{leb-true, leb-false, eqb-true, eqb-false}
+use Rattle.std.proofs.lemmas.Bool.{leb-true, leb-false, eqb-true}
 use Rattle.std.proofs.lemmas.List.Sorted.{sum_by-IsPermutation}
 use Rattle.std.proofs.lemmas.List.Sums.{sum_by-cons}
 use Rattle.dia_levels.specs.declared.steps.Step.{Step}
 use Rattle.dia_levels.specs.LevelTests.{too_long, capped, many}
-use Rattle.dia_levels.specs.Steps.{take_step, length_taken, taken, saved, IsLeastTaken, IsTakenInOrder}
+use Rattle.dia_levels.specs.Steps.{take_step, length_taken, saved, IsLeastTaken, IsTakenInOrder}
 
 abbrev next_sum : ℕ → ℕ → Step → ℕ
 next_sum left sum s = capped (sum + many (min left s.count) s.length)
