@@ -53,3 +53,11 @@ pub struct Walk {
     /// The shortest way to each node, if a message has room for one.
     pub reached: Vec<Option<Reach>>,
 }
+
+/// What a walk goes through: the AVPs, where the command's level leads, and how long messages may be.
+#[derive(Clone, Copy)]
+pub(crate) struct Ways<'a> {
+    pub nodes: &'a [Node],
+    pub start: &'a Exits,
+    pub room: u64,
+}

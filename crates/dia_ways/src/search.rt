@@ -1,0 +1,184 @@
+//! A search for the levels that messages have room for, those with the shortest way first.
+//! It promises nothing: what it finds is looked through afterwards.
+use crate::graph::{Exits, Level, Step, Ways};
+use std::alloc::{AllocError, Global};
+use std::cmp::Reverse;
+use std::collections::{BinaryHeap, HashSet};
+use std::mem;
+
+/// What a search comes to next. A level is named by the place of its group, or `None` for the start.
+#[derive(Clone, Copy, Debug)]
+enum Event {
+    /// The level of a group.
+    Enter(usize),
+    /// The AVPs that come through a level's wildcard.
+    Open(Option<usize>),
+}
+
+/// A search over the levels of groups.
+#[derive(Drop)]
+struct Search<'a> {
+    ways: Ways<'a>,
+    /// The length of the shortest way that is known to each AVP.
+    lengths: Vec<Option<u64>>,
+    /// The levels that were come to, with their ways. Their `outer` says nothing.
+    steps: Vec<Step>,
+    entered: HashSet<usize>,
+    /// The places of the AVPs that no wildcard has let in yet.
+    rest: Vec<usize>,
+    events: Vec<Event>,
+    /// The lengths and the numbers of the events that are to come.
+    waiting: BinaryHeap<Reverse<(u64, usize)>>,
+}
+
+/// The levels that messages have room for, in the order of their ways, and with one way in the order of their places. What
+/// `outer` of a step holds is of no meaning.
+pub(crate) fn search_levels(alloc: Global, ways: Ways<'_>) -> Result<Vec<Step>, AllocError> {
+    let mut search = Search::new(alloc, ways)?;
+    search.go_through(0, None)?;
+    search.finish(alloc)?;
+    let mut steps = search.steps;
+    steps.sort_by_key(|step| (step.way, step.place))?;
+    Ok(steps)
+}
+
+impl<'a> Search<'a> {
+    fn new(alloc: Global, ways: Ways<'a>) -> Result<Self, AllocError> {
+        let mut lengths = Vec::new(alloc);
+        for _ in ways.nodes {
+            lengths.push(None)?;
+        }
+        Ok(Search {
+            ways,
+            lengths,
+            steps: Vec::new(alloc),
+            entered: HashSet::new(alloc),
+            rest: (0..ways.nodes.len()).collect(alloc)?,
+            events: Vec::new(alloc),
+            waiting: BinaryHeap::new(alloc),
+        })
+    }
+
+    /// Goes on until nothing is left to come to.
+    fn finish(&mut self, alloc: Global) -> Result<(), AllocError> {
+        for _ in 0..u64::MAX {
+            let Some(Reverse((length, number))) = self.waiting.pop() else {
+                break;
+            };
+            match self.events.get(number).copied() {
+                Some(Event::Enter(place)) => self.enter(place, length)?,
+                Some(Event::Open(group)) => self.open(alloc, group, length)?,
+                None => {}
+            }
+        }
+        Ok(())
+    }
+
+    /// Lets an event come at a length, if a message has room for it.
+    fn expect(&mut self, length: u64, event: Event) -> Result<(), AllocError> {
+        if length <= self.ways.room {
+            self.waiting.push(Reverse((length, self.events.len())))?;
+            self.events.push(event)?;
+        }
+        Ok(())
+    }
+
+    /// Comes to the level of a group, unless it was come to before.
+    fn enter(&mut self, place: usize, way: u64) -> Result<(), AllocError> {
+        if !self.entered.insert(place)? {
+            return Ok(());
+        }
+        self.steps.push(Step {
+            place,
+            way,
+            outer: 0,
+        })?;
+        self.go_through(way, Some(place))
+    }
+
+    /// Comes to the AVPs that the rules of a level list, and expects those that come through its wildcard.
+    fn go_through(&mut self, way: u64, group: Option<usize>) -> Result<(), AllocError> {
+        let Some(exits) = self.exits_of(group) else {
+            return Ok(());
+        };
+        for (place, length) in &exits.listed {
+            self.come_to(*place, way.saturating_add(*length))?;
+        }
+        self.expect(way.saturating_add(exits.beside), Event::Open(group))
+    }
+
+    fn exits_of(&self, group: Option<usize>) -> Option<&'a Exits> {
+        match group {
+            Some(place) => Some(&self.level_of(place)?.exits),
+            None => Some(self.ways.start),
+        }
+    }
+
+    fn level_of(&self, place: usize) -> Option<&'a Level> {
+        let nodes = self.ways.nodes;
+        nodes.get(place)?.level.as_ref()
+    }
+
+    /// Comes to an AVP, if a message has room for it there, and leads into its group.
+    fn come_to(&mut self, place: usize, length: u64) -> Result<(), AllocError> {
+        if self.ways.room < length || !self.is_nearer(place, length) {
+            return Ok(());
+        }
+        match self.level_of(place) {
+            Some(level) => self.expect(length.saturating_sub(level.least), Event::Enter(place)),
+            None => Ok(()),
+        }
+    }
+
+    /// Whether a way to the AVP is shorter than what was known. It is then known.
+    fn is_nearer(&mut self, place: usize, length: u64) -> bool {
+        let Some(known) = self.lengths.get_mut(place) else {
+            return false;
+        };
+        let is_nearer = match *known {
+            Some(other) => length < other,
+            None => true,
+        };
+        if is_nearer {
+            *known = Some(length);
+        }
+        is_nearer
+    }
+
+    /// Comes to the AVPs that come through the wildcard of a level. `length` is what a message takes beside one.
+    fn open(&mut self, alloc: Global, group: Option<usize>, length: u64) -> Result<(), AllocError> {
+        if self.rest.is_empty() {
+            return Ok(());
+        }
+        let rest = mem::replace(&mut self.rest, Vec::new(alloc));
+        let listed = self.listed_by(alloc, group)?;
+        for place in &rest {
+            if listed.contains(place) {
+                self.rest.push(*place)?;
+            } else {
+                self.come_to_other(*place, length)?;
+            }
+        }
+        Ok(())
+    }
+
+    /// The AVPs that the rules of a level list.
+    fn listed_by(&self, alloc: Global, group: Option<usize>) -> Result<HashSet<usize>, AllocError> {
+        let mut listed = HashSet::new(alloc);
+        if let Some(exits) = self.exits_of(group) {
+            for (place, _) in &exits.listed {
+                listed.insert(*place)?;
+            }
+        }
+        Ok(listed)
+    }
+
+    /// Comes to an AVP that a wildcard lets in.
+    fn come_to_other(&mut self, place: usize, beside: u64) -> Result<(), AllocError> {
+        let nodes = self.ways.nodes;
+        match nodes.get(place) {
+            Some(node) => self.come_to(place, beside.saturating_add(node.other)),
+            None => Ok(()),
+        }
+    }
+}

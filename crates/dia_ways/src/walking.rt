@@ -1,0 +1,34 @@
+//! The shortest ways from a start to the levels of groups, and to AVPs.
+ghost use Rattle.std.specs.Prelude.{IfOk, IfSome};
+ghost use Rattle.dia_ways.specs.Walks.{graph_of, IsWalk};
+
+use crate::graph::{Exits, Node, Walk, Ways};
+use crate::reach::shortest_ways;
+use crate::search::search_levels;
+use crate::steps::{are_complete, are_in_order, fill};
+use std::alloc::{AllocError, Global};
+
+/// The levels that messages of a length up to the room have, and the shortest ways to AVPs in them. There is `None` only where
+/// the lengths contradict each other, as where a level that has an AVP is shorter than the level in the AVP.
+pub fn walk(
+    alloc: Global,
+    nodes: &[Node],
+    start: &Exits,
+    room: u64,
+) -> Result<Option<Walk>, AllocError>
+    ensures ways { IfOk result (λ found. IfSome found (λ walk.
+        IsWalk (graph_of nodes.now start.now room) walk.steps.items walk.reached.items)) }
+{
+    let ways = Ways { nodes, start, room };
+    let rough = search_levels(alloc, ways)?;
+    let Some(reached) = shortest_ways(alloc, ways, &rough)? else {
+        return Ok(None);
+    };
+    let Some(steps) = fill(alloc, ways, &reached, &rough)? else {
+        return Ok(None);
+    };
+    if !are_in_order(&steps) || !are_complete(alloc, ways, &reached, &steps)? {
+        return Ok(None);
+    }
+    Ok(Some(Walk { steps, reached }))
+}
