@@ -16,6 +16,7 @@ use Rattle.dia_book.specs.declared.DefHead.{DefHead}
 use Rattle.dia_book.specs.declared.DefHead.TheVariants.{Group, Command, Error}
 use Rattle.dia_book.specs.Dictionary.{Dictionary, PlainDefinition, IsDictionary, IsCommandHead, is_command, same_class}
 use Rattle.dia_check.specs.Valid.{AllowsP, PHolds, HasP}
+use Rattle.dia_compat.specs.Sides.{Sides}
 use Rattle.dia_compat.specs.TableText.{PlainTable}
 use Rattle.dia_compat.specs.Closed.{HasCode, IsError, IsBeside, NamesApp, IsWanted, error, same_app, no_app, both_none, other_app, IsServed, SameCodeAndClass, CommandPair}
 use Rattle.dia_compat.specs.PairTests.{NamePair, is_pair, names_app, wants_app, is_wanted, serves, serves_app, same_code_and_class, p_of, p_within, is_proxiable, is_selected}
@@ -176,47 +177,47 @@ some_one d code class app other = (
 
 -- ---- what is wanted
 
-module _ (da db : Dictionary) (sa : IsDictionary da) (sb : IsDictionary db) where
+module _ (sides : Sides) (sa : IsDictionary sides.first) (sb : IsDictionary sides.second) where
   -- a definition of an application, by the parts that two heads share
-  fits_apps : (code own : ℕ) (class kind : Class) (app app' a a' : Option ℕ) (n : ℕ) (cl : Class) → IsFor n cl a code class app → IsFor n cl a' own kind app' → wants_app da db n cl a a' ≡ true
-      → ((code == own) && same_class class kind && wants_app da db code class app app') ≡ true
+  fits_apps : (code own : ℕ) (class kind : Class) (app app' a a' : Option ℕ) (n : ℕ) (cl : Class) → IsFor n cl a code class app → IsFor n cl a' own kind app' → wants_app sides n cl a a' ≡ true
+      → ((code == own) && same_class class kind && wants_app sides code class app app') ≡ true
   fits_apps code own class kind app app' a a' n cl s t w =
-      and_from ((code == own) && same_class class kind) (wants_app da db code class app app')
+      and_from ((code == own) && same_class class kind) (wants_app sides code class app app')
       (and_from (code == own) (same_class class kind) (eq-eqb code own (sym s.codes ∙ t.codes)) ((class_decides class kind).1 (sym s.sorts ∙ t.sorts)))
-      (subst (λ (m : ℕ). wants_app da db m class app app' ≡ true) s.codes
-      (subst (λ (k : Class). wants_app da db n k app app' ≡ true) s.sorts
-      (subst (λ (z : Option ℕ). wants_app da db n cl z app' ≡ true) s.apps (subst (λ (z : Option ℕ). wants_app da db n cl a z ≡ true) t.apps w))))
+      (subst (λ (m : ℕ). wants_app sides m class app app' ≡ true) s.codes
+      (subst (λ (k : Class). wants_app sides n k app app' ≡ true) s.sorts
+      (subst (λ (z : Option ℕ). wants_app sides n cl z app' ≡ true) s.apps (subst (λ (z : Option ℕ). wants_app sides n cl a z ≡ true) t.apps w))))
 
   not_named : (d : Dictionary) (n : ℕ) (cl : Class) (a : ℕ) → cl ≢ classes.Error → (¬ NamesApp d n cl (Some a)) → not (names_app d n cl a) ≡ true
   not_named d n cl a ne none = (Decides-not (names_app d n cl a) (some_one d n cl (Some a) ne)).1 none
 
-  wanted_right : (c d : PlainDefinition) (code : ℕ) (class : Class) (app app' : Option ℕ) → Contains db.commands d → class ≢ classes.Error → HasCode c code class app
-      → HasCode d code class app' → wants_app da db code class app app' ≡ true → IsWanted da db c d
+  wanted_right : (c d : PlainDefinition) (code : ℕ) (class : Class) (app app' : Option ℕ) → Contains sides.second.commands d → class ≢ classes.Error → HasCode c code class app
+      → HasCode d code class app' → wants_app sides code class app app' ≡ true → IsWanted sides.first sides.second c d
   wanted_right c d code class None None i ne h k w = both_none code class i h k
-  wanted_right c d code class None (Some a) i ne h k w = other_app code a class i h k ((Decides-not (names_app da code class a) (some_one da code class (Some a) ne)).0 w)
-  wanted_right c d code class (Some a) None i ne h k w = no_app code a class i h k ((Decides-not (names_app db code class a) (some_one db code class (Some a) ne)).0 w)
+  wanted_right c d code class None (Some a) i ne h k w = other_app code a class i h k ((Decides-not (names_app sides.first code class a) (some_one sides.first code class (Some a) ne)).0 w)
+  wanted_right c d code class (Some a) None i ne h k w = no_app code a class i h k ((Decides-not (names_app sides.second code class a) (some_one sides.second code class (Some a) ne)).0 w)
   wanted_right c d code class (Some a) (Some b) i ne h k w = same_app code a class i h (subst (λ (n : ℕ). HasCode d code class (Some n)) (sym (eqb-true a b w)) k)
 
-  wanted_decides : (c d : PlainDefinition) (x y : DefHead) → c.head ≡ x → d.head ≡ y → IsIn c da.commands → IsIn d db.commands → Decides (is_wanted da db x y) (IsWanted da db c d)
+  wanted_decides : (c d : PlainDefinition) (x y : DefHead) → c.head ≡ x → d.head ≡ y → IsIn c sides.first.commands → IsIn d sides.second.commands → Decides (is_wanted sides x y) (IsWanted sides.first sides.second c d)
   wanted_decides c d (Group k) y e f i j = (
     λ g. absurd (let h : false ≡ true = g in cc),
     λ w. absurd
-        (subst IsCommandHead e (all_of (λ (z : PlainDefinition). IsCommandHead z.head) da.commands c sa.command_heads i)),
+        (subst IsCommandHead e (all_of (λ (z : PlainDefinition). IsCommandHead z.head) sides.first.commands c sa.command_heads i)),
   )
   wanted_decides c d (Error p) (Group k) e f i j = (
     λ g. absurd (let h : false ≡ true = g in cc),
     λ w. absurd
-        (subst IsCommandHead f (all_of (λ (z : PlainDefinition). IsCommandHead z.head) db.commands d sb.command_heads j)),
+        (subst IsCommandHead f (all_of (λ (z : PlainDefinition). IsCommandHead z.head) sides.second.commands d sb.command_heads j)),
   )
   wanted_decides c d (Command code class app p) (Group k) e f i j = (
     λ g. absurd (let h : false ≡ true = g in cc),
     λ w. absurd
-        (subst IsCommandHead f (all_of (λ (z : PlainDefinition). IsCommandHead z.head) db.commands d sb.command_heads j)),
+        (subst IsCommandHead f (all_of (λ (z : PlainDefinition). IsCommandHead z.head) sides.second.commands d sb.command_heads j)),
   )
-  wanted_decides c d (Error p) (Error q) e f i j = (λ g. error (contains_in db.commands d j) (p, e) (q, f), λ w. refl)
+  wanted_decides c d (Error p) (Error q) e f i j = (λ g. error (contains_in sides.second.commands d j) (p, e) (q, f), λ w. refl)
   wanted_decides c d (Error p) (Command code class app q) e f i j = (λ g. absurd (let h : false ≡ true = g in cc), wrong)
     where
-      wrong : IsWanted da db c d → is_wanted da db (Error p) (Command code class app q) ≡ true
+      wrong : IsWanted sides.first sides.second c d → is_wanted sides (Error p) (Command code class app q) ≡ true
       wrong (error m h k) = absurd (no_error d code class app q f k)
       wrong (same_app n a cl m h k) = absurd (no_code c n cl (Some a) p e h)
       wrong (no_app n a cl m h k none) = absurd (no_code c n cl (Some a) p e h)
@@ -224,7 +225,7 @@ module _ (da db : Dictionary) (sa : IsDictionary da) (sb : IsDictionary db) wher
       wrong (other_app n a cl m h k none) = absurd (no_code c n cl None p e h)
   wanted_decides c d (Command code class app p) (Error q) e f i j = (λ g. absurd (let h : false ≡ true = g in cc), wrong)
     where
-      wrong : IsWanted da db c d → is_wanted da db (Command code class app p) (Error q) ≡ true
+      wrong : IsWanted sides.first sides.second c d → is_wanted sides (Command code class app p) (Error q) ≡ true
       wrong (error m h k) = absurd (no_error c code class app p e h)
       wrong (same_app n a cl m h k) = absurd (no_code d n cl (Some a) q f k)
       wrong (no_app n a cl m h k none) = absurd (no_code d n cl None q f k)
@@ -232,44 +233,44 @@ module _ (da db : Dictionary) (sa : IsDictionary da) (sb : IsDictionary db) wher
       wrong (other_app n a cl m h k none) = absurd (no_code d n cl (Some a) q f k)
   wanted_decides c d (Command code class app p) (Command own kind app' q) e f i j = (right, back)
     where
-      right : ((code == own) && same_class class kind && wants_app da db code class app app') ≡ true → IsWanted da db c d
+      right : ((code == own) && same_class class kind && wants_app sides code class app app') ≡ true → IsWanted sides.first sides.second c d
       right g =
-          let s = and_parts ((code == own) && same_class class kind) (wants_app da db code class app app') g in
+          let s = and_parts ((code == own) && same_class class kind) (wants_app sides code class app app') g in
           let t = and_parts (code == own) (same_class class kind) s.0 in
           let codes : code ≡ own = eqb-true code own t.0 in
           let sorts : class ≡ kind = (class_decides class kind).0 t.1 in
-          wanted_right c d code class app app' (contains_in db.commands d j) (class_of_head da c code class app p sa i e) (record { p = p; head = e })
+          wanted_right c d code class app app' (contains_in sides.second.commands d j) (class_of_head sides.first c code class app p sa i e) (record { p = p; head = e })
           (record { p = q; head = f ∙ ap (λ (n : ℕ). Command n kind app' q) (sym codes) ∙ ap (λ (k : Class). Command code k app' q) (sym sorts) }) s.1
 
       sort_of : (n : ℕ) (cl : Class) (a : Option ℕ) → HasCode c n cl a → cl ≢ classes.Error
-      sort_of n cl a h = class_of_head da c n cl a h.p sa i h.head
+      sort_of n cl a h = class_of_head sides.first c n cl a h.p sa i h.head
 
-      back : IsWanted da db c d → ((code == own) && same_class class kind && wants_app da db code class app app') ≡ true
+      back : IsWanted sides.first sides.second c d → ((code == own) && same_class class kind && wants_app sides code class app app') ≡ true
       back (error m h k) = absurd (no_error c code class app p e h)
       back (same_app n a cl m h k) = fits_apps code own class kind app app' (Some a) (Some a) n cl (of_head c n code cl class (Some a) app p e h)
           (of_head d n own cl kind (Some a) app' q f k) (eq-eqb a a refl)
       back (no_app n a cl m h k none) =
           fits_apps code own class kind app app' (Some a) None n cl (of_head c n code cl class (Some a) app p e h) (of_head d n own cl kind None app' q f k)
-          (not_named db n cl a (sort_of n cl (Some a) h) none)
+          (not_named sides.second n cl a (sort_of n cl (Some a) h) none)
       back (both_none n cl m h k) = fits_apps code own class kind app app' None None n cl (of_head c n code cl class None app p e h) (of_head d n own cl kind None app' q f k) refl
       back (other_app n a cl m h k none) =
           fits_apps code own class kind app app' None (Some a) n cl (of_head c n code cl class None app p e h) (of_head d n own cl kind (Some a) app' q f k)
-          (not_named da n cl a (sort_of n cl None h) none)
+          (not_named sides.first n cl a (sort_of n cl None h) none)
 
   -- ---- what is served
 
-  served_app : (code : ℕ) (class : Class) (app other : Option ℕ) (d : PlainDefinition) → Contains db.commands d → HasCode d code class other → (p : Pxy) → serves_app app other ≡ true
-      → (c : PlainDefinition) → IsServed da db c (Command code class app p)
+  served_app : (code : ℕ) (class : Class) (app other : Option ℕ) (d : PlainDefinition) → Contains sides.second.commands d → HasCode d code class other → (p : Pxy) → serves_app app other ≡ true
+      → (c : PlainDefinition) → IsServed sides.first sides.second c (Command code class app p)
   served_app code class None None d i h p s c = (d, i, h)
   served_app code class (Some a) None d i h p s c = inr (d, i, h)
   served_app code class None (Some b) d i h p s c = absurd (let f : false ≡ true = s in cc)
   served_app code class (Some a) (Some b) d i h p s c = inl (d, i, subst (λ (n : ℕ). HasCode d code class (Some n)) (sym (eqb-true a b s)) h)
 
-  served_by : (c d : PlainDefinition) (x y : DefHead) → d.head ≡ y → IsIn d db.commands → serves x y ≡ true → IsServed da db c x
+  served_by : (c d : PlainDefinition) (x y : DefHead) → d.head ≡ y → IsIn d sides.second.commands → serves x y ≡ true → IsServed sides.first sides.second c x
   served_by c d (Group k) y f j g = absurd (let h : false ≡ true = g in cc)
   served_by c d (Error p) (Group k) f j g = absurd (let h : false ≡ true = g in cc)
   served_by c d (Error p) (Command code class app q) f j g = absurd (let h : false ≡ true = g in cc)
-  served_by c d (Error p) (Error q) f j g = (d, contains_in db.commands d j, (q, f))
+  served_by c d (Error p) (Error q) f j g = (d, contains_in sides.second.commands d j, (q, f))
   served_by c d (Command code class app p) (Group k) f j g = absurd (let h : false ≡ true = g in cc)
   served_by c d (Command code class app p) (Error q) f j g = absurd (let h : false ≡ true = g in cc)
   served_by c d (Command code class app p) (Command own kind app' q) f j g =
@@ -277,7 +278,7 @@ module _ (da db : Dictionary) (sa : IsDictionary da) (sb : IsDictionary db) wher
       let t = and_parts (code == own) (same_class class kind) s.0 in
       let codes : code ≡ own = eqb-true code own t.0 in
       let sorts : class ≡ kind = (class_decides class kind).0 t.1 in
-      served_app code class app app' d (contains_in db.commands d j)
+      served_app code class app app' d (contains_in sides.second.commands d j)
       (record { p = q; head = f ∙ ap (λ (n : ℕ). Command n kind app' q) (sym codes) ∙ ap (λ (k : Class). Command code k app' q) (sym sorts) }) p s.1 c
 
   serves_one : (code : ℕ) (class : Class) (app other : Option ℕ) (p : Pxy) (d : PlainDefinition) → HasCode d code class other → serves_app app other ≡ true
@@ -286,16 +287,16 @@ module _ (da db : Dictionary) (sa : IsDictionary da) (sb : IsDictionary db) wher
       subst (λ (y : DefHead). serves (Command code class app p) y ≡ true) (sym h.head)
       (and_from ((code == code) && same_class class class) (serves_app app other) (and_from (code == code) (same_class class class) (eq-eqb code code refl) ((class_decides class class).1 refl)) s)
 
-  served_decides : (c : PlainDefinition) (x : DefHead) → Decides (list_any (λ d. serves x d.head) db.commands) (IsServed da db c x)
+  served_decides : (c : PlainDefinition) (x : DefHead) → Decides (list_any (λ d. serves x d.head) sides.second.commands) (IsServed sides.first sides.second c x)
   served_decides c x = (right, back x)
     where
-      right : list_any (λ d. serves x d.head) db.commands ≡ true → IsServed da db c x
-      right g = let r = any_in (λ (d : PlainDefinition). serves x d.head) db.commands g in served_by c r.0 x r.0.head refl r.1 r.2
+      right : list_any (λ d. serves x d.head) sides.second.commands ≡ true → IsServed sides.first sides.second c x
+      right g = let r = any_in (λ (d : PlainDefinition). serves x d.head) sides.second.commands g in served_by c r.0 x r.0.head refl r.1 r.2
 
-      found : (y : DefHead) (d : PlainDefinition) → Contains db.commands d → serves y d.head ≡ true → list_any (λ (z : PlainDefinition). serves y z.head) db.commands ≡ true
-      found y d i s = in_any (λ (z : PlainDefinition). serves y z.head) db.commands d (in_contains db.commands d i) s
+      found : (y : DefHead) (d : PlainDefinition) → Contains sides.second.commands d → serves y d.head ≡ true → list_any (λ (z : PlainDefinition). serves y z.head) sides.second.commands ≡ true
+      found y d i s = in_any (λ (z : PlainDefinition). serves y z.head) sides.second.commands d (in_contains sides.second.commands d i) s
 
-      back : (y : DefHead) → IsServed da db c y → list_any (λ (z : PlainDefinition). serves y z.head) db.commands ≡ true
+      back : (y : DefHead) → IsServed sides.first sides.second c y → list_any (λ (z : PlainDefinition). serves y z.head) sides.second.commands ≡ true
       back (Group k) h = absurd h
       back (Error p) h = found (Error p) h.0 h.1 (subst (λ (y : DefHead). serves (Error p) y ≡ true) (sym h.2.1) refl)
       back (Command code class None p) h = found (Command code class None p) h.0 h.1 (serves_one code class None None p h.0 h.2 refl)
@@ -320,20 +321,20 @@ module _ (da db : Dictionary) (sa : IsDictionary da) (sb : IsDictionary db) wher
         back h = beside c.name d.name ∙ in_any (is_pair c.name d.name) table.commands (c.name, d.name) (in_contains table.commands (c.name, d.name) h)
             (and_from (bytes_eq c.name c.name) (bytes_eq d.name d.name) ((bytes_eq-Decides c.name c.name).1 refl) ((bytes_eq-Decides d.name d.name).1 refl))
 
-    selection_decides : (c : PlainDefinition) → IsIn c da.commands
-        → Decides (list_all (λ d. not (is_wanted da db c.head d.head) || list_any (is_pair c.name d.name) pairs) db.commands) ((e : PlainDefinition) → IsWanted da db c e → IsBeside table c e)
+    selection_decides : (c : PlainDefinition) → IsIn c sides.first.commands
+        → Decides (list_all (λ d. not (is_wanted sides c.head d.head) || list_any (is_pair c.name d.name) pairs) sides.second.commands) ((e : PlainDefinition) → IsWanted sides.first sides.second c e → IsBeside table c e)
     selection_decides c i =
-        Decides-like (list_all (λ d. not (is_wanted da db c.head d.head) || list_any (is_pair c.name d.name) pairs) db.commands)
-        (λ h e w. h e (in_contains db.commands e (wanted_in da db c e w)) w) (λ h e j w. h e w)
-        (all_in_decides (λ d. not (is_wanted da db c.head d.head) || list_any (is_pair c.name d.name) pairs) (λ d. IsWanted da db c d → IsBeside table c d) db.commands
-        (λ d j. implied (is_wanted da db c.head d.head) (list_any (is_pair c.name d.name) pairs) (wanted_decides c d c.head d.head refl refl i j) (beside_decides c d)))
+        Decides-like (list_all (λ d. not (is_wanted sides c.head d.head) || list_any (is_pair c.name d.name) pairs) sides.second.commands)
+        (λ h e w. h e (in_contains sides.second.commands e (wanted_in sides.first sides.second c e w)) w) (λ h e j w. h e w)
+        (all_in_decides (λ d. not (is_wanted sides c.head d.head) || list_any (is_pair c.name d.name) pairs) (λ d. IsWanted sides.first sides.second c d → IsBeside table c d) sides.second.commands
+        (λ d j. implied (is_wanted sides c.head d.head) (list_any (is_pair c.name d.name) pairs) (wanted_decides c d c.head d.head refl refl i j) (beside_decides c d)))
 
-    pub command_pair_decides : (c d : PlainDefinition) → IsIn c da.commands → IsIn d db.commands → Decides (same_code_and_class c.head d.head && is_proxiable c.head d.head && is_selected da db pairs c) (CommandPair da db table c d)
+    pub command_pair_decides : (c d : PlainDefinition) → IsIn c sides.first.commands → IsIn d sides.second.commands → Decides (same_code_and_class c.head d.head && is_proxiable c.head d.head && is_selected sides pairs c) (CommandPair sides.first sides.second table c d)
     command_pair_decides c d i j =
-        let x = all_of (λ (z : PlainDefinition). IsCommandHead z.head) da.commands c sa.command_heads i in
-        let y = all_of (λ (z : PlainDefinition). IsCommandHead z.head) db.commands d sb.command_heads j in
-        Decides-like (same_code_and_class c.head d.head && is_proxiable c.head d.head && is_selected da db pairs c) (λ h. record { same = h.0.0; proxiable = h.0.1; served = h.1.0; selection = h.1.1 }) (λ h. ((h.same, h.proxiable), (h.served, h.selection)))
-        (Decides-and (same_code_and_class c.head d.head && is_proxiable c.head d.head) (is_selected da db pairs c)
+        let x = all_of (λ (z : PlainDefinition). IsCommandHead z.head) sides.first.commands c sa.command_heads i in
+        let y = all_of (λ (z : PlainDefinition). IsCommandHead z.head) sides.second.commands d sb.command_heads j in
+        Decides-like (same_code_and_class c.head d.head && is_proxiable c.head d.head && is_selected sides pairs c) (λ h. record { same = h.0.0; proxiable = h.0.1; served = h.1.0; selection = h.1.1 }) (λ h. ((h.same, h.proxiable), (h.served, h.selection)))
+        (Decides-and (same_code_and_class c.head d.head && is_proxiable c.head d.head) (is_selected sides pairs c)
         (Decides-and (same_code_and_class c.head d.head) (is_proxiable c.head d.head) (code_and_class_decide c d c.head d.head refl refl x y) (proxiable_decides c.head d.head x y))
-        (Decides-and (list_any (λ e. serves c.head e.head) db.commands) (list_all (λ e. not (is_wanted da db c.head e.head) || list_any (is_pair c.name e.name) pairs) db.commands)
+        (Decides-and (list_any (λ e. serves c.head e.head) sides.second.commands) (list_all (λ e. not (is_wanted sides c.head e.head) || list_any (is_pair c.name e.name) pairs) sides.second.commands)
         (served_decides c c.head) (selection_decides c i)))

@@ -21,7 +21,7 @@ use Rattle.dia_book.specs.Dictionary.{Dictionary, PlainDefinition, IsDictionary,
 use Rattle.dia_book.proofs.Members.{into_right, into_map}
 use Rattle.dia_compat.specs.CommandsByCode.{has_code, commands_of, only_for, open_code}
 use Rattle.dia_compat.specs.Closed.{IsError}
-use Rattle.dia_compat.specs.Sides.{Compared}
+use Rattle.dia_compat.specs.Sides.{Sides, Compared}
 use Rattle.dia_compat.specs.PairTests.{NamePair, names_app, wants_app, is_wanted, serves, serves_app, same_code_and_class, is_proxiable, is_pair, is_ready, is_selected, all_selected, is_command_pair, failed_rules, failed_commands}
 use Rattle.dia_compat.specs.declared.checking.Test.TheVariants.{N10}
 use Rattle.dia_compat.specs.Tests.{rules_in}
@@ -144,7 +144,7 @@ module _ (d : Dictionary) (code : ℕ) (class : Class) (app : ℕ) (w : PlainDef
 
 -- ---- a command for one application
 
-module _ (da db : Dictionary) (sb : IsDictionary db) (code : ℕ) (class : Class) (app : ℕ) (p : Pxy) (other : class ≢ classes.Error) where
+module _ (sides : Sides) (sb : IsDictionary sides.second) (code : ℕ) (class : Class) (app : ℕ) (p : Pxy) (other : class ≢ classes.Error) where
   abbrev own : DefHead → Bool
   own h = is_command code class (Some app) h
 
@@ -152,7 +152,7 @@ module _ (da db : Dictionary) (sb : IsDictionary db) (code : ℕ) (class : Class
   open_to h = is_command code class None h
 
   abbrev wanted : DefHead → Bool
-  wanted h = is_wanted da db (Command code class (Some app) p) h
+  wanted h = is_wanted sides (Command code class (Some app) p) h
 
   abbrev served : DefHead → Bool
   served h = serves (Command code class (Some app) p) h
@@ -166,18 +166,18 @@ module _ (da db : Dictionary) (sb : IsDictionary db) (code : ℕ) (class : Class
   own_wanted (Command c cl (Some a) q) e = e
   own_wanted (Error q) e = no_error e
 
-  open_wanted : (h : DefHead) → open_to h ≡ true → names_app db code class app ≡ false → wanted h ≡ true
+  open_wanted : (h : DefHead) → open_to h ≡ true → names_app sides.second code class app ≡ false → wanted h ≡ true
   open_wanted (Group key) e f = absurd (let g : false ≡ true = e in cc)
   open_wanted (Command c cl None q) e f =
-      and_from ((code == c) && same_class class cl) (not (names_app db code class app)) (and_parts ((code == c) && same_class class cl) true e).0 (ap (λ (b : Bool). not b) f)
+      and_from ((code == c) && same_class class cl) (not (names_app sides.second code class app)) (and_parts ((code == c) && same_class class cl) true e).0 (ap (λ (b : Bool). not b) f)
   open_wanted (Command c cl (Some a) q) e f = absurd (let g : false ≡ true = (and_parts ((code == c) && same_class class cl) false e).1 in cc)
   open_wanted (Error q) e f = no_error e
 
-  wanted_is : (h : DefHead) → wanted h ≡ true → (own h ≡ true) ⊎ ((open_to h ≡ true) × (names_app db code class app ≡ false))
+  wanted_is : (h : DefHead) → wanted h ≡ true → (own h ≡ true) ⊎ ((open_to h ≡ true) × (names_app sides.second code class app ≡ false))
   wanted_is (Group key) e = absurd (let f : false ≡ true = e in cc)
   wanted_is (Command c cl None q) e =
-      let s = and_parts ((code == c) && same_class class cl) (not (names_app db code class app)) e in
-      inr (and_from ((code == c) && same_class class cl) true s.0 refl, not-true (names_app db code class app) s.1)
+      let s = and_parts ((code == c) && same_class class cl) (not (names_app sides.second code class app)) e in
+      inr (and_from ((code == c) && same_class class cl) true s.0 refl, not-true (names_app sides.second code class app) s.1)
   wanted_is (Command c cl (Some a) q) e = inl e
   wanted_is (Error q) e = absurd (let f : false ≡ true = e in cc)
 
@@ -199,8 +199,8 @@ module _ (da db : Dictionary) (sb : IsDictionary db) (code : ℕ) (class : Class
   served_is (Command c cl (Some a) q) e = inl e
   served_is (Error q) e = absurd (let f : false ≡ true = e in cc)
 
-  named_by : (y : PlainDefinition) (i : ℕ) → slice_get db.commands i ≡ Some y → own y.head ≡ true → names_app db code class app ≡ false → ⊥
-  named_by y i at e f = none_both (names_app db code class app) (in_any (λ (c : PlainDefinition). own c.head) db.commands y (in_at db.commands i y at) e) f
+  named_by : (y : PlainDefinition) (i : ℕ) → slice_get sides.second.commands i ≡ Some y → own y.head ≡ true → names_app sides.second code class app ≡ false → ⊥
+  named_by y i at e f = none_both (names_app sides.second code class app) (in_any (λ (c : PlainDefinition). own c.head) sides.second.commands y (in_at sides.second.commands i y at) e) f
 
   same_for : (y z : PlainDefinition) (a : Option ℕ) → Reads y code class a → Reads z code class a → IsSameSelector y.head z.head
   same_for y z a (inl r) s = absurd (other r.1)
@@ -208,57 +208,57 @@ module _ (da db : Dictionary) (sb : IsDictionary db) (code : ℕ) (class : Class
   same_for y z a (inr r) (inr s) =
       subst (λ (h : DefHead). IsSameSelector h z.head) (sym r.0.head) (subst (λ (h : DefHead). IsSameSelector (Command code class a r.0.p) h) (sym s.0.head) (refl, refl, refl))
 
-  one_wanted : (j k : ℕ) (y z : PlainDefinition) → slice_get db.commands j ≡ Some y → slice_get db.commands k ≡ Some z → wanted y.head ≡ true → wanted z.head ≡ true → j ≡ k
+  one_wanted : (j k : ℕ) (y z : PlainDefinition) → slice_get sides.second.commands j ≡ Some y → slice_get sides.second.commands k ≡ Some z → wanted y.head ≡ true → wanted z.head ≡ true → j ≡ k
   one_wanted j k y z at there e f = by (wanted_is y.head e) (wanted_is z.head f)
     where
-      reads_as : (x : PlainDefinition) (i : ℕ) (a : Option ℕ) → slice_get db.commands i ≡ Some x → is_command code class a x.head ≡ true → Reads x code class a
-      reads_as x i a here g = reads db x code class a sb (in_at db.commands i x here) g
+      reads_as : (x : PlainDefinition) (i : ℕ) (a : Option ℕ) → slice_get sides.second.commands i ≡ Some x → is_command code class a x.head ≡ true → Reads x code class a
+      reads_as x i a here g = reads sides.second x code class a sb (in_at sides.second.commands i x here) g
 
-      by : ((own y.head ≡ true) ⊎ ((open_to y.head ≡ true) × (names_app db code class app ≡ false))) → ((own z.head ≡ true) ⊎ ((open_to z.head ≡ true) × (names_app db code class app ≡ false))) → j ≡ k
+      by : ((own y.head ≡ true) ⊎ ((open_to y.head ≡ true) × (names_app sides.second code class app ≡ false))) → ((own z.head ≡ true) ⊎ ((open_to z.head ≡ true) × (names_app sides.second code class app ≡ false))) → j ≡ k
       by (inl g) (inl h) = sb.distinct_selectors j k y z at there (same_for y z (Some app) (reads_as y j (Some app) at g) (reads_as z k (Some app) there h))
       by (inl g) (inr h) = absurd (named_by y j at g h.1)
       by (inr g) (inl h) = absurd (named_by z k there h g.1)
       by (inr g) (inr h) = sb.distinct_selectors j k y z at there (same_for y z None (reads_as y j None at g.0) (reads_as z k None there h.0))
 
-  chosen_wanted : (x : Choice db code class app) → wanted x.command.head ≡ true
+  chosen_wanted : (x : Choice sides.second code class app) → wanted x.command.head ≡ true
   chosen_wanted x = by x.how
     where
-      by : (own x.command.head ≡ true) ⊎ ((open_to x.command.head ≡ true) × ((y : PlainDefinition) → IsIn y db.commands → own y.head ≡ false)) → wanted x.command.head ≡ true
+      by : (own x.command.head ≡ true) ⊎ ((open_to x.command.head ≡ true) × ((y : PlainDefinition) → IsIn y sides.second.commands → own y.head ≡ false)) → wanted x.command.head ≡ true
       by (inl e) = own_wanted x.command.head e
-      by (inr (e, none)) = open_wanted x.command.head e (any_none (λ (c : PlainDefinition). own c.head) db.commands none)
+      by (inr (e, none)) = open_wanted x.command.head e (any_none (λ (c : PlainDefinition). own c.head) sides.second.commands none)
 
-  chosen_served : (x : Choice db code class app) → served x.command.head ≡ true
+  chosen_served : (x : Choice sides.second code class app) → served x.command.head ≡ true
   chosen_served x = by x.how
     where
-      by : (own x.command.head ≡ true) ⊎ ((open_to x.command.head ≡ true) × ((y : PlainDefinition) → IsIn y db.commands → own y.head ≡ false)) → served x.command.head ≡ true
+      by : (own x.command.head ≡ true) ⊎ ((open_to x.command.head ≡ true) × ((y : PlainDefinition) → IsIn y sides.second.commands → own y.head ≡ false)) → served x.command.head ≡ true
       by (inl e) = own_served x.command.head e
       by (inr (e, none)) = open_served x.command.head e
 
-  none_wanted : NoChoice db code class app → (x : PlainDefinition) → IsIn x db.commands → wanted x.head ≡ false
+  none_wanted : NoChoice sides.second code class app → (x : PlainDefinition) → IsIn x sides.second.commands → wanted x.head ≡ false
   none_wanted n x i = false_from_ne_true (wanted x.head) (λ e. by (wanted_is x.head e))
     where
-      by : (own x.head ≡ true) ⊎ ((open_to x.head ≡ true) × (names_app db code class app ≡ false)) → ⊥
+      by : (own x.head ≡ true) ⊎ ((open_to x.head ≡ true) × (names_app sides.second code class app ≡ false)) → ⊥
       by (inl e) = none_both (own x.head) e (n.no_own x i)
       by (inr e) = none_both (open_to x.head) e.0 (n.no_common x i)
 
-  none_served : NoChoice db code class app → (x : PlainDefinition) → IsIn x db.commands → served x.head ≡ false
+  none_served : NoChoice sides.second code class app → (x : PlainDefinition) → IsIn x sides.second.commands → served x.head ≡ false
   none_served n x i = false_from_ne_true (served x.head) (λ e. by (served_is x.head e))
     where
       by : (own x.head ≡ true) ⊎ (open_to x.head ≡ true) → ⊥
       by (inl e) = none_both (own x.head) e (n.no_own x i)
       by (inr e) = none_both (open_to x.head) e (n.no_common x i)
 
-  own_only : filter (λ (d : PlainDefinition). wanted d.head) db.commands ≡ option_to_list (option_and_then (slice_get (definitions db)) (selected db code class app))
-  own_only = only_selected db code class app (λ (d : PlainDefinition). wanted d.head) chosen_wanted none_wanted one_wanted
+  own_only : filter (λ (d : PlainDefinition). wanted d.head) sides.second.commands ≡ option_to_list (option_and_then (slice_get (definitions sides.second)) (selected sides.second code class app))
+  own_only = only_selected sides.second code class app (λ (d : PlainDefinition). wanted d.head) chosen_wanted none_wanted one_wanted
 
-  own_any : list_any (λ (d : PlainDefinition). served d.head) db.commands ≡ is_some (option_and_then (slice_get (definitions db)) (selected db code class app))
-  own_any = any_selected db code class app (λ (d : PlainDefinition). served d.head) chosen_served none_served
+  own_any : list_any (λ (d : PlainDefinition). served d.head) sides.second.commands ≡ is_some (option_and_then (slice_get (definitions sides.second)) (selected sides.second code class app))
+  own_any = any_selected sides.second code class app (λ (d : PlainDefinition). served d.head) chosen_served none_served
 
 -- ---- the command for errors
 
-module _ (da db : Dictionary) (sb : IsDictionary db) (p : Pxy) where
+module _ (sides : Sides) (sb : IsDictionary sides.second) (p : Pxy) where
   abbrev for_errors : DefHead → Bool
-  for_errors h = is_wanted da db (Error p) h
+  for_errors h = is_wanted sides (Error p) h
 
   is_error : (y : PlainDefinition) (h : DefHead) → y.head ≡ h → for_errors h ≡ true → IsError y
   is_error y (Group key) e f = absurd (let g : false ≡ true = f in cc)
@@ -272,34 +272,34 @@ module _ (da db : Dictionary) (sb : IsDictionary db) (p : Pxy) where
   read_error y a (inl r) = r.0
   read_error y a (inr r) = absurd (r.1 refl)
 
-  one_error : (j k : ℕ) (y z : PlainDefinition) → slice_get db.commands j ≡ Some y → slice_get db.commands k ≡ Some z → for_errors y.head ≡ true → for_errors z.head ≡ true → j ≡ k
+  one_error : (j k : ℕ) (y z : PlainDefinition) → slice_get sides.second.commands j ≡ Some y → slice_get sides.second.commands k ≡ Some z → for_errors y.head ≡ true → for_errors z.head ≡ true → j ≡ k
   one_error j k y z at there e f =
       let r = is_error y y.head refl e in
       let s = is_error z z.head refl f in
       sb.distinct_selectors j k y z at there
       (subst (λ (h : DefHead). IsSameSelector h z.head) (sym r.1) (subst (λ (h : DefHead). IsSameSelector (Error r.0) h) (sym s.1) tt))
 
-  chosen_error : (x : Choice db 0 classes.Error 0) → for_errors x.command.head ≡ true
+  chosen_error : (x : Choice sides.second 0 classes.Error 0) → for_errors x.command.head ≡ true
   chosen_error x = by x.how
     where
-      i : IsIn x.command db.commands
-      i = in_at db.commands x.place x.command x.at
+      i : IsIn x.command sides.second.commands
+      i = in_at sides.second.commands x.place x.command x.at
 
       by : (is_command 0 classes.Error (Some 0) x.command.head ≡ true) ⊎ ((is_command 0 classes.Error None x.command.head ≡ true) ×
-          ((y : PlainDefinition) → IsIn y db.commands → is_command 0 classes.Error (Some 0) y.head ≡ false)) → for_errors x.command.head ≡ true
-      by (inl e) = error_wanted x.command (read_error x.command (Some 0) (reads db x.command 0 classes.Error (Some 0) sb i e))
-      by (inr (e, none)) = error_wanted x.command (read_error x.command None (reads db x.command 0 classes.Error None sb i e))
+          ((y : PlainDefinition) → IsIn y sides.second.commands → is_command 0 classes.Error (Some 0) y.head ≡ false)) → for_errors x.command.head ≡ true
+      by (inl e) = error_wanted x.command (read_error x.command (Some 0) (reads sides.second x.command 0 classes.Error (Some 0) sb i e))
+      by (inr (e, none)) = error_wanted x.command (read_error x.command None (reads sides.second x.command 0 classes.Error None sb i e))
 
-  none_error : NoChoice db 0 classes.Error 0 → (x : PlainDefinition) → IsIn x db.commands → for_errors x.head ≡ false
+  none_error : NoChoice sides.second 0 classes.Error 0 → (x : PlainDefinition) → IsIn x sides.second.commands → for_errors x.head ≡ false
   none_error n x i = false_from_ne_true (for_errors x.head) (λ e.
       let r = is_error x x.head refl e in
       none_both (is_command 0 classes.Error (Some 0) x.head) (ap (is_command 0 classes.Error (Some 0)) r.1) (n.no_own x i))
 
-  error_only : filter (λ (d : PlainDefinition). for_errors d.head) db.commands ≡ option_to_list (option_and_then (slice_get (definitions db)) (selected db 0 classes.Error 0))
-  error_only = only_selected db 0 classes.Error 0 (λ (d : PlainDefinition). for_errors d.head) chosen_error none_error one_error
+  error_only : filter (λ (d : PlainDefinition). for_errors d.head) sides.second.commands ≡ option_to_list (option_and_then (slice_get (definitions sides.second)) (selected sides.second 0 classes.Error 0))
+  error_only = only_selected sides.second 0 classes.Error 0 (λ (d : PlainDefinition). for_errors d.head) chosen_error none_error one_error
 
-  error_any : list_any (λ (d : PlainDefinition). for_errors d.head) db.commands ≡ is_some (option_and_then (slice_get (definitions db)) (selected db 0 classes.Error 0))
-  error_any = any_selected db 0 classes.Error 0 (λ (d : PlainDefinition). for_errors d.head) chosen_error none_error
+  error_any : list_any (λ (d : PlainDefinition). for_errors d.head) sides.second.commands ≡ is_some (option_and_then (slice_get (definitions sides.second)) (selected sides.second 0 classes.Error 0))
+  error_any = any_selected sides.second 0 classes.Error 0 (λ (d : PlainDefinition). for_errors d.head) chosen_error none_error
 
   serves_errors : (h : DefHead) → serves (Error p) h ≡ for_errors h
   serves_errors (Group key) = refl
@@ -308,31 +308,31 @@ module _ (da db : Dictionary) (sb : IsDictionary db) (p : Pxy) where
 
 -- ---- what stands beside a command
 
-module _ (da db : Dictionary) (sb : IsDictionary db) where
+module _ (sides : Sides) (sb : IsDictionary sides.second) where
   -- of a command for one application or for errors, one definition is wanted, the one that is selected
-  pub only_wanted : (h : DefHead) → IsCommandHead h → open_code h ≡ None → filter (λ d. is_wanted da db h d.head) db.commands ≡ option_to_list (only_for db h)
+  pub only_wanted : (h : DefHead) → IsCommandHead h → open_code h ≡ None → filter (λ d. is_wanted sides h d.head) sides.second.commands ≡ option_to_list (only_for sides.second h)
   only_wanted (Group key) is single = absurd is
   only_wanted (Command code class None p) is single = absurd (let f : Some code ≡ None = single in cc)
-  only_wanted (Command code class (Some app) p) is single = own_only da db sb code class app p is
-  only_wanted (Error p) is single = error_only da db sb p
+  only_wanted (Command code class (Some app) p) is single = own_only sides sb code class app p is
+  only_wanted (Error p) is single = error_only sides sb p
 
-  pub only_served : (h : DefHead) → IsCommandHead h → open_code h ≡ None → list_any (λ d. serves h d.head) db.commands ≡ is_some (only_for db h)
+  pub only_served : (h : DefHead) → IsCommandHead h → open_code h ≡ None → list_any (λ d. serves h d.head) sides.second.commands ≡ is_some (only_for sides.second h)
   only_served (Group key) is single = absurd is
   only_served (Command code class None p) is single = absurd (let f : Some code ≡ None = single in cc)
-  only_served (Command code class (Some app) p) is single = own_any da db sb code class app p is
-  only_served (Error p) is single = any_same (serves_errors da db sb p) db.commands ∙ error_any da db sb p
+  only_served (Command code class (Some app) p) is single = own_any sides sb code class app p is
+  only_served (Error p) is single = any_same (serves_errors sides sb p) sides.second.commands ∙ error_any sides sb p
     where
       any_same : {v w : DefHead → Bool} → ((h : DefHead) → v h ≡ w h) → (cs : List PlainDefinition) → list_any (λ (d : PlainDefinition). v d.head) cs ≡ list_any (λ (d : PlainDefinition). w d.head) cs
       any_same same [] = refl
       any_same {v} {w} same (c ∷ cs) = ap (λ (b : Bool). b || list_any (λ (d : PlainDefinition). v d.head) cs) (same c.head) ∙ ap (λ (b : Bool). w c.head || b) (any_same same cs)
 
   pub selected_only : (pairs : List NamePair) (c : PlainDefinition) → IsCommandHead c.head → open_code c.head ≡ None
-      → is_selected da db pairs c ≡ option_map_or (λ d. list_any (is_pair c.name d.name) pairs) (only_for db c.head) false
+      → is_selected sides pairs c ≡ option_map_or (λ d. list_any (is_pair c.name d.name) pairs) (only_for sides.second c.head) false
   selected_only pairs c is single =
-      ap (λ (b : Bool). b && list_all (λ (d : PlainDefinition). not (is_wanted da db c.head d.head) || beside d) db.commands) (only_served c.head is single)
-      ∙ ap (λ (b : Bool). is_some (only_for db c.head) && b)
-      (all_filtered (λ (d : PlainDefinition). is_wanted da db c.head d.head) beside db.commands ∙ ap (list_all beside) (only_wanted c.head is single))
-      ∙ by (only_for db c.head)
+      ap (λ (b : Bool). b && list_all (λ (d : PlainDefinition). not (is_wanted sides c.head d.head) || beside d) sides.second.commands) (only_served c.head is single)
+      ∙ ap (λ (b : Bool). is_some (only_for sides.second c.head) && b)
+      (all_filtered (λ (d : PlainDefinition). is_wanted sides c.head d.head) beside sides.second.commands ∙ ap (list_all beside) (only_wanted c.head is single))
+      ∙ by (only_for sides.second c.head)
     where
       beside : PlainDefinition → Bool
       beside d = list_any (is_pair c.name d.name) pairs
@@ -341,14 +341,14 @@ module _ (da db : Dictionary) (sb : IsDictionary db) where
       by None = refl
       by (Some d) = and_true (beside d)
 
-  pub names_only : (h : DefHead) → IsCommandHead h → open_code h ≡ None → wanted_names da db h ≡ map (λ d. d.name) (option_to_list (only_for db h))
-  names_only h is single = names_filtered (λ (d : PlainDefinition). is_wanted da db h d.head) (λ (d : PlainDefinition). d.name) db.commands
+  pub names_only : (h : DefHead) → IsCommandHead h → open_code h ≡ None → wanted_names sides h ≡ map (λ d. d.name) (option_to_list (only_for sides.second h))
+  names_only h is single = names_filtered (λ (d : PlainDefinition). is_wanted sides h d.head) (λ (d : PlainDefinition). d.name) sides.second.commands
       ∙ ap (map (λ (d : PlainDefinition). d.name)) (only_wanted h is single)
 
   -- what is told of a command for all other applications is told of those of its code
-  not_of_code : (code : ℕ) (class : Class) (a : Option ℕ) (p : Pxy) (h : DefHead) → has_code code h ≡ false → is_wanted da db (Command code class a p) h ≡ false
+  not_of_code : (code : ℕ) (class : Class) (a : Option ℕ) (p : Pxy) (h : DefHead) → has_code code h ≡ false → is_wanted sides (Command code class a p) h ≡ false
   not_of_code code class a p (Group key) e = refl
-  not_of_code code class a p (Command c cl b q) e = ap (λ (t : Bool). t && same_class class cl && wants_app da db code class a b) e
+  not_of_code code class a p (Command c cl b q) e = ap (λ (t : Bool). t && same_class class cl && wants_app sides code class a b) e
   not_of_code code class a p (Error q) e = refl
 
   is_of_code_too : (code : ℕ) (class : Class) (a : Option ℕ) (p : Pxy) (h : DefHead) → serves (Command code class a p) h ≡ true → has_code code h ≡ true
@@ -357,23 +357,23 @@ module _ (da db : Dictionary) (sb : IsDictionary db) where
   is_of_code_too code class a p (Error q) e = absurd (let f : false ≡ true = e in cc)
 
   pub selected_of_code : (pairs : List NamePair) (c : PlainDefinition) (code : ℕ) (class : Class) (a : Option ℕ) (p : Pxy) → c.head ≡ Command code class a p
-      → is_selected da db pairs c
-      ≡ (list_any (λ d. serves c.head d.head) (commands_of db code) && list_all (λ d. not (is_wanted da db c.head d.head) || list_any (is_pair c.name d.name) pairs) (commands_of db code))
+      → is_selected sides pairs c
+      ≡ (list_any (λ d. serves c.head d.head) (commands_of sides.second code) && list_all (λ d. not (is_wanted sides c.head d.head) || list_any (is_pair c.name d.name) pairs) (commands_of sides.second code))
   selected_of_code pairs c code class a p e =
-      ap (λ (b : Bool). b && list_all ready db.commands)
+      ap (λ (b : Bool). b && list_all ready sides.second.commands)
       (sym (any_kept (λ (d : PlainDefinition). serves c.head d.head) (λ (d : PlainDefinition). has_code code d.head)
-      (λ d f. is_of_code_too code class a p d.head (ap (λ (h : DefHead). serves h d.head) (sym e) ∙ f)) db.commands))
-      ∙ ap (λ (b : Bool). list_any (λ (d : PlainDefinition). serves c.head d.head) (commands_of db code) && b)
+      (λ d f. is_of_code_too code class a p d.head (ap (λ (h : DefHead). serves h d.head) (sym e) ∙ f)) sides.second.commands))
+      ∙ ap (λ (b : Bool). list_any (λ (d : PlainDefinition). serves c.head d.head) (commands_of sides.second code) && b)
       (sym (all_kept ready (λ (d : PlainDefinition). has_code code d.head)
-      (λ d f. ap (λ (b : Bool). not b || list_any (is_pair c.name d.name) pairs) (ap (λ (h : DefHead). is_wanted da db h d.head) e ∙ not_of_code code class a p d.head f)) db.commands))
+      (λ d f. ap (λ (b : Bool). not b || list_any (is_pair c.name d.name) pairs) (ap (λ (h : DefHead). is_wanted sides h d.head) e ∙ not_of_code code class a p d.head f)) sides.second.commands))
     where
       ready : PlainDefinition → Bool
-      ready d = not (is_wanted da db c.head d.head) || list_any (is_pair c.name d.name) pairs
+      ready d = not (is_wanted sides c.head d.head) || list_any (is_pair c.name d.name) pairs
 
-  pub names_of_code : (h : DefHead) (code : ℕ) (class : Class) (a : Option ℕ) (p : Pxy) → h ≡ Command code class a p → filter_map (wanted_name da db h) (commands_of db code) ≡ wanted_names da db h
+  pub names_of_code : (h : DefHead) (code : ℕ) (class : Class) (a : Option ℕ) (p : Pxy) → h ≡ Command code class a p → filter_map (wanted_name sides h) (commands_of sides.second code) ≡ wanted_names sides h
   names_of_code h code class a p e =
-      filter_map_kept (wanted_name da db h) (λ (d : PlainDefinition). has_code code d.head)
-      (λ d f. ap (λ (b : Bool). cond b (Some d.name) None) (ap (λ (k : DefHead). is_wanted da db k d.head) e ∙ not_of_code code class a p d.head f)) db.commands
+      filter_map_kept (wanted_name sides h) (λ (d : PlainDefinition). has_code code d.head)
+      (λ d f. ap (λ (b : Bool). cond b (Some d.name) None) (ap (λ (k : DefHead). is_wanted sides k d.head) e ∙ not_of_code code class a p d.head f)) sides.second.commands
 
   -- by the list of the commands of its code
   is_open : (h : DefHead) (code : ℕ) → open_code h ≡ Some code → (class : Class) × (p : Pxy) × (h ≡ Command code class None p)
@@ -383,26 +383,26 @@ module _ (da db : Dictionary) (sb : IsDictionary db) where
   is_open (Error p) code e = absurd (let f : None ≡ Some code = e in cc)
 
   pub selected_listed : (pairs : List NamePair) (c : PlainDefinition) (code : ℕ) (cs : List (Bor Definition))
-      → open_code c.head ≡ Some code → map (λ d. plain_definition d.now) cs ≡ commands_of db code
-      → (list_any (λ d. serves c.head d.now.head) cs && list_all (λ d. is_ready da db pairs c (plain_definition d.now)) cs) ≡ is_selected da db pairs c
+      → open_code c.head ≡ Some code → map (λ d. plain_definition d.now) cs ≡ commands_of sides.second code
+      → (list_any (λ d. serves c.head d.now.head) cs && list_all (λ d. is_ready sides pairs c (plain_definition d.now)) cs) ≡ is_selected sides pairs c
   selected_listed pairs c code cs e same =
       let h = is_open c.head code e in
-      ap (λ (b : Bool). b && list_all (λ (d : Bor Definition). is_ready da db pairs c (plain_definition d.now)) cs)
+      ap (λ (b : Bool). b && list_all (λ (d : Bor Definition). is_ready sides pairs c (plain_definition d.now)) cs)
       (sym (list_any-map (λ (d : Bor Definition). plain_definition d.now) (λ (d : PlainDefinition). serves c.head d.head) cs) ∙ ap (list_any (λ (d : PlainDefinition). serves c.head d.head)) same)
-      ∙ ap (λ (b : Bool). list_any (λ (d : PlainDefinition). serves c.head d.head) (commands_of db code) && b)
-      (sym (list_all-map (is_ready da db pairs c) (λ (d : Bor Definition). plain_definition d.now) cs) ∙ ap (list_all (is_ready da db pairs c)) same)
+      ∙ ap (λ (b : Bool). list_any (λ (d : PlainDefinition). serves c.head d.head) (commands_of sides.second code) && b)
+      (sym (list_all-map (is_ready sides pairs c) (λ (d : Bor Definition). plain_definition d.now) cs) ∙ ap (list_all (is_ready sides pairs c)) same)
       ∙ sym (selected_of_code pairs c code h.0 None h.1 h.2)
 
-  pub selected_unlisted : (pairs : List NamePair) (c : PlainDefinition) (code : ℕ) → open_code c.head ≡ Some code → [] ≡ commands_of db code → false ≡ is_selected da db pairs c
+  pub selected_unlisted : (pairs : List NamePair) (c : PlainDefinition) (code : ℕ) → open_code c.head ≡ Some code → [] ≡ commands_of sides.second code → false ≡ is_selected sides pairs c
   selected_unlisted pairs c code e none = selected_listed pairs c code [] e none
 
-  pub names_listed : (h : DefHead) (code : ℕ) (cs : List (Bor Definition)) → open_code h ≡ Some code → map (λ d. plain_definition d.now) cs ≡ commands_of db code
-      → filter_map (λ d. wanted_name da db h (plain_definition d.now)) cs ≡ wanted_names da db h
+  pub names_listed : (h : DefHead) (code : ℕ) (cs : List (Bor Definition)) → open_code h ≡ Some code → map (λ d. plain_definition d.now) cs ≡ commands_of sides.second code
+      → filter_map (λ d. wanted_name sides h (plain_definition d.now)) cs ≡ wanted_names sides h
   names_listed h code cs e same =
       let k = is_open h code e in
-      sym (filter_map_map (wanted_name da db h) (λ (d : Bor Definition). plain_definition d.now) cs) ∙ ap (filter_map (wanted_name da db h)) same ∙ names_of_code h code k.0 None k.1 k.2
+      sym (filter_map_map (wanted_name sides h) (λ (d : Bor Definition). plain_definition d.now) cs) ∙ ap (filter_map (wanted_name sides h)) same ∙ names_of_code h code k.0 None k.1 k.2
 
-  pub names_unlisted : (h : DefHead) (code : ℕ) → open_code h ≡ Some code → [] ≡ commands_of db code → [] ≡ wanted_names da db h
+  pub names_unlisted : (h : DefHead) (code : ℕ) → open_code h ≡ Some code → [] ≡ commands_of sides.second code → [] ≡ wanted_names sides h
   names_unlisted h code e none = names_listed h code [] e none
 
 -- ---- the pair of two commands, by their numbers
@@ -421,16 +421,16 @@ and_false false = refl
 
 -- where the table has what may be selected for a command, by its place
 pub selected_at : (all : Compared) (i : ℕ) (x : PlainDefinition) (b : Bool) → slice_get all.sides.first.commands i ≡ Some x → slice_get (all_selected all) i ≡ Some b
-    → b ≡ is_selected all.sides.first all.sides.second all.table.commands x
+    → b ≡ is_selected all.sides all.table.commands x
 selected_at all i x b at is =
-    same_Some b (is_selected all.sides.first all.sides.second all.table.commands x) (sym is ∙ into_map (is_selected all.sides.first all.sides.second all.table.commands) all.sides.first.commands i x at)
+    same_Some b (is_selected all.sides all.table.commands x) (sym is ∙ into_map (is_selected all.sides all.table.commands) all.sides.first.commands i x at)
 
 -- two commands by their places
 module _ (all : Compared) (i j k l : ℕ) (x y : PlainDefinition) (b may : Bool) (table_has : slice_get (all_selected all) i ≡ Some b)
     (at_k : k ≡ length (groups all.sides.first) + i) (at_l : l ≡ length (groups all.sides.second) + j)
     (at_x : slice_get (definitions all.sides.first) k ≡ Some x) (at_y : slice_get (definitions all.sides.second) l ≡ Some y)
     (is : may ≡ (same_code_and_class x.head y.head && is_proxiable x.head y.head)) where
-  is_sel : b ≡ is_selected all.sides.first all.sides.second all.table.commands x
+  is_sel : b ≡ is_selected all.sides all.table.commands x
   is_sel = selected_at all i x b (command_at all.sides.first i k x at_k at_x) table_has
 
   placed : failed_commands all k l ≡ failed_commands all (length (groups all.sides.first) + i) (length (groups all.sides.second) + j)
@@ -440,27 +440,27 @@ module _ (all : Compared) (i j k l : ℕ) (x y : PlainDefinition) (b may : Bool)
       → failed_rules all (rules_in all.sides.first k) (rules_in all.sides.second l) ≡ failed_commands all (length (groups all.sides.first) + i) (length (groups all.sides.second) + j)
   pair_fails e f =
       fails_rules all k l x y at_x at_y
-      (and_from (same_code_and_class x.head y.head && is_proxiable x.head y.head) (is_selected all.sides.first all.sides.second all.table.commands x) (sym is ∙ e) (sym is_sel ∙ f)) ∙ placed
+      (and_from (same_code_and_class x.head y.head && is_proxiable x.head y.head) (is_selected all.sides all.table.commands x) (sym is ∙ e) (sym is_sel ∙ f)) ∙ placed
 
   pub pair_fails_tenth : ((may ≡ true) × (b ≡ false)) ⊎ (may ≡ false) → Some N10 ≡ failed_commands all (length (groups all.sides.first) + i) (length (groups all.sides.second) + j)
   pair_fails_tenth h = fails_tenth all k l x y at_x at_y (none h) ∙ placed
     where
       none : ((may ≡ true) × (b ≡ false)) ⊎ (may ≡ false) → is_command_pair all x y ≡ false
       none (inl g) = ap (λ (z : Bool). same_code_and_class x.head y.head && is_proxiable x.head y.head && z) (sym is_sel ∙ g.1) ∙ and_false (same_code_and_class x.head y.head && is_proxiable x.head y.head)
-      none (inr g) = ap (λ (z : Bool). z && is_selected all.sides.first all.sides.second all.table.commands x) (sym is ∙ g)
+      none (inr g) = ap (λ (z : Bool). z && is_selected all.sides all.table.commands x) (sym is ∙ g)
 
 same_all : {X : Type 0} (f h : X → Bool) → ((x : X) → f x ≡ h x) → (xs : List X) → list_all f xs ≡ list_all h xs
 same_all f h same [] = refl
 same_all f h same (x ∷ xs) = ap (λ (b : Bool). b && list_all f xs) (same x) ∙ ap (λ (b : Bool). h x && b) (same_all f h same xs)
 
 -- pairs in which the same are found
-pub same_selected : (da db : Dictionary) (ps qs : List NamePair) → ((x y : List ℕ) → list_any (is_pair x y) ps ≡ list_any (is_pair x y) qs) → (cs : List PlainDefinition)
-    → map (is_selected da db ps) cs ≡ map (is_selected da db qs) cs
-same_selected da db ps qs same [] = refl
-same_selected da db ps qs same (c ∷ cs) =
-    ap (λ (b : Bool). (list_any (λ d. serves c.head d.head) db.commands && b) ∷ map (is_selected da db ps) cs)
-    (same_all (is_ready da db ps c) (is_ready da db qs c) (λ d. ap (λ (b : Bool). not (is_wanted da db c.head d.head) || b) (same c.name d.name)) db.commands)
-    ∙ ap (λ (bs : List Bool). is_selected da db qs c ∷ bs) (same_selected da db ps qs same cs)
+pub same_selected : (sides : Sides) (ps qs : List NamePair) → ((x y : List ℕ) → list_any (is_pair x y) ps ≡ list_any (is_pair x y) qs) → (cs : List PlainDefinition)
+    → map (is_selected sides ps) cs ≡ map (is_selected sides qs) cs
+same_selected sides ps qs same [] = refl
+same_selected sides ps qs same (c ∷ cs) =
+    ap (λ (b : Bool). (list_any (λ d. serves c.head d.head) sides.second.commands && b) ∷ map (is_selected sides ps) cs)
+    (same_all (is_ready sides ps c) (is_ready sides qs c) (λ d. ap (λ (b : Bool). not (is_wanted sides c.head d.head) || b) (same c.name d.name)) sides.second.commands)
+    ∙ ap (λ (bs : List Bool). is_selected sides qs c ∷ bs) (same_selected sides ps qs same cs)
 
 pub map_more : {X Y : Type 0} (f : X → Y) (xs : List X) (i : ℕ) (x : X) → slice_get xs i ≡ Some x → map f (take (i + 1) xs) ≡ map f (take i xs) ++ f x ∷ []
 map_more f xs i x at = ap (map f) (taken xs i x at) ∙ map-append f (take i xs) (x ∷ [])

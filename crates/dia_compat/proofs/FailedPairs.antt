@@ -100,7 +100,7 @@ module _ (all : Compared) (sa : IsDictionary all.sides.first) (sb : IsDictionary
           (command_tests p c d
           (λ x nx. let r = command_found da p.0 x sa nx in same_place da.commands i r.0 c x (command_named da p.0) f r.1 at r.2)
           (λ y ny. let r = command_found db p.1 y sb ny in same_place db.commands j r.0 d y (command_named db p.1) g r.1 at' r.2)
-          nc nd ((command_pair_decides da db sa sb table table.commands (λ x y. refl) c d ic id).0 e) (command_rules da c sa ic) (command_rules db d sb id)) refl
+          nc nd ((command_pair_decides all.sides sa sb table table.commands (λ x y. refl) c d ic id).0 e) (command_rules da c sa ic) (command_rules db d sb id)) refl
       pair_of i j c d f g at at' nc nd false e =
           tenth_failed (λ t. CommandTest da db table u t p) (λ (x, y, nx, ny, pair).
           let rx = command_found da p.0 x sa nx in
@@ -108,7 +108,7 @@ module _ (all : Compared) (sa : IsDictionary all.sides.first) (sb : IsDictionary
           let sx = same_place da.commands i rx.0 c x (command_named da p.0) f rx.1 at rx.2 in
           let sy = same_place db.commands j ry.0 d y (command_named db p.1) g ry.1 at' ry.2 in
           let here = subst (λ (z : PlainDefinition). CommandPair da db table z d) sx (subst (λ (z : PlainDefinition). CommandPair da db table x z) sy pair) in
-          let w : false ≡ true = sym e ∙ (command_pair_decides da db sa sb table table.commands (λ x y. refl) c d (in_at da.commands i c at) (in_at db.commands j d at')).1 here in
+          let w : false ≡ true = sym e ∙ (command_pair_decides all.sides sa sb table table.commands (λ x y. refl) c d (in_at da.commands i c at) (in_at db.commands j d at')).1 here in
           cc)
 
       numbers : (i j : ℕ) (c d : PlainDefinition) → slice_get da.commands i ≡ Some c → slice_get db.commands j ≡ Some d

@@ -18,6 +18,7 @@ use Rattle.dia_check.specs.declared.Unknown.{Unknown}
 use Rattle.dia_check.specs.Valid.{known}
 use Rattle.dia_compat.specs.declared.proposing.naming.NamedCommands.{NamedCommands}
 use Rattle.dia_compat.specs.declared.proposing.reaching.Reached.{Reached}
+use Rattle.dia_compat.specs.Sides.{Sides}
 use Rattle.dia_compat.specs.TableText.{plain_pair}
 use Rattle.dia_compat.specs.Below.{HasRule, IsListed, HasWildcard, IsAboveZero, IsKnown, IsCoveredAlone}
 use Rattle.dia_compat.specs.Closed.{NamesEntry, NamesCommand}
@@ -94,40 +95,40 @@ item_at f (y ∷ xs) (suc i) x within is = item_at f xs i x (omega arith) is
 
 -- ---- one name more
 
-module _ (da db : Dictionary) (sa : IsDictionary da) (sb : IsDictionary db) where
-  known_more : (gone : List (List ℕ)) (c : PlainDefinition) → Contains da.commands c → ((name : List ℕ) → Contains gone name → (x : PlainDefinition) × NamesCommand da name x)
-      → (name : List ℕ) → Contains (gone ++ c.name ∷ []) name → (x : PlainDefinition) × NamesCommand da name x
+module _ (sides : Sides) (sa : IsDictionary sides.first) (sb : IsDictionary sides.second) where
+  known_more : (gone : List (List ℕ)) (c : PlainDefinition) → Contains sides.first.commands c → ((name : List ℕ) → Contains gone name → (x : PlainDefinition) × NamesCommand sides.first name x)
+      → (name : List ℕ) → Contains (gone ++ c.name ∷ []) name → (x : PlainDefinition) × NamesCommand sides.first name x
   known_more gone c inside before name i = by (in_append gone (c.name ∷ []) name (in_contains (gone ++ c.name ∷ []) name i))
     where
-      by : IsIn name gone ⊎ IsIn name (c.name ∷ []) → (x : PlainDefinition) × NamesCommand da name x
+      by : IsIn name gone ⊎ IsIn name (c.name ∷ []) → (x : PlainDefinition) × NamesCommand sides.first name x
       by (inl h) = before name (contains_in gone name h)
       by (inr (inl e)) = (c, (inside, sym e))
       by (inr (inr none)) = absurd none
 
-  pub named_again : (gone left : List (List ℕ)) (place : ℕ) (c : PlainDefinition) (old new : NamedCommands) → slice_get da.commands place ≡ Some c → NamedSoFar da db gone (c.name ∷ left) old
+  pub named_again : (gone left : List (List ℕ)) (place : ℕ) (c : PlainDefinition) (old new : NamedCommands) → slice_get sides.first.commands place ≡ Some c → NamedSoFar sides gone (c.name ∷ left) old
       → Contains old.places.keys place → Same old new
-      → NamedSoFar da db (gone ++ c.name ∷ []) left new
+      → NamedSoFar sides (gone ++ c.name ∷ []) left new
   named_again gone left place c old new at so again same = record {
     owed = λ more h.
-        let listed : Contains (map (name_at da) old.places.keys) c.name = subst (Contains (map (name_at da) old.places.keys)) (name_there da place c at)
-        (contains_in (map (name_at da) old.places.keys) (name_at da place) (into_map (name_at da) old.places.keys place (in_contains old.places.keys place again))) in
-        let all = so.owed more (inl (listed, subst (λ (ks : List ℕ). AreCommandPairs da db (map (name_at da) ks) left more) same.places h)) in
-        subst (λ (ns : List (List ℕ)). AreCommandPairs da db [] ns (map plain_pair new.pairs.items ++ more)) (sym (append_assoc gone (c.name ∷ []) left))
-        (subst (λ (ps : Pairs). AreCommandPairs da db [] (gone ++ (c.name ∷ left)) (ps ++ more)) (sym same.pairs) all);
-    roots = subst (λ (ps : Pairs). AreRoots da db ps new.reached) (sym same.pairs) (subst (λ (r : Reached). AreRoots da db (map plain_pair old.pairs.items) r) (sym same.reached) so.roots);
+        let listed : Contains (map (name_at sides.first) old.places.keys) c.name = subst (Contains (map (name_at sides.first) old.places.keys)) (name_there sides.first place c at)
+        (contains_in (map (name_at sides.first) old.places.keys) (name_at sides.first place) (into_map (name_at sides.first) old.places.keys place (in_contains old.places.keys place again))) in
+        let all = so.owed more (inl (listed, subst (λ (ks : List ℕ). AreCommandPairs sides.first sides.second (map (name_at sides.first) ks) left more) same.places h)) in
+        subst (λ (ns : List (List ℕ)). AreCommandPairs sides.first sides.second [] ns (map plain_pair new.pairs.items ++ more)) (sym (append_assoc gone (c.name ∷ []) left))
+        (subst (λ (ps : Pairs). AreCommandPairs sides.first sides.second [] (gone ++ (c.name ∷ left)) (ps ++ more)) (sym same.pairs) all);
+    roots = subst (λ (ps : Pairs). AreRoots sides ps new.reached) (sym same.pairs) (subst (λ (r : Reached). AreRoots sides (map plain_pair old.pairs.items) r) (sym same.reached) so.roots);
     within = λ k i. so.within k (subst (λ (ks : List ℕ). Contains ks k) same.places i);
-    listed = λ p i. subst (λ (ks : List ℕ). Contains (map (name_at da) ks) p.0) (sym same.places) (so.listed p (subst (λ (ps : Pairs). Contains ps p) same.pairs i));
-    known = known_more gone c (contains_in da.commands c (in_at da.commands place c at)) so.known;
+    listed = λ p i. subst (λ (ks : List ℕ). Contains (map (name_at sides.first) ks) p.0) (sym same.places) (so.listed p (subst (λ (ps : Pairs). Contains ps p) same.pairs i));
+    known = known_more gone c (contains_in sides.first.commands c (in_at sides.first.commands place c at)) so.known;
   }
 
   some_name : (name : List ℕ) (ns : List (List ℕ)) → (n : List ℕ) × IsIn n (or_alone name ns)
   some_name name [] = (name, inl refl)
   some_name name (n ∷ ns) = (n, inl refl)
 
-  module _ (gone left : List (List ℕ)) (place : ℕ) (c : PlainDefinition) (old new : NamedCommands) (at : slice_get da.commands place ≡ Some c) (so : NamedSoFar da db gone (c.name ∷ left) old)
-      (fresh : ¬ Contains old.places.keys place) (adds : Adds da db place c old new) where
+  module _ (gone left : List (List ℕ)) (place : ℕ) (c : PlainDefinition) (old new : NamedCommands) (at : slice_get sides.first.commands place ≡ Some c) (so : NamedSoFar sides gone (c.name ∷ left) old)
+      (fresh : ¬ Contains old.places.keys place) (adds : Adds sides place c old new) where
     abbrev pairs_of_c : Pairs
-    pairs_of_c = map (λ (name : List ℕ). (c.name, name)) (names_beside da db c)
+    pairs_of_c = map (λ (name : List ℕ). (c.name, name)) (names_beside sides c)
 
     abbrev before : Pairs
     before = map plain_pair old.pairs.items
@@ -135,57 +136,57 @@ module _ (da db : Dictionary) (sa : IsDictionary da) (sb : IsDictionary db) wher
     abbrev after : Pairs
     after = map plain_pair new.pairs.items
 
-    inside : Contains da.commands c
-    inside = contains_in da.commands c (in_at da.commands place c at)
+    inside : Contains sides.first.commands c
+    inside = contains_in sides.first.commands c (in_at sides.first.commands place c at)
 
-    names_now : map (name_at da) new.places.keys ≡ map (name_at da) old.places.keys ++ c.name ∷ []
-    names_now = ap (map (name_at da)) adds.places ∙ map-append (name_at da) old.places.keys (place ∷ []) ∙ ap (λ (n : List ℕ). map (name_at da) old.places.keys ++ n ∷ []) (name_there da place c at)
+    names_now : map (name_at sides.first) new.places.keys ≡ map (name_at sides.first) old.places.keys ++ c.name ∷ []
+    names_now = ap (map (name_at sides.first)) adds.places ∙ map-append (name_at sides.first) old.places.keys (place ∷ []) ∙ ap (λ (n : List ℕ). map (name_at sides.first) old.places.keys ++ n ∷ []) (name_there sides.first place c at)
 
-    not_listed : ¬ Contains (map (name_at da) old.places.keys) c.name
+    not_listed : ¬ Contains (map (name_at sides.first) old.places.keys) c.name
     not_listed h =
-        let r = in_map (name_at da) old.places.keys c.name (in_contains (map (name_at da) old.places.keys) c.name h) in
+        let r = in_map (name_at sides.first) old.places.keys c.name (in_contains (map (name_at sides.first) old.places.keys) c.name h) in
         let k = contains_in old.places.keys r.0 r.1 in
         let x = so.within r.0 k in
-        let same : r.0 ≡ place = sa.distinct_commands r.0 place x.0 c x.1 at (sym (name_there da r.0 x.0 x.1) ∙ sym r.2) in
+        let same : r.0 ≡ place = sa.distinct_commands r.0 place x.0 c x.1 at (sym (name_there sides.first r.0 x.0 x.1) ∙ sym r.2) in
         fresh (subst (Contains old.places.keys) same k)
 
-    owed : (more : Pairs) → AreCommandPairs da db (map (name_at da) new.places.keys) left more → AreCommandPairs da db [] ((gone ++ c.name ∷ []) ++ left) (after ++ more)
+    owed : (more : Pairs) → AreCommandPairs sides.first sides.second (map (name_at sides.first) new.places.keys) left more → AreCommandPairs sides.first sides.second [] ((gone ++ c.name ∷ []) ++ left) (after ++ more)
     owed more h =
-        let h2 = subst (λ (ns : List (List ℕ)). AreCommandPairs da db ns left more) names_now h in
-        let all = so.owed (pairs_of_c ++ more) (inr (not_listed, c, names_beside da db c, more, (inside, refl), are_beside da db sa sb c inside, refl, h2)) in
+        let h2 = subst (λ (ns : List (List ℕ)). AreCommandPairs sides.first sides.second ns left more) names_now h in
+        let all = so.owed (pairs_of_c ++ more) (inr (not_listed, c, names_beside sides c, more, (inside, refl), are_beside sides sa sb c inside, refl, h2)) in
         let grouped : before ++ (pairs_of_c ++ more) ≡ after ++ more = sym (append_assoc before pairs_of_c more) ∙ ap (λ (ps : Pairs). ps ++ more) (sym adds.pairs) in
-        subst (λ (ns : List (List ℕ)). AreCommandPairs da db [] ns (after ++ more)) (sym (append_assoc gone (c.name ∷ []) left))
-        (subst (λ (ps : Pairs). AreCommandPairs da db [] (gone ++ (c.name ∷ left)) ps) grouped all)
+        subst (λ (ns : List (List ℕ)). AreCommandPairs sides.first sides.second [] ns (after ++ more)) (sym (append_assoc gone (c.name ∷ []) left))
+        (subst (λ (ps : Pairs). AreCommandPairs sides.first sides.second [] (gone ++ (c.name ∷ left)) ps) grouped all)
 
     split_pair : (p : List ℕ × List ℕ) → Contains after p → Contains before p ⊎ (p.0 ≡ c.name)
     split_pair p i = by (in_append before pairs_of_c p (in_contains (before ++ pairs_of_c) p (subst (λ (ps : Pairs). Contains ps p) adds.pairs i)))
       where
         by : IsIn p before ⊎ IsIn p pairs_of_c → Contains before p ⊎ (p.0 ≡ c.name)
         by (inl h) = inl (contains_in before p h)
-        by (inr h) = let r = in_map (λ (name : List ℕ). (c.name, name)) (names_beside da db c) p h in inr (ap (λ (q : List ℕ × List ℕ). q.0) r.2)
+        by (inr h) = let r = in_map (λ (name : List ℕ). (c.name, name)) (names_beside sides c) p h in inr (ap (λ (q : List ℕ × List ℕ). q.0) r.2)
 
     kept_pair : (p : List ℕ × List ℕ) → Contains before p → Contains after p
     kept_pair p i = subst (λ (ps : Pairs). Contains ps p) (sym adds.pairs) (contains_in (before ++ pairs_of_c) p (in_left before pairs_of_c p (in_contains before p i)))
 
     own_pair : (p : List ℕ × List ℕ) × Contains after p × (p.0 ≡ c.name)
     own_pair =
-        let n = some_name c.name (wanted_names da db c.head) in (
+        let n = some_name c.name (wanted_names sides c.head) in (
           (c.name, n.0),
           subst (λ (ps : Pairs). Contains ps (c.name, n.0)) (sym adds.pairs) (contains_in (before ++ pairs_of_c) (c.name, n.0)
-              (in_right before pairs_of_c (c.name, n.0) (into_map (λ (name : List ℕ). (c.name, name)) (names_beside da db c) n.0 n.1))),
+              (in_right before pairs_of_c (c.name, n.0) (into_map (λ (name : List ℕ). (c.name, name)) (names_beside sides c) n.0 n.1))),
           refl,
         )
 
-    each : (key : Key) → (has old.reached key ≡ true) ⊎ (Admits c.rules key × IsShared da db key) → (p : List ℕ × List ℕ) × (x : PlainDefinition) × Contains after p × NamesCommand da p.0 x
-        × Wants da db x.rules key
+    each : (key : Key) → (has old.reached key ≡ true) ⊎ (Admits c.rules key × IsShared sides key) → (p : List ℕ × List ℕ) × (x : PlainDefinition) × Contains after p × NamesCommand sides.first p.0 x
+        × Wants sides x.rules key
     each key (inl h) = let r = so.roots.each key h in (r.0, r.1, kept_pair r.0 r.2, r.3, r.4)
     each key (inr w) = (own_pair.0, c, own_pair.1, (inside, sym own_pair.2), w)
 
-    all : (p : List ℕ × List ℕ) (x : PlainDefinition) (key : Key) → Contains before p ⊎ (p.0 ≡ c.name) → NamesCommand da p.0 x → Wants da db x.rules key → has new.reached key ≡ true
+    all : (p : List ℕ × List ℕ) (x : PlainDefinition) (key : Key) → Contains before p ⊎ (p.0 ≡ c.name) → NamesCommand sides.first p.0 x → Wants sides x.rules key → has new.reached key ≡ true
     all p x key (inl i) n w = adds.reached.grew.grows key (so.roots.all p x key i n w)
     all p x key (inr e) n w =
-        let same : x ≡ c = one_command da x c sa (in_contains da.commands x n.0) (in_contains da.commands c inside) (n.1 ∙ e) in
-        let v = subst (λ (y : PlainDefinition). Wants da db y.rules key) same w in
+        let same : x ≡ c = one_command sides.first x c sa (in_contains sides.first.commands x n.0) (in_contains sides.first.commands c inside) (n.1 ∙ e) in
+        let v = subst (λ (y : PlainDefinition). Wants sides y.rules key) same w in
         adds.reached.there key v.0 v.1
 
     waits_each : (key : Key) → (has old.reached key ≡ true) ⊎ Waits new.reached key → Waits new.reached key
@@ -196,97 +197,97 @@ module _ (da db : Dictionary) (sa : IsDictionary da) (sb : IsDictionary db) wher
     waits_only key (inl w) = adds.reached.grew.grows key (so.roots.wait.only key w)
     waits_only key (inr h) = h
 
-    within : (k : ℕ) → IsIn k old.places.keys ⊎ IsIn k (place ∷ []) → (x : PlainDefinition) × (slice_get da.commands k ≡ Some x)
+    within : (k : ℕ) → IsIn k old.places.keys ⊎ IsIn k (place ∷ []) → (x : PlainDefinition) × (slice_get sides.first.commands k ≡ Some x)
     within k (inl i) = so.within k (contains_in old.places.keys k i)
-    within k (inr (inl e)) = (c, ap (slice_get da.commands) e ∙ at)
+    within k (inr (inl e)) = (c, ap (slice_get sides.first.commands) e ∙ at)
     within k (inr (inr none)) = absurd none
 
-    listed : (p : List ℕ × List ℕ) → Contains before p ⊎ (p.0 ≡ c.name) → Contains (map (name_at da) old.places.keys ++ c.name ∷ []) p.0
-    listed p (inl i) = contains_in (map (name_at da) old.places.keys ++ c.name ∷ []) p.0
-        (in_left (map (name_at da) old.places.keys) (c.name ∷ []) p.0 (in_contains (map (name_at da) old.places.keys) p.0 (so.listed p i)))
-    listed p (inr e) = contains_in (map (name_at da) old.places.keys ++ c.name ∷ []) p.0 (in_right (map (name_at da) old.places.keys) (c.name ∷ []) p.0 (inl e))
+    listed : (p : List ℕ × List ℕ) → Contains before p ⊎ (p.0 ≡ c.name) → Contains (map (name_at sides.first) old.places.keys ++ c.name ∷ []) p.0
+    listed p (inl i) = contains_in (map (name_at sides.first) old.places.keys ++ c.name ∷ []) p.0
+        (in_left (map (name_at sides.first) old.places.keys) (c.name ∷ []) p.0 (in_contains (map (name_at sides.first) old.places.keys) p.0 (so.listed p i)))
+    listed p (inr e) = contains_in (map (name_at sides.first) old.places.keys ++ c.name ∷ []) p.0 (in_right (map (name_at sides.first) old.places.keys) (c.name ∷ []) p.0 (inl e))
 
-    pub named_new : NamedSoFar da db (gone ++ c.name ∷ []) left new
+    pub named_new : NamedSoFar sides (gone ++ c.name ∷ []) left new
     named_new = record {
       owed = owed;
       roots = record {
         each = λ key h. each key (adds.reached.grew.only key h);
         all = λ p x key i n w. all p x key (split_pair p i) n w;
         wait = record { each = λ key h. waits_each key (adds.reached.grew.queued key h); only = λ key w. waits_only key (adds.reached.grew.waits key w) };
-        rest = rest_then da db (Admits c.rules) old.reached new.reached so.roots.rest adds.reached;
+        rest = rest_then sides (Admits c.rules) old.reached new.reached so.roots.rest adds.reached;
       };
       within = λ k i. within k (in_append old.places.keys (place ∷ []) k (in_contains (old.places.keys ++ place ∷ []) k (subst (λ (ks : List ℕ). Contains ks k) adds.places i)));
       listed = λ p i. subst (λ (ns : List (List ℕ)). Contains ns p.0) (sym names_now) (listed p (split_pair p i));
       known = known_more gone c inside so.known;
     }
 
-  pub named_more : (gone left : List (List ℕ)) (place : ℕ) (c : PlainDefinition) (old new : NamedCommands) → slice_get da.commands place ≡ Some c → NamedSoFar da db gone (c.name ∷ left) old
-      → AddsOnce da db place c old new → NamedSoFar da db (gone ++ c.name ∷ []) left new
+  pub named_more : (gone left : List (List ℕ)) (place : ℕ) (c : PlainDefinition) (old new : NamedCommands) → slice_get sides.first.commands place ≡ Some c → NamedSoFar sides gone (c.name ∷ left) old
+      → AddsOnce sides place c old new → NamedSoFar sides (gone ++ c.name ∷ []) left new
   named_more gone left place c old new at so (inl (again, same)) = named_again gone left place c old new at so again same
   named_more gone left place c old new at so (inr (fresh, adds)) = named_new gone left place c old new at so fresh adds
 
-  pub all_named : (names : List (List ℕ)) (named : NamedCommands) → NamedSoFar da db names [] named → AreCommandPairs da db [] names (map plain_pair named.pairs.items)
+  pub all_named : (names : List (List ℕ)) (named : NamedCommands) → NamedSoFar sides names [] named → AreCommandPairs sides.first sides.second [] names (map plain_pair named.pairs.items)
   all_named names named so =
-      subst (λ (ns : List (List ℕ)). AreCommandPairs da db [] ns (map plain_pair named.pairs.items)) (append-nil names)
-      (subst (λ (ps : Pairs). AreCommandPairs da db [] (names ++ []) ps) (append-nil (map plain_pair named.pairs.items)) (so.owed [] refl))
+      subst (λ (ns : List (List ℕ)). AreCommandPairs sides.first sides.second [] ns (map plain_pair named.pairs.items)) (append-nil names)
+      (subst (λ (ps : Pairs). AreCommandPairs sides.first sides.second [] (names ++ []) ps) (append-nil (map plain_pair named.pairs.items)) (so.owed [] refl))
 
   -- ---- what follows is what is proposed
 
   module _ (u : Unknown) where
-    pub wants_pair : (rules : List DRule) (key : Key) → Wants da db rules key → WantsPair da db u rules key
+    pub wants_pair : (rules : List DRule) (key : Key) → Wants sides rules key → WantsPair sides.first sides.second u rules key
     wants_pair rules key w = record { wanted = by w.0; not_alone = not_alone; known_too = w.1.1 }
       where
-        by : Admits rules key → ((r : DRule) × HasRule rules key r × IsAboveZero r.max) ⊎ ((v : DRule) × HasWildcard rules v × IsAboveZero v.max × IsKnown da key × (¬ IsListed rules key))
+        by : Admits rules key → ((r : DRule) × HasRule rules key r × IsAboveZero r.max) ⊎ ((v : DRule) × HasWildcard rules v × IsAboveZero v.max × IsKnown sides.first key × (¬ IsListed rules key))
         by (inl p) = inl p
         by (inr q) = inr (q.0.0, q.0.1, q.0.2, w.1.0, q.1)
 
-        not_alone : ¬ IsCoveredAlone da db u key
+        not_alone : ¬ IsCoveredAlone sides.first sides.second u key
         not_alone h = let e : true ≡ false = sym w.1.1 ∙ ap (λ (o : Option DictEntry). is_some o) h.1 in absurd cc
 
-    pub pair_wants : (d : PlainDefinition) (key : Key) → Contains (definitions da) d → WantsPair da db u d.rules key → Wants da db d.rules key
+    pub pair_wants : (d : PlainDefinition) (key : Key) → Contains (definitions sides.first) d → WantsPair sides.first sides.second u d.rules key → Wants sides d.rules key
     pair_wants d key i w = by w.wanted
       where
-        by : ((r : DRule) × HasRule d.rules key r × IsAboveZero r.max) ⊎ ((v : DRule) × HasWildcard d.rules v × IsAboveZero v.max × IsKnown da key × (¬ IsListed d.rules key)) → Wants da db d.rules key
-        by (inl (r, h, pos)) = (inl (r, h, pos), (is_known da key (sa.known_keys d r key i h.0 h.1), w.known_too))
+        by : ((r : DRule) × HasRule d.rules key r × IsAboveZero r.max) ⊎ ((v : DRule) × HasWildcard d.rules v × IsAboveZero v.max × IsKnown sides.first key × (¬ IsListed d.rules key)) → Wants sides d.rules key
+        by (inl (r, h, pos)) = (inl (r, h, pos), (is_known sides.first key (sa.known_keys d r key i h.0 h.1), w.known_too))
         by (inr (v, h, pos, is, unl)) = (inr ((v, h, pos), unl), (is, w.known_too))
 
-    group_inside : (e : DictEntry) (g : PlainDefinition) → IsIn e da.entries → e.group ≡ Some g → Contains (definitions da) g
-    group_inside e g i is = contains_in (definitions da) g (in_left (groups da) da.commands g (in_filter_map (λ (x : DictEntry). x.group) da.entries e g i is))
+    group_inside : (e : DictEntry) (g : PlainDefinition) → IsIn e sides.first.entries → e.group ≡ Some g → Contains (definitions sides.first) g
+    group_inside e g i is = contains_in (definitions sides.first) g (in_left (groups sides.first) sides.first.commands g (in_filter_map (λ (x : DictEntry). x.group) sides.first.entries e g i is))
 
-    module _ (pairs : Pairs) (roots : Reached) (are : AreRoots da db pairs roots) where
-      pub proposed : (key : Key) → Follows da db roots key → IsProposed da db u pairs key
+    module _ (pairs : Pairs) (roots : Reached) (are : AreRoots sides pairs roots) where
+      pub proposed : (key : Key) → Follows sides roots key → IsProposed sides.first sides.second u pairs key
       proposed key (root k h) = let r = are.each key h in by_command r.0 r.1 key r.2 r.3 (wants_pair r.1.rules key r.4)
       proposed key (in_group outer k e f group up ea eb both is w) = by_group outer key e f group (proposed outer up) ea eb both is (wants_pair group.rules key w)
 
-      pub follows : (key : Key) → IsProposed da db u pairs key → Follows da db roots key
-      follows key (by_command p c k i n w) = root key (are.all p c key i n (pair_wants c key (contains_in (definitions da) c (in_right (groups da) da.commands c (in_contains da.commands c n.0))) w))
+      pub follows : (key : Key) → IsProposed sides.first sides.second u pairs key → Follows sides roots key
+      follows key (by_command p c k i n w) = root key (are.all p c key i n (pair_wants c key (contains_in (definitions sides.first) c (in_right (groups sides.first) sides.first.commands c (in_contains sides.first.commands c n.0))) w))
       follows key (by_group outer k e f group up ea eb both is w) =
-          in_group outer key e f group (follows outer up) ea eb both is (pair_wants group key (group_inside e group (known_entry da outer e ea).0 is) w)
+          in_group outer key e f group (follows outer up) ea eb both is (pair_wants group key (group_inside e group (known_entry sides.first outer e ea).0 is) w)
 
   -- ---- the AVP pairs
 
-  shared_says : (r : Reached) (e : DictEntry) (p : List ℕ × List ℕ) → shared_pair db r e ≡ Some p → (has r e.key ≡ true) × ((f : DictEntry) × (known db e.key ≡ Some f) × (p ≡ (e.name, f.name)))
+  shared_says : (r : Reached) (e : DictEntry) (p : List ℕ × List ℕ) → shared_pair sides.second r e ≡ Some p → (has r e.key ≡ true) × ((f : DictEntry) × (known sides.second e.key ≡ Some f) × (p ≡ (e.name, f.name)))
   shared_says r e p h = by (has r e.key) refl h
     where
-      inner : (o : Option DictEntry) → known db e.key ≡ o → option_map (λ (f : DictEntry). (e.name, f.name)) o ≡ Some p → (f : DictEntry) × (known db e.key ≡ Some f) × (p ≡ (e.name, f.name))
+      inner : (o : Option DictEntry) → known sides.second e.key ≡ o → option_map (λ (f : DictEntry). (e.name, f.name)) o ≡ Some p → (f : DictEntry) × (known sides.second e.key ≡ Some f) × (p ≡ (e.name, f.name))
       inner None g k = absurd (let f : None ≡ Some p = k in cc)
       inner (Some f) g k = (f, g, sym (same_Some (e.name, f.name) p k))
 
-      by : (b : Bool) → has r e.key ≡ b → cond b (option_map (λ (f : DictEntry). (e.name, f.name)) (known db e.key)) None ≡ Some p
-          → (has r e.key ≡ true) × ((f : DictEntry) × (known db e.key ≡ Some f) × (p ≡ (e.name, f.name)))
-      by true g k = (g, inner (known db e.key) refl k)
+      by : (b : Bool) → has r e.key ≡ b → cond b (option_map (λ (f : DictEntry). (e.name, f.name)) (known sides.second e.key)) None ≡ Some p
+          → (has r e.key ≡ true) × ((f : DictEntry) × (known sides.second e.key ≡ Some f) × (p ≡ (e.name, f.name)))
+      by true g k = (g, inner (known sides.second e.key) refl k)
       by false g k = absurd (let f : None ≡ Some p = k in cc)
 
-  shared_is : (r : Reached) (e f : DictEntry) → has r e.key ≡ true → known db e.key ≡ Some f → shared_pair db r e ≡ Some (e.name, f.name)
+  shared_is : (r : Reached) (e f : DictEntry) → has r e.key ≡ true → known sides.second e.key ≡ Some f → shared_pair sides.second r e ≡ Some (e.name, f.name)
   shared_is r e f h k =
-      ap (λ (b : Bool). cond b (option_map (λ (x : DictEntry). (e.name, x.name)) (known db e.key)) None) h ∙ ap (λ (o : Option DictEntry). option_map (λ (x : DictEntry). (e.name, x.name)) o) k
+      ap (λ (b : Bool). cond b (option_map (λ (x : DictEntry). (e.name, x.name)) (known sides.second e.key)) None) h ∙ ap (λ (o : Option DictEntry). option_map (λ (x : DictEntry). (e.name, x.name)) o) k
 
   pub are_avp_pairs : (r : Reached) (wanted : Key → Type 0) → ((key : Key) → has r key ≡ true → wanted key) → ((key : Key) → wanted key → has r key ≡ true)
-      → AreAvpPairs da db wanted (filter_map (shared_pair db r) da.entries)
+      → AreAvpPairs sides.first sides.second wanted (filter_map (shared_pair sides.second r) sides.first.entries)
   are_avp_pairs r wanted to from = record {
     each = λ p. (there p, back p);
     in_order = λ i j k l p q e f less at_i at_j at_k at_l first second.
-        let o = filter_map_order (shared_pair db r) da.entries i j p q less at_i at_j in
+        let o = filter_map_order (shared_pair sides.second r) sides.first.entries i j p q less at_i at_j in
         let x = shared_says r o.x p o.gives_y in
         let y = shared_says r o.w q o.gives_z in
         let a : k ≡ o.k = sa.distinct_names k o.k e o.x at_k o.at_k (first ∙ ap (λ (z : List ℕ × List ℕ). z.0) x.1.2) in
@@ -294,24 +295,24 @@ module _ (da db : Dictionary) (sa : IsDictionary da) (sb : IsDictionary db) wher
         let lt = o.before in omega arith;
   }
     where
-      there : (p : List ℕ × List ℕ) → Contains (filter_map (shared_pair db r) da.entries) p → (e f : DictEntry) × NamesEntry da p.0 e × NamesEntry db p.1 f × (e.key ≡ f.key) × wanted e.key
+      there : (p : List ℕ × List ℕ) → Contains (filter_map (shared_pair sides.second r) sides.first.entries) p → (e f : DictEntry) × NamesEntry sides.first p.0 e × NamesEntry sides.second p.1 f × (e.key ≡ f.key) × wanted e.key
       there p i =
-          let s = at_in (filter_map (shared_pair db r) da.entries) p (in_contains (filter_map (shared_pair db r) da.entries) p i) in
-          let o = at_filter_map (shared_pair db r) da.entries s.place p s.at in
+          let s = at_in (filter_map (shared_pair sides.second r) sides.first.entries) p (in_contains (filter_map (shared_pair sides.second r) sides.first.entries) p i) in
+          let o = at_filter_map (shared_pair sides.second r) sides.first.entries s.place p s.at in
           let x = shared_says r o.1 p o.3 in
-          let f = known_entry db o.1.key x.1.0 x.1.1 in (
+          let f = known_entry sides.second o.1.key x.1.0 x.1.1 in (
             o.1,
             x.1.0,
-            (contains_in da.entries o.1 (in_at da.entries o.0 o.1 o.2), sym (ap (λ (z : List ℕ × List ℕ). z.0) x.1.2)),
-            (contains_in db.entries x.1.0 f.0, sym (ap (λ (z : List ℕ × List ℕ). z.1) x.1.2)),
+            (contains_in sides.first.entries o.1 (in_at sides.first.entries o.0 o.1 o.2), sym (ap (λ (z : List ℕ × List ℕ). z.0) x.1.2)),
+            (contains_in sides.second.entries x.1.0 f.0, sym (ap (λ (z : List ℕ × List ℕ). z.1) x.1.2)),
             sym f.1,
             to o.1.key x.0,
           )
 
-      back : (p : List ℕ × List ℕ) → (e f : DictEntry) × NamesEntry da p.0 e × NamesEntry db p.1 f × (e.key ≡ f.key) × wanted e.key → Contains (filter_map (shared_pair db r) da.entries) p
+      back : (p : List ℕ × List ℕ) → (e f : DictEntry) × NamesEntry sides.first p.0 e × NamesEntry sides.second p.1 f × (e.key ≡ f.key) × wanted e.key → Contains (filter_map (shared_pair sides.second r) sides.first.entries) p
       back p (e, f, n, m, same, w) =
-          let k = entry_known db e.key f sb (in_contains db.entries f m.0) (sym same) in
+          let k = entry_known sides.second e.key f sb (in_contains sides.second.entries f m.0) (sym same) in
           let is : (e.name, f.name) ≡ p = ap (λ (x : List ℕ). (x, f.name)) n.1 ∙ ap (λ (y : List ℕ). (p.0, y)) m.1 in
-          subst (Contains (filter_map (shared_pair db r) da.entries)) is
-          (contains_in (filter_map (shared_pair db r) da.entries) (e.name, f.name)
-          (in_filter_map (shared_pair db r) da.entries e (e.name, f.name) (in_contains da.entries e n.0) (shared_is r e f (from e.key w) k)))
+          subst (Contains (filter_map (shared_pair sides.second r) sides.first.entries)) is
+          (contains_in (filter_map (shared_pair sides.second r) sides.first.entries) (e.name, f.name)
+          (in_filter_map (shared_pair sides.second r) sides.first.entries e (e.name, f.name) (in_contains sides.first.entries e n.0) (shared_is r e f (from e.key w) k)))

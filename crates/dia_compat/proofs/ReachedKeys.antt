@@ -11,16 +11,18 @@ use Rattle.dia_wire.specs.declared.Key.{Key}
 use Rattle.dia_book.specs.Keys.{same_key}
 use Rattle.dia_book.proofs.SameKeys.{same_key-refl, same_key-true}
 use Rattle.dia_book.proofs.Members.{into_left, into_map}
-use Rattle.dia_book.specs.declared.Slot.TheVariants.{Fixed, Loose, Unlisted}
 use Rattle.dia_book.specs.declared.DRule.{DRule}
-use Rattle.dia_book.specs.Dictionary.{Dictionary, DictEntry, PlainDefinition, definitions, groups, entry_of, group_place, lists_key, slot_at, slot_of, is_fixed}
-use Rattle.dia_check.specs.Valid.{known}
+use Rattle.dia_book.specs.Dictionary.{Dictionary, DictEntry, PlainDefinition, definitions, groups, entry_of, group_place}
+use Rattle.dia_check.specs.Valid.{known, is_listed}
 use Rattle.dia_compat.specs.declared.proposing.reaching.Reached.{Reached}
+use Rattle.dia_compat.specs.Sides.{Sides}
+use Rattle.dia_compat.specs.Tests.{rules_in}
 use Rattle.dia_compat.specs.Below.{IsListed, HasWildcard, IsAboveZero, IsKnown}
 use Rattle.dia_compat.specs.ReachedKeys.{has, Waits, IsShared, IsAllowedBy, IsAllowed, Admits, Wants, Inserts, potential, Grew}
 use Rattle.dia_compat.specs.ReachedKeys.{ComesTo, ComesToAll, Follows, root, in_group, IsSharedGroup, AllWait, AreRest, Sorts}
 use Rattle.dia_compat.proofs.RunsOfFixedRules.{IsIn}
 use Rattle.dia_compat.proofs.MemberCounts.{in_at, at_in, in_contains, contains_in, in_left, in_right, in_append, into_filter, count_cons, count_mono}
+use Rattle.dia_compat.proofs.PlacedInSecond.{listed, is_listed_by}
 use Rattle.dia_compat.proofs.FitInSecond.{known_entry}
 use Rattle.dia_compat.proofs.SelectedCommands.{found_or_not, Found, NotFound}
 
@@ -95,18 +97,18 @@ module _ (key : Key) (old new : Reached) (ins : Inserts key old new) where
       by true e = inr (sym (same_key-true key other e))
       by false e = inl (ap (λ (b : Bool). cond b true (has old other)) (sym e) ∙ sym (ins.keys other) ∙ h)
 
-  pub grew_by_one : (da db : Dictionary) → IsShared da db key → Grew da (λ other. (other ≡ key) × IsShared da db other) old new
-  grew_by_one da db shared = by (has old key) refl
+  pub grew_by_one : (sides : Sides) → IsShared sides key → Grew sides.first (λ other. (other ≡ key) × IsShared sides other) old new
+  grew_by_one sides shared = by (has old key) refl
     where
-      e : (e : DictEntry) × (known da key ≡ Some e)
-      e = some_of (known da key) shared.0
+      e : (e : DictEntry) × (known sides.first key ≡ Some e)
+      e = some_of (known sides.first key) shared.0
 
-      only : (other : Key) → has new other ≡ true → (has old other ≡ true) ⊎ ((other ≡ key) × IsShared da db other)
+      only : (other : Key) → has new other ≡ true → (has old other ≡ true) ⊎ ((other ≡ key) × IsShared sides other)
       only other h = pick (had_or_is other h)
         where
-          pick : (has old other ≡ true) ⊎ (other ≡ key) → (has old other ≡ true) ⊎ ((other ≡ key) × IsShared da db other)
+          pick : (has old other ≡ true) ⊎ (other ≡ key) → (has old other ≡ true) ⊎ ((other ≡ key) × IsShared sides other)
           pick (inl g) = inl g
-          pick (inr same) = inr (same, subst (IsShared da db) (sym same) shared)
+          pick (inr same) = inr (same, subst (IsShared sides) (sym same) shared)
 
       fewer : (entry : DictEntry) → not (has new entry.key) ≡ true → not (has old entry.key) ≡ true
       fewer entry h = flip (has old entry.key) refl
@@ -115,10 +117,10 @@ module _ (key : Key) (old new : Reached) (ins : Inserts key old new) where
           flip false g = refl
           flip true g = absurd (let f : true ≡ false = sym (has_more entry.key g) ∙ not-true (has new entry.key) h in cc)
 
-      by : (b : Bool) → has old key ≡ b → Grew da (λ other. (other ≡ key) × IsShared da db other) old new
+      by : (b : Bool) → has old key ≡ b → Grew sides.first (λ other. (other ≡ key) × IsShared sides other) old new
       by true had =
           let same : new.waiting.items ≡ old.waiting.items = ins.waiting ∙ ap (λ (b : Bool). cond b old.waiting.items (old.waiting.items ++ key ∷ [])) had in
-          let less = count_mono (λ (x : DictEntry). not (has new x.key)) (λ (x : DictEntry). not (has old x.key)) da.entries (λ x _. fewer x) in
+          let less = count_mono (λ (x : DictEntry). not (has new x.key)) (λ (x : DictEntry). not (has old x.key)) sides.first.entries (λ x _. fewer x) in
           record {
             grows = has_more;
             only = only;
@@ -133,8 +135,8 @@ module _ (key : Key) (old new : Reached) (ins : Inserts key old new) where
           stay other (inr is) = inl (ap (has old) is ∙ had)
       by false had =
           let same : new.waiting.items ≡ old.waiting.items ++ key ∷ [] = ins.waiting ∙ ap (λ (b : Bool). cond b old.waiting.items (old.waiting.items ++ key ∷ [])) had in
-          let there = known_entry da key e.0 e.1 in
-          let less = count_less (λ (x : DictEntry). not (has old x.key)) (λ (x : DictEntry). not (has new x.key)) da.entries e.0 fewer there.0
+          let there = known_entry sides.first key e.0 e.1 in
+          let less = count_less (λ (x : DictEntry). not (has old x.key)) (λ (x : DictEntry). not (has new x.key)) sides.first.entries e.0 fewer there.0
           (ap (λ (k : Key). not (has old k)) there.1 ∙ ap not had) (ap (λ (k : Key). not (has new k)) there.1 ∙ ap not has_it) in
           record {
             grows = has_more;
@@ -156,8 +158,8 @@ module _ (key : Key) (old new : Reached) (ins : Inserts key old new) where
           last other (inr is) same = inr (subst (λ (xs : List Key). Contains xs other) (sym same)
               (contains_in (old.waiting.items ++ key ∷ []) other (in_right old.waiting.items (key ∷ []) other (inl is))))
 
-  pub came_to : (da db : Dictionary) → IsShared da db key → ComesTo da db key old new
-  came_to da db shared = record { grew = grew_by_one da db shared; there = λ _. has_it; rest = λ other _ i. inr (subst (λ (xs : List Key). Contains xs other) (sym ins.rest) i) }
+  pub came_to : (sides : Sides) → IsShared sides key → ComesTo sides key old new
+  came_to sides shared = record { grew = grew_by_one sides shared; there = λ _. has_it; rest = λ other _ i. inr (subst (λ (xs : List Key). Contains xs other) (sym ins.rest) i) }
 
 -- ---- several steps
 
@@ -206,41 +208,41 @@ grew_then da P Q R x y z one two first second = record {
         by (inr w) = inr (two.still key w)
 
 -- what comes to all with P and then to all with Q has come to all with one of them
-pub all_then : (da db : Dictionary) (P Q R : Key → Type 0) (x y z : Reached) → ComesToAll da db P x y → ComesToAll da db Q y z
-    → ((key : Key) → P key → R key) → ((key : Key) → Q key → R key) → ((key : Key) → R key → P key ⊎ Q key) → ComesToAll da db R x z
-all_then da db P Q R x y z one two first second either = record {
-  grew = grew_then da (λ key. P key × IsShared da db key) (λ key. Q key × IsShared da db key) (λ key. R key × IsShared da db key) x y z one.grew two.grew (λ key p. (first key p.0, p.1))
+pub all_then : (sides : Sides) (P Q R : Key → Type 0) (x y z : Reached) → ComesToAll sides P x y → ComesToAll sides Q y z
+    → ((key : Key) → P key → R key) → ((key : Key) → Q key → R key) → ((key : Key) → R key → P key ⊎ Q key) → ComesToAll sides R x z
+all_then sides P Q R x y z one two first second either = record {
+  grew = grew_then sides.first (λ key. P key × IsShared sides key) (λ key. Q key × IsShared sides key) (λ key. R key × IsShared sides key) x y z one.grew two.grew (λ key p. (first key p.0, p.1))
       (λ key q. (second key q.0, q.1));
   there = λ key r shared. by key shared (either key r);
   rest = λ key shared i. rest key shared (one.rest key shared i);
 }
   where
-    rest : (key : Key) → IsShared da db key → (has y key ≡ true) ⊎ Contains y.rest.items key → (has z key ≡ true) ⊎ Contains z.rest.items key
+    rest : (key : Key) → IsShared sides key → (has y key ≡ true) ⊎ Contains y.rest.items key → (has z key ≡ true) ⊎ Contains z.rest.items key
     rest key shared (inl h) = inl (two.grew.grows key h)
     rest key shared (inr i) = two.rest key shared i
 
-    by : (key : Key) → IsShared da db key → P key ⊎ Q key → has z key ≡ true
+    by : (key : Key) → IsShared sides key → P key ⊎ Q key → has z key ≡ true
     by key shared (inl p) = two.grew.grows key (one.there key p shared)
     by key shared (inr q) = two.there key q shared
 
 -- the same keys in other words
-pub all_same : (da db : Dictionary) (P Q : Key → Type 0) (x y : Reached) → ComesToAll da db P x y → ((key : Key) → P key → Q key) → ((key : Key) → Q key → IsShared da db key → P key)
-    → ComesToAll da db Q x y
-all_same da db P Q x y all first second = record {
-  grew = grew_then da (λ key. P key × IsShared da db key) (λ _. ⊥) (λ key. Q key × IsShared da db key) x y y all.grew (grew_none da (λ _. ⊥) y) (λ key p. (first key p.0, p.1))
+pub all_same : (sides : Sides) (P Q : Key → Type 0) (x y : Reached) → ComesToAll sides P x y → ((key : Key) → P key → Q key) → ((key : Key) → Q key → IsShared sides key → P key)
+    → ComesToAll sides Q x y
+all_same sides P Q x y all first second = record {
+  grew = grew_then sides.first (λ key. P key × IsShared sides key) (λ _. ⊥) (λ key. Q key × IsShared sides key) x y y all.grew (grew_none sides.first (λ _. ⊥) y) (λ key p. (first key p.0, p.1))
       (λ key none. absurd none);
   there = λ key q shared. all.there key (second key q shared) shared;
   rest = all.rest;
 }
 
-pub all_none : (da db : Dictionary) (P : Key → Type 0) (r : Reached) → ((key : Key) → ¬ P key) → ComesToAll da db P r r
-all_none da db P r none = record { grew = grew_none da (λ key. P key × IsShared da db key) r; there = λ key p _. absurd (none key p); rest = λ key _ i. inr i }
+pub all_none : (sides : Sides) (P : Key → Type 0) (r : Reached) → ((key : Key) → ¬ P key) → ComesToAll sides P r r
+all_none sides P r none = record { grew = grew_none sides.first (λ key. P key × IsShared sides key) r; there = λ key p _. absurd (none key p); rest = λ key _ i. inr i }
 
-pub all_one : (da db : Dictionary) (P : Key → Type 0) (key : Key) (x y : Reached) → ComesTo da db key x y → P key → ((other : Key) → P other → other ≡ key) → ComesToAll da db P x y
-all_one da db P key x y one p only = record {
-  grew = grew_then da (λ other. (other ≡ key) × IsShared da db other) (λ _. ⊥) (λ other. P other × IsShared da db other) x y y one.grew (grew_none da (λ _. ⊥) y)
+pub all_one : (sides : Sides) (P : Key → Type 0) (key : Key) (x y : Reached) → ComesTo sides key x y → P key → ((other : Key) → P other → other ≡ key) → ComesToAll sides P x y
+all_one sides P key x y one p only = record {
+  grew = grew_then sides.first (λ other. (other ≡ key) × IsShared sides other) (λ _. ⊥) (λ other. P other × IsShared sides other) x y y one.grew (grew_none sides.first (λ _. ⊥) y)
       (λ other h. (subst P (sym h.0) p, h.1)) (λ other none. absurd none);
-  there = λ other q shared. ap (has y) (only other q) ∙ one.there (subst (IsShared da db) (only other q) shared);
+  there = λ other q shared. ap (has y) (only other q) ∙ one.there (subst (IsShared sides) (only other q) shared);
   rest = one.rest;
 }
 
@@ -261,9 +263,9 @@ in_last : {X : Type 0} (xs : List X) (i : ℕ) (d : X) → i < length xs → IsI
 in_last {X} xs i d within = subst (IsIn (get_or xs i d)) (sym (take_more xs i d within)) (in_right (take i xs) (get_or xs i d ∷ []) (get_or xs i d) (inl refl))
 
 -- one rule more
-pub listed_more : (da db : Dictionary) (rules : List DRule) (i : ℕ) (d : DRule) (x y z : Reached) → i < length rules → ComesToAll da db (IsAllowed (take i rules)) x y
-    → ComesToAll da db (IsAllowedBy (get_or rules i d)) y z → ComesToAll da db (IsAllowed (take (i + 1) rules)) x z
-listed_more da db rules i d x y z within one two = all_then da db (IsAllowed (take i rules)) (IsAllowedBy r) (IsAllowed (take (i + 1) rules)) x y z one two
+pub listed_more : (sides : Sides) (rules : List DRule) (i : ℕ) (d : DRule) (x y z : Reached) → i < length rules → ComesToAll sides (IsAllowed (take i rules)) x y
+    → ComesToAll sides (IsAllowedBy (get_or rules i d)) y z → ComesToAll sides (IsAllowed (take (i + 1) rules)) x z
+listed_more sides rules i d x y z within one two = all_then sides (IsAllowed (take i rules)) (IsAllowedBy r) (IsAllowed (take (i + 1) rules)) x y z one two
     (λ key p. (p.0, (contains_in (take (i + 1) rules) p.0 (in_front_too rules i p.0 d within (in_contains (take i rules) p.0 p.1.0)), p.1.1), p.2))
     (λ key q. (r, (contains_in (take (i + 1) rules) r (in_last rules i d within), q.0), q.1))
     (λ key p. by key p (in_more rules i p.0 d within (in_contains (take (i + 1) rules) p.0 p.1.0)))
@@ -276,43 +278,24 @@ listed_more da db rules i d x y z within one two = all_then da db (IsAllowed (ta
     by key p (inr same) = inr (ap (λ (s : DRule). s.key) (sym same) ∙ p.1.1, subst (λ (s : DRule). IsAboveZero s.max) same p.2)
 
 -- all rules, and the AVPs that are not listed
-pub admitted : (da db : Dictionary) (rules : List DRule) (x y z : Reached) → ((w : DRule) × HasWildcard rules w × IsAboveZero w.max) → ComesToAll da db (IsAllowed rules) x y
-    → ComesToAll da db (λ key. ¬ IsListed rules key) y z → ComesToAll da db (Admits rules) x z
-admitted da db rules x y z w one two = all_then da db (IsAllowed rules) (λ key. ¬ IsListed rules key) (Admits rules) x y z one two (λ key p. inl p) (λ key q. inr (w, q)) either
+pub admitted : (sides : Sides) (rules : List DRule) (x y z : Reached) → ((w : DRule) × HasWildcard rules w × IsAboveZero w.max) → ComesToAll sides (IsAllowed rules) x y
+    → ComesToAll sides (λ key. ¬ IsListed rules key) y z → ComesToAll sides (Admits rules) x z
+admitted sides rules x y z w one two = all_then sides (IsAllowed rules) (λ key. ¬ IsListed rules key) (Admits rules) x y z one two (λ key p. inl p) (λ key q. inr (w, q)) either
   where
     either : (key : Key) → Admits rules key → IsAllowed rules key ⊎ (¬ IsListed rules key)
     either key (inl p) = inl p
     either key (inr q) = inr q.1
 
--- where the key has no slot, no rule lists it
-lists_key-some : (key : Key) (r : DRule) → lists_key key r ≡ true → r.key ≡ Some key
-lists_key-some key r h = by r.key refl h
-  where
-    by : (o : Option Key) → r.key ≡ o → option_map_or (same_key key) o false ≡ true → r.key ≡ Some key
-    by None e g = absurd (let f : false ≡ true = g in cc)
-    by (Some k) e g = e ∙ ap (λ (x : Key). Some x) (sym (same_key-true key k g))
+-- what the test of a key says
+pub listed_by_test : (rules : List DRule) (key : Key) → is_listed rules key ≡ true → IsListed rules key
+listed_by_test rules key h = let r = listed rules key h in (r.0, (contains_in rules r.0 r.1, r.2))
 
-some_lists_key : (key : Key) (r : DRule) → r.key ≡ Some key → lists_key key r ≡ true
-some_lists_key key r e = ap (λ (o : Option Key). option_map_or (same_key key) o false) e ∙ same_key-refl key
+pub unlisted_by_test : (rules : List DRule) (key : Key) → is_listed rules key ≡ false → ¬ IsListed rules key
+unlisted_by_test rules key h i = absurd (let e : true ≡ false = sym (is_listed_by rules key i.0 (in_contains rules i.0 i.1.0) i.1.1) ∙ h in cc)
 
-pub unlisted : (rules : List DRule) (key : Key) → (slot_of rules key ≡ Unlisted) ↔ (¬ IsListed rules key)
-unlisted rules key = by (found_or_not (lists_key key) rules)
-  where
-    slot_listed : (i : ℕ) (r : DRule) → slice_get rules i ≡ Some r → slot_at rules i ≡ Unlisted → ⊥
-    slot_listed i r at e = kind (is_fixed r) (ap (λ (o : Option DRule). option_map_or (λ (x : DRule). cond (is_fixed x) (Fixed i) (Loose i)) o Unlisted) (sym at) ∙ e)
-      where
-        kind : (b : Bool) → cond b (Fixed i) (Loose i) ≡ Unlisted → ⊥
-        kind true f = cc
-        kind false f = cc
-
-    by : Found (lists_key key) rules ⊎ NotFound (lists_key key) rules → (slot_of rules key ≡ Unlisted) ↔ (¬ IsListed rules key)
-    by (inl f) =
-        let listed : IsListed rules key = (f.item, (contains_in rules f.item (in_at rules f.place f.item f.at), lists_key-some key f.item f.passes)) in
-        (λ e. absurd (slot_listed f.place f.item f.at (ap (λ (o : Option ℕ). option_map_or (slot_at rules) o Unlisted) (sym f.is_place) ∙ e)), λ none. absurd (none listed))
-    by (inr n) = (
-      λ _. λ (r, h). absurd (let e : true ≡ false = sym (some_lists_key key r h.1) ∙ n.none r (in_contains rules r h.0) in cc),
-      λ _. ap (λ (o : Option ℕ). option_map_or (slot_at rules) o Unlisted) n.is_none,
-    )
+-- the rules of a definition by its number
+pub rules_at : (d : Dictionary) (n : ℕ) (g : PlainDefinition) → slice_get (definitions d) n ≡ Some g → rules_in d n ≡ g.rules
+rules_at d n g at = ap (λ (o : Option PlainDefinition). option_map_or (λ x. x.rules) o []) at
 
 -- ---- the keys that a definition does not list
 
@@ -326,21 +309,21 @@ entry_there d key h = by (entry_of d key) refl
         absurd (let f : false ≡ true = sym (ap (λ (o : Option DictEntry). is_some o) none) ∙ h in cc)
 
 -- at first the rest are all keys that both know
-pub first_rest : (da db : Dictionary) (r : Reached) → r.rest.items ≡ filter (λ key. is_some (entry_of db key)) (map (λ e. e.key) da.entries) → AreRest da db r
-first_rest da db r is = λ key shared.
-    let e = some_of (known da key) shared.0 in
-    let there = known_entry da key e.0 e.1 in
-    let p = at_in da.entries e.0 there.0 in
-    let keys = map (λ (x : DictEntry). x.key) da.entries in
-    let inside = subst (λ (k : Key). IsIn k keys) there.1 (in_at keys p.place e.0.key (into_map (λ (x : DictEntry). x.key) da.entries p.place e.0 p.at)) in
-    let all = filter (λ (k : Key). is_some (entry_of db k)) keys in
-    let found = contains_in all key (into_filter (λ (k : Key). is_some (entry_of db k)) keys key inside (entry_there db key shared.1)) in
+pub first_rest : (sides : Sides) (r : Reached) → r.rest.items ≡ filter (λ key. is_some (entry_of sides.second key)) (map (λ e. e.key) sides.first.entries) → AreRest sides r
+first_rest sides r is = λ key shared.
+    let e = some_of (known sides.first key) shared.0 in
+    let there = known_entry sides.first key e.0 e.1 in
+    let p = at_in sides.first.entries e.0 there.0 in
+    let keys = map (λ (x : DictEntry). x.key) sides.first.entries in
+    let inside = subst (λ (k : Key). IsIn k keys) there.1 (in_at keys p.place e.0.key (into_map (λ (x : DictEntry). x.key) sides.first.entries p.place e.0 p.at)) in
+    let all = filter (λ (k : Key). is_some (entry_of sides.second k)) keys in
+    let found = contains_in all key (into_filter (λ (k : Key). is_some (entry_of sides.second k)) keys key inside (entry_there sides.second key shared.1)) in
     inr (subst (λ (ks : List Key). Contains ks key) (sym is) found)
 
-pub rest_then : (da db : Dictionary) (P : Key → Type 0) (x y : Reached) → AreRest da db x → ComesToAll da db P x y → AreRest da db y
-rest_then da db P x y rest all = λ key shared. by key shared (rest key shared)
+pub rest_then : (sides : Sides) (P : Key → Type 0) (x y : Reached) → AreRest sides x → ComesToAll sides P x y → AreRest sides y
+rest_then sides P x y rest all = λ key shared. by key shared (rest key shared)
   where
-    by : (key : Key) → IsShared da db key → (has x key ≡ true) ⊎ Contains x.rest.items key → (has y key ≡ true) ⊎ Contains y.rest.items key
+    by : (key : Key) → IsShared sides key → (has x key ≡ true) ⊎ Contains x.rest.items key → (has y key ≡ true) ⊎ Contains y.rest.items key
     by key shared (inl h) = inl (all.grew.grows key h)
     by key shared (inr i) = all.rest key shared i
 
@@ -356,18 +339,18 @@ grew_same da P x y same waits near = record {
 }
 
 -- a key that is not listed is come to, and one that is listed is left
-pub sorts_new : (da db : Dictionary) (rules : List DRule) (key : Key) (x y : Reached) → ¬ IsListed rules key → ComesTo da db key x y → Sorts da db rules key x y
-sorts_new da db rules key x y new one = record {
-  comes = all_one da db (λ other. (other ≡ key) × ¬ IsListed rules other) key x y one (refl, new) (λ other h. h.0);
+pub sorts_new : (sides : Sides) (rules : List DRule) (key : Key) (x y : Reached) → ¬ IsListed rules key → ComesTo sides key x y → Sorts sides rules key x y
+sorts_new sides rules key x y new one = record {
+  comes = all_one sides (λ other. (other ≡ key) × ¬ IsListed rules other) key x y one (refl, new) (λ other h. h.0);
   left = λ shared. inl (one.there shared);
 }
 
-pub sorts_listed : (da db : Dictionary) (rules : List DRule) (key : Key) (x y : Reached) → (¬ ¬ IsListed rules key) → ((other : Key) → has y other ≡ has x other)
-    → y.waiting.items ≡ x.waiting.items → potential da y ≡ potential da x
-    → y.rest.items ≡ x.rest.items ++ key ∷ [] → Sorts da db rules key x y
-sorts_listed da db rules key x y listed same waits near pushed = record {
+pub sorts_listed : (sides : Sides) (rules : List DRule) (key : Key) (x y : Reached) → (¬ ¬ IsListed rules key) → ((other : Key) → has y other ≡ has x other)
+    → y.waiting.items ≡ x.waiting.items → potential sides.first y ≡ potential sides.first x
+    → y.rest.items ≡ x.rest.items ++ key ∷ [] → Sorts sides rules key x y
+sorts_listed sides rules key x y listed same waits near pushed = record {
   comes = record {
-    grew = grew_same da (λ other. ((other ≡ key) × ¬ IsListed rules other) × IsShared da db other) x y same waits near;
+    grew = grew_same sides.first (λ other. ((other ≡ key) × ¬ IsListed rules other) × IsShared sides other) x y same waits near;
     there = λ other q _. absurd (listed (subst (λ (k : Key). ¬ IsListed rules k) q.0 q.1));
     rest = λ other _ i. inr (subst (λ (ks : List Key). Contains ks other) (sym pushed)
         (contains_in (x.rest.items ++ key ∷ []) other (in_left x.rest.items (key ∷ []) other (in_contains x.rest.items other i))));
@@ -380,18 +363,18 @@ abbrev pub IsUnlistedOf : List Key → List DRule → Key → Type 0
 IsUnlistedOf keys rules key = IsIn key keys × ¬ IsListed rules key
 
 -- all of these keys, one after the other
-pub record SortsAll (da db : Dictionary) (rules : List DRule) (keys : List Key) (x y : Reached) : Type 0 where
-  pub comes : ComesToAll da db (IsUnlistedOf keys rules) x y
-  pub left : (key : Key) → IsIn key keys → IsShared da db key → (has y key ≡ true) ⊎ Contains y.rest.items key
+pub record SortsAll (sides : Sides) (rules : List DRule) (keys : List Key) (x y : Reached) : Type 0 where
+  pub comes : ComesToAll sides (IsUnlistedOf keys rules) x y
+  pub left : (key : Key) → IsIn key keys → IsShared sides key → (has y key ≡ true) ⊎ Contains y.rest.items key
 
-pub sorts_none : (da db : Dictionary) (rules : List DRule) (x : Reached) → SortsAll da db rules [] x x
-sorts_none da db rules x = record { comes = all_none da db (IsUnlistedOf [] rules) x (λ key p. p.0); left = λ key i _. absurd i }
+pub sorts_none : (sides : Sides) (rules : List DRule) (x : Reached) → SortsAll sides rules [] x x
+sorts_none sides rules x = record { comes = all_none sides (IsUnlistedOf [] rules) x (λ key p. p.0); left = λ key i _. absurd i }
 
-pub sorts_more : (da db : Dictionary) (rules : List DRule) (keys : List Key) (i : ℕ) (d : Key) (x y z : Reached) → i < length keys → SortsAll da db rules (take i keys) x y
-    → Sorts da db rules (get_or keys i d) y z
-    → SortsAll da db rules (take (i + 1) keys) x z
-sorts_more da db rules keys i d x y z within one two = record {
-  comes = all_then da db (IsUnlistedOf (take i keys) rules) (λ other. (other ≡ k) × ¬ IsListed rules other) (IsUnlistedOf (take (i + 1) keys) rules) x y z one.comes two.comes
+pub sorts_more : (sides : Sides) (rules : List DRule) (keys : List Key) (i : ℕ) (d : Key) (x y z : Reached) → i < length keys → SortsAll sides rules (take i keys) x y
+    → Sorts sides rules (get_or keys i d) y z
+    → SortsAll sides rules (take (i + 1) keys) x z
+sorts_more sides rules keys i d x y z within one two = record {
+  comes = all_then sides (IsUnlistedOf (take i keys) rules) (λ other. (other ≡ k) × ¬ IsListed rules other) (IsUnlistedOf (take (i + 1) keys) rules) x y z one.comes two.comes
       (λ other p. (in_front_too keys i other d within p.0, p.1))
       (λ other q. (subst (λ (w : Key). IsIn w (take (i + 1) keys)) (sym q.0) (in_last keys i d within), q.1))
       (λ other p. by other p (in_more keys i other d within p.0));
@@ -405,27 +388,27 @@ sorts_more da db rules keys i d x y z within one two = record {
     by other p (inl j) = inl (j, p.1)
     by other p (inr same) = inr (same, p.1)
 
-    after : (key : Key) → IsShared da db key → (has y key ≡ true) ⊎ Contains y.rest.items key → (has z key ≡ true) ⊎ Contains z.rest.items key
+    after : (key : Key) → IsShared sides key → (has y key ≡ true) ⊎ Contains y.rest.items key → (has z key ≡ true) ⊎ Contains z.rest.items key
     after key shared (inl h) = inl (two.comes.grew.grows key h)
     after key shared (inr j) = two.comes.rest key shared j
 
-    left : (key : Key) → IsShared da db key → IsIn key (take i keys) ⊎ (key ≡ k) → (has z key ≡ true) ⊎ Contains z.rest.items key
+    left : (key : Key) → IsShared sides key → IsIn key (take i keys) ⊎ (key ≡ k) → (has z key ≡ true) ⊎ Contains z.rest.items key
     left key shared (inl j) = after key shared (one.left key j shared)
-    left key shared (inr same) = subst (λ (w : Key). (has z w ≡ true) ⊎ Contains z.rest.items w) (sym same) (two.left (subst (IsShared da db) same shared))
+    left key shared (inr same) = subst (λ (w : Key). (has z w ≡ true) ⊎ Contains z.rest.items w) (sym same) (two.left (subst (IsShared sides) same shared))
 
 -- all of the rest
-pub sorts_all : (da db : Dictionary) (rules : List DRule) (x mid y : Reached) → AreRest da db x → ((key : Key) → has mid key ≡ has x key) → mid.waiting.items ≡ x.waiting.items
-    → potential da mid ≡ potential da x
-    → SortsAll da db rules x.rest.items mid y → ComesToAll da db (λ key. ¬ IsListed rules key) x y
-sorts_all da db rules x mid y rest same waits near all = record {
-  grew = grew_then da (λ _. ⊥) (λ key. IsUnlistedOf x.rest.items rules key × IsShared da db key) (λ key. (¬ IsListed rules key) × IsShared da db key) x mid y
-      (grew_same da (λ _. ⊥) x mid same waits near) all.comes.grew
+pub sorts_all : (sides : Sides) (rules : List DRule) (x mid y : Reached) → AreRest sides x → ((key : Key) → has mid key ≡ has x key) → mid.waiting.items ≡ x.waiting.items
+    → potential sides.first mid ≡ potential sides.first x
+    → SortsAll sides rules x.rest.items mid y → ComesToAll sides (λ key. ¬ IsListed rules key) x y
+sorts_all sides rules x mid y rest same waits near all = record {
+  grew = grew_then sides.first (λ _. ⊥) (λ key. IsUnlistedOf x.rest.items rules key × IsShared sides key) (λ key. (¬ IsListed rules key) × IsShared sides key) x mid y
+      (grew_same sides.first (λ _. ⊥) x mid same waits near) all.comes.grew
       (λ key none. absurd none) (λ key q. (q.0.1, q.1));
   there = λ key q shared. there key q shared (rest key shared);
   rest = λ key shared i. all.left key (in_contains x.rest.items key i) shared;
 }
   where
-    there : (key : Key) → (¬ IsListed rules key) → IsShared da db key → (has x key ≡ true) ⊎ Contains x.rest.items key → has y key ≡ true
+    there : (key : Key) → (¬ IsListed rules key) → IsShared sides key → (has x key ≡ true) ⊎ Contains x.rest.items key → has y key ≡ true
     there key q shared (inl h) = all.comes.grew.grows key (same key ∙ h)
     there key q shared (inr i) = all.comes.there key (in_contains x.rest.items key i, q) shared
 
@@ -463,18 +446,18 @@ group_number d i n e at is = by e.group refl
 -- ---- the keys that follow
 
 -- the group of the key, if both have one, was gone through
-abbrev IsDone : Dictionary → Dictionary → Reached → Key → Type 0
-IsDone da db r key = (group : PlainDefinition) → IsSharedGroup da db key group → (other : Key) → Wants da db group.rules other → has r other ≡ true
+abbrev IsDone : Sides → Reached → Key → Type 0
+IsDone sides r key = (group : PlainDefinition) → IsSharedGroup sides key group → (other : Key) → Wants sides group.rules other → has r other ≡ true
 
-pub record Following (da db : Dictionary) (roots r : Reached) : Type 0 where
-  pub sound : (key : Key) → has r key ≡ true → Follows da db roots key
+pub record Following (sides : Sides) (roots r : Reached) : Type 0 where
+  pub sound : (key : Key) → has r key ≡ true → Follows sides roots key
   pub keeps : (key : Key) → has roots key ≡ true → has r key ≡ true
   pub waiting : (key : Key) → Waits r key → has r key ≡ true
-  pub done : (key : Key) → has r key ≡ true → Waits r key ⊎ IsDone da db r key
-  pub rest : AreRest da db r
+  pub done : (key : Key) → has r key ≡ true → Waits r key ⊎ IsDone sides r key
+  pub rest : AreRest sides r
 
-pub following_none : (da db : Dictionary) (roots : Reached) → AllWait roots → AreRest da db roots → Following da db roots roots
-following_none da db roots all rest = record {
+pub following_none : (sides : Sides) (roots : Reached) → AllWait roots → AreRest sides roots → Following sides roots roots
+following_none sides roots all rest = record {
   sound = λ key h. root key h;
   keeps = λ key h. h;
   waiting = all.only;
@@ -483,10 +466,10 @@ following_none da db roots all rest = record {
 }
 
 -- a key is taken, and its group, if both have one, is gone through
-pub following_more : (da db : Dictionary) (roots old mid new : Reached) (key : Key) → Following da db roots old → ((other : Key) → has mid other ≡ has old other)
+pub following_more : (sides : Sides) (roots old mid new : Reached) (key : Key) → Following sides roots old → ((other : Key) → has mid other ≡ has old other)
     → old.waiting.items ≡ mid.waiting.items ++ key ∷ []
-    → (P : Key → Type 0) → Grew da P mid new → ((other : Key) → P other → Follows da db roots other) → IsDone da db new key → AreRest da db new → Following da db roots new
-following_more da db roots old mid new key f same popped P grew follows is_done rest = record {
+    → (P : Key → Type 0) → Grew sides.first P mid new → ((other : Key) → P other → Follows sides roots other) → IsDone sides new key → AreRest sides new → Following sides roots new
+following_more sides roots old mid new key f same popped P grew follows is_done rest = record {
   sound = λ other h. sound other (grew.only other h);
   keeps = λ other h. grew.grows other (same other ∙ f.keeps other h);
   waiting = λ other w. waiting other (grew.waits other w);
@@ -494,7 +477,7 @@ following_more da db roots old mid new key f same popped P grew follows is_done 
   rest = rest;
 }
   where
-    sound : (other : Key) → (has mid other ≡ true) ⊎ P other → Follows da db roots other
+    sound : (other : Key) → (has mid other ≡ true) ⊎ P other → Follows sides roots other
     sound other (inl h) = f.sound other (sym (same other) ∙ h)
     sound other (inr p) = follows other p
 
@@ -506,37 +489,37 @@ following_more da db roots old mid new key f same popped P grew follows is_done 
     waiting other (inl w) = grew.grows other (same other ∙ f.waiting other (waits_old other w))
     waiting other (inr h) = h
 
-    left : (other : Key) → IsIn other mid.waiting.items ⊎ IsIn other (key ∷ []) → Waits new other ⊎ IsDone da db new other
+    left : (other : Key) → IsIn other mid.waiting.items ⊎ IsIn other (key ∷ []) → Waits new other ⊎ IsDone sides new other
     left other (inl i) = inl (grew.still other (contains_in mid.waiting.items other i))
-    left other (inr (inl is)) = inr (subst (IsDone da db new) (sym is) is_done)
+    left other (inr (inl is)) = inr (subst (IsDone sides new) (sym is) is_done)
     left other (inr (inr none)) = absurd none
 
-    before : (other : Key) → Waits old other ⊎ IsDone da db old other → Waits new other ⊎ IsDone da db new other
+    before : (other : Key) → Waits old other ⊎ IsDone sides old other → Waits new other ⊎ IsDone sides new other
     before other (inl w) = left other (in_append mid.waiting.items (key ∷ []) other (in_contains (mid.waiting.items ++ key ∷ []) other (subst (λ (xs : List Key). Contains xs other) popped w)))
     before other (inr d) = inr (λ group is wanted w. grew.grows wanted (same wanted ∙ d group is wanted w))
 
-    done : (other : Key) → (has mid other ≡ true) ⊎ Waits new other → Waits new other ⊎ IsDone da db new other
+    done : (other : Key) → (has mid other ≡ true) ⊎ Waits new other → Waits new other ⊎ IsDone sides new other
     done other (inr w) = inl w
     done other (inl h) = before other (f.done other (sym (same other) ∙ h))
 
 -- where none waits, all that follows is there
-pub following_all : (da db : Dictionary) (roots r : Reached) → Following da db roots r → r.waiting.items ≡ [] → (key : Key) → (has r key ≡ true) ↔ Follows da db roots key
-following_all da db roots r f none key = (f.sound key, there key)
+pub following_all : (sides : Sides) (roots r : Reached) → Following sides roots r → r.waiting.items ≡ [] → (key : Key) → (has r key ≡ true) ↔ Follows sides roots key
+following_all sides roots r f none key = (f.sound key, there key)
   where
     no_wait : (other : Key) → ¬ Waits r other
     no_wait other w = in_contains [] other (subst (λ (xs : List Key). Contains xs other) none w)
 
-    by : (outer : Key) (group : PlainDefinition) (other : Key) → IsSharedGroup da db outer group → Wants da db group.rules other → Waits r outer ⊎ IsDone da db r outer → has r other ≡ true
+    by : (outer : Key) (group : PlainDefinition) (other : Key) → IsSharedGroup sides outer group → Wants sides group.rules other → Waits r outer ⊎ IsDone sides r outer → has r other ≡ true
     by outer group other is wants (inl w) = absurd (no_wait outer w)
     by outer group other is wants (inr d) = d group is other wants
 
-    there : (other : Key) → Follows da db roots other → has r other ≡ true
+    there : (other : Key) → Follows sides roots other → has r other ≡ true
     there other (root k h) = f.keeps other h
     there other (in_group outer k e x group up at_a at_b both is wants) =
         by outer group other (record { e = e; f = x; at_a = at_a; at_b = at_b; both = both; is_group = is }) wants (f.done outer (there outer up))
 
-one_shared_group : (da db : Dictionary) (key : Key) (g h : PlainDefinition) → IsSharedGroup da db key g → IsSharedGroup da db key h → g ≡ h
-one_shared_group da db key g h x y =
+one_shared_group : (sides : Sides) (key : Key) (g h : PlainDefinition) → IsSharedGroup sides key g → IsSharedGroup sides key h → g ≡ h
+one_shared_group sides key g h x y =
     let same : x.e ≡ y.e = same_Some x.e y.e (sym x.at_a ∙ y.at_a) in
     same_Some g h (sym x.is_group ∙ ap (λ (e : DictEntry). e.group) same ∙ y.is_group)
 
@@ -544,22 +527,22 @@ last_waits : (r : Reached) (front : List Key) (key : Key) → r.waiting.items �
 last_waits r front key popped = subst (λ (xs : List Key). Contains xs key) (sym popped) (contains_in (front ++ key ∷ []) key (in_right front (key ∷ []) key (inl refl)))
 
 -- a key is taken, and the group that both have is gone through
-pub follow_group : (da db : Dictionary) (roots old mid new : Reached) (key : Key) (group : PlainDefinition) → Following da db roots old → ((other : Key) → has mid other ≡ has old other)
+pub follow_group : (sides : Sides) (roots old mid new : Reached) (key : Key) (group : PlainDefinition) → Following sides roots old → ((other : Key) → has mid other ≡ has old other)
     → old.waiting.items ≡ mid.waiting.items ++ key ∷ []
-    → IsSharedGroup da db key group → AreRest da db mid → ComesToAll da db (Admits group.rules) mid new → Following da db roots new
-follow_group da db roots old mid new key group f same popped is rest all =
-    following_more da db roots old mid new key f same popped (Wants da db group.rules) all.grew
+    → IsSharedGroup sides key group → AreRest sides mid → ComesToAll sides (Admits group.rules) mid new → Following sides roots new
+follow_group sides roots old mid new key group f same popped is rest all =
+    following_more sides roots old mid new key f same popped (Wants sides group.rules) all.grew
     (λ other w. in_group key other is.e is.f group (f.sound key (f.waiting key (last_waits old mid.waiting.items key popped))) is.at_a is.at_b is.both is.is_group w)
-    (λ other_group other_is other w. let e = one_shared_group da db key other_group group other_is is in let v = subst (λ (x : PlainDefinition). Wants da db x.rules other) e w in
+    (λ other_group other_is other w. let e = one_shared_group sides key other_group group other_is is in let v = subst (λ (x : PlainDefinition). Wants sides x.rules other) e w in
     all.there other v.0 v.1)
-    (rest_then da db (Admits group.rules) mid new rest all)
+    (rest_then sides (Admits group.rules) mid new rest all)
 
 -- a key is taken that has no such group
-pub follow_none : (da db : Dictionary) (roots old mid : Reached) (key : Key) → Following da db roots old → ((other : Key) → has mid other ≡ has old other)
+pub follow_none : (sides : Sides) (roots old mid : Reached) (key : Key) → Following sides roots old → ((other : Key) → has mid other ≡ has old other)
     → old.waiting.items ≡ mid.waiting.items ++ key ∷ []
-    → ((group : PlainDefinition) → ¬ IsSharedGroup da db key group) → AreRest da db mid → Following da db roots mid
-follow_none da db roots old mid key f same popped none rest =
-    following_more da db roots old mid mid key f same popped (λ _. ⊥) (grew_none da (λ _. ⊥) mid) (λ other h. absurd h) (λ group is. absurd (none group is)) rest
+    → ((group : PlainDefinition) → ¬ IsSharedGroup sides key group) → AreRest sides mid → Following sides roots mid
+follow_none sides roots old mid key f same popped none rest =
+    following_more sides roots old mid mid key f same popped (λ _. ⊥) (grew_none sides.first (λ _. ⊥) mid) (λ other h. absurd h) (λ group is. absurd (none group is)) rest
 
 pub taken_nearer : (da : Dictionary) (P : Key → Type 0) (old mid new : Reached) (key : Key) → count_by (λ e. not (has mid e.key)) da.entries ≡ count_by (λ e. not (has old e.key)) da.entries
     → old.waiting.items ≡ mid.waiting.items ++ key ∷ [] → Grew da P mid new → potential da new < potential da old

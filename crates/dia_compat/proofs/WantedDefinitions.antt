@@ -14,6 +14,7 @@ use Rattle.dia_book.specs.declared.DefHead.{DefHead}
 use Rattle.dia_book.specs.declared.DefHead.TheVariants.{Command, Error}
 use Rattle.dia_book.specs.Dictionary.{Dictionary, PlainDefinition, IsDictionary, IsCommandHead, is_command, same_class}
 use Rattle.dia_book.proofs.Members.{at_filter_map}
+use Rattle.dia_compat.specs.Sides.{Sides}
 use Rattle.dia_compat.specs.Closed.{HasCode, NamesApp, IsWanted, error, same_app, no_app, both_none, other_app}
 use Rattle.dia_compat.specs.Proposed.{AreBeside}
 use Rattle.dia_compat.specs.PairTests.{names_app, wants_app, is_wanted}
@@ -108,81 +109,81 @@ unnamed d code class app sound other none = by (names_app d code class app) refl
     by false e = refl
     by true e = absurd (none (names_it d code class app sound other e))
 
-module _ (da db : Dictionary) (sa : IsDictionary da) (sb : IsDictionary db) (c : PlainDefinition) (ca : Contains da.commands c) where
+module _ (sides : Sides) (sa : IsDictionary sides.first) (sb : IsDictionary sides.second) (c : PlainDefinition) (ca : Contains sides.first.commands c) where
   not_error : (code : ℕ) (class : Class) (app : Option ℕ) (p : Pxy) → c.head ≡ Command code class app p → class ≢ classes.Error
-  not_error code class app p e = subst IsCommandHead e (all_of (λ (x : PlainDefinition). IsCommandHead x.head) da.commands c sa.command_heads (in_contains da.commands c ca))
+  not_error code class app p e = subst IsCommandHead e (all_of (λ (x : PlainDefinition). IsCommandHead x.head) sides.first.commands c sa.command_heads (in_contains sides.first.commands c ca))
 
   -- what passes the test is wanted
-  pub wanted_by_test : (d : PlainDefinition) → Contains db.commands d → (h k : DefHead) → c.head ≡ h → d.head ≡ k → is_wanted da db h k ≡ true → IsWanted da db c d
+  pub wanted_by_test : (d : PlainDefinition) → Contains sides.second.commands d → (h k : DefHead) → c.head ≡ h → d.head ≡ k → is_wanted sides h k ≡ true → IsWanted sides.first sides.second c d
   wanted_by_test d i (Error p) (Error q) e f t = error i (p, e) (q, f)
   wanted_by_test d i (Command code class x p) (Command other other_class y q) e f t =
-      let outer = and_parts ((code == other) && same_class class other_class) (wants_app da db code class x y) t in
+      let outer = and_parts ((code == other) && same_class class other_class) (wants_app sides code class x y) t in
       let inner = and_parts (code == other) (same_class class other_class) outer.0 in
       let same_code = eqb-true code other inner.0 in
       let same = same_classes class other_class inner.1 in
       let g : d.head ≡ Command code class y q = f ∙ ap (λ (n : ℕ). Command n other_class y q) (sym same_code) ∙ ap (λ (k : Class). Command code k y q) (sym same) in
       by x y e g outer.1
     where
-      by : (x y : Option ℕ) → c.head ≡ Command code class x p → d.head ≡ Command code class y q → wants_app da db code class x y ≡ true → IsWanted da db c d
+      by : (x y : Option ℕ) → c.head ≡ Command code class x p → d.head ≡ Command code class y q → wants_app sides code class x y ≡ true → IsWanted sides.first sides.second c d
       by (Some m) (Some n) e g r = same_app code m class i (record { p = p; head = e }) (record { p = q; head = g ∙ ap (λ (k : ℕ). Command code class (Some k) q) (sym (eqb-true m n r)) })
-      by (Some m) None e g r = no_app code m class i (record { p = p; head = e }) (record { p = q; head = g }) (not_named db code class m r)
+      by (Some m) None e g r = no_app code m class i (record { p = p; head = e }) (record { p = q; head = g }) (not_named sides.second code class m r)
       by None None e g r = both_none code class i (record { p = p; head = e }) (record { p = q; head = g })
-      by None (Some n) e g r = other_app code n class i (record { p = p; head = e }) (record { p = q; head = g }) (not_named da code class n r)
+      by None (Some n) e g r = other_app code n class i (record { p = p; head = e }) (record { p = q; head = g }) (not_named sides.first code class n r)
   wanted_by_test d i h k e f t = absurd cc
 
-  same_codes : (d : PlainDefinition) (code : ℕ) (class : Class) (x y : Option ℕ) → HasCode c code class x → HasCode d code class y → wants_app da db code class x y ≡ true
-      → is_wanted da db c.head d.head ≡ true
+  same_codes : (d : PlainDefinition) (code : ℕ) (class : Class) (x y : Option ℕ) → HasCode c code class x → HasCode d code class y → wants_app sides code class x y ≡ true
+      → is_wanted sides c.head d.head ≡ true
   same_codes d code class x y u v r =
-      ap (λ (h : DefHead). is_wanted da db h d.head) u.head ∙ ap (λ (h : DefHead). is_wanted da db (Command code class x u.p) h) v.head
-      ∙ and_from ((code == code) && same_class class class) (wants_app da db code class x y) (and_from (code == code) (same_class class class) (eq-eqb code code refl) (class_self class)) r
+      ap (λ (h : DefHead). is_wanted sides h d.head) u.head ∙ ap (λ (h : DefHead). is_wanted sides (Command code class x u.p) h) v.head
+      ∙ and_from ((code == code) && same_class class class) (wants_app sides code class x y) (and_from (code == code) (same_class class class) (eq-eqb code code refl) (class_self class)) r
 
   -- and what is wanted passes it
-  pub test_of_wanted : (d : PlainDefinition) → IsWanted da db c d → is_wanted da db c.head d.head ≡ true
-  test_of_wanted d (error i x y) = ap (λ (h : DefHead). is_wanted da db h d.head) x.1 ∙ ap (λ (h : DefHead). is_wanted da db (Error x.0) h) y.1
+  pub test_of_wanted : (d : PlainDefinition) → IsWanted sides.first sides.second c d → is_wanted sides c.head d.head ≡ true
+  test_of_wanted d (error i x y) = ap (λ (h : DefHead). is_wanted sides h d.head) x.1 ∙ ap (λ (h : DefHead). is_wanted sides (Error x.0) h) y.1
   test_of_wanted d (same_app code app class i x y) = same_codes d code class (Some app) (Some app) x y (eq-eqb app app refl)
-  test_of_wanted d (no_app code app class i x y none) = same_codes d code class (Some app) None x y (unnamed db code class app sb (not_error code class (Some app) x.p x.head) none)
+  test_of_wanted d (no_app code app class i x y none) = same_codes d code class (Some app) None x y (unnamed sides.second code class app sb (not_error code class (Some app) x.p x.head) none)
   test_of_wanted d (both_none code class i x y) = same_codes d code class None None x y refl
-  test_of_wanted d (other_app code app class i x y none) = same_codes d code class None (Some app) x y (unnamed da code class app sa (not_error code class None x.p x.head) none)
+  test_of_wanted d (other_app code app class i x y none) = same_codes d code class None (Some app) x y (unnamed sides.first code class app sa (not_error code class None x.p x.head) none)
 
-  wanted_member : (d : PlainDefinition) → IsWanted da db c d → Contains db.commands d
+  wanted_member : (d : PlainDefinition) → IsWanted sides.first sides.second c d → Contains sides.second.commands d
   wanted_member d (error i x y) = i
   wanted_member d (same_app code app class i x y) = i
   wanted_member d (no_app code app class i x y z) = i
   wanted_member d (both_none code class i x y) = i
   wanted_member d (other_app code app class i x y z) = i
 
-  name_of_wanted : (d : PlainDefinition) → is_wanted da db c.head d.head ≡ true → wanted_name da db c.head d ≡ Some d.name
+  name_of_wanted : (d : PlainDefinition) → is_wanted sides c.head d.head ≡ true → wanted_name sides c.head d ≡ Some d.name
   name_of_wanted d e = ap (λ (b : Bool). cond b (Some d.name) None) e
 
-  wanted_of_name : (d : PlainDefinition) (name : List ℕ) → wanted_name da db c.head d ≡ Some name → (is_wanted da db c.head d.head ≡ true) × (d.name ≡ name)
-  wanted_of_name d name h = by (is_wanted da db c.head d.head) refl h
+  wanted_of_name : (d : PlainDefinition) (name : List ℕ) → wanted_name sides c.head d ≡ Some name → (is_wanted sides c.head d.head ≡ true) × (d.name ≡ name)
+  wanted_of_name d name h = by (is_wanted sides c.head d.head) refl h
     where
-      by : (b : Bool) → is_wanted da db c.head d.head ≡ b → cond b (Some d.name) None ≡ Some name → (is_wanted da db c.head d.head ≡ true) × (d.name ≡ name)
+      by : (b : Bool) → is_wanted sides c.head d.head ≡ b → cond b (Some d.name) None ≡ Some name → (is_wanted sides c.head d.head ≡ true) × (d.name ≡ name)
       by true e g = (e, same_Some d.name name g)
       by false e g = absurd (let f : None ≡ Some name = g in cc)
 
   -- where the names stand among B's commands
   abbrev IsPlaced : ℕ → List ℕ → Type 0
-  IsPlaced k name = (d : PlainDefinition) × (slice_get db.commands k ≡ Some d) × (d.name ≡ name)
+  IsPlaced k name = (d : PlainDefinition) × (slice_get sides.second.commands k ≡ Some d) × (d.name ≡ name)
 
   one_named_place : (k l : ℕ) (name : List ℕ) → IsPlaced k name → IsPlaced l name → k ≡ l
   one_named_place k l name (d, at, is) (e, there, also) = sb.distinct_commands k l d e at there (is ∙ sym also)
 
   -- what stands beside the command
-  pub are_beside : AreBeside da db c (names_beside da db c)
-  are_beside = by (wanted_names da db c.head) refl
+  pub are_beside : AreBeside sides.first sides.second c (names_beside sides c)
+  are_beside = by (wanted_names sides c.head) refl
     where
-      in_names : (d : PlainDefinition) → IsWanted da db c d → IsIn d.name (wanted_names da db c.head)
-      in_names d w = in_filter_map (wanted_name da db c.head) db.commands d d.name (in_contains db.commands d (wanted_member d w)) (name_of_wanted d (test_of_wanted d w))
+      in_names : (d : PlainDefinition) → IsWanted sides.first sides.second c d → IsIn d.name (wanted_names sides c.head)
+      in_names d w = in_filter_map (wanted_name sides c.head) sides.second.commands d d.name (in_contains sides.second.commands d (wanted_member d w)) (name_of_wanted d (test_of_wanted d w))
 
-      of_name : (name : List ℕ) → IsIn name (wanted_names da db c.head) → (d : PlainDefinition) × IsWanted da db c d × (d.name ≡ name)
+      of_name : (name : List ℕ) → IsIn name (wanted_names sides c.head) → (d : PlainDefinition) × IsWanted sides.first sides.second c d × (d.name ≡ name)
       of_name name i =
-          let p = at_in (wanted_names da db c.head) name i in
-          let r = at_filter_map (wanted_name da db c.head) db.commands p.place name p.at in
+          let p = at_in (wanted_names sides c.head) name i in
+          let r = at_filter_map (wanted_name sides c.head) sides.second.commands p.place name p.at in
           let w = wanted_of_name r.1 name r.3 in
-          (r.1, wanted_by_test r.1 (contains_in db.commands r.1 (in_at db.commands r.0 r.1 r.2)) c.head r.1.head refl refl w.0, w.1)
+          (r.1, wanted_by_test r.1 (contains_in sides.second.commands r.1 (in_at sides.second.commands r.0 r.1 r.2)) c.head r.1.head refl refl w.0, w.1)
 
-      by : (ns : List (List ℕ)) → wanted_names da db c.head ≡ ns → AreBeside da db c (or_alone c.name ns)
+      by : (ns : List (List ℕ)) → wanted_names sides c.head ≡ ns → AreBeside sides.first sides.second c (or_alone c.name ns)
       by [] e = record {
         each = λ d w. absurd (subst (IsIn d.name) e (in_names d w));
         only = λ name i. inr (λ d w. subst (IsIn d.name) e (in_names d w));
@@ -198,7 +199,7 @@ module _ (da db : Dictionary) (sa : IsDictionary da) (sb : IsDictionary db) (c :
         only = λ name i. inl (of_name name (subst (IsIn name) (sym e) (in_contains (n ∷ ns) name i)));
         alone = λ none. let r = of_name n (subst (IsIn n) (sym e) (inl refl)) in absurd (none r.0 r.1);
         in_order = λ i j k l d f less at there x y.
-            let r = filter_map_order (wanted_name da db c.head) db.commands i j d.name f.name less (ap (λ (xs : List (List ℕ)). slice_get xs i) e ∙ at)
+            let r = filter_map_order (wanted_name sides c.head) sides.second.commands i j d.name f.name less (ap (λ (xs : List (List ℕ)). slice_get xs i) e ∙ at)
             (ap (λ (xs : List (List ℕ)). slice_get xs j) e ∙ there) in
             let first = one_named_place k r.k d.name (d, x, refl) (r.x, r.at_k, (wanted_of_name r.x d.name r.gives_y).1) in
             let second = one_named_place l r.l f.name (f, y, refl) (r.w, r.at_l, (wanted_of_name r.w f.name r.gives_z).1) in

@@ -6,6 +6,7 @@ use Rattle.dia_book.specs.Dictionary.{Dictionary, DictEntry, PlainDefinition}
 use Rattle.dia_check.specs.Valid.{known}
 use Rattle.dia_compat.specs.declared.proposing.naming.NamedCommands.{NamedCommands}
 use Rattle.dia_compat.specs.declared.proposing.reaching.Reached.{Reached}
+use Rattle.dia_compat.specs.Sides.{Sides}
 use Rattle.dia_compat.specs.TableText.{plain_pair}
 use Rattle.dia_compat.specs.Closed.{NamesCommand}
 use Rattle.dia_compat.specs.Proposed.{AreCommandPairs}
@@ -22,29 +23,29 @@ pub record Same (old new : NamedCommands) : Type 0 where
   pub pairs : map plain_pair new.pairs.items ≡ map plain_pair old.pairs.items
   pub reached : new.reached ≡ old.reached
 
-pub record Adds (da db : Dictionary) (place : ℕ) (c : PlainDefinition) (old new : NamedCommands) : Type 0 where
+pub record Adds (sides : Sides) (place : ℕ) (c : PlainDefinition) (old new : NamedCommands) : Type 0 where
   pub places : new.places.keys ≡ old.places.keys ++ place ∷ []
-  pub pairs : map plain_pair new.pairs.items ≡ map plain_pair old.pairs.items ++ map (λ name. (c.name, name)) (names_beside da db c)
-  pub reached : ComesToAll da db (Admits c.rules) old.reached new.reached
+  pub pairs : map plain_pair new.pairs.items ≡ map plain_pair old.pairs.items ++ map (λ name. (c.name, name)) (names_beside sides c)
+  pub reached : ComesToAll sides (Admits c.rules) old.reached new.reached
 
-abbrev pub AddsOnce : Dictionary → Dictionary → ℕ → PlainDefinition → NamedCommands → NamedCommands → Type 0
-AddsOnce da db place c old new = (Contains old.places.keys place × Same old new) ⊎ ((¬ Contains old.places.keys place) × Adds da db place c old new)
+abbrev pub AddsOnce : Sides → ℕ → PlainDefinition → NamedCommands → NamedCommands → Type 0
+AddsOnce sides place c old new = (Contains old.places.keys place × Same old new) ⊎ ((¬ Contains old.places.keys place) × Adds sides place c old new)
 
 -- the name of the command at a place
 abbrev pub name_at : Dictionary → ℕ → List ℕ
 name_at d place = option_map_or (λ c. c.name) (slice_get d.commands place) []
 
 -- the keys that were come to are those that the commands of the pairs want, and all of them wait
-pub record AreRoots (da db : Dictionary) (pairs : List (List ℕ × List ℕ)) (r : Reached) : Type 0 where
-  pub each : (key : Key) → has r key ≡ true → (p : List ℕ × List ℕ) × (c : PlainDefinition) × Contains pairs p × NamesCommand da p.0 c × Wants da db c.rules key
-  pub all : (p : List ℕ × List ℕ) (c : PlainDefinition) (key : Key) → Contains pairs p → NamesCommand da p.0 c → Wants da db c.rules key → has r key ≡ true
+pub record AreRoots (sides : Sides) (pairs : List (List ℕ × List ℕ)) (r : Reached) : Type 0 where
+  pub each : (key : Key) → has r key ≡ true → (p : List ℕ × List ℕ) × (c : PlainDefinition) × Contains pairs p × NamesCommand sides.first p.0 c × Wants sides c.rules key
+  pub all : (p : List ℕ × List ℕ) (c : PlainDefinition) (key : Key) → Contains pairs p → NamesCommand sides.first p.0 c → Wants sides c.rules key → has r key ≡ true
   pub wait : AllWait r
-  pub rest : AreRest da db r
+  pub rest : AreRest sides r
 
 -- names that were gone through, and what is still to come
-pub record NamedSoFar (da db : Dictionary) (gone left : List (List ℕ)) (named : NamedCommands) : Type 0 where
-  pub owed : (more : List (List ℕ × List ℕ)) → AreCommandPairs da db (map (name_at da) named.places.keys) left more → AreCommandPairs da db [] (gone ++ left) (map plain_pair named.pairs.items ++ more)
-  pub roots : AreRoots da db (map plain_pair named.pairs.items) named.reached
-  pub within : (place : ℕ) → Contains named.places.keys place → (c : PlainDefinition) × (slice_get da.commands place ≡ Some c)
-  pub listed : (p : List ℕ × List ℕ) → Contains (map plain_pair named.pairs.items) p → Contains (map (name_at da) named.places.keys) p.0
-  pub known : (name : List ℕ) → Contains gone name → (c : PlainDefinition) × NamesCommand da name c
+pub record NamedSoFar (sides : Sides) (gone left : List (List ℕ)) (named : NamedCommands) : Type 0 where
+  pub owed : (more : List (List ℕ × List ℕ)) → AreCommandPairs sides.first sides.second (map (name_at sides.first) named.places.keys) left more → AreCommandPairs sides.first sides.second [] (gone ++ left) (map plain_pair named.pairs.items ++ more)
+  pub roots : AreRoots sides (map plain_pair named.pairs.items) named.reached
+  pub within : (place : ℕ) → Contains named.places.keys place → (c : PlainDefinition) × (slice_get sides.first.commands place ≡ Some c)
+  pub listed : (p : List ℕ × List ℕ) → Contains (map plain_pair named.pairs.items) p → Contains (map (name_at sides.first) named.places.keys) p.0
+  pub known : (name : List ℕ) → Contains gone name → (c : PlainDefinition) × NamesCommand sides.first name c

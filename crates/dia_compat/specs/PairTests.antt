@@ -103,16 +103,16 @@ is_of_app (Command code class own p) app = option_eq nat_eq own (Some app)
 is_of_app (Error p) app = true
 
 -- a definition of B with this application or none, for a command of A with that
-abbrev pub wants_app : Dictionary → Dictionary → ℕ → Class → Option ℕ → Option ℕ → Bool
-wants_app da db code class None None = true
-wants_app da db code class None (Some app) = not (names_app da code class app)
-wants_app da db code class (Some app) None = not (names_app db code class app)
-wants_app da db code class (Some app) (Some other) = app == other
+abbrev pub wants_app : Sides → ℕ → Class → Option ℕ → Option ℕ → Bool
+wants_app sides code class None None = true
+wants_app sides code class None (Some app) = not (names_app sides.first code class app)
+wants_app sides code class (Some app) None = not (names_app sides.second code class app)
+wants_app sides code class (Some app) (Some other) = app == other
 
-abbrev pub is_wanted : Dictionary → Dictionary → DefHead → DefHead → Bool
-is_wanted da db (Error p) (Error q) = true
-is_wanted da db (Command code class app p) (Command other_code other_class other q) = (code == other_code) && same_class class other_class && wants_app da db code class app other
-is_wanted da db x y = false
+abbrev pub is_wanted : Sides → DefHead → DefHead → Bool
+is_wanted sides (Error p) (Error q) = true
+is_wanted sides (Command code class app p) (Command other_code other_class other q) = (code == other_code) && same_class class other_class && wants_app sides code class app other
+is_wanted sides x y = false
 
 abbrev pub serves_app : Option ℕ → Option ℕ → Bool
 serves_app app None = true
@@ -143,19 +143,19 @@ abbrev pub is_proxiable : DefHead → DefHead → Bool
 is_proxiable x y = option_map_or (λ p. option_map_or (λ q. p_within p q) (p_of y) false) (p_of x) true
 
 -- the pairs have this definition of B, if it may be selected for a message of the command
-abbrev pub is_ready : Dictionary → Dictionary → List NamePair → PlainDefinition → PlainDefinition → Bool
-is_ready da db pairs c d = not (is_wanted da db c.head d.head) || list_any (is_pair c.name d.name) pairs
+abbrev pub is_ready : Sides → List NamePair → PlainDefinition → PlainDefinition → Bool
+is_ready sides pairs c d = not (is_wanted sides c.head d.head) || list_any (is_pair c.name d.name) pairs
 
 -- the pairs have what may be selected for a message of the command
-abbrev pub is_selected : Dictionary → Dictionary → List NamePair → PlainDefinition → Bool
-is_selected da db pairs c = list_any (λ d. serves c.head d.head) db.commands && list_all (is_ready da db pairs c) db.commands
+abbrev pub is_selected : Sides → List NamePair → PlainDefinition → Bool
+is_selected sides pairs c = list_any (λ d. serves c.head d.head) sides.second.commands && list_all (is_ready sides pairs c) sides.second.commands
 
 -- the table has what may be selected for a message of each of the first's commands
 abbrev pub all_selected : Compared → List Bool
-all_selected c = map (is_selected c.sides.first c.sides.second c.table.commands) c.sides.first.commands
+all_selected c = map (is_selected c.sides c.table.commands) c.sides.first.commands
 
 abbrev pub is_command_pair : Compared → PlainDefinition → PlainDefinition → Bool
-is_command_pair c x y = same_code_and_class x.head y.head && is_proxiable x.head y.head && is_selected c.sides.first c.sides.second c.table.commands x
+is_command_pair c x y = same_code_and_class x.head y.head && is_proxiable x.head y.head && is_selected c.sides c.table.commands x
 
 -- ---- the tests of two definitions
 

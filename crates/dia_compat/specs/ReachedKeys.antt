@@ -7,6 +7,7 @@ use Rattle.dia_book.specs.declared.DRule.{DRule}
 use Rattle.dia_book.specs.Dictionary.{Dictionary, DictEntry, PlainDefinition}
 use Rattle.dia_check.specs.Valid.{known}
 use Rattle.dia_compat.specs.declared.proposing.reaching.Reached.{Reached}
+use Rattle.dia_compat.specs.Sides.{Sides}
 use Rattle.dia_compat.specs.Below.{HasRule, IsListed, HasWildcard, IsAboveZero, IsKnown}
 use Rattle.dia_compat.specs.Closed.{BothGrouped}
 
@@ -17,8 +18,8 @@ has r key = list_any (same_key key) r.keys.keys
 abbrev pub Waits : Reached → Key → Type 0
 Waits r key = Contains r.waiting.items key
 
-abbrev pub IsShared : Dictionary → Dictionary → Key → Type 0
-IsShared da db key = IsKnown da key × IsKnown db key
+abbrev pub IsShared : Sides → Key → Type 0
+IsShared sides key = IsKnown sides.first key × IsKnown sides.second key
 
 abbrev pub IsAllowedBy : DRule → Key → Type 0
 IsAllowedBy rule key = (rule.key ≡ Some key) × IsAboveZero rule.max
@@ -35,8 +36,8 @@ IsOpenTo rules key = ((w : DRule) × HasWildcard rules w × IsAboveZero w.max) �
 abbrev pub Admits : List DRule → Key → Type 0
 Admits rules key = IsAllowed rules key ⊎ IsOpenTo rules key
 
-abbrev pub Wants : Dictionary → Dictionary → List DRule → Key → Type 0
-Wants da db rules key = Admits rules key × IsShared da db key
+abbrev pub Wants : Sides → List DRule → Key → Type 0
+Wants sides rules key = Admits rules key × IsShared sides key
 
 -- this key is there now, and waits if it is new
 pub record Inserts (key : Key) (old new : Reached) : Type 0 where
@@ -58,42 +59,42 @@ pub record Grew (da : Dictionary) (P : (Key → Type 0)) (old new : Reached) : T
   pub nearer : potential da new ≤ potential da old
 
 -- a key that both know is still among the rest, unless it is there now
-abbrev pub KeepsRest : Dictionary → Dictionary → Reached → Reached → Type 0
-KeepsRest da db old new = (key : Key) → IsShared da db key → Contains old.rest.items key → (has new key ≡ true) ⊎ Contains new.rest.items key
+abbrev pub KeepsRest : Sides → Reached → Reached → Type 0
+KeepsRest sides old new = (key : Key) → IsShared sides key → Contains old.rest.items key → (has new key ≡ true) ⊎ Contains new.rest.items key
 
 -- the key is there now, if both know it
-pub record ComesTo (da db : Dictionary) (key : Key) (old new : Reached) : Type 0 where
-  pub grew : Grew da (λ other. (other ≡ key) × IsShared da db other) old new
-  pub there : IsShared da db key → has new key ≡ true
-  pub rest : KeepsRest da db old new
+pub record ComesTo (sides : Sides) (key : Key) (old new : Reached) : Type 0 where
+  pub grew : Grew sides.first (λ other. (other ≡ key) × IsShared sides other) old new
+  pub there : IsShared sides key → has new key ≡ true
+  pub rest : KeepsRest sides old new
 
 -- all keys with P that both know are there now
-pub record ComesToAll (da db : Dictionary) (P : (Key → Type 0)) (old new : Reached) : Type 0 where
-  pub grew : Grew da (λ key. P key × IsShared da db key) old new
-  pub there : (key : Key) → P key → IsShared da db key → has new key ≡ true
-  pub rest : KeepsRest da db old new
+pub record ComesToAll (sides : Sides) (P : (Key → Type 0)) (old new : Reached) : Type 0 where
+  pub grew : Grew sides.first (λ key. P key × IsShared sides key) old new
+  pub there : (key : Key) → P key → IsShared sides key → has new key ≡ true
+  pub rest : KeepsRest sides old new
 
 -- each key that both know was come to, or is one of the rest
-abbrev pub AreRest : Dictionary → Dictionary → Reached → Type 0
-AreRest da db r = (key : Key) → IsShared da db key → (has r key ≡ true) ⊎ Contains r.rest.items key
+abbrev pub AreRest : Sides → Reached → Type 0
+AreRest sides r = (key : Key) → IsShared sides key → (has r key ≡ true) ⊎ Contains r.rest.items key
 
 -- the key is there now, where the rules don't list it and both know it, and is one of the rest where they list it
-pub record Sorts (da db : Dictionary) (rules : List DRule) (key : Key) (old new : Reached) : Type 0 where
-  pub comes : ComesToAll da db (λ other. (other ≡ key) × ¬ IsListed rules other) old new
-  pub left : IsShared da db key → (has new key ≡ true) ⊎ Contains new.rest.items key
+pub record Sorts (sides : Sides) (rules : List DRule) (key : Key) (old new : Reached) : Type 0 where
+  pub comes : ComesToAll sides (λ other. (other ≡ key) × ¬ IsListed rules other) old new
+  pub left : IsShared sides key → (has new key ≡ true) ⊎ Contains new.rest.items key
 
 -- what follows from the keys that it had come to
-pub data Follows (da db : Dictionary) (roots : Reached) : Key → Type 0 where
-  root : (key : Key) → has roots key ≡ true → Follows da db roots key
-  in_group : (outer key : Key) (e f : DictEntry) (group : PlainDefinition) → Follows da db roots outer → known da outer ≡ Some e → known db outer ≡ Some f
-      → BothGrouped e f → e.group ≡ Some group → Wants da db group.rules key → Follows da db roots key
+pub data Follows (sides : Sides) (roots : Reached) : Key → Type 0 where
+  root : (key : Key) → has roots key ≡ true → Follows sides roots key
+  in_group : (outer key : Key) (e f : DictEntry) (group : PlainDefinition) → Follows sides roots outer → known sides.first outer ≡ Some e → known sides.second outer ≡ Some f
+      → BothGrouped e f → e.group ≡ Some group → Wants sides group.rules key → Follows sides roots key
 
 -- the group of A's AVP of this key, where B's is Grouped too
-pub record IsSharedGroup (da db : Dictionary) (key : Key) (group : PlainDefinition) : Type 0 where
+pub record IsSharedGroup (sides : Sides) (key : Key) (group : PlainDefinition) : Type 0 where
   pub e : DictEntry
   pub f : DictEntry
-  pub at_a : known da key ≡ Some e
-  pub at_b : known db key ≡ Some f
+  pub at_a : known sides.first key ≡ Some e
+  pub at_b : known sides.second key ≡ Some f
   pub both : BothGrouped e f
   pub is_group : e.group ≡ Some group
 

@@ -16,4 +16,5 @@ pub(crate) use by_code::{Commands, open_code};
 pub(crate) use commands::is_wanted;
 pub(crate) use named_book::names_of_commands;
 pub(crate) use pairs::Comparison;
+pub(crate) use rules::Rules;
 pub(crate) use sides::Sides;

@@ -11,7 +11,7 @@ mod naming;
 mod reaching;
 mod wanting;
 
-use crate::comparing::{Commands, names_of_commands};
+use crate::comparing::{Commands, Sides, names_of_commands};
 use crate::table::{Table, push_pair};
 use dia_book::{Book, Entry};
 use dia_check::Unknown;
@@ -60,34 +60,38 @@ pub fn propose<A: Book, B: Book>(
     ensures refusal { IfErr result
         (IsRefusal (A.meaning a.now) (map (λ n. string_bytes n) names.now)) }
 {
-    let named = named_commands(alloc, a, b, names)?;
+    let sides = Sides {
+        first: a,
+        second: b,
+        unknown,
+    };
+    let named = named_commands(alloc, &sides, names)?;
     let NamedCommands {
         pairs: commands,
         mut reached,
         ..
     } = named;
-    reached.follow(alloc, a, b)?;
-    let avps = shared_pairs(alloc, a, b, &reached)?;
+    reached.follow(alloc, &sides)?;
+    let avps = shared_pairs(alloc, &sides, &reached)?;
     Ok(Table { commands, avps })
 }
 
 /// The commands of these names, with what stands beside them and the AVPs that they let in.
 fn named_commands<A: Book, B: Book>(
     alloc: Global,
-    a: &A,
-    b: &B,
+    sides: &Sides<'_, A, B>,
     names: &[String],
 ) -> Result<NamedCommands, ProposeFault>
-    ensures ok { IfOk result (NamedSoFar (A.meaning a.now) (B.meaning b.now)
-        (map (λ n. string_bytes n) names.now) []) }
+    ensures ok { IfOk result (NamedSoFar sides.now (map (λ n. string_bytes n) names.now) []) }
     ensures refusal { IfErr result
-        (IsRefusal (A.meaning a.now) (map (λ n. string_bytes n) names.now)) }
+        (IsRefusal sides.now.first (map (λ n. string_bytes n) names.now)) }
 {
-    let most = a.entries().min(b.entries());
-    let commands = names_of_commands(alloc, a)?;
-    let others = Commands::new(alloc, b)?;
-    let mut named = NamedCommands::new(alloc, a, b, most)?;
-    named.add_all(alloc, a, &others, &commands, names)?;
+    let a = sides.first();
+    let most = a.entries().min(sides.second().entries());
+    let places = names_of_commands(alloc, a)?;
+    let commands = Commands::new(alloc, sides)?;
+    let mut named = NamedCommands::new(alloc, sides, most)?;
+    named.add_all(alloc, &commands, &places, names)?;
     Ok(named)
 }
 
@@ -102,37 +106,38 @@ impl From<AllocError> for ProposeFault {
     }
 }
 
-/// The pairs of the AVPs that it has come to, by their names, in A's order.
+/// The pairs of the AVPs that it has come to, by their names, in the first's order.
 fn shared_pairs<A: Book, B: Book>(
     alloc: Global,
-    a: &A,
-    b: &B,
+    sides: &Sides<'_, A, B>,
     reached: &Reached,
 ) -> Result<Vec<(String, String)>, AllocError>
     ensures { IfOk result (λ pairs. map plain_pair pairs.items
-        ≡ filter_map (shared_pair (B.meaning b.now) reached.now) (A.meaning a.now).entries) }
+        ≡ filter_map (shared_pair sides.now.second reached.now) sides.now.first.entries) }
 {
+    let a = sides.first();
     let mut pairs = Vec::new(alloc);
     for index in 0..a.entries() {
-        push_if_shared(alloc, a, b, reached, a.entry_at(index), &mut pairs)?;
+        push_if_shared(alloc, sides, reached, a.entry_at(index), &mut pairs)?;
     }
     Ok(pairs)
 }
 
-/// Adds the pair of an AVP of A, if it has come to it and B knows it.
+/// Adds the pair of an AVP of the first, if it has come to it and the second knows it.
 fn push_if_shared<A: Book, B: Book>(
     alloc: Global,
-    a: &A,
-    b: &B,
+    sides: &Sides<'_, A, B>,
     reached: &Reached,
     entry: Entry,
     pairs: &mut Vec<(String, String)>,
 ) -> Result<(), AllocError>
-    requires { entry < length (A.meaning a.now).entries }
-    ensures { (e : DictEntry) → slice_get (A.meaning a.now).entries entry ≡ Some e → OnOk result
+    requires { entry < length sides.now.first.entries }
+    ensures { (e : DictEntry) → slice_get sides.now.first.entries entry ≡ Some e → OnOk result
         (map plain_pair pairs.new.items ≡ map plain_pair pairs.old.items
-        ++ option_to_list (shared_pair (B.meaning b.now) reached.now e)) }
+        ++ option_to_list (shared_pair sides.now.second reached.now e)) }
 {
+    let a = sides.first();
+    let b = sides.second();
     let key = a.entry_key(entry);
     if !reached.contains(key) {
         return Ok(());

@@ -10,6 +10,7 @@ ghost use Rattle.dia_compat.specs.PairTests.{is_proxiable, is_ready, is_selected
 
 use super::by_code::{Commands, open_code};
 use super::heads::{is_proxiable, same_code_and_class, serves};
+use super::sides::Sides;
 use dia_book::{Book, Class, DefHead, Definition};
 use indexmap::IndexSet;
 use std::alloc::{AllocError, Global};
@@ -47,78 +48,71 @@ pub(super) fn may_stand_for(first: &Definition, second: &Definition) -> bool
     same_code_and_class(&first.head, &second.head) && is_proxiable(&first.head, &second.head)
 }
 
-/// Of each command of `a`, in order, whether the table has each definition of `b` that may be selected for its messages, and
-/// there is one.
+/// Of each command of the first, in order, whether the table has each definition of the second that may be selected for its
+/// messages, and there is one.
 pub(super) fn all_selected<A: Book, B: Book>(
     alloc: Global,
-    a: &A,
-    b: &B,
+    sides: &Sides<'_, A, B>,
     beside: &IndexSet<(&str, &str)>,
 ) -> Result<Vec<bool>, AllocError>
-    ensures { IfOk result
-        (λ all. all.items ≡ map
-        (is_selected (A.meaning a.now) (B.meaning b.now) (map plain_names beside.now.keys))
-        (A.meaning a.now).commands) }
+    ensures { IfOk result (λ all. all.items ≡ map
+        (is_selected sides.now (map plain_names beside.now.keys)) sides.now.first.commands) }
 {
-    let commands = Commands::new(alloc, b)?;
-    selected_among(alloc, a, &commands, beside)
+    let commands = Commands::new(alloc, sides)?;
+    selected_among(alloc, &commands, beside)
 }
 
 fn selected_among<A: Book, B: Book>(
     alloc: Global,
-    a: &A,
-    b: &Commands<'_, B>,
+    commands: &Commands<'_, A, B>,
     beside: &IndexSet<(&str, &str)>,
 ) -> Result<Vec<bool>, AllocError>
-    ensures { IfOk result
-        (λ all. all.items ≡ map
-        (is_selected (A.meaning a.now) (B.meaning b.now.book.now) (map plain_names beside.now.keys))
-        (A.meaning a.now).commands) }
+    ensures { IfOk result (λ all. all.items ≡ map
+        (is_selected commands.now (map plain_names beside.now.keys)) commands.now.first.commands) }
 {
+    let a = commands.sides().first();
     let mut all = Vec::new(alloc);
     for index in 0..a.commands() {
-        all.push(is_selected(a, b, beside, a.def(a.command_at(index))))?;
+        all.push(is_selected(commands, beside, a.def(a.command_at(index))))?;
     }
     Ok(all)
 }
 
-/// Whether some command of `b` is selected for messages of this one, and each that may be stands beside it.
+/// Whether some command of the second is selected for messages of this one, and each that may be stands beside it.
 fn is_selected<A: Book, B: Book>(
-    a: &A,
-    b: &Commands<'_, B>,
+    commands: &Commands<'_, A, B>,
     beside: &IndexSet<(&str, &str)>,
     command: &Definition,
 ) -> bool
     requires { IsCommandHead command.now.head }
-    ensures { result ≡ is_selected (A.meaning a.now)
-        (B.meaning b.now.book.now) (map plain_names beside.now.keys)
-        (plain_definition command.now) }
+    ensures { result ≡
+        is_selected commands.now (map plain_names beside.now.keys) (plain_definition command.now) }
 {
+    let sides = commands.sides();
     match open_code(command.head) {
-        Some(code) => match b.by_code.get(&code) {
-            Some(others) => has_all(a, b.book, beside, command, others.as_slice()),
+        Some(code) => match commands.of_code(code) {
+            Some(others) => has_all(sides, beside, command, others.as_slice()),
             None => false,
         },
-        None => match b.only_for(command.head) {
+        None => match commands.only_for(command.head) {
             Some(other) => stands_beside(beside, command, other),
             None => false,
         },
     }
 }
 
-/// Whether one of these definitions of `b` is selected for messages of the command, and each that may be stands beside it.
+/// Whether one of these definitions of the second is selected for messages of the command, and each that may be stands beside it.
 fn has_all<A: Book, B: Book>(
-    a: &A,
-    b: &B,
+    sides: &Sides<'_, A, B>,
     beside: &IndexSet<(&str, &str)>,
     command: &Definition,
     others: &[&Definition],
 ) -> bool
     ensures { result ≡ (list_any (λ d. serves command.now.head d.now.head) others.now && list_all
-        (λ d. is_ready (A.meaning a.now) (B.meaning b.now) (map plain_names beside.now.keys)
+        (λ d. is_ready sides.now (map plain_names beside.now.keys)
         (plain_definition command.now) (plain_definition d.now)) others.now) }
 {
-    is_served(others, &command.head) && all_beside(a, b, beside, command, others)
+    is_served(others, &command.head) && all_beside(sides, beside, command, others)
 }
 
 /// Whether the definitions stand in the table as a pair.
@@ -137,41 +131,42 @@ fn is_served(others: &[&Definition], head: &DefHead) -> bool
     others.iter().any(|other| serves(head, &other.head))
 }
 
-/// Whether each of these definitions of `b` that may be selected for messages of the command stands beside it.
+/// Whether each of these definitions of the second that may be selected for messages of the command stands beside it.
 fn all_beside<A: Book, B: Book>(
-    a: &A,
-    b: &B,
+    sides: &Sides<'_, A, B>,
     beside: &IndexSet<(&str, &str)>,
     command: &Definition,
     others: &[&Definition],
 ) -> bool
     ensures { result ≡ list_all
-        (λ d. is_ready (A.meaning a.now) (B.meaning b.now) (map plain_names beside.now.keys)
+        (λ d. is_ready sides.now (map plain_names beside.now.keys)
         (plain_definition command.now) (plain_definition d.now)) others.now }
 {
     others
         .iter()
-        .all(|other| is_ready(a, b, beside, command, other))
+        .all(|other| is_ready(sides, beside, command, other))
 }
 
-/// Whether a command of `b` isn't selected for messages of this one, or stands beside it.
+/// Whether a command of the second isn't selected for messages of this one, or stands beside it.
 fn is_ready<A: Book, B: Book>(
-    a: &A,
-    b: &B,
+    sides: &Sides<'_, A, B>,
     beside: &IndexSet<(&str, &str)>,
     command: &Definition,
     other: &Definition,
 ) -> bool
-    ensures { result ≡ is_ready (A.meaning a.now)
-        (B.meaning b.now) (map plain_names beside.now.keys)
+    ensures { result ≡ is_ready sides.now (map plain_names beside.now.keys)
         (plain_definition command.now) (plain_definition other.now) }
 {
-    !is_wanted(a, b, &command.head, &other.head) || stands_beside(beside, command, other)
+    !is_wanted(sides, &command.head, &other.head) || stands_beside(beside, command, other)
 }
 
-/// Whether a command of `b` may be selected for messages of one of `a`.
-pub(crate) fn is_wanted<A: Book, B: Book>(a: &A, b: &B, head: &DefHead, other: &DefHead) -> bool
-    ensures { result ≡ is_wanted (A.meaning a.now) (B.meaning b.now) head.now other.now }
+/// Whether a command of the second may be selected for messages of one of the first.
+pub(crate) fn is_wanted<A: Book, B: Book>(
+    sides: &Sides<'_, A, B>,
+    head: &DefHead,
+    other: &DefHead,
+) -> bool
+    ensures { result ≡ is_wanted sides.now head.now other.now }
 {
     match head {
         DefHead::Group(_) => false,
@@ -190,7 +185,7 @@ pub(crate) fn is_wanted<A: Book, B: Book>(a: &A, b: &B, head: &DefHead, other: &
             } => {
                 code == other_code
                     && class == other_class
-                    && wants_app(a, b, *code, *class, *app, *other_app)
+                    && wants_app(sides, *code, *class, *app, *other_app)
             }
             DefHead::Error { .. } => false,
         },
@@ -202,25 +197,24 @@ pub(crate) fn is_wanted<A: Book, B: Book>(a: &A, b: &B, head: &DefHead, other: &
     }
 }
 
-/// Whether of a code and a class a command of `b` with that application, or with none, may be selected for messages of a
-/// command of `a` with this.
+/// Whether of a code and a class a command of the second with that application, or with none, may be selected for messages of a
+/// command of the first with this.
 fn wants_app<A: Book, B: Book>(
-    a: &A,
-    b: &B,
+    sides: &Sides<'_, A, B>,
     code: u32,
     class: Class,
     app: Option<u32>,
     other: Option<u32>,
 ) -> bool
-    ensures { result ≡ wants_app (A.meaning a.now) (B.meaning b.now) code class app other }
+    ensures { result ≡ wants_app sides.now code class app other }
 {
     match app {
         None => match other {
             None => true,
-            Some(other) => !names_app(a, code, class, other),
+            Some(other) => !names_app(sides.first(), code, class, other),
         },
         Some(app) => match other {
-            None => !names_app(b, code, class, app),
+            None => !names_app(sides.second(), code, class, app),
             Some(other) => app == other,
         },
     }

@@ -159,7 +159,7 @@ fn selected_by<A: Book, B: Book>(
         (λ all. all.items ≡ all_selected (compared sides.now (plain_table table.now))) }
 {
     let beside = set_of_pairs(alloc, &table.commands)?;
-    let selected = all_selected(alloc, sides.first(), sides.second(), &beside)?;
+    let selected = all_selected(alloc, sides, &beside)?;
     Ok(selected)
 }
 

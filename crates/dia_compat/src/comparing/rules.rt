@@ -9,7 +9,7 @@ use std::marker::Model;
 
 /// The rules of a definition.
 #[derive(Drop)]
-pub(super) struct Rules<'a, B: Book> {
+pub(crate) struct Rules<'a, B: Book> {
     pub book: &'a B,
     pub def: DefId,
 }

@@ -1,7 +1,8 @@
 //! The two dictionaries that are compared.
-ghost use Rattle.std.specs.Prelude.{◌≡◌, ◌<◌, length};
+ghost use Rattle.std.specs.Prelude.{◌≡◌, ◌<◌, ◌↔◌, IsTrue, length};
 ghost use Rattle.dia_book.specs.Dictionary.{IsDictionary, definitions};
 ghost use Rattle.dia_compat.specs.Tests.{is_kept, may_come, rules_in};
+ghost use Rattle.dia_compat.specs.ReachedKeys.{IsShared};
 
 use super::rules::Rules;
 use dia_book::{Book, DefId, Key};
@@ -67,8 +68,15 @@ impl<'a, A: Book, B: Book> Sides<'a, A, B> {
         self.keeps() || self.first().avp(key).is_some()
     }
 
+    /// Whether both know the key.
+    pub fn both_know(&self, key: Key) -> bool
+        ensures { IsTrue result ↔ IsShared self.now key }
+    {
+        self.first().avp(key).is_some() && self.second().avp(key).is_some()
+    }
+
     /// The rules of a definition of the first.
-    pub(super) fn first_rules(&self, def: DefId) -> Rules<'a, A>
+    pub fn first_rules(&self, def: DefId) -> Rules<'a, A>
         requires { def < length (definitions self.now.first) }
         ensures { result ≡ rules_in self.now.first def }
     {

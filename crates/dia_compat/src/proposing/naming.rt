@@ -7,7 +7,7 @@ ghost use Rattle.dia_compat.specs.Proposed.{IsRefusal};
 ghost use Rattle.dia_compat.specs.NamedCommands.{AddsOnce, NamedSoFar};
 ghost use Rattle.dia_compat.specs.ReachedKeys.{has, AreRest};
 
-use crate::comparing::Commands;
+use crate::comparing::{Commands, Sides};
 use crate::proposing::ProposeFault;
 use crate::proposing::reaching::Reached;
 use crate::proposing::wanting::push_pairs;
@@ -15,7 +15,7 @@ use dia_book::Book;
 use indexmap::IndexSet;
 use std::alloc::{AllocError, Global};
 
-/// The commands of A that were named, by their places, with their pairs and the AVPs that they let in.
+/// The commands of the first that were named, by their places, with their pairs and the AVPs that they let in.
 #[derive(Drop)]
 pub(crate) struct NamedCommands {
     places: IndexSet<usize>,
@@ -27,73 +27,73 @@ impl NamedCommands {
     /// No command yet, with room for as many AVPs.
     pub(crate) fn new<A: Book, B: Book>(
         alloc: Global,
-        a: &A,
-        b: &B,
+        sides: &Sides<'_, A, B>,
         most: usize,
     ) -> Result<NamedCommands, AllocError>
         ensures places { IfOk result (λ n. n.places.keys ≡ []) }
         ensures pairs { IfOk result (λ n. n.pairs.items ≡ []) }
         ensures reached { IfOk result (λ n. n.reached.waiting.items ≡ []) }
         ensures none { IfOk result (λ n. n.reached.keys.keys ≡ []) }
-        ensures rest { IfOk result (λ n. AreRest (A.meaning a.now) (B.meaning b.now) n.reached) }
+        ensures rest { IfOk result (λ n. AreRest sides.now n.reached) }
     {
         Ok(NamedCommands {
             places: IndexSet::new(alloc),
             pairs: Vec::new(alloc),
-            reached: Reached::new(alloc, a, b, most)?,
+            reached: Reached::new(alloc, sides, most)?,
         })
     }
 
-    /// Adds the commands of these names, each at its first mention. `commands` has the names of A's commands, each at its
+    /// Adds the commands of these names, each at its first mention. `places` has the names of the first's commands, each at its
     /// place.
     pub(crate) fn add_all<A: Book, B: Book>(
         &mut self,
         alloc: Global,
-        a: &A,
-        b: &Commands<'_, B>,
-        commands: &IndexSet<&str>,
+        commands: &Commands<'_, A, B>,
+        places: &IndexSet<&str>,
         names: &[String],
     ) -> Result<(), ProposeFault>
-        requires commands { map (λ n. n.now) commands.now.keys
-            ≡ map (λ c. c.name) (A.meaning a.now).commands }
-        requires new { NamedSoFar (A.meaning a.now)
-            (B.meaning b.now.book.now) [] (map (λ n. string_bytes n) names.now) self.old }
-        ensures ok { OnOk result (NamedSoFar (A.meaning a.now) (B.meaning b.now.book.now)
-            (map (λ n. string_bytes n) names.now) [] self.new) }
+        requires places { map (λ n. n.now) places.now.keys
+            ≡ map (λ c. c.name) commands.now.first.commands }
+        requires new { NamedSoFar commands.now [] (map (λ n. string_bytes n) names.now) self.old }
+        ensures ok { OnOk result
+            (NamedSoFar commands.now (map (λ n. string_bytes n) names.now) [] self.new) }
         ensures refusal { IfErr result
-            (IsRefusal (A.meaning a.now) (map (λ n. string_bytes n) names.now)) }
+            (IsRefusal commands.now.first (map (λ n. string_bytes n) names.now)) }
     {
+        // Asked for its law: both dictionaries are sound.
+        let _ = commands.sides();
         for name in names {
             let text = name.as_str();
-            let Some(place) = place_of_name(commands, text) else {
+            let Some(place) = place_of_name(places, text) else {
                 let name = String::from_str(alloc, text)?;
                 return Err(ProposeFault::UnknownCommand { name });
             };
-            self.add(alloc, a, b, place)?;
+            self.add(alloc, commands, place)?;
         }
         Ok(())
     }
 
-    /// Adds the command of A at a place, unless it was named before.
+    /// Adds the command of the first at a place, unless it was named before.
     fn add<A: Book, B: Book>(
         &mut self,
         alloc: Global,
-        a: &A,
-        b: &Commands<'_, B>,
+        commands: &Commands<'_, A, B>,
         place: usize,
     ) -> Result<(), AllocError>
-        requires within { place < length (A.meaning a.now).commands }
-        requires rest { AreRest (A.meaning a.now) (B.meaning b.now.book.now) self.old.reached }
-        ensures { (c : PlainDefinition) → slice_get (A.meaning a.now).commands place ≡ Some c
-            → OnOk result (AddsOnce (A.meaning a.now)
-            (B.meaning b.now.book.now) place c self.old self.new) }
+        requires within { place < length commands.now.first.commands }
+        requires rest { AreRest commands.now self.old.reached }
+        ensures { (c : PlainDefinition) → slice_get commands.now.first.commands place ≡ Some c
+            → OnOk result (AddsOnce commands.now place c self.old self.new) }
     {
         if self.places.contains(&place) {
             return Ok(());
         }
+        let sides = commands.sides();
+        let a = sides.first();
         let def = a.command_at(place);
-        push_pairs(alloc, a, b, a.def(def), &mut self.pairs)?;
-        self.reached.come_to_admitted(alloc, a, b.book, def)?;
+        push_pairs(alloc, commands, a.def(def), &mut self.pairs)?;
+        self.reached
+            .come_to_admitted(alloc, sides, &sides.first_rules(def))?;
         self.places.insert(place)?;
         Ok(())
     }

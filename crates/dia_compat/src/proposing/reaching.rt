@@ -11,7 +11,8 @@ ghost use Rattle.dia_compat.specs.ReachedKeys.{Admits, Inserts, ComesTo};
 ghost use Rattle.dia_compat.specs.ReachedKeys.{ComesToAll, Follows, IsSharedGroup};
 ghost use Rattle.dia_compat.specs.ReachedKeys.{AllWait, AreRest, Sorts};
 
-use dia_book::{Book, DRule, DefId, Format, Key, Slot};
+use crate::comparing::{Rules, Sides};
+use dia_book::{Book, DRule, DefId, Format, Key};
 use std::alloc::{AllocError, Global};
 use std::collections::HashSet;
 use std::mem;
@@ -29,18 +30,17 @@ impl Reached {
     /// Nothing yet, with room for as many AVPs.
     pub(crate) fn new<A: Book, B: Book>(
         alloc: Global,
-        a: &A,
-        b: &B,
+        sides: &Sides<'_, A, B>,
         most: usize,
     ) -> Result<Reached, AllocError>
         ensures empty { IfOk result (λ r. r.keys.keys ≡ []) }
         ensures none { IfOk result (λ r. r.waiting.items ≡ []) }
-        ensures rest { IfOk result (λ r. AreRest (A.meaning a.now) (B.meaning b.now) r) }
+        ensures rest { IfOk result (AreRest sides.now) }
     {
         Ok(Reached {
             keys: HashSet::with_capacity(alloc, most)?,
             waiting: Vec::new(alloc),
-            rest: shared_keys(alloc, a, b)?,
+            rest: shared_keys(alloc, sides)?,
         })
     }
 
@@ -62,10 +62,14 @@ impl Reached {
     }
 
     /// Comes to the AVP with this key, if both dictionaries know it.
-    fn come_to<A: Book, B: Book>(&mut self, a: &A, b: &B, key: Key) -> Result<(), AllocError>
-        ensures { OnOk result (ComesTo (A.meaning a.now) (B.meaning b.now) key self.old self.new) }
+    fn come_to<A: Book, B: Book>(
+        &mut self,
+        sides: &Sides<'_, A, B>,
+        key: Key,
+    ) -> Result<(), AllocError>
+        ensures { OnOk result (ComesTo sides.now key self.old self.new) }
     {
-        if a.avp(key).is_some() && b.avp(key).is_some() {
+        if sides.both_know(key) {
             self.insert(key)?;
         }
         Ok(())
@@ -74,15 +78,13 @@ impl Reached {
     /// Comes to the AVP that a rule lists, if the rule lets it in.
     fn come_to_allowed<A: Book, B: Book>(
         &mut self,
-        a: &A,
-        b: &B,
+        sides: &Sides<'_, A, B>,
         rule: DRule,
     ) -> Result<(), AllocError>
-        ensures { OnOk result (ComesToAll (A.meaning a.now)
-            (B.meaning b.now) (IsAllowedBy rule) self.old self.new) }
+        ensures { OnOk result (ComesToAll sides.now (IsAllowedBy rule) self.old self.new) }
     {
         match rule.key {
-            Some(key) if is_above_zero(rule.max) => self.come_to(a, b, key),
+            Some(key) if is_above_zero(rule.max) => self.come_to(sides, key),
             _ => Ok(()),
         }
     }
@@ -90,79 +92,66 @@ impl Reached {
     /// Comes to the AVPs that the rules list and let in.
     fn come_to_listed<A: Book, B: Book>(
         &mut self,
-        a: &A,
-        b: &B,
+        sides: &Sides<'_, A, B>,
         rules: &[DRule],
     ) -> Result<(), AllocError>
-        ensures { OnOk result (ComesToAll (A.meaning a.now)
-            (B.meaning b.now) (IsAllowed rules.now) self.old self.new) }
+        ensures { OnOk result (ComesToAll sides.now (IsAllowed rules.now) self.old self.new) }
     {
         for rule in rules {
-            self.come_to_allowed(a, b, *rule)?;
+            self.come_to_allowed(sides, *rule)?;
         }
         Ok(())
     }
 
-    /// Comes to the AVP with this key, if a definition of A does not list it, and else leaves it among the rest.
+    /// Comes to the AVP with this key, if a definition of the first does not list it, and else leaves it among the rest.
     fn come_to_or_leave<A: Book, B: Book>(
         &mut self,
-        a: &A,
-        b: &B,
-        def: DefId,
+        sides: &Sides<'_, A, B>,
+        rules: &Rules<'_, A>,
         key: Key,
     ) -> Result<(), AllocError>
-        requires { def < length (definitions (A.meaning a.now)) }
-        ensures { (d : PlainDefinition) → slice_get (definitions (A.meaning a.now)) def ≡ Some d
-            → OnOk result (Sorts (A.meaning a.now)
-            (B.meaning b.now) d.rules key self.old self.new) }
+        ensures { OnOk result (Sorts sides.now rules.now key self.old self.new) }
     {
-        if let Slot::Unlisted = a.slot(def, key) {
-            self.come_to(a, b, key)?;
-        } else {
+        if rules.lists(key) {
             self.rest.push(key)?;
+        } else {
+            self.come_to(sides, key)?;
         }
         Ok(())
     }
 
-    /// Comes to the AVPs that a definition of A does not list. The rest is then no longer than its rules.
+    /// Comes to the AVPs that a definition of the first does not list. The rest is then no longer than its rules.
     fn come_to_unlisted<A: Book, B: Book>(
         &mut self,
         alloc: Global,
-        a: &A,
-        b: &B,
-        def: DefId,
+        sides: &Sides<'_, A, B>,
+        rules: &Rules<'_, A>,
     ) -> Result<(), AllocError>
-        requires def { def < length (definitions (A.meaning a.now)) }
-        requires rest { AreRest (A.meaning a.now) (B.meaning b.now) self.old }
-        ensures { (d : PlainDefinition) → slice_get (definitions (A.meaning a.now)) def ≡ Some d
-            → OnOk result (ComesToAll (A.meaning a.now)
-            (B.meaning b.now) (λ key. ¬ IsListed d.rules key) self.old self.new) }
+        requires { AreRest sides.now self.old }
+        ensures { OnOk result
+            (ComesToAll sides.now (λ key. ¬ IsListed rules.now key) self.old self.new) }
     {
         let rest = mem::replace(&mut self.rest, Vec::new(alloc));
         for key in rest.as_slice() {
-            self.come_to_or_leave(a, b, def, *key)?;
+            self.come_to_or_leave(sides, rules, *key)?;
         }
         Ok(())
     }
 
-    /// Comes to the AVPs that a definition of A lets in.
+    /// Comes to the AVPs that a definition of the first lets in.
     pub(crate) fn come_to_admitted<A: Book, B: Book>(
         &mut self,
         alloc: Global,
-        a: &A,
-        b: &B,
-        def: DefId,
+        sides: &Sides<'_, A, B>,
+        rules: &Rules<'_, A>,
     ) -> Result<(), AllocError>
-        requires def { def < length (definitions (A.meaning a.now)) }
-        requires rest { AreRest (A.meaning a.now) (B.meaning b.now) self.old }
-        ensures { (d : PlainDefinition) → slice_get (definitions (A.meaning a.now)) def ≡ Some d
-            → OnOk result (ComesToAll (A.meaning a.now)
-            (B.meaning b.now) (Admits d.rules) self.old self.new) }
+        requires { AreRest sides.now self.old }
+        ensures { OnOk result (ComesToAll sides.now (Admits rules.now) self.old self.new) }
     {
-        let rules = a.def(def).rules.as_slice();
-        self.come_to_listed(a, b, rules)?;
-        if has_open_wildcard(rules) {
-            self.come_to_unlisted(alloc, a, b, def)?;
+        let list = rules.list();
+        self.come_to_listed(sides, list)?;
+        if has_open_wildcard(list) {
+            self.come_to_unlisted(alloc, sides, rules)?;
         }
         Ok(())
     }
@@ -171,29 +160,33 @@ impl Reached {
     pub(crate) fn follow<A: Book, B: Book>(
         &mut self,
         alloc: Global,
-        a: &A,
-        b: &B,
+        sides: &Sides<'_, A, B>,
     ) -> Result<(), AllocError>
         requires wait { AllWait self.old }
-        requires rest { AreRest (A.meaning a.now) (B.meaning b.now) self.old }
-        ensures { OnOk result ((key : AnyKey) → IsTrue (has self.new key)
-            ↔ Follows (A.meaning a.now) (B.meaning b.now) self.old key) }
+        requires rest { AreRest sides.now self.old }
+        ensures { OnOk result
+            ((key : AnyKey) → IsTrue (has self.new key) ↔ Follows sides.now self.old key) }
     {
         while let Some(key) = self.waiting.pop() {
-            if let Some(group) = shared_group(a, b, key) {
-                self.come_to_admitted(alloc, a, b, group)?;
+            if let Some(group) = shared_group(sides, key) {
+                self.come_to_admitted(alloc, sides, &sides.first_rules(group))?;
             }
         }
         Ok(())
     }
 }
 
-/// The keys that both dictionaries know, in A's order.
-fn shared_keys<A: Book, B: Book>(alloc: Global, a: &A, b: &B) -> Result<Vec<Key>, AllocError>
+/// The keys that both dictionaries know, in the first's order.
+fn shared_keys<A: Book, B: Book>(
+    alloc: Global,
+    sides: &Sides<'_, A, B>,
+) -> Result<Vec<Key>, AllocError>
     ensures { IfOk result (λ keys. keys.items
-        ≡ filter (λ key. is_some (entry_of (B.meaning b.now) key))
-        (map (λ e. e.key) (A.meaning a.now).entries)) }
+        ≡ filter (λ key. is_some (entry_of sides.now.second key))
+        (map (λ e. e.key) sides.now.first.entries)) }
 {
+    let a = sides.first();
+    let b = sides.second();
     let mut keys = Vec::new(alloc);
     for index in 0..a.entries() {
         let key = a.entry_key(a.entry_at(index));
@@ -204,15 +197,15 @@ fn shared_keys<A: Book, B: Book>(alloc: Global, a: &A, b: &B) -> Result<Vec<Key>
     Ok(keys)
 }
 
-/// The definition of A's AVP with this key, where B's is Grouped too.
-fn shared_group<A: Book, B: Book>(a: &A, b: &B, key: Key) -> Option<DefId>
-    ensures within { IfSome result (λ def. def < length (definitions (A.meaning a.now))) }
+/// The definition of the first's AVP with this key, where the second's is Grouped too.
+fn shared_group<A: Book, B: Book>(sides: &Sides<'_, A, B>, key: Key) -> Option<DefId>
+    ensures within { IfSome result (λ def. def < length (definitions sides.now.first)) }
     ensures some { IfSome result (λ def. (d : PlainDefinition)
-        × (slice_get (definitions (A.meaning a.now)) def ≡ Some d)
-        × IsSharedGroup (A.meaning a.now) (B.meaning b.now) key d) }
-    ensures none { result ≡ None → (d : PlainDefinition)
-        → ¬ IsSharedGroup (A.meaning a.now) (B.meaning b.now) key d }
+        × (slice_get (definitions sides.now.first) def ≡ Some d) × IsSharedGroup sides.now key d) }
+    ensures none { result ≡ None → (d : PlainDefinition) → ¬ IsSharedGroup sides.now key d }
 {
+    let a = sides.first();
+    let b = sides.second();
     let entry = a.avp(key)?;
     let other = b.avp(key)?;
     if is_grouped(a.format(entry)) && is_grouped(b.format(other)) {

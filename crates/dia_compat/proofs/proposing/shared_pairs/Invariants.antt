@@ -5,4 +5,4 @@ use Rattle.dia_compat.specs.NamedCommands.{shared_pair}
 use Rattle.dia_compat.proofs.proposing.shared_pairs.Given as goal
 
 abbrev pub invariant-loop-index : goal.invariant-loop-index
-invariant-loop-index g l = map plain_pair l.pairs.items ≡ filter_map (shared_pair (g.B.Book.meaning l.b) l.reached) (take l.index (g.A.Book.meaning l.a).entries)
+invariant-loop-index g l = map plain_pair l.pairs.items ≡ filter_map (shared_pair l.sides.second l.reached) (take l.index l.sides.first.entries)

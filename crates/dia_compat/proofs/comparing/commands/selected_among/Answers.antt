@@ -7,8 +7,8 @@ use Rattle.dia_compat.proofs.comparing.commands.selected_among.Goals as goal
 
 pub loop-index-preserved : goal.loop-index-preserved
 loop-index-preserved g c =
-    let da = g.A.Book.meaning c.args.a.now in
-    let test = is_selected da (g.B.Book.meaning c.args.b.now.book.now) (map plain_names c.args.beside.now.keys) in
+    let da = g.A.Book.meaning c.first-a.result.now in
+    let test = is_selected c.args.commands.now (map plain_names c.args.beside.now.keys) in
     let i = c.loop-index.index in
     let x = plain_definition c.def.result.now in
     c.in_ok-push.ensures.items ∙ ap (λ (bs : List Bool). bs ++ c.is_selected.result ∷ []) c.loop-index.invariant

@@ -3,5 +3,4 @@ use Rattle.dia_compat.specs.PairTests.{plain_names, is_selected}
 use Rattle.dia_compat.proofs.comparing.commands.selected_among.Given as goal
 
 abbrev pub invariant-loop-index : goal.invariant-loop-index
-invariant-loop-index g l =
-    l.all.items ≡ map (is_selected (g.A.Book.meaning l.a) (g.B.Book.meaning l.b.book.now) (map plain_names l.beside.keys)) (take l.index (g.A.Book.meaning l.a).commands)
+invariant-loop-index g l = l.all.items ≡ map (is_selected l.commands (map plain_names l.beside.keys)) (take l.index (g.A.Book.meaning l.a).commands)

@@ -9,8 +9,8 @@ use Rattle.dia_compat.proofs.proposing.reaching.shared_keys.Goals.{then-is_some+
 
 pub loop-index-preserved : goal.loop-index-preserved
 loop-index-preserved g c =
-    let db = g.B.Book.meaning c.args.b.now in
-    let entries = (g.A.Book.meaning c.args.a.now).entries in
+    let db = g.B.Book.meaning c.second-b.result.now in
+    let entries = (g.A.Book.meaning c.first-a.result.now).entries in
     let keys = map (λ (e : DictEntry). e.key) entries in
     let test = λ (key : Key). is_some (entry_of db key) in
     let i = c.loop-index.index in

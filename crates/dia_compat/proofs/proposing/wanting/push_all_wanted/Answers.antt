@@ -10,10 +10,8 @@ use Rattle.dia_compat.proofs.proposing.wanting.push_all_wanted.Goals as goal
 
 pub loop-other-preserved : goal.loop-other-preserved
 loop-other-preserved g c =
-    let da = g.A.Book.meaning c.args.a.now in
-    let db = g.B.Book.meaning c.args.b.now in
     let others = c.args.others.now in
     let i = c.loop-other.other-index in
-    pairs_more (λ (d : Bor Definition). wanted_name da db c.args.command.now.head (plain_definition d.now)) (λ (name : List ℕ). ((plain_definition c.args.command.now).name, name))
+    pairs_more (λ (d : Bor Definition). wanted_name c.args.sides.now c.args.command.now.head (plain_definition d.now)) (λ (name : List ℕ). ((plain_definition c.args.command.now).name, name))
     (map plain_pair c.args.pairs.now.items) (map plain_pair c.loop-other.pairs.items) (map plain_pair c.push_if_wanted.new.pairs.items) others i c.other-item.result
     (item_there others i c.other-item.result (omega arith) c.other-item.is) c.loop-other.invariant c.in_ok-push_if_wanted.ensures

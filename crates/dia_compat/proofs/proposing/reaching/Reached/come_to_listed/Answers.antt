@@ -4,5 +4,5 @@ use Rattle.dia_compat.proofs.proposing.reaching.Reached.come_to_listed.Goals as 
 
 pub loop-rule-preserved : goal.loop-rule-preserved
 loop-rule-preserved g c =
-    listed_more (g.A.Book.meaning c.args.a.now) (g.B.Book.meaning c.args.b.now) c.args.rules.now c.loop-rule.rule-index _ c.args.self.now c.loop-rule.self c.come_to_allowed.new.self
+    listed_more c.args.sides.now c.args.rules.now c.loop-rule.rule-index _ c.args.self.now c.loop-rule.self c.come_to_allowed.new.self
     (omega arith) c.loop-rule.invariant c.in_ok-come_to_allowed.ensures

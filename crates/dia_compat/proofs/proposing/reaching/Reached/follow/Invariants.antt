@@ -3,7 +3,7 @@ use Rattle.dia_compat.proofs.ReachedKeys.{Following}
 use Rattle.dia_compat.proofs.proposing.reaching.Reached.follow.Given as goal
 
 abbrev pub invariant-loop-key : goal.invariant-loop-key
-invariant-loop-key g l = Following (g.A.Book.meaning l.a) (g.B.Book.meaning l.b) l.fn.self l.self
+invariant-loop-key g l = Following l.sides l.fn.self l.self
 
 abbrev pub decreases-loop-key : goal.decreases-loop-key
-decreases-loop-key g l = potential (g.A.Book.meaning l.a) l.self
+decreases-loop-key g l = potential l.sides.first l.self
