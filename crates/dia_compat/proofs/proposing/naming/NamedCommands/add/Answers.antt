@@ -24,13 +24,13 @@ returns g c = λ d at.
     let found = subst (λ (x : Dictionary). slice_get (definitions x) n ≡ Some (plain_definition c.def.result.now)) first c.def.ensures in
     let same = same_Some (plain_definition c.def.result.now) d (sym found ∙ there) in
     let rules = c.first_rules.ensures ∙ ap (λ (s : Sides). rules_in s.first n) same_sides ∙ rules_at all.first n d there in
-    let reached = subst (λ (s : Sides). ComesToAll s (Admits c.first_rules.result) old.reached c.come_to_admitted.new.self.reached) same_sides c.in_ok-come_to_admitted.ensures in
+    let reached = subst (λ (s : Sides). ComesToAll s (Admits c.first_rules.result) old.reached c.come_to_admitted.new.self) same_sides c.in_ok-come_to_admitted.ensures in
     inr (
       not_among old.places.keys c.args.place c.if-contains.ensures,
       record {
         places = one_place_more old.places.keys c.insert.new.self.keys c.args.place c.if-contains.ensures c.in_ok-insert.ensures.keys;
         pairs = subst (λ (x : PlainDefinition). AddsPairs x (names_beside all x) old.pairs.items c.push_pairs.new.pairs.items) same c.in_ok-push_pairs.ensures;
-        reached = subst (λ (rs : List DRule). ComesToAll all (Admits rs) old.reached c.come_to_admitted.new.self.reached) rules reached;
+        reached = subst (λ (rs : List DRule). ComesToAll all (Admits rs) old.reached c.come_to_admitted.new.self) rules reached;
       },
     )
 

@@ -3,6 +3,7 @@ use Rattle.std.specs.Prelude.{OnOk}
 use Rattle.std.proofs.lemmas.List.{nil_from_length}
 use Rattle.dia_wire.specs.declared.Key.{Key}
 use Rattle.dia_book.specs.declared.DRule.{DRule}
+use Rattle.dia_compat.specs.declared.proposing.reaching.Reached.{Reached}
 use Rattle.dia_compat.specs.ReachedKeys.{IsShared, Admits, ComesToAll}
 use Rattle.dia_compat.proofs.ReachedKeys.{following_none, follow_group, follow_none, following_all, taken_nearer, rules_at}
 use Rattle.dia_compat.proofs.proposing.reaching.Reached.follow.Goals as goal
@@ -14,7 +15,7 @@ pub loop-key-smaller-in-Continue-1 : goal.loop-key-smaller-in-Continue-1
 loop-key-smaller-in-Continue-1 g c =
     let sides = c.args.sides.now in
     let group = c.in-Some-shared_group.ensures.some in
-    let mid = record { keys = c.loop-key.self.keys; waiting = c.pop.new.self; rest = c.loop-key.self.rest } in
+    let mid : Reached = record { keys = c.loop-key.self.keys; waiting = c.pop.new.self; rest = c.loop-key.self.rest } in
     let all = subst (λ (rules : List DRule). ComesToAll sides (Admits rules) mid c.come_to_admitted.new.self)
     (c.first_rules.ensures ∙ rules_at sides.first c.in-Some-shared_group.group group.0 group.1) c.in_ok-come_to_admitted.ensures in
     taken_nearer sides.first (λ (key : Key). Admits group.0.rules key × IsShared sides key) c.loop-key.self mid c.come_to_admitted.new.self c.in-Some.key refl c.in-Some.ensures.items all.grew
@@ -23,7 +24,7 @@ pub loop-key-preserved-in-Continue-1 : goal.loop-key-preserved-in-Continue-1
 loop-key-preserved-in-Continue-1 g c =
     let sides = c.args.sides.now in
     let group = c.in-Some-shared_group.ensures.some in
-    let mid = record { keys = c.loop-key.self.keys; waiting = c.pop.new.self; rest = c.loop-key.self.rest } in
+    let mid : Reached = record { keys = c.loop-key.self.keys; waiting = c.pop.new.self; rest = c.loop-key.self.rest } in
     let all = subst (λ (rules : List DRule). ComesToAll sides (Admits rules) mid c.come_to_admitted.new.self)
     (c.first_rules.ensures ∙ rules_at sides.first c.in-Some-shared_group.group group.0 group.1) c.in_ok-come_to_admitted.ensures in
     follow_group sides c.args.self.now c.loop-key.self mid c.come_to_admitted.new.self
