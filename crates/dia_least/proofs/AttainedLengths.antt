@@ -18,13 +18,14 @@ use Rattle.dia_levels.specs.LeastLevels.{total, or_filler, plan, WantsOver}
 use Rattle.dia_levels.specs.LevelTests.{too_long, base_length}
 use Rattle.dia_levels.proofs.FloorBounds.{rule_of_listed}
 use Rattle.dia_levels.proofs.LeastLevels.{definition_rules, plan_placed}
-use Rattle.dia_least.specs.Exact.{AreExact, IsFillerLength, IsGroupLength, AreSpellable, IsStranger}
+use Rattle.dia_least.specs.Exact.{AreExact, IsFillerLength, IsGroupLength, AreSpellable}
 use Rattle.dia_least.specs.Floors.{shortest_head, padded, IsAttained, IsSpellable}
 use Rattle.dia_least.specs.Lengths.{IsLeafLength, entry_length, unknown_length, length_of}
 use Rattle.dia_least.proofs.FloorsOfAvps.{rounded_up}
 use Rattle.dia_least.proofs.FloorsOfLengths.{entry_at, not_known}
 use Rattle.dia_least.proofs.LessLevels.{level_within}
 use Rattle.dia_least.proofs.ShortestAvps.{leaf_attained, unknown_attained, group_attained}
+use Rattle.dia_least.proofs.Strangers.{IsStranger, stranger}
 use Rattle.dia_least.proofs.ShortestLevels.{asked_within, plan_all, plan_total}
 
 padded_head : (key : Key) → padded (shortest_head key) ≡ shortest_head key
@@ -200,6 +201,8 @@ module _ (d : Dictionary) (lengths : List ℕ) (unknown : Key) (is : IsDictionar
     attained zero key small le short = key_attained zero key (λ k s lt low. absurd (omega (arith, lt))) small le short
     attained (suc v) key small le short = key_attained (suc v) key (λ k s lt low. attained v k s (omega (arith, lt)) low) small le short
 
-pub length_attained : (d : Dictionary) (sends : Sends) (lengths : List ℕ) (unknown : Key) → IsDictionary d → AreSpellable d → IsStranger d unknown → AreExact d sends lengths
+pub length_attained : (d : Dictionary) (sends : Sends) (lengths : List ℕ) → IsDictionary d → AreSpellable d → AreExact d sends lengths
     → (key : Key) → IsSpellable key → length_of d sends lengths key < too_long → IsAttained d sends key (length_of d sends lengths key)
-length_attained d sends lengths unknown is spells strange exact key small short = attained d lengths unknown is spells strange sends exact (length_of d sends lengths key) key small (omega arith) short
+length_attained d sends lengths is spells exact key small short =
+    let s = stranger d is in
+    attained d lengths s.0 is spells s.1 sends exact (length_of d sends lengths key) key small (omega arith) short

@@ -10,3 +10,4 @@ pub mod LessLevels
 pub mod OneSolution
 pub mod ShortestAvps
 pub mod ShortestLevels
+pub mod Strangers

@@ -1,10 +1,10 @@
 -- The lengths of shortest AVPs, as the solution of their equations (RFC 6733 sections 3.2, 4.1 and 4.4).
-use Rattle.std.specs.Prelude.{◌≡◌, ◌⊎◌, ℕ, ◌^◌, ◌<◌, ◌≤◌, false, List, length, Some, None, slice_get}
+use Rattle.std.specs.Prelude.{◌≡◌, ◌⊎◌, ℕ, ◌≤◌, false, List, length, Some, None, slice_get}
 use Rattle.dia_wire.specs.declared.Key.{Key}
 use Rattle.dia_wire.specs.Wire.{head_length}
 use Rattle.dia_book.specs.declared.DRule.{DRule}
 use Rattle.dia_book.specs.Dictionary.{Dictionary, DictEntry, PlainDefinition}
-use Rattle.dia_check.specs.Valid.{is_listed, known}
+use Rattle.dia_check.specs.Valid.{is_listed}
 use Rattle.dia_policy.specs.declared.Sends.{Sends}
 use Rattle.dia_policy.specs.declared.Sends.TheVariants.{Any, Known, Listed}
 use Rattle.dia_levels.specs.LevelTests.{too_long}
@@ -33,14 +33,6 @@ pub record AreExact (d : Dictionary) (sends : Sends) (lengths : List ℕ) : Type
   pub groups : (e : ℕ) (entry : DictEntry) (group : PlainDefinition) → slice_get d.entries e ≡ Some entry → entry.group ≡ Some group
       → IsGroupLength d sends lengths entry.key group.rules (entry_length lengths e)
 
--- ---- keys that AVPs can have
-
 -- each entry's key can be spelled
 abbrev pub AreSpellable : Dictionary → Type 0
 AreSpellable d = (e : ℕ) (entry : DictEntry) → slice_get d.entries e ≡ Some entry → IsSpellable entry.key
-
--- a key without vendor that the dictionary does not know
-pub record IsStranger (d : Dictionary) (key : Key) : Type 0 where
-  pub unknown : known d key ≡ None
-  pub vendor : key.vendor ≡ 0
-  pub code : key.code < 2 ^ 32

@@ -11,7 +11,7 @@ use Rattle.dia_policy.specs.declared.Sends.{Sends}
 use Rattle.dia_policy.specs.declared.Sends.TheVariants.{Any}
 use Rattle.dia_sites.specs.Sent.{IsSent, IsSentAvp, StandAsSent, AreBytes}
 use Rattle.dia_levels.specs.LevelTests.{too_long}
-use Rattle.dia_least.specs.Exact.{AreExact, AreSpellable, IsStranger}
+use Rattle.dia_least.specs.Exact.{AreExact, AreSpellable}
 use Rattle.dia_least.specs.Floors.{AreFloors, IsAttained, IsSpellable, padded, shortest_head, total}
 use Rattle.dia_least.specs.Lengths.{length_of}
 
@@ -44,5 +44,5 @@ LengthsAreOne = (d : Dictionary) (sends : Sends) (xs ys : List ℕ) → AreExact
 
 -- and each length of it is attained, but for the one that stands for none
 abbrev pub LengthIsAttained : Type 0
-LengthIsAttained = (d : Dictionary) (sends : Sends) (lengths : List ℕ) (unknown : Key) → IsDictionary d → AreSpellable d → IsStranger d unknown → AreExact d sends lengths
+LengthIsAttained = (d : Dictionary) (sends : Sends) (lengths : List ℕ) → IsDictionary d → AreSpellable d → AreExact d sends lengths
     → (key : Key) → IsSpellable key → length_of d sends lengths key < too_long → IsAttained d sends key (length_of d sends lengths key)
