@@ -1,5 +1,5 @@
 -- The ways by rules and through wildcards are all ways.
-use Rattle.std.proofs.Common.{◌≡◌, ◌≢◌, ℕ, zero, suc, ◌+◌, ◌<◌, ◌≤◌, List, [], ◌∷◌, length, map, Option, Some, None, refl, sym, ap, subst, ◌∙◌, arith, inl, inr}
+use Rattle.std.proofs.Common.{◌≡◌, ℕ, zero, suc, ◌+◌, ◌<◌, ◌≤◌, List, [], ◌∷◌, length, map, Option, Some, None, refl, sym, ap, subst, ◌∙◌, arith, inl, inr}
 use Rattle.std.specs.Prelude.{◌⊎◌, slice_get, Contains, option_map, option_and_then}
 use Rattle.std.proofs.lemmas.Bool.{cases_lt}
 use Rattle.std.proofs.lemmas.List.{length-map}
@@ -10,11 +10,11 @@ use Rattle.dia_ways.specs.declared.graph.Reach.{Reach}
 use Rattle.dia_ways.specs.declared.graph.Step.{Step}
 use Rattle.dia_ways.specs.declared.stages.Stage.{Stage as OwnStage}
 use Rattle.dia_ways.specs.declared.openings.Opening.{Opening}
-use Rattle.dia_ways.specs.Walks.{Graph, PlainNode, Stage, Leads, IsUnlisted, IsReached, IsNoLater, IsShortest, graph_of, plain_node, plain_exits, stage_at, stage_of}
+use Rattle.dia_ways.specs.Walks.{Graph, PlainNode, Stage, Leads, IsReached, IsNoLater, IsShortest, graph_of, plain_node, plain_exits, stage_at, stage_of}
 use Rattle.dia_ways.specs.Walks.Leads.{By_rule, By_wildcard}
 use Rattle.dia_ways.specs.Offers.{HasOne}
 use Rattle.dia_ways.specs.Stages.{AreStages}
-use Rattle.dia_ways.specs.Openings.{AreOpenings, IsOpenTo, IsShutTo, AreShutTo, IsFirstOpen, IsOrdered, IsLess, opening_key, opening_of}
+use Rattle.dia_ways.specs.Openings.{AreOpenings, IsOpenTo, IsFirstOpen, IsOrdered, IsLess, opening_key, opening_of}
 use Rattle.dia_ways.specs.Reached.{AreNone, IsRuled, AreListed, IsOther, IsTaken, AreOthers, AreShortest}
 use Rattle.dia_ways.proofs.OneWalk.{at_contains}
 use Rattle.dia_ways.proofs.ListedPlaces.{contains_at}

@@ -1,6 +1,6 @@
 -- The places that rules list, and levels by their numbers.
-use Rattle.std.proofs.Common.{◌≡◌, ◌≢◌, ℕ, zero, suc, ◌+◌, ◌<◌, ◌≤◌, Bool, true, false, List, [], ◌∷◌, ◌++◌, length, map, take, Option, Some, None, Result, Ok, Err, refl, sym, ap, subst, ◌∙◌, get_or, arith, inl, inr}
-use Rattle.std.specs.Prelude.{◌⊎◌, ◌↔◌, slice_get, Contains, MatchBool, option_map, option_and_then}
+use Rattle.std.proofs.Common.{◌≡◌, ℕ, zero, suc, ◌+◌, ◌<◌, Bool, List, [], ◌∷◌, ◌++◌, length, map, Option, Some, None, Result, Ok, Err, refl, sym, ap, subst, ◌∙◌, get_or, arith, inl, inr}
+use Rattle.std.specs.Prelude.{◌⊎◌, slice_get, Contains, MatchBool, option_map, option_and_then}
 use Rattle.std.specs.Result.{is_ok}
 use Rattle.std.specs.Ordering.{nat_cmp}
 use Rattle.std.specs.List.Sorted.{IsPermutation, IsNonDecreasing, IsBinarySearchResult}
@@ -9,7 +9,7 @@ use Rattle.std.proofs.lemmas.Bool.{cases_lt}
 use Rattle.std.proofs.lemmas.Option.{none-some, same_Some, slice_get_within, slice_get-get_or, slice_get-map, get_or_from_slice_get}
 use Rattle.dia_ways.specs.declared.graph.Step.{Step}
 use Rattle.dia_ways.specs.declared.stages.Stage.{Stage as OwnStage}
-use Rattle.dia_ways.specs.Walks.{Graph, PlainExits, stage_of, stage_at}
+use Rattle.dia_ways.specs.Walks.{Graph, stage_of, stage_at}
 use Rattle.dia_ways.specs.Stages.{IsListed, HasPlaces, IsStage, AreStages}
 use Rattle.dia_ways.proofs.OneWalk.{at_contains}
 

@@ -1,11 +1,11 @@
 -- A graph has one walk.
-use Rattle.std.proofs.Common.{◌≡◌, ℕ, zero, suc, ◌+◌, ◌-◌, ◌<◌, ◌≤◌, List, [], ◌∷◌, length, map, Option, Some, None, refl, sym, ap, subst, ◌∙◌, get_or, arith, inl, inr}
-use Rattle.std.specs.Prelude.{◌⊎◌, slice_get, Contains, option_map, option_and_then}
+use Rattle.std.proofs.Common.{◌≡◌, ℕ, zero, suc, ◌-◌, ◌<◌, ◌≤◌, List, [], ◌∷◌, length, Option, Some, None, refl, sym, ap, subst, ◌∙◌, get_or, arith, inl, inr}
+use Rattle.std.specs.Prelude.{◌⊎◌, slice_get, Contains, option_and_then}
 use Rattle.std.proofs.lemmas.Option.{none-some, same_Some, slice_get_within, slice_get-get_or, slice_get_past}
 use Rattle.std.proofs.lemmas.Bool.{cases_lt}
 use Rattle.dia_ways.specs.declared.graph.Step.{Step}
 use Rattle.dia_ways.specs.declared.graph.Reach.{Reach}
-use Rattle.dia_ways.specs.Walks.{Graph, PlainLevel, Stage, Leads, IsReached, IsNoLater, IsShortest, IsStep, IsBefore, IsWalk, step_to, stage_at, stage_of, level_of}
+use Rattle.dia_ways.specs.Walks.{Graph, PlainLevel, IsReached, IsNoLater, IsShortest, IsStep, IsBefore, IsWalk, step_to, stage_at, stage_of, level_of}
 
 -- ---- lists
 

@@ -1,9 +1,8 @@
 -- The shortest ways to AVPs through levels that are known.
-use Rattle.std.proofs.Common.{◌≡◌, ◌≢◌, ℕ, zero, suc, ◌+◌, ◌<◌, ◌≤◌, Bool, true, false, List, [], ◌∷◌, ◌++◌, length, map, take, Option, Some, None, refl, sym, ap, subst, ◌∙◌, get_or, arith, inl, inr}
-use Rattle.std.specs.Prelude.{◌⊎◌, slice_get, Contains}
-use Rattle.std.specs.Bool.{⊤}
+use Rattle.std.proofs.Common.{◌≡◌, ℕ, suc, ◌+◌, ◌<◌, ◌≤◌, List, [], ◌∷◌, ◌++◌, length, Option, Some, None, refl, sym, ap, subst, ◌∙◌, arith, inl, inr}
+use Rattle.std.specs.Prelude.{◌⊎◌, slice_get}
 use Rattle.std.proofs.lemmas.Bool.{cases_lt}
-use Rattle.std.proofs.lemmas.Option.{none-some, same_Some, slice_get_within, slice_get-get_or}
+use Rattle.std.proofs.lemmas.Option.{none-some, same_Some, slice_get_within}
 use Rattle.dia_ways.specs.declared.graph.Node.{Node}
 use Rattle.dia_ways.specs.declared.graph.Reach.{Reach}
 use Rattle.dia_ways.specs.declared.stages.Stage.{Stage as OwnStage}
@@ -11,7 +10,6 @@ use Rattle.dia_ways.specs.declared.openings.Opening.{Opening}
 use Rattle.dia_ways.specs.Offers.{HasOne, IsOffered, IsByRule, AreOffered}
 use Rattle.dia_ways.specs.Openings.{IsFirstOpen}
 use Rattle.dia_ways.specs.Reached.{AreNone, IsRuled, AreListed, IsOther, IsTaken, AreOthers}
-use Rattle.dia_ways.proofs.OneWalk.{at_contains}
 use Rattle.dia_ways.proofs.ListedPlaces.{contains_at, get_push_cases}
 
 -- ---- no ways

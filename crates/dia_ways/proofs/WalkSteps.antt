@@ -1,17 +1,17 @@
 -- The steps of a walk.
-use Rattle.std.proofs.Common.{◌≡◌, ◌≢◌, ℕ, zero, suc, ◌+◌, ◌-◌, ◌<◌, ◌≤◌, Bool, true, false, List, [], ◌∷◌, ◌++◌, length, map, Option, Some, None, refl, sym, ap, subst, ◌∙◌, arith, inl, inr}
-use Rattle.std.specs.Prelude.{◌⊎◌, slice_get, Contains, option_map, option_and_then}
+use Rattle.std.proofs.Common.{◌≡◌, ℕ, zero, suc, ◌+◌, ◌-◌, ◌≤◌, Bool, true, false, List, [], ◌∷◌, ◌++◌, length, Option, Some, None, refl, sym, ap, subst, ◌∙◌, arith, inl, inr}
+use Rattle.std.specs.Prelude.{slice_get, Contains, option_and_then}
 use Rattle.std.proofs.Math.ListN.{set}
 use Rattle.std.proofs.lemmas.Bool.{cases_lt, cases_eq}
-use Rattle.std.proofs.lemmas.Option.{none-some, same_Some, slice_get_within, slice_get_past}
+use Rattle.std.proofs.lemmas.Option.{none-some, slice_get_within, slice_get_past}
 use Rattle.dia_ways.specs.declared.graph.Reach.{Reach}
 use Rattle.dia_ways.specs.declared.graph.Step.{Step}
-use Rattle.dia_ways.specs.Walks.{Graph, PlainLevel, Stage, IsReached, IsNoLater, IsShortest, IsStep, IsWalk, step_to, stage_at, stage_of, level_of}
+use Rattle.dia_ways.specs.Walks.{Graph, PlainLevel, Stage, IsReached, IsShortest, IsWalk, step_to, stage_at, stage_of, level_of}
 use Rattle.dia_ways.specs.Openings.{IsOrdered}
 use Rattle.dia_ways.specs.Reached.{AreShortest}
-use Rattle.dia_ways.specs.Steps.{IsWayAt, HasNoStep, IsStepAt, IsFilled, AreFilled, step_key, AreUnmarked, HasPlace, AreMarked, IsThere, AreThere, AreComplete}
+use Rattle.dia_ways.specs.Steps.{IsWayAt, IsStepAt, IsFilled, AreFilled, step_key, AreUnmarked, HasPlace, AreMarked, IsThere, AreThere, AreComplete}
 use Rattle.dia_ways.proofs.OneWalk.{same_way, same_level, same_steps}
-use Rattle.dia_ways.proofs.BestWays.{get_set_same, get_set_other}
+use Rattle.dia_ways.proofs.BestWays.{get_set_other}
 use Rattle.dia_ways.proofs.ListedPlaces.{contains_at, get_push_cases}
 use Rattle.dia_ways.proofs.AllReached.{get_some}
 

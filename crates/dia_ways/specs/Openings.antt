@@ -1,5 +1,5 @@
 -- The levels that let AVPs in through their wildcards.
-use Rattle.std.specs.Prelude.{◌⊎◌, ◌≡◌, ℕ, ◌+◌, ◌<◌, ◌≤◌, List, length, Option, Some, None, slice_get, Contains}
+use Rattle.std.specs.Prelude.{◌⊎◌, ◌≡◌, ℕ, ◌+◌, ◌<◌, ◌≤◌, List, Option, Some, None, slice_get, Contains}
 use Rattle.std.specs.List.Sorted.{IsNonDecreasing}
 use Rattle.dia_ways.specs.declared.stages.Stage.{Stage as OwnStage}
 use Rattle.dia_ways.specs.declared.openings.Opening.{Opening}

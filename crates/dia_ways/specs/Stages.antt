@@ -1,5 +1,5 @@
 -- The levels of a message, by their numbers.
-use Rattle.std.specs.Prelude.{◌≡◌, ◌↔◌, ℕ, suc, ◌<◌, List, length, Option, Some, slice_get, Contains}
+use Rattle.std.specs.Prelude.{◌≡◌, ◌↔◌, ℕ, suc, List, length, Option, Some, slice_get, Contains}
 use Rattle.std.specs.List.Sorted.{IsNonDecreasing}
 use Rattle.dia_ways.specs.declared.graph.Step.{Step}
 use Rattle.dia_ways.specs.declared.graph.Ways.{Ways}

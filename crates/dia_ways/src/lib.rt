@@ -9,6 +9,8 @@ mod reach;
 mod search;
 mod stages;
 mod steps;
+#[cfg(test)]
+mod tests;
 mod walking;
 
 pub use graph::{Exits, Level, Node, Reach, Step, Walk};

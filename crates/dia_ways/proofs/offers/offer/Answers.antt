@@ -1,4 +1,4 @@
-use Rattle.std.proofs.Common.{◌≡◌, arith, rules, sym, ap, subst, ◌∙◌, true, false, Some}
+use Rattle.std.proofs.Common.{◌≡◌, arith, rules, sym, ◌∙◌, true, false}
 use Rattle.std.proofs.lemmas.Option.{slice_get_read}
 use Rattle.dia_ways.proofs.BestWays.{offered_not, offered_kept, offered_set}
 use Rattle.dia_ways.proofs.offers.offer.Goals.{else-place-len-via-then-place-len+else-is_earlier, else-place-len-via-else-place-len}

@@ -1,7 +1,5 @@
-use Rattle.std.proofs.Common.{◌≡◌, ◌+◌, ◌≤◌, ℕ, arith, rules, sym, ap, subst, ◌∙◌, get_or, Some}
-use Rattle.std.specs.Prelude.{SomeIff}
+use Rattle.std.proofs.Common.{◌+◌, ◌≤◌, ℕ, arith, get_or}
 use Rattle.std.proofs.lemmas.Option.{slice_get-get_or}
-use Rattle.dia_ways.specs.Offers.{AreOffered}
 use Rattle.dia_ways.proofs.BestWays.{are_offered_none, are_offered_more, are_offered_past, fits_some, fits_none}
 use Rattle.dia_ways.proofs.offers.offer_listed.Goals.{in-Some, in_default}
 use Rattle.dia_ways.proofs.offers.offer_listed.Goals as goal

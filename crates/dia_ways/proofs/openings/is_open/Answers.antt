@@ -1,6 +1,6 @@
-use Rattle.std.proofs.Common.{◌≡◌, arith, rules, sym, ap, subst, ◌∙◌, get_or, Some, None}
+use Rattle.std.proofs.Common.{arith}
 use Rattle.std.proofs.lemmas.Grind.{common_steps}
-use Rattle.std.proofs.lemmas.Option.{gets, slice_get_past, slice_get_read}
+use Rattle.std.proofs.lemmas.Option.{gets}
 use Rattle.dia_ways.proofs.WildLevels.{is_open_by, is_shut_past}
 use Rattle.dia_ways.proofs.openings.is_open.Goals as goal
 

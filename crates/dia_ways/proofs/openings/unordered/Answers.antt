@@ -1,4 +1,4 @@
-use Rattle.std.proofs.Common.{◌≡◌, ◌+◌, ◌≤◌, arith, rules, sym, ap, subst, ◌∙◌, refl, length}
+use Rattle.std.proofs.Common.{◌+◌, ◌≤◌, arith, refl, length}
 use Rattle.std.proofs.lemmas.Option.{slice_get_read}
 use Rattle.dia_ways.proofs.WildLevels.{openings_more, openings_past}
 use Rattle.dia_ways.proofs.BestWays.{fits_some, fits_none}

@@ -1,4 +1,4 @@
-use Rattle.std.proofs.Common.{◌≡◌, ℕ, List, arith, rules, sym, ap, subst, ◌∙◌, refl, length}
+use Rattle.std.proofs.Common.{ℕ, List, arith, subst, refl, length}
 use Rattle.std.proofs.lemmas.Option.{slice_get_read}
 use Rattle.dia_ways.specs.Offers.{AreOffered}
 use Rattle.dia_ways.proofs.ReachedPlaces.{listed_more}

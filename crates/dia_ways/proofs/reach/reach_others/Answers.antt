@@ -1,4 +1,4 @@
-use Rattle.std.proofs.Common.{◌≡◌, ◌+◌, ◌≤◌, arith, rules, sym, ap, subst, ◌∙◌, get_or}
+use Rattle.std.proofs.Common.{◌+◌, ◌≤◌, arith, get_or}
 use Rattle.std.proofs.lemmas.Option.{slice_get-get_or}
 use Rattle.dia_ways.proofs.ReachedPlaces.{others_shut, others_past, others_more}
 use Rattle.dia_ways.proofs.BestWays.{fits_some, fits_none}

@@ -1,6 +1,5 @@
-use Rattle.std.proofs.Common.{◌≡◌, List, length, arith, rules, sym, ap, subst, ◌∙◌, true}
+use Rattle.std.proofs.Common.{◌≡◌, List, length, arith, subst, true}
 use Rattle.std.proofs.lemmas.Grind.{common_steps}
-use Rattle.dia_ways.specs.declared.graph.Reach.{Reach}
 use Rattle.dia_ways.specs.declared.stages.Stage.{Stage as OwnStage}
 use Rattle.dia_ways.specs.declared.openings.Opening.{Opening}
 use Rattle.dia_ways.specs.Openings.{AreOpenings, IsOrdered, opening_key}

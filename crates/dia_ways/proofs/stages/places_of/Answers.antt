@@ -1,4 +1,4 @@
-use Rattle.std.proofs.Common.{◌≡◌, ℕ, arith, map, take, ap, ◌∙◌}
+use Rattle.std.proofs.Common.{ℕ, arith}
 use Rattle.std.proofs.lemmas.List.Sorted.{IsNonDecreasingBy-from_sort}
 use Rattle.std.proofs.lemmas.Grind.{common_steps}
 use Rattle.dia_ways.proofs.ListedPlaces.{has_places}

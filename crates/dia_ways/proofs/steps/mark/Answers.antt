@@ -1,4 +1,4 @@
-use Rattle.std.proofs.Common.{◌≡◌, ◌+◌, List, Bool, true, arith, rules, sym, ap, subst, ◌∙◌, get_or}
+use Rattle.std.proofs.Common.{◌+◌, List, Bool, arith, sym, subst, get_or}
 use Rattle.std.proofs.lemmas.Option.{slice_get-get_or}
 use Rattle.dia_ways.specs.declared.graph.Step.{Step}
 use Rattle.dia_ways.specs.Steps.{AreMarked}

@@ -1,4 +1,4 @@
-use Rattle.std.proofs.Common.{◌≡◌, List, Option, length, arith, rules, sym, ap, subst, ◌∙◌, true}
+use Rattle.std.proofs.Common.{◌≡◌, List, Option, length, arith, subst, true}
 use Rattle.std.proofs.lemmas.Grind.{common_steps}
 use Rattle.dia_ways.specs.declared.graph.Reach.{Reach}
 use Rattle.dia_ways.specs.declared.graph.Step.{Step}
