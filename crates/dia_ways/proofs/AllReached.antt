@@ -47,7 +47,8 @@ ruled_reached nodes start room steps stages n p r st h = record {
   has_room = h.has_room;
 }
 
-other_reached : (nodes : List Node) (start : Exits) (room : ℕ) (steps : List Step) (stages : List OwnStage) (openings : List Opening) (n m p : ℕ) (r : Reach) → AreStages (graph_of nodes start room) steps n stages
+other_reached : (nodes : List Node) (start : Exits) (room : ℕ) (steps : List Step) (stages : List OwnStage) (openings : List Opening) (n m p : ℕ) (r : Reach)
+    → AreStages (graph_of nodes start room) steps n stages
     → AreOpenings room stages m openings → IsOther room nodes stages openings p r → IsReached (graph_of nodes start room) steps p r.level r.length
 other_reached nodes start room steps stages openings n m p r st op h =
     let o = h.opening in
@@ -172,7 +173,8 @@ known nodes start room steps stages openings first listed best f p number total 
     subst (λ (x : ℕ). HasOne best p number x) (sym is) (known_leads nodes start room steps stages openings first listed best f p number r.inner own.0 own.1 inside fits leads)
 
 shortest_by : (nodes : List Node) (start : Exits) (room : ℕ) (steps : List Step) (stages : List OwnStage) (openings : List Opening) (first listed best : List (Option Reach))
-    → Found nodes start room steps stages openings first listed best → (p : ℕ) → p < length nodes → (way : Option Reach) → slice_get best p ≡ Some way → IsShortest (graph_of nodes start room) steps p way
+    → Found nodes start room steps stages openings first listed best → (p : ℕ) → p < length nodes → (way : Option Reach) → slice_get best p ≡ Some way
+    → IsShortest (graph_of nodes start room) steps p way
 shortest_by nodes start room steps stages openings first listed best f p inside None e = λ number total r.
     let h = known nodes start room steps stages openings first listed best f p number total inside r in
     none-some h.reach (same_Some None (Some h.reach) (sym e ∙ h.known))

@@ -88,7 +88,8 @@ has_more best place reach known below e sooner p level total h = elim (cases_eq 
           no_later = no_later-trans reach h.reach level total nearer h.no_later;
         }
 
-pub offered_set : (best : List (Option Reach)) (place : ℕ) (reach : Reach) (known : Option Reach) → slice_get best place ≡ Some known → IsEarlier known reach → IsOffered best (set best place (Some reach)) place reach
+pub offered_set : (best : List (Option Reach)) (place : ℕ) (reach : Reach) (known : Option Reach) → slice_get best place ≡ Some known → IsEarlier known reach
+    → IsOffered best (set best place (Some reach)) place reach
 offered_set best place reach known e sooner =
     let below = slice_get_within best place known e in
     record {
@@ -98,7 +99,8 @@ offered_set best place reach known e sooner =
       takes = λ b. record { reach = reach; known = get_set_same best place (Some reach) below; no_later = no_later-refl reach };
     }
   where
-    from_set : (best : List (Option Reach)) (place : ℕ) (reach : Reach) → place < length best → (p : ℕ) (r : Reach) → slice_get (set best place (Some reach)) p ≡ Some (Some r) → (p ≡ place) ⊎ (p ≢ place)
+    from_set : (best : List (Option Reach)) (place : ℕ) (reach : Reach) → place < length best → (p : ℕ) (r : Reach) → slice_get (set best place (Some reach)) p ≡ Some (Some r)
+        → (p ≡ place) ⊎ (p ≢ place)
         → (slice_get best p ≡ Some (Some r)) ⊎ ((p ≡ place) × (r ≡ reach))
     from_set best place reach below p r f (inl same) =
         let g : Some (Some reach) ≡ Some (Some r) = sym (get_set_same best place (Some reach) below) ∙ (ap (λ (k : ℕ). slice_get (set best place (Some reach)) k) (sym same) ∙ f) in
@@ -120,7 +122,8 @@ wider room level way listed n p r h = record { at = h.at; inner = h.inner; below
 
 -- the next place of the list has room
 pub are_offered_more : (first best after : List (Option Reach)) (room level way : ℕ) (listed : List (ℕ × ℕ)) (n place inner length : ℕ) → AreOffered first best room level way listed n
-    → slice_get listed n ≡ Some (place, inner) → way + inner ≤ room → way + inner ≡ length → IsOffered best after place (record { level = level; length = length }) → AreOffered first after room level way listed (n + 1)
+    → slice_get listed n ≡ Some (place, inner) → way + inner ≤ room → way + inner ≡ length → IsOffered best after place (record { level = level; length = length })
+    → AreOffered first after room level way listed (n + 1)
 are_offered_more first best after room level way listed n place inner total h lists fits is o = record {
   each = o.each ∙ h.each;
   from = λ p r e. from_more first best room level way listed n place inner total h lists fits is p r (o.from p r e);
@@ -146,7 +149,16 @@ are_offered_more first best after room level way listed n place inner total h li
     from_more first best room level way listed n place inner total h lists fits is p r (inr e) =
         let l : r.level ≡ level = ap (λ (x : Reach). x.level) e.1 in
         let t : r.length ≡ total = ap (λ (x : Reach). x.length) e.1 in
-        inr (record { at = n; inner = inner; below = omega arith; lists = lists ∙ ap (λ (m : ℕ). let x : ℕ × ℕ = (m, inner) in Some x) (sym e.0); is_level = l; is_length = omega arith; has_room = omega arith })
+        inr (record {
+          at = n;
+          inner = inner;
+          below = omega arith;
+          lists = lists
+              ∙ ap (λ (m : ℕ). let x : ℕ × ℕ = (m, inner) in Some x) (sym e.0);
+          is_level = l;
+          is_length = omega arith;
+          has_room = omega arith;
+        })
 
 -- it has none
 pub are_offered_past : (first best : List (Option Reach)) (room level way : ℕ) (listed : List (ℕ × ℕ)) (n place inner : ℕ) → AreOffered first best room level way listed n

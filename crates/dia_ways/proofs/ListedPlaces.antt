@@ -24,12 +24,17 @@ get_push_cases [] x (suc i) y e = absurd (none-some y e)
 get_push_cases (z ∷ zs) x zero y e = inl e
 get_push_cases (z ∷ zs) x (suc i) y e = elim (get_push_cases zs x i y e) [ inl f ↦ inl f | inr f ↦ inr (let a = f.0 in omega arith, f.1) ]
 
+pub length_push : {X : Type 0} (xs : List X) (x : X) → length (xs ++ x ∷ []) ≡ suc (length xs)
+length_push [] x = refl
+length_push (y ∷ ys) x = ap (λ (n : ℕ). suc n) (length_push ys x)
+
 -- ---- places in order
 
 found : (xs : List ℕ) (x i : ℕ) → i < length xs → get_or xs i 0 ≡ x → Contains xs x
 found xs x i below e = contains_at xs i x (slice_get-get_or xs i 0 below ∙ ap (λ (y : ℕ). Some y) e)
 
-pub listed_found : (ys xs : List ℕ) (x : ℕ) (r : Result ℕ ℕ) (b : Bool) → ys ≡ xs → b ≡ is_ok r → IsNonDecreasing xs → IsBinarySearchResult (λ y. nat_cmp y x) ys r → MatchBool b (Contains xs x) (¬ Contains xs x)
+pub listed_found : (ys xs : List ℕ) (x : ℕ) (r : Result ℕ ℕ) (b : Bool) → ys ≡ xs → b ≡ is_ok r → IsNonDecreasing xs → IsBinarySearchResult (λ y. nat_cmp y x) ys r
+    → MatchBool b (Contains xs x) (¬ Contains xs x)
 listed_found ys xs x r b same is rising h =
     let s : IsBinarySearchResult (λ y. nat_cmp y x) xs r = subst (λ (zs : List ℕ). IsBinarySearchResult (λ y. nat_cmp y x) zs r) same h in
     subst (λ (c : Bool). MatchBool c (Contains xs x) (¬ Contains xs x)) (sym is) (by_result xs x rising r s)
@@ -75,11 +80,13 @@ has_places listed xs ys is moved rising = record {
 pub stages_none : (g : Graph) (steps : List Step) (x : OwnStage) → IsStage (Some (record { way = 0; exits = g.start })) x → AreStages g steps 0 (x ∷ [])
 stages_none g steps x h = record { all = refl; each = λ number own e. first g steps x h number own e }
   where
-    first : (g : Graph) (steps : List Step) (x : OwnStage) → IsStage (Some (record { way = 0; exits = g.start })) x → (number : ℕ) (own : OwnStage) → slice_get (x ∷ []) number ≡ Some own → IsStage (stage_at g steps number) own
+    first : (g : Graph) (steps : List Step) (x : OwnStage) → IsStage (Some (record { way = 0; exits = g.start })) x → (number : ℕ) (own : OwnStage) → slice_get (x ∷ []) number ≡ Some own
+        → IsStage (stage_at g steps number) own
     first g steps x h zero own e = subst (λ (y : OwnStage). IsStage (Some (record { way = 0; exits = g.start })) y) (same_Some x own e) h
     first g steps x h (suc number) own e = absurd (none-some own e)
 
-pub stages_more : (g : Graph) (steps : List Step) (n : ℕ) (stages : List OwnStage) (s : Step) (x : OwnStage) → AreStages g steps n stages → slice_get steps n ≡ Some s → IsStage (stage_of g s.place s.way) x
+pub stages_more : (g : Graph) (steps : List Step) (n : ℕ) (stages : List OwnStage) (s : Step) (x : OwnStage) → AreStages g steps n stages → slice_get steps n ≡ Some s
+    → IsStage (stage_of g s.place s.way) x
     → AreStages g steps (n + 1) (stages ++ x ∷ [])
 stages_more g steps n stages s x h at is = record {
   all = let a = h.all in let l = length_push stages x in omega arith;
@@ -91,7 +98,3 @@ stages_more g steps n stages s x h at is = record {
         subst (λ (y : OwnStage). IsStage (stage_at g steps number) y) f.1 (subst (λ (k : ℕ). IsStage (stage_at g steps k) x) same here)
   ];
 }
-  where
-    length_push : {X : Type 0} (xs : List X) (x : X) → length (xs ++ x ∷ []) ≡ suc (length xs)
-    length_push [] x = refl
-    length_push (y ∷ ys) x = ap (λ (n : ℕ). suc n) (length_push ys x)

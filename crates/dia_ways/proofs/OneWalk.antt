@@ -32,7 +32,15 @@ stages_agree g S T n h zero le = refl
 stages_agree g S T n h (suc i) le = ap (λ (o : Option Step). option_and_then (λ (step : Step). stage_of g step.place step.way) o) (h i (omega arith))
 
 reached_too : (g : Graph) (S T : List Step) (n : ℕ) → Agree n S T → (place number total : ℕ) → number ≤ n → IsReached g S place number total → IsReached g T place number total
-reached_too g S T n h place number total le r = record { stage = r.stage; inner = r.inner; is_stage = sym (stages_agree g S T n h number le) ∙ r.is_stage; leads = r.leads; is_total = r.is_total; has_room = r.has_room }
+reached_too g S T n h place number total le r = record {
+  stage = r.stage;
+  inner = r.inner;
+  is_stage = sym (stages_agree g S T n h number le)
+      ∙ r.is_stage;
+  leads = r.leads;
+  is_total = r.is_total;
+  has_room = r.has_room;
+}
 
 pub same_way : (R : List (Option Reach)) (p q : ℕ) (x y : Reach) → p ≡ q → slice_get R p ≡ Some (Some x) → slice_get R q ≡ Some (Some y) → x ≡ y
 same_way R p q x y e a b = same_Some x y (same_Some (Some x) (Some y) (sym a ∙ (ap (λ (k : ℕ). slice_get R k) e ∙ b)))
@@ -46,7 +54,8 @@ same_steps p q k l x y e f h = cc
 -- one walk has one step to a place
 one_step : (g : Graph) (R : List (Option Reach)) (s t : Step) → IsStep g R s → IsStep g R t → s.place ≡ t.place → s ≡ t
 one_step g R s t a b e =
-    a.is_step ∙ (same_steps s.place t.place a.level b.level a.reach b.reach e (same_level g s.place t.place a.level b.level e a.is_level b.is_level) (same_way R s.place t.place a.reach b.reach e a.is_reach b.is_reach) ∙ sym b.is_step)
+    a.is_step ∙ (same_steps s.place t.place a.level b.level a.reach b.reach e (same_level g s.place t.place a.level b.level e a.is_level b.is_level)
+    (same_way R s.place t.place a.reach b.reach e a.is_reach b.is_reach) ∙ sym b.is_step)
 
 not_before_itself : (s t : Step) → s ≡ t → IsBefore s t → ⊥
 not_before_itself s t e (inl h) = let f : s.way ≡ t.way = ap (λ (x : Step). x.way) e in omega arith
@@ -94,7 +103,8 @@ shorter least x y (inl h) = omega arith
 shorter least x y (inr h) = omega arith
 
 -- a step's place comes no earlier
-behind_by : (g : Graph) (S : List Step) (R : List (Option Reach)) → IsWalk g S R → (i : ℕ) (s : Step) → slice_get S i ≡ Some s → (t : Step) (j : ℕ) → t.place ≡ s.place → (j < i → slice_get S j ≡ Some t) → i ≤ j
+behind_by : (g : Graph) (S : List Step) (R : List (Option Reach)) → IsWalk g S R → (i : ℕ) (s : Step) → slice_get S i ≡ Some s → (t : Step) (j : ℕ) → t.place ≡ s.place
+    → (j < i → slice_get S j ≡ Some t) → i ≤ j
 behind_by g S R w i s e t j same at = elim (cases_lt j i) [
   | inl below ↦ absurd (not_before_itself t s (one_step g R t s (w.to_reached j t (at below)) (w.to_reached i s e) same) (w.ordered j i t s below (at below) e))
   | inr above ↦ above
@@ -164,7 +174,8 @@ same_step g R W s t e l k =
     let q : k.other ≡ l.own.reach = same_way R t.place s.place k.other l.own.reach (sym e) k.is_other l.own.is_reach in
     let a : IsNoLater k.own.reach l.own.reach.level l.own.reach.length = subst (λ (x : Reach). IsNoLater x l.own.reach.level l.own.reach.length) p l.nearer in
     let b : IsNoLater l.own.reach k.own.reach.level k.own.reach.length = subst (λ (x : Reach). IsNoLater x k.own.reach.level k.own.reach.length) q k.nearer in
-    l.own.is_step ∙ (same_steps s.place t.place l.own.level k.own.level l.own.reach k.own.reach e (same_level g s.place t.place l.own.level k.own.level e l.own.is_level k.own.is_level) (same_reach l.own.reach k.own.reach b a) ∙ sym k.own.is_step)
+    l.own.is_step ∙ (same_steps s.place t.place l.own.level k.own.level l.own.reach k.own.reach e (same_level g s.place t.place l.own.level k.own.level e l.own.is_level k.own.is_level)
+    (same_reach l.own.reach k.own.reach b a) ∙ sym k.own.is_step)
 
 same_next : (g : Graph) (S T : List Step) (R W : List (Option Reach)) → IsWalk g S R → IsWalk g T W → (i : ℕ) → Agree i S T → (s : Step) → slice_get S i ≡ Some s → slice_get T i ≡ Some s
 same_next g S T R W w v i h s e =
@@ -181,7 +192,8 @@ same_at : (S T : List Step) (i : ℕ) → ((s : Step) → slice_get S i ≡ Some
 same_at S T i f b (Some s) e = e ∙ sym (f s e)
 same_at S T i f b None e = same_none S T i e b (slice_get T i) refl
   where
-    same_none : (S T : List Step) (i : ℕ) → slice_get S i ≡ None → ((s : Step) → slice_get T i ≡ Some s → slice_get S i ≡ Some s) → (o : Option Step) → slice_get T i ≡ o → slice_get S i ≡ slice_get T i
+    same_none : (S T : List Step) (i : ℕ) → slice_get S i ≡ None → ((s : Step) → slice_get T i ≡ Some s → slice_get S i ≡ Some s) → (o : Option Step) → slice_get T i ≡ o
+        → slice_get S i ≡ slice_get T i
     same_none S T i e b None f = e ∙ sym f
     same_none S T i e b (Some s) f = absurd (none-some s (sym e ∙ b s f))
 

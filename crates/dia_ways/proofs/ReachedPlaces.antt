@@ -10,7 +10,7 @@ use Rattle.dia_ways.specs.declared.openings.Opening.{Opening}
 use Rattle.dia_ways.specs.Offers.{HasOne, IsOffered, IsByRule, AreOffered}
 use Rattle.dia_ways.specs.Openings.{IsFirstOpen}
 use Rattle.dia_ways.specs.Reached.{AreNone, IsRuled, AreListed, IsOther, IsTaken, AreOthers}
-use Rattle.dia_ways.proofs.ListedPlaces.{contains_at, get_push_cases}
+use Rattle.dia_ways.proofs.ListedPlaces.{contains_at, get_push_cases, length_push}
 
 -- ---- no ways
 
@@ -22,10 +22,6 @@ none_more n best h = record {
   each = let a = h.each in let l = length_push best None in omega arith;
   none = λ place reach e. elim (get_push_cases best None place (Some reach) e) [ inl f ↦ h.none place reach f | inr f ↦ none-some reach f.1 ];
 }
-  where
-    length_push : {X : Type 0} (xs : List X) (x : X) → length (xs ++ x ∷ []) ≡ suc (length xs)
-    length_push [] x = refl
-    length_push (y ∷ ys) x = ap (λ (n : ℕ). suc n) (length_push ys x)
 
 -- ---- ways by rules
 
@@ -66,7 +62,8 @@ listed_more room stages n first best after own h at o = record {
 pub others_none : (room : ℕ) (nodes : List Node) (stages : List OwnStage) (openings : List Opening) (first : List (Option Reach)) → AreOthers room nodes stages openings 0 first first
 others_none room nodes stages openings first = record { each = refl; from = λ p r e. inl e; keeps = λ p l t h. h; takes = λ p node below. absurd (omega arith) }
 
-taken_kept : (room : ℕ) (node : Node) (best after : List (Option Reach)) (p : ℕ) → ((p l total : ℕ) → HasOne best p l total → HasOne after p l total) → (found : Option Opening) → IsTaken room node best p found → IsTaken room node after p found
+taken_kept : (room : ℕ) (node : Node) (best after : List (Option Reach)) (p : ℕ) → ((p l total : ℕ) → HasOne best p l total → HasOne after p l total) → (found : Option Opening)
+    → IsTaken room node best p found → IsTaken room node after p found
 taken_kept room node best after p keeps None h = h
 taken_kept room node best after p keeps (Some o) h = λ fits. keeps p o.level (o.length + node.other) (h fits)
 
@@ -95,14 +92,16 @@ pub others_shut : (room : ℕ) (nodes : List Node) (stages : List OwnStage) (ope
     → AreOthers room nodes stages openings n first best → slice_get nodes n ≡ Some node → (found : Option Opening) → found ≡ None → IsFirstOpen stages openings n (length openings) found
     → AreOthers room nodes stages openings (n + 1) first best
 others_shut room nodes stages openings n first best node h at found none is =
-    others_step room nodes stages openings n first best best node None h at (subst (λ (f : Option Opening). IsFirstOpen stages openings n (length openings) f) none is) refl (λ p r e. inl e) (λ p l t x. x) (λ inside. tt)
+    others_step room nodes stages openings n first best best node None h at (subst (λ (f : Option Opening). IsFirstOpen stages openings n (length openings) f) none is) refl
+    (λ p r e. inl e) (λ p l t x. x) (λ inside. tt)
 
 -- it has no room for the place's AVP
 pub others_past : (room : ℕ) (nodes : List Node) (stages : List OwnStage) (openings : List Opening) (n : ℕ) (first best : List (Option Reach)) (node : Node) (o : Opening)
     → AreOthers room nodes stages openings n first best → slice_get nodes n ≡ Some node → (found : Option Opening) → found ≡ Some o → IsFirstOpen stages openings n (length openings) found
     → ¬ (o.length + node.other ≤ room) → AreOthers room nodes stages openings (n + 1) first best
 others_past room nodes stages openings n first best node o h at found some is none =
-    others_step room nodes stages openings n first best best node (Some o) h at (subst (λ (f : Option Opening). IsFirstOpen stages openings n (length openings) f) some is) refl (λ p r e. inl e) (λ p l t x. x) (λ inside fits. absurd (none fits))
+    others_step room nodes stages openings n first best best node (Some o) h at (subst (λ (f : Option Opening). IsFirstOpen stages openings n (length openings) f) some is) refl
+    (λ p r e. inl e) (λ p l t x. x) (λ inside fits. absurd (none fits))
 
 -- it has
 pub others_more : (room : ℕ) (nodes : List Node) (stages : List OwnStage) (openings : List Opening) (n : ℕ) (first best after : List (Option Reach)) (node : Node) (o : Opening) (total : ℕ)
@@ -117,7 +116,8 @@ others_more room nodes stages openings n first best after node o total h at foun
   where
     other_from : (room : ℕ) (nodes : List Node) (stages : List OwnStage) (openings : List Opening) (n : ℕ) (best : List (Option Reach)) (node : Node) (o : Opening) (total : ℕ)
         → slice_get nodes n ≡ Some node → IsFirstOpen stages openings n (length openings) (Some o) → o.length + node.other ≤ room → o.length + node.other ≡ total
-        → (p : ℕ) (r : Reach) → (slice_get best p ≡ Some (Some r)) ⊎ ((p ≡ n) × (r ≡ record { level = o.level; length = total })) → (slice_get best p ≡ Some (Some r)) ⊎ IsOther room nodes stages openings p r
+        → (p : ℕ) (r : Reach) → (slice_get best p ≡ Some (Some r)) ⊎ ((p ≡ n) × (r ≡ record { level = o.level; length = total }))
+        → (slice_get best p ≡ Some (Some r)) ⊎ IsOther room nodes stages openings p r
     other_from room nodes stages openings n best node o total at is fits sum p r (inl e) = inl e
     other_from room nodes stages openings n best node o total at is fits sum p r (inr e) =
         let l : r.level ≡ o.level = ap (λ (x : Reach). x.level) e.1 in

@@ -12,7 +12,7 @@ use Rattle.dia_ways.specs.Reached.{AreShortest}
 use Rattle.dia_ways.specs.Steps.{IsWayAt, IsStepAt, IsFilled, AreFilled, step_key, AreUnmarked, HasPlace, AreMarked, IsThere, AreThere, AreComplete}
 use Rattle.dia_ways.proofs.OneWalk.{same_way, same_level, same_steps}
 use Rattle.dia_ways.proofs.BestWays.{get_set_other}
-use Rattle.dia_ways.proofs.ListedPlaces.{contains_at, get_push_cases}
+use Rattle.dia_ways.proofs.ListedPlaces.{contains_at, get_push_cases, length_push}
 use Rattle.dia_ways.proofs.AllReached.{get_some}
 
 -- ---- one step
@@ -33,7 +33,8 @@ step_some g reached place o level way reach is some has w n e =
     let same : x ≡ step_to place level reach = ap (λ (k : ℕ). let s : Step = record { place = place; way = k; outer = reach.level } in s) e in
     (refl, record { level = level; reach = reach; is_level = sym is ∙ some; is_reach = subst (λ (p : Option Reach). IsWayAt reached place p) has w; is_step = same })
 
-pub filled_by : (g : Graph) (reached : List (Option Reach)) (rough : Step) (number : ℕ) (o : Option Step) (step : Step) → o ≡ Some step → IsStepAt g reached rough.place o → step.way ≡ rough.way → step.outer ≤ number
+pub filled_by : (g : Graph) (reached : List (Option Reach)) (rough : Step) (number : ℕ) (o : Option Step) (step : Step) → o ≡ Some step → IsStepAt g reached rough.place o
+    → step.way ≡ rough.way → step.outer ≤ number
     → IsFilled g reached rough number step
 filled_by g reached rough number o step some h way le =
     let s : IsStepAt g reached rough.place (Some step) = subst (λ (p : Option Step). IsStepAt g reached rough.place p) some h in
@@ -44,7 +45,8 @@ filled_by g reached rough number o step some h way le =
 pub filled_none : (g : Graph) (reached : List (Option Reach)) (rough : List Step) → AreFilled g reached rough 0 []
 filled_none g reached rough = record { all = refl; each = λ i step e. absurd (none-some step e) }
 
-pub filled_more : (g : Graph) (reached : List (Option Reach)) (rough steps : List Step) (n : ℕ) (old step : Step) → AreFilled g reached rough n steps → slice_get rough n ≡ Some old → IsFilled g reached old n step
+pub filled_more : (g : Graph) (reached : List (Option Reach)) (rough steps : List Step) (n : ℕ) (old step : Step) → AreFilled g reached rough n steps → slice_get rough n ≡ Some old
+    → IsFilled g reached old n step
     → AreFilled g reached rough (n + 1) (steps ++ step ∷ [])
 filled_more g reached rough steps n old step h at is = record {
   all = let a = h.all in let l = length_push steps step in omega arith;
@@ -58,10 +60,6 @@ filled_more g reached rough steps n old step h at is = record {
         )
   ];
 }
-  where
-    length_push : {X : Type 0} (xs : List X) (x : X) → length (xs ++ x ∷ []) ≡ suc (length xs)
-    length_push [] x = refl
-    length_push (y ∷ ys) x = ap (λ (n : ℕ). suc n) (length_push ys x)
 
 -- ---- marks
 
@@ -97,7 +95,8 @@ there_more g reached marks n h here = λ place below. elim (cases_lt place n) [
   | inr more ↦ let same : n ≡ place = omega arith in subst (λ (p : ℕ). IsThere g reached marks p) same here
 ]
 
-pub complete_by : (g : Graph) (reached : List (Option Reach)) (marks : List Bool) (steps : List Step) → AreMarked steps (length steps) marks → AreThere g reached marks (length reached) → AreComplete g reached steps
+pub complete_by : (g : Graph) (reached : List (Option Reach)) (marks : List Bool) (steps : List Step) → AreMarked steps (length steps) marks → AreThere g reached marks (length reached)
+    → AreComplete g reached steps
 complete_by g reached marks steps marked there = λ place level reach e f. marked place (there place (slice_get_within reached place (Some reach) f) level reach e f)
 
 -- ---- a walk
@@ -119,14 +118,18 @@ same_stages g reached rough steps h (suc i) =
           ap f (slice_get_past rough i far) ∙ sym (ap f (slice_get_past steps i past))
     ]
 
-reached_in : (g : Graph) (rough steps : List Step) → ((number : ℕ) → stage_at g rough number ≡ stage_at g steps number) → (p number total : ℕ) → IsReached g rough p number total → IsReached g steps p number total
+reached_in : (g : Graph) (rough steps : List Step) → ((number : ℕ) → stage_at g rough number ≡ stage_at g steps number) → (p number total : ℕ) → IsReached g rough p number total
+    → IsReached g steps p number total
 reached_in g rough steps same p number total r = record { stage = r.stage; inner = r.inner; is_stage = sym (same number) ∙ r.is_stage; leads = r.leads; is_total = r.is_total; has_room = r.has_room }
 
-shortest_in : (g : Graph) (rough steps : List Step) → ((number : ℕ) → stage_at g rough number ≡ stage_at g steps number) → (p : ℕ) (way : Option Reach) → IsShortest g rough p way → IsShortest g steps p way
+shortest_in : (g : Graph) (rough steps : List Step) → ((number : ℕ) → stage_at g rough number ≡ stage_at g steps number) → (p : ℕ) (way : Option Reach) → IsShortest g rough p way
+    → IsShortest g steps p way
 shortest_in g rough steps same p None h = λ number total r. h number total (reached_in g steps rough (λ n. sym (same n)) p number total r)
-shortest_in g rough steps same p (Some x) h = (reached_in g rough steps same p x.level x.length h.0, (λ number total r. h.1 number total (reached_in g steps rough (λ n. sym (same n)) p number total r)))
+shortest_in g rough steps same p (Some x) h =
+    (reached_in g rough steps same p x.level x.length h.0, (λ number total r. h.1 number total (reached_in g steps rough (λ n. sym (same n)) p number total r)))
 
-has_step : (g : Graph) (reached : List (Option Reach)) (rough steps : List Step) → AreFilled g reached rough (length rough) steps → (place : ℕ) (level : PlainLevel) (reach : Reach) → level_of g place ≡ Some level
+has_step : (g : Graph) (reached : List (Option Reach)) (rough steps : List Step) → AreFilled g reached rough (length rough) steps → (place : ℕ) (level : PlainLevel) (reach : Reach)
+    → level_of g place ≡ Some level
     → slice_get reached place ≡ Some (Some reach) → HasPlace steps (length steps) place → Contains steps (step_to place level reach)
 has_step g reached rough steps h place level reach e f has =
     let s = (h.each has.at has.step has.is_at).2.is_step in
@@ -134,7 +137,8 @@ has_step g reached rough steps h place level reach e f has =
     (same_level g has.step.place place s.level level has.is_place s.is_level e) (same_way reached has.step.place place s.reach reach has.is_place s.is_reach f) in
     contains_at steps has.at (step_to place level reach) (has.is_at ∙ ap (λ (x : Step). Some x) same)
 
-pub walk_by : (g : Graph) (reached : List (Option Reach)) (rough steps : List Step) → AreShortest g rough reached → AreFilled g reached rough (length rough) steps → IsOrdered step_key steps (length steps)
+pub walk_by : (g : Graph) (reached : List (Option Reach)) (rough steps : List Step) → AreShortest g rough reached → AreFilled g reached rough (length rough) steps
+    → IsOrdered step_key steps (length steps)
     → AreComplete g reached steps → IsWalk g steps reached
 walk_by g reached rough steps short h up all =
     let same = same_stages g reached rough steps h in

@@ -61,7 +61,8 @@ openings_moved room stages n xs ys moved h = record {
 
 -- ---- open levels
 
-pub is_open_by : (stages : List OwnStage) (place level : ℕ) (own : OwnStage) (b : Bool) → slice_get stages level ≡ Some own → MatchBool b (Contains own.places.items place) (¬ Contains own.places.items place)
+pub is_open_by : (stages : List OwnStage) (place level : ℕ) (own : OwnStage) (b : Bool) → slice_get stages level ≡ Some own
+    → MatchBool b (Contains own.places.items place) (¬ Contains own.places.items place)
     → MatchBool (not b) (IsOpenTo stages place level) (IsShutTo stages place level)
 is_open_by stages place level own true get h = λ o e. subst (λ (y : OwnStage). Contains y.places.items place) (same_Some own o (sym get ∙ e)) h
 is_open_by stages place level own false get h = record { own = own; is_own = get; free = h }

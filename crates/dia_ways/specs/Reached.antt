@@ -51,7 +51,8 @@ pub record AreOthers (room : ℕ) (nodes : List Node) (stages : List OwnStage) (
   pub each : length best ≡ length first
   pub from : (p : ℕ) (r : Reach) → slice_get best p ≡ Some (Some r) → (slice_get first p ≡ Some (Some r)) ⊎ IsOther room nodes stages openings p r
   pub keeps : (p l total : ℕ) → HasOne first p l total → HasOne best p l total
-  pub takes : (p : ℕ) (node : Node) → p < n → p < length first → slice_get nodes p ≡ Some node → (found : Option Opening) × IsFirstOpen stages openings p (length openings) found × IsTaken room node best p found
+  pub takes : (p : ℕ) (node : Node) → p < n → p < length first → slice_get nodes p ≡ Some node
+      → (found : Option Opening) × IsFirstOpen stages openings p (length openings) found × IsTaken room node best p found
 
 -- the shortest way to each place
 pub record AreShortest (graph : Graph) (steps : List Step) (best : List (Option Reach)) : Type 0 where

@@ -56,4 +56,5 @@ AreThere graph reached marks n = (place : ℕ) → place < n → IsThere graph r
 
 -- each place that has a step is that of one of these
 abbrev pub AreComplete : Graph → List (Option Reach) → List Step → Type 0
-AreComplete graph reached steps = (place : ℕ) (level : PlainLevel) (reach : Reach) → level_of graph place ≡ Some level → slice_get reached place ≡ Some (Some reach) → HasPlace steps (length steps) place
+AreComplete graph reached steps = (place : ℕ) (level : PlainLevel) (reach : Reach) → level_of graph place ≡ Some level → slice_get reached place ≡ Some (Some reach)
+    → HasPlace steps (length steps) place

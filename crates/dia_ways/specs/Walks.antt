@@ -70,7 +70,8 @@ IsUnlisted listed place = (length : ℕ) → ¬ Contains listed (place, length)
 -- a least level with one AVP of the place has a length: a rule lists it, or the wildcard lets it in
 pub data Leads (nodes : List PlainNode) (exits : PlainExits) (place : ℕ) (length : ℕ) : Type 0 where
   By_rule : (lists : Contains exits.listed (place, length)) → Leads nodes exits place length
-  By_wildcard : (node : PlainNode) (is_node : slice_get nodes place ≡ Some node) (unlisted : IsUnlisted exits.listed place) (is_length : length ≡ exits.beside + node.other) → Leads nodes exits place length
+  By_wildcard : (node : PlainNode) (is_node : slice_get nodes place ≡ Some node) (unlisted : IsUnlisted exits.listed place) (is_length : length ≡ exits.beside + node.other)
+      → Leads nodes exits place length
 
 -- in the level with a number stands an AVP of the place, in a message of a length
 pub record IsReached (graph : Graph) (steps : List Step) (place number total : ℕ) : Type 0 where

@@ -39,7 +39,8 @@ fn reach_others(
     best: &mut Vec<Option<Reach>>,
 )
     requires { AreRising stages.now }
-    ensures { AreOthers ways.entry.room ways.entry.nodes.now stages.now openings.now (length ways.entry.nodes.now) best.old.items best.new.items }
+    ensures { AreOthers ways.entry.room ways.entry.nodes.now stages.now openings.now
+        (length ways.entry.nodes.now) best.old.items best.new.items }
 {
     for place in 0..ways.nodes.len() {
         let node = &ways.nodes[place];

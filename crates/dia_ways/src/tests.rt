@@ -42,7 +42,11 @@ fn reach(level: usize, length: u64) -> Option<Reach> {
 /// A group in a group: each way is longer by what the outer level takes.
 fn chain(alloc: Global) -> Result<bool, AllocError> {
     let start = exits(alloc, &[(0, 20)], CLOSED)?;
-    let nodes = vec![in alloc; group(alloc, &[(1, 30)])?, group(alloc, &[(2, 24)])?, leaf(12)]?;
+    let nodes = vec![in alloc;
+        group(alloc, &[(1, 30)])?,
+        group(alloc, &[(2, 24)])?,
+        leaf(12),
+    ]?;
     let found = walk(alloc, &nodes, &start, 100)?;
     Ok(has(
         found,
@@ -54,7 +58,11 @@ fn chain(alloc: Global) -> Result<bool, AllocError> {
 /// Two groups lead to one AVP, and messages with it are equally long: the first level counts.
 fn tie(alloc: Global) -> Result<bool, AllocError> {
     let start = exits(alloc, &[(1, 20), (0, 20)], CLOSED)?;
-    let nodes = vec![in alloc; group(alloc, &[(2, 30)])?, group(alloc, &[(2, 30)])?, leaf(12)]?;
+    let nodes = vec![in alloc;
+        group(alloc, &[(2, 30)])?,
+        group(alloc, &[(2, 30)])?,
+        leaf(12),
+    ]?;
     let found = walk(alloc, &nodes, &start, 100)?;
     Ok(has(
         found,
