@@ -1,32 +1,18 @@
 -- The shortest ways to AVPs through levels that are known.
-use Rattle.std.proofs.Common.{◌≡◌, ℕ, suc, ◌+◌, ◌<◌, ◌≤◌, List, [], ◌∷◌, ◌++◌, length, Option, Some, None, refl, sym, ap, subst, ◌∙◌, arith, inl, inr}
+use Rattle.std.proofs.Common.{◌≡◌, ℕ, ◌+◌, ◌<◌, ◌≤◌, List, length, Option, Some, None, refl, sym, ap, subst, ◌∙◌, arith, inl, inr}
 use Rattle.std.specs.Prelude.{◌⊎◌, slice_get}
 use Rattle.std.proofs.lemmas.Bool.{cases_lt}
-use Rattle.std.proofs.lemmas.Option.{none-some, same_Some, slice_get_within}
+use Rattle.std.proofs.lemmas.Option.{same_Some, slice_get_within}
 use Rattle.dia_ways.specs.declared.graph.Node.{Node}
 use Rattle.dia_ways.specs.declared.graph.Reach.{Reach}
 use Rattle.dia_ways.specs.declared.stages.Stage.{Stage as OwnStage}
 use Rattle.dia_ways.specs.declared.openings.Opening.{Opening}
 use Rattle.dia_ways.specs.Offers.{HasOne, IsOffered, IsByRule, AreOffered}
 use Rattle.dia_ways.specs.Openings.{IsFirstOpen}
-use Rattle.dia_ways.specs.Reached.{AreNone, IsRuled, AreListed, IsOther, IsTaken, AreOthers}
-use Rattle.dia_ways.proofs.ListedPlaces.{contains_at, get_push_cases, length_push}
-
--- ---- no ways
-
-pub none_none : AreNone 0 []
-none_none = record { each = refl; none = λ place reach e. none-some (Some reach) e }
-
-pub none_more : (n : ℕ) (best : List (Option Reach)) → AreNone n best → AreNone (n + 1) (best ++ None ∷ [])
-none_more n best h = record {
-  each = let a = h.each in let l = length_push best None in omega arith;
-  none = λ place reach e. elim (get_push_cases best None place (Some reach) e) [ inl f ↦ h.none place reach f | inr f ↦ none-some reach f.1 ];
-}
+use Rattle.dia_ways.specs.Reached.{IsRuled, AreListed, IsOther, IsTaken, AreOthers}
+use Rattle.dia_ways.proofs.ListedPlaces.{contains_at}
 
 -- ---- ways by rules
-
-pub listed_none : (room : ℕ) (stages : List OwnStage) (first : List (Option Reach)) → AreListed room stages 0 first first
-listed_none room stages first = record { each = refl; from = λ p r e. inl e; takes = λ level own k p inner below. absurd (omega arith) }
 
 pub listed_more : (room : ℕ) (stages : List OwnStage) (n : ℕ) (first best after : List (Option Reach)) (own : OwnStage) → AreListed room stages n first best → slice_get stages n ≡ Some own
     → AreOffered best after room n own.way own.exits.now.listed.items (length own.exits.now.listed.items) → AreListed room stages (n + 1) first after
@@ -58,9 +44,6 @@ listed_more room stages n first best after own h at o = record {
     }
 
 -- ---- ways through wildcards
-
-pub others_none : (room : ℕ) (nodes : List Node) (stages : List OwnStage) (openings : List Opening) (first : List (Option Reach)) → AreOthers room nodes stages openings 0 first first
-others_none room nodes stages openings first = record { each = refl; from = λ p r e. inl e; keeps = λ p l t h. h; takes = λ p node below. absurd (omega arith) }
 
 taken_kept : (room : ℕ) (node : Node) (best after : List (Option Reach)) (p : ℕ) → ((p l total : ℕ) → HasOne best p l total → HasOne after p l total) → (found : Option Opening)
     → IsTaken room node best p found → IsTaken room node after p found

@@ -12,12 +12,6 @@ use Rattle.dia_ways.specs.Openings.{AreOpenings, opening_of, IsOpenTo, IsShutTo}
 
 -- ---- the openings of levels
 
-pub openings_none : (room : ℕ) (stages : List OwnStage) → AreOpenings room stages 0 []
-openings_none room stages = record {
-  all = λ level own below. absurd (omega arith);
-  each = λ o c. absurd (let b = c.1 in omega arith);
-}
-
 -- the next level has room
 pub openings_more : (room : ℕ) (stages : List OwnStage) (n : ℕ) (openings : List Opening) (own : OwnStage) (total : ℕ) → AreOpenings room stages n openings → slice_get stages n ≡ Some own
     → own.way + own.exits.now.beside ≡ total → AreOpenings room stages (n + 1) (openings ++ record { length = total; level = n } ∷ [])

@@ -5,7 +5,7 @@
 pub struct Exits {
     /// The AVPs that a rule lists, by their places among the nodes, and the length of a least level that has one.
     pub listed: Vec<(usize, u64)>,
-    /// What a least level takes beside an AVP that comes through the wildcard.
+    /// What a least level takes beside an AVP that comes through the wildcard. It is above the room if there is no wildcard.
     pub beside: u64,
 }
 

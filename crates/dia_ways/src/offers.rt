@@ -1,5 +1,5 @@
 //! The shortest ways that are known so far.
-ghost use Rattle.std.specs.Prelude.{◌≡◌, ◌+◌, ◌≤◌, ◌↔◌, length, SomeIff, IsTrue};
+ghost use Rattle.std.specs.Prelude.{◌+◌, ◌≤◌, ◌↔◌, length, SomeIff, IsTrue};
 ghost use Rattle.dia_ways.specs.Offers.{IsEarlier, IsOffered, AreOffered};
 
 use crate::graph::Reach;

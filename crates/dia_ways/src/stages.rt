@@ -1,5 +1,5 @@
 //! The levels of a message, by their numbers.
-ghost use Rattle.std.specs.Prelude.{◌≡◌, IfOk, IfSome, MatchBool, Contains, length};
+ghost use Rattle.std.specs.Prelude.{IfOk, IfSome, MatchBool, Contains, length};
 ghost use Rattle.std.specs.List.Sorted.{IsNonDecreasing};
 ghost use Rattle.dia_ways.specs.Walks.{stage_of, plain_exits};
 ghost use Rattle.dia_ways.specs.Stages.{graph_in, HasPlaces, IsStage, AreStages};

@@ -8,8 +8,8 @@ use crate::search::search_levels;
 use crate::steps::{are_complete, are_in_order, fill};
 use std::alloc::{AllocError, Global};
 
-/// The levels that messages of a length up to the room have, and the shortest ways to AVPs in them. There is `None` only where
-/// the lengths contradict each other, as where a level that has an AVP is shorter than the level in the AVP.
+/// The levels of groups in messages of a length up to the room, and the shortest ways to the AVPs in them. An AVP is longer than
+/// the level in it, and so is a level with it; lengths for which this doesn't hold may have no walk.
 pub fn walk(
     alloc: Global,
     nodes: &[Node],
