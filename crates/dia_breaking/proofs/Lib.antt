@@ -3,6 +3,12 @@ pub mod Shortest
 pub mod Confirmed
 pub mod SentKeys
 pub mod Tellings
+mod OwnBreaks
+mod OrderedKeys
+mod TellingPlaces
+mod LeastNumbers
+mod FoundApps
+mod FoundExits
 pub mod FloorsOfEntries
 pub mod KeptFloors
 pub mod LevelCosts

@@ -3,16 +3,20 @@ use Rattle.std.proofs.Common.{◌≡◌, ℕ, zero, suc, ◌+◌, ◌<◌, ◌�
 use Rattle.std.specs.Prelude.{◌⊎◌, ◌&&◌, not, is_some, IsSome, MatchBool, Contains, slice_get}
 use Rattle.std.proofs.lemmas.Bool.{and_from, and_left, and_right}
 use Rattle.std.proofs.lemmas.List.{length-append, length-map}
+use Rattle.std.proofs.lemmas.List.Elements.{Contains-append_left, Contains-append_right, Contains-push}
 use Rattle.std.proofs.lemmas.Option.{slice_get_within}
 use Rattle.dia_wire.specs.declared.Key.{Key}
 use Rattle.dia_book.specs.Keys.{same_key}
 use Rattle.dia_book.specs.Dictionary.{Dictionary, DictEntry, IsDictionary, entry_of}
+use Rattle.dia_book.proofs.Members.{at_Contains, into_filter}
 use Rattle.dia_book.proofs.SameKeys.{same_key-true}
 use Rattle.dia_check.proofs.OneKeyMore.{at_position}
 use Rattle.dia_compat.proofs.RunsOfFixedRules.{IsIn}
 use Rattle.dia_compat.proofs.MemberCounts.{in_contains, contains_in, in_left, in_right}
 use Rattle.dia_compat.proofs.ReachedKeys.{some_of}
-use Rattle.dia_breaking.specs.SentKeys.{HasKeys, IsStrange}
+use Rattle.dia_policy.specs.declared.Sends.TheVariants.{Any, Known, Listed}
+use Rattle.dia_breaking.specs.SentKeys.{AreSentInOrder, AreSentKeys, HasKeys, IsStrange, entry_keys, keys_of_b_alone}
+use Rattle.dia_breaking.proofs.Lists.{contains_at}
 use Rattle.dia_breaking.proofs.Shortest.{key_in}
 
 -- ---- fewer keys than codes
@@ -42,34 +46,25 @@ at_most (suc n) keys all =
     let ih = at_most n rest (λ code lt. kept (key_at code) (λ e. let same : code ≡ n = ap (λ (k : Key). k.code) e in omega (arith, lt, same)) (all code (omega (arith, lt)))) in
     omega (arith, len, ih)
 
-abbrev pub keys_in : Dictionary → List Key
-keys_in d = map (λ e. e.key) d.entries
-
 -- one of so many keys is strange
 pub some_strange : (da db : Dictionary) (n : ℕ) → IsDictionary da → IsDictionary db → 32768 < n → ((code : ℕ) → code < n → IsSome (entry_of da (key_at code)) ⊎ IsSome (entry_of db (key_at code))) → ⊥
 some_strange da db n sa sb many all =
-    let le = at_most n (keys_in da ++ keys_in db) (λ code lt. there code (all code lt)) in
-    let both = length-append (keys_in da) (keys_in db) in
+    let le = at_most n (entry_keys da ++ entry_keys db) (λ code lt. there code (all code lt)) in
+    let both = length-append (entry_keys da) (entry_keys db) in
     let first = length-map da.entries (λ e. e.key) in
     let second = length-map db.entries (λ e. e.key) in
     let few_a = sa.few in
     let few_b = sb.few in
     omega (arith, le, both, first, second, few_a, few_b, many)
   where
-    there : (code : ℕ) → IsSome (entry_of da (key_at code)) ⊎ IsSome (entry_of db (key_at code)) → IsIn (key_at code) (keys_in da ++ keys_in db)
-    there code (inl h) = let i = some_of (entry_of da (key_at code)) h in in_left (keys_in da) (keys_in db) (key_at code) (key_in da (key_at code) i.0 i.1)
-    there code (inr h) = let i = some_of (entry_of db (key_at code)) h in in_right (keys_in da) (keys_in db) (key_at code) (key_in db (key_at code) i.0 i.1)
+    there : (code : ℕ) → IsSome (entry_of da (key_at code)) ⊎ IsSome (entry_of db (key_at code)) → IsIn (key_at code) (entry_keys da ++ entry_keys db)
+    there code (inl h) = let i = some_of (entry_of da (key_at code)) h in in_left (entry_keys da) (entry_keys db) (key_at code) (key_in da (key_at code) i.0 i.1)
+    there code (inr h) = let i = some_of (entry_of db (key_at code)) h in in_right (entry_keys da) (entry_keys db) (key_at code) (key_in db (key_at code) i.0 i.1)
 
 -- ---- keys that a list has
 
-pub has_all : (d : Dictionary) (keys : List Key) → keys ≡ keys_in d → HasKeys d keys
+pub has_all : (d : Dictionary) (keys : List Key) → keys ≡ entry_keys d → HasKeys d keys
 has_all d keys is key h = let i = some_of (entry_of d key) h in contains_in keys key (subst (λ ks. IsIn key ks) (sym is) (key_in d key i.0 i.1))
-
-pub more_keys : (d : Dictionary) (keys : List Key) (key : Key) → HasKeys d keys → HasKeys d (keys ++ key ∷ [])
-more_keys d keys key has other h = contains_in (keys ++ key ∷ []) other (in_left keys (key ∷ []) other (in_contains keys other (has other h)))
-
-pub last_key : (keys : List Key) (key : Key) → Contains (keys ++ key ∷ []) key
-last_key keys key = contains_in (keys ++ key ∷ []) key (in_right keys (key ∷ []) key (inl refl))
 
 nat_cases : (i n : ℕ) → i < n + 1 → (i < n) ⊎ (i ≡ n)
 nat_cases zero zero lt = inr refl
@@ -80,33 +75,6 @@ nat_cases (suc i) (suc n) lt = by (nat_cases i n (omega (arith, lt)))
     by : (i < n) ⊎ (i ≡ n) → (suc i < suc n) ⊎ (suc i ≡ suc n)
     by (inl h) = inl (omega (arith, h))
     by (inr h) = inr (ap suc h)
-
--- those of the entries before a place
-abbrev pub HasSome : Dictionary → ℕ → List Key → Type 0
-HasSome d n keys = (i : ℕ) (e : DictEntry) → i < n → slice_get d.entries i ≡ Some e → Contains keys e.key
-
-pub has_some : (d : Dictionary) (n : ℕ) (keys : List Key) (entry : DictEntry) → HasSome d n keys → slice_get d.entries n ≡ Some entry → Contains keys entry.key → HasSome d (n + 1) keys
-has_some d n keys entry has at is i e lt there = by (nat_cases i n lt)
-  where
-    by : (i < n) ⊎ (i ≡ n) → Contains keys e.key
-    by (inl h) = has i e h there
-    by (inr h) =
-        let same : Some entry ≡ Some e = sym at ∙ ap (slice_get d.entries) (sym h) ∙ there in
-        subst (λ (o : Option DictEntry). Contains keys (key_or o)) same is
-      where
-        key_or : Option DictEntry → Key
-        key_or None = e.key
-        key_or (Some x) = x.key
-
-pub some_more : (d : Dictionary) (n : ℕ) (keys : List Key) (key : Key) → HasSome d n keys → HasSome d n (keys ++ key ∷ [])
-some_more d n keys key has i e lt there = contains_in (keys ++ key ∷ []) e.key (in_left keys (key ∷ []) e.key (in_contains keys e.key (has i e lt there)))
-
-pub has_each : (d : Dictionary) (n : ℕ) (keys : List Key) → length d.entries ≤ n → HasSome d n keys → HasKeys d keys
-has_each d n keys le has key h =
-    let i = some_of (entry_of d key) h in
-    let p = at_position (λ (e : DictEntry). same_key key e.key) d.entries i.0 i.1 in
-    let within = slice_get_within d.entries i.0 p.0 p.1 in
-    subst (λ k. Contains keys k) (sym (same_key-true key p.0.key p.2)) (has i.0 p.0 (omega (arith, le, within)) p.1)
 
 -- ---- the first strange key
 
@@ -132,11 +100,41 @@ strange_or da db key None (Some i) x y is_a is_b is_x is_y =
 strange_or da db key (Some i) b x y is_a is_b is_x is_y =
     subst (λ t. MatchBool t (IsStrange da db key) (IsSome (entry_of da key) ⊎ IsSome (entry_of db key))) (sym (and_left x y is_x)) (inl (ap (λ (o : Option ℕ). is_some o) (sym is_a)))
 
--- ---- keys that are added
+-- ---- all keys that are sent
 
-pub kept_left : (keys : List Key) (key other : Key) → Contains keys other → Contains (keys ++ key ∷ []) other
-kept_left keys key other is = contains_in (keys ++ key ∷ []) other (in_left keys (key ∷ []) other (in_contains keys other is))
+pub sent_of_any : (da db : Dictionary) (keys : List Key) → AreSentInOrder da db Any keys → AreSentKeys da db Any keys
+sent_of_any da db keys (stranger, is, are) = record {
+  own = λ key some. into key (Contains-append_left (entry_keys da ++ keys_of_b_alone da db) (stranger ∷ []) key (of_a key some));
+  others = λ any key some. into key (Contains-append_left (entry_keys da ++ keys_of_b_alone da db) (stranger ∷ []) key (of_b key some (entry_of da key) refl));
+  strange = λ any. (stranger, into stranger (Contains-push (entry_keys da ++ keys_of_b_alone da db) stranger), is.strange, is.vendor);
+}
+  where
+    into : (key : Key) → Contains ((entry_keys da ++ keys_of_b_alone da db) ++ stranger ∷ []) key → Contains keys key
+    into key there = subst (λ (ks : List Key). Contains ks key) (sym are) there
 
-pub has_some_kept : (d : Dictionary) (n : ℕ) (old new : List Key) (entry : DictEntry) (key : Key) → HasSome d n old → ((k : Key) → Contains old k → Contains new k) → slice_get d.entries n ≡ Some entry → key ≡ entry.key
-    → Contains new key → HasSome d (n + 1) new
-has_some_kept d n old new entry key has kept at same is = has_some d n new entry (λ i e lt there. kept e.key (has i e lt there)) at (subst (λ k. Contains new k) same is)
+    of_a : (key : Key) → IsSome (entry_of da key) → Contains (entry_keys da ++ keys_of_b_alone da db) key
+    of_a key some = Contains-append_left (entry_keys da) (keys_of_b_alone da db) key (has_all da (entry_keys da) refl key some)
+
+    unknown_to_a : Key → Bool
+    unknown_to_a key = not (is_some (entry_of da key))
+
+    of_b : (key : Key) → IsSome (entry_of db key) → (o : Option ℕ) → entry_of da key ≡ o → Contains (entry_keys da ++ keys_of_b_alone da db) key
+    of_b key some (Some i) e = of_a key (ap (λ (o : Option ℕ). is_some o) e)
+    of_b key some None e =
+        let there = at_Contains (entry_keys db) key (has_all db (entry_keys db) refl key some) in
+        let kept = into_filter unknown_to_a (entry_keys db) there.place key there.at (ap (λ (o : Option ℕ). not (is_some o)) e) in
+        Contains-append_right (entry_keys da) (keys_of_b_alone da db) key (contains_at (keys_of_b_alone da db) kept.place key kept.at)
+
+pub sent_of_known : (da db : Dictionary) (keys : List Key) → keys ≡ entry_keys da → AreSentKeys da db Known keys
+sent_of_known da db keys are = record {
+  own = has_all da keys are;
+  others = λ any. absurd (let bad : Known ≡ Any = any in cc);
+  strange = λ any. absurd (let bad : Known ≡ Any = any in cc);
+}
+
+pub sent_of_listed : (da db : Dictionary) (keys : List Key) → keys ≡ entry_keys da → AreSentKeys da db Listed keys
+sent_of_listed da db keys are = record {
+  own = has_all da keys are;
+  others = λ any. absurd (let bad : Listed ≡ Any = any in cc);
+  strange = λ any. absurd (let bad : Listed ≡ Any = any in cc);
+}

@@ -1,10 +1,12 @@
 -- What the AVPs take that the sender's side sends.
 use Rattle.std.specs.Prelude.{◌≡◌, ℕ, ◌<◌, ⊤, min, max, List, [], ◌∷◌, length, map, None, slice_get}
-use Rattle.std.specs.List.Sorted.{IsPermutation, IsNonDecreasingBy}
+use Rattle.std.specs.List.Sorted.{IsPermutation, IsNonDecreasingBy, IsStableByKey}
+use Rattle.std.specs.Ordering.{nat_cmp}
 use Rattle.std.specs.Option.{option_map_or}
 use Rattle.dia_wire.specs.declared.Key.{Key}
 use Rattle.dia_book.specs.Dictionary.{Dictionary, entry_of}
 use Rattle.dia_policy.specs.declared.Sends.{Sends}
+use Rattle.dia_breaking.specs.SentKeys.{IsStranger, entry_keys}
 use Rattle.dia_policy.specs.declared.Sends.TheVariants.{Any, Known, Listed}
 use Rattle.dia_least.specs.Floors.{shortest_head}
 use Rattle.dia_least.specs.Lengths.{entry_length}
@@ -39,3 +41,18 @@ AreOthers da db Listed lengths keys = ⊤
 -- the entries have the same lengths in both lists
 abbrev pub AreSameLengths : Dictionary → List ℕ → List ℕ → Type 0
 AreSameLengths d xs ys = (e : ℕ) → e < length d.entries → entry_length ys e ≡ entry_length xs e
+
+-- ---- exactly these
+
+-- where a wildcard lets in any, the stranger; where it lets in what A knows, A's keys by the lengths of their AVPs, and those of one length in A's order
+abbrev pub AreExactlyOthers : Dictionary → Dictionary → Sends → List ℕ → List Key → Type 0
+AreExactlyOthers da db Any lengths keys = (key : Key) × IsStranger da db key × (keys ≡ key ∷ [])
+AreExactlyOthers da db Known lengths keys =
+    IsNonDecreasingBy (listed_length da Known lengths) keys
+    × IsPermutation (entry_keys da) keys
+    × IsStableByKey (listed_length da Known lengths) nat_cmp (entry_keys da) keys
+AreExactlyOthers da db Listed lengths keys = keys ≡ []
+
+-- for each entry its length of the other list
+abbrev pub AreEntryLengths : Dictionary → List ℕ → List ℕ → Type 0
+AreEntryLengths d xs ys = (length ys ≡ length d.entries) × AreSameLengths d xs ys

@@ -1,12 +1,13 @@
 -- What a definition's levels take in which an AVP stands (RFC 6733 section 3.2).
 use Rattle.std.specs.Prelude.{◌≡◌, ℕ, ◌+◌, ◌-◌, nat_eq, nat_le, nat_lt, false, ◌||◌, if◌then◌else◌, List, Some}
-use Rattle.std.specs.Option.{option_eq}
+use Rattle.std.specs.Option.{option_eq, option_map_or}
 use Rattle.dia_wire.specs.declared.Key.{Key}
 use Rattle.dia_book.specs.declared.DRule.{DRule}
 use Rattle.dia_check.specs.Valid.{is_listed}
 use Rattle.dia_compat.specs.Below.{HasRule}
+use Rattle.dia_compat.specs.Tests.{wildcard_of}
 use Rattle.dia_levels.specs.Levels.{IsWithinAllWith}
-use Rattle.dia_levels.specs.LevelTests.{too_long, capped, price}
+use Rattle.dia_levels.specs.LevelTests.{too_long, capped, price, least_filler, least_length}
 use Rattle.dia_breaking.specs.declared.levels.LevelCost.{LevelCost}
 
 -- with an AVP of the rule's key, which is this long
@@ -25,3 +26,10 @@ beside_of base filler wild = if option_eq nat_eq wild.max (Some 0) || nat_le too
 pub record IsCostOf (listed other : Key → ℕ) (rules : List DRule) (cost : LevelCost) : Type 0 where
   pub listed_within : (key : Key) (rule : DRule) → HasRule rules key rule → IsWithinAllWith (price listed other rules) rules key (with_listed cost rule (listed key))
   pub others_within : (key : Key) → is_listed rules key ≡ false → IsWithinAllWith (price listed other rules) rules key (with_other cost (other key))
+
+-- the least level of the rules, and what it takes beside an AVP that comes through their wildcard
+abbrev pub cost_from : ℕ → ℕ → List DRule → LevelCost
+cost_from base filler rules = record { base = base; beside = option_map_or (beside_of base filler) (wildcard_of rules) too_long }
+
+abbrev pub cost_of : (listed other : Key → ℕ) → List Key → List DRule → LevelCost
+cost_of listed other others rules = cost_from (least_length listed other others rules) (least_filler other others rules) rules

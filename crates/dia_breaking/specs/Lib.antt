@@ -3,6 +3,7 @@ pub mod Closed
 pub mod ClosedRules
 pub mod Closing
 pub mod Confirmed
+pub mod Exits
 pub mod Free
 pub mod Headers
 pub mod Lengths
@@ -11,4 +12,5 @@ pub mod Outlooks
 pub mod OwnKeys
 pub mod SentKeys
 pub mod Telling
+pub mod ToldApps
 pub mod Words

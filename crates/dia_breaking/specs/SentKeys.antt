@@ -1,9 +1,9 @@
 -- The keys that the sender's side sends.
-use Rattle.std.specs.Prelude.{◌≡◌, List, None, IsSome, Contains}
+use Rattle.std.specs.Prelude.{◌≡◌, ◌≤◌, Bool, not, List, [], ◌∷◌, ◌++◌, map, filter, None, is_some, IsSome, Contains}
 use Rattle.dia_wire.specs.declared.Key.{Key}
 use Rattle.dia_book.specs.Dictionary.{Dictionary, entry_of}
 use Rattle.dia_policy.specs.declared.Sends.{Sends}
-use Rattle.dia_policy.specs.declared.Sends.TheVariants.{Any}
+use Rattle.dia_policy.specs.declared.Sends.TheVariants.{Any, Known, Listed}
 
 -- neither dictionary knows the key
 abbrev pub IsStrange : Dictionary → Dictionary → Key → Type 0
@@ -18,3 +18,28 @@ pub record AreSentKeys (da db : Dictionary) (who : Sends) (keys : List Key) : Ty
   pub own : HasKeys da keys
   pub others : who ≡ Any → HasKeys db keys
   pub strange : who ≡ Any → (key : Key) × Contains keys key × IsStrange da db key × (key.vendor ≡ 0)
+
+-- ---- exactly these
+
+-- of the strange keys without vendor that with the least code
+pub record IsStranger (da db : Dictionary) (key : Key) : Type 0 where
+  pub strange : IsStrange da db key
+  pub vendor : key.vendor ≡ 0
+  pub least : (other : Key) → IsStrange da db other → other.vendor ≡ 0 → key.code ≤ other.code
+
+-- the keys that a dictionary knows, in its order
+abbrev pub entry_keys : Dictionary → List Key
+entry_keys d = map (λ e. e.key) d.entries
+
+abbrev pub is_unknown : Dictionary → Key → Bool
+is_unknown d key = not (is_some (entry_of d key))
+
+-- those that B alone knows, in B's order
+abbrev pub keys_of_b_alone : Dictionary → Dictionary → List Key
+keys_of_b_alone da db = filter (is_unknown da) (entry_keys db)
+
+-- the keys of which A's side sends AVPs, in the order of their lines: those that A knows; and where it sends any, those that B alone knows, and the stranger
+abbrev pub AreSentInOrder : Dictionary → Dictionary → Sends → List Key → Type 0
+AreSentInOrder da db Any keys = (stranger : Key) × IsStranger da db stranger × (keys ≡ (entry_keys da ++ keys_of_b_alone da db) ++ stranger ∷ [])
+AreSentInOrder da db Known keys = keys ≡ entry_keys da
+AreSentInOrder da db Listed keys = keys ≡ entry_keys da

@@ -1,17 +1,17 @@
 -- The keys of which there is something to tell: AVPs that break by themselves, or in which both dictionaries see a level.
-use Rattle.std.specs.Prelude.{◌≡◌, ◌⊎◌, ℕ, Bool, true, false, ◌&&◌, ◌||◌, if◌then◌else◌, List, [], ◌∷◌, ◌++◌, length, Option, Some, None, option_and_then, is_some, IsSome, slice_get, Contains}
+use Rattle.std.specs.Prelude.{◌≡◌, ◌⊎◌, ℕ, Bool, true, false, ◌&&◌, ◌||◌, if◌then◌else◌, List, [], ◌∷◌, ◌++◌, length, Option, Some, None, option_and_then, is_some, IsSome, slice_get, Contains, All, map, filter, position, ◌↔◌}
 use Rattle.std.specs.HashMap.{get}
 use Rattle.dia_wire.specs.declared.Key.{Key}
 use Rattle.dia_book.specs.Keys.{same_key}
 use Rattle.dia_book.specs.Dictionary.{Dictionary}
 use Rattle.dia_policy.specs.declared.Unknown.{Unknown}
 use Rattle.dia_policy.specs.declared.Sends.{Sends}
-use Rattle.dia_entries.specs.Sent.{group_of}
+use Rattle.dia_entries.specs.Sent.{group_of, AreAccepted, IsAcceptedData, IsSentData, TakesAnyData}
 use Rattle.dia_entries.specs.Breaks.{AcceptsFlags}
 use Rattle.dia_entries.specs.Laws.{FitKeyAlone}
 use Rattle.dia_breaking.specs.declared.keys.Own.{Own}
 use Rattle.dia_breaking.specs.declared.keys.Telling.{Telling}
-use Rattle.dia_breaking.specs.SentKeys.{IsStrange}
+use Rattle.dia_breaking.specs.SentKeys.{AreSentInOrder, IsStrange}
 
 -- both dictionaries see a level in AVPs of the key
 abbrev pub AreGroups : Dictionary → Dictionary → Key → Type 0
@@ -56,3 +56,38 @@ pub record IsTelling (da db : Dictionary) (who : Sends) (u : Unknown) (telling :
   pub silent : (own : Own) → Contains telling.own.items own → own.breaks ≡ false → FitKeyAlone da db who u own.key
   pub leaf : (own : Own) → Contains telling.own.items own → own.is_group ≡ false → ¬ AreGroups da db own.key
   pub rest : (key : Key) → get same_key telling.places key ≡ None → IsUntold da db who u key ⊎ ((own : Own) × Contains telling.own.items own × StandsForStrangers da db key own)
+
+-- ---- exactly these
+
+-- B accepts all data of AVPs of the key that A's side sends; and where A sees levels in them, B takes any data
+abbrev pub IsDataTaken : Dictionary → Dictionary → Sends → Unknown → Key → Type 0
+IsDataTaken da db who u key = AreAccepted (IsSentData da who key) (IsAcceptedData db u key) × (IsSome (group_of da key) → TakesAnyData db key)
+
+-- no AVP of the key breaks by itself: B accepts each M flag that is sent, and the data, or both dictionaries see a level in it
+abbrev pub BreaksNothing : Dictionary → Dictionary → Sends → Unknown → Key → Type 0
+BreaksNothing da db who u key = AcceptsFlags da db who u key × (AreGroups da db key ⊎ IsDataTaken da db who u key)
+
+-- what there is to tell of its key
+pub record IsExactlyOwn (da db : Dictionary) (who : Sends) (u : Unknown) (own : Own) : Type 0 where
+  pub group : own.is_group ≡ (is_some (group_of da own.key) && is_some (group_of db own.key))
+  pub silent : (own.breaks ≡ false) ↔ BreaksNothing da db who u own.key
+
+-- what there is to tell of each of these keys, in their order
+abbrev pub AreOwnOf : Dictionary → Dictionary → Sends → Unknown → List Key → List Own → Type 0
+AreOwnOf da db who u keys all = (map (λ own. own.key) all ≡ keys) × All (IsExactlyOwn da db who u) all
+
+-- of these keys exactly that is told of which there is something to tell, in their order; what has a place is told, and what is told has a place
+pub record AreExactlyTold (da db : Dictionary) (who : Sends) (u : Unknown) (keys : List Key) (telling : Telling) : Type 0 where
+  pub all : List Own
+  pub each : AreOwnOf da db who u keys all
+  pub told_are : telling.own.items ≡ filter is_told all
+  pub have_places : (own : Own) → Contains telling.own.items own → IsSome (get same_key telling.places own.key)
+
+-- of all keys of which A's side sends AVPs exactly that is told of which there is something to tell, in their order, and each key has its place
+pub record IsExactTelling (da db : Dictionary) (who : Sends) (u : Unknown) (telling : Telling) : Type 0 where
+  pub keys : List Key
+  pub all : List Own
+  pub sent : AreSentInOrder da db who keys
+  pub each : AreOwnOf da db who u keys all
+  pub told_are : telling.own.items ≡ filter is_told all
+  pub places : (key : Key) → get same_key telling.places key ≡ position (λ own. same_key own.key key) telling.own.items

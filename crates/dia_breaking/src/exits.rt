@@ -1,8 +1,10 @@
 //! What is the same for all commands: where the levels of groups lead, and how they break.
-ghost use Rattle.std.specs.Prelude.{◌<◌, ℕ, IfOk, IfSome, length};
+ghost use Rattle.std.specs.Prelude.{◌≡◌, ◌<◌, ◌++◌, ℕ, IfOk, IfSome, OnOk, length, option_to_list};
+ghost use Rattle.std.specs.List.{filter_map};
 ghost use Rattle.dia_book.specs.Dictionary.{definitions};
 ghost use Rattle.dia_compat.specs.Tests.{rules_in};
 ghost use Rattle.dia_levels.specs.Levels.{FirstIsShortest};
+ghost use Rattle.dia_breaking.specs.Exits.{AreExits, AreOutlooks, IsInnerOrNone, exit_by};
 ghost use Rattle.dia_breaking.specs.Lengths.{listed_length, other_length};
 ghost use Rattle.dia_breaking.specs.Outlooks.{HasGroupLines, HaveGroupLines};
 
@@ -35,14 +37,13 @@ impl Exits {
         lengths: &Lengths<'_, A>,
     ) -> Result<Self, AllocError>
         requires { def < length (definitions (A.meaning a.now)) }
+        ensures { IfOk result (AreExits telling.now
+            (listed_length (A.meaning lengths.now.book.now) lengths.now.sends lengths.now.entries.items)
+            (other_length (A.meaning lengths.now.book.now) lengths.now.sends lengths.now.entries.items)
+            lengths.now.others.items (rules_in (A.meaning a.now) def)) }
     {
         let cost = LevelCost::new(a, def, lengths);
-        let mut listed = Vec::new(alloc);
-        for rule in rules_of(a, def) {
-            if let Some(exit) = exit_by(rule, telling, lengths, &cost) {
-                listed.push(exit)?;
-            }
-        }
+        let listed = exits_by(alloc, rules_of(a, def), telling, lengths, &cost)?;
         Ok(Exits {
             base: cost.base,
             listed,
@@ -51,13 +52,44 @@ impl Exits {
     }
 }
 
+fn exits_by<A: Book>(
+    alloc: Global,
+    rules: &[DRule],
+    telling: &Telling,
+    lengths: &Lengths<'_, A>,
+    cost: &LevelCost,
+) -> Result<Vec<(usize, u64)>, AllocError>
+    ensures { IfOk result (λ listed. listed.items ≡ filter_map (exit_by telling.now
+        (listed_length (A.meaning lengths.now.book.now) lengths.now.sends lengths.now.entries.items)
+        cost.now) rules.now) }
+{
+    let mut listed = Vec::new(alloc);
+    for rule in rules {
+        push_exit(&mut listed, exit_by(rule, telling, lengths, cost))?;
+    }
+    Ok(listed)
+}
+
+fn push_exit(listed: &mut Vec<(usize, u64)>, exit: Option<(usize, u64)>) -> Result<(), AllocError>
+    ensures { OnOk result (listed.new.items ≡ listed.old.items ++ option_to_list exit) }
+{
+    if let Some(exit) = exit {
+        listed.push(exit)?;
+    }
+    Ok(())
+}
+
 /// The place of the rule's key, if there is something to tell of it, with the length of a least level that has one.
 fn exit_by<A: Book>(
     rule: &DRule,
     telling: &Telling,
     lengths: &Lengths<'_, A>,
     cost: &LevelCost,
-) -> Option<(usize, u64)> {
+) -> Option<(usize, u64)>
+    ensures { result ≡ exit_by telling.now
+        (listed_length (A.meaning lengths.now.book.now) lengths.now.sends lengths.now.entries.items)
+        cost.now rule.now }
+{
     let key = rule.key?;
     let place = telling.places.get(&key).copied()?;
     Some((place, cost.with_listed(rule, lengths.listed(key))))
@@ -93,7 +125,14 @@ pub(crate) fn outlooks<A: Book, B: Book>(
     requires { (x y : ℕ) → FirstIsShortest (other_length (A.meaning lengths.now.book.now)
         lengths.now.sends lengths.now.entries.items) lengths.now.others.items
         (rules_in (A.meaning a.now) x) (rules_in (B.meaning b.now) y) }
-    ensures { IfOk result (λ outlooks. HaveGroupLines (A.meaning a.now) (B.meaning b.now)
+    ensures exact { IfOk result (λ outlooks. AreOutlooks (A.meaning a.now) (B.meaning b.now)
+        telling.now
+        (listed_length (A.meaning lengths.now.book.now)
+        lengths.now.sends lengths.now.entries.items)
+        (other_length (A.meaning lengths.now.book.now)
+        lengths.now.sends lengths.now.entries.items)
+        lengths.now.others.items outlooks.items) }
+    ensures lines { IfOk result (λ outlooks. HaveGroupLines (A.meaning a.now) (B.meaning b.now)
         (listed_length (A.meaning lengths.now.book.now)
         lengths.now.sends lengths.now.entries.items)
         (other_length (A.meaning lengths.now.book.now)
@@ -123,7 +162,13 @@ fn inner_of<A: Book, B: Book>(
     requires { (x y : ℕ) → FirstIsShortest (other_length (A.meaning lengths.now.book.now)
         lengths.now.sends lengths.now.entries.items) lengths.now.others.items
         (rules_in (A.meaning a.now) x) (rules_in (B.meaning b.now) y) }
-    ensures { IfOk result (λ inner. IfSome inner (λ inner. HasGroupLines
+    ensures exact { IfOk result (IsInnerOrNone (A.meaning a.now) (B.meaning b.now) telling.now
+        (listed_length (A.meaning lengths.now.book.now)
+        lengths.now.sends lengths.now.entries.items)
+        (other_length (A.meaning lengths.now.book.now)
+        lengths.now.sends lengths.now.entries.items)
+        lengths.now.others.items key) }
+    ensures lines { IfOk result (λ inner. IfSome inner (λ inner. HasGroupLines
         (A.meaning a.now) (B.meaning b.now)
         (listed_length (A.meaning lengths.now.book.now)
         lengths.now.sends lengths.now.entries.items)

@@ -1,11 +1,13 @@
 //! Few headers of a command have to be looked at: that with its own application; or those with the applications that B alone
 //! names, and one with an application that neither dictionary names.
 ghost use Rattle.std.specs.Prelude.{◌≡◌, ◌<◌, ℕ, true, length, IfOk, IfSome, Some, Contains};
-ghost use Rattle.std.specs.Prelude.{slice_get, IsTrue};
-ghost use Rattle.dia_book.specs.Dictionary.{definitions, selected};
+ghost use Rattle.std.specs.Prelude.{◌++◌, ◌||◌, nat_eq, slice_get, IsTrue};
+ghost use Rattle.std.specs.List.{list_any};
+ghost use Rattle.dia_book.specs.Dictionary.{definitions};
 ghost use Rattle.dia_breaking.specs.Headers.{apps_of, AreHeadersMet, AreMetFor, IsCommandPlace};
 ghost use Rattle.dia_breaking.specs.declared.line.Site.{Site as AnySite};
 ghost use Rattle.dia_breaking.specs.Headers.{IsFlagMet, IsMetAs, IsMetFor, IsOtherMet};
+ghost use Rattle.dia_breaking.specs.ToldApps.{IsLeastUnnamed, selects};
 
 use crate::apps::BothApps;
 use crate::heads::{Head, allows, head_of};
@@ -87,8 +89,7 @@ fn met_apps<A: Book, B: Book>(
 
 /// Whether A selects the command for messages of an application.
 pub(crate) fn selects<A: Book>(a: &A, command: DefId, head: &Head, app: u32) -> bool
-    ensures { selected (A.meaning a.now) head.now.code head.now.class app ≡ Some command
-        → IsTrue result }
+    ensures { result ≡ selects (A.meaning a.now) command head.now app }
 {
     match a.select(head.code, head.class, app) {
         Some(def) => def == command,
@@ -172,18 +173,42 @@ pub(crate) fn unnamed_app(
     both: &BothApps,
     head: &Head,
 ) -> Result<Option<u32>, AllocError>
-    ensures { IfOk result (λ found. IfSome found (λ app.
+    ensures unnamed { IfOk result (λ found. IfSome found (λ app.
         (¬ Contains (apps_of both.now.first head.now.code head.now.class) app)
         × (¬ Contains (apps_of both.now.second head.now.code head.now.class) app))) }
+    ensures exact { IfOk result (λ found. IsLeastUnnamed
+        (apps_of both.now.first head.now.code head.now.class)
+        (apps_of both.now.second head.now.code head.now.class) found) }
 {
     let first = both.first.of(alloc, head.code, head.class)?;
     let second = both.second.of(alloc, head.code, head.class)?;
-    let mut named = first.clone()?;
-    named.extend_from_slice(&second)?;
-    let app = least_missing(named)?;
-    if first.contains(&app) || second.contains(&app) {
+    least_unnamed(alloc, &first, &second)
+}
+
+/// The least application that stands in neither list; none where they have all.
+fn least_unnamed(alloc: Global, first: &[u32], second: &[u32]) -> Result<Option<u32>, AllocError>
+    ensures { IfOk result (IsLeastUnnamed first.now second.now) }
+{
+    let app = least_missing(joined(alloc, first, second)?)?;
+    if is_named(first, second, app) {
         Ok(None)
     } else {
         Ok(Some(app))
     }
+}
+
+fn joined(alloc: Global, first: &[u32], second: &[u32]) -> Result<Vec<u32>, AllocError>
+    ensures { IfOk result (λ all. all.items ≡ first.now ++ second.now) }
+{
+    let mut all = Vec::new(alloc);
+    all.extend_from_slice(first)?;
+    all.extend_from_slice(second)?;
+    Ok(all)
+}
+
+fn is_named(first: &[u32], second: &[u32], app: u32) -> bool
+    ensures { result ≡ (list_any (λ n. nat_eq n app) first.now
+        || list_any (λ n. nat_eq n app) second.now) }
+{
+    first.contains(&app) || second.contains(&app)
 }

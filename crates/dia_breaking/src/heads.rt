@@ -1,7 +1,9 @@
 //! The heads of commands, and the applications by which their messages are looked at.
-ghost use Rattle.std.specs.Prelude.{◌≡◌, ◌<◌, length, IfSome, slice_get};
+ghost use Rattle.std.specs.Prelude.{◌≡◌, ◌<◌, ◌++◌, ◌∷◌, [], length, filter};
+ghost use Rattle.std.specs.Prelude.{IfOk, IfSome, OnOk, slice_get};
 ghost use Rattle.dia_book.specs.Dictionary.{definitions};
 ghost use Rattle.dia_breaking.specs.Headers.{allows, head_in};
+ghost use Rattle.dia_breaking.specs.ToldApps.{AreOpenApps, AreToldApps, selects};
 
 use crate::apps::BothApps;
 use crate::headers::{selects, unnamed_app};
@@ -73,22 +75,37 @@ pub(crate) fn told_apps<A: Book>(
     both: &BothApps,
     command: DefId,
     head: &Head,
-) -> Result<Vec<u32>, AllocError> {
+) -> Result<Vec<u32>, AllocError>
+    ensures { IfOk result (λ apps. AreToldApps (A.meaning a.now) both.now.first both.now.second
+        command head.now apps.items) }
+{
     match head.app {
         Some(app) => {
             let mut apps = Vec::new(alloc);
             apps.push(app)?;
             Ok(apps)
         }
-        None => {
-            let others = both.second.of(alloc, head.code, head.class)?;
-            let mut apps = own_apps(alloc, a, command, head, &others)?;
-            if let Some(app) = unnamed_app(alloc, both, head)? {
-                apps.push(app)?;
-            }
-            Ok(apps)
-        }
+        None => open_apps(alloc, a, both, command, head),
     }
+}
+
+/// Those that B alone names, and the least that neither names.
+fn open_apps<A: Book>(
+    alloc: Global,
+    a: &A,
+    both: &BothApps,
+    command: DefId,
+    head: &Head,
+) -> Result<Vec<u32>, AllocError>
+    ensures { IfOk result (λ apps. AreOpenApps (A.meaning a.now) both.now.first both.now.second
+        command head.now apps.items) }
+{
+    let others = both.second.of(alloc, head.code, head.class)?;
+    let mut apps = own_apps(alloc, a, command, head, &others)?;
+    if let Some(app) = unnamed_app(alloc, both, head)? {
+        apps.push(app)?;
+    }
+    Ok(apps)
 }
 
 /// Of these applications, each for which A selects the command.
@@ -98,12 +115,29 @@ fn own_apps<A: Book>(
     command: DefId,
     head: &Head,
     others: &[u32],
-) -> Result<Vec<u32>, AllocError> {
+) -> Result<Vec<u32>, AllocError>
+    ensures { IfOk result (λ apps. apps.items
+        ≡ filter (selects (A.meaning a.now) command head.now) others.now) }
+{
     let mut apps = Vec::new(alloc);
     for app in others {
-        if selects(a, command, head, *app) {
-            apps.push(*app)?;
-        }
+        push_own(&mut apps, a, command, head, *app)?;
     }
     Ok(apps)
+}
+
+fn push_own<A: Book>(
+    apps: &mut Vec<u32>,
+    a: &A,
+    command: DefId,
+    head: &Head,
+    app: u32,
+) -> Result<(), AllocError>
+    ensures { OnOk result (apps.new.items ≡ apps.old.items
+        ++ filter (selects (A.meaning a.now) command head.now) (app ∷ [])) }
+{
+    if selects(a, command, head, app) {
+        apps.push(app)?;
+    }
+    Ok(())
 }

@@ -1,13 +1,17 @@
 //! The AVPs that A's side sends. There is something to tell of one that breaks by itself, or in which both dictionaries see a
 //! level.
-ghost use Rattle.std.specs.Prelude.{◌≡◌, ◌&&◌, false, [], None, Contains, IfOk, OnOk, is_some};
+ghost use Rattle.std.specs.Prelude.{◌≡◌, ◌≤◌, ◌<◌, ◌&&◌, ◌⊎◌, ℕ, false, [], None, Contains};
+ghost use Rattle.std.specs.Prelude.{◌++◌, ◌∷◌, IfOk, OnOk, filter, is_some};
 ghost use Rattle.std.specs.HashMap.{get};
+ghost use Rattle.std.specs.List.Sorted.{IsNonDecreasing, IsPermutation};
 ghost use Rattle.dia_wire.specs.declared.Key.{Key as AnyKey};
 ghost use Rattle.dia_book.specs.Keys.{same_key};
 ghost use Rattle.dia_entries.specs.Breaks.{IsSilent, IsSilentData};
 ghost use Rattle.dia_entries.specs.Sent.{group_of};
-ghost use Rattle.dia_breaking.specs.SentKeys.{AreSentKeys, HasKeys};
-ghost use Rattle.dia_breaking.specs.Telling.{Adds, AreTold, IsTelling, IsToldOf, told};
+ghost use Rattle.dia_breaking.specs.SentKeys.{AreSentInOrder, AreSentKeys, entry_keys, is_unknown};
+ghost use Rattle.dia_breaking.specs.SentKeys.{keys_of_b_alone};
+ghost use Rattle.dia_breaking.specs.Telling.{Adds, AreExactlyTold, AreTold, IsExactlyOwn, IsExactTelling, IsTelling};
+ghost use Rattle.dia_breaking.specs.Telling.{IsToldOf, told};
 
 use crate::books::group_of;
 use crate::lengths::{keys_of, stranger};
@@ -29,7 +33,8 @@ pub(crate) struct Own {
 
 /// What there is to tell of a key.
 fn own_of<A: Book, B: Book>(a: &A, b: &B, key: Key, sends: Sends, unknown: Unknown) -> Own
-    ensures { IsToldOf (A.meaning a.now) (B.meaning b.now) sends unknown key result }
+    ensures told { IsToldOf (A.meaning a.now) (B.meaning b.now) sends unknown key result }
+    ensures exact { IsExactlyOwn (A.meaning a.now) (B.meaning b.now) sends unknown result }
 {
     let breaks = avp_breaks(a, b, key, sends, unknown);
     Own {
@@ -40,7 +45,8 @@ fn own_of<A: Book, B: Book>(a: &A, b: &B, key: Key, sends: Sends, unknown: Unkno
 }
 
 fn breaks_alone(breaks: AvpBreaks) -> bool
-    ensures { result ≡ false → IsSilent breaks }
+    ensures silent { result ≡ false → IsSilent breaks }
+    ensures heard { IsSilent breaks → result ≡ false }
 {
     match breaks.head {
         Some(_) => true,
@@ -57,7 +63,8 @@ fn are_groups<A: Book, B: Book>(a: &A, b: &B, key: Key) -> bool
 }
 
 fn breaks_data(found: DataBreak) -> bool
-    ensures { result ≡ false → IsSilentData found }
+    ensures silent { result ≡ false → IsSilentData found }
+    ensures heard { IsSilentData found → result ≡ false }
 {
     match found {
         DataBreak::Fits => false,
@@ -76,65 +83,90 @@ fn sent_keys<A: Book, B: Book>(
     b: &B,
     sends: Sends,
 ) -> Result<Vec<Key>, AllocError>
-    ensures { IfOk result (λ keys. AreSentKeys (A.meaning a.now) (B.meaning b.now) sends keys.items) }
+    ensures sent { IfOk result (λ keys. AreSentKeys (A.meaning a.now) (B.meaning b.now) sends keys.items) }
+    ensures exact { IfOk result
+        (λ keys. AreSentInOrder (A.meaning a.now) (B.meaning b.now) sends keys.items) }
 {
     let keys = keys_of(alloc, a)?;
     match sends {
-        Sends::Any => with_stranger(with_other(keys, a, b)?, a, b),
+        Sends::Any => with_others(alloc, keys, a, b),
         Sends::Known => Ok(keys),
         Sends::Listed => Ok(keys),
     }
 }
 
-/// With those that B alone knows.
-fn with_other<A: Book, B: Book>(mut keys: Vec<Key>, a: &A, b: &B) -> Result<Vec<Key>, AllocError>
-    requires { HasKeys (A.meaning a.now) keys.items }
-    ensures first { IfOk result (λ all. HasKeys (A.meaning a.now) all.items) }
-    ensures second { IfOk result (λ all. HasKeys (B.meaning b.now) all.items) }
-{
-    for index in 0..b.entries() {
-        add_key(&mut keys, a, b.entry_key(b.entry_at(index)))?;
-    }
-    Ok(keys)
-}
-
-/// Adds a key, where the keys of A's entries are there already.
-fn add_key<A: Book>(keys: &mut Vec<Key>, a: &A, key: Key) -> Result<(), AllocError>
-    requires { HasKeys (A.meaning a.now) keys.old.items }
-    ensures kept { OnOk result ((other : AnyKey)
-        → Contains keys.old.items other → Contains keys.new.items other) }
-    ensures has { OnOk result (Contains keys.new.items key) }
-{
-    match a.avp(key) {
-        Some(_) => Ok(()),
-        None => {
-            keys.push(key)?;
-            Ok(())
-        }
-    }
-}
-
-/// With one that neither dictionary knows.
-fn with_stranger<A: Book, B: Book>(mut keys: Vec<Key>, a: &A, b: &B) -> Result<Vec<Key>, AllocError>
-    requires first { HasKeys (A.meaning a.now) keys.items }
-    requires second { HasKeys (B.meaning b.now) keys.items }
-    ensures { IfOk result (λ all. AreSentKeys (A.meaning a.now) (B.meaning b.now)
+/// With those that B alone knows, and one that neither knows.
+fn with_others<A: Book, B: Book>(
+    alloc: Global,
+    keys: Vec<Key>,
+    a: &A,
+    b: &B,
+) -> Result<Vec<Key>, AllocError>
+    requires { keys.items ≡ entry_keys (A.meaning a.now) }
+    ensures { IfOk result (λ all. AreSentInOrder (A.meaning a.now) (B.meaning b.now)
         Sends.Any all.items) }
 {
-    keys.push(stranger(a, b))?;
+    let mut all = keys;
+    all.extend_from_slice(&keys_of_b_alone(alloc, a, b)?)?;
+    all.push(stranger(a, b))?;
+    Ok(all)
+}
+
+/// The keys that B alone knows.
+fn keys_of_b_alone<A: Book, B: Book>(alloc: Global, a: &A, b: &B) -> Result<Vec<Key>, AllocError>
+    ensures { IfOk result (λ keys. keys.items
+        ≡ keys_of_b_alone (A.meaning a.now) (B.meaning b.now)) }
+{
+    let all = keys_of(alloc, b)?;
+    let mut keys = Vec::new(alloc);
+    for key in &all {
+        push_unknown(&mut keys, a, *key)?;
+    }
     Ok(keys)
+}
+
+/// Adds a key that A doesn't know.
+fn push_unknown<A: Book>(keys: &mut Vec<Key>, a: &A, key: Key) -> Result<(), AllocError>
+    ensures { OnOk result (keys.new.items
+        ≡ keys.old.items ++ filter (is_unknown (A.meaning a.now)) (key ∷ [])) }
+{
+    if a.avp(key).is_none() {
+        keys.push(key)?;
+    }
+    Ok(())
 }
 
 /// The least number that is none of these.
-pub(crate) fn least_missing(mut numbers: Vec<u32>) -> Result<u32, AllocError> {
-    numbers.sort()?;
+pub(crate) fn least_missing(numbers: Vec<u32>) -> Result<u32, AllocError>
+    ensures below { IfOk result (λ least. (n : ℕ) → n < least → Contains numbers.items n) }
+    ensures missing { IfOk result (λ least. (¬ Contains numbers.items least) ⊎ (4294967295 ≤ least)) }
+{
+    let sorted = in_order(numbers)?;
+    Ok(least_beside(&sorted))
+}
+
+fn in_order(numbers: Vec<u32>) -> Result<Vec<u32>, AllocError>
+    ensures sorted { IfOk result (λ sorted. IsNonDecreasing sorted.items) }
+    ensures same { IfOk result (λ sorted. IsPermutation numbers.items sorted.items) }
+{
+    let mut sorted = numbers;
+    sorted.sort()?;
+    Ok(sorted)
+}
+
+/// The least number that is none of these, which are in order. Where all are there, it is the greatest.
+fn least_beside(numbers: &[u32]) -> u32
+    requires { IsNonDecreasing numbers.now }
+    ensures below { (n : ℕ) → n < result → Contains numbers.now n }
+    ensures missing { (¬ Contains numbers.now result) ⊎ (4294967295 ≤ result) }
+{
     let mut least: u32 = 0;
-    for number in &numbers {
+    for number in numbers {
         if *number == least {
             least = least.saturating_add(1);
         }
     }
-    Ok(least)
+    least
 }
 
 /// The AVPs of which there is something to tell, in the order of the lines, and their places by their keys.
@@ -152,7 +184,9 @@ impl Telling {
         sends: Sends,
         unknown: Unknown,
     ) -> Result<Self, AllocError>
-        ensures { IfOk result (IsTelling (A.meaning a.now) (B.meaning b.now) sends unknown) }
+        ensures telling { IfOk result (IsTelling (A.meaning a.now) (B.meaning b.now) sends unknown) }
+        ensures exact { IfOk result
+            (IsExactTelling (A.meaning a.now) (B.meaning b.now) sends unknown) }
     {
         let keys = sent_keys(alloc, a, b, sends)?;
         let mut telling = Telling::empty(alloc);
@@ -179,8 +213,11 @@ impl Telling {
         unknown: Unknown,
         keys: &[Key],
     ) -> Result<(), AllocError>
-        requires { AreTold (A.meaning a.now) (B.meaning b.now) sends unknown [] self.old }
-        ensures { OnOk result (AreTold (A.meaning a.now) (B.meaning b.now) sends unknown
+        requires told { AreTold (A.meaning a.now) (B.meaning b.now) sends unknown [] self.old }
+        requires exact { AreExactlyTold (A.meaning a.now) (B.meaning b.now) sends unknown [] self.old }
+        ensures told { OnOk result (AreTold (A.meaning a.now) (B.meaning b.now) sends unknown
+            keys.now self.new) }
+        ensures exact { OnOk result (AreExactlyTold (A.meaning a.now) (B.meaning b.now) sends unknown
             keys.now self.new) }
     {
         for key in keys {

@@ -1,11 +1,12 @@
 //! The lengths of the AVPs that A's side sends.
 ghost use Rattle.std.specs.Prelude.{◌≡◌, ◌⊎◌, IfOk, IsSome, MatchBool, None, map};
-ghost use Rattle.std.specs.List.Sorted.{IsPermutation, IsNonDecreasingBy};
+ghost use Rattle.std.specs.List.Sorted.{IsPermutation, IsNonDecreasingBy, IsStableByKey};
+ghost use Rattle.std.specs.Ordering.{nat_cmp};
 ghost use Rattle.dia_book.specs.Dictionary.{Dictionary, entry_of};
 ghost use Rattle.dia_least.specs.Floors.{AreFloors};
 ghost use Rattle.dia_breaking.specs.Lengths.{listed_length, other_length, AreOthers};
-ghost use Rattle.dia_breaking.specs.Lengths.{AreSameLengths};
-ghost use Rattle.dia_breaking.specs.SentKeys.{IsStrange};
+ghost use Rattle.dia_breaking.specs.Lengths.{AreEntryLengths, AreExactlyOthers, AreSameLengths};
+ghost use Rattle.dia_breaking.specs.SentKeys.{IsStrange, IsStranger};
 
 use dia_book::{Book, Key};
 use dia_least::{Least, least_lengths, shortest_head};
@@ -30,6 +31,10 @@ impl<'a, A: Book> Lengths<'a, A> {
     pub fn new<B: Book>(alloc: Global, book: &'a A, b: &B, sends: Sends) -> Result<Self, AllocError>
         ensures others { IfOk result (λ lengths. AreOthers (A.meaning book.now)
             (B.meaning b.now) lengths.sends lengths.entries.items lengths.others.items) }
+        ensures exact { IfOk result (λ lengths. AreExactlyOthers (A.meaning book.now)
+            (B.meaning b.now) lengths.sends lengths.entries.items lengths.others.items) }
+        ensures entries { IfOk result (λ lengths. AreEntryLengths (A.meaning book.now)
+            lengths.least.lengths.items lengths.entries.items) }
         ensures book { IfOk result (λ lengths. lengths.book.now ≡ book.now) }
         ensures sends { IfOk result (λ lengths. lengths.sends ≡ sends) }
         ensures floors { IfOk result (λ lengths. AreFloors (A.meaning book.now) sends
@@ -50,6 +55,11 @@ impl<'a, A: Book> Lengths<'a, A> {
         ensures others { (db : Dictionary) → entry_of db key ≡ None
             → IfOk result (λ lengths. AreOthers (A.meaning book.now) db
             lengths.sends lengths.entries.items lengths.others.items) }
+        ensures exact { (db : Dictionary) → IsStranger (A.meaning book.now) db key
+            → IfOk result (λ lengths. AreExactlyOthers (A.meaning book.now) db
+            lengths.sends lengths.entries.items lengths.others.items) }
+        ensures entries { IfOk result (λ lengths. AreEntryLengths (A.meaning book.now)
+            lengths.least.lengths.items lengths.entries.items) }
         ensures book { IfOk result (λ lengths. lengths.book.now ≡ book.now) }
         ensures sends { IfOk result (λ lengths. lengths.sends ≡ Sends.Any) }
         ensures same { IfOk result (λ lengths. AreSameLengths (A.meaning book.now)
@@ -72,6 +82,11 @@ impl<'a, A: Book> Lengths<'a, A> {
         ensures others { (db : Dictionary)
             → IfOk result (λ lengths. AreOthers (A.meaning book.now) db
             lengths.sends lengths.entries.items lengths.others.items) }
+        ensures exact { (db : Dictionary)
+            → IfOk result (λ lengths. AreExactlyOthers (A.meaning book.now) db
+            lengths.sends lengths.entries.items lengths.others.items) }
+        ensures entries { IfOk result (λ lengths. AreEntryLengths (A.meaning book.now)
+            lengths.least.lengths.items lengths.entries.items) }
         ensures book { IfOk result (λ lengths. lengths.book.now ≡ book.now) }
         ensures sends { IfOk result (λ lengths. lengths.sends ≡ Sends.Known) }
         ensures same { IfOk result (λ lengths. AreSameLengths (A.meaning book.now)
@@ -93,6 +108,11 @@ impl<'a, A: Book> Lengths<'a, A> {
         ensures others { (db : Dictionary)
             → IfOk result (λ lengths. AreOthers (A.meaning book.now) db
             lengths.sends lengths.entries.items lengths.others.items) }
+        ensures exact { (db : Dictionary)
+            → IfOk result (λ lengths. AreExactlyOthers (A.meaning book.now) db
+            lengths.sends lengths.entries.items lengths.others.items) }
+        ensures entries { IfOk result (λ lengths. AreEntryLengths (A.meaning book.now)
+            lengths.least.lengths.items lengths.entries.items) }
         ensures book { IfOk result (λ lengths. lengths.book.now ≡ book.now) }
         ensures sends { IfOk result (λ lengths. lengths.sends ≡ Sends.Listed) }
         ensures same { IfOk result (λ lengths. AreSameLengths (A.meaning book.now)
@@ -132,6 +152,9 @@ fn in_order<A: Book>(alloc: Global, book: &A, entries: &[u64]) -> Result<Vec<Key
         (listed_length (A.meaning book.now) Sends.Known entries.now) keys.items) }
     ensures all { IfOk result (λ keys. IsPermutation
         (map (λ e. e.key) (A.meaning book.now).entries) keys.items) }
+    ensures stable { IfOk result (λ keys. IsStableByKey
+        (listed_length (A.meaning book.now) Sends.Known entries.now) nat_cmp
+        (map (λ e. e.key) (A.meaning book.now).entries) keys.items) }
 {
     let mut keys = keys_of(alloc, book)?;
     keys.sort_by_key(|key| length_of(book, Sends::Known, entries, *key))?;
@@ -154,6 +177,7 @@ pub(crate) fn stranger<A: Book, B: Book>(a: &A, b: &B) -> Key
     ensures vendor { result.vendor ≡ 0 }
     ensures first { entry_of (A.meaning a.now) result ≡ None }
     ensures second { entry_of (B.meaning b.now) result ≡ None }
+    ensures exact { IsStranger (A.meaning a.now) (B.meaning b.now) result }
 {
     for code in 0..u32::MAX {
         let key = Key { code, vendor: 0 };
@@ -177,7 +201,7 @@ fn lengths_of_entries<A: Book>(
     book: &A,
     least: &Least,
 ) -> Result<Vec<u64>, AllocError>
-    ensures { IfOk result (λ lengths. AreSameLengths (A.meaning book.now)
+    ensures { IfOk result (λ lengths. AreEntryLengths (A.meaning book.now)
         least.now.lengths.items lengths.items) }
 {
     let mut lengths = Vec::new(alloc);

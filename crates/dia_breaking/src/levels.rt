@@ -21,11 +21,13 @@ pub(crate) struct LevelCost {
 }
 
 impl LevelCost {
-    ghost use Rattle.dia_breaking.specs.LevelCosts.{IsCostOf, with_listed, with_other};
+    ghost use Rattle.dia_breaking.specs.LevelCosts.{IsCostOf, cost_of, with_listed, with_other};
 
     pub fn new<A: Book, C: Costs>(a: &A, def: DefId, costs: &C) -> Self
         requires { def < length (definitions (A.meaning a.now)) }
-        ensures { OtherIsShortest (C.other_length costs.now) (C.other_keys costs.now)
+        ensures exact { result ≡ cost_of (C.listed_length costs.now) (C.other_length costs.now)
+            (C.other_keys costs.now) (rules_in (A.meaning a.now) def) }
+        ensures within { OtherIsShortest (C.other_length costs.now) (C.other_keys costs.now)
             (rules_in (A.meaning a.now) def) → IsCostOf
             (C.listed_length costs.now) (C.other_length costs.now)
             (rules_in (A.meaning a.now) def) result }

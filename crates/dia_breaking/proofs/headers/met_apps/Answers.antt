@@ -3,6 +3,7 @@ use Rattle.std.specs.Prelude.{All}
 use Rattle.std.proofs.lemmas.List.{take_all}
 use Rattle.dia_book.specs.Dictionary.{selected}
 use Rattle.dia_breaking.specs.Headers.{IsMetFor}
+use Rattle.dia_breaking.proofs.FoundApps.{selects_it}
 use Rattle.dia_breaking.proofs.Lists.{all_taken}
 use Rattle.dia_breaking.proofs.headers.met_apps.Goals as goal
 use Rattle.dia_breaking.proofs.headers.met_apps.Goals.{then-selects+else-not-is_met_at, else-selects}
@@ -17,7 +18,7 @@ loop-app-preserved g c =
     → IsMetFor (g.B.Book.meaning c.args.b.now) found.sites.items found.lines.items head app in
     elim c.if-selects.branch [
       | then-selects+else-not-is_met_at w ↦ all_taken P apps i 0 (omega arith) c.loop-app.invariant (λ select. w.is_met_at.ensures w.if-not-is_met_at.false)
-      | else-selects w ↦ all_taken P apps i 0 (omega arith) c.loop-app.invariant (λ select. absurd (let e : false ≡ true = sym w.if-selects.false ∙ c.selects.ensures select in cc))
+      | else-selects w ↦ all_taken P apps i 0 (omega arith) c.loop-app.invariant (λ select. absurd (let e : false ≡ true = sym w.if-selects.false ∙ c.selects.ensures ∙ selects_it (g.A.Book.meaning c.args.a.now) found.command head _ select in cc))
     ]
 
 pub returns : goal.returns

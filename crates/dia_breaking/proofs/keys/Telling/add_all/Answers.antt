@@ -1,7 +1,8 @@
-use Rattle.std.proofs.Common.{sym, subst, take}
-use Rattle.std.proofs.lemmas.List.{take_more}
-use Rattle.dia_breaking.specs.Telling.{AreTold}
+use Rattle.std.proofs.Common.{sym, subst, take, get_or}
+use Rattle.std.proofs.lemmas.List.{take_all, take_more}
+use Rattle.dia_breaking.specs.Telling.{AreExactlyTold, AreTold}
 use Rattle.dia_breaking.proofs.Tellings.{one_more_told}
+use Rattle.dia_breaking.proofs.TellingPlaces.{one_more_exactly}
 use Rattle.dia_breaking.proofs.keys.Telling.add_all.Goals as goal
 
 pub loop-key-preserved : goal.loop-key-preserved
@@ -10,5 +11,10 @@ loop-key-preserved g c =
     let db = g.B.Book.meaning c.args.b.now in
     let keys = c.args.keys.now in
     let i = c.loop-key.key-index in
-    subst (λ ks. AreTold da db c.args.sends c.args.unknown ks c.add.new.self) (sym (take_more keys i (record { code = 0; vendor = 0 }) c.loop-key-test.true))
-    (one_more_told da db c.args.sends c.args.unknown (take i keys) _ c.own_of.result c.loop-key.self c.add.new.self c.loop-key.invariant c.own_of.ensures c.in_ok-add.ensures)
+    let more = sym (take_more keys i (record { code = 0; vendor = 0 }) c.loop-key-test.true) in (
+      subst (λ ks. AreTold da db c.args.sends c.args.unknown ks c.add.new.self) more
+          (one_more_told da db c.args.sends c.args.unknown (take i keys) _ c.own_of.result c.loop-key.self c.add.new.self c.loop-key.invariant.0 c.own_of.ensures.told c.in_ok-add.ensures),
+      subst (λ ks. AreExactlyTold da db c.args.sends c.args.unknown ks c.add.new.self) more
+          (one_more_exactly da db c.args.sends c.args.unknown (take i keys) _ c.own_of.result c.loop-key.self c.add.new.self c.loop-key.invariant.1 c.own_of.ensures.told.key_is c.own_of.ensures.exact
+          c.in_ok-add.ensures),
+    )

@@ -14,8 +14,8 @@ invariant_of-result g c = record {
   shortest = first_is_shortest (g.A.Book.meaning c.args.a.now) (g.B.Book.meaning c.args.b.now) c.in_ok-lengths.lengths.sends c.in_ok-lengths.lengths.entries.items c.in_ok-lengths.lengths.others.items
       (g.met.A.Book.sound c.args.a.now) (g.met.B.Book.sound c.args.b.now) c.in_ok-lengths.ensures.others;
   floors = ∣ c.in_ok-lengths.ensures.floors ∣₁;
-  told = ∣ subst (IsTelling (g.A.Book.meaning c.args.a.now) (g.B.Book.meaning c.args.b.now) c.args.sends c.args.unknown) (sym c.in_ok-telling.ensures.ok) c.in_ok-new.ensures ∣₁;
-  group_lines = ∣ c.in_ok-outlooks.ensures ∣₁;
+  told = ∣ subst (IsTelling (g.A.Book.meaning c.args.a.now) (g.B.Book.meaning c.args.b.now) c.args.sends c.args.unknown) (sym c.in_ok-telling.ensures.ok) c.in_ok-new.ensures.telling ∣₁;
+  group_lines = ∣ c.in_ok-outlooks.ensures.lines ∣₁;
   first_apps = subst (λ both. AreApps (g.A.Book.meaning c.args.a.now) both.first) (sym c.in_ok-apps.ensures.ok) c.in_ok-named.ensures.first;
   second_apps = subst (λ both. AreApps (g.B.Book.meaning c.args.b.now) both.second) (sym c.in_ok-apps.ensures.ok) c.in_ok-named.ensures.second;
 }

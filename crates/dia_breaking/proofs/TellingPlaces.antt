@@ -1,0 +1,111 @@
+-- One key more that is told exactly, and the places of what is told.
+use Rattle.std.proofs.Common.{◌≡◌, ℕ, ◌<◌, arith, Bool, true, false, List, [], ◌∷◌, ◌++◌, length, map, filter, Option, Some, None, refl, sym, ap, subst, ◌∙◌, inl, inr}
+use Rattle.std.specs.Prelude.{◌⊎◌, ◌&&◌, is_some, IsSome, All, Contains, slice_get, position, if◌then◌else◌}
+use Rattle.std.specs.HashMap.{get}
+use Rattle.std.proofs.lemmas.Bool.{both_ways}
+use Rattle.std.proofs.lemmas.Option.{none-some, same_Some}
+use Rattle.std.proofs.lemmas.List.{append-nil, map-append}
+use Rattle.std.proofs.lemmas.List.Elements.{All-nil, All-push, Contains-push_cases, filter-append}
+use Rattle.dia_wire.specs.declared.Key.{Key}
+use Rattle.dia_book.specs.Keys.{same_key}
+use Rattle.dia_book.specs.Dictionary.{Dictionary, IsDictionary}
+use Rattle.dia_book.proofs.Members.{AreApart, AreApart-filter, position-is_some}
+use Rattle.dia_book.proofs.SameKeys.{same_key-equal, same_key-refl, same_key-true}
+use Rattle.dia_check.proofs.OneKeyMore.{at_position}
+use Rattle.dia_policy.specs.declared.Unknown.{Unknown}
+use Rattle.dia_policy.specs.declared.Sends.{Sends}
+use Rattle.dia_breaking.specs.declared.keys.Own.{Own}
+use Rattle.dia_breaking.specs.declared.keys.Telling.{Telling}
+use Rattle.dia_breaking.specs.SentKeys.{AreSentInOrder}
+use Rattle.dia_breaking.specs.Telling.{Adds, AreExactlyTold, AreOwnOf, IsExactTelling, IsExactlyOwn, is_told}
+use Rattle.dia_breaking.proofs.Lists.{contains_at}
+use Rattle.dia_breaking.proofs.OrderedKeys.{apart_of_images, sent_apart}
+
+no_member : {X : Type 0} (x : X) → Contains [] x → ⊥
+no_member x (i, within, is) = absurd (let e : i < 0 = within in omega (arith, e))
+
+module _ (da db : Dictionary) (who : Sends) (u : Unknown) where
+  pub none_exactly_told : (telling : Telling) → telling.own.items ≡ [] → AreExactlyTold da db who u [] telling
+  none_exactly_told telling items = record {
+    all = [];
+    each = (refl, All-nil (IsExactlyOwn da db who u));
+    told_are = items;
+    have_places = λ own is. absurd (no_member own (subst (λ (xs : List Own). Contains xs own) items is));
+  }
+
+  module _ (keys : List Key) (key : Key) (own : Own) (old new : Telling) (told : AreExactlyTold da db who u keys old) (same : own.key ≡ key) (is : IsExactlyOwn da db who u own) (adds : Adds own old new) where
+    items_more : (b : Bool) → is_told own ≡ b → new.own.items ≡ (if b then old.own.items ++ own ∷ [] else old.own.items) → new.own.items ≡ filter is_told (told.all ++ own ∷ [])
+    items_more true e items =
+        items ∙ ap (λ (xs : List Own). xs ++ own ∷ []) told.told_are ∙ sym (filter-append is_told told.all (own ∷ []) ∙ ap (λ (b : Bool). filter is_told told.all ++ (if b then own ∷ [] else [])) e)
+    items_more false e items = items ∙ told.told_are ∙ sym (filter-append is_told told.all (own ∷ []) ∙ ap (λ (b : Bool). filter is_told told.all ++ (if b then own ∷ [] else [])) e ∙ append-nil (filter is_told told.all))
+
+    places_more : (b : Bool) → is_told own ≡ b → (o : Own) → Contains new.own.items o → IsSome (get same_key new.places o.key)
+    places_more b e o i = by b e (subst (λ (xs : List Own). Contains xs o) (adds.items ∙ ap (λ (t : Bool). if t then old.own.items ++ own ∷ [] else old.own.items) e) i)
+      where
+        here : (b c : Bool) → is_told own ≡ b → same_key own.key o.key ≡ c → get same_key new.places o.key ≡ (if b && c then Some (length old.own.items) else get same_key old.places o.key)
+        here b c e f = adds.places o.key ∙ ap (λ (t : Bool). if t && same_key own.key o.key then Some (length old.own.items) else get same_key old.places o.key) e
+            ∙ ap (λ (t : Bool). if b && t then Some (length old.own.items) else get same_key old.places o.key) f
+
+        kept : (b c : Bool) → get same_key new.places o.key ≡ (if b && c then Some (length old.own.items) else get same_key old.places o.key) → IsSome (get same_key old.places o.key) → IsSome (get same_key new.places o.key)
+        kept true true is had = ap (λ (p : Option ℕ). is_some p) is
+        kept true false is had = ap (λ (p : Option ℕ). is_some p) is ∙ had
+        kept false c is had = ap (λ (p : Option ℕ). is_some p) is ∙ had
+
+        by : (b : Bool) → is_told own ≡ b → Contains (if b then old.own.items ++ own ∷ [] else old.own.items) o → IsSome (get same_key new.places o.key)
+        by false e i = kept false (same_key own.key o.key) (here false (same_key own.key o.key) e refl) (told.have_places o i)
+        by true e i = last (Contains-push_cases old.own.items own o i)
+          where
+            last : Contains old.own.items o ⊎ (own ≡ o) → IsSome (get same_key new.places o.key)
+            last (inl j) = kept true (same_key own.key o.key) (here true (same_key own.key o.key) e refl) (told.have_places o j)
+            last (inr f) = ap (λ (p : Option ℕ). is_some p) (here true true e (same_key-equal own.key o.key (ap (λ (x : Own). x.key) f)))
+
+    pub one_more_exactly : AreExactlyTold da db who u (keys ++ key ∷ []) new
+    one_more_exactly = record {
+      all = told.all ++ own ∷ [];
+      each = (
+        map-append (λ (o : Own). o.key) told.all (own ∷ []) ∙ ap (λ (ks : List Key). ks ++ own.key ∷ []) told.each.0 ∙ ap (λ (k : Key). keys ++ k ∷ []) same,
+        All-push (IsExactlyOwn da db who u) told.all own told.each.1 is,
+      );
+      told_are = items_more (is_told own) refl adds.items;
+      have_places = places_more (is_told own) refl;
+    }
+
+  -- ---- places
+
+  module _ (telling : Telling) (placed : (key : Key) (place : ℕ) → get same_key telling.places key ≡ Some place → (own : Own) × (slice_get telling.own.items place ≡ Some own) × (own.key ≡ key))
+      (have : (own : Own) → Contains telling.own.items own → IsSome (get same_key telling.places own.key)) (apart : AreApart (λ (own : Own). own.key) telling.own.items) where
+    abbrev has_key : Key → Own → Bool
+    has_key key own = same_key own.key key
+
+    place_of : (key : Key) → get same_key telling.places key ≡ position (has_key key) telling.own.items
+    place_of key = by (position (has_key key) telling.own.items) refl
+      where
+        there : (j : ℕ) (x : Own) → slice_get telling.own.items j ≡ Some x → x.key ≡ key → (p : Option ℕ) → get same_key telling.places key ≡ p → IsSome p → p ≡ Some j
+        there j x at same None e some = absurd (both_ways false refl some)
+        there j x at same (Some place) e some = let (own, here, k) = placed key place e in ap (λ (n : ℕ). Some n) (apart place j own x here at (k ∙ sym same))
+
+        missing : position (has_key key) telling.own.items ≡ None → (p : Option ℕ) → get same_key telling.places key ≡ p → p ≡ None
+        missing none None e = refl
+        missing none (Some place) e =
+            let (own, here, k) = placed key place e in
+            absurd (both_ways (is_some (position (has_key key) telling.own.items)) (ap (λ (o : Option ℕ). is_some o) none) (position-is_some (has_key key) telling.own.items place own here (same_key-equal own.key key k)))
+
+        by : (o : Option ℕ) → position (has_key key) telling.own.items ≡ o → get same_key telling.places key ≡ position (has_key key) telling.own.items
+        by None e = missing e (get same_key telling.places key) refl ∙ sym e
+        by (Some j) e =
+            let (x, at, is) = at_position (has_key key) telling.own.items j e in
+            let same = same_key-true x.key key is in
+            let some : IsSome (get same_key telling.places key) = subst (λ (k : Key). IsSome (get same_key telling.places k)) same (have x (contains_at telling.own.items j x at)) in
+            there j x at same (get same_key telling.places key) refl some ∙ sym e
+
+  pub exact_telling : (keys : List Key) (telling : Telling) → IsDictionary da → IsDictionary db → AreSentInOrder da db who keys → AreExactlyTold da db who u keys telling
+      → ((key : Key) (place : ℕ) → get same_key telling.places key ≡ Some place → (own : Own) × (slice_get telling.own.items place ≡ Some own) × (own.key ≡ key)) → IsExactTelling da db who u telling
+  exact_telling keys telling sa sb sent told placed = record {
+    keys = keys;
+    all = told.all;
+    sent = sent;
+    each = told.each;
+    told_are = told.told_are;
+    places = place_of telling placed told.have_places (subst (AreApart (λ (own : Own). own.key)) (sym told.told_are)
+        (AreApart-filter (λ (own : Own). own.key) is_told told.all (apart_of_images (λ (own : Own). own.key) told.all keys told.each.0 (sent_apart da db sa sb who keys sent))));
+  }

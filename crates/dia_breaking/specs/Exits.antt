@@ -1,0 +1,48 @@
+-- Where the levels of a definition lead.
+use Rattle.std.specs.Prelude.{◌≡◌, ℕ, ◌-◌, List, Option, Some, None, MatchOption, All, map}
+use Rattle.std.specs.List.{filter_map}
+use Rattle.std.specs.Option.{option_map, option_and_then}
+use Rattle.std.specs.HashMap.{get}
+use Rattle.dia_wire.specs.declared.Key.{Key}
+use Rattle.dia_book.specs.Keys.{same_key}
+use Rattle.dia_book.specs.declared.DRule.{DRule}
+use Rattle.dia_book.specs.Dictionary.{Dictionary}
+use Rattle.dia_least.specs.Floors.{shortest_head}
+use Rattle.dia_breaking.specs.declared.exits.Exits.{Exits}
+use Rattle.dia_breaking.specs.declared.exits.Inner.{Inner}
+use Rattle.dia_breaking.specs.declared.exits.Outlook.{Outlook}
+use Rattle.dia_breaking.specs.declared.keys.Own.{Own}
+use Rattle.dia_breaking.specs.declared.keys.Telling.{Telling}
+use Rattle.dia_breaking.specs.declared.levels.LevelCost.{LevelCost}
+use Rattle.dia_breaking.specs.LevelCosts.{cost_of, with_listed}
+use Rattle.dia_breaking.specs.Outlooks.{group_rules}
+use Rattle.dia_breaking.specs.Telling.{AreGroups}
+
+-- the place of the rule's key in what is told, if it is told, and the length of a least level that has an AVP of it
+abbrev pub exit_by : Telling → (Key → ℕ) → LevelCost → DRule → Option (ℕ × ℕ)
+exit_by telling listed cost rule = option_and_then (λ key. option_map (λ place. (place, with_listed cost rule (listed key))) (get same_key telling.places key)) rule.key
+
+-- those of the rules, in their order, with the costs of their levels
+pub record AreExits (telling : Telling) (listed other : Key → ℕ) (others : List Key) (rules : List DRule) (exits : Exits) : Type 0 where
+  pub base : exits.base ≡ (cost_of listed other others rules).base
+  pub listed_are : exits.listed.items ≡ filter_map (exit_by telling listed (cost_of listed other others rules)) rules
+  pub beside : exits.beside ≡ (cost_of listed other others rules).beside
+
+-- of a group of both: what its least level takes, and where A's levels lead
+pub record IsInner (da : Dictionary) (telling : Telling) (listed other : Key → ℕ) (others : List Key) (key : Key) (inner : Inner) : Type 0 where
+  pub least : inner.least ≡ listed key - shortest_head key
+  pub exits : AreExits telling listed other others (group_rules da key) inner.exits
+
+-- a group of both has such a level, and no other AVP has one
+abbrev pub IsInnerOrNone : Dictionary → Dictionary → Telling → (Key → ℕ) → (Key → ℕ) → List Key → Key → Option Inner → Type 0
+IsInnerOrNone da db telling listed other others key inner = MatchOption inner (¬ AreGroups da db key) (λ inner. AreGroups da db key × IsInner da telling listed other others key inner)
+
+-- of an AVP of which there is something to tell: its least length through a wildcard, and its group, if it is one for both
+pub record IsOutlook (da db : Dictionary) (telling : Telling) (listed other : Key → ℕ) (others : List Key) (outlook : Outlook) : Type 0 where
+  pub other_is : outlook.other ≡ other outlook.key
+  pub inner_is : IsInnerOrNone da db telling listed other others outlook.key outlook.inner
+
+-- of all that is told, in its order
+abbrev pub AreOutlooks : Dictionary → Dictionary → Telling → (Key → ℕ) → (Key → ℕ) → List Key → List Outlook → Type 0
+AreOutlooks da db telling listed other others outlooks =
+    (map (λ outlook. outlook.key) outlooks ≡ map (λ own. own.key) telling.own.items) × All (IsOutlook da db telling listed other others) outlooks
