@@ -1,17 +1,13 @@
-use Rattle.std.proofs.Common.{◌++◌, ◌∷◌, [], List, arith, get_or, sym, ap, subst, ◌∙◌}
+use Rattle.std.proofs.Common.{arith, get_or}
 use Rattle.std.proofs.lemmas.Option.{slice_get-get_or}
 use Rattle.dia_ways.specs.declared.graph.Step.{Step}
-use Rattle.dia_ways.specs.declared.stages.Stage.{Stage as OwnStage}
-use Rattle.dia_ways.specs.Stages.{graph_in, AreStages}
+use Rattle.dia_ways.specs.Stages.{graph_in}
 use Rattle.dia_ways.proofs.ListedPlaces.{stages_none, stages_more}
 use Rattle.dia_ways.proofs.stages.stages.Goals as goal
 
 pub loop-step-init : goal.loop-step-init
 loop-step-init c =
-    let x = c.in_ok-new.field-0 in
-    let g = graph_in c.args.ways in
-    let e = c.in_ok-push.ensures.items ∙ ap (λ (l : List OwnStage). l ++ x ∷ []) c.new-stages.ensures.items in
-    subst (λ (l : List OwnStage). AreStages g c.args.steps.now 0 l) (sym e) (stages_none g c.args.steps.now x c.in_ok-new.ensures)
+    rw c.in_ok-push.ensures.items (rw c.new-stages.ensures.items (stages_none (graph_in c.args.ways) c.args.steps.now c.in_ok-new.field-0 c.in_ok-new.ensures))
 
 pub loop-step-preserved : goal.loop-step-preserved
 loop-step-preserved c =
