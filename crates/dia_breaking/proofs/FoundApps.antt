@@ -1,5 +1,5 @@
 -- The applications by which messages are looked at, as they are found.
-use Rattle.std.proofs.Common.{◌≡◌, ℕ, zero, suc, ◌+◌, ◌<◌, ◌≤◌, Bool, true, false, List, [], ◌∷◌, ◌++◌, length, filter, take, Option, Some, None, Result, refl, sym, ap, subst, ◌∙◌, arith, inl, inr}
+use Rattle.std.proofs.Common.{◌≡◌, ℕ, zero, suc, ◌+◌, ◌<◌, ◌≤◌, Bool, true, false, List, [], ◌∷◌, ◌++◌, filter, take, Option, Some, None, Result, refl, sym, ap, subst, ◌∙◌, arith, inl, inr}
 use Rattle.std.specs.Prelude.{◌⊎◌, ◌||◌, Contains, IfOk, IfSome, MatchOption, nat_eq, slice_get}
 use Rattle.std.proofs.lemmas.Bool.{both_ways, cases_order, eq-eqb, eqb-false, eqb-true, or_cases, or_parts}
 use Rattle.std.proofs.lemmas.List.Elements.{filter-append}

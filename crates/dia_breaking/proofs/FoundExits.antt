@@ -1,5 +1,5 @@
 -- Where the rules of a definition lead, as it is found.
-use Rattle.std.proofs.Common.{◌≡◌, ℕ, ◌+◌, ◌-◌, ◌≤◌, List, [], ◌∷◌, ◌++◌, length, map, take, Option, Some, None, refl, sym, ap, subst, ◌∙◌}
+use Rattle.std.proofs.Common.{◌≡◌, ℕ, ◌+◌, ◌-◌, ◌≤◌, List, [], ◌∷◌, ◌++◌, length, map, take, Option, Some, None, sym, ap, subst, ◌∙◌}
 use Rattle.std.specs.Prelude.{All, is_some, option_to_list, slice_get}
 use Rattle.std.specs.List.{filter_map}
 use Rattle.std.specs.Option.{option_map_or}
@@ -12,7 +12,6 @@ use Rattle.dia_least.specs.Floors.{shortest_head}
 use Rattle.dia_book.specs.declared.DRule.{DRule}
 use Rattle.dia_compat.specs.Tests.{rules_in, wildcard_of}
 use Rattle.dia_levels.specs.LevelTests.{too_long}
-use Rattle.dia_breaking.specs.declared.exits.Exits.{Exits}
 use Rattle.dia_breaking.specs.declared.exits.Inner.{Inner}
 use Rattle.dia_breaking.specs.declared.exits.Outlook.{Outlook}
 use Rattle.dia_breaking.specs.declared.keys.Own.{Own}

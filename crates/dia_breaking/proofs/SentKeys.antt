@@ -1,18 +1,14 @@
 -- The keys that the sender's side sends, and one that neither dictionary knows.
 use Rattle.std.proofs.Common.{◌≡◌, ℕ, zero, suc, ◌+◌, ◌<◌, ◌≤◌, Bool, true, false, List, [], ◌∷◌, ◌++◌, length, map, Option, Some, None, refl, sym, ap, subst, ◌∙◌, arith, inl, inr}
-use Rattle.std.specs.Prelude.{◌⊎◌, ◌&&◌, not, is_some, IsSome, MatchBool, Contains, slice_get}
+use Rattle.std.specs.Prelude.{◌⊎◌, ◌&&◌, not, is_some, IsSome, MatchBool, Contains}
 use Rattle.std.proofs.lemmas.Bool.{and_from, and_left, and_right}
 use Rattle.std.proofs.lemmas.List.{length-append, length-map}
 use Rattle.std.proofs.lemmas.List.Elements.{Contains-append_left, Contains-append_right, Contains-push}
-use Rattle.std.proofs.lemmas.Option.{slice_get_within}
 use Rattle.dia_wire.specs.declared.Key.{Key}
-use Rattle.dia_book.specs.Keys.{same_key}
-use Rattle.dia_book.specs.Dictionary.{Dictionary, DictEntry, IsDictionary, entry_of}
+use Rattle.dia_book.specs.Dictionary.{Dictionary, IsDictionary, entry_of}
 use Rattle.dia_book.proofs.Members.{at_Contains, into_filter}
-use Rattle.dia_book.proofs.SameKeys.{same_key-true}
-use Rattle.dia_check.proofs.OneKeyMore.{at_position}
 use Rattle.dia_compat.proofs.RunsOfFixedRules.{IsIn}
-use Rattle.dia_compat.proofs.MemberCounts.{in_contains, contains_in, in_left, in_right}
+use Rattle.dia_compat.proofs.MemberCounts.{contains_in, in_left, in_right}
 use Rattle.dia_compat.proofs.ReachedKeys.{some_of}
 use Rattle.dia_policy.specs.declared.Sends.TheVariants.{Any, Known, Listed}
 use Rattle.dia_breaking.specs.SentKeys.{AreSentInOrder, AreSentKeys, HasKeys, IsStrange, entry_keys, keys_of_b_alone}

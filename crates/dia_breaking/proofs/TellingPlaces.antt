@@ -3,21 +3,20 @@ use Rattle.std.proofs.Common.{◌≡◌, ℕ, ◌<◌, arith, Bool, true, false,
 use Rattle.std.specs.Prelude.{◌⊎◌, ◌&&◌, is_some, IsSome, All, Contains, slice_get, position, if◌then◌else◌}
 use Rattle.std.specs.HashMap.{get}
 use Rattle.std.proofs.lemmas.Bool.{both_ways}
-use Rattle.std.proofs.lemmas.Option.{none-some, same_Some}
 use Rattle.std.proofs.lemmas.List.{append-nil, map-append}
 use Rattle.std.proofs.lemmas.List.Elements.{All-nil, All-push, Contains-push_cases, filter-append}
 use Rattle.dia_wire.specs.declared.Key.{Key}
 use Rattle.dia_book.specs.Keys.{same_key}
 use Rattle.dia_book.specs.Dictionary.{Dictionary, IsDictionary}
 use Rattle.dia_book.proofs.Members.{AreApart, AreApart-filter, position-is_some}
-use Rattle.dia_book.proofs.SameKeys.{same_key-equal, same_key-refl, same_key-true}
+use Rattle.dia_book.proofs.SameKeys.{same_key-equal, same_key-true}
 use Rattle.dia_check.proofs.OneKeyMore.{at_position}
 use Rattle.dia_policy.specs.declared.Unknown.{Unknown}
 use Rattle.dia_policy.specs.declared.Sends.{Sends}
 use Rattle.dia_breaking.specs.declared.keys.Own.{Own}
 use Rattle.dia_breaking.specs.declared.keys.Telling.{Telling}
 use Rattle.dia_breaking.specs.SentKeys.{AreSentInOrder}
-use Rattle.dia_breaking.specs.Telling.{Adds, AreExactlyTold, AreOwnOf, IsExactTelling, IsExactlyOwn, is_told}
+use Rattle.dia_breaking.specs.Telling.{Adds, AreExactlyTold, IsExactTelling, IsExactlyOwn, is_told}
 use Rattle.dia_breaking.proofs.Lists.{contains_at}
 use Rattle.dia_breaking.proofs.OrderedKeys.{apart_of_images, sent_apart}
 
