@@ -4,11 +4,13 @@ pub mod Confirmed
 pub mod SentKeys
 pub mod Tellings
 mod OwnBreaks
+pub mod OneSolution
 mod OrderedKeys
 mod TellingPlaces
 mod LeastNumbers
 mod FoundApps
 mod FoundExits
+pub mod OneOrder
 pub mod FloorsOfEntries
 pub mod KeptFloors
 pub mod LevelCosts
