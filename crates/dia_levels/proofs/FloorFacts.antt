@@ -1,8 +1,9 @@
 -- What is computed of the least level is right, and the definitions of a dictionary are sound.
 use Rattle.std.proofs.Common.{◌≡◌, ℕ, ◌+◌, ◌-◌, ◌^◌, ◌<◌, Bool, List, [], Option, Some, None, refl, sym, ap, subst, ◌∙◌, arith}
-use Rattle.std.specs.Prelude.{◌==◌, min, find, option_and_then, slice_get, Result, Ok, Err, IfOk}
+use Rattle.std.specs.Prelude.{◌==◌, min, find, option_and_then, slice_get, Result, Ok, Err, IfOk, Contains}
 use Rattle.std.specs.Option.{option_map_or}
 use Rattle.std.proofs.lemmas.Option.{none-some}
+use Rattle.std.proofs.lemmas.List.Elements.{Contains-append_left}
 use Rattle.dia_wire.specs.declared.Key.{Key}
 use Rattle.dia_book.specs.declared.DRule.{DRule}
 use Rattle.dia_book.specs.Dictionary.{Dictionary, PlainDefinition, IsDictionary, AreRules, definitions}
@@ -13,10 +14,9 @@ use Rattle.dia_compat.proofs.FitInSecond.{all_of}
 use Rattle.dia_levels.specs.declared.floor.Floor.{Floor}
 use Rattle.dia_levels.specs.declared.line.Line.{Line}
 use Rattle.dia_levels.specs.declared.steps.Step.{Step}
-use Rattle.dia_levels.specs.Exact.{least_inner, first_inner, floor_between, BeginWithCountLines}
-use Rattle.dia_levels.specs.Offers.{BeginsWith}
+use Rattle.dia_levels.specs.Exact.{least_inner, first_inner, floor_between, AreOrderLines, HasOrderLines, AreLevelLines}
 use Rattle.dia_levels.specs.Levels.{FirstIsShortest}
-use Rattle.dia_levels.specs.LevelTests.{filler, inner_length, cheapest, outer_length, base_length, needed_up, lines_of}
+use Rattle.dia_levels.specs.LevelTests.{filler, is_outside, inner_length, cheapest, outer_length, base_length, needed_up, lines_of}
 use Rattle.dia_levels.specs.Strangers.{needed}
 use Rattle.dia_levels.specs.Steps.{greatest, steps, IsLeastTaken, IsTakenInOrder, IsLeastOver, IsLeastMost, IsLongUnbounded}
 use Rattle.dia_levels.specs.LevelTests.{swapped}
@@ -108,8 +108,17 @@ floor_is f listed other keys a b base inner first second outer need wild lets_in
         ∙ ap (λ (v : ℕ). floor_at b2 i2 f2 v o1 n1 w1 l1) es ∙ ap (λ (v : ℕ). floor_at b2 i2 f2 s2 v n1 w1 l1) eo ∙ ap (λ (v : ℕ). floor_at b2 i2 f2 s2 o2 v w1 l1) en
         ∙ ap (λ (v : Option DRule). floor_at b2 i2 f2 s2 o2 n2 v l1) ew ∙ ap (λ (v : Bool). floor_at b2 i2 f2 s2 o2 n2 w2 v) el
 
--- the lines of counts stand in front
-pub counts_first : (f : Floor) (most : ℕ) (listed other : Key → ℕ) (keys : List Key) (a b : List DRule) (lines all : List Line) → f ≡ floor_between listed other keys a b → IsLeastMost listed f a b most → IsLongUnbounded b most
-    → lines ≡ lines_of f most listed other a b → BeginsWith lines all → BeginWithCountLines listed other keys a b all
-counts_first f most listed other keys a b lines all is least none same front =
-    (lines, front.0, front.1, (most, subst (λ (g : Floor). IsLeastMost listed g a b most) is least, none, same ∙ ap (λ (g : Floor). lines_of g most listed other a b) is))
+-- the lines of counts, and behind them those of the order
+pub lines_exact : (f : Floor) (most : ℕ) (listed other : Key → ℕ) (keys : List Key) (a b : List DRule) (outer : Option Key) (lines all : List Line) → f ≡ floor_between listed other keys a b → IsLeastMost listed f a b most
+    → IsLongUnbounded b most → outer ≡ find (is_outside a b) keys → lines ≡ lines_of f most listed other a b → HasOrderLines f listed other a b outer lines all → AreLevelLines listed other keys a b all
+lines_exact f most listed other keys a b outer lines all is least none outer_is same has = (
+  lines,
+  has.0,
+  has.1,
+  (most, subst (λ (g : Floor). IsLeastMost listed g a b most) is least, none, same ∙ ap (λ (g : Floor). lines_of g most listed other a b) is),
+  subst (λ (g : Floor). AreOrderLines g listed other a b (find (is_outside a b) keys) b has.0) is (subst (λ (o : Option Key). AreOrderLines f listed other a b o b has.0) outer_is has.2),
+)
+
+-- those of counts are among them
+pub counts_kept : (f : Floor) (listed other : Key → ℕ) (a b : List DRule) (outer : Option Key) (lines all : List Line) → HasOrderLines f listed other a b outer lines all → (line : Line) → Contains lines line → Contains all line
+counts_kept f listed other a b outer lines all has line there = subst (λ (ls : List Line). Contains ls line) (sym has.1) (Contains-append_left lines has.0 line there)

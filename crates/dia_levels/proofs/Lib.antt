@@ -18,6 +18,7 @@ pub mod PairBounds
 pub mod OrderBounds
 pub mod TakenBounds
 pub mod ExactLines
+pub mod LineTurns
 pub mod OrderLines
 pub mod AloneBounds
 pub mod Places

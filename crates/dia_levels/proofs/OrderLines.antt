@@ -1,17 +1,14 @@
 -- Each level that is late by the second definition shows a line of the order.
 use Rattle.std.proofs.Common.{◌≡◌, ℕ, ◌+◌, ◌<◌, ◌≤◌, Bool, true, false, List, [], ◌∷◌, length, Option, Some, None, refl, sym, ap, subst, ◌∙◌, arith, inl, inr}
-use Rattle.std.specs.Prelude.{not, min, ◌&&◌, ◌==◌, nat_le, nat_lt, find, Contains, if◌then◌else◌, position, slice_get}
+use Rattle.std.specs.Prelude.{not, ◌&&◌, nat_le, nat_lt, find, Contains, if◌then◌else◌}
 use Rattle.std.specs.Option.{option_map_or}
-use Rattle.std.proofs.lemmas.Bool.{lt-ltb, le-leb, ltb-true, ltb-false}
-use Rattle.std.proofs.lemmas.Option.{none-some, slice_get_past}
+use Rattle.std.proofs.lemmas.Bool.{lt-ltb, le-leb}
 use Rattle.dia_wire.specs.declared.Key.{Key}
 use Rattle.dia_book.specs.declared.DRule.{DRule}
-use Rattle.dia_book.specs.Dictionary.{AreRules, is_fixed, lists_key, slot_at}
-use Rattle.dia_book.specs.declared.Slot.TheVariants as slot
+use Rattle.dia_book.specs.Dictionary.{AreRules, is_fixed}
 use Rattle.dia_book.proofs.Members.{at_find}
 use Rattle.dia_check.specs.Valid.{Placed, fixed_rules, is_listed}
 use Rattle.dia_check.proofs.KeysByCounts.{fixed_few}
-use Rattle.dia_check.proofs.OneKeyMore.{at_position}
 use Rattle.dia_compat.specs.Tests.{rule_of, wildcard_of}
 use Rattle.dia_compat.proofs.RunsOfFixedRules.{IsIn}
 use Rattle.dia_compat.proofs.MemberCounts.{in_at, in_filter}
@@ -24,8 +21,8 @@ use Rattle.dia_levels.specs.CountsAndRanks.{rank}
 use Rattle.dia_levels.specs.Breaches.{IsLate}
 use Rattle.dia_levels.specs.LeastLevels.{total}
 use Rattle.dia_levels.specs.Orders.{IsTurned}
-use Rattle.dia_levels.specs.Places.{place_of, place}
-use Rattle.dia_levels.specs.LevelTests.{too_long, capped, price, filler, has_room, swapped, many, is_outside}
+use Rattle.dia_levels.specs.Places.{place}
+use Rattle.dia_levels.specs.LevelTests.{too_long, capped, price, filler, is_outside}
 use Rattle.dia_levels.specs.Levels.{ShowsAt, Shows, FirstIsShortest}
 use Rattle.dia_levels.specs.OrderTests.{is_turned, beyond, by_wild, with_others, pair_length}
 use Rattle.dia_levels.specs.Offers.{MayCome, HasLine, HasOrdersFrom}
@@ -33,6 +30,7 @@ use Rattle.dia_levels.proofs.CountsAndRanks.{rules_sound, ranked}
 use Rattle.dia_levels.proofs.Orders.{late_turned, turned_apart}
 use Rattle.dia_levels.proofs.Places.{Placing, placing}
 use Rattle.dia_levels.proofs.LineBounds.{IsFloor, is_rule}
+use Rattle.dia_levels.proofs.LineTurns.{others_more}
 use Rattle.dia_levels.proofs.LeastLevels.{not_both}
 use Rattle.dia_levels.proofs.OrderBounds.{pair_within}
 
@@ -82,18 +80,6 @@ unruled rules k none = by (rule_of rules k) refl
     by (Some r) e = let own = is_rule rules k r e in absurd (not_both (is_listed rules k) (is_listed_by rules k r own.0 own.1) none)
 
 -- ---- keys that neither lists stand for one another
-
-pub others_more : (base filler n p q : ℕ) (o : Option DRule) → p ≤ q → with_others base filler n p o ≤ with_others base filler n q o
-others_more base filler n p q None le = by (n == 0)
-  where
-    by : (t : Bool) → (if t then swapped base 0 p else too_long) ≤ (if t then swapped base 0 q else too_long)
-    by true = omega (arith, le)
-    by false = omega arith
-others_more base filler n p q (Some w) le = by (has_room n w.max)
-  where
-    by : (t : Bool) → (if t then swapped base (many (min n w.min) filler) p else too_long) ≤ (if t then swapped base (many (min n w.min) filler) q else too_long)
-    by true = omega (arith, le)
-    by false = omega arith
 
 one_of_total : (cost : Key → ℕ) (keys : List Key) (x : Key) → IsIn x keys → cost x ≤ total cost keys
 one_of_total cost [] x i = absurd i
@@ -172,30 +158,3 @@ module _ (f : Floor) (listed other : Key → ℕ) (others : List Key) (a b : Lis
         line.1,
         (subst (λ (r : Reason). ShowsAt a b keys r line.0.key) (sym line.2) (subst (λ (o : Option Key). ShowsAt a b keys Order o) (sym line.3) (l, refl)), line.4),
       )
-
--- ---- keys that stand last
-
-pub place_least : (rules : List DRule) (k : Key) → place rules k ≤ length rules
-place_least rules k = by (position (lists_key k) rules) refl
-  where
-    within : (i : ℕ) (r : DRule) → slice_get rules i ≡ Some r → i ≤ length rules
-    within i r at = here (nat_lt i (length rules)) refl
-      where
-        here : (t : Bool) → nat_lt i (length rules) ≡ t → i ≤ length rules
-        here true e = let lt = ltb-true i (length rules) e in omega (arith, lt)
-        here false e = absurd (none-some r (sym (slice_get_past rules i (ltb-false i (length rules) e)) ∙ at))
-
-    slot_within : (i : ℕ) (b : Bool) → i ≤ length rules → place_of (length rules) (if b then slot.Fixed i else slot.Loose i) ≤ length rules
-    slot_within i true le = le
-    slot_within i false le = omega arith
-
-    by : (o : Option ℕ) → position (lists_key k) rules ≡ o → place rules k ≤ length rules
-    by None p =
-        let there : place rules k ≡ length rules = ap (λ (q : Option ℕ). place_of (length rules) (option_map_or (slot_at rules) q slot.Unlisted)) p in
-        omega (arith, there)
-    by (Some i) p =
-        let r = at_position (lists_key k) rules i p in
-        let there : place rules k ≡ place_of (length rules) (if is_fixed r.0 then slot.Fixed i else slot.Loose i) =
-        ap (λ (q : Option ℕ). place_of (length rules) (option_map_or (slot_at rules) q slot.Unlisted)) p ∙ ap (λ (o : Option DRule). place_of (length rules) (option_map_or (λ rule. if is_fixed rule then slot.Fixed i else slot.Loose i) o slot.Unlisted)) r.1 in
-        let le = slot_within i (is_fixed r.0) (within i r.0 r.1) in
-        omega (arith, there, le)

@@ -4,13 +4,13 @@ use Rattle.dia_wire.specs.declared.Key.{Key}
 use Rattle.dia_book.specs.declared.DRule.{DRule}
 use Rattle.dia_book.specs.Dictionary.{Dictionary, PlainDefinition, IsDictionary, AreRules, definitions}
 use Rattle.dia_check.specs.Valid.{Placed}
-use Rattle.dia_levels.specs.declared.line.Line.{Line}
 use Rattle.dia_levels.specs.CountsAndRanks.{AreSound, AreInPlace}
 use Rattle.dia_levels.specs.Breaches.{Breach}
 use Rattle.dia_levels.specs.LeastLevels.{total, plan, IsFiller, IsCheapest}
 use Rattle.dia_levels.specs.LevelTests.{price, length_once}
 use Rattle.dia_levels.specs.Levels.{OtherIsShortest, IsWithinAllWith}
-use Rattle.dia_levels.specs.Exact.{AreCountLines}
+use Rattle.dia_levels.specs.declared.line.Line.{Line}
+use Rattle.dia_levels.specs.Exact.{AreLevelLines}
 
 -- the rules of a dictionary's definitions are sound
 abbrev pub DefinitionsAreSound : Type 0
@@ -41,7 +41,7 @@ abbrev pub OnceIsLeast : Type 0
 OnceIsLeast = (listed other : Key → ℕ) (others : List Key) (rules : List DRule) (key : Key) → AreRules rules → OtherIsShortest other others rules
     → IsWithinAllWith (price listed other rules) rules key (length_once listed other others rules key)
 
--- two lists that are the lines of counts of the same definitions, over the same lengths, are one list
-abbrev pub CountLinesAreOne : Type 0
-CountLinesAreOne = (listed other : Key → ℕ) (keys : List Key) (a b : List DRule) (first second : List Line)
-    → AreCountLines listed other keys a b first → AreCountLines listed other keys a b second → first ≡ second
+-- two lists that are the lines of the same definitions, over the same lengths, are one list
+abbrev pub LinesAreOne : Type 0
+LinesAreOne = (listed other : Key → ℕ) (keys : List Key) (a b : List DRule) (first second : List Line)
+    → AreLevelLines listed other keys a b first → AreLevelLines listed other keys a b second → first ≡ second

@@ -1,7 +1,7 @@
 //! What holds of the levels of definitions: by it a level is looked at as counts of keys and one order.
 ghost use Rattle.dia_levels.specs.Laws.{DefinitionsAreSound, PlacedIsInPlace, PlacedOrBreach};
 ghost use Rattle.dia_levels.specs.Laws.{BreachIsUnplaced, PlanIsPlaced, PlanIsLeast, OnceIsLeast};
-ghost use Rattle.dia_levels.specs.Laws.{CountLinesAreOne};
+ghost use Rattle.dia_levels.specs.Laws.{LinesAreOne};
 
 /// The rules of a dictionary's definitions are as the other laws want them.
 pub fn definitions_are_sound()
@@ -30,7 +30,7 @@ pub fn once_is_least()
     ensures { OnceIsLeast }
 {}
 
-/// The lines of counts of two definitions are one list: their order, their keys and their lengths.
-pub fn count_lines_are_one()
-    ensures { CountLinesAreOne }
+/// The lines of two definitions are one list: their order, their lengths, and which key each is told with.
+pub fn lines_are_one()
+    ensures { LinesAreOne }
 {}

@@ -3,7 +3,7 @@ ghost use Rattle.std.specs.Prelude.{◌≡◌, ◌<◌, IfOk, length};
 ghost use Rattle.dia_book.specs.Dictionary.{AreRules, definitions};
 ghost use Rattle.dia_compat.specs.Tests.{rules_in};
 ghost use Rattle.dia_levels.specs.LevelTests.{price, needed_up, lines_of};
-ghost use Rattle.dia_levels.specs.Exact.{BeginWithCountLines};
+ghost use Rattle.dia_levels.specs.Exact.{AreLevelLines};
 ghost use Rattle.dia_levels.specs.Levels.{HasEachLine, FirstIsShortest};
 ghost use Rattle.dia_levels.specs.Steps.{greatest, IsLeastOver, IsLeastMost, IsLongUnbounded};
 
@@ -18,8 +18,8 @@ use dia_book::{Book, DefId};
 use std::alloc::{AllocError, Global};
 
 /// The lines of the levels of a definition of `a` that break the rules of one of `b`: by reasons, and those of a reason in the
-/// order of the rules. A level that breaks them shows a line whose length is no more than its own. The lines of counts come
-/// first, and are one list (`count_lines_are_one`).
+/// order of the rules. A level that breaks them shows a line whose length is no more than its own. Two definitions have one list
+/// of lines (`lines_are_one`).
 pub fn level_lines<A: Book, B: Book, C: Costs>(
     alloc: Global,
     a: &A,
@@ -36,7 +36,7 @@ pub fn level_lines<A: Book, B: Book, C: Costs>(
         (price (C.listed_length costs.now) (C.other_length costs.now)
         (rules_in (A.meaning a.now) a_def))
         (rules_in (A.meaning a.now) a_def) (rules_in (B.meaning b.now) b_def) lines.items) }
-    ensures counts { IfOk result (λ lines. BeginWithCountLines
+    ensures exact { IfOk result (λ lines. AreLevelLines
         (C.listed_length costs.now) (C.other_length costs.now) (C.other_keys costs.now)
         (rules_in (A.meaning a.now) a_def) (rules_in (B.meaning b.now) b_def) lines.items) }
 {

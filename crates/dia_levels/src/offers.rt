@@ -1,7 +1,7 @@
 //! AVPs that may stand before others, by the places of their keys: a tree of which each node holds the least of its two below.
-ghost use Rattle.std.specs.Prelude.{◌≡◌, ◌+◌, ◌<◌, ◌≤◌, ℕ, min, length, vec_len, IfOk};
-ghost use Rattle.dia_levels.specs.LevelTests.{too_long};
-ghost use Rattle.dia_levels.specs.Offers.{length_at, AreLeast};
+ghost use Rattle.std.specs.Prelude.{◌≡◌, ◌≢◌, ◌⊎◌, ◌+◌, ◌<◌, ◌≤◌, ℕ, length, vec_len, IfOk};
+ghost use Rattle.dia_levels.specs.Offers.{nothing, weight, lesser, node_at, weight_at};
+ghost use Rattle.dia_levels.specs.Offers.{AreLeast, AreAttained, IsOneWithin};
 
 use crate::lengths::TOO_LONG;
 use dia_book::Key;
@@ -29,7 +29,7 @@ pub(crate) struct Offers {
 }
 
 fn no_offer() -> Offer
-    ensures { result.length ≡ too_long }
+    ensures { result ≡ nothing }
 {
     Offer {
         length: TOO_LONG,
@@ -42,6 +42,10 @@ fn no_offer() -> Offer
 pub(crate) fn no_offers(alloc: Global, places: usize) -> Result<Offers, AllocError>
     ensures size { IfOk result (λ offers. vec_len offers.nodes ≡ places + places) }
     ensures tree { IfOk result (λ offers. AreLeast offers.nodes.items) }
+    ensures attained { IfOk result (λ offers. AreAttained offers.nodes.items) }
+    ensures empty { IfOk result (λ offers. (i : ℕ) → i < places + places
+        → node_at offers.nodes.items i ≡ nothing) }
+    ensures other { IfOk result (λ offers. offers.other ≡ nothing) }
 {
     let mut nodes = Vec::from_elem(alloc, no_offer(), places)?;
     nodes.resize(nodes.len() * 2, no_offer())?;
@@ -53,7 +57,7 @@ pub(crate) fn no_offers(alloc: Global, places: usize) -> Result<Offers, AllocErr
 
 /// The lesser of two offers.
 pub(crate) fn lesser(first: Offer, second: Offer) -> Offer
-    ensures { result.length ≡ min first.length second.length }
+    ensures { result ≡ lesser first second }
 {
     if second.length < first.length || second.length == first.length && second.turn < first.turn {
         second
@@ -65,11 +69,16 @@ pub(crate) fn lesser(first: Offer, second: Offer) -> Offer
 /// Puts an offer into a leaf, and into the nodes above that hold none that is less.
 pub(crate) fn put(nodes: &mut [Offer], leaf: usize, offer: Offer)
     requires within { (0 < leaf) × (leaf < length nodes.old) }
+    requires is_leaf { length nodes.old ≤ leaf + leaf }
     requires tree { AreLeast nodes.old }
+    requires attained { AreAttained nodes.old }
     ensures tree { AreLeast nodes.new }
+    ensures attained { AreAttained nodes.new }
     ensures size { length nodes.new ≡ length nodes.old }
-    ensures below { (i : ℕ) → length_at nodes.new i ≤ length_at nodes.old i }
-    ensures there { length_at nodes.new leaf ≤ offer.length }
+    ensures below { (i : ℕ) → weight_at nodes.new i ≤ weight_at nodes.old i }
+    ensures there { weight_at nodes.new leaf ≤ weight offer }
+    ensures either { (node_at nodes.new leaf ≡ node_at nodes.old leaf) ⊎ (node_at nodes.new leaf ≡ offer) }
+    ensures others { (i : ℕ) → length nodes.old ≤ i + i → i ≢ leaf → node_at nodes.new i ≡ node_at nodes.old i }
 {
     let mut node = leaf;
     while node > 0 {
@@ -80,10 +89,12 @@ pub(crate) fn put(nodes: &mut [Offer], leaf: usize, offer: Offer)
 
 /// The least offer of the leaves from one up to another.
 pub(crate) fn least_between(nodes: &[Offer], from: usize, to: usize) -> Offer
-    requires from { 0 < from }
+    requires from { (0 < from) × (length nodes.now ≤ from + from) }
     requires to { to ≤ length nodes.now }
     requires tree { AreLeast nodes.now }
-    ensures { (i : ℕ) → from ≤ i → i < to → result.length ≤ length_at nodes.now i }
+    requires attained { AreAttained nodes.now }
+    ensures least { (i : ℕ) → from ≤ i → i < to → weight result ≤ weight_at nodes.now i }
+    ensures attained { IsOneWithin nodes.now from to result }
 {
     let mut least = no_offer();
     let mut low = from;

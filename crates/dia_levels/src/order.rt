@@ -1,16 +1,17 @@
 //! The levels of a definition of A whose order breaks the rules of one of B.
-ghost use Rattle.std.specs.Prelude.{◌≡◌, ◌+◌, ◌<◌, ◌≤◌, ℕ, true, Some, length, IfOk, OnOk};
-ghost use Rattle.std.specs.Prelude.{Contains};
+ghost use Rattle.std.specs.Prelude.{◌≡◌, ◌+◌, ◌≤◌, ◌++◌, ℕ, true, Some, [], length, reverse};
+ghost use Rattle.std.specs.Prelude.{Option, IfOk, OnOk};
 ghost use Rattle.dia_wire.specs.declared.Key.{Key as AnyKey};
+ghost use Rattle.dia_book.specs.Dictionary.{AreRules};
 ghost use Rattle.dia_check.specs.Valid.{is_listed};
-ghost use Rattle.dia_compat.specs.Tests.{rules_in, rule_of};
-ghost use Rattle.dia_levels.specs.declared.line.Line.{Line as AnyLine};
-ghost use Rattle.dia_levels.specs.declared.line.Reason.TheVariants as reasons;
-ghost use Rattle.dia_levels.specs.LevelTests.{too_long, capped, filler};
+ghost use Rattle.dia_compat.specs.Tests.{rules_in};
+ghost use Rattle.dia_levels.specs.Exact.{line_of_offer, unless_long, with_line};
+ghost use Rattle.dia_levels.specs.Exact.{IsOrderAt, IsOrderOf, AreOrderLines, HasOrderLines};
+ghost use Rattle.dia_levels.specs.Offers.{own_index, offer_of};
 ghost use Rattle.dia_levels.specs.Offers.{AreOffers, IsOffered, AreLess, AreOfferedFrom};
-ghost use Rattle.dia_levels.specs.Offers.{BeginsWith, HasLine, HasOrdersFrom};
-ghost use Rattle.dia_levels.specs.OrderTests.{beyond, by_wild, with_others, pair_length};
-ghost use Rattle.dia_levels.specs.Places.{place};
+ghost use Rattle.dia_levels.specs.Offers.{MayCome, AreTrueFrom};
+ghost use Rattle.dia_levels.specs.OrderTests.{beyond, by_wild, with_others};
+ghost use Rattle.dia_levels.specs.Places.{place, IsAtOrLast};
 
 use crate::costs::Costs;
 use crate::lengths::{TOO_LONG, capped, has_room, many, swapped};
@@ -74,11 +75,27 @@ impl<'a, A: Book, B: Book, C: Costs> Level<'a, A, B, C> {
     }
 
     /// Which of two keys that take as much comes first: those that `a` lists by their rules, the others by those of `b`.
-    fn turn(&self, x: Key) -> usize {
+    fn turn(&self, x: Key) -> usize
+        ensures { result ≡ own_index (rules_in (A.meaning self.now.a.book.now) self.now.a.def)
+            (rules_in (B.meaning self.now.b.book.now) self.now.b.def) x }
+    {
         if self.a.lists(x) {
             self.a.index(x)
         } else {
             self.b.index(x)
+        }
+    }
+
+    /// What is offered of a key.
+    fn offer_of(&self, x: Key) -> Offer
+        ensures { result ≡ offer_of (C.listed_length self.now.costs.now) (C.other_length self.now.costs.now)
+            (rules_in (A.meaning self.now.a.book.now) self.now.a.def)
+            (rules_in (B.meaning self.now.b.book.now) self.now.b.def) x }
+    {
+        Offer {
+            length: self.beyond(x, self.a.rule(x)),
+            turn: self.turn(x),
+            key: Some(x),
         }
     }
 
@@ -88,15 +105,21 @@ impl<'a, A: Book, B: Book, C: Costs> Level<'a, A, B, C> {
         ensures offers { AreOffers (rules_in (A.meaning self.now.a.book.now) self.now.a.def) offers.new }
         ensures less { AreLess (rules_in (A.meaning self.now.a.book.now) self.now.a.def) offers.new offers.old }
         ensures offered { IsOffered (C.listed_length self.now.costs.now) (C.other_length self.now.costs.now)
-            (rules_in (A.meaning self.now.a.book.now) self.now.a.def) offers.new x }
+            (rules_in (A.meaning self.now.a.book.now) self.now.a.def) (rules_in (B.meaning self.now.b.book.now) self.now.b.def)
+            offers.new x }
+        ensures true_still { (outer : Option AnyKey) (from : ℕ)
+            → AreTrueFrom (C.listed_length self.now.costs.now) (C.other_length self.now.costs.now)
+            (rules_in (A.meaning self.now.a.book.now) self.now.a.def) (rules_in (B.meaning self.now.b.book.now) self.now.b.def)
+            outer from offers.old
+            → MayCome (rules_in (A.meaning self.now.a.book.now) self.now.a.def)
+            (rules_in (B.meaning self.now.b.book.now) self.now.b.def) outer x
+            → from ≤ place (rules_in (B.meaning self.now.b.book.now) self.now.b.def) x
+            → AreTrueFrom (C.listed_length self.now.costs.now) (C.other_length self.now.costs.now)
+            (rules_in (A.meaning self.now.a.book.now) self.now.a.def) (rules_in (B.meaning self.now.b.book.now) self.now.b.def)
+            outer from offers.new }
     {
-        let rule = self.a.rule(x);
-        let offer = Offer {
-            length: self.beyond(x, rule),
-            turn: self.turn(x),
-            key: Some(x),
-        };
-        match rule {
+        let offer = self.offer_of(x);
+        match self.a.rule(x) {
             Some(_) => {
                 let leaf = offers.nodes.len() / 2 + self.a.place(x);
                 put(&mut offers.nodes, leaf, offer);
@@ -116,7 +139,18 @@ impl<'a, A: Book, B: Book, C: Costs> Level<'a, A, B, C> {
             → place (rules_in (B.meaning self.now.b.book.now) self.now.b.def) x
             ≡ length (rules_in (B.meaning self.now.b.book.now) self.now.b.def)
             → IsOffered (C.listed_length self.now.costs.now) (C.other_length self.now.costs.now)
-            (rules_in (A.meaning self.now.a.book.now) self.now.a.def) offers.new x }
+            (rules_in (A.meaning self.now.a.book.now) self.now.a.def) (rules_in (B.meaning self.now.b.book.now) self.now.b.def)
+            offers.new x }
+        ensures true_still { (outer : Option AnyKey)
+            → AreTrueFrom (C.listed_length self.now.costs.now) (C.other_length self.now.costs.now)
+            (rules_in (A.meaning self.now.a.book.now) self.now.a.def) (rules_in (B.meaning self.now.b.book.now) self.now.b.def)
+            outer (length (rules_in (B.meaning self.now.b.book.now) self.now.b.def)) offers.old
+            → ((x : AnyKey) → key ≡ Some x
+            → MayCome (rules_in (A.meaning self.now.a.book.now) self.now.a.def)
+            (rules_in (B.meaning self.now.b.book.now) self.now.b.def) outer x)
+            → AreTrueFrom (C.listed_length self.now.costs.now) (C.other_length self.now.costs.now)
+            (rules_in (A.meaning self.now.a.book.now) self.now.a.def) (rules_in (B.meaning self.now.b.book.now) self.now.b.def)
+            outer (length (rules_in (B.meaning self.now.b.book.now) self.now.b.def)) offers.new }
     {
         match key {
             Some(x) => {
@@ -137,7 +171,18 @@ impl<'a, A: Book, B: Book, C: Costs> Level<'a, A, B, C> {
             → place (rules_in (B.meaning self.now.b.book.now) self.now.b.def) x
             ≡ length (rules_in (B.meaning self.now.b.book.now) self.now.b.def)
             → IsOffered (C.listed_length self.now.costs.now) (C.other_length self.now.costs.now)
-            (rules_in (A.meaning self.now.a.book.now) self.now.a.def) offers.new x }
+            (rules_in (A.meaning self.now.a.book.now) self.now.a.def) (rules_in (B.meaning self.now.b.book.now) self.now.b.def)
+            offers.new x }
+        ensures true_still { (outer : Option AnyKey)
+            → AreTrueFrom (C.listed_length self.now.costs.now) (C.other_length self.now.costs.now)
+            (rules_in (A.meaning self.now.a.book.now) self.now.a.def) (rules_in (B.meaning self.now.b.book.now) self.now.b.def)
+            outer (length (rules_in (B.meaning self.now.b.book.now) self.now.b.def)) offers.old
+            → ((x : AnyKey) → is_listed rules.now x ≡ true
+            → MayCome (rules_in (A.meaning self.now.a.book.now) self.now.a.def)
+            (rules_in (B.meaning self.now.b.book.now) self.now.b.def) outer x)
+            → AreTrueFrom (C.listed_length self.now.costs.now) (C.other_length self.now.costs.now)
+            (rules_in (A.meaning self.now.a.book.now) self.now.a.def) (rules_in (B.meaning self.now.b.book.now) self.now.b.def)
+            outer (length (rules_in (B.meaning self.now.b.book.now) self.now.b.def)) offers.new }
     {
         for rule in rules {
             self.offer_last(offers, rule.key);
@@ -147,10 +192,11 @@ impl<'a, A: Book, B: Book, C: Costs> Level<'a, A, B, C> {
     /// What is offered before the key of the last fixed rule of `b`.
     fn last_offers(&self, alloc: Global, outer: Option<Key>) -> Result<Offers, AllocError>
         ensures offers { IfOk result (AreOffers (rules_in (A.meaning self.now.a.book.now) self.now.a.def)) }
-        ensures offered { IfOk result (AreOfferedFrom (C.listed_length self.now.costs.now)
-            (C.other_length self.now.costs.now)
-            (rules_in (A.meaning self.now.a.book.now) self.now.a.def)
-            (rules_in (B.meaning self.now.b.book.now) self.now.b.def)
+        ensures offered { IfOk result (AreOfferedFrom (C.listed_length self.now.costs.now) (C.other_length self.now.costs.now)
+            (rules_in (A.meaning self.now.a.book.now) self.now.a.def) (rules_in (B.meaning self.now.b.book.now) self.now.b.def)
+            outer (length (rules_in (B.meaning self.now.b.book.now) self.now.b.def))) }
+        ensures true_still { IfOk result (AreTrueFrom (C.listed_length self.now.costs.now) (C.other_length self.now.costs.now)
+            (rules_in (A.meaning self.now.a.book.now) self.now.a.def) (rules_in (B.meaning self.now.b.book.now) self.now.b.def)
             outer (length (rules_in (B.meaning self.now.b.book.now) self.now.b.def))) }
     {
         let (a, b) = (self.a.list(), self.b.list());
@@ -164,13 +210,8 @@ impl<'a, A: Book, B: Book, C: Costs> Level<'a, A, B, C> {
     /// The line of the least level with `y` and what is offered, where so many of what is offered come by the wildcard.
     fn line_with(&self, y: Key, by_wildcard: u64, offer: Offer) -> Line
         requires { by_wildcard ≤ 1 }
-        ensures reason { result.reason ≡ reasons.Order }
-        ensures key { result.key ≡ Some y }
-        ensures length { result.length ≡ with_others self.now.floor.base (filler self.now.floor)
-            (by_wildcard + by_wild (rule_of (rules_in (A.meaning self.now.a.book.now) self.now.a.def) y))
-            (capped (offer.length + beyond (C.listed_length self.now.costs.now)
-            (C.other_length self.now.costs.now)
-            y (rule_of (rules_in (A.meaning self.now.a.book.now) self.now.a.def) y))) self.now.floor.wild }
+        ensures { result ≡ line_of_offer self.now.floor (C.listed_length self.now.costs.now) (C.other_length self.now.costs.now)
+            (rules_in (A.meaning self.now.a.book.now) self.now.a.def) y by_wildcard offer }
     {
         let rule = self.a.rule(y);
         let more = offer.length.saturating_add(self.beyond(y, rule));
@@ -190,16 +231,19 @@ impl<'a, A: Book, B: Book, C: Costs> Level<'a, A, B, C> {
 
     /// The line of the least level with what is offered before `y`.
     fn line_at(&self, y: Key, offers: &Offers) -> Line
-        requires { AreOffers (rules_in (A.meaning self.now.a.book.now) self.now.a.def) offers.now }
-        ensures reason { result.reason ≡ reasons.Order }
-        ensures key { result.key ≡ Some y }
-        ensures least { (x : AnyKey) → IsOffered (C.listed_length self.now.costs.now)
-            (C.other_length self.now.costs.now)
-            (rules_in (A.meaning self.now.a.book.now) self.now.a.def) offers.now x
-            → place (rules_in (A.meaning self.now.a.book.now) self.now.a.def) x
-            ≤ place (rules_in (A.meaning self.now.a.book.now) self.now.a.def) y
-            → result.length ≤ pair_length self.now.floor (C.listed_length self.now.costs.now)
-            (C.other_length self.now.costs.now) (rules_in (A.meaning self.now.a.book.now) self.now.a.def) y x }
+        requires first { AreRules (rules_in (A.meaning self.now.a.book.now) self.now.a.def) }
+        requires second { AreRules (rules_in (B.meaning self.now.b.book.now) self.now.b.def) }
+        requires offers { AreOffers (rules_in (A.meaning self.now.a.book.now) self.now.a.def) offers.now }
+        ensures { (outer : Option AnyKey)
+            → AreTrueFrom (C.listed_length self.now.costs.now) (C.other_length self.now.costs.now)
+            (rules_in (A.meaning self.now.a.book.now) self.now.a.def) (rules_in (B.meaning self.now.b.book.now) self.now.b.def)
+            outer (place (rules_in (B.meaning self.now.b.book.now) self.now.b.def) y + 1) offers.now
+            → AreOfferedFrom (C.listed_length self.now.costs.now) (C.other_length self.now.costs.now)
+            (rules_in (A.meaning self.now.a.book.now) self.now.a.def) (rules_in (B.meaning self.now.b.book.now) self.now.b.def)
+            outer (place (rules_in (B.meaning self.now.b.book.now) self.now.b.def) y + 1) offers.now
+            → IsOrderAt self.now.floor (C.listed_length self.now.costs.now) (C.other_length self.now.costs.now)
+            (rules_in (A.meaning self.now.a.book.now) self.now.a.def) (rules_in (B.meaning self.now.b.book.now) self.now.b.def)
+            outer y (unless_long result) }
     {
         let size = offers.nodes.len() / 2;
         let place = self.a.place(y);
@@ -216,55 +260,74 @@ impl<'a, A: Book, B: Book, C: Costs> Level<'a, A, B, C> {
         }
     }
 
-    /// Adds the line of the key at a place of `b`, if it has a fixed rule there, and offers the key to those before it.
-    fn add_line(
-        &self,
-        offers: &mut Offers,
-        lines: &mut Vec<Line>,
-        at: usize,
-        key: Option<Key>,
-    ) -> Result<(), AllocError>
-        requires { AreOffers (rules_in (A.meaning self.now.a.book.now) self.now.a.def) offers.old }
-        ensures offers { OnOk result (AreOffers (rules_in (A.meaning self.now.a.book.now) self.now.a.def)
-            offers.new) }
-        ensures less { OnOk result (AreLess (rules_in (A.meaning self.now.a.book.now) self.now.a.def) offers.new
-            offers.old) }
-        ensures offered { OnOk result ((x : AnyKey) → key ≡ Some x
-            → place (rules_in (B.meaning self.now.b.book.now) self.now.b.def) x ≡ at
-            → IsOffered (C.listed_length self.now.costs.now) (C.other_length self.now.costs.now)
-            (rules_in (A.meaning self.now.a.book.now) self.now.a.def) offers.new x) }
-        ensures kept { OnOk result ((line : AnyLine) → Contains lines.old.items line
-            → Contains lines.new.items line) }
-        ensures line { OnOk result ((y x : AnyKey) → key ≡ Some y
-            → place (rules_in (B.meaning self.now.b.book.now) self.now.b.def) y ≡ at
-            → IsOffered (C.listed_length self.now.costs.now) (C.other_length self.now.costs.now)
-            (rules_in (A.meaning self.now.a.book.now) self.now.a.def) offers.old x
-            → place (rules_in (A.meaning self.now.a.book.now) self.now.a.def) x
-            ≤ place (rules_in (A.meaning self.now.a.book.now) self.now.a.def) y
-            → pair_length self.now.floor (C.listed_length self.now.costs.now)
-            (C.other_length self.now.costs.now)
-            (rules_in (A.meaning self.now.a.book.now) self.now.a.def) y x < too_long
-            → HasLine lines.new.items y (pair_length self.now.floor (C.listed_length self.now.costs.now)
-            (C.other_length self.now.costs.now) (rules_in (A.meaning self.now.a.book.now) self.now.a.def) y x)) }
+    /// The line of the key at a place of `b`, if it has a fixed rule there, and some level that isn't too long shows it.
+    fn told_at(&self, offers: &Offers, at: usize, key: Option<Key>) -> Option<Line>
+        requires first { AreRules (rules_in (A.meaning self.now.a.book.now) self.now.a.def) }
+        requires second { AreRules (rules_in (B.meaning self.now.b.book.now) self.now.b.def) }
+        requires offers { AreOffers (rules_in (A.meaning self.now.a.book.now) self.now.a.def) offers.now }
+        requires place { IsAtOrLast (rules_in (B.meaning self.now.b.book.now) self.now.b.def) at key }
+        ensures { (outer : Option AnyKey)
+            → AreTrueFrom (C.listed_length self.now.costs.now) (C.other_length self.now.costs.now)
+            (rules_in (A.meaning self.now.a.book.now) self.now.a.def) (rules_in (B.meaning self.now.b.book.now) self.now.b.def)
+            outer (at + 1) offers.now
+            → AreOfferedFrom (C.listed_length self.now.costs.now) (C.other_length self.now.costs.now)
+            (rules_in (A.meaning self.now.a.book.now) self.now.a.def) (rules_in (B.meaning self.now.b.book.now) self.now.b.def)
+            outer (at + 1) offers.now
+            → IsOrderOf self.now.floor (C.listed_length self.now.costs.now) (C.other_length self.now.costs.now)
+            (rules_in (A.meaning self.now.a.book.now) self.now.a.def) (rules_in (B.meaning self.now.b.book.now) self.now.b.def)
+            outer key result }
     {
         match key {
             Some(y) => {
                 if self.b.place(y) == at {
-                    push_short(lines, self.line_at(y, offers))?;
+                    unless_long(self.line_at(y, offers))
+                } else {
+                    None
+                }
+            }
+            None => None,
+        }
+    }
+
+    /// Offers the key at a place of `b`, if it has a fixed rule there, to those before it.
+    fn offer_at(&self, offers: &mut Offers, at: usize, key: Option<Key>)
+        requires { AreOffers (rules_in (A.meaning self.now.a.book.now) self.now.a.def) offers.old }
+        ensures offers { AreOffers (rules_in (A.meaning self.now.a.book.now) self.now.a.def) offers.new }
+        ensures less { AreLess (rules_in (A.meaning self.now.a.book.now) self.now.a.def) offers.new offers.old }
+        ensures offered { (x : AnyKey) → key ≡ Some x
+            → place (rules_in (B.meaning self.now.b.book.now) self.now.b.def) x ≡ at
+            → IsOffered (C.listed_length self.now.costs.now) (C.other_length self.now.costs.now)
+            (rules_in (A.meaning self.now.a.book.now) self.now.a.def) (rules_in (B.meaning self.now.b.book.now) self.now.b.def)
+            offers.new x }
+        ensures true_still { (outer : Option AnyKey)
+            → AreTrueFrom (C.listed_length self.now.costs.now) (C.other_length self.now.costs.now)
+            (rules_in (A.meaning self.now.a.book.now) self.now.a.def) (rules_in (B.meaning self.now.b.book.now) self.now.b.def)
+            outer at offers.old
+            → ((x : AnyKey) → key ≡ Some x
+            → MayCome (rules_in (A.meaning self.now.a.book.now) self.now.a.def)
+            (rules_in (B.meaning self.now.b.book.now) self.now.b.def) outer x)
+            → AreTrueFrom (C.listed_length self.now.costs.now) (C.other_length self.now.costs.now)
+            (rules_in (A.meaning self.now.a.book.now) self.now.a.def) (rules_in (B.meaning self.now.b.book.now) self.now.b.def)
+            outer at offers.new }
+    {
+        match key {
+            Some(y) => {
+                if self.b.place(y) == at {
                     self.offer(offers, y);
                 }
             }
             None => {}
         }
-        Ok(())
     }
 
     /// The lines of the order, from the last rule of `b` to the first.
     fn lines_back(&self, alloc: Global, outer: Option<Key>) -> Result<Vec<Line>, AllocError>
-        ensures { IfOk result (λ lines. HasOrdersFrom self.now.floor (C.listed_length self.now.costs.now)
-            (C.other_length self.now.costs.now)
-            (rules_in (A.meaning self.now.a.book.now) self.now.a.def)
-            (rules_in (B.meaning self.now.b.book.now) self.now.b.def) outer 0 lines.items) }
+        requires first { AreRules (rules_in (A.meaning self.now.a.book.now) self.now.a.def) }
+        requires second { AreRules (rules_in (B.meaning self.now.b.book.now) self.now.b.def) }
+        ensures { IfOk result (λ lines. AreOrderLines self.now.floor
+            (C.listed_length self.now.costs.now) (C.other_length self.now.costs.now)
+            (rules_in (A.meaning self.now.a.book.now) self.now.a.def) (rules_in (B.meaning self.now.b.book.now) self.now.b.def)
+            outer (rules_in (B.meaning self.now.b.book.now) self.now.b.def) (reverse lines.items)) }
     {
         let mut lines = Vec::new(alloc);
         let mut offers = self.last_offers(alloc, outer)?;
@@ -272,7 +335,9 @@ impl<'a, A: Book, B: Book, C: Costs> Level<'a, A, B, C> {
         let mut left = rules.len();
         while left > 0 {
             left -= 1;
-            self.add_line(&mut offers, &mut lines, left, rules[left].key)?;
+            let key = rules[left].key;
+            push_told(&mut lines, self.told_at(&offers, left, key))?;
+            self.offer_at(&mut offers, left, key);
         }
         Ok(lines)
     }
@@ -285,13 +350,12 @@ impl<'a, A: Book, B: Book, C: Costs> Level<'a, A, B, C> {
         mut lines: Vec<Line>,
         outer: Option<Key>,
     ) -> Result<Vec<Line>, AllocError>
-        ensures kept { IfOk result (λ all. (line : AnyLine) → Contains lines.items line
-            → Contains all.items line) }
-        ensures front { IfOk result (λ all. BeginsWith lines.items all.items) }
-        ensures orders { IfOk result (λ all. HasOrdersFrom self.now.floor (C.listed_length self.now.costs.now)
-            (C.other_length self.now.costs.now)
-            (rules_in (A.meaning self.now.a.book.now) self.now.a.def)
-            (rules_in (B.meaning self.now.b.book.now) self.now.b.def) outer 0 all.items) }
+        requires first { AreRules (rules_in (A.meaning self.now.a.book.now) self.now.a.def) }
+        requires second { AreRules (rules_in (B.meaning self.now.b.book.now) self.now.b.def) }
+        ensures { IfOk result (λ all. HasOrderLines self.now.floor
+            (C.listed_length self.now.costs.now) (C.other_length self.now.costs.now)
+            (rules_in (A.meaning self.now.a.book.now) self.now.a.def) (rules_in (B.meaning self.now.b.book.now) self.now.b.def)
+            outer lines.items all.items) }
     {
         let mut orders = self.lines_back(alloc, outer)?;
         orders.reverse();
@@ -300,14 +364,24 @@ impl<'a, A: Book, B: Book, C: Costs> Level<'a, A, B, C> {
     }
 }
 
-/// Adds a line, if the level that it tells of isn't too long.
-fn push_short(lines: &mut Vec<Line>, line: Line) -> Result<(), AllocError>
-    ensures kept { OnOk result ((old : AnyLine) → Contains lines.old.items old
-        → Contains lines.new.items old) }
-    ensures line { OnOk result (line.length < too_long → Contains lines.new.items line) }
+/// The line, if the level that it tells of isn't too long.
+fn unless_long(line: Line) -> Option<Line>
+    ensures { result ≡ unless_long line }
 {
     if line.length < TOO_LONG {
-        lines.push(line)?;
+        Some(line)
+    } else {
+        None
+    }
+}
+
+/// Adds a line, if there is one.
+fn push_told(lines: &mut Vec<Line>, told: Option<Line>) -> Result<(), AllocError>
+    ensures { OnOk result (lines.new.items ≡ lines.old.items ++ with_line told []) }
+{
+    match told {
+        Some(line) => lines.push(line)?,
+        None => {}
     }
     Ok(())
 }

@@ -3,7 +3,7 @@ ghost use Rattle.std.specs.Prelude.{◌≡◌, ◌<◌, ◌==◌, length, slice_
 ghost use Rattle.dia_book.specs.Dictionary.{definitions};
 ghost use Rattle.dia_check.specs.Valid.{is_listed, has_wildcard};
 ghost use Rattle.dia_compat.specs.Tests.{rules_in, rule_of, wildcard_of};
-ghost use Rattle.dia_levels.specs.Places.{place};
+ghost use Rattle.dia_levels.specs.Places.{place, index};
 
 use dia_book::{Book, DRule, DefId, Key, Slot};
 
@@ -46,10 +46,13 @@ impl<'a, B: Book> Rules<'a, B> {
     }
 
     /// The place of the key's rule, or one behind all.
-    pub fn index(&self, key: Key) -> usize {
+    pub fn index(&self, key: Key) -> usize
+        ensures { result ≡ index (rules_in (B.meaning self.now.book.now) self.now.def) key }
+    {
         match self.book.slot(self.def, key) {
-            Slot::Fixed(index) | Slot::Loose(index) => index,
-            Slot::Unlisted => usize::MAX,
+            Slot::Fixed(index) => index,
+            Slot::Loose(index) => index,
+            Slot::Unlisted => self.list().len(),
         }
     }
 

@@ -1,6 +1,8 @@
-use Rattle.std.proofs.Common.{◌≤◌, length}
+use Rattle.std.proofs.Common.{◌≤◌, length, drop}
+use Rattle.std.specs.Prelude.{reverse}
 use Rattle.dia_compat.specs.Tests.{rules_in}
-use Rattle.dia_levels.specs.Offers.{AreOffers, AreOfferedFrom, HasOrdersFrom}
+use Rattle.dia_levels.specs.Exact.{AreOrderLines}
+use Rattle.dia_levels.specs.Offers.{AreOffers, AreOfferedFrom, AreTrueFrom}
 use Rattle.dia_levels.proofs.level.Level.lines_back.Given as goal
 
 abbrev pub invariant-loop-left : goal.invariant-loop-left
@@ -13,7 +15,8 @@ invariant-loop-left g l =
       within : l.left ≤ length b;
       offers : AreOffers a l.offers;
       offered : AreOfferedFrom listed other a b l.fn.outer l.left l.offers;
-      orders : HasOrdersFrom l.self.floor listed other a b l.fn.outer l.left l.lines.items;
+      true_from : AreTrueFrom listed other a b l.fn.outer l.left l.offers;
+      lines : AreOrderLines l.self.floor listed other a b l.fn.outer (drop l.left b) (reverse l.lines.items);
     }
 
 abbrev pub decreases-loop-left : goal.decreases-loop-left
