@@ -40,14 +40,6 @@ less_twice a new mid old first second = λ x. let le = first x in let more = sec
 pub less_itself : (a : List DRule) (offers : Offers) → AreLess a offers offers
 less_itself a offers = λ x. omega arith
 
--- where no node and not the least of the others weighs more than it did
-pub nodes_less : (a : List DRule) (new old : Offers) → ((i : ℕ) → weight_at new.nodes.items i ≤ weight_at old.nodes.items i) → weight new.other ≤ weight old.other → AreLess a new old
-nodes_less a new old below other = λ x. by x (rule_of a x)
-  where
-    by : (x : Key) (o : Option DRule) → weight (option_map_or (λ rule. node_at new.nodes.items (length a + 1 + place a x)) o new.other) ≤ weight (option_map_or (λ rule. node_at old.nodes.items (length a + 1 + place a x)) o old.other)
-    by x None = other
-    by x (Some rule) = below (length a + 1 + place a x)
-
 pub offered_listed : (listed other : Key → ℕ) (a b : List DRule) (offers : Offers) (x : Key) (rule : DRule) → rule_of a x ≡ Some rule → weight_at offers.nodes.items (length a + 1 + place a x) ≤ weight (offer_of listed other a b x)
     → IsOffered listed other a b offers x
 offered_listed listed other a b offers x rule is le =
@@ -177,13 +169,6 @@ at_or_last rules i r are at = λ y e. by y e (nat_lt (place rules y) (length rul
         inr (omega (arith, le, most))
 
 module _ (f : Floor) (listed other : Key → ℕ) (a b : List DRule) (outer : Option Key) where
-  -- a key that has no fixed rule stands behind none too late
-  pub none_last : (y : Key) → place b y ≡ length b → IsOrderAt f listed other a b outer y None
-  none_last y last = λ x may.
-      let behind = (turned_parts a b y x may.1).1 in
-      let most = place_least b x in
-      absurd (omega (arith, last, behind, most))
-
   pub order_lines_more : (i : ℕ) (d : DRule) (told : Option Line) (new old : List Line) → i < length b → IsOrderOf f listed other a b outer (get_or b i d).key told → new ≡ old ++ with_line told []
       → AreOrderLines f listed other a b outer (drop (i + 1) b) (reverse old) → AreOrderLines f listed other a b outer (drop i b) (reverse new)
   order_lines_more i d told new old within is same before =
