@@ -6,6 +6,7 @@ pub mod Tellings
 mod OwnBreaks
 pub mod OneSolution
 mod OrderedKeys
+mod Starts
 mod TellingPlaces
 mod LeastNumbers
 mod FoundApps
@@ -26,3 +27,11 @@ pub mod TooLong
 pub mod FreeOfLines
 mod Paths
 mod ValueTexts
+pub mod InOrder
+pub mod ToldLists
+pub mod OneListing
+mod FoundLines
+pub mod Listings
+pub mod OneOwn
+pub mod OneStart
+pub mod TheOneList

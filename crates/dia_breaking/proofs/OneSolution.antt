@@ -41,11 +41,11 @@ alike false false first second = refl
 alike true false first second = first.1 (second.0 refl)
 alike false true first second = sym (second.1 (first.0 refl))
 
-abbrev first_key : List Key → Key → Key
+abbrev pub first_key : List Key → Key → Key
 first_key [] key = key
 first_key (k ∷ ks) key = k
 
-abbrev rest_keys : List Key → List Key
+abbrev pub rest_keys : List Key → List Key
 rest_keys [] = []
 rest_keys (k ∷ ks) = ks
 

@@ -1,5 +1,5 @@
 -- The keys that are sent, in order: the stranger, and that no key stands twice.
-use Rattle.std.proofs.Common.{◌≡◌, ℕ, zero, suc, ◌+◌, ◌<◌, ◌≤◌, Bool, true, not, List, [], ◌∷◌, ◌++◌, length, map, filter, Option, Some, None, refl, sym, ap, subst, ◌∙◌, arith, inl, inr}
+use Rattle.std.proofs.Common.{◌≡◌, ℕ, zero, suc, ◌+◌, ◌<◌, ◌≤◌, Bool, not, List, [], ◌∷◌, ◌++◌, length, map, Option, Some, None, refl, sym, ap, subst, ◌∙◌, arith, inl, inr}
 use Rattle.std.specs.Prelude.{◌⊎◌, is_some, IsSome, slice_get}
 use Rattle.std.proofs.lemmas.Bool.{both_ways, cases_lt, not-true}
 use Rattle.std.proofs.lemmas.Option.{none-some, same_Some}

@@ -11,6 +11,7 @@ use Rattle.dia_book.proofs.SameKeys.{same_key-true}
 use Rattle.dia_entries.specs.Sent.{group_of}
 use Rattle.dia_compat.specs.Tests.{rules_in}
 use Rattle.dia_levels.specs.declared.line.Line.{Line as LevelLine}
+use Rattle.dia_levels.specs.Exact.{AreLevelLines}
 use Rattle.dia_levels.specs.Levels.{HasEachLine}
 use Rattle.dia_levels.specs.LevelTests.{price}
 use Rattle.dia_breaking.specs.declared.exits.Inner.{Inner}
@@ -27,6 +28,11 @@ module _ (da db : Dictionary) (listed other : Key → ℕ) (key : Key) (a_def b_
   has_group_lines each =
       subst (λ (rs : List DRule). HasEachLine (price listed other rs) rs (group_rules db key) lines) in_a
       (subst (λ (rs : List DRule). HasEachLine (price listed other (rules_in da a_def)) (rules_in da a_def) rs lines) in_b each)
+
+  pub has_level_lines : (others : List Key) → AreLevelLines listed other others (rules_in da a_def) (rules_in db b_def) lines → AreLevelLines listed other others (group_rules da key) (group_rules db key) lines
+  has_level_lines others are =
+      subst (λ (rs : List DRule). AreLevelLines listed other others rs (group_rules db key) lines) in_a
+      (subst (λ (rs : List DRule). AreLevelLines listed other others (rules_in da a_def) rs lines) in_b are)
 
   -- and so they are those of the two definitions
   pub has_lines : HasGroupLines da db listed other key lines → HasEachLine (price listed other (rules_in da a_def)) (rules_in da a_def) (rules_in db b_def) lines

@@ -1,5 +1,5 @@
 -- AVPs of a key break nothing by themselves exactly where what is found of them is silent.
-use Rattle.std.proofs.Common.{◌≡◌, ℕ, ◌+◌, Bool, true, false, List, [], ◌∷◌, ◌++◌, length, Option, Some, None, refl, ap, subst, ◌∙◌, arith, inl, inr}
+use Rattle.std.proofs.Common.{◌≡◌, ℕ, Bool, true, false, List, [], ◌∷◌, ◌++◌, length, Option, Some, None, refl, ap, subst, ◌∙◌, arith, inl, inr}
 use Rattle.std.specs.Prelude.{◌⊎◌, ◌↔◌, is_some, IsSome, option_and_then}
 use Rattle.std.specs.Str.{chars, is_utf8}
 use Rattle.std.proofs.lemmas.Bool.{both_ways}
@@ -51,7 +51,7 @@ not_all format may all = absurd may
 module _ (da db : Dictionary) (who : Sends) (u : Unknown) (key : Key) where
   -- ---- what is silent breaks nothing
 
-  taken_by_silent : (found : DataBreak) → IsDataBreak da db who u key found → (IsSome (group_of da key) → found ≡ Fits → TakesAnyData db key) → IsSilentData found
+  pub taken_by_silent : (found : DataBreak) → IsDataBreak da db who u key found → (IsSome (group_of da key) → found ≡ Fits → TakesAnyData db key) → IsSilentData found
       → AreGroups da db key ⊎ IsDataTaken da db who u key
   taken_by_silent Fits content levels silent = inr (content, λ group. levels group refl)
   taken_by_silent (Groups a b) content levels silent = inl (has_group da key a content.0, has_group db key b content.1)
@@ -65,12 +65,12 @@ module _ (da db : Dictionary) (who : Sends) (u : Unknown) (key : Key) where
   refused_flag true refuses accepts = let r = refuses 64 (λ e. let bad : 64 ≡ 0 = e in omega (arith, bad)) in r.1 (accepts 64 r.0)
   refused_flag false refuses accepts = let r = refuses 0 (λ set. set refl) in r.1 (accepts 0 r.0)
 
-  no_head : (found : Option HeadBreak) → IsHeadBreak da db who u key found → AcceptsFlags da db who u key → found ≡ None
+  pub no_head : (found : Option HeadBreak) → IsHeadBreak da db who u key found → AcceptsFlags da db who u key → found ≡ None
   no_head None is accepts = refl
   no_head (Some (UnknownAvp m)) is accepts = absurd (refused_flag m is.1.0 accepts)
   no_head (Some (MBit m)) is accepts = absurd (refused_flag m is.1.0 accepts)
 
-  silent_by_taken : (found : DataBreak) → IsDataBreak da db who u key found → AreGroups da db key ⊎ IsDataTaken da db who u key → IsSilentData found
+  pub silent_by_taken : (found : DataBreak) → IsDataBreak da db who u key found → AreGroups da db key ⊎ IsDataTaken da db who u key → IsSilentData found
   silent_by_taken Fits content takes = tt
   silent_by_taken (Groups a b) content takes = tt
   silent_by_taken (Data found) content (inl both) = both_ways (is_some (group_of da key)) (ap (λ (o : Option PlainDefinition). is_some o) content.0) both.0

@@ -1,5 +1,5 @@
 -- What is printed of a number of a list.
-use Rattle.std.proofs.Common.{◌≡◌, ℕ, Bool, true, false, eqb, List, Some, refl, sym, ap, ◌∙◌, append_assoc, inl, inr}
+use Rattle.std.proofs.Common.{◌≡◌, ℕ, Bool, true, false, List, Some, sym, ap, ◌∙◌, append_assoc, inl, inr}
 use Rattle.std.specs.Prelude.{◌&&◌, ◌==◌, if◌then◌else◌, length, ◌++◌, Result, Ok, Err, OnOk, is_ok, cond}
 use Rattle.std.specs.List.{list_any}
 use Rattle.std.specs.Int.{w32, cast_signed}
@@ -7,7 +7,7 @@ use Rattle.std.specs.Fmt.{signed_decimal}
 use Rattle.std.proofs.lemmas.Bool.{cases_Bool, eq-eqb, eqb-true, and_parts, and_from}
 use Rattle.dia_data.specs.Leaf.{IsLeaf}
 use Rattle.dia_data.specs.Number.{number}
-use Rattle.dia_data.specs.Plain.{PlainFormat, Enumerated}
+use Rattle.dia_data.specs.Plain.{Enumerated}
 use Rattle.dia_data.specs.Ranges.{covers}
 use Rattle.dia_data.specs.Shown.{IsValueText, hexadecimal}
 use Rattle.dia_data.proofs.RangeSets.{any_within}

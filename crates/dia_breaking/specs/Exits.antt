@@ -1,5 +1,5 @@
 -- Where the levels of a definition lead.
-use Rattle.std.specs.Prelude.{◌≡◌, ℕ, ◌-◌, List, Option, Some, None, MatchOption, All, map}
+use Rattle.std.specs.Prelude.{◌≡◌, ℕ, ◌-◌, List, Option, MatchOption, All, map}
 use Rattle.std.specs.List.{filter_map}
 use Rattle.std.specs.Option.{option_map, option_and_then}
 use Rattle.std.specs.HashMap.{get}
@@ -11,7 +11,6 @@ use Rattle.dia_least.specs.Floors.{shortest_head}
 use Rattle.dia_breaking.specs.declared.exits.Exits.{Exits}
 use Rattle.dia_breaking.specs.declared.exits.Inner.{Inner}
 use Rattle.dia_breaking.specs.declared.exits.Outlook.{Outlook}
-use Rattle.dia_breaking.specs.declared.keys.Own.{Own}
 use Rattle.dia_breaking.specs.declared.keys.Telling.{Telling}
 use Rattle.dia_breaking.specs.declared.levels.LevelCost.{LevelCost}
 use Rattle.dia_breaking.specs.LevelCosts.{cost_of, with_listed}

@@ -8,9 +8,15 @@ pub mod Free
 pub mod Headers
 pub mod Lengths
 pub mod LevelCosts
+pub mod Listing
+pub mod Nodes
+pub mod Orders
 pub mod Outlooks
+pub mod OwnBreaks
 pub mod OwnKeys
 pub mod SentKeys
+pub mod Sites
 pub mod Telling
+pub mod TheLines
 pub mod ToldApps
 pub mod Words

@@ -1,5 +1,5 @@
 -- The applications by which the messages of a command are looked at.
-use Rattle.std.specs.Prelude.{◌≡◌, ◌⊎◌, ℕ, ◌<◌, nat_eq, Bool, List, [], ◌∷◌, ◌++◌, filter, Option, Some, None, option_to_list, MatchOption, Contains}
+use Rattle.std.specs.Prelude.{◌≡◌, ◌⊎◌, ℕ, ◌<◌, nat_eq, Bool, List, [], ◌∷◌, ◌++◌, filter, Option, Some, option_to_list, MatchOption, Contains}
 use Rattle.std.specs.Option.{option_eq}
 use Rattle.dia_book.specs.Dictionary.{Dictionary, selected}
 use Rattle.dia_breaking.specs.declared.apps.Apps.{Apps}

@@ -3,7 +3,8 @@ ghost use Rattle.std.specs.Prelude.{◌≡◌, ◌↔◌, ℕ, IfOk, IfSome, IsT
 ghost use Rattle.dia_policy.specs.declared.Levels.TheVariants.{Any};
 ghost use Rattle.dia_check.specs.Valid.{IsValid, IsValidOf};
 ghost use Rattle.dia_sites.specs.Sent.{own_policy};
-ghost use Rattle.dia_breaking.specs.Confirmed.{EachConfirmedBreaks, IsConfirmed, told_of};
+ghost use Rattle.dia_breaking.specs.Confirmed.{EachConfirmedBreaks, IsConfirmed};
+ghost use Rattle.dia_breaking.specs.Listing.{unchecked};
 
 use crate::line::{Breaks, Cause, Line, Standing};
 use crate::upgrade::Upgrade;
@@ -53,7 +54,8 @@ impl<'a, A: Book, B: Book> Upgrade<'a, A, B> {
     pub(crate) fn with_standings(&self, alloc: Global, breaks: Breaks) -> Result<Breaks, AllocError>
         ensures command { IfOk result (λ told. told.command ≡ breaks.command) }
         ensures sites { IfOk result (λ told. told.sites ≡ breaks.sites) }
-        ensures kept { IfOk result (λ told. map told_of told.lines.items ≡ map told_of breaks.lines.items) }
+        ensures kept { IfOk result (λ told. map unchecked told.lines.items
+            ≡ map unchecked breaks.lines.items) }
         ensures each { IfOk result (λ told. EachConfirmedBreaks
             (A.meaning self.now.a.now) (B.meaning self.now.b.now)
             self.now.sends self.now.unknown breaks.command told.lines.items) }

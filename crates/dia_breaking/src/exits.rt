@@ -1,12 +1,14 @@
 //! What is the same for all commands: where the levels of groups lead, and how they break.
-ghost use Rattle.std.specs.Prelude.{◌≡◌, ◌<◌, ◌++◌, ℕ, IfOk, IfSome, OnOk, length, option_to_list};
+ghost use Rattle.std.specs.Prelude.{◌≡◌, ◌<◌, ◌++◌, ℕ, All, IfOk, IfSome, OnOk, length, option_to_list};
 ghost use Rattle.std.specs.List.{filter_map};
 ghost use Rattle.dia_book.specs.Dictionary.{definitions};
 ghost use Rattle.dia_compat.specs.Tests.{rules_in};
+ghost use Rattle.dia_levels.specs.Exact.{AreLevelLines};
 ghost use Rattle.dia_levels.specs.Levels.{FirstIsShortest};
 ghost use Rattle.dia_breaking.specs.Exits.{AreExits, AreOutlooks, IsInnerOrNone, exit_by};
 ghost use Rattle.dia_breaking.specs.Lengths.{listed_length, other_length};
-ghost use Rattle.dia_breaking.specs.Outlooks.{HasGroupLines, HaveGroupLines};
+ghost use Rattle.dia_breaking.specs.Outlooks.{group_rules, HasGroupLines, HaveGroupLines};
+ghost use Rattle.dia_breaking.specs.TheLines.{HasLevelLines};
 
 use crate::books::{group_of, rules_of};
 use crate::keys::Telling;
@@ -137,6 +139,12 @@ pub(crate) fn outlooks<A: Book, B: Book>(
         lengths.now.sends lengths.now.entries.items)
         (other_length (A.meaning lengths.now.book.now)
         lengths.now.sends lengths.now.entries.items) outlooks.items) }
+    ensures levels { IfOk result (λ outlooks. All (HasLevelLines (A.meaning a.now) (B.meaning b.now)
+        (listed_length (A.meaning lengths.now.book.now)
+        lengths.now.sends lengths.now.entries.items)
+        (other_length (A.meaning lengths.now.book.now)
+        lengths.now.sends lengths.now.entries.items)
+        lengths.now.others.items) outlooks.items) }
 {
     let mut outlooks = Vec::new(alloc);
     for own in &telling.own {
@@ -174,6 +182,13 @@ fn inner_of<A: Book, B: Book>(
         lengths.now.sends lengths.now.entries.items)
         (other_length (A.meaning lengths.now.book.now)
         lengths.now.sends lengths.now.entries.items) key inner.lines.items)) }
+    ensures levels { IfOk result (λ inner. IfSome inner (λ inner. AreLevelLines
+        (listed_length (A.meaning lengths.now.book.now)
+        lengths.now.sends lengths.now.entries.items)
+        (other_length (A.meaning lengths.now.book.now)
+        lengths.now.sends lengths.now.entries.items) lengths.now.others.items
+        (group_rules (A.meaning a.now) key) (group_rules (B.meaning b.now) key)
+        inner.lines.items)) }
 {
     let Some(a_def) = group_of(a, key) else {
         return Ok(None);

@@ -1,5 +1,5 @@
 //! What holds of all that A's side sends, where sites are closed, or where a table shows inclusion.
-ghost use Rattle.std.specs.Prelude.{ℕ, List};
+ghost use Rattle.std.specs.Prelude.{◌≡◌, ℕ, List};
 ghost use Rattle.dia_wire.specs.declared.Key.{Key as AnyKey};
 ghost use Rattle.dia_book.specs.Dictionary.{Dictionary};
 ghost use Rattle.dia_policy.specs.declared.Unknown.{Unknown as AnyPolicy};
@@ -13,7 +13,10 @@ ghost use Rattle.dia_levels.specs.declared.line.Line.{Line as LevelLine};
 ghost use Rattle.dia_breaking.specs.Closed.{IsClosedSite, IsFreeOf};
 ghost use Rattle.dia_breaking.specs.Confirmed.{EachConfirmedBreaks, IsConfirmed};
 ghost use Rattle.dia_breaking.specs.Confirmed.{ListsCommand, NoneConfirmed};
+ghost use Rattle.dia_breaking.specs.Listing.{Basis, IsListing, Told};
+ghost use Rattle.dia_breaking.specs.TheLines.{TheLinesAreOne};
 ghost use Rattle.dia_breaking.specs.declared.line.Line.{Line as AnyLine};
+ghost use Rattle.dia_breaking.specs.declared.line.Site.{Site as ListedSite};
 
 /// At a site that is closed, by lengths that no AVP is below, nothing breaks in levels that are free of what is told there.
 pub fn closed_sites_are_safe()
@@ -32,4 +35,16 @@ pub fn included_commands_break_nothing()
     ensures lines { (da db : Dictionary) (who : AnySender) (table : PlainTable) (c : ℕ)
         (lines : List AnyLine) → IsIncluded da db (own_policy who) table → ListsCommand da table c
         → EachConfirmedBreaks da db who (own_policy who) c lines → NoneConfirmed lines }
+{}
+
+/// From one basis there is one list of sites, and one of lines.
+pub fn listings_are_one()
+    ensures { (db : Dictionary) (basis : Basis) (sites others : List ListedSite)
+        (told lines : List Told) → IsListing db basis sites told → IsListing db basis others lines
+        → (sites ≡ others) × (told ≡ lines) }
+{}
+
+/// Two dictionaries have one list of sites and one of lines for a command, by what is sent and by the receiver's policy.
+pub fn the_lines_are_one()
+    ensures { TheLinesAreOne }
 {}

@@ -3,6 +3,7 @@ ghost use Rattle.std.specs.Prelude.{◌≡◌, ◌⊎◌, IfOk, IsSome, MatchBoo
 ghost use Rattle.std.specs.List.Sorted.{IsPermutation, IsNonDecreasingBy, IsStableByKey};
 ghost use Rattle.std.specs.Ordering.{nat_cmp};
 ghost use Rattle.dia_book.specs.Dictionary.{Dictionary, entry_of};
+ghost use Rattle.dia_least.specs.Exact.{AreExact};
 ghost use Rattle.dia_least.specs.Floors.{AreFloors};
 ghost use Rattle.dia_breaking.specs.Lengths.{listed_length, other_length, AreOthers};
 ghost use Rattle.dia_breaking.specs.Lengths.{AreEntryLengths, AreExactlyOthers, AreSameLengths};
@@ -35,6 +36,8 @@ impl<'a, A: Book> Lengths<'a, A> {
             (B.meaning b.now) lengths.sends lengths.entries.items lengths.others.items) }
         ensures entries { IfOk result (λ lengths. AreEntryLengths (A.meaning book.now)
             lengths.least.lengths.items lengths.entries.items) }
+        ensures least { IfOk result (λ lengths. AreExact (A.meaning book.now) sends
+            lengths.least.lengths.items) }
         ensures book { IfOk result (λ lengths. lengths.book.now ≡ book.now) }
         ensures sends { IfOk result (λ lengths. lengths.sends ≡ sends) }
         ensures floors { IfOk result (λ lengths. AreFloors (A.meaning book.now) sends
@@ -62,6 +65,7 @@ impl<'a, A: Book> Lengths<'a, A> {
             lengths.least.lengths.items lengths.entries.items) }
         ensures book { IfOk result (λ lengths. lengths.book.now ≡ book.now) }
         ensures sends { IfOk result (λ lengths. lengths.sends ≡ Sends.Any) }
+        ensures least { IfOk result (λ lengths. lengths.least ≡ least) }
         ensures same { IfOk result (λ lengths. AreSameLengths (A.meaning book.now)
             least.lengths.items lengths.entries.items) }
     {
@@ -89,6 +93,7 @@ impl<'a, A: Book> Lengths<'a, A> {
             lengths.least.lengths.items lengths.entries.items) }
         ensures book { IfOk result (λ lengths. lengths.book.now ≡ book.now) }
         ensures sends { IfOk result (λ lengths. lengths.sends ≡ Sends.Known) }
+        ensures least { IfOk result (λ lengths. lengths.least ≡ least) }
         ensures same { IfOk result (λ lengths. AreSameLengths (A.meaning book.now)
             least.lengths.items lengths.entries.items) }
     {
@@ -115,6 +120,7 @@ impl<'a, A: Book> Lengths<'a, A> {
             lengths.least.lengths.items lengths.entries.items) }
         ensures book { IfOk result (λ lengths. lengths.book.now ≡ book.now) }
         ensures sends { IfOk result (λ lengths. lengths.sends ≡ Sends.Listed) }
+        ensures least { IfOk result (λ lengths. lengths.least ≡ least) }
         ensures same { IfOk result (λ lengths. AreSameLengths (A.meaning book.now)
             least.lengths.items lengths.entries.items) }
     {

@@ -12,6 +12,7 @@ mod closing;
 mod confirm;
 mod exits;
 mod format_words;
+mod header_lines;
 mod headers;
 mod heads;
 mod keys;
@@ -22,14 +23,19 @@ mod levels;
 mod line;
 mod lines;
 mod message;
+mod nodes;
+mod own_breaks;
 mod own_lines;
+mod sites;
+mod start;
 mod told;
 mod upgrade;
-mod walk;
 mod ways;
 mod words;
 
 pub use dia_policy::{Sends, Unknown};
-pub use laws::{closed_sites_are_safe, included_commands_break_nothing};
+pub use laws::{
+    closed_sites_are_safe, included_commands_break_nothing, listings_are_one, the_lines_are_one,
+};
 pub use line::{Breaks, Cause, Line, Place, Site, Standing};
 pub use upgrade::Upgrade;

@@ -97,8 +97,6 @@ pub struct Line {
     /// What the AVPs of its message take, in bytes.
     pub length: u64,
     pub standing: Standing,
-    /// The line's place among those of its site.
-    pub(crate) rank: (u8, usize),
 }
 
 /// What can break the messages of a command: the lines in their order, and the sites, those with the shortest way first.

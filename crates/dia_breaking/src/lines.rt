@@ -1,24 +1,31 @@
 //! The lines of a command.
-ghost use Rattle.std.specs.Prelude.{◌≡◌, ◌<◌, Contains, IfOk, IfSome, OnOk, Some, length};
-ghost use Rattle.std.specs.Prelude.{slice_get};
+ghost use Rattle.std.specs.Prelude.{◌≡◌, ◌⊎◌, ◌<◌, ◌++◌, ◌∷◌, [], IfOk, IfSome, OnOk, Some, length};
+ghost use Rattle.std.specs.Prelude.{map, option_to_list, slice_get};
+ghost use Rattle.std.specs.Option.{option_map_or};
 ghost use Rattle.dia_book.specs.Dictionary.{definitions};
-ghost use Rattle.dia_compat.specs.Tests.{rules_in};
-ghost use Rattle.dia_levels.specs.Levels.{HasEachLine};
-ghost use Rattle.dia_levels.specs.LevelTests.{price};
 ghost use Rattle.dia_breaking.specs.Confirmed.{EachConfirmedBreaks};
 ghost use Rattle.dia_breaking.specs.Free.{AreValidWhereFree};
 ghost use Rattle.dia_breaking.specs.Headers.{head_in};
-ghost use Rattle.dia_breaking.specs.Lengths.{listed_length, other_length};
+ghost use Rattle.dia_breaking.specs.Listing.{AddsTold, HasUnproved, IsListing};
+ghost use Rattle.dia_breaking.specs.Listing.{IsWalkFrom, Told};
+ghost use Rattle.dia_breaking.specs.Listing.{basis_of, command_levels, group_levels, level_lines};
+ghost use Rattle.dia_breaking.specs.Listing.{lines_in, lines_of, new_line, subject, tells, with_room};
+ghost use Rattle.dia_breaking.specs.Orders.{IsInOrderOf, of_each};
+ghost use Rattle.dia_breaking.specs.Sites.{group_sites};
+ghost use Rattle.dia_breaking.specs.TheLines.{AreLinesOrUnproved};
 ghost use Rattle.dia_breaking.specs.declared.line.Line.{Line as AnyLine};
 
-use crate::books::{command_of, group_of};
-use crate::exits::{Exits, Inner};
-use crate::heads::{Head, allows, head_of, told_apps};
-use crate::line::{Breaks, Cause, Line, Place, Standing};
+use crate::header_lines::push_header_lines;
+use crate::heads::Head;
+use crate::line::{Breaks, Cause, Line, Site, Standing};
+use crate::own_lines::Kind;
+use crate::sites::{Numbers, command_sites, first_read, push_group_sites};
+use crate::start::Start;
 use crate::upgrade::Upgrade;
-use crate::walk::{ROOM, Walk};
-use dia_book::{Book, Class, DefId, Key};
-use dia_levels::{Line as LevelLine, level_lines};
+use crate::ways::ROOM;
+use dia_book::{Book, DefId};
+use dia_levels::Line as LevelLine;
+use dia_ways::{Step, Walk, walk};
 use std::alloc::{AllocError, Global};
 
 impl<'a, A: Book, B: Book> Upgrade<'a, A, B> {
@@ -39,6 +46,9 @@ impl<'a, A: Book, B: Book> Upgrade<'a, A, B> {
         ensures each { IfOk result (λ breaks. EachConfirmedBreaks
             (A.meaning self.now.a.now) (B.meaning self.now.b.now)
             self.now.sends self.now.unknown command breaks.lines.items) }
+        ensures lines { IfOk result (λ breaks. AreLinesOrUnproved
+            (A.meaning self.now.a.now) (B.meaning self.now.b.now) self.now.sends self.now.unknown
+            command breaks.sites.items breaks.lines.items) }
     {
         let found = self.found(alloc, command, head)?;
         let breaks = self.unless_certified(alloc, head, found)?;
@@ -47,29 +57,170 @@ impl<'a, A: Book, B: Book> Upgrade<'a, A, B> {
 
     /// The lines that a walk over the sites finds.
     fn found(&self, alloc: Global, command: DefId, head: &Head) -> Result<Breaks, AllocError>
-        requires { command < length (definitions (A.meaning self.now.a.now)) }
-        ensures { IfOk result (λ breaks. breaks.command ≡ command) }
+        requires within { command < length (definitions (A.meaning self.now.a.now)) }
+        requires head { IfSome (slice_get (definitions (A.meaning self.now.a.now)) command)
+            (λ c. head_in c.head ≡ Some head.now) }
+        ensures command { IfOk result (λ breaks. breaks.command ≡ command) }
+        ensures lines { IfOk result (λ breaks. AreLinesOrUnproved
+            (A.meaning self.now.a.now) (B.meaning self.now.b.now) self.now.sends self.now.unknown
+            command breaks.sites.items breaks.lines.items) }
     {
-        let exits = Exits::of(alloc, self.a, command, &self.telling, &self.lengths)?;
-        let apps = told_apps(alloc, self.a, &self.apps, command, head)?;
-        let mut walk = Walk::new(alloc, self, &exits);
-        let mut lines = Vec::new(alloc);
-        if exits.base <= ROOM {
-            for app in &apps {
-                self.begin_app(&mut walk, &mut lines, head, *app, exits.base)?;
-            }
+        let start = Start::of(alloc, self, command, head)?;
+        self.found_from(alloc, command, &start)
+    }
+
+    /// So they are from a start.
+    fn found_from(&self, alloc: Global, command: DefId, start: &Start) -> Result<Breaks, AllocError>
+        ensures command { IfOk result (λ breaks. breaks.command ≡ command) }
+        ensures listing { IfOk result (λ breaks. HasUnproved breaks.lines.items
+            ⊎ IsListing (B.meaning self.now.b.now)
+            (basis_of start.now self.now.own.items self.now.outlooks.items)
+            breaks.sites.items (map tells breaks.lines.items)) }
+    {
+        let sites = command_sites(alloc, self.b, &start.head, &start.apps)?;
+        let first = first_read(&sites);
+        let numbers = Numbers {
+            first: first.unwrap_or(0),
+            count: count_of(&start.apps),
+        };
+        match self.walk_from(alloc, start, first.is_some())? {
+            Some(walk) => self.found_by(alloc, command, start, sites, numbers, &walk),
+            None => Ok(Breaks {
+                command,
+                code: start.head.code,
+                class: start.head.class,
+                sites,
+                lines: unproved(alloc)?,
+            }),
         }
-        walk.finish(alloc)?;
-        self.push_level_lines(alloc, head, &walk, &mut lines)?;
-        self.push_own_lines(alloc, &walk, &mut lines)?;
-        lines.sort_by_key(|line| (line.site, line.rank))?;
+    }
+
+    /// The sites and the lines by a walk, where these sites are the command's.
+    fn found_by(
+        &self,
+        alloc: Global,
+        command: DefId,
+        start: &Start,
+        mut sites: Vec<Site>,
+        numbers: Numbers,
+        walk: &Walk,
+    ) -> Result<Breaks, AllocError>
+        ensures command { IfOk result (λ breaks. breaks.command ≡ command) }
+        ensures sites { IfOk result (λ breaks. breaks.sites.items ≡ sites.items
+            ++ group_sites self.now.own.items numbers.first numbers.count walk.now.steps.items) }
+        ensures lines { IfOk result (λ breaks. IsInOrderOf (λ (told : Told). told.site)
+            (lines_of (B.meaning self.now.b.now)
+            (basis_of start.now self.now.own.items self.now.outlooks.items)
+            numbers.first numbers.count walk.now.steps.items walk.now.reached.items)
+            (map tells breaks.lines.items)) }
+    {
+        push_group_sites(&mut sites, &self.own, numbers, &walk.steps)?;
+        let lines = self.lines_by(alloc, start, numbers, walk)?;
         Ok(Breaks {
             command,
-            code: head.code,
-            class: head.class,
-            sites: walk.sites,
+            code: start.head.code,
+            class: start.head.class,
+            sites,
             lines,
         })
+    }
+
+    /// The shortest ways from the level of the command, if B's side reads it.
+    fn walk_from(
+        &self,
+        alloc: Global,
+        start: &Start,
+        is_read: bool,
+    ) -> Result<Option<Walk>, AllocError>
+        ensures { IfOk result (λ found. IfSome found (λ walk. IsWalkFrom is_read
+            (basis_of start.now self.now.own.items self.now.outlooks.items).graph
+            walk.steps.items walk.reached.items)) }
+    {
+        if is_read {
+            walk(alloc, &self.nodes, &start.exits, ROOM)
+        } else {
+            Ok(Some(Walk {
+                steps: Vec::new(alloc),
+                reached: Vec::new(alloc),
+            }))
+        }
+    }
+
+    /// The lines by a walk, in the order of their sites.
+    fn lines_by(
+        &self,
+        alloc: Global,
+        start: &Start,
+        numbers: Numbers,
+        walk: &Walk,
+    ) -> Result<Vec<Line>, AllocError>
+        ensures { IfOk result (λ lines. IsInOrderOf (λ (told : Told). told.site)
+            (lines_of (B.meaning self.now.b.now)
+            (basis_of start.now self.now.own.items self.now.outlooks.items)
+            numbers.first numbers.count walk.now.steps.items walk.now.reached.items)
+            (map tells lines.items)) }
+    {
+        let mut lines = Vec::new(alloc);
+        push_header_lines(self.b, start, &mut lines)?;
+        push_command_levels(start, &mut lines)?;
+        self.push_group_levels(numbers.count, &walk.steps, &mut lines)?;
+        self.push_own_lines(alloc, Kind::Unknown, numbers, &walk.reached, &mut lines)?;
+        self.push_own_lines(alloc, Kind::MBit, numbers, &walk.reached, &mut lines)?;
+        self.push_own_lines(alloc, Kind::Data, numbers, &walk.reached, &mut lines)?;
+        sort_by_site(&mut lines)?;
+        Ok(lines)
+    }
+
+    /// Adds how levels of groups break B's rules, by the steps that lead to them.
+    fn push_group_levels(
+        &self,
+        count: usize,
+        steps: &[Step],
+        lines: &mut Vec<Line>,
+    ) -> Result<(), AllocError>
+        ensures { OnOk result (AddsTold lines.old.items lines.new.items
+            (of_each (group_levels count (map lines_in self.now.outlooks.items)) steps.now)) }
+    {
+        for index in 0..steps.len() {
+            self.push_group_level_at(count, steps, index, lines)?;
+        }
+        Ok(())
+    }
+
+    fn push_group_level_at(
+        &self,
+        count: usize,
+        steps: &[Step],
+        index: usize,
+        lines: &mut Vec<Line>,
+    ) -> Result<(), AllocError>
+        ensures { OnOk result (AddsTold lines.old.items lines.new.items
+            (option_map_or (group_levels count (map lines_in self.now.outlooks.items) index)
+            (slice_get steps.now index) [])) }
+    {
+        match steps.get(index) {
+            Some(step) => self.push_group_level(count.saturating_add(index), step, lines),
+            None => Ok(()),
+        }
+    }
+
+    fn push_group_level(
+        &self,
+        site: usize,
+        step: &Step,
+        lines: &mut Vec<Line>,
+    ) -> Result<(), AllocError>
+        ensures { OnOk result (AddsTold lines.old.items lines.new.items
+            (option_map_or (level_lines site step.now.way)
+            (slice_get (map lines_in self.now.outlooks.items) step.now.place) [])) }
+    {
+        match self.outlooks.get(step.place) {
+            Some(outlook) => match &outlook.inner {
+                Some(inner) => push_level_lines(lines, site, step.way, &inner.lines),
+                None => Ok(()),
+            },
+            None => Ok(()),
+        }
     }
 
     /// With an undecided line, where it isn't shown that nothing breaks but what the lines tell.
@@ -86,6 +237,7 @@ impl<'a, A: Book, B: Book> Upgrade<'a, A, B> {
         ensures free { IfOk result (λ breaks. ∥ AreValidWhereFree
             (A.meaning self.now.a.now) (B.meaning self.now.b.now) self.now.sends self.now.unknown
             breaks.sites.items breaks.lines.items breaks.command ∥₁) }
+        ensures kept { IfOk result (λ breaks. HasUnproved breaks.lines.items ⊎ (breaks ≡ found)) }
     {
         let certified = self.is_certified(alloc, head, &found)?;
         if certified {
@@ -94,183 +246,115 @@ impl<'a, A: Book, B: Book> Upgrade<'a, A, B> {
         push_line(&mut found.lines, 0, Cause::Unproved, 0)?;
         Ok(found)
     }
-
-    /// Begins a walk in messages of an application, and adds what breaks in their header.
-    fn begin_app(
-        &self,
-        walk: &mut Walk<'_, 'a, A, B>,
-        lines: &mut Vec<Line>,
-        head: &Head,
-        app: u32,
-        base: u64,
-    ) -> Result<(), AllocError> {
-        match self.head_in_b(head.code, head.class, app) {
-            Some(other) => self.begin_read(walk, lines, head, &other, app, base),
-            None => {
-                let place = Place::Command {
-                    app,
-                    is_told: false,
-                    proxiable: !allows(head.p, false),
-                };
-                let site = walk.add_site(place, 0, false)?;
-                let cause = if self.b.has_command(head.code, head.class) {
-                    Cause::Application
-                } else {
-                    Cause::Command
-                };
-                push_line(lines, site, cause, base)
-            }
-        }
-    }
-
-    /// The head of B's definition for messages of an application.
-    fn head_in_b(&self, code: u32, class: Class, app: u32) -> Option<Head> {
-        let def = command_of(self.b, code, class, app)?;
-        head_of(self.b, def)
-    }
-
-    fn begin_read(
-        &self,
-        walk: &mut Walk<'_, 'a, A, B>,
-        lines: &mut Vec<Line>,
-        head: &Head,
-        other: &Head,
-        app: u32,
-        base: u64,
-    ) -> Result<(), AllocError> {
-        let clear = allows(head.p, false) && allows(other.p, false);
-        let set = allows(head.p, true) && allows(other.p, true);
-        let place = Place::Command {
-            app,
-            is_told: head.app.is_none() && other.app.is_some(),
-            proxiable: !clear && (set || !allows(head.p, false)),
-        };
-        let site = walk.add_site(place, 0, clear || set)?;
-        for set in [false, true] {
-            if allows(head.p, set) && !allows(other.p, set) {
-                push_line(lines, site, Cause::Proxiable { set }, base)?;
-            }
-        }
-        if clear || set {
-            walk.begin(site)?;
-        }
-        Ok(())
-    }
-
-    /// The definition of A by which the level at a place is read.
-    pub(crate) fn definition_of_a(&self, code: u32, class: Class, place: Place) -> Option<DefId>
-        ensures { IfSome result (λ def. def < length (definitions (A.meaning self.now.a.now))) }
-    {
-        match place {
-            Place::Command { app, .. } => command_of(self.a, code, class, app),
-            Place::Group { key, .. } => group_of(self.a, key),
-        }
-    }
-
-    /// The definition of B by which the level at a place is read.
-    pub(crate) fn definition_of_b(&self, code: u32, class: Class, place: Place) -> Option<DefId>
-        ensures { IfSome result (λ def. def < length (definitions (B.meaning self.now.b.now))) }
-    {
-        match place {
-            Place::Command { app, .. } => command_of(self.b, code, class, app),
-            Place::Group { key, .. } => group_of(self.b, key),
-        }
-    }
-
-    /// Adds how often AVPs stand, and in which order, at each site.
-    fn push_level_lines(
-        &self,
-        alloc: Global,
-        head: &Head,
-        walk: &Walk<'_, 'a, A, B>,
-        lines: &mut Vec<Line>,
-    ) -> Result<(), AllocError> {
-        for (number, site) in walk.sites.iter().enumerate() {
-            match site.place {
-                Place::Command { app, .. } => {
-                    if site.is_read {
-                        let found = self.lines_of_command(alloc, head, app)?;
-                        push_found(lines, number, 0, &found)?;
-                    }
-                }
-                Place::Group { key, .. } => {
-                    if let Some(inner) = self.inner_of(key) {
-                        push_found(lines, number, site.way, &inner.lines)?;
-                    }
-                }
-            }
-        }
-        Ok(())
-    }
-
-    fn lines_of_command(
-        &self,
-        alloc: Global,
-        head: &Head,
-        app: u32,
-    ) -> Result<Vec<LevelLine>, AllocError> {
-        let Some(a_def) = command_of(self.a, head.code, head.class, app) else {
-            return Ok(Vec::new(alloc));
-        };
-        let Some(b_def) = command_of(self.b, head.code, head.class, app) else {
-            return Ok(Vec::new(alloc));
-        };
-        self.lines_between(alloc, a_def, b_def)
-    }
-
-    /// The level of a group that is one for both dictionaries.
-    fn inner_of(&self, key: Key) -> Option<&Inner> {
-        let place = self.telling.places.get(&key).copied()?;
-        self.outlooks.get(place)?.inner.as_ref()
-    }
-
-    /// How the levels of a definition of A break the rules of one of B.
-    pub(crate) fn lines_between(
-        &self,
-        alloc: Global,
-        a_def: DefId,
-        b_def: DefId,
-    ) -> Result<Vec<LevelLine>, AllocError>
-        requires first { a_def < length (definitions (A.meaning self.now.a.now)) }
-        requires second { b_def < length (definitions (B.meaning self.now.b.now)) }
-        ensures { IfOk result (λ lines. HasEachLine (price
-            (listed_length (A.meaning self.now.lengths.book.now)
-            self.now.lengths.sends self.now.lengths.entries.items)
-            (other_length (A.meaning self.now.lengths.book.now)
-            self.now.lengths.sends self.now.lengths.entries.items)
-            (rules_in (A.meaning self.now.a.now) a_def))
-            (rules_in (A.meaning self.now.a.now) a_def)
-            (rules_in (B.meaning self.now.b.now) b_def) lines.items) }
-    {
-        level_lines(alloc, self.a, a_def, self.b, b_def, &self.lengths)
-    }
 }
 
-fn push_line(lines: &mut Vec<Line>, site: usize, cause: Cause, takes: u64) -> Result<(), AllocError>
-    ensures { OnOk result ((line : AnyLine) × Contains lines.new.items line × (line.cause ≡ cause)) }
+/// How many these are.
+fn count_of(apps: &[u32]) -> usize
+    ensures { result ≡ length apps.now }
+{
+    apps.len()
+}
+
+/// The one line that it isn't shown that nothing breaks.
+fn unproved(alloc: Global) -> Result<Vec<Line>, AllocError>
+    ensures { IfOk result (λ lines. HasUnproved lines.items) }
+{
+    let mut lines = Vec::new(alloc);
+    push_line(&mut lines, 0, Cause::Unproved, 0)?;
+    Ok(lines)
+}
+
+/// Puts lines in the order of their sites, where those of one site stay in their order.
+fn sort_by_site(lines: &mut Vec<Line>) -> Result<(), AllocError>
+    ensures { OnOk result (IsInOrderOf (λ (line : AnyLine). line.site) lines.old.items lines.new.items) }
+{
+    lines.sort_by_key(|line| line.site)?;
+    Ok(())
+}
+
+/// Adds a line of which nothing is known.
+pub(crate) fn push_line(
+    lines: &mut Vec<Line>,
+    site: usize,
+    cause: Cause,
+    takes: u64,
+) -> Result<(), AllocError>
+    ensures items { OnOk result (lines.new.items ≡ lines.old.items ++ new_line site cause takes ∷ []) }
+    ensures told { OnOk result (AddsTold lines.old.items lines.new.items
+        (tells (new_line site cause takes) ∷ [])) }
 {
     lines.push(Line {
         site,
         cause,
         length: takes,
         standing: Standing::Unchecked,
-        rank: (0, 0),
     })?;
     Ok(())
 }
 
-/// Adds the lines of a site's level, if a message has room for them.
-fn push_found(
+/// Adds such a line, if a message has room for it.
+pub(crate) fn push_with_room(
+    lines: &mut Vec<Line>,
+    site: usize,
+    cause: Cause,
+    takes: u64,
+) -> Result<(), AllocError>
+    ensures { OnOk result (AddsTold lines.old.items lines.new.items
+        (option_to_list (with_room site takes (subject cause)))) }
+{
+    if takes <= ROOM {
+        push_line(lines, site, cause, takes)
+    } else {
+        Ok(())
+    }
+}
+
+/// Adds the lines of a level, around which a message takes at least `way`.
+fn push_level_lines(
     lines: &mut Vec<Line>,
     site: usize,
     way: u64,
     found: &[LevelLine],
-) -> Result<(), AllocError> {
+) -> Result<(), AllocError>
+    ensures { OnOk result (AddsTold lines.old.items lines.new.items (level_lines site way found.now)) }
+{
     for line in found {
-        let length = way.saturating_add(line.length);
-        if length <= ROOM {
-            push_line(lines, site, Cause::Level(*line), length)?;
-        }
+        push_level_line(lines, site, way, line)?;
     }
     Ok(())
+}
+
+fn push_level_line(
+    lines: &mut Vec<Line>,
+    site: usize,
+    way: u64,
+    line: &LevelLine,
+) -> Result<(), AllocError>
+    ensures { OnOk result (AddsTold lines.old.items lines.new.items
+        (level_lines site way (line.now ∷ []))) }
+{
+    let length = way.saturating_add(line.length);
+    push_with_room(lines, site, Cause::Level(*line), length)
+}
+
+/// Adds how levels of the command break B's rules.
+fn push_command_levels(start: &Start, lines: &mut Vec<Line>) -> Result<(), AllocError>
+    ensures { OnOk result (AddsTold lines.old.items lines.new.items
+        (of_each command_levels (map (λ found. found.items) start.now.levels.items))) }
+{
+    for site in 0..start.levels.len() {
+        push_command_level(start, site, lines)?;
+    }
+    Ok(())
+}
+
+fn push_command_level(start: &Start, site: usize, lines: &mut Vec<Line>) -> Result<(), AllocError>
+    ensures { OnOk result (AddsTold lines.old.items lines.new.items
+        (option_map_or (command_levels site)
+        (slice_get (map (λ found. found.items) start.now.levels.items) site) [])) }
+{
+    match start.levels.get(site) {
+        Some(found) => push_level_lines(lines, site, 0, found),
+        None => Ok(()),
+    }
 }

@@ -1,96 +1,152 @@
 //! The lines of AVPs that break by themselves.
+ghost use Rattle.std.specs.Prelude.{◌≡◌, [], None, IfOk, OnOk, option_to_list, slice_get};
+ghost use Rattle.std.specs.Option.{option_map, option_map_or};
+ghost use Rattle.dia_breaking.specs.Listing.{AddsTold, head_cause, own_cause, own_line};
+ghost use Rattle.dia_breaking.specs.Listing.{own_lines, reach_at, reached_line, subject, with_data};
+
 use crate::books::format_of;
-use crate::line::{Cause, Line, Standing};
+use crate::line::{Cause, Line};
+use crate::lines::push_with_room;
+use crate::own_breaks::OwnBreaks;
+use crate::sites::Numbers;
 use crate::upgrade::Upgrade;
-use crate::walk::{ROOM, Reach, Walk};
 use dia_book::{Book, Format, Key};
 use dia_data::{Leaf, accepts};
-use dia_entries::{AvpBreaks, DataBreak, HeadBreak, avp_breaks};
+use dia_entries::{DataBreak, HeadBreak};
 use dia_least::{push_least, shortest_head};
-use dia_levels::Costs;
+use dia_levels::{Costs, TOO_LONG};
+use dia_ways::Reach;
 use dia_witness::Witness;
 use std::alloc::{AllocError, Global};
 
 /// The most bytes of a group whose data are tried where it is read as a leaf.
 const MOST_TRIED: u64 = 65_536;
 
+/// What breaks of an AVP by itself. The lines of a site stand in this order.
+#[derive(Clone, Copy, Debug)]
+pub(crate) enum Kind {
+    /// B doesn't know it.
+    Unknown,
+    /// B's rule forbids an M flag.
+    MBit,
+    /// Its data.
+    Data,
+}
+
 impl<'a, A: Book, B: Book> Upgrade<'a, A, B> {
-    /// Adds what AVPs break by themselves.
+    /// Adds what of one kind AVPs break by themselves, by their places.
     pub(crate) fn push_own_lines(
         &self,
         alloc: Global,
-        walk: &Walk<'_, 'a, A, B>,
+        kind: Kind,
+        numbers: Numbers,
+        reached: &[Option<Reach>],
         lines: &mut Vec<Line>,
-    ) -> Result<(), AllocError> {
-        for (place, reach) in &walk.reached {
-            if let Some(own) = self.telling.own.get(*place) {
-                if own.breaks {
-                    self.push_lines_of_avp(alloc, lines, *place, own.key, reach)?;
-                }
-            }
+    ) -> Result<(), AllocError>
+        ensures { OnOk result (AddsTold lines.old.items lines.new.items
+            (own_lines kind numbers.first numbers.count self.now.own.items reached.now)) }
+    {
+        for place in 0..self.own.len() {
+            self.push_own_at(alloc, kind, numbers, reached, place, lines)?;
         }
         Ok(())
     }
 
-    fn push_lines_of_avp(
+    fn push_own_at(
         &self,
         alloc: Global,
-        lines: &mut Vec<Line>,
+        kind: Kind,
+        numbers: Numbers,
+        reached: &[Option<Reach>],
         place: usize,
-        key: Key,
-        reach: &Reach,
-    ) -> Result<(), AllocError> {
-        let breaks = avp_breaks(self.a, self.b, key, self.sends, self.unknown);
-        push_head_line(lines, place, key, &breaks, reach)?;
-        self.push_data_line(alloc, lines, place, key, &breaks, reach)
+        lines: &mut Vec<Line>,
+    ) -> Result<(), AllocError>
+        ensures { OnOk result (AddsTold lines.old.items lines.new.items
+            (option_map_or (reached_line kind numbers.first numbers.count reached.now place)
+            (slice_get self.now.own.items place) [])) }
+    {
+        match self.own.get(place) {
+            Some(own) => match reach_at(reached, place) {
+                Some(reach) => self.push_own(alloc, kind, numbers, own, &reach, lines),
+                None => Ok(()),
+            },
+            None => Ok(()),
+        }
     }
 
-    fn push_data_line(
+    /// Adds what breaks of an AVP that is reached so.
+    fn push_own(
         &self,
         alloc: Global,
-        lines: &mut Vec<Line>,
-        place: usize,
-        key: Key,
-        breaks: &AvpBreaks,
+        kind: Kind,
+        numbers: Numbers,
+        own: &OwnBreaks,
         reach: &Reach,
-    ) -> Result<(), AllocError> {
-        let (cause, length) = match breaks.data {
-            DataBreak::Fits => return Ok(()),
-            DataBreak::Groups { .. } => return Ok(()),
+        lines: &mut Vec<Line>,
+    ) -> Result<(), AllocError>
+        ensures { OnOk result (AddsTold lines.old.items lines.new.items
+            (option_to_list (own_line kind numbers.first numbers.count own.now reach.now))) }
+    {
+        match self.own_cause(alloc, kind, own, reach.length)? {
+            Some((cause, length)) => {
+                push_with_room(lines, numbers.site(reach.level), cause, length)
+            }
+            None => Ok(()),
+        }
+    }
+
+    /// What breaks of an AVP, and what a message takes; one with a least AVP takes `length`.
+    fn own_cause(
+        &self,
+        alloc: Global,
+        kind: Kind,
+        own: &OwnBreaks,
+        length: u64,
+    ) -> Result<Option<(Cause, u64)>, AllocError>
+        ensures { IfOk result (λ found. option_map (λ pair. (subject pair.0, pair.1)) found
+            ≡ own_cause kind own.now length) }
+    {
+        match kind {
+            Kind::Data => self.data_cause(alloc, own, length),
+            Kind::Unknown | Kind::MBit => match own.breaks.head {
+                Some(found) => Ok(head_cause(kind, own.key, found).map(|cause| (cause, length))),
+                None => Ok(None),
+            },
+        }
+    }
+
+    fn data_cause(
+        &self,
+        alloc: Global,
+        own: &OwnBreaks,
+        length: u64,
+    ) -> Result<Option<(Cause, u64)>, AllocError>
+        ensures { IfOk result (λ found. option_map (λ pair. (subject pair.0, pair.1)) found
+            ≡ own_cause Kind.Data own.now length) }
+    {
+        let key = own.key;
+        match own.breaks.data {
+            DataBreak::Fits => Ok(None),
+            DataBreak::Groups { .. } => Ok(None),
             DataBreak::Data(data) => {
                 let cause = Cause::Format {
                     key,
                     data: Some(data),
                 };
-                (cause, self.with_data(key, reach.length, &data))
+                Ok(Some((cause, with_data(own, length, &data))))
             }
-            DataBreak::LeastLevel => (Cause::Format { key, data: None }, reach.length),
-            DataBreak::Undecided => (self.tried(alloc, key)?, reach.length),
-        };
-        if length <= ROOM {
-            lines.push(Line {
-                site: reach.site,
-                cause,
-                length,
-                standing: Standing::Unchecked,
-                rank: (3, place),
-            })?;
+            DataBreak::LeastLevel => Ok(Some((Cause::Format { key, data: None }, length))),
+            DataBreak::Undecided => {
+                let cause = self.tried(alloc, key)?;
+                Ok(Some((cause, length)))
+            }
         }
-        Ok(())
-    }
-
-    /// What a message takes with these data in the place of a shortest AVP.
-    fn with_data(&self, key: Key, length: u64, data: &Witness) -> u64 {
-        let head = shortest_head(key);
-        let own = head.saturating_add(data.as_slice().len() as u64);
-        let least = self.lengths.listed(key);
-        length
-            .saturating_sub(least)
-            .saturating_add(own.saturating_add(3) / 4 * 4)
     }
 
     /// Whether B's leaf refuses the data of a shortest AVP.
-    fn tried(&self, alloc: Global, key: Key) -> Result<Cause, AllocError> {
+    fn tried(&self, alloc: Global, key: Key) -> Result<Cause, AllocError>
+        ensures { IfOk result (λ cause. subject cause ≡ Cause.Format key None) }
+    {
         let Some(format) = format_of(self.b, key) else {
             return Ok(Cause::LevelAsLeaf { key });
         };
@@ -100,12 +156,42 @@ impl<'a, A: Book, B: Book> Upgrade<'a, A, B> {
         let mut bytes = Vec::new(alloc);
         push_least(&mut bytes, self.a, &self.lengths.least, key)?;
         let head = shortest_head(key) as usize;
-        Ok(if is_refused(format, &bytes, head) {
-            Cause::Format { key, data: None }
+        if is_refused(format, &bytes, head) {
+            Ok(Cause::Format { key, data: None })
         } else {
-            Cause::LevelAsLeaf { key }
-        })
+            Ok(Cause::LevelAsLeaf { key })
+        }
     }
+}
+
+/// The shortest way to the AVP at a place.
+fn reach_at(reached: &[Option<Reach>], place: usize) -> Option<Reach>
+    ensures { result ≡ reach_at reached.now place }
+{
+    *reached.get(place)?
+}
+
+/// What breaks of the head of an AVP, if it is of this kind.
+fn head_cause(kind: Kind, key: Key, found: HeadBreak) -> Option<Cause>
+    ensures { result ≡ head_cause kind key found }
+{
+    match (kind, found) {
+        (Kind::Unknown, HeadBreak::Unknown { m }) => Some(Cause::Unknown { key, m }),
+        (Kind::MBit, HeadBreak::MBit { m }) => Some(Cause::MBit { key, m }),
+        _ => None,
+    }
+}
+
+/// What a message takes with these data in the place of a shortest AVP.
+fn with_data(own: &OwnBreaks, length: u64, data: &Witness) -> u64
+    ensures { result ≡ with_data own.now length data.now }
+{
+    let size = shortest_head(own.key).saturating_add(data.as_slice().len() as u64);
+    let padded = size.saturating_add(3) / 4 * 4;
+    length
+        .saturating_sub(own.least)
+        .saturating_add(padded)
+        .min(TOO_LONG)
 }
 
 /// Whether the format refuses what stands behind so many bytes.
@@ -114,27 +200,4 @@ fn is_refused(format: &Format, bytes: &[u8], head: usize) -> bool {
         Some(data) => accepts(format, data) != Leaf::Fine,
         None => false,
     }
-}
-
-/// Adds what the head of an AVP breaks.
-fn push_head_line(
-    lines: &mut Vec<Line>,
-    place: usize,
-    key: Key,
-    breaks: &AvpBreaks,
-    reach: &Reach,
-) -> Result<(), AllocError> {
-    let (cause, rank) = match breaks.head {
-        Some(HeadBreak::Unknown { m }) => (Cause::Unknown { key, m }, 1),
-        Some(HeadBreak::MBit { m }) => (Cause::MBit { key, m }, 2),
-        None => return Ok(()),
-    };
-    lines.push(Line {
-        site: reach.site,
-        cause,
-        length: reach.length,
-        standing: Standing::Unchecked,
-        rank: (rank, place),
-    })?;
-    Ok(())
 }

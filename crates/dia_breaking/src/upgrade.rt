@@ -1,27 +1,38 @@
 //! Two dictionaries, with what is the same for all commands.
-ghost use Rattle.std.specs.Prelude.{◌≡◌, ◌<◌, ℕ, [], IfOk, IfSome, length};
+ghost use Rattle.std.specs.Prelude.{◌≡◌, ◌<◌, ℕ, [], IfOk, IfSome, IsSome, Some, length, map};
 ghost use Rattle.std.proofs.Props.{props};
 ghost use Rattle.dia_book.specs.Dictionary.{definitions};
 ghost use Rattle.dia_sites.specs.Selection.{AreValid};
 ghost use Rattle.dia_compat.specs.Tests.{rules_in};
 ghost use Rattle.dia_least.specs.Floors.{AreFloors};
-ghost use Rattle.dia_levels.specs.Levels.{FirstIsShortest};
+ghost use Rattle.dia_levels.specs.Exact.{AreLevelLines};
+ghost use Rattle.dia_levels.specs.Levels.{FirstIsShortest, HasEachLine};
+ghost use Rattle.dia_levels.specs.LevelTests.{price};
+ghost use Rattle.dia_ways.specs.Walks.{plain_node};
 ghost use Rattle.dia_breaking.specs.Confirmed.{EachConfirmedBreaks};
 ghost use Rattle.dia_breaking.specs.Free.{AreValidWhereFree};
 ghost use Rattle.dia_breaking.specs.Headers.{AreApps};
 ghost use Rattle.dia_breaking.specs.Lengths.{listed_length, other_length};
+ghost use Rattle.dia_breaking.specs.Nodes.{node_in};
+ghost use Rattle.dia_breaking.specs.OwnBreaks.{AreOwnBreaks};
 ghost use Rattle.dia_breaking.specs.Outlooks.{HasGroupLines, HaveGroupLines};
 ghost use Rattle.dia_breaking.specs.Telling.{IsTelling};
+ghost use Rattle.dia_breaking.specs.TheLines.{AreFacts, AreLinesOrUnproved};
+ghost use Rattle.dia_breaking.specs.Words.{head_at};
 
 use crate::apps::BothApps;
+use crate::books::{command_of, group_of};
 use crate::exits::{Outlook, outlooks};
 use crate::heads::{Head, head_of};
 use crate::keys::Telling;
 use crate::lengths::Lengths;
-use crate::line::Breaks;
+use crate::line::{Breaks, Place};
+use crate::nodes::nodes_of;
+use crate::own_breaks::{OwnBreaks, own_breaks};
 use dia_book::{Book, Class, DefId, Key};
-use dia_levels::Line as LevelLine;
+use dia_levels::{Line as LevelLine, level_lines};
 use dia_policy::{Sends, Unknown};
+use dia_ways::Node;
 use std::alloc::{AllocError, Global};
 
 /// Messages of A's side that B's side reads.
@@ -36,6 +47,10 @@ pub struct Upgrade<'a, A: Book, B: Book> {
     pub(crate) apps: Box<BothApps>,
     /// The AVPs of which there is something to tell, in the order of `Telling::own`.
     pub(crate) outlooks: Vec<Outlook>,
+    /// The same as the nodes of a walk.
+    pub(crate) nodes: Vec<Node>,
+    /// What they break by themselves.
+    pub(crate) own: Vec<OwnBreaks>,
     ghost same: { lengths.book.now ≡ a.now },
     ghost sender: { lengths.sends ≡ sends },
     ghost shortest: { (x y : ℕ) → FirstIsShortest (other_length (A.meaning a.now) lengths.sends
@@ -48,6 +63,12 @@ pub struct Upgrade<'a, A: Book, B: Book> {
         (listed_length (A.meaning lengths.book.now) lengths.sends lengths.entries.items)
         (other_length (A.meaning lengths.book.now) lengths.sends lengths.entries.items)
         outlooks.items ∥₁ },
+    ghost graph: { map plain_node nodes.items ≡ map node_in outlooks.items },
+    ghost own_breaks: { ∥ AreOwnBreaks (A.meaning a.now) (B.meaning b.now) lengths.sends unknown
+        (listed_length (A.meaning lengths.book.now) lengths.sends lengths.entries.items)
+        telling.value.own.items own.items ∥₁ },
+    ghost facts: { ∥ AreFacts (A.meaning a.now) (B.meaning b.now) sends unknown
+        lengths.entries.items lengths.others.items telling.value outlooks.items own.items ∥₁ },
     ghost first_apps: { AreApps (A.meaning a.now) apps.value.first } by { Prim.hlevel props },
     ghost second_apps: { AreApps (B.meaning b.now) apps.value.second } by { Prim.hlevel props },
 }
@@ -72,6 +93,8 @@ impl<'a, A: Book, B: Book> Upgrade<'a, A, B> {
         let named = BothApps::new(alloc, a, b)?;
         let apps = Box::new(alloc, named)?;
         let outlooks = outlooks(alloc, a, b, &telling, &lengths)?;
+        let nodes = nodes_of(alloc, &outlooks)?;
+        let own = own_breaks(alloc, a, b, &telling.own, &lengths, unknown)?;
         Ok(Upgrade {
             a,
             b,
@@ -81,6 +104,8 @@ impl<'a, A: Book, B: Book> Upgrade<'a, A, B> {
             telling,
             apps,
             outlooks,
+            nodes,
+            own,
         })
     }
 
@@ -118,7 +143,8 @@ impl<'a, A: Book, B: Book> Upgrade<'a, A, B> {
 
     /// All that can break the messages of a command of A: each message of the command that A's side sends, and that breaks in
     /// none of the ways that the lines tell, is valid under B. So where there is no line, each is. A line that is told as
-    /// confirmed has a message that breaks the command. The error comes only where memory was refused.
+    /// confirmed has a message that breaks the command. The sites and the lines are the one list that the dictionaries, the
+    /// sender and the policy have, unless a line is `Unproved`. The error comes only where memory was refused.
     pub fn breaks(&self, alloc: Global, command: DefId) -> Result<Breaks, AllocError>
         requires { command < length (definitions (A.meaning self.now.a.now)) }
         ensures free { IfOk result (λ breaks. ∥ AreValidWhereFree
@@ -131,6 +157,9 @@ impl<'a, A: Book, B: Book> Upgrade<'a, A, B> {
             (A.meaning self.now.a.now) (B.meaning self.now.b.now)
             self.now.sends self.now.unknown command breaks.lines.items) }
         ensures command { IfOk result (λ breaks. breaks.command ≡ command) }
+        ensures lines { IfOk result (λ breaks. IsSome (head_at (A.meaning self.now.a.now) command)
+            → AreLinesOrUnproved (A.meaning self.now.a.now) (B.meaning self.now.b.now)
+            self.now.sends self.now.unknown command breaks.sites.items breaks.lines.items) }
     {
         match head_of(self.a, command) {
             Some(head) => self.lines_of(alloc, command, &head),
@@ -145,5 +174,53 @@ impl<'a, A: Book, B: Book> Upgrade<'a, A, B> {
                 })
             }
         }
+    }
+
+    /// The definition of A by which the level at a place is read.
+    pub(crate) fn definition_of_a(&self, code: u32, class: Class, place: Place) -> Option<DefId>
+        ensures { IfSome result (λ def. def < length (definitions (A.meaning self.now.a.now))) }
+    {
+        match place {
+            Place::Command { app, .. } => command_of(self.a, code, class, app),
+            Place::Group { key, .. } => group_of(self.a, key),
+        }
+    }
+
+    /// The definition of B by which the level at a place is read.
+    pub(crate) fn definition_of_b(&self, code: u32, class: Class, place: Place) -> Option<DefId>
+        ensures { IfSome result (λ def. def < length (definitions (B.meaning self.now.b.now))) }
+    {
+        match place {
+            Place::Command { app, .. } => command_of(self.b, code, class, app),
+            Place::Group { key, .. } => group_of(self.b, key),
+        }
+    }
+
+    /// How the levels of a definition of A break the rules of one of B.
+    pub(crate) fn lines_between(
+        &self,
+        alloc: Global,
+        a_def: DefId,
+        b_def: DefId,
+    ) -> Result<Vec<LevelLine>, AllocError>
+        requires first { a_def < length (definitions (A.meaning self.now.a.now)) }
+        requires second { b_def < length (definitions (B.meaning self.now.b.now)) }
+        ensures complete { IfOk result (λ lines. HasEachLine (price
+            (listed_length (A.meaning self.now.lengths.book.now)
+            self.now.lengths.sends self.now.lengths.entries.items)
+            (other_length (A.meaning self.now.lengths.book.now)
+            self.now.lengths.sends self.now.lengths.entries.items)
+            (rules_in (A.meaning self.now.a.now) a_def))
+            (rules_in (A.meaning self.now.a.now) a_def)
+            (rules_in (B.meaning self.now.b.now) b_def) lines.items) }
+        ensures exact { IfOk result (λ lines. AreLevelLines
+            (listed_length (A.meaning self.now.lengths.book.now)
+            self.now.lengths.sends self.now.lengths.entries.items)
+            (other_length (A.meaning self.now.lengths.book.now)
+            self.now.lengths.sends self.now.lengths.entries.items) self.now.lengths.others.items
+            (rules_in (A.meaning self.now.a.now) a_def)
+            (rules_in (B.meaning self.now.b.now) b_def) lines.items) }
+    {
+        level_lines(alloc, self.a, a_def, self.b, b_def, &self.lengths)
     }
 }

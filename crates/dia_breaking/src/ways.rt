@@ -1,6 +1,9 @@
 //! Ways to sites, and what may stand beside them.
 use dia_book::Key;
 
+/// What a message's AVPs may take together.
+pub(crate) const ROOM: u64 = 16_777_192;
+
 /// A site of a group: what a message takes at least around its level, without its header.
 #[derive(Clone, Copy, Debug)]
 pub(crate) struct Way {

@@ -11,4 +11,4 @@ returns g c = λ yes tells.
     let da = g.A.Book.meaning up.a.now in
     closed_command da (g.B.Book.meaning up.b.now) up.sends up.unknown (listed_length da up.sends up.lengths.entries.items) closing.groups.now (own_keys closing.lines.now) c.args.told.now
     c.args.command c.in-Some.def c.args.head.now c.args.app (sym c.command_of.ensures.selected ∙ c.in-Some.is)
-    ((rw c.deref.ensures.value at c.is_closed.ensures) yes tells c.in_ok-lines.ensures)
+    ((rw c.deref.ensures.value at c.is_closed.ensures) yes tells c.in_ok-lines.ensures.complete)

@@ -1,7 +1,7 @@
 use Rattle.std.proofs.Common.{rules}
 use Rattle.dia_breaking.specs.Lengths.{listed_length, other_length}
 use Rattle.dia_breaking.proofs.FoundExits.{groups_of, inner_found}
-use Rattle.dia_breaking.proofs.Outlooks.{rules_of_group, has_group_lines}
+use Rattle.dia_breaking.proofs.Outlooks.{rules_of_group, has_group_lines, has_level_lines}
 use Rattle.dia_breaking.proofs.exits.inner_of.Goals as goal
 
 pub level_lines-requires-clause-shortest : goal.level_lines-requires-clause-shortest
@@ -16,6 +16,16 @@ returns-clause-lines g c =
     has_group_lines da db (listed_length d lengths.sends lengths.entries.items) (other_length d lengths.sends lengths.entries.items) c.args.key c.in-Some.a_def c.in-Some-group_of.b_def
     c.in_ok-level_lines.field-0.items (rules_of_group da c.args.key c.in-Some.a_def c.group_of.result c.in-Some.is c.group_of.ensures.definition)
     (rules_of_group db c.args.key c.in-Some-group_of.b_def c.group_of-2.result c.in-Some-group_of.is c.group_of-2.ensures.definition) c.in_ok-level_lines.ensures.complete
+
+pub returns-clause-levels : goal.returns-clause-levels
+returns-clause-levels g c =
+    let da = g.A.Book.meaning c.args.a.now in
+    let db = g.B.Book.meaning c.args.b.now in
+    let lengths = c.args.lengths.now in
+    let d = g.A.Book.meaning lengths.book.now in
+    has_level_lines da db (listed_length d lengths.sends lengths.entries.items) (other_length d lengths.sends lengths.entries.items) c.args.key c.in-Some.a_def c.in-Some-group_of.b_def
+    c.in_ok-level_lines.field-0.items (rules_of_group da c.args.key c.in-Some.a_def c.group_of.result c.in-Some.is c.group_of.ensures.definition)
+    (rules_of_group db c.args.key c.in-Some-group_of.b_def c.group_of-2.result c.in-Some-group_of.is c.group_of-2.ensures.definition) lengths.others.items c.in_ok-level_lines.ensures.exact
 
 pub returns-clause-exact : goal.returns-clause-exact
 returns-clause-exact g c =

@@ -5,6 +5,7 @@ use Rattle.dia_breaking.specs.declared.exits.Outlook.{Outlook}
 use Rattle.dia_breaking.specs.declared.keys.Own.{Own}
 use Rattle.dia_breaking.specs.Lengths.{listed_length, other_length}
 use Rattle.dia_breaking.specs.Outlooks.{HasGroupLines}
+use Rattle.dia_breaking.specs.TheLines.{HasLevelLines}
 use Rattle.dia_breaking.proofs.FoundExits.{all_outlooks, one_outlook_more}
 use Rattle.dia_breaking.proofs.Lists.{all_more}
 use Rattle.dia_breaking.proofs.exits.outlooks.Goals as goal
@@ -19,11 +20,12 @@ loop-own-preserved g c =
     let other = other_length d lengths.sends lengths.entries.items in
     let telling = c.args.telling.now in
     let i = c.loop-own.own-index in (
+      all_more (HasLevelLines da db listed other lengths.others.items) c.loop-own.outlooks.items _ _ c.in_ok-push.ensures.items c.loop-own.invariant.0 c.in_ok-inner.ensures.levels,
       all_more (λ (outlook : Outlook). IfSome outlook.inner (λ inner. HasGroupLines da db listed other outlook.key inner.lines.items)) c.loop-own.outlooks.items _ _ c.in_ok-push.ensures.items
-          c.loop-own.invariant.0 c.in_ok-inner.ensures.lines,
+          c.loop-own.invariant.1 c.in_ok-inner.ensures.lines,
       one_outlook_more da db telling listed other lengths.others.items i _ _ c.loop-own.outlooks.items _ c.in_ok-push.ensures.items
           (ap (λ (xs : List Own). slice_get xs i) (sym c.deref-own-items.ensures.value)
-          ∙ slice_get-get_or c.deref-own-items.result.now i (record { key = record { code = 0; vendor = 0 }; is_group = false; breaks = false }) (omega arith)) refl c.loop-own.invariant.1
+          ∙ slice_get-get_or c.deref-own-items.result.now i (record { key = record { code = 0; vendor = 0 }; is_group = false; breaks = false }) (omega arith)) refl c.loop-own.invariant.2
           (record { other_is = c.other.ensures; inner_is = c.in_ok-inner.ensures.exact }),
     )
 
@@ -32,4 +34,4 @@ returns-clause-exact g c =
     let lengths = c.args.lengths.now in
     let d = g.A.Book.meaning lengths.book.now in
     all_outlooks (g.A.Book.meaning c.args.a.now) (g.B.Book.meaning c.args.b.now) c.args.telling.now (listed_length d lengths.sends lengths.entries.items)
-    (other_length d lengths.sends lengths.entries.items) lengths.others.items c.loop-own.own-index c.loop-own.outlooks.items (omega arith) c.loop-own.invariant.1
+    (other_length d lengths.sends lengths.entries.items) lengths.others.items c.loop-own.own-index c.loop-own.outlooks.items (omega arith) c.loop-own.invariant.2

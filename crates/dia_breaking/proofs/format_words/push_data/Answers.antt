@@ -1,4 +1,4 @@
-use Rattle.std.proofs.Common.{◌≡◌, ◌++◌, codes, string_bytes, ap, ◌∙◌, append_assoc}
+use Rattle.std.proofs.Common.{◌++◌, codes, string_bytes, ap, ◌∙◌, append_assoc}
 use Rattle.dia_data.specs.Plain.{Enumerated}
 use Rattle.dia_data.specs.Shown.{IsValueText}
 use Rattle.dia_witness.specs.Shortest.{witness_bytes}

@@ -1,4 +1,4 @@
-use Rattle.std.proofs.Common.{refl, arith, rules}
+use Rattle.std.proofs.Common.{refl, arith}
 use Rattle.dia_breaking.proofs.OrderedKeys.{is_stranger}
 use Rattle.dia_breaking.proofs.SentKeys.{some_strange}
 use Rattle.dia_breaking.proofs.lengths.stranger.Goals as goal

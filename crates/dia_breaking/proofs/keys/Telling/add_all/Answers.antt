@@ -1,5 +1,5 @@
-use Rattle.std.proofs.Common.{sym, subst, take, get_or}
-use Rattle.std.proofs.lemmas.List.{take_all, take_more}
+use Rattle.std.proofs.Common.{sym, subst, take}
+use Rattle.std.proofs.lemmas.List.{take_more}
 use Rattle.dia_breaking.specs.Telling.{AreExactlyTold, AreTold}
 use Rattle.dia_breaking.proofs.Tellings.{one_more_told}
 use Rattle.dia_breaking.proofs.TellingPlaces.{one_more_exactly}

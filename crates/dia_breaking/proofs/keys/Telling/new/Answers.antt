@@ -1,6 +1,6 @@
 use Rattle.std.proofs.Common.{subst}
 use Rattle.dia_breaking.specs.Telling.{AreExactlyTold, AreTold}
-use Rattle.dia_breaking.proofs.Tellings.{all_told, none_told}
+use Rattle.dia_breaking.proofs.Tellings.{all_told}
 use Rattle.dia_breaking.proofs.TellingPlaces.{exact_telling, none_exactly_told}
 use Rattle.dia_breaking.proofs.keys.Telling.new.Goals as goal
 

@@ -1,9 +1,10 @@
-use Rattle.std.proofs.Common.{◌≡◌, ℕ, List, sym, refl, ◌∙◌}
-use Rattle.std.specs.Prelude.{slice_get}
+use Rattle.std.proofs.Common.{◌≡◌, ℕ, List, Option, is_some, sym, refl, ap, true≢false, ◌∙◌}
+use Rattle.std.specs.Prelude.{slice_get, option_and_then}
 use Rattle.std.proofs.Math.Logic.{∥∥₁_map}
 use Rattle.dia_book.specs.Dictionary.{definitions, PlainDefinition}
 use Rattle.dia_compat.proofs.ReachedKeys.{there_is, at_some}
 use Rattle.dia_breaking.specs.Confirmed.{IsConfirmed}
+use Rattle.dia_breaking.specs.declared.heads.Head.{Head}
 use Rattle.dia_breaking.specs.Headers.{head_in}
 use Rattle.dia_breaking.specs.declared.line.Line.{Line}
 use Rattle.dia_breaking.specs.declared.line.Standing.TheVariants.{Confirmed}
@@ -18,6 +19,9 @@ returns-in-Some-clause-all g c =
     when_ok _ _ c.lines_of.result (λ told free none. ∥∥₁_map free (λ valid.
     nothing_told (g.A.Book.meaning up.a.now) (g.B.Book.meaning up.b.now) up.sends up.unknown told.sites.items told.lines.items c.args.command valid none)) c.lines_of.ensures.free
 
+pub returns-in-Some-clause-lines : goal.returns-in-Some-clause-lines
+returns-in-Some-clause-lines g c = when_ok _ _ c.lines_of.result (λ told lines some. lines) c.lines_of.ensures.lines
+
 pub returns-in-None : goal.returns-in-None
 returns-in-None g c =
     let up = c.args.self.now in
@@ -31,4 +35,6 @@ returns-in-None g c =
       all = λ none. ∣ valid ∣₁;
       each = none_of (λ (line : Line). line.standing ≡ Confirmed → (bytes : List ℕ) × IsConfirmed da db up.sends up.unknown bytes c.args.command) c.new-lines.result.items c.new-lines.ensures.items;
       command = refl;
+      lines = λ some. absurd (true≢false (sym some ∙ ap (λ (o : Option Head). is_some o) (ap (option_and_then (λ (y : PlainDefinition). head_in y.head)) x.1
+          ∙ sym (sym c.in-None.is ∙ at_some (λ (y : PlainDefinition). c.head_of.result ≡ head_in y.head) (slice_get (definitions da) c.args.command) x.0 c.head_of.ensures x.1))));
     }

@@ -1,4 +1,4 @@
-use Rattle.std.proofs.Common.{◌++◌, codes, string_bytes, sym, ap, ◌∙◌}
+use Rattle.std.proofs.Common.{◌++◌, codes, string_bytes, sym, ap}
 use Rattle.dia_breaking.specs.Lengths.{other_length}
 use Rattle.dia_breaking.specs.Words.{cause_text}
 use Rattle.dia_breaking.proofs.ValueTexts.{pushed_last}

@@ -1,0 +1,87 @@
+-- What is told where lines are added, part by part.
+use Rattle.std.proofs.Common.{◌≡◌, ℕ, zero, suc, ◌+◌, ◌≤◌, ◌<◌, List, [], ◌∷◌, ◌++◌, length, map, take, Option, Some, None, sym, refl, ap, subst, ◌∙◌, arith, inl, inr, append_assoc, append-nil, add-one}
+use Rattle.std.specs.Prelude.{◌⊎◌, slice_get}
+use Rattle.std.specs.Option.{option_map, option_map_or}
+use Rattle.std.proofs.lemmas.List.{map-append}
+use Rattle.std.proofs.lemmas.Bool.{cases_order}
+use Rattle.std.proofs.lemmas.Option.{slice_get_past, slice_get-map}
+use Rattle.dia_levels.specs.declared.line.Line.{Line as LevelLine}
+use Rattle.dia_breaking.specs.declared.line.Line.{Line}
+use Rattle.dia_breaking.specs.Confirmed.{told_of}
+use Rattle.dia_breaking.specs.declared.exits.Inner.{Inner}
+use Rattle.dia_breaking.specs.declared.exits.Outlook.{Outlook}
+use Rattle.dia_breaking.specs.Listing.{Told, tells, unchecked, AddsTold, HasUnproved, level_lines, lines_in}
+use Rattle.dia_breaking.specs.Orders.{joined, of_each}
+use Rattle.std.specs.List.{filter_map}
+use Rattle.dia_breaking.proofs.Lists.{same_image, filter_map_more}
+
+-- nothing more
+pub adds_none : (lines : List Line) → AddsTold lines lines []
+adds_none lines = sym (append-nil (map tells lines))
+
+pub adds_one : (old new : List Line) (line : Line) → new ≡ old ++ line ∷ [] → AddsTold old new (tells line ∷ [])
+adds_one old new line is = ap (map tells) is ∙ map-append tells old (line ∷ [])
+
+pub adds_both : (a b c : List Line) (xs ys : List Told) → AddsTold a b xs → AddsTold b c ys → AddsTold a c (xs ++ ys)
+adds_both a b c xs ys first second = second ∙ ap (λ zs. zs ++ ys) first ∙ append_assoc (map tells a) xs ys
+
+-- the part of one place more
+pub adds_part : (part : ℕ → List Told) (i : ℕ) (a b c : List Line) → AddsTold a b (joined part i) → AddsTold b c (part i) → AddsTold a c (joined part (i + 1))
+adds_part part i a b c first second = subst (λ n. AddsTold a c (joined part n)) (sym (add-one i)) (adds_both a b c (joined part i) (part i) first second)
+
+module _ {X Y : Type 0} (f : ℕ → X → List Y) (xs : List X) where
+  abbrev part_at : ℕ → List Y
+  part_at i = option_map_or (f i) (slice_get xs i) []
+
+  -- behind the last element there are no parts
+  pub joined_past : (i : ℕ) → length xs ≤ i → joined part_at i ≡ of_each f xs
+  joined_past zero le = ap (joined part_at) (let e : 0 ≡ length xs = omega (arith, le) in e)
+  joined_past (suc i) le = past (cases_order (length xs) (suc i)) (joined_past i)
+    where
+      past : (length xs ≡ suc i) ⊎ ((length xs < suc i) ⊎ (suc i < length xs)) → (length xs ≤ i → joined part_at i ≡ of_each f xs) → joined part_at (suc i) ≡ of_each f xs
+      past (inl e) more = ap (joined part_at) (sym e)
+      past (inr (inl less)) more =
+          let within : length xs ≤ i = omega (arith, less) in
+          ap (λ (o : Option X). joined part_at i ++ option_map_or (f i) o []) (slice_get_past xs i within) ∙ append-nil (joined part_at i) ∙ more within
+      past (inr (inr more')) more = absurd (omega (arith, more', le))
+
+pub adds_each : {X : Type 0} (f : ℕ → X → List Told) (xs : List X) (i : ℕ) (a b : List Line) → length xs ≤ i → AddsTold a b (joined (λ k. option_map_or (f k) (slice_get xs k) []) i) → AddsTold a b (of_each f xs)
+adds_each f xs i a b le adds = adds ∙ ap (λ ys. map tells a ++ ys) (joined_past f xs i le)
+
+-- where there is no element there is no part
+pub adds_past : {X : Type 0} (f : X → List Told) (xs : List X) (i : ℕ) (lines : List Line) → length xs ≤ i → AddsTold lines lines (option_map_or f (slice_get xs i) [])
+adds_past {X} f xs i lines le = adds_none lines ∙ ap (λ (o : Option X). map tells lines ++ option_map_or f o []) (sym (slice_get_past xs i le))
+
+-- what is known of lines is no part of what they tell
+told_images : (xs : List Line) → map told_of (map unchecked xs) ≡ map told_of xs
+told_images [] = refl
+told_images (x ∷ xs) = ap (λ zs. told_of x ∷ zs) (told_images xs)
+
+pub told_kept : (xs ys : List Line) → map unchecked xs ≡ map unchecked ys → map told_of xs ≡ map told_of ys
+told_kept xs ys same = sym (told_images xs) ∙ ap (map told_of) same ∙ told_images ys
+
+tells_images : (xs : List Line) → map tells (map unchecked xs) ≡ map tells xs
+tells_images [] = refl
+tells_images (x ∷ xs) = ap (λ zs. tells x ∷ zs) (tells_images xs)
+
+pub tells_kept : (xs ys : List Line) → map unchecked xs ≡ map unchecked ys → map tells xs ≡ map tells ys
+tells_kept xs ys same = sym (tells_images xs) ∙ ap (map tells) same ∙ tells_images ys
+
+-- so a line that tells that something isn't proved stays one
+pub unproved_kept : (xs ys : List Line) → map unchecked xs ≡ map unchecked ys → HasUnproved ys → HasUnproved xs
+unproved_kept xs ys same (line, inside, is) =
+    let r = same_image unchecked ys xs line (sym same) inside in
+    (r.0, r.1, ap (λ (l : Line). l.cause) r.2 ∙ is)
+
+-- an AVP that is no group of both has no lines of levels
+pub adds_no_level : (site way : ℕ) (outlooks : List Outlook) (place : ℕ) (outlook : Outlook) (lines : List Line) → slice_get outlooks place ≡ Some outlook → outlook.inner ≡ None
+    → AddsTold lines lines (option_map_or (level_lines site way) (slice_get (map lines_in outlooks) place) [])
+adds_no_level site way outlooks place outlook lines at none =
+    adds_none lines ∙ ap (λ (o : Option (List LevelLine)). map tells lines ++ option_map_or (level_lines site way) o [])
+    (sym (slice_get-map lines_in outlooks place ∙ ap (option_map lines_in) at ∙ ap (λ (inner : Option Inner). Some (option_map_or (λ (i : Inner). i.lines.items) inner [])) none))
+
+-- what is added behind others for one member more
+pub added_behind : {X Y : Type 0} (f : X → Option Y) (xs : List X) (i : ℕ) (x : X) (start old new : List Y) → new ≡ old ++ filter_map f (x ∷ []) → old ≡ start ++ filter_map f (take i xs) → slice_get xs i ≡ Some x
+    → new ≡ start ++ filter_map f (take (i + 1) xs)
+added_behind {X} {Y} f xs i x start old new is before at =
+    is ∙ ap (λ (ys : List Y). ys ++ filter_map f (x ∷ [])) before ∙ append_assoc start (filter_map f (take i xs)) (filter_map f (x ∷ [])) ∙ ap (λ (ys : List Y). start ++ ys) (sym (filter_map_more f xs i x at))

@@ -1,0 +1,201 @@
+-- The lines of a command, by what they tell.
+use Rattle.std.specs.Prelude.{◌≡◌, ℕ, ◌+◌, ◌-◌, min, nat_le, Bool, true, false, not, ◌&&◌, if◌then◌else◌, List, [], ◌∷◌, ◌++◌, length, map, Option, Some, None, option_and_then, is_some, option_to_list, slice_get, unwrap_or, Contains}
+use Rattle.std.specs.List.{filter_map}
+use Rattle.std.specs.Option.{option_map, option_map_or}
+use Rattle.dia_wire.specs.declared.Key.{Key}
+use Rattle.dia_book.specs.Dictionary.{Dictionary, has_command}
+use Rattle.dia_witness.specs.declared.short_data.Witness.{Witness}
+use Rattle.dia_witness.specs.Shortest.{witness_bytes}
+use Rattle.dia_sites.specs.Selection.{max_body}
+use Rattle.dia_entries.specs.declared.breaking.HeadBreak.{HeadBreak}
+use Rattle.dia_entries.specs.declared.breaking.HeadBreak.TheVariants as head_breaks
+use Rattle.dia_entries.specs.declared.breaking.DataBreak.{DataBreak}
+use Rattle.dia_entries.specs.declared.breaking.DataBreak.TheVariants.{Fits, Groups, Data, LeastLevel, Undecided}
+use Rattle.dia_least.specs.Floors.{shortest_head, padded}
+use Rattle.dia_levels.specs.declared.line.Line.{Line as LevelLine}
+use Rattle.dia_levels.specs.LevelTests.{capped}
+use Rattle.dia_ways.specs.Walks.{Graph, IsWalk, plain_exits}
+use Rattle.dia_ways.specs.declared.graph.Step.{Step}
+use Rattle.dia_ways.specs.declared.graph.Reach.{Reach}
+use Rattle.dia_breaking.specs.declared.exits.Outlook.{Outlook}
+use Rattle.dia_breaking.specs.declared.heads.Head.{Head}
+use Rattle.dia_breaking.specs.declared.line.Cause.{Cause}
+use Rattle.dia_breaking.specs.declared.line.Cause.TheVariants as causes
+use Rattle.dia_breaking.specs.declared.line.Line.{Line}
+use Rattle.dia_breaking.specs.declared.line.Site.{Site}
+use Rattle.dia_breaking.specs.declared.line.Standing.TheVariants.{Unchecked}
+use Rattle.dia_breaking.specs.declared.own_breaks.OwnBreaks.{OwnBreaks}
+use Rattle.dia_breaking.specs.declared.own_lines.Kind.{Kind}
+use Rattle.dia_breaking.specs.declared.own_lines.Kind.TheVariants as kinds
+use Rattle.dia_breaking.specs.declared.start.Start.{Start}
+use Rattle.dia_breaking.specs.Headers.{allows}
+use Rattle.dia_breaking.specs.Nodes.{node_in}
+use Rattle.dia_breaking.specs.Orders.{IsInOrderOf, of_each}
+use Rattle.dia_breaking.specs.Sites.{other_head, command_sites, first_read, site_number, group_sites}
+
+-- ---- what a line tells
+
+-- the number of its site, what breaks, and the length of its message
+pub record Told : Type 0 where
+  pub site : ℕ
+  pub cause : Cause
+  pub length : ℕ
+
+-- which data break is left apart, and so it is whether those of a shortest group do that B reads as a leaf
+abbrev pub subject : Cause → Cause
+subject (causes.Format key found) = causes.Format key None
+subject (causes.LevelAsLeaf key) = causes.Format key None
+subject cause = cause
+
+-- what is known of the line is left apart too
+abbrev pub tells : Line → Told
+tells line = record { site = line.site; cause = subject line.cause; length = line.length }
+
+-- the lines of the second list are those of the first, and behind them some that tell this
+abbrev pub AddsTold : List Line → List Line → List Told → Type 0
+AddsTold old new told = map tells new ≡ map tells old ++ told
+
+-- a line of which nothing is known
+abbrev pub new_line : ℕ → Cause → ℕ → Line
+new_line site cause size = record { site = site; cause = cause; length = size; standing = Unchecked }
+
+-- the same line, of which nothing is known
+abbrev pub unchecked : Line → Line
+unchecked line = record line { standing = Unchecked }
+
+-- a line says that it isn't shown that nothing else breaks
+abbrev pub HasUnproved : List Line → Type 0
+HasUnproved lines = (line : Line) × Contains lines line × (line.cause ≡ causes.Unproved)
+
+-- ---- headers
+
+-- B selects no definition
+abbrev pub refusal : Dictionary → Head → Cause
+refusal db head = if has_command db head.code head.class then causes.Application else causes.Command
+
+-- A allows this P flag, and B doesn't
+abbrev pub flag_causes : Head → Head → Bool → List Cause
+flag_causes head other set = if allows head.p set && not (allows other.p set) then causes.Proxiable set ∷ [] else []
+
+abbrev pub header_causes : Dictionary → Head → ℕ → List Cause
+header_causes db head app = option_map_or (λ other. flag_causes head other false ++ flag_causes head other true) (other_head db head app) (refusal db head ∷ [])
+
+-- a least level of the command is `base` long
+abbrev pub header_line : ℕ → ℕ → Cause → Told
+header_line base site cause = record { site = site; cause = cause; length = base }
+
+-- in messages of an application
+abbrev pub header_lines : Dictionary → Head → ℕ → ℕ → ℕ → List Told
+header_lines db head base site app = map (header_line base site) (header_causes db head app)
+
+-- ---- levels
+
+-- a line, if a message has room for it
+abbrev pub with_room : ℕ → ℕ → Cause → Option Told
+with_room site size cause = if nat_le size max_body then Some (record { site = site; cause = cause; length = size }) else None
+
+-- of a level around which a message takes so much at least
+abbrev pub level_lines : ℕ → ℕ → List LevelLine → List Told
+level_lines site way lines = filter_map (λ line. with_room site (way + line.length) (causes.Level line)) lines
+
+-- of levels of the command, and of a group
+abbrev pub command_levels : ℕ → List LevelLine → List Told
+command_levels site lines = level_lines site 0 lines
+
+abbrev pub group_levels : ℕ → List (List LevelLine) → ℕ → Step → List Told
+group_levels count groups i step = option_map_or (level_lines (min (count + i) 18446744073709551615) step.way) (slice_get groups step.place) []
+
+-- ---- AVPs by themselves
+
+abbrev pub head_cause : Kind → Key → HeadBreak → Option Cause
+head_cause kinds.Unknown key (head_breaks.Unknown m) = Some (causes.Unknown key m)
+head_cause kinds.MBit key (head_breaks.MBit m) = Some (causes.MBit key m)
+head_cause kind key found = None
+
+-- what a message takes with these data, where one with a least AVP takes so much
+abbrev pub with_data : OwnBreaks → ℕ → Witness → ℕ
+with_data own size found = capped (size - own.least + padded (shortest_head own.key + length (witness_bytes found)))
+
+-- with data that break
+abbrev pub data_length : OwnBreaks → ℕ → DataBreak → Option ℕ
+data_length own size Fits = None
+data_length own size (Groups a b) = None
+data_length own size (Data found) = Some (with_data own size found)
+data_length own size LeastLevel = Some size
+data_length own size Undecided = Some size
+
+-- what of this kind breaks, and what a message takes
+abbrev pub own_cause : Kind → OwnBreaks → ℕ → Option (Cause × ℕ)
+own_cause kinds.Data own size = option_map (λ n. (causes.Format own.key None, n)) (data_length own size own.breaks.data)
+own_cause kind own size = option_map (λ cause. (cause, size)) (option_and_then (head_cause kind own.key) own.breaks.head)
+
+abbrev pub own_line : Kind → ℕ → ℕ → OwnBreaks → Reach → Option Told
+own_line kind first count own reach = option_and_then (λ found. with_room (site_number first count reach.level) found.1 found.0) (own_cause kind own reach.length)
+
+-- the shortest way to the AVP at a place
+abbrev pub reach_at : List (Option Reach) → ℕ → Option Reach
+reach_at reached place = option_and_then (λ reach. reach) (slice_get reached place)
+
+-- what of one kind breaks of it
+abbrev pub reached_line : Kind → ℕ → ℕ → List (Option Reach) → ℕ → OwnBreaks → List Told
+reached_line kind first count reached place own = option_to_list (option_and_then (own_line kind first count own) (reach_at reached place))
+
+-- all of one kind, by the places of the AVPs
+abbrev pub own_lines : Kind → ℕ → ℕ → List OwnBreaks → List (Option Reach) → List Told
+own_lines kind first count own reached = of_each (reached_line kind first count reached) own
+
+-- ---- all
+
+-- what the sites and the lines are made of: the head of the command, the length of a least level of it, the applications for which it is
+-- looked at, and for each how its levels break B's rules; where levels lead; and the AVPs of which there is something to tell, with how the
+-- levels of each break B's rules
+pub record Basis : Type 0 where
+  pub head : Head
+  pub base : ℕ
+  pub apps : List ℕ
+  pub levels : List (List LevelLine)
+  pub graph : Graph
+  pub own : List OwnBreaks
+  pub groups : List (List LevelLine)
+
+abbrev pub start_of : Dictionary → Basis → Option ℕ
+start_of db basis = first_read (command_sites db basis.head basis.apps)
+
+-- where `first` is the number of the site at which a walk starts, and `count` sites are the command's
+abbrev pub sites_of : Dictionary → Basis → ℕ → ℕ → List Step → List Site
+sites_of db basis first count steps = command_sites db basis.head basis.apps ++ group_sites basis.own first count steps
+
+-- in the order in which the lines of one site stand
+abbrev pub lines_of : Dictionary → Basis → ℕ → ℕ → List Step → List (Option Reach) → List Told
+lines_of db basis first count steps reached =
+    of_each (header_lines db basis.head basis.base) basis.apps ++ of_each command_levels basis.levels ++ of_each (group_levels count basis.groups) steps
+    ++ own_lines kinds.Unknown first count basis.own reached ++ own_lines kinds.MBit first count basis.own reached ++ own_lines kinds.Data first count basis.own reached
+
+-- a walk begins only where B's side reads a level of the command
+abbrev pub IsWalkFrom : Bool → Graph → List Step → List (Option Reach) → Type 0
+IsWalkFrom true graph steps reached = IsWalk graph steps reached
+IsWalkFrom false graph steps reached = (steps ≡ []) × (reached ≡ [])
+
+-- the sites and the lines by a walk, in the order of the sites
+pub record IsListing (db : Dictionary) (basis : Basis) (sites : List Site) (told : List Told) : Type 0 where
+  pub steps : List Step
+  pub reached : List (Option Reach)
+  pub is_walk : IsWalkFrom (is_some (start_of db basis)) basis.graph steps reached
+  pub sites_are : sites ≡ sites_of db basis (unwrap_or (start_of db basis) 0) (length basis.apps) steps
+  pub lines_are : IsInOrderOf (λ (line : Told). line.site) (lines_of db basis (unwrap_or (start_of db basis) 0) (length basis.apps) steps reached) told
+
+-- ---- of what is known of two dictionaries
+
+abbrev pub lines_in : Outlook → List LevelLine
+lines_in outlook = option_map_or (λ inner. inner.lines.items) outlook.inner []
+
+abbrev pub basis_of : Start → List OwnBreaks → List Outlook → Basis
+basis_of start own outlooks = record {
+  head = start.head;
+  base = start.base;
+  apps = start.apps.items;
+  levels = map (λ lines. lines.items) start.levels.items;
+  graph = record { nodes = map node_in outlooks; start = plain_exits start.exits; room = max_body };
+  own = own;
+  groups = map lines_in outlooks;
+}

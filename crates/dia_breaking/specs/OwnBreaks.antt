@@ -1,0 +1,23 @@
+-- What AVPs break by themselves.
+use Rattle.std.specs.Prelude.{◌≡◌, ℕ, List, map, All, IsSome}
+use Rattle.dia_wire.specs.declared.Key.{Key}
+use Rattle.dia_book.specs.Dictionary.{Dictionary}
+use Rattle.dia_policy.specs.declared.Unknown.{Unknown}
+use Rattle.dia_policy.specs.declared.Sends.{Sends}
+use Rattle.dia_entries.specs.Breaks.{IsDataBreak, IsHeadBreak}
+use Rattle.dia_entries.specs.Sent.{TakesAnyData, group_of}
+use Rattle.dia_entries.specs.declared.breaking.DataBreak.TheVariants.{Fits}
+use Rattle.dia_breaking.specs.declared.keys.Own.{Own}
+use Rattle.dia_breaking.specs.declared.own_breaks.OwnBreaks.{OwnBreaks}
+
+-- AVPs of the key break so, and have this length at least, where a rule lists them; where A sees levels in them and the data fit, B takes any data
+pub record IsOwnBreaks (da db : Dictionary) (who : Sends) (u : Unknown) (length : Key → ℕ) (own : OwnBreaks) : Type 0 where
+  pub least : own.least ≡ length own.key
+  pub head : IsHeadBreak da db who u own.key own.breaks.head
+  pub content : IsDataBreak da db who u own.key own.breaks.data
+  pub taken : IsSome (group_of da own.key) → own.breaks.data ≡ Fits → TakesAnyData db own.key
+
+-- so do those of which there is something to tell
+pub record AreOwnBreaks (da db : Dictionary) (who : Sends) (u : Unknown) (length : Key → ℕ) (told : List Own) (own : List OwnBreaks) : Type 0 where
+  pub keys : map (λ one. one.key) own ≡ map (λ one. one.key) told
+  pub each : All (IsOwnBreaks da db who u length) own

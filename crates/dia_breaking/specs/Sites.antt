@@ -1,0 +1,57 @@
+-- The sites of a command: its own level, for each application for which it is looked at, and then the groups that a walk reaches.
+use Rattle.std.specs.Prelude.{ℕ, ◌+◌, ◌-◌, ◌==◌, min, if◌then◌else◌, Bool, true, false, not, ◌&&◌, ◌||◌, is_none, is_some, List, map, Option, option_and_then, slice_get, position}
+use Rattle.std.specs.List.{filter_map}
+use Rattle.std.specs.Option.{option_map, option_map_or}
+use Rattle.dia_wire.specs.declared.Key.{Key}
+use Rattle.dia_book.specs.Dictionary.{Dictionary, selected}
+use Rattle.dia_ways.specs.declared.graph.Step.{Step}
+use Rattle.dia_breaking.specs.declared.heads.Head.{Head}
+use Rattle.dia_breaking.specs.declared.line.Place.TheVariants as places
+use Rattle.dia_breaking.specs.declared.line.Site.{Site}
+use Rattle.dia_breaking.specs.declared.own_breaks.OwnBreaks.{OwnBreaks}
+use Rattle.dia_breaking.specs.Headers.{allows}
+use Rattle.dia_breaking.specs.Words.{head_at}
+
+-- ---- the command's own level
+
+-- the head of B's definition for messages with this head and this application
+abbrev pub other_head : Dictionary → Head → ℕ → Option Head
+other_head db head app = option_and_then (head_at db) (selected db head.code head.class app)
+
+abbrev pub both_allow : Head → Head → Bool → Bool
+both_allow head other set = allows head.p set && allows other.p set
+
+-- B selects no definition
+abbrev pub refused_site : Head → ℕ → Site
+refused_site head app = record { place = places.Command app false (not (allows head.p false)); way = 0; is_read = false }
+
+-- B selects a definition with this head. P is set where it can't be clear
+abbrev pub read_site : Head → ℕ → Head → Site
+read_site head app other = record {
+  place = places.Command app (is_none head.app && is_some other.app) (not (both_allow head other false) && (both_allow head other true || not (allows head.p false)));
+  way = 0;
+  is_read = both_allow head other false || both_allow head other true;
+}
+
+abbrev pub command_site : Dictionary → Head → ℕ → Site
+command_site db head app = option_map_or (read_site head app) (other_head db head app) (refused_site head app)
+
+abbrev pub command_sites : Dictionary → Head → List ℕ → List Site
+command_sites db head apps = map (command_site db head) apps
+
+-- the first site at which B's side reads a level
+abbrev pub first_read : List Site → Option ℕ
+first_read sites = position (λ site. site.is_read) sites
+
+-- ---- groups
+
+-- the number of the site of a level of the walk: the first that is read, where it starts, or one behind the `count` sites of the
+-- command; it fits 64 bits
+abbrev pub site_number : ℕ → ℕ → ℕ → ℕ
+site_number first count level = if level == 0 then first else min (count + (level - 1)) 18446744073709551615
+
+abbrev pub group_site : ℕ → ℕ → Step → Key → Site
+group_site first count step key = record { place = places.Group key (site_number first count step.outer); way = step.way; is_read = true }
+
+abbrev pub group_sites : List OwnBreaks → ℕ → ℕ → List Step → List Site
+group_sites own first count steps = filter_map (λ step. option_map (λ one. group_site first count step one.key) (slice_get own step.place)) steps

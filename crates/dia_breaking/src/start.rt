@@ -1,0 +1,136 @@
+//! What is found of a command before its sites are walked.
+ghost use Rattle.std.specs.Prelude.{◌≡◌, ◌<◌, IfOk, length, map, nat_le};
+ghost use Rattle.dia_book.specs.Dictionary.{definitions};
+ghost use Rattle.dia_sites.specs.Selection.{max_body};
+ghost use Rattle.dia_breaking.specs.Lengths.{listed_length, other_length};
+ghost use Rattle.dia_breaking.specs.TheLines.{AreAppsWithRoom, AreCommandLevels};
+ghost use Rattle.dia_breaking.specs.TheLines.{IsCommandLevel, IsStartOf};
+
+use crate::books::command_of;
+use crate::exits::Exits;
+use crate::heads::{Head, told_apps};
+use crate::nodes::walk_exits;
+use crate::sites::command_site;
+use crate::upgrade::Upgrade;
+use crate::ways::ROOM;
+use dia_book::{Book, DefId};
+use dia_levels::Line as LevelLine;
+use dia_ways::Exits as WalkExits;
+use std::alloc::{AllocError, Global};
+
+/// The level of a command, in the messages of each application for which it is looked at.
+#[derive(Drop)]
+pub(crate) struct Start {
+    pub head: Head,
+    /// The length of a least level.
+    pub base: u64,
+    /// None where no message has room for a level.
+    pub apps: Vec<u32>,
+    /// Of each application how the levels break B's rules, where B's side reads them.
+    pub levels: Vec<Vec<LevelLine>>,
+    /// Where the levels lead.
+    pub exits: WalkExits,
+}
+
+impl Start {
+    /// The start for a command with this head.
+    pub fn of<A: Book, B: Book>(
+        alloc: Global,
+        upgrade: &Upgrade<'_, A, B>,
+        command: DefId,
+        head: &Head,
+    ) -> Result<Self, AllocError>
+        requires { command < length (definitions (A.meaning upgrade.now.a.now)) }
+        ensures head { IfOk result (λ start. start.head ≡ head.now) }
+        ensures start { IfOk result (IsStartOf
+            (A.meaning upgrade.now.a.now) (B.meaning upgrade.now.b.now) upgrade.now.sends
+            upgrade.now.lengths.entries.items upgrade.now.lengths.others.items
+            upgrade.now.telling.value command) }
+    {
+        let exits = Exits::of(
+            alloc,
+            upgrade.a,
+            command,
+            &upgrade.telling,
+            &upgrade.lengths,
+        )?;
+        let apps = apps_with_room(alloc, upgrade, command, head, exits.base)?;
+        let levels = levels_of(alloc, upgrade, head, &apps)?;
+        Ok(Start {
+            head: *head,
+            base: exits.base,
+            apps,
+            levels,
+            exits: walk_exits(&exits)?,
+        })
+    }
+}
+
+/// The applications for which the command is looked at, where a message has room for its least level.
+fn apps_with_room<A: Book, B: Book>(
+    alloc: Global,
+    upgrade: &Upgrade<'_, A, B>,
+    command: DefId,
+    head: &Head,
+    base: u64,
+) -> Result<Vec<u32>, AllocError>
+    ensures { IfOk result (λ apps. AreAppsWithRoom (nat_le base max_body)
+        (A.meaning upgrade.now.a.now) upgrade.now.apps.value.first upgrade.now.apps.value.second
+        command head.now apps.items) }
+{
+    if base <= ROOM {
+        told_apps(alloc, upgrade.a, &upgrade.apps, command, head)
+    } else {
+        Ok(Vec::new(alloc))
+    }
+}
+
+/// Of each application, how levels of the command break B's rules.
+fn levels_of<A: Book, B: Book>(
+    alloc: Global,
+    upgrade: &Upgrade<'_, A, B>,
+    head: &Head,
+    apps: &[u32],
+) -> Result<Vec<Vec<LevelLine>>, AllocError>
+    ensures { IfOk result (λ levels. AreCommandLevels
+        (A.meaning upgrade.now.a.now) (B.meaning upgrade.now.b.now)
+        (listed_length (A.meaning upgrade.now.lengths.book.now)
+        upgrade.now.lengths.sends upgrade.now.lengths.entries.items)
+        (other_length (A.meaning upgrade.now.lengths.book.now)
+        upgrade.now.lengths.sends upgrade.now.lengths.entries.items)
+        upgrade.now.lengths.others.items head.now apps.now
+        (map (λ lines. lines.items) levels.items)) }
+{
+    let mut levels = Vec::new(alloc);
+    for app in apps {
+        levels.push(levels_for(alloc, upgrade, head, *app)?)?;
+    }
+    Ok(levels)
+}
+
+/// How they do in messages of an application, if B's side reads a level there.
+fn levels_for<A: Book, B: Book>(
+    alloc: Global,
+    upgrade: &Upgrade<'_, A, B>,
+    head: &Head,
+    app: u32,
+) -> Result<Vec<LevelLine>, AllocError>
+    ensures { IfOk result (λ lines. IsCommandLevel
+        (A.meaning upgrade.now.a.now) (B.meaning upgrade.now.b.now)
+        (listed_length (A.meaning upgrade.now.lengths.book.now)
+        upgrade.now.lengths.sends upgrade.now.lengths.entries.items)
+        (other_length (A.meaning upgrade.now.lengths.book.now)
+        upgrade.now.lengths.sends upgrade.now.lengths.entries.items)
+        upgrade.now.lengths.others.items head.now app lines.items) }
+{
+    if !command_site(upgrade.b, head, app).is_read {
+        return Ok(Vec::new(alloc));
+    }
+    let Some(a_def) = command_of(upgrade.a, head.code, head.class, app) else {
+        return Ok(Vec::new(alloc));
+    };
+    let Some(b_def) = command_of(upgrade.b, head.code, head.class, app) else {
+        return Ok(Vec::new(alloc));
+    };
+    upgrade.lines_between(alloc, a_def, b_def)
+}
