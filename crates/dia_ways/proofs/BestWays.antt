@@ -118,7 +118,15 @@ are_offered_none best room level way listed = record {
 }
 
 wider : (room level way : ℕ) (listed : List (ℕ × ℕ)) (n p : ℕ) (r : Reach) → IsByRule room level way listed n p r → IsByRule room level way listed (n + 1) p r
-wider room level way listed n p r h = record { at = h.at; inner = h.inner; below = let b = h.below in omega arith; lists = h.lists; is_level = h.is_level; is_length = h.is_length; has_room = h.has_room }
+wider room level way listed n p r h = record {
+  at = h.at;
+  inner = h.inner;
+  below = let b = h.below in omega arith;
+  lists = h.lists;
+  is_level = h.is_level;
+  is_length = h.is_length;
+  has_room = h.has_room;
+}
 
 -- the next place of the list has room
 pub are_offered_more : (first best after : List (Option Reach)) (room level way : ℕ) (listed : List (ℕ × ℕ)) (n place inner length : ℕ) → AreOffered first best room level way listed n

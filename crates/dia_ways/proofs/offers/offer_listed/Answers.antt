@@ -16,7 +16,8 @@ loop-place-preserved c =
     elim c.match-within.branch [
       | in-Some w ↦
           let f = fits_some c.within.result (c.args.way + e.1 ≤ c.args.room) (c.args.way + e.1) w.in-Some.length w.in-Some.is c.within.ensures in
-          rw w.best-is (are_offered_more c.args.best.now.items c.loop-place.best.items w.offer.new.best.items c.args.room c.args.level c.args.way xs i e.0 e.1 w.in-Some.length c.loop-place.invariant at f.0 f.1 w.offer.ensures)
+          rw w.best-is (are_offered_more c.args.best.now.items c.loop-place.best.items w.offer.new.best.items c.args.room c.args.level c.args.way xs i e.0 e.1 w.in-Some.length c.loop-place.invariant
+          at f.0 f.1 w.offer.ensures)
       | in_default w ↦
           let f = fits_none c.within.result (c.args.way + e.1 ≤ c.args.room) (c.args.way + e.1) w.in_default.is c.within.ensures in
           rw w.best-is (are_offered_past c.args.best.now.items c.loop-place.best.items c.args.room c.args.level c.args.way xs i e.0 e.1 c.loop-place.invariant at f)

@@ -11,7 +11,8 @@ loop-place-preserved-in_default c =
     let i = c.loop-place.place in
     let node = get_or nodes i c.index-ways-place.result in
     let at = slice_get-get_or nodes i c.index-ways-place.result (omega arith) in
-    others_shut c.args.ways.room nodes c.args.stages.now c.args.openings.now i c.args.best.now.items c.loop-place.best.items node c.loop-place.invariant at c.first_open.result c.in_default.is c.first_open.ensures
+    others_shut c.args.ways.room nodes c.args.stages.now c.args.openings.now i c.args.best.now.items c.loop-place.best.items node c.loop-place.invariant at c.first_open.result c.in_default.is
+    c.first_open.ensures
 
 pub loop-place-preserved : goal.loop-place-preserved
 loop-place-preserved c =
@@ -27,5 +28,6 @@ loop-place-preserved c =
           c.loop-place.invariant at c.first_open.result c.in-Some.is c.first_open.ensures f.0 f.1 w.offer.ensures)
       | in_default-within w ↦
           let f = fits_none c.within.result (o.length + node.other ≤ c.args.ways.room) (o.length + node.other) w.in_default-within.is c.within.ensures in
-          rw w.best-is (others_past c.args.ways.room nodes c.args.stages.now c.args.openings.now i c.args.best.now.items c.loop-place.best.items node o c.loop-place.invariant at c.first_open.result c.in-Some.is c.first_open.ensures f)
+          rw w.best-is (others_past c.args.ways.room nodes c.args.stages.now c.args.openings.now i c.args.best.now.items c.loop-place.best.items node o c.loop-place.invariant at c.first_open.result
+          c.in-Some.is c.first_open.ensures f)
     ]
