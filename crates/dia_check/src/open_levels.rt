@@ -1,23 +1,23 @@
 //! The levels that are open, and how often their rules were met.
 
 mod tally;
+mod unmet;
 
-ghost use Rattle.std.specs.Prelude.{◌≡◌, ◌<◌, ◌≤◌, ◌++◌, ◌∷◌, [], ℕ, List, Option};
-ghost use Rattle.std.specs.Prelude.{Some, drop, length, position, slice_get, MatchOption};
+ghost use Rattle.std.specs.Prelude.{◌≡◌, ◌<◌, ◌++◌, ◌∷◌, [], List, Option};
+ghost use Rattle.std.specs.Prelude.{Some, drop, length, slice_get, MatchOption};
 ghost use Rattle.std.specs.Prelude.{OnOk, IfOk, IsTrue, IsFalse, MatchResult};
 ghost use Rattle.dia_wire.specs.declared.Key.{Key as AnyKey};
 ghost use Rattle.dia_book.specs.declared.DRule.{DRule as AnyRule};
 ghost use Rattle.dia_book.specs.Dictionary.{AreRules, PlainDefinition, slot_of};
 ghost use Rattle.dia_book.specs.Shapes.{IsShape};
 ghost use Rattle.dia_check.specs.declared.open_levels.tally.Met.{Met as AnyMet};
-ghost use Rattle.dia_check.specs.Faults.{subject_of};
-ghost use Rattle.dia_check.specs.Tallies.{AreRising};
-ghost use Rattle.dia_check.specs.OpenLevels.{AreMet, IsFirstUnmet, IsCounted, IsLed, Leads};
-ghost use Rattle.dia_check.specs.OpenLevels.{IsMet, IsWellPlaced, IsFirstMisplaced};
+ghost use Rattle.dia_check.specs.OpenLevels.{IsCounted, IsLed, Leads};
+ghost use Rattle.dia_check.specs.OpenLevels.{IsWellPlaced, IsFirstMisplaced};
 ghost use Rattle.dia_check.specs.OpenLevels.{IsMetAtEnd, IsMissingAtEnd, SoFar};
 ghost use Rattle.dia_check.specs.OpenLevels.{begun, and_key, HasRoom, AreOpen};
 
-use self::tally::{Met, from_rule, lay_out, read, told_at, write};
+use self::tally::{Met, lay_out, read, told_at, write};
+use self::unmet::{first_unmet, missing};
 use crate::fault::{Reason, Subject};
 use dia_book::{DRule, DefId, Shape, Slot};
 use dia_wire::Key;
@@ -130,78 +130,6 @@ impl OpenLevel {
             Some(rule) => Ok((run, rule)),
             None => Err(Wrong::avp(Reason::NotAllowed, key)),
         }
-    }
-}
-
-/// The first rule from one place up to another that was met less often than its min.
-#[inline(always)]
-fn first_unmet(
-    rules: &[DRule],
-    shape: &Shape,
-    tally: &[Met],
-    from: usize,
-    to: usize,
-) -> Option<usize>
-    requires shape { IsShape rules.now shape.now }
-    requires rising { AreRising 0 tally.now }
-    requires within { (from ≤ length rules.now) × (to ≤ length rules.now) }
-    ensures { MatchOption result (AreMet rules.now tally.now from to)
-        (λ i. IsFirstUnmet rules.now tally.now from to i) }
-{
-    if to <= shape.first_wanted(rules, from) {
-        None
-    } else {
-        unmet_among(rules, shape, tally, from, to)
-    }
-}
-
-/// So it is, also where no rule with a least count stands between the places. It takes as many steps as rules stand there
-/// that were met, and one more, and what `from_rule` takes.
-#[inline(never)]
-fn unmet_among(
-    rules: &[DRule],
-    shape: &Shape,
-    tally: &[Met],
-    from: usize,
-    to: usize,
-) -> Option<usize>
-    requires shape { IsShape rules.now shape.now }
-    requires rising { AreRising 0 tally.now }
-    requires within { (from ≤ length rules.now) × (to ≤ length rules.now) }
-    ensures { MatchOption result (AreMet rules.now tally.now from to)
-        (λ i. IsFirstUnmet rules.now tally.now from to i) }
-{
-    let mut place = shape.first_wanted(rules, from);
-    if to <= place {
-        return None;
-    }
-    for met in from_rule(tally, from) {
-        let rule = met.rule as usize;
-        if rule < place {
-            continue;
-        }
-        if place < rule || met.count < rules[place].min {
-            return Some(place);
-        }
-        place = shape.first_wanted(rules, place + 1);
-        if to <= place {
-            return None;
-        }
-    }
-    Some(place)
-}
-
-/// The AVP of a rule is missing.
-fn missing(rule: DRule) -> Wrong
-    ensures { result ≡ record { reason = Reason.Missing; subject = subject_of rule.key } }
-{
-    let subject = match rule.key {
-        Some(key) => Subject::Avp(key),
-        None => Subject::Wildcard,
-    };
-    Wrong {
-        reason: Reason::Missing,
-        subject,
     }
 }
 

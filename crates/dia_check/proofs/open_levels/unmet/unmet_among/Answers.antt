@@ -5,8 +5,8 @@ use Rattle.dia_book.specs.declared.RuleKind.TheVariants.{Fixed}
 use Rattle.dia_check.specs.declared.open_levels.tally.Met.{Met}
 use Rattle.dia_check.proofs.KeptLevels.{met_next}
 use Rattle.dia_check.proofs.Tallies.{count_next, count_first, count_none, count_end}
-use Rattle.dia_check.proofs.open_levels.unmet_among.Goals.{then-place-rule-via-then-place-rule, then-place-rule-via-else-place-rule+then-met-rules}
-use Rattle.dia_check.proofs.open_levels.unmet_among.Goals as goal
+use Rattle.dia_check.proofs.open_levels.unmet.unmet_among.Goals.{then-place-rule-via-then-place-rule, then-place-rule-via-else-place-rule+then-met-rules}
+use Rattle.dia_check.proofs.open_levels.unmet.unmet_among.Goals as goal
 
 abbrev no_rule : DRule
 no_rule = record { kind = Fixed; key = None; min = 0; max = None }

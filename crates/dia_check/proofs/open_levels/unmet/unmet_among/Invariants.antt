@@ -3,7 +3,7 @@ use Rattle.std.specs.Prelude.{slice_get}
 use Rattle.dia_book.specs.declared.DRule.{DRule}
 use Rattle.dia_check.specs.OpenLevels.{AreMet}
 use Rattle.dia_check.specs.Tallies.{count_in}
-use Rattle.dia_check.proofs.open_levels.unmet_among.Given as goal
+use Rattle.dia_check.proofs.open_levels.unmet.unmet_among.Given as goal
 
 abbrev pub invariant-loop-met : goal.invariant-loop-met
 invariant-loop-met l = record {

@@ -1,0 +1,84 @@
+//! Rules of a level that were met too seldom.
+
+ghost use Rattle.std.specs.Prelude.{◌≡◌, ◌≤◌, length, MatchOption};
+ghost use Rattle.dia_book.specs.Shapes.{IsShape};
+ghost use Rattle.dia_check.specs.Faults.{subject_of};
+ghost use Rattle.dia_check.specs.Tallies.{AreRising};
+ghost use Rattle.dia_check.specs.OpenLevels.{AreMet, IsFirstUnmet};
+
+use super::Wrong;
+use super::tally::{Met, from_rule};
+use crate::fault::{Reason, Subject};
+use dia_book::{DRule, Shape};
+
+/// The AVP of a rule is missing.
+pub(super) fn missing(rule: DRule) -> Wrong
+    ensures { result ≡ record { reason = Reason.Missing; subject = subject_of rule.key } }
+{
+    let subject = match rule.key {
+        Some(key) => Subject::Avp(key),
+        None => Subject::Wildcard,
+    };
+    Wrong {
+        reason: Reason::Missing,
+        subject,
+    }
+}
+
+/// The first rule from one place up to another that was met less often than its min.
+#[inline(always)]
+pub(super) fn first_unmet(
+    rules: &[DRule],
+    shape: &Shape,
+    tally: &[Met],
+    from: usize,
+    to: usize,
+) -> Option<usize>
+    requires shape { IsShape rules.now shape.now }
+    requires rising { AreRising 0 tally.now }
+    requires within { (from ≤ length rules.now) × (to ≤ length rules.now) }
+    ensures { MatchOption result (AreMet rules.now tally.now from to)
+        (λ i. IsFirstUnmet rules.now tally.now from to i) }
+{
+    if to <= from || to <= shape.first_wanted(rules, from) {
+        None
+    } else {
+        unmet_among(rules, shape, tally, from, to)
+    }
+}
+
+/// So it is, also where no rule with a least count stands between the places. It takes as many steps as rules stand there
+/// that were met, and one more, and what `from_rule` takes.
+#[inline(never)]
+fn unmet_among(
+    rules: &[DRule],
+    shape: &Shape,
+    tally: &[Met],
+    from: usize,
+    to: usize,
+) -> Option<usize>
+    requires shape { IsShape rules.now shape.now }
+    requires rising { AreRising 0 tally.now }
+    requires within { (from ≤ length rules.now) × (to ≤ length rules.now) }
+    ensures { MatchOption result (AreMet rules.now tally.now from to)
+        (λ i. IsFirstUnmet rules.now tally.now from to i) }
+{
+    let mut place = shape.first_wanted(rules, from);
+    if to <= place {
+        return None;
+    }
+    for met in from_rule(tally, from) {
+        let rule = met.rule as usize;
+        if rule < place {
+            continue;
+        }
+        if place < rule || met.count < rules[place].min {
+            return Some(place);
+        }
+        place = shape.first_wanted(rules, place + 1);
+        if to <= place {
+            return None;
+        }
+    }
+    Some(place)
+}
