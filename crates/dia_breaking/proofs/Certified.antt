@@ -212,7 +212,8 @@ group_found d key i r at is = by k.0.group refl
         ap (option_and_then (λ (def : ℕ). slice_get (definitions d) def)) (is ∙ there.0) ∙ there.1 ∙ sym (group_is ∙ h)
 
 pub closed_group : (da db : Dictionary) (who : Sends) (u : Unknown) (f : Key → ℕ) (groups : List Way) (own : List Key) (told : List LevelLine) (key : Key) (way a_def b_def : ℕ) (r s : Option ℕ)
-    → r ≡ Some a_def → s ≡ Some b_def → option_and_then (λ (def : ℕ). slice_get (definitions da) def) r ≡ group_of da key → option_and_then (λ (def : ℕ). slice_get (definitions db) def) s ≡ group_of db key
+    → r ≡ Some a_def → s ≡ Some b_def → option_and_then (λ (def : ℕ). slice_get (definitions da) def) r ≡ group_of da key
+    → option_and_then (λ (def : ℕ). slice_get (definitions db) def) s ≡ group_of db key
     → IsClosedBy da db who u f groups told own a_def b_def way → IsClosedGroup da db who u f groups own told key way
 closed_group da db who u f groups own told key way a_def b_def r s is_r is_s in_a in_b closed x y at_x at_y sites holds =
     closed x y sites (sym (ap (option_and_then (λ (def : ℕ). slice_get (definitions da) def)) is_r) ∙ in_a ∙ at_x)
@@ -224,17 +225,21 @@ closed_command da db who u f groups own told c def head app select closed x y nu
     closed x y sites at_x (ap (slice_get (definitions db)) (same_Some def number (sym select ∙ is)) ∙ at_y) holds
 
 -- the site of a group, or of the command, is closed by what is told there
-pub closed_at : (da db : Dictionary) (who : Sends) (u : Unknown) (f : Key → ℕ) (groups : List Way) (own : List Key) (lines : List Line) (told : List LevelLine) (c number : ℕ) (site : Site) (key : Key) (outer : ℕ)
+pub closed_at : (da db : Dictionary) (who : Sends) (u : Unknown) (f : Key → ℕ) (groups : List Way) (own : List Key) (lines : List Line) (told : List LevelLine) (c number : ℕ) (site : Site) (key : Key)
+    (outer : ℕ)
     → site.place ≡ places.Group key outer → All (IsToldAt lines number) told → IsClosedGroup da db who u f groups own told key site.way → IsClosedAt da db who u f groups own lines c number site
 closed_at da db who u f groups own lines told c number site key outer is tells closed y z is_read read =
-    subst (λ (place : Place). IsReadBy da db c place y z → (told : List LevelLine) × All (IsToldAt lines number) told × IsClosedWith da db who u f groups own told (room_at place site.way) y z) (sym is)
+    subst (λ (place : Place). IsReadBy da db c place y z → (told : List LevelLine) × All (IsToldAt lines number) told × IsClosedWith da db who u f groups own told (room_at place site.way) y z)
+    (sym is)
     (λ r. (told, tells, closed y z r.0 r.1)) read
 
-pub closed_command_at : (da db : Dictionary) (who : Sends) (u : Unknown) (f : Key → ℕ) (groups : List Way) (own : List Key) (lines : List Line) (told : List LevelLine) (c number : ℕ) (site : Site) (head : Head)
+pub closed_command_at : (da db : Dictionary) (who : Sends) (u : Unknown) (f : Key → ℕ) (groups : List Way) (own : List Key) (lines : List Line) (told : List LevelLine) (c number : ℕ) (site : Site)
+    (head : Head)
     (app : ℕ) (is_told proxiable : Bool) (x : PlainDefinition) → slice_get (definitions da) c ≡ Some x → head_in x.head ≡ Some head → site.place ≡ places.Command app is_told proxiable
     → All (IsToldAt lines number) told → IsClosedCommand da db who u f groups own told c head app → IsClosedAt da db who u f groups own lines c number site
 closed_command_at da db who u f groups own lines told c number site head app is_told proxiable x at is_head is tells closed y z is_read read =
-    subst (λ (place : Place). IsReadBy da db c place y z → (told : List LevelLine) × All (IsToldAt lines number) told × IsClosedWith da db who u f groups own told (room_at place site.way) y z) (sym is) by read
+    subst (λ (place : Place). IsReadBy da db c place y z → (told : List LevelLine) × All (IsToldAt lines number) told × IsClosedWith da db who u f groups own told (room_at place site.way) y z)
+    (sym is) by read
   where
     by : IsReadBy da db c (places.Command app is_told proxiable) y z → (told : List LevelLine) × All (IsToldAt lines number) told × IsClosedWith da db who u f groups own told max_body y z
     by (at_y, (own_head, n, its, select, at_z)) =
@@ -263,4 +268,5 @@ group_lines da db listed other key lines a_def b_def r s is_r is_s in_a in_b has
 pub closed_together : (da db : Dictionary) (who : Sends) (u : Unknown) (f : Key → ℕ) (groups : List Way) (own lines : List Line) (c : ℕ) (told : List Site) → groups ≡ ways_of told → own ≡ lines
     → AreClosedAt da db who u f groups (own_keys own) lines c told → AreClosedTogether da db who u f told lines c
 closed_together da db who u f groups own lines c told is_groups is_own closed =
-    subst (λ (xs : List Way). AreClosedAt da db who u f xs (own_keys lines) lines c told) is_groups (subst (λ (ls : List Line). AreClosedAt da db who u f groups (own_keys ls) lines c told) is_own closed)
+    subst (λ (xs : List Way). AreClosedAt da db who u f xs (own_keys lines) lines c told) is_groups
+    (subst (λ (ls : List Line). AreClosedAt da db who u f groups (own_keys ls) lines c told) is_own closed)

@@ -66,9 +66,11 @@ stand_placed Listed rules keys h = h.0
 pub stand_price : (d : Dictionary) (who : Sends) (lengths : List ℕ) (rules : List DRule) (keys : List Key) → StandAsSent who rules keys
     → total (price (listed_length d who lengths) (other_length d who lengths) rules) keys ≡ total (listed_length d who lengths) keys
 stand_price d Any lengths rules keys h =
-    total_same (price (listed_length d Any lengths) (other_length d Any lengths) rules) (listed_length d Any lengths) keys (λ q i. either (is_listed rules q) (listed_length d Any lengths q) (listed_length d Any lengths q) refl)
+    total_same (price (listed_length d Any lengths) (other_length d Any lengths) rules) (listed_length d Any lengths) keys
+    (λ q i. either (is_listed rules q) (listed_length d Any lengths q) (listed_length d Any lengths q) refl)
 stand_price d Known lengths rules keys h =
-    total_same (price (listed_length d Known lengths) (other_length d Known lengths) rules) (listed_length d Known lengths) keys (λ q i. either (is_listed rules q) (listed_length d Known lengths q) (listed_length d Known lengths q) refl)
+    total_same (price (listed_length d Known lengths) (other_length d Known lengths) rules) (listed_length d Known lengths) keys
+    (λ q i. either (is_listed rules q) (listed_length d Known lengths q) (listed_length d Known lengths q) refl)
 stand_price d Listed lengths rules keys h =
     total_same (price (listed_length d Listed lengths) (other_length d Listed lengths) rules) (listed_length d Listed lengths) keys
     (λ q i. ap (λ (b : Bool). if b then listed_length d Listed lengths q else too_long) (in_all (λ key. is_listed rules key ≡ true) q keys h.1 i))
@@ -81,7 +83,8 @@ stand_other d Known lengths rules keys key h i none = refl
 stand_other d Listed lengths rules keys key h i none = absurd (both_ways (is_listed rules key) none (in_all (λ key. is_listed rules key ≡ true) key keys h.1 i))
 
 -- no strange key takes less than one without vendor
-strange_least : (d : Dictionary) (who : Sends) (lengths : List ℕ) (own key : Key) → entry_of d own ≡ None → own.vendor ≡ 0 → entry_of d key ≡ None → other_length d who lengths own ≤ other_length d who lengths key
+strange_least : (d : Dictionary) (who : Sends) (lengths : List ℕ) (own key : Key) → entry_of d own ≡ None → own.vendor ≡ 0 → entry_of d key ≡ None
+    → other_length d who lengths own ≤ other_length d who lengths key
 strange_least d Any lengths own key none vendor other =
     let length_own : listed_length d Any lengths own ≡ 8 = ap (λ (o : Option ℕ). option_map_or (length_of_entry lengths) o (shortest_head own)) none
     ∙ ap (λ (n : ℕ). shortest_head (record { code = own.code; vendor = n })) vendor in
@@ -127,7 +130,8 @@ led : (b l : Bool) → (not b || l) ≡ true → b ≡ true → l ≡ true
 led true l h e = h
 led false l h e = absurd (let bad : false ≡ true = e in cc)
 
-module _ (da db : Dictionary) (who : Sends) (u : Unknown) (lengths : List ℕ) (telling : Telling) (tells : Key → Bool) (owns : List Key) (ways : Key → Option ℕ) (groups : List Way) (others : List Other)
+module _ (da db : Dictionary) (who : Sends) (u : Unknown) (lengths : List ℕ) (telling : Telling) (tells : Key → Bool) (owns : List Key) (ways : Key → Option ℕ) (groups : List Way)
+    (others : List Other)
     (cost : LevelCost) (rules : List DRule) (way : ℕ) (strange_unlisted : (key : Key) → entry_of da key ≡ None → is_listed rules key ≡ false)
     (costs : IsCostOf (listed_length da who lengths) (other_length da who lengths) rules cost) (found : IsTelling da db who u telling) (shown : (key : Key) → tells key ≡ true → Contains owns key)
     (are : AreWaysOf groups ways) (first : IsFirst (other_length da who lengths) tells ways telling.own.items others)
@@ -145,7 +149,8 @@ module _ (da db : Dictionary) (who : Sends) (u : Unknown) (lengths : List ℕ) (
 
   -- a group of both leads to its site
   abbrev Leads : List Key → Key → Type 0
-  Leads keys key = (x y : PlainDefinition) (size : ℕ) → group_of da key ≡ Some x → group_of db key ≡ Some y → size + shortest_head key + total listed keys ≤ max_body - way + listed key → HasSite sites x y size
+  Leads keys key =
+      (x y : PlainDefinition) (size : ℕ) → group_of da key ≡ Some x → group_of db key ≡ Some y → size + shortest_head key + total listed keys ≤ max_body - way + listed key → HasSite sites x y size
 
   -- what is asked of a key of a level
   abbrev IsGood : List Key → Key → Type 0
@@ -181,7 +186,8 @@ module _ (da db : Dictionary) (who : Sends) (u : Unknown) (lengths : List ℕ) (
 
   -- ---- a key that a rule lists
 
-  settled_good : (keys : List Key) (key : Key) (n : ℕ) (own : Own) → Contains telling.own.items own → own.key ≡ key → is_settled tells ways (listed key) n own ≡ true → n ≤ way + total listed keys → IsGood keys key
+  settled_good : (keys : List Key) (key : Key) (n : ℕ) (own : Own) → Contains telling.own.items own → own.key ≡ key → is_settled tells ways (listed key) n own ≡ true → n ≤ way + total listed keys
+      → IsGood keys key
   settled_good keys key n own is same h within = by own.is_group refl
     where
       parts : (is_fine tells own ≡ true) × ((not own.is_group || leads ways own.key (listed key) n) ≡ true)
@@ -223,7 +229,8 @@ module _ (da db : Dictionary) (who : Sends) (u : Unknown) (lengths : List ℕ) (
       let closed : is_closed_at tells telling ways key (listed key) n ≡ true =
       sym (ap (λ (o : Option Key). option_map_or (λ k. is_closed_at tells telling ways k (listed k) (way + with_listed cost rule (listed k))) o true) is)
       ∙ all_true (is_closed_rule tells telling ways listed cost way) rules rule by_rules i in
-      safe_good keys key n lists (right_of (nat_lt max_body n) (is_safe tells telling ways key (listed key) n) (λ e. let over = ltb-true max_body n e in omega (arith, over, least, same, room, fits)) closed)
+      safe_good keys key n lists
+      (right_of (nat_lt max_body n) (is_safe tells telling ways key (listed key) n) (λ e. let over = ltb-true max_body n e in omega (arith, over, least, same, room, fits)) closed)
       (omega (arith, least, same))
 
   -- ---- a key that comes through the wildcard
@@ -347,7 +354,8 @@ module _ (da db : Dictionary) (who : Sends) (u : Unknown) (lengths : List ℕ) (
 rules_of_def : (d : Dictionary) (def : ℕ) (x : PlainDefinition) → slice_get (definitions d) def ≡ Some x → rules_in d def ≡ x.rules
 rules_of_def d def x at = ap (λ (o : Option PlainDefinition). option_map_or (λ (y : PlainDefinition). y.rules) o []) at
 
-module _ {X : Type 0} (meaning : X → Dictionary) (db : Dictionary) (book a : X) (sent who : Sends) (same : book ≡ a) (sender : sent ≡ who) (u : Unknown) (entries : List ℕ) (keys : List Key) (telling : Telling)
+module _ {X : Type 0} (meaning : X → Dictionary) (db : Dictionary) (book a : X) (sent who : Sends) (same : book ≡ a) (sender : sent ≡ who) (u : Unknown) (entries : List ℕ) (keys : List Key)
+    (telling : Telling)
     (tells : Key → Bool) (owns : List Key) (ways : Key → Option ℕ) (groups : List Way) (others : List Other) (cost : LevelCost) (a_def b_def way : ℕ) (lines answer : List Line) where
   moved : (P : Dictionary → Sends → Type 0) → P (meaning book) sent → P (meaning a) who
   moved P h = subst (λ (s : Sends). P (meaning a) s) sender (subst (λ (p : X). P (meaning p) sent) same h)
@@ -356,10 +364,12 @@ module _ {X : Type 0} (meaning : X → Dictionary) (db : Dictionary) (book a : X
   rules = rules_in (meaning a) a_def
 
   pub closed_when : IsDictionary (meaning a) → ((y : ℕ) → FirstIsShortest (other_length (meaning a) sent entries) keys (rules_in (meaning a) a_def) (rules_in db y))
-      → (OtherIsShortest (other_length (meaning book) sent entries) keys (rules_in (meaning a) a_def) → IsCostOf (listed_length (meaning book) sent entries) (other_length (meaning book) sent entries) (rules_in (meaning a) a_def) cost)
+      → (OtherIsShortest (other_length (meaning book) sent entries) keys (rules_in (meaning a) a_def) → IsCostOf (listed_length (meaning book) sent entries) (other_length (meaning book) sent entries)
+      (rules_in (meaning a) a_def) cost)
       → ((key : Key) → tells key ≡ true → Contains owns key) → AreWaysOf groups ways → IsFirst (other_length (meaning book) sent entries) tells ways telling.own.items others
       → list_all (is_closed_rule tells telling ways (listed_length (meaning book) sent entries) cost way) (rules_in (meaning a) a_def) ≡ true
-      → max_body < way + cost.beside + first_spare (λ key. not (is_listed (rules_in (meaning a) a_def) key)) others → All (IsLongOrTold way answer) lines → way ≤ max_body → IsTelling (meaning a) db who u telling
+      → max_body < way + cost.beside + first_spare (λ key. not (is_listed (rules_in (meaning a) a_def) key)) others → All (IsLongOrTold way answer) lines → way ≤ max_body
+      → IsTelling (meaning a) db who u telling
       → HasEachLine (price (listed_length (meaning book) sent entries) (other_length (meaning book) sent entries) (rules_in (meaning a) a_def)) (rules_in (meaning a) a_def) (rules_in db b_def) lines
       → IsClosedBy (meaning a) db who u (listed_length (meaning a) who entries) groups answer owns a_def b_def way
   closed_when sound shortest costs shown are first by_rules by_wild known fits found each x y sites at_x at_y holds =
@@ -371,4 +381,6 @@ module _ {X : Type 0} (meaning : X → Dictionary) (db : Dictionary) (book a : X
       (rules_of_def (meaning a) a_def x at_x) (rules_of_def db b_def y at_y)
     where
       other : OtherIsShortest (other_length (meaning book) sent entries) keys (rules_in (meaning a) a_def)
-      other = subst (λ (p : X). OtherIsShortest (other_length (meaning p) sent entries) keys (rules_in (meaning a) a_def)) (sym same) (one_is_shortest (other_length (meaning a) sent entries) keys (rules_in (meaning a) a_def) db shortest)
+      other =
+          subst (λ (p : X). OtherIsShortest (other_length (meaning p) sent entries) keys (rules_in (meaning a) a_def)) (sym same)
+          (one_is_shortest (other_length (meaning a) sent entries) keys (rules_in (meaning a) a_def) db shortest)

@@ -1,5 +1,5 @@
 -- At closed sites nothing breaks.
-use Rattle.std.proofs.Common.{ℕ, zero, suc, ◌+◌, ◌≤◌, List, [], ◌∷◌, length, map, Option, Some, None, refl, sym, ap, subst, arith, inl, inr}
+use Rattle.std.proofs.Common.{ℕ, zero, suc, ◌+◌, ◌≤◌, List, [], ◌∷◌, length, map, Option, Some, None, refl, sym, subst, arith, inl, inr}
 use Rattle.std.specs.Prelude.{◌⊎◌, Contains, unwrap_or, sum_by}
 use Rattle.std.proofs.lemmas.List.Sums.{sum_by-cons}
 use Rattle.dia_wire.specs.declared.Key.{Key}
@@ -20,6 +20,7 @@ use Rattle.dia_levels.specs.Levels.{ShowsAt}
 use Rattle.dia_least.specs.Floors.{AreFloors, shortest_head, vendor_field, total}
 use Rattle.dia_least.proofs.BytesOfAvps.{data_bytes}
 use Rattle.dia_least.proofs.FloorsOfAvps.{no_shorter, rounded_up}
+use Rattle.dia_least.proofs.FloorsOfLengths.{in_map}
 use Rattle.dia_breaking.specs.Closed.{IsSentKeys, IsTold, IsFreeOf, IsClosedSite}
 
 -- ---- lengths
@@ -55,13 +56,8 @@ module _ (f : Key → ℕ) where
 
 -- ---- keys
 
-key_in : (avps : List PlainAvp) (v : PlainAvp) → IsIn v avps → IsIn (key_of v) (map key_of avps)
-key_in [] v i = absurd i
-key_in (w ∷ avps) v (inl same) = inl (ap key_of same)
-key_in (w ∷ avps) v (inr i) = inr (key_in avps v i)
-
 key_contained : (avps : List PlainAvp) (v : PlainAvp) → Contains avps v → Contains (map key_of avps) (key_of v)
-key_contained avps v is = contains_in (map key_of avps) (key_of v) (key_in avps v (in_contains avps v is))
+key_contained avps v is = contains_in (map key_of avps) (key_of v) (in_map key_of avps v (in_contains avps v is))
 
 -- ---- sites
 
@@ -83,7 +79,8 @@ module _ (da db : Dictionary) (who : Sends) (u : Unknown) (f : Key → ℕ) (flo
   group_within rules room avps v level is =
       omega (arith, data_within v, beside_within f avps v (long_in rules room avps level) (in_contains avps v is), keeps da who rules room avps level)
 
-  pub safe_site : (sites : List Site) (told : List LevelLine) (own : List Key) (site : Site) → IsClosedSite da db who u f sites told own site → IsSafeSite da db who u (IsFreeOf da db u told own) sites site
+  pub safe_site : (sites : List Site) (told : List LevelLine) (own : List Key) (site : Site) → IsClosedSite da db who u f sites told own site
+      → IsSafeSite da db who u (IsFreeOf da db u told own) sites site
   safe_site sites told own site closed = record {
     placed = λ avps level free. placed site avps free (closed.placed (map key_of avps) (sent_keys site.a.rules site.room avps level));
     alone = λ avps v level free is.
@@ -94,7 +91,8 @@ module _ (da db : Dictionary) (who : Sends) (u : Unknown) (f : Key → ℕ) (flo
   }
     where
       placed : (site : Site) (avps : List PlainAvp) → IsFreeOf da db u told own site.a site.b avps
-          → Placed site.b.rules (map key_of avps) ⊎ ((line : LevelLine) × Contains told line × ShowsAt site.a.rules site.b.rules (map key_of avps) line.reason line.key) → Placed site.b.rules (map key_of avps)
+          → Placed site.b.rules (map key_of avps) ⊎ ((line : LevelLine) × Contains told line × ShowsAt site.a.rules site.b.rules (map key_of avps) line.reason line.key)
+          → Placed site.b.rules (map key_of avps)
       placed site avps free (inl h) = h
       placed site avps free (inr h) = absurd (free.level h.0 h.1 h.2)
 

@@ -1,37 +1,31 @@
 -- What is kept of groups and their ways, of what is told, and the first of the AVPs of which there is something to tell.
 use denote.Enum.Bare.{sameb, same_true}
-use Rattle.std.proofs.Common.{◌≡◌, ℕ, zero, suc, ◌+◌, ◌-◌, ◌^◌, ◌<◌, ◌≤◌, min, Bool, true, false, cond, get_or, List, [], ◌∷◌, ◌++◌, length, map, take, Option, Some, None, refl, rules, sym, ap, subst, ◌∙◌, arith, inl, inr}
-use Rattle.std.specs.Prelude.{◌⊎◌, ◌&&◌, ◌||◌, ◌==◌, nat_le, nat_lt, Contains}
+use Rattle.std.proofs.Common.{◌≡◌, ℕ, ◌+◌, ◌<◌, Bool, true, false, cond, get_or, List, [], ◌∷◌, ◌++◌, length, map, take, Option, Some, None, refl, rules, sym, ap, subst, ◌∙◌, inl, inr}
+use Rattle.std.specs.Prelude.{◌⊎◌, ◌&&◌, ◌||◌, ◌==◌, Contains}
 use Rattle.std.specs.List.{filter_map, list_any}
 use Rattle.std.specs.Option.{option_eq}
 use Rattle.std.specs.List.Sorted.{IsPermutation, IsNonDecreasingBy}
-use Rattle.std.proofs.lemmas.Bool.{lt-ltb, le-leb, lt-leb, leb-true, leb-false, and_parts, and_from, eq-eqb, eqb-true}
+use Rattle.std.proofs.lemmas.Bool.{and_parts, eqb-true}
 use Rattle.std.proofs.lemmas.List.{take_more}
 use Rattle.std.proofs.lemmas.List.Elements.{filter_map-append}
 use Rattle.std.proofs.lemmas.List.Sorted.{Contains-permutation}
-use Rattle.std.proofs.lemmas.Option.{same_Some}
 use Rattle.dia_wire.specs.declared.Key.{Key}
 use Rattle.dia_book.specs.Keys.{same_key}
 use Rattle.dia_book.proofs.SameKeys.{same_key-refl, same_key-true}
 use Rattle.dia_compat.proofs.RunsOfFixedRules.{IsIn}
 use Rattle.dia_compat.proofs.MemberCounts.{any_in, in_contains, contains_in}
-use Rattle.dia_sites.specs.Selection.{max_body}
-use Rattle.dia_least.specs.Floors.{shortest_head}
+use Rattle.dia_least.proofs.Strangers.{in_map}
 use Rattle.dia_levels.specs.contracts.line.Reason.{the_type}
 use Rattle.dia_levels.specs.declared.line.Line.{Line as LevelLine}
 use Rattle.dia_breaking.specs.declared.keys.Own.{Own}
 use Rattle.dia_breaking.specs.declared.line.Cause.{Cause}
 use Rattle.dia_breaking.specs.declared.line.Line.{Line}
 use Rattle.dia_breaking.specs.declared.ways.Other.{Other}
-use Rattle.dia_breaking.specs.declared.ways.Way.{Way}
-use Rattle.dia_breaking.specs.ClosedRules.{AreWaysOf, IsFirst, other_of}
+use Rattle.dia_breaking.specs.ClosedRules.{IsFirst, other_of}
 use Rattle.dia_breaking.specs.OwnKeys.{AddsOwnKey, AreOwnKeys, own_key, own_keys}
 use Rattle.dia_breaking.proofs.Shortest.{found_is_least}
 
 -- ---- ways
-
-abbrev is_way : Key → ℕ → Way → Bool
-is_way key way group = same_key group.key key && (group.way == way)
 
 any_left : {X : Type 0} (p : X → Bool) (xs ys : List X) → list_any p xs ≡ true → list_any p (xs ++ ys) ≡ true
 any_left p [] ys h = absurd (let bad : false ≡ true = h in cc)
@@ -49,22 +43,7 @@ any_last p (y ∷ xs) x h = by (p y) (any_last p xs x h)
     by true h = refl
     by false h = h
 
-pub no_ways : (ways : Key → Option ℕ) → ((key : Key) → ways key ≡ None) → AreWaysOf [] ways
-no_ways ways none key way at = absurd (let bad : None ≡ Some way = sym (none key) ∙ at in cc)
-
-pub one_way_more : (groups : List Way) (group : Way) (old new : Key → Option ℕ) → AreWaysOf groups old → ((key : Key) → new key ≡ cond (same_key group.key key) (Some group.way) (old key)) → AreWaysOf (groups ++ group ∷ []) new
-one_way_more groups group old new are is key way at = by (same_key group.key key) refl (sym (is key) ∙ at)
-  where
-    by : (b : Bool) → same_key group.key key ≡ b → cond b (Some group.way) (old key) ≡ Some way → list_any (is_way key way) (groups ++ group ∷ []) ≡ true
-    by true same e = any_last (is_way key way) groups group (and_from (same_key group.key key) (group.way == way) same (eq-eqb group.way way (same_Some group.way way e)))
-    by false other e = any_left (is_way key way) groups (group ∷ []) (are key way e)
-
 -- ---- the first of what is told
-
-in_map : {X Y : Type 0} (f : X → Y) (xs : List X) (x : X) → IsIn x xs → IsIn (f x) (map f xs)
-in_map f [] x i = absurd i
-in_map f (y ∷ xs) x (inl e) = inl (ap f e)
-in_map f (y ∷ xs) x (inr i) = inr (in_map f xs x i)
 
 pub first_of : (other : Key → ℕ) (tells : Key → Bool) (ways : Key → Option ℕ) (owns : List Own) (others : List Other) → IsNonDecreasingBy (λ o. o.spare) others
     → IsPermutation (map (other_of other tells ways) owns) others → IsFirst other tells ways owns others
@@ -125,33 +104,3 @@ line_is a b e =
     let behind = key_is a.behind b.behind third.0 in
     let len : a.length ≡ b.length = eqb-true a.length b.length third.1 in
     λ i. record { reason = reason i; key = key i; behind = behind i; length = len i }
-
--- ---- sums that stop at the greatest number
-
-pub head_most : (key : Key) → shortest_head key ≤ 12
-head_most key = by key.vendor
-  where
-    by : (n : ℕ) → shortest_head (record { code = key.code; vendor = n }) ≤ 12
-    by zero = omega arith
-    by (suc n) = omega arith
-
--- a message that is too long leaves no question
-pub closed_at : (m n : ℕ) (f : ℕ → Bool) → m ≡ min n (2 ^ 64 - 1) → (nat_lt max_body m || f m) ≡ (nat_lt max_body n || f n)
-closed_at m n f is = by (nat_le n max_body) refl
-  where
-    by : (b : Bool) → nat_le n max_body ≡ b → (nat_lt max_body m || f m) ≡ (nat_lt max_body n || f n)
-    by true e = let same : m ≡ n = few (leb-true n max_body e) in ap (λ (k : ℕ). nat_lt max_body k || f k) same
-      where
-        few : n ≤ max_body → m ≡ n
-        few le = omega (arith, is, le)
-    by false e =
-        let over = leb-false n max_body e in
-        ap (λ (b : Bool). b || f m) (lt-ltb max_body m (omega (arith, is, over))) ∙ sym (ap (λ (b : Bool). b || f n) (lt-ltb max_body n (omega (arith, over))))
-
--- nor does a way that is
-pub leads_at : (way least there length head up : ℕ) → there ≡ min (way + least) (2 ^ 64 - 1) → up ≡ min (length + head) (2 ^ 64 - 1) → length ≤ max_body → head ≤ 12 → nat_le there up ≡ nat_le (way + least) (length + head)
-leads_at way least there length head up is_there is_up room small = by (nat_le (way + least) (length + head)) refl
-  where
-    by : (b : Bool) → nat_le (way + least) (length + head) ≡ b → nat_le there up ≡ b
-    by true e = let le = leb-true (way + least) (length + head) e in le-leb there up (omega (arith, is_there, is_up, room, small, le))
-    by false e = let over = leb-false (way + least) (length + head) e in lt-leb there up (omega (arith, is_there, is_up, room, small, over))

@@ -32,7 +32,8 @@ refused da db who u bytes c false are own same valid iff h =
 
 -- ---- a command that a table lists, where it shows inclusion
 
-valid_of : (da db : Dictionary) (who : Sends) (u : Unknown) (bytes : List ℕ) (c : ℕ) → IsConfirmed da db who u bytes c → IsValidOf da (own_policy who) levels.Any bytes c × (¬ IsValid db u levels.Any bytes)
+valid_of : (da db : Dictionary) (who : Sends) (u : Unknown) (bytes : List ℕ) (c : ℕ) → IsConfirmed da db who u bytes c
+    → IsValidOf da (own_policy who) levels.Any bytes c × (¬ IsValid db u levels.Any bytes)
 valid_of da db Any u bytes c h = (sent_valid da Any bytes c h.0, h.1)
 valid_of da db Known u bytes c h = (sent_valid da Known bytes c h.0, h.1)
 valid_of da db Listed u bytes c h = h

@@ -12,7 +12,8 @@ use Rattle.dia_breaking.proofs.Lists.{one_more, when_ok}
 use Rattle.dia_breaking.proofs.LeastNumbers.{named_of, of_named}
 
 -- one more is looked at
-pub filtered : {X : Type 0} (p : X → Bool) (xs : List X) (i : ℕ) (x : X) (old new : List X) → new ≡ old ++ filter p (x ∷ []) → old ≡ filter p (take i xs) → slice_get xs i ≡ Some x → new ≡ filter p (take (i + 1) xs)
+pub filtered : {X : Type 0} (p : X → Bool) (xs : List X) (i : ℕ) (x : X) (old new : List X) → new ≡ old ++ filter p (x ∷ []) → old ≡ filter p (take i xs) → slice_get xs i ≡ Some x
+    → new ≡ filter p (take (i + 1) xs)
 filtered {X} p xs i x old new is before at =
     is ∙ ap (λ (ys : List X). ys ++ filter p (x ∷ [])) before ∙ sym (ap (filter p) (one_more xs i x at) ∙ filter-append p (take i xs) (x ∷ []))
 
@@ -77,7 +78,8 @@ module _ (first second : List ℕ) (app : ℕ) (b : Bool) (is : b ≡ (list_any 
 -- of other names for the lists
 module _ {E : Type 0} (r : Result (Option ℕ) E) where
   pub unnamed_of : (xs ys first second : List ℕ) → xs ≡ first → ys ≡ second → IfOk r (IsLeastUnnamed xs ys) → IfOk r (IsLeastUnnamed first second)
-  unnamed_of xs ys first second same_first same_second is = subst (λ (zs : List ℕ). IfOk r (IsLeastUnnamed zs second)) same_first (subst (λ (zs : List ℕ). IfOk r (IsLeastUnnamed xs zs)) same_second is)
+  unnamed_of xs ys first second same_first same_second is =
+      subst (λ (zs : List ℕ). IfOk r (IsLeastUnnamed zs second)) same_first (subst (λ (zs : List ℕ). IfOk r (IsLeastUnnamed xs zs)) same_second is)
 
   pub in_neither : (first second : List ℕ) → IfOk r (IsLeastUnnamed first second) → IfOk r (λ found. IfSome found (λ app. (¬ Contains first app) × (¬ Contains second app)))
   in_neither first second is = when_ok (IsLeastUnnamed first second) (λ found. IfSome found (λ app. (¬ Contains first app) × (¬ Contains second app))) r apart is

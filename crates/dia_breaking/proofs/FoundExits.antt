@@ -2,7 +2,6 @@
 use Rattle.std.proofs.Common.{◌≡◌, ℕ, ◌+◌, ◌-◌, ◌≤◌, List, [], ◌∷◌, ◌++◌, length, map, take, Option, Some, None, sym, ap, subst, ◌∙◌}
 use Rattle.std.specs.Prelude.{All, is_some, option_to_list, slice_get}
 use Rattle.std.specs.List.{filter_map}
-use Rattle.std.specs.Option.{option_map_or}
 use Rattle.std.proofs.lemmas.List.{map-append, take_all}
 use Rattle.std.proofs.lemmas.List.Elements.{All-push}
 use Rattle.dia_wire.specs.declared.Key.{Key}
@@ -10,8 +9,7 @@ use Rattle.dia_book.specs.Dictionary.{Dictionary}
 use Rattle.dia_entries.specs.Sent.{group_of}
 use Rattle.dia_least.specs.Floors.{shortest_head}
 use Rattle.dia_book.specs.declared.DRule.{DRule}
-use Rattle.dia_compat.specs.Tests.{rules_in, wildcard_of}
-use Rattle.dia_levels.specs.LevelTests.{too_long}
+use Rattle.dia_compat.specs.Tests.{rules_in}
 use Rattle.dia_breaking.specs.declared.exits.Inner.{Inner}
 use Rattle.dia_breaking.specs.declared.exits.Outlook.{Outlook}
 use Rattle.dia_breaking.specs.declared.keys.Own.{Own}
@@ -19,7 +17,6 @@ use Rattle.dia_breaking.specs.declared.keys.Telling.{Telling}
 use Rattle.dia_breaking.specs.Exits.{AreExits, AreOutlooks, IsInner, IsOutlook}
 use Rattle.dia_breaking.specs.Outlooks.{group_rules}
 use Rattle.dia_breaking.specs.Telling.{AreGroups}
-use Rattle.dia_breaking.specs.LevelCosts.{beside_of, cost_from}
 use Rattle.dia_breaking.proofs.Lists.{added, one_more}
 
 one_option : {X Y : Type 0} (f : X → Option Y) (x : X) (o : Option Y) → f x ≡ o → option_to_list o ≡ filter_map f (x ∷ [])
@@ -27,26 +24,20 @@ one_option f x None is = sym (ap (λ (o : Option _). filter_map (λ _. o) (x ∷
 one_option f x (Some y) is = sym (ap (λ (o : Option _). filter_map (λ _. o) (x ∷ [])) is)
 
 -- one rule more
-pub one_exit_more : {X Y : Type 0} (f : X → Option Y) (xs : List X) (i : ℕ) (x : X) (exit : Option Y) (old new : List Y) → new ≡ old ++ option_to_list exit → exit ≡ f x → old ≡ filter_map f (take i xs)
+pub one_exit_more : {X Y : Type 0} (f : X → Option Y) (xs : List X) (i : ℕ) (x : X) (exit : Option Y) (old new : List Y) → new ≡ old ++ option_to_list exit → exit ≡ f x
+    → old ≡ filter_map f (take i xs)
     → slice_get xs i ≡ Some x → new ≡ filter_map f (take (i + 1) xs)
 one_exit_more {X} {Y} f xs i x exit old new is from before at = added f xs i x old new (is ∙ ap (λ (ys : List Y). old ++ ys) (one_option f x exit (sym from))) before at
 
--- the costs of a level
-pub cost_found : (base filler beside least shortest : ℕ) (rules : List DRule) (wild : Option DRule) → base ≡ least → filler ≡ shortest → wildcard_of rules ≡ wild → beside ≡ option_map_or (beside_of base filler) wild too_long
-    → record { base = base; beside = beside } ≡ cost_from least shortest rules
-cost_found base filler beside least shortest rules wild is_base is_filler is_wild is_beside =
-    let all : beside ≡ option_map_or (beside_of least shortest) (wildcard_of rules) too_long =
-    is_beside ∙ ap (λ (n : ℕ). option_map_or (beside_of n filler) wild too_long) is_base ∙ ap (λ (n : ℕ). option_map_or (beside_of least n) wild too_long) is_filler
-    ∙ ap (λ (o : Option DRule). option_map_or (beside_of least shortest) o too_long) (sym is_wild) in
-    λ i. record { base = is_base i; beside = all i }
-
 -- ---- groups
 
-pub groups_of : (da db : Dictionary) (key : Key) (first second : Option ℕ) (a b : ℕ) → first ≡ Some a → second ≡ Some b → is_some first ≡ is_some (group_of da key) → is_some second ≡ is_some (group_of db key)
+pub groups_of : (da db : Dictionary) (key : Key) (first second : Option ℕ) (a b : ℕ) → first ≡ Some a → second ≡ Some b → is_some first ≡ is_some (group_of da key)
+    → is_some second ≡ is_some (group_of db key)
     → AreGroups da db key
 groups_of da db key first second a b is_a is_b some_a some_b = (sym some_a ∙ ap (λ (o : Option ℕ). is_some o) is_a, sym some_b ∙ ap (λ (o : Option ℕ). is_some o) is_b)
 
-pub inner_found : (da : Dictionary) (telling : Telling) (listed other : Key → ℕ) (others : List Key) (key : Key) (def : ℕ) (inner : Inner) → rules_in da def ≡ group_rules da key → inner.least ≡ listed key - shortest_head key
+pub inner_found : (da : Dictionary) (telling : Telling) (listed other : Key → ℕ) (others : List Key) (key : Key) (def : ℕ) (inner : Inner) → rules_in da def ≡ group_rules da key
+    → inner.least ≡ listed key - shortest_head key
     → AreExits telling listed other others (rules_in da def) inner.exits → IsInner da telling listed other others key inner
 inner_found da telling listed other others key def inner are least exits = record {
   least = least;

@@ -26,9 +26,11 @@ use Rattle.dia_breaking.proofs.ToldLists.{tells_kept, unproved_kept}
 
 -- ---- what is the same for all commands
 
-module _ (d da db : Dictionary) (s who : Sends) (u : Unknown) (lengths : List ℕ) (others : List Key) (telling : Telling) (outlooks : List Outlook) (own : List OwnBreaks) (same : d ≡ da) (sender : s ≡ who) where
+module _ (d da db : Dictionary) (s who : Sends) (u : Unknown) (lengths : List ℕ) (others : List Key) (telling : Telling) (outlooks : List Outlook) (own : List OwnBreaks) (same : d ≡ da)
+    (sender : s ≡ who) where
   pub facts_found : (least : List ℕ) → AreExact da who least → AreEntryLengths da least lengths → AreExactlyOthers da db s lengths others → IsExactTelling da db who u telling
-      → AreOutlooks da db telling (listed_length d s lengths) (other_length d s lengths) others outlooks → All (HasLevelLines da db (listed_length d s lengths) (other_length d s lengths) others) outlooks
+      → AreOutlooks da db telling (listed_length d s lengths) (other_length d s lengths) others outlooks
+      → All (HasLevelLines da db (listed_length d s lengths) (other_length d s lengths) others) outlooks
       → AreOwnBreaks da db s u (listed_length d s lengths) telling.own.items own → AreFacts da db who u lengths others telling outlooks own
   facts_found least exact entries are_others told groups levels breaks = record {
     least = least;

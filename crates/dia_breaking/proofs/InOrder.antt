@@ -90,7 +90,8 @@ module _ {X : Type 0} (number : X → ℕ) where
       sym (same ys) ∙ stable x ∙ same xs
 
   -- a stable sort by the number, where each number is that of an element
-  pub in_order : (of : ℕ → X) → ((n : ℕ) → number (of n) ≡ n) → {F : Type 0} {g : Mut F (Bor X × Unit {0}) ℕ} {f : F} (xs ys : List X) → IsSortedByKeyClosure g nat_cmp f ys → IsStableByKeyClosure g nat_cmp f xs ys
+  pub in_order : (of : ℕ → X) → ((n : ℕ) → number (of n) ≡ n) → {F : Type 0} {g : Mut F (Bor X × Unit {0}) ℕ} {f : F} (xs ys : List X) → IsSortedByKeyClosure g nat_cmp f ys
+      → IsStableByKeyClosure g nat_cmp f xs ys
       → ((a : Bor X × Unit {0}) (r : ℕ) (f' : F) → Called g f a r f' → (r ≡ number a.0.now) × (f' ≡ f)) → IsInOrderOf number xs ys
   in_order of is {g = g} {f = f} xs ys sorted stable calls = record {
     rises = IsNonDecreasingBy-from_sort_by_key number ys sorted calls;
@@ -109,7 +110,8 @@ filter_image f p [] = refl
 filter_image f p (x ∷ xs) = swap_if f x (filter (λ y. p (f y)) xs) (filter p (map f xs)) (p (f x)) (filter_image f p xs)
 
 -- where an image keeps the number, that of a list in order is in order
-pub image_in_order : {X Y : Type 0} (f : X → Y) (number : X → ℕ) (of : Y → ℕ) → ((x : X) → of (f x) ≡ number x) → X → (all xs : List X) → IsInOrderOf number all xs → IsInOrderOf of (map f all) (map f xs)
+pub image_in_order : {X Y : Type 0} (f : X → Y) (number : X → ℕ) (of : Y → ℕ) → ((x : X) → of (f x) ≡ number x) → X → (all xs : List X) → IsInOrderOf number all xs
+    → IsInOrderOf of (map f all) (map f xs)
 image_in_order {X} {Y} f number of same some all xs order = record {
   rises = λ i j d le within. omega (
     arith,

@@ -1,6 +1,6 @@
 -- Where the definitions stand that a dictionary answers.
 use Rattle.std.proofs.Common.{◌≡◌, ℕ, ◌+◌, ◌<◌, length, Option, Some, None, refl, sym, ap, inl, inr, ◌∙◌}
-use Rattle.std.specs.Prelude.{◌⊎◌, false, IfSome, is_some, option_and_then, slice_get, take}
+use Rattle.std.specs.Prelude.{◌⊎◌, IfSome, is_some, option_and_then, slice_get, take}
 use Rattle.std.specs.List.{filter_map}
 use Rattle.std.specs.Option.{option_map}
 use Rattle.std.proofs.lemmas.Option.{same_Some, slice_get_within}
@@ -40,6 +40,3 @@ group_known d key i o at is =
     same : (x : Option PlainDefinition) (n : ℕ) → is_some (option_map (λ _. n) x) ≡ is_some x
     same None n = refl
     same (Some x) n = refl
-
-pub group_none : (d : Dictionary) (key : Key) → entry_of d key ≡ None → false ≡ is_some (group_of d key)
-group_none d key none = sym (ap (λ (o : Option ℕ). is_some (option_and_then (λ e. e.group) (option_and_then (λ i. slice_get d.entries i) o))) none)

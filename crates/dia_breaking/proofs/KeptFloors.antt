@@ -13,7 +13,8 @@ use Rattle.dia_breaking.proofs.FloorsOfEntries.{floors_of_entries}
 
 pub floors_if : (d : Dictionary) (who : Sends) (least : Least) {A E : Type 0} (entries : A → List ℕ) (r : Result A E) → least.sends ≡ who → AreFloors d who (length_in d least)
     → IfOk r (λ l. AreSameLengths d least.lengths.items (entries l)) → IfOk r (λ l. AreFloors d who (listed_length d who (entries l)))
-floors_if d who least entries (Ok l) is floors same = floors_of_entries d who least.lengths.items (entries l) same (subst (λ (s : Sends). AreFloors d who (length_of d s least.lengths.items)) is floors)
+floors_if d who least entries (Ok l) is floors same =
+    floors_of_entries d who least.lengths.items (entries l) same (subst (λ (s : Sends). AreFloors d who (length_of d s least.lengths.items)) is floors)
 floors_if d who least entries (Err e) is floors same = same
 
 pub exact_if : (d : Dictionary) (who : Sends) (least : Least) {A E : Type 0} (found : A → Least) (r : Result A E) → AreExact d who least.lengths.items → IfOk r (λ l. found l ≡ least)

@@ -46,7 +46,8 @@ pub all_beside : (xs : List ℕ) (i least : ℕ) → length xs ≤ i → IsLeast
 all_beside xs i least past (below, missing) = subst (λ (ys : List ℕ). (¬ Contains ys least) ⊎ (4294967295 ≤ least)) (take_all i xs past) missing
 
 -- where the number is the least, the next one is, up to the greatest
-pub next_beside : (xs : List ℕ) (i least new d : ℕ) → i < length xs → IsNonDecreasing xs → get_or xs i d ≡ least → new ≡ min (least + 1) 4294967295 → IsLeastBeside xs (take i xs) least → IsLeastBeside xs (take (i + 1) xs) new
+pub next_beside : (xs : List ℕ) (i least new d : ℕ) → i < length xs → IsNonDecreasing xs → get_or xs i d ≡ least → new ≡ min (least + 1) 4294967295 → IsLeastBeside xs (take i xs) least
+    → IsLeastBeside xs (take (i + 1) xs) new
 next_beside xs i least new d within sorted same is beside = by (cases_lt least 4294967295)
   where
     by : (least < 4294967295) ⊎ (4294967295 ≤ least) → IsLeastBeside xs (take (i + 1) xs) new

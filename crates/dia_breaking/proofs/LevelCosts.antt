@@ -83,7 +83,8 @@ listed_le cost rule base length same le = by (zero_or_room rule.max)
     by (inl (e, f)) = subst (λ (b : Bool). IsBelow b (has_room 1 rule.max)) (sym e) (subst (λ (c : Bool). IsBelow true c) (sym f) (omega arith))
     by (inr (e, f)) = subst (λ (b : Bool). IsBelow b (has_room 1 rule.max)) (sym e) (subst (λ (c : Bool). IsBelow false c) (sym f) (listed_room base length rule cost.base same le))
 
-other_room : (base filler length : ℕ) (wild : DRule) (own : ℕ) → own ≡ (if nat_le too_long base then too_long else if nat_lt 0 wild.min then base - filler else base) → base ≤ too_long → filler ≤ length
+other_room : (base filler length : ℕ) (wild : DRule) (own : ℕ) → own ≡ (if nat_le too_long base then too_long else if nat_lt 0 wild.min then base - filler else base) → base ≤ too_long
+    → filler ≤ length
     → capped (own + length) ≤ swapped base (many (min 1 wild.min) filler) (many 1 length)
 other_room base filler length wild own is le shortest = by (nat_le too_long base) refl (nat_lt 0 wild.min) refl is
   where
@@ -99,7 +100,8 @@ other_room base filler length wild own is le shortest = by (nat_le too_long base
         let second = one in
         with_wild b e is (many (min 1 wild.min) filler) first (many 1 length) second
       where
-        with_wild : (b : Bool) → nat_le too_long base ≡ b → own ≡ (if b then too_long else base - filler) → (out : ℕ) → out ≡ capped filler → (into : ℕ) → into ≡ capped length → capped (own + length) ≤ swapped base out into
+        with_wild : (b : Bool) → nat_le too_long base ≡ b → own ≡ (if b then too_long else base - filler) → (out : ℕ) → out ≡ capped filler → (into : ℕ) → into ≡ capped length
+            → capped (own + length) ≤ swapped base out into
         with_wild true e is out o into i = let long = leb-true too_long base e in omega (arith, is, o, i, long, shortest)
         with_wild false e is out o into i = omega (arith, is, o, i, shortest)
     by b e false f is =
@@ -124,7 +126,8 @@ other_le cost base filler length (Some wild) is le shortest = by (zero_or_room w
     by (inr (e, f)) =
         let own : cost.beside ≡ (if nat_le too_long base then too_long else if nat_lt 0 wild.min then base - filler else base) =
         is ∙ ap (λ (b : Bool). if b || nat_le too_long base then too_long else if nat_lt 0 wild.min then base - filler else base) e in
-        subst (λ (c : Bool). with_other cost length ≤ (if c then swapped base (many (min 1 wild.min) filler) (many 1 length) else too_long)) (sym f) (other_room base filler length wild cost.beside own le shortest)
+        subst (λ (c : Bool). with_other cost length ≤ (if c then swapped base (many (min 1 wild.min) filler) (many 1 length) else too_long)) (sym f)
+        (other_room base filler length wild cost.beside own le shortest)
 
 fold_most : (step : ℕ → DRule → ℕ) → ((s : ℕ) (r : DRule) → step s r ≤ too_long) → (rules : List DRule) (s : ℕ) → s ≤ too_long → fold step s rules ≤ too_long
 fold_most step most [] s le = le
@@ -135,7 +138,8 @@ base_most listed filler rules = fold_most (λ sum rule. capped (sum + many rule.
 
 -- ---- the cost of a definition
 
-pub cost_of : (listed other : Key → ℕ) (others : List Key) (rules : List DRule) (cost : LevelCost) → AreRules rules → OtherIsShortest other others rules → cost.base ≡ least_length listed other others rules
+pub cost_of : (listed other : Key → ℕ) (others : List Key) (rules : List DRule) (cost : LevelCost) → AreRules rules → OtherIsShortest other others rules
+    → cost.base ≡ least_length listed other others rules
     → cost.beside ≡ option_map_or (beside_of (least_length listed other others rules) (least_filler other others rules)) (wildcard_of rules) too_long → IsCostOf listed other rules cost
 cost_of listed other others rules cost are shortest is_base is_beside = record {
   listed_within = λ key rule has keys placed comes.
@@ -175,8 +179,10 @@ cost_of listed other others rules cost are shortest is_base is_beside = record {
         let some = is_listed_by rules key r own.0 own.1 in
         let bad : false ≡ true = sym none ∙ some in cc)
 
-pub cost_with : (listed other : Key → ℕ) (others : List Key) (rules : List DRule) (base filler beside : ℕ) (o : Option DRule) → AreRules rules → base ≡ least_length listed other others rules → o ≡ wildcard_of rules
-    → filler ≡ least_filler other others rules → beside ≡ option_map_or (beside_of base filler) o too_long → OtherIsShortest other others rules → IsCostOf listed other rules (record { base = base; beside = beside })
+pub cost_with : (listed other : Key → ℕ) (others : List Key) (rules : List DRule) (base filler beside : ℕ) (o : Option DRule) → AreRules rules → base ≡ least_length listed other others rules
+    → o ≡ wildcard_of rules
+    → filler ≡ least_filler other others rules → beside ≡ option_map_or (beside_of base filler) o too_long → OtherIsShortest other others rules
+    → IsCostOf listed other rules (record { base = base; beside = beside })
 cost_with listed other others rules base filler beside o are is_base is_wild is_filler is_beside shortest =
     cost_of listed other others rules (record { base = base; beside = beside }) are shortest is_base
     (is_beside ∙ ap (λ (n : ℕ). option_map_or (beside_of n filler) o too_long) is_base ∙ ap (λ (n : ℕ). option_map_or (beside_of (least_length listed other others rules) n) o too_long) is_filler

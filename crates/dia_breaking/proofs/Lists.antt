@@ -1,11 +1,11 @@
 -- What is kept of the members of a list.
-use Rattle.std.proofs.Common.{◌≡◌, ℕ, zero, suc, ◌+◌, ◌<◌, ◌≤◌, Bool, true, get_or, List, [], ◌∷◌, ◌++◌, length, map, take, drop, Option, Some, Result, Ok, Err, sym, ap, subst, ◌∙◌, arith, inl, inr}
-use Rattle.std.specs.Prelude.{◌⊎◌, All, Contains, IfOk, IsTrue, slice_get}
+use Rattle.std.proofs.Common.{◌≡◌, ℕ, zero, suc, ◌+◌, ◌<◌, get_or, List, [], ◌∷◌, ◌++◌, length, map, take, drop, Option, Some, Result, Ok, Err, sym, ap, subst, ◌∙◌, arith, inl, inr}
+use Rattle.std.specs.Prelude.{◌⊎◌, All, Contains, IfOk, slice_get}
 use Rattle.std.specs.List.{filter_map}
 use Rattle.std.specs.Option.{option_map}
 use Rattle.std.proofs.lemmas.Bool.{cases_order}
 use Rattle.std.proofs.lemmas.Option.{same_Some, slice_get_within, slice_get-get_or, slice_get-map}
-use Rattle.std.proofs.lemmas.List.{map-append, take_more, take_all}
+use Rattle.std.proofs.lemmas.List.{map-append, take_more}
 use Rattle.std.proofs.lemmas.List.Elements.{All-nil, All-push, filter_map-append}
 use Rattle.dia_book.proofs.Members.{at_Contains, at_map}
 use Rattle.dia_sites.proofs.Members.{IsIn, in_at, contains_in}
@@ -77,7 +77,8 @@ pub none_of : {X : Type 0} (P : X → Type 0) (xs : List X) → xs ≡ [] → Al
 none_of P xs is = subst (All P) (sym is) (All-nil P)
 
 -- one more of each
-pub image_more : {X Y : Type 0} (f : X → Y) (old new ys : List X) (i : ℕ) (x d : X) → new ≡ old ++ x ∷ [] → i < length ys → f x ≡ f (get_or ys i d) → map f old ≡ map f (take i ys) → map f new ≡ map f (take (i + 1) ys)
+pub image_more : {X Y : Type 0} (f : X → Y) (old new ys : List X) (i : ℕ) (x d : X) → new ≡ old ++ x ∷ [] → i < length ys → f x ≡ f (get_or ys i d) → map f old ≡ map f (take i ys)
+    → map f new ≡ map f (take (i + 1) ys)
 image_more {X} {Y} f old new ys i x d is within same before =
     ap (map f) is ∙ map-append f old (x ∷ []) ∙ ap (λ (zs : List Y). zs ++ f x ∷ []) before ∙ ap (λ (y : Y). map f (take i ys) ++ y ∷ []) same
     ∙ sym (ap (map f) (take_more ys i d within) ∙ map-append f (take i ys) (get_or ys i d ∷ []))
@@ -91,14 +92,6 @@ before_more P xs i d within before own n x less at = by (cases_order n i)
     by (inl same) = subst (λ k. P k x) (sym same) (subst (P i) (same_Some (get_or xs i d) x (sym (slice_get-get_or xs i d within) ∙ ap (slice_get xs) (sym same) ∙ at)) own)
     by (inr (inl lt)) = before n x lt at
     by (inr (inr gt)) = absurd (omega (arith, less, gt))
-
--- a loop that goes on where a test of each member shows P, on a premise
-module _ {T X : Type 0} (P : X → Type 0) (xs : List X) where
-  pub one_shown : (i : ℕ) (d : X) (b : Bool) → i < length xs → (T → All P (take i xs)) → (IsTrue b → T → P (get_or xs i d)) → b ≡ true → T → All P (take (i + 1) xs)
-  one_shown i d b within before own is t = all_taken P xs i d within (before t) (own is t)
-
-  pub all_shown : (i : ℕ) → length xs ≤ i → (T → All P (take i xs)) → T → All P xs
-  all_shown i behind all t = subst (All P) (take_all i xs behind) (all t)
 
 pub when_ok : {X E : Type 0} (P Q : X → Type 0) (r : Result X E) → ((x : X) → P x → Q x) → IfOk r P → IfOk r Q
 when_ok P Q (Ok x) f h = f x h

@@ -15,7 +15,8 @@ one_from : (begins : Bool) (graph : Graph) (steps others : List Step) (reached w
 one_from true graph steps others reached ways first second = one_walk graph steps others reached ways first second
 one_from false graph steps others reached ways first second = (first.0 ∙ sym second.0, first.1 ∙ sym second.1)
 
-pub one_listing : (db : Dictionary) (basis : Basis) (sites others : List Site) (told lines : List Told) → IsListing db basis sites told → IsListing db basis others lines → (sites ≡ others) × (told ≡ lines)
+pub one_listing : (db : Dictionary) (basis : Basis) (sites others : List Site) (told lines : List Told) → IsListing db basis sites told → IsListing db basis others lines
+    → (sites ≡ others) × (told ≡ lines)
 one_listing db basis sites others told lines first second =
     let at = unwrap_or (start_of db basis) 0 in
     let same = one_from (is_some (start_of db basis)) basis.graph first.steps second.steps first.reached second.reached first.is_walk second.is_walk in

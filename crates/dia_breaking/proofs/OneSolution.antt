@@ -30,7 +30,8 @@ one_stranger da db key other is are =
     λ i. record { code = code i; vendor = vendor i }
 
 pub one_list_sent : (da db : Dictionary) (who : Sends) (keys others : List Key) → AreSentInOrder da db who keys → AreSentInOrder da db who others → keys ≡ others
-one_list_sent da db Any keys others (s, is, are) (t, is_other, are_other) = are ∙ ap (λ (k : Key). (entry_keys da ++ keys_of_b_alone da db) ++ k ∷ []) (one_stranger da db s t is is_other) ∙ sym are_other
+one_list_sent da db Any keys others (s, is, are) (t, is_other, are_other) =
+    are ∙ ap (λ (k : Key). (entry_keys da ++ keys_of_b_alone da db) ++ k ∷ []) (one_stranger da db s t is is_other) ∙ sym are_other
 one_list_sent da db Known keys others are are_other = are ∙ sym are_other
 one_list_sent da db Listed keys others are are_other = are ∙ sym are_other
 
@@ -57,7 +58,8 @@ module _ (da db : Dictionary) (who : Sends) (u : Unknown) where
       let breaks : own.breaks ≡ other.breaks = alike own.breaks other.breaks moved.silent are.silent in
       λ i. record { key = same i; is_group = group i; breaks = breaks i }
 
-  one_list : (all others : List Own) → map (λ (own : Own). own.key) all ≡ map (λ (own : Own). own.key) others → All (IsExactlyOwn da db who u) all → All (IsExactlyOwn da db who u) others → all ≡ others
+  one_list : (all others : List Own) → map (λ (own : Own). own.key) all ≡ map (λ (own : Own). own.key) others → All (IsExactlyOwn da db who u) all → All (IsExactlyOwn da db who u) others
+      → all ≡ others
   one_list [] [] same each each_other = refl
   one_list [] (other ∷ others) same each each_other = absurd (let bad : [] ≡ other.key ∷ map (λ (own : Own). own.key) others = same in cc)
   one_list (own ∷ all) [] same each each_other = absurd (let bad : own.key ∷ map (λ (own : Own). own.key) all ≡ [] = same in cc)
@@ -91,18 +93,23 @@ one_unnamed first second (Some app) (Some other) least least_other = by (cases_o
     by (inr (inl lt)) = absurd (least.1 (least_other.2 app lt))
     by (inr (inr gt)) = absurd (least_other.1 (least.2 other gt))
 
-pub one_list_of_apps : (da : Dictionary) (first second : Apps) (c : ℕ) (head : Head) (apps others : List ℕ) → AreToldApps da first second c head apps → AreToldApps da first second c head others → apps ≡ others
+pub one_list_of_apps : (da : Dictionary) (first second : Apps) (c : ℕ) (head : Head) (apps others : List ℕ) → AreToldApps da first second c head apps → AreToldApps da first second c head others
+    → apps ≡ others
 one_list_of_apps da first second c head apps others are are_other = by head.app are are_other
   where
-    by : (o : Option ℕ) → MatchOption o (AreOpenApps da first second c head apps) (λ app. apps ≡ app ∷ []) → MatchOption o (AreOpenApps da first second c head others) (λ app. others ≡ app ∷ []) → apps ≡ others
+    by : (o : Option ℕ) → MatchOption o (AreOpenApps da first second c head apps) (λ app. apps ≡ app ∷ []) → MatchOption o (AreOpenApps da first second c head others) (λ app. others ≡ app ∷ [])
+        → apps ≡ others
     by (Some app) is is_other = is ∙ sym is_other
     by None (found, least, is) (other, least_other, is_other) =
-        is ∙ ap (λ (o : Option ℕ). filter (selects da c head) (apps_of second head.code head.class) ++ option_to_list o) (one_unnamed (apps_of first head.code head.class) (apps_of second head.code head.class) found other least least_other)
+        is ∙ ap (λ (o : Option ℕ). filter (selects da c head) (apps_of second head.code head.class) ++ option_to_list o)
+        (one_unnamed (apps_of first head.code head.class) (apps_of second head.code head.class) found other least least_other)
         ∙ sym is_other
 
 -- ---- the keys that a wildcard lets in
 
-pub one_list_of_others : (da db : Dictionary) (who : Sends) (lengths : List ℕ) (keys others : List Key) → AreExactlyOthers da db who lengths keys → AreExactlyOthers da db who lengths others → keys ≡ others
+pub one_list_of_others : (da db : Dictionary) (who : Sends) (lengths : List ℕ) (keys others : List Key) → AreExactlyOthers da db who lengths keys → AreExactlyOthers da db who lengths others
+    → keys ≡ others
 one_list_of_others da db Any lengths keys others (s, is, are) (t, is_other, are_other) = are ∙ ap (λ (k : Key). k ∷ []) (one_stranger da db s t is is_other) ∙ sym are_other
-one_list_of_others da db Known lengths keys others (up, all, stable) (up_other, all_other, stable_other) = one_sorted (listed_length da Known lengths) (entry_keys da) keys others up up_other stable stable_other
+one_list_of_others da db Known lengths keys others (up, all, stable) (up_other, all_other, stable_other) =
+    one_sorted (listed_length da Known lengths) (entry_keys da) keys others up up_other stable stable_other
 one_list_of_others da db Listed lengths keys others are are_other = are ∙ sym are_other

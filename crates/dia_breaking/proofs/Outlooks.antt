@@ -19,26 +19,23 @@ use Rattle.dia_breaking.specs.declared.exits.Outlook.{Outlook}
 use Rattle.dia_breaking.specs.Outlooks.{group_rules, HasGroupLines, HaveGroupLines}
 
 -- the number that is found is that of the group
-pub rules_of_group : (d : Dictionary) (key : Key) (def : ℕ) (r : Option ℕ) → r ≡ Some def → option_and_then (λ (n : ℕ). slice_get (definitions d) n) r ≡ group_of d key → rules_in d def ≡ group_rules d key
+pub rules_of_group : (d : Dictionary) (key : Key) (def : ℕ) (r : Option ℕ) → r ≡ Some def → option_and_then (λ (n : ℕ). slice_get (definitions d) n) r ≡ group_of d key
+    → rules_in d def ≡ group_rules d key
 rules_of_group d key def r is at =
     ap (λ (o : Option PlainDefinition). option_map_or (λ (y : PlainDefinition). y.rules) o []) (sym (ap (option_and_then (λ (n : ℕ). slice_get (definitions d) n)) is) ∙ at)
 
-module _ (da db : Dictionary) (listed other : Key → ℕ) (key : Key) (a_def b_def : ℕ) (lines : List LevelLine) (in_a : rules_in da a_def ≡ group_rules da key) (in_b : rules_in db b_def ≡ group_rules db key) where
+module _ (da db : Dictionary) (listed other : Key → ℕ) (key : Key) (a_def b_def : ℕ) (lines : List LevelLine) (in_a : rules_in da a_def ≡ group_rules da key)
+    (in_b : rules_in db b_def ≡ group_rules db key) where
   pub has_group_lines : HasEachLine (price listed other (rules_in da a_def)) (rules_in da a_def) (rules_in db b_def) lines → HasGroupLines da db listed other key lines
   has_group_lines each =
       subst (λ (rs : List DRule). HasEachLine (price listed other rs) rs (group_rules db key) lines) in_a
       (subst (λ (rs : List DRule). HasEachLine (price listed other (rules_in da a_def)) (rules_in da a_def) rs lines) in_b each)
 
-  pub has_level_lines : (others : List Key) → AreLevelLines listed other others (rules_in da a_def) (rules_in db b_def) lines → AreLevelLines listed other others (group_rules da key) (group_rules db key) lines
+  pub has_level_lines : (others : List Key) → AreLevelLines listed other others (rules_in da a_def) (rules_in db b_def) lines
+      → AreLevelLines listed other others (group_rules da key) (group_rules db key) lines
   has_level_lines others are =
       subst (λ (rs : List DRule). AreLevelLines listed other others rs (group_rules db key) lines) in_a
       (subst (λ (rs : List DRule). AreLevelLines listed other others (rules_in da a_def) rs lines) in_b are)
-
-  -- and so they are those of the two definitions
-  pub has_lines : HasGroupLines da db listed other key lines → HasEachLine (price listed other (rules_in da a_def)) (rules_in da a_def) (rules_in db b_def) lines
-  has_lines each =
-      subst (λ (rs : List DRule). HasEachLine (price listed other rs) rs (rules_in db b_def) lines) (sym in_a)
-      (subst (λ (rs : List DRule). HasEachLine (price listed other (group_rules da key)) (group_rules da key) rs lines) (sym in_b) each)
 
 -- ---- what is kept of one group
 

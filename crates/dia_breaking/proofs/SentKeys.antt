@@ -1,7 +1,6 @@
 -- The keys that the sender's side sends, and one that neither dictionary knows.
-use Rattle.std.proofs.Common.{◌≡◌, ℕ, zero, suc, ◌+◌, ◌<◌, ◌≤◌, Bool, true, false, List, [], ◌∷◌, ◌++◌, length, Option, Some, None, refl, sym, ap, subst, ◌∙◌, arith, inl, inr}
-use Rattle.std.specs.Prelude.{◌⊎◌, ◌&&◌, not, is_some, IsSome, MatchBool, Contains}
-use Rattle.std.proofs.lemmas.Bool.{and_from, and_left, and_right}
+use Rattle.std.proofs.Common.{◌≡◌, ℕ, ◌<◌, Bool, List, [], ◌∷◌, ◌++◌, Option, Some, None, refl, sym, ap, subst, arith, inl, inr}
+use Rattle.std.specs.Prelude.{◌⊎◌, not, is_some, IsSome, Contains}
 use Rattle.std.proofs.lemmas.List.{length-append, length-map}
 use Rattle.std.proofs.lemmas.List.Elements.{Contains-append_left, Contains-append_right, Contains-push}
 use Rattle.dia_wire.specs.declared.Key.{Key}
@@ -11,36 +10,9 @@ use Rattle.dia_compat.proofs.RunsOfFixedRules.{IsIn}
 use Rattle.dia_compat.proofs.MemberCounts.{contains_in, in_left, in_right}
 use Rattle.dia_compat.proofs.ReachedKeys.{some_of}
 use Rattle.dia_policy.specs.declared.Sends.TheVariants.{Any, Known, Listed}
-use Rattle.dia_breaking.specs.SentKeys.{AreSentInOrder, AreSentKeys, HasKeys, IsStrange, entry_keys, keys_of_b_alone}
+use Rattle.dia_least.proofs.Strangers.{key_at, key_in, at_most}
+use Rattle.dia_breaking.specs.SentKeys.{AreSentInOrder, AreSentKeys, HasKeys, entry_keys, keys_of_b_alone}
 use Rattle.dia_breaking.proofs.Lists.{contains_at}
-use Rattle.dia_breaking.proofs.Shortest.{key_in}
-
--- ---- fewer keys than codes
-
-remove_one : {X : Type 0} (xs : List X) (x : X) → IsIn x xs → (rest : List X) × (length xs ≡ suc (length rest)) × ((y : X) → (y ≡ x → ⊥) → IsIn y xs → IsIn y rest)
-remove_one [] x i = absurd i
-remove_one {X} (z ∷ xs) x (inl e) = (xs, refl, λ y never i. by y never i)
-  where
-    by : (y : X) → (y ≡ x → ⊥) → (y ≡ z) ⊎ IsIn y xs → IsIn y xs
-    by y never (inl f) = absurd (never (f ∙ sym e))
-    by y never (inr i) = i
-remove_one {X} (z ∷ xs) x (inr i) =
-    let (rest, len, kept) = remove_one xs x i in
-    (z ∷ rest, ap suc len, λ y never j. by rest kept y never j)
-  where
-    by : (rest : List X) → ((y : X) → (y ≡ x → ⊥) → IsIn y xs → IsIn y rest) → (y : X) → (y ≡ x → ⊥) → (y ≡ z) ⊎ IsIn y xs → IsIn y (z ∷ rest)
-    by rest kept y never (inl f) = inl f
-    by rest kept y never (inr i) = inr (kept y never i)
-
-abbrev pub key_at : ℕ → Key
-key_at code = record { code = code; vendor = 0 }
-
-at_most : (n : ℕ) (keys : List Key) → ((code : ℕ) → code < n → IsIn (key_at code) keys) → n ≤ length keys
-at_most zero keys all = omega arith
-at_most (suc n) keys all =
-    let (rest, len, kept) = remove_one keys (key_at n) (all n (omega arith)) in
-    let ih = at_most n rest (λ code lt. kept (key_at code) (λ e. let same : code ≡ n = ap (λ (k : Key). k.code) e in omega (arith, lt, same)) (all code (omega (arith, lt)))) in
-    omega (arith, len, ih)
 
 -- one of so many keys is strange
 pub some_strange : (da db : Dictionary) (n : ℕ) → IsDictionary da → IsDictionary db → 32768 < n → ((code : ℕ) → code < n → IsSome (entry_of da (key_at code)) ⊎ IsSome (entry_of db (key_at code))) → ⊥
@@ -62,39 +34,11 @@ some_strange da db n sa sb many all =
 pub has_all : (d : Dictionary) (keys : List Key) → keys ≡ entry_keys d → HasKeys d keys
 has_all d keys is key h = let i = some_of (entry_of d key) h in contains_in keys key (subst (λ ks. IsIn key ks) (sym is) (key_in d key i.0 i.1))
 
-nat_cases : (i n : ℕ) → i < n + 1 → (i < n) ⊎ (i ≡ n)
-nat_cases zero zero lt = inr refl
-nat_cases zero (suc n) lt = inl (omega arith)
-nat_cases (suc i) zero lt = absurd (omega (arith, lt))
-nat_cases (suc i) (suc n) lt = by (nat_cases i n (omega (arith, lt)))
-  where
-    by : (i < n) ⊎ (i ≡ n) → (suc i < suc n) ⊎ (suc i ≡ suc n)
-    by (inl h) = inl (omega (arith, h))
-    by (inr h) = inr (ap suc h)
-
 -- ---- the first strange key
 
 -- one dictionary or the other knows the key of each code below n
 abbrev pub AreKnownBelow : Dictionary → Dictionary → ℕ → Type 0
 AreKnownBelow da db n = (code : ℕ) → code < n → IsSome (entry_of da (key_at code)) ⊎ IsSome (entry_of db (key_at code))
-
-pub known_more : (da db : Dictionary) (n : ℕ) (b : Bool) → b ≡ false → MatchBool b (IsStrange da db (key_at n)) (IsSome (entry_of da (key_at n)) ⊎ IsSome (entry_of db (key_at n))) → AreKnownBelow da db n → AreKnownBelow da db (n + 1)
-known_more da db n true never here before code lt = absurd (let bad : true ≡ false = never in cc)
-known_more da db n false never here before code lt = by (nat_cases code n lt)
-  where
-    by : (code < n) ⊎ (code ≡ n) → IsSome (entry_of da (key_at code)) ⊎ IsSome (entry_of db (key_at code))
-    by (inl h) = before code h
-    by (inr h) = subst (λ k. IsSome (entry_of da (key_at k)) ⊎ IsSome (entry_of db (key_at k))) (sym h) here
-
--- a key is strange, or one of two knows it
-pub strange_or : (da db : Dictionary) (key : Key) (a b : Option ℕ) (x y : Bool) → a ≡ entry_of da key → b ≡ entry_of db key → x ≡ not (is_some a) → y ≡ not (is_some b)
-    → MatchBool (x && y) (IsStrange da db key) (IsSome (entry_of da key) ⊎ IsSome (entry_of db key))
-strange_or da db key None None x y is_a is_b is_x is_y =
-    subst (λ t. MatchBool t (IsStrange da db key) (IsSome (entry_of da key) ⊎ IsSome (entry_of db key))) (sym (and_from x y is_x is_y)) (sym is_a, sym is_b)
-strange_or da db key None (Some i) x y is_a is_b is_x is_y =
-    subst (λ t. MatchBool t (IsStrange da db key) (IsSome (entry_of da key) ⊎ IsSome (entry_of db key))) (sym (and_right x y is_y)) (inr (ap (λ (o : Option ℕ). is_some o) (sym is_b)))
-strange_or da db key (Some i) b x y is_a is_b is_x is_y =
-    subst (λ t. MatchBool t (IsStrange da db key) (IsSome (entry_of da key) ⊎ IsSome (entry_of db key))) (sym (and_left x y is_x)) (inl (ap (λ (o : Option ℕ). is_some o) (sym is_a)))
 
 -- ---- all keys that are sent
 

@@ -11,7 +11,6 @@ use Rattle.dia_book.specs.Keys.{same_key}
 use Rattle.dia_book.specs.Dictionary.{Dictionary, DictEntry, PlainDefinition, IsDictionary, definitions, entry_of, lists_key}
 use Rattle.dia_book.proofs.SameKeys.{same_key-true}
 use Rattle.dia_check.specs.Valid.{is_listed}
-use Rattle.dia_check.proofs.OneKeyMore.{at_position}
 use Rattle.dia_compat.specs.Tests.{rules_in}
 use Rattle.dia_compat.proofs.FilteredMembers.{taken}
 use Rattle.dia_compat.proofs.MemberCounts.{in_at, at_in, in_contains, contains_in, any_in}
@@ -19,6 +18,7 @@ use Rattle.dia_compat.proofs.RunsOfFixedRules.{IsIn}
 use Rattle.dia_policy.specs.declared.Sends.{Sends}
 use Rattle.dia_policy.specs.declared.Sends.TheVariants.{Any, Known, Listed}
 use Rattle.dia_least.specs.Floors.{shortest_head}
+use Rattle.dia_least.proofs.Strangers.{key_in}
 use Rattle.dia_levels.specs.Levels.{FirstIsShortest}
 use Rattle.dia_levels.specs.LevelTests.{too_long, is_outside}
 use Rattle.dia_breaking.specs.Lengths.{length_of_entry, listed_length, other_length, AreOthers}
@@ -122,17 +122,6 @@ found_is_least {X} f p (x ∷ xs) y sorted i t = by (p x) refl i (found_is_least
 found_most : (f : Key → ℕ) → ((key : Key) → f key ≤ too_long) → (o : Option Key) → option_map_or f o too_long ≤ too_long
 found_most f most None = omega arith
 found_most f most (Some key) = most key
-
--- a key that the dictionary knows is one of its entries'
-pub key_in : (d : Dictionary) (key : Key) (i : ℕ) → entry_of d key ≡ Some i → IsIn key (map (λ e. e.key) d.entries)
-key_in d key i is =
-    let p = at_position (λ (e : DictEntry). same_key key e.key) d.entries i is in
-    into d.entries i p.0 p.1 (same_key-true key p.0.key p.2)
-  where
-    into : (entries : List DictEntry) (n : ℕ) (e : DictEntry) → slice_get entries n ≡ Some e → key ≡ e.key → IsIn key (map (λ e. e.key) entries)
-    into [] n e at same = absurd (none-some e at)
-    into (x ∷ xs) zero e at same = inl (same ∙ sym (ap (λ (o : Option DictEntry). option_map_or (λ (y : DictEntry). y.key) o key) at))
-    into (x ∷ xs) (suc n) e at same = inr (into xs n e at same)
 
 -- one key more
 map_append : {X Y : Type 0} (f : X → Y) (xs ys : List X) → map f (xs ++ ys) ≡ map f xs ++ map f ys

@@ -1,15 +1,13 @@
 -- What is found of the level of a command, before its sites are walked.
-use Rattle.std.proofs.Common.{◌≡◌, ℕ, ◌+◌, Bool, true, false, List, [], ◌∷◌, ◌++◌, map, take, Option, Some, None, refl, sym, ap, subst, ◌∙◌, true≢false}
+use Rattle.std.proofs.Common.{◌≡◌, ℕ, ◌+◌, Bool, true, false, List, [], ◌∷◌, ◌++◌, map, take, Some, refl, sym, ap, subst, ◌∙◌, true≢false}
 use Rattle.std.specs.Prelude.{nat_le, slice_get}
 use Rattle.std.proofs.lemmas.List.{map_push}
-use Rattle.std.proofs.lemmas.Option.{none-some}
 use Rattle.dia_wire.specs.declared.Key.{Key}
 use Rattle.dia_book.specs.Dictionary.{Dictionary}
 use Rattle.dia_compat.specs.Tests.{rules_in}
 use Rattle.dia_policy.specs.declared.Sends.{Sends}
 use Rattle.dia_sites.specs.Selection.{max_body}
 use Rattle.dia_levels.specs.declared.line.Line.{Line as LevelLine}
-use Rattle.dia_levels.specs.Exact.{AreLevelLines}
 use Rattle.dia_ways.specs.Walks.{plain_exits}
 use Rattle.dia_breaking.specs.declared.apps.Apps.{Apps}
 use Rattle.dia_breaking.specs.declared.exits.Exits.{Exits}
@@ -20,7 +18,7 @@ use Rattle.dia_breaking.specs.Exits.{AreExits}
 use Rattle.dia_breaking.specs.Headers.{AreApps}
 use Rattle.dia_breaking.specs.Lengths.{listed_length, other_length}
 use Rattle.dia_breaking.specs.Nodes.{exits_in}
-use Rattle.dia_breaking.specs.TheLines.{AreAppsWithRoom, AreCommandLevels, AreLinesBetween, IsCommandLevel, IsStartOf}
+use Rattle.dia_breaking.specs.TheLines.{AreAppsWithRoom, AreCommandLevels, IsCommandLevel, IsStartOf}
 use Rattle.dia_breaking.specs.ToldApps.{AreToldApps}
 use Rattle.dia_breaking.proofs.Lists.{one_more}
 
@@ -31,37 +29,9 @@ module _ (da : Dictionary) (first second : Apps) (c : ℕ) (head : Head) (apps :
   with_room true e told = told
   with_room false e told = absurd (true≢false (sym e))
 
-  pub without_room : (room : Bool) → room ≡ false → apps ≡ [] → AreAppsWithRoom room da first second c head apps
-  without_room true e none = absurd (true≢false e)
-  without_room false e none = none
-
 -- ---- how levels break in messages of an application
 
 module _ (da db : Dictionary) (listed other : Key → ℕ) (others : List Key) where
-  pub none_read : (read : Bool) (a b : Option ℕ) (lines : List LevelLine) → read ≡ false → lines ≡ [] → AreLinesBetween da db listed other others read a b lines
-  none_read false a b lines e none = none
-  none_read true a b lines e none = absurd (true≢false e)
-
-  pub no_first : (read : Bool) (a b : Option ℕ) (lines : List LevelLine) → a ≡ None → lines ≡ [] → AreLinesBetween da db listed other others read a b lines
-  no_first false a b lines e none = none
-  no_first true None b lines e none = none
-  no_first true (Some x) b lines e none = absurd (none-some x (sym e))
-
-  pub no_second : (read : Bool) (a b : Option ℕ) (lines : List LevelLine) → b ≡ None → lines ≡ [] → AreLinesBetween da db listed other others read a b lines
-  no_second false a b lines e none = none
-  no_second true None b lines e none = none
-  no_second true (Some x) None lines e none = none
-  no_second true (Some x) (Some y) lines e none = absurd (none-some y (sym e))
-
-  pub of_both : (read : Bool) (a b : Option ℕ) (lines : List LevelLine) (x y : ℕ) → read ≡ true → a ≡ Some x → b ≡ Some y → AreLevelLines listed other others (rules_in da x) (rules_in db y) lines
-      → AreLinesBetween da db listed other others read a b lines
-  of_both read a b lines x y is_read is_a is_b are =
-      subst (λ (r : Bool). AreLinesBetween da db listed other others r a b lines) (sym is_read)
-      (subst (λ (o : Option ℕ). AreLinesBetween da db listed other others true o b lines) (sym is_a)
-      (subst (λ (o : Option ℕ). AreLinesBetween da db listed other others true (Some x) o lines) (sym is_b) are))
-
-  -- ---- one application more
-
   module _ (head : Head) (app : ℕ) (lines : List LevelLine) (own : IsCommandLevel da db listed other others head app lines) where
     added_level : (apps : List ℕ) (levels : List (List LevelLine)) → AreCommandLevels da db listed other others head apps levels
         → AreCommandLevels da db listed other others head (apps ++ app ∷ []) (levels ++ lines ∷ [])
@@ -94,6 +64,8 @@ module _ (d da db : Dictionary) (s who : Sends) (lengths : List ℕ) (others : L
     base_is = base_is;
     exits_are = exits_are;
     apps_are = subst (λ (n : ℕ). AreAppsWithRoom (nat_le n max_body) da first second c start.head start.apps.items) (sym base_is) apps;
-    levels_are = subst (λ (w : Sends). AreCommandLevels da db (listed_length da w lengths) (other_length da w lengths) others start.head start.apps.items (map (λ lines. lines.items) start.levels.items)) sender
-        (subst (λ (x : Dictionary). AreCommandLevels da db (listed_length x s lengths) (other_length x s lengths) others start.head start.apps.items (map (λ lines. lines.items) start.levels.items)) same levels);
+    levels_are =
+        subst (λ (w : Sends). AreCommandLevels da db (listed_length da w lengths) (other_length da w lengths) others start.head start.apps.items (map (λ lines. lines.items) start.levels.items)) sender
+        (subst (λ (x : Dictionary). AreCommandLevels da db (listed_length x s lengths) (other_length x s lengths) others start.head start.apps.items (map (λ lines. lines.items) start.levels.items))
+        same levels);
   }

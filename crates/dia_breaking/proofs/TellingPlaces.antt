@@ -32,11 +32,13 @@ module _ (da db : Dictionary) (who : Sends) (u : Unknown) where
     have_places = λ own is. absurd (no_member own (subst (λ (xs : List Own). Contains xs own) items is));
   }
 
-  module _ (keys : List Key) (key : Key) (own : Own) (old new : Telling) (told : AreExactlyTold da db who u keys old) (same : own.key ≡ key) (is : IsExactlyOwn da db who u own) (adds : Adds own old new) where
+  module _ (keys : List Key) (key : Key) (own : Own) (old new : Telling) (told : AreExactlyTold da db who u keys old) (same : own.key ≡ key) (is : IsExactlyOwn da db who u own)
+      (adds : Adds own old new) where
     items_more : (b : Bool) → is_told own ≡ b → new.own.items ≡ (if b then old.own.items ++ own ∷ [] else old.own.items) → new.own.items ≡ filter is_told (told.all ++ own ∷ [])
     items_more true e items =
         items ∙ ap (λ (xs : List Own). xs ++ own ∷ []) told.told_are ∙ sym (filter-append is_told told.all (own ∷ []) ∙ ap (λ (b : Bool). filter is_told told.all ++ (if b then own ∷ [] else [])) e)
-    items_more false e items = items ∙ told.told_are ∙ sym (filter-append is_told told.all (own ∷ []) ∙ ap (λ (b : Bool). filter is_told told.all ++ (if b then own ∷ [] else [])) e ∙ append-nil (filter is_told told.all))
+    items_more false e items =
+        items ∙ told.told_are ∙ sym (filter-append is_told told.all (own ∷ []) ∙ ap (λ (b : Bool). filter is_told told.all ++ (if b then own ∷ [] else [])) e ∙ append-nil (filter is_told told.all))
 
     places_more : (b : Bool) → is_told own ≡ b → (o : Own) → Contains new.own.items o → IsSome (get same_key new.places o.key)
     places_more b e o i = by b e (subst (λ (xs : List Own). Contains xs o) (adds.items ∙ ap (λ (t : Bool). if t then old.own.items ++ own ∷ [] else old.own.items) e) i)
@@ -45,7 +47,8 @@ module _ (da db : Dictionary) (who : Sends) (u : Unknown) where
         here b c e f = adds.places o.key ∙ ap (λ (t : Bool). if t && same_key own.key o.key then Some (length old.own.items) else get same_key old.places o.key) e
             ∙ ap (λ (t : Bool). if b && t then Some (length old.own.items) else get same_key old.places o.key) f
 
-        kept : (b c : Bool) → get same_key new.places o.key ≡ (if b && c then Some (length old.own.items) else get same_key old.places o.key) → IsSome (get same_key old.places o.key) → IsSome (get same_key new.places o.key)
+        kept : (b c : Bool) → get same_key new.places o.key ≡ (if b && c then Some (length old.own.items) else get same_key old.places o.key) → IsSome (get same_key old.places o.key)
+            → IsSome (get same_key new.places o.key)
         kept true true is had = ap (λ (p : Option ℕ). is_some p) is
         kept true false is had = ap (λ (p : Option ℕ). is_some p) is ∙ had
         kept false c is had = ap (λ (p : Option ℕ). is_some p) is ∙ had
@@ -87,7 +90,8 @@ module _ (da db : Dictionary) (who : Sends) (u : Unknown) where
         missing none None e = refl
         missing none (Some place) e =
             let (own, here, k) = placed key place e in
-            absurd (both_ways (is_some (position (has_key key) telling.own.items)) (ap (λ (o : Option ℕ). is_some o) none) (position-is_some (has_key key) telling.own.items place own here (same_key-equal own.key key k)))
+            absurd (both_ways (is_some (position (has_key key) telling.own.items)) (ap (λ (o : Option ℕ). is_some o) none)
+            (position-is_some (has_key key) telling.own.items place own here (same_key-equal own.key key k)))
 
         by : (o : Option ℕ) → position (has_key key) telling.own.items ≡ o → get same_key telling.places key ≡ position (has_key key) telling.own.items
         by None e = missing e (get same_key telling.places key) refl ∙ sym e

@@ -49,7 +49,8 @@ alone_by_flags da db who u key accepts none = key_alone da db who u key None Fit
   where
     any_data : IsDataBreak da db who u key Fits
     any_data bytes are sent =
-        subst (λ (o : Option DictEntry). MatchOption o ⊤ (λ e. MatchOption e.group (IsLeaf e.format bytes) (λ group. (n : ℕ) × IsLevel (AvpFits db u n) group.rules bytes))) (sym (known_none db key none)) tt
+        subst (λ (o : Option DictEntry). MatchOption o ⊤ (λ e. MatchOption e.group (IsLeaf e.format bytes) (λ group. (n : ℕ) × IsLevel (AvpFits db u n) group.rules bytes)))
+        (sym (known_none db key none)) tt
 
 -- strange keys have the flags of one another
 strange_alone : (da db : Dictionary) (who : Sends) (u : Unknown) (own key : Key) → IsStrange da db own → IsStrange da db key → AcceptsFlags da db who u own → FitKeyAlone da db who u key
@@ -66,11 +67,14 @@ unsent_data da db who u key never none bytes are sent = absurd (never (subst
 -- one that A doesn't know isn't sent by a side that sends what it knows
 unsent_alone : (da db : Dictionary) (who : Sends) (u : Unknown) (key : Key) → (who ≡ Any → ⊥) → entry_of da key ≡ None → FitKeyAlone da db who u key
 unsent_alone da db Any u key never none = absurd (never refl)
-unsent_alone da db Known u key never none = key_alone da db Known u key None Fits (λ flags h. absurd (flags_none da (own_policy Known) key flags none h)) (unsent_data da db Known u key never none) (refl, tt)
-unsent_alone da db Listed u key never none = key_alone da db Listed u key None Fits (λ flags h. absurd (flags_none da (own_policy Listed) key flags none h)) (unsent_data da db Listed u key never none) (refl, tt)
+unsent_alone da db Known u key never none =
+    key_alone da db Known u key None Fits (λ flags h. absurd (flags_none da (own_policy Known) key flags none h)) (unsent_data da db Known u key never none) (refl, tt)
+unsent_alone da db Listed u key never none =
+    key_alone da db Listed u key None Fits (λ flags h. absurd (flags_none da (own_policy Listed) key flags none h)) (unsent_data da db Listed u key never none) (refl, tt)
 
 -- where nothing breaks, B accepts the flags
-pub silent_of : (da db : Dictionary) (who : Sends) (u : Unknown) (key : Key) (breaks : AvpBreaks) → IsHeadBreak da db who u key breaks.head → (IsSilent breaks → FitKeyAlone da db who u key) → IsSilent breaks
+pub silent_of : (da db : Dictionary) (who : Sends) (u : Unknown) (key : Key) (breaks : AvpBreaks) → IsHeadBreak da db who u key breaks.head → (IsSilent breaks → FitKeyAlone da db who u key)
+    → IsSilent breaks
     → AcceptsFlags da db who u key × FitKeyAlone da db who u key
 silent_of da db who u key breaks is_head alone silent = (subst (λ (o : Option HeadBreak). IsHeadBreak da db who u key o) silent.0 is_head, alone silent)
 
@@ -95,13 +99,6 @@ nothing_told da db who u key own is none = (
 -- ---- one key after the other
 
 module _ (da db : Dictionary) (who : Sends) (u : Unknown) where
-  pub none_told : (telling : Telling) → telling.own.items ≡ [] → ((key : Key) → get same_key telling.places key ≡ None) → AreTold da db who u [] telling
-  none_told telling items places = record {
-    placed = λ key place at. absurd (none-some place (sym (places key) ∙ at));
-    each = λ own is. absurd (subst (λ (xs : List Own). IsIn own xs) items (in_contains telling.own.items own is));
-    rest = λ key is at. absurd (in_contains [] key is);
-  }
-
   module _ (keys : List Key) (key : Key) (own : Own) (old new : Telling) (told : AreTold da db who u keys old) (is : IsToldOf da db who u key own) (adds : Adds own old new) where
     own_alike : IsToldOf da db who u own.key own
     own_alike = subst (λ (k : Key). IsToldOf da db who u k own) (sym is.key_is) is

@@ -65,13 +65,15 @@ HoldsRead db sites told head x = (app number : ℕ) (other : PlainDefinition) �
     → HasSite sites x other max_body
 
 -- at the command's own place B's definition for the application reads the level
-pub read_at : (da db : Dictionary) (c : ℕ) (x : PlainDefinition) (head : Head) (place : Place) (app number : ℕ) (other : PlainDefinition) → slice_get (definitions da) c ≡ Some x → head_in x.head ≡ Some head
+pub read_at : (da db : Dictionary) (c : ℕ) (x : PlainDefinition) (head : Head) (place : Place) (app number : ℕ) (other : PlainDefinition) → slice_get (definitions da) c ≡ Some x
+    → head_in x.head ≡ Some head
     → IsCommandPlace app place → selected db head.code head.class app ≡ Some number → slice_get (definitions db) number ≡ Some other → IsReadBy da db c place x other
 read_at da db c x head (places.Group key outer) app number other at is_head here select is = absurd here
 read_at da db c x head (places.Command own is_told proxiable) app number other at is_head here select is =
     (at, (head, number, is_head, subst (λ (a : ℕ). selected db head.code head.class a ≡ Some number) (sym here) select, is))
 
-module _ (da db : Dictionary) (sound : IsDictionary da) (sites : List SiteOf) (told : List Site) (lines : List Line) (c : ℕ) (x : PlainDefinition) (at : slice_get (definitions da) c ≡ Some x) (head : Head)
+module _ (da db : Dictionary) (sound : IsDictionary da) (sites : List SiteOf) (told : List Site) (lines : List Line) (c : ℕ) (x : PlainDefinition) (at : slice_get (definitions da) c ≡ Some x)
+    (head : Head)
     (is_head : head_in x.head ≡ Some head) (holds : HoldsRead db sites told head x) where
   abbrev Flags : PlainDefinition → ℕ → Type 0
   Flags other flags = (AllowsP other.head flags × HasSite sites x other max_body) ⊎ ((¬ AllowsP other.head flags) × TellsFlags da db told lines c other flags)

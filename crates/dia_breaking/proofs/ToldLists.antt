@@ -2,7 +2,6 @@
 use Rattle.std.proofs.Common.{◌≡◌, ℕ, zero, suc, ◌+◌, ◌≤◌, ◌<◌, List, [], ◌∷◌, ◌++◌, length, map, take, Option, Some, None, sym, refl, ap, subst, ◌∙◌, arith, inl, inr, append_assoc, append-nil, add-one}
 use Rattle.std.specs.Prelude.{◌⊎◌, slice_get}
 use Rattle.std.specs.Option.{option_map, option_map_or}
-use Rattle.std.proofs.lemmas.List.{map-append}
 use Rattle.std.proofs.lemmas.Bool.{cases_order}
 use Rattle.std.proofs.lemmas.Option.{slice_get_past, slice_get-map}
 use Rattle.dia_levels.specs.declared.line.Line.{Line as LevelLine}
@@ -18,9 +17,6 @@ use Rattle.dia_breaking.proofs.Lists.{same_image, filter_map_more}
 -- nothing more
 pub adds_none : (lines : List Line) → AddsTold lines lines []
 adds_none lines = sym (append-nil (map tells lines))
-
-pub adds_one : (old new : List Line) (line : Line) → new ≡ old ++ line ∷ [] → AddsTold old new (tells line ∷ [])
-adds_one old new line is = ap (map tells) is ∙ map-append tells old (line ∷ [])
 
 pub adds_both : (a b c : List Line) (xs ys : List Told) → AddsTold a b xs → AddsTold b c ys → AddsTold a c (xs ++ ys)
 adds_both a b c xs ys first second = second ∙ ap (λ zs. zs ++ ys) first ∙ append_assoc (map tells a) xs ys
@@ -45,7 +41,8 @@ module _ {X Y : Type 0} (f : ℕ → X → List Y) (xs : List X) where
           ap (λ (o : Option X). joined part_at i ++ option_map_or (f i) o []) (slice_get_past xs i within) ∙ append-nil (joined part_at i) ∙ more within
       past (inr (inr more')) more = absurd (omega (arith, more', le))
 
-pub adds_each : {X : Type 0} (f : ℕ → X → List Told) (xs : List X) (i : ℕ) (a b : List Line) → length xs ≤ i → AddsTold a b (joined (λ k. option_map_or (f k) (slice_get xs k) []) i) → AddsTold a b (of_each f xs)
+pub adds_each : {X : Type 0} (f : ℕ → X → List Told) (xs : List X) (i : ℕ) (a b : List Line) → length xs ≤ i → AddsTold a b (joined (λ k. option_map_or (f k) (slice_get xs k) []) i)
+    → AddsTold a b (of_each f xs)
 adds_each f xs i a b le adds = adds ∙ ap (λ ys. map tells a ++ ys) (joined_past f xs i le)
 
 -- where there is no element there is no part
@@ -81,7 +78,9 @@ adds_no_level site way outlooks place outlook lines at none =
     (sym (slice_get-map lines_in outlooks place ∙ ap (option_map lines_in) at ∙ ap (λ (inner : Option Inner). Some (option_map_or (λ (i : Inner). i.lines.items) inner [])) none))
 
 -- what is added behind others for one member more
-pub added_behind : {X Y : Type 0} (f : X → Option Y) (xs : List X) (i : ℕ) (x : X) (start old new : List Y) → new ≡ old ++ filter_map f (x ∷ []) → old ≡ start ++ filter_map f (take i xs) → slice_get xs i ≡ Some x
+pub added_behind : {X Y : Type 0} (f : X → Option Y) (xs : List X) (i : ℕ) (x : X) (start old new : List Y) → new ≡ old ++ filter_map f (x ∷ []) → old ≡ start ++ filter_map f (take i xs)
+    → slice_get xs i ≡ Some x
     → new ≡ start ++ filter_map f (take (i + 1) xs)
 added_behind {X} {Y} f xs i x start old new is before at =
-    is ∙ ap (λ (ys : List Y). ys ++ filter_map f (x ∷ [])) before ∙ append_assoc start (filter_map f (take i xs)) (filter_map f (x ∷ [])) ∙ ap (λ (ys : List Y). start ++ ys) (sym (filter_map_more f xs i x at))
+    is ∙ ap (λ (ys : List Y). ys ++ filter_map f (x ∷ [])) before ∙ append_assoc start (filter_map f (take i xs)) (filter_map f (x ∷ [])) ∙ ap (λ (ys : List Y). start ++ ys)
+    (sym (filter_map_more f xs i x at))

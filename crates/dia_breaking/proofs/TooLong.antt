@@ -119,7 +119,8 @@ pub too_long_when : {X : Type 0} (meaning : X → Dictionary) (db : Dictionary) 
     → IsWithinAll (price (listed_length (meaning book) sent entries) (other_length (meaning book) sent entries) (rules_in (meaning a) c)) (rules_in (meaning a) c) n)
     → max_body < n → AreFloors (meaning a) who (listed_length (meaning a) who entries) → AreValid (meaning a) db who u c
 too_long_when meaning db book a sent who u entries keys c n same sender within shortest least long floors =
-    unsent (meaning a) db who u entries (rules_in (meaning a) c) c n x.0 x.1 rules_are floors (moved_least (one_is_shortest (other_length (meaning a) who entries) keys (rules_in (meaning a) c) db first)) long
+    unsent (meaning a) db who u entries (rules_in (meaning a) c) c n x.0 x.1 rules_are floors
+    (moved_least (one_is_shortest (other_length (meaning a) who entries) keys (rules_in (meaning a) c) db first)) long
   where
     x : (y : PlainDefinition) × (slice_get (definitions (meaning a)) c ≡ Some y)
     x = there_is (definitions (meaning a)) c within

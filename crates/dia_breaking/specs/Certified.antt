@@ -49,7 +49,8 @@ IsClosedWith da db who u length groups own told room x y = (sites : List SiteOf)
 
 -- so the level of a group is, with what its way leaves
 abbrev pub IsClosedGroup : Dictionary → Dictionary → Sends → Unknown → (Key → ℕ) → List Way → List Key → List LevelLine → Key → ℕ → Type 0
-IsClosedGroup da db who u length groups own told key way = (x y : PlainDefinition) → group_of da key ≡ Some x → group_of db key ≡ Some y → IsClosedWith da db who u length groups own told (max_body - way) x y
+IsClosedGroup da db who u length groups own told key way =
+    (x y : PlainDefinition) → group_of da key ≡ Some x → group_of db key ≡ Some y → IsClosedWith da db who u length groups own told (max_body - way) x y
 
 -- so is that of the command c, in messages with this head and this application
 abbrev pub IsClosedCommand : Dictionary → Dictionary → Sends → Unknown → (Key → ℕ) → List Way → List Key → List LevelLine → ℕ → Head → ℕ → Type 0

@@ -13,7 +13,8 @@ use Rattle.dia_breaking.specs.Closed.{IsClosedSite}
 
 -- each of the groups has its site, with room for what its way leaves
 abbrev pub HoldsWays : Dictionary → Dictionary → List Way → List Site → Type 0
-HoldsWays da db groups sites = (group : Way) (x y : PlainDefinition) → Contains groups group → group_of da group.key ≡ Some x → group_of db group.key ≡ Some y → HasSite sites x y (max_body - group.way)
+HoldsWays da db groups sites =
+    (group : Way) (x y : PlainDefinition) → Contains groups group → group_of da group.key ≡ Some x → group_of db group.key ≡ Some y → HasSite sites x y (max_body - group.way)
 
 -- the site of two definitions, in a message that takes so much around their level, is closed by all sites that these groups have,
 -- where these lines are told of its levels, and of AVPs of these keys that they break by themselves

@@ -102,4 +102,5 @@ IsOtherMet db sites lines head first second = (app : ℕ) × (¬ Contains first 
 abbrev pub AreHeadersMet : Dictionary → Dictionary → List Site → List Line → Apps → Apps → ℕ → Head → Type 0
 AreHeadersMet da db sites lines first second c head =
     ((app : ℕ) → head.app ≡ Some app → IsMetFor db sites lines head app)
-    × (head.app ≡ None → AreMetFor da db sites lines head c (apps_of second head.code head.class) × IsOtherMet db sites lines head (apps_of first head.code head.class) (apps_of second head.code head.class))
+    × (head.app ≡ None → AreMetFor da db sites lines head c (apps_of second head.code head.class) × IsOtherMet db sites lines head (apps_of first head.code head.class)
+    (apps_of second head.code head.class))

@@ -1,5 +1,5 @@
-//! Whether it is shown that nothing breaks but what the lines of an answer tell: what a walk has found is looked at anew, site by
-//! site.
+//! Whether it is shown that nothing breaks but what the lines of an answer tell. What a walk has found is looked at anew, site
+//! by site.
 ghost use Rattle.std.specs.Prelude.{◌≡◌, ◌++◌, ◌∷◌, [], ◌<◌, IfOk, IfSome, IsTrue, OnOk, Some};
 ghost use Rattle.std.specs.Prelude.{length, slice_get, option_and_then};
 ghost use Rattle.std.specs.List.{filter_map};
@@ -28,8 +28,8 @@ use dia_levels::{Line as LevelLine, length_least};
 use std::alloc::{AllocError, Global};
 
 impl<'a, A: Book, B: Book> Upgrade<'a, A, B> {
-    /// Whether it is shown that each message of a command with this head that is free of the lines is valid under B, by the
-    /// sites that a walk has found. The error comes only where memory was refused.
+    /// Whether the sites that a walk has found show this: each message of a command with this head that is free of the lines is
+    /// valid under B. The error comes only where memory was refused.
     pub(crate) fn is_certified(
         &self,
         alloc: Global,
@@ -102,7 +102,7 @@ fn push_way(groups: &mut Vec<Way>, site: &Site) -> Result<(), AllocError>
     Ok(())
 }
 
-/// Whether each site is closed at which B's side reads a level.
+/// Whether each site at which B's side reads a level is closed.
 fn are_sites_closed<A: Book, B: Book>(
     alloc: Global,
     closing: &Closing<'_, '_, A, B>,

@@ -43,7 +43,7 @@ pub(crate) struct Closing<'u, 'a, A: Book, B: Book> {
     pub ways: HashMap<Key, u64>,
     /// The keys of AVPs of which a line tells that they break by themselves.
     pub own_keys: HashSet<Key>,
-    /// The AVPs of which there is something to tell, those with the least to spare first.
+    /// The AVPs of which there is something to tell. The AVPs with the least to spare come first.
     pub others: Vec<Other>,
     ghost ways_are: { AreWaysOf groups.now (get same_key ways) },
     ghost own_keys_are: { AreOwnKeys lines.now (contains same_key own_keys) },
@@ -85,8 +85,8 @@ impl<'u, 'a, A: Book, B: Book> Closing<'u, 'a, A, B> {
     }
 
     /// Whether all is told that breaks in the levels that a definition of A and one of B read, and their groups lead to known
-    /// sites alone. A message takes at least `way` around such a level. `lines` are how the levels break B's rules, and `told`
-    /// are those of them that the answer has, in the same order.
+    /// sites alone. A message takes at least `way` around such a level. `lines` say how the levels break B's rules. `told` are
+    /// the lines among them that the answer has, in the same order.
     pub fn is_closed(
         &self,
         a_def: DefId,
@@ -193,8 +193,8 @@ impl<'u, 'a, A: Book, B: Book> Closing<'u, 'a, A, B> {
         }
     }
 
-    /// Whether no message has room for an AVP of which there is something to tell, and which isn't settled, where the wildcard
-    /// lets it in. It is enough to look at the first that no rule lists, since the others have no less to spare.
+    /// Whether no message has room for an AVP that the wildcard lets in, of which there is something to tell, and that isn't
+    /// settled. It is enough to look at the first AVP that no rule lists, since the others have no less to spare.
     fn is_wildcard_closed(&self, a_def: DefId, way: u64, cost: &LevelCost) -> bool
         requires { a_def < length (definitions (A.meaning self.now.upgrade.now.a.now)) }
         ensures { IsTrue result → max_body < way + cost.now.beside + first_spare
@@ -240,7 +240,7 @@ fn ways_of(alloc: Global, groups: &[Way]) -> Result<HashMap<Key, u64>, AllocErro
     Ok(ways)
 }
 
-/// The keys of AVPs of which these lines tell that they break by themselves.
+/// The keys of the AVPs of which the lines tell that they break by themselves.
 fn own_keys_of(alloc: Global, lines: &[Line]) -> Result<HashSet<Key>, AllocError>
     ensures { IfOk result (λ keys. AreOwnKeys lines.now (contains same_key keys)) }
 {
@@ -333,8 +333,8 @@ fn spare_by_way(own_keys: &HashSet<Key>, ways: &HashMap<Key, u64>, own: &Own) ->
     }
 }
 
-/// Whether each of these lines is told, or messages that have so much around the level have no room for the line's. Both lists
-/// have one order.
+/// Whether each line of `lines` is told, unless a message that takes `way` around the level has no room for it. Both lists have
+/// the same order.
 fn are_told(lines: &[LevelLine], way: u64, told: &[LevelLine]) -> bool
     ensures { IsTrue result → All (IsLongOrTold way told.now) lines.now }
 {

@@ -50,7 +50,7 @@ impl<'a, A: Book, B: Book> Upgrade<'a, A, B> {
         Ok(sent && !accepted)
     }
 
-    /// The lines with what is known of each; where they stand, and what they tell, stays.
+    /// The lines with what is known of each. Where the lines stand, and what they tell, doesn't change.
     pub(crate) fn with_standings(&self, alloc: Global, breaks: Breaks) -> Result<Breaks, AllocError>
         ensures command { IfOk result (λ told. told.command ≡ breaks.command) }
         ensures sites { IfOk result (λ told. told.sites ≡ breaks.sites) }
@@ -96,7 +96,7 @@ impl<'a, A: Book, B: Book> Upgrade<'a, A, B> {
     }
 }
 
-/// Whether no message is known that breaks so.
+/// Whether no message is known that breaks as the line tells.
 fn has_no_message(cause: &Cause) -> bool {
     matches!(cause, Cause::LevelAsLeaf { .. } | Cause::Unproved)
 }

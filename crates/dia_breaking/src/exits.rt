@@ -26,7 +26,7 @@ pub(crate) struct Exits {
     pub base: u64,
     /// The AVPs that a rule lists: the place of each in `Telling::own`, and the length of a least level that has one.
     pub listed: Vec<(usize, u64)>,
-    /// What a least level takes beside one that comes through the wildcard.
+    /// What a least level with an AVP that comes through the wildcard takes beside that AVP.
     pub beside: u64,
 }
 
@@ -97,7 +97,7 @@ fn exit_by<A: Book>(
     Some((place, cost.with_listed(rule, lengths.listed(key))))
 }
 
-/// The level of a group that is one for both dictionaries.
+/// The level of an AVP that is a group for both dictionaries.
 #[derive(Drop)]
 pub(crate) struct Inner {
     /// The length of a least level.
@@ -111,7 +111,7 @@ pub(crate) struct Inner {
 #[derive(Drop)]
 pub(crate) struct Outlook {
     pub key: Key,
-    /// The length of a shortest one that comes through a wildcard.
+    /// The length of a shortest AVP of the key, where it comes through a wildcard.
     pub other: u64,
     pub inner: Option<Inner>,
 }

@@ -1,5 +1,6 @@
-//! Few headers of a command have to be looked at: that with its own application; or those with the applications that B alone
-//! names, and one with an application that neither dictionary names.
+//! The headers of a command that have to be looked at. Where the command names an application, it is the header with that one.
+//! Else they are the headers with the applications that B alone names, and one with an application that neither dictionary
+//! names.
 ghost use Rattle.std.specs.Prelude.{◌≡◌, ◌<◌, ℕ, true, length, IfOk, IfSome, Some, Contains};
 ghost use Rattle.std.specs.Prelude.{◌++◌, ◌||◌, nat_eq, slice_get, IsTrue};
 ghost use Rattle.std.specs.List.{list_any};
@@ -17,8 +18,8 @@ use crate::told::{tells_flag, tells_refusal};
 use dia_book::{Book, DefId, Pxy};
 use std::alloc::{AllocError, Global};
 
-/// Whether the headers of a command of A that tell of all are met, by the sites and the lines of an answer: B selects a
-/// definition for each and allows each P flag, or a line tells that it doesn't.
+/// Whether the headers of a command of A that have to be looked at are met, by the sites and the lines of an answer. A header
+/// is met if B selects a definition for it and allows each P flag that A allows, or if a line tells that B doesn't.
 pub(crate) fn are_headers_met<A: Book, B: Book>(
     alloc: Global,
     a: &A,
@@ -37,7 +38,7 @@ pub(crate) fn are_headers_met<A: Book, B: Book>(
     }
 }
 
-/// So it is for all applications that no other command of A names.
+/// Whether the headers of a command that names no application are met.
 fn are_open_met<A: Book, B: Book>(
     alloc: Global,
     a: &A,
@@ -64,7 +65,8 @@ fn are_open_met<A: Book, B: Book>(
     Ok(is_met_at(b, head, found, number, app))
 }
 
-/// For how many of the applications A selects the command, where the first sites are theirs, and each header is met.
+/// The number of the applications in `apps` for which A selects the command, if each of their headers is met. Their sites are
+/// the first ones of the command.
 fn met_apps<A: Book, B: Book>(
     a: &A,
     b: &B,
@@ -124,7 +126,7 @@ fn is_command_place(place: Place, app: u32) -> bool
     }
 }
 
-/// Whether B's definition allows each P flag that the head allows, or it is told at the site that it doesn't.
+/// Whether B's definition allows each P flag that the head allows, or a line at the site tells that B doesn't.
 fn is_met_as<B: Book>(b: &B, head: &Head, found: &Breaks, number: usize, def: DefId) -> bool
     requires { def < length (definitions (B.meaning b.now)) }
     ensures { IsTrue result → (app : ℕ) (site : AnySite)
@@ -140,8 +142,8 @@ fn is_met_as<B: Book>(b: &B, head: &Head, found: &Breaks, number: usize, def: De
     }
 }
 
-/// Whether this P flag is met, if the first allows it: the second does too, and B's side reads the level; or it is told at the
-/// site that it doesn't.
+/// Whether this P flag is met. It is met if A's head doesn't allow it, if B's head allows it and B's side reads the level, or
+/// if a line at the site tells that B doesn't allow it.
 fn is_flag_met(found: &Breaks, number: usize, p: Pxy, other: Pxy, set: bool) -> bool
     ensures { IsTrue result → (app : ℕ) (site : AnySite)
         → slice_get found.now.sites.items number ≡ Some site → IsCommandPlace app site.place

@@ -20,7 +20,7 @@ pub(crate) struct Head {
 }
 
 impl Head {
-    /// The head of a definition; those of errors have the code 0 and the application 0, and of groups there is none.
+    /// The head of a definition. The head of an error has the code 0 and the application 0; a group has no head.
     pub fn of(head: DefHead) -> Option<Head>
         ensures { result ≡ head_in head }
     {
@@ -67,8 +67,8 @@ pub(crate) fn allows(p: Pxy, set: bool) -> bool
     }
 }
 
-/// The applications by which the messages of a command are looked at: its own; or those that B alone names, and the least that
-/// neither names.
+/// The applications by which the messages of a command are looked at. Where the head names one, it is that one alone. Else they
+/// are the applications that B alone names, and the least application that neither dictionary names.
 pub(crate) fn told_apps<A: Book>(
     alloc: Global,
     a: &A,
@@ -89,7 +89,7 @@ pub(crate) fn told_apps<A: Book>(
     }
 }
 
-/// Those that B alone names, and the least that neither names.
+/// The applications of a head that names none: those that B alone names, and the least that neither dictionary names.
 fn open_apps<A: Book>(
     alloc: Global,
     a: &A,
@@ -108,7 +108,7 @@ fn open_apps<A: Book>(
     Ok(apps)
 }
 
-/// Of these applications, each for which A selects the command.
+/// The applications among `others` for which A selects the command.
 fn own_apps<A: Book>(
     alloc: Global,
     a: &A,

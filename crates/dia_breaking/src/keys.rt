@@ -1,5 +1,5 @@
-//! The AVPs that A's side sends. There is something to tell of one that breaks by itself, or in which both dictionaries see a
-//! level.
+//! The AVPs that A's side sends. There is something to tell of an AVP that breaks by itself, or in which both dictionaries see
+//! a level.
 ghost use Rattle.std.specs.Prelude.{◌≡◌, ◌≤◌, ◌<◌, ◌&&◌, ◌⊎◌, ℕ, false, [], None, Contains};
 ghost use Rattle.std.specs.Prelude.{◌++◌, ◌∷◌, IfOk, OnOk, filter, is_some};
 ghost use Rattle.std.specs.HashMap.{get};
@@ -75,8 +75,8 @@ fn breaks_data(found: DataBreak) -> bool
     }
 }
 
-/// The keys of the AVPs that A's side sends: those of A's entries, and where it sends any those that B alone knows and one that
-/// neither knows.
+/// The keys of the AVPs that A's side sends: the keys of A's entries, and, where it sends any AVP, the keys that B alone knows
+/// and one that neither dictionary knows.
 fn sent_keys<A: Book, B: Book>(
     alloc: Global,
     a: &A,
@@ -95,7 +95,7 @@ fn sent_keys<A: Book, B: Book>(
     }
 }
 
-/// With those that B alone knows, and one that neither knows.
+/// The keys of A's entries, then the keys that B alone knows, then one that neither dictionary knows.
 fn with_others<A: Book, B: Book>(
     alloc: Global,
     keys: Vec<Key>,
@@ -136,7 +136,7 @@ fn push_unknown<A: Book>(keys: &mut Vec<Key>, a: &A, key: Key) -> Result<(), All
     Ok(())
 }
 
-/// The least number that is none of these.
+/// The least number that is not in `numbers`.
 pub(crate) fn least_missing(numbers: Vec<u32>) -> Result<u32, AllocError>
     ensures below { IfOk result (λ least. (n : ℕ) → n < least → Contains numbers.items n) }
     ensures missing { IfOk result (λ least. (¬ Contains numbers.items least) ⊎ (4294967295 ≤ least)) }
@@ -154,7 +154,7 @@ fn in_order(numbers: Vec<u32>) -> Result<Vec<u32>, AllocError>
     Ok(sorted)
 }
 
-/// The least number that is none of these, which are in order. Where all are there, it is the greatest.
+/// The least number that is not in `numbers`, which are in order. Where all are there, the greatest one.
 fn least_beside(numbers: &[u32]) -> u32
     requires { IsNonDecreasing numbers.now }
     ensures below { (n : ℕ) → n < result → Contains numbers.now n }

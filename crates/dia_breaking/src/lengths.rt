@@ -152,7 +152,7 @@ fn length_of<A: Book>(book: &A, sends: Sends, entries: &[u64], key: Key) -> u64
     }
 }
 
-/// The keys of A's entries, those of the shortest AVPs first.
+/// The keys of A's entries, ordered by the lengths of their shortest AVPs.
 fn in_order<A: Book>(alloc: Global, book: &A, entries: &[u64]) -> Result<Vec<Key>, AllocError>
     ensures sorted { IfOk result (λ keys. IsNonDecreasingBy
         (listed_length (A.meaning book.now) Sends.Known entries.now) keys.items) }

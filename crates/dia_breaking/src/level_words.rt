@@ -77,7 +77,8 @@ impl<'a, A: Book, B: Book> Upgrade<'a, A, B> {
         out.push_str(" sent")
     }
 
-    /// How often A's definition lets the AVP stand there, or without a key those that it doesn't list.
+    /// How often A's definition lets the AVP stand in the level. Without a key, how often it lets the AVPs stand there that it
+    /// doesn't list.
     fn sent_bounds(&self, command: DefId, place: Place, key: Option<Key>) -> Bounds
         requires { command < length (definitions (A.meaning self.now.a.now)) }
         ensures { result ≡ sent_bounds (other_length (A.meaning self.now.a.now)
@@ -116,7 +117,8 @@ impl<'a, A: Book, B: Book> Upgrade<'a, A, B> {
         }
     }
 
-    /// How often B's definition does.
+    /// How often B's definition lets the AVP stand in the level. Without a key, how often it lets the AVPs stand there that it
+    /// doesn't list.
     fn accepted_bounds(&self, command: DefId, place: Place, key: Option<Key>) -> Bounds
         requires { command < length (definitions (A.meaning self.now.a.now)) }
         ensures { result ≡ accepted_bounds (accepted_rules (A.meaning self.now.a.now)

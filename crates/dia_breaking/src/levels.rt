@@ -40,7 +40,7 @@ impl LevelCost {
         LevelCost { base, beside }
     }
 
-    /// With an AVP of a rule's key, which is this long.
+    /// The length of a least level with an AVP of the rule's key that has this length.
     pub fn with_listed(&self, rule: &DRule, length: u64) -> u64
         ensures { result ≡ with_listed self.now rule.now length }
     {

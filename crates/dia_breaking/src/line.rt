@@ -40,7 +40,7 @@ pub struct Site {
 pub enum Cause {
     /// B has no command of the code and the class.
     Command,
-    /// B has no command of them for the application.
+    /// B has no command of the code and the class for the application.
     Application,
     /// The P flag.
     Proxiable { set: bool },
@@ -50,9 +50,9 @@ pub enum Cause {
     Unknown { key: Key, m: bool },
     /// B's rule forbids this M flag.
     MBit { key: Key, m: bool },
-    /// B refuses the data: these, or where none are told those of a shortest AVP.
+    /// B refuses the data. Without data here, it refuses the data of a shortest AVP.
     Format { key: Key, data: Option<Witness> },
-    /// B reads AVPs as a leaf, and accepts those of a shortest AVP. Whether it accepts all isn't known.
+    /// B reads the AVPs as leaves, and accepts the data of a shortest AVP. Whether it accepts all data isn't known.
     LevelAsLeaf { key: Key },
     /// Nothing was found, and it isn't shown that nothing breaks.
     Unproved,
@@ -99,7 +99,8 @@ pub struct Line {
     pub standing: Standing,
 }
 
-/// What can break the messages of a command: the lines in their order, and the sites, those with the shortest way first.
+/// What can break the messages of a command: the lines in their order, and the sites, of which the ones with the shortest way
+/// come first.
 #[derive(Debug, Drop)]
 pub struct Breaks {
     /// The command of A.

@@ -69,7 +69,7 @@ impl<'a, A: Book, B: Book> Upgrade<'a, A, B> {
         self.found_from(alloc, command, &start)
     }
 
-    /// So they are from a start.
+    /// The lines that a walk from this start finds.
     fn found_from(&self, alloc: Global, command: DefId, start: &Start) -> Result<Breaks, AllocError>
         ensures command { IfOk result (λ breaks. breaks.command ≡ command) }
         ensures listing { IfOk result (λ breaks. HasUnproved breaks.lines.items
@@ -95,7 +95,7 @@ impl<'a, A: Book, B: Book> Upgrade<'a, A, B> {
         }
     }
 
-    /// The sites and the lines by a walk, where these sites are the command's.
+    /// The sites and the lines that a walk finds. `sites` are those of the command's own level.
     fn found_by(
         &self,
         alloc: Global,
@@ -146,7 +146,7 @@ impl<'a, A: Book, B: Book> Upgrade<'a, A, B> {
         }
     }
 
-    /// The lines by a walk, in the order of their sites.
+    /// The lines that a walk finds, in the order of their sites.
     fn lines_by(
         &self,
         alloc: Global,
@@ -223,7 +223,8 @@ impl<'a, A: Book, B: Book> Upgrade<'a, A, B> {
         }
     }
 
-    /// With an undecided line, where it isn't shown that nothing breaks but what the lines tell.
+    /// The lines as they are, if it is shown that nothing breaks but what they tell. Else a line is added that says that this
+    /// isn't shown.
     fn unless_certified(
         &self,
         alloc: Global,
@@ -248,14 +249,14 @@ impl<'a, A: Book, B: Book> Upgrade<'a, A, B> {
     }
 }
 
-/// How many these are.
+/// The number of the applications.
 fn count_of(apps: &[u32]) -> usize
     ensures { result ≡ length apps.now }
 {
     apps.len()
 }
 
-/// The one line that it isn't shown that nothing breaks.
+/// The single line that says that it isn't shown that nothing breaks.
 fn unproved(alloc: Global) -> Result<Vec<Line>, AllocError>
     ensures { IfOk result (λ lines. HasUnproved lines.items) }
 {
@@ -264,7 +265,7 @@ fn unproved(alloc: Global) -> Result<Vec<Line>, AllocError>
     Ok(lines)
 }
 
-/// Puts lines in the order of their sites, where those of one site stay in their order.
+/// Puts lines in the order of their sites. The lines of one site stay in their order.
 fn sort_by_site(lines: &mut Vec<Line>) -> Result<(), AllocError>
     ensures { OnOk result (IsInOrderOf (λ (line : AnyLine). line.site) lines.old.items lines.new.items) }
 {
@@ -292,7 +293,7 @@ pub(crate) fn push_line(
     Ok(())
 }
 
-/// Adds such a line, if a message has room for it.
+/// Adds a line of which nothing is known, if a message has room for it.
 pub(crate) fn push_with_room(
     lines: &mut Vec<Line>,
     site: usize,

@@ -1,4 +1,4 @@
-//! What the AVPs break by themselves of which there is something to tell.
+//! How the AVPs of which there is something to tell break by themselves.
 ghost use Rattle.std.specs.Prelude.{◌≡◌, All, IfOk, map};
 ghost use Rattle.dia_breaking.specs.Lengths.{listed_length};
 ghost use Rattle.dia_breaking.specs.OwnBreaks.{AreOwnBreaks, IsOwnBreaks};
@@ -15,13 +15,13 @@ use std::alloc::{AllocError, Global};
 #[derive(Clone, Copy, Debug)]
 pub(crate) struct OwnBreaks {
     pub key: Key,
-    /// The length of a shortest one that a rule lists.
+    /// The length of a shortest AVP of the key, where a rule lists it.
     pub least: u64,
-    /// What it breaks by itself.
+    /// How it breaks by itself.
     pub breaks: AvpBreaks,
 }
 
-/// What these AVPs break by themselves, in their order.
+/// How each of these AVPs breaks by itself, in the order of the AVPs.
 pub(crate) fn own_breaks<A: Book, B: Book>(
     alloc: Global,
     a: &A,

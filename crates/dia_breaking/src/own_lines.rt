@@ -34,7 +34,7 @@ pub(crate) enum Kind {
 }
 
 impl<'a, A: Book, B: Book> Upgrade<'a, A, B> {
-    /// Adds what of one kind AVPs break by themselves, by their places.
+    /// Adds the lines of one kind of the AVPs that break by themselves, in the order of their places.
     pub(crate) fn push_own_lines(
         &self,
         alloc: Global,
@@ -74,7 +74,7 @@ impl<'a, A: Book, B: Book> Upgrade<'a, A, B> {
         }
     }
 
-    /// Adds what breaks of an AVP that is reached so.
+    /// Adds the line of one kind of an AVP that breaks by itself. `reach` is the shortest way to it.
     fn push_own(
         &self,
         alloc: Global,
@@ -95,7 +95,7 @@ impl<'a, A: Book, B: Book> Upgrade<'a, A, B> {
         }
     }
 
-    /// What breaks of an AVP, and what a message takes; one with a least AVP takes `length`.
+    /// What breaks of an AVP, and what a message that shows it takes. A message with a least AVP takes `length`.
     fn own_cause(
         &self,
         alloc: Global,

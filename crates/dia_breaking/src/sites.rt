@@ -36,7 +36,7 @@ pub(crate) fn command_site<B: Book>(b: &B, head: &Head, app: u32) -> Site
     }
 }
 
-/// Where B selects no definition.
+/// The site where B selects no definition.
 fn refused_site(head: &Head, app: u32) -> Site
     ensures { result ≡ refused_site head.now app }
 {
@@ -51,7 +51,7 @@ fn refused_site(head: &Head, app: u32) -> Site
     }
 }
 
-/// Where B selects a definition with this head.
+/// The site where B selects a definition with the head `other`.
 fn read_site(head: &Head, app: u32, other: &Head) -> Site
     ensures { result ≡ read_site head.now app other.now }
 {

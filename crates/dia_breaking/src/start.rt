@@ -24,9 +24,9 @@ pub(crate) struct Start {
     pub head: Head,
     /// The length of a least level.
     pub base: u64,
-    /// None where no message has room for a level.
+    /// Empty where no message has room for a level.
     pub apps: Vec<u32>,
-    /// Of each application how the levels break B's rules, where B's side reads them.
+    /// How the levels break B's rules, for each application. Where B's side reads no level, there are no lines.
     pub levels: Vec<Vec<LevelLine>>,
     /// Where the levels lead.
     pub exits: WalkExits,
@@ -85,7 +85,7 @@ fn apps_with_room<A: Book, B: Book>(
     }
 }
 
-/// Of each application, how levels of the command break B's rules.
+/// How the levels of the command break B's rules, for each application.
 fn levels_of<A: Book, B: Book>(
     alloc: Global,
     upgrade: &Upgrade<'_, A, B>,
@@ -108,7 +108,7 @@ fn levels_of<A: Book, B: Book>(
     Ok(levels)
 }
 
-/// How they do in messages of an application, if B's side reads a level there.
+/// How the levels of the command break B's rules in messages of an application, if B's side reads a level there.
 fn levels_for<A: Book, B: Book>(
     alloc: Global,
     upgrade: &Upgrade<'_, A, B>,

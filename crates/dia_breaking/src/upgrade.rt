@@ -47,9 +47,9 @@ pub struct Upgrade<'a, A: Book, B: Book> {
     pub(crate) apps: Box<BothApps>,
     /// The AVPs of which there is something to tell, in the order of `Telling::own`.
     pub(crate) outlooks: Vec<Outlook>,
-    /// The same as the nodes of a walk.
+    /// The same AVPs as the nodes of a walk.
     pub(crate) nodes: Vec<Node>,
-    /// What they break by themselves.
+    /// How they break by themselves.
     pub(crate) own: Vec<OwnBreaks>,
     ghost same: { lengths.book.now ≡ a.now },
     ghost sender: { lengths.sends ≡ sends },

@@ -32,7 +32,8 @@ length_less d sends xs ys each key = by (entry_of d key)
     by None = omega arith
     by (Some e) = each e
 
-floor_less : (d : Dictionary) (sends : Sends) (xs ys : List ℕ) (rules : List DRule) (n : ℕ) → ((e : ℕ) → entry_length ys e ≤ entry_length xs e) → IsFillerFloor d sends ys rules n → IsFillerFloor d sends xs rules n
+floor_less : (d : Dictionary) (sends : Sends) (xs ys : List ℕ) (rules : List DRule) (n : ℕ) → ((e : ℕ) → entry_length ys e ≤ entry_length xs e) → IsFillerFloor d sends ys rules n
+    → IsFillerFloor d sends xs rules n
 floor_less d Any xs ys rules n each floor = floor
 floor_less d Known xs ys rules n each floor = (floor.0, λ key free. let low = floor.1 key free in let less = length_less d Known xs ys each key in omega (arith, low, less))
 floor_less d Listed xs ys rules n each floor = floor
@@ -59,7 +60,8 @@ filler_floor d Listed unknown lengths order rules n floor ranks = floor
 
 -- the entry is no group whose least level takes more than n
 abbrev pub TakesNoMore : Dictionary → Sends → List ℕ → ℕ → ℕ → Type 0
-TakesNoMore d sends lengths i n = (entry : DictEntry) (group : PlainDefinition) (filler : ℕ) → slice_get d.entries i ≡ Some entry → entry.group ≡ Some group → IsFillerFloor d sends lengths group.rules filler
+TakesNoMore d sends lengths i n =
+    (entry : DictEntry) (group : PlainDefinition) (filler : ℕ) → slice_get d.entries i ≡ Some entry → entry.group ≡ Some group → IsFillerFloor d sends lengths group.rules filler
     → group_length (length_of d sends lengths) filler entry.key group.rules ≤ n
 
 pub above_on : (d : Dictionary) (sends : Sends) (xs ys : List ℕ) (i n : ℕ) → ((e : ℕ) → entry_length ys e ≤ entry_length xs e) → ((e : ℕ) → (e ≡ i → ⊥) → entry_length ys e ≡ entry_length xs e)
@@ -84,8 +86,10 @@ above_on d sends xs ys i n each others own takes before = λ e entry group fille
 -- ---- a group
 
 -- its length by the dictionary's entry and group
-pub value_of : (d : Dictionary) (f : Key → ℕ) (filler : List DRule → ℕ) (i def n : ℕ) (key : Key) (entry : DictEntry) (group : PlainDefinition) → slice_get d.entries i ≡ Some entry → entry.group ≡ Some group
-    → group_place d i ≡ Some def → IfSome (slice_get d.entries i) (λ e. key ≡ e.key) → n ≡ group_length f (filler (rules_in d def)) key (rules_in d def) → n ≡ group_length f (filler group.rules) entry.key group.rules
+pub value_of : (d : Dictionary) (f : Key → ℕ) (filler : List DRule → ℕ) (i def n : ℕ) (key : Key) (entry : DictEntry) (group : PlainDefinition) → slice_get d.entries i ≡ Some entry
+    → entry.group ≡ Some group
+    → group_place d i ≡ Some def → IfSome (slice_get d.entries i) (λ e. key ≡ e.key) → n ≡ group_length f (filler (rules_in d def)) key (rules_in d def)
+    → n ≡ group_length f (filler group.rules) entry.key group.rules
 value_of d f filler i def n key entry group at some place key_is is =
     let number = group_number d i def entry at place in
     let same : number.0 ≡ group = same_Some number.0 group (sym number.1 ∙ some) in

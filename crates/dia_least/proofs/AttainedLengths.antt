@@ -94,7 +94,8 @@ module _ (d : Dictionary) (lengths : List ℕ) (unknown : Key) (is : IsDictionar
   abbrev AreAttained : Sends → ℕ → Type 0
   AreAttained sends v = (key : Key) → IsSpellable key → length_of d sends lengths key < v → length_of d sends lengths key < too_long → IsAttained d sends key (length_of d sends lengths key)
 
-  leaf_at : (sends : Sends) (entry : DictEntry) (n : ℕ) → IsSpellable entry.key → known d entry.key ≡ Some entry → entry.group ≡ None → IsLeafLength entry n → n < too_long → IsAttained d sends entry.key n
+  leaf_at : (sends : Sends) (entry : DictEntry) (n : ℕ) → IsSpellable entry.key → known d entry.key ≡ Some entry → entry.group ≡ None → IsLeafLength entry n → n < too_long
+      → IsAttained d sends entry.key n
   leaf_at sends entry n small some none (inl (bytes, are, leaf, least, same)) short =
       let up = rounded_up (shortest_head entry.key + length bytes) in
       let all = leaf_attained d sends entry.key entry bytes small some none leaf (omega (arith, up, same, short)) in
@@ -155,7 +156,8 @@ module _ (d : Dictionary) (lengths : List ℕ) (unknown : Key) (is : IsDictionar
   stand Known a q rules is_a below placed = placed
   stand Listed a q rules is_a below placed = (placed, listed_all a q rules is_a below)
 
-  group_at : (sends : Sends) (v n : ℕ) (entry : DictEntry) (group : PlainDefinition) → AreAttained sends v → Contains (definitions d) group → known d entry.key ≡ Some entry → entry.group ≡ Some group → IsSpellable entry.key
+  group_at : (sends : Sends) (v n : ℕ) (entry : DictEntry) (group : PlainDefinition) → AreAttained sends v → Contains (definitions d) group → known d entry.key ≡ Some entry → entry.group ≡ Some group
+      → IsSpellable entry.key
       → IsGroupLength d sends lengths entry.key group.rules n → n ≤ v → n < too_long → IsAttained d sends entry.key n
   group_at sends v n entry group before has some is_group small (a, is_a, is_n) le short =
       let f = length_of d sends lengths in
@@ -174,7 +176,8 @@ module _ (d : Dictionary) (lengths : List ℕ) (unknown : Key) (is : IsDictionar
       (group_attained d sends f entry.key entry group (plan q rules) small some is_group sent all (omega (arith, up, same, is_n, short)))
 
   module _ (sends : Sends) (exact : AreExact d sends lengths) where
-    entry_attained : (v e : ℕ) (entry : DictEntry) → AreAttained sends v → slice_get d.entries e ≡ Some entry → known d entry.key ≡ Some entry → entry_length lengths e ≤ v → entry_length lengths e < too_long
+    entry_attained : (v e : ℕ) (entry : DictEntry) → AreAttained sends v → slice_get d.entries e ≡ Some entry → known d entry.key ≡ Some entry → entry_length lengths e ≤ v
+        → entry_length lengths e < too_long
         → IsAttained d sends entry.key (entry_length lengths e)
     entry_attained v e entry before at some le short = by entry.group refl
       where
@@ -185,7 +188,8 @@ module _ (d : Dictionary) (lengths : List ℕ) (unknown : Key) (is : IsDictionar
             group_at sends v (entry_length lengths e) entry group before (contains_in (definitions d) group (in_at (definitions d) (number_of d e) group place.1)) some is_group (spells e entry at)
             (exact.groups e entry group at is_group) le short
 
-    key_attained : (v : ℕ) (key : Key) → AreAttained sends v → IsSpellable key → length_of d sends lengths key ≤ v → length_of d sends lengths key < too_long → IsAttained d sends key (length_of d sends lengths key)
+    key_attained : (v : ℕ) (key : Key) → AreAttained sends v → IsSpellable key → length_of d sends lengths key ≤ v → length_of d sends lengths key < too_long
+        → IsAttained d sends key (length_of d sends lengths key)
     key_attained v key before small = by (entry_of d key) refl
       where
         by : (o : Option ℕ) → entry_of d key ≡ o → option_map_or (entry_length lengths) o (unknown_length sends key) ≤ v → option_map_or (entry_length lengths) o (unknown_length sends key) < too_long

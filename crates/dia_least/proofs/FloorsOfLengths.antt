@@ -97,7 +97,7 @@ not_known d key is = by (entry_of d key) refl
 
 -- ---- what a wildcard is met with
 
-in_map : {X Y : Type 0} (f : X → Y) (xs : List X) (x : X) → IsIn x xs → IsIn (f x) (map f xs)
+pub in_map : {X Y : Type 0} (f : X → Y) (xs : List X) (x : X) → IsIn x xs → IsIn (f x) (map f xs)
 in_map f [] x i = absurd i
 in_map f (y ∷ xs) x (inl e) = inl (ap f e)
 in_map f (y ∷ xs) x (inr i) = inr (in_map f xs x i)
@@ -192,7 +192,8 @@ module _ (d : Dictionary) (least : Least) (order : List Ranked) (kept : AreKept 
       let place = group_there d e entry group at some in
       let sound = rules_sound group.rules (kept_rules d (number_of d e) group is place.1) in
       let level = level_within group.rules keys sound stand in
-      let low : entry_length least.lengths.items e ≤ group_length (length_in d least) (filler_length (filler_of least.sends least.unknown order group.rules)) entry.key group.rules = settled entry group at some in
+      let low : entry_length least.lengths.items e ≤ group_length (length_in d least) (filler_length (filler_of least.sends least.unknown order group.rules)) entry.key group.rules =
+      settled entry group at some in
       let more = rounded_more (shortest_head entry.key + base_length (length_in d least) (filler_length (filler_of least.sends least.unknown order group.rules)) group.rules)
       (shortest_head entry.key + total (length_in d least) keys) (omega (arith, level)) in
       omega (arith, low, more)
@@ -214,7 +215,8 @@ are_floors d least is kept (order, are, settled) = record {
       let low : entry_length least.lengths.items h.place ≤ padded (shortest_head entry.key + length bytes) =
       leaf_floor entry (entry_length least.lengths.items h.place) bytes (kept.leaves h.place entry at none) (witness_bytes bytes every) leaf in
       let key_is : entry.key ≡ key = ap (λ (x : DictEntry). x.key) (sym own) ∙ h.own in
-      let low_key : entry_length least.lengths.items h.place ≤ padded (shortest_head key + length bytes) = subst (λ (k : Key). entry_length least.lengths.items h.place ≤ padded (shortest_head k + length bytes)) key_is low in
+      let low_key : entry_length least.lengths.items h.place ≤ padded (shortest_head key + length bytes) =
+      subst (λ (k : Key). entry_length least.lengths.items h.place ≤ padded (shortest_head k + length bytes)) key_is low in
       let same = length_at d least order kept are key h in
       omega (arith, same, low_key);
   groups = λ key entry group keys some is_group stand.

@@ -1,8 +1,7 @@
 -- A pass makes lengths less, and keeps what holds of them.
 use Rattle.std.proofs.Common.{◌≡◌, ℕ, zero, suc, ◌+◌, ◌<◌, ◌≤◌, Bool, true, false, List, [], ◌∷◌, ◌++◌, length, Some, None, get_or, refl, sym, ap, subst, ◌∙◌, arith, inl, inr}
-use Rattle.std.specs.Prelude.{◌⊎◌, slice_get, slice_set, slice_index_or, nat_lt, sum_by, IfSome, if◌then◌else◌}
+use Rattle.std.specs.Prelude.{◌⊎◌, slice_get, slice_set, nat_lt, sum_by, IfSome, if◌then◌else◌}
 use Rattle.std.proofs.lemmas.Bool.{cases_eq, cases_lt, ltb-true, ltb-false}
-use Rattle.std.proofs.lemmas.Option.{none-some}
 use Rattle.std.proofs.lemmas.List.{length-set, get_or-set_same, get_or-set_other}
 use Rattle.std.proofs.lemmas.List.Elements.{All-push}
 use Rattle.std.proofs.lemmas.List.Sums.{sum_by-set}
@@ -10,7 +9,6 @@ use Rattle.dia_wire.specs.declared.Key.{Key}
 use Rattle.dia_book.specs.declared.DRule.{DRule}
 use Rattle.dia_book.specs.Dictionary.{Dictionary, DictEntry, group_place}
 use Rattle.dia_compat.specs.Tests.{rules_in}
-use Rattle.dia_compat.proofs.GroupNumbers.{number_of, group_there}
 use Rattle.dia_policy.specs.declared.Sends.{Sends}
 use Rattle.dia_levels.specs.LevelTests.{too_long, base_length}
 use Rattle.dia_least.specs.declared.lookup.Least.{Least}
@@ -18,7 +16,7 @@ use Rattle.dia_least.specs.declared.order.Ranked.{Ranked}
 use Rattle.dia_least.specs.Floors.{shortest_head}
 use Rattle.dia_least.specs.Lengths.{entry_length, length_of, IsLeafLength, IsOrder, filler_of, filler_length, group_length}
 use Rattle.dia_least.specs.Passes.{IsWhole, IsLess, IsSettledBy, IsSettled, AreAbove, AreKept, AreNoShorter, AreSettled, length_in, total_length}
-use Rattle.dia_least.proofs.AboveLengths.{length_less, TakesNoMore, above_on, value_of}
+use Rattle.dia_least.proofs.AboveLengths.{TakesNoMore, above_on, value_of}
 use Rattle.dia_least.proofs.FloorsOfAvps.{rounded_up}
 use Rattle.dia_least.proofs.LeafLengths.{head_long}
 
@@ -54,7 +52,8 @@ set_total xs i n within less =
     omega (arith, sum, own, less)
 
 -- nothing is changed
-pub not_less : (d : Dictionary) (old new : Least) → IsWhole d old → new.sends ≡ old.sends → new.unknown ≡ old.unknown → new.lengths.items ≡ old.lengths.items → length new.fillers.items ≡ length old.fillers.items
+pub not_less : (d : Dictionary) (old new : Least) → IsWhole d old → new.sends ≡ old.sends → new.unknown ≡ old.unknown → new.lengths.items ≡ old.lengths.items
+    → length new.fillers.items ≡ length old.fillers.items
     → IsLess d old new false
 not_less d old new whole sends unknown same fillers = record {
   sends = sends;
@@ -124,16 +123,6 @@ kept_on d old new changed kept less = record {
   above = less.above kept.above;
 }
 
--- AVPs that are not shorter stay so
-pub ranks_on : (d : Dictionary) (old new : Least) (order : List Ranked) (changed : Bool) → AreNoShorter (length_in d old) order → IsLess d old new changed → AreNoShorter (length_in d new) order
-ranks_on d old new order changed ranks less = λ k r within. each (slice_index_or order k r) (ranks k r within)
-  where
-    each : (r : Ranked) → length_in d old r.key ≤ r.length → length_in d new r.key ≤ r.length
-    each r le =
-        let more = length_less d new.sends old.lengths.items new.lengths.items less.no_more r.key in
-        let same : length_of d new.sends old.lengths.items r.key ≡ length_in d old r.key = ap (λ (s : Sends). length_of d s old.lengths.items r.key) less.sends in
-        omega (arith, le, more, same)
-
 -- and so with one more of its own length
 pub pushed_ranks : (f : Key → ℕ) (xs new : List Ranked) (r : Ranked) → new ≡ xs ++ r ∷ [] → AreNoShorter f xs → r.length ≡ f r.key → AreNoShorter f new
 pushed_ranks f xs new r is ranks same = subst (AreNoShorter f) (sym is) (All-push (λ (x : Ranked). f x.key ≤ x.length) xs r ranks (omega (arith, same)))
@@ -164,7 +153,8 @@ group_heads length filler key rules =
 
 -- a group's length is made less, or is no more than its least level makes it
 pub lowered : (d : Dictionary) (old new : Least) (i n : ℕ) (changed : Bool) → IsWhole d old → i < length d.entries → new.sends ≡ old.sends → new.unknown ≡ old.unknown
-    → new.lengths.items ≡ (if changed then slice_set old.lengths.items i n else old.lengths.items) → length new.fillers.items ≡ length old.fillers.items → 8 ≤ n → changed ≡ nat_lt n (entry_length old.lengths.items i)
+    → new.lengths.items ≡ (if changed then slice_set old.lengths.items i n else old.lengths.items) → length new.fillers.items ≡ length old.fillers.items → 8 ≤ n
+    → changed ≡ nat_lt n (entry_length old.lengths.items i)
     → ((entry : DictEntry) → slice_get d.entries i ≡ Some entry → entry.group ≡ None → ⊥) → TakesNoMore d old.sends old.lengths.items i n → IsLess d old new changed
 lowered d old new i n true whole within sends unknown lengths fillers head test no_leaf takes =
     one_less d old new i n whole sends unknown lengths fillers (let size = whole.0 in omega (arith, within, size)) head (ltb-true n (entry_length old.lengths.items i) (sym test)) no_leaf takes
@@ -184,14 +174,11 @@ pass_on d old mid new order i a b c x before y here some none = (
     by k (inr le) e within = let own : i ≡ k = omega (arith, le, within) in subst (λ (m : ℕ). IsSettled d new order m) own (here e.1)
 
 -- the length that is not less
-pub settled_by : (d : Dictionary) (old new : Least) (order : List Ranked) (i def n : ℕ) (key : Key) → IsLess d old new false → group_place d i ≡ Some def → IfSome (slice_get d.entries i) (λ e. key ≡ e.key)
+pub settled_by : (d : Dictionary) (old new : Least) (order : List Ranked) (i def n : ℕ) (key : Key) → IsLess d old new false → group_place d i ≡ Some def
+    → IfSome (slice_get d.entries i) (λ e. key ≡ e.key)
     → n ≡ group_length (length_in d old) (filler_length (filler_of old.sends old.unknown order (rules_in d def))) key (rules_in d def) → false ≡ nat_lt n (entry_length old.lengths.items i)
     → IsSettled d new order i
 settled_by d old new order i def n key less place key_is is test = settled_on d old new order i less (λ entry group at some.
     let le = ltb-false n (entry_length old.lengths.items i) (sym test) in
     let value = value_of d (length_in d old) (λ rules. filler_length (filler_of old.sends old.unknown order rules)) i def n key entry group at some place key_is is in
     omega (arith, le, value))
-
--- what is no group is settled
-pub settled_leaf : (d : Dictionary) (least : Least) (order : List Ranked) (i : ℕ) → group_place d i ≡ None → IsSettled d least order i
-settled_leaf d least order i none = λ entry group at some. absurd (none-some (number_of d i) (sym none ∙ (group_there d i entry group at some).0))

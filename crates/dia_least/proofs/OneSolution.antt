@@ -46,7 +46,8 @@ module _ (d : Dictionary) (xs ys : List ℕ) where
   key_no_more : (sends : Sends) (v : ℕ) → AreNoMore v → (key : Key) → length_of d sends xs key < v → length_of d sends ys key ≤ length_of d sends xs key
   key_no_more sends v before key = by (entry_of d key)
     where
-      by : (o : Option ℕ) → option_map_or (entry_length xs) o (unknown_length sends key) < v → option_map_or (entry_length ys) o (unknown_length sends key) ≤ option_map_or (entry_length xs) o (unknown_length sends key)
+      by : (o : Option ℕ) → option_map_or (entry_length xs) o (unknown_length sends key) < v
+          → option_map_or (entry_length ys) o (unknown_length sends key) ≤ option_map_or (entry_length xs) o (unknown_length sends key)
       by None lt = omega arith
       by (Some e) lt = before e lt
 
@@ -62,7 +63,8 @@ module _ (d : Dictionary) (xs ys : List ℕ) where
           let more = key_no_more Known v before key (omega (arith, same, lt)) in
           omega (arith, low, more, same)
 
-  group_no_more : (sends : Sends) (v n m : ℕ) (key : Key) (rules : List DRule) → AreNoMore v → n ≤ v → n < too_long → IsGroupLength d sends xs key rules n → IsGroupLength d sends ys key rules m → m ≤ n
+  group_no_more : (sends : Sends) (v n m : ℕ) (key : Key) (rules : List DRule) → AreNoMore v → n ≤ v → n < too_long → IsGroupLength d sends xs key rules n → IsGroupLength d sends ys key rules m
+      → m ≤ n
   group_no_more sends v n m key rules before le below (a, is_a, is_n) (b, is_b, is_m) =
       let f = length_of d sends xs in
       let g = length_of d sends ys in
@@ -81,7 +83,8 @@ module _ (d : Dictionary) (xs ys : List ℕ) where
       where
         below : (entry : DictEntry) (group : PlainDefinition) → slice_get d.entries e ≡ Some entry → entry.group ≡ Some group → (entry_length xs e < too_long) ⊎ (too_long ≤ entry_length xs e)
             → entry_length ys e ≤ entry_length xs e
-        below entry group at some (inl lt) = group_no_more sends v (entry_length xs e) (entry_length ys e) entry.key group.rules before le lt (x.groups e entry group at some) (y.groups e entry group at some)
+        below entry group at some (inl lt) =
+            group_no_more sends v (entry_length xs e) (entry_length ys e) entry.key group.rules before le lt (x.groups e entry group at some) (y.groups e entry group at some)
         below entry group at some (inr more) = let most = short d sends ys y e in omega (arith, most, more)
 
         of : (entry : DictEntry) → slice_get d.entries e ≡ Some entry → (o : Option PlainDefinition) → entry.group ≡ o → entry_length ys e ≤ entry_length xs e

@@ -62,7 +62,8 @@ vendor_spelled zero small = refl
 vendor_spelled (suc n) small = four (suc n) small
 
 -- it is spelled, if it is not too long
-is_spelled : (d : Dictionary) (sends : Sends) (key : Key) (rule : MRule) (bytes : List ℕ) (n : ℕ) → IsSpellable key → shortest_head key + length bytes < 2 ^ 24 → IsSentWithin d sends n (avp_of key rule bytes)
+is_spelled : (d : Dictionary) (sends : Sends) (key : Key) (rule : MRule) (bytes : List ℕ) (n : ℕ) → IsSpellable key → shortest_head key + length bytes < 2 ^ 24
+    → IsSentWithin d sends n (avp_of key rule bytes)
     → IsAttained d sends key (padded (shortest_head key + length bytes))
 is_spelled d sends key rule bytes n small short fit =
     let v = avp_of key rule bytes in
@@ -114,7 +115,8 @@ abbrev more : ℕ → ℕ → ℕ
 more zero n = n
 more (suc m) n = suc (more m n)
 
-level_in : (d : Dictionary) (sends : Sends) (m n : ℕ) → ((v : PlainAvp) → IsSentWithin d sends m v → IsSentWithin d sends n v) → (v : PlainAvp) → IsSentWithin d sends (suc m) v → IsSentWithin d sends (suc n) v
+level_in : (d : Dictionary) (sends : Sends) (m n : ℕ) → ((v : PlainAvp) → IsSentWithin d sends m v → IsSentWithin d sends n v) → (v : PlainAvp) → IsSentWithin d sends (suc m) v
+    → IsSentWithin d sends (suc n) v
 level_in d sends m n each v fit =
     of_fit (IsAccepted (own_policy sends) v.flags) (IsSentLevel sends (IsSentWithin d sends m)) (IsSentLevel sends (IsSentWithin d sends n))
     (λ rules bytes level. (level.0, level.1, level.2, all_of each level.0 level.3)) v (known d (key_of v)) fit

@@ -3,11 +3,11 @@ use Rattle.std.proofs.Common.{◌≡◌, ℕ, zero, suc, ◌^◌, ◌<◌, ◌�
 use Rattle.std.specs.Prelude.{◌⊎◌, map, slice_get, option_and_then, IsSome}
 use Rattle.std.proofs.lemmas.Bool.{cases_lt}
 use Rattle.std.proofs.lemmas.List.{length-map}
-use Rattle.std.proofs.lemmas.Option.{none-some, same_Some}
 use Rattle.dia_wire.specs.declared.Key.{Key}
 use Rattle.dia_book.specs.Limits.{max_parts}
 use Rattle.dia_book.specs.Dictionary.{Dictionary, DictEntry, IsDictionary, entry_of}
 use Rattle.dia_check.specs.Valid.{known}
+use Rattle.dia_compat.proofs.MemberCounts.{in_at}
 use Rattle.dia_compat.proofs.RunsOfFixedRules.{IsIn}
 use Rattle.dia_least.proofs.FloorsOfLengths.{entry_at}
 
@@ -17,6 +17,7 @@ pub record IsStranger (d : Dictionary) (key : Key) : Type 0 where
   pub vendor : key.vendor ≡ 0
   pub code : key.code < 2 ^ 32
 
+-- a list without one of its members
 remove_one : {X : Type 0} (xs : List X) (x : X) → IsIn x xs → (rest : List X) × (length xs ≡ suc (length rest)) × ((y : X) → (y ≡ x → ⊥) → IsIn y xs → IsIn y rest)
 remove_one [] x i = absurd i
 remove_one {X} (z ∷ xs) x (inl e) = (xs, refl, λ y never i. by y never i)
@@ -32,20 +33,28 @@ remove_one {X} (z ∷ xs) x (inr i) =
     by rest kept y never (inl f) = inl f
     by rest kept y never (inr i) = inr (kept y never i)
 
-abbrev key_at : ℕ → Key
+-- the key of a code, without vendor
+abbrev pub key_at : ℕ → Key
 key_at code = record { code = code; vendor = 0 }
 
-at_most : (n : ℕ) (keys : List Key) → ((code : ℕ) → code < n → IsIn (key_at code) keys) → n ≤ length keys
+-- a list that has the keys of all codes below n has at least n keys
+pub at_most : (n : ℕ) (keys : List Key) → ((code : ℕ) → code < n → IsIn (key_at code) keys) → n ≤ length keys
 at_most zero keys all = omega arith
 at_most (suc n) keys all =
     let (rest, len, kept) = remove_one keys (key_at n) (all n (omega arith)) in
     let ih = at_most n rest (λ code lt. kept (key_at code) (λ e. let same : code ≡ n = ap (λ (k : Key). k.code) e in omega (arith, lt, same)) (all code (omega (arith, lt)))) in
     omega (arith, len, ih)
 
-in_keys : (entries : List DictEntry) (i : ℕ) (entry : DictEntry) → slice_get entries i ≡ Some entry → IsIn entry.key (map (λ e. e.key) entries)
-in_keys [] i entry at = absurd (none-some entry at)
-in_keys (x ∷ xs) zero entry at = inl (ap (λ (e : DictEntry). e.key) (sym (same_Some x entry at)))
-in_keys (x ∷ xs) (suc i) entry at = inr (in_keys xs i entry at)
+pub in_map : {X Y : Type 0} (f : X → Y) (xs : List X) (x : X) → IsIn x xs → IsIn (f x) (map f xs)
+in_map f [] x i = absurd i
+in_map f (y ∷ xs) x (inl e) = inl (ap f e)
+in_map f (y ∷ xs) x (inr i) = inr (in_map f xs x i)
+
+-- a key that the dictionary knows is that of one of its entries
+pub key_in : (d : Dictionary) (key : Key) (i : ℕ) → entry_of d key ≡ Some i → IsIn key (map (λ e. e.key) d.entries)
+key_in d key i is =
+    let h = entry_at d key i is in
+    subst (λ (k : Key). IsIn k (map (λ e. e.key) d.entries)) h.own (in_map (λ (e : DictEntry). e.key) d.entries h.entry (in_at d.entries h.place h.entry h.at))
 
 -- the codes below n are known without vendor
 abbrev AreKnown : Dictionary → ℕ → Type 0
@@ -73,7 +82,7 @@ stranger_below d n is many small = by (known_or_not d n)
   where
     there : (code : ℕ) (o : Option ℕ) → entry_of d (key_at code) ≡ o → IsSome o → IsIn (key_at code) (map (λ e. e.key) d.entries)
     there code None e some = absurd (let bad : false ≡ true = some in cc)
-    there code (Some i) e some = let h = entry_at d (key_at code) i e in subst (λ (k : Key). IsIn k (map (λ e. e.key) d.entries)) h.own (in_keys d.entries h.place h.entry h.at)
+    there code (Some i) e some = key_in d (key_at code) i e
 
     by : AreKnown d n ⊎ ((code : ℕ) × (code < n) × (entry_of d (key_at code) ≡ None)) → (key : Key) × IsStranger d key
     by (inl all) =

@@ -34,7 +34,8 @@ IsFillerFloor d Listed lengths rules n = n ≤ too_long
 
 -- no group is shorter than its least level makes it
 abbrev pub AreAbove : Dictionary → Sends → List ℕ → Type 0
-AreAbove d sends lengths = (e : ℕ) (entry : DictEntry) (group : PlainDefinition) (filler : ℕ) → slice_get d.entries e ≡ Some entry → entry.group ≡ Some group → IsFillerFloor d sends lengths group.rules filler
+AreAbove d sends lengths =
+    (e : ℕ) (entry : DictEntry) (group : PlainDefinition) (filler : ℕ) → slice_get d.entries e ≡ Some entry → entry.group ≡ Some group → IsFillerFloor d sends lengths group.rules filler
     → group_length (length_of d sends lengths) filler entry.key group.rules ≤ entry_length lengths e
 
 -- the AVPs are not shorter than these lengths

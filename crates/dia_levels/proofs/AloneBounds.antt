@@ -20,21 +20,26 @@ use Rattle.dia_levels.proofs.LevelBounds.{floor_least, listed_at_least_within}
 use Rattle.dia_levels.proofs.LineBounds.{is_rule, no_rule}
 use Rattle.dia_levels.proofs.OtherBounds.{other_at_least_within}
 
-pub least_within : (listed other : Key → ℕ) (others : List Key) (a : List DRule) (n : ℕ) → AreRules a → n ≡ least_length listed other others a → OtherIsShortest other others a → IsWithinAll (price listed other a) a n
+pub least_within : (listed other : Key → ℕ) (others : List Key) (a : List DRule) (n : ℕ) → AreRules a → n ≡ least_length listed other others a → OtherIsShortest other others a
+    → IsWithinAll (price listed other a) a n
 least_within listed other others a n are is shortest = λ keys placed.
     let low = base_within listed (least_filler other others a) a in
     let all = floor_least a listed other (least_filler other others a) keys (rules_sound a are) placed (λ q i none. shortest q none) in
     omega (arith, is, low, all)
 
-once_within : (listed other : Key → ℕ) (others : List Key) (a : List DRule) (key : Key) (keys : List Key) (o : Option DRule) → AreSound a → Placed a keys → OtherIsShortest other others a → IsIn key keys → rule_of a key ≡ o
+once_within : (listed other : Key → ℕ) (others : List Key) (a : List DRule) (key : Key) (keys : List Key) (o : Option DRule) → AreSound a → Placed a keys → OtherIsShortest other others a
+    → IsIn key keys → rule_of a key ≡ o
     → once listed other (least_length listed other others a) (least_filler other others a) key o (wildcard_of a) ≤ total (price listed other a) keys
 once_within listed other others a key keys (Some r) sound placed shortest i e =
     let own = is_rule a key r e in
-    listed_at_least_within a listed other (least_filler other others a) keys sound placed (λ q j none. shortest q none) (least_length listed other others a) r key 1 (base_within listed (least_filler other others a) a) own.0 own.1
+    listed_at_least_within a listed other (least_filler other others a) keys sound placed (λ q j none. shortest q none) (least_length listed other others a) r key 1
+    (base_within listed (least_filler other others a) a) own.0 own.1
     (count_in (λ (q : Key). same_key q key) keys key i (same_key-refl key))
 once_within listed other others a key keys None sound placed shortest i e =
-    other_at_least_within a listed other (least_filler other others a) keys sound placed (λ q j none. shortest q none) (least_length listed other others a) (other key) 1 (λ q. same_key q key) (wildcard_of a) refl
-    (base_within listed (least_filler other others a) a) (shortest key (no_rule a key e)) (λ q j unlisted same. let own : other key ≡ other q = sym (ap other (same_key-true q key same)) in omega (arith, own)) (omega arith)
+    other_at_least_within a listed other (least_filler other others a) keys sound placed (λ q j none. shortest q none) (least_length listed other others a) (other key) 1 (λ q. same_key q key)
+    (wildcard_of a) refl
+    (base_within listed (least_filler other others a) a) (shortest key (no_rule a key e))
+    (λ q j unlisted same. let own : other key ≡ other q = sym (ap other (same_key-true q key same)) in omega (arith, own)) (omega arith)
     (count_in (λ (q : Key). not (is_listed a q) && same_key q key) keys key i (both (is_listed a key) (same_key key key) (no_rule a key e) (same_key-refl key)))
   where
     both : (t u : Bool) → t ≡ false → u ≡ true → (not t && u) ≡ true

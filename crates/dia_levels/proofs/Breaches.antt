@@ -1,16 +1,14 @@
 -- Keys are placed, or there is a breach, and not both.
-use Rattle.std.proofs.Common.{◌≡◌, ℕ, suc, ◌<◌, ◌≤◌, Bool, true, false, List, [], ◌∷◌, Option, Some, None, refl, sym, ap, subst, ◌∙◌, arith, inl, inr}
-use Rattle.std.specs.Prelude.{◌⊎◌, not, is_some, IsTrue, IfSome, slice_get, nat_lt}
+use Rattle.std.proofs.Common.{◌≡◌, ℕ, suc, ◌<◌, ◌≤◌, Bool, true, false, List, [], ◌∷◌, Option, Some, None, refl, sym, subst, ◌∙◌, arith, inl, inr}
+use Rattle.std.specs.Prelude.{◌⊎◌, IsTrue, IfSome, slice_get, nat_lt}
 use Rattle.std.specs.List.{AllByRecursion}
 use Rattle.std.proofs.lemmas.Bool.{ltb-true, ltb-false}
 use Rattle.std.proofs.lemmas.Option.{none-some, same_Some}
 use Rattle.dia_wire.specs.declared.Key.{Key}
 use Rattle.dia_book.specs.declared.DRule.{DRule}
-use Rattle.dia_check.specs.Valid.{InBounds, Placed, fixed_rules, is_listed, is_wildcard, has_wildcard}
-use Rattle.dia_compat.specs.Below.{HasRule, HasWildcard}
+use Rattle.dia_check.specs.Valid.{InBounds, Placed, fixed_rules, is_listed, has_wildcard}
 use Rattle.dia_compat.proofs.RunsOfFixedRules.{IsIn, in_all}
-use Rattle.dia_compat.proofs.MemberCounts.{at_in, in_contains, contains_in, all_in, in_any, none_or_some}
-use Rattle.dia_compat.proofs.PlacedInSecond.{is_listed_by}
+use Rattle.dia_compat.proofs.MemberCounts.{at_in, in_contains, contains_in, all_in, none_or_some}
 use Rattle.dia_levels.specs.CountsAndRanks.{AreSound, times, strangers, rank, InOrder, AreInPlace}
 use Rattle.dia_levels.specs.Breaches.{IsLate, Breach}
 use Rattle.dia_levels.specs.Breaches.Breach.{Few, Many, Not_allowed, Few_others, Many_others, Late}
@@ -159,14 +157,6 @@ placed_or_breach rules keys sound = by
       order = order;
     }))
 
--- keys that are not placed have a breach
-pub unplaced_breach : (rules : List DRule) (keys : List Key) → AreSound rules → (Placed rules keys → ⊥) → Breach rules keys
-unplaced_breach rules keys sound not_placed = by (placed_or_breach rules keys sound)
-  where
-    by : Placed rules keys ⊎ Breach rules keys → Breach rules keys
-    by (inl p) = absurd (not_placed p)
-    by (inr b) = b
-
 -- ---- and not both
 
 above_max : (m : Option ℕ) (max n : ℕ) → m ≡ Some max → IfSome m (λ k. n ≤ k) → max < n → ⊥
@@ -182,13 +172,3 @@ breach_unplaced rules keys sound breach placed = by breach (placed-in_place rule
     by (Few_others w h lt) p = let bounds = p.others w h in omega (arith, lt, bounds.0)
     by (Many_others w max h e lt) p = above_max w.max max (strangers rules keys) e (p.others w h).1 lt
     by (Late l) p = let le = order_at (fixed_rules rules) keys l.early l.late l.x l.y p.order l.is_x l.is_y l.behind in omega (arith, le, l.greater)
-
--- ---- a key that is not allowed
-
-pub unlisted_no_rule : (rules : List DRule) (k : Key) (r : DRule) → is_listed rules k ≡ false → HasRule rules k r → ⊥
-unlisted_no_rule rules k r none h = absurd (let e : true ≡ false = sym (is_listed_by rules k r (in_contains rules r h.0) h.1) ∙ none in cc)
-
-pub no_wildcard : (rules : List DRule) (w : DRule) → has_wildcard rules ≡ false → HasWildcard rules w → ⊥
-no_wildcard rules w none h =
-    let wild : is_wildcard w ≡ true = ap (λ (o : Option Key). not (is_some o)) h.1 in
-    absurd (let e : true ≡ false = sym (in_any is_wildcard rules w (in_contains rules w h.0) wild) ∙ none in cc)

@@ -157,7 +157,8 @@ any_order [] = tt
 any_order (k ∷ keys) = (all_in (λ (q : Key). rank [] k ≤ rank [] q) keys (λ q i. omega arith), any_order keys)
 
 -- keys in order by some rules are so by others that rank them alike
-order_as : (rules others : List DRule) (keys : List Key) → ((x y : Key) → IsIn x keys → IsIn y keys → rank rules x ≤ rank rules y → rank others x ≤ rank others y) → InOrder rules keys → InOrder others keys
+order_as : (rules others : List DRule) (keys : List Key) → ((x y : Key) → IsIn x keys → IsIn y keys → rank rules x ≤ rank rules y → rank others x ≤ rank others y) → InOrder rules keys
+    → InOrder others keys
 order_as rules others [] alike o = tt
 order_as rules others (k ∷ keys) alike o = (
   all_in (λ (q : Key). rank others k ≤ rank others q) keys (λ q i. alike k q (inl refl) (inr i) (in_all (λ (q : Key). rank rules k ≤ rank rules q) q keys o.0 i)),

@@ -54,9 +54,11 @@ the_wildcard b w sound has = by (wildcard_of b) refl
 
 -- each level is placed by the second definition, or shows one of these lines, or only its order is wrong
 abbrev pub OrLate : (Key → ℕ) → List DRule → List DRule → List Line → Type 0
-OrLate length a b lines = (keys : List Key) → Placed a keys → total length keys < too_long → Placed b keys ⊎ ((line : Line) × Contains lines line × Shows length a b keys line) ⊎ IsLate (fixed_rules b) keys
+OrLate length a b lines =
+    (keys : List Key) → Placed a keys → total length keys < too_long → Placed b keys ⊎ ((line : Line) × Contains lines line × Shows length a b keys line) ⊎ IsLate (fixed_rules b) keys
 
-module _ (f : Floor) (most : ℕ) (listed other : Key → ℕ) (a b : List DRule) (sound : AreSound a) (sound_b : AreSound b) (is : IsFloor f listed other a b) (wild : f.wild ≡ wildcard_of a) (lets : f.lets_in ≡ has_wildcard b)
+module _ (f : Floor) (most : ℕ) (listed other : Key → ℕ) (a b : List DRule) (sound : AreSound a) (sound_b : AreSound b) (is : IsFloor f listed other a b) (wild : f.wild ≡ wildcard_of a)
+    (lets : f.lets_in ≡ has_wildcard b)
     (is_most : IsLeastMost listed f a b most) where
   abbrev length : Key → ℕ
   length = price listed other a
@@ -74,19 +76,30 @@ module _ (f : Floor) (most : ℕ) (listed other : Key → ℕ) (a b : List DRule
       let short = lt-ltb (length_of reason f most listed other a b r) too_long (omega (arith, room, le)) in
       let is_line : line_of reason f most listed other a b r ≡ Some (record { reason = reason; key = r.key; behind = None; length = length_of reason f most listed other a b r }) =
       ap (λ (t : Bool). if t then Some (record { reason = reason; key = r.key; behind = None; length = length_of reason f most listed other a b r }) else None) short in
-      let there = in_filter_map (line_of reason f most listed other a b) rules r (record { reason = reason; key = r.key; behind = None; length = length_of reason f most listed other a b r }) i is_line in
-      (record { reason = reason; key = r.key; behind = None; length = length_of reason f most listed other a b r }, contains_in (lines_of f most listed other a b) (record { reason = reason; key = r.key; behind = None; length = length_of reason f most listed other a b r }) (into (record { reason = reason; key = r.key; behind = None; length = length_of reason f most listed other a b r }) there), (shows, le))
+      let there = in_filter_map (line_of reason f most listed other a b) rules r (record { reason = reason; key = r.key; behind = None; length = length_of reason f most listed other a b r }) i
+      is_line in (
+        record { reason = reason; key = r.key; behind = None; length = length_of reason f most listed other a b r },
+        contains_in (lines_of f most listed other a b)
+            (record { reason = reason; key = r.key; behind = None; length = length_of reason f most listed other a b r })
+            (into (record { reason = reason; key = r.key; behind = None; length = length_of reason f most listed other a b r }) there),
+        (shows, le),
+      )
 
   -- ---- where the lines of a reason stand
 
   in_missing : (line : Line) → IsIn line (lines_by Missing b) → IsIn line (lines_of f most listed other a b)
-  in_missing line i = in_left _ (lines_by TooManyOthers b) line (in_left _ (lines_by MissingOthers b) line (in_left _ (lines_by NotAllowedOther a) line (in_left _ (lines_by NotAllowed a) line (in_left (lines_by Missing b) (lines_by TooMany b) line i))))
+  in_missing line i =
+      in_left _ (lines_by TooManyOthers b) line
+      (in_left _ (lines_by MissingOthers b) line (in_left _ (lines_by NotAllowedOther a) line (in_left _ (lines_by NotAllowed a) line (in_left (lines_by Missing b) (lines_by TooMany b) line i))))
 
   in_too_many : (line : Line) → IsIn line (lines_by TooMany b) → IsIn line (lines_of f most listed other a b)
-  in_too_many line i = in_left _ (lines_by TooManyOthers b) line (in_left _ (lines_by MissingOthers b) line (in_left _ (lines_by NotAllowedOther a) line (in_left _ (lines_by NotAllowed a) line (in_right (lines_by Missing b) (lines_by TooMany b) line i))))
+  in_too_many line i =
+      in_left _ (lines_by TooManyOthers b) line
+      (in_left _ (lines_by MissingOthers b) line (in_left _ (lines_by NotAllowedOther a) line (in_left _ (lines_by NotAllowed a) line (in_right (lines_by Missing b) (lines_by TooMany b) line i))))
 
   in_not_allowed : (line : Line) → IsIn line (lines_by NotAllowed a) → IsIn line (lines_of f most listed other a b)
-  in_not_allowed line i = in_left _ (lines_by TooManyOthers b) line (in_left _ (lines_by MissingOthers b) line (in_left _ (lines_by NotAllowedOther a) line (in_right _ (lines_by NotAllowed a) line i)))
+  in_not_allowed line i =
+      in_left _ (lines_by TooManyOthers b) line (in_left _ (lines_by MissingOthers b) line (in_left _ (lines_by NotAllowedOther a) line (in_right _ (lines_by NotAllowed a) line i)))
 
   in_not_allowed_other : (line : Line) → IsIn line (lines_by NotAllowedOther a) → IsIn line (lines_of f most listed other a b)
   in_not_allowed_other line i = in_left _ (lines_by TooManyOthers b) line (in_left _ (lines_by MissingOthers b) line (in_right _ (lines_by NotAllowedOther a) line i))
@@ -118,7 +131,8 @@ module _ (f : Floor) (most : ℕ) (listed other : Key → ℕ) (a b : List DRule
       ap (λ (o : Option Key). option_map_or (λ k. option_map_or (λ m. at_least f listed other k (m + 1) (rule_of a k) f.wild) rule.max too_long) o too_long) has.1
       ∙ ap (λ (o : Option ℕ). option_map_or (λ m. at_least f listed other key (m + 1) (rule_of a key) f.wild) o too_long) is_max in
       let same = ap (λ (o : Option DRule). at_least f listed other key (max + 1) (rule_of a key) o) wild in
-      line_in keys TooMany b rule room (in_contains b rule has.0) (omega (arith, least, own, same)) in_too_many (subst (λ (o : Option Key). ShowsAt a b keys TooMany o) (sym has.1) (rule, max, has, is_max, above))
+      line_in keys TooMany b rule room (in_contains b rule has.0) (omega (arith, least, own, same)) in_too_many
+      (subst (λ (o : Option Key). ShowsAt a b keys TooMany o) (sym has.1) (rule, max, has, is_max, above))
 
   neither : (t u : Bool) → t ≡ false → u ≡ false → (t || u) ≡ false
   neither false false e g = refl
@@ -142,9 +156,11 @@ module _ (f : Floor) (most : ℕ) (listed other : Key → ℕ) (a b : List DRule
           let keyless = no_key w.0.key w.2 in
           let least = outside_within f listed other a b keys is sound placed key (in_contains keys key comes) e unlisted in
           let free : (f.lets_in || is_some w.0.key) ≡ false = neither f.lets_in (is_some w.0.key) (lets ∙ closed) (ap (λ (o : Option Key). is_some o) keyless) in
-          let own : not_allowed_other_length f w.0 ≡ other_at_least f.base (filler f) f.outer 1 f.wild = ap (λ (u : Bool). if u then too_long else other_at_least f.base (filler f) f.outer 1 f.wild) free in
+          let own : not_allowed_other_length f w.0 ≡ other_at_least f.base (filler f) f.outer 1 f.wild =
+          ap (λ (u : Bool). if u then too_long else other_at_least f.base (filler f) f.outer 1 f.wild) free in
           let same = ap (λ (o : Option DRule). other_at_least f.base (filler f) f.outer 1 o) wild in
-          line_in keys NotAllowedOther a w.0 room w.1 (omega (arith, least, own, same)) in_not_allowed_other (subst (λ (o : Option Key). ShowsAt a b keys NotAllowedOther o) (sym keyless) (key, comes, e, unlisted, closed))
+          line_in keys NotAllowedOther a w.0 room w.1 (omega (arith, least, own, same)) in_not_allowed_other
+          (subst (λ (o : Option Key). ShowsAt a b keys NotAllowedOther o) (sym keyless) (key, comes, e, unlisted, closed))
         where
           no_key : (o : Option Key) → not (is_some o) ≡ true → o ≡ None
           no_key None h = refl
@@ -156,7 +172,8 @@ module _ (f : Floor) (most : ℕ) (listed other : Key → ℕ) (a b : List DRule
       let free : (is_some w.key || (w.min == 0)) ≡ false = neither (is_some w.key) (w.min == 0) (ap (λ (o : Option Key). is_some o) has.1) (not_zero w.min (strangers b keys) below) in
       let own : missing_others_length f w ≡ few_others f (w.min - 1) f.wild = ap (λ (u : Bool). if u then too_long else few_others f (w.min - 1) f.wild) free in
       let same = ap (λ (o : Option DRule). few_others f (w.min - 1) o) wild in
-      line_in keys MissingOthers b w room (in_contains b w has.0) (omega (arith, least, own, same)) in_missing_others (subst (λ (o : Option Key). ShowsAt a b keys MissingOthers o) (sym has.1) (w, has, below))
+      line_in keys MissingOthers b w room (in_contains b w has.0) (omega (arith, least, own, same)) in_missing_others
+      (subst (λ (o : Option Key). ShowsAt a b keys MissingOthers o) (sym has.1) (w, has, below))
 
   many_by_wild : (keys : List Key) → Placed a keys → total length keys < too_long → (w : DRule) (max : ℕ) → HasWildcard b w → w.max ≡ Some max → max < strangers b keys → shown keys
   many_by_wild keys placed room w max has is_max above =
@@ -164,10 +181,12 @@ module _ (f : Floor) (most : ℕ) (listed other : Key → ℕ) (a b : List DRule
       let greatest_is : greatest b ≡ Some max = ap (λ (o : Option DRule). option_and_then (λ (r : DRule). r.max) o) the ∙ is_max in
       let cut = is_most max greatest_is in
       let least = many_others_within f listed other a b keys is sound placed (max + 1) cut.0 (omega (arith, above)) cut.2 in
-      let free : (is_some w.key || not (is_some w.max)) ≡ false = neither (is_some w.key) (not (is_some w.max)) (ap (λ (o : Option Key). is_some o) has.1) (ap (λ (o : Option ℕ). not (is_some o)) is_max) in
+      let free : (is_some w.key || not (is_some w.max)) ≡ false = neither (is_some w.key) (not (is_some w.max)) (ap (λ (o : Option Key). is_some o) has.1)
+      (ap (λ (o : Option ℕ). not (is_some o)) is_max) in
       let own : too_many_others_length most w ≡ most = ap (λ (u : Bool). if u then too_long else most) free in
       let same = cut.1 in
-      line_in keys TooManyOthers b w room (in_contains b w has.0) (omega (arith, least, own, same)) in_too_many_others (subst (λ (o : Option Key). ShowsAt a b keys TooManyOthers o) (sym has.1) (w, max, has, is_max, above))
+      line_in keys TooManyOthers b w room (in_contains b w has.0) (omega (arith, least, own, same)) in_too_many_others
+      (subst (λ (o : Option Key). ShowsAt a b keys TooManyOthers o) (sym has.1) (w, max, has, is_max, above))
 
   pub each_line : OrLate length a b (lines_of f most listed other a b)
   each_line keys placed room = by (placed_or_breach b keys sound_b)

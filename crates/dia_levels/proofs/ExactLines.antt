@@ -39,7 +39,8 @@ most_one listed f a b n m first long second long_too = by (greatest b) refl
     by None e = long e ∙ sym (long_too e)
     by (Some max) e = over_one listed f a b max n m (first max e) (second max e)
 
-pub counts_one : (listed other : Key → ℕ) (keys : List Key) (a b : List DRule) (first second : List Line) → AreCountLines listed other keys a b first → AreCountLines listed other keys a b second → first ≡ second
+pub counts_one : (listed other : Key → ℕ) (keys : List Key) (a b : List DRule) (first second : List Line) → AreCountLines listed other keys a b first → AreCountLines listed other keys a b second
+    → first ≡ second
 counts_one listed other keys a b first second one two =
     let f = floor_between listed other keys a b in
     one.3 ∙ ap (λ (most : ℕ). lines_of f most listed other a b) (most_one listed f a b one.0 two.0 one.1 one.2 two.1 two.2) ∙ sym two.3
@@ -167,7 +168,8 @@ module _ (f : Floor) (listed other : Key → ℕ) (a b : List DRule) (outer : Op
 
 -- ---- both
 
-pub lines_one : (listed other : Key → ℕ) (keys : List Key) (a b : List DRule) (first second : List Line) → AreLevelLines listed other keys a b first → AreLevelLines listed other keys a b second → first ≡ second
+pub lines_one : (listed other : Key → ℕ) (keys : List Key) (a b : List DRule) (first second : List Line) → AreLevelLines listed other keys a b first → AreLevelLines listed other keys a b second
+    → first ≡ second
 lines_one listed other keys a b first second one two =
     let counts = counts_one listed other keys a b one.0 two.0 one.3 two.3 in
     let orders = orders_one (floor_between listed other keys a b) listed other a b (find (is_outside a b) keys) b one.1 two.1 one.4 two.4 in

@@ -33,11 +33,13 @@ share_count s p (k ∷ keys) =
     step false c = refl
 
 -- of the keys by the wildcard those that the other does not list are what is left beside what the rules need
-pub outside_most : (a b : List DRule) (keys : List Key) (w : DRule) → AreSound a → Placed a keys → IsIn w a → w.key ≡ None → needed b a + others_that a (λ q. not (is_listed b q)) keys ≤ strangers b keys
+pub outside_most : (a b : List DRule) (keys : List Key) (w : DRule) → AreSound a → Placed a keys → IsIn w a → w.key ≡ None
+    → needed b a + others_that a (λ q. not (is_listed b q)) keys ≤ strangers b keys
 outside_most a b keys w sound placed i e =
     let all = others_most a b keys w sound placed i e in
     let same = share_count (λ (q : Key). not (is_listed b q)) (counts_key a w) keys in
-    let own : count_by (λ q. counts_key a w q && not (is_listed b q)) keys ≡ others_that a (λ q. not (is_listed b q)) keys = ap (λ (o : Option Key). count_by (λ q. by_key a q o && not (is_listed b q)) keys) e in
+    let own : count_by (λ q. counts_key a w q && not (is_listed b q)) keys ≡ others_that a (λ q. not (is_listed b q)) keys =
+    ap (λ (o : Option Key). count_by (λ q. by_key a q o && not (is_listed b q)) keys) e in
     omega (arith, all, same, own)
 
 module _ (f : Floor) (listed other : Key → ℕ) (a b : List DRule) (keys : List Key) (is : IsFloor f listed other a b) (sound : AreSound a) (placed : Placed a keys) where
@@ -75,7 +77,8 @@ module _ (f : Floor) (listed other : Key → ℕ) (a b : List DRule) (keys : Lis
           let own = is_wild a w e in
           let most = outside_most a b keys w sound placed own.0 own.1 in
           let need = is.needed in
-          refilled_within a listed other (filler f) keys sound placed (cheapest_of f listed other a b keys is sound placed) f.base f.inner (m - f.needed) (λ q. is_listed b q) (Some w) e is.base (omega arith)
+          refilled_within a listed other (filler f) keys sound placed (cheapest_of f listed other a b keys is sound placed) f.base f.inner (m - f.needed) (λ q. is_listed b q) (Some w) e is.base
+          (omega arith)
           (λ q i none also. is.inner q none also) (parted (m - f.needed) (omega (arith, most, need, few)))
 
       by : (t : Bool) → nat_le f.needed m ≡ t → (if t then refilled f.base (filler f) f.inner (m - f.needed) (wildcard_of a) else too_long) ≤ all_cost
@@ -85,8 +88,10 @@ module _ (f : Floor) (listed other : Key → ℕ) (a b : List DRule) (keys : Lis
   -- a key that neither lists
   pub outside_within : (k : Key) → IsIn k keys → is_listed a k ≡ false → is_listed b k ≡ false → other_at_least f.base (filler f) f.outer 1 (wildcard_of a) ≤ all_cost
   outside_within k i none free =
-      other_at_least_within a listed other (filler f) keys sound placed (cheapest_of f listed other a b keys is sound placed) f.base f.outer 1 (λ q. not (is_listed b q)) (wildcard_of a) refl is.base (omega arith)
-      (λ q j unlisted also. is.outer q unlisted (not_true (is_listed b q) also)) (omega arith) (count_in (λ (q : Key). not (is_listed a q) && not (is_listed b q)) keys k i (step (is_listed a k) (is_listed b k) none free))
+      other_at_least_within a listed other (filler f) keys sound placed (cheapest_of f listed other a b keys is sound placed) f.base f.outer 1 (λ q. not (is_listed b q)) (wildcard_of a) refl is.base
+      (omega arith)
+      (λ q j unlisted also. is.outer q unlisted (not_true (is_listed b q) also)) (omega arith)
+      (count_in (λ (q : Key). not (is_listed a q) && not (is_listed b q)) keys k i (step (is_listed a k) (is_listed b k) none free))
     where
       step : (t u : Bool) → t ≡ false → u ≡ false → (not t && not u) ≡ true
       step false false e h = refl

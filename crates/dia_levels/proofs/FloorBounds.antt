@@ -15,7 +15,8 @@ use Rattle.dia_levels.proofs.RuleSums.{sum_of}
 
 -- ---- the least level
 
-base_from : (listed : Key → ℕ) (filler start : ℕ) (rules : List DRule) → fold (λ sum rule. capped (sum + many rule.min (option_map_or listed rule.key filler))) start rules ≤ start + sum_of (rule_floor listed filler) rules
+base_from : (listed : Key → ℕ) (filler start : ℕ) (rules : List DRule)
+    → fold (λ sum rule. capped (sum + many rule.min (option_map_or listed rule.key filler))) start rules ≤ start + sum_of (rule_floor listed filler) rules
 base_from listed filler start [] = omega arith
 base_from listed filler start (r ∷ rules) =
     let ih = base_from listed filler (capped (start + many r.min (option_map_or listed r.key filler))) rules in
@@ -79,7 +80,8 @@ not_same (Some k) q other = by (same_key k q) refl
     by false e = e
 
 -- none of the keys that come by the wildcard and that the second definition lists takes less, but for the one that is left out
-pub inner_within : (other : Key → ℕ) (a b : List DRule) (except : Option Key) (q : Key) → is_listed a q ≡ false → is_listed b q ≡ true → except ≢ Some q → cheapest (inner_length other a except) b ≤ other q
+pub inner_within : (other : Key → ℕ) (a b : List DRule) (except : Option Key) (q : Key) → is_listed a q ≡ false → is_listed b q ≡ true → except ≢ Some q
+    → cheapest (inner_length other a except) b ≤ other q
 inner_within other a b except q unlisted listed apart =
     let s = rule_of_listed b q listed in
     let all = cheapest_in (inner_length other a except) too_long b s.0 s.1 in

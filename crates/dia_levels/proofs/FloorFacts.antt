@@ -55,7 +55,8 @@ is_floor f listed other keys a b base inner second outer need shortest = record 
 }
 
 -- what is left of what is wanted, where the count of what is needed is capped
-pub over_is : (listed : Key → ℕ) (f : Floor) (a b : List DRule) (max next wanted low n c : ℕ) (items : List Step) → max < 2 ^ 32 → f.needed ≡ needed_up b a → next ≡ max → wanted ≡ next + 1 - f.needed → low ≡ filler f
+pub over_is : (listed : Key → ℕ) (f : Floor) (a b : List DRule) (max next wanted low n c : ℕ) (items : List Step) → max < 2 ^ 32 → f.needed ≡ needed_up b a → next ≡ max → wanted ≡ next + 1 - f.needed
+    → low ≡ filler f
     → items ≡ steps listed low f.outer b wanted a → IsLeastTaken wanted items c → IsTakenInOrder wanted items c → n ≡ swapped f.base 0 c → IsLeastOver listed f a b max n
 over_is listed f a b max next wanted low n c items small need up left low_is all least taken length =
     let exact = needed_is b a in
@@ -74,11 +75,9 @@ most_at listed f a b max n is over = λ m e.
     let own : max ≡ m = ap (λ (o : Option ℕ). option_map_or (λ x. x) o max) same in
     subst (λ (k : ℕ). IsLeastOver listed f a b k n) own over
 
-pub most_none : (listed : Key → ℕ) (f : Floor) (a b : List DRule) (n : ℕ) → greatest b ≡ None → IsLeastMost listed f a b n
-most_none listed f a b n is = λ m e. absurd (none-some m (sym is ∙ e))
-
 -- of a length, or of none
-pub most_if : (listed : Key → ℕ) (f : Floor) (a b : List DRule) (max : ℕ) {E : Type 0} (r : Result ℕ E) → greatest b ≡ Some max → IfOk r (IsLeastOver listed f a b max) → IfOk r (IsLeastMost listed f a b)
+pub most_if : (listed : Key → ℕ) (f : Floor) (a b : List DRule) (max : ℕ) {E : Type 0} (r : Result ℕ E) → greatest b ≡ Some max → IfOk r (IsLeastOver listed f a b max)
+    → IfOk r (IsLeastMost listed f a b)
 most_if listed f a b max (Ok n) is over = most_at listed f a b max n is over
 most_if listed f a b max (Err e) is over = over
 
@@ -98,7 +97,8 @@ floor_is f listed other keys a b base inner first second outer need wild lets_in
     base ∙ ap (λ (n : ℕ). base_length listed (min n f.outer) a) inner ∙ ap (λ (n : ℕ). base_length listed (min inner_is n) a) outer in
     let first_is : f.first ≡ first_inner other a b = first ∙ ap (λ (n : ℕ). option_and_then (λ (r : DRule). r.key) (find (λ (r : DRule). inner_length other a None r == n) b)) inner in
     let second_is : f.second ≡ cheapest (inner_length other a (first_inner other a b)) b = second ∙ ap (λ (k : Option Key). cheapest (inner_length other a k) b) first_is in
-    made f.base (base_length listed (min inner_is outer_is) a) f.inner inner_is f.first (first_inner other a b) f.second (cheapest (inner_length other a (first_inner other a b)) b) f.outer outer_is f.needed (needed_up b a)
+    made f.base (base_length listed (min inner_is outer_is) a) f.inner inner_is f.first (first_inner other a b) f.second (cheapest (inner_length other a (first_inner other a b)) b) f.outer outer_is
+    f.needed (needed_up b a)
     f.wild (wildcard_of a) f.lets_in (has_wildcard b) base_is inner first_is second_is outer need wild lets_in
   where
     made : (b1 b2 i1 i2 : ℕ) (f1 f2 : Option Key) (s1 s2 o1 o2 n1 n2 : ℕ) (w1 w2 : Option DRule) (l1 l2 : Bool) → b1 ≡ b2 → i1 ≡ i2 → f1 ≡ f2 → s1 ≡ s2 → o1 ≡ o2 → n1 ≡ n2 → w1 ≡ w2 → l1 ≡ l2
@@ -109,8 +109,10 @@ floor_is f listed other keys a b base inner first second outer need wild lets_in
         ∙ ap (λ (v : Option DRule). floor_at b2 i2 f2 s2 o2 n2 v l1) ew ∙ ap (λ (v : Bool). floor_at b2 i2 f2 s2 o2 n2 w2 v) el
 
 -- the lines of counts, and behind them those of the order
-pub lines_exact : (f : Floor) (most : ℕ) (listed other : Key → ℕ) (keys : List Key) (a b : List DRule) (outer : Option Key) (lines all : List Line) → f ≡ floor_between listed other keys a b → IsLeastMost listed f a b most
-    → IsLongUnbounded b most → outer ≡ find (is_outside a b) keys → lines ≡ lines_of f most listed other a b → HasOrderLines f listed other a b outer lines all → AreLevelLines listed other keys a b all
+pub lines_exact : (f : Floor) (most : ℕ) (listed other : Key → ℕ) (keys : List Key) (a b : List DRule) (outer : Option Key) (lines all : List Line) → f ≡ floor_between listed other keys a b
+    → IsLeastMost listed f a b most
+    → IsLongUnbounded b most → outer ≡ find (is_outside a b) keys → lines ≡ lines_of f most listed other a b → HasOrderLines f listed other a b outer lines all
+    → AreLevelLines listed other keys a b all
 lines_exact f most listed other keys a b outer lines all is least none outer_is same has = (
   lines,
   has.0,
@@ -120,5 +122,6 @@ lines_exact f most listed other keys a b outer lines all is least none outer_is 
 )
 
 -- those of counts are among them
-pub counts_kept : (f : Floor) (listed other : Key → ℕ) (a b : List DRule) (outer : Option Key) (lines all : List Line) → HasOrderLines f listed other a b outer lines all → (line : Line) → Contains lines line → Contains all line
+pub counts_kept : (f : Floor) (listed other : Key → ℕ) (a b : List DRule) (outer : Option Key) (lines all : List Line) → HasOrderLines f listed other a b outer lines all → (line : Line)
+    → Contains lines line → Contains all line
 counts_kept f listed other a b outer lines all has line there = subst (λ (ls : List Line). Contains ls line) (sym has.1) (Contains-append_left lines has.0 line there)

@@ -105,7 +105,8 @@ above_either old_above old_here old_beside new_here offer is le (inr same) = by 
     by (inl kept) = inr (kept ∙ same)
     by (inr put) = inl (put.0 ∙ sym (is ∙ lesser_second old_above old_here offer put.0 put.1 le))
 
-pub differ_step : (f g : ℕ → Offer) (size node : ℕ) (offer : Offer) → 0 < node → MayDiffer f size node offer → MayFall (λ i. weight (f i)) size node (weight offer) → node < size → g node ≡ lesser (f node) offer
+pub differ_step : (f g : ℕ → Offer) (size node : ℕ) (offer : Offer) → 0 < node → MayDiffer f size node offer → MayFall (λ i. weight (f i)) size node (weight offer) → node < size
+    → g node ≡ lesser (f node) offer
     → ((i : ℕ) → i ≢ node → g i ≡ f i) → MayDiffer g size (node / 2) offer
 differ_step f g size node offer pos may falls within at other i some two = (λ apart. settled apart (i == node) refl, λ same. pending same)
   where
@@ -138,26 +139,31 @@ differ_step f g size node offer pos may falls within at other i some two = (λ a
         let low : weight (f i) ≤ weight (f node) = subst (λ (n : ℕ). weight (f n) ≤ weight (f node)) half le in
         by above low ((may i some two).0 apart) (i + i == node) refl
       where
-        by : g i ≡ f i → weight (f i) ≤ weight (f node) → (f i ≡ f (i + i)) ⊎ (f i ≡ f (i + i + 1)) → (t : Bool) → (i + i == node) ≡ t → (lesser (g i) offer ≡ g (i + i)) ⊎ (lesser (g i) offer ≡ g (i + i + 1))
+        by : g i ≡ f i → weight (f i) ≤ weight (f node) → (f i ≡ f (i + i)) ⊎ (f i ≡ f (i + i + 1)) → (t : Bool) → (i + i == node) ≡ t
+            → (lesser (g i) offer ≡ g (i + i)) ⊎ (lesser (g i) offer ≡ g (i + i + 1))
         by above low old true e =
             let here : i + i ≡ node = eqb-true (i + i) node e in
             let beside : g (i + i + 1) ≡ f (i + i + 1) = other (i + i + 1) (λ q. absurd (omega (arith, q, here))) in
-            first above here beside (above_either (f i) (f (i + i)) (f (i + i + 1)) (g (i + i)) offer (ap g here ∙ at ∙ ap (λ (n : ℕ). lesser (f n) offer) (sym here)) (subst (λ (n : ℕ). weight (f i) ≤ weight (f n)) (sym here) low) old)
+            first above here beside (above_either (f i) (f (i + i)) (f (i + i + 1)) (g (i + i)) offer (ap g here ∙ at ∙ ap (λ (n : ℕ). lesser (f n) offer) (sym here))
+            (subst (λ (n : ℕ). weight (f i) ≤ weight (f n)) (sym here) low) old)
           where
-            first : g i ≡ f i → i + i ≡ node → g (i + i + 1) ≡ f (i + i + 1) → (lesser (f i) offer ≡ g (i + i)) ⊎ (lesser (f i) offer ≡ f (i + i + 1)) → (lesser (g i) offer ≡ g (i + i)) ⊎ (lesser (g i) offer ≡ g (i + i + 1))
+            first : g i ≡ f i → i + i ≡ node → g (i + i + 1) ≡ f (i + i + 1) → (lesser (f i) offer ≡ g (i + i)) ⊎ (lesser (f i) offer ≡ f (i + i + 1))
+                → (lesser (g i) offer ≡ g (i + i)) ⊎ (lesser (g i) offer ≡ g (i + i + 1))
             first above here beside (inl h) = inl (ap (λ (o : Offer). lesser o offer) above ∙ h)
             first above here beside (inr h) = inr (ap (λ (o : Offer). lesser o offer) above ∙ h ∙ sym beside)
         by above low old false e =
             let not_first : i + i ≢ node = eqb-false (i + i) node e in
             let here : i + i + 1 ≡ node = omega (arith, not_first, same) in
             let beside : g (i + i) ≡ f (i + i) = other (i + i) not_first in
-            second above here beside (above_either (f i) (f (i + i + 1)) (f (i + i)) (g (i + i + 1)) offer (ap g here ∙ at ∙ ap (λ (n : ℕ). lesser (f n) offer) (sym here)) (subst (λ (n : ℕ). weight (f i) ≤ weight (f n)) (sym here) low) (turned old))
+            second above here beside (above_either (f i) (f (i + i + 1)) (f (i + i)) (g (i + i + 1)) offer (ap g here ∙ at ∙ ap (λ (n : ℕ). lesser (f n) offer) (sym here))
+            (subst (λ (n : ℕ). weight (f i) ≤ weight (f n)) (sym here) low) (turned old))
           where
             turned : {X Y : Type 0} → X ⊎ Y → Y ⊎ X
             turned (inl h) = inr h
             turned (inr h) = inl h
 
-            second : g i ≡ f i → i + i + 1 ≡ node → g (i + i) ≡ f (i + i) → (lesser (f i) offer ≡ g (i + i + 1)) ⊎ (lesser (f i) offer ≡ f (i + i)) → (lesser (g i) offer ≡ g (i + i)) ⊎ (lesser (g i) offer ≡ g (i + i + 1))
+            second : g i ≡ f i → i + i + 1 ≡ node → g (i + i) ≡ f (i + i) → (lesser (f i) offer ≡ g (i + i + 1)) ⊎ (lesser (f i) offer ≡ f (i + i))
+                → (lesser (g i) offer ≡ g (i + i)) ⊎ (lesser (g i) offer ≡ g (i + i + 1))
             second above here beside (inl h) = inr (ap (λ (o : Offer). lesser o offer) above ∙ h)
             second above here beside (inr h) = inl (ap (λ (o : Offer). lesser o offer) above ∙ h ∙ sym beside)
 
@@ -171,7 +177,8 @@ either_one nodes from to x y one two = by (nat_lt (weight y) (weight x))
     by false = one
 
 -- the lesser of what was found and the nodes at both ends
-pub ends_within : (nodes : List Offer) (from to low high : ℕ) (found next : Offer) → low < high → IsOneWithin nodes from to found → ((p : ℕ) → low ≤ p → p < high → IsOneWithin nodes from to (node_at nodes p))
+pub ends_within : (nodes : List Offer) (from to low high : ℕ) (found next : Offer) → low < high → IsOneWithin nodes from to found
+    → ((p : ℕ) → low ≤ p → p < high → IsOneWithin nodes from to (node_at nodes p))
     → next ≡ lesser found (lesser (node_at nodes low) (node_at nodes (high - 1))) → IsOneWithin nodes from to next
 ends_within nodes from to low high found next lt one rows is =
     subst (IsOneWithin nodes from to) (sym is) (either_one nodes from to found (lesser (node_at nodes low) (node_at nodes (high - 1))) one

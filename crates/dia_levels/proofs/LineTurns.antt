@@ -74,7 +74,8 @@ place_least rules k = by (position (lists_key k) rules) refl
     by (Some i) p =
         let r = at_position (lists_key k) rules i p in
         let there : place rules k ≡ place_of (length rules) (if is_fixed r.0 then slot.Fixed i else slot.Loose i) =
-        ap (λ (q : Option ℕ). place_of (length rules) (option_map_or (slot_at rules) q slot.Unlisted)) p ∙ ap (λ (o : Option DRule). place_of (length rules) (option_map_or (λ rule. if is_fixed rule then slot.Fixed i else slot.Loose i) o slot.Unlisted)) r.1 in
+        ap (λ (q : Option ℕ). place_of (length rules) (option_map_or (slot_at rules) q slot.Unlisted)) p
+        ∙ ap (λ (o : Option DRule). place_of (length rules) (option_map_or (λ rule. if is_fixed rule then slot.Fixed i else slot.Loose i) o slot.Unlisted)) r.1 in
         let le = slot_within i (is_fixed r.0) (within i r.0 r.1) in
         omega (arith, there, le)
 
@@ -125,7 +126,8 @@ others_strict base filler n p q None lt = by (n == 0)
     by false h = absurd (omega (arith, h))
 others_strict base filler n p q (Some w) lt = by (has_room n w.max)
   where
-    by : (t : Bool) → (if t then swapped base (many (min n w.min) filler) q else too_long) < too_long → (if t then swapped base (many (min n w.min) filler) p else too_long) < (if t then swapped base (many (min n w.min) filler) q else too_long)
+    by : (t : Bool) → (if t then swapped base (many (min n w.min) filler) q else too_long) < too_long
+        → (if t then swapped base (many (min n w.min) filler) p else too_long) < (if t then swapped base (many (min n w.min) filler) q else too_long)
     by true h = omega (arith, lt, h)
     by false h = absurd (omega (arith, h))
 
@@ -156,17 +158,20 @@ module _ (f : Floor) (listed other : Key → ℕ) (a b : List DRule) (y : Key) w
 
   pub pair_listed : (x : Key) → is_listed a x ≡ true → pair_length f listed other a y x ≡ pair_at 0 (beyond listed other x (rule_of a x))
   pair_listed x e =
-      ap (λ (o : Option DRule). with_others f.base (filler f) (by_wild o + by_wild (rule_of a y)) (capped (beyond listed other x (rule_of a x) + beyond listed other y (rule_of a y))) f.wild) (ruled a x e).1
+      ap (λ (o : Option DRule). with_others f.base (filler f) (by_wild o + by_wild (rule_of a y)) (capped (beyond listed other x (rule_of a x) + beyond listed other y (rule_of a y))) f.wild)
+      (ruled a x e).1
 
   pub pair_other : (x : Key) → is_listed a x ≡ false → pair_length f listed other a y x ≡ pair_at 1 (beyond listed other x (rule_of a x))
   pair_other x e =
-      ap (λ (o : Option DRule). with_others f.base (filler f) (by_wild o + by_wild (rule_of a y)) (capped (beyond listed other x (rule_of a x) + beyond listed other y (rule_of a y))) f.wild) (not_ruled a x e)
+      ap (λ (o : Option DRule). with_others f.base (filler f) (by_wild o + by_wild (rule_of a y)) (capped (beyond listed other x (rule_of a x) + beyond listed other y (rule_of a y))) f.wild)
+      (not_ruled a x e)
 
   pair_top : (w : ℕ) → pair_at w too_long ≡ too_long
   pair_top w = others_long f.base (filler f) (w + by_wild (rule_of a y)) (capped (too_long + beyond listed other y (rule_of a y))) f.wild (omega arith)
 
   pair_more : (w n m : ℕ) → n ≤ m → pair_at w n ≤ pair_at w m
-  pair_more w n m le = others_more f.base (filler f) (w + by_wild (rule_of a y)) (capped (n + beyond listed other y (rule_of a y))) (capped (m + beyond listed other y (rule_of a y))) f.wild (omega (arith, le))
+  pair_more w n m le =
+      others_more f.base (filler f) (w + by_wild (rule_of a y)) (capped (n + beyond listed other y (rule_of a y))) (capped (m + beyond listed other y (rule_of a y))) f.wild (omega (arith, le))
 
   pair_strict : (w n m : ℕ) → n < m → pair_at w m < too_long → pair_at w n < pair_at w m
   pair_strict w n m lt room = by (nat_lt (m + beyond listed other y (rule_of a y)) too_long) refl
@@ -174,7 +179,8 @@ module _ (f : Floor) (listed other : Key → ℕ) (a b : List DRule) (y : Key) w
       by : (t : Bool) → nat_lt (m + beyond listed other y (rule_of a y)) too_long ≡ t → pair_at w n < pair_at w m
       by true e =
           let own = ltb-true (m + beyond listed other y (rule_of a y)) too_long e in
-          others_strict f.base (filler f) (w + by_wild (rule_of a y)) (capped (n + beyond listed other y (rule_of a y))) (capped (m + beyond listed other y (rule_of a y))) f.wild (omega (arith, lt, own)) room
+          others_strict f.base (filler f) (w + by_wild (rule_of a y)) (capped (n + beyond listed other y (rule_of a y))) (capped (m + beyond listed other y (rule_of a y))) f.wild
+          (omega (arith, lt, own)) room
       by false e =
           let own = ltb-false (m + beyond listed other y (rule_of a y)) too_long e in
           let long = others_long f.base (filler f) (w + by_wild (rule_of a y)) (capped (m + beyond listed other y (rule_of a y))) f.wild (omega (arith, own)) in
@@ -247,7 +253,8 @@ module _ (f : Floor) (listed other : Key → ℕ) (a b : List DRule) (y : Key) w
         all_within z may true e = listed_within o low z may e
         all_within z may false e = others z may e
 
-        first : (x : Key) → o ≡ offer_of listed other a b x → is_listed a x ≡ true → pair_at 0 o.length < too_long → pair_length f listed other a y x ≡ pair_at 0 o.length → (z : Key) → MayStandBefore a b outer y z → (t : Bool) → is_listed a z ≡ t
+        first : (x : Key) → o ≡ offer_of listed other a b x → is_listed a x ≡ true → pair_at 0 o.length < too_long → pair_length f listed other a y x ≡ pair_at 0 o.length → (z : Key)
+            → MayStandBefore a b outer y z → (t : Bool) → is_listed a z ≡ t
             → (pair_length f listed other a y x ≤ pair_length f listed other a y z) × (pair_length f listed other a y x ≡ pair_length f listed other a y z → turn a b x ≤ turn a b z)
         first x is e room own z may true g =
             let by_weight = pair_by_weight 0 o.length (beyond listed other z (rule_of a z)) o.turn (own_index a b z) (small_index a b z are_a are_b) (low z may g) in
@@ -270,15 +277,18 @@ module _ (f : Floor) (listed other : Key → ℕ) (a b : List DRule) (y : Key) w
               of_x.2,
               λ z may. first of_x.0 of_x.1 of_x.3 room own z may (is_listed a z) refl,
               omega (arith, own, room),
-              ap (λ (k : Option Key). record { reason = Order; key = Some y; behind = k; length = pair_at 0 o.length }) (ap (λ (q : Offer). q.key) of_x.1) ∙ ap (λ (n : ℕ). record { reason = Order; key = Some y; behind = Some of_x.0; length = n }) (sym own),
+              ap (λ (k : Option Key). record { reason = Order; key = Some y; behind = k; length = pair_at 0 o.length }) (ap (λ (q : Offer). q.key) of_x.1)
+                  ∙ ap (λ (n : ℕ). record { reason = Order; key = Some y; behind = Some of_x.0; length = n }) (sym own),
             )
         by false e kind = λ z may. let le = all_within z may (is_listed a z) refl in let long = ltb-false (pair_at 0 o.length) too_long e in omega (arith, le, long)
 
     -- the line with another key, which is shorter than with any that is listed
-    pub other_line : (o q : Offer) → IsLeastOfKind true o → IsOfKind false q → IsLeastOfKind false q → pair_at 1 q.length < pair_at 0 o.length → IsOrderAt f listed other a b outer y (unless_long (line_of_offer f listed other a y 1 q))
+    pub other_line : (o q : Offer) → IsLeastOfKind true o → IsOfKind false q → IsLeastOfKind false q → pair_at 1 q.length < pair_at 0 o.length
+        → IsOrderAt f listed other a b outer y (unless_long (line_of_offer f listed other a y 1 q))
     other_line o q low kind low_too lt = by (nat_lt (pair_at 1 q.length) too_long) refl kind
       where
-        first : (x : Key) → q ≡ offer_of listed other a b x → is_listed a x ≡ false → pair_at 1 q.length < too_long → pair_length f listed other a y x ≡ pair_at 1 q.length → (z : Key) → MayStandBefore a b outer y z → (t : Bool) → is_listed a z ≡ t
+        first : (x : Key) → q ≡ offer_of listed other a b x → is_listed a x ≡ false → pair_at 1 q.length < too_long → pair_length f listed other a y x ≡ pair_at 1 q.length → (z : Key)
+            → MayStandBefore a b outer y z → (t : Bool) → is_listed a z ≡ t
             → (pair_length f listed other a y x ≤ pair_length f listed other a y z) × (pair_length f listed other a y x ≡ pair_length f listed other a y z → turn a b x ≤ turn a b z)
         first x is e room own z may true g =
             let le = listed_within o low z may g in
@@ -307,7 +317,8 @@ module _ (f : Floor) (listed other : Key → ℕ) (a b : List DRule) (y : Key) w
               of_x.2,
               λ z may. first of_x.0 of_x.1 of_x.3 room own z may (is_listed a z) refl,
               omega (arith, own, room),
-              ap (λ (k : Option Key). record { reason = Order; key = Some y; behind = k; length = pair_at 1 q.length }) (ap (λ (p : Offer). p.key) of_x.1) ∙ ap (λ (n : ℕ). record { reason = Order; key = Some y; behind = Some of_x.0; length = n }) (sym own),
+              ap (λ (k : Option Key). record { reason = Order; key = Some y; behind = k; length = pair_at 1 q.length }) (ap (λ (p : Offer). p.key) of_x.1)
+                  ∙ ap (λ (n : ℕ). record { reason = Order; key = Some y; behind = Some of_x.0; length = n }) (sym own),
             )
         by false e kind = λ z may. let le = all_within z may (is_listed a z) refl in let long = ltb-false (pair_at 1 q.length) too_long e in omega (arith, le, long)
 
@@ -321,7 +332,8 @@ module _ (f : Floor) (listed other : Key → ℕ) (a b : List DRule) (y : Key) w
           let to = one.2 in
           at (one.0 - (length a + 1)) (omega (arith, from)) (true_from.0 (one.0 - (length a + 1)) (omega (arith, to, within)))
         where
-          at : (p : ℕ) → length a + 1 + p ≡ one.0 → (node_at offers.nodes.items (length a + 1 + p) ≡ nothing) ⊎ ((x : Key) × IsOfOne listed other a b outer (place b y + 1) (node_at offers.nodes.items (length a + 1 + p)) x × (is_listed a x ≡ true) × (place a x ≡ p)) → IsOfKind true o
+          at : (p : ℕ) → length a + 1 + p ≡ one.0 → (node_at offers.nodes.items (length a + 1 + p) ≡ nothing) ⊎
+              ((x : Key) × IsOfOne listed other a b outer (place b y + 1) (node_at offers.nodes.items (length a + 1 + p)) x × (is_listed a x ≡ true) × (place a x ≡ p)) → IsOfKind true o
           at p same (inl none) = inl (one.3 ∙ ap (node_at offers.nodes.items) (sym same) ∙ none)
           at p same (inr own) =
               let to = one.2 in
@@ -354,7 +366,8 @@ module _ (f : Floor) (listed other : Key → ℕ) (a b : List DRule) (y : Key) w
       least_other z may e =
           let parts = turned_parts a b y z may.1 in
           let behind = parts.1 in
-          let own : weight (held a offers z) ≡ weight offers.other = ap (λ (r : Option DRule). weight (option_map_or (λ rule. node_at offers.nodes.items (length a + 1 + place a z)) r offers.other)) (not_ruled a z e) in
+          let own : weight (held a offers z) ≡ weight offers.other = ap (λ (r : Option DRule). weight (option_map_or (λ rule. node_at offers.nodes.items (length a + 1 + place a z)) r offers.other))
+          (not_ruled a z e) in
           let is = offered z may.0 (omega (arith, behind)) in
           omega (arith, own, is)
 

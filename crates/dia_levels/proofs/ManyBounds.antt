@@ -74,7 +74,8 @@ shares_cover f cost rules (k ∷ keys) cover =
 saved-append : (t : ℕ) (xs ys : List Step) → saved t (xs ++ ys) ≡ saved t xs + saved t ys
 saved-append t xs ys = sum_by-append (λ (step : Step). (t - step.length) * step.count) xs ys
 
-saved_sum : (t : ℕ) (listed : Key → ℕ) (low outer : ℕ) (b : List DRule) (wanted : ℕ) (rules : List DRule) → saved t (steps listed low outer b wanted rules) ≡ sum_of (λ r. saved t (steps_of listed low outer b wanted r)) rules
+saved_sum : (t : ℕ) (listed : Key → ℕ) (low outer : ℕ) (b : List DRule) (wanted : ℕ) (rules : List DRule)
+    → saved t (steps listed low outer b wanted rules) ≡ sum_of (λ r. saved t (steps_of listed low outer b wanted r)) rules
 saved_sum t listed low outer b wanted [] = refl
 saved_sum t listed low outer b wanted (r ∷ rules) =
     let ih = saved_sum t listed low outer b wanted rules in
@@ -229,12 +230,14 @@ module _ (f : Floor) (listed other : Key → ℕ) (a b : List DRule) (keys : Lis
           let own_floor = wild_floor a listed other (filler f) keys sound placed low r e in
           let need = needs_none b r e in
           let same = share_count (λ (q : Key). not (is_listed b q)) (counts_key a r) keys in
-          let all = wild_share a listed other (filler f) keys sound placed low r (λ q. not (is_listed b q)) f.outer i e (omega arith) (λ q j none free. is.outer q none (not_true (is_listed b q) free)) in
+          let all = wild_share a listed other (filler f) keys sound placed low r (λ q. not (is_listed b q)) f.outer i e (omega arith)
+          (λ q j none free. is.outer q none (not_true (is_listed b q) free)) in
           let within = within_counted r in
           let least = bounds.0 in
           let fits = room_fits wanted (counted a r keys) (min (outside r) (needs b r + wanted)) r bounds.1 (omega (arith, within)) (omega (arith, need)) in
           let outer_is : f.outer ≡ filler f + (f.outer - filler f) = omega arith in
-          let step = wild_numbers t (filler f) (f.outer - filler f) f.outer r.min (counted a r keys) (outside r) (min (outside r) (needs b r + wanted)) (room_above wanted r) outer_is least (omega arith) within fits in
+          let step = wild_numbers t (filler f) (f.outer - filler f) f.outer r.min (counted a r keys) (outside r) (min (outside r) (needs b r + wanted)) (room_above wanted r) outer_is least
+          (omega arith) within fits in
           let there : steps_of listed (filler f) f.outer b wanted r ≡ record { length = f.outer - filler f; count = r.min } ∷ record { length = f.outer; count = room_above wanted r } ∷ [] =
           ap (λ (o : Option Key). option_map_or (λ key. if is_listed b key then [] else record { length = listed key; count = room_above wanted r } ∷ []) o
           (record { length = f.outer - filler f; count = r.min } ∷ record { length = f.outer; count = room_above wanted r } ∷ [])) e in
@@ -249,7 +252,8 @@ module _ (f : Floor) (listed other : Key → ℕ) (a b : List DRule) (keys : Lis
   pub many_others_within : (m n : ℕ) → m ≤ strangers b keys → IsLeastTaken (m - needed b a) (steps listed (filler f) f.outer b (m - needed b a) a) n → swapped f.base 0 n ≤ all_cost
   many_others_within m n enough cut =
       let t = cut.0 in
-      let rules = sums_each (λ r. rule_floor listed (filler f) r + t * min (outside r) (needs b r + (m - needed b a))) (λ r. own r + t * needs b r + saved t (steps_of listed (filler f) f.outer b (m - needed b a) r)) a (each_rule t (m - needed b a)) in
+      let rules = sums_each (λ r. rule_floor listed (filler f) r + t * min (outside r) (needs b r + (m - needed b a)))
+      (λ r. own r + t * needs b r + saved t (steps_of listed (filler f) f.outer b (m - needed b a) r)) a (each_rule t (m - needed b a)) in
       let left = sum_add (rule_floor listed (filler f)) (λ r. t * min (outside r) (needs b r + (m - needed b a))) a in
       let left_times = sum_times t (λ r. min (outside r) (needs b r + (m - needed b a))) a in
       let right = sum_add (λ r. own r + t * needs b r) (λ r. saved t (steps_of listed (filler f) f.outer b (m - needed b a) r)) a in

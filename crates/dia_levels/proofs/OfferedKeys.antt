@@ -22,7 +22,7 @@ use Rattle.dia_levels.specs.declared.offers.Offer.{Offer}
 use Rattle.dia_levels.specs.declared.offers.Offers.{Offers}
 use Rattle.dia_levels.specs.Exact.{IsOrderAt, IsOrderOf, with_line, AreOrderLines, HasOrderLines}
 use Rattle.dia_levels.specs.LevelTests.{too_long}
-use Rattle.dia_levels.specs.Offers.{nothing, weight, offer_of, lesser, node_at, weight_at, held, IsOffered, AreLess, MayCome, AreOfferedFrom, IsOfOne, AreHeldFrom, IsOtherFrom, AreTrueFrom, HasLine, HasOrdersFrom}
+use Rattle.dia_levels.specs.Offers.{nothing, weight, offer_of, lesser, node_at, IsOffered, AreLess, MayCome, AreOfferedFrom, IsOfOne, AreHeldFrom, IsOtherFrom, AreTrueFrom, HasLine, HasOrdersFrom}
 use Rattle.dia_levels.specs.OrderTests.{is_turned, pair_length}
 use Rattle.dia_levels.specs.Places.{place_of, place, IsAtOrLast}
 use Rattle.dia_levels.proofs.LineTurns.{turned_parts, place_least, ruled_is, unruled_is}
@@ -36,20 +36,6 @@ kept listed other a b new old x less is = let le = less x in omega (arith, le, i
 
 pub less_twice : (a : List DRule) (new mid old : Offers) → AreLess a new mid → AreLess a mid old → AreLess a new old
 less_twice a new mid old first second = λ x. let le = first x in let more = second x in omega (arith, le, more)
-
-pub less_itself : (a : List DRule) (offers : Offers) → AreLess a offers offers
-less_itself a offers = λ x. omega arith
-
-pub offered_listed : (listed other : Key → ℕ) (a b : List DRule) (offers : Offers) (x : Key) (rule : DRule) → rule_of a x ≡ Some rule → weight_at offers.nodes.items (length a + 1 + place a x) ≤ weight (offer_of listed other a b x)
-    → IsOffered listed other a b offers x
-offered_listed listed other a b offers x rule is le =
-    let own : weight (held a offers x) ≡ weight_at offers.nodes.items (length a + 1 + place a x) = ap (λ (o : Option DRule). weight (option_map_or (λ rule. node_at offers.nodes.items (length a + 1 + place a x)) o offers.other)) is in
-    omega (arith, own, le)
-
-pub offered_other : (listed other : Key → ℕ) (a b : List DRule) (offers : Offers) (x : Key) → rule_of a x ≡ None → weight offers.other ≤ weight (offer_of listed other a b x) → IsOffered listed other a b offers x
-offered_other listed other a b offers x is le =
-    let own : weight (held a offers x) ≡ weight offers.other = ap (λ (o : Option DRule). weight (option_map_or (λ rule. node_at offers.nodes.items (length a + 1 + place a x)) o offers.other)) is in
-    omega (arith, own, le)
 
 module _ (listed other : Key → ℕ) (a b : List DRule) (outer : Option Key) where
   -- a leaf takes the offer of a key, or stays
@@ -83,7 +69,8 @@ module _ (listed other : Key → ℕ) (a b : List DRule) (outer : Option Key) wh
           stays p (others (length a + 1 + p) (omega (arith, size)) (λ q. absurd (apart (omega (arith, q, at))))) old_one
 
   -- of the others the lesser is kept
-  pub other_put : (from : ℕ) (old : Offer) (x : Key) → rule_of a x ≡ None → MayCome a b outer x → from ≤ place b x → IsOtherFrom listed other a b outer from old → IsOtherFrom listed other a b outer from (lesser old (offer_of listed other a b x))
+  pub other_put : (from : ℕ) (old : Offer) (x : Key) → rule_of a x ≡ None → MayCome a b outer x → from ≤ place b x → IsOtherFrom listed other a b outer from old
+      → IsOtherFrom listed other a b outer from (lesser old (offer_of listed other a b x))
   other_put from old x is may late before = by (nat_lt (weight (offer_of listed other a b x)) (weight old))
     where
       by : (t : Bool) → IsOtherFrom listed other a b outer from (if t then offer_of listed other a b x else old)
@@ -94,8 +81,10 @@ module _ (listed other : Key → ℕ) (a b : List DRule) (outer : Option Key) wh
   pub true_lower : (i : ℕ) (offers : Offers) → AreTrueFrom listed other a b outer (i + 1) offers → AreTrueFrom listed other a b outer i offers
   true_lower i offers before = (λ p within. leaf p (before.0 p within), others before.1)
     where
-      leaf : (p : ℕ) → (node_at offers.nodes.items (length a + 1 + p) ≡ nothing) ⊎ ((x : Key) × IsOfOne listed other a b outer (i + 1) (node_at offers.nodes.items (length a + 1 + p)) x × (is_listed a x ≡ true) × (place a x ≡ p))
-          → (node_at offers.nodes.items (length a + 1 + p) ≡ nothing) ⊎ ((x : Key) × IsOfOne listed other a b outer i (node_at offers.nodes.items (length a + 1 + p)) x × (is_listed a x ≡ true) × (place a x ≡ p))
+      leaf : (p : ℕ) → (node_at offers.nodes.items (length a + 1 + p) ≡ nothing) ⊎
+          ((x : Key) × IsOfOne listed other a b outer (i + 1) (node_at offers.nodes.items (length a + 1 + p)) x × (is_listed a x ≡ true) × (place a x ≡ p))
+          → (node_at offers.nodes.items (length a + 1 + p) ≡ nothing) ⊎ ((x : Key) × IsOfOne listed other a b outer i (node_at offers.nodes.items (length a + 1 + p)) x × (is_listed a x ≡ true)
+          × (place a x ≡ p))
       leaf p (inl none) = inl none
       leaf p (inr own) = let late = own.1.2 in inr (own.0, (own.1.0, own.1.1, omega (arith, late)), own.2, own.3)
 
@@ -104,7 +93,8 @@ module _ (listed other : Key → ℕ) (a b : List DRule) (outer : Option Key) wh
       others (inr own) = let late = own.1.2 in inr (own.0, (own.1.0, own.1.1, omega (arith, late)), own.2)
 
   -- nothing is offered
-  pub nothing_true : (from : ℕ) (offers : Offers) → ((i : ℕ) → i < length a + 1 + (length a + 1) → node_at offers.nodes.items i ≡ nothing) → offers.other ≡ nothing → AreTrueFrom listed other a b outer from offers
+  pub nothing_true : (from : ℕ) (offers : Offers) → ((i : ℕ) → i < length a + 1 + (length a + 1) → node_at offers.nodes.items i ≡ nothing) → offers.other ≡ nothing
+      → AreTrueFrom listed other a b outer from offers
   nothing_true from offers empty none = (λ p within. inl (empty (length a + 1 + p) (omega (arith, within))), inl none)
 
 -- ---- places
@@ -124,14 +114,16 @@ rule_there rules x within = by (position (lists_key x) rules) refl
         ∙ ap (λ (o : Option DRule). place_of (length rules) (option_map_or (λ rule. if is_fixed rule then slot.Fixed i else slot.Loose i) o slot.Unlisted)) r.1 in
         of i r.0 r.1 (key_of x r.0.key r.2) (is_fixed r.0) there
       where
-        of : (i : ℕ) (r : DRule) → slice_get rules i ≡ Some r → r.key ≡ Some x → (t : Bool) → place rules x ≡ place_of (length rules) (if t then slot.Fixed i else slot.Loose i) → (r : DRule) × (slice_get rules (place rules x) ≡ Some r) × (r.key ≡ Some x)
+        of : (i : ℕ) (r : DRule) → slice_get rules i ≡ Some r → r.key ≡ Some x → (t : Bool) → place rules x ≡ place_of (length rules) (if t then slot.Fixed i else slot.Loose i)
+            → (r : DRule) × (slice_get rules (place rules x) ≡ Some r) × (r.key ≡ Some x)
         of i r at e true there = (r, ap (slice_get rules) there ∙ at, e)
         of i r at e false there = let last : place rules x ≡ length rules = there in absurd (omega (arith, last, within))
 
 -- ---- rule by rule
 
 -- a key of one rule more
-pub one_rule_more : (rules : List DRule) (i : ℕ) (d : DRule) (x : Key) (P : Type 0) → i < length rules → (is_listed (take i rules) x ≡ true → P) → ((get_or rules i d).key ≡ Some x → P) → is_listed (take (i + 1) rules) x ≡ true → P
+pub one_rule_more : (rules : List DRule) (i : ℕ) (d : DRule) (x : Key) (P : Type 0) → i < length rules → (is_listed (take i rules) x ≡ true → P) → ((get_or rules i d).key ≡ Some x → P)
+    → is_listed (take (i + 1) rules) x ≡ true → P
 one_rule_more rules i d x P within before here e = by (is_listed (take i rules) x) refl (sym (list_any_more (lists_key x) rules i d within) ∙ e)
   where
     by : (t : Bool) → is_listed (take i rules) x ≡ t → (is_listed (take i rules) x || lists_key x (get_or rules i d)) ≡ true → P
@@ -172,7 +164,8 @@ module _ (f : Floor) (listed other : Key → ℕ) (a b : List DRule) (outer : Op
   pub order_lines_more : (i : ℕ) (d : DRule) (told : Option Line) (new old : List Line) → i < length b → IsOrderOf f listed other a b outer (get_or b i d).key told → new ≡ old ++ with_line told []
       → AreOrderLines f listed other a b outer (drop (i + 1) b) (reverse old) → AreOrderLines f listed other a b outer (drop i b) (reverse new)
   order_lines_more i d told new old within is same before =
-      subst (λ (rules : List DRule). AreOrderLines f listed other a b outer rules (reverse new)) (sym (drop-cons b i d within)) (told, reverse old, is, ap reverse same ∙ reverse-append old (with_line told []) ∙ by told, one)
+      subst (λ (rules : List DRule). AreOrderLines f listed other a b outer rules (reverse new)) (sym (drop-cons b i d within))
+      (told, reverse old, is, ap reverse same ∙ reverse-append old (with_line told []) ∙ by told, one)
     where
       by : (o : Option Line) → reverse (with_line o []) ++ reverse old ≡ with_line o (reverse old)
       by None = refl
@@ -206,7 +199,8 @@ module _ (f : Floor) (listed other : Key → ℕ) (a b : List DRule) (outer : Op
       let most = place_least b x in
       let own = rule_there b y (omega (arith, behind, most)) in
       let told = line_told b has.0 (place b y) own.0 has.2 own.1 in
-      by y x (may, turned) short told.0 (subst (λ (k : Option Key). IsOrderOf f listed other a b outer k told.0) own.2 told.1) (λ line e. subst (λ (ls : List Line). Contains ls line) (sym has.1) (Contains-append_right lines has.0 line (told.2 line e)))
+      by y x (may, turned) short told.0 (subst (λ (k : Option Key). IsOrderOf f listed other a b outer k told.0) own.2 told.1)
+      (λ line e. subst (λ (ls : List Line). Contains ls line) (sym has.1) (Contains-append_right lines has.0 line (told.2 line e)))
     where
       by : (y x : Key) → MayCome a b outer x × (is_turned a b y x ≡ true) → pair_length f listed other a y x < too_long → (told : Option Line) → IsOrderAt f listed other a b outer y told
           → ((line : Line) → told ≡ Some line → Contains all line) → HasLine all y (pair_length f listed other a y x)

@@ -31,7 +31,10 @@ pair_numbers : (base low cost out p into : ℕ) → base ≤ low → low ≤ cos
 pair_numbers base low cost out p into base_low least part le more = omega (arith, base_low, least, part, le, more)
 
 one_beyond : (least length : ℕ) → max 1 least * length ≡ least * length + (1 - least) * length
-one_beyond least length = let both : max 1 least * length ≡ (least + (1 - least)) * length = ap (λ (n : ℕ). n * length) (omega arith) in let parts = add-mul least (1 - least) length in omega (arith, both, parts)
+one_beyond least length =
+    let both : max 1 least * length ≡ (least + (1 - least)) * length = ap (λ (n : ℕ). n * length) (omega arith) in
+    let parts = add-mul least (1 - least) length in
+    omega (arith, both, parts)
 
 -- keys that pass one of two tests, which none passes both
 pub count_two : (p t u : Key → Bool) (keys : List Key) → ((q : Key) → t q ≡ true → u q ≡ true → ⊥) → count_by (λ q. p q && t q) keys + count_by (λ q. p q && u q) keys ≤ count_by p keys
@@ -135,11 +138,13 @@ module _ (f : Floor) (listed other : Key → ℕ) (a b : List DRule) (keys : Lis
   wild_one w y wild e i =
       let own_floor = wild.3 in
       let dear = low y i (no_rule a y e) in
-      let all = wild_share a listed other (filler f) keys sound placed low w (λ q. same_key q y) (other y) wild.0 wild.1 dear (λ q j none same. let is_own = other_is y q same in omega (arith, is_own)) in
+      let all = wild_share a listed other (filler f) keys sound placed low w (λ q. same_key q y) (other y) wild.0 wild.1 dear
+      (λ q j none same. let is_own = other_is y q same in omega (arith, is_own)) in
       let inside = count_mono (λ (q : Key). counts_key a w q && same_key q y) (counts_key a w) keys (λ q j h. first_of (counts_key a w q) (same_key q y) h) in
       let parts : other y ≡ filler f + (other y - filler f) = omega (arith, dear) in
       let bounds = bounds_of a listed other (filler f) keys sound placed low w wild.0 in
-      let step = more_of (counted a w keys) 1 w.min (count_by (λ q. counts_key a w q && same_key q y) keys) (filler f) (other y - filler f) (other y) (own w) parts bounds.0 (among w y wild.1 e i) inside all in
+      let step = more_of (counted a w keys) 1 w.min (count_by (λ q. counts_key a w q && same_key q y) keys) (filler f) (other y - filler f) (other y) (own w) parts bounds.0 (among w y wild.1 e i)
+      inside all in
       let one = one-mul (other y) in
       omega (arith, own_floor, step, one)
     where
@@ -174,7 +179,8 @@ module _ (f : Floor) (listed other : Key → ℕ) (a b : List DRule) (keys : Lis
       (λ q same same'. apart (sym (same_key-true q x same) ∙ same_key-true q y same')) in
       let bounds = bounds_of a listed other (filler f) keys sound placed low w wild.0 in
       let two = two_of w x y apart in
-      let step = both_of (counted a w keys) w.min (count_by (λ q. counts_key a w q && same_key q x) keys) (count_by (λ q. counts_key a w q && same_key q y) keys) (filler f) (other x - filler f) (other y - filler f) (other x) (other y) (own w)
+      let step = both_of (counted a w keys) w.min (count_by (λ q. counts_key a w q && same_key q x) keys) (count_by (λ q. counts_key a w q && same_key q y) keys) (filler f) (other x - filler f)
+      (other y - filler f) (other x) (other y) (own w)
       (omega (arith, dear)) (omega (arith, dear_y)) bounds.0 (among w x wild.1 e i) (among w y wild.1 e' j) two all in
       omega (arith, step, own_floor)
 
@@ -229,14 +235,17 @@ module _ (f : Floor) (listed other : Key → ℕ) (a b : List DRule) (keys : Lis
           let own_more = more in
           let short = first.2 in
           let also = second.2 in
-          pair_numbers f.base least all_cost 0 (beyond listed other x (Some r) + beyond listed other y (Some s)) ((1 - r.min) * listed x + (1 - s.min) * listed y) base all (omega arith) (omega (arith, short, also)) (omega (arith, own_more))
+          pair_numbers f.base least all_cost 0 (beyond listed other x (Some r) + beyond listed other y (Some s)) ((1 - r.min) * listed x + (1 - s.min) * listed y) base all (omega arith)
+          (omega (arith, short, also)) (omega (arith, own_more))
       by (Some w) e =
           let own_more = more in
           let short = first.2 in
           let also = second.2 in
-          with_wild w 0 (beyond listed other x (Some r) + beyond listed other y (Some s)) ((1 - r.min) * listed x + (1 - s.min) * listed y) (wild_of w e) (omega arith) (omega (arith, short, also)) (omega (arith, own_more))
+          with_wild w 0 (beyond listed other x (Some r) + beyond listed other y (Some s)) ((1 - r.min) * listed x + (1 - s.min) * listed y) (wild_of w e) (omega arith) (omega (arith, short, also))
+          (omega (arith, own_more))
 
-  one_by_wild : (x y : Key) (r : DRule) → rule_of a x ≡ Some r → rule_of a y ≡ None → IsIn x keys → IsIn y keys → (o : Option DRule) → wildcard_of a ≡ o → (p : ℕ) → p ≤ beyond listed other x (Some r) + beyond listed other y None
+  one_by_wild : (x y : Key) (r : DRule) → rule_of a x ≡ Some r → rule_of a y ≡ None → IsIn x keys → IsIn y keys → (o : Option DRule) → wildcard_of a ≡ o → (p : ℕ)
+      → p ≤ beyond listed other x (Some r) + beyond listed other y None
       → with_others f.base (filler f) 1 (capped p) o ≤ all_cost
   one_by_wild x y r e e' i j None wild p le = absurd (no_wild y e' j wild)
   one_by_wild x y r e e' i j (Some w) wild p le =

@@ -59,7 +59,8 @@ places_below rules x y are lt = by (placing rules x are) (placing rules y are)
 
 pub turned_test : (a b : List DRule) (x y : Key) → AreRules a → AreRules b → IsTurned a b x y → is_turned a b y x ≡ true
 turned_test a b x y are_a are_b t =
-    both_true (nat_le (place a x) (place a y)) (nat_lt (place b y) (place b x)) (le-leb (place a x) (place a y) (places_within a x y are_a t.first)) (lt-ltb (place b y) (place b x) (places_below b x y are_b t.second))
+    both_true (nat_le (place a x) (place a y)) (nat_lt (place b y) (place b x)) (le-leb (place a x) (place a y) (places_within a x y are_a t.first))
+    (lt-ltb (place b y) (place b x) (places_below b x y are_b t.second))
 
 -- a key that no rule lists stands behind them all
 unlisted_last : (rules : List DRule) (k : Key) → AreRules rules → is_listed rules k ≡ false → place rules k ≡ length rules
@@ -98,8 +99,10 @@ module _ (f : Floor) (listed other : Key → ℕ) (others : List Key) (a b : Lis
 
   same_pair : (y x o : Key) → rule_of a x ≡ None → rule_of a o ≡ None → other o ≤ other x → pair_length f listed other a y o ≤ pair_length f listed other a y x
   same_pair y x o none none_o le =
-      let more = others_more f.base (filler f) (1 + by_wild (rule_of a y)) (capped (capped (other o) + beyond listed other y (rule_of a y))) (capped (capped (other x) + beyond listed other y (rule_of a y))) f.wild (omega (arith, le)) in
-      subst (λ (p : Option DRule). with_others f.base (filler f) (by_wild p + by_wild (rule_of a y)) (capped (beyond listed other o p + beyond listed other y (rule_of a y))) f.wild ≤ pair_length f listed other a y x) (sym none_o)
+      let more = others_more f.base (filler f) (1 + by_wild (rule_of a y)) (capped (capped (other o) + beyond listed other y (rule_of a y)))
+      (capped (capped (other x) + beyond listed other y (rule_of a y))) f.wild (omega (arith, le)) in
+      subst (λ (p : Option DRule). with_others f.base (filler f) (by_wild p + by_wild (rule_of a y)) (capped (beyond listed other o p + beyond listed other y (rule_of a y))) f.wild ≤ pair_length f
+      listed other a y x) (sym none_o)
       (subst (λ (p : Option DRule). with_others f.base (filler f) (1 + by_wild (rule_of a y)) (capped (capped (other o) + beyond listed other y (rule_of a y))) f.wild
       ≤ with_others f.base (filler f) (by_wild p + by_wild (rule_of a y)) (capped (beyond listed other x p + beyond listed other y (rule_of a y))) f.wild) (sym none) more)
 
@@ -110,7 +113,8 @@ module _ (f : Floor) (listed other : Key → ℕ) (others : List Key) (a b : Lis
       ap (λ (n : ℕ). nat_le n (place a y) && nat_lt (place b y) (place b o)) first ∙ ap (λ (n : ℕ). nat_le (place a x) (place a y) && nat_lt (place b y) n) second ∙ h
 
   -- so a key for which a line was found is no matter
-  found_within : (lines : List Line) → HasOrdersFrom f listed other a b outer 0 lines → (keys : List Key) (y x : Key) → total (price listed other a) keys < too_long → IsIn x keys → is_turned a b y x ≡ true
+  found_within : (lines : List Line) → HasOrdersFrom f listed other a b outer 0 lines → (keys : List Key) (y x : Key) → total (price listed other a) keys < too_long → IsIn x keys
+      → is_turned a b y x ≡ true
       → pair_length f listed other a y x ≤ total (price listed other a) keys → HasLine lines y (total (price listed other a) keys)
   found_within lines orders keys y x room i turned le = by (is_listed a x) refl (is_listed b x) refl
     where
@@ -152,7 +156,8 @@ module _ (f : Floor) (listed other : Key → ℕ) (others : List Key) (a b : Lis
       let pair = pair_within f listed other a b keys is sound placed l.x l.y (rule_of a l.x) (rule_of a l.y) apart refl refl i j in
       let same : pair_length f listed other a l.y l.x
       ≡ with_others f.base (filler f) (by_wild (rule_of a l.x) + by_wild (rule_of a l.y)) (capped (beyond listed other l.x (rule_of a l.x) + beyond listed other l.y (rule_of a l.y))) (wildcard_of a) =
-      ap (λ (o : Option DRule). with_others f.base (filler f) (by_wild (rule_of a l.x) + by_wild (rule_of a l.y)) (capped (beyond listed other l.x (rule_of a l.x) + beyond listed other l.y (rule_of a l.y))) o) wild in
+      ap (λ (o : Option DRule). with_others f.base (filler f) (by_wild (rule_of a l.x) + by_wild (rule_of a l.y))
+      (capped (beyond listed other l.x (rule_of a l.x) + beyond listed other l.y (rule_of a l.y))) o) wild in
       let line = found_within lines orders keys l.y l.x room i (turned_test a b l.x l.y are_a are_b turned) (omega (arith, pair, same)) in (
         line.0,
         line.1,

@@ -22,7 +22,9 @@ use Rattle.dia_levels.proofs.LineBounds.{no_rule}
 
 -- the place of a fixed rule, or behind them all, as the rank is
 abbrev pub Placing : List DRule → Key → Type 0
-Placing rules k = ((place rules k ≡ rank (fixed_rules rules) k) × (rank (fixed_rules rules) k < length (fixed_rules rules))) ⊎ ((place rules k ≡ length rules) × (rank (fixed_rules rules) k ≡ length (fixed_rules rules)))
+Placing rules k =
+    ((place rules k ≡ rank (fixed_rules rules) k) × (rank (fixed_rules rules) k < length (fixed_rules rules))) ⊎
+    ((place rules k ≡ length rules) × (rank (fixed_rules rules) k ≡ length (fixed_rules rules)))
 
 rank_below : (rules : List DRule) (k : Key) (r : DRule) → IsIn r rules → r.key ≡ Some k → rank rules k < length rules
 rank_below [] k r i e = absurd i
@@ -55,13 +57,15 @@ placing rules k are = by (position (lists_key k) rules) refl
 
     of_rule : (i : ℕ) (r : DRule) (b : Bool) → is_fixed r ≡ b → position (lists_key k) rules ≡ Some i → slice_get rules i ≡ Some r → r.key ≡ Some k → Placing rules k
     of_rule i r true f p at e =
-        let own = slot_is (Some i) p ∙ ap (λ (o : Option DRule). option_map_or (λ rule. if is_fixed rule then slot.Fixed i else slot.Loose i) o slot.Unlisted) at ∙ ap (λ (b : Bool). if b then slot.Fixed i else slot.Loose i) f in
+        let own = slot_is (Some i) p ∙ ap (λ (o : Option DRule). option_map_or (λ rule. if is_fixed rule then slot.Fixed i else slot.Loose i) o slot.Unlisted) at
+        ∙ ap (λ (b : Bool). if b then slot.Fixed i else slot.Loose i) f in
         let there : place rules k ≡ i = ap (place_of (length rules)) own in
         let rank_is = rank_rule rules i r k are at f e in
         let below = rank_below (fixed_rules rules) k r (into_filter is_fixed rules r (in_at rules i r at) f) e in
         inl (omega (arith, there, rank_is), below)
     of_rule i r false f p at e =
-        let own = slot_is (Some i) p ∙ ap (λ (o : Option DRule). option_map_or (λ rule. if is_fixed rule then slot.Fixed i else slot.Loose i) o slot.Unlisted) at ∙ ap (λ (b : Bool). if b then slot.Fixed i else slot.Loose i) f in
+        let own = slot_is (Some i) p ∙ ap (λ (o : Option DRule). option_map_or (λ rule. if is_fixed rule then slot.Fixed i else slot.Loose i) o slot.Unlisted) at
+        ∙ ap (λ (b : Bool). if b then slot.Fixed i else slot.Loose i) f in
         let there : place rules k ≡ length rules = ap (place_of (length rules)) own in
         let rank_is = rank_other rules k (λ s has.
         let s_in = in_filter is_fixed rules s (in_contains (fixed_rules rules) s has.0) in
@@ -74,7 +78,9 @@ placing rules k are = by (position (lists_key k) rules) refl
         let own = slot_is None p in
         let there : place rules k ≡ length rules = ap (place_of (length rules)) own in
         let none = no_rule rules k (find-place (lists_key k) rules ∙ ap (λ (q : Option ℕ). option_and_then (slice_get rules) q) p) in
-        let rank_is = rank_other rules k (λ s has. let s_in = in_filter is_fixed rules s (in_contains (fixed_rules rules) s has.0) in not_both (is_listed rules k) (is_listed_by rules k s s_in.0 has.1) none) in
+        let rank_is = rank_other rules k (λ s has.
+        let s_in = in_filter is_fixed rules s (in_contains (fixed_rules rules) s has.0) in
+        not_both (is_listed rules k) (is_listed_by rules k s s_in.0 has.1) none) in
         inr (there, rank_is)
     by (Some i) p =
         let r = at_position (lists_key k) rules i p in

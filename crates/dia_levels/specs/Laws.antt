@@ -34,7 +34,8 @@ PlanIsPlaced = (rules : List DRule) (filler : Key) → AreRules rules → IsFill
 
 -- and no keys that do cost less, whatever keys cost
 abbrev pub PlanIsLeast : Type 0
-PlanIsLeast = (rules : List DRule) (filler : Key) (cost : Key → ℕ) (keys : List Key) → AreSound rules → Placed rules keys → IsCheapest 0 cost filler rules keys → total cost (plan filler rules) ≤ total cost keys
+PlanIsLeast =
+    (rules : List DRule) (filler : Key) (cost : Key → ℕ) (keys : List Key) → AreSound rules → Placed rules keys → IsCheapest 0 cost filler rules keys → total cost (plan filler rules) ≤ total cost keys
 
 -- no level of a definition that has a key is shorter than what is computed
 abbrev pub OnceIsLeast : Type 0

@@ -12,7 +12,7 @@ use std::alloc::{AllocError, Global};
 pub(crate) struct Offer {
     /// What it takes beyond the least level.
     pub length: u64,
-    /// Of two that take as much the one with the lesser turn comes first.
+    /// Of two offers that take as much, the one with the lesser turn is the lesser.
     pub turn: usize,
     /// None where nothing is offered.
     pub key: Option<Key>,
@@ -21,10 +21,10 @@ pub(crate) struct Offer {
 /// What is offered before the keys that come next.
 #[derive(Debug, Drop)]
 pub(crate) struct Offers {
-    /// The keys that the sender's definition lists. The second half has the least offer of each place; node `n` of the first
-    /// half has the least of the nodes `2n` and `2n + 1`.
+    /// A tree of the offers of keys that the sender's definition lists. The second half has the least offer of each place. Node
+    /// `n` of the first half has the lesser offer of the nodes `2n` and `2n + 1`.
     pub nodes: Vec<Offer>,
-    /// The least of the keys that the sender's definition doesn't list.
+    /// The least offer of a key that the sender's definition doesn't list.
     pub other: Offer,
 }
 

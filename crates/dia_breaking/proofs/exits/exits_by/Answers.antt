@@ -11,5 +11,6 @@ loop-rule-preserved g c =
     let lengths = c.args.lengths.now in
     let rules = c.args.rules.now in
     let i = c.loop-rule.rule-index in
-    one_exit_more (exit_by c.args.telling.now (listed_length (g.A.Book.meaning lengths.book.now) lengths.sends lengths.entries.items) c.args.cost.now) rules i _ c.exit_by.result c.loop-rule.listed.items
+    one_exit_more
+    (exit_by c.args.telling.now (listed_length (g.A.Book.meaning lengths.book.now) lengths.sends lengths.entries.items) c.args.cost.now) rules i _ c.exit_by.result c.loop-rule.listed.items
     c.push_exit.new.listed.items c.in_ok-push_exit.ensures c.exit_by.ensures c.loop-rule.invariant (slice_get-get_or rules i (record { kind = Fixed; key = None; min = 0; max = None }) (omega arith))

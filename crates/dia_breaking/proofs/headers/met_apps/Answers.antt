@@ -18,7 +18,8 @@ loop-app-preserved g c =
     → IsMetFor (g.B.Book.meaning c.args.b.now) found.sites.items found.lines.items head app in
     elim c.if-selects.branch [
       | then-selects+else-not-is_met_at w ↦ all_taken P apps i 0 (omega arith) c.loop-app.invariant (λ select. w.is_met_at.ensures w.if-not-is_met_at.false)
-      | else-selects w ↦ all_taken P apps i 0 (omega arith) c.loop-app.invariant (λ select. absurd (let e : false ≡ true = sym w.if-selects.false ∙ c.selects.ensures ∙ selects_it (g.A.Book.meaning c.args.a.now) found.command head _ select in cc))
+      | else-selects w ↦ all_taken P apps i 0 (omega arith) c.loop-app.invariant
+          (λ select. absurd (let e : false ≡ true = sym w.if-selects.false ∙ c.selects.ensures ∙ selects_it (g.A.Book.meaning c.args.a.now) found.command head _ select in cc))
     ]
 
 pub returns : goal.returns

@@ -8,8 +8,10 @@ loop-number-preserved c =
     let xs = c.args.numbers.now in
     let i = c.loop-number.number-index in
     elim c.if-number-least.branch [
-      | then-number-least w ↦ next_beside xs i c.loop-number.least c.if-number-least.least 0 c.loop-number-test.true c.requires w.if-number-least.true (w.least-is ∙ w.saturating_add-least.ensures) c.loop-number.invariant
-      | else-number-least w ↦ subst (IsLeastBeside xs (take (i + 1) xs)) (sym w.least-is) (other_number xs i c.loop-number.least 0 0 c.loop-number-test.true w.if-number-least.false c.loop-number.invariant)
+      | then-number-least w ↦ next_beside xs i c.loop-number.least c.if-number-least.least 0 c.loop-number-test.true c.requires w.if-number-least.true
+          (w.least-is ∙ w.saturating_add-least.ensures) c.loop-number.invariant
+      | else-number-least w ↦ subst (IsLeastBeside xs (take (i + 1) xs)) (sym w.least-is)
+          (other_number xs i c.loop-number.least 0 0 c.loop-number-test.true w.if-number-least.false c.loop-number.invariant)
     ]
 
 pub returns-clause-missing : goal.returns-clause-missing

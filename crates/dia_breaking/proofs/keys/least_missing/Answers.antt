@@ -12,4 +12,5 @@ returns-clause-below c = λ n less.
     (subst (λ (xs : List ℕ). Contains xs n) c.deref.ensures.value (c.least_beside.ensures.below n less))
 
 pub returns-clause-missing : goal.returns-clause-missing
-returns-clause-missing c = missing_before c.args.numbers.items c.in_ok-sorted.sorted.items c.deref.result.now c.least_beside.result c.in_ok-sorted.ensures.same c.deref.ensures.value c.least_beside.ensures.missing
+returns-clause-missing c =
+    missing_before c.args.numbers.items c.in_ok-sorted.sorted.items c.deref.result.now c.least_beside.result c.in_ok-sorted.ensures.same c.deref.ensures.value c.least_beside.ensures.missing

@@ -6,7 +6,8 @@ use Rattle.dia_breaking.proofs.keys.own_of.Goals as goal
 pub returns-clause-told : goal.returns-clause-told
 returns-clause-told g c = record {
   key_is = refl;
-  silent = λ e. silent_of (g.A.Book.meaning c.args.a.now) (g.B.Book.meaning c.args.b.now) c.args.sends c.args.unknown c.args.key c.avp_breaks-breaks.result c.avp_breaks-breaks.ensures.head c.avp_breaks-breaks.ensures.alone
+  silent = λ e. silent_of (g.A.Book.meaning c.args.a.now) (g.B.Book.meaning c.args.b.now) c.args.sends c.args.unknown c.args.key c.avp_breaks-breaks.result c.avp_breaks-breaks.ensures.head
+      c.avp_breaks-breaks.ensures.alone
       (c.breaks_alone.ensures.silent e);
   group = c.are_groups.ensures;
 }
@@ -16,6 +17,8 @@ returns-clause-exact g c =
     let breaks = c.avp_breaks-breaks in
     record {
       group = c.are_groups.ensures;
-      silent = exactly_silent (g.A.Book.meaning c.args.a.now) (g.B.Book.meaning c.args.b.now) c.args.sends c.args.unknown c.args.key breaks.result _ breaks.ensures.head breaks.ensures.content breaks.ensures.levels
+      silent =
+          exactly_silent (g.A.Book.meaning c.args.a.now)
+          (g.B.Book.meaning c.args.b.now) c.args.sends c.args.unknown c.args.key breaks.result _ breaks.ensures.head breaks.ensures.content breaks.ensures.levels
           c.breaks_alone.ensures.silent c.breaks_alone.ensures.heard;
     }

@@ -5,7 +5,8 @@ use Rattle.dia_breaking.proofs.lengths.stranger.Goals as goal
 
 pub unreachable-requires : goal.unreachable-requires
 unreachable-requires g c =
-    some_strange (g.A.Book.meaning c.args.a.now) (g.B.Book.meaning c.args.b.now) c.loop-code.code (g.met.A.Book.sound c.args.a.now) (g.met.B.Book.sound c.args.b.now) (omega (arith, c.loop-code-test.false))
+    some_strange (g.A.Book.meaning c.args.a.now) (g.B.Book.meaning c.args.b.now) c.loop-code.code (g.met.A.Book.sound c.args.a.now) (g.met.B.Book.sound c.args.b.now)
+    (omega (arith, c.loop-code-test.false))
     c.loop-code.invariant
 
 pub returns-then-is_strange-clause-exact : goal.returns-then-is_strange-clause-exact

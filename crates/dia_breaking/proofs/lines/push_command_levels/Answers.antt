@@ -16,4 +16,5 @@ loop-site-preserved c =
 
 pub returns : goal.returns
 returns c =
-    adds_each command_levels (map (λ found. found.items) c.args.start.now.levels.items) c.loop-site.site _ _ (omega (arith, length-map c.args.start.now.levels.items (λ found. found.items))) c.loop-site.invariant
+    adds_each command_levels (map (λ found. found.items) c.args.start.now.levels.items) c.loop-site.site _ _
+    (omega (arith, length-map c.args.start.now.levels.items (λ found. found.items))) c.loop-site.invariant

@@ -17,6 +17,7 @@ loop-one-preserved g c =
     let items = c.in_ok-push.ensures.items in record {
       keys = ap (map key) items ∙ map_push key old c.breaks_of.result ∙ ap₂ (λ (keys : List Key) (k : Key). keys ++ k ∷ []) c.loop-one.invariant.keys c.breaks_of.ensures.key
           ∙ sym (map_more (λ (one : Own). one.key) own c.loop-one.one-index _ (omega arith));
-      each = all_more (IsOwnBreaks (g.A.Book.meaning c.args.a.now) (g.B.Book.meaning c.args.b.now) lengths.sends c.args.unknown (listed_length (g.A.Book.meaning lengths.book.now) lengths.sends lengths.entries.items))
+      each = all_more (IsOwnBreaks (g.A.Book.meaning c.args.a.now) (g.B.Book.meaning c.args.b.now) lengths.sends c.args.unknown
+          (listed_length (g.A.Book.meaning lengths.book.now) lengths.sends lengths.entries.items))
           old c.breaks_of.result _ items c.loop-one.invariant.each c.breaks_of.ensures.breaks;
     }

@@ -10,7 +10,8 @@ loop-line-preserved c =
     let lines = c.args.lines.now in
     let there : Contains lines c.line-item.result = subst (Contains lines) (sym c.line-item.is) (c.lines_from-line-items.ensures c.loop-line.line-index c.line-item.result (omega arith)) in
     elim c.match-line.branch [
-      | in-Level+in_ok-push w ↦ all_more (IsToldAt lines c.args.site) c.loop-line.told.items w.in-Level.level c.match-line.told.items (ap (λ v. v.items) w.told-is ∙ w.in_ok-push.ensures.items) c.loop-line.invariant
+      | in-Level+in_ok-push w ↦ all_more (IsToldAt lines c.args.site) c.loop-line.told.items w.in-Level.level c.match-line.told.items (ap (λ v. v.items) w.told-is ∙ w.in_ok-push.ensures.items)
+          c.loop-line.invariant
           (c.line-item.result, there, omega (arith, c.if-line-site.false), w.in-Level.is)
       | in_default w ↦ subst (All (IsToldAt lines c.args.site)) (sym (ap (λ v. v.items) w.told-is)) c.loop-line.invariant
     ]

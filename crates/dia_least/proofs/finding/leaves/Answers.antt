@@ -16,7 +16,8 @@ loop-index-preserved g c =
       pushed_length _ _ _ i c.in_ok-push.ensures.items size,
       pushed_length _ _ _ i c.in_ok-push-2.ensures.items fillers,
       one_leaf_more entries c.loop-index.lengths.items _ i c.leaf_length.result size c.loop-index.invariant.2
-          (λ entry at. at_some (λ (e : DictEntry). IsLeafLength e c.leaf_length.result) (slice_get entries c.entry_at.result) entry c.leaf_length.ensures.leaf (ap (slice_get entries) c.entry_at.ensures ∙ at))
+          (λ entry at. at_some (λ (e : DictEntry). IsLeafLength e c.leaf_length.result) (slice_get entries c.entry_at.result) entry c.leaf_length.ensures.leaf
+          (ap (slice_get entries) c.entry_at.ensures ∙ at))
           c.in_ok-push.ensures.items,
       one_spelled_more entries i c.loop-index.invariant.3
           (λ entry at. at_some (λ (e : DictEntry). IsSpellable e.key) (slice_get entries c.entry_at.result) entry c.leaf_length.ensures.spelled (ap (slice_get entries) c.entry_at.ensures ∙ at)),
@@ -29,7 +30,8 @@ returns-clause-kept g c =
     let size = c.loop-index.invariant.0 in
     let fillers = c.loop-index.invariant.1 in
     leaves_kept d (record { sends = c.args.sends; unknown = c.unknown_key.result; lengths = c.loop-index.lengths; fillers = c.loop-index.fillers })
-    (g.met.B.Book.sound c.args.book.now) (omega (arith, size, done)) (omega (arith, fillers, done)) c.unknown_key.ensures (λ e entry within at. c.loop-index.invariant.2 e entry (omega (arith, within, done)) at)
+    (g.met.B.Book.sound c.args.book.now) (omega (arith, size, done)) (omega (arith, fillers, done)) c.unknown_key.ensures
+    (λ e entry within at. c.loop-index.invariant.2 e entry (omega (arith, within, done)) at)
 
 pub returns-clause-spelled : goal.returns-clause-spelled
 returns-clause-spelled g c =

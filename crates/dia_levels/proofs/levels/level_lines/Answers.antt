@@ -31,8 +31,10 @@ returns g c =
           c.in_ok-lines.ensures (counts_kept f listed other a b c.first_outside-outer.result c.in_ok-lines.lines.items c.in_ok-all.all.items has)
           (each_line f c.in_ok-most.most listed other a b (rules_sound a are_a) (rules_sound b are_b) floor facts.wild facts.lets_in c.in_ok-most.ensures.least)
           (late_shown f listed other others a b are_a are_b floor facts.wild c.requires.shortest c.in_ok-all.all.items
-          (subst (λ (o : Option Key). HasOrdersFrom f listed other a b o 0 c.in_ok-all.all.items) outer (orders_shown f listed other a b c.first_outside-outer.result c.in_ok-lines.lines.items c.in_ok-all.all.items has)));
+          (subst (λ (o : Option Key). HasOrdersFrom f listed other a b o 0 c.in_ok-all.all.items) outer
+          (orders_shown f listed other a b c.first_outside-outer.result c.in_ok-lines.lines.items c.in_ok-all.all.items has)));
       exact =
           lines_exact f c.in_ok-most.most listed other others a b c.first_outside-outer.result c.in_ok-lines.lines.items c.in_ok-all.all.items
-          (floor_is f listed other others a b facts.base facts.inner facts.first facts.second facts.outer facts.needed facts.wild facts.lets_in) c.in_ok-most.ensures.least c.in_ok-most.ensures.none outer c.in_ok-lines.ensures has;
+          (floor_is f listed other others a b facts.base facts.inner facts.first facts.second facts.outer facts.needed facts.wild facts.lets_in) c.in_ok-most.ensures.least c.in_ok-most.ensures.none
+          outer c.in_ok-lines.ensures has;
     }

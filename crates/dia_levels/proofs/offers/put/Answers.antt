@@ -8,7 +8,8 @@ use Rattle.dia_levels.proofs.LeastNodes.{MayFall, MayDiffer, lesser_weight, less
 use Rattle.dia_levels.proofs.offers.put.Goals as goal
 
 -- the leaf holds what it held, or the offer
-still_either : (f g : ℕ → Offer) (start : Offer) (leaf node : ℕ) (offer : Offer) → g node ≡ lesser (f node) offer → ((i : ℕ) → i ≢ node → g i ≡ f i) → (f leaf ≡ start) ⊎ (f leaf ≡ offer) → (g leaf ≡ start) ⊎ (g leaf ≡ offer)
+still_either : (f g : ℕ → Offer) (start : Offer) (leaf node : ℕ) (offer : Offer) → g node ≡ lesser (f node) offer → ((i : ℕ) → i ≢ node → g i ≡ f i) → (f leaf ≡ start) ⊎ (f leaf ≡ offer)
+    → (g leaf ≡ start) ⊎ (g leaf ≡ offer)
 still_either f g start leaf node offer at other before = by (leaf == node) refl before
   where
     same_put : (x : Offer) → x ≡ offer → lesser x offer ≡ offer
@@ -18,7 +19,8 @@ still_either f g start leaf node offer at other before = by (leaf == node) refl 
         of (inl kept) = kept ∙ e
         of (inr put) = put.0
 
-    here : leaf ≡ node → (lesser (f node) offer ≡ f node) ⊎ ((lesser (f node) offer ≡ offer) × (weight offer < weight (f node))) → (f leaf ≡ start) ⊎ (f leaf ≡ offer) → (g leaf ≡ start) ⊎ (g leaf ≡ offer)
+    here : leaf ≡ node → (lesser (f node) offer ≡ f node) ⊎ ((lesser (f node) offer ≡ offer) × (weight offer < weight (f node))) → (f leaf ≡ start) ⊎ (f leaf ≡ offer)
+        → (g leaf ≡ start) ⊎ (g leaf ≡ offer)
     here same (inl kept) (inl h) = inl (ap g same ∙ at ∙ kept ∙ ap f (sym same) ∙ h)
     here same (inl kept) (inr h) = inr (ap g same ∙ at ∙ kept ∙ ap f (sym same) ∙ h)
     here same (inr put) h = inr (ap g same ∙ at ∙ put.0)
@@ -29,7 +31,8 @@ still_either f g start leaf node offer at other before = by (leaf == node) refl 
     by false e (inr h) = inr (other leaf (eqb-false leaf node e) ∙ h)
 
 -- no node weighs more than before
-still_below : (f g : ℕ → Offer) (start : ℕ → ℕ) (node : ℕ) (offer : Offer) → g node ≡ lesser (f node) offer → ((i : ℕ) → i ≢ node → g i ≡ f i) → ((i : ℕ) → weight (f i) ≤ start i) → (i : ℕ) → weight (g i) ≤ start i
+still_below : (f g : ℕ → Offer) (start : ℕ → ℕ) (node : ℕ) (offer : Offer) → g node ≡ lesser (f node) offer → ((i : ℕ) → i ≢ node → g i ≡ f i) → ((i : ℕ) → weight (f i) ≤ start i) → (i : ℕ)
+    → weight (g i) ≤ start i
 still_below f g start node offer at other before i = by (i == node) refl
   where
     by : (t : Bool) → (i == node) ≡ t → weight (g i) ≤ start i
@@ -41,7 +44,8 @@ still_below f g start node offer at other before i = by (i == node) refl
     by false e = let own : weight (g i) ≡ weight (f i) = ap weight (other i (eqb-false i node e)) in let le = before i in omega (arith, own, le)
 
 -- the leaf weighs no more than the offer once it was put in
-still_there : (f g : ℕ → Offer) (leaf node : ℕ) (offer : Offer) → g node ≡ lesser (f node) offer → ((i : ℕ) → i ≢ node → g i ≡ f i) → node ≤ leaf → (node < leaf → weight (f leaf) ≤ weight offer) → weight (g leaf) ≤ weight offer
+still_there : (f g : ℕ → Offer) (leaf node : ℕ) (offer : Offer) → g node ≡ lesser (f node) offer → ((i : ℕ) → i ≢ node → g i ≡ f i) → node ≤ leaf → (node < leaf → weight (f leaf) ≤ weight offer)
+    → weight (g leaf) ≤ weight offer
 still_there f g leaf node offer at other within before = by (leaf == node) refl
   where
     by : (t : Bool) → (leaf == node) ≡ t → weight (g leaf) ≤ weight offer
@@ -56,7 +60,8 @@ still_there f g leaf node offer at other within before = by (leaf == node) refl
         omega (arith, own, le)
 
 -- the other leaves stay
-still_others : (f g start : ℕ → Offer) (size leaf node : ℕ) (offer : Offer) → ((i : ℕ) → i ≢ node → g i ≡ f i) → (node ≡ leaf) ⊎ (node + node < size) → ((i : ℕ) → size ≤ i + i → i ≢ leaf → f i ≡ start i)
+still_others : (f g start : ℕ → Offer) (size leaf node : ℕ) (offer : Offer) → ((i : ℕ) → i ≢ node → g i ≡ f i) → (node ≡ leaf) ⊎ (node + node < size)
+    → ((i : ℕ) → size ≤ i + i → i ≢ leaf → f i ≡ start i)
     → (i : ℕ) → size ≤ i + i → i ≢ leaf → g i ≡ start i
 still_others f g start size leaf node offer other row before i last apart = by row
   where
@@ -87,7 +92,8 @@ loop-node-preserved c =
       below = still_below (node_at nodes) (node_at next) (weight_at c.args.nodes.now) node c.args.offer at other inv.below;
       there = λ _. still_there (node_at nodes) (node_at next) c.args.leaf node c.args.offer at other inv.within inv.there;
       either = still_either (node_at nodes) (node_at next) (node_at c.args.nodes.now c.args.leaf) c.args.leaf node c.args.offer at other inv.either;
-      others = still_others (node_at nodes) (node_at next) (node_at c.args.nodes.now) (length c.args.nodes.now) c.args.leaf node c.args.offer other (subst (λ (n : ℕ). (node ≡ c.args.leaf) ⊎ (node + node < n)) inv.size inv.row) inv.others;
+      others = still_others (node_at nodes) (node_at next) (node_at c.args.nodes.now) (length c.args.nodes.now) c.args.leaf node c.args.offer other
+          (subst (λ (n : ℕ). (node ≡ c.args.leaf) ⊎ (node + node < n)) inv.size inv.row) inv.others;
       tree = subst (λ (n : ℕ). MayFall (weight_at next) n (node / 2) (weight c.args.offer)) (sym size) falls;
       attained = subst (λ (n : ℕ). MayDiffer (node_at next) n (node / 2) c.args.offer) (sym size) differs;
     }

@@ -4,5 +4,6 @@ use Rattle.dia_levels.proofs.plans.length_least.Goals as goal
 
 pub returns-clause-within : goal.returns-clause-within
 returns-clause-within g c =
-    least_within (g.C.Costs.listed_length c.args.costs.now) (g.C.Costs.other_length c.args.costs.now) (g.C.Costs.other_keys c.args.costs.now) (rules_in (g.A.Book.meaning c.args.a.now) c.args.a_def) c.least_length.result
+    least_within (g.C.Costs.listed_length c.args.costs.now) (g.C.Costs.other_length c.args.costs.now) (g.C.Costs.other_keys c.args.costs.now)
+    (rules_in (g.A.Book.meaning c.args.a.now) c.args.a_def) c.least_length.result
     c.is_sound.ensures c.least_length.ensures

@@ -7,4 +7,5 @@ use Rattle.dia_breaking.specs.Headers.{app_row}
 use Rattle.dia_breaking.proofs.apps.Apps.new.Given as goal
 
 abbrev pub invariant-loop-index : goal.invariant-loop-index
-invariant-loop-index g l = (code : ℕ) → unwrap_or (option_map (λ v. v.items) (get nat_eq l.by_code code)) [] ≡ filter_map (λ (c : PlainDefinition). app_row code c.head) (take l.index (g.B.Book.meaning l.book).commands)
+invariant-loop-index g l =
+    (code : ℕ) → unwrap_or (option_map (λ v. v.items) (get nat_eq l.by_code code)) [] ≡ filter_map (λ (c : PlainDefinition). app_row code c.head) (take l.index (g.B.Book.meaning l.book).commands)

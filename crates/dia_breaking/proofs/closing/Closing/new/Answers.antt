@@ -19,5 +19,6 @@ invariant_of-result g c =
       ways_are = c.in_ok-ways.ensures;
       own_keys_are = c.in_ok-own_keys.ensures;
       first = first_of other tells ways up.telling.value.own.items c.in_ok-others.others.items c.in_ok-others.ensures.sorted
-          (subst (λ owns. IsPermutation (map (other_of other tells ways) owns) c.in_ok-others.others.items) (c.deref-2.ensures.value ∙ ap (λ (t : Telling). t.own.items) c.deref.ensures) c.in_ok-others.ensures.all);
+          (subst (λ owns. IsPermutation (map (other_of other tells ways) owns) c.in_ok-others.others.items) (c.deref-2.ensures.value ∙ ap (λ (t : Telling). t.own.items) c.deref.ensures)
+          c.in_ok-others.ensures.all);
     }

@@ -18,6 +18,7 @@ returns-in-Some-clause-listing g c =
     let here = subst (λ found. IfSome found (λ (w : Walk). IsWalkFrom (is_some first) basis.graph w.steps.items w.reached.items)) c.in-Some.is walked in
     let sites = c.in_ok-sites.ensures ∙ ap (λ apps. command_sites (g.B.Book.meaning up.b.now) start.head apps) c.deref.ensures.value in
     when_two _ _ _ c.found_by.result (λ breaks are order. inr
-    (listing_of (g.B.Book.meaning up.b.now) basis first c.unwrap_or.result c.count_of.result c.in_ok-sites.sites.items walk.steps.items walk.reached.items breaks.sites.items (map tells breaks.lines.items)
+    (listing_of (g.B.Book.meaning up.b.now) basis first c.unwrap_or.result c.count_of.result c.in_ok-sites.sites.items walk.steps.items walk.reached.items breaks.sites.items
+    (map tells breaks.lines.items)
     (c.first_read-first.ensures ∙ ap first_read (c.deref-2.ensures.value ∙ sites)) c.unwrap_or.ensures (c.count_of.ensures ∙ ap length c.deref-3.ensures.value) sites here are order))
     c.found_by.ensures.sites c.found_by.ensures.lines

@@ -22,7 +22,8 @@ invariant_of-result g c =
     (c.deref-4.ensures.value ∙ ap (λ (t : Telling). t.own.items) c.deref-3.ensures) c.in_ok-own.ensures in record {
       same = c.in_ok-lengths.ensures.book;
       sender = c.in_ok-lengths.ensures.sends;
-      shortest = first_is_shortest (g.A.Book.meaning c.args.a.now) (g.B.Book.meaning c.args.b.now) c.in_ok-lengths.lengths.sends c.in_ok-lengths.lengths.entries.items c.in_ok-lengths.lengths.others.items
+      shortest =
+          first_is_shortest (g.A.Book.meaning c.args.a.now) (g.B.Book.meaning c.args.b.now) c.in_ok-lengths.lengths.sends c.in_ok-lengths.lengths.entries.items c.in_ok-lengths.lengths.others.items
           (g.met.A.Book.sound c.args.a.now) (g.met.B.Book.sound c.args.b.now) c.in_ok-lengths.ensures.others;
       floors = ∣ c.in_ok-lengths.ensures.floors ∣₁;
       told = ∣ subst (IsTelling (g.A.Book.meaning c.args.a.now) (g.B.Book.meaning c.args.b.now) c.args.sends c.args.unknown) (sym c.in_ok-telling.ensures.ok) c.in_ok-new.ensures.telling ∣₁;
@@ -34,9 +35,12 @@ invariant_of-result g c =
           let db = g.B.Book.meaning c.args.b.now in
           let lengths = c.in_ok-lengths.lengths in
           let d = g.A.Book.meaning lengths.book.now in
-          facts_found d da db lengths.sends c.args.sends c.args.unknown lengths.entries.items lengths.others.items _ _ _ (ap (λ book. g.A.Book.meaning book) c.in_ok-lengths.ensures.book) c.in_ok-lengths.ensures.sends
-          _ c.in_ok-lengths.ensures.least c.in_ok-lengths.ensures.entries c.in_ok-lengths.ensures.exact (subst (IsExactTelling da db c.args.sends c.args.unknown) (sym c.in_ok-telling.ensures.ok) c.in_ok-new.ensures.exact)
-          (subst (λ telling. AreOutlooks da db telling (listed_length d lengths.sends lengths.entries.items) (other_length d lengths.sends lengths.entries.items) lengths.others.items c.in_ok-outlooks.outlooks.items) c.deref.ensures c.in_ok-outlooks.ensures.exact)
+          facts_found d da db lengths.sends c.args.sends c.args.unknown lengths.entries.items lengths.others.items _ _ _
+          (ap (λ book. g.A.Book.meaning book) c.in_ok-lengths.ensures.book) c.in_ok-lengths.ensures.sends
+          _ c.in_ok-lengths.ensures.least c.in_ok-lengths.ensures.entries c.in_ok-lengths.ensures.exact
+          (subst (IsExactTelling da db c.args.sends c.args.unknown) (sym c.in_ok-telling.ensures.ok) c.in_ok-new.ensures.exact)
+          (subst (λ telling. AreOutlooks da db telling (listed_length d lengths.sends lengths.entries.items) (other_length d lengths.sends lengths.entries.items) lengths.others.items
+          c.in_ok-outlooks.outlooks.items) c.deref.ensures c.in_ok-outlooks.ensures.exact)
           c.in_ok-outlooks.ensures.levels owned)
           ∣₁;
       first_apps = subst (λ both. AreApps (g.A.Book.meaning c.args.a.now) both.first) (sym c.in_ok-apps.ensures.ok) c.in_ok-named.ensures.first;
@@ -46,7 +50,8 @@ invariant_of-result g c =
 pub outlooks-requires : goal.outlooks-requires
 outlooks-requires g c =
     let lengths = c.in_ok-lengths.lengths in
-    λ x y. subst (λ book. FirstIsShortest (other_length (g.A.Book.meaning book) lengths.sends lengths.entries.items) lengths.others.items (rules_in (g.A.Book.meaning c.args.a.now) x) (rules_in (g.B.Book.meaning c.args.b.now) y))
+    λ x y. subst (λ book. FirstIsShortest (other_length (g.A.Book.meaning book) lengths.sends lengths.entries.items) lengths.others.items (rules_in (g.A.Book.meaning c.args.a.now) x)
+    (rules_in (g.B.Book.meaning c.args.b.now) y))
     (sym c.in_ok-lengths.ensures.book)
     (first_is_shortest (g.A.Book.meaning c.args.a.now) (g.B.Book.meaning c.args.b.now) lengths.sends lengths.entries.items lengths.others.items
     (g.met.A.Book.sound c.args.a.now) (g.met.B.Book.sound c.args.b.now) c.in_ok-lengths.ensures.others x y)

@@ -32,12 +32,14 @@ returns-then-place-list g c = λ outer held offered.
     subst (λ (ns : List Offer). weight o ≤ weight_at ns i) c.deref.ensures.value
     (c.least_between-listed.ensures.least i (omega (arith, from, c.len-size.ensures, c.requires.offers.0)) (omega (arith, to, c.len-size.ensures, c.requires.offers.0, c.place-place.ensures))) in
     let found : IsOneWithin offers.nodes.items (length a + 1) (length a + 1 + place a y + 1) o =
-    found_in _ offers.nodes.items _ (length a + 1) _ (length a + 1 + place a y + 1) o c.deref.ensures.value (omega (arith, c.len-size.ensures, c.requires.offers.0)) (omega (arith, c.len-size.ensures, c.requires.offers.0, c.place-place.ensures))
+    found_in _ offers.nodes.items _ (length a + 1) _ (length a + 1 + place a y + 1) o c.deref.ensures.value (omega (arith, c.len-size.ensures, c.requires.offers.0))
+    (omega (arith, c.len-size.ensures, c.requires.offers.0, c.place-place.ensures))
     c.least_between-listed.ensures.attained in
     let kind = found_listed f listed other a b y outer first second offers held offered o (place_least a y) found in
     let least = least_listed f listed other a b y outer first second offers held offered o low in
     subst (λ (l : Line). IsOrderAt f listed other a b outer y (unless_long l)) (sym c.line_with-line.ensures)
-    (listed_line f listed other a b y outer first second o kind least (none_other f listed other a b y outer first second offers held offered o (omega (arith, c.if-place-list.true, c.place-place.ensures, ap length c.list.ensures))))
+    (listed_line f listed other a b y outer first second o kind least (none_other f listed other a b y outer first second offers held offered o
+    (omega (arith, c.if-place-list.true, c.place-place.ensures, ap length c.list.ensures))))
 
 pub returns-then-other-line : goal.returns-then-other-line
 returns-then-other-line g c = λ outer held offered.
@@ -56,7 +58,8 @@ returns-then-other-line g c = λ outer held offered.
     subst (λ (ns : List Offer). weight o ≤ weight_at ns i) c.deref.ensures.value
     (c.least_between-listed.ensures.least i (omega (arith, from, c.len-size.ensures, c.requires.offers.0)) (omega (arith, to, c.len-size.ensures, c.requires.offers.0, c.place-place.ensures))) in
     let found : IsOneWithin offers.nodes.items (length a + 1) (length a + 1 + place a y + 1) o =
-    found_in _ offers.nodes.items _ (length a + 1) _ (length a + 1 + place a y + 1) o c.deref.ensures.value (omega (arith, c.len-size.ensures, c.requires.offers.0)) (omega (arith, c.len-size.ensures, c.requires.offers.0, c.place-place.ensures))
+    found_in _ offers.nodes.items _ (length a + 1) _ (length a + 1 + place a y + 1) o c.deref.ensures.value (omega (arith, c.len-size.ensures, c.requires.offers.0))
+    (omega (arith, c.len-size.ensures, c.requires.offers.0, c.place-place.ensures))
     c.least_between-listed.ensures.attained in
     let kind = found_listed f listed other a b y outer first second offers held offered o (place_least a y) found in
     let least = least_listed f listed other a b y outer first second offers held offered o low in
@@ -65,7 +68,8 @@ returns-then-other-line g c = λ outer held offered.
     let two = ap (λ (l : Line). l.length) c.line_with-other.ensures in
     let last : length a ≤ place a y = omega (arith, c.if-place-list.false, c.place-place.ensures, ap length c.list.ensures) in
     subst (λ (l : Line). IsOrderAt f listed other a b outer y (unless_long l)) (sym c.line_with-other.ensures)
-    (other_line f listed other a b y outer first second o offers.other least (found_other f listed other a b y outer first second offers held offered last) (least_other f listed other a b y outer first second offers held offered)
+    (other_line f listed other a b y outer first second o offers.other least (found_other f listed other a b y outer first second offers held offered last)
+    (least_other f listed other a b y outer first second offers held offered)
     (omega (arith, lt, one, two)))
 
 pub returns-else-other-line : goal.returns-else-other-line
@@ -85,7 +89,8 @@ returns-else-other-line g c = λ outer held offered.
     subst (λ (ns : List Offer). weight o ≤ weight_at ns i) c.deref.ensures.value
     (c.least_between-listed.ensures.least i (omega (arith, from, c.len-size.ensures, c.requires.offers.0)) (omega (arith, to, c.len-size.ensures, c.requires.offers.0, c.place-place.ensures))) in
     let found : IsOneWithin offers.nodes.items (length a + 1) (length a + 1 + place a y + 1) o =
-    found_in _ offers.nodes.items _ (length a + 1) _ (length a + 1 + place a y + 1) o c.deref.ensures.value (omega (arith, c.len-size.ensures, c.requires.offers.0)) (omega (arith, c.len-size.ensures, c.requires.offers.0, c.place-place.ensures))
+    found_in _ offers.nodes.items _ (length a + 1) _ (length a + 1 + place a y + 1) o c.deref.ensures.value (omega (arith, c.len-size.ensures, c.requires.offers.0))
+    (omega (arith, c.len-size.ensures, c.requires.offers.0, c.place-place.ensures))
     c.least_between-listed.ensures.attained in
     let kind = found_listed f listed other a b y outer first second offers held offered o (place_least a y) found in
     let least = least_listed f listed other a b y outer first second offers held offered o low in

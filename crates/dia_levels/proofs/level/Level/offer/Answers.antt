@@ -27,7 +27,8 @@ returns-in-Some-clause-true_still g c = λ outer from before may late.
     let whole = put_whole c.args.offers.now.nodes.len new items (size ∙ ap length c.deref_mut.ensures.value) (size ∙ c.deref_mut.ensures.len) in
     let here : (node_at new leaf ≡ node_at old leaf) ⊎ (node_at new leaf ≡ offer_of listed other a b x) =
     subst (λ (o : Offer). (node_at new leaf ≡ node_at old leaf) ⊎ (node_at new leaf ≡ o)) c.offer_of-offer.ensures c.put.ensures.either in
-    let held = held_put listed other a b outer from leaf new old x c.in-Some.field-0 (omega (arith, c.len.ensures, c.place.ensures, c.requires.0)) (c.deref_mut.ensures.len ∙ c.requires.0) here c.put.ensures.others
+    let held = held_put listed other a b outer from leaf new old x c.in-Some.field-0 (omega (arith, c.len.ensures, c.place.ensures, c.requires.0)) (c.deref_mut.ensures.len ∙ c.requires.0) here
+    c.put.ensures.others
     (sym c.rule.ensures ∙ c.in-Some.is) may late (subst (AreHeldFrom listed other a b outer from) (sym c.deref_mut.ensures.value) before.0) in
     (subst (AreHeldFrom listed other a b outer from) (sym whole) held, before.1)
 
@@ -44,5 +45,8 @@ returns-in-None-clause-true_still g c = λ outer from before may late.
     let b = rules_in (g.B.Book.meaning self.b.book.now) self.b.def in
     let listed = g.C.Costs.listed_length self.costs.now in
     let other = g.C.Costs.other_length self.costs.now in
-    let old = c.args.offers.now.other in
-    (before.0, subst (IsOtherFrom listed other a b outer from) (sym (c.lesser-offers.ensures ∙ ap (lesser old) c.offer_of-offer.ensures)) (other_put listed other a b outer from old c.args.x (sym c.rule.ensures ∙ c.in-None.is) may late before.1))
+    let old = c.args.offers.now.other in (
+      before.0,
+      subst (IsOtherFrom listed other a b outer from) (sym (c.lesser-offers.ensures ∙ ap (lesser old) c.offer_of-offer.ensures))
+          (other_put listed other a b outer from old c.args.x (sym c.rule.ensures ∙ c.in-None.is) may late before.1),
+    )

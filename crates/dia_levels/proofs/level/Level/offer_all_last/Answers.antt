@@ -25,6 +25,8 @@ loop-rule-preserved g c =
       offers = c.offer_last.ensures.offers;
       less = less_twice a new old c.args.offers.now c.offer_last.ensures.less inv.less;
       offered = λ x lists last.
-          one_rule_more rules i d x (IsOffered listed other a b new x) within (λ before. kept listed other a b new old x c.offer_last.ensures.less (inv.offered x before last)) (λ here. c.offer_last.ensures.offered x here last) lists;
-      true_still = λ outer before may. c.offer_last.ensures.true_still outer (inv.true_still outer before may) (λ x is. may x (listed_at rules i (get_or rules i d) x (slice_get-get_or rules i d within) is));
+          one_rule_more rules i d x (IsOffered listed other a b new x) within (λ before. kept listed other a b new old x c.offer_last.ensures.less (inv.offered x before last))
+          (λ here. c.offer_last.ensures.offered x here last) lists;
+      true_still = λ outer before may. c.offer_last.ensures.true_still outer (inv.true_still outer before may)
+          (λ x is. may x (listed_at rules i (get_or rules i d) x (slice_get-get_or rules i d within) is));
     }

@@ -16,5 +16,6 @@ invariant-loop-rule g l =
       offers : AreOffers a l.offers;
       less : AreLess a l.offers l.fn.offers;
       offered : (x : Key) → is_listed (take l.rule-index l.rules) x ≡ true → place b x ≡ length b → IsOffered listed other a b l.offers x;
-      true_still : (outer : Option Key) → AreTrueFrom listed other a b outer (length b) l.fn.offers → ((x : Key) → is_listed l.rules x ≡ true → MayCome a b outer x) → AreTrueFrom listed other a b outer (length b) l.offers;
+      true_still : (outer : Option Key) → AreTrueFrom listed other a b outer (length b) l.fn.offers → ((x : Key) → is_listed l.rules x ≡ true → MayCome a b outer x)
+          → AreTrueFrom listed other a b outer (length b) l.offers;
     }

@@ -17,6 +17,7 @@ returns-then-place-at g c = λ outer held offered.
     let y = c.in-Some.y in
     let offers = c.args.offers.now in
     let at : c.args.at ≡ place b y = sym c.if-place-at.true ∙ c.place.ensures in
-    let line = c.line_at.ensures outer (subst (λ (n : ℕ). AreTrueFrom listed other a b outer (n + 1) offers) at held) (subst (λ (n : ℕ). AreOfferedFrom listed other a b outer (n + 1) offers) at offered) in
+    let line = c.line_at.ensures outer (subst (λ (n : ℕ). AreTrueFrom listed other a b outer (n + 1) offers) at held)
+    (subst (λ (n : ℕ). AreOfferedFrom listed other a b outer (n + 1) offers) at offered) in
     subst (λ (key : Option Key). IsOrderOf self.floor listed other a b outer key c.unless_long.result) (sym c.in-Some.is)
     (subst (λ (told : Option Line). IsOrderAt self.floor listed other a b outer y told) (sym c.unless_long.ensures) line)
