@@ -1,6 +1,8 @@
 pub mod InRange
 pub mod Shortest
 pub mod Confirmed
+mod Standings
+mod FormatData
 pub mod SentKeys
 pub mod Tellings
 mod OwnBreaks

@@ -1,4 +1,4 @@
--- The keys that the sender's side sends, and one that neither dictionary knows.
+-- The keys of the AVPs that the sender's side may send, and one that neither dictionary knows.
 use Rattle.std.proofs.Common.{◌≡◌, ℕ, ◌<◌, Bool, List, [], ◌∷◌, ◌++◌, Option, Some, None, refl, sym, ap, subst, arith, inl, inr}
 use Rattle.std.specs.Prelude.{◌⊎◌, not, is_some, IsSome, Contains}
 use Rattle.std.proofs.lemmas.List.{length-append, length-map}

@@ -9,10 +9,10 @@ use Rattle.dia_breaking.specs.declared.line.Line.{Line}
 use Rattle.dia_breaking.specs.Confirmed.{told_of}
 use Rattle.dia_breaking.specs.declared.exits.Inner.{Inner}
 use Rattle.dia_breaking.specs.declared.exits.Outlook.{Outlook}
-use Rattle.dia_breaking.specs.Listing.{Told, tells, unchecked, AddsTold, HasUnproved, level_lines, lines_in}
+use Rattle.dia_breaking.specs.Listing.{Told, tells, unchecked, AddsTold, level_lines, lines_in}
 use Rattle.dia_breaking.specs.Orders.{joined, of_each}
 use Rattle.std.specs.List.{filter_map}
-use Rattle.dia_breaking.proofs.Lists.{same_image, filter_map_more}
+use Rattle.dia_breaking.proofs.Lists.{filter_map_more}
 
 -- nothing more
 pub adds_none : (lines : List Line) → AddsTold lines lines []
@@ -63,12 +63,6 @@ tells_images (x ∷ xs) = ap (λ zs. tells x ∷ zs) (tells_images xs)
 
 pub tells_kept : (xs ys : List Line) → map unchecked xs ≡ map unchecked ys → map tells xs ≡ map tells ys
 tells_kept xs ys same = sym (tells_images xs) ∙ ap (map tells) same ∙ tells_images ys
-
--- so a line that tells that something isn't proved stays one
-pub unproved_kept : (xs ys : List Line) → map unchecked xs ≡ map unchecked ys → HasUnproved ys → HasUnproved xs
-unproved_kept xs ys same (line, inside, is) =
-    let r = same_image unchecked ys xs line (sym same) inside in
-    (r.0, r.1, ap (λ (l : Line). l.cause) r.2 ∙ is)
 
 -- an AVP that is no group of both has no lines of levels
 pub adds_no_level : (site way : ℕ) (outlooks : List Outlook) (place : ℕ) (outlook : Outlook) (lines : List Line) → slice_get outlooks place ≡ Some outlook → outlook.inner ≡ None

@@ -1,5 +1,5 @@
 -- What two checks of a message show: one under the sender's dictionary, one under the receiver's.
-use Rattle.std.specs.Prelude.{◌≡◌, ℕ, List, All, Some, Contains, slice_get}
+use Rattle.std.specs.Prelude.{◌≡◌, ◌≢◌, ⊤, ℕ, ◌-◌, nat_le, Bool, true, false, not, ◌&&◌, if◌then◌else◌, List, [], ◌∷◌, All, Some, Contains, slice_get}
 use Rattle.dia_book.specs.Dictionary.{Dictionary, PlainDefinition, definitions}
 use Rattle.dia_policy.specs.declared.Unknown.{Unknown}
 use Rattle.dia_policy.specs.declared.Levels.TheVariants as levels
@@ -9,16 +9,19 @@ use Rattle.dia_check.specs.Valid.{IsValid, IsValidOf}
 use Rattle.dia_sites.specs.Sent.{own_policy, Breaks}
 use Rattle.dia_compat.specs.TableText.{PlainTable}
 use Rattle.dia_breaking.specs.declared.line.Cause.{Cause}
+use Rattle.dia_breaking.specs.declared.line.Cause.TheVariants as causes
 use Rattle.dia_breaking.specs.declared.line.Line.{Line}
-use Rattle.dia_breaking.specs.declared.line.Standing.TheVariants.{Confirmed}
+use Rattle.dia_breaking.specs.declared.line.Standing.{Standing}
+use Rattle.dia_breaking.specs.declared.line.Standing.TheVariants.{Confirmed, Unchecked, Undecided}
 
--- the message breaks the command c; where all AVPs have to be listed, it is only known to be valid for a sender that sends what it knows
+-- the message is valid for the sender, as one of the command c, and not for the receiver. Where all AVPs have to be listed, it is only known to
+-- be valid for a sender that sends what it knows
 abbrev pub IsConfirmed : Dictionary → Dictionary → Sends → Unknown → List ℕ → ℕ → Type 0
 IsConfirmed da db Any u bytes c = Breaks da db Any u bytes c
 IsConfirmed da db Known u bytes c = Breaks da db Known u bytes c
 IsConfirmed da db Listed u bytes c = IsValidOf da (own_policy Listed) levels.Any bytes c × (¬ IsValid db u levels.Any bytes)
 
--- each line that is told as confirmed has a message that breaks the command c
+-- each line that is told as confirmed has such a message
 abbrev pub EachConfirmedBreaks : Dictionary → Dictionary → Sends → Unknown → ℕ → List Line → Type 0
 EachConfirmedBreaks da db who u c lines = All (λ line. line.standing ≡ Confirmed → (bytes : List ℕ) × IsConfirmed da db who u bytes c) lines
 
@@ -29,6 +32,43 @@ told_of line = (line.site, line.cause)
 -- none of the lines is told so
 abbrev pub NoneConfirmed : List Line → Type 0
 NoneConfirmed lines = All (λ line. ¬ (line.standing ≡ Confirmed)) lines
+
+-- ---- which messages are checked
+
+-- the most bytes of a message that is checked
+abbrev pub most_checked : ℕ
+most_checked = 1048576
+
+-- the most bytes of all messages of a command that are checked
+abbrev pub most_checked_together : ℕ
+most_checked_together = 16777216
+
+-- no message is known that breaks so
+abbrev pub has_no_message : Cause → Bool
+has_no_message (causes.LevelAsLeaf key) = true
+has_no_message causes.Unproved = true
+has_no_message cause = false
+
+-- the line's message is checked, where so many bytes are left for this and the lines behind
+abbrev pub is_checked : ℕ → Line → Bool
+is_checked left line = not (has_no_message line.cause) && (nat_le line.length most_checked && nat_le line.length left)
+
+-- what is left for the lines behind
+abbrev pub left_behind : ℕ → Line → ℕ
+left_behind left line = if is_checked left line then left - line.length else left
+
+-- a line without message is undecided; one whose message is checked has been; and one whose message is too long hasn't
+pub record IsStandingOf (left : ℕ) (line : Line) (standing : Standing) : Type 0 where
+  pub undecided : has_no_message line.cause ≡ true → standing ≡ Undecided
+  pub checked : is_checked left line ≡ true → standing ≢ Unchecked
+  pub too_long : has_no_message line.cause ≡ false → is_checked left line ≡ false → standing ≡ Unchecked
+
+-- so it is with each line, from the first on
+abbrev pub HaveStandings : ℕ → List Line → Type 0
+HaveStandings left [] = ⊤
+HaveStandings left (line ∷ lines) = IsStandingOf left line line.standing × HaveStandings (left_behind left line) lines
+
+-- ---- a command that a table lists
 
 -- the table has a pair of the command c
 abbrev pub ListsCommand : Dictionary → PlainTable → ℕ → Type 0

@@ -1,5 +1,5 @@
 -- The lines of a command, by what they tell.
-use Rattle.std.specs.Prelude.{◌≡◌, ℕ, ◌+◌, ◌-◌, min, nat_le, Bool, true, false, not, ◌&&◌, if◌then◌else◌, List, [], ◌∷◌, ◌++◌, length, map, Option, Some, None, option_and_then, is_some, option_to_list, slice_get, unwrap_or, Contains}
+use Rattle.std.specs.Prelude.{◌≡◌, ℕ, ◌+◌, ◌-◌, min, nat_le, Bool, true, false, not, ◌&&◌, if◌then◌else◌, List, [], ◌∷◌, ◌++◌, length, map, Option, Some, None, option_and_then, is_some, option_to_list, slice_get, unwrap_or}
 use Rattle.std.specs.List.{filter_map}
 use Rattle.std.specs.Option.{option_map, option_map_or}
 use Rattle.dia_wire.specs.declared.Key.{Key}
@@ -63,9 +63,9 @@ new_line site cause size = record { site = site; cause = cause; length = size; s
 abbrev pub unchecked : Line → Line
 unchecked line = record line { standing = Unchecked }
 
--- a line says that it isn't shown that nothing else breaks
-abbrev pub HasUnproved : List Line → Type 0
-HasUnproved lines = (line : Line) × Contains lines line × (line.cause ≡ causes.Unproved)
+-- that it isn't shown that nothing else breaks
+abbrev pub not_shown : Told
+not_shown = record { site = 0; cause = causes.Unproved; length = 0 }
 
 -- ---- headers
 

@@ -1,4 +1,4 @@
--- The keys that the sender's side sends.
+-- The keys of the AVPs that the sender's side may send: all that A knows, also those of which no message can hold an AVP.
 use Rattle.std.specs.Prelude.{◌≡◌, ◌≤◌, Bool, not, List, [], ◌∷◌, ◌++◌, map, filter, None, is_some, IsSome, Contains}
 use Rattle.dia_wire.specs.declared.Key.{Key}
 use Rattle.dia_book.specs.Dictionary.{Dictionary, entry_of}
@@ -38,7 +38,7 @@ is_unknown d key = not (is_some (entry_of d key))
 abbrev pub keys_of_b_alone : Dictionary → Dictionary → List Key
 keys_of_b_alone da db = filter (is_unknown da) (entry_keys db)
 
--- the keys of which A's side sends AVPs, in the order of their lines: those that A knows; and where it sends any, those that B alone knows, and the stranger
+-- the keys of the AVPs that A's side may send, in the order of their lines: those that A knows; and where it sends any, those that B alone knows, and the stranger
 abbrev pub AreSentInOrder : Dictionary → Dictionary → Sends → List Key → Type 0
 AreSentInOrder da db Any keys = (stranger : Key) × IsStranger da db stranger × (keys ≡ (entry_keys da ++ keys_of_b_alone da db) ++ stranger ∷ [])
 AreSentInOrder da db Known keys = keys ≡ entry_keys da

@@ -83,7 +83,7 @@ pub record AreExactlyTold (da db : Dictionary) (who : Sends) (u : Unknown) (keys
   pub told_are : telling.own.items ≡ filter is_told all
   pub have_places : (own : Own) → Contains telling.own.items own → IsSome (get same_key telling.places own.key)
 
--- of all keys of which A's side sends AVPs exactly that is told of which there is something to tell, in their order, and each key has its place
+-- of all keys of AVPs that A's side may send exactly that is told of which there is something to tell, in their order, and each key has its place
 pub record IsExactTelling (da db : Dictionary) (who : Sends) (u : Unknown) (telling : Telling) : Type 0 where
   pub keys : List Key
   pub all : List Own

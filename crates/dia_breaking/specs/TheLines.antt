@@ -1,5 +1,5 @@
 -- The one list of lines that a command has.
-use Rattle.std.specs.Prelude.{◌≡◌, ◌⊎◌, ℕ, ◌<◌, nat_le, Bool, true, false, List, [], ◌∷◌, length, map, Option, MatchOption, All, IfSome, Some, slice_get}
+use Rattle.std.specs.Prelude.{◌≡◌, ℕ, ◌<◌, nat_le, Bool, true, false, List, [], ◌∷◌, ◌++◌, length, map, Option, MatchOption, All, IfSome, IsSome, Some, slice_get}
 use Rattle.dia_wire.specs.declared.Key.{Key}
 use Rattle.dia_book.specs.Dictionary.{Dictionary, definitions, selected}
 use Rattle.dia_policy.specs.declared.Sends.{Sends}
@@ -15,6 +15,7 @@ use Rattle.dia_breaking.specs.declared.exits.Exits.{Exits}
 use Rattle.dia_breaking.specs.declared.exits.Outlook.{Outlook}
 use Rattle.dia_breaking.specs.declared.heads.Head.{Head}
 use Rattle.dia_breaking.specs.declared.keys.Telling.{Telling}
+use Rattle.dia_breaking.specs.declared.line.Breaks.{Breaks}
 use Rattle.dia_breaking.specs.declared.line.Line.{Line}
 use Rattle.dia_breaking.specs.declared.line.Site.{Site}
 use Rattle.dia_breaking.specs.declared.own_breaks.OwnBreaks.{OwnBreaks}
@@ -22,11 +23,11 @@ use Rattle.dia_breaking.specs.declared.start.Start.{Start}
 use Rattle.dia_breaking.specs.Exits.{AreExits, AreOutlooks}
 use Rattle.dia_breaking.specs.Headers.{AreApps, head_in}
 use Rattle.dia_breaking.specs.Lengths.{listed_length, other_length, AreEntryLengths, AreExactlyOthers}
-use Rattle.dia_breaking.specs.Listing.{Told, HasUnproved, IsListing, basis_of, tells}
+use Rattle.dia_breaking.specs.Listing.{Told, IsListing, basis_of, not_shown, tells}
 use Rattle.dia_breaking.specs.Nodes.{exits_in}
 use Rattle.dia_breaking.specs.Outlooks.{group_rules}
 use Rattle.dia_breaking.specs.OwnBreaks.{AreOwnBreaks}
-use Rattle.dia_breaking.specs.Sites.{command_site}
+use Rattle.dia_breaking.specs.Sites.{command_site, first_read}
 use Rattle.dia_breaking.specs.Telling.{IsExactTelling}
 use Rattle.dia_breaking.specs.ToldApps.{AreToldApps}
 
@@ -99,9 +100,20 @@ pub record AreTheLines (da db : Dictionary) (who : Sends) (u : Unknown) (c : ℕ
   pub is_start : IsStartOf da db who lengths others telling c start
   pub is_listing : IsListing db (basis_of start own outlooks) sites told
 
--- they are, or a line tells that it isn't shown that nothing else breaks
+-- the answer is of a command with this head
+abbrev pub IsOfHead : Breaks → Head → Type 0
+IsOfHead breaks head = (breaks.code ≡ head.code) × (breaks.class ≡ head.class)
+
+-- what lines tell is all, or all but for the last line, which tells that it isn't shown that nothing else breaks; or that line stands
+-- alone, where B's side reads a level of the command
+pub data AreAllOrUnproved (IsAll : List Told → Type 0) (sites : List Site) (lines : List Line) : Type 0 where
+  exact : IsAll (map tells lines) → AreAllOrUnproved IsAll sites lines
+  added : (told : List Told) → IsAll told → map tells lines ≡ told ++ not_shown ∷ [] → AreAllOrUnproved IsAll sites lines
+  alone : IsSome (first_read sites) → map tells lines ≡ not_shown ∷ [] → AreAllOrUnproved IsAll sites lines
+
+-- so they are of the lines of the command c
 abbrev pub AreLinesOrUnproved : Dictionary → Dictionary → Sends → Unknown → ℕ → List Site → List Line → Type 0
-AreLinesOrUnproved da db who u c sites lines = HasUnproved lines ⊎ ∥ AreTheLines da db who u c sites (map tells lines) ∥₁
+AreLinesOrUnproved da db who u c sites lines = AreAllOrUnproved (λ told. ∥ AreTheLines da db who u c sites told ∥₁) sites lines
 
 -- ---- there is one
 

@@ -1,6 +1,6 @@
 //! Whether it is shown that nothing breaks but what the lines of an answer tell. What a walk has found is looked at anew, site
 //! by site.
-ghost use Rattle.std.specs.Prelude.{◌≡◌, ◌++◌, ◌∷◌, [], ◌<◌, IfOk, IfSome, IsTrue, OnOk, Some};
+ghost use Rattle.std.specs.Prelude.{◌≡◌, ◌⊎◌, ◌++◌, ◌∷◌, [], ◌<◌, IfOk, IfSome, IsTrue, OnOk, Some};
 ghost use Rattle.std.specs.Prelude.{length, slice_get, option_and_then};
 ghost use Rattle.std.specs.List.{filter_map};
 ghost use Rattle.dia_book.specs.Dictionary.{definitions};
@@ -11,6 +11,7 @@ ghost use Rattle.dia_breaking.specs.Certified.{IsClosedCommand, IsClosedGroup, w
 ghost use Rattle.dia_breaking.specs.Free.{AreValidWhereFree};
 ghost use Rattle.dia_breaking.specs.Headers.{head_in};
 ghost use Rattle.dia_breaking.specs.Lengths.{listed_length, other_length};
+ghost use Rattle.dia_breaking.specs.Listing.{new_line};
 ghost use Rattle.dia_breaking.specs.Outlooks.{HaveGroupLines};
 ghost use Rattle.dia_breaking.specs.OwnKeys.{own_keys};
 ghost use Rattle.dia_breaking.specs.Telling.{IsTelling};
@@ -19,7 +20,8 @@ use crate::books::command_of;
 use crate::closing::Closing;
 use crate::headers::are_headers_met;
 use crate::heads::Head;
-use crate::line::{Breaks, Place, Site};
+use crate::line::{Breaks, Cause, Place, Site};
+use crate::lines::push_line;
 use crate::told::level_lines_at;
 use crate::upgrade::Upgrade;
 use crate::ways::{ROOM, Way};
@@ -28,14 +30,39 @@ use dia_levels::{Line as LevelLine, length_least};
 use std::alloc::{AllocError, Global};
 
 impl<'a, A: Book, B: Book> Upgrade<'a, A, B> {
-    /// Whether the sites that a walk has found show this: each message of a command with this head that is free of the lines is
-    /// valid under B. The error comes only where memory was refused.
-    pub(crate) fn is_certified(
+    /// The lines as they are, if it is shown that nothing breaks but what they tell. Else one more line, the last, says that this
+    /// isn't shown.
+    pub(crate) fn unless_certified(
         &self,
         alloc: Global,
         head: &Head,
-        found: &Breaks,
-    ) -> Result<bool, AllocError>
+        mut found: Breaks,
+    ) -> Result<Breaks, AllocError>
+        requires within { found.command < length (definitions (A.meaning self.now.a.now)) }
+        requires head { IfSome (slice_get (definitions (A.meaning self.now.a.now)) found.command)
+            (λ c. head_in c.head ≡ Some head.now) }
+        ensures command { IfOk result (λ breaks. breaks.command ≡ found.command) }
+        ensures head { IfOk result
+            (λ breaks. (breaks.code ≡ found.code) × (breaks.class ≡ found.class)) }
+        ensures sites { IfOk result (λ breaks. breaks.sites.items ≡ found.sites.items) }
+        ensures free { IfOk result (λ breaks. ∥ AreValidWhereFree
+            (A.meaning self.now.a.now) (B.meaning self.now.b.now) self.now.sends self.now.unknown
+            breaks.sites.items breaks.lines.items breaks.command ∥₁) }
+        ensures kept { IfOk result (λ breaks. (breaks.lines.items ≡ found.lines.items)
+            ⊎ (breaks.lines.items
+            ≡ found.lines.items ++ new_line 0 Cause.Unproved 0 ∷ [])) }
+    {
+        let certified = self.is_certified(alloc, head, &found)?;
+        if certified {
+            return Ok(found);
+        }
+        push_line(&mut found.lines, 0, Cause::Unproved, 0)?;
+        Ok(found)
+    }
+
+    /// Whether it is shown that each message of a command with this head that is free of the lines is valid under B, by the
+    /// sites that a walk has found. The error comes only where memory was refused.
+    fn is_certified(&self, alloc: Global, head: &Head, found: &Breaks) -> Result<bool, AllocError>
         requires within { found.now.command < length (definitions (A.meaning self.now.a.now)) }
         requires head { IfSome (slice_get (definitions (A.meaning self.now.a.now)) found.now.command)
             (λ c. head_in c.head ≡ Some head.now) }

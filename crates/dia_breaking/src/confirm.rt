@@ -3,7 +3,9 @@ ghost use Rattle.std.specs.Prelude.{◌≡◌, ◌↔◌, ℕ, IfOk, IfSome, IsT
 ghost use Rattle.dia_policy.specs.declared.Levels.TheVariants.{Any};
 ghost use Rattle.dia_check.specs.Valid.{IsValid, IsValidOf};
 ghost use Rattle.dia_sites.specs.Sent.{own_policy};
-ghost use Rattle.dia_breaking.specs.Confirmed.{EachConfirmedBreaks, IsConfirmed};
+ghost use Rattle.dia_breaking.specs.Confirmed.{EachConfirmedBreaks, HaveStandings, IsConfirmed};
+ghost use Rattle.dia_breaking.specs.Confirmed.{IsStandingOf, has_no_message, is_checked, left_behind};
+ghost use Rattle.dia_breaking.specs.Confirmed.{most_checked_together};
 ghost use Rattle.dia_breaking.specs.Listing.{unchecked};
 
 use crate::line::{Breaks, Cause, Line, Standing};
@@ -20,8 +22,9 @@ const MOST_CHECKED: u64 = 1 << 20;
 const MOST_CHECKED_TOGETHER: u64 = 1 << 24;
 
 impl<'a, A: Book, B: Book> Upgrade<'a, A, B> {
-    /// The message of a line, where checks under both dictionaries show that it breaks the command. The error comes only where
-    /// memory was refused.
+    /// The message of a line, where checks under both dictionaries show that it is valid under A, as one of the command, and not
+    /// under B. For `Listed` it is checked only that A knows its AVPs, and not that its rules list them. The error comes only
+    /// where memory was refused.
     pub fn confirmed_message(
         &self,
         alloc: Global,
@@ -53,25 +56,27 @@ impl<'a, A: Book, B: Book> Upgrade<'a, A, B> {
     /// The lines with what is known of each. Where the lines stand, and what they tell, doesn't change.
     pub(crate) fn with_standings(&self, alloc: Global, breaks: Breaks) -> Result<Breaks, AllocError>
         ensures command { IfOk result (λ told. told.command ≡ breaks.command) }
+        ensures head { IfOk result (λ told. (told.code ≡ breaks.code) × (told.class ≡ breaks.class)) }
         ensures sites { IfOk result (λ told. told.sites ≡ breaks.sites) }
         ensures kept { IfOk result (λ told. map unchecked told.lines.items
             ≡ map unchecked breaks.lines.items) }
         ensures each { IfOk result (λ told. EachConfirmedBreaks
             (A.meaning self.now.a.now) (B.meaning self.now.b.now)
             self.now.sends self.now.unknown breaks.command told.lines.items) }
+        ensures standings { IfOk result
+            (λ told. HaveStandings most_checked_together told.lines.items) }
     {
         let mut lines = Vec::new(alloc);
         let mut left = MOST_CHECKED_TOGETHER;
         for line in &breaks.lines {
             let standing = self.standing(alloc, &breaks, line, left)?;
-            if standing != Standing::Unchecked {
-                left = left.saturating_sub(line.length);
-            }
             lines.push(Line { standing, ..*line })?;
+            left = left_behind(line, left);
         }
         Ok(Breaks { lines, ..breaks })
     }
 
+    /// What is known of a line, where so many bytes are left to check.
     fn standing(
         &self,
         alloc: Global,
@@ -79,14 +84,15 @@ impl<'a, A: Book, B: Book> Upgrade<'a, A, B> {
         line: &Line,
         left: u64,
     ) -> Result<Standing, AllocError>
-        ensures { IfOk result (λ standing. standing ≡ Standing.Confirmed
+        ensures confirmed { IfOk result (λ standing. standing ≡ Standing.Confirmed
             → (bytes : List ℕ) × IsConfirmed (A.meaning self.now.a.now) (B.meaning self.now.b.now)
             self.now.sends self.now.unknown bytes breaks.now.command) }
+        ensures standing { IfOk result (IsStandingOf left line.now) }
     {
         if has_no_message(&line.cause) {
             return Ok(Standing::Undecided);
         }
-        if line.length > MOST_CHECKED || line.length > left {
+        if !is_checked(line, left) {
             return Ok(Standing::Unchecked);
         }
         match self.confirmed_message(alloc, breaks, line)? {
@@ -97,8 +103,28 @@ impl<'a, A: Book, B: Book> Upgrade<'a, A, B> {
 }
 
 /// Whether no message is known that breaks as the line tells.
-fn has_no_message(cause: &Cause) -> bool {
+fn has_no_message(cause: &Cause) -> bool
+    ensures { result ≡ has_no_message cause.now }
+{
     matches!(cause, Cause::LevelAsLeaf { .. } | Cause::Unproved)
+}
+
+/// Whether the message of a line is checked, where so many bytes are left.
+fn is_checked(line: &Line, left: u64) -> bool
+    ensures { result ≡ is_checked left line.now }
+{
+    !has_no_message(&line.cause) && (line.length <= MOST_CHECKED && line.length <= left)
+}
+
+/// What is left for the lines behind it.
+fn left_behind(line: &Line, left: u64) -> u64
+    ensures { result ≡ left_behind left line.now }
+{
+    if is_checked(line, left) {
+        left.saturating_sub(line.length)
+    } else {
+        left
+    }
 }
 
 /// What a sender does with AVPs that its dictionary doesn't know.

@@ -1,5 +1,5 @@
-//! The AVPs that A's side sends. There is something to tell of an AVP that breaks by itself, or in which both dictionaries see
-//! a level.
+//! The keys of the AVPs that A's side may send: all that A knows, also those of which no message can hold an AVP. There is
+//! something to tell of AVPs that break by themselves, or in which both dictionaries see a level.
 ghost use Rattle.std.specs.Prelude.{◌≡◌, ◌≤◌, ◌<◌, ◌&&◌, ◌⊎◌, ℕ, false, [], None, Contains};
 ghost use Rattle.std.specs.Prelude.{◌++◌, ◌∷◌, IfOk, OnOk, filter, is_some};
 ghost use Rattle.std.specs.HashMap.{get};
@@ -21,7 +21,7 @@ use dia_policy::{Sends, Unknown};
 use std::alloc::{AllocError, Global};
 use std::collections::HashMap;
 
-/// An AVP that A's side sends, of which there is something to tell.
+/// The AVPs of a key of which there is something to tell.
 #[derive(Clone, Copy, Debug)]
 pub(crate) struct Own {
     pub key: Key,
@@ -75,8 +75,8 @@ fn breaks_data(found: DataBreak) -> bool
     }
 }
 
-/// The keys of the AVPs that A's side sends: the keys of A's entries, and, where it sends any AVP, the keys that B alone knows
-/// and one that neither dictionary knows.
+/// The keys of the AVPs that A's side may send: the keys of all of A's entries, and, where it sends any AVP, the keys that B
+/// alone knows and one that neither dictionary knows.
 fn sent_keys<A: Book, B: Book>(
     alloc: Global,
     a: &A,

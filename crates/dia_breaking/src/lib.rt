@@ -1,7 +1,7 @@
 //! Everything that can break where messages of one dictionary are read by another.
 //!
-//! A line says one way to break, with a shortest message for it: `Upgrade::breaks` finds the lines of a command,
-//! `Upgrade::push_words` writes one, and `Upgrade::message` makes its message.
+//! A line says one way to break: `Upgrade::breaks` finds the lines of a command, `Upgrade::push_words` writes one, and
+//! `Upgrade::message` makes a message for it. That no message for it is shorter isn't proved.
 #![tactic(auto)]
 
 mod apps;

@@ -52,9 +52,10 @@ pub enum Cause {
     MBit { key: Key, m: bool },
     /// B refuses the data. Without data here, it refuses the data of a shortest AVP.
     Format { key: Key, data: Option<Witness> },
-    /// B reads the AVPs as leaves, and accepts the data of a shortest AVP. Whether it accepts all data isn't known.
+    /// B reads the AVPs as leaves. Whether it accepts all data isn't known: it accepts those of a shortest AVP, or these are too
+    /// long to be tried.
     LevelAsLeaf { key: Key },
-    /// Nothing was found, and it isn't shown that nothing breaks.
+    /// It isn't shown that nothing breaks but what the lines before this one tell.
     Unproved,
 }
 
@@ -80,11 +81,12 @@ impl Cause {
 /// What is known of a line.
 #[derive(Clone, Copy, Debug, PartialEq, Eq)]
 pub enum Standing {
-    /// Its message was checked: it is sent, and B's side refuses it.
+    /// Its message was checked: it is valid under A, and B's side refuses it. For `Sends::Listed` it isn't checked that A's rules
+    /// list each of its AVPs.
     Confirmed,
     /// Its message is too long to be checked beside the others.
     Unchecked,
-    /// No message of it is known that breaks.
+    /// It has no message, or its message was checked and doesn't break.
     Undecided,
 }
 

@@ -1,18 +1,19 @@
 //! The lines of a command.
-ghost use Rattle.std.specs.Prelude.{◌≡◌, ◌⊎◌, ◌<◌, ◌++◌, ◌∷◌, [], IfOk, IfSome, OnOk, Some, length};
+ghost use Rattle.std.specs.Prelude.{◌≡◌, ◌⊎◌, ◌<◌, ◌++◌, ◌∷◌, [], true, IfOk, IfSome, None, OnOk, Some, length};
 ghost use Rattle.std.specs.Prelude.{map, option_to_list, slice_get};
 ghost use Rattle.std.specs.Option.{option_map_or};
 ghost use Rattle.dia_book.specs.Dictionary.{definitions};
-ghost use Rattle.dia_breaking.specs.Confirmed.{EachConfirmedBreaks};
+ghost use Rattle.dia_breaking.specs.Confirmed.{EachConfirmedBreaks, HaveStandings, most_checked_together};
 ghost use Rattle.dia_breaking.specs.Free.{AreValidWhereFree};
 ghost use Rattle.dia_breaking.specs.Headers.{head_in};
-ghost use Rattle.dia_breaking.specs.Listing.{AddsTold, HasUnproved, IsListing};
+ghost use Rattle.dia_breaking.specs.Listing.{AddsTold, IsListing};
 ghost use Rattle.dia_breaking.specs.Listing.{IsWalkFrom, Told};
 ghost use Rattle.dia_breaking.specs.Listing.{basis_of, command_levels, group_levels, level_lines};
 ghost use Rattle.dia_breaking.specs.Listing.{lines_in, lines_of, new_line, subject, tells, with_room};
 ghost use Rattle.dia_breaking.specs.Orders.{IsInOrderOf, of_each};
+ghost use Rattle.dia_breaking.specs.OwnBreaks.{HaveDataBreaks, TellData};
 ghost use Rattle.dia_breaking.specs.Sites.{group_sites};
-ghost use Rattle.dia_breaking.specs.TheLines.{AreLinesOrUnproved};
+ghost use Rattle.dia_breaking.specs.TheLines.{AreAllOrUnproved, AreLinesOrUnproved, IsOfHead};
 ghost use Rattle.dia_breaking.specs.declared.line.Line.{Line as AnyLine};
 
 use crate::header_lines::push_header_lines;
@@ -40,19 +41,24 @@ impl<'a, A: Book, B: Book> Upgrade<'a, A, B> {
         requires head { IfSome (slice_get (definitions (A.meaning self.now.a.now)) command)
             (λ c. head_in c.head ≡ Some head.now) }
         ensures command { IfOk result (λ breaks. breaks.command ≡ command) }
+        ensures head { IfOk result (λ breaks. IsOfHead breaks head.now) }
         ensures free { IfOk result (λ breaks. ∥ AreValidWhereFree
             (A.meaning self.now.a.now) (B.meaning self.now.b.now) self.now.sends self.now.unknown
             breaks.sites.items breaks.lines.items command ∥₁) }
         ensures each { IfOk result (λ breaks. EachConfirmedBreaks
             (A.meaning self.now.a.now) (B.meaning self.now.b.now)
             self.now.sends self.now.unknown command breaks.lines.items) }
+        ensures standings { IfOk result
+            (λ breaks. HaveStandings most_checked_together breaks.lines.items) }
+        ensures formats { IfOk result (λ breaks. ∥ TellData
+            (A.meaning self.now.a.now) (B.meaning self.now.b.now) self.now.sends self.now.unknown
+            breaks.lines.items ∥₁) }
         ensures lines { IfOk result (λ breaks. AreLinesOrUnproved
             (A.meaning self.now.a.now) (B.meaning self.now.b.now) self.now.sends self.now.unknown
             command breaks.sites.items breaks.lines.items) }
     {
         let found = self.found(alloc, command, head)?;
-        let breaks = self.unless_certified(alloc, head, found)?;
-        self.with_standings(alloc, breaks)
+        self.with_standings(alloc, found)
     }
 
     /// The lines that a walk over the sites finds.
@@ -61,9 +67,16 @@ impl<'a, A: Book, B: Book> Upgrade<'a, A, B> {
         requires head { IfSome (slice_get (definitions (A.meaning self.now.a.now)) command)
             (λ c. head_in c.head ≡ Some head.now) }
         ensures command { IfOk result (λ breaks. breaks.command ≡ command) }
+        ensures head { IfOk result (λ breaks. IsOfHead breaks head.now) }
+        ensures free { IfOk result (λ breaks. ∥ AreValidWhereFree
+            (A.meaning self.now.a.now) (B.meaning self.now.b.now) self.now.sends self.now.unknown
+            breaks.sites.items breaks.lines.items command ∥₁) }
         ensures lines { IfOk result (λ breaks. AreLinesOrUnproved
             (A.meaning self.now.a.now) (B.meaning self.now.b.now) self.now.sends self.now.unknown
             command breaks.sites.items breaks.lines.items) }
+        ensures formats { IfOk result (λ breaks. ∥ TellData
+            (A.meaning self.now.a.now) (B.meaning self.now.b.now) self.now.sends self.now.unknown
+            breaks.lines.items ∥₁) }
     {
         let start = Start::of(alloc, self, command, head)?;
         self.found_from(alloc, command, &start)
@@ -71,11 +84,23 @@ impl<'a, A: Book, B: Book> Upgrade<'a, A, B> {
 
     /// The lines that a walk from this start finds.
     fn found_from(&self, alloc: Global, command: DefId, start: &Start) -> Result<Breaks, AllocError>
+        requires within { command < length (definitions (A.meaning self.now.a.now)) }
+        requires head { IfSome (slice_get (definitions (A.meaning self.now.a.now)) command)
+            (λ c. head_in c.head ≡ Some start.now.head) }
         ensures command { IfOk result (λ breaks. breaks.command ≡ command) }
-        ensures listing { IfOk result (λ breaks. HasUnproved breaks.lines.items
-            ⊎ IsListing (B.meaning self.now.b.now)
-            (basis_of start.now self.now.own.items self.now.outlooks.items)
-            breaks.sites.items (map tells breaks.lines.items)) }
+        ensures head { IfOk result (λ breaks. IsOfHead breaks start.now.head) }
+        ensures free { IfOk result (λ breaks. ∥ AreValidWhereFree
+            (A.meaning self.now.a.now) (B.meaning self.now.b.now) self.now.sends self.now.unknown
+            breaks.sites.items breaks.lines.items command ∥₁) }
+        ensures listing { IfOk result (λ breaks. AreAllOrUnproved
+            (IsListing (B.meaning self.now.b.now)
+            (basis_of start.now self.now.own.items self.now.outlooks.items) breaks.sites.items)
+            breaks.sites.items breaks.lines.items) }
+        ensures formats { IfOk result (λ breaks. HaveDataBreaks
+            (A.meaning self.now.a.now) (B.meaning self.now.b.now) self.now.sends self.now.unknown
+            self.now.own.items → TellData
+            (A.meaning self.now.a.now) (B.meaning self.now.b.now) self.now.sends self.now.unknown
+            breaks.lines.items) }
     {
         let sites = command_sites(alloc, self.b, &start.head, &start.apps)?;
         let first = first_read(&sites);
@@ -84,7 +109,10 @@ impl<'a, A: Book, B: Book> Upgrade<'a, A, B> {
             count: count_of(&start.apps),
         };
         match self.walk_from(alloc, start, first.is_some())? {
-            Some(walk) => self.found_by(alloc, command, start, sites, numbers, &walk),
+            Some(walk) => {
+                let found = self.found_by(alloc, command, start, sites, numbers, &walk)?;
+                self.unless_certified(alloc, &start.head, found)
+            }
             None => Ok(Breaks {
                 command,
                 code: start.head.code,
@@ -106,6 +134,7 @@ impl<'a, A: Book, B: Book> Upgrade<'a, A, B> {
         walk: &Walk,
     ) -> Result<Breaks, AllocError>
         ensures command { IfOk result (λ breaks. breaks.command ≡ command) }
+        ensures head { IfOk result (λ breaks. IsOfHead breaks start.now.head) }
         ensures sites { IfOk result (λ breaks. breaks.sites.items ≡ sites.items
             ++ group_sites self.now.own.items numbers.first numbers.count walk.now.steps.items) }
         ensures lines { IfOk result (λ breaks. IsInOrderOf (λ (told : Told). told.site)
@@ -113,6 +142,11 @@ impl<'a, A: Book, B: Book> Upgrade<'a, A, B> {
             (basis_of start.now self.now.own.items self.now.outlooks.items)
             numbers.first numbers.count walk.now.steps.items walk.now.reached.items)
             (map tells breaks.lines.items)) }
+        ensures formats { IfOk result (λ breaks. HaveDataBreaks
+            (A.meaning self.now.a.now) (B.meaning self.now.b.now) self.now.sends self.now.unknown
+            self.now.own.items → TellData
+            (A.meaning self.now.a.now) (B.meaning self.now.b.now) self.now.sends self.now.unknown
+            breaks.lines.items) }
     {
         push_group_sites(&mut sites, &self.own, numbers, &walk.steps)?;
         let lines = self.lines_by(alloc, start, numbers, walk)?;
@@ -132,9 +166,10 @@ impl<'a, A: Book, B: Book> Upgrade<'a, A, B> {
         start: &Start,
         is_read: bool,
     ) -> Result<Option<Walk>, AllocError>
-        ensures { IfOk result (λ found. IfSome found (λ walk. IsWalkFrom is_read
+        ensures walk { IfOk result (λ found. IfSome found (λ walk. IsWalkFrom is_read
             (basis_of start.now self.now.own.items self.now.outlooks.items).graph
             walk.steps.items walk.reached.items)) }
+        ensures none { IfOk result (λ found. found ≡ None → is_read ≡ true) }
     {
         if is_read {
             walk(alloc, &self.nodes, &start.exits, ROOM)
@@ -154,11 +189,16 @@ impl<'a, A: Book, B: Book> Upgrade<'a, A, B> {
         numbers: Numbers,
         walk: &Walk,
     ) -> Result<Vec<Line>, AllocError>
-        ensures { IfOk result (λ lines. IsInOrderOf (λ (told : Told). told.site)
+        ensures order { IfOk result (λ lines. IsInOrderOf (λ (told : Told). told.site)
             (lines_of (B.meaning self.now.b.now)
             (basis_of start.now self.now.own.items self.now.outlooks.items)
             numbers.first numbers.count walk.now.steps.items walk.now.reached.items)
             (map tells lines.items)) }
+        ensures formats { IfOk result (λ lines. HaveDataBreaks
+            (A.meaning self.now.a.now) (B.meaning self.now.b.now) self.now.sends self.now.unknown
+            self.now.own.items → TellData
+            (A.meaning self.now.a.now) (B.meaning self.now.b.now) self.now.sends self.now.unknown
+            lines.items) }
     {
         let mut lines = Vec::new(alloc);
         push_header_lines(self.b, start, &mut lines)?;
@@ -222,31 +262,6 @@ impl<'a, A: Book, B: Book> Upgrade<'a, A, B> {
             None => Ok(()),
         }
     }
-
-    /// The lines as they are, if it is shown that nothing breaks but what they tell. Else a line is added that says that this
-    /// isn't shown.
-    fn unless_certified(
-        &self,
-        alloc: Global,
-        head: &Head,
-        mut found: Breaks,
-    ) -> Result<Breaks, AllocError>
-        requires within { found.command < length (definitions (A.meaning self.now.a.now)) }
-        requires head { IfSome (slice_get (definitions (A.meaning self.now.a.now)) found.command)
-            (λ c. head_in c.head ≡ Some head.now) }
-        ensures command { IfOk result (λ breaks. breaks.command ≡ found.command) }
-        ensures free { IfOk result (λ breaks. ∥ AreValidWhereFree
-            (A.meaning self.now.a.now) (B.meaning self.now.b.now) self.now.sends self.now.unknown
-            breaks.sites.items breaks.lines.items breaks.command ∥₁) }
-        ensures kept { IfOk result (λ breaks. HasUnproved breaks.lines.items ⊎ (breaks ≡ found)) }
-    {
-        let certified = self.is_certified(alloc, head, &found)?;
-        if certified {
-            return Ok(found);
-        }
-        push_line(&mut found.lines, 0, Cause::Unproved, 0)?;
-        Ok(found)
-    }
 }
 
 /// The number of the applications.
@@ -258,7 +273,7 @@ fn count_of(apps: &[u32]) -> usize
 
 /// The single line that says that it isn't shown that nothing breaks.
 fn unproved(alloc: Global) -> Result<Vec<Line>, AllocError>
-    ensures { IfOk result (λ lines. HasUnproved lines.items) }
+    ensures { IfOk result (λ lines. lines.items ≡ new_line 0 Cause.Unproved 0 ∷ []) }
 {
     let mut lines = Vec::new(alloc);
     push_line(&mut lines, 0, Cause::Unproved, 0)?;
@@ -300,8 +315,10 @@ pub(crate) fn push_with_room(
     cause: Cause,
     takes: u64,
 ) -> Result<(), AllocError>
-    ensures { OnOk result (AddsTold lines.old.items lines.new.items
+    ensures told { OnOk result (AddsTold lines.old.items lines.new.items
         (option_to_list (with_room site takes (subject cause)))) }
+    ensures items { OnOk result ((lines.new.items ≡ lines.old.items)
+        ⊎ (lines.new.items ≡ lines.old.items ++ new_line site cause takes ∷ [])) }
 {
     if takes <= ROOM {
         push_line(lines, site, cause, takes)

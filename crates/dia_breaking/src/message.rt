@@ -63,8 +63,8 @@ impl Shown {
 }
 
 impl<'a, A: Book, B: Book> Upgrade<'a, A, B> {
-    /// A shortest message that shows a line of a command: the levels around the line, from the command inwards, with least AVPs
-    /// beside them. The error comes only where memory was refused.
+    /// A message for a line of a command: the levels around the line, from the command inwards, with least AVPs beside them. That
+    /// it breaks so, and that none that does is shorter, isn't proved. The error comes only where memory was refused.
     pub fn message(
         &self,
         alloc: Global,

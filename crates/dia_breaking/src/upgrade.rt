@@ -1,5 +1,5 @@
 //! Two dictionaries, with what is the same for all commands.
-ghost use Rattle.std.specs.Prelude.{◌≡◌, ◌<◌, ℕ, [], IfOk, IfSome, IsSome, Some, length, map};
+ghost use Rattle.std.specs.Prelude.{◌≡◌, ◌<◌, ℕ, [], IfOk, IfSome, IsSome, None, Some, length, map};
 ghost use Rattle.std.proofs.Props.{props};
 ghost use Rattle.dia_book.specs.Dictionary.{definitions};
 ghost use Rattle.dia_sites.specs.Selection.{AreValid};
@@ -9,15 +9,16 @@ ghost use Rattle.dia_levels.specs.Exact.{AreLevelLines};
 ghost use Rattle.dia_levels.specs.Levels.{FirstIsShortest, HasEachLine};
 ghost use Rattle.dia_levels.specs.LevelTests.{price};
 ghost use Rattle.dia_ways.specs.Walks.{plain_node};
-ghost use Rattle.dia_breaking.specs.Confirmed.{EachConfirmedBreaks};
+ghost use Rattle.dia_breaking.specs.Confirmed.{EachConfirmedBreaks, HaveStandings};
+ghost use Rattle.dia_breaking.specs.Confirmed.{most_checked_together};
 ghost use Rattle.dia_breaking.specs.Free.{AreValidWhereFree};
 ghost use Rattle.dia_breaking.specs.Headers.{AreApps};
 ghost use Rattle.dia_breaking.specs.Lengths.{listed_length, other_length};
 ghost use Rattle.dia_breaking.specs.Nodes.{node_in};
-ghost use Rattle.dia_breaking.specs.OwnBreaks.{AreOwnBreaks};
+ghost use Rattle.dia_breaking.specs.OwnBreaks.{AreOwnBreaks, TellData};
 ghost use Rattle.dia_breaking.specs.Outlooks.{HasGroupLines, HaveGroupLines};
 ghost use Rattle.dia_breaking.specs.Telling.{IsTelling};
-ghost use Rattle.dia_breaking.specs.TheLines.{AreFacts, AreLinesOrUnproved};
+ghost use Rattle.dia_breaking.specs.TheLines.{AreFacts, AreLinesOrUnproved, IsOfHead};
 ghost use Rattle.dia_breaking.specs.Words.{head_at};
 
 use crate::apps::BothApps;
@@ -141,10 +142,15 @@ impl<'a, A: Book, B: Book> Upgrade<'a, A, B> {
         }
     }
 
-    /// All that can break the messages of a command of A: each message of the command that A's side sends, and that breaks in
-    /// none of the ways that the lines tell, is valid under B. So where there is no line, each is. A line that is told as
-    /// confirmed has a message that breaks the command. The sites and the lines are the one list that the dictionaries, the
-    /// sender and the policy have, unless a line is `Unproved`. The error comes only where memory was refused.
+    /// All that can break the messages of a command of A. Where no line is `Unproved`, each message of the command that A's side
+    /// sends, and that breaks in none of the ways that the lines tell, is valid under B; so where there is no line, each is.
+    ///
+    /// The sites, and the places, causes and lengths of the lines, are the one list that the dictionaries, the sender and the
+    /// policy have. Behind it a line may be `Unproved`; where no shortest ways were found, that line stands alone. Which data
+    /// break a format is no part of that list. The standings are told line by line: a line without message is undecided; the
+    /// message of another is checked, unless it is too long, or too long beside those that were checked before it. A line that
+    /// is confirmed has a message that is valid under A, as one of the command, and not under B (`IsConfirmed`). The error comes
+    /// only where memory was refused.
     pub fn breaks(&self, alloc: Global, command: DefId) -> Result<Breaks, AllocError>
         requires { command < length (definitions (A.meaning self.now.a.now)) }
         ensures free { IfOk result (λ breaks. ∥ AreValidWhereFree
@@ -156,7 +162,16 @@ impl<'a, A: Book, B: Book> Upgrade<'a, A, B> {
         ensures each { IfOk result (λ breaks. EachConfirmedBreaks
             (A.meaning self.now.a.now) (B.meaning self.now.b.now)
             self.now.sends self.now.unknown command breaks.lines.items) }
+        ensures standings { IfOk result
+            (λ breaks. HaveStandings most_checked_together breaks.lines.items) }
+        ensures formats { IfOk result (λ breaks. ∥ TellData
+            (A.meaning self.now.a.now) (B.meaning self.now.b.now) self.now.sends self.now.unknown
+            breaks.lines.items ∥₁) }
         ensures command { IfOk result (λ breaks. breaks.command ≡ command) }
+        ensures head { IfSome (head_at (A.meaning self.now.a.now) command)
+            (λ head. IfOk result (λ breaks. IsOfHead breaks head)) }
+        ensures none { head_at (A.meaning self.now.a.now) command ≡ None → IfOk result
+            (λ breaks. (breaks.sites.items ≡ []) × (breaks.lines.items ≡ [])) }
         ensures lines { IfOk result (λ breaks. IsSome (head_at (A.meaning self.now.a.now) command)
             → AreLinesOrUnproved (A.meaning self.now.a.now) (B.meaning self.now.b.now)
             self.now.sends self.now.unknown command breaks.sites.items breaks.lines.items) }

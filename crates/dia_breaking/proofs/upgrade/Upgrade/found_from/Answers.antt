@@ -1,24 +1,53 @@
-use Rattle.std.proofs.Common.{map, is_some, ap, subst, ◌∙◌, inr}
-use Rattle.std.specs.Prelude.{IfSome, length}
+use Rattle.std.proofs.Common.{[], map, is_some, sym, refl, ap, subst, ◌∙◌}
+use Rattle.std.specs.Prelude.{Contains, IfSome, length}
+use Rattle.std.proofs.lemmas.List.Elements.{Contains-push}
 use Rattle.dia_ways.specs.declared.graph.Walk.{Walk}
-use Rattle.dia_breaking.specs.Listing.{IsWalkFrom, basis_of, tells}
+use Rattle.dia_breaking.specs.declared.line.Cause.TheVariants as causes
+use Rattle.dia_breaking.specs.Free.{AreValidWhereFree}
+use Rattle.dia_breaking.specs.Listing.{IsListing, IsWalkFrom, basis_of, new_line, tells}
 use Rattle.dia_breaking.specs.Sites.{command_sites, first_read}
+use Rattle.dia_breaking.proofs.FormatData.{data_more}
+use Rattle.dia_breaking.proofs.FoundLines.{with_unproved}
+use Rattle.dia_breaking.proofs.FreeOfLines.{none_free}
 use Rattle.dia_breaking.proofs.Listings.{listing_of}
-use Rattle.dia_breaking.proofs.Lists.{when_two}
+use Rattle.dia_breaking.proofs.Lists.{when_ok, when_two}
 use Rattle.dia_breaking.proofs.upgrade.Upgrade.found_from.Goals as goal
 
-pub returns-in-Some-clause-listing : goal.returns-in-Some-clause-listing
-returns-in-Some-clause-listing g c =
+pub returns-in_ok-found-in-Some-clause-free : goal.returns-in_ok-found-in-Some-clause-free
+returns-in_ok-found-in-Some-clause-free g c =
     let up = c.args.self.now in
+    when_two _ _ _ c.unless_certified.result
+    (λ breaks own valid. subst (λ number. ∥ AreValidWhereFree (g.A.Book.meaning up.a.now) (g.B.Book.meaning up.b.now) up.sends up.unknown breaks.sites.items breaks.lines.items number ∥₁)
+    (own ∙ c.in_ok-found-in-Some.ensures.command) valid) c.unless_certified.ensures.command c.unless_certified.ensures.free
+
+pub returns-in_ok-found-in-Some-clause-listing : goal.returns-in_ok-found-in-Some-clause-listing
+returns-in_ok-found-in-Some-clause-listing g c =
+    let up = c.args.self.now in
+    let db = g.B.Book.meaning up.b.now in
     let start = c.args.start.now in
     let basis = basis_of start up.own.items up.outlooks.items in
     let walk = c.in-Some.walk in
     let first = c.first_read-first.result in
-    let walked = subst (λ begins. IfSome c.in_ok-walk.field-0 (λ (w : Walk). IsWalkFrom begins basis.graph w.steps.items w.reached.items)) c.is_some.ensures c.in_ok-walk.ensures in
+    let found = c.in_ok-found-in-Some.found in
+    let walked = subst (λ begins. IfSome c.in_ok-walk.field-0 (λ (w : Walk). IsWalkFrom begins basis.graph w.steps.items w.reached.items)) c.is_some.ensures c.in_ok-walk.ensures.walk in
     let here = subst (λ found. IfSome found (λ (w : Walk). IsWalkFrom (is_some first) basis.graph w.steps.items w.reached.items)) c.in-Some.is walked in
-    let sites = c.in_ok-sites.ensures ∙ ap (λ apps. command_sites (g.B.Book.meaning up.b.now) start.head apps) c.deref.ensures.value in
-    when_two _ _ _ c.found_by.result (λ breaks are order. inr
-    (listing_of (g.B.Book.meaning up.b.now) basis first c.unwrap_or.result c.count_of.result c.in_ok-sites.sites.items walk.steps.items walk.reached.items breaks.sites.items
-    (map tells breaks.lines.items)
-    (c.first_read-first.ensures ∙ ap first_read (c.deref-2.ensures.value ∙ sites)) c.unwrap_or.ensures (c.count_of.ensures ∙ ap length c.deref-3.ensures.value) sites here are order))
-    c.found_by.ensures.sites c.found_by.ensures.lines
+    let sites = c.in_ok-sites.ensures ∙ ap (λ apps. command_sites db start.head apps) c.deref.ensures.value in
+    let listing = listing_of db basis first c.unwrap_or.result c.count_of.result c.in_ok-sites.sites.items walk.steps.items walk.reached.items found.sites.items (map tells found.lines.items)
+    (c.first_read-first.ensures ∙ ap first_read (c.deref-2.ensures.value ∙ sites)) c.unwrap_or.ensures (c.count_of.ensures ∙ ap length c.deref-3.ensures.value) sites here
+    c.in_ok-found-in-Some.ensures.sites c.in_ok-found-in-Some.ensures.lines in
+    when_two _ _ _ c.unless_certified.result (λ breaks at kept. with_unproved (IsListing db basis) found.sites.items breaks.sites.items found.lines.items breaks.lines.items at kept listing)
+    c.unless_certified.ensures.sites c.unless_certified.ensures.kept
+
+pub returns-in_ok-unproved-in-None-clause-free : goal.returns-in_ok-unproved-in-None-clause-free
+returns-in_ok-unproved-in-None-clause-free g c =
+    let up = c.args.self.now in
+    let line = new_line 0 causes.Unproved 0 in
+    let inside = subst (λ lines. Contains lines line) (sym c.in_ok-unproved-in-None.ensures) (Contains-push [] line) in
+    ∣ none_free (g.A.Book.meaning up.a.now) (g.B.Book.meaning up.b.now) up.sends up.unknown c.in_ok-sites.sites.items c.in_ok-unproved-in-None.field-0.items c.args.command line inside refl ∣₁
+
+pub returns-in_ok-found-in-Some-clause-formats : goal.returns-in_ok-found-in-Some-clause-formats
+returns-in_ok-found-in-Some-clause-formats g c =
+    let up = c.args.self.now in
+    when_ok _ _ c.unless_certified.result
+    (λ breaks kept have. data_more (g.A.Book.meaning up.a.now) (g.B.Book.meaning up.b.now) up.sends up.unknown c.in_ok-found-in-Some.found.lines.items breaks.lines.items 0 causes.Unproved 0 kept tt
+    (c.in_ok-found-in-Some.ensures.formats have)) c.unless_certified.ensures.kept

@@ -1,0 +1,180 @@
+-- What lines tell of data.
+use Rattle.std.proofs.Common.{◌≡◌, ℕ, zero, suc, ◌+◌, Bool, true, false, get_or, List, [], ◌∷◌, ◌++◌, length, map, Option, Some, None, Result, Ok, Err, refl, sym, ap, subst, ◌∙◌, arith, inl, inr}
+use Rattle.std.specs.Prelude.{◌⊎◌, ◌==◌, min, All, IfSome, OnOk, slice_get, if◌then◌else◌}
+use Rattle.std.specs.List.{cons_option, filter_map}
+use Rattle.std.specs.Option.{option_map, option_map_or}
+use Rattle.std.proofs.lemmas.Bool.{eq-eqb}
+use Rattle.std.proofs.lemmas.Option.{slice_get-get_or}
+use Rattle.std.proofs.lemmas.List.{get_or-map, length-map}
+use Rattle.std.proofs.lemmas.List.Elements.{All-append, All-map, All-nil, All-push}
+use Rattle.dia_wire.specs.declared.Key.{Key}
+use Rattle.dia_book.specs.Dictionary.{Dictionary, has_command}
+use Rattle.dia_book.proofs.Members.{at_filter, into_filter}
+use Rattle.dia_policy.specs.declared.Unknown.{Unknown}
+use Rattle.dia_policy.specs.declared.Sends.{Sends}
+use Rattle.dia_entries.specs.declared.breaking.HeadBreak.{HeadBreak}
+use Rattle.dia_entries.specs.declared.breaking.HeadBreak.TheVariants as head_breaks
+use Rattle.dia_entries.specs.declared.breaking.DataBreak.TheVariants.{Undecided}
+use Rattle.dia_entries.specs.Breaks.{IsDataBreak}
+use Rattle.dia_levels.specs.declared.line.Line.{Line as LevelLine}
+use Rattle.dia_ways.specs.declared.graph.Step.{Step}
+use Rattle.dia_breaking.specs.declared.heads.Head.{Head}
+use Rattle.dia_breaking.specs.declared.line.Cause.{Cause}
+use Rattle.dia_breaking.specs.declared.line.Cause.TheVariants as causes
+use Rattle.dia_breaking.specs.declared.line.Line.{Line}
+use Rattle.dia_breaking.specs.declared.own_breaks.OwnBreaks.{OwnBreaks}
+use Rattle.dia_breaking.specs.declared.own_lines.Kind.{Kind}
+use Rattle.dia_breaking.specs.declared.own_lines.Kind.TheVariants as kinds
+use Rattle.dia_breaking.specs.Listing.{Told, command_levels, flag_causes, group_levels, head_cause, header_causes, header_line, header_lines, level_lines, new_line, refusal, subject, tells, unchecked, with_room}
+use Rattle.dia_breaking.specs.Orders.{IsInOrderOf, joined, of_each}
+use Rattle.dia_breaking.specs.OwnBreaks.{HaveDataBreaks, IsOwnBreaks, TellData, TellsData}
+use Rattle.dia_breaking.specs.Sites.{other_head}
+use Rattle.dia_breaking.proofs.Lists.{all_in, all_more, contains_at, same_image}
+
+-- ---- members
+
+all_from : {X : Type 0} (P : X → Type 0) (xs : List X) → ((i : ℕ) (x : X) → slice_get xs i ≡ Some x → P x) → All P xs
+all_from P xs each i d within = each i (get_or xs i d) (slice_get-get_or xs i d within)
+
+-- a list in order has the members of the other
+pub all_in_order : {X : Type 0} (P : X → Type 0) (number : X → ℕ) (all sorted : List X) → IsInOrderOf number all sorted → All P all → All P sorted
+all_in_order {X} P number all sorted order have = all_from P sorted (λ i x at.
+    let r = into_filter (λ (y : X). number y == number x) sorted i x at (eq-eqb (number x) (number x) refl) in
+    let back = at_filter (λ (y : X). number y == number x) all r.place x (ap (λ (zs : List X). slice_get zs r.place) (sym (order.each (number x))) ∙ r.at) in
+    all_in P all x have (contains_at all back.0 x back.1))
+
+all_filter_map : {X Y : Type 0} (P : Y → Type 0) (f : X → Option Y) → ((x : X) → IfSome (f x) P) → (xs : List X) → All P (filter_map f xs)
+all_filter_map P f each [] = All-nil P
+all_filter_map {X} {Y} P f each (x ∷ xs) = by (f x) (each x) (all_filter_map P f each xs)
+  where
+    by : (o : Option Y) → IfSome o P → All P (filter_map f xs) → All P (cons_option o (filter_map f xs))
+    by None own rest = rest
+    by (Some y) own rest = All-append P (y ∷ []) (filter_map f xs) (All-push P [] y (All-nil P) own) rest
+
+all_joined : {X : Type 0} (P : X → Type 0) (part : ℕ → List X) → ((i : ℕ) → All P (part i)) → (n : ℕ) → All P (joined part n)
+all_joined P part each zero = All-nil P
+all_joined P part each (suc n) = All-append P (joined part n) (part n) (all_joined P part each n) (each n)
+
+all_each : {X Y : Type 0} (P : Y → Type 0) (f : ℕ → X → List Y) → ((i : ℕ) (x : X) → All P (f i x)) → (xs : List X) → All P (of_each f xs)
+all_each {X} {Y} P f each xs = all_joined P (λ i. option_map_or (f i) (slice_get xs i) []) (λ i. at i (slice_get xs i)) (length xs)
+  where
+    at : (i : ℕ) (o : Option X) → All P (option_map_or (f i) o [])
+    at i None = All-nil P
+    at i (Some x) = each i x
+
+-- ---- what is told of headers and levels is nothing of data
+
+abbrev IsOther : Cause → Type 0
+IsOther cause = (key : Key) → cause ≡ causes.Format key None → ⊥
+
+abbrev IsPlain : Told → Type 0
+IsPlain told = IsOther told.cause
+
+one_other : (cause : Cause) → IsOther cause → All IsOther (cause ∷ [])
+one_other cause own = All-push IsOther [] cause (All-nil IsOther) own
+
+flag_other : (set b : Bool) → All IsOther (if b then causes.Proxiable set ∷ [] else [])
+flag_other set true = one_other (causes.Proxiable set) (λ key e. absurd cc)
+flag_other set false = All-nil IsOther
+
+refusal_other : (b : Bool) → IsOther (if b then causes.Application else causes.Command)
+refusal_other true key e = absurd cc
+refusal_other false key e = absurd cc
+
+module _ (db : Dictionary) (head : Head) where
+  header_other : (o : Option Head) → All IsOther (option_map_or (λ other. flag_causes head other false ++ flag_causes head other true) o (refusal db head ∷ []))
+  header_other None = one_other (refusal db head) (refusal_other (has_command db head.code head.class))
+  header_other (Some other) = All-append IsOther (flag_causes head other false) (flag_causes head other true) (flag_other false _) (flag_other true _)
+
+  header_plain : (base site app : ℕ) → All IsPlain (header_lines db head base site app)
+  header_plain base site app = All-map IsPlain (header_line base site) (header_causes db head app) (header_other (other_head db head app))
+
+room_plain : (told : Told) → IsPlain told → (b : Bool) → IfSome (if b then Some told else None) IsPlain
+room_plain told own true = own
+room_plain told own false = tt
+
+levels_plain : (site way : ℕ) (lines : List LevelLine) → All IsPlain (level_lines site way lines)
+levels_plain site way lines = all_filter_map IsPlain (λ (line : LevelLine). with_room site (way + line.length) (causes.Level line)) (λ line. room_plain _ (λ key e. absurd cc) _) lines
+
+group_plain : (count : ℕ) (groups : List (List LevelLine)) (i : ℕ) (step : Step) → All IsPlain (group_levels count groups i step)
+group_plain count groups i step = by (slice_get groups step.place)
+  where
+    by : (o : Option (List LevelLine)) → All IsPlain (option_map_or (level_lines (min (count + i) 18446744073709551615) step.way) o [])
+    by None = All-nil IsPlain
+    by (Some lines) = levels_plain (min (count + i) 18446744073709551615) step.way lines
+
+pub found_plain : (db : Dictionary) (head : Head) (base : ℕ) (apps : List ℕ) (levels groups : List (List LevelLine)) (count : ℕ) (steps : List Step)
+    → All IsPlain (of_each (header_lines db head base) apps ++ of_each command_levels levels ++ of_each (group_levels count groups) steps)
+found_plain db head base apps levels groups count steps =
+    All-append IsPlain (of_each (header_lines db head base) apps ++ of_each command_levels levels) (of_each (group_levels count groups) steps)
+    (All-append IsPlain (of_each (header_lines db head base) apps) (of_each command_levels levels)
+    (all_each IsPlain (header_lines db head base) (header_plain db head base) apps)
+    (all_each IsPlain command_levels (λ site lines. levels_plain site 0 lines) levels))
+    (all_each IsPlain (group_levels count groups) (group_plain count groups) steps)
+
+-- ---- lines
+
+module _ (da db : Dictionary) (who : Sends) (u : Unknown) where
+  abbrev Tells : Line → Type 0
+  Tells line = TellsData da db who u line.cause
+
+  plain : (cause : Cause) → IsOther (subject cause) → TellsData da db who u cause
+  plain (causes.Format key found) other = absurd (other key refl)
+  plain (causes.LevelAsLeaf key) other = absurd (other key refl)
+  plain causes.Command other = tt
+  plain causes.Application other = tt
+  plain (causes.Proxiable set) other = tt
+  plain (causes.Level line) other = tt
+  plain (causes.Unknown key m) other = tt
+  plain (causes.MBit key m) other = tt
+  plain causes.Unproved other = tt
+
+  -- where nothing is told of data
+  pub plain_lines : (lines : List Line) (told : List Told) → map tells lines ≡ told → All IsPlain told → TellData da db who u lines
+  plain_lines lines told is all i d within =
+      let same = get_or-map tells lines i d (tells d) within in
+      plain (get_or lines i d).cause (subst IsPlain same (subst (All IsPlain) (sym is) all i (tells d) (omega (arith, within, length-map lines tells))))
+
+  -- one line more, or none
+  pub data_more : (old new : List Line) (site : ℕ) (cause : Cause) (takes : ℕ) → (new ≡ old) ⊎ (new ≡ old ++ new_line site cause takes ∷ []) → TellsData da db who u cause
+      → TellData da db who u old → TellData da db who u new
+  data_more old new site cause takes (inl same) own all = subst (All Tells) (sym same) all
+  data_more old new site cause takes (inr adds) own all = all_more Tells old (new_line site cause takes) new adds all own
+
+  pub data_in_order : (all sorted : List Line) → IsInOrderOf (λ (line : Line). line.site) all sorted → TellData da db who u all → TellData da db who u sorted
+  data_in_order all sorted order have = all_in_order Tells (λ (line : Line). line.site) all sorted order have
+
+  -- where only what is known of lines changes
+  pub data_kept : (old new : List Line) → map unchecked new ≡ map unchecked old → TellData da db who u old → TellData da db who u new
+  data_kept old new same all = all_from Tells new (λ i line at.
+      let r = same_image unchecked new old line same (contains_at new i line at) in
+      subst (TellsData da db who u) (ap (λ (l : Line). l.cause) r.2) (all_in Tells old r.0 all r.1))
+
+  -- ---- what AVPs break by themselves
+
+  pub head_tells : (kind : Kind) (key : Key) (found : HeadBreak) → IfSome (head_cause kind key found) (TellsData da db who u)
+  head_tells kinds.Unknown key (head_breaks.Unknown m) = tt
+  head_tells kinds.Unknown key (head_breaks.MBit m) = tt
+  head_tells kinds.MBit key (head_breaks.Unknown m) = tt
+  head_tells kinds.MBit key (head_breaks.MBit m) = tt
+  head_tells kinds.Data key (head_breaks.Unknown m) = tt
+  head_tells kinds.Data key (head_breaks.MBit m) = tt
+
+  pub with_size : (o : Option Cause) (size : ℕ) → IfSome o (TellsData da db who u) → IfSome (option_map (λ (cause : Cause). (cause, size)) o) (λ (pair : Cause × ℕ). TellsData da db who u pair.0)
+  with_size None size own = tt
+  with_size (Some cause) size own = own
+
+  pub have_data : (length : Key → ℕ) (own : List OwnBreaks) → All (IsOwnBreaks da db who u length) own → HaveDataBreaks da db who u own
+  have_data length own all i d within = (all i d within).content
+
+  pub data_at : (own : List OwnBreaks) (place : ℕ) (one : OwnBreaks) → slice_get own place ≡ Some one → HaveDataBreaks da db who u own → IsDataBreak da db who u one.key one.breaks.data
+  data_at own place one at have = all_in (λ (x : OwnBreaks). IsDataBreak da db who u x.key x.breaks.data) own one have (contains_at own place one at)
+
+  -- of a level that B reads as a leaf, where the data of a shortest AVP may have been tried
+  pub tried_tells : (key : Key) (cause : Cause) → (cause ≡ causes.Format key None) ⊎ (cause ≡ causes.LevelAsLeaf key) → IsDataBreak da db who u key Undecided → TellsData da db who u cause
+  tried_tells key cause (inl is) content = subst (TellsData da db who u) (sym is) (inr content)
+  tried_tells key cause (inr is) content = subst (TellsData da db who u) (sym is) content
+
+pub when_on_ok : {X E : Type 0} (P Q : Type 0) (r : Result X E) → (P → Q) → OnOk r P → OnOk r Q
+when_on_ok P Q (Ok x) f h = f h
+when_on_ok P Q (Err e) f h = tt
