@@ -17,7 +17,7 @@ use Rattle.dia_breaking.specs.declared.keys.Telling.{Telling}
 use Rattle.dia_breaking.specs.Headers.{apps_of}
 use Rattle.dia_breaking.specs.Lengths.{AreExactlyOthers, listed_length}
 use Rattle.dia_breaking.specs.SentKeys.{AreSentInOrder, IsStranger, entry_keys, keys_of_b_alone}
-use Rattle.dia_breaking.specs.Telling.{AreOwnOf, IsExactlyOwn, IsExactTelling, is_told}
+use Rattle.dia_breaking.specs.Telling.{AreOwnOf, IsExactlyOwn, IsExactTelling, is_news}
 use Rattle.dia_breaking.specs.ToldApps.{AreOpenApps, AreToldApps, IsLeastUnnamed, selects}
 use Rattle.dia_breaking.proofs.OneOrder.{one_sorted}
 
@@ -77,7 +77,7 @@ module _ (da db : Dictionary) (who : Sends) (u : Unknown) where
   one_telling telling other is are =
       let keys = one_list_sent da db who is.keys are.keys is.sent are.sent in
       let all = one_list_told are.keys is.all are.all (subst (λ (ks : List Key). AreOwnOf da db who u ks is.all) keys is.each) are.each in
-      let items : telling.own.items ≡ other.own.items = is.told_are ∙ ap (filter is_told) all ∙ sym are.told_are in
+      let items : telling.own.items ≡ other.own.items = is.told_are ∙ ap (filter is_news) all ∙ sym are.told_are in
       (items, λ key. is.places key ∙ ap (position (λ (own : Own). same_key own.key key)) items ∙ sym (are.places key))
 
 -- ---- the applications of a command

@@ -16,7 +16,7 @@ use Rattle.dia_policy.specs.declared.Sends.{Sends}
 use Rattle.dia_breaking.specs.declared.keys.Own.{Own}
 use Rattle.dia_breaking.specs.declared.keys.Telling.{Telling}
 use Rattle.dia_breaking.specs.SentKeys.{AreSentInOrder}
-use Rattle.dia_breaking.specs.Telling.{Adds, AreExactlyTold, IsExactTelling, IsExactlyOwn, is_told}
+use Rattle.dia_breaking.specs.Telling.{Adds, AreExactlyTold, IsExactTelling, IsExactlyOwn, is_news}
 use Rattle.dia_breaking.proofs.Lists.{contains_at}
 use Rattle.dia_breaking.proofs.OrderedKeys.{apart_of_images, sent_apart}
 
@@ -34,16 +34,16 @@ module _ (da db : Dictionary) (who : Sends) (u : Unknown) where
 
   module _ (keys : List Key) (key : Key) (own : Own) (old new : Telling) (told : AreExactlyTold da db who u keys old) (same : own.key ≡ key) (is : IsExactlyOwn da db who u own)
       (adds : Adds own old new) where
-    items_more : (b : Bool) → is_told own ≡ b → new.own.items ≡ (if b then old.own.items ++ own ∷ [] else old.own.items) → new.own.items ≡ filter is_told (told.all ++ own ∷ [])
+    items_more : (b : Bool) → is_news own ≡ b → new.own.items ≡ (if b then old.own.items ++ own ∷ [] else old.own.items) → new.own.items ≡ filter is_news (told.all ++ own ∷ [])
     items_more true e items =
-        items ∙ ap (λ (xs : List Own). xs ++ own ∷ []) told.told_are ∙ sym (filter-append is_told told.all (own ∷ []) ∙ ap (λ (b : Bool). filter is_told told.all ++ (if b then own ∷ [] else [])) e)
+        items ∙ ap (λ (xs : List Own). xs ++ own ∷ []) told.told_are ∙ sym (filter-append is_news told.all (own ∷ []) ∙ ap (λ (b : Bool). filter is_news told.all ++ (if b then own ∷ [] else [])) e)
     items_more false e items =
-        items ∙ told.told_are ∙ sym (filter-append is_told told.all (own ∷ []) ∙ ap (λ (b : Bool). filter is_told told.all ++ (if b then own ∷ [] else [])) e ∙ append-nil (filter is_told told.all))
+        items ∙ told.told_are ∙ sym (filter-append is_news told.all (own ∷ []) ∙ ap (λ (b : Bool). filter is_news told.all ++ (if b then own ∷ [] else [])) e ∙ append-nil (filter is_news told.all))
 
-    places_more : (b : Bool) → is_told own ≡ b → (o : Own) → Contains new.own.items o → IsSome (get same_key new.places o.key)
+    places_more : (b : Bool) → is_news own ≡ b → (o : Own) → Contains new.own.items o → IsSome (get same_key new.places o.key)
     places_more b e o i = by b e (subst (λ (xs : List Own). Contains xs o) (adds.items ∙ ap (λ (t : Bool). if t then old.own.items ++ own ∷ [] else old.own.items) e) i)
       where
-        here : (b c : Bool) → is_told own ≡ b → same_key own.key o.key ≡ c → get same_key new.places o.key ≡ (if b && c then Some (length old.own.items) else get same_key old.places o.key)
+        here : (b c : Bool) → is_news own ≡ b → same_key own.key o.key ≡ c → get same_key new.places o.key ≡ (if b && c then Some (length old.own.items) else get same_key old.places o.key)
         here b c e f = adds.places o.key ∙ ap (λ (t : Bool). if t && same_key own.key o.key then Some (length old.own.items) else get same_key old.places o.key) e
             ∙ ap (λ (t : Bool). if b && t then Some (length old.own.items) else get same_key old.places o.key) f
 
@@ -53,7 +53,7 @@ module _ (da db : Dictionary) (who : Sends) (u : Unknown) where
         kept true false is had = ap (λ (p : Option ℕ). is_some p) is ∙ had
         kept false c is had = ap (λ (p : Option ℕ). is_some p) is ∙ had
 
-        by : (b : Bool) → is_told own ≡ b → Contains (if b then old.own.items ++ own ∷ [] else old.own.items) o → IsSome (get same_key new.places o.key)
+        by : (b : Bool) → is_news own ≡ b → Contains (if b then old.own.items ++ own ∷ [] else old.own.items) o → IsSome (get same_key new.places o.key)
         by false e i = kept false (same_key own.key o.key) (here false (same_key own.key o.key) e refl) (told.have_places o i)
         by true e i = last (Contains-push_cases old.own.items own o i)
           where
@@ -68,8 +68,8 @@ module _ (da db : Dictionary) (who : Sends) (u : Unknown) where
         map-append (λ (o : Own). o.key) told.all (own ∷ []) ∙ ap (λ (ks : List Key). ks ++ own.key ∷ []) told.each.0 ∙ ap (λ (k : Key). keys ++ k ∷ []) same,
         All-push (IsExactlyOwn da db who u) told.all own told.each.1 is,
       );
-      told_are = items_more (is_told own) refl adds.items;
-      have_places = places_more (is_told own) refl;
+      told_are = items_more (is_news own) refl adds.items;
+      have_places = places_more (is_news own) refl;
     }
 
   -- ---- places
@@ -110,5 +110,5 @@ module _ (da db : Dictionary) (who : Sends) (u : Unknown) where
     each = told.each;
     told_are = told.told_are;
     places = place_of telling placed told.have_places (subst (AreApart (λ (own : Own). own.key)) (sym told.told_are)
-        (AreApart-filter (λ (own : Own). own.key) is_told told.all (apart_of_images (λ (own : Own). own.key) told.all keys told.each.0 (sent_apart da db sa sb who keys sent))));
+        (AreApart-filter (λ (own : Own). own.key) is_news told.all (apart_of_images (λ (own : Own). own.key) told.all keys told.each.0 (sent_apart da db sa sb who keys sent))));
   }

@@ -27,7 +27,7 @@ use Rattle.dia_compat.proofs.MemberCounts.{in_at, in_contains, contains_in, in_a
 use Rattle.dia_breaking.specs.declared.keys.Own.{Own}
 use Rattle.dia_breaking.specs.declared.keys.Telling.{Telling}
 use Rattle.dia_breaking.specs.SentKeys.{AreSentKeys, IsStrange}
-use Rattle.dia_breaking.specs.Telling.{Adds, AreGroups, AreTold, IsTelling, IsToldOf, IsUntold, StandsForStrangers, is_told}
+use Rattle.dia_breaking.specs.Telling.{Adds, AreGroups, AreTold, IsTelling, IsToldOf, IsUntold, StandsForStrangers, is_news}
 
 -- ---- keys that a dictionary doesn't know
 
@@ -82,7 +82,7 @@ no_groups : (da db : Dictionary) (key : Key) (b : Bool) → b ≡ (is_some (grou
 no_groups da db key b is none both = both_ways b none (is ∙ and_from (is_some (group_of da key)) (is_some (group_of db key)) both.0 both.1)
 
 -- what is found says that there is nothing to tell
-nothing_told : (da db : Dictionary) (who : Sends) (u : Unknown) (key : Key) (own : Own) → IsToldOf da db who u key own → is_told own ≡ false → IsUntold da db who u key
+nothing_told : (da db : Dictionary) (who : Sends) (u : Unknown) (key : Key) (own : Own) → IsToldOf da db who u key own → is_news own ≡ false → IsUntold da db who u key
 nothing_told da db who u key own is none = (
   (is.silent (left_of own.breaks own.is_group none)).1,
   no_groups da db key own.is_group is.group (right_of own.breaks own.is_group none),
@@ -142,15 +142,15 @@ module _ (da db : Dictionary) (who : Sends) (u : Unknown) where
     had_none q true false e = (e, refl)
     had_none q false c e = (e, refl)
 
-    rest_more : (q : Key) → Contains (keys ++ key ∷ []) q → get same_key new.places q ≡ None → (o : Own) × IsToldOf da db who u q o × (is_told o ≡ false)
-    rest_more q i e = by (in_append keys (key ∷ []) q (in_contains (keys ++ key ∷ []) q i)) (had_none q (is_told own) (same_key own.key q) (sym (adds.places q) ∙ e))
+    rest_more : (q : Key) → Contains (keys ++ key ∷ []) q → get same_key new.places q ≡ None → (o : Own) × IsToldOf da db who u q o × (is_news o ≡ false)
+    rest_more q i e = by (in_append keys (key ∷ []) q (in_contains (keys ++ key ∷ []) q i)) (had_none q (is_news own) (same_key own.key q) (sym (adds.places q) ∙ e))
       where
-        by : IsIn q keys ⊎ IsIn q (key ∷ []) → (get same_key old.places q ≡ None) × ((is_told own && same_key own.key q) ≡ false) → (o : Own) × IsToldOf da db who u q o × (is_told o ≡ false)
+        by : IsIn q keys ⊎ IsIn q (key ∷ []) → (get same_key old.places q ≡ None) × ((is_news own && same_key own.key q) ≡ false) → (o : Own) × IsToldOf da db who u q o × (is_news o ≡ false)
         by (inl j) none = told.rest q (contains_in keys q j) none.0
         by (inr (inr j)) none = absurd j
         by (inr (inl same)) none =
             let alike : same_key own.key q ≡ true = ap (same_key own.key) (same ∙ sym is.key_is) ∙ same_key-refl own.key in
-            (own, subst (λ (k : Key). IsToldOf da db who u k own) (sym same) is, untold (is_told own) (same_key own.key q) alike none.1)
+            (own, subst (λ (k : Key). IsToldOf da db who u k own) (sym same) is, untold (is_news own) (same_key own.key q) alike none.1)
           where
             untold : (b c : Bool) → c ≡ true → (b && c) ≡ false → b ≡ false
             untold false c e h = refl
@@ -158,8 +158,8 @@ module _ (da db : Dictionary) (who : Sends) (u : Unknown) where
 
     pub one_more_told : AreTold da db who u (keys ++ key ∷ []) new
     one_more_told = record {
-      placed = λ q place e. placed_more q place (is_told own) (same_key own.key q) adds.items refl (sym (adds.places q) ∙ e);
-      each = λ o i. each_more (is_told own) adds.items o i;
+      placed = λ q place e. placed_more q place (is_news own) (same_key own.key q) adds.items refl (sym (adds.places q) ∙ e);
+      each = λ o i. each_more (is_news own) adds.items o i;
       rest = rest_more;
     }
 

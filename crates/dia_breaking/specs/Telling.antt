@@ -35,20 +35,20 @@ pub record IsToldOf (da db : Dictionary) (who : Sends) (u : Unknown) (key : Key)
 abbrev pub told : Telling → Key → Option Own
 told telling key = option_and_then (slice_get telling.own.items) (get same_key telling.places key)
 
--- what breaks is told, and what has a level of both
-abbrev pub is_told : Own → Bool
-is_told own = own.breaks || own.is_group
+-- there is something to tell: it breaks by itself, or has a level of both
+abbrev pub is_news : Own → Bool
+is_news own = own.breaks || own.is_group
 
 -- one more is told, if there is something to tell
 pub record Adds (own : Own) (old new : Telling) : Type 0 where
-  pub items : new.own.items ≡ (if is_told own then old.own.items ++ own ∷ [] else old.own.items)
-  pub places : (key : Key) → get same_key new.places key ≡ (if is_told own && same_key own.key key then Some (length old.own.items) else get same_key old.places key)
+  pub items : new.own.items ≡ (if is_news own then old.own.items ++ own ∷ [] else old.own.items)
+  pub places : (key : Key) → get same_key new.places key ≡ (if is_news own && same_key own.key key then Some (length old.own.items) else get same_key old.places key)
 
 -- of these keys all is told that there is to tell
 pub record AreTold (da db : Dictionary) (who : Sends) (u : Unknown) (keys : List Key) (telling : Telling) : Type 0 where
   pub placed : (key : Key) (place : ℕ) → get same_key telling.places key ≡ Some place → (own : Own) × (slice_get telling.own.items place ≡ Some own) × (own.key ≡ key)
   pub each : (own : Own) → Contains telling.own.items own → IsToldOf da db who u own.key own
-  pub rest : (key : Key) → Contains keys key → get same_key telling.places key ≡ None → (own : Own) × IsToldOf da db who u key own × (is_told own ≡ false)
+  pub rest : (key : Key) → Contains keys key → get same_key telling.places key ≡ None → (own : Own) × IsToldOf da db who u key own × (is_news own ≡ false)
 
 -- what is told, and of every key that is not: there is nothing to tell, or another stands for it
 pub record IsTelling (da db : Dictionary) (who : Sends) (u : Unknown) (telling : Telling) : Type 0 where
@@ -80,7 +80,7 @@ AreOwnOf da db who u keys all = (map (λ own. own.key) all ≡ keys) × All (IsE
 pub record AreExactlyTold (da db : Dictionary) (who : Sends) (u : Unknown) (keys : List Key) (telling : Telling) : Type 0 where
   pub all : List Own
   pub each : AreOwnOf da db who u keys all
-  pub told_are : telling.own.items ≡ filter is_told all
+  pub told_are : telling.own.items ≡ filter is_news all
   pub have_places : (own : Own) → Contains telling.own.items own → IsSome (get same_key telling.places own.key)
 
 -- of all keys of AVPs that A's side may send exactly that is told of which there is something to tell, in their order, and each key has its place
@@ -89,5 +89,5 @@ pub record IsExactTelling (da db : Dictionary) (who : Sends) (u : Unknown) (tell
   pub all : List Own
   pub sent : AreSentInOrder da db who keys
   pub each : AreOwnOf da db who u keys all
-  pub told_are : telling.own.items ≡ filter is_told all
+  pub told_are : telling.own.items ≡ filter is_news all
   pub places : (key : Key) → get same_key telling.places key ≡ position (λ own. same_key own.key key) telling.own.items
