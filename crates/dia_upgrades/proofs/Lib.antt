@@ -1,3 +1,5 @@
 pub mod AskedCommands
+pub mod CommandHeads
 pub mod LinesToTell
 pub mod Outcomes
+pub mod ToldLines

@@ -15,31 +15,37 @@ use Rattle.dia_run.specs.Texts.{line}
 use Rattle.dia_run.specs.Outcome.{ended, no_first, no_second}
 use Rattle.dia_run.proofs.OneInput.{one_dictionary, dictionary_or_not}
 use Rattle.dia_upgrades.specs.declared.asked.Asked.{Asked}
-use Rattle.dia_upgrades.specs.Asking.{names_of}
-use Rattle.dia_upgrades.specs.Outcome.{NothingBreaks, nothing_breaks, no_command_line, IsListed, nothing, lines, no_command, IsBreakingOutcome, AreRead, IsUsable, IsSafeUpgrade}
+use Rattle.dia_upgrades.specs.Asking.{names_of, AreCommands}
+use Rattle.dia_upgrades.specs.Outcome.{NothingBreaks, AreAllTold, nothing_breaks, no_command_line, IsListed, nothing, lines, no_command, IsBreakingOutcome, AreRead, IsSafeUpgrade, IsUnsafeUpgrade}
 use Rattle.dia_upgrades.specs.Outcome.{AreRefused, bad_first, bad_second, bad_name}
-use Rattle.dia_upgrades.specs.Places.{ArePlaces, AreAllValid, EndsLine, AreLines}
-use Rattle.dia_upgrades.proofs.AskedCommands.{command_stands}
+use Rattle.dia_upgrades.specs.Places.{AreAllValid, AreLines, asked_places}
+use Rattle.dia_upgrades.proofs.AskedCommands.{asked_each, command_stands}
 use Rattle.dia_upgrades.proofs.LinesToTell.{no_empty_line}
+use Rattle.dia_upgrades.proofs.ToldLines.{told_lines, told_valid}
 
--- where all commands at the places of those that are asked for are valid, nothing breaks
-pub all_valid : (asked : Asked) (a b : Dictionary) (places : List ℕ) → IsDictionary a → ArePlaces a (names_of asked) places → AreAllValid a b asked.sends asked.unknown places → NothingBreaks asked a b
-all_valid asked a b places sound are valid = λ number command at is_asked.
+-- where all commands that are asked for are valid, nothing breaks
+pub all_valid : (asked : Asked) (a b : Dictionary) → IsDictionary a → AreAllValid a b asked.sends asked.unknown (asked_places a (names_of asked)) → NothingBreaks asked a b
+all_valid asked a b sound valid = λ number command at is_asked.
     let s = command_stands a sound number command is_asked.0 at in
-    let inside = are.each s.place command s.at is_asked in
+    let inside = asked_each a sound (names_of asked) s.place command s.at is_asked in
     subst (λ (n : ℕ). ∥ AreValid a b asked.sends asked.unknown n ∥₁) (sym s.number_is)
-    (All-contains (λ place. ∥ AreValid a b asked.sends asked.unknown (length (groups a) + place) ∥₁) places s.place valid inside)
+    (All-contains (λ place. ∥ AreValid a b asked.sends asked.unknown (length (groups a) + place) ∥₁) (asked_places a (names_of asked)) s.place valid inside)
 
--- the outcome of lines
-pub listed : {E : Type 0} (asked : Asked) (a b : Dictionary) (places text : List ℕ) (r : Result Outcome E) → IsDictionary a → ArePlaces a (names_of asked) places → AreLines text
-    → (text ≡ [] → AreAllValid a b asked.sends asked.unknown places)
-    → (text ≡ [] → IfOk r (λ o. (o.exit ≡ Yes) × (string_bytes o.text ≡ line nothing_breaks)))
-    → (¬ (text ≡ []) → IfOk r (λ o. (o.exit ≡ No) × (string_bytes o.text ≡ text))) → IfOk r (λ o. IsListed asked a b (string_bytes o.text) o.exit)
-listed asked a b places text (Err e) sound are shape valid none some = tt
-listed asked a b places text (Ok o) sound are (inl empty) valid none some =
-    let made = none empty in nothing are.known (all_valid asked a b places sound are (valid empty)) made.1 made.0
-listed asked a b places text (Ok o) sound are (inr (told, is)) valid none some =
-    let made = some (no_empty_line text (told, is)) in lines told are.known (made.1 ∙ is) made.0
+-- the outcome of the text of the lines
+module _ (asked : Asked) (a b : Dictionary) (text : List ℕ) (sound : IsDictionary a) (known : AreCommands a (names_of asked)) (told : AreAllTold asked a b text) where
+  by_lines : {E : Type 0} (r : Result Outcome E) → AreLines text → (text ≡ [] → IfOk r (λ o. (o.exit ≡ Yes) × (string_bytes o.text ≡ line nothing_breaks)))
+      → (¬ (text ≡ []) → IfOk r (λ o. (o.exit ≡ No) × (string_bytes o.text ≡ text))) → IfOk r (λ o. IsListed asked a b (string_bytes o.text) o.exit)
+  by_lines (Err e) shape none some = tt
+  by_lines (Ok o) (inl empty) none some =
+      let made = none empty in
+      let valid = told_valid a b asked.sends asked.unknown asked.messages (asked_places a (names_of asked)) text told empty in
+      nothing known (all_valid asked a b sound valid) (subst (AreAllTold asked a b) empty told) made.1 made.0
+  by_lines (Ok o) (inr (t, is)) none some =
+      let made = some (no_empty_line text (t, is)) in lines t known (subst (AreAllTold asked a b) is told) (made.1 ∙ is) made.0
+
+  pub listed : {E : Type 0} (r : Result Outcome E) → (text ≡ [] → IfOk r (λ o. (o.exit ≡ Yes) × (string_bytes o.text ≡ line nothing_breaks)))
+      → (¬ (text ≡ []) → IfOk r (λ o. (o.exit ≡ No) × (string_bytes o.text ≡ text))) → IfOk r (λ o. IsListed asked a b (string_bytes o.text) o.exit)
+  listed r none some = by_lines r (told_lines a b asked.sends asked.unknown asked.messages (asked_places a (names_of asked)) text told) none some
 
 -- the outcome of a name that is no command's
 pub unnamed : {E : Type 0} (asked : Asked) (a b : Dictionary) (name : List ℕ) (r : Result Outcome E) → IsFirstUnknown a (names_of asked) name
@@ -49,19 +55,20 @@ unnamed asked a b name (Ok o) first text exit = no_command name first (text, exi
 
 -- a yes says that nothing breaks
 pub yes_is_safe : (asked : Asked) (inputs : Inputs) (text : List ℕ) (exit : Exit) → IsBreakingOutcome asked inputs text exit → exit ≡ Yes → IsSafeUpgrade asked inputs × (text ≡ line nothing_breaks)
-yes_is_safe asked inputs text exit (ended a b is_a is_b (nothing known safe is_text is_exit)) is_yes = ((a, b, record { first = is_a; second = is_b; known = known }, safe), is_text)
-yes_is_safe asked inputs text exit (ended a b is_a is_b (lines told known is_text is_exit)) is_yes = absurd (let e : No ≡ Yes = sym is_exit ∙ is_yes in cc)
+yes_is_safe asked inputs text exit (ended a b is_a is_b (nothing known safe none is_text is_exit)) is_yes = ((a, b, record { first = is_a; second = is_b; known = known }, safe), is_text)
+yes_is_safe asked inputs text exit (ended a b is_a is_b (lines told known all is_text is_exit)) is_yes = absurd (let e : No ≡ Yes = sym is_exit ∙ is_yes in cc)
 yes_is_safe asked inputs text exit (ended a b is_a is_b (no_command name first refuses)) is_yes = absurd (let e : Bad ≡ Yes = sym refuses.1 ∙ is_yes in cc)
 yes_is_safe asked inputs text exit (no_first why none refuses) is_yes = absurd (let e : Bad ≡ Yes = sym refuses.1 ∙ is_yes in cc)
 yes_is_safe asked inputs text exit (no_second a why is_a none refuses) is_yes = absurd (let e : Bad ≡ Yes = sym refuses.1 ∙ is_yes in cc)
 
--- a no says that lines were told
-pub no_is_usable : (asked : Asked) (inputs : Inputs) (text : List ℕ) (exit : Exit) → IsBreakingOutcome asked inputs text exit → exit ≡ No → IsUsable asked inputs × EndsLine text
-no_is_usable asked inputs text exit (ended a b is_a is_b (nothing known safe is_text is_exit)) is_no = absurd (let e : Yes ≡ No = sym is_exit ∙ is_no in cc)
-no_is_usable asked inputs text exit (ended a b is_a is_b (lines told known is_text is_exit)) is_no = ((a, b, record { first = is_a; second = is_b; known = known }), (told, is_text))
-no_is_usable asked inputs text exit (ended a b is_a is_b (no_command name first refuses)) is_no = absurd (let e : Bad ≡ No = sym refuses.1 ∙ is_no in cc)
-no_is_usable asked inputs text exit (no_first why none refuses) is_no = absurd (let e : Bad ≡ No = sym refuses.1 ∙ is_no in cc)
-no_is_usable asked inputs text exit (no_second a why is_a none refuses) is_no = absurd (let e : Bad ≡ No = sym refuses.1 ∙ is_no in cc)
+-- a no says which lines were told
+pub no_is_told : (asked : Asked) (inputs : Inputs) (text : List ℕ) (exit : Exit) → IsBreakingOutcome asked inputs text exit → exit ≡ No
+    → (told : List ℕ) × IsUnsafeUpgrade asked inputs (line told) × (text ≡ line told)
+no_is_told asked inputs text exit (ended a b is_a is_b (nothing known safe none is_text is_exit)) is_no = absurd (let e : Yes ≡ No = sym is_exit ∙ is_no in cc)
+no_is_told asked inputs text exit (ended a b is_a is_b (lines told known all is_text is_exit)) is_no = (told, (a, b, record { first = is_a; second = is_b; known = known }, all), is_text)
+no_is_told asked inputs text exit (ended a b is_a is_b (no_command name first refuses)) is_no = absurd (let e : Bad ≡ No = sym refuses.1 ∙ is_no in cc)
+no_is_told asked inputs text exit (no_first why none refuses) is_no = absurd (let e : Bad ≡ No = sym refuses.1 ∙ is_no in cc)
+no_is_told asked inputs text exit (no_second a why is_a none refuses) is_no = absurd (let e : Bad ≡ No = sym refuses.1 ∙ is_no in cc)
 
 -- ---- refused inputs
 
@@ -77,15 +84,17 @@ first_unknown : (a : Dictionary) (names : List (List ℕ)) (name : List ℕ) →
 first_unknown a names name first = contains_in names name (in_at names first.place name first.is_name)
 
 refused : (asked : Asked) (inputs : Inputs) (text : List ℕ) (exit : Exit) → IsBreakingOutcome asked inputs text exit → exit ≡ Bad → AreRefused asked inputs
-refused asked inputs text exit (ended a b is_a is_b (nothing known safe is_text is_exit)) is_bad = absurd (let e : Yes ≡ Bad = sym is_exit ∙ is_bad in cc)
-refused asked inputs text exit (ended a b is_a is_b (lines told known is_text is_exit)) is_bad = absurd (let e : No ≡ Bad = sym is_exit ∙ is_bad in cc)
+refused asked inputs text exit (ended a b is_a is_b (nothing known safe none is_text is_exit)) is_bad = absurd (let e : Yes ≡ Bad = sym is_exit ∙ is_bad in cc)
+refused asked inputs text exit (ended a b is_a is_b (lines told known all is_text is_exit)) is_bad = absurd (let e : No ≡ Bad = sym is_exit ∙ is_bad in cc)
 refused asked inputs text exit (ended a b is_a is_b (no_command name first refuses)) is_bad = bad_name a name is_a (first_unknown a (names_of asked) name first) first.unknown
 refused asked inputs text exit (no_first why none refuses) is_bad = bad_first why none
 refused asked inputs text exit (no_second a why is_a none refuses) is_bad = bad_second why none
 
 bad_exit : (asked : Asked) (inputs : Inputs) (text : List ℕ) (exit : Exit) → IsBreakingOutcome asked inputs text exit → AreRefused asked inputs → exit ≡ Bad
-bad_exit asked inputs text exit (ended a b is_a is_b (nothing known safe is_text is_exit)) none_read = absurd (read_or_refused asked inputs a b (record { first = is_a; second = is_b; known = known }) none_read)
-bad_exit asked inputs text exit (ended a b is_a is_b (lines told known is_text is_exit)) none_read = absurd (read_or_refused asked inputs a b (record { first = is_a; second = is_b; known = known }) none_read)
+bad_exit asked inputs text exit (ended a b is_a is_b (nothing known safe none is_text is_exit)) none_read =
+    absurd (read_or_refused asked inputs a b (record { first = is_a; second = is_b; known = known }) none_read)
+bad_exit asked inputs text exit (ended a b is_a is_b (lines told known all is_text is_exit)) none_read =
+    absurd (read_or_refused asked inputs a b (record { first = is_a; second = is_b; known = known }) none_read)
 bad_exit asked inputs text exit (ended a b is_a is_b (no_command name first refuses)) none_read = refuses.1
 bad_exit asked inputs text exit (no_first why none refuses) none_read = refuses.1
 bad_exit asked inputs text exit (no_second a why is_a none refuses) none_read = refuses.1

@@ -1,3 +1,4 @@
 pub mod Asking
 pub mod Outcome
 pub mod Places
+pub mod Told

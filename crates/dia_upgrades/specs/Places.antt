@@ -1,26 +1,23 @@
--- The places of the commands that are asked for, and the lines that are told of them.
-use Rattle.std.specs.Prelude.{◌≡◌, ℕ, ◌+◌, ◌<◌, ◌⊎◌, List, [], length, Some, All, Contains, slice_get}
+-- The places of the commands that are asked for.
+use Rattle.std.specs.Prelude.{◌≡◌, ℕ, ◌+◌, ◌⊎◌, List, [], ◌∷◌, ◌++◌, length, All}
+use Rattle.std.specs.List.{filter_map, range_with_len}
 use Rattle.dia_policy.specs.declared.sends.Sends.{Sends}
 use Rattle.dia_policy.specs.declared.Unknown.{Unknown}
-use Rattle.dia_book.specs.Dictionary.{Dictionary, PlainDefinition, groups}
+use Rattle.dia_book.specs.Dictionary.{Dictionary, groups}
 use Rattle.dia_sites.specs.Selection.{AreValid}
+use Rattle.dia_compat.specs.PairTests.{command_named}
 use Rattle.dia_run.specs.Texts.{line}
-use Rattle.dia_upgrades.specs.Asking.{IsAskedFor, AreCommands}
 
--- the command of a name stands at one of these places
-abbrev pub StandsAmong : Dictionary → List ℕ → List ℕ → Type 0
-StandsAmong d places name = (place : ℕ) × (command : PlainDefinition) × Contains places place × (slice_get d.commands place ≡ Some command)
-    × (command.name ≡ name)
-
--- the places of the commands that are asked for
-pub record ArePlaces (d : Dictionary) (names : List (List ℕ)) (places : List ℕ) : Type 0 where
-  pub known : AreCommands d names
-  pub within : All (λ place. place < length d.commands) places
-  pub each : (place : ℕ) (command : PlainDefinition) → slice_get d.commands place ≡ Some command → IsAskedFor d names command → Contains places place
+-- those of the commands of these names, in the order of the names; of all commands, where no name is given
+abbrev pub asked_places : Dictionary → List (List ℕ) → List ℕ
+asked_places d [] = range_with_len 0 (length d.commands)
+asked_places d (name ∷ names) = filter_map (command_named d) (name ∷ names)
 
 -- of the commands at these places, each message that A's side sends is valid under B
 abbrev pub AreAllValid : Dictionary → Dictionary → Sends → Unknown → List ℕ → Type 0
 AreAllValid a b sends unknown places = All (λ place. ∥ AreValid a b sends unknown (length (groups a) + place) ∥₁) places
+
+-- ---- texts
 
 -- the text ends a line
 abbrev pub EndsLine : List ℕ → Type 0
@@ -29,3 +26,7 @@ EndsLine text = (told : List ℕ) × (text ≡ line told)
 -- it is empty, or it ends a line
 abbrev pub AreLines : List ℕ → Type 0
 AreLines text = (text ≡ []) ⊎ EndsLine text
+
+-- such a text was added
+abbrev pub Adds : (List ℕ → Type 0) → List ℕ → List ℕ → Type 0
+Adds is old new = (more : List ℕ) × is more × (new ≡ old ++ more)

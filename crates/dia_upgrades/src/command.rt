@@ -7,7 +7,7 @@ ghost use Rattle.dia_io.specs.Writing.{AppendsFront};
 ghost use Rattle.dia_run.specs.Texts.{line};
 ghost use Rattle.dia_run.specs.Outcome.{Ends};
 ghost use Rattle.dia_upgrades.specs.Outcome.{IsListed, IsBreakingOutcome, nothing_breaks, no_command_line};
-ghost use Rattle.dia_upgrades.specs.Outcome.{IsSafeUpgrade, IsUsable, AreRefused};
+ghost use Rattle.dia_upgrades.specs.Outcome.{IsSafeUpgrade, IsUnsafeUpgrade, AreRefused};
 
 use crate::asked::Asked;
 use crate::lines::lines_of;
@@ -35,9 +35,10 @@ pub fn breaking<S: Sink>(
     // Where it answers yes, nothing breaks, and it has said so.
     ensures yes { IfOk result (λ exit. exit ≡ Exit.Yes → IsSafeUpgrade asked.entry inputs.now
         × Appends (S.written sink.old) (S.written sink.new) (line nothing_breaks)) }
-    // Where it answers no, it has written lines.
-    ensures no { IfOk result (λ exit. exit ≡ Exit.No → IsUsable asked.entry inputs.now
-        × ((told : List ℕ) × Appends (S.written sink.old) (S.written sink.new) (line told))) }
+    // Where it answers no, it has written the lines of the commands, and at least one.
+    ensures no { IfOk result (λ exit. exit ≡ Exit.No
+        → (told : List ℕ) × IsUnsafeUpgrade asked.entry inputs.now (line told)
+        × Appends (S.written sink.old) (S.written sink.new) (line told)) }
     ensures bad { IfOk result
         (λ exit. (exit ≡ Exit.Bad) ↔ AreRefused asked.entry inputs.now) }
     ensures device { (result ≡ Err RunFault.Device) ↔ IsTrue (S.has_failed sink.new) }

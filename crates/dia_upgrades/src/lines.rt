@@ -1,9 +1,12 @@
 //! The lines of the commands.
 
-ghost use Rattle.std.specs.Prelude.{◌≡◌, ◌<◌, [], All, IfOk, OnOk, length, string_bytes};
+ghost use Rattle.std.specs.Prelude.{◌≡◌, ◌<◌, All, IfOk, IsSome, OnOk, length, string_bytes};
 ghost use Rattle.dia_book.specs.Dictionary.{definitions};
-ghost use Rattle.dia_sites.specs.Selection.{AreValid};
-ghost use Rattle.dia_upgrades.specs.Places.{AreAllValid, AreLines, EndsLine};
+ghost use Rattle.dia_breaking.specs.Lengths.{other_length};
+ghost use Rattle.dia_breaking.specs.Words.{head_at, words_of};
+ghost use Rattle.dia_upgrades.specs.Places.{Adds};
+ghost use Rattle.dia_upgrades.specs.Told.{AreTexts, AreTold, IsLineText, IsMessageLine, IsToldOf};
+ghost use Rattle.dia_upgrades.specs.Told.{has_message};
 
 use dia_breaking::{Breaks, Line, Standing, Upgrade};
 use dia_dict::{Book, DefId};
@@ -17,21 +20,20 @@ pub(crate) fn lines_of<A: Book, B: Book>(
     messages: bool,
 ) -> Result<String, AllocError>
     requires { All (λ place. place < length (A.meaning upgrade.now.a.now).commands) places.now }
-    ensures lines { IfOk result (λ text. AreLines (string_bytes text)) }
-    ensures none { IfOk result (λ text. string_bytes text ≡ [] → AreAllValid
-        (A.meaning upgrade.now.a.now) (B.meaning upgrade.now.b.now)
-        upgrade.now.sends upgrade.now.unknown places.now) }
+    ensures { IfOk result (λ text. AreTold (A.meaning upgrade.now.a.now)
+        (B.meaning upgrade.now.b.now) upgrade.now.sends upgrade.now.unknown messages
+        places.now (string_bytes text)) }
 {
     let mut text = String::new(alloc);
     for place in places {
         let command = upgrade.sender().command_at(*place);
-        push_lines(alloc, &mut text, upgrade, command, messages)?;
+        push_command(alloc, &mut text, upgrade, command, messages)?;
     }
     Ok(text)
 }
 
 /// Adds the lines of a command of A.
-fn push_lines<A: Book, B: Book>(
+fn push_command<A: Book, B: Book>(
     alloc: Global,
     text: &mut String,
     upgrade: &Upgrade<'_, A, B>,
@@ -39,15 +41,32 @@ fn push_lines<A: Book, B: Book>(
     messages: bool,
 ) -> Result<(), AllocError>
     requires { command < length (definitions (A.meaning upgrade.now.a.now)) }
-    ensures lines { AreLines (string_bytes text.old) → OnOk result (AreLines (string_bytes text.new)) }
-    ensures grows { OnOk result (string_bytes text.new ≡ [] → string_bytes text.old ≡ []) }
-    ensures none { OnOk result (string_bytes text.new ≡ [] → ∥ AreValid
-        (A.meaning upgrade.now.a.now) (B.meaning upgrade.now.b.now)
-        upgrade.now.sends upgrade.now.unknown command ∥₁) }
+    ensures { OnOk result (IsSome (head_at (A.meaning upgrade.now.a.now) command)
+        → Adds (IsToldOf (A.meaning upgrade.now.a.now) (B.meaning upgrade.now.b.now)
+        upgrade.now.sends upgrade.now.unknown messages upgrade.now.lengths.entries.items command)
+        (string_bytes text.old) (string_bytes text.new)) }
 {
     let breaks = upgrade.breaks(alloc, command)?;
+    push_lines(alloc, text, upgrade, &breaks, messages)
+}
+
+/// Adds these lines.
+fn push_lines<A: Book, B: Book>(
+    alloc: Global,
+    text: &mut String,
+    upgrade: &Upgrade<'_, A, B>,
+    breaks: &Breaks,
+    messages: bool,
+) -> Result<(), AllocError>
+    ensures { OnOk result (Adds (AreTexts (IsLineText messages
+        (words_of (A.meaning upgrade.now.a.now) (B.meaning upgrade.now.b.now) upgrade.now.unknown
+        (other_length (A.meaning upgrade.now.a.now)
+        upgrade.now.sends upgrade.now.lengths.entries.items)
+        breaks.now.command breaks.now.sites.items)) breaks.now.lines.items)
+        (string_bytes text.old) (string_bytes text.new)) }
+{
     for line in &breaks.lines {
-        push_line(alloc, text, upgrade, &breaks, line, messages)?;
+        push_line(alloc, text, upgrade, breaks, line, messages)?;
     }
     Ok(())
 }
@@ -61,14 +80,29 @@ fn push_line<A: Book, B: Book>(
     line: &Line,
     messages: bool,
 ) -> Result<(), AllocError>
-    ensures { OnOk result (EndsLine (string_bytes text.new)) }
+    ensures { OnOk result (Adds (IsLineText messages
+        (words_of (A.meaning upgrade.now.a.now) (B.meaning upgrade.now.b.now) upgrade.now.unknown
+        (other_length (A.meaning upgrade.now.a.now)
+        upgrade.now.sends upgrade.now.lengths.entries.items)
+        breaks.now.command breaks.now.sites.items) line.now)
+        (string_bytes text.old) (string_bytes text.new)) }
 {
     upgrade.push_words(alloc, text, breaks, line)?;
     text.push('\n')?;
-    if messages && line.standing != Standing::Undecided {
+    if has_message(messages, line.standing) {
         return push_message(alloc, text, upgrade, breaks, line);
     }
     Ok(())
+}
+
+/// Whether a line has its message behind it.
+fn has_message(messages: bool, standing: Standing) -> bool
+    ensures { result ≡ has_message messages standing }
+{
+    match standing {
+        Standing::Confirmed | Standing::Unchecked => messages,
+        Standing::Undecided => false,
+    }
 }
 
 /// Adds the message of a line, on a line of its own.
@@ -79,10 +113,17 @@ fn push_message<A: Book, B: Book>(
     breaks: &Breaks,
     line: &Line,
 ) -> Result<(), AllocError>
-    ensures { OnOk result (EndsLine (string_bytes text.new)) }
+    ensures { OnOk result (Adds IsMessageLine (string_bytes text.old) (string_bytes text.new)) }
 {
     let message = upgrade.message(alloc, breaks, line)?;
-    let digits = hex::encode(alloc, message)?;
+    push_digits(alloc, text, &message)
+}
+
+/// Adds the bytes of a message in hexadecimal, on a line of their own.
+fn push_digits(alloc: Global, text: &mut String, bytes: &[u8]) -> Result<(), AllocError>
+    ensures { OnOk result (Adds IsMessageLine (string_bytes text.old) (string_bytes text.new)) }
+{
+    let digits = hex::encode(alloc, bytes)?;
     text.push_str("  ")?;
     text.push_str(digits.as_str())?;
     text.push('\n')?;

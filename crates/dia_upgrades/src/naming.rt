@@ -1,9 +1,11 @@
 //! The commands that are asked for.
 
-ghost use Rattle.std.specs.Prelude.{◌≡◌, ◌<◌, ℕ, All, Contains, IfOk, IfErr, map, position, string_bytes};
+ghost use Rattle.std.specs.Prelude.{◌≡◌, IfOk, IfErr, map, position, string_bytes};
+ghost use Rattle.std.specs.List.{range_with_len};
 ghost use Rattle.std.specs.Str.{bytes_eq};
 ghost use Rattle.dia_compat.specs.Proposed.{IsFirstUnknown};
-ghost use Rattle.dia_upgrades.specs.Places.{ArePlaces};
+ghost use Rattle.dia_upgrades.specs.Asking.{AreCommands};
+ghost use Rattle.dia_upgrades.specs.Places.{asked_places};
 
 use dia_dict::Book;
 use indexmap::IndexSet;
@@ -16,8 +18,10 @@ pub(crate) fn named<'a, A: Book>(
     a: &A,
     names: &'a [String],
 ) -> Result<Result<Vec<usize>, &'a str>, AllocError>
-    ensures places { IfOk result (λ named. IfOk named (λ places. ArePlaces (A.meaning a.now)
-        (map (λ name. string_bytes name) names.now) places.items)) }
+    ensures known { IfOk result (λ named. IfOk named (λ places. AreCommands (A.meaning a.now)
+        (map (λ name. string_bytes name) names.now))) }
+    ensures exact { IfOk result (λ named. IfOk named (λ places. places.items ≡ asked_places
+        (A.meaning a.now) (map (λ name. string_bytes name) names.now))) }
     ensures unknown { IfOk result (λ named. IfErr named (λ name. IsFirstUnknown (A.meaning a.now)
         (map (λ name. string_bytes name) names.now) name.now)) }
 {
@@ -38,9 +42,7 @@ pub(crate) fn named<'a, A: Book>(
 
 /// All places below a count, in order.
 fn places_below(alloc: Global, count: usize) -> Result<Vec<usize>, AllocError>
-    ensures within { IfOk result (λ places. All (λ place. place < count) places.items) }
-    ensures each { IfOk result (λ places. (place : ℕ) → place < count
-        → Contains places.items place) }
+    ensures { IfOk result (λ places. places.items ≡ range_with_len 0 count) }
 {
     let mut places = Vec::new(alloc);
     for place in 0..count {

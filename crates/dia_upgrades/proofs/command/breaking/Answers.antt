@@ -1,5 +1,5 @@
 use Rattle.std.proofs.Common.{string_bytes}
-use Rattle.dia_upgrades.proofs.Outcomes.{yes_is_safe, no_is_usable, bad_is_refused}
+use Rattle.dia_upgrades.proofs.Outcomes.{yes_is_safe, no_is_told, bad_is_refused}
 use Rattle.dia_upgrades.proofs.command.breaking.Goals as goal
 
 pub returns-in_err-put_all-clause-front : goal.returns-in_err-put_all-clause-front
@@ -16,8 +16,8 @@ returns-clause-yes g c = λ is_yes.
 
 pub returns-clause-no : goal.returns-clause-no
 returns-clause-no g c = λ is_no.
-    let told = no_is_usable c.args.asked c.args.inputs.now _ _ c.in_ok-outcome.ensures is_no in
-    (told.0, (told.1.0, rw (c.as_bytes.ensures.value, told.1.1) at c.in_ok-put_all.ensures.ok))
+    let told = no_is_told c.args.asked c.args.inputs.now _ _ c.in_ok-outcome.ensures is_no in
+    (told.0, told.1, rw (c.as_bytes.ensures.value, told.2) at c.in_ok-put_all.ensures.ok)
 
 pub returns-clause-bad : goal.returns-clause-bad
 returns-clause-bad g c = bad_is_refused c.args.asked c.args.inputs.now _ _ c.in_ok-outcome.ensures

@@ -1,21 +1,30 @@
-use Rattle.std.proofs.Common.{string_bytes}
+use Rattle.std.proofs.Common.{◌<◌, List, length, string_bytes, subst, sym, ℕ}
+use Rattle.std.specs.Prelude.{All}
+use Rattle.dia_upgrades.specs.Asking.{names_of}
+use Rattle.dia_upgrades.specs.Told.{AreTold}
+use Rattle.dia_upgrades.proofs.AskedCommands.{asked_within}
 use Rattle.dia_upgrades.proofs.Outcomes.{listed, unnamed}
 use Rattle.dia_upgrades.proofs.command.compared.Goals as goal
 
 pub lines_of-requires : goal.lines_of-requires
 lines_of-requires g c =
-    let are = rw c.in-Ok.is at c.in_ok-commands.ensures.places in
-    rw (c.deref.ensures.value, c.in_ok-upgrade-in-Ok.ensures.sender) are.within
+    let da = g.A.Book.meaning c.args.a.now in
+    let same = rw c.in-Ok.is at c.in_ok-commands.ensures.exact in
+    let within = subst (All (λ (place : ℕ). place < length da.commands)) (sym same) (asked_within da (names_of c.args.asked)) in
+    rw (c.deref.ensures.value, c.in_ok-upgrade-in-Ok.ensures.sender) within
 
 pub returns-in_ok-lines-in-Ok : goal.returns-in_ok-lines-in-Ok
 returns-in_ok-lines-in-Ok g c =
     let da = g.A.Book.meaning c.args.a.now in
     let db = g.B.Book.meaning c.args.b.now in
-    let are = rw c.in-Ok.is at c.in_ok-commands.ensures.places in
+    let asked = c.args.asked in
+    let text = string_bytes c.in_ok-lines-in-Ok.lines in
+    let known = rw c.in-Ok.is at c.in_ok-commands.ensures.known in
+    let same = rw c.in-Ok.is at c.in_ok-commands.ensures.exact in
     let made = c.in_ok-upgrade-in-Ok.ensures in
-    let none = rw (c.deref.ensures.value, made.sender, made.receiver, made.sends, made.unknown) at c.in_ok-lines-in-Ok.ensures.none in
-    listed c.args.asked da db c.in-Ok.commands.items (string_bytes c.in_ok-lines-in-Ok.lines) c.ended.result (g.met.A.Book.sound c.args.a.now) are
-    c.in_ok-lines-in-Ok.ensures.lines none c.ended.ensures.none c.ended.ensures.some
+    let told = rw (c.deref.ensures.value, made.sender, made.receiver, made.sends, made.unknown) at c.in_ok-lines-in-Ok.ensures in
+    let all = subst (λ (places : List ℕ). AreTold da db asked.sends asked.unknown asked.messages places text) same told in
+    listed asked da db text (g.met.A.Book.sound c.args.a.now) known all c.ended.result c.ended.ensures.none c.ended.ensures.some
 
 pub returns-in-Err : goal.returns-in-Err
 returns-in-Err g c =

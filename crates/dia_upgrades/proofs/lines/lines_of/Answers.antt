@@ -1,28 +1,38 @@
-use Rattle.std.proofs.Common.{ℕ, ◌+◌, length, get_or, arith, ap, subst, ◌∙◌}
+use Rattle.std.proofs.Common.{ℕ, List, ◌+◌, ap, get_or, length, string_bytes, subst, ◌∙◌}
+use Rattle.std.proofs.Math.Logic.{∥∥₁_map}
 use Rattle.std.proofs.lemmas.List.{take_all}
-use Rattle.std.proofs.lemmas.List.Elements.{All-more}
 use Rattle.dia_book.specs.Dictionary.{Dictionary, groups}
-use Rattle.dia_sites.specs.Selection.{AreValid}
-use Rattle.dia_upgrades.specs.Places.{AreAllValid}
+use Rattle.dia_breaking.specs.Words.{head_at}
+use Rattle.std.specs.Prelude.{IsSome}
+use Rattle.dia_upgrades.specs.Places.{Adds}
+use Rattle.dia_upgrades.specs.Told.{AreTexts, IsToldOf}
+use Rattle.dia_upgrades.proofs.CommandHeads.{head_stands}
+use Rattle.dia_upgrades.proofs.LinesToTell.{one_more}
 use Rattle.dia_upgrades.proofs.lines.lines_of.Goals as goal
 
 pub loop-place-preserved : goal.loop-place-preserved
 loop-place-preserved g c =
-    let da = g.A.Book.meaning c.args.upgrade.now.a.now in
-    let db = g.B.Book.meaning c.args.upgrade.now.b.now in
+    let up = c.args.upgrade.now in
+    let da = g.A.Book.meaning up.a.now in
+    let tells = IsToldOf da (g.B.Book.meaning up.b.now) up.sends up.unknown c.args.messages up.lengths.entries.items in
+    let places = c.args.places.now in
     let i = c.loop-place.place-index in
-    let valid = λ (n : ℕ). ∥ AreValid da db c.args.upgrade.now.sends c.args.upgrade.now.unknown n ∥₁ in (
-      c.in_ok-push_lines.ensures.lines c.loop-place.invariant.0,
-      λ empty.
-          let here = c.in_ok-push_lines.ensures.none empty in
-          let before = c.loop-place.invariant.1 (c.in_ok-push_lines.ensures.grows empty) in
-          let number = c.command_at-command.ensures ∙ ap (λ (d : Dictionary). length (groups d) + get_or c.args.places.now i 0) (ap g.A.Book.meaning c.sender.ensures) in
-          All-more (λ place. valid (length (groups da) + place)) c.args.places.now i 0 (omega arith) before (subst valid number here),
-    )
+    let old = string_bytes c.loop-place.text in
+    let new = string_bytes c.push_command.new.text in
+    let less = c.loop-place-test.true in
+    let number = c.command_at-command.ensures ∙ ap (λ (d : Dictionary). length (groups d) + get_or places i 0) (ap g.A.Book.meaning c.sender.ensures) in
+    let more = subst (λ (n : ℕ). IsSome (head_at da n) → Adds (tells n) old new) number c.in_ok-push_command.ensures in
+    let head = head_stands da (g.met.A.Book.sound up.a.now) (get_or places i 0) (c.requires i 0 less) in
+    one_more (λ place. tells (length (groups da) + place)) places i 0 old new less c.loop-place.invariant (more head)
 
-pub returns-clause-none : goal.returns-clause-none
-returns-clause-none g c =
-    let da = g.A.Book.meaning c.args.upgrade.now.a.now in
-    let db = g.B.Book.meaning c.args.upgrade.now.b.now in
-    let all = take_all c.loop-place.place-index c.args.places.now (omega arith) in
-    λ empty. subst (AreAllValid da db c.args.upgrade.now.sends c.args.upgrade.now.unknown) all (c.loop-place.invariant.1 empty)
+pub returns : goal.returns
+returns g c =
+    let up = c.args.upgrade.now in
+    let da = g.A.Book.meaning up.a.now in
+    let tells = IsToldOf da (g.B.Book.meaning up.b.now) up.sends up.unknown c.args.messages up.lengths.entries.items in
+    let all = take_all c.loop-place.place-index c.args.places.now c.loop-place-test.false in
+    record {
+      lengths = up.lengths.entries.items;
+      are_shortest = ∥∥₁_map up.facts (λ facts. (facts.least, facts.are_least, facts.are_lengths));
+      each = subst (λ (places : List ℕ). AreTexts (λ place. tells (length (groups da) + place)) places (string_bytes c.loop-place.text)) all c.loop-place.invariant;
+    }

@@ -1,5 +1,10 @@
-use Rattle.dia_upgrades.proofs.AskedCommands.{one_place_more}
+use Rattle.std.proofs.Common.{ap, arith, ◌∙◌}
+use Rattle.std.specs.List.{range_with_len}
+use Rattle.dia_upgrades.proofs.AskedCommands.{in_range}
 use Rattle.dia_upgrades.proofs.naming.places_below.Goals as goal
 
 pub loop-place-preserved : goal.loop-place-preserved
-loop-place-preserved c = one_place_more _ _ _ _ c.in_ok-push.ensures.items c.loop-place-test.true c.loop-place.invariant.0 c.loop-place.invariant.1
+loop-place-preserved c = in_range _ _ _ c.in_ok-push.ensures.items c.loop-place.invariant
+
+pub returns : goal.returns
+returns c = c.loop-place.invariant ∙ ap (range_with_len 0) (omega arith)
