@@ -9,9 +9,10 @@ use Rattle.dia_breaking.specs.declared.line.Line.{Line}
 use Rattle.dia_breaking.specs.declared.line.Site.{Site}
 use Rattle.dia_breaking.specs.declared.line.Standing.{Standing}
 use Rattle.dia_breaking.specs.declared.line.Standing.TheVariants.{Confirmed, Unchecked, Undecided}
-use Rattle.dia_breaking.specs.Confirmed.{EachConfirmedBreaks}
+use Rattle.dia_breaking.specs.Confirmed.{EachConfirmedBreaks, HaveStandings, most_checked_together}
 use Rattle.dia_breaking.specs.Free.{AreValidWhereFree}
 use Rattle.dia_breaking.specs.Lengths.{AreEntryLengths, other_length}
+use Rattle.dia_breaking.specs.OwnBreaks.{TellData}
 use Rattle.dia_breaking.specs.TheLines.{AreLinesOrUnproved}
 use Rattle.dia_breaking.specs.Words.{words_of}
 use Rattle.dia_run.specs.Texts.{line}
@@ -48,13 +49,16 @@ abbrev pub AreShortest : Dictionary → Sends → List ℕ → Type 0
 AreShortest a who lengths = ∥ ((least : List ℕ) × AreExact a who least × AreEntryLengths a least lengths) ∥₁
 
 -- the text is that of the lines of the command c: those that its dictionaries have, unless one tells that not all is shown. A message
--- that A's side sends, and that breaks in none of their ways, is valid under B; and a line that is confirmed has a message that breaks
+-- that A's side sends, and that breaks in none of their ways, is valid under B. A line that is confirmed has a message that breaks; which
+-- messages are checked follows from the lines' causes and lengths; and a line about a format has data that B refuses, if it names some
 pub record IsToldOf (a b : Dictionary) (who : Sends) (u : Unknown) (messages : Bool) (lengths : List ℕ) (c : ℕ) (text : List ℕ) : Type 0 where
   pub sites : List Site
   pub lines : List Line
   pub are_lines : AreLinesOrUnproved a b who u c sites lines
   pub free : ∥ AreValidWhereFree a b who u sites lines c ∥₁
   pub confirmed : EachConfirmedBreaks a b who u c lines
+  pub standings : HaveStandings most_checked_together lines
+  pub formats : ∥ TellData a b who u lines ∥₁
   pub text_is : AreTexts (IsLineText messages (words_of a b u (other_length a who lengths) c sites)) lines text
 
 -- ---- all of them

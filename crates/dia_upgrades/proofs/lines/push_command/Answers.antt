@@ -27,6 +27,8 @@ returns g c =
         are_lines = found.lines some;
         free = found.free;
         confirmed = found.each;
+        standings = found.standings;
+        formats = found.formats;
         text_is = subst (λ (number : ℕ). lines number told.0) found.command told.1;
       },
       told.2,
