@@ -13,19 +13,19 @@ use Rattle.dia_compat.proofs.GroupNumbers.{group_there, group_missing}
 use Rattle.dia_compat.proofs.ReachedKeys.{known_by_entry}
 use Rattle.dia_policy.specs.declared.Unknown.{Unknown}
 use Rattle.dia_policy.specs.declared.Sends.{Sends}
-use Rattle.dia_sites.specs.Sites.{Site as SiteOf, HasSite, IsSafeSite, AreSafe}
-use Rattle.dia_sites.specs.Selection.{max_body}
-use Rattle.dia_sites.proofs.Members.{in_contains, contains_in}
-use Rattle.dia_sites.proofs.SafeMessages.{valid}
-use Rattle.dia_sites.proofs.Selected.{met}
-use Rattle.dia_entries.specs.Sent.{group_of}
+use Rattle.dia_breaking_sites.specs.Sites.{Site as SiteOf, HasSite, IsSafeSite, AreSafe}
+use Rattle.dia_breaking_sites.specs.Selection.{max_body}
+use Rattle.dia_breaking_sites.proofs.Members.{in_contains, contains_in}
+use Rattle.dia_breaking_sites.proofs.SafeMessages.{valid}
+use Rattle.dia_breaking_sites.proofs.Selected.{met}
+use Rattle.dia_breaking_avps.specs.Sent.{group_of}
 use Rattle.dia_compat.specs.Tests.{rules_in}
 use Rattle.dia_book.specs.declared.DRule.{DRule}
-use Rattle.dia_levels.specs.declared.line.Line.{Line as LevelLine}
-use Rattle.dia_levels.specs.Levels.{HasEachLine}
-use Rattle.dia_levels.specs.LevelTests.{price}
+use Rattle.dia_breaking_levels.specs.declared.line.Line.{Line as LevelLine}
+use Rattle.dia_breaking_levels.specs.Levels.{HasEachLine}
+use Rattle.dia_breaking_levels.specs.LevelTests.{price}
 use Rattle.dia_breaking.specs.Outlooks.{group_rules, HasGroupLines}
-use Rattle.dia_least.specs.Floors.{AreFloors}
+use Rattle.dia_breaking_shortest.specs.Floors.{AreFloors}
 use Rattle.dia_breaking.specs.declared.apps.Apps.{Apps}
 use Rattle.dia_breaking.specs.declared.heads.Head.{Head}
 use Rattle.dia_breaking.specs.declared.line.Line.{Line}

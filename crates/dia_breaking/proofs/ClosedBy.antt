@@ -15,19 +15,19 @@ use Rattle.dia_policy.specs.declared.Unknown.{Unknown}
 use Rattle.dia_policy.specs.declared.Sends.{Sends}
 use Rattle.dia_policy.specs.declared.Sends.TheVariants.{Any, Known, Listed}
 use Rattle.dia_check.specs.Valid.{Placed, is_listed}
-use Rattle.dia_sites.specs.Sent.{StandAsSent}
-use Rattle.dia_sites.specs.Sites.{Site, HasSite}
-use Rattle.dia_sites.specs.Selection.{max_body}
-use Rattle.dia_entries.specs.Sent.{group_of}
-use Rattle.dia_entries.specs.Laws.{FitKeyAlone}
+use Rattle.dia_breaking_sites.specs.Sent.{StandAsSent}
+use Rattle.dia_breaking_sites.specs.Sites.{Site, HasSite}
+use Rattle.dia_breaking_sites.specs.Selection.{max_body}
+use Rattle.dia_breaking_avps.specs.Sent.{group_of}
+use Rattle.dia_breaking_avps.specs.Laws.{FitKeyAlone}
 use Rattle.dia_compat.specs.Tests.{rules_in}
 use Rattle.dia_compat.proofs.RunsOfFixedRules.{IsIn, in_all}
 use Rattle.dia_compat.proofs.MemberCounts.{any_in, in_at, in_contains, contains_in}
 use Rattle.dia_compat.proofs.FitInSecond.{all_of}
-use Rattle.dia_least.specs.Floors.{shortest_head, total}
-use Rattle.dia_levels.specs.declared.line.Line.{Line}
-use Rattle.dia_levels.specs.Levels.{HasEachLine, FirstIsShortest, OtherIsShortest, Shows, ShowsAt}
-use Rattle.dia_levels.specs.LevelTests.{too_long, price}
+use Rattle.dia_breaking_shortest.specs.Floors.{shortest_head, total}
+use Rattle.dia_breaking_levels.specs.declared.line.Line.{Line}
+use Rattle.dia_breaking_levels.specs.Levels.{HasEachLine, FirstIsShortest, OtherIsShortest, Shows, ShowsAt}
+use Rattle.dia_breaking_levels.specs.LevelTests.{too_long, price}
 use Rattle.dia_breaking.specs.declared.keys.Own.{Own}
 use Rattle.dia_breaking.specs.declared.keys.Telling.{Telling}
 use Rattle.dia_breaking.specs.declared.levels.LevelCost.{LevelCost}

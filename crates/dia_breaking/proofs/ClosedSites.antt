@@ -9,18 +9,18 @@ use Rattle.dia_book.specs.Dictionary.{Dictionary}
 use Rattle.dia_policy.specs.declared.Unknown.{Unknown}
 use Rattle.dia_policy.specs.declared.Sends.{Sends}
 use Rattle.dia_check.specs.Valid.{Placed}
-use Rattle.dia_sites.specs.Sent.{IsSentWithin}
-use Rattle.dia_sites.specs.Sites.{Site, IsLevelOf, FitsAlone, AboutLevels, IsSafeSite}
-use Rattle.dia_sites.proofs.Members.{IsIn, in_contains, contains_in, in_all}
-use Rattle.dia_sites.proofs.Room.{keeps}
-use Rattle.dia_entries.specs.Laws.{FitKeyAlone}
-use Rattle.dia_entries.proofs.Alone.{keys_alone}
-use Rattle.dia_levels.specs.declared.line.Line.{Line as LevelLine}
-use Rattle.dia_levels.specs.Levels.{ShowsAt}
-use Rattle.dia_least.specs.Floors.{AreFloors, shortest_head, vendor_field, total}
-use Rattle.dia_least.proofs.BytesOfAvps.{data_bytes}
-use Rattle.dia_least.proofs.FloorsOfAvps.{no_shorter, rounded_up}
-use Rattle.dia_least.proofs.FloorsOfLengths.{in_map}
+use Rattle.dia_breaking_sites.specs.Sent.{IsSentWithin}
+use Rattle.dia_breaking_sites.specs.Sites.{Site, IsLevelOf, FitsAlone, AboutLevels, IsSafeSite}
+use Rattle.dia_breaking_sites.proofs.Members.{IsIn, in_contains, contains_in, in_all}
+use Rattle.dia_breaking_sites.proofs.Room.{keeps}
+use Rattle.dia_breaking_avps.specs.Laws.{FitKeyAlone}
+use Rattle.dia_breaking_avps.proofs.Alone.{keys_alone}
+use Rattle.dia_breaking_levels.specs.declared.line.Line.{Line as LevelLine}
+use Rattle.dia_breaking_levels.specs.Levels.{ShowsAt}
+use Rattle.dia_breaking_shortest.specs.Floors.{AreFloors, shortest_head, vendor_field, total}
+use Rattle.dia_breaking_shortest.proofs.BytesOfAvps.{data_bytes}
+use Rattle.dia_breaking_shortest.proofs.FloorsOfAvps.{no_shorter, rounded_up}
+use Rattle.dia_breaking_shortest.proofs.FloorsOfLengths.{in_map}
 use Rattle.dia_breaking.specs.Closed.{IsSentKeys, IsTold, IsFreeOf, IsClosedSite}
 
 -- ---- lengths

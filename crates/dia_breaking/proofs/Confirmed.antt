@@ -7,8 +7,8 @@ use Rattle.dia_policy.specs.declared.Levels.TheVariants as levels
 use Rattle.dia_policy.specs.declared.Sends.{Sends}
 use Rattle.dia_policy.specs.declared.Sends.TheVariants.{Any, Known, Listed}
 use Rattle.dia_check.specs.Valid.{IsValid, IsValidOf}
-use Rattle.dia_sites.specs.Sent.{own_policy, AreBytes}
-use Rattle.dia_sites.proofs.SentIsValid.{sent_valid, valid_sent}
+use Rattle.dia_breaking_sites.specs.Sent.{own_policy, AreBytes}
+use Rattle.dia_breaking_sites.proofs.SentIsValid.{sent_valid, valid_sent}
 use Rattle.dia_compat.specs.Closed.{IsIncluded}
 use Rattle.dia_compat.specs.TableText.{PlainTable}
 use Rattle.dia_breaking.specs.declared.line.Line.{Line}

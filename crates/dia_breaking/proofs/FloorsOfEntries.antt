@@ -11,11 +11,11 @@ use Rattle.dia_compat.proofs.ReachedKeys.{known_by_entry}
 use Rattle.dia_check.specs.Valid.{known}
 use Rattle.dia_policy.specs.declared.Sends.{Sends}
 use Rattle.dia_policy.specs.declared.Sends.TheVariants.{Any, Known, Listed}
-use Rattle.dia_levels.specs.LevelTests.{too_long}
-use Rattle.dia_least.specs.Floors.{AreFloors, shortest_head, padded, total}
-use Rattle.dia_least.specs.Lengths.{entry_length, length_of, unknown_length as unknown_floor}
-use Rattle.dia_least.proofs.FloorsOfAvps.{rounded_up, rounded_more}
-use Rattle.dia_least.proofs.LeafLengths.{head_long}
+use Rattle.dia_breaking_levels.specs.LevelTests.{too_long}
+use Rattle.dia_breaking_shortest.specs.Floors.{AreFloors, shortest_head, padded, total}
+use Rattle.dia_breaking_shortest.specs.Lengths.{entry_length, length_of, unknown_length as unknown_floor}
+use Rattle.dia_breaking_shortest.proofs.FloorsOfAvps.{rounded_up, rounded_more}
+use Rattle.dia_breaking_shortest.proofs.LeafLengths.{head_long}
 use Rattle.dia_breaking.specs.Lengths.{length_of_entry, listed_length, unknown_length}
 
 -- the entries have the same lengths in both lists

@@ -12,12 +12,12 @@ use Rattle.dia_book.specs.Dictionary.{Dictionary, has_command}
 use Rattle.dia_book.proofs.Members.{at_filter, into_filter}
 use Rattle.dia_policy.specs.declared.Unknown.{Unknown}
 use Rattle.dia_policy.specs.declared.Sends.{Sends}
-use Rattle.dia_entries.specs.declared.breaking.HeadBreak.{HeadBreak}
-use Rattle.dia_entries.specs.declared.breaking.HeadBreak.TheVariants as head_breaks
-use Rattle.dia_entries.specs.declared.breaking.DataBreak.TheVariants.{Undecided}
-use Rattle.dia_entries.specs.Breaks.{IsDataBreak}
-use Rattle.dia_levels.specs.declared.line.Line.{Line as LevelLine}
-use Rattle.dia_ways.specs.declared.graph.Step.{Step}
+use Rattle.dia_breaking_avps.specs.declared.breaking.HeadBreak.{HeadBreak}
+use Rattle.dia_breaking_avps.specs.declared.breaking.HeadBreak.TheVariants as head_breaks
+use Rattle.dia_breaking_avps.specs.declared.breaking.DataBreak.TheVariants.{Undecided}
+use Rattle.dia_breaking_avps.specs.Breaks.{IsDataBreak}
+use Rattle.dia_breaking_levels.specs.declared.line.Line.{Line as LevelLine}
+use Rattle.dia_breaking_ways.specs.declared.graph.Step.{Step}
 use Rattle.dia_breaking.specs.declared.heads.Head.{Head}
 use Rattle.dia_breaking.specs.declared.line.Cause.{Cause}
 use Rattle.dia_breaking.specs.declared.line.Cause.TheVariants as causes

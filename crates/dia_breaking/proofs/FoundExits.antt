@@ -6,8 +6,8 @@ use Rattle.std.proofs.lemmas.List.{map-append, take_all}
 use Rattle.std.proofs.lemmas.List.Elements.{All-push}
 use Rattle.dia_wire.specs.declared.Key.{Key}
 use Rattle.dia_book.specs.Dictionary.{Dictionary}
-use Rattle.dia_entries.specs.Sent.{group_of}
-use Rattle.dia_least.specs.Floors.{shortest_head}
+use Rattle.dia_breaking_avps.specs.Sent.{group_of}
+use Rattle.dia_breaking_shortest.specs.Floors.{shortest_head}
 use Rattle.dia_book.specs.declared.DRule.{DRule}
 use Rattle.dia_compat.specs.Tests.{rules_in}
 use Rattle.dia_breaking.specs.declared.exits.Inner.{Inner}

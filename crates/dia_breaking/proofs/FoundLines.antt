@@ -8,7 +8,7 @@ use Rattle.dia_book.specs.Dictionary.{Dictionary, PlainDefinition, definitions}
 use Rattle.dia_policy.specs.declared.Sends.{Sends}
 use Rattle.dia_policy.specs.declared.Unknown.{Unknown}
 use Rattle.dia_compat.proofs.ReachedKeys.{there_is, at_some}
-use Rattle.dia_least.specs.Exact.{AreExact}
+use Rattle.dia_breaking_shortest.specs.Exact.{AreExact}
 use Rattle.dia_breaking.specs.declared.exits.Outlook.{Outlook}
 use Rattle.dia_breaking.specs.declared.heads.Head.{Head}
 use Rattle.dia_breaking.specs.declared.keys.Telling.{Telling}

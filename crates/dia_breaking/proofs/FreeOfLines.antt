@@ -6,7 +6,7 @@ use Rattle.dia_wire.specs.Wire.{PlainAvp}
 use Rattle.dia_book.specs.Dictionary.{Dictionary, PlainDefinition}
 use Rattle.dia_policy.specs.declared.Unknown.{Unknown}
 use Rattle.dia_policy.specs.declared.Sends.{Sends}
-use Rattle.dia_sites.specs.Selection.{AreValid}
+use Rattle.dia_breaking_sites.specs.Selection.{AreValid}
 use Rattle.dia_breaking.specs.declared.line.Cause.{Cause}
 use Rattle.dia_breaking.specs.declared.line.Cause.TheVariants as causes
 use Rattle.dia_breaking.specs.declared.line.Line.{Line}

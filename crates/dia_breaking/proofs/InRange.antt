@@ -6,7 +6,7 @@ use Rattle.std.specs.Option.{option_map}
 use Rattle.std.proofs.lemmas.Option.{same_Some, slice_get_within}
 use Rattle.dia_wire.specs.declared.Key.{Key}
 use Rattle.dia_book.specs.declared.Class.{Class}
-use Rattle.dia_entries.specs.Sent.{group_of}
+use Rattle.dia_breaking_avps.specs.Sent.{group_of}
 use Rattle.dia_book.specs.Dictionary.{Dictionary, DictEntry, PlainDefinition, definitions, groups, entry_of, group_place, selected}
 use Rattle.dia_book.proofs.Members.{into_right}
 use Rattle.dia_compat.proofs.SelectedCommands.{Choice, NoChoice, choose}

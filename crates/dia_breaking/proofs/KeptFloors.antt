@@ -3,11 +3,11 @@ use Rattle.std.proofs.Common.{◌≡◌, ℕ, List, sym, subst}
 use Rattle.std.specs.Prelude.{Result, Ok, Err, IfOk}
 use Rattle.dia_book.specs.Dictionary.{Dictionary}
 use Rattle.dia_policy.specs.declared.Sends.{Sends}
-use Rattle.dia_least.specs.declared.lookup.Least.{Least}
-use Rattle.dia_least.specs.Exact.{AreExact}
-use Rattle.dia_least.specs.Floors.{AreFloors}
-use Rattle.dia_least.specs.Lengths.{length_of}
-use Rattle.dia_least.specs.Passes.{length_in}
+use Rattle.dia_breaking_shortest.specs.declared.lookup.Least.{Least}
+use Rattle.dia_breaking_shortest.specs.Exact.{AreExact}
+use Rattle.dia_breaking_shortest.specs.Floors.{AreFloors}
+use Rattle.dia_breaking_shortest.specs.Lengths.{length_of}
+use Rattle.dia_breaking_shortest.specs.Passes.{length_in}
 use Rattle.dia_breaking.specs.Lengths.{listed_length, AreSameLengths}
 use Rattle.dia_breaking.proofs.FloorsOfEntries.{floors_of_entries}
 

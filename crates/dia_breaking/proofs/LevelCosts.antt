@@ -14,11 +14,11 @@ use Rattle.dia_compat.specs.Below.{HasRule}
 use Rattle.dia_compat.specs.Tests.{rules_in, rule_of, wildcard_of}
 use Rattle.dia_compat.proofs.MemberCounts.{in_contains}
 use Rattle.dia_compat.proofs.PlacedInSecond.{is_listed_by}
-use Rattle.dia_levels.specs.Levels.{FirstIsShortest, OtherIsShortest}
-use Rattle.dia_levels.specs.LevelTests.{too_long, capped, has_room, swapped, many, listed_at_least, other_at_least, base_length, least_filler, least_length, length_once, once, is_outside}
-use Rattle.dia_levels.proofs.AloneBounds.{with_within}
-use Rattle.dia_levels.proofs.CountsAndRanks.{rules_sound, one_rule}
-use Rattle.dia_levels.proofs.LineBounds.{is_rule, no_rule}
+use Rattle.dia_breaking_levels.specs.Levels.{FirstIsShortest, OtherIsShortest}
+use Rattle.dia_breaking_levels.specs.LevelTests.{too_long, capped, has_room, swapped, many, listed_at_least, other_at_least, base_length, least_filler, least_length, length_once, once, is_outside}
+use Rattle.dia_breaking_levels.proofs.AloneBounds.{with_within}
+use Rattle.dia_breaking_levels.proofs.CountsAndRanks.{rules_sound, one_rule}
+use Rattle.dia_breaking_levels.proofs.LineBounds.{is_rule, no_rule}
 use Rattle.dia_breaking.specs.declared.levels.LevelCost.{LevelCost}
 use Rattle.dia_breaking.specs.LevelCosts.{IsCostOf, beside_of, with_listed, with_other}
 

@@ -1,8 +1,8 @@
 -- The sites and the lines by a walk are a listing.
 use Rattle.std.proofs.Common.{◌≡◌, ℕ, List, Option, ◌++◌, length, is_some, unwrap_or, ap, subst, ◌∙◌}
 use Rattle.dia_book.specs.Dictionary.{Dictionary}
-use Rattle.dia_ways.specs.declared.graph.Step.{Step}
-use Rattle.dia_ways.specs.declared.graph.Reach.{Reach}
+use Rattle.dia_breaking_ways.specs.declared.graph.Step.{Step}
+use Rattle.dia_breaking_ways.specs.declared.graph.Reach.{Reach}
 use Rattle.dia_breaking.specs.declared.line.Site.{Site}
 use Rattle.dia_breaking.specs.Listing.{Told, Basis, IsWalkFrom, IsListing, start_of, lines_of}
 use Rattle.dia_breaking.specs.Orders.{IsInOrderOf}

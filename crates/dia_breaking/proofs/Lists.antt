@@ -8,7 +8,7 @@ use Rattle.std.proofs.lemmas.Option.{same_Some, slice_get_within, slice_get-get_
 use Rattle.std.proofs.lemmas.List.{map-append, take_more}
 use Rattle.std.proofs.lemmas.List.Elements.{All-nil, All-push, filter_map-append}
 use Rattle.dia_book.proofs.Members.{at_Contains, at_map}
-use Rattle.dia_sites.proofs.Members.{IsIn, in_at, contains_in}
+use Rattle.dia_breaking_sites.proofs.Members.{IsIn, in_at, contains_in}
 
 pub one_more : {X : Type 0} (xs : List X) (i : ℕ) (x : X) → slice_get xs i ≡ Some x → take (i + 1) xs ≡ take i xs ++ x ∷ []
 one_more {X} xs i x at =

@@ -1,10 +1,10 @@
 -- From one basis there is one list of sites, and one of lines.
 use Rattle.std.proofs.Common.{◌≡◌, Bool, true, false, List, Option, sym, ap, subst, ◌∙◌, is_some, unwrap_or, length}
 use Rattle.dia_book.specs.Dictionary.{Dictionary}
-use Rattle.dia_ways.specs.Walks.{Graph}
-use Rattle.dia_ways.specs.declared.graph.Step.{Step}
-use Rattle.dia_ways.specs.declared.graph.Reach.{Reach}
-use Rattle.dia_ways.proofs.OneWalk.{one_walk}
+use Rattle.dia_breaking_ways.specs.Walks.{Graph}
+use Rattle.dia_breaking_ways.specs.declared.graph.Step.{Step}
+use Rattle.dia_breaking_ways.specs.declared.graph.Reach.{Reach}
+use Rattle.dia_breaking_ways.proofs.OneWalk.{one_walk}
 use Rattle.dia_breaking.specs.declared.line.Site.{Site}
 use Rattle.dia_breaking.specs.Listing.{Told, Basis, IsWalkFrom, IsListing, start_of, sites_of, lines_of}
 use Rattle.dia_breaking.specs.Orders.{IsInOrderOf}

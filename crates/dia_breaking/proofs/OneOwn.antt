@@ -10,18 +10,18 @@ use Rattle.dia_book.specs.Dictionary.{Dictionary, DictEntry, PlainDefinition}
 use Rattle.dia_check.specs.Valid.{known}
 use Rattle.dia_policy.specs.declared.Unknown.{Unknown}
 use Rattle.dia_policy.specs.declared.Sends.{Sends}
-use Rattle.dia_witness.specs.Shortest.{witness_bytes}
-use Rattle.dia_entries.specs.declared.breaking.AvpBreaks.{AvpBreaks}
-use Rattle.dia_entries.specs.declared.breaking.HeadBreak.{HeadBreak}
-use Rattle.dia_entries.specs.declared.breaking.HeadBreak.TheVariants.{Unknown as UnknownAvp, MBit}
-use Rattle.dia_entries.specs.declared.breaking.DataBreak.{DataBreak}
-use Rattle.dia_entries.specs.declared.breaking.DataBreak.TheVariants.{Fits, Groups, Data, LeastLevel, Undecided}
-use Rattle.dia_entries.specs.Breaks.{RefusesFirst, IsDataBreak, IsHeadBreak, IsSilentData}
-use Rattle.dia_entries.specs.Sent.{TakesAnyData, group_of, IsSentData, IsAcceptedData, IsShortestRefused}
-use Rattle.dia_least.specs.Floors.{shortest_head, padded}
-use Rattle.dia_levels.specs.LevelTests.{capped}
-use Rattle.dia_ways.specs.declared.graph.Step.{Step}
-use Rattle.dia_ways.specs.declared.graph.Reach.{Reach}
+use Rattle.dia_breaking_data.specs.Shortest.{witness_bytes}
+use Rattle.dia_breaking_avps.specs.declared.breaking.AvpBreaks.{AvpBreaks}
+use Rattle.dia_breaking_avps.specs.declared.breaking.HeadBreak.{HeadBreak}
+use Rattle.dia_breaking_avps.specs.declared.breaking.HeadBreak.TheVariants.{Unknown as UnknownAvp, MBit}
+use Rattle.dia_breaking_avps.specs.declared.breaking.DataBreak.{DataBreak}
+use Rattle.dia_breaking_avps.specs.declared.breaking.DataBreak.TheVariants.{Fits, Groups, Data, LeastLevel, Undecided}
+use Rattle.dia_breaking_avps.specs.Breaks.{RefusesFirst, IsDataBreak, IsHeadBreak, IsSilentData}
+use Rattle.dia_breaking_avps.specs.Sent.{TakesAnyData, group_of, IsSentData, IsAcceptedData, IsShortestRefused}
+use Rattle.dia_breaking_shortest.specs.Floors.{shortest_head, padded}
+use Rattle.dia_breaking_levels.specs.LevelTests.{capped}
+use Rattle.dia_breaking_ways.specs.declared.graph.Step.{Step}
+use Rattle.dia_breaking_ways.specs.declared.graph.Reach.{Reach}
 use Rattle.dia_breaking.specs.declared.line.Cause.{Cause}
 use Rattle.dia_breaking.specs.declared.line.Cause.TheVariants as causes
 use Rattle.dia_breaking.specs.declared.line.Site.{Site}

@@ -12,11 +12,11 @@ use Rattle.dia_book.specs.Dictionary.{Dictionary}
 use Rattle.dia_book.specs.Keys.{same_key}
 use Rattle.dia_compat.specs.Tests.{rules_in}
 use Rattle.dia_policy.specs.declared.Sends.{Sends}
-use Rattle.dia_sites.specs.Selection.{max_body}
-use Rattle.dia_levels.specs.declared.line.Line.{Line as LevelLine}
-use Rattle.dia_levels.specs.Exact.{AreLevelLines}
-use Rattle.dia_levels.proofs.ExactLines.{lines_one}
-use Rattle.dia_ways.specs.Walks.{plain_exits}
+use Rattle.dia_breaking_sites.specs.Selection.{max_body}
+use Rattle.dia_breaking_levels.specs.declared.line.Line.{Line as LevelLine}
+use Rattle.dia_breaking_levels.specs.Exact.{AreLevelLines}
+use Rattle.dia_breaking_levels.proofs.ExactLines.{lines_one}
+use Rattle.dia_breaking_ways.specs.Walks.{plain_exits}
 use Rattle.dia_breaking.specs.declared.apps.Apps.{Apps}
 use Rattle.dia_breaking.specs.declared.exits.Exits.{Exits}
 use Rattle.dia_breaking.specs.declared.exits.Inner.{Inner}

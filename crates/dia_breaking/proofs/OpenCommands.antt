@@ -15,7 +15,7 @@ use Rattle.dia_compat.proofs.RunsOfFixedRules.{IsIn}
 use Rattle.dia_compat.proofs.MemberCounts.{in_at, in_contains, contains_in}
 use Rattle.dia_compat.proofs.FitInSecond.{all_of}
 use Rattle.dia_compat.proofs.SelectedCommands.{Choice, NoChoice, choose, Reads, reads, class_same, is_of_code}
-use Rattle.dia_sites.specs.Selection.{NamesApp}
+use Rattle.dia_breaking_sites.specs.Selection.{NamesApp}
 use Rattle.dia_breaking.specs.declared.apps.Apps.{Apps}
 use Rattle.dia_breaking.specs.Headers.{app_row, row_app, rows_of, apps_of, AreApps}
 

@@ -8,12 +8,12 @@ use Rattle.dia_book.specs.Keys.{same_key}
 use Rattle.dia_book.specs.declared.DRule.{DRule}
 use Rattle.dia_book.specs.Dictionary.{Dictionary, PlainDefinition, definitions}
 use Rattle.dia_book.proofs.SameKeys.{same_key-true}
-use Rattle.dia_entries.specs.Sent.{group_of}
+use Rattle.dia_breaking_avps.specs.Sent.{group_of}
 use Rattle.dia_compat.specs.Tests.{rules_in}
-use Rattle.dia_levels.specs.declared.line.Line.{Line as LevelLine}
-use Rattle.dia_levels.specs.Exact.{AreLevelLines}
-use Rattle.dia_levels.specs.Levels.{HasEachLine}
-use Rattle.dia_levels.specs.LevelTests.{price}
+use Rattle.dia_breaking_levels.specs.declared.line.Line.{Line as LevelLine}
+use Rattle.dia_breaking_levels.specs.Exact.{AreLevelLines}
+use Rattle.dia_breaking_levels.specs.Levels.{HasEachLine}
+use Rattle.dia_breaking_levels.specs.LevelTests.{price}
 use Rattle.dia_breaking.specs.declared.exits.Inner.{Inner}
 use Rattle.dia_breaking.specs.declared.exits.Outlook.{Outlook}
 use Rattle.dia_breaking.specs.Outlooks.{group_rules, HasGroupLines, HaveGroupLines}

@@ -12,14 +12,14 @@ use Rattle.dia_book.specs.Dictionary.{Dictionary, DictEntry, PlainDefinition}
 use Rattle.dia_check.specs.Valid.{known}
 use Rattle.dia_policy.specs.declared.Unknown.{Unknown}
 use Rattle.dia_policy.specs.declared.Sends.{Sends}
-use Rattle.dia_entries.specs.declared.breaking.AvpBreaks.{AvpBreaks}
-use Rattle.dia_entries.specs.declared.breaking.HeadBreak.{HeadBreak}
-use Rattle.dia_entries.specs.declared.breaking.HeadBreak.TheVariants.{Unknown as UnknownAvp, MBit}
-use Rattle.dia_entries.specs.declared.breaking.DataBreak.{DataBreak}
-use Rattle.dia_entries.specs.declared.breaking.DataBreak.TheVariants.{Fits, Groups, Data, LeastLevel, Undecided}
-use Rattle.dia_entries.specs.Breaks.{AcceptsFlags, RefusesFlag, IsDataBreak, IsHeadBreak, IsSilent, IsSilentData}
-use Rattle.dia_entries.specs.Levels.{empty, IsUndecided}
-use Rattle.dia_entries.specs.Sent.{HasGroup, TakesAnyData, group_of}
+use Rattle.dia_breaking_avps.specs.declared.breaking.AvpBreaks.{AvpBreaks}
+use Rattle.dia_breaking_avps.specs.declared.breaking.HeadBreak.{HeadBreak}
+use Rattle.dia_breaking_avps.specs.declared.breaking.HeadBreak.TheVariants.{Unknown as UnknownAvp, MBit}
+use Rattle.dia_breaking_avps.specs.declared.breaking.DataBreak.{DataBreak}
+use Rattle.dia_breaking_avps.specs.declared.breaking.DataBreak.TheVariants.{Fits, Groups, Data, LeastLevel, Undecided}
+use Rattle.dia_breaking_avps.specs.Breaks.{AcceptsFlags, RefusesFlag, IsDataBreak, IsHeadBreak, IsSilent, IsSilentData}
+use Rattle.dia_breaking_avps.specs.Levels.{empty, IsUndecided}
+use Rattle.dia_breaking_avps.specs.Sent.{HasGroup, TakesAnyData, group_of}
 use Rattle.dia_breaking.specs.Telling.{AreGroups, BreaksNothing, IsDataTaken}
 
 has_group : (d : Dictionary) (key : Key) (n : ℕ) → HasGroup d key n → IsSome (group_of d key)

@@ -10,7 +10,7 @@ use Rattle.dia_compat.proofs.RunsOfFixedRules.{IsIn}
 use Rattle.dia_compat.proofs.MemberCounts.{contains_in, in_left, in_right}
 use Rattle.dia_compat.proofs.ReachedKeys.{some_of}
 use Rattle.dia_policy.specs.declared.Sends.TheVariants.{Any, Known, Listed}
-use Rattle.dia_least.proofs.Strangers.{key_at, key_in, at_most}
+use Rattle.dia_breaking_shortest.proofs.Strangers.{key_at, key_in, at_most}
 use Rattle.dia_breaking.specs.SentKeys.{AreSentInOrder, AreSentKeys, HasKeys, entry_keys, keys_of_b_alone}
 use Rattle.dia_breaking.proofs.Lists.{contains_at}
 

@@ -17,10 +17,10 @@ use Rattle.dia_compat.proofs.MemberCounts.{in_at, at_in, in_contains, contains_i
 use Rattle.dia_compat.proofs.RunsOfFixedRules.{IsIn}
 use Rattle.dia_policy.specs.declared.Sends.{Sends}
 use Rattle.dia_policy.specs.declared.Sends.TheVariants.{Any, Known, Listed}
-use Rattle.dia_least.specs.Floors.{shortest_head}
-use Rattle.dia_least.proofs.Strangers.{key_in}
-use Rattle.dia_levels.specs.Levels.{FirstIsShortest}
-use Rattle.dia_levels.specs.LevelTests.{too_long, is_outside}
+use Rattle.dia_breaking_shortest.specs.Floors.{shortest_head}
+use Rattle.dia_breaking_shortest.proofs.Strangers.{key_in}
+use Rattle.dia_breaking_levels.specs.Levels.{FirstIsShortest}
+use Rattle.dia_breaking_levels.specs.LevelTests.{too_long, is_outside}
 use Rattle.dia_breaking.specs.Lengths.{length_of_entry, listed_length, other_length, AreOthers}
 
 -- ---- keys that a dictionary doesn't know

@@ -14,14 +14,14 @@ use Rattle.dia_policy.specs.declared.Sends.{Sends}
 use Rattle.dia_policy.specs.declared.Sends.TheVariants.{Any, Known, Listed}
 use Rattle.dia_check.specs.Valid.{Fits as AvpFits, IsAccepted, IsLevel, MHolds, known}
 use Rattle.dia_check.specs.Admission.{HasFlags}
-use Rattle.dia_sites.specs.Sent.{own_policy, IsSentLevel, IsSentWithin}
-use Rattle.dia_entries.specs.declared.breaking.AvpBreaks.{AvpBreaks}
-use Rattle.dia_entries.specs.declared.breaking.HeadBreak.{HeadBreak}
-use Rattle.dia_entries.specs.declared.breaking.DataBreak.TheVariants.{Fits}
-use Rattle.dia_entries.specs.Sent.{group_of}
-use Rattle.dia_entries.specs.Breaks.{AcceptsFlags, IsDataBreak, IsHeadBreak, IsSilent}
-use Rattle.dia_entries.specs.Laws.{FitKeyAlone}
-use Rattle.dia_entries.proofs.Alone.{key_alone}
+use Rattle.dia_breaking_sites.specs.Sent.{own_policy, IsSentLevel, IsSentWithin}
+use Rattle.dia_breaking_avps.specs.declared.breaking.AvpBreaks.{AvpBreaks}
+use Rattle.dia_breaking_avps.specs.declared.breaking.HeadBreak.{HeadBreak}
+use Rattle.dia_breaking_avps.specs.declared.breaking.DataBreak.TheVariants.{Fits}
+use Rattle.dia_breaking_avps.specs.Sent.{group_of}
+use Rattle.dia_breaking_avps.specs.Breaks.{AcceptsFlags, IsDataBreak, IsHeadBreak, IsSilent}
+use Rattle.dia_breaking_avps.specs.Laws.{FitKeyAlone}
+use Rattle.dia_breaking_avps.proofs.Alone.{key_alone}
 use Rattle.dia_compat.proofs.RunsOfFixedRules.{IsIn}
 use Rattle.dia_compat.proofs.MemberCounts.{in_at, in_contains, contains_in, in_append}
 use Rattle.dia_breaking.specs.declared.keys.Own.{Own}

@@ -6,10 +6,10 @@ use Rattle.dia_wire.specs.declared.Key.{Key}
 use Rattle.dia_book.specs.Dictionary.{Dictionary, PlainDefinition, definitions}
 use Rattle.dia_policy.specs.declared.Sends.{Sends}
 use Rattle.dia_policy.specs.declared.Unknown.{Unknown}
-use Rattle.dia_sites.specs.Selection.{max_body}
-use Rattle.dia_least.specs.Lengths.{entry_length}
-use Rattle.dia_least.proofs.LeafLengths.{there}
-use Rattle.dia_least.proofs.OneSolution.{lengths_are_one}
+use Rattle.dia_breaking_sites.specs.Selection.{max_body}
+use Rattle.dia_breaking_shortest.specs.Lengths.{entry_length}
+use Rattle.dia_breaking_shortest.proofs.LeafLengths.{there}
+use Rattle.dia_breaking_shortest.proofs.OneSolution.{lengths_are_one}
 use Rattle.dia_breaking.specs.declared.exits.Outlook.{Outlook}
 use Rattle.dia_breaking.specs.declared.heads.Head.{Head}
 use Rattle.dia_breaking.specs.declared.keys.Own.{Own}

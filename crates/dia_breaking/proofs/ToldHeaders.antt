@@ -11,8 +11,8 @@ use Rattle.dia_book.specs.declared.DefHead.{DefHead}
 use Rattle.dia_book.specs.declared.DefHead.TheVariants.{Group, Command, Error}
 use Rattle.dia_book.specs.Dictionary.{Dictionary, PlainDefinition, IsDictionary, definitions, selected}
 use Rattle.dia_check.specs.Valid.{PHolds, AllowsP}
-use Rattle.dia_sites.specs.Sites.{Site as SiteOf, HasSite}
-use Rattle.dia_sites.specs.Selection.{max_body, IsMetAt, IsMet, IsMetBy}
+use Rattle.dia_breaking_sites.specs.Sites.{Site as SiteOf, HasSite}
+use Rattle.dia_breaking_sites.specs.Selection.{max_body, IsMetAt, IsMet, IsMetBy}
 use Rattle.dia_breaking.specs.declared.apps.Apps.{Apps}
 use Rattle.dia_breaking.specs.declared.heads.Head.{Head}
 use Rattle.dia_breaking.specs.declared.line.Line.{Line}

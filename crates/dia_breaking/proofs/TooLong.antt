@@ -17,15 +17,15 @@ use Rattle.dia_policy.specs.declared.Unknown.{Unknown}
 use Rattle.dia_policy.specs.declared.Sends.{Sends}
 use Rattle.dia_policy.specs.declared.Sends.TheVariants.{Any, Known, Listed}
 use Rattle.dia_check.specs.Valid.{AllowsP, Placed}
-use Rattle.dia_sites.specs.Sent.{AreBytes, StandAsSent}
-use Rattle.dia_sites.specs.Selection.{max_body, AreValid}
-use Rattle.dia_sites.proofs.Members.{all_parts}
+use Rattle.dia_breaking_sites.specs.Sent.{AreBytes, StandAsSent}
+use Rattle.dia_breaking_sites.specs.Selection.{max_body, AreValid}
+use Rattle.dia_breaking_sites.proofs.Members.{all_parts}
 use Rattle.dia_compat.specs.Tests.{rules_in}
 use Rattle.dia_compat.proofs.ReachedKeys.{there_is}
-use Rattle.dia_levels.specs.Levels.{FirstIsShortest, OtherIsShortest, IsWithinAll}
-use Rattle.dia_levels.specs.LevelTests.{price}
-use Rattle.dia_least.specs.Floors.{AreFloors}
-use Rattle.dia_least.proofs.FloorsOfAvps.{no_message}
+use Rattle.dia_breaking_levels.specs.Levels.{FirstIsShortest, OtherIsShortest, IsWithinAll}
+use Rattle.dia_breaking_levels.specs.LevelTests.{price}
+use Rattle.dia_breaking_shortest.specs.Floors.{AreFloors}
+use Rattle.dia_breaking_shortest.proofs.FloorsOfAvps.{no_message}
 use Rattle.dia_breaking.specs.Headers.{head_in}
 use Rattle.dia_breaking.specs.Lengths.{listed_length, other_length}
 use Rattle.dia_breaking.proofs.ClosedBy.{stand_price}

@@ -7,13 +7,13 @@ use Rattle.dia_book.specs.Dictionary.{Dictionary, PlainDefinition}
 use Rattle.dia_policy.specs.declared.Unknown.{Unknown}
 use Rattle.dia_policy.specs.declared.Sends.{Sends}
 use Rattle.dia_check.specs.Valid.{Placed}
-use Rattle.dia_sites.specs.Sent.{StandAsSent}
-use Rattle.dia_sites.specs.Sites.{Site, HasSite, FitsAlone}
-use Rattle.dia_entries.specs.Sent.{group_of}
-use Rattle.dia_entries.specs.Laws.{FitKeyAlone}
-use Rattle.dia_least.specs.Floors.{shortest_head, total}
-use Rattle.dia_levels.specs.declared.line.Line.{Line as LevelLine}
-use Rattle.dia_levels.specs.Levels.{ShowsAt}
+use Rattle.dia_breaking_sites.specs.Sent.{StandAsSent}
+use Rattle.dia_breaking_sites.specs.Sites.{Site, HasSite, FitsAlone}
+use Rattle.dia_breaking_avps.specs.Sent.{group_of}
+use Rattle.dia_breaking_avps.specs.Laws.{FitKeyAlone}
+use Rattle.dia_breaking_shortest.specs.Floors.{shortest_head, total}
+use Rattle.dia_breaking_levels.specs.declared.line.Line.{Line as LevelLine}
+use Rattle.dia_breaking_levels.specs.Levels.{ShowsAt}
 use Rattle.dia_breaking.specs.SentKeys.{IsStrange}
 
 -- the keys are those of a level that can be sent, and that has room, where no AVP of a key is below its length

@@ -4,10 +4,10 @@ use Rattle.dia_wire.specs.declared.Key.{Key}
 use Rattle.dia_book.specs.Dictionary.{Dictionary, PlainDefinition, definitions}
 use Rattle.dia_policy.specs.declared.Unknown.{Unknown}
 use Rattle.dia_policy.specs.declared.Sends.{Sends}
-use Rattle.dia_sites.specs.Sites.{Site, HasSite}
-use Rattle.dia_sites.specs.Selection.{max_body}
-use Rattle.dia_entries.specs.Sent.{group_of}
-use Rattle.dia_levels.specs.declared.line.Line.{Line as LevelLine}
+use Rattle.dia_breaking_sites.specs.Sites.{Site, HasSite}
+use Rattle.dia_breaking_sites.specs.Selection.{max_body}
+use Rattle.dia_breaking_avps.specs.Sent.{group_of}
+use Rattle.dia_breaking_levels.specs.declared.line.Line.{Line as LevelLine}
 use Rattle.dia_breaking.specs.declared.ways.Way.{Way}
 use Rattle.dia_breaking.specs.Closed.{IsClosedSite}
 

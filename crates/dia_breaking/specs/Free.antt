@@ -9,12 +9,12 @@ use Rattle.dia_policy.specs.declared.Unknown.{Unknown}
 use Rattle.dia_policy.specs.declared.Levels.TheVariants as levels
 use Rattle.dia_policy.specs.declared.Sends.{Sends}
 use Rattle.dia_check.specs.Valid.{IsValid}
-use Rattle.dia_sites.specs.Sent.{IsSent}
-use Rattle.dia_sites.specs.Sites.{FitsAlone}
-use Rattle.dia_sites.specs.Selection.{AboutFlags, IsAsked}
-use Rattle.dia_entries.specs.Sent.{group_of}
-use Rattle.dia_levels.specs.declared.line.Line.{Line as LevelLine}
-use Rattle.dia_levels.specs.Levels.{ShowsAt}
+use Rattle.dia_breaking_sites.specs.Sent.{IsSent}
+use Rattle.dia_breaking_sites.specs.Sites.{FitsAlone}
+use Rattle.dia_breaking_sites.specs.Selection.{AboutFlags, IsAsked}
+use Rattle.dia_breaking_avps.specs.Sent.{group_of}
+use Rattle.dia_breaking_levels.specs.declared.line.Line.{Line as LevelLine}
+use Rattle.dia_breaking_levels.specs.Levels.{ShowsAt}
 use Rattle.dia_breaking.specs.declared.heads.Head.{Head}
 use Rattle.dia_breaking.specs.declared.line.Cause.TheVariants as causes
 use Rattle.dia_breaking.specs.declared.line.Line.{Line}

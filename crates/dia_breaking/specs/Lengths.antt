@@ -8,9 +8,9 @@ use Rattle.dia_book.specs.Dictionary.{Dictionary, entry_of}
 use Rattle.dia_policy.specs.declared.Sends.{Sends}
 use Rattle.dia_breaking.specs.SentKeys.{IsStranger, entry_keys}
 use Rattle.dia_policy.specs.declared.Sends.TheVariants.{Any, Known, Listed}
-use Rattle.dia_least.specs.Floors.{shortest_head}
-use Rattle.dia_least.specs.Lengths.{entry_length}
-use Rattle.dia_levels.specs.LevelTests.{too_long}
+use Rattle.dia_breaking_shortest.specs.Floors.{shortest_head}
+use Rattle.dia_breaking_shortest.specs.Lengths.{entry_length}
+use Rattle.dia_breaking_levels.specs.LevelTests.{too_long}
 
 -- an AVP that the dictionary doesn't know
 abbrev pub unknown_length : Sends → Key → ℕ

@@ -6,8 +6,8 @@ use Rattle.dia_book.specs.declared.DRule.{DRule}
 use Rattle.dia_check.specs.Valid.{is_listed}
 use Rattle.dia_compat.specs.Below.{HasRule}
 use Rattle.dia_compat.specs.Tests.{wildcard_of}
-use Rattle.dia_levels.specs.Levels.{IsWithinAllWith}
-use Rattle.dia_levels.specs.LevelTests.{too_long, capped, price, least_filler, least_length}
+use Rattle.dia_breaking_levels.specs.Levels.{IsWithinAllWith}
+use Rattle.dia_breaking_levels.specs.LevelTests.{too_long, capped, price, least_filler, least_length}
 use Rattle.dia_breaking.specs.declared.levels.LevelCost.{LevelCost}
 
 -- with an AVP of the rule's key, which is this long

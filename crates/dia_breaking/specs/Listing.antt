@@ -4,19 +4,19 @@ use Rattle.std.specs.List.{filter_map}
 use Rattle.std.specs.Option.{option_map, option_map_or}
 use Rattle.dia_wire.specs.declared.Key.{Key}
 use Rattle.dia_book.specs.Dictionary.{Dictionary, has_command}
-use Rattle.dia_witness.specs.declared.short_data.Witness.{Witness}
-use Rattle.dia_witness.specs.Shortest.{witness_bytes}
-use Rattle.dia_sites.specs.Selection.{max_body}
-use Rattle.dia_entries.specs.declared.breaking.HeadBreak.{HeadBreak}
-use Rattle.dia_entries.specs.declared.breaking.HeadBreak.TheVariants as head_breaks
-use Rattle.dia_entries.specs.declared.breaking.DataBreak.{DataBreak}
-use Rattle.dia_entries.specs.declared.breaking.DataBreak.TheVariants.{Fits, Groups, Data, LeastLevel, Undecided}
-use Rattle.dia_least.specs.Floors.{shortest_head, padded}
-use Rattle.dia_levels.specs.declared.line.Line.{Line as LevelLine}
-use Rattle.dia_levels.specs.LevelTests.{capped}
-use Rattle.dia_ways.specs.Walks.{Graph, IsWalk, plain_exits}
-use Rattle.dia_ways.specs.declared.graph.Step.{Step}
-use Rattle.dia_ways.specs.declared.graph.Reach.{Reach}
+use Rattle.dia_breaking_data.specs.declared.short_data.Witness.{Witness}
+use Rattle.dia_breaking_data.specs.Shortest.{witness_bytes}
+use Rattle.dia_breaking_sites.specs.Selection.{max_body}
+use Rattle.dia_breaking_avps.specs.declared.breaking.HeadBreak.{HeadBreak}
+use Rattle.dia_breaking_avps.specs.declared.breaking.HeadBreak.TheVariants as head_breaks
+use Rattle.dia_breaking_avps.specs.declared.breaking.DataBreak.{DataBreak}
+use Rattle.dia_breaking_avps.specs.declared.breaking.DataBreak.TheVariants.{Fits, Groups, Data, LeastLevel, Undecided}
+use Rattle.dia_breaking_shortest.specs.Floors.{shortest_head, padded}
+use Rattle.dia_breaking_levels.specs.declared.line.Line.{Line as LevelLine}
+use Rattle.dia_breaking_levels.specs.LevelTests.{capped}
+use Rattle.dia_breaking_ways.specs.Walks.{Graph, IsWalk, plain_exits}
+use Rattle.dia_breaking_ways.specs.declared.graph.Step.{Step}
+use Rattle.dia_breaking_ways.specs.declared.graph.Reach.{Reach}
 use Rattle.dia_breaking.specs.declared.exits.Outlook.{Outlook}
 use Rattle.dia_breaking.specs.declared.heads.Head.{Head}
 use Rattle.dia_breaking.specs.declared.line.Cause.{Cause}

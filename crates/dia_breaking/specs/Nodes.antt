@@ -1,6 +1,6 @@
 -- The AVPs of which there is something to tell, as the nodes of a walk.
 use Rattle.std.specs.Option.{option_map}
-use Rattle.dia_ways.specs.Walks.{PlainExits, PlainLevel, PlainNode}
+use Rattle.dia_breaking_ways.specs.Walks.{PlainExits, PlainLevel, PlainNode}
 use Rattle.dia_breaking.specs.declared.exits.Exits.{Exits}
 use Rattle.dia_breaking.specs.declared.exits.Inner.{Inner}
 use Rattle.dia_breaking.specs.declared.exits.Outlook.{Outlook}

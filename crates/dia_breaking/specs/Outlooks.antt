@@ -4,10 +4,10 @@ use Rattle.std.specs.Option.{option_map_or}
 use Rattle.dia_wire.specs.declared.Key.{Key}
 use Rattle.dia_book.specs.declared.DRule.{DRule}
 use Rattle.dia_book.specs.Dictionary.{Dictionary}
-use Rattle.dia_entries.specs.Sent.{group_of}
-use Rattle.dia_levels.specs.declared.line.Line.{Line as LevelLine}
-use Rattle.dia_levels.specs.Levels.{HasEachLine}
-use Rattle.dia_levels.specs.LevelTests.{price}
+use Rattle.dia_breaking_avps.specs.Sent.{group_of}
+use Rattle.dia_breaking_levels.specs.declared.line.Line.{Line as LevelLine}
+use Rattle.dia_breaking_levels.specs.Levels.{HasEachLine}
+use Rattle.dia_breaking_levels.specs.LevelTests.{price}
 use Rattle.dia_breaking.specs.declared.exits.Outlook.{Outlook}
 
 -- the rules of the group that AVPs of the key are

@@ -4,9 +4,9 @@ use Rattle.dia_wire.specs.declared.Key.{Key}
 use Rattle.dia_book.specs.Dictionary.{Dictionary}
 use Rattle.dia_policy.specs.declared.Unknown.{Unknown}
 use Rattle.dia_policy.specs.declared.Sends.{Sends}
-use Rattle.dia_entries.specs.Breaks.{IsDataBreak, IsHeadBreak}
-use Rattle.dia_entries.specs.Sent.{TakesAnyData, group_of}
-use Rattle.dia_entries.specs.declared.breaking.DataBreak.TheVariants.{Fits, Data, LeastLevel, Undecided}
+use Rattle.dia_breaking_avps.specs.Breaks.{IsDataBreak, IsHeadBreak}
+use Rattle.dia_breaking_avps.specs.Sent.{TakesAnyData, group_of}
+use Rattle.dia_breaking_avps.specs.declared.breaking.DataBreak.TheVariants.{Fits, Data, LeastLevel, Undecided}
 use Rattle.dia_breaking.specs.declared.keys.Own.{Own}
 use Rattle.dia_breaking.specs.declared.line.Cause.{Cause}
 use Rattle.dia_breaking.specs.declared.line.Cause.TheVariants as causes

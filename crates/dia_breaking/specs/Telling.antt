@@ -6,9 +6,9 @@ use Rattle.dia_book.specs.Keys.{same_key}
 use Rattle.dia_book.specs.Dictionary.{Dictionary}
 use Rattle.dia_policy.specs.declared.Unknown.{Unknown}
 use Rattle.dia_policy.specs.declared.Sends.{Sends}
-use Rattle.dia_entries.specs.Sent.{group_of, AreAccepted, IsAcceptedData, IsSentData, TakesAnyData}
-use Rattle.dia_entries.specs.Breaks.{AcceptsFlags}
-use Rattle.dia_entries.specs.Laws.{FitKeyAlone}
+use Rattle.dia_breaking_avps.specs.Sent.{group_of, AreAccepted, IsAcceptedData, IsSentData, TakesAnyData}
+use Rattle.dia_breaking_avps.specs.Breaks.{AcceptsFlags}
+use Rattle.dia_breaking_avps.specs.Laws.{FitKeyAlone}
 use Rattle.dia_breaking.specs.declared.keys.Own.{Own}
 use Rattle.dia_breaking.specs.declared.keys.Telling.{Telling}
 use Rattle.dia_breaking.specs.SentKeys.{AreSentInOrder, IsStrange}

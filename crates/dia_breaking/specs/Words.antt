@@ -11,18 +11,18 @@ use Rattle.dia_data.specs.Ranges.{covers}
 use Rattle.dia_data.specs.Plain.{PlainFormat, OctetString, Integer32, Integer64, Unsigned32, Unsigned64, Float32, Float64, Grouped, Address}
 use Rattle.dia_data.specs.Plain.{Time, Utf8String, DiameterIdentity, DiameterUri, Enumerated, IpFilterRule, QosFilterRule}
 use Rattle.dia_data.specs.Shown.{hexadecimal}
-use Rattle.dia_witness.specs.Shortest.{witness_bytes}
+use Rattle.dia_breaking_data.specs.Shortest.{witness_bytes}
 use Rattle.dia_book.specs.declared.DRule.{DRule}
 use Rattle.dia_book.specs.Dictionary.{Dictionary, definitions, groups, selected}
 use Rattle.dia_policy.specs.declared.Unknown.{Unknown}
 use Rattle.dia_policy.specs.declared.Unknown.TheVariants.{Kept, Refused}
 use Rattle.dia_check.specs.Valid.{known}
 use Rattle.dia_compat.specs.Tests.{rule_of, rules_in, wildcard_of}
-use Rattle.dia_levels.specs.declared.line.Line.{Line as LevelLine}
-use Rattle.dia_levels.specs.declared.line.Reason.{Reason}
-use Rattle.dia_levels.specs.declared.line.Reason.TheVariants.{Missing, TooMany, NotAllowed, NotAllowedOther, MissingOthers, TooManyOthers, Order}
-use Rattle.dia_levels.specs.LevelTests.{too_long}
-use Rattle.dia_levels.specs.Words.{reason_word}
+use Rattle.dia_breaking_levels.specs.declared.line.Line.{Line as LevelLine}
+use Rattle.dia_breaking_levels.specs.declared.line.Reason.{Reason}
+use Rattle.dia_breaking_levels.specs.declared.line.Reason.TheVariants.{Missing, TooMany, NotAllowed, NotAllowedOther, MissingOthers, TooManyOthers, Order}
+use Rattle.dia_breaking_levels.specs.LevelTests.{too_long}
+use Rattle.dia_breaking_levels.specs.Words.{reason_word}
 use Rattle.dia_breaking.specs.declared.bounds.Bounds.{Bounds}
 use Rattle.dia_breaking.specs.declared.heads.Head.{Head}
 use Rattle.dia_breaking.specs.declared.line.Cause.{Cause}

@@ -4,8 +4,8 @@ ghost use Rattle.std.specs.Prelude.{◌≡◌, ◌⊎◌, ◌++◌, ◌∷◌, [
 ghost use Rattle.std.specs.Prelude.{length, slice_get, option_and_then};
 ghost use Rattle.std.specs.List.{filter_map};
 ghost use Rattle.dia_book.specs.Dictionary.{definitions};
-ghost use Rattle.dia_sites.specs.Selection.{AreValid};
-ghost use Rattle.dia_entries.specs.Sent.{group_of};
+ghost use Rattle.dia_breaking_sites.specs.Selection.{AreValid};
+ghost use Rattle.dia_breaking_avps.specs.Sent.{group_of};
 ghost use Rattle.dia_breaking.specs.Certified.{AreClosedAt, AreClosedTogether, IsClosedAt};
 ghost use Rattle.dia_breaking.specs.Certified.{IsClosedCommand, IsClosedGroup, way_to, ways_of};
 ghost use Rattle.dia_breaking.specs.Free.{AreValidWhereFree};
@@ -26,7 +26,7 @@ use crate::told::level_lines_at;
 use crate::upgrade::Upgrade;
 use crate::ways::{ROOM, Way};
 use dia_book::{Book, DefId, Key};
-use dia_levels::{Line as LevelLine, length_least};
+use dia_breaking_levels::{Line as LevelLine, length_least};
 use std::alloc::{AllocError, Global};
 
 impl<'a, A: Book, B: Book> Upgrade<'a, A, B> {

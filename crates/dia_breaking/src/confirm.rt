@@ -2,7 +2,7 @@
 ghost use Rattle.std.specs.Prelude.{◌≡◌, ◌↔◌, ℕ, IfOk, IfSome, IsTrue, List, map};
 ghost use Rattle.dia_policy.specs.declared.Levels.TheVariants.{Any};
 ghost use Rattle.dia_check.specs.Valid.{IsValid, IsValidOf};
-ghost use Rattle.dia_sites.specs.Sent.{own_policy};
+ghost use Rattle.dia_breaking_sites.specs.Sent.{own_policy};
 ghost use Rattle.dia_breaking.specs.Confirmed.{EachConfirmedBreaks, HaveStandings, IsConfirmed};
 ghost use Rattle.dia_breaking.specs.Confirmed.{IsStandingOf, has_no_message, is_checked, left_behind};
 ghost use Rattle.dia_breaking.specs.Confirmed.{most_checked_together};

@@ -3,8 +3,8 @@ ghost use Rattle.std.specs.Prelude.{◌≡◌, ◌<◌, ◌++◌, ℕ, All, IfOk
 ghost use Rattle.std.specs.List.{filter_map};
 ghost use Rattle.dia_book.specs.Dictionary.{definitions};
 ghost use Rattle.dia_compat.specs.Tests.{rules_in};
-ghost use Rattle.dia_levels.specs.Exact.{AreLevelLines};
-ghost use Rattle.dia_levels.specs.Levels.{FirstIsShortest};
+ghost use Rattle.dia_breaking_levels.specs.Exact.{AreLevelLines};
+ghost use Rattle.dia_breaking_levels.specs.Levels.{FirstIsShortest};
 ghost use Rattle.dia_breaking.specs.Exits.{AreExits, AreOutlooks, IsInnerOrNone, exit_by};
 ghost use Rattle.dia_breaking.specs.Lengths.{listed_length, other_length};
 ghost use Rattle.dia_breaking.specs.Outlooks.{group_rules, HasGroupLines, HaveGroupLines};
@@ -15,8 +15,8 @@ use crate::keys::Telling;
 use crate::lengths::Lengths;
 use crate::levels::LevelCost;
 use dia_book::{Book, DRule, DefId, Key};
-use dia_least::shortest_head;
-use dia_levels::{Costs, Line as LevelLine, level_lines};
+use dia_breaking_levels::{Costs, Line as LevelLine, level_lines};
+use dia_breaking_shortest::shortest_head;
 use std::alloc::{AllocError, Global};
 
 /// The AVPs of which there is something to tell, in the levels of a definition of A.

@@ -3,13 +3,13 @@ ghost use Rattle.std.specs.Prelude.{◌≡◌, ◌++◌, ℕ, List, None, OnOk, 
 ghost use Rattle.std.specs.Prelude.{is_some, string_bytes};
 ghost use Rattle.std.specs.Option.{option_map, option_map_or};
 ghost use Rattle.dia_data.specs.Plain.{plain_format, Enumerated};
-ghost use Rattle.dia_witness.specs.Shortest.{witness_bytes};
+ghost use Rattle.dia_breaking_data.specs.Shortest.{witness_bytes};
 ghost use Rattle.dia_breaking.specs.Words.{data_text, format_detail, format_word, formats_text};
 ghost use Rattle.dia_breaking.specs.Words.{number_text, ranges_at, ranges_in, AreListed};
 
 use dia_book::Format;
+use dia_breaking_data::Witness;
 use dia_data::push_value;
-use dia_witness::Witness;
 use std::alloc::AllocError;
 
 /// Adds the data that are sent, where both formats have lists of numbers, or else both formats.

@@ -3,15 +3,15 @@ ghost use Rattle.std.specs.Prelude.{◌≡◌, ◌⊎◌, IfOk, IsSome, MatchBoo
 ghost use Rattle.std.specs.List.Sorted.{IsPermutation, IsNonDecreasingBy, IsStableByKey};
 ghost use Rattle.std.specs.Ordering.{nat_cmp};
 ghost use Rattle.dia_book.specs.Dictionary.{Dictionary, entry_of};
-ghost use Rattle.dia_least.specs.Exact.{AreExact};
-ghost use Rattle.dia_least.specs.Floors.{AreFloors};
+ghost use Rattle.dia_breaking_shortest.specs.Exact.{AreExact};
+ghost use Rattle.dia_breaking_shortest.specs.Floors.{AreFloors};
 ghost use Rattle.dia_breaking.specs.Lengths.{listed_length, other_length, AreOthers};
 ghost use Rattle.dia_breaking.specs.Lengths.{AreEntryLengths, AreExactlyOthers, AreSameLengths};
 ghost use Rattle.dia_breaking.specs.SentKeys.{IsStrange, IsStranger};
 
 use dia_book::{Book, Key};
-use dia_least::{Least, least_lengths, shortest_head};
-use dia_levels::{Costs, TOO_LONG};
+use dia_breaking_levels::{Costs, TOO_LONG};
+use dia_breaking_shortest::{Least, least_lengths, shortest_head};
 use dia_policy::Sends;
 use std::alloc::{AllocError, Global};
 

@@ -5,7 +5,7 @@ ghost use Rattle.std.specs.Option.{option_map_or};
 ghost use Rattle.dia_book.specs.Dictionary.{definitions, selected};
 ghost use Rattle.dia_compat.specs.Tests.{rules_in};
 ghost use Rattle.dia_breaking.specs.Lengths.{other_length};
-ghost use Rattle.dia_levels.specs.LevelTests.{too_long};
+ghost use Rattle.dia_breaking_levels.specs.LevelTests.{too_long};
 ghost use Rattle.dia_breaking.specs.Words.{accepted_bounds, accepted_rules, bounds_text, head_at};
 ghost use Rattle.dia_breaking.specs.Words.{level_detail, level_text, no_bounds, sent_bounds};
 ghost use Rattle.dia_breaking.specs.Words.{sent_rules, subject_name, wild_bounds};
@@ -16,7 +16,7 @@ use crate::heads::head_of;
 use crate::line::{Place, Site};
 use crate::upgrade::Upgrade;
 use dia_book::{Book, DRule, DefId, Key};
-use dia_levels::{Costs, Line as LevelLine, Reason, TOO_LONG};
+use dia_breaking_levels::{Costs, Line as LevelLine, Reason, TOO_LONG};
 use std::alloc::AllocError;
 
 impl<'a, A: Book, B: Book> Upgrade<'a, A, B> {

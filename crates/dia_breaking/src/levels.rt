@@ -3,13 +3,13 @@ ghost use Rattle.std.specs.Prelude.{◌≡◌, ◌<◌, length, not, find};
 ghost use Rattle.dia_book.specs.Dictionary.{definitions};
 ghost use Rattle.dia_check.specs.Valid.{is_listed};
 ghost use Rattle.dia_compat.specs.Tests.{rules_in};
-ghost use Rattle.dia_levels.specs.LevelTests.{least_filler};
-ghost use Rattle.dia_levels.specs.Levels.{OtherIsShortest};
+ghost use Rattle.dia_breaking_levels.specs.LevelTests.{least_filler};
+ghost use Rattle.dia_breaking_levels.specs.Levels.{OtherIsShortest};
 ghost use Rattle.dia_breaking.specs.LevelCosts.{beside_of};
 
 use crate::books::{lists, wildcard_of};
 use dia_book::{Book, DRule, DefId, Key};
-use dia_levels::{Costs, TOO_LONG, length_least};
+use dia_breaking_levels::{Costs, TOO_LONG, length_least};
 
 /// The least lengths of a definition's levels.
 #[derive(Clone, Copy, Debug)]

@@ -4,8 +4,8 @@ ghost use Rattle.dia_breaking.specs.OwnKeys.{own_key};
 ghost use Rattle.dia_breaking.specs.Words.{path_to};
 
 use dia_book::{Class, DefId, Key};
-use dia_levels::Line as LevelLine;
-use dia_witness::Witness;
+use dia_breaking_data::Witness;
+use dia_breaking_levels::Line as LevelLine;
 use std::alloc::{AllocError, Global};
 
 /// Where a level of a message is read: by a definition of A and one of B.

@@ -25,8 +25,8 @@ use crate::start::Start;
 use crate::upgrade::Upgrade;
 use crate::ways::ROOM;
 use dia_book::{Book, DefId};
-use dia_levels::Line as LevelLine;
-use dia_ways::{Step, Walk, walk};
+use dia_breaking_levels::Line as LevelLine;
+use dia_breaking_ways::{Step, Walk, walk};
 use std::alloc::{AllocError, Global};
 
 impl<'a, A: Book, B: Book> Upgrade<'a, A, B> {

@@ -6,12 +6,12 @@ use crate::books::m_rule_of;
 use crate::line::{Breaks, Cause, Line, Place, Site};
 use crate::upgrade::Upgrade;
 use dia_book::{Book, Class, DefId, Key, MRule};
-use dia_least::{push_least, shortest_head};
-use dia_levels::{Part, length_least, level_least, level_with, line_level};
+use dia_breaking_data::Witness;
+use dia_breaking_levels::{Part, length_least, level_least, level_with, line_level};
+use dia_breaking_shortest::{push_least, shortest_head};
 use dia_wire::{
     AVP_MANDATORY, AVP_VENDOR, COMMAND_ERROR, COMMAND_PROXIABLE, COMMAND_REQUEST, HEADER_LENGTH,
 };
-use dia_witness::Witness;
 use std::alloc::{AllocError, Global};
 
 /// A level within which a group is being written, with the parts that follow the group.

@@ -6,8 +6,8 @@ ghost use Rattle.dia_breaking.specs.OwnBreaks.{AreOwnBreaks, IsOwnBreaks};
 use crate::keys::Own;
 use crate::lengths::Lengths;
 use dia_book::{Book, Key};
-use dia_entries::{AvpBreaks, avp_breaks};
-use dia_levels::Costs;
+use dia_breaking_avps::{AvpBreaks, avp_breaks};
+use dia_breaking_levels::Costs;
 use dia_policy::Unknown;
 use std::alloc::{AllocError, Global};
 

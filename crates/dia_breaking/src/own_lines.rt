@@ -1,7 +1,7 @@
 //! The lines of AVPs that break by themselves.
 ghost use Rattle.std.specs.Prelude.{◌≡◌, ◌⊎◌, [], None, IfOk, IfSome, OnOk, option_to_list, slice_get};
 ghost use Rattle.std.specs.Option.{option_map, option_map_or};
-ghost use Rattle.dia_entries.specs.Breaks.{IsDataBreak};
+ghost use Rattle.dia_breaking_avps.specs.Breaks.{IsDataBreak};
 ghost use Rattle.dia_breaking.specs.Listing.{AddsTold, head_cause, own_cause, own_line};
 ghost use Rattle.dia_breaking.specs.Listing.{own_lines, reach_at, reached_line, subject, with_data};
 ghost use Rattle.dia_breaking.specs.OwnBreaks.{HaveDataBreaks, TellData, TellsData};
@@ -13,12 +13,12 @@ use crate::own_breaks::OwnBreaks;
 use crate::sites::Numbers;
 use crate::upgrade::Upgrade;
 use dia_book::{Book, Format, Key};
+use dia_breaking_avps::{DataBreak, HeadBreak};
+use dia_breaking_data::Witness;
+use dia_breaking_levels::{Costs, TOO_LONG};
+use dia_breaking_shortest::{push_least, shortest_head};
+use dia_breaking_ways::Reach;
 use dia_data::{Leaf, accepts};
-use dia_entries::{DataBreak, HeadBreak};
-use dia_least::{push_least, shortest_head};
-use dia_levels::{Costs, TOO_LONG};
-use dia_ways::Reach;
-use dia_witness::Witness;
 use std::alloc::{AllocError, Global};
 
 /// The most bytes of a group whose data are tried where it is read as a leaf.

@@ -8,7 +8,7 @@ use crate::heads::{Head, allows, head_of};
 use crate::line::{Place, Site};
 use crate::own_breaks::OwnBreaks;
 use dia_book::{Book, Key};
-use dia_ways::Step;
+use dia_breaking_ways::Step;
 use std::alloc::{AllocError, Global};
 
 /// The head of B's definition for messages with this head and this application.

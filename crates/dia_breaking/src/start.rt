@@ -1,7 +1,7 @@
 //! What is found of a command before its sites are walked.
 ghost use Rattle.std.specs.Prelude.{◌≡◌, ◌<◌, IfOk, length, map, nat_le};
 ghost use Rattle.dia_book.specs.Dictionary.{definitions};
-ghost use Rattle.dia_sites.specs.Selection.{max_body};
+ghost use Rattle.dia_breaking_sites.specs.Selection.{max_body};
 ghost use Rattle.dia_breaking.specs.Lengths.{listed_length, other_length};
 ghost use Rattle.dia_breaking.specs.TheLines.{AreAppsWithRoom, AreCommandLevels};
 ghost use Rattle.dia_breaking.specs.TheLines.{IsCommandLevel, IsStartOf};
@@ -14,8 +14,8 @@ use crate::sites::command_site;
 use crate::upgrade::Upgrade;
 use crate::ways::ROOM;
 use dia_book::{Book, DefId};
-use dia_levels::Line as LevelLine;
-use dia_ways::Exits as WalkExits;
+use dia_breaking_levels::Line as LevelLine;
+use dia_breaking_ways::Exits as WalkExits;
 use std::alloc::{AllocError, Global};
 
 /// The level of a command, in the messages of each application for which it is looked at.

@@ -5,7 +5,7 @@ ghost use Rattle.dia_breaking.specs.Headers.{TellsRefusal};
 ghost use Rattle.dia_breaking.specs.declared.line.Line.{Line as AnyLine};
 
 use crate::line::{Cause, Line};
-use dia_levels::Line as LevelLine;
+use dia_breaking_levels::Line as LevelLine;
 use std::alloc::{AllocError, Global};
 
 /// The lines from the first of a site on.

@@ -2,13 +2,13 @@
 ghost use Rattle.std.specs.Prelude.{◌≡◌, ◌<◌, ℕ, [], IfOk, IfSome, IsSome, None, Some, length, map};
 ghost use Rattle.std.proofs.Props.{props};
 ghost use Rattle.dia_book.specs.Dictionary.{definitions};
-ghost use Rattle.dia_sites.specs.Selection.{AreValid};
+ghost use Rattle.dia_breaking_sites.specs.Selection.{AreValid};
 ghost use Rattle.dia_compat.specs.Tests.{rules_in};
-ghost use Rattle.dia_least.specs.Floors.{AreFloors};
-ghost use Rattle.dia_levels.specs.Exact.{AreLevelLines};
-ghost use Rattle.dia_levels.specs.Levels.{FirstIsShortest, HasEachLine};
-ghost use Rattle.dia_levels.specs.LevelTests.{price};
-ghost use Rattle.dia_ways.specs.Walks.{plain_node};
+ghost use Rattle.dia_breaking_shortest.specs.Floors.{AreFloors};
+ghost use Rattle.dia_breaking_levels.specs.Exact.{AreLevelLines};
+ghost use Rattle.dia_breaking_levels.specs.Levels.{FirstIsShortest, HasEachLine};
+ghost use Rattle.dia_breaking_levels.specs.LevelTests.{price};
+ghost use Rattle.dia_breaking_ways.specs.Walks.{plain_node};
 ghost use Rattle.dia_breaking.specs.Confirmed.{EachConfirmedBreaks, HaveStandings};
 ghost use Rattle.dia_breaking.specs.Confirmed.{most_checked_together};
 ghost use Rattle.dia_breaking.specs.Free.{AreValidWhereFree};
@@ -31,9 +31,9 @@ use crate::line::{Breaks, Place};
 use crate::nodes::nodes_of;
 use crate::own_breaks::{OwnBreaks, own_breaks};
 use dia_book::{Book, Class, DefId, Key};
-use dia_levels::{Line as LevelLine, level_lines};
+use dia_breaking_levels::{Line as LevelLine, level_lines};
+use dia_breaking_ways::Node;
 use dia_policy::{Sends, Unknown};
-use dia_ways::Node;
 use std::alloc::{AllocError, Global};
 
 /// Messages of A's side that B's side reads.

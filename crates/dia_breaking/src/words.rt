@@ -5,7 +5,7 @@ ghost use Rattle.std.specs.Option.{option_map, option_map_or};
 ghost use Rattle.dia_book.specs.Dictionary.{definitions};
 ghost use Rattle.dia_breaking.specs.Lengths.{other_length};
 ghost use Rattle.dia_breaking.specs.Words.{application_text, avp_name, cause_text, definition_name};
-ghost use Rattle.dia_witness.specs.Shortest.{witness_bytes};
+ghost use Rattle.dia_breaking_data.specs.Shortest.{witness_bytes};
 ghost use Rattle.dia_breaking.specs.Words.{flag_word, format_detail, format_in, formats_text};
 ghost use Rattle.dia_breaking.specs.Words.{is_command, path_text, path_to, place_text};
 ghost use Rattle.dia_breaking.specs.Words.{refused_application, standing_text, subject_name};
@@ -16,8 +16,8 @@ use crate::format_words::{push_format_detail, push_formats};
 use crate::line::{Breaks, Cause, Line, Place, Site, Standing};
 use crate::upgrade::Upgrade;
 use dia_book::{Book, DefId, Key};
+use dia_breaking_data::Witness;
 use dia_policy::Unknown;
-use dia_witness::Witness;
 use std::alloc::{AllocError, Global};
 
 impl<'a, A: Book, B: Book> Upgrade<'a, A, B> {

@@ -8,8 +8,8 @@
 //! answer where each flag that is sent is accepted.
 
 use crate::books::{X, indexed_of, plain_of, same, sends_of};
+use dia_breaking_avps::{HeadBreak, avp_breaks};
 use dia_dict::Book;
-use dia_entries::{HeadBreak, avp_breaks};
 use dia_policy::{Sends, Unknown};
 use dia_rows::{Names, Row, RowFault, field};
 use std::process::Abort;

@@ -10,9 +10,9 @@
 //! a least level isn't accepted, and `undecided` that some levels may be.
 
 use crate::books::{X, indexed_of, plain_of, same};
+use dia_breaking_avps::{DataBreak, avp_breaks};
 use dia_data::{Format, Leaf, accepts, print_value};
 use dia_dict::Book;
-use dia_entries::{DataBreak, avp_breaks};
 use dia_policy::{Sends, Unknown};
 use dia_rows::{Names, Row, field};
 use std::process::Abort;

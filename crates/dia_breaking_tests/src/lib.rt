@@ -1,5 +1,5 @@
 //! The tests of what breaks between two dictionaries, by public calls alone: `worked` of dia_breaking, and `formats` and `flags`
-//! of dia_entries. There is nothing but tests.
+//! of dia_breaking_avps. There is nothing but tests.
 #![tactic(auto)]
 
 #[cfg(test)]

@@ -1,4 +1,4 @@
-//! The tests of `dia_wire`, `dia_data`, `dia_witness`, `dia_ccf` and `dia_dict`, by library: each goes through public calls
+//! The tests of `dia_wire`, `dia_data`, `dia_breaking_data`, `dia_ccf` and `dia_dict`, by library: each goes through public calls
 //! alone. There is nothing but tests.
 #![tactic(auto)]
 

@@ -11,9 +11,9 @@
 
 use crate::data::format_of;
 use crate::words::{same, words_of};
+use dia_breaking_data::{shortest, witness};
 use dia_data::{Format, print_value};
 use dia_rows::{Names, Row, RowFault};
-use dia_witness::{shortest, witness};
 use std::process::Abort;
 use std::test::Fail;
 

@@ -10,7 +10,7 @@ use Rattle.std.proofs.lemmas.Bool.{eqb-true}
 use Rattle.dia_book.specs.declared.DefHead.TheVariants.{Group}
 use Rattle.dia_book.specs.Dictionary.{Dictionary, DictEntry, PlainDefinition, IsDictionary, IsCommandHead, definitions, groups}
 use Rattle.dia_book.proofs.Members.{at_append, at_filter_map}
-use Rattle.dia_sites.proofs.Members.{in_at, contains_in, all_of}
+use Rattle.dia_breaking_sites.proofs.Members.{in_at, contains_in, all_of}
 use Rattle.dia_compat.specs.Closed.{NamesCommand}
 use Rattle.dia_compat.specs.PairTests.{command_named}
 use Rattle.dia_compat.proofs.FitInSecond.{in_filter_map}

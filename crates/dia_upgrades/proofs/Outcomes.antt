@@ -3,8 +3,8 @@ use Rattle.std.proofs.Common.{◌≡◌, ℕ, ◌+◌, List, [], length, Result,
 use Rattle.std.specs.Prelude.{◌↔◌, Contains, IfOk, string_bytes}
 use Rattle.std.proofs.lemmas.List.Elements.{All-contains}
 use Rattle.dia_book.specs.Dictionary.{Dictionary, PlainDefinition, IsDictionary, groups}
-use Rattle.dia_sites.specs.Selection.{AreValid}
-use Rattle.dia_sites.proofs.Members.{in_at, contains_in}
+use Rattle.dia_breaking_sites.specs.Selection.{AreValid}
+use Rattle.dia_breaking_sites.proofs.Members.{in_at, contains_in}
 use Rattle.dia_compat.specs.Closed.{NamesCommand}
 use Rattle.dia_compat.specs.Proposed.{IsFirstUnknown}
 use Rattle.dia_io.specs.declared.Inputs.{Inputs}

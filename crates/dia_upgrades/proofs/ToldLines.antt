@@ -5,7 +5,7 @@ use Rattle.std.proofs.lemmas.List.Elements.{All-from_recursion, All-weaker}
 use Rattle.dia_policy.specs.declared.sends.Sends.{Sends}
 use Rattle.dia_policy.specs.declared.Unknown.{Unknown}
 use Rattle.dia_book.specs.Dictionary.{Dictionary, groups}
-use Rattle.dia_sites.specs.Selection.{AreValid}
+use Rattle.dia_breaking_sites.specs.Selection.{AreValid}
 use Rattle.dia_breaking.specs.declared.line.Line.{Line}
 use Rattle.dia_breaking.proofs.FreeOfLines.{nothing_told}
 use Rattle.dia_breaking.specs.Lengths.{other_length}

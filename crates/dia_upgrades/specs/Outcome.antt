@@ -1,7 +1,7 @@
 -- What `breaking` writes for its inputs, and how it ends.
 use Rattle.std.specs.Prelude.{◌≡◌, ℕ, List, [], ◌++◌, Some, Contains, slice_get, codes}
 use Rattle.dia_book.specs.Dictionary.{Dictionary, PlainDefinition, definitions}
-use Rattle.dia_sites.specs.Selection.{AreValid}
+use Rattle.dia_breaking_sites.specs.Selection.{AreValid}
 use Rattle.dia_compat.specs.Closed.{NamesCommand}
 use Rattle.dia_compat.specs.Proposed.{IsFirstUnknown}
 use Rattle.dia_io.specs.declared.Inputs.{Inputs}

@@ -4,7 +4,7 @@ use Rattle.std.specs.List.{filter_map, range_with_len}
 use Rattle.dia_policy.specs.declared.sends.Sends.{Sends}
 use Rattle.dia_policy.specs.declared.Unknown.{Unknown}
 use Rattle.dia_book.specs.Dictionary.{Dictionary, groups}
-use Rattle.dia_sites.specs.Selection.{AreValid}
+use Rattle.dia_breaking_sites.specs.Selection.{AreValid}
 use Rattle.dia_compat.specs.PairTests.{command_named}
 use Rattle.dia_run.specs.Texts.{line}
 

@@ -4,7 +4,7 @@ use Rattle.hex.specs.Hex.{IsBytes, encode_lower}
 use Rattle.dia_policy.specs.declared.sends.Sends.{Sends}
 use Rattle.dia_policy.specs.declared.Unknown.{Unknown}
 use Rattle.dia_book.specs.Dictionary.{Dictionary, groups}
-use Rattle.dia_least.specs.Exact.{AreExact}
+use Rattle.dia_breaking_shortest.specs.Exact.{AreExact}
 use Rattle.dia_breaking.specs.declared.line.Line.{Line}
 use Rattle.dia_breaking.specs.declared.line.Site.{Site}
 use Rattle.dia_breaking.specs.declared.line.Standing.{Standing}

@@ -15,8 +15,8 @@ use dia_cli::{
     BASE_DICTIONARY, Ending, OfProcess, Origin, Origins, STANDARD_INPUT, finish, open_inputs,
     parse_words,
 };
+use dia_explain_places::InputNames;
 use dia_io::Task;
-use dia_places::InputNames;
 use dia_run::{Command, Exit, Inputs, ToWriter, run};
 use dia_upgrades::{Asked, breaking};
 use notes::explain;

@@ -1,12 +1,12 @@
 //! The note of a task: what is told on standard error of an input that is refused, and of an answer that isn't yes.
 
-use dia_io::{Command, Exit, Inputs, Task};
-use dia_notes::{
+use dia_explain_answers::push_answer;
+use dia_explain_inputs::{
     NamedInput, push_dictionary, push_length, push_message, push_no_commands, push_no_pairs,
     push_strangers, push_table, push_unknown_commands,
 };
-use dia_places::InputNames;
-use dia_reasons::push_answer;
+use dia_explain_places::InputNames;
+use dia_io::{Command, Exit, Inputs, Task};
 use std::alloc::{AllocError, Global};
 
 /// What is told on standard error of a task that ended so. It is empty where there is nothing to tell.

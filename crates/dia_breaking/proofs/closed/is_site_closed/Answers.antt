@@ -2,7 +2,7 @@ use Rattle.std.proofs.Common.{◌≡◌, List, Some, sym, subst}
 use Rattle.std.specs.Prelude.{All}
 use Rattle.dia_book.specs.Dictionary.{PlainDefinition, definitions}
 use Rattle.dia_compat.proofs.ReachedKeys.{there_is, at_some}
-use Rattle.dia_levels.specs.declared.line.Line.{Line as LevelLine}
+use Rattle.dia_breaking_levels.specs.declared.line.Line.{Line as LevelLine}
 use Rattle.dia_breaking.specs.Certified.{IsToldAt}
 use Rattle.dia_breaking.specs.Headers.{head_in}
 use Rattle.dia_breaking.specs.Lengths.{listed_length}

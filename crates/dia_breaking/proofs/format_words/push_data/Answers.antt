@@ -1,7 +1,7 @@
 use Rattle.std.proofs.Common.{◌++◌, codes, string_bytes, ap, ◌∙◌, append_assoc}
 use Rattle.dia_data.specs.Plain.{Enumerated}
 use Rattle.dia_data.specs.Shown.{IsValueText}
-use Rattle.dia_witness.specs.Shortest.{witness_bytes}
+use Rattle.dia_breaking_data.specs.Shortest.{witness_bytes}
 use Rattle.std.specs.Prelude.{Some}
 use Rattle.dia_breaking.specs.Words.{number_text}
 use Rattle.dia_breaking.proofs.ValueTexts.{number_is, pushed_last}

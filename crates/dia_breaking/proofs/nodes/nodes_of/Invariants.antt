@@ -1,5 +1,5 @@
 use Rattle.std.proofs.Common.{◌≡◌, map, take}
-use Rattle.dia_ways.specs.Walks.{plain_node}
+use Rattle.dia_breaking_ways.specs.Walks.{plain_node}
 use Rattle.dia_breaking.specs.Nodes.{node_in}
 use Rattle.dia_breaking.proofs.nodes.nodes_of.Given as goal
 

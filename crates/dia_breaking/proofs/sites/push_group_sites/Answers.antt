@@ -2,7 +2,7 @@ use Rattle.std.proofs.Common.{arith}
 use Rattle.std.proofs.lemmas.Option.{slice_get-get_or}
 use Rattle.std.specs.Option.{option_map}
 use Rattle.std.specs.Prelude.{slice_get}
-use Rattle.dia_ways.specs.declared.graph.Step.{Step}
+use Rattle.dia_breaking_ways.specs.declared.graph.Step.{Step}
 use Rattle.dia_breaking.specs.declared.own_breaks.OwnBreaks.{OwnBreaks}
 use Rattle.dia_breaking.specs.Sites.{group_site}
 use Rattle.dia_breaking.proofs.ToldLists.{added_behind}

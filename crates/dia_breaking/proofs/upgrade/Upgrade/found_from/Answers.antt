@@ -1,7 +1,7 @@
 use Rattle.std.proofs.Common.{[], map, is_some, sym, refl, ap, subst, ◌∙◌}
 use Rattle.std.specs.Prelude.{Contains, IfSome, length}
 use Rattle.std.proofs.lemmas.List.Elements.{Contains-push}
-use Rattle.dia_ways.specs.declared.graph.Walk.{Walk}
+use Rattle.dia_breaking_ways.specs.declared.graph.Walk.{Walk}
 use Rattle.dia_breaking.specs.declared.line.Cause.TheVariants as causes
 use Rattle.dia_breaking.specs.Free.{AreValidWhereFree}
 use Rattle.dia_breaking.specs.Listing.{IsListing, IsWalkFrom, basis_of, new_line, tells}

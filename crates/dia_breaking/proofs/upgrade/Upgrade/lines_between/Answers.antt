@@ -1,6 +1,6 @@
 use Rattle.std.proofs.Common.{sym, subst}
 use Rattle.dia_compat.specs.Tests.{rules_in}
-use Rattle.dia_levels.specs.Levels.{FirstIsShortest}
+use Rattle.dia_breaking_levels.specs.Levels.{FirstIsShortest}
 use Rattle.dia_breaking.specs.Lengths.{other_length}
 use Rattle.dia_breaking.proofs.upgrade.Upgrade.lines_between.Goals as goal
 

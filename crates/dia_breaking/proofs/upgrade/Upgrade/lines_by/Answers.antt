@@ -1,6 +1,6 @@
 use Rattle.std.proofs.Common.{List, Option, ◌++◌, map, refl, ap, subst, ◌∙◌}
-use Rattle.dia_ways.specs.declared.graph.Reach.{Reach}
-use Rattle.dia_ways.specs.declared.graph.Step.{Step}
+use Rattle.dia_breaking_ways.specs.declared.graph.Reach.{Reach}
+use Rattle.dia_breaking_ways.specs.declared.graph.Step.{Step}
 use Rattle.dia_breaking.specs.declared.line.Line.{Line}
 use Rattle.dia_breaking.specs.declared.line.Cause.TheVariants as causes
 use Rattle.dia_breaking.specs.declared.own_lines.Kind.TheVariants as kinds

@@ -1,6 +1,6 @@
 use Rattle.std.proofs.Common.{List, map, sym, ap, subst, ◌∙◌}
 use Rattle.dia_compat.specs.Tests.{rules_in}
-use Rattle.dia_levels.specs.Levels.{FirstIsShortest}
+use Rattle.dia_breaking_levels.specs.Levels.{FirstIsShortest}
 use Rattle.dia_breaking.specs.declared.exits.Outlook.{Outlook}
 use Rattle.dia_breaking.specs.declared.keys.Own.{Own}
 use Rattle.dia_breaking.specs.declared.keys.Telling.{Telling}

@@ -1,0 +1,19 @@
+-- AVPs that break nothing by themselves.
+use Rattle.std.specs.Prelude.{◌≡◌, ℕ, List, Contains}
+use Rattle.dia_wire.specs.declared.Key.{Key}
+use Rattle.dia_wire.specs.Wire.{PlainAvp, key_of}
+use Rattle.dia_book.specs.declared.DRule.{DRule}
+use Rattle.dia_book.specs.Dictionary.{Dictionary}
+use Rattle.dia_policy.specs.declared.Unknown.{Unknown}
+use Rattle.dia_policy.specs.declared.sends.Sends.{Sends}
+use Rattle.dia_breaking_sites.specs.Sent.{AreBytes, IsSentAvp}
+use Rattle.dia_breaking_sites.specs.Sites.{FitsAlone, IsLevelOf}
+
+-- each AVP of the key that A's side sends fits B by itself
+abbrev pub FitKeyAlone : Dictionary → Dictionary → Sends → Unknown → Key → Type 0
+FitKeyAlone da db who u key = (v : PlainAvp) → key_of v ≡ key → AreBytes v.bytes → IsSentAvp da who v → FitsAlone da db u v
+
+-- so each AVP of a level does, where this holds of its key
+abbrev pub KeysFitAlone : Type 0
+KeysFitAlone = (da db : Dictionary) (who : Sends) (u : Unknown) (rules : List DRule) (room : ℕ) (avps : List PlainAvp) (v : PlainAvp) → IsLevelOf da who rules room avps → Contains avps v
+    → FitKeyAlone da db who u (key_of v) → FitsAlone da db u v

@@ -1,0 +1,16 @@
+//! Which AVPs of a key break by themselves: by their M flag or by their data, whatever stands around them.
+#![tactic(auto)]
+
+mod avp;
+mod breaking;
+mod flags;
+mod forms;
+mod laws;
+
+pub use avp::avp_breaks;
+pub use breaking::{AvpBreaks, DataBreak, HeadBreak};
+pub use dia_book::{Book, DefId};
+pub use dia_breaking_data::Witness;
+pub use dia_policy::{Sends, Unknown};
+pub use dia_wire::Key;
+pub use laws::keys_fit_alone;

@@ -1,0 +1,42 @@
+//! A few bytes, kept by value.
+ghost use Rattle.std.specs.Prelude.{◌≡◌, ◌≤◌, length};
+
+/// Data of at most 8 bytes.
+#[derive(Clone, Copy, Debug)]
+pub struct Witness {
+    count: usize,
+    bytes: [u8; 8],
+    ghost within: { count ≤ 8 },
+}
+
+impl Witness {
+    ghost use Rattle.dia_breaking_data.specs.Shortest.{witness_bytes};
+    ghost use Rattle.dia_breaking_data.specs.Kinds.{four_bytes};
+
+    /// These bytes.
+    pub fn new(bytes: &[u8]) -> Self
+        requires { length bytes.now ≤ 8 }
+        ensures { witness_bytes result ≡ bytes.now }
+    {
+        let mut room = [0; 8];
+        room[..bytes.len()].copy_from_slice(bytes);
+        Witness {
+            count: bytes.len(),
+            bytes: room,
+        }
+    }
+
+    /// The 4 bytes of a number.
+    pub(crate) fn of_number(number: u32) -> Self
+        ensures { witness_bytes result ≡ four_bytes number }
+    {
+        Witness::new(&number.to_be_bytes())
+    }
+
+    /// The bytes.
+    pub fn as_slice(&self) -> &[u8]
+        ensures { result.now ≡ witness_bytes self.now }
+    {
+        &self.bytes[..self.count]
+    }
+}

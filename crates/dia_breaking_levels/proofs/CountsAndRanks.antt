@@ -1,0 +1,434 @@
+-- Keys are placed exactly where they come as often as the rules say, and in the order of the fixed rules.
+use Rattle.std.proofs.Common.{◌≡◌, ◌≢◌, ℕ, zero, suc, ◌<◌, ◌≤◌, Bool, true, false, List, [], ◌∷◌, ◌++◌, length, Option, Some, None, refl, sym, ap, subst, ◌∙◌, get_or, arith, inl, inr}
+use Rattle.std.specs.Prelude.{◌⊎◌, not, IsTrue, IsSome, is_some, slice_get, count_by, if◌then◌else◌, Contains}
+use Rattle.std.specs.Option.{option_map_or}
+use Rattle.std.specs.List.{AllByRecursion}
+use Rattle.std.proofs.lemmas.Bool.{false_from_ne_true}
+use Rattle.std.proofs.lemmas.Option.{none-some, same_Some}
+use Rattle.dia_wire.specs.declared.Key.{Key}
+use Rattle.dia_book.specs.declared.DRule.{DRule}
+use Rattle.dia_book.specs.Keys.{same_key}
+use Rattle.dia_book.specs.Dictionary.{Dictionary, IsDictionary, PlainDefinition, AreRules, definitions, is_fixed, lists_key}
+use Rattle.dia_book.proofs.SameKeys.{same_key-refl, same_key-true}
+use Rattle.dia_book.proofs.Members.{AreApart, AreApart-filter}
+use Rattle.dia_check.specs.Valid.{InBounds, Runs, Placed, MayBeLoose, fixed_rules, loose_rules, is_listed, has_wildcard, counted}
+use Rattle.dia_check.proofs.LongestRuns.{AreDistinct}
+use Rattle.dia_check.proofs.RuleCounts.{fixed_place}
+use Rattle.dia_compat.specs.Below.{HasRule, HasWildcard}
+use Rattle.dia_compat.proofs.RunsOfFixedRules.{IsIn, in_all, all_map, all_middle, IsRunKey}
+use Rattle.dia_compat.proofs.MemberCounts.{in_at, at_in, in_contains, contains_in, all_in, in_filter, into_filter, in_right, in_append, count_append, count_none, count_all}
+use Rattle.dia_compat.proofs.PlacedInSecond.{listed, is_listed_by, runs_none, runs_some}
+use Rattle.dia_breaking_levels.specs.CountsAndRanks.{AreSound, times, strangers, rank, InOrder, AreInPlace}
+
+-- ---- the rules of a dictionary
+
+pub rules_sound : (rules : List DRule) → AreRules rules → AreSound rules
+rules_sound rules are = record { distinct = are.distinct; fixed_keys = are.fixed_keys }
+
+pub definition_sound : (d : Dictionary) (def : PlainDefinition) → IsDictionary d → Contains (definitions d) def → AreSound def.rules
+definition_sound d def is c = subst (λ (x : PlainDefinition). AreSound x.rules) c.2 (rules_sound (get_or (definitions d) c.0 def).rules (is.rules c.0 def c.1))
+
+-- ---- sound rules
+
+key_of_test : (key : Key) (o : Option Key) → option_map_or (same_key key) o false ≡ true → o ≡ Some key
+key_of_test key None h = absurd (let e : false ≡ true = h in cc)
+key_of_test key (Some k) h = ap (λ (x : Key). Some x) (sym (same_key-true key k h))
+
+lists : (r : DRule) (key : Key) → r.key ≡ Some key → lists_key key r ≡ true
+lists r key e = ap (λ (o : Option Key). option_map_or (same_key key) o false) e ∙ same_key-refl key
+
+lists_not : (r : DRule) (key : Key) → r.key ≢ Some key → lists_key key r ≡ false
+lists_not r key other = false_from_ne_true (lists_key key r) (λ e. other (key_of_test key r.key e))
+
+not_both : (b : Bool) → b ≡ true → b ≡ false → ⊥
+not_both b e f = absurd (let h : true ≡ false = sym e ∙ f in cc)
+
+not_true : (b : Bool) → not b ≡ true → b ≡ false
+not_true true h = absurd (let e : false ≡ true = h in cc)
+not_true false h = refl
+
+fixed_part : (rules : List DRule) (r : DRule) → IsIn r (fixed_rules rules) → IsIn r rules × (is_fixed r ≡ true)
+fixed_part rules r h = in_filter is_fixed rules r h
+
+loose_part : (rules : List DRule) (r : DRule) → IsIn r (loose_rules rules) → IsIn r rules × (is_fixed r ≡ false)
+loose_part rules r h = let s = in_filter (λ (t : DRule). not (is_fixed t)) rules r h in (s.0, not_true (is_fixed r) s.1)
+
+into_loose : (rules : List DRule) (r : DRule) → IsIn r rules → is_fixed r ≡ false → IsIn r (loose_rules rules)
+into_loose rules r h e = into_filter (λ (t : DRule). not (is_fixed t)) rules r h (ap not e)
+
+pub one_rule : (rules : List DRule) (r s : DRule) → AreSound rules → IsIn r rules → IsIn s rules → r.key ≡ s.key → r ≡ s
+one_rule rules r s sound i j e =
+    let p = at_in rules r i in
+    let q = at_in rules s j in
+    let same : p.place ≡ q.place = sound.distinct p.place q.place r s p.at q.at e in
+    same_Some r s (sym p.at ∙ ap (λ (n : ℕ). slice_get rules n) same ∙ q.at)
+
+-- a fixed rule and one that is not have two keys
+fixed_or_loose : (rules : List DRule) (r s : DRule) → AreSound rules → IsIn r rules → IsIn s rules → r.key ≡ s.key → is_fixed r ≡ true → is_fixed s ≡ false → ⊥
+fixed_or_loose rules r s sound i j e f g = not_both (is_fixed r) f (ap (λ (t : DRule). is_fixed t) (one_rule rules r s sound i j e) ∙ g)
+
+fixed_key : (rules : List DRule) (r : DRule) → AreSound rules → IsIn r rules → is_fixed r ≡ true → IsSome r.key
+fixed_key rules r sound i f =
+    let c = contains_in rules r i in
+    subst (λ (t : DRule). IsTrue (is_fixed t) → IsSome t.key) c.2 (sound.fixed_keys c.0 r c.1) f
+
+wild_loose : (rules : List DRule) (w : DRule) → AreSound rules → IsIn w rules → w.key ≡ None → is_fixed w ≡ false
+wild_loose rules w sound i e = false_from_ne_true (is_fixed w) (λ f. not_both (is_some w.key) (fixed_key rules w sound i f) (ap (λ (o : Option Key). is_some o) e))
+
+apart_distinct : (rules : List DRule) → AreApart (λ (r : DRule). r.key) rules → AreDistinct rules
+apart_distinct [] h = tt
+apart_distinct (r ∷ rules) h = (
+  all_in (λ (s : DRule). (key : Key) → r.key ≡ Some key → s.key ≢ Some key) rules (λ s i key e f.
+      let p = at_in rules s i in
+      let z : 0 ≡ suc p.place = h 0 (suc p.place) r s refl p.at (e ∙ sym f) in
+      absurd (omega (arith, z))),
+  apart_distinct rules (λ i j x y at at' same. let z : suc i ≡ suc j = h (suc i) (suc j) x y at at' same in omega (arith, z)),
+)
+
+fixed_distinct : (rules : List DRule) → AreSound rules → AreDistinct (fixed_rules rules)
+fixed_distinct rules sound = apart_distinct (fixed_rules rules) (AreApart-filter (λ (r : DRule). r.key) is_fixed rules sound.distinct)
+
+-- ---- how many
+
+counted_key : (rules : List DRule) (s : DRule) (keys : List Key) (k : Key) → s.key ≡ Some k → counted rules s keys ≡ times k keys
+counted_key rules s keys k e = ap (λ (o : Option Key). count_by (λ (q : Key). if not (is_some o) then not (is_listed rules q) else option_map_or (same_key q) o false) keys) e
+
+counted_wild : (rules : List DRule) (s : DRule) (keys : List Key) → s.key ≡ None → counted rules s keys ≡ strangers rules keys
+counted_wild rules s keys e = ap (λ (o : Option Key). count_by (λ (q : Key). if not (is_some o) then not (is_listed rules q) else option_map_or (same_key q) o false) keys) e
+
+-- none of a key among others
+none_of : (k : Key) (keys : List Key) → ((q : Key) → IsIn q keys → q ≢ k) → times k keys ≡ 0
+none_of k keys other = count_none (λ (q : Key). same_key q k) keys (λ q i. false_from_ne_true (same_key q k) (λ e. other q i (same_key-true q k e)))
+
+-- no rule of these has a key of those
+abbrev pub AreFree : List DRule → List Key → Type 0
+AreFree rules keys = (q : Key) (r : DRule) → IsIn q keys → IsIn r rules → r.key ≢ Some q
+
+-- ---- ranks
+
+first_rank : (r : DRule) (rules : List DRule) (q : Key) → r.key ≡ Some q → rank (r ∷ rules) q ≡ 0
+first_rank r rules q e = ap (λ (b : Bool). if b then 0 else suc (rank rules q)) (lists r q e)
+
+later_rank : (r : DRule) (rules : List DRule) (q : Key) → r.key ≢ Some q → rank (r ∷ rules) q ≡ suc (rank rules q)
+later_rank r rules q other = ap (λ (b : Bool). if b then 0 else suc (rank rules q)) (lists_not r q other)
+
+pub rank_within : (rules : List DRule) (q : Key) → rank rules q ≤ length rules
+rank_within [] q = omega arith
+rank_within (r ∷ rules) q = by (lists_key q r) (rank_within rules q)
+  where
+    by : (b : Bool) → rank rules q ≤ length rules → (if b then 0 else suc (rank rules q)) ≤ length (r ∷ rules)
+    by true le = omega arith
+    by false le = omega (arith, le)
+
+-- a rule's key ranks by its place
+pub rank_at : (rules : List DRule) (i : ℕ) (r : DRule) (q : Key) → AreDistinct rules → slice_get rules i ≡ Some r → r.key ≡ Some q → rank rules q ≡ i
+rank_at [] i r q distinct at e = absurd (none-some r at)
+rank_at (s ∷ rules) zero r q distinct at e = first_rank s rules q (ap (λ (x : DRule). x.key) (same_Some s r at) ∙ e)
+rank_at (s ∷ rules) (suc i) r q distinct at e =
+    later_rank s rules q (λ f. in_all (λ (x : DRule). (key : Key) → s.key ≡ Some key → x.key ≢ Some key) r rules distinct.0 (in_at rules i r at) q f e)
+    ∙ ap suc (rank_at rules i r q distinct.1 at e)
+
+-- a key of no rule ranks behind them all
+pub rank_of_none : (rules : List DRule) (q : Key) → ((r : DRule) → IsIn r rules → r.key ≢ Some q) → rank rules q ≡ length rules
+rank_of_none [] q none = refl
+rank_of_none (r ∷ rules) q none = later_rank r rules q (none r (inl refl)) ∙ ap suc (rank_of_none rules q (λ s i. none s (inr i)))
+
+-- a key that ranks before the end has a rule
+pub ranked : (rules : List DRule) (q : Key) → rank rules q < length rules → (r : DRule) × IsIn r rules × (r.key ≡ Some q)
+ranked [] q lt = absurd (omega (arith, lt))
+ranked (r ∷ rules) q lt = by (lists_key q r) refl lt (λ h. ranked rules q h)
+  where
+    by : (b : Bool) → lists_key q r ≡ b → (if b then 0 else suc (rank rules q)) < length (r ∷ rules) → (rank rules q < length rules → (s : DRule) × IsIn s rules × (s.key ≡ Some q))
+        → (s : DRule) × IsIn s (r ∷ rules) × (s.key ≡ Some q)
+    by true e h ih = (r, inl refl, key_of_test q r.key e)
+    by false e h ih = let s = ih (omega (arith, h)) in (s.0, inr s.1, s.2)
+
+-- of two keys in order the later ranks no lower
+pub order_at : (rules : List DRule) (keys : List Key) (i j : ℕ) (x y : Key) → InOrder rules keys → slice_get keys i ≡ Some x → slice_get keys j ≡ Some y → i < j → rank rules x ≤ rank rules y
+order_at rules [] i j x y o at at' lt = absurd (none-some x at)
+order_at rules (k ∷ keys) i zero x y o at at' lt = absurd (omega (arith, lt))
+order_at rules (k ∷ keys) zero (suc j) x y o at at' lt =
+    subst (λ (q : Key). rank rules q ≤ rank rules y) (same_Some k x at) (in_all (λ (q : Key). rank rules k ≤ rank rules q) y keys o.0 (in_at keys j y at'))
+order_at rules (k ∷ keys) (suc i) (suc j) x y o at at' lt = order_at rules keys i j x y o.1 at at' (omega (arith, lt))
+
+-- without rules any order will do
+any_order : (keys : List Key) → InOrder [] keys
+any_order [] = tt
+any_order (k ∷ keys) = (all_in (λ (q : Key). rank [] k ≤ rank [] q) keys (λ q i. omega arith), any_order keys)
+
+-- keys in order by some rules are so by others that rank them alike
+order_as : (rules others : List DRule) (keys : List Key) → ((x y : Key) → IsIn x keys → IsIn y keys → rank rules x ≤ rank rules y → rank others x ≤ rank others y) → InOrder rules keys
+    → InOrder others keys
+order_as rules others [] alike o = tt
+order_as rules others (k ∷ keys) alike o = (
+  all_in (λ (q : Key). rank others k ≤ rank others q) keys (λ q i. alike k q (inl refl) (inr i) (in_all (λ (q : Key). rank rules k ≤ rank rules q) q keys o.0 i)),
+  order_as rules others keys (λ x y i j. alike x y (inr i) (inr j)) o.1,
+)
+
+-- keys behind a run
+order_behind : (rules : List DRule) (run after : List Key) → InOrder rules (run ++ after) → InOrder rules after
+order_behind rules [] after o = o
+order_behind rules (k ∷ run) after o = order_behind rules run after o.1
+
+-- a run of the first rule's key may stand in front
+order_run : (r : DRule) (rules : List DRule) (run after : List Key) → AllByRecursion (λ key. r.key ≡ Some key) run → InOrder (r ∷ rules) after → InOrder (r ∷ rules) (run ++ after)
+order_run r rules [] after all o = o
+order_run r rules (k ∷ run) after all o =
+    let zero_rank = first_rank r rules k all.0 in
+    (all_in (λ (q : Key). rank (r ∷ rules) k ≤ rank (r ∷ rules) q) (run ++ after) (λ q i. omega (arith, zero_rank)), order_run r rules run after all.1 o)
+
+-- ---- keys that are placed come as often as the rules say, and in order
+
+-- a key of the runs has a rule
+pub runs_keyed : (rules : List DRule) (keys rest : List Key) (q : Key) → Runs rules keys rest → IsIn q keys → ((r : DRule) × IsIn r rules × (r.key ≡ Some q)) ⊎ IsIn q rest
+runs_keyed rules keys rest q runs i = by (in_append m.0 rest q (subst (λ (ks : List Key). IsIn q ks) m.1 i))
+  where
+    m : (middle : List Key) × (keys ≡ middle ++ rest) × AllByRecursion (IsRunKey rules []) middle
+    m = all_middle rules keys rest runs
+
+    by : IsIn q m.0 ⊎ IsIn q rest → ((r : DRule) × IsIn r rules × (r.key ≡ Some q)) ⊎ IsIn q rest
+    by (inl h) = let k = in_all (IsRunKey rules []) q m.0 m.2 h in inl (k.rule, k.is_rule, k.is_key)
+    by (inr h) = inr h
+
+runs_order : (rules : List DRule) (keys rest : List Key) → AreDistinct rules → Runs rules keys rest → AreFree rules rest → InOrder rules keys
+runs_order [] keys rest distinct runs free = any_order keys
+runs_order (r ∷ rules) keys rest distinct (run, after, parts, all, bounds, more) free =
+    subst (InOrder (r ∷ rules)) (sym parts) (order_run r rules run after all (order_as rules (r ∷ rules) after
+    (λ x y i j le. omega (arith, le, later_rank r rules x (λ e. other x i e), later_rank r rules y (λ e. other y j e)))
+    (runs_order rules after rest distinct.1 more (λ q s i j. free q s i (inr j)))))
+  where
+    other : (q : Key) → IsIn q after → r.key ≡ Some q → ⊥
+    other q i e = by (runs_keyed rules after rest q more i)
+      where
+        by : ((s : DRule) × IsIn s rules × (s.key ≡ Some q)) ⊎ IsIn q rest → ⊥
+        by (inl s) = in_all (λ (t : DRule). (key : Key) → r.key ≡ Some key → t.key ≢ Some key) s.0 rules distinct.0 s.1 q e s.2
+        by (inr h) = free q r h (inl refl) e
+
+-- the runs of rules that are among these have no stranger
+runs_listed : (rules : List DRule) (keys rest : List Key) → Runs (fixed_rules rules) keys rest → strangers rules keys ≡ strangers rules rest
+runs_listed rules keys rest runs =
+    let m = all_middle (fixed_rules rules) keys rest runs in
+    let here = ap (strangers rules) m.1 in
+    let both = count_append (λ (q : Key). not (is_listed rules q)) m.0 rest in
+    let none = count_none (λ (q : Key). not (is_listed rules q)) m.0 (λ q i.
+    let k = in_all (IsRunKey (fixed_rules rules) []) q m.0 m.2 i in
+    ap not (is_listed_by rules q k.rule (fixed_part rules k.rule k.is_rule).0 k.is_key)) in
+    omega (arith, here, both, none)
+
+-- nor the key of a loose rule
+runs_loose : (rules : List DRule) (keys rest : List Key) (r : DRule) (k : Key) → AreSound rules → Runs (fixed_rules rules) keys rest → IsIn r rules → is_fixed r ≡ false → r.key ≡ Some k
+    → times k keys ≡ times k rest
+runs_loose rules keys rest r k sound runs i f e = runs_none (fixed_rules rules) keys rest k runs (all_in (λ (t : DRule). t.key ≢ Some k) (fixed_rules rules) (λ t j g.
+    let p = fixed_part rules t j in
+    fixed_or_loose rules t r sound p.0 i (g ∙ sym e) p.1 f))
+
+module _ (rules : List DRule) (sound : AreSound rules) (keys : List Key) (placed : Placed rules keys) where
+  -- behind the runs no key is that of a fixed rule
+  rest_free : AreFree (fixed_rules rules) placed.rest
+  rest_free q r i j e = by (in_all (MayBeLoose rules) q placed.rest placed.loose i)
+    where
+      f : IsIn r rules × (is_fixed r ≡ true)
+      f = fixed_part rules r j
+
+      by : MayBeLoose rules q → ⊥
+      by (inl h) =
+          let l = listed (loose_rules rules) q h in
+          let p = loose_part rules l.0 l.1 in
+          fixed_or_loose rules r l.0 sound f.0 p.0 (e ∙ sym l.2) f.1 p.1
+      by (inr h) = not_both (is_listed rules q) (is_listed_by rules q r f.0 e) h.0
+
+  fixed_count : (r : DRule) (k : Key) → IsIn r rules → is_fixed r ≡ true → r.key ≡ Some k → InBounds r (times k keys)
+  fixed_count r k i f e =
+      let j = into_filter is_fixed rules r i f in
+      let n = runs_some (fixed_rules rules) keys placed.rest k r placed.runs (fixed_distinct rules sound) j e in
+      let none = none_of k placed.rest (λ q h same. rest_free q r h j (e ∙ ap (λ (x : Key). Some x) (sym same))) in
+      let all : n.0 ≡ times k keys = omega (arith, n.1, none) in
+      subst (InBounds r) all n.2
+
+  loose_count : (r : DRule) (k : Key) → IsIn r rules → is_fixed r ≡ false → r.key ≡ Some k → InBounds r (times k keys)
+  loose_count r k i f e =
+      let bounds = in_all (λ (s : DRule). InBounds s (counted rules s placed.rest)) r (loose_rules rules) placed.counts (into_loose rules r i f) in
+      subst (InBounds r) (counted_key rules r placed.rest k e ∙ sym (runs_loose rules keys placed.rest r k sound placed.runs i f e)) bounds
+
+  key_count : (k : Key) (r : DRule) → HasRule rules k r → InBounds r (times k keys)
+  key_count k r h = by (is_fixed r) refl
+    where
+      by : (b : Bool) → is_fixed r ≡ b → InBounds r (times k keys)
+      by true f = fixed_count r k (in_contains rules r h.0) f h.1
+      by false f = loose_count r k (in_contains rules r h.0) f h.1
+
+  wild_allowed : (q : Key) → Contains keys q → is_listed rules q ≡ false → IsTrue (has_wildcard rules)
+  wild_allowed q c none = by (runs_keyed (fixed_rules rules) keys placed.rest q placed.runs (in_contains keys q c))
+    where
+      loose : MayBeLoose rules q → IsTrue (has_wildcard rules)
+      loose (inl h) =
+          let l = listed (loose_rules rules) q h in
+          absurd (not_both (is_listed rules q) (is_listed_by rules q l.0 (loose_part rules l.0 l.1).0 l.2) none)
+      loose (inr h) = h.1
+
+      by : ((r : DRule) × IsIn r (fixed_rules rules) × (r.key ≡ Some q)) ⊎ IsIn q placed.rest → IsTrue (has_wildcard rules)
+      by (inl s) = absurd (not_both (is_listed rules q) (is_listed_by rules q s.0 (fixed_part rules s.0 s.1).0 s.2) none)
+      by (inr i) = loose (in_all (MayBeLoose rules) q placed.rest placed.loose i)
+
+  wild_count : (w : DRule) → HasWildcard rules w → InBounds w (strangers rules keys)
+  wild_count w h =
+      let i = in_contains rules w h.0 in
+      let bounds = in_all (λ (s : DRule). InBounds s (counted rules s placed.rest)) w (loose_rules rules) placed.counts (into_loose rules w i (wild_loose rules w sound i h.1)) in
+      subst (InBounds w) (counted_wild rules w placed.rest h.1 ∙ sym (runs_listed rules keys placed.rest placed.runs)) bounds
+
+  in_place : AreInPlace rules keys
+  in_place = record {
+    counts = key_count;
+    allowed = wild_allowed;
+    others = wild_count;
+    order = runs_order (fixed_rules rules) keys placed.rest (fixed_distinct rules sound) placed.runs rest_free;
+  }
+
+pub placed-in_place : (rules : List DRule) (keys : List Key) → AreSound rules → Placed rules keys → AreInPlace rules keys
+placed-in_place rules keys sound placed = in_place rules sound keys placed
+
+-- the later of two keys that are placed ranks no lower
+pub placed_order : (rules : List DRule) (keys : List Key) (i j : ℕ) (x y : Key) → AreSound rules → Placed rules keys → slice_get keys i ≡ Some x → slice_get keys j ≡ Some y → i < j
+    → rank (fixed_rules rules) x ≤ rank (fixed_rules rules) y
+placed_order rules keys i j x y sound placed at at' lt = order_at (fixed_rules rules) keys i j x y (in_place rules sound keys placed).order at at' lt
+
+-- ---- keys that come as often as the rules say, and in order, are placed
+
+-- keys in order begin with all of the first rule's key
+record FirstRun (r : DRule) (keys : List Key) : Type 0 where
+  run : List Key
+  after : List Key
+  parts : keys ≡ run ++ after
+  all : AllByRecursion (λ key. r.key ≡ Some key) run
+  no_more : (q : Key) → IsIn q after → r.key ≢ Some q
+
+-- behind a key of another rule the first rule's key does not come
+none_behind : (r : DRule) (rules : List DRule) (k : Key) (keys : List Key) → InOrder (r ∷ rules) (k ∷ keys) → r.key ≢ Some k → (q : Key) → IsIn q (k ∷ keys) → r.key ≢ Some q
+none_behind r rules k keys o other q (inl same) e = other (e ∙ ap (λ (x : Key). Some x) same)
+none_behind r rules k keys o other q (inr i) e =
+    let le : rank (r ∷ rules) k ≤ rank (r ∷ rules) q = in_all (λ (x : Key). rank (r ∷ rules) k ≤ rank (r ∷ rules) x) q keys o.0 i in
+    let zero_rank = first_rank r rules q e in
+    let some_rank = later_rank r rules k other in
+    omega (arith, le, zero_rank, some_rank)
+
+first_run : (r : DRule) (rules : List DRule) (keys : List Key) → InOrder (r ∷ rules) keys → FirstRun r keys
+first_run r rules [] o = record { run = []; after = []; parts = refl; all = tt; no_more = λ q i e. absurd i }
+first_run r rules (k ∷ keys) o = by (lists_key k r) refl (first_run r rules keys o.1)
+  where
+    by : (b : Bool) → lists_key k r ≡ b → FirstRun r keys → FirstRun r (k ∷ keys)
+    by true e t = record { run = k ∷ t.run; after = t.after; parts = ap (λ (ks : List Key). k ∷ ks) t.parts; all = (key_of_test k r.key e, t.all); no_more = t.no_more }
+    by false e t = record {
+      run = [];
+      after = k ∷ keys;
+      parts = refl;
+      all = tt;
+      no_more = none_behind r rules k keys o (λ same. not_both (lists_key k r) (lists r k same) e);
+    }
+
+-- the first rule's key comes as often as its run is long
+times_run : (r : DRule) (keys : List Key) (t : FirstRun r keys) (k : Key) → r.key ≡ Some k → times k keys ≡ length t.run
+times_run r keys t k e =
+    let here = ap (times k) t.parts in
+    let both = count_append (λ (q : Key). same_key q k) t.run t.after in
+    let ones = count_all (λ (q : Key). same_key q k) t.run (all_map (λ (q : Key). r.key ≡ Some q) (λ (q : Key). same_key q k ≡ true)
+    (λ q f. ap (λ (x : Key). same_key x k) (same_Some q k (sym f ∙ e)) ∙ same_key-refl k) t.run t.all) in
+    let zeros = none_of k t.after (λ q i same. t.no_more q i (e ∙ ap (λ (x : Key). Some x) (sym same))) in
+    omega (arith, here, both, ones, zeros)
+
+-- and another key as often as it does behind the run
+times_after : (r : DRule) (keys : List Key) (t : FirstRun r keys) (k : Key) → r.key ≢ Some k → times k keys ≡ times k t.after
+times_after r keys t k other =
+    let here = ap (times k) t.parts in
+    let both = count_append (λ (q : Key). same_key q k) t.run t.after in
+    let zeros = none_of k t.run (λ q i same. other (in_all (λ (key : Key). r.key ≡ Some key) q t.run t.all i ∙ ap (λ (x : Key). Some x) same)) in
+    omega (arith, here, both, zeros)
+
+record Behind (rules : List DRule) (keys : List Key) : Type 0 where
+  rest : List Key
+  runs : Runs rules keys rest
+  free : AreFree rules rest
+
+order_after : (r : DRule) (rules : List DRule) (keys : List Key) (t : FirstRun r keys) → InOrder (r ∷ rules) keys → InOrder rules t.after
+order_after r rules keys t o =
+    order_as (r ∷ rules) rules t.after (λ x y i j le. omega (arith, le, later_rank r rules x (t.no_more x i), later_rank r rules y (t.no_more y j)))
+    (order_behind (r ∷ rules) t.run t.after (subst (InOrder (r ∷ rules)) t.parts o))
+
+some_of : (o : Option Key) → IsSome o → (k : Key) × (o ≡ Some k)
+some_of None h = absurd (let e : false ≡ true = h in cc)
+some_of (Some k) h = (k, refl)
+
+free_behind : (r : DRule) (rules : List DRule) (keys : List Key) (t : FirstRun r keys) (b : Behind rules t.after) → AreFree (r ∷ rules) b.rest
+free_behind r rules keys t b q s i (inr j) e = b.free q s i j e
+free_behind r rules keys t b q s i (inl same) e =
+    let m = all_middle rules t.after b.rest b.runs in
+    t.no_more q (subst (λ (ks : List Key). IsIn q ks) (sym m.1) (in_right m.0 b.rest q i)) (ap (λ (x : DRule). x.key) (sym same) ∙ e)
+
+-- each of these rules' keys comes as often as the rule says
+abbrev AreAsOften : List DRule → List Key → Type 0
+AreAsOften rules keys = (k : Key) (r : DRule) → IsIn r rules → r.key ≡ Some k → InBounds r (times k keys)
+
+often_after : (r : DRule) (rules : List DRule) (keys : List Key) (t : FirstRun r keys) → AreDistinct (r ∷ rules) → AreAsOften (r ∷ rules) keys → AreAsOften rules t.after
+often_after r rules keys t distinct counts k s i e =
+    subst (InBounds s) (times_after r keys t k (λ f. in_all (λ (x : DRule). (key : Key) → r.key ≡ Some key → x.key ≢ Some key) s rules distinct.0 i k f e)) (counts k s (inr i) e)
+
+order_runs : (rules : List DRule) (keys : List Key) → AreDistinct rules → AllByRecursion (λ r. IsSome r.key) rules → AreAsOften rules keys → InOrder rules keys → Behind rules keys
+order_runs [] keys distinct keyed counts o = record { rest = keys; runs = refl; free = λ q r i j e. absurd j }
+order_runs (r ∷ rules) keys distinct keyed counts o =
+    let t = first_run r rules keys o in
+    let own = some_of r.key keyed.0 in
+    let bounds : InBounds r (length t.run) = subst (InBounds r) (times_run r keys t own.0 own.1) (counts own.0 r (inl refl) own.1) in
+    let b = order_runs rules t.after distinct.1 keyed.1 (often_after r rules keys t distinct counts) (order_after r rules keys t o) in
+    record { rest = b.rest; runs = (t.run, t.after, t.parts, t.all, bounds, b.runs); free = free_behind r rules keys t b }
+
+module _ (rules : List DRule) (sound : AreSound rules) (keys : List Key) (h : AreInPlace rules keys) where
+  behind : Behind (fixed_rules rules) keys
+  behind = order_runs (fixed_rules rules) keys (fixed_distinct rules sound)
+      (all_in (λ (r : DRule). IsSome r.key) (fixed_rules rules) (λ r i. let p = fixed_part rules r i in fixed_key rules r sound p.0 p.1))
+      (λ k r i e. h.counts k r (contains_in rules r (fixed_part rules r i).0, e))
+      h.order
+
+  may_be : (q : Key) → IsIn q behind.rest → MayBeLoose rules q
+  may_be q i = by (is_listed rules q) refl
+    where
+      in_keys : IsIn q keys
+      in_keys = let m = all_middle (fixed_rules rules) keys behind.rest behind.runs in subst (λ (ks : List Key). IsIn q ks) (sym m.1) (in_right m.0 behind.rest q i)
+
+      by_rule : (r : DRule) → IsIn r rules → r.key ≡ Some q → (f : Bool) → is_fixed r ≡ f → MayBeLoose rules q
+      by_rule r j e true f = absurd (behind.free q r i (into_filter is_fixed rules r j f) e)
+      by_rule r j e false f = inl (is_listed_by (loose_rules rules) q r (into_loose rules r j f) e)
+
+      by : (b : Bool) → is_listed rules q ≡ b → MayBeLoose rules q
+      by true e = let r = listed rules q e in by_rule r.0 r.1 r.2 (is_fixed r.0) refl
+      by false e = inr (e, h.allowed q (contains_in keys q in_keys) e)
+
+  loose_bounds : (r : DRule) (o : Option Key) → IsIn r rules → is_fixed r ≡ false → r.key ≡ o → InBounds r (counted rules r behind.rest)
+  loose_bounds r (Some k) i f e =
+      subst (InBounds r) (runs_loose rules keys behind.rest r k sound behind.runs i f e ∙ sym (counted_key rules r behind.rest k e)) (h.counts k r (contains_in rules r i, e))
+  loose_bounds r None i f e =
+      subst (InBounds r) (runs_listed rules keys behind.rest behind.runs ∙ sym (counted_wild rules r behind.rest e)) (h.others r (contains_in rules r i, e))
+
+  are_placed : Placed rules keys
+  are_placed = record {
+    rest = behind.rest;
+    runs = behind.runs;
+    loose = all_in (MayBeLoose rules) behind.rest may_be;
+    counts = all_in (λ (r : DRule). InBounds r (counted rules r behind.rest)) (loose_rules rules) (λ r i. let p = loose_part rules r i in loose_bounds r r.key p.0 p.1 refl);
+  }
+
+pub in_place-placed : (rules : List DRule) (keys : List Key) → AreSound rules → AreInPlace rules keys → Placed rules keys
+in_place-placed rules keys sound h = are_placed rules sound keys h
+
+-- ---- what ranks are
+
+pub rank_fixed : (rules : List DRule) (i : ℕ) (r : DRule) (k : Key) → AreSound rules → slice_get (fixed_rules rules) i ≡ Some r → r.key ≡ Some k → rank (fixed_rules rules) k ≡ i
+rank_fixed rules i r k sound at e = rank_at (fixed_rules rules) i r k (fixed_distinct rules sound) at e
+
+pub rank_other : (rules : List DRule) (k : Key) → ((r : DRule) → HasRule (fixed_rules rules) k r → ⊥) → rank (fixed_rules rules) k ≡ length (fixed_rules rules)
+rank_other rules k none = rank_of_none (fixed_rules rules) k (λ r i e. none r (contains_in (fixed_rules rules) r i, e))
+
+-- where the fixed rules stand first, a fixed rule's key ranks by the rule's place among all
+pub rank_rule : (rules : List DRule) (i : ℕ) (r : DRule) (k : Key) → AreRules rules → slice_get rules i ≡ Some r → is_fixed r ≡ true → r.key ≡ Some k → rank (fixed_rules rules) k ≡ i
+rank_rule rules i r k are at f e =
+    let p = at_in (fixed_rules rules) r (into_filter is_fixed rules r (in_at rules i r at) f) in
+    let same : p.place ≡ i = are.distinct p.place i r r (fixed_place rules p.place r are p.at).0 at refl in
+    rank_fixed rules p.place r k (rules_sound rules are) p.at e ∙ same

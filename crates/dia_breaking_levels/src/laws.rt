@@ -1,0 +1,36 @@
+//! What holds of the levels of definitions: by it a level is looked at as counts of keys and one order.
+ghost use Rattle.dia_breaking_levels.specs.Laws.{DefinitionsAreSound, PlacedIsInPlace, PlacedOrBreach};
+ghost use Rattle.dia_breaking_levels.specs.Laws.{BreachIsUnplaced, PlanIsPlaced, PlanIsLeast, OnceIsLeast};
+ghost use Rattle.dia_breaking_levels.specs.Laws.{LinesAreOne};
+
+/// The rules of a dictionary's definitions are as the other laws want them.
+pub fn definitions_are_sound()
+    ensures { DefinitionsAreSound }
+{}
+
+/// AVPs stand as rules say just where they come as often as these say, and in the order of the fixed ones.
+pub fn placed_is_in_place()
+    ensures { PlacedIsInPlace }
+{}
+
+/// AVPs that don't stand as rules say break them in one of six ways.
+pub fn breaches_are_all()
+    ensures either { PlacedOrBreach }
+    ensures never_both { BreachIsUnplaced }
+{}
+
+/// The least counts of rules, with a shortest AVP for the wildcard, are the least level.
+pub fn plan_is_least()
+    ensures placed { PlanIsPlaced }
+    ensures least { PlanIsLeast }
+{}
+
+/// The least level in which a key stands once or more is computed from the rules, and the cheapest AVP by the wildcard.
+pub fn once_is_least()
+    ensures { OnceIsLeast }
+{}
+
+/// The lines of two definitions are one list: their order, their lengths, and which key each is told with.
+pub fn lines_are_one()
+    ensures { LinesAreOne }
+{}

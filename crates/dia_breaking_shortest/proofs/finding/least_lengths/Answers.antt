@@ -1,0 +1,25 @@
+use Rattle.std.proofs.Common.{subst, ◌∙◌}
+use Rattle.dia_policy.specs.declared.Sends.{Sends}
+use Rattle.dia_breaking_shortest.specs.Exact.{AreExact}
+use Rattle.dia_breaking_shortest.specs.Floors.{AreFloors}
+use Rattle.dia_breaking_shortest.specs.Passes.{length_in}
+use Rattle.dia_breaking_shortest.proofs.ExactLengths.{are_exact}
+use Rattle.dia_breaking_shortest.proofs.FloorsOfLengths.{are_floors}
+use Rattle.dia_breaking_shortest.proofs.finding.least_lengths.Goals as goal
+
+pub returns-clause-floors : goal.returns-clause-floors
+returns-clause-floors g c =
+    let d = g.B.Book.meaning c.args.book.now in
+    let least = c.in_ok-least-3.least in
+    subst (λ (s : Sends). AreFloors d s (length_in d least)) (c.in_ok-least-3.ensures.sends ∙ c.in_ok-least-2.ensures.sends ∙ c.in_ok-least.ensures.sends)
+    (are_floors d least (g.met.B.Book.sound c.args.book.now) c.in_ok-least-3.ensures.kept c.in_ok-least-3.ensures.settled)
+
+pub returns-clause-exact : goal.returns-clause-exact
+returns-clause-exact g c =
+    let d = g.B.Book.meaning c.args.book.now in
+    let least = c.in_ok-least-3.least in
+    subst (λ (s : Sends). AreExact d s least.lengths.items) (c.in_ok-least-3.ensures.sends ∙ c.in_ok-least-2.ensures.sends ∙ c.in_ok-least.ensures.sends)
+    (are_exact d least c.in_ok-least-3.ensures.kept c.in_ok-least-3.ensures.settled)
+
+pub returns-clause-spelled : goal.returns-clause-spelled
+returns-clause-spelled g c = c.in_ok-least.ensures.spelled

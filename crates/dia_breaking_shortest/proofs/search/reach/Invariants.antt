@@ -1,0 +1,6 @@
+use Rattle.std.proofs.Common.{◌≡◌}
+use Rattle.dia_breaking_shortest.specs.Passes.{AreKept, AreNoShorter, length_in}
+use Rattle.dia_breaking_shortest.proofs.search.reach.Given as goal
+
+abbrev pub invariant-loop-index : goal.invariant-loop-index
+invariant-loop-index g l = AreKept (g.B.Book.meaning l.book) l.least × (l.least.sends ≡ l.fn.least.sends) × AreNoShorter (length_in (g.B.Book.meaning l.book) l.least) l.order

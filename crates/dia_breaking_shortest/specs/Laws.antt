@@ -1,0 +1,48 @@
+-- What holds of all that a side sends.
+use Rattle.std.specs.Prelude.{◌≡◌, ℕ, ◌+◌, ◌<◌, ◌≤◌, List, length, map, Some, None}
+use Rattle.std.specs.List.{AllByRecursion}
+use Rattle.dia_wire.specs.declared.Key.{Key}
+use Rattle.dia_wire.specs.Lengths.{header_length, three_bytes}
+use Rattle.dia_wire.specs.Wire.{PlainAvp, key_of, padded_length}
+use Rattle.dia_data.specs.Leaf.{IsLeaf}
+use Rattle.dia_book.specs.Dictionary.{Dictionary, DictEntry, PlainDefinition, IsDictionary}
+use Rattle.dia_check.specs.Valid.{known}
+use Rattle.dia_policy.specs.declared.Sends.{Sends}
+use Rattle.dia_policy.specs.declared.Sends.TheVariants.{Any}
+use Rattle.dia_breaking_sites.specs.Sent.{IsSent, IsSentAvp, StandAsSent, AreBytes}
+use Rattle.dia_breaking_levels.specs.LevelTests.{too_long}
+use Rattle.dia_breaking_shortest.specs.Exact.{AreExact, AreSpellable}
+use Rattle.dia_breaking_shortest.specs.Floors.{AreFloors, IsAttained, IsSpellable, padded, shortest_head, total}
+use Rattle.dia_breaking_shortest.specs.Lengths.{length_of}
+
+-- no AVP that is sent is shorter than its key's floor
+abbrev pub NoAvpIsShorter : Type 0
+NoAvpIsShorter = (d : Dictionary) (sends : Sends) (floor : Key → ℕ) → AreFloors d sends floor → (v : PlainAvp) → AreBytes v.bytes → IsSentAvp d sends v
+    → floor (key_of v) ≤ padded_length v
+
+-- no message that is sent is shorter than its header and the floors of its keys
+abbrev pub NoMessageIsShorter : Type 0
+NoMessageIsShorter = (d : Dictionary) (sends : Sends) (floor : Key → ℕ) → AreFloors d sends floor → (bytes : List ℕ) (c : ℕ) (sent : IsSent d sends bytes c)
+    → header_length + total floor (map key_of sent.avps) ≤ length bytes
+
+-- a leaf is attained by any data of its format, an AVP that is unknown by none, and a group by any AVPs that are attained and stand as its rules say
+abbrev pub LeafIsAttained : Type 0
+LeafIsAttained = (d : Dictionary) (sends : Sends) (key : Key) (entry : DictEntry) (bytes : List ℕ) → IsSpellable key → known d key ≡ Some entry → entry.group ≡ None → IsLeaf entry.format bytes
+    → shortest_head key + length bytes < three_bytes → IsAttained d sends key (padded (shortest_head key + length bytes))
+
+abbrev pub UnknownIsAttained : Type 0
+UnknownIsAttained = (d : Dictionary) (key : Key) → IsSpellable key → known d key ≡ None → IsAttained d Any key (padded (shortest_head key))
+
+abbrev pub GroupIsAttained : Type 0
+GroupIsAttained = (d : Dictionary) (sends : Sends) (cost : Key → ℕ) (key : Key) (entry : DictEntry) (group : PlainDefinition) (keys : List Key) → IsSpellable key → known d key ≡ Some entry
+    → entry.group ≡ Some group → StandAsSent sends group.rules keys → AllByRecursion (λ k. IsAttained d sends k (cost k)) keys
+    → shortest_head key + total cost keys < three_bytes → IsAttained d sends key (padded (shortest_head key + total cost keys))
+
+-- the equations of the least lengths have one solution
+abbrev pub LengthsAreOne : Type 0
+LengthsAreOne = (d : Dictionary) (sends : Sends) (xs ys : List ℕ) → AreExact d sends xs → AreExact d sends ys → xs ≡ ys
+
+-- and each length of it is attained, but for the one that stands for none
+abbrev pub LengthIsAttained : Type 0
+LengthIsAttained = (d : Dictionary) (sends : Sends) (lengths : List ℕ) → IsDictionary d → AreSpellable d → AreExact d sends lengths
+    → (key : Key) → IsSpellable key → length_of d sends lengths key < too_long → IsAttained d sends key (length_of d sends lengths key)

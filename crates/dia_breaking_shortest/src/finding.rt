@@ -1,0 +1,159 @@
+//! The least lengths of the AVPs that a side sends, as a least fixed point.
+ghost use Rattle.std.specs.Prelude.{◌≡◌, ◌<◌, ℕ, nat_lt, false, length, IfSome, IfOk};
+ghost use Rattle.std.specs.Prelude.{slice_get, slice_set, if◌then◌else◌};
+ghost use Rattle.dia_breaking_shortest.specs.Lengths.{IsLeafLength, entry_length};
+ghost use Rattle.dia_breaking_shortest.specs.Exact.{AreExact, AreSpellable};
+ghost use Rattle.dia_breaking_shortest.specs.Floors.{AreFloors, IsSpellable};
+ghost use Rattle.dia_breaking_shortest.specs.Passes.{AreKept, AreNoShorter, AreSettled, IsLess, IsSettled};
+ghost use Rattle.dia_breaking_shortest.specs.Passes.{IsWhole};
+ghost use Rattle.dia_breaking_shortest.specs.Passes.{length_in};
+
+use crate::lengths::{padded, shortest_head};
+use crate::lookup::Least;
+use crate::order::{Ranked, group_of};
+use crate::search::search;
+use dia_book::{Book, Entry, Key};
+use dia_breaking_data::shortest;
+use dia_breaking_levels::TOO_LONG;
+use dia_policy::Sends;
+use std::alloc::{AllocError, Global};
+
+/// More keys of one vendor than a dictionary knows.
+const KEYS: u32 = 16_385;
+
+/// How long the shortest AVPs are that a side sends by this dictionary.
+///
+/// The groups are gone through as Dijkstra's search settles them, the shortest first. Then passes over all groups look for
+/// shorter ones until one finds none, which is the first.
+pub fn least_lengths<B: Book>(alloc: Global, book: &B, sends: Sends) -> Result<Least, AllocError>
+    ensures sends { IfOk result (λ least. least.sends ≡ sends) }
+    ensures floors { IfOk result (λ least. AreFloors (B.meaning book.now) sends
+        (length_in (B.meaning book.now) least)) }
+    ensures exact { IfOk result (λ least. AreExact (B.meaning book.now) sends
+        least.lengths.items) }
+    ensures spelled { IfOk result (λ least. AreSpellable (B.meaning book.now)) }
+{
+    let least = leaves(alloc, book, sends)?;
+    let least = search(alloc, book, least)?;
+    let least = settled(alloc, book, least)?;
+    Ok(least)
+}
+
+/// The lengths that no group's least level makes less.
+fn settled<B: Book>(alloc: Global, book: &B, least: Least) -> Result<Least, AllocError>
+    requires { AreKept (B.meaning book.now) least }
+    ensures sends { IfOk result (λ last. last.sends ≡ least.sends) }
+    ensures kept { IfOk result (AreKept (B.meaning book.now)) }
+    ensures settled { IfOk result (AreSettled (B.meaning book.now)) }
+{
+    let mut last = least;
+    loop {
+        let order = last.order(alloc, book)?;
+        if !lower_all(&mut last, book, &order) {
+            return Ok(last);
+        }
+    }
+}
+
+/// The lengths of leaves, where no group is known to be sent.
+fn leaves<B: Book>(alloc: Global, book: &B, sends: Sends) -> Result<Least, AllocError>
+    ensures kept { IfOk result (AreKept (B.meaning book.now)) }
+    ensures sends { IfOk result (λ least. least.sends ≡ sends) }
+    ensures spelled { IfOk result (λ least. AreSpellable (B.meaning book.now)) }
+{
+    let mut lengths = Vec::new(alloc);
+    let mut fillers = Vec::new(alloc);
+    for index in 0..book.entries() {
+        lengths.push(leaf_length(book, book.entry_at(index)))?;
+        fillers.push(None)?;
+    }
+    Ok(Least {
+        sends,
+        unknown: unknown_key(book),
+        lengths,
+        fillers,
+    })
+}
+
+fn leaf_length<B: Book>(book: &B, entry: Entry) -> u64
+    requires { entry < length (B.meaning book.now).entries }
+    ensures leaf { IfSome (slice_get (B.meaning book.now).entries entry) (λ e. IsLeafLength e result) }
+    ensures spelled { IfSome (slice_get (B.meaning book.now).entries entry) (λ e. IsSpellable e.key) }
+{
+    let key = book.entry_key(entry);
+    match shortest(book.format(entry)) {
+        Some(data) => padded(shortest_head(key), data.as_slice().len() as u64),
+        None => TOO_LONG,
+    }
+}
+
+/// The first key without vendor that the dictionary doesn't know.
+fn unknown_key<B: Book>(book: &B) -> Key
+    ensures { result.vendor ≡ 0 }
+{
+    for code in 0..KEYS {
+        let key = Key { code, vendor: 0 };
+        if book.avp(key).is_none() {
+            return key;
+        }
+    }
+    Key {
+        code: KEYS,
+        vendor: 0,
+    }
+}
+
+/// Makes the lengths of groups less by their least levels, and says whether some are.
+fn lower_all<B: Book>(least: &mut Least, book: &B, order: &[Ranked]) -> bool
+    requires whole { IsWhole (B.meaning book.now) least.old }
+    requires ranks { AreNoShorter (length_in (B.meaning book.now) least.old) order.now }
+    ensures less { IsLess (B.meaning book.now) least.old least.new result }
+    ensures settled { result ≡ false → (e : ℕ) → e < length (B.meaning book.now).entries
+        → IsSettled (B.meaning book.now) least.new order.now e }
+{
+    let mut changed = false;
+    for index in 0..book.entries() {
+        if lower(least, book, order, index) {
+            changed = true;
+        }
+    }
+    changed
+}
+
+/// Makes the length of an entry less, if it is a group whose least level takes less.
+pub(crate) fn lower<B: Book>(least: &mut Least, book: &B, order: &[Ranked], index: usize) -> bool
+    requires whole { IsWhole (B.meaning book.now) least.old }
+    requires within { index < length (B.meaning book.now).entries }
+    requires ranks { AreNoShorter (length_in (B.meaning book.now) least.old) order.now }
+    ensures less { IsLess (B.meaning book.now) least.old least.new result }
+    ensures settled { result ≡ false → IsSettled (B.meaning book.now) least.new order.now index }
+{
+    let entry = book.entry_at(index);
+    match group_of(book, entry) {
+        Some(def) => {
+            let filler = least.filler(book, def, order);
+            let length = least.group(book, filler, book.entry_key(entry), def);
+            improve(least, index, length, filler.map(|ranked| ranked.key))
+        }
+        None => false,
+    }
+}
+
+/// Takes the length and the filler for an entry, if the length is less than what it was.
+fn improve(least: &mut Least, index: usize, shorter: u64, filler: Option<Key>) -> bool
+    requires lengths { index < length least.old.lengths.items }
+    requires fillers { index < length least.old.fillers.items }
+    ensures sends { least.new.sends ≡ least.old.sends }
+    ensures unknown { least.new.unknown ≡ least.old.unknown }
+    ensures lengths { least.new.lengths.items ≡ (if result
+        then slice_set least.old.lengths.items index shorter else least.old.lengths.items) }
+    ensures fillers { length least.new.fillers.items ≡ length least.old.fillers.items }
+    ensures test { result ≡ nat_lt shorter (entry_length least.old.lengths.items index) }
+{
+    if shorter >= least.lengths[index] {
+        return false;
+    }
+    least.lengths[index] = shorter;
+    least.fillers[index] = filler;
+    true
+}

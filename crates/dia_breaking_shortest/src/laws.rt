@@ -1,0 +1,39 @@
+//! What holds of all that a side sends.
+ghost use Rattle.dia_breaking_shortest.specs.Laws.{GroupIsAttained, LeafIsAttained, LengthIsAttained};
+ghost use Rattle.dia_breaking_shortest.specs.Laws.{LengthsAreOne, NoAvpIsShorter, NoMessageIsShorter};
+ghost use Rattle.dia_breaking_shortest.specs.Laws.{UnknownIsAttained};
+
+/// No AVP that is sent is shorter than a floor of its key says, with its padding.
+pub fn no_avp_is_shorter()
+    ensures { NoAvpIsShorter }
+{}
+
+/// No message that is sent is shorter than its header and the floors of its AVPs' keys.
+pub fn no_message_is_shorter()
+    ensures { NoMessageIsShorter }
+{}
+
+/// Each data of a leaf's format makes an AVP that is sent, with a head that is as short as its key allows.
+pub fn leaf_is_attained()
+    ensures { LeafIsAttained }
+{}
+
+/// An AVP that the dictionary doesn't know is sent with no data, where any are sent.
+pub fn unknown_is_attained()
+    ensures { UnknownIsAttained }
+{}
+
+/// AVPs that are sent, and stand as the rules of a group say, make a group that is sent.
+pub fn group_is_attained()
+    ensures { GroupIsAttained }
+{}
+
+/// The lengths of shortest AVPs are one list: no other solves their equations.
+pub fn lengths_are_one()
+    ensures { LengthsAreOne }
+{}
+
+/// Some AVP of each key that is sent has the length that is found for it.
+pub fn length_is_attained()
+    ensures { LengthIsAttained }
+{}

@@ -1,0 +1,65 @@
+-- The levels that let AVPs in through their wildcards.
+use Rattle.std.proofs.Common.{◌≡◌, ℕ, ◌+◌, ◌≤◌, Bool, true, false, List, [], ◌∷◌, ◌++◌, Some, None, sym, ap, subst, ◌∙◌, arith, inl, inr}
+use Rattle.std.specs.Prelude.{not, slice_get, Contains, MatchBool}
+use Rattle.std.specs.List.Sorted.{IsPermutation}
+use Rattle.std.proofs.lemmas.List.Sorted.{Contains-permutation, IsPermutation-sym}
+use Rattle.std.proofs.lemmas.List.Elements.{Contains-append_left, Contains-push, Contains-push_cases}
+use Rattle.std.proofs.lemmas.Bool.{cases_lt}
+use Rattle.std.proofs.lemmas.Option.{none-some, same_Some}
+use Rattle.dia_breaking_ways.specs.declared.stages.Stage.{Stage as OwnStage}
+use Rattle.dia_breaking_ways.specs.declared.openings.Opening.{Opening}
+use Rattle.dia_breaking_ways.specs.Openings.{AreOpenings, opening_of, IsOpenTo, IsShutTo}
+
+-- ---- the openings of levels
+
+-- the next level has room
+pub openings_more : (room : ℕ) (stages : List OwnStage) (n : ℕ) (openings : List Opening) (own : OwnStage) (total : ℕ) → AreOpenings room stages n openings → slice_get stages n ≡ Some own
+    → own.way + own.exits.now.beside ≡ total → AreOpenings room stages (n + 1) (openings ++ record { length = total; level = n } ∷ [])
+openings_more room stages n openings own total h at is =
+    let x : Opening = record { length = total; level = n } in
+    let same : opening_of n own ≡ x = ap (λ (t : ℕ). let o : Opening = record { length = t; level = n } in o) is in
+    record {
+      all = λ level o below get fits. elim (cases_lt level n) [
+        | inl less ↦ Contains-append_left openings (x ∷ []) (opening_of level o) (h.all level o less get fits)
+        | inr more ↦
+            let here : n ≡ level = omega arith in
+            let same_own : own ≡ o = same_Some own o (sym at ∙ (ap (λ (k : ℕ). slice_get stages k) here ∙ get)) in
+            let e : x ≡ opening_of level o = sym same ∙ (ap (λ (k : ℕ). opening_of k own) here ∙ ap (λ (y : OwnStage). opening_of level y) same_own) in
+            subst (λ (y : Opening). Contains (openings ++ x ∷ []) y) e (Contains-push openings x)
+      ];
+      each = λ o c. elim (Contains-push_cases openings x o c) [
+        | inl old ↦ h.each o old
+        | inr new ↦ subst (λ (y : Opening). (own : OwnStage) × (slice_get stages y.level ≡ Some own) × (y ≡ opening_of y.level own)) new (own, at, sym same)
+      ];
+    }
+
+-- it has none
+pub openings_past : (room : ℕ) (stages : List OwnStage) (n : ℕ) (openings : List Opening) (own : OwnStage) → AreOpenings room stages n openings → slice_get stages n ≡ Some own
+    → ¬ (own.way + own.exits.now.beside ≤ room) → AreOpenings room stages (n + 1) openings
+openings_past room stages n openings own h at none = record {
+  all = λ level o below get fits. elim (cases_lt level n) [
+    | inl less ↦ h.all level o less get fits
+    | inr more ↦
+        let here : n ≡ level = omega arith in
+        let same_own : own ≡ o = same_Some own o (sym at ∙ (ap (λ (k : ℕ). slice_get stages k) here ∙ get)) in
+        absurd (none (subst (λ (y : OwnStage). y.way + y.exits.now.beside ≤ room) (sym same_own) fits))
+  ];
+  each = h.each;
+}
+
+pub openings_moved : (room : ℕ) (stages : List OwnStage) (n : ℕ) (xs ys : List Opening) → IsPermutation xs ys → AreOpenings room stages n xs → AreOpenings room stages n ys
+openings_moved room stages n xs ys moved h = record {
+  all = λ level own below get fits. Contains-permutation xs ys (opening_of level own) moved (h.all level own below get fits);
+  each = λ o c. h.each o (Contains-permutation ys xs o (IsPermutation-sym xs ys moved) c);
+}
+
+-- ---- open levels
+
+pub is_open_by : (stages : List OwnStage) (place level : ℕ) (own : OwnStage) (b : Bool) → slice_get stages level ≡ Some own
+    → MatchBool b (Contains own.places.items place) (¬ Contains own.places.items place)
+    → MatchBool (not b) (IsOpenTo stages place level) (IsShutTo stages place level)
+is_open_by stages place level own true get h = λ o e. subst (λ (y : OwnStage). Contains y.places.items place) (same_Some own o (sym get ∙ e)) h
+is_open_by stages place level own false get h = record { own = own; is_own = get; free = h }
+
+pub is_shut_past : (stages : List OwnStage) (place level : ℕ) → slice_get stages level ≡ None → IsShutTo stages place level
+is_shut_past stages place level none = λ o e. absurd (none-some o (sym none ∙ e))

@@ -1,0 +1,55 @@
+//! The shortest ways that are known so far.
+ghost use Rattle.std.specs.Prelude.{◌+◌, ◌≤◌, ◌↔◌, length, SomeIff, IsTrue};
+ghost use Rattle.dia_breaking_ways.specs.Offers.{IsEarlier, IsOffered, AreOffered};
+
+use crate::graph::Reach;
+
+/// The sum of two lengths, if it is within the room.
+pub(crate) fn within(room: u64, a: u64, b: u64) -> Option<u64>
+    ensures { SomeIff result (a + b ≤ room) (a + b) }
+{
+    if b <= room && a <= room - b {
+        Some(a + b)
+    } else {
+        None
+    }
+}
+
+/// Whether a way is shorter than the one that is known, or as long and in an earlier level.
+fn is_earlier(known: Option<Reach>, reach: Reach) -> bool
+    ensures { IsTrue result ↔ IsEarlier known reach }
+{
+    match known {
+        Some(other) => {
+            reach.length < other.length
+                || (reach.length == other.length && reach.level < other.level)
+        }
+        None => true,
+    }
+}
+
+/// Takes a way to an AVP, if there is none that is no later.
+pub(crate) fn offer(best: &mut Vec<Option<Reach>>, place: usize, reach: Reach)
+    ensures { IsOffered best.old.items best.new.items place reach }
+{
+    if place < best.len() && is_earlier(best[place], reach) {
+        best[place] = Some(reach);
+    }
+}
+
+/// Takes the ways to the AVPs that the rules of a level list.
+pub(crate) fn offer_listed(
+    best: &mut Vec<Option<Reach>>,
+    room: u64,
+    level: usize,
+    way: u64,
+    listed: &[(usize, u64)],
+)
+    ensures { AreOffered best.old.items best.new.items room level way listed.now (length listed.now) }
+{
+    for (place, inner) in listed {
+        if let Some(length) = within(room, way, *inner) {
+            offer(best, *place, Reach { level, length });
+        }
+    }
+}

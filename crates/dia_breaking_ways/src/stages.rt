@@ -1,0 +1,81 @@
+//! The levels of a message, by their numbers.
+ghost use Rattle.std.specs.Prelude.{IfOk, IfSome, MatchBool, Contains, length};
+ghost use Rattle.std.specs.List.Sorted.{IsNonDecreasing};
+ghost use Rattle.dia_breaking_ways.specs.Walks.{stage_of, plain_exits};
+ghost use Rattle.dia_breaking_ways.specs.Stages.{graph_in, HasPlaces, IsStage, AreStages};
+
+use crate::graph::{Exits, Step, Ways};
+use std::alloc::{AllocError, Global};
+
+/// A level in a message.
+#[derive(Drop)]
+pub(crate) struct Stage<'a> {
+    /// What the message takes at least around it.
+    pub way: u64,
+    pub exits: &'a Exits,
+    /// The places that a rule lists, in order.
+    pub places: Vec<usize>,
+}
+
+/// The places that rules list, in order.
+fn places_of(alloc: Global, listed: &[(usize, u64)]) -> Result<Vec<usize>, AllocError>
+    ensures { IfOk result (λ places. HasPlaces listed.now places.items) }
+{
+    let mut places = Vec::new(alloc);
+    for (place, _) in listed {
+        places.push(*place)?;
+    }
+    places.sort()?;
+    Ok(places)
+}
+
+impl<'a> Stage<'a> {
+    fn new(alloc: Global, way: u64, exits: &'a Exits) -> Result<Self, AllocError>
+        ensures { IfOk result (λ stage. IsStage (Some (record { way = way; exits = plain_exits exits.now })) stage) }
+    {
+        let places = places_of(alloc, &exits.listed)?;
+        Ok(Stage { way, exits, places })
+    }
+
+    /// Whether a rule lists the place.
+    pub fn lists(&self, place: usize) -> bool
+        requires { IsNonDecreasing self.now.places.items }
+        ensures { MatchBool result (Contains self.now.places.items place) (¬ Contains self.now.places.items place) }
+    {
+        self.places.binary_search(&place).is_ok()
+    }
+}
+
+/// The level of a step's group, at the end of its way.
+fn stage_of<'a>(alloc: Global, ways: Ways<'a>, step: Step) -> Result<Option<Stage<'a>>, AllocError>
+    ensures { IfOk result (λ found. IfSome found (λ stage.
+        IsStage (stage_of (graph_in ways.entry) step.place step.way) stage)) }
+{
+    let Some(node) = ways.nodes.get(step.place) else {
+        return Ok(None);
+    };
+    let Some(level) = &node.level else {
+        return Ok(None);
+    };
+    Ok(Some(Stage::new(alloc, step.way, &level.exits)?))
+}
+
+/// The levels of a message: the start, and those of the steps.
+pub(crate) fn stages<'a>(
+    alloc: Global,
+    ways: Ways<'a>,
+    steps: &[Step],
+) -> Result<Option<Vec<Stage<'a>>>, AllocError>
+    ensures { IfOk result (λ found. IfSome found (λ stages.
+        AreStages (graph_in ways.entry) steps.now (length steps.now) stages.items)) }
+{
+    let mut stages = Vec::new(alloc);
+    stages.push(Stage::new(alloc, 0, ways.start)?)?;
+    for step in steps {
+        let Some(stage) = stage_of(alloc, ways, *step)? else {
+            return Ok(None);
+        };
+        stages.push(stage)?;
+    }
+    Ok(Some(stages))
+}

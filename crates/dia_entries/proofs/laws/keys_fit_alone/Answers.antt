@@ -1,5 +1,0 @@
-use Rattle.dia_entries.proofs.Alone.{keys_alone}
-use Rattle.dia_entries.proofs.laws.keys_fit_alone.Goals as goal
-
-pub returns : goal.returns
-returns c = keys_alone

@@ -1,0 +1,151 @@
+//! What is told of a message whose listing ends at a place where no AVP begins.
+
+use crate::books::group_of;
+use crate::faults::avp::{hint_bad_length, push_bad_length};
+use crate::faults::avp_bytes::push_avp;
+use crate::faults::path::Step;
+use crate::faults::{Message, push_groups, push_spot};
+use crate::inputs::{bytes_of, read_book, text_of};
+use crate::sides::{Side, sites_of};
+use dia_book::Book;
+use dia_explain_places::InputNames;
+use dia_io::Inputs;
+use dia_wire::{HEADER_LENGTH, key, next_avp};
+use std::alloc::{AllocError, Global};
+
+/// A level in which a group stands: what follows the group in it, and where the level ends.
+#[derive(Clone, Copy)]
+struct Outer<'a> {
+    behind: &'a [u8],
+    end: usize,
+}
+
+/// A listing, as far as it goes: the groups around the level that is read, and the levels in which they stand; and of that level
+/// what is left, and where it ends.
+#[derive(Drop)]
+struct Listing<'a, B: Book> {
+    book: &'a B,
+    groups: Vec<Step>,
+    outer: Vec<Outer<'a>>,
+    rest: &'a [u8],
+    end: usize,
+}
+
+/// Adds why the listing of a message ends where it does.
+pub fn push_show(
+    alloc: Global,
+    out: &mut String,
+    names: &InputNames<'_>,
+    inputs: &Inputs,
+) -> Result<(), AllocError> {
+    let Some(book) = read_book(alloc, &inputs.first)? else {
+        return Ok(());
+    };
+    let Some(bytes) = bytes_of(alloc, &inputs.message)? else {
+        return Ok(());
+    };
+    let sites = sites_of(alloc, &inputs.first)?;
+    let side = Side {
+        book: &*book,
+        name: names.first,
+        text: text_of(&inputs.first),
+        sites: &sites,
+    };
+    let message = Message {
+        name: names.message,
+        text: text_of(&inputs.message),
+        bytes: bytes.as_slice(),
+    };
+    push_end(alloc, out, &side, &message)
+}
+
+fn push_end<B: Book>(
+    alloc: Global,
+    out: &mut String,
+    side: &Side<'_, B>,
+    message: &Message<'_>,
+) -> Result<(), AllocError> {
+    let listing = listing_of(alloc, side.book, message.bytes)?;
+    let place = listing.place();
+    push_spot(out, message, place)?;
+    push_bad_length(out, listing.level(), listing.rest)?;
+    out.push('\n')?;
+    push_groups(out, side, "the message", &listing.groups)?;
+    write!(out, "  at {place}: ")?;
+    push_avp(out, listing.rest)?;
+    out.push('\n')?;
+    hint_bad_length(out, listing.rest)
+}
+
+/// The listing of a message, up to its end or to the first place where no AVP begins.
+fn listing_of<'a, B: Book>(
+    alloc: Global,
+    book: &'a B,
+    bytes: &'a [u8],
+) -> Result<Listing<'a, B>, AllocError> {
+    let mut listing = Listing {
+        book,
+        groups: Vec::new(alloc),
+        outer: Vec::new(alloc),
+        rest: bytes.get(HEADER_LENGTH..).unwrap_or(b"".as_slice()),
+        end: bytes.len(),
+    };
+    for _ in bytes {
+        if !listing.advance()? {
+            break;
+        }
+    }
+    Ok(listing)
+}
+
+impl<B: Book> Listing<'_, B> {
+    fn place(&self) -> usize {
+        self.end.saturating_sub(self.rest.len())
+    }
+
+    /// The name of the level that is read.
+    fn level(&self) -> &str {
+        let Some(group) = self.groups.last() else {
+            return "the message";
+        };
+        match self.book.avp(group.key) {
+            Some(entry) => self.book.entry_name(entry),
+            None => "the group",
+        }
+    }
+
+    /// Goes past the next AVP, into a group, or out of one that is at its end. Answers whether the listing goes on.
+    fn advance(&mut self) -> Result<bool, AllocError> {
+        let Ok(next) = next_avp(self.rest) else {
+            return Ok(false);
+        };
+        let Some((avp, behind)) = next else {
+            return Ok(self.leave());
+        };
+        let key = key(&avp);
+        if group_of(self.book, key).is_none() {
+            self.rest = behind;
+            return Ok(true);
+        }
+        let place = self.place();
+        let end = self.end;
+        self.groups.push(Step { place, key })?;
+        self.outer.push(Outer { behind, end })?;
+        self.rest = avp.bytes;
+        self.end = place.saturating_add(avp.length());
+        Ok(true)
+    }
+
+    /// Goes on behind the group that is read. Answers whether there is one.
+    fn leave(&mut self) -> bool {
+        let _ = self.groups.pop();
+        match self.outer.pop() {
+            Some(Outer { behind, end }) => {
+                self.rest = behind;
+                self.end = end;
+                true
+            }
+            None => false,
+        }
+    }
+}

@@ -1,0 +1,106 @@
+//! Dictionaries with the texts that they were read from, and where the parts of these stand.
+
+use crate::inputs::text_of;
+use dia_book::{Book, DefHead, Definition, Key};
+use dia_explain_places::{DefSite, Sites, back, push_excerpt, push_place, walk_over};
+use dia_io::Input;
+use std::alloc::{AllocError, Global};
+
+/// A dictionary, the word that names its text, the text, and the places of its parts.
+#[derive(Drop)]
+pub struct Side<'a, B: Book> {
+    pub book: &'a B,
+    pub name: &'a str,
+    pub text: &'a [u8],
+    pub sites: &'a Sites,
+}
+
+/// The places of the parts of a dictionary's text.
+pub fn sites_of(alloc: Global, input: &Input) -> Result<Sites, AllocError> {
+    let walk = walk_over(alloc, text_of(input))?;
+    Ok(walk.sites)
+}
+
+impl<B: Book> Side<'_, B> {
+    /// Begins a line about a part of the text.
+    pub fn begin(&self, out: &mut String, at: Option<usize>) -> Result<(), AllocError> {
+        match at {
+            Some(at) => push_place(out, self.name, self.text, at),
+            None => {
+                let name = self.name;
+                write!(out, "{name}: ")
+            }
+        }
+    }
+
+    /// Ends a line about a part of the text, and shows the text there.
+    pub fn end(
+        &self,
+        alloc: Global,
+        out: &mut String,
+        at: Option<usize>,
+    ) -> Result<(), AllocError> {
+        out.push('\n')?;
+        match at {
+            Some(at) => push_excerpt(alloc, out, self.text, at),
+            None => Ok(()),
+        }
+    }
+
+    /// Adds the name of an AVP, or its code and vendor where the dictionary doesn't know it.
+    pub fn push_name(&self, out: &mut String, key: Key) -> Result<(), AllocError> {
+        match self.book.avp(key) {
+            Some(entry) => out.push_str(self.book.entry_name(entry)),
+            None => write!(out, "{key}"),
+        }
+    }
+
+    /// The place of the name of a definition.
+    pub fn definition_at(&self, def: &Definition) -> Option<usize> {
+        Some(self.site_of(def)?.at)
+    }
+
+    /// The place of the name in a rule of a definition.
+    pub fn rule_at(&self, def: &Definition, index: usize) -> Option<usize> {
+        let site = self.site_of(def)?;
+        let place = site.first_rule.checked_add(index)?;
+        self.sites.rules.get(place).copied()
+    }
+
+    /// The place of the name in the declaration of an AVP, or in its definition where it has no declaration.
+    pub fn avp_at(&self, name: &str) -> Option<usize> {
+        match self.declaration_at(name) {
+            Some(at) => Some(at),
+            None => Some(self.named_site(name, true)?.at),
+        }
+    }
+
+    fn declaration_at(&self, name: &str) -> Option<usize> {
+        self.sites
+            .decls
+            .iter()
+            .copied()
+            .find(|at| names_at(self.text, *at, name))
+    }
+
+    fn site_of(&self, def: &Definition) -> Option<DefSite> {
+        let is_group = matches!(def.head, DefHead::Group(_));
+        self.named_site(def.name.as_str(), is_group)
+    }
+
+    fn named_site(&self, name: &str, is_group: bool) -> Option<DefSite> {
+        self.sites.defs.iter().copied().find(|site| site.is_group == is_group
+            && names_at(self.text, site.at, name))
+    }
+}
+
+/// Whether the word at a place of a text is this name.
+fn names_at(text: &[u8], at: usize, name: &str) -> bool {
+    let rest = back(text, at);
+    let length = rest.iter().take_while(|byte| is_of_name(**byte)).count();
+    rest.get(..length) == Some(name.as_bytes())
+}
+
+fn is_of_name(byte: u8) -> bool {
+    byte.is_ascii_alphanumeric() || byte == b'-'
+}

@@ -1,0 +1,166 @@
+//! Places of a text as a reader looks for them: line and column, and the line itself with a caret under the place.
+
+ghost use Rattle.std.specs.Prelude.{◌≡◌, ◌==◌, ◌&&◌, not, take, drop};
+ghost use Rattle.std.specs.List.{prefix_len, suffix_len};
+ghost use Rattle.dia_explain_places.specs.Places.{line_at, column_at, line_front, line_rest};
+ghost use Rattle.dia_explain_places.specs.Places.{characters, is_inner, whole_end};
+
+use std::alloc::{AllocError, Global};
+
+/// How many bytes of a line are shown before the place, and how many from it on.
+const BEFORE: usize = 70;
+
+const BEHIND: usize = 50;
+
+/// A place of a text, by its line and column, both from 1. A column is a character.
+#[derive(Clone, Copy)]
+pub struct Place {
+    pub line: usize,
+    pub column: usize,
+}
+
+/// The bytes before a place.
+fn front(text: &[u8], at: usize) -> &[u8]
+    ensures { result.now ≡ take at text.now }
+{
+    text.get(..at).unwrap_or(text)
+}
+
+/// The bytes from a place on.
+pub fn back(text: &[u8], at: usize) -> &[u8]
+    ensures { result.now ≡ drop at text.now }
+{
+    text.get(at..).unwrap_or(b"".as_slice())
+}
+
+/// The part of the line before a place.
+fn line_before(text: &[u8], at: usize) -> &[u8]
+    ensures { result.now ≡ line_front text.now at }
+{
+    let before = front(text, at);
+    back(before, before.len().saturating_sub(behind_feed(before)))
+}
+
+/// How many bytes stand behind the last line feed.
+fn behind_feed(bytes: &[u8]) -> usize
+    ensures { result ≡ suffix_len (λ c. not (c == 10)) bytes.now }
+{
+    bytes
+        .iter()
+        .rev()
+        .take_while(|byte| **byte != b'\n')
+        .count()
+}
+
+/// The part of the line from a place on, without its end.
+fn line_behind(text: &[u8], at: usize) -> &[u8]
+    ensures { result.now ≡ line_rest text.now at }
+{
+    let behind = back(text, at);
+    front(behind, before_end(behind))
+}
+
+/// How many bytes stand before the end of the line.
+fn before_end(bytes: &[u8]) -> usize
+    ensures { result ≡ prefix_len (λ c. not (c == 10) && not (c == 13)) bytes.now }
+{
+    bytes
+        .iter()
+        .take_while(|byte| **byte != b'\n' && **byte != b'\r')
+        .count()
+}
+
+/// How many characters begin in these bytes of UTF-8.
+fn characters(bytes: &[u8]) -> usize
+    ensures { result ≡ characters bytes.now }
+{
+    bytes.iter().filter(|byte| !is_inner(**byte)).count()
+}
+
+/// Whether a byte of UTF-8 goes on with a character.
+fn is_inner(byte: u8) -> bool
+    ensures { result ≡ is_inner byte }
+{
+    0x80 <= byte && byte < 0xc0
+}
+
+/// The line and the column of a place.
+pub fn place_of(text: &[u8], at: usize) -> Place
+    ensures line { result.line ≡ line_at text.now at }
+    ensures column { result.column ≡ column_at text.now at }
+{
+    let feeds = front(text, at)
+        .iter()
+        .filter(|byte| **byte == b'\n')
+        .count();
+    Place {
+        line: feeds.saturating_add(1),
+        column: characters(line_before(text, at)).saturating_add(1),
+    }
+}
+
+/// Begins a note: `NAME:LINE:COLUMN: `.
+pub fn push_place(out: &mut String, name: &str, text: &[u8], at: usize) -> Result<(), AllocError> {
+    write!(out, "{name}:")?;
+    push_line_column(out, text, at)?;
+    out.push_str(": ")
+}
+
+/// Adds a place as `LINE:COLUMN`.
+pub fn push_line_column(out: &mut String, text: &[u8], at: usize) -> Result<(), AllocError> {
+    let place = place_of(text, at);
+    let line = place.line;
+    let column = place.column;
+    write!(out, "{line}:{column}")
+}
+
+/// Adds the line of a place, and below it a caret at the place. Of a long line a part is shown.
+pub fn push_excerpt(
+    alloc: Global,
+    out: &mut String,
+    text: &[u8],
+    at: usize,
+) -> Result<(), AllocError> {
+    let shown = shown_before(text, at);
+    let behind = shown_behind(text, at);
+    out.push_str("  ")?;
+    push_shown(alloc, out, shown)?;
+    push_shown(alloc, out, behind)?;
+    out.push_str("\n  ")?;
+    for _ in 0..characters(shown) {
+        out.push(' ')?;
+    }
+    out.push_str("^\n")
+}
+
+/// What is shown of a line before a place.
+fn shown_before(text: &[u8], at: usize) -> &[u8]
+    ensures { result.now ≡ whole_end 70 (line_front text.now at) }
+{
+    let before = line_before(text, at);
+    let cut = back(before, before.len().saturating_sub(BEFORE));
+    back(cut, inner_len(cut))
+}
+
+/// How many bytes at the front go on with a character.
+fn inner_len(bytes: &[u8]) -> usize
+    ensures { result ≡ prefix_len is_inner bytes.now }
+{
+    bytes.iter().take_while(|byte| is_inner(**byte)).count()
+}
+
+/// What is shown of a line from a place on.
+fn shown_behind(text: &[u8], at: usize) -> &[u8]
+    ensures { result.now ≡ take 50 (line_rest text.now at) }
+{
+    front(line_behind(text, at), BEHIND)
+}
+
+/// Adds bytes as text, with a space for each control character.
+pub fn push_shown(alloc: Global, out: &mut String, bytes: &[u8]) -> Result<(), AllocError> {
+    let text = String::from_utf8_lossy(alloc, bytes)?;
+    for c in text.chars() {
+        out.push(if c < ' ' { ' ' } else { c })?;
+    }
+    Ok(())
+}

@@ -1,8 +1,0 @@
-use Rattle.std.proofs.Common.{◌≡◌, length}
-use Rattle.dia_least.proofs.LeafLengths.{AreLeafLengths, AreSpelled}
-use Rattle.dia_least.proofs.finding.leaves.Given as goal
-
-abbrev pub invariant-loop-index : goal.invariant-loop-index
-invariant-loop-index g l =
-    (length l.lengths.items ≡ l.index) × (length l.fillers.items ≡ l.index) × AreLeafLengths (g.B.Book.meaning l.book).entries l.lengths.items l.index × AreSpelled
-    (g.B.Book.meaning l.book).entries l.index

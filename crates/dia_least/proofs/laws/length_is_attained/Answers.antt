@@ -1,5 +1,0 @@
-use Rattle.dia_least.proofs.AttainedLengths.{length_attained}
-use Rattle.dia_least.proofs.laws.length_is_attained.Goals as goal
-
-pub returns : goal.returns
-returns c = length_attained

@@ -1,6 +1,0 @@
-use Rattle.std.proofs.Common.{◌≡◌}
-use Rattle.dia_least.specs.Passes.{AreKept, AreNoShorter, length_in}
-use Rattle.dia_least.proofs.search.reach.Given as goal
-
-abbrev pub invariant-loop-index : goal.invariant-loop-index
-invariant-loop-index g l = AreKept (g.B.Book.meaning l.book) l.least × (l.least.sends ≡ l.fn.least.sends) × AreNoShorter (length_in (g.B.Book.meaning l.book) l.least) l.order

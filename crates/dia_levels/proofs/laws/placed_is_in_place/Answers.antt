@@ -1,5 +1,0 @@
-use Rattle.dia_levels.proofs.CountsAndRanks.{placed-in_place, in_place-placed}
-use Rattle.dia_levels.proofs.laws.placed_is_in_place.Goals as goal
-
-pub returns : goal.returns
-returns c = λ rules keys sound. (placed-in_place rules keys sound, in_place-placed rules keys sound)

@@ -1,5 +1,0 @@
-use Rattle.dia_sites.proofs.Room.{keeps}
-use Rattle.dia_sites.proofs.safe.levels_keep_to_room.Goals as goal
-
-pub returns : goal.returns
-returns c = λ da who rules room avps level. keeps da who rules room avps level

@@ -1,5 +1,0 @@
-use Rattle.dia_ways.specs.Openings.{AreShutTo}
-use Rattle.dia_ways.proofs.openings.first_open.Given as goal
-
-abbrev pub invariant-loop-opening : goal.invariant-loop-opening
-invariant-loop-opening l = AreShutTo l.stages l.openings l.place l.opening-index
