@@ -20,6 +20,7 @@ import os
 import re
 import sys
 
+import dictionary_text
 import from_dia
 import from_wireshark
 import rfc_text
@@ -94,7 +95,7 @@ def files_below(folder):
 
 def of_dia(path):
     with open(path, encoding='utf-8') as file:
-        return Text(from_dia.write(from_dia.read(file.read())))
+        return Text('\n'.join(from_dia.write(from_dia.read(file.read()))))
 
 
 def of_wireshark(path):
@@ -133,7 +134,7 @@ def of_freediameter(path):
 def format_of(base, kind):
     """freeDiameter's base format, and the name of its derived type."""
     named = re.fullmatch(r'([A-Za-z0-9]+)_type', kind)
-    if named and named[1] in from_dia.FORMATS:
+    if named and named[1] in dictionary_text.FORMATS:
         return named[1]
     plain = {'GROUPED': 'Grouped', 'OCTETSTRING': 'OctetString', 'INTEGER32': 'Integer32', 'INTEGER64': 'Integer64',
              'UNSIGNED32': 'Unsigned32', 'UNSIGNED64': 'Unsigned64', 'FLOAT32': 'Float32', 'FLOAT64': 'Float64'}
@@ -149,7 +150,7 @@ def of_table(path):
     with open(path, encoding='utf-8') as file:
         for line in file:
             cells = [cell.strip() for cell in line.strip().strip('|').split('|')]
-            if len(cells) >= 8 and '#' not in cells[0] and cells[1].isdigit() and cells[3] in from_dia.FORMATS:
+            if len(cells) >= 8 and '#' not in cells[0] and cells[1].isdigit() and cells[3] in dictionary_text.FORMATS:
                 must = re.split('[,.]', cells[4])
                 rule = 'must' if 'M' in must else 'mustnot' if 'M' in cells[7] else 'any'
                 found[int(cells[1]), vendor if 'V' in must else 0] = (cells[0], cells[3], rule, set())
@@ -168,7 +169,7 @@ def differences_of_avps(title, ours, theirs, has_lists, knows_any):
         if other_rule is not None and rule != other_rule and (knows_any or 'must' in (rule, other_rule)):
             yield f'{title} {name}: its M rule: {rule}, {other_rule}'
         if has_lists and kind == other_kind == 'Enumerated' and numbers != other_numbers:
-            yield f'{title} {name}: its values: {from_dia.ranges(numbers) or "any"}, {from_dia.ranges(other_numbers) or "any"}'
+            yield f'{title} {name}: its values: {dictionary_text.ranges(numbers) or "any"}, {dictionary_text.ranges(other_numbers) or "any"}'
 
 
 def differences_of_rules(title, ours, theirs):

@@ -7,19 +7,20 @@ What has no place in the text, and what the file doesn't say, is told on standar
 - An AVP with the flag M has the M rule `must`. A file doesn't say whether one without it may have the flag: `any`, told.
 - An AVP with the flag V has the vendor of @avp_vendor_id, or else that of @vendor.
 - What @inherits names has to be put before the result, with `cat`: told.
+- A name has `-` for each run of other signs, as `_`, told.
 """
-import argparse
 import re
 import sys
 
-FORMATS = {name: name for name in (
-    'OctetString Integer32 Integer64 Unsigned32 Unsigned64 Float32 Float64 Grouped Address Time UTF8String '
-    'DiameterIdentity DiameterURI Enumerated IPFilterRule QoSFilterRule').split()}
-FORMATS.update(DiamIdent='DiameterIdentity', DiamURI='DiameterURI')
-NAME = re.compile(r'(?=.*[A-Za-z])[A-Za-z0-9][A-Za-z0-9-]*')
+from dictionary_text import (CLOSING, FORMATS, GREATEST_VALUE, WILDCARD, Beside, declaration, definition, finish, name_of,
+                             parser_of, renamed, write_values)
+
+# where to find what @inherits names, for Erlang/OTP's own dictionaries
+INHERITED = {
+    'common': 'the base, as rfc6733.txt or rfc3588.txt', 'diameter_gen_base_rfc6733': 'rfc6733.txt',
+    'diameter_gen_base_rfc3588': 'rfc3588.txt', 'rfc4005_nas': 'rfc4005-avps.txt', 'rfc4590_digest': 'rfc4590_digest.dia',
+}
 TOKEN = re.compile(r"'[^']*'|::=|[<>{}\[\]*,:]|@?[^\s<>{}\[\]*,:;']+")
-CLOSING = {'<': '>', '{': '}', '[': ']'}
-GREATEST_VALUE = 2 ** 31 - 1
 
 
 class Dictionary:
@@ -30,6 +31,7 @@ class Dictionary:
         self.inherits = []      # (line, name)
         self.avps = []          # (line, name, code, vendor, format, M rule)
         self.values = {}        # name of an AVP -> numbers, in order
+        self.words = []         # (name of an AVP, number, word)
         self.definitions = []   # (line, name, head, rules); a rule is (qualifier, opening bracket, name)
         self.told = []          # (line, what)
 
@@ -76,11 +78,14 @@ def read_avps(dictionary, words, vendor, single):
     if len(words) % 4:
         dictionary.tell(words[-1][0], '@avp_types: an AVP has no four words: the last is left out')
     for place in range(0, len(words) - 3, 4):
-        (line, name), (_, code), (_, kind), (_, flags) = words[place:place + 4]
-        if not NAME.fullmatch(name) or kind not in FORMATS:
-            dictionary.tell(line, f'{name}: left out: no name, or no format, of a dictionary text ({kind})')
+        (line, word), (_, code), (_, kind), (_, flags) = words[place:place + 4]
+        name = name_of(word)
+        if name is None or kind not in FORMATS:
+            dictionary.tell(line, f'{word}: left out: no name, or no format, of a dictionary text ({kind})')
             continue
-        own = single.get(name, vendor) if 'V' in flags else 0
+        if name != word:
+            dictionary.tell(line, renamed(word, name))
+        own = single.get(word, vendor) if 'V' in flags else 0
         if own is None:
             dictionary.tell(line, f'{name}: left out: its vendor is unknown')
             continue
@@ -101,7 +106,7 @@ def read_definitions(dictionary, words):
         if problem or head is None:
             dictionary.tell(line, f'{name}: left out: {problem or "its header has another form"}')
         else:
-            dictionary.definitions.append((line, name, head, rules))
+            dictionary.definitions.append((line, name_of(name) or name, head, rules))
 
 
 def read_head(words, application):
@@ -130,17 +135,19 @@ def read_rules(words):
         while place < len(words) and (words[place].isdigit() or words[place] == '*'):
             place += 1
         rule = words[place:place + 3]
-        if len(rule) < 3 or CLOSING.get(rule[0]) != rule[2] or not NAME.fullmatch(rule[1]):
+        name = name_of(rule[1]) if rule[1:2] not in ([], [WILDCARD]) else WILDCARD
+        if len(rule) < 3 or CLOSING.get(rule[0]) != rule[2] or name is None:
             return rules, f'a rule has another form, at {" ".join(words[start:place + 3])}'
-        rules.append((''.join(words[start:place]), rule[0], rule[1]))
+        rules.append((''.join(words[start:place]), rule[0], name))
         place += 3
     return rules, None
 
 
 def read_values(dictionary, line, words):
     """The list of values of @enum: the AVP's name, then a name and a number each."""
-    name, numbers = words[0][1], []
+    name, numbers = name_of(words[0][1]) or words[0][1], []
     for (at, label), (_, value) in zip(words[1::2], words[2::2]):
+        dictionary.words.append((name, number(value), label))
         if not 0 <= number(value) <= GREATEST_VALUE:
             dictionary.tell(at, f'{name}: the value {label} {value} left out: no number of a list')
         else:
@@ -165,10 +172,13 @@ def read(text):
         elif keyword in ('@define', '@codecs', '@custom_types', '@result_code'):
             what = ' '.join(word for _, word in words[:1])
             dictionary.tell(line, f'{keyword} {what}: left out: no place in a dictionary text')
+            if keyword == '@define':
+                dictionary.words += [(what, number(value), label) for (_, label), (_, value) in zip(words[1::2], words[2::2])]
     for line, keyword, words in sections:
         if keyword == '@enum':
             read_values(dictionary, line, words)
-    dictionary.told += [(line, f'@inherits {name}: put that dictionary before this one') for line, name in dictionary.inherits]
+    dictionary.told += [(line, f'@inherits {name}: put that dictionary before this one: {file_of(name)}')
+                        for line, name in dictionary.inherits]
     grouped = {name for _, name, head, _ in dictionary.definitions if head.startswith('AVP')}
     dictionary.told += [(avp[0], f'{avp[1]}: Grouped, and the file has no format of its members')
                         for avp in dictionary.avps if avp[4] == 'Grouped' and avp[1] not in grouped]
@@ -176,48 +186,67 @@ def read(text):
     return dictionary
 
 
-def ranges(numbers):
-    """A list of values as the text has it."""
-    runs = []
-    for number in sorted(set(numbers)):
-        if runs and runs[-1][1] == number - 1:
-            runs[-1][1] = number
-        else:
-            runs.append([number, number])
-    return ' '.join(str(low) if low == high else f'{low}..{high}' for low, high in runs)
+def file_of(name):
+    """Where what @inherits names is: in Erlang/OTP a module's name begins so, and its file's doesn't."""
+    return INHERITED.get(name) or name.removeprefix('diameter_gen_') + '.dia'
+
+
+def leave_out(dictionary, beside):
+    """Leaves out what texts beside this one declare, with the groups of it, and takes their names in the rules."""
+    renames, gone, kept = {}, set(), []
+    for avp in dictionary.avps:
+        line, name, *key = avp[:4]
+        is_shared, reason = beside.has(name, tuple(key))
+        if not is_shared and not reason:
+            kept.append(avp)
+            continue
+        gone.add(name)
+        mine = beside.keys.get(tuple(key), name)
+        if reason:
+            dictionary.tell(line, f'{name}: left out: {reason}')
+        elif mine != name:
+            renames[name] = mine
+            dictionary.tell(line, f'{name}: {mine} in a text of --beside, and so in the rules')
+    dictionary.avps = kept
+    dictionary.definitions = [
+        (line, name, head, [(qualifier, opening, renames.get(avp, avp)) for qualifier, opening, avp in rules])
+        for line, name, head, rules in dictionary.definitions if not (head.startswith('AVP') and name in gone)]
+
+
+def tell_commands(dictionary, beside, prefix):
+    """Tells of the commands that have a name of a text beside this one."""
+    for line, name, head, _ in dictionary.definitions:
+        if not head.startswith('AVP') and prefix + name in beside.commands:
+            dictionary.tell(line, f'{prefix}{name}: a text of --beside has a command of this name: --prefix WORD gives it another')
 
 
 def write(dictionary, prefix=''):
     """The dictionary text, in canonical form. The names of commands begin with the prefix."""
-    lines = []
-    for _, name, code, vendor, kind, rule in dictionary.avps:
-        values = ranges(dictionary.values.get(name, []))
-        lines.append(f'%avp {name} {code} ' + (f'vendor {vendor} ' if vendor else '') + f'{kind} {rule}'
-                     + (f' ( {values} )' if values else ''))
+    lines = [declaration(name, code, vendor, kind, rule, dictionary.values.get(name, ()))
+             for _, name, code, vendor, kind, rule in dictionary.avps]
     groups_first = sorted(dictionary.definitions, key=lambda definition: not definition[2].startswith('AVP'))
     for _, name, head, rules in groups_first:
-        begin = '' if head.startswith('AVP') else prefix
-        lines.append(f'<{begin}{name}> ::= < {head} >')
-        lines += [f'  {qualifier}{" " if qualifier else ""}{opening} {avp} {CLOSING[opening]}'
-                  for qualifier, opening, avp in rules]
-    return ''.join(line + '\n' for line in lines)
+        lines += definition(name if head.startswith('AVP') else prefix + name, head, rules)
+    return lines
 
 
 def main():
-    parser = argparse.ArgumentParser(description=__doc__, formatter_class=argparse.RawDescriptionHelpFormatter)
-    parser.add_argument('file', metavar='FILE', help='a .dia file')
+    parser = parser_of(__doc__, 'a .dia file')
     parser.add_argument('--prefix', metavar='WORD', default='', help='what the names of commands begin with, so that they '
                                                                     'can stand beside others of the same names')
     arguments = parser.parse_args()
     path = arguments.file
     try:
+        beside = Beside(arguments.beside)
         with open(path, encoding='utf-8') as file:
             dictionary = read(file.read())
     except (OSError, ValueError, IndexError) as error:
         sys.exit(f'{path}: no .dia file: {error}')
-    sys.stdout.write(write(dictionary, arguments.prefix))
-    for line, what in dictionary.told:
-        print(f'{path}:{line}: {what}', file=sys.stderr)
+    leave_out(dictionary, beside)
+    tell_commands(dictionary, beside, arguments.prefix)
+    if arguments.values:
+        write_values(arguments.values, dictionary.words)
+    finish(write(dictionary, arguments.prefix), [((path, line), what) for line, what in dictionary.told], path, beside)
 
 
 if __name__ == '__main__':

@@ -7,21 +7,22 @@ What has no place in the text, and what the file doesn't say, is told on standar
 - The file has commands by name alone: each is a comment.
 - The attribute mandatory is the M rule: must; mustnot; may and shouldnot are any. Without it the rule is any, told.
 - The format IPAddress is an Address or the bytes of one alone: OctetString, told.
+- A name has `-` for each run of other signs, as `_`, told.
 - Of two AVPs with one code and vendor, or one name, the first is kept; the other is told.
 """
-import argparse
 import os
 import re
 import sys
 from xml.parsers import expat
 
-from from_dia import FORMATS, GREATEST_VALUE, NAME, ranges
+from dictionary_text import (FORMATS, GREATEST_NUMBER, GREATEST_VALUE, Beside, declaration, finish, name_of, open_group,
+                             parser_of, renamed, write_values)
 
 # an address with its family, or the bytes of one alone: the file doesn't say which
 EITHER = 'IPAddress'
 RULES = {'must': 'must', 'mustnot': 'mustnot', 'may': 'any', 'shouldnot': 'any'}
-GREATEST_NAME = 128
-GREATEST_NUMBER = 2 ** 32 - 1
+# a document type, whose entities stand in brackets, if it has any
+PROLOGUE = re.compile(r'<!--.*?-->|<\?.*?\?>|<!DOCTYPE[^\[>]*(?:\[.*?\]\s*)?>', re.DOTALL)
 
 
 class Avp:
@@ -66,7 +67,7 @@ def read(path, into):
     with open(path, encoding='utf-8') as file:
         text = file.read()
     entities = dict(re.findall(r'<!ENTITY\s+(\S+)\s+SYSTEM\s+"([^"]+)"\s*>', text))
-    text = re.sub(r'<!--.*?-->|<\?.*?\?>|<!DOCTYPE.*?\]>', lambda gone: '\n' * gone[0].count('\n'), text, flags=re.DOTALL)
+    text = PROLOGUE.sub(lambda gone: '\n' * gone[0].count('\n'), text)
     text = re.sub(r'&(?!amp;|lt;|gt;|quot;|apos;|#)(\w+);', r'<entity name="\1"/>', text)
     parser = expat.ParserCreate()
 
@@ -107,16 +108,18 @@ def values_of(avp, kind, name, told):
     return numbers
 
 
-def convert(file, vendors):
+def convert(file, vendors, beside):
     """The AVPs that the text can have: (name, code, vendor, format, M rule, numbers). Tells of all others."""
     names, keys, kept = set(), set(), []
     for avp in file.avps:
-        name, code = avp.attributes.get('name', ''), avp.attributes.get('code', '')
-        vendor = vendors.get(avp.attributes.get('vendor-id', 'None'))
+        word, code = avp.attributes.get('name', ''), avp.attributes.get('code', '')
+        name, vendor = name_of(word), vendors.get(avp.attributes.get('vendor-id', 'None'))
         key = (int(code) if code.isdigit() else None, vendor)
         kind = format_of(avp.type, file)
-        reason = None
-        if not NAME.fullmatch(name) or len(name) > GREATEST_NAME:
+        is_shared, reason = beside.has(name, key)
+        if is_shared:
+            continue
+        if name is None:
             reason = 'no name of a dictionary text'
         elif key[0] is None or key[0] > GREATEST_NUMBER:
             reason = f'no code: {code}'
@@ -127,8 +130,10 @@ def convert(file, vendors):
         elif name in names or key in keys:
             reason = 'its name, or its code and vendor, stand before'
         if reason:
-            file.told.append((avp.place, f'{name}: left out: {reason}'))
+            file.told.append((avp.place, f'{word}: left out: {reason}'))
             continue
+        if word != name:
+            file.told.append((avp.place, renamed(word, name)))
         if avp.type == EITHER:
             file.told.append((avp.place, f'{name}: OctetString: {EITHER} is an Address, or the bytes of one alone'))
         rule = RULES.get(avp.attributes.get('mandatory'))
@@ -140,40 +145,44 @@ def convert(file, vendors):
     return kept
 
 
-def write(avps, commands):
+def words_of(file):
+    """The words of all values: (AVP, number, word)."""
+    return [(name_of(avp.attributes.get('name', '')), int(code), word) for avp in file.avps for _, word, code in avp.values
+            if code.isdigit() and word and name_of(avp.attributes.get('name', ''))]
+
+
+def lines_of(avps, commands):
     """The dictionary text, in canonical form but for its comments."""
-    lines = []
-    for name, code, vendor, kind, rule, numbers in avps:
-        lines.append(f'%avp {name} {code} ' + (f'vendor {vendor} ' if vendor else '') + f'{kind} {rule}'
-                     + (f' ( {ranges(numbers)} )' if numbers else ''))
+    lines = [declaration(*avp) for avp in avps]
     for name, code, vendor, kind, _, _ in avps:
         if kind == 'Grouped':
-            lines += [f'<{name}> ::= < AVP Header: {code}{f" {vendor}" if vendor else ""} >', '  * [ AVP ]']
-    lines += [f'; command {code} {name}: the file has no format of it' for _, name, code in commands]
-    return ''.join(line + '\n' for line in lines)
+            lines += open_group(name, code, vendor)
+    return lines + [f'; command {code} {name}: the file has no format of it' for _, name, code in commands]
 
 
 def main():
-    parser = argparse.ArgumentParser(description=__doc__, formatter_class=argparse.RawDescriptionHelpFormatter)
-    parser.add_argument('file', metavar='FILE', help='dictionary.xml, or a file beside it')
-    parser.add_argument('--base', metavar='FILE', help='the dictionary.xml that has the vendors and formats of FILE, if '
-                                                       'FILE is another')
+    parser = parser_of(__doc__, 'dictionary.xml, or a file beside it')
+    parser.add_argument('--base', metavar='XML', help='the dictionary.xml that has the vendors and formats of FILE, if FILE '
+                                                      'is another')
     arguments = parser.parse_args()
     file = File()
     try:
+        beside = Beside(arguments.beside)
         if arguments.base:
             base = File()
             read(arguments.base, base)
             file.vendors, file.parents = base.vendors, base.parents
         read(arguments.file, file)
-        avps = convert(file, file.vendors)
+        if not file.avps and not file.commands:
+            raise ValueError('it has no commands and no AVPs')
+        avps = convert(file, file.vendors, beside)
     except (OSError, expat.ExpatError, ValueError, KeyError) as error:
         sys.exit(f'{arguments.file}: no dictionary of wireshark: {error}')
-    sys.stdout.write(write(avps, file.commands))
-    file.told += [(place, f'the command {name}: a comment: the file has no format of it')
-                  for place, name, _ in file.commands]
-    for (path, line), what in sorted(file.told):
-        print(f'{path}:{line}: {what}', file=sys.stderr)
+    if arguments.values:
+        write_values(arguments.values, words_of(file))
+    told = file.told + [(place, f'the command {name}: a comment: the file has no format of it')
+                        for place, name, _ in file.commands]
+    finish(lines_of(avps, file.commands), told, arguments.file, beside)
 
 
 if __name__ == '__main__':

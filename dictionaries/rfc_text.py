@@ -2,7 +2,7 @@
 import gzip
 import re
 
-import from_dia
+import dictionary_text
 
 # the places of the columns MUST and MUST NOT behind the first bar of an RFC's table of flags
 FLAG_COLUMNS = {3588: (0, 3), 4005: (0, 3), 4006: (0, 3), 4740: (0, 3), 6733: (0, 1), 7155: (0, 1), 7683: (0, 1),
@@ -40,7 +40,7 @@ def types(lines):
     found = {}
     for title, body in sections(lines):
         said = DEFINED.search(' '.join(' '.join(body).split()), 0, 700)
-        if said and said[2] in from_dia.FORMATS:
+        if said and said[2] in dictionary_text.FORMATS:
             found[int(said[1])] = (re.sub(r' AVP.*$', '', title).replace(' ', '-'), said[2])
     return found
 
@@ -98,7 +98,7 @@ def definitions(lines):
 def rule_of(rule):
     """A rule as check.py has it: its tokens, with a space between each two."""
     low, star, high, opening, name = rule.groups()
-    return ' '.join(part for part in (low, star, high, opening, name, from_dia.CLOSING[opening]) if part)
+    return ' '.join(part for part in (low, star, high, opening, name, dictionary_text.CLOSING[opening]) if part)
 
 
 def avps(path, number):
