@@ -1,0 +1,21 @@
+# bin/diacmd proves and builds the program; this installs it, with its man page, completions and dictionaries.
+PREFIX = /usr/local
+LAUNCHER = bin/diacmd
+PROGRAM = crates/diacmd/out/diacmd
+ROOT = $(DESTDIR)$(PREFIX)
+SHARE = $(ROOT)/share
+.PHONY: all install uninstall
+all:
+	$(LAUNCHER) --version
+install: all
+	install -D -m 755 "$(PROGRAM)" "$(ROOT)/bin/diacmd"
+	install -D -m 644 docs/diacmd.1 "$(SHARE)/man/man1/diacmd.1"
+	install -D -m 644 completions/diacmd.bash "$(SHARE)/bash-completion/completions/diacmd"
+	install -D -m 644 completions/_diacmd "$(SHARE)/zsh/site-functions/_diacmd"
+	install -D -m 644 completions/diacmd.fish "$(SHARE)/fish/vendor_completions.d/diacmd.fish"
+	install -D -m 644 -t "$(SHARE)/diacmd" $(filter-out %/differences.txt,$(wildcard dictionaries/*.txt))
+	while IFS=: read -r name parts; do (cd dictionaries && cat $$parts) > "$(SHARE)/diacmd/$$name" || exit; done < dictionaries/together
+	chmod 644 "$(SHARE)"/diacmd/*
+uninstall:
+	cd "$(SHARE)" && rm -f man/man1/diacmd.1 bash-completion/completions/diacmd zsh/site-functions/_diacmd
+	rm -f "$(ROOT)/bin/diacmd" "$(SHARE)/fish/vendor_completions.d/diacmd.fish" && rm -rf "$(SHARE)/diacmd"

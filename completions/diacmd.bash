@@ -1,0 +1,38 @@
+# Made by completions/generate.py from the help of the program: change that, and make it anew.
+
+_diacmd() {
+    local word=${COMP_WORDS[COMP_CWORD]} before=${COMP_WORDS[COMP_CWORD - 1]} command=${COMP_WORDS[1]} words=
+    COMPREPLY=()
+    [ "$before" = = ] && before=${COMP_WORDS[COMP_CWORD - 2]}
+    [ "$word" = = ] && word=
+    case $COMP_CWORD:$command:$before in
+        1:*) words='show check render compare refute propose breaking help -h --help -V --version' ;;
+        *:help:*) words='show check render compare refute propose breaking help' ;;
+        *:check:--unknown) words='kept refused' ;;
+        *:check:--levels) return ;;
+        *:compare:--unknown) words='kept refused' ;;
+        *:refute:--unknown) words='kept refused' ;;
+        *:refute:--levels) return ;;
+        *:propose:--unknown) words='kept refused' ;;
+        *:breaking:--unknown) words='kept refused' ;;
+        *:breaking:--sends) words='any known listed' ;;
+        *) case $command:$word in
+            show:-*) words='--quiet --dict -h --help' ;;
+            check:-*) words='--quiet --unknown --levels --lines --stream -h --help' ;;
+            render:-*) words='--quiet -h --help' ;;
+            compare:-*) words='--quiet --unknown -h --help' ;;
+            refute:-*) words='--quiet --unknown --levels --lines -h --help' ;;
+            propose:-*) words='--quiet --unknown -h --help' ;;
+            breaking:-*) words='--quiet --unknown --sends --messages -h --help' ;;
+        esac ;;
+    esac
+    if [ -n "$words" ]; then
+        mapfile -t COMPREPLY < <(compgen -W "$words" -- "$word")
+    elif [ "$before" = @ ] || [ "$word" = @ ]; then
+        mapfile -t COMPREPLY < <(compgen -W base -- "${word#@}")
+    else
+        compopt -o filenames 2> /dev/null
+        mapfile -t COMPREPLY < <(compgen -f -- "$word")
+    fi
+}
+complete -F _diacmd diacmd
