@@ -6,12 +6,13 @@
 FOLDER has, at any depth, the files of these packages of Debian 12, of which each that is missing is named:
 
 - erlang (source): lib/diameter with its *.dia         apt-get source erlang
-- freediameter (source): dict_*.c, dict_dcca_3gpp.org  apt-get source freediameter
+- freediameter (source): dict_*.c, dict_dcca_3gpp.org, libfdproto.h    apt-get source freediameter
 - libwireshark-data: dictionary.xml and beside it      apt-get download libwireshark-data, dpkg-deb -x
 - doc-rfc-std-proposed, doc-rfc-old-std (non-free): rfcN.txt or rfcN.txt.gz, also apt-get download, dpkg-deb -x
 
 Compared are name, code, vendor, format, M rule and list of values of each AVP; with the .dia files and the RFCs also each
-rule of the commands and groups. The RFCs' lists of values aren't compared. differences.txt has the differences that are
+rule of the commands and groups. The RFCs' lists of values aren't compared. The words of values.txt are compared with those of
+the three programs, but for case and for signs that are no letters or digits. differences.txt has the differences that are
 explained, as they are printed, below their reasons. The status is 1 if a difference isn't there, or one of there doesn't
 occur.
 """
@@ -20,6 +21,7 @@ import os
 import re
 import sys
 
+import check_values
 import dictionary_text
 import from_dia
 import from_wireshark
@@ -39,9 +41,10 @@ FREEDIAMETER = {
     'rfc4072.txt': 'dict_eap.c', 'rfc4740.txt': 'dict_sip.c', 'rfc5777.txt': 'dict_rfc5777.c',
 }
 TABLE = 'dict_dcca_3gpp.org'
+NUMBERS = 'libfdproto.h'
 WIRESHARK = 'dictionary.xml'
 # no dictionaries, or the same as another by intention
-NOT_COMPARED = {'differences.txt', 'rfc6733-failed-avp-octets.txt'}
+NOT_COMPARED = {'differences.txt', check_values.NAME, 'rfc6733-failed-avp-octets.txt'}
 TEXT = re.compile(r'%avp|::=|\.\.|[<>{}\[\]()*,:]|[A-Za-z0-9-]+')
 
 
@@ -90,7 +93,11 @@ def numbers_of(words):
 
 
 def files_below(folder):
-    return {name: os.path.join(path, name) for path, _, names in os.walk(folder) for name in names}
+    found = {name: os.path.join(path, name) for path, _, names in os.walk(folder) for name in names}
+    # libwireshark-data has a dictionary.xml of another protocol too
+    found.update({WIRESHARK: os.path.join(path, WIRESHARK) for path, _, names in os.walk(folder)
+                  if WIRESHARK in names and os.path.basename(path) == 'diameter'})
+    return found
 
 
 def of_dia(path):
@@ -224,11 +231,28 @@ def compare(name, files):
     return found
 
 
+def compare_values(names, files):
+    """The differences of values.txt: with the other programs, and with the lists of our files."""
+    lists, keys, texts = {}, {}, set()
+    for name in names:
+        with open(os.path.join(HERE, name), encoding='utf-8') as file:
+            avps = Text(file.read()).avps
+        for key, (avp, _, _, numbers) in avps.items():
+            keys.setdefault(key, set()).add(avp)
+            lists.setdefault(avp, set()).update(numbers)
+        texts |= {avp for avp, _, _, _ in avps.values()}
+    yield from check_values.differences({avp: numbers for avp, numbers in lists.items() if numbers}, texts, [
+        ('erlang', check_values.of_dia([files[f'{dia}.dia'] for of in DIA.values() for dia in of])),
+        ('wireshark', check_values.of_wireshark(files[WIRESHARK], keys)),
+        ('freediameter', check_values.of_freediameter([files[name] for name in sorted(set(FREEDIAMETER.values()))], files[NUMBERS])),
+    ])
+
+
 def main():
     if len(sys.argv) != 2 or sys.argv[1] in ('-h', '--help'):
         print(__doc__)
         return len(sys.argv) != 2
-    wanted = {WIRESHARK, TABLE, *FREEDIAMETER.values(), *(f'{dia}.dia' for of in DIA.values() for dia in of)}
+    wanted = {WIRESHARK, TABLE, NUMBERS, *FREEDIAMETER.values(), *(f'{dia}.dia' for of in DIA.values() for dia in of)}
     have = set(files_below(sys.argv[1]))
     texts = {name[:7] for name in os.listdir(HERE) if re.fullmatch(r'rfc\d{4}.*\.txt', name)}
     missing = sorted(wanted - have) + sorted(f'{text}.txt' for text in texts if not have & {f'{text}.txt', f'{text}.txt.gz'})
@@ -240,6 +264,7 @@ def main():
     names = sorted(name for name in os.listdir(HERE) if name.endswith('.txt') and name not in NOT_COMPARED)
     files = files_below(sys.argv[1])
     found = list(dict.fromkeys(line for name in names for line in compare(name, files)))
+    found += compare_values(names, files)
     new = [line for line in found if not any(fnmatch.fnmatchcase(line, pattern) for pattern in explained)]
     gone = [pattern for pattern in explained if not fnmatch.filter(found, pattern)]
     print(*new, *(f'explained, and not found: {line}' for line in gone), sep='\n', end='\n' if new or gone else '')
