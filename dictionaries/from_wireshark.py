@@ -44,8 +44,10 @@ class File:
         self.vendors = {'None': 0}
         self.parents = {}       # a format of the file -> the format that it is kept as
         self.told = []          # (place, what)
+        self.elements = 0
 
     def start(self, place, tag, attributes):
+        self.elements += 1
         if tag == 'avp':
             self.avps.append(Avp(place, attributes))
         elif tag == 'type' and self.avps:
@@ -73,11 +75,11 @@ def read(path, into):
 
     def start(tag, attributes):
         place = (path, parser.CurrentLineNumber)
-        if tag != 'entity':
+        if tag not in ('all', 'entity'):
             into.start(place, tag, attributes)
-        elif attributes['name'] in entities:
+        elif attributes.get('name') in entities:
             read(os.path.join(os.path.dirname(path), entities[attributes['name']]), into)
-        else:
+        elif tag == 'entity':
             into.told.append((place, f'&{attributes["name"]};: left out: the file has no such entity'))
 
     parser.StartElementHandler = start
@@ -173,8 +175,8 @@ def main():
             read(arguments.base, base)
             file.vendors, file.parents = base.vendors, base.parents
         read(arguments.file, file)
-        if not file.avps and not file.commands:
-            raise ValueError('it has no commands and no AVPs')
+        if file.elements == 0:
+            raise ValueError('it has no elements')
         avps = convert(file, file.vendors, beside)
     except (OSError, expat.ExpatError, ValueError, KeyError) as error:
         sys.exit(f'{arguments.file}: no dictionary of wireshark: {error}')
