@@ -14,7 +14,8 @@ install: all
 	install -D -m 644 completions/_diacmd "$(SHARE)/zsh/site-functions/_diacmd"
 	install -D -m 644 completions/diacmd.fish "$(SHARE)/fish/vendor_completions.d/diacmd.fish"
 	install -D -m 644 -t "$(SHARE)/diacmd" $(filter-out %/differences.txt,$(wildcard dictionaries/*.txt))
-	while IFS=: read -r name parts; do (cd dictionaries && cat $$parts) > "$(SHARE)/diacmd/$$name" || exit; done < dictionaries/together
+	while IFS=: read -r name parts; do \
+	    (cd dictionaries && cat $$parts) > "$(SHARE)/diacmd/$$name" || exit; done < dictionaries/together
 	chmod 644 "$(SHARE)"/diacmd/*
 uninstall:
 	cd "$(SHARE)" && rm -f man/man1/diacmd.1 bash-completion/completions/diacmd zsh/site-functions/_diacmd

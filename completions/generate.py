@@ -104,8 +104,8 @@ def man_page(program):
     yield '.SH EXIT STATUS'
     yield from man_rows(program.help.rows['Status'])
     yield from ('.SH FILES', '.TP', '\\fIPREFIX\\fR/share/diacmd', 'Dictionaries of RFCs and of 3GPP, in parts and put together.')
-    yield from ('.SH SEE ALSO', 'The documents of the repository: README.md, docs/UPGRADING.md, docs/CAPTURES.md, docs/FAULTS.md, '
-                'docs/FORMATS.md and dictionaries/README.md.')
+    yield from ('.SH SEE ALSO', 'The documents of the repository: README.md, docs/UPGRADING.md, docs/CAPTURES.md, '
+                'docs/FAULTS.md, docs/FORMATS.md and dictionaries/README.md.')
 
 
 def words_of(help_):
@@ -115,7 +115,8 @@ def words_of(help_):
 def bash(program):
     yield from (f'# {MADE}', '', '_diacmd() {',
                 '    local word=${COMP_WORDS[COMP_CWORD]} before=${COMP_WORDS[COMP_CWORD - 1]} command=${COMP_WORDS[1]} words=',
-                '    COMPREPLY=()', '    [ "$before" = = ] && before=${COMP_WORDS[COMP_CWORD - 2]}', '    [ "$word" = = ] && word=',
+                '    COMPREPLY=()', '    [ "$before" = = ] && before=${COMP_WORDS[COMP_CWORD - 2]}',
+                '    [ "$word" = = ] && word=',
                 '    case $COMP_CWORD:$command:$before in',
                 f'        1:*) words=\'{" ".join(program.briefs)} {words_of(program.help)}\' ;;',
                 f'        *:help:*) words=\'{" ".join(program.briefs)}\' ;;')
@@ -167,8 +168,9 @@ def zsh_argument(argument):
 
 
 def zsh(program):
-    yield from ('#compdef diacmd', f'# {MADE}', '', '_diacmd_dictionary() {', "    _alternative 'files:file:_files' 'base:dictionary:(@base)'",
-                '}', '', '_diacmd() {', '    local state line', '    local -a commands=(')
+    yield from ('#compdef diacmd', f'# {MADE}', '', '_diacmd_dictionary() {',
+                "    _alternative 'files:file:_files' 'base:dictionary:(@base)'", '}', '',
+                '_diacmd() {', '    local state line', '    local -a commands=(')
     for name, about in program.briefs.items():
         yield f'        \'{name}:{zsh_text(about)}\''
     yield from ('    )', f'    _arguments -C {" ".join(zsh_options(program.help.options))} \'1: :->command\' \'*:: :->words\'',
@@ -197,7 +199,9 @@ def fish(program):
 
 def fish_option(condition, option):
     short = f' -s {option.short[1:]}' if option.short else ''
-    value = (' -x -a \'' + ' '.join(option.values) + '\'' if option.values else ' -r -F' if option.value == 'D' else ' -x') if option.value else ''
+    value = '' if not option.value else ' -r -F' if option.value == 'D' else ' -x'
+    if option.values:
+        value += f' -a \'{" ".join(option.values)}\''
     yield f'complete -c diacmd -n {condition}{short} -l {option.long[2:]}{value} -d \'{quoted(option.brief)}\''
 
 

@@ -176,7 +176,8 @@ def differences_of_avps(title, ours, theirs, has_lists, knows_any):
         if other_rule is not None and rule != other_rule and (knows_any or 'must' in (rule, other_rule)):
             yield f'{title} {name}: its M rule: {rule}, {other_rule}'
         if has_lists and kind == other_kind == 'Enumerated' and numbers != other_numbers:
-            yield f'{title} {name}: its values: {dictionary_text.ranges(numbers) or "any"}, {dictionary_text.ranges(other_numbers) or "any"}'
+            mine, others = dictionary_text.ranges(numbers) or 'any', dictionary_text.ranges(other_numbers) or 'any'
+            yield f'{title} {name}: its values: {mine}, {others}'
 
 
 def differences_of_rules(title, ours, theirs):
@@ -241,10 +242,12 @@ def compare_values(names, files):
             keys.setdefault(key, set()).add(avp)
             lists.setdefault(avp, set()).update(numbers)
         texts |= {avp for avp, _, _, _ in avps.values()}
+    dia = [files[f'{name}.dia'] for of in DIA.values() for name in of]
+    freediameter = [files[name] for name in sorted(set(FREEDIAMETER.values()))]
     yield from check_values.differences({avp: numbers for avp, numbers in lists.items() if numbers}, texts, [
-        ('erlang', check_values.of_dia([files[f'{dia}.dia'] for of in DIA.values() for dia in of])),
+        ('erlang', check_values.of_dia(dia)),
         ('wireshark', check_values.of_wireshark(files[WIRESHARK], keys)),
-        ('freediameter', check_values.of_freediameter([files[name] for name in sorted(set(FREEDIAMETER.values()))], files[NUMBERS])),
+        ('freediameter', check_values.of_freediameter(freediameter, files[NUMBERS])),
     ])
 
 

@@ -66,8 +66,8 @@ def ranges(numbers):
 
 
 def declaration(name, code, vendor, kind, rule, numbers=()):
-    values = ranges(numbers)
-    return f'%avp {name} {code} ' + (f'vendor {vendor} ' if vendor else '') + f'{kind} {rule}' + (f' ( {values} )' if values else '')
+    owner, values = f'vendor {vendor} ' if vendor else '', ranges(numbers)
+    return f'%avp {name} {code} {owner}{kind} {rule}' + (f' ( {values} )' if values else '')
 
 
 def definition(name, head, rules):

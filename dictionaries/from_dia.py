@@ -217,7 +217,8 @@ def tell_commands(dictionary, beside, prefix):
     """Tells of the commands that have a name of a text beside this one."""
     for line, name, head, _ in dictionary.definitions:
         if not head.startswith('AVP') and prefix + name in beside.commands:
-            dictionary.tell(line, f'{prefix}{name}: a text of --beside has a command of this name: --prefix WORD gives it another')
+            dictionary.tell(line, f'{prefix}{name}: a text of --beside has a command of this name: '
+                                  '--prefix WORD gives it another')
 
 
 def write(dictionary, prefix=''):
