@@ -110,7 +110,7 @@ one_refute policy most inputs bytes t u a b x y h k is is' =
     one_outcome (command.Refute policy most) (record { first = inputs.first; second = inputs.second; table = inputs.table; message = b }) t u x y
     (same_refute policy most inputs a b bytes t x h k is) is'
 
-one_first : (inputs : Inputs) (m n : List ℕ) → RefusesFirst inputs m → RefusesFirst inputs n → m ≡ n
+pub one_first : (inputs : Inputs) (m n : List ℕ) → RefusesFirst inputs m → RefusesFirst inputs n → m ≡ n
 one_first inputs m n (why, none, is) (why', none', is') = is ∙ ap (dictionary_line 1) (one_reason_for_dictionary inputs.first why why' none none') ∙ sym is'
 
 one_of_two : (u : Unknown) (most : Levels) (inputs : Inputs) (m n : List ℕ) → (refutations u most).refuses inputs m → (refutations u most).refuses inputs n → m ≡ n

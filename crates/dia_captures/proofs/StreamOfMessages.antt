@@ -14,7 +14,9 @@ use Rattle.dia_io.specs.Writing.{AppendsFront}
 use Rattle.dia_lines.specs.declared.answered.Ended.{Ended}
 use Rattle.dia_lines.specs.declared.fault.LinesFault.{LinesFault}
 use Rattle.dia_lines.specs.declared.fault.LinesFault.TheVariants as faults
-use Rattle.dia_streams.specs.Streams.{AllTold, SomeTold, WholeTold, IsFrontTold}
+use Rattle.dia_lines.specs.Lines.{ended_of}
+use Rattle.dia_streams.specs.Streams.{AllTold, BytesHaveOneText, SomeTold, WholeTold, IsFrontTold}
+use Rattle.dia_streams.proofs.OneStream.{stream_once}
 use Rattle.dia_streams.specs.Streams as streams
 use Rattle.dia_streams.proofs.OtherLines.{IsStreamTold-map, SomeTold-map, WholeTold-map}
 use Rattle.dia_run.specs.declared.inputs.Refused.{Refused}
@@ -23,8 +25,10 @@ use Rattle.dia_run.specs.Texts.{line, IsDictionaryText}
 use Rattle.dia_run.specs.Refusals.{TellsOf, bad_input_text}
 use Rattle.dia_run.specs.Outcome.{IsJudged}
 use Rattle.dia_captures.specs.Lines.{RefusesFirst, checks}
-use Rattle.dia_captures.specs.Streams.{OfMessage, IsStreamAnswered, IsStreamFrontPut, told, refused}
-use Rattle.dia_captures.proofs.LinesOfMessages.{first_stands}
+use Rattle.dia_run.proofs.OneInput.{Same, one_dictionary, refused_once}
+use Rattle.dia_run.proofs.OneOutcome.{judged_once}
+use Rattle.dia_captures.specs.Streams.{OfMessage, IsStreamAnswered, IsStreamFrontPut, IsStreamOutcome, told, refused}
+use Rattle.dia_captures.proofs.LinesOfMessages.{first_stands, one_first}
 
 module _ (u : Unknown) (most : Levels) (inputs : Inputs) where
   -- ---- a dictionary that was read
@@ -112,3 +116,19 @@ module _ (u : Unknown) (most : Levels) (inputs : Inputs) where
     stream_refused_front why (Err faults.NoMemory) tells memory front nothing counted err =
         subst (λ (p : Option (List ℕ)). IsStreamFrontPut u most inputs fed fed old p) (sym (nothing refl)) (inl nothing_in_front)
     stream_refused_front why (Err faults.Endless) tells memory front nothing counted err = absurd (counted refl)
+
+-- ---- one text
+
+module _ (u : Unknown) (most : Levels) (inputs : Inputs) where
+  message_once : BytesHaveOneText (OfMessage u most inputs)
+  message_once bytes t o x y (d, is_d, judged) (e, is_e, judged') =
+      let same = one_dictionary inputs.first e d is_e is_d in
+      judged_once u most d bytes t o x y is_d.4 judged (subst (λ (b : Dictionary). IsJudged u most b bytes o y) same judged')
+
+  pub stream_outcome_once : (stream t o : List ℕ) (x y : Exit) → IsStreamOutcome u most inputs stream t x → IsStreamOutcome u most inputs stream o y → Same t o x y
+  stream_outcome_once stream t o x y (told exits sound h is) (told endings sound' k is') =
+      let same = stream_once (OfMessage u most inputs) message_once stream t o exits endings h k in
+      (same.0, is ∙ ap (λ (e : List Exit). (checks u most).exit_of (ended_of e)) same.1 ∙ sym is')
+  stream_outcome_once stream t o x y (told exits sound h is) (refused why refuses is_o) = absurd (sound why refuses)
+  stream_outcome_once stream t o x y (refused why refuses is_t) (told exits sound h is) = absurd (sound why refuses)
+  stream_outcome_once stream t o x y (refused why refuses is_t) (refused other refuses' is_o) = refused_once why other t o x y (one_first inputs why other refuses refuses') is_t is_o

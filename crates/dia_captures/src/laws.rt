@@ -12,6 +12,7 @@ ghost use Rattle.dia_run.specs.Texts.{IsDictionaryText};
 ghost use Rattle.dia_run.specs.Outcome.{IsRefutation};
 ghost use Rattle.dia_captures.specs.OneMessage.{IsMessageChecked};
 ghost use Rattle.dia_captures.specs.Lines.{OfLine, IsLinesOutcome, checks, refutations};
+ghost use Rattle.dia_captures.specs.Streams.{IsStreamOutcome};
 
 /// What a `CheckJudge` says of a line is what `check` writes for the dictionary's text, and the line as the message.
 pub fn check_of_line()
@@ -52,4 +53,11 @@ pub fn one_refute_of_lines()
     ensures { (u : AnyPolicy) (most : AnyLevels) (inputs : AnyInputs) (bytes text other : List ℕ)
         (exit ending : AnyExit) → IsLinesOutcome (refutations u most) inputs bytes text exit
         → IsLinesOutcome (refutations u most) inputs bytes other ending → (text ≡ other) × (exit ≡ ending) }
+{}
+
+/// `check` writes one text for a stream, and ends in one way.
+pub fn one_check_of_stream()
+    ensures { (u : AnyPolicy) (most : AnyLevels) (inputs : AnyInputs) (stream text other : List ℕ)
+        (exit ending : AnyExit) → IsStreamOutcome u most inputs stream text exit
+        → IsStreamOutcome u most inputs stream other ending → (text ≡ other) × (exit ≡ ending) }
 {}

@@ -15,7 +15,8 @@ mod tests;
 
 pub use judges::{CheckJudge, RefuteJudge};
 pub use laws::{
-    check_of_line, one_check, one_check_of_lines, one_refute, one_refute_of_lines, refute_of_line,
+    check_of_line, one_check, one_check_of_lines, one_check_of_stream, one_refute,
+    one_refute_of_lines, refute_of_line,
 };
 pub use runs::{check_lines, check_stream, refute_lines};
 pub use tallied::Tallied;

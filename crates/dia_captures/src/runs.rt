@@ -6,7 +6,7 @@ ghost use Rattle.std.specs.Io.KnownBytes.{Appends, IsAtEnd};
 ghost use Rattle.dia_io.specs.Writing.{AppendsFront};
 ghost use Rattle.dia_lines.specs.declared.fault.LinesFault.TheVariants.{NoMemory, Device, Endless};
 ghost use Rattle.dia_lines.specs.FeedToSink.{LinesAnswered, most_pieces};
-ghost use Rattle.dia_streams.specs.Streams.{WholeTold};
+ghost use Rattle.dia_streams.specs.Streams.{WholeTold, most_places};
 ghost use Rattle.dia_run.specs.Texts.{line};
 ghost use Rattle.dia_run.specs.Refusals.{TellsOf};
 ghost use Rattle.dia_captures.specs.Lines.{AreLinesAnswered, IsFrontPut, OfLine, checks, refutations};
@@ -127,6 +127,8 @@ pub fn check_stream<F: Feed, S: Sink>(
         (F.remaining feed.old) (F.remaining feed.new) (S.written sink.old) (S.written sink.new) }
     ensures endless { result ≡ Err Endless → WholeTold (OfMessage unknown levels inputs.now)
         (F.remaining feed.old) (F.remaining feed.new) (S.written sink.old) (S.written sink.new) }
+    ensures pieces { result ≡ Err Endless
+        → IfSome (F.remaining feed.old) (λ bytes. most_places ≤ length bytes) }
 {
     let book = match read_dictionary(alloc, 1, &inputs.first) {
         Ok(book) => book,

@@ -129,7 +129,7 @@ shown_once d bytes t u x y (trailing len (h, is_head, is_length) more refuses) s
 -- ---- commands
 
 -- P says one thing of a dictionary and a message
-abbrev HasOne : (Dictionary → List ℕ → List ℕ → Exit → Type 0) → Type 0
+abbrev pub HasOne : (Dictionary → List ℕ → List ℕ → Exit → Type 0) → Type 0
 HasOne P = (d : Dictionary) (bytes t u : List ℕ) (x y : Exit) → IsDictionary d → P d bytes t x → P d bytes u y → Same t u x y
 
 of_message_once : (P : Dictionary → List ℕ → List ℕ → Exit → Type 0) → HasOne P → (inputs : Inputs) (t u : List ℕ) (x y : Exit) → IsMessageOutcome P inputs t x → IsMessageOutcome P inputs u y
@@ -162,7 +162,7 @@ verdict_once d (Err refusal.Spent) t u x y h k = absurd h
 is_known : (d : Dictionary) (answer : Result Selected Refusal) (t : List ℕ) (x : Exit) → IsVerdict d answer t x → answer ≢ Err refusal.NoMemory
 is_known d answer t x h none = subst (λ (a : Result Selected Refusal). IsVerdict d a t x) none h
 
-judged_once : (policy : Unknown) (most : Levels) → HasOne (IsJudged policy most)
+pub judged_once : (policy : Unknown) (most : Levels) → HasOne (IsJudged policy most)
 judged_once policy most d bytes t u x y sound (a, is_a, verdict) (b, is_b, verdict') =
     let same : a ≡ b = one_answer d policy most bytes a b sound is_a is_b (is_known d a t x verdict) (is_known d b u y verdict') in
     verdict_once d a t u x y verdict (subst (λ (r : Result Selected Refusal). IsVerdict d r u y) (sym same) verdict')

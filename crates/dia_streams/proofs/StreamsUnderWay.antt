@@ -1,5 +1,5 @@
 -- A stream that is told as it is read.
-use Rattle.std.proofs.Common.{◌≡◌, ◌≢◌, ℕ, ◌+◌, ◌<◌, Bool, true, false, List, [], ◌∷◌, ◌++◌, length, take, Option, None, Some, refl, sym, ap, subst, ◌∙◌, append_assoc, arith, inl, inr, ◌≤◌}
+use Rattle.std.proofs.Common.{◌≡◌, ◌≢◌, ℕ, ◌+◌, ◌<◌, Bool, true, false, not, cond, List, [], ◌∷◌, ◌++◌, length, take, Option, None, Some, refl, sym, ap, subst, ◌∙◌, append_assoc, arith, inl, inr, ◌≤◌}
 use Rattle.std.specs.Prelude.{string_bytes, ◌==◌, is_some}
 use Rattle.std.proofs.lemmas.Bool.{eqb-true}
 use Rattle.std.proofs.lemmas.List.{append-nil, length-append, take-append-le}
@@ -11,7 +11,7 @@ use Rattle.dia_lines.specs.UnderWay.{ended_with}
 use Rattle.dia_lines.proofs.LinesUnderWay.{ended_one_more}
 use Rattle.dia_streams.specs.declared.told.Told.{Told}
 use Rattle.dia_streams.specs.declared.streamed.Streamed.{Streamed}
-use Rattle.dia_streams.specs.Streams.{AreSpelled, AreTold, none, message, IsEndTold, nothing, part, endless, no_digits, IsEndless, IsMessage, IsPart, IsStreamTold, Spells, digits_of, placed, not_hexadecimal}
+use Rattle.dia_streams.specs.Streams.{AreSpelled, AreTold, none, message, IsEndTold, nothing, part, endless, no_digits, IsEndless, IsMessage, IsPart, IsStreamTold, Spells, digits_of, is_white, placed, not_hexadecimal}
 use Rattle.dia_streams.specs.UnderWay.{AreDigits, AreTaken, Takes, HasTold, Adds, TellsWhole, BeginsNone, IsUnderWay, IsOver, Reads, Ends}
 use Rattle.dia_streams.proofs.DigitsTaken.{digits_both, spelled_both, spelled_front, stops_half}
 use Rattle.dia_streams.proofs.Fronts.{endless_on}
@@ -26,6 +26,22 @@ record SpelledSoFar (read bytes : List ℕ) : Type 0 where
 so_far : (good : Bool) (half : Option ℕ) (read bytes : List ℕ) → AreTaken good half read bytes → SpelledSoFar read bytes
 so_far true half read bytes a = record { digits = a.digits; left = a.left; parts = a.parts; spelled = a.spelled }
 so_far false half read bytes a = record { digits = a.digits; left = a.left; parts = a.parts; spelled = a.spelled }
+
+-- digits are no fewer than the bytes that they spell, and characters no fewer than their digits
+spelled_long : (digits bytes : List ℕ) → AreSpelled digits bytes → length bytes ≤ length digits
+spelled_long [] [] h = omega arith
+spelled_long [] (byte ∷ bytes) h = absurd h
+spelled_long (x ∷ []) bytes h = absurd h
+spelled_long (x ∷ y ∷ digits) [] h = absurd h
+spelled_long (x ∷ y ∷ digits) (byte ∷ bytes) h = let ih = spelled_long digits bytes h.1 in omega (arith, ih)
+
+digits_short : (text : List ℕ) → length (digits_of text) ≤ length text
+digits_short [] = omega arith
+digits_short (c ∷ text) = by (not (is_white c)) (digits_short text)
+  where
+    by : (b : Bool) → length (digits_of text) ≤ length text → length (cond b (c ∷ digits_of text) (digits_of text)) ≤ length (c ∷ text)
+    by true ih = omega (arith, ih)
+    by false ih = omega (arith, ih)
 
 -- the bytes before, those of a piece, and how they are told
 regroup : (whole kept more all w rest : List ℕ) → all ≡ kept ++ more → all ≡ w ++ rest → (whole ++ kept) ++ more ≡ (whole ++ w) ++ rest
@@ -310,3 +326,17 @@ empty_by bytes same is e = ap length (sym is) ∙ eqb-true (length same) 0 (sym 
 pub some_by : (bytes same : List ℕ) → same ≡ bytes → false ≡ (length same == 0) → 0 < length bytes
 some_by [] same is e = let no : (length same == 0) ≡ true = ap (λ (b : List ℕ). length b == 0) is in absurd cc
 some_by (b ∷ bytes) same is e = omega arith
+
+-- a place that can't be counted is behind as many characters
+pub many_read : (P : List ℕ → List ℕ → Exit → Type 0) (old : Streamed) (good : Bool) (half : Option ℕ) (all piece : List ℕ) (most : ℕ) → Takes good old.digits.half half old.digits.bytes.items all piece
+    → most ≤ old.told.at + length all → (read text : List ℕ) → IsUnderWay P old read text → most ≤ length (read ++ piece)
+many_read P old good half all piece most takes far read text u =
+    let kept = old.digits.bytes.items in
+    let s = so_far good half (digits_of read ++ digits_of piece) ((u.whole ++ kept) ++ takes.more) (takes.taken (digits_of read) (u.whole ++ kept) u.digits) in
+    let long = spelled_long s.digits ((u.whole ++ kept) ++ takes.more) s.spelled in
+    let bytes = length-append (u.whole ++ kept) takes.more in
+    let before = length-append u.whole kept in
+    let grown = ap (λ (b : List ℕ). length b) takes.grows ∙ length-append kept takes.more in
+    let digits = sym (length-append (digits_of read) (digits_of piece)) ∙ ap (λ (b : List ℕ). length b) s.parts ∙ length-append s.digits s.left in
+    let both = length-append read piece in
+    omega (arith, far, u.told.at, long, bytes, before, grown, digits, both, digits_short read, digits_short piece)

@@ -109,6 +109,10 @@ pub record IsFrontTold (P : List ℕ → List ℕ → Exit → Type 0) (stream t
 
 -- ---- from a feed into a sink
 
+-- places of messages are counted up to this number of bytes
+abbrev pub most_places : ℕ
+most_places = 18446744073709551615
+
 -- the feed still gives this, where it tells it
 abbrev pub StillGives : Option (List ℕ) → List ℕ → Type 0
 StillGives None rest = rest ≡ []

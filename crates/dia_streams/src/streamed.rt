@@ -16,10 +16,11 @@ pub struct Streamed {
 }
 
 impl Streamed {
-    ghost use Rattle.std.specs.Prelude.{◌≡◌, ◌≢◌, [], None, IfErr, IfOk, OnOk, string_bytes};
-    ghost use Rattle.dia_lines.specs.declared.fault.LinesFault.TheVariants.{Device};
+    ghost use Rattle.std.specs.Prelude.{◌≡◌, ◌≢◌, ◌≤◌, ◌++◌, List, ℕ, [], None, IfErr, IfOk, OnOk, length, string_bytes};
+    ghost use Rattle.dia_lines.specs.declared.fault.LinesFault.TheVariants.{Device, Endless};
     ghost use Rattle.dia_lines.specs.Lines.{ended_of};
-    ghost use Rattle.dia_streams.specs.UnderWay.{Ends, Reads};
+    ghost use Rattle.dia_streams.specs.Streams.{most_places};
+    ghost use Rattle.dia_streams.specs.UnderWay.{Ends, IsUnderWay, Reads};
 
     /// Nothing was read yet.
     pub fn new(alloc: Global) -> Streamed
@@ -43,6 +44,9 @@ impl Streamed {
         piece: &[u8],
     ) -> Result<bool, LinesFault>
         ensures device { IfErr result (λ fault. fault ≢ Device) }
+        ensures endless { IfErr result (λ fault. fault ≡ Endless → (read text : List ℕ)
+            → IsUnderWay (J.says judge.now) self.old read text
+            → most_places ≤ length (read ++ piece.now)) }
         ensures reads { IfOk result (λ goes_on. Reads (J.says judge.now)
             goes_on self.old self.new piece.now) }
     {

@@ -5,7 +5,7 @@ ghost use Rattle.std.specs.Prelude.{Ok, Err, IfOk, IfSome, IsErr, IsTrue, OnOk, 
 ghost use Rattle.std.specs.Io.KnownBytes.{Appends};
 ghost use Rattle.dia_io.specs.Writing.{AppendsFront};
 ghost use Rattle.dia_lines.specs.declared.fault.LinesFault.TheVariants.{NoMemory, Device, Endless};
-ghost use Rattle.dia_streams.specs.Streams.{AllTold, SomeTold, WholeTold};
+ghost use Rattle.dia_streams.specs.Streams.{AllTold, SomeTold, WholeTold, most_places};
 ghost use Rattle.dia_streams.specs.UnderWay.{AreRead};
 
 use crate::judge::MessageJudge;
@@ -38,6 +38,8 @@ pub fn answer_stream<J: MessageJudge, F: Feed, S: Sink>(
         (F.remaining feed.old) (F.remaining feed.new) (S.written sink.old) (S.written sink.new) }
     ensures endless { result ≡ Err Endless → WholeTold (J.says judge.now)
         (F.remaining feed.old) (F.remaining feed.new) (S.written sink.old) (S.written sink.new) }
+    ensures pieces { result ≡ Err Endless
+        → IfSome (F.remaining feed.old) (λ bytes. most_places ≤ length bytes) }
 {
     let mut streamed = Streamed::new(alloc);
     let mut piece = [0u8; PIECE];
@@ -76,6 +78,9 @@ fn answer_piece<J: MessageJudge, F: Feed, S: Sink>(
     ensures whole { (fed put : Option (List ℕ)) (n : ℕ) → (result ≡ Err NoMemory) ⊎ (result ≡ Err Endless)
         → AreRead (J.says judge.now) fed (F.remaining feed.old) put (S.written sink.old) streamed.old n
         → WholeTold (J.says judge.now) fed (F.remaining feed.new) put (S.written sink.new) }
+    ensures pieces { (fed put : Option (List ℕ)) (n : ℕ) → result ≡ Err Endless
+        → AreRead (J.says judge.now) fed (F.remaining feed.old) put (S.written sink.old) streamed.old n
+        → IfSome fed (λ bytes. most_places ≤ length bytes) }
 {
     let count = feed.get(piece)?;
     if count == 0 {

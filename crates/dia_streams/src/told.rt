@@ -22,12 +22,12 @@ pub struct Told {
 }
 
 impl Told {
-    ghost use Rattle.std.specs.Prelude.{◌≡◌, ◌≢◌, ◌+◌, ◌++◌, List, ℕ, [], Err, IfErr, IfOk, OnOk, codes, string_bytes};
+    ghost use Rattle.std.specs.Prelude.{◌≡◌, ◌≢◌, ◌≤◌, ◌+◌, ◌++◌, List, ℕ, [], Err, IfErr, IfOk, OnOk, codes, length, string_bytes};
     ghost use Rattle.dia_io.specs.declared.Exit.{Exit as AnyExit};
     ghost use Rattle.dia_io.specs.declared.Exit.TheVariants.{Bad};
     ghost use Rattle.dia_lines.specs.Lines.{ended_of};
     ghost use Rattle.dia_lines.specs.declared.fault.LinesFault.TheVariants.{Device, Endless};
-    ghost use Rattle.dia_streams.specs.Streams.{not_hexadecimal, placed};
+    ghost use Rattle.dia_streams.specs.Streams.{most_places, not_hexadecimal, placed};
     ghost use Rattle.dia_streams.specs.UnderWay.{Adds, BeginsNone, TellsWhole};
 
     /// Nothing was told yet.
@@ -51,6 +51,8 @@ impl Told {
         bytes: &'b [u8],
     ) -> Result<&'b [u8], LinesFault>
         ensures device { IfErr result (λ fault. fault ≢ Device) }
+        ensures endless { IfErr result (λ fault. fault ≡ Endless
+            → most_places ≤ self.old.at + length bytes.entry.now) }
         ensures told { IfOk result (λ rest. TellsWhole (J.says judge.now)
             self.old self.new bytes.entry.now rest.now) }
         ensures none { IfOk result (λ rest. BeginsNone rest.now) }
@@ -109,6 +111,7 @@ impl Told {
         ensures text { self.new.text ≡ self.old.text }
         ensures ended { self.new.ended ≡ self.old.ended }
         ensures err { IfErr result (λ fault. fault ≡ Endless) }
+        ensures many { IfErr result (λ _. most_places ≤ self.old.at + length) }
     {
         match self.at.checked_add(length as u64) {
             Some(at) => {

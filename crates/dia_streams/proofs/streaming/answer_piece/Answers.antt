@@ -1,6 +1,10 @@
-use Rattle.std.proofs.Common.{Bool, take, ◌<◌, length, subst, arith, true, false}
+use Rattle.std.proofs.Common.{◌≡◌, Bool, ◌++◌, take, ◌<◌, length, Err, subst, arith, rules, true, false}
+use Rattle.dia_lines.specs.declared.fault.LinesFault.TheVariants.{Endless}
 use Rattle.std.proofs.lemmas.List.{length-take}
 use Rattle.std.specs.Io.KnownBytes.{Consumes}
+use Rattle.std.proofs.KnownBytes.{Consumes-trans}
+use Rattle.dia_lines.proofs.FeedToSink.{long_feed}
+use Rattle.dia_streams.specs.Streams.{most_places}
 use Rattle.dia_streams.specs.UnderWay.{Reads}
 use Rattle.dia_streams.proofs.StreamToSink.{piece_read, all_over, all_read, whole_before, whole_kept, some_of_whole, sink_failed, sink_failed_at_end, ok_same}
 use Rattle.dia_streams.proofs.streaming.answer_piece.Goals as goal
@@ -65,3 +69,12 @@ returns-in_ok-put_lines-2-clause-end g c = λ fed put n is a.
     (ok_same c.in_ok-goes_on.goes_on false is) c.in_ok-goes_on.ensures.reads in
     all_over (g.J.MessageJudge.says c.args.judge.now) fed _ _ put _ _ c.args.streamed.now c.read.new.self c.put_lines-else-count-eq0.new.streamed n
     piece c.in_ok-count.ensures.bytes.0 reads c.in_ok-put_lines-2.ensures.put c.in_ok-put_lines-2.ensures.ended a
+
+pub returns-in_err-goes_on-clause-pieces : goal.returns-in_err-goes_on-clause-pieces
+returns-in_err-goes_on-clause-pieces g c = λ fed put n is a.
+    let piece = take c.in_ok-count.count c.get.new.buffer in
+    let same : c.from_residual-in_err-goes_on.result ≡ Err c.in_err-goes_on.field-0.0 = search rules in
+    let endless : c.in_err-goes_on.field-0.0 ≡ Endless = cc in
+    long_feed fed (g.F.Feed.remaining c.get.new.self) most_places (a.read ++ piece)
+    (Consumes-trans fed (g.F.Feed.remaining c.args.feed.now) (g.F.Feed.remaining c.get.new.self) a.read piece a.consumed c.in_ok-count.ensures.bytes.0)
+    (c.in_err-goes_on.ensures.endless endless a.read a.text a.under_way)

@@ -1,5 +1,7 @@
 use Rattle.std.proofs.Common.{◌≡◌, Ok, Err, refl, ap, arith, rules, inl, inr}
 use Rattle.dia_lines.specs.declared.fault.LinesFault.TheVariants.{NoMemory, Endless}
+use Rattle.dia_lines.proofs.FeedToSink.{long_feed}
+use Rattle.dia_streams.specs.Streams.{most_places}
 use Rattle.dia_streams.proofs.StreamToSink.{first_read, some_of_whole, whole_now}
 use Rattle.dia_streams.proofs.streaming.answer_stream.Goals as goal
 
@@ -39,3 +41,15 @@ returns-clause-front g c = λ _.
 pub returns-clause-endless : goal.returns-clause-endless
 returns-clause-endless g c = λ _.
     whole_now (g.J.MessageJudge.says c.args.judge.now) _ _ _ _ c.loop-pieces_left.streamed _ c.loop-pieces_left.invariant.are_read
+
+pub returns-in_err-answer_piece-clause-pieces : goal.returns-in_err-answer_piece-clause-pieces
+returns-in_err-answer_piece-clause-pieces g c = λ e.
+    let same : c.from_residual.result ≡ Err c.in_err-answer_piece.field-0.0 = search rules in
+    let is : c.in_err-answer_piece.field-0.0 ≡ Endless = cc in
+    c.in_err-answer_piece.ensures.pieces _ _ _ (ap (λ f. Err f) is) c.loop-pieces_left.invariant.are_read
+
+pub returns-clause-pieces : goal.returns-clause-pieces
+returns-clause-pieces g c = λ _.
+    let a = c.loop-pieces_left.invariant.are_read in
+    long_feed (g.F.Feed.remaining c.args.feed.now) (g.F.Feed.remaining c.loop-pieces_left.feed) most_places a.read a.consumed
+    (omega (arith, a.counted, c.loop-pieces_left-test.false))

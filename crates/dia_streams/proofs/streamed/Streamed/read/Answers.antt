@@ -1,6 +1,9 @@
-use Rattle.std.proofs.Common.{ℕ, Bool, List, length, refl, ap, subst, arith}
-use Rattle.dia_streams.specs.UnderWay.{Takes, TellsWhole}
-use Rattle.dia_streams.proofs.StreamsUnderWay.{Reads-endless, Reads-stopped, Reads-on, is_part, all_left}
+use Rattle.std.proofs.Common.{◌≡◌, ℕ, ◌≤◌, Bool, List, ◌++◌, length, Err, refl, sym, ap, subst, arith, rules}
+use Rattle.std.specs.Prelude.{IfErr}
+use Rattle.dia_lines.specs.declared.fault.LinesFault.TheVariants.{Endless}
+use Rattle.dia_streams.specs.UnderWay.{IsUnderWay, Takes, TellsWhole}
+use Rattle.dia_streams.specs.Streams.{most_places}
+use Rattle.dia_streams.proofs.StreamsUnderWay.{many_read, Reads-endless, Reads-stopped, Reads-on, is_part, all_left}
 use Rattle.dia_streams.proofs.streamed.Streamed.read.Goals as goal
 
 pub returns-in-Some-clause-reads : goal.returns-in-Some-clause-reads
@@ -50,3 +53,14 @@ returns-else-rest-bytes-clause-reads g c =
     Reads-on P c.take.new.self.half all c.args.piece.now rest old _ c.tell_whole.new.self takes tells
     (is_part rest c.in_ok-rest.ensures.none (c.in_default.ensures.none refl)) refl
     (all_left all tells.whole rest tells.parts (let value = ap (λ (b : List ℕ). length b) c.as_slice-bytes.ensures.value in omega (arith, value, c.if-rest-bytes.false))) refl
+
+pub returns-in_err-rest-clause-endless : goal.returns-in_err-rest-clause-endless
+returns-in_err-rest-clause-endless g c =
+    let P = g.J.MessageJudge.says c.args.judge.now in
+    let old = c.args.self.now in
+    let all = c.take.new.self.bytes.items in
+    let long = ap (λ (b : List ℕ). length b) c.as_slice-bytes.ensures.value in
+    let same : c.from_residual-in_err-rest.result ≡ Err c.in_err-rest.field-0.0 = search rules in
+    subst (λ r. IfErr r (λ fault. fault ≡ Endless → (read text : List ℕ) → IsUnderWay P old read text → most_places ≤ length (read ++ c.args.piece.now))) (sym same)
+    (λ is. many_read P old c.in_ok-hexadecimal.hexadecimal c.take.new.self.half all c.args.piece.now most_places
+    c.in_ok-hexadecimal.ensures (omega (arith, long, c.in_err-rest.ensures.endless is)))

@@ -1,9 +1,12 @@
-use Rattle.std.proofs.Common.{length}
+use Rattle.std.proofs.Common.{◌≡◌, ◌+◌, length}
 use Rattle.dia_streams.specs.UnderWay.{TellsWhole}
 use Rattle.dia_streams.proofs.told.Told.tell_whole.Given as goal
 
 abbrev pub invariant-loop-message : goal.invariant-loop-message
-invariant-loop-message g l = record { tells : TellsWhole (g.J.MessageJudge.says l.judge) l.initial.self l.self l.bytes l.rest }
+invariant-loop-message g l = record {
+  tells : TellsWhole (g.J.MessageJudge.says l.judge) l.initial.self l.self l.bytes l.rest;
+  counts : l.self.at + length l.rest ≡ l.initial.self.at + length l.bytes;
+}
 
 abbrev pub decreases-loop-message : goal.decreases-loop-message
 decreases-loop-message g l = length l.rest
