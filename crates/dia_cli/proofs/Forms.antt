@@ -1,13 +1,12 @@
--- The forms of the commands are accepted, and ask for what they say.
+-- The words of a form are accepted, and ask for what it says.
+pub mod Lookup
 pub mod Walked
 pub mod NamesWalked
-pub mod Show
-pub mod Check
-pub mod Render
-pub mod Compare
-pub mod Refute
-pub mod Propose
-pub mod Breaking
-pub mod Found
+pub mod Steps
+pub mod Walks
+pub mod Ends
+pub mod Fits
+pub mod FormRows
+pub mod Says
 pub mod Requests
 pub mod Accepted

@@ -1,3 +1,4 @@
 pub mod Endings
+pub mod Lines
 pub mod Words
 pub mod Forms

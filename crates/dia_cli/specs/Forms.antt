@@ -1,17 +1,14 @@
 -- The forms of the commands, the words of each, and what these ask for.
-use Rattle.std.specs.Prelude.{◌≡◌, ◌&&◌, ◌||◌, ⊤, Bool, true, false, not, List, [], ◌∷◌, ◌++◌, map, Option, Some, None, Result, Ok, Err, codes, is_some, length, nat_lt, string_bytes, unwrap_or}
+use Rattle.std.specs.Prelude.{◌≡◌, ⊤, Bool, true, false, List, [], ◌∷◌, ◌++◌, map, Option, Some, None, Result, Ok, Err, codes, string_bytes, unwrap_or}
 use Rattle.std.specs.List.{list_all}
-use Rattle.std.specs.Option.{option_map_or}
-use Rattle.std.specs.Str.{bytes_eq}
-use Rattle.clap.specs.Lexer.{strip_byte, usize_max}
 use Rattle.clap.specs.Walk.{Text}
 use Rattle.dia_policy.specs.declared.Sends.{Sends}
 use Rattle.dia_policy.specs.declared.Sends.TheVariants.{Any, Known, Listed}
 use Rattle.dia_policy.specs.declared.Unknown.{Unknown}
 use Rattle.dia_policy.specs.declared.Unknown.TheVariants.{Kept, Refused}
-use Rattle.dia_cli.specs.Asking.{is_limit}
 use Rattle.dia_cli.specs.Origins.{reads_twice}
 use Rattle.dia_cli.specs.Request.{origins_of}
+use Rattle.dia_cli.specs.Slots.{Slot, choice, flag, is_plain_slot, number, text, word, words, words_of_slots}
 use Rattle.dia_cli.specs.Words.{IsLimitOf}
 use Rattle.dia_cli.specs.declared.ending.Ending.{Ending}
 use Rattle.dia_cli.specs.declared.ending.Ending.TheVariants as ending
@@ -36,28 +33,6 @@ pub data Form : Type 0 where
   propose : Unknown → Text → Text → Text → List Text → Form
   breaking : Sends → Unknown → Bool → Text → Text → List Text → Form
 
-abbrev pub flag_words : Text → Bool → List Text
-flag_words flag false = []
-flag_words flag true = flag ∷ []
-
-abbrev pub option_words : Text → Option Text → List Text
-option_words name None = []
-option_words name (Some value) = name ∷ value ∷ []
-
-abbrev pub policy_words : Unknown → List Text
-policy_words Kept = []
-policy_words Refused = codes "--unknown" ∷ codes "refused" ∷ []
-
-abbrev pub sends_words : Sends → List Text
-sends_words Any = []
-sends_words Known = codes "--sends" ∷ codes "known" ∷ []
-sends_words Listed = codes "--sends" ∷ codes "listed" ∷ []
-
-abbrev pub manner_words : Manner → List Text
-manner_words alone = []
-manner_words in_lines = codes "--lines" ∷ []
-manner_words in_stream = codes "--stream" ∷ []
-
 abbrev pub form_name : Form → Text
 form_name (show dictionary message) = codes "show"
 form_name (check manner unknown levels dictionary message) = codes "check"
@@ -67,59 +42,57 @@ form_name (refute many unknown levels first second message) = codes "refute"
 form_name (propose unknown first second name names) = codes "propose"
 form_name (breaking sends unknown messages first second names) = codes "breaking"
 
-abbrev pub quiet_words : Bool → List Text
-quiet_words = flag_words (codes "--quiet")
+-- a word of an option is left out where it says what holds without it
+abbrev pub policy_given : Unknown → Option Text
+policy_given Kept = None
+policy_given Refused = Some (codes "refused")
 
--- options are left out where they say what holds without them
-abbrev pub check_options : Bool → Manner → Unknown → List Text
-check_options quiet manner unknown = quiet_words quiet ++ policy_words unknown ++ manner_words manner
+abbrev pub sender_given : Sends → Option Text
+sender_given Any = None
+sender_given Known = Some (codes "known")
+sender_given Listed = Some (codes "listed")
 
-abbrev pub refute_options : Bool → Bool → Unknown → List Text
-refute_options quiet many unknown = quiet_words quiet ++ policy_words unknown ++ flag_words (codes "--lines") many
+abbrev pub is_lines : Manner → Bool
+is_lines in_lines = true
+is_lines manner = false
 
-abbrev pub pair_options : Bool → Unknown → List Text
-pair_options quiet unknown = quiet_words quiet ++ policy_words unknown
+abbrev pub is_stream : Manner → Bool
+is_stream in_stream = true
+is_stream manner = false
 
-abbrev pub breaking_options : Bool → Sends → Unknown → Bool → List Text
-breaking_options quiet sends unknown messages =
-    quiet_words quiet ++ policy_words unknown ++ sends_words sends ++ flag_words (codes "--messages") messages
+abbrev pub unknown_slot : Unknown → Slot
+unknown_slot unknown = choice (codes "unknown") (policy_given unknown)
+
+abbrev pub form_options : Form → List Slot
+form_options (show dictionary message) = text (codes "dict") dictionary ∷ []
+form_options (check manner unknown levels dictionary message) =
+    unknown_slot unknown ∷ flag (codes "lines") (is_lines manner) ∷ flag (codes "stream") (is_stream manner) ∷ number (codes "levels") levels ∷ []
+form_options (render dictionary) = []
+form_options (compare unknown first second table) = unknown_slot unknown ∷ []
+form_options (refute many unknown levels first second message) =
+    unknown_slot unknown ∷ flag (codes "lines") many ∷ number (codes "levels") levels ∷ []
+form_options (propose unknown first second name names) = unknown_slot unknown ∷ []
+form_options (breaking sends unknown messages first second names) =
+    unknown_slot unknown ∷ choice (codes "sends") (sender_given sends) ∷ flag (codes "messages") messages ∷ []
+
+abbrev pub pair_slots : Text → Text → Slot → List Slot
+pair_slots first second third = word (codes "A") first ∷ word (codes "B") second ∷ third ∷ []
+
+abbrev pub form_inputs : Form → List Slot
+form_inputs (show dictionary message) = word (codes "MESSAGE") message ∷ []
+form_inputs (check manner unknown levels dictionary message) = word (codes "D") dictionary ∷ word (codes "MESSAGE") message ∷ []
+form_inputs (render dictionary) = word (codes "D") dictionary ∷ []
+form_inputs (compare unknown first second table) = pair_slots first second (word (codes "TABLE") table)
+form_inputs (refute many unknown levels first second message) = pair_slots first second (word (codes "MESSAGE") message)
+form_inputs (propose unknown first second name names) = pair_slots first second (words (codes "COMMAND") (name ∷ names))
+form_inputs (breaking sends unknown messages first second names) = pair_slots first second (words (codes "COMMAND") names)
 
 -- the words behind the command's name, with `--quiet` or without it
 abbrev pub words_of : Bool → Form → List Text
-words_of quiet (show dictionary message) = quiet_words quiet ++ (option_words (codes "--dict") dictionary ++ message ∷ [])
-words_of quiet (check manner unknown levels dictionary message) =
-    check_options quiet manner unknown ++ (option_words (codes "--levels") levels ++ dictionary ∷ message ∷ [])
-words_of quiet (render dictionary) = quiet_words quiet ++ dictionary ∷ []
-words_of quiet (compare unknown first second table) = pair_options quiet unknown ++ first ∷ second ∷ table ∷ []
-words_of quiet (refute many unknown levels first second message) =
-    refute_options quiet many unknown ++ (option_words (codes "--levels") levels ++ first ∷ second ∷ message ∷ [])
-words_of quiet (propose unknown first second name names) = pair_options quiet unknown ++ first ∷ second ∷ name ∷ names
-words_of quiet (breaking sends unknown messages first second names) =
-    breaking_options quiet sends unknown messages ++ first ∷ second ∷ names
-
--- `-`, or a word that doesn't begin with `-`, which is 45
-abbrev pub is_plain : Text → Bool
-is_plain word = bytes_eq word (codes "-") || not (is_some (strip_byte 45 word))
-
--- the word of `--levels`, if there is one, is a number within its limit
-abbrev pub is_number : Option Text → Bool
-is_number levels = option_map_or is_plain levels true && is_limit levels
-
--- fewer names than 2 ^ 64
-abbrev pub are_names : List Text → Bool
-are_names [] = true
-are_names (name ∷ names) = list_all is_plain (name ∷ names) && nat_lt (length names) usize_max
+words_of quiet form = words_of_slots (flag (codes "quiet") quiet ∷ form_options form ++ form_inputs form)
 
 abbrev pub is_plain_form : Form → Bool
-is_plain_form (show dictionary message) = option_map_or is_plain dictionary true && is_plain message
-is_plain_form (check manner unknown levels dictionary message) = is_number levels && (is_plain dictionary && is_plain message)
-is_plain_form (render dictionary) = is_plain dictionary
-is_plain_form (compare unknown first second table) = is_plain first && (is_plain second && is_plain table)
-is_plain_form (refute many unknown levels first second message) =
-    is_number levels && (is_plain first && (is_plain second && is_plain message))
-is_plain_form (propose unknown first second name names) =
-    is_plain first && (is_plain second && (is_plain name && (list_all is_plain names && nat_lt (length names) usize_max)))
-is_plain_form (breaking sends unknown messages first second names) = is_plain first && (is_plain second && are_names names)
+is_plain_form form = list_all is_plain_slot (form_options form ++ form_inputs form)
 
 -- the subcommand is the form's
 abbrev pub IsOfForm : Form → Subcommand → Type 0

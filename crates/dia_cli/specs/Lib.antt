@@ -1,7 +1,10 @@
 pub mod Asking
 pub mod Ending
 pub mod Forms
+pub mod Lines
 pub mod Origins
 pub mod Request
 pub mod OpenedInputs
+pub mod Rows
+pub mod Slots
 pub mod Words

@@ -2,129 +2,23 @@
 use Rattle.std.specs.Prelude.{◌≡◌, ◌<◌, ◌^◌, Bool, true, false, List, [], ◌∷◌, map, unwrap_or, Option, Some, None, codes, string_bytes, IsSomeAnd}
 use Rattle.std.specs.Borrow.{Bor}
 use Rattle.std.specs.Str.Parse.{IsNumeral, digits_value, without_leading_plus}
-use Rattle.clap.specs.Lexer.{usize_max}
-use Rattle.clap.specs.Walk.{Row, Rule, Text, all_of, first_of, texts}
-use Rattle.clap.specs.Simple.{App, Shape, new_app, new_rule, on_top, shape_of, subcommand_of, with_rule, with_subcommand}
-use Rattle.clap.specs.declared.builder.command.Command.{Command}
-use Rattle.clap.specs.declared.builder.command.Command.TheViews.{out-Command}
-use Rattle.clap.specs.declared.builder.action.ArgAction.TheVariants.{SetTrue}
-use Rattle.clap.specs.declared.builder.value_parser.ValueParser.TheVariants.{Names, Unsigned}
+use Rattle.clap.specs.Walk.{Row, Text, all_of, first_of, texts}
+use Rattle.clap.specs.Simple.{App, subcommand_of}
 use Rattle.dia_policy.specs.declared.Levels.{Levels}
 use Rattle.dia_policy.specs.declared.Levels.TheVariants.{Any, AtMost}
 use Rattle.dia_policy.specs.declared.Sends.{Sends}
 use Rattle.dia_policy.specs.declared.Sends.TheVariants as sent
 use Rattle.dia_policy.specs.declared.Unknown.{Unknown}
 use Rattle.dia_policy.specs.declared.Unknown.TheVariants.{Kept, Refused}
+use Rattle.dia_cli.specs.Lines.{program_app}
+use Rattle.dia_cli.specs.Rows.{command_rows, with_commands}
 use Rattle.dia_cli.specs.declared.request.Request.{Request}
 use Rattle.dia_cli.specs.declared.request.Subcommand.{Subcommand}
 use Rattle.dia_cli.specs.declared.request.Subcommand.TheVariants.{Show, Check, CheckLines, CheckStream, Render}
 use Rattle.dia_cli.specs.declared.request.Subcommand.TheVariants.{Compare, Refute, RefuteLines, Propose, Breaking}
 
--- `--dict D`, which is `@base` where it isn't given
-abbrev pub dict_rule : Rule
-dict_rule = record (new_rule (codes "dict")) { long = Some (codes "dict"); value_names = 1; defaults = codes "@base" ∷ [] }
-
--- `--unknown POLICY`, one of these words, which is `kept` where it isn't given
-abbrev pub unknown_rule : Bor (List (Bor Text)) → Rule
-unknown_rule policies =
-    record (new_rule (codes "unknown")) {
-      long = Some (codes "unknown");
-      value_names = 1;
-      defaults = codes "kept" ∷ [];
-      parser = Some (Names policies);
-    }
-
--- `--levels N`, a number of 32 bits
-abbrev pub levels_rule : Rule
-levels_rule = record (new_rule (codes "levels")) {
-  long = Some (codes "levels");
-  value_names = 1;
-  parser = Some (Unsigned 0 4294967295);
-}
-
--- `--sends SENDS`, one of these words, which is `any` where it isn't given
-abbrev pub sends_rule : Bor (List (Bor Text)) → Rule
-sends_rule senders =
-    record (new_rule (codes "sends")) {
-      long = Some (codes "sends");
-      value_names = 1;
-      defaults = codes "any" ∷ [];
-      parser = Some (Names senders);
-    }
-
--- an option without a value
-abbrev pub flag_rule : Text → Rule
-flag_rule id = record (new_rule id) { long = Some id; action = Some SetTrue }
-
--- a word that has to be given
-abbrev pub word_rule : Text → Rule
-word_rule id = record (new_rule id) { required = true }
-
--- one or more words that have to be given
-abbrev pub words_rule : Text → Rule
-words_rule id = record (word_rule id) { range = Some (record { start_inclusive = 1; end_inclusive = usize_max }) }
-
--- any number of words
-abbrev pub any_words_rule : Text → Rule
-any_words_rule id = record (words_rule id) { required = false }
-
--- with which the line of each subcommand begins
-abbrev pub quiet_app : Text → App
-quiet_app name = with_rule (new_app name) (flag_rule (codes "quiet"))
-
-abbrev pub show_shape : Shape
-show_shape = (with_rule (with_rule (quiet_app (codes "show")) dict_rule) (word_rule (codes "MESSAGE"))).top
-
--- `check` with its options
-abbrev pub check_app : Bor (List (Bor Text)) → App
-check_app policies =
-    let policy = with_rule (with_rule (quiet_app (codes "check")) (unknown_rule policies)) levels_rule in
-    with_rule (with_rule policy (flag_rule (codes "lines"))) (flag_rule (codes "stream"))
-
-abbrev pub check_shape : Bor (List (Bor Text)) → Shape
-check_shape policies = (with_rule (with_rule (check_app policies) (word_rule (codes "D"))) (word_rule (codes "MESSAGE"))).top
-
-abbrev pub render_shape : Shape
-render_shape = (with_rule (quiet_app (codes "render")) (word_rule (codes "D"))).top
-
--- `--unknown POLICY A B`, with which the line of a subcommand of two dictionaries begins
-abbrev pub pair_app : Text → Bor (List (Bor Text)) → App
-pair_app name policies =
-    with_rule (with_rule (with_rule (quiet_app name) (unknown_rule policies)) (word_rule (codes "A"))) (word_rule (codes "B"))
-
-abbrev pub compare_shape : Bor (List (Bor Text)) → Shape
-compare_shape policies = (with_rule (pair_app (codes "compare") policies) (word_rule (codes "TABLE"))).top
-
-abbrev pub refute_shape : Bor (List (Bor Text)) → Shape
-refute_shape policies =
-    let options = with_rule (with_rule (pair_app (codes "refute") policies) levels_rule) (flag_rule (codes "lines")) in
-    (with_rule options (word_rule (codes "MESSAGE"))).top
-
-abbrev pub propose_shape : Bor (List (Bor Text)) → Shape
-propose_shape policies = (with_rule (pair_app (codes "propose") policies) (words_rule (codes "COMMAND"))).top
-
-abbrev pub breaking_shape : Bor (List (Bor Text)) → Bor (List (Bor Text)) → Shape
-breaking_shape policies senders =
-    let options = with_rule (with_rule (pair_app (codes "breaking") policies) (sends_rule senders)) (flag_rule (codes "messages")) in
-    (with_rule options (any_words_rule (codes "COMMAND"))).top
-
--- a subcommand's line
-abbrev pub IsLine : Shape → Command → Type 0
-IsLine shape line = (shape_of line ≡ shape) × ((out-Command line).has_globals ≡ false)
-
--- the program's line without its subcommands, of which one has to be given
-abbrev pub program_app : App
-program_app = on_top (λ shape. record shape { has_version = true; subcommand_required = true }) (new_app (codes "diacmd"))
-
--- a line with the subcommands of two dictionaries too
-abbrev pub with_pairs : App → Bor (List (Bor Text)) → App
-with_pairs line policies =
-    with_subcommand (with_subcommand (with_subcommand line (compare_shape policies)) (refute_shape policies)) (propose_shape policies)
-
 abbrev pub line_shape : Bor (List (Bor Text)) → Bor (List (Bor Text)) → App
-line_shape policies senders =
-    let single = with_subcommand (with_subcommand (with_subcommand program_app show_shape) (check_shape policies)) render_shape in
-    with_subcommand (with_pairs single policies) (breaking_shape policies senders)
+line_shape policies senders = with_commands policies senders program_app command_rows
 
 abbrev pub flag_word : Bool → Text
 flag_word false = codes "false"

@@ -14,8 +14,9 @@ ghost use Rattle.dia_cli.specs.Words.{ArePair, IsAskedBy, IsLimitOf, IsRequestOf
 ghost use Rattle.dia_cli.specs.Words.{AreJudged, IsSubcommandOf, flag_word, policy_word, sends_word};
 
 use crate::ending::Ending;
-use crate::line::command_line;
+use crate::line::{Words, command_line};
 use crate::request::{Request, Subcommand};
+use crate::rows::ROWS;
 use crate::values::{
     copies_of, flag_of, limit_of, names_of, policy_of, sends_of, word_of, words_of,
 };
@@ -49,7 +50,11 @@ fn parsed<'a, S: AsStr>(alloc: Global, words: &'a [S]) -> Result<Request<'a>, En
     ensures once { IfOk result (λ request. reads_twice (origins_of request.subcommand) ≡ false) }
     ensures refused { IfErr result (IsRefused (map S.text words.entry.now)) }
 {
-    let mut line = command_line(alloc, POLICIES.as_slice(), SENDERS.as_slice())?;
+    let values = Words {
+        policies: POLICIES.as_slice(),
+        senders: SENDERS.as_slice(),
+    };
+    let mut line = command_line(alloc, values, ROWS.as_slice())?;
     let matches = line.try_get_matches_from_mut(words)?;
     asked(alloc, &mut line, &matches)
 }

@@ -27,6 +27,7 @@ mod opened_inputs;
 mod opener;
 mod origin;
 mod request;
+mod rows;
 mod values;
 
 pub use arguments::parse_words;

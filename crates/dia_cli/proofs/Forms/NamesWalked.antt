@@ -12,7 +12,7 @@ use Rattle.clap.specs.Kinds.{Kinds, or_else, range_kinds, values_kinds}
 use Rattle.clap.specs.declared.builder.value_parser.ValueParser.TheVariants as vp
 use Rattle.clap.specs.declared.error.kind.ErrorKind.TheVariants.{InvalidValue, TooFewValues, TooManyValues}
 use Rattle.clap.proofs.WalkLemmas.{both}
-use Rattle.dia_cli.specs.Forms.{is_plain}
+use Rattle.dia_cli.specs.Slots.{is_plain}
 use Rattle.dia_cli.proofs.Forms.Walked.{IsNoOption, Walks, no_option, walk_at}
 
 -- where words go on to be values of the argument with this id

@@ -3,18 +3,15 @@ use Rattle.std.proofs.Common.{◌≡◌, ◌∙◌, ℕ, Bool, true, false, List
 use Rattle.std.specs.Prelude.{find, fold, is_some, option_map, if◌then◌else◌}
 use Rattle.std.specs.Option.{option_map_or}
 use Rattle.std.specs.Str.{bytes_eq}
-use Rattle.std.specs.Borrow.{Bor}
 use Rattle.std.proofs.lemmas.Slice.Eq.{bytes_eq-Decides}
 use Rattle.clap.specs.Lexer.{long_of, short_of, strip_byte}
 use Rattle.std.proofs.lemmas.List.{append-nil, append_assoc}
 use Rattle.clap.specs.Walk.{Held, Names, Row, Rule, Step, Text, Walk, option, plain_word, arg_by_index, after_step, answers_to}
-use Rattle.clap.specs.Walk.{stop_after, idle, nothing_held, finished, settled, to_positional, value, walk, walk_from, walked, word_met, texts}
+use Rattle.clap.specs.Walk.{stop_after, idle, nothing_held, finished, settled, to_positional, value, walk, walk_from, walked, word_met}
 use Rattle.clap.specs.Simple.{App, Shape, built, entered, label_of, names_of, rows_at, built_leaf, inherited, subcommand_of}
 use Rattle.clap.specs.Faults.{built_fault, check_fault, defaults_fault, entered_fault, settle_fault, fault_of, level_fault, step_fault, turn_fault, walk_fault, word_fault}
 use Rattle.clap.specs.Kinds.{Kinds, or_else}
-use Rattle.clap.specs.ValueTests.{is_unsigned_in}
-use Rattle.clap.specs.declared.error.kind.ErrorKind.TheVariants.{ValueValidation}
-use Rattle.dia_cli.specs.Forms.{is_plain}
+use Rattle.dia_cli.specs.Slots.{is_plain}
 
 abbrev pub walk_at : Held → ℕ → Walk
 walk_at h n = record { held = h; waiting = idle; position = n; is_trailing = false; stopped = None }
@@ -69,15 +66,6 @@ walks_one s h n word plain fine = record {
   ends = walked_plain word s.rules h n plain;
   fine = ap (λ (f : Kinds). or_else f []) (turn_plain word s h n plain ∙ fine);
 }
-
-pub walks_more : (s : Shape) (h k : Held) (n m : ℕ) (word : Text) (rest : List Text) (to : Walk) → IsNoOption word → step_fault s n h value ≡ []
-    → placed s.rules n word h ≡ walk_at k m → Walks s (walk_at k m) rest to → Walks s (walk_at h n) (word ∷ rest) to
-unfolding walk_fault
-walks_more s h k n m word rest to plain fine at walks =
-    let one = walked_plain word s.rules h n plain ∙ at in record {
-      ends = ap (λ (w : Walk). fold (walked s.rules []) w rest) one ∙ walks.ends;
-      fine = ap₂ (λ (f : Kinds) (w : Walk). or_else f (walk_fault s [] w rest)) (turn_plain word s h n plain ∙ fine) one ∙ walks.fine;
-    }
 
 -- the word is the value that is awaited
 pub walks_value : (s : Shape) (h : Held) (id : Text) (n : ℕ) (word : Text) (to : Walk) → IsNoOption word
@@ -164,48 +152,6 @@ module _ (a : App) (name : Text) (s : Shape) (words : List Text) (at : Names_at 
       ∙ ap₂ (λ (has : Bool) (k : Kinds). or_else k (rest_fault a.top nothing_held has)) (ap (λ (o : Option (Text × List Row)). is_some o) found) below
       ∙ at.rest
 
--- the words of an option, written out
-abbrev pub as_text : Bor Text → Text → Bor Text
-as_text b text = record b { now = text }
-
-text_is : (b : Bor Text) (text : Text) → b.now ≡ text → b ≡ as_text b text
-text_is b text e = ap (λ (t : Text). as_text b t) e
-
-abbrev pub as_two : Bor (List (Bor Text)) → Bor Text → Bor Text → Text → Text → Bor (List (Bor Text))
-as_two b p q first second = record b { now = as_text p first ∷ as_text q second ∷ [] }
-
-pub two_are : (b : Bor (List (Bor Text))) (xs : List (Bor Text)) (first second : Text) → b.now ≡ xs → texts xs ≡ first ∷ second ∷ []
-    → (p : Bor Text) × (q : Bor Text) × (b ≡ as_two b p q first second)
-two_are b [] first second is e = absurd cc
-two_are b (p ∷ []) first second is e = absurd cc
-two_are b (p ∷ q ∷ []) first second is e = (
-  p,
-  q,
-  ap (λ (ys : List (Bor Text)). record b { now = ys }) is
-      ∙ ap₂ (λ (x y : Bor Text). record b { now = x ∷ y ∷ [] }) (text_is p first cc) (text_is q second cc),
-)
-two_are b (p ∷ q ∷ r ∷ rest) first second is e = absurd cc
-
-abbrev pub as_three : Bor (List (Bor Text)) → Bor Text → Bor Text → Bor Text → Text → Text → Text → Bor (List (Bor Text))
-as_three b p q r first second third = record b { now = as_text p first ∷ as_text q second ∷ as_text r third ∷ [] }
-
-pub three_are : (b : Bor (List (Bor Text))) (xs : List (Bor Text)) (first second third : Text) → b.now ≡ xs → texts xs ≡ first ∷ second ∷ third ∷ []
-    → (p : Bor Text) × (q : Bor Text) × (r : Bor Text) × (b ≡ as_three b p q r first second third)
-three_are b [] first second third is e = absurd cc
-three_are b (p ∷ []) first second third is e = absurd cc
-three_are b (p ∷ q ∷ []) first second third is e = absurd cc
-three_are b (p ∷ q ∷ r ∷ []) first second third is e =
-    let one : p.now ≡ first = cc in
-    let two : q.now ≡ second = cc in
-    let three : r.now ≡ third = cc in (
-      p,
-      q,
-      r,
-      ap (λ (ys : List (Bor Text)). record b { now = ys }) is
-          ∙ (λ i. record b { now = as_text p (one i) ∷ as_text q (two i) ∷ as_text r (three i) ∷ [] }),
-    )
-three_are b (p ∷ q ∷ r ∷ t ∷ rest) first second third is e = absurd cc
-
 -- words behind the name of a subcommand, that are walked to an end that has no fault
 pub record Ends (s : Shape) (words : List Text) (to : Walk) : Type 0 where
   pub walks : Walks s (walk_from nothing_held) words to
@@ -236,49 +182,6 @@ taken line program name words s to skips named at e = record {
 abbrev pub given : List Rule → Held → Text → Text → Held
 given c h id word = record (settled c h) { pending = Some (id, word ∷ []) }
 
-abbrev pub given_two : List Rule → Held → Text → Text → Text → Text → Held
-given_two c h id first id_two second = given c (given c h id first) id_two second
-
-abbrev pub given_three : List Rule → Held → Text → Text → Text → Text → Text → Text → Held
-given_three c h id first id_two second id_three third = given c (given_two c h id first id_two second) id_three third
-
--- one word may stand at the first place, with these arguments before it
-pub record FitsOne (s : Shape) (h : Held) (id : Text) (first : Text) : Type 0 where
-  pub step : step_fault s 1 h value ≡ []
-  pub goes : placed s.rules 1 first h ≡ walk_at (given s.rules h id first) 2
-
-pub record FitsTwo (s : Shape) (h : Held) (id id_two : Text) (first second : Text) : Type 0 where
-  pub one : FitsOne s h id first
-  pub step : step_fault s 2 (given s.rules h id first) value ≡ []
-  pub goes : placed s.rules 2 second (given s.rules h id first) ≡ walk_at (given_two s.rules h id first id_two second) 3
-
-pub record FitsThree (s : Shape) (h : Held) (id id_two id_three : Text) (first second third : Text) : Type 0 where
-  pub two : FitsTwo s h id id_two first second
-  pub step : step_fault s 3 (given_two s.rules h id first id_two second) value ≡ []
-  pub goes : placed s.rules 3 third (given_two s.rules h id first id_two second) ≡ walk_at (given_three s.rules h id first id_two second id_three third) 4
-
-pub walks_first : (s : Shape) (h : Held) (id first : Text) → IsNoOption first → FitsOne s h id first
-    → Walks s (walk_at h 1) (first ∷ []) (walk_at (given s.rules h id first) 2)
-walks_first s h id first plain fits =
-    let walks = walks_one s h 1 first plain fits.step in record { ends = walks.ends ∙ fits.goes; fine = walks.fine }
-
-pub walks_two : (s : Shape) (h : Held) (id id_two first second : Text) → IsNoOption first → IsNoOption second → FitsTwo s h id id_two first second
-    → Walks s (walk_at h 1) (first ∷ second ∷ []) (walk_at (given_two s.rules h id first id_two second) 3)
-walks_two s h id id_two first second plain plain_two fits =
-    let walks = walks_one s (given s.rules h id first) 2 second plain_two fits.step in
-    walks_more s h (given s.rules h id first) 1 2 first (second ∷ []) (walk_at (given_two s.rules h id first id_two second) 3) plain fits.one.step fits.one.goes
-    (record { ends = walks.ends ∙ fits.goes; fine = walks.fine })
-
-pub walks_three : (s : Shape) (h : Held) (id id_two id_three first second third : Text) → IsNoOption first → IsNoOption second → IsNoOption third
-    → FitsThree s h id id_two id_three first second third
-    → Walks s (walk_at h 1) (first ∷ second ∷ third ∷ []) (walk_at (given_three s.rules h id first id_two second id_three third) 4)
-walks_three s h id id_two id_three first second third plain plain_two plain_three fits =
-    let walks = walks_one s (given_two s.rules h id first id_two second) 3 third plain_three fits.step in
-    let end = walk_at (given_three s.rules h id first id_two second id_three third) 4 in
-    walks_more s h (given s.rules h id first) 1 2 first (second ∷ third ∷ []) end plain fits.two.one.step fits.two.one.goes
-    (walks_more s (given s.rules h id first) (given_two s.rules h id first id_two second) 2 3 second (third ∷ []) end plain_two fits.two.step fits.two.goes
-    (record { ends = walks.ends ∙ fits.goes; fine = walks.fine }))
-
 -- the value of an option that waits for it
 pub walks_option : (s : Shape) (h : Held) (name id word : Text) → IsNoOption word
     → Walks s (walk_at h 1) (name ∷ []) (awaits_at (record (settled s.rules h) { pending = Some (id, []) }) id 1)
@@ -291,11 +194,6 @@ pub walks_option : (s : Shape) (h : Held) (name id word : Text) → IsNoOption w
 walks_option s h name id word plain named at fine =
     walks_on s (walk_at h 1) (awaits_at (record (settled s.rules h) { pending = Some (id, []) }) id 1) (walk_at (given s.rules h id word) 1) (name ∷ []) (word ∷ [])
     named (walks_value s (record (settled s.rules h) { pending = Some (id, []) }) id 1 word (walk_at (given s.rules h id word) 1) plain at fine)
-
--- the number passes its parser
-pub number_step : (number : Text) → is_unsigned_in 0 4294967295 number ≡ true
-    → or_else (if is_unsigned_in 0 4294967295 number then [] else ValueValidation ∷ []) [] ≡ []
-number_step number passes = ap (λ (b : Bool). or_else (if b then [] else ValueValidation ∷ []) []) passes
 
 -- a word that doesn't begin with `-` is no option, and neither is `-`
 pub no_option : (word : Text) → is_plain word ≡ true → IsNoOption word

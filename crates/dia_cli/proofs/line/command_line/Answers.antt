@@ -1,16 +1,12 @@
-use Rattle.std.proofs.Common.{◌∙◌, ap}
-use Rattle.std.proofs.lemmas.Result.{IfOk-weaker}
-use Rattle.clap.specs.Words.{with_subcommand}
-use Rattle.dia_cli.specs.Words.{breaking_shape, check_shape, render_shape, show_shape, with_pairs}
+use Rattle.std.proofs.Common.{◌∙◌, ap₂}
+use Rattle.clap.specs.Simple.{with_subcommand}
+use Rattle.dia_cli.specs.Lines.{command_of, program_app}
+use Rattle.dia_cli.specs.Rows.{row_shape}
+use Rattle.dia_cli.proofs.Lines.{rows_more}
 use Rattle.dia_cli.proofs.line.command_line.Goals as goal
 
-pub returns : goal.returns
-returns c =
-    let policies = c.args.policies in
-    let with_show = c.in_ok-line.ensures show_shape c.show_line.ensures ∙ ap (λ app. with_subcommand app show_shape) c.program_line.ensures in
-    let with_check = c.in_ok-line-2.ensures (check_shape policies) c.check_line.ensures ∙ ap (λ app. with_subcommand app (check_shape policies)) with_show in
-    let with_render = c.in_ok-line-3.ensures render_shape c.render_line.ensures ∙ ap (λ app. with_subcommand app render_shape) with_check in
-    let with_all = c.in_ok-line-4.ensures ∙ ap (λ app. with_pairs app policies) with_render in
-    IfOk-weaker c.with_line-4.result _ _
-    (λ line added. added (breaking_shape policies c.args.senders) c.breaking_line.ensures ∙ ap (λ app. with_subcommand app (breaking_shape policies c.args.senders)) with_all)
-    c.with_line-4.ensures
+pub loop-row-preserved : goal.loop-row-preserved
+loop-row-preserved c =
+    let line = c.in_ok-line.ensures in
+    c.in_ok-line-2.ensures.shape line.1 ∙ ap₂ with_subcommand c.loop-row.invariant line.0
+    ∙ rows_more with_subcommand (row_shape c.args.words.policies c.args.words.senders) command_of program_app c.args.rows.now c.loop-row.row-index _ c.loop-row-test.true

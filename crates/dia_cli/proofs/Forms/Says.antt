@@ -1,0 +1,138 @@
+-- What is found of the words of a form.
+use Rattle.std.proofs.Common.{◌≡◌, ◌∙◌, Bool, true, false, List, [], ◌∷◌, ◌++◌, Option, Some, None, refl, ap, codes}
+use Rattle.std.specs.Prelude.{option_and_then, option_map, slice_get, unwrap_or}
+use Rattle.std.specs.Borrow.{Bor}
+use Rattle.clap.specs.Simple.{Shape}
+use Rattle.clap.specs.Walk.{Row, Text, all_of, first_of}
+use Rattle.clap.specs.declared.parser.matches.ValueSource.TheVariants.{CommandLine, DefaultValue}
+use Rattle.dia_policy.specs.declared.Sends.{Sends}
+use Rattle.dia_policy.specs.declared.Sends.TheVariants.{Any, Known, Listed}
+use Rattle.dia_policy.specs.declared.Unknown.{Unknown}
+use Rattle.dia_policy.specs.declared.Unknown.TheVariants.{Kept, Refused}
+use Rattle.dia_cli.specs.Forms.{Form, breaking, check, compare, form_inputs, is_lines, is_stream, policy_given, propose, refute, render, sender_given, show}
+use Rattle.dia_cli.specs.Slots.{Slot}
+use Rattle.dia_cli.specs.Words.{flag_word, policy_word, sends_word}
+use Rattle.dia_cli.proofs.Forms.Ends.{Finds}
+use Rattle.dia_cli.proofs.Forms.FormRows.{all_options, form_row, shape}
+use Rattle.dia_cli.proofs.Forms.Lookup.{Found, all_found, default_found, first_found, or_found, values_from}
+use Rattle.dia_cli.proofs.Forms.Steps.{flag_values, option_values, values_of}
+use Rattle.dia_cli.proofs.Forms.Walks.{behind}
+
+-- the names of commands that are found, where there are any
+abbrev pub some_names : List Text → Option (List Text)
+some_names [] = None
+some_names (name ∷ names) = Some (name ∷ names)
+
+abbrev SaysPair : Unknown → Text → Text → List Row → Type 0
+SaysPair unknown first second rows = (first_of (codes "unknown") rows ≡ Some (policy_word unknown)) × (first_of (codes "A") rows ≡ Some first)
+    × (first_of (codes "B") rows ≡ Some second)
+
+-- what is found of the options and inputs of a form
+abbrev pub SaysForm : Form → List Row → Type 0
+SaysForm (show dictionary message) rows = (first_of (codes "dict") rows ≡ Some (unwrap_or dictionary (codes "@base"))) × (first_of (codes "MESSAGE") rows ≡ Some message)
+SaysForm (check manner unknown levels dictionary message) rows =
+    (first_of (codes "lines") rows ≡ Some (flag_word (is_lines manner))) × (first_of (codes "stream") rows ≡ Some (flag_word (is_stream manner)))
+    × (first_of (codes "unknown") rows ≡ Some (policy_word unknown)) × (first_of (codes "levels") rows ≡ levels)
+    × (first_of (codes "D") rows ≡ Some dictionary) × (first_of (codes "MESSAGE") rows ≡ Some message)
+SaysForm (render dictionary) rows = first_of (codes "D") rows ≡ Some dictionary
+SaysForm (compare unknown first second table) rows = SaysPair unknown first second rows × (first_of (codes "TABLE") rows ≡ Some table)
+SaysForm (refute many unknown levels first second message) rows =
+    SaysPair unknown first second rows × (first_of (codes "lines") rows ≡ Some (flag_word many)) × (first_of (codes "levels") rows ≡ levels)
+    × (first_of (codes "MESSAGE") rows ≡ Some message)
+SaysForm (propose unknown first second name names) rows = SaysPair unknown first second rows × (all_of (codes "COMMAND") rows ≡ Some (name ∷ names))
+SaysForm (breaking sends unknown messages first second names) rows =
+    SaysPair unknown first second rows × (first_of (codes "sends") rows ≡ Some (sends_word sends)) × (first_of (codes "messages") rows ≡ Some (flag_word messages))
+    × (all_of (codes "COMMAND") rows ≡ some_names names)
+
+abbrev pub Says : Bool → Form → List Row → Type 0
+Says quiet form rows = (first_of (codes "quiet") rows ≡ Some (flag_word quiet)) × SaysForm form rows
+
+-- ---- values, given or not
+
+abbrev first_value : Option Found → Option Text
+first_value found = option_and_then (λ (f : Found). slice_get f.0 0) found
+
+abbrev default : Text → Option Found
+default word = Some (word ∷ [], Some DefaultValue)
+
+flag_found : (given : Bool) → first_value (or_found (values_from CommandLine (flag_values given)) (default (codes "false"))) ≡ Some (flag_word given)
+flag_found false = refl
+flag_found true = refl
+
+policy_found : (unknown : Unknown) → first_value (or_found (values_from CommandLine (option_values (policy_given unknown))) (default (codes "kept"))) ≡ Some (policy_word unknown)
+policy_found Kept = refl
+policy_found Refused = refl
+
+sender_found : (sends : Sends) → first_value (or_found (values_from CommandLine (option_values (sender_given sends))) (default (codes "any"))) ≡ Some (sends_word sends)
+sender_found Any = refl
+sender_found Known = refl
+sender_found Listed = refl
+
+text_found : (given : Option Text) (word : Text) → first_value (or_found (values_from CommandLine (option_values given)) (default word)) ≡ Some (unwrap_or given word)
+text_found None word = refl
+text_found (Some text) word = refl
+
+number_found : (given : Option Text) → first_value (or_found (values_from CommandLine (option_values given)) None) ≡ given
+number_found None = refl
+number_found (Some number) = refl
+
+names_found : (names : List Text) → option_map (λ (f : Found). f.0) (or_found (values_from CommandLine names) None) ≡ some_names names
+names_found [] = refl
+names_found (name ∷ names) = refl
+
+-- ---- what is found
+
+module _ (s : Shape) (slots : List Slot) (rows : List Row) (finds : Finds s slots rows) where
+  first_is : (id : Text) → first_of id rows ≡ first_value (or_found (values_from CommandLine (values_of id (behind slots []))) (default_found id s.rules))
+  first_is id = first_found id rows ∙ ap first_value (finds id)
+
+  all_are : (id : Text) → all_of id rows ≡ option_map (λ (f : Found). f.0) (or_found (values_from CommandLine (values_of id (behind slots []))) (default_found id s.rules))
+  all_are id = all_found id rows ∙ ap (λ (o : Option Found). option_map (λ (f : Found). f.0) o) (finds id)
+
+module _ (policies senders : Bor (List (Bor Text))) (quiet : Bool) (rows : List Row) where
+  form_says : (form : Form) → ((id : Text) → first_of id rows ≡ first_value (or_found (values_from CommandLine (values_of id (behind (all_options quiet form ++ form_inputs form) [])))
+      (default_found id (shape policies senders (form_row form)).rules)))
+      → ((id : Text) → all_of id rows ≡ option_map (λ (f : Found). f.0) (or_found (values_from CommandLine (values_of id (behind (all_options quiet form ++ form_inputs form) [])))
+      (default_found id (shape policies senders (form_row form)).rules)))
+      → Says quiet form rows
+  form_says (show dictionary message) first all =
+      (first (codes "quiet") ∙ flag_found quiet, (first (codes "dict") ∙ text_found dictionary (codes "@base"), first (codes "MESSAGE")))
+  form_says (check manner unknown levels dictionary message) first all = (
+    first (codes "quiet") ∙ flag_found quiet,
+    (
+      first (codes "lines") ∙ flag_found (is_lines manner),
+      first (codes "stream") ∙ flag_found (is_stream manner),
+      first (codes "unknown") ∙ policy_found unknown,
+      first (codes "levels") ∙ number_found levels,
+      first (codes "D"),
+      first (codes "MESSAGE"),
+    ),
+  )
+  form_says (render dictionary) first all = (first (codes "quiet") ∙ flag_found quiet, first (codes "D"))
+  form_says (compare unknown one two table) first all =
+      (first (codes "quiet") ∙ flag_found quiet, ((first (codes "unknown") ∙ policy_found unknown, first (codes "A"), first (codes "B")), first (codes "TABLE")))
+  form_says (refute many unknown levels one two message) first all = (
+    first (codes "quiet") ∙ flag_found quiet,
+    (
+      (first (codes "unknown") ∙ policy_found unknown, first (codes "A"), first (codes "B")),
+      first (codes "lines") ∙ flag_found many,
+      first (codes "levels") ∙ number_found levels,
+      first (codes "MESSAGE"),
+    ),
+  )
+  form_says (propose unknown one two name names) first all =
+      (first (codes "quiet") ∙ flag_found quiet, ((first (codes "unknown") ∙ policy_found unknown, first (codes "A"), first (codes "B")), all (codes "COMMAND")))
+  form_says (breaking sends unknown messages one two names) first all = (
+    first (codes "quiet") ∙ flag_found quiet,
+    (
+      (first (codes "unknown") ∙ policy_found unknown, first (codes "A"), first (codes "B")),
+      first (codes "sends") ∙ sender_found sends,
+      first (codes "messages") ∙ flag_found messages,
+      all (codes "COMMAND") ∙ names_found names,
+    ),
+  )
+
+  pub found_says : (form : Form) → Finds (shape policies senders (form_row form)) (all_options quiet form ++ form_inputs form) rows → Says quiet form rows
+  found_says form finds =
+      let s = shape policies senders (form_row form) in
+      let slots = all_options quiet form ++ form_inputs form in form_says form (first_is s slots rows finds) (all_are s slots rows finds)

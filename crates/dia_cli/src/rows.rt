@@ -1,0 +1,221 @@
+//! The commands of the program, a row each. The command line is made of them.
+
+use crate::origin::BASE_DICTIONARY;
+
+/// A command: its options and its inputs, in the order in which help tells them.
+#[derive(Clone, Copy, Debug)]
+pub(crate) struct CommandRow<'a> {
+    pub name: &'a str,
+    pub about: &'a str,
+    pub options: &'a [OptionRow<'a>],
+    pub inputs: &'a [InputRow<'a>],
+}
+
+/// An option `--id`.
+#[derive(Clone, Copy, Debug)]
+pub(crate) struct OptionRow<'a> {
+    pub id: &'a str,
+    pub value: Value<'a>,
+    pub help: &'a str,
+}
+
+/// The value that an option takes.
+#[derive(Clone, Copy, Debug)]
+pub(crate) enum Value<'a> {
+    Nothing,
+    /// A policy for AVPs that the dictionary doesn't know, which is `kept` without the option.
+    Policy,
+    /// What the side of A sends, which is `any` without the option.
+    Sender,
+    /// A word of this name, and the one that stands without the option.
+    Word { name: &'a str, default: &'a str },
+    /// A number of 32 bits.
+    Number,
+}
+
+/// An input, which is a word, or the words that are left.
+#[derive(Clone, Copy, Debug)]
+pub(crate) struct InputRow<'a> {
+    pub id: &'a str,
+    pub count: Count,
+    pub help: &'a str,
+}
+
+/// How many words an input has.
+#[derive(Clone, Copy, Debug)]
+pub(crate) enum Count {
+    One,
+    /// One or more.
+    Some,
+    Any,
+}
+
+const QUIET: OptionRow<'static> = OptionRow {
+    id: "quiet",
+    value: Value::Nothing,
+    help: "Prints no notes on standard error",
+};
+
+const UNKNOWN: OptionRow<'static> = OptionRow {
+    id: "unknown",
+    value: Value::Policy,
+    help: "Whether an AVP that isn't in the dictionary, with its M flag clear, is kept or refused",
+};
+
+const LEVELS: OptionRow<'static> = OptionRow {
+    id: "levels",
+    value: Value::Number,
+    help: "How many levels of Grouped AVPs may stand in one another; without it, any number",
+};
+
+const D: InputRow<'static> = InputRow {
+    id: "D",
+    count: Count::One,
+    help: "A dictionary text: a file, @base, or - for standard input",
+};
+
+const A: InputRow<'static> = InputRow {
+    id: "A",
+    count: Count::One,
+    help: "The first dictionary text: a file, @base, or - for standard input",
+};
+
+const B: InputRow<'static> = InputRow {
+    id: "B",
+    count: Count::One,
+    help: "The second dictionary text: a file, @base, or - for standard input",
+};
+
+pub(crate) static ROWS: [CommandRow<'static>; 7] = [
+    CommandRow {
+        name: "show",
+        about: "Prints a message: its header, and a line for each AVP",
+        options: &[
+            QUIET,
+            OptionRow {
+                id: "dict",
+                value: Value::Word {
+                    name: "D",
+                    default: BASE_DICTIONARY,
+                },
+                help: "The dictionary that names the AVPs: a file, @base, or - for standard input",
+            },
+        ],
+        inputs: &[InputRow {
+            id: "MESSAGE",
+            count: Count::One,
+            help: "A file of hexadecimal text, white space ignored; - for standard input",
+        }],
+    },
+    CommandRow {
+        name: "check",
+        about: "Tells whether a message is valid for a dictionary, or its first fault",
+        options: &[
+            QUIET,
+            UNKNOWN,
+            LEVELS,
+            OptionRow {
+                id: "lines",
+                value: Value::Nothing,
+                help: "Tells of each line, a message, whether it is valid",
+            },
+            OptionRow {
+                id: "stream",
+                value: Value::Nothing,
+                help: "Tells of each message of a stream, with its place, whether it is valid",
+            },
+        ],
+        inputs: &[
+            D,
+            InputRow {
+                id: "MESSAGE",
+                count: Count::One,
+                help: "A file of hexadecimal text, white space ignored; with --lines, of a message a line; with --stream, of messages back to back; - for standard input",
+            },
+        ],
+    },
+    CommandRow {
+        name: "render",
+        about: "Prints the canonical text of a dictionary",
+        options: &[QUIET],
+        inputs: &[D],
+    },
+    CommandRow {
+        name: "compare",
+        about: "Tells whether a table of pairs shows that what is valid for A is valid for B",
+        options: &[QUIET, UNKNOWN],
+        inputs: &[
+            A,
+            B,
+            InputRow {
+                id: "TABLE",
+                count: Count::One,
+                help: "A table of pairs of names: a file, or - for standard input",
+            },
+        ],
+    },
+    CommandRow {
+        name: "refute",
+        about: "Tells whether a message is valid for A and not for B",
+        options: &[
+            QUIET,
+            UNKNOWN,
+            LEVELS,
+            OptionRow {
+                id: "lines",
+                value: Value::Nothing,
+                help: "Tells of each line, a message, whether it is valid for A and not for B",
+            },
+        ],
+        inputs: &[
+            A,
+            B,
+            InputRow {
+                id: "MESSAGE",
+                count: Count::One,
+                help: "A file of hexadecimal text, white space ignored; with --lines, of a message a line; - for standard input",
+            },
+        ],
+    },
+    CommandRow {
+        name: "propose",
+        about: "Prints the least table of pairs for commands of A",
+        options: &[QUIET, UNKNOWN],
+        inputs: &[
+            A,
+            B,
+            InputRow {
+                id: "COMMAND",
+                count: Count::Some,
+                help: "The name of a command of A",
+            },
+        ],
+    },
+    CommandRow {
+        name: "breaking",
+        about: "Prints each way in which messages that are valid for A aren't valid for B",
+        options: &[
+            QUIET,
+            UNKNOWN,
+            OptionRow {
+                id: "sends",
+                value: Value::Sender,
+                help: "Which AVPs the side of A sends: any that A allows, those that A knows, or those that a rule names",
+            },
+            OptionRow {
+                id: "messages",
+                value: Value::Nothing,
+                help: "Prints behind each line a message that shows it, as hexadecimal text",
+            },
+        ],
+        inputs: &[
+            A,
+            B,
+            InputRow {
+                id: "COMMAND",
+                count: Count::Any,
+                help: "The name of a command of A; without any, all of A",
+            },
+        ],
+    },
+];
