@@ -6,50 +6,62 @@
 mod example;
 mod memory;
 mod places;
-mod rendering;
 mod texts;
 mod tokens;
 
 use crate::words::same;
 use dia_ccf::{CcfFault, parse, render};
 use dia_rows::{Names, Row};
-use std::alloc::Global;
+use std::alloc::{AllocError, Global};
 use std::process::Abort;
-use std::test::Fail;
+
+const TEXTS: [&str; 3] = [texts::ROWS, places::ROWS, tokens::ROWS];
+
+#[test]
+fn texts_are_read(rt: HostRuntime) {
+    for text in TEXTS.iter() {
+        answers(&rt, text);
+    }
+}
 
 /// Checks each row of a text.
-fn check_rows(rt: &(impl AllocGlobal + Abort), text: &str) -> Result<(), Fail> {
+fn answers(rt: &(impl AllocGlobal + Abort), text: &str) {
     let mut names = Names::new(rt.alloc());
     for line in text.lines() {
-        if let Some(row) = names.row(line)? {
-            check_row(rt, &names, &row)?;
+        if let Some(row) = names.row(line).expect(rt, line) {
+            answer(rt, &names, &row);
         }
     }
-    Ok(())
 }
 
 /// Checks the answer to the text of a row.
-fn check_row(rt: &(impl AllocGlobal + Abort), names: &Names, row: &Row<'_>) -> Result<(), Fail> {
-    let text = names.text(row.call)?;
-    let wanted = names.text(row.wanted)?;
-    let renders = row.wanted.starts_with("renders");
-    let found = answer(rt.alloc(), str::from_utf8(text.as_slice())?, renders)?;
+fn answer(rt: &(impl AllocGlobal + Abort), names: &Names, row: &Row<'_>) {
+    let text = names.text(row.call).expect(rt, row.line);
+    let text = str::from_utf8(text.as_slice()).expect(rt, row.line);
+    let wanted = names.text(row.wanted).expect(rt, row.line);
+    let found = if row.wanted.starts_with("renders") {
+        rendered(rt, text)
+    } else {
+        told(rt.alloc(), parse(rt.alloc(), text).err()).expect(rt, "memory")
+    };
     same(rt, found.as_bytes(), wanted.as_slice(), row.line);
-    Ok(())
 }
 
-/// The answer to a text, with its canonical text if that is wanted.
-fn answer(alloc: Global, text: &str, renders: bool) -> Result<String, Fail> {
-    match parse(alloc, text) {
-        Ok(source) if renders => {
-            let text = render(alloc, &source)?;
-            let blank = if text.is_empty() { "" } else { " " };
-            Ok(format!(in alloc; "renders{blank}{text}")?)
-        }
-        Ok(_) => Ok(String::from_str(alloc, "fine")?),
-        Err(CcfFault::Syntax { token, line }) => Ok(format!(in alloc; "syntax {token} {line}")?),
-        Err(CcfFault::Number { line }) => Ok(format!(in alloc; "number {line}")?),
-        Err(CcfFault::Limit { line }) => Ok(format!(in alloc; "limit {line}")?),
-        Err(CcfFault::NoMemory) => Err(Fail::from(CcfFault::NoMemory)),
+/// The canonical text of a text.
+fn rendered(rt: &(impl AllocGlobal + Abort), text: &str) -> String {
+    let source = parse(rt.alloc(), text).expect(rt, text);
+    let text = render(rt.alloc(), &source).expect(rt, "memory");
+    let blank = if text.is_empty() { "" } else { " " };
+    format!(in rt.alloc(); "renders{blank}{text}").expect(rt, "memory")
+}
+
+/// Why a text is refused, if it is.
+fn told(alloc: Global, fault: Option<CcfFault>) -> Result<String, AllocError> {
+    match fault {
+        None => String::from_str(alloc, "fine"),
+        Some(CcfFault::Syntax { token, line }) => format!(in alloc; "syntax {token} {line}"),
+        Some(CcfFault::Number { line }) => format!(in alloc; "number {line}"),
+        Some(CcfFault::Limit { line }) => format!(in alloc; "limit {line}"),
+        Some(CcfFault::NoMemory) => String::from_str(alloc, "no memory"),
     }
 }

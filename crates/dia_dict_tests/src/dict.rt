@@ -10,33 +10,31 @@ mod lookups;
 mod memory;
 
 use dia_ccf::parse;
-use dia_dict::{Book, DictFault, Entry, Key, PlainBook, resolve};
+use dia_dict::{Book, DictFault, Entry, IndexedBook, Key, PlainBook, resolve};
 use std::alloc::{AllocError, Global};
-use std::fmt::Debug;
 use std::process::Abort;
-use std::test::Fail;
 
-/// The dictionary that a text names.
-fn book_of(alloc: Global, text: &str) -> Result<PlainBook, Fail> {
-    Ok(resolve(alloc, parse(alloc, text)?)?)
+/// The dictionary that a text names, or why it names none.
+fn read(rt: &(impl AllocGlobal + Abort), text: &str) -> Result<PlainBook, DictFault> {
+    let source = parse(rt.alloc(), text).expect(rt, text);
+    resolve(rt.alloc(), source)
 }
 
-/// What is wrong with a text.
-fn fault_of(alloc: Global, text: &str) -> Result<DictFault, Fail> {
-    match resolve(alloc, parse(alloc, text)?) {
-        Err(fault) => Ok(fault),
-        Ok(_) => Err(Fail::new(format_args!("no fault: {text}"))),
-    }
+/// The book of a text, with its tables.
+fn indexed_of(rt: &(impl AllocGlobal + Abort), text: &str) -> Box<IndexedBook> {
+    let plain = read(rt, text).expect(rt, text);
+    let indexed = IndexedBook::from_plain(rt.alloc(), plain).expect(rt, "memory");
+    Box::new(rt.alloc(), indexed).ok().expect(rt, "memory")
 }
 
 /// Checks that two values are equal.
-fn same<T: PartialEq + Debug>(rt: &impl Abort, one: &T, other: &T) {
-    assert_eq!(rt; one, other);
+fn same<T: PartialEq>(rt: &impl Abort, one: &T, other: &T) {
+    assert!(rt; one == other);
 }
 
 /// Checks which AVP has a key.
 fn finds<B: Book>(rt: &impl Abort, book: &B, key: Key, entry: Option<Entry>) {
-    assert_eq!(rt; book.avp(key), entry, "{key:?}");
+    assert!(rt; book.avp(key) == entry);
 }
 
 /// So many declarations.

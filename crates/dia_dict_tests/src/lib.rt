@@ -13,6 +13,4 @@ mod refused;
 #[cfg(test)]
 mod wire;
 #[cfg(test)]
-mod witness;
-#[cfg(test)]
 mod words;

@@ -14,4 +14,4 @@ mod words;
 
 pub use fault::RowFault;
 pub use names::Names;
-pub use words::{Row, bytes_of, field, without_blanks};
+pub use words::{Row, bytes_of, field, without_blanks, word};

@@ -32,6 +32,11 @@ pub fn field(call: &str, place: usize) -> &str {
     ""
 }
 
+/// The word of a text at a place, from 0. It is empty where the text has fewer.
+pub fn word(text: &str, place: usize) -> &str {
+    text.split_ascii_whitespace().nth(place).unwrap_or("")
+}
+
 /// A text without its blanks.
 pub fn without_blanks(alloc: Global, text: &[u8]) -> Result<Vec<u8>, AllocError> {
     let mut bytes = Vec::new(alloc);

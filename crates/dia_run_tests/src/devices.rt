@@ -2,15 +2,14 @@
 
 ghost use Rattle.std.specs.Prelude.{None};
 
-use crate::commands::{WHOLE, inputs_of, names};
+use dia_dict::base_text;
 use dia_run::{
-    Command, Exit, Failed, Feed, FromReader, InputFault, Inputs, RunFault, Sink, ToWriter,
+    Command, Exit, Failed, Feed, FromReader, Input, InputFault, Inputs, RunFault, Sink, ToWriter,
     read_input, run,
 };
 use std::io;
 use std::io::{Read, Write};
 use std::process::Abort;
-use std::test::Fail;
 
 /// Takes seven bytes a call, and fails at a call.
 #[derive(Debug, Drop)]
@@ -41,52 +40,60 @@ impl Sink for FailingSink {
 }
 
 /// Shows a message to sinks of which each fails at a later call, up to one that doesn't.
-fn stops_at_each_call(
-    rt: &(impl AllocGlobal + Abort),
-    inputs: &Inputs,
-    lines: &[u8],
-) -> Result<(), Fail> {
+fn stops_at_each_call(rt: &(impl AllocGlobal + Abort), inputs: &Inputs, lines: &[u8]) {
     let calls = lines.len().div_ceil(7);
-    for calls_left in 0..calls {
+    for calls_left in 0..calls + 1 {
         let mut sink = FailingSink {
             taken: Vec::new(rt.alloc()),
             calls_left,
             failed: false,
         };
         let result = run(rt.alloc(), &Command::Show, inputs, &mut sink);
-        assert_eq!(rt; result, Err(RunFault::Device));
-        has_stopped(rt, &sink, lines, calls_left.saturating_mul(7));
+        let stops = calls_left < calls;
+        let wanted = if stops {
+            Err(RunFault::Device)
+        } else {
+            Ok(Exit::Yes)
+        };
+        assert!(rt; result == wanted && sink.failed() == stops);
+        let taken = sink.taken.as_slice();
+        assert!(rt; taken.len() == lines.len().min(calls_left.saturating_mul(7)));
+        assert!(rt; lines.starts_with(taken));
     }
-    let mut sink = FailingSink {
-        taken: Vec::new(rt.alloc()),
-        calls_left: calls,
-        failed: false,
+}
+
+/// A device watchdog request, and its lines under the base dictionary and under the empty one.
+const REQUEST: &str =
+    "0100002c80000118000000000000000100000002000001084000000b612e6200000001284000000962000000";
+
+const BASE_LINES: &str = "\
+header flags 80 code 280 app 0 hop 1 end 2 length 44
+20 0 264 - 40 11 Origin-Host \"a.b\"
+32 0 296 - 40 9 Origin-Realm \"b\"
+";
+
+const EMPTY_LINES: &str = "\
+header flags 80 code 280 app 0 hop 1 end 2 length 44
+20 0 264 - 40 11 ? x612e62
+32 0 296 - 40 9 ? x62
+";
+
+/// Shows the request under a dictionary to sinks that fail.
+fn stops(rt: &(impl AllocGlobal + Abort), dictionary: &str, lines: &str) {
+    let alloc = rt.alloc();
+    let inputs = Inputs {
+        first: Input::Bytes(Vec::from_slice(alloc, dictionary.as_bytes()).expect(rt, "memory")),
+        second: Input::Bytes(Vec::new(alloc)),
+        table: Input::Bytes(Vec::new(alloc)),
+        message: Input::Bytes(Vec::from_slice(alloc, REQUEST.as_bytes()).expect(rt, "memory")),
     };
-    let result = run(rt.alloc(), &Command::Show, inputs, &mut sink);
-    assert_eq!(rt; result, Ok(Exit::Yes));
-    assert!(rt; sink.taken.as_slice() == lines);
-    Ok(())
-}
-
-/// Checks that a sink has failed, and that it has taken so many bytes of the lines.
-fn has_stopped(rt: &impl Abort, sink: &FailingSink, lines: &[u8], count: usize) {
-    assert!(rt; sink.failed());
-    assert_eq!(rt; sink.taken.len(), count);
-    assert!(rt; lines.starts_with(sink.taken.as_slice()));
-}
-
-/// Shows the watchdog request under a dictionary to sinks that fail.
-fn stops(rt: &(impl AllocGlobal + Abort), call: &str, lines: &str) -> Result<(), Fail> {
-    let names = names(rt.alloc())?;
-    let inputs = inputs_of(rt.alloc(), &names, &Command::Show, call, WHOLE)?;
-    let lines = names.text(lines)?;
-    stops_at_each_call(rt, &inputs, lines.as_slice())
+    stops_at_each_call(rt, &inputs, lines.as_bytes());
 }
 
 #[test]
-fn stops_at_the_call_that_fails(rt: HostRuntime) -> Result<(), Fail> {
-    stops(&rt, "show | | $REQUEST", "$REQUEST_LINES")?;
-    stops(&rt, "show | $base | $REQUEST", "$BASE_LINES")
+fn stops_at_the_call_that_fails(rt: HostRuntime) {
+    stops(&rt, "", EMPTY_LINES);
+    stops(&rt, base_text(), BASE_LINES);
 }
 
 /// Gives a thousand bytes a call, and fails at a call.
@@ -119,7 +126,7 @@ impl Feed for FailingFeed {
 }
 
 #[test]
-fn tells_a_feed_that_fails(rt: HostRuntime) -> Result<(), Fail> {
+fn tells_a_feed_that_fails(rt: HostRuntime) {
     for calls_left in 0..12 {
         let mut feed = FailingFeed {
             bytes_left: 10_000,
@@ -128,24 +135,21 @@ fn tells_a_feed_that_fails(rt: HostRuntime) -> Result<(), Fail> {
         };
         let result = read_input(rt.alloc(), &mut feed, 10_000);
         if calls_left < 11 {
-            assert!(rt; matches!(result, Err(InputFault::Device)));
-            assert!(rt; feed.failed());
+            assert!(rt; matches!(result, Err(InputFault::Device)) && feed.failed());
         } else {
-            assert_eq!(rt; result?.len(), 10_000);
-            assert!(rt; !feed.failed());
+            assert!(rt; result.is_ok_and(|bytes| bytes.len() == 10_000) && !feed.failed());
         }
     }
-    Ok(())
 }
 
 #[test]
-fn keeps_the_limit_of_an_input(rt: HostRuntime) -> Result<(), Fail> {
+fn keeps_the_limit_of_an_input(rt: HostRuntime) {
     let alloc = rt.alloc();
     let mut ten = FromReader::new(b"0123456789".as_slice());
-    assert!(rt; read_input(alloc, &mut ten, 10)?.as_slice() == b"0123456789".as_slice());
+    let read = read_input(alloc, &mut ten, 10).expect(&rt, "ten bytes");
+    assert!(rt; read.as_slice() == b"0123456789".as_slice());
     let mut eleven = FromReader::new(b"0123456789a".as_slice());
     assert!(rt; matches!(read_input(alloc, &mut eleven, 10), Err(InputFault::TooLong)));
-    Ok(())
 }
 
 /// Is interrupted at the first call, and gives `a` at each later one.
@@ -204,7 +208,7 @@ fn is_interrupted(failure: Option<io::Error>) -> bool {
 
 /// Checks what a call tells.
 fn tells(rt: &impl Abort, told: Result<usize, Failed>, wanted: Result<usize, Failed>) {
-    assert_eq!(rt; told, wanted);
+    assert!(rt; told == wanted);
 }
 
 #[test]

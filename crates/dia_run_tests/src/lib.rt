@@ -1,14 +1,12 @@
-//! The tests of `dia_check`, `dia_compat`, `dia_peer` and `dia_run`, by library: each goes through public calls alone. Those of
-//! `dia_run` are `commands`, worked inputs of the commands, `devices`, which fail, and the `example` of its docs. There is nothing
-//! but tests.
+//! The tests of `dia_check`, `dia_compat`, `dia_peer` and `dia_run`, by library: each goes through public calls alone. `rows` has
+//! what both kinds of book answer. Those of `dia_run` are `devices`, which fail, and the `example` of its docs; what its commands
+//! write, `.ci/cases` compares. There is nothing but tests.
 #![tactic(auto)]
 
 #[cfg(test)]
 mod books;
 #[cfg(test)]
 mod check;
-#[cfg(test)]
-mod commands;
 #[cfg(test)]
 mod compat;
 #[cfg(test)]
@@ -19,6 +17,8 @@ mod example;
 mod peer;
 #[cfg(test)]
 mod refused;
+#[cfg(test)]
+mod rows;
 #[cfg(test)]
 mod told;
 #[cfg(test)]

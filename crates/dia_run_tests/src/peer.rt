@@ -1,6 +1,6 @@
 //! Two ends that send messages to each other: the messages byte for byte, and schedules that a generator draws.
 
-use dia_peer::{App, Config, ConfigFault, Core, Event, Ip, Kind, Output, Role};
+use dia_peer::{App, Config, Core, Event, Ip, Kind, Output, Role};
 use std::alloc::{AllocError, Global};
 use std::process::Abort;
 
@@ -27,32 +27,20 @@ struct Ends {
     responder: Box<Core>,
 }
 
-impl Ends {
-    fn new(alloc: Global, first: Config, second: Config) -> Result<Ends, ConfigFault> {
-        let initiator = end(alloc, first, Role::Initiator)?;
-        let responder = end(alloc, second, Role::Responder)?;
-        Ok(Ends {
-            initiator,
-            responder,
-        })
-    }
-}
-
-fn end(alloc: Global, config: Config, role: Role) -> Result<Box<Core>, ConfigFault> {
-    match Box::new(alloc, Core::new(alloc, config, role)?) {
-        Ok(core) => Ok(core),
-        Err(failed) => Err(AllocError::from(failed).into()),
-    }
+/// An end of this configuration.
+fn end(rt: &(impl AllocGlobal + Abort), config: Config, role: Role) -> Box<Core> {
+    let core = Core::new(rt.alloc(), config, role).expect(rt, "an end");
+    Box::new(rt.alloc(), core).ok().expect(rt, "memory")
 }
 
 /// What a core does at an event. Where memory is refused, nothing has changed, and the event is given again.
-fn tell(rt: &impl Abort, core: &mut Core, event: Event<'_>) -> Result<Vec<Output>, AllocError> {
+fn tell(rt: &impl Abort, core: &mut Core, event: Event<'_>) -> Vec<Output> {
     let before = (core.state(), core.common().len());
     if let Ok(outputs) = core.step(event) {
-        return Ok(outputs);
+        return outputs;
     }
-    assert_eq!(rt; (core.state(), core.common().len()), before);
-    core.step(event)
+    assert!(rt; (core.state(), core.common().len()) == before);
+    core.step(event).expect(rt, "memory")
 }
 
 /// The end `a.b`, which sends the CER.

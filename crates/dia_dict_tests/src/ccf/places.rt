@@ -1,9 +1,6 @@
 //! Each place of the grammar, with a token that cannot stand there.
 
-use super::check_rows;
-use std::test::Fail;
-
-const ROWS: &str = r"
+pub(super) const ROWS: &str = r"
 # A definition's name and head: eight tokens.
 let HEAD = T ::= < AVP Header: 1 >
 let N = n
@@ -144,8 +141,3 @@ T $N*129 => syntax 2 1
 $BLANK*1048576 => fine
 $BLANK*1048577 => limit 0
 ";
-
-#[test]
-fn tells_what_cannot_stand_there(rt: HostRuntime) -> Result<(), Fail> {
-    check_rows(&rt, ROWS)
-}

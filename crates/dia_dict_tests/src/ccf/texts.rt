@@ -1,11 +1,9 @@
 //! Texts and what they are read as.
 
-use super::check_rows;
-use dia_ccf::{CcfFault, Source, is_name, parse};
-use std::process::Abort;
-use std::test::Fail;
+use crate::words::same;
+use dia_ccf::{CcfFault, is_name, parse};
 
-const ROWS: &str = r"
+pub(super) const ROWS: &str = r"
 let HEAD = <T> ::= < Diameter Header: 300, REQ >
 
 # The first token that does not fit.
@@ -19,57 +17,46 @@ $HEAD\x20{ A }\n< B > => syntax 19 2
  => renders
 t ::= <diameter-header:300 req pxy 5>{X}*[AVP] <Y>::=<AVP Header:9003 0>*2<X> => renders <Y> ::= < AVP Header: 9003 >\n  *2 < X >\n<t> ::= < Diameter Header: 300, REQ, PXY, 5 >\n  { X }\n  * [ AVP ]\n
 %avp E 9004 Enumerated any (0..3 7..7 10) => renders %avp E 9004 Enumerated any ( 0..3 7 10 )\n
+%avp 3GPP-IMSI 01 vendor 10415 UTF8String mustnot => renders %avp 3GPP-IMSI 1 vendor 10415 UTF8String mustnot\n
+T ::= <diameter-header:code err> U ::= <Diameter Header: code, ERR PXY> V ::= <Diameter Header: CODE ERR [PXY]> => renders <T> ::= < Diameter Header: code, ERR >\n<U> ::= < Diameter Header: code, ERR, PXY >\n<V> ::= < Diameter Header: code, ERR [, PXY] >\n
 ";
 
 #[test]
-fn reads_and_renders_texts(rt: HostRuntime) -> Result<(), Fail> {
-    check_rows(&rt, ROWS)
-}
-
-/// The name of an AVP of the first command, by its rule's place.
-fn slot_name(source: &Source, place: usize) -> Option<&str> {
-    let command = source.commands.first()?;
-    Some(command.rules.get(place)?.slot_name())
-}
-
-/// Checks the name of an AVP of the first command, by its rule's place.
-fn slot(rt: &impl Abort, source: &Source, place: usize, name: &str) {
-    assert_eq!(rt; slot_name(source, place), Some(name));
-}
-
-#[test]
-fn a_rule_names_its_slot(rt: HostRuntime) -> Result<(), Fail> {
+fn a_rule_names_its_slot(rt: HostRuntime) {
     let text = "<T> ::= < Diameter Header: 300, REQ > { A } *[ AVP ]";
-    let source = parse(rt.alloc(), text)?;
-    slot(&rt, &source, 0, "A");
-    slot(&rt, &source, 1, "AVP");
-    Ok(())
+    let source = parse(rt.alloc(), text).expect(&rt, text);
+    let command = source.commands.first().expect(&rt, "a command");
+    for (place, name) in [(0, "A"), (1, "AVP")] {
+        let rule = command.rules.get(place).expect(&rt, name);
+        assert!(rt; rule.slot_name() == name);
+    }
 }
 
 #[test]
-fn tells_names(rt: HostRuntime) -> Result<(), Fail> {
-    let long = "n".repeat(rt.alloc(), 129)?;
-    assert!(rt; is_name("3GPP-IMSI"));
-    assert!(rt; !is_name(long.as_str()));
-    assert!(rt; !is_name("AVP"));
-    Ok(())
+fn tells_names(rt: HostRuntime) {
+    let long = "n".repeat(rt.alloc(), 129).expect(&rt, "memory");
+    assert!(rt; is_name("3GPP-IMSI") && !is_name(long.as_str()) && !is_name("AVP"));
 }
 
-/// Checks what people are told of a fault.
-fn told(rt: &(impl AllocGlobal + Abort), fault: CcfFault, words: &str) -> Result<(), Fail> {
-    let text = format!(in rt.alloc(); "{fault}")?;
-    assert_eq!(rt; text.as_str(), words);
-    Ok(())
-}
+/// What people are told of faults.
+const TOLD: [(CcfFault, &str); 5] = [
+    (
+        CcfFault::Syntax { token: 3, line: 2 },
+        "line 2: token 3 is not expected here",
+    ),
+    (
+        CcfFault::Number { line: 5 },
+        "line 5: the number is out of range",
+    ),
+    (CcfFault::Limit { line: 0 }, "the text is too long"),
+    (CcfFault::Limit { line: 7 }, "line 7: the name is too long"),
+    (CcfFault::NoMemory, "out of memory"),
+];
 
 #[test]
-fn tells_people_of_a_fault(rt: HostRuntime) -> Result<(), Fail> {
-    let syntax = CcfFault::Syntax { token: 3, line: 2 };
-    told(&rt, syntax, "line 2: token 3 is not expected here")?;
-    let number = CcfFault::Number { line: 5 };
-    told(&rt, number, "line 5: the number is out of range")?;
-    told(&rt, CcfFault::Limit { line: 0 }, "the text is too long")?;
-    let limit = CcfFault::Limit { line: 7 };
-    told(&rt, limit, "line 7: the name is too long")?;
-    told(&rt, CcfFault::NoMemory, "out of memory")
+fn tells_people_of_a_fault(rt: HostRuntime) {
+    for (fault, words) in TOLD.iter() {
+        let text = fault.to_string(rt.alloc()).expect(&rt, words);
+        same(&rt, text.as_bytes(), words.as_bytes(), words);
+    }
 }

@@ -1,9 +1,6 @@
 //! Which bytes are one token, by the token that a text is refused at, and by the names and the numbers that are read.
 
-use super::check_rows;
-use std::test::Fail;
-
-const ROWS: &str = r"
+pub(super) const ROWS: &str = r"
 # A definition's name and head: eight tokens. A declaration up to its values: six tokens.
 let HEAD = T ::= < AVP Header: 1 >
 let VALUES = %avp E 1 Enumerated any (
@@ -56,8 +53,3 @@ aéb => syntax 2 1
 %avp aéb 1 Time any => syntax 3 1
 %avp a;é<\rb\n1 Time any ; d => renders %avp a 1 Time any\n
 ";
-
-#[test]
-fn reads_tokens(rt: HostRuntime) -> Result<(), Fail> {
-    check_rows(&rt, ROWS)
-}

@@ -1,9 +1,6 @@
 //! Which data a format accepts.
 
-use super::check_rows;
-use std::test::Fail;
-
-const ROWS: &str = r"
+pub(super) const ROWS: &str = r"
 # Addresses.
 accepts Address 000100000000 => Fine
 accepts Address 0003 => Fine
@@ -55,8 +52,3 @@ lengths Integer64 => 8
 lengths Unsigned64 => 8
 lengths Float64 => 8
 ";
-
-#[test]
-fn accepts_data(rt: HostRuntime) -> Result<(), Fail> {
-    check_rows(&rt, ROWS)
-}

@@ -1,10 +1,6 @@
 //! Which format accepts all that another accepts.
 
-use super::check_rows;
-use dia_data::inclusion;
-use std::test::Fail;
-
-const ROWS: &str = r"
+pub(super) const ROWS: &str = r"
 # Formats without lists.
 below Grouped OctetString => true
 below OctetString Grouped => false
@@ -38,9 +34,3 @@ below Enumerated Enumerated(0..2147483647) => false
 below Enumerated(0..4294967295) Enumerated(0..4294967295) => true
 below Enumerated(0..4294967295) Enumerated(0..2147483647) => false
 ";
-
-#[test]
-fn compares_formats(rt: HostRuntime) -> Result<(), Fail> {
-    inclusion();
-    check_rows(&rt, ROWS)
-}

@@ -1,9 +1,8 @@
 //! Data that comes in pieces: each row is asked of `accepts`, and of a state that is fed the data cut anywhere and byte by byte.
 
-use super::{check_rows, is_leaf};
+use super::is_leaf;
 use dia_data::{Format, Leaf, LeafState};
 use std::process::Abort;
-use std::test::Fail;
 
 /// What a format says of data that comes in these two pieces.
 fn in_two_pieces(format: &Format, front: &[u8], behind: &[u8]) -> Leaf {
@@ -23,7 +22,7 @@ fn in_bytes(format: &Format, data: &[u8]) -> Leaf {
 }
 
 /// Checks what a format says of data, cut anywhere and byte by byte.
-pub(super) fn check_pieces(
+pub(super) fn is_leaf_in_pieces(
     rt: &impl Abort,
     format: &Format,
     data: &[u8],
@@ -37,7 +36,7 @@ pub(super) fn check_pieces(
     is_leaf(rt, in_bytes(format, data), wanted, line);
 }
 
-const ROWS: &str = r"
+pub(super) const ROWS: &str = r"
 # Texts.
 accepts UTF8String 61c3a9e282acf09f988062f48fbfbf63dfbf => Fine
 accepts UTF8String 61c3a9e282 => BadValue
@@ -66,11 +65,6 @@ accepts DiameterIdentity 3132333435363738393031323334353637383930313233343536373
 accepts DiameterURI 414141533a2f2f682e6578616d706c652e6f72673a333836383b7472616e73706f72743d746370 => Fine
 accepts DiameterURI 6161613a2f2f682e6578616d706c652e6f72673a333836383b7472616e73706f72743d74637080 => BadValue
 ";
-
-#[test]
-fn accepts_data_in_pieces(rt: HostRuntime) -> Result<(), Fail> {
-    check_rows(&rt, ROWS)
-}
 
 #[test]
 fn joins_the_pieces_of_a_character(rt: HostRuntime) {

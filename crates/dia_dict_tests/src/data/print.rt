@@ -1,11 +1,9 @@
 //! Values as text.
 
-use super::check_rows;
 use dia_data::{Format, push_decimal, push_value};
 use std::alloc::AllocError;
-use std::test::Fail;
 
-const ROWS: &str = r#"
+pub(super) const ROWS: &str = r#"
 print Integer32 ffffffff => -1
 print Integer32 00 => x00
 print Integer64 fffffffffffffffe => -2
@@ -31,38 +29,19 @@ print QoSFilterRule 70 => x70
 "#;
 
 #[test]
-fn prints_values(rt: HostRuntime) -> Result<(), Fail> {
-    check_rows(&rt, ROWS)
+fn adds_numbers_and_values(rt: HostRuntime) {
+    let mut line = String::new(rt.alloc());
+    add(&mut line).expect(&rt, "memory");
+    assert!(rt; line.as_str() == "0 9 10 99 100 999 1000 65536 18446744073709551615 256x");
 }
 
-/// Adds numbers of each count of digits that is printed in its own way, each with a space behind it.
-fn add_numbers(line: &mut String) -> Result<(), AllocError> {
-    let numbers = [0, 9, 10, 99, 100, 999, 1000, 65_536, u64::MAX];
-    for number in numbers {
+/// Adds numbers of each count of digits that is printed in its own way, each with a space behind it; then a value, and data that
+/// the format doesn't accept.
+fn add(line: &mut String) -> Result<(), AllocError> {
+    for number in [0, 9, 10, 99, 100, 999, 1000, 65_536, u64::MAX] {
         push_decimal(line, number)?;
         line.push(' ')?;
     }
-    Ok(())
-}
-
-#[test]
-fn adds_a_number(rt: HostRuntime) -> Result<(), Fail> {
-    let mut line = String::new(rt.alloc());
-    add_numbers(&mut line)?;
-    assert!(rt; line.as_str() == "0 9 10 99 100 999 1000 65536 18446744073709551615 ");
-    Ok(())
-}
-
-/// Adds a value, and data that the format doesn't accept.
-fn add_values(line: &mut String) -> Result<(), AllocError> {
     push_value(line, &Format::Time, b"\x00\x00\x01\x00")?;
     push_value(line, &Format::Time, b"")
-}
-
-#[test]
-fn adds_a_value(rt: HostRuntime) -> Result<(), Fail> {
-    let mut line = String::from_str(rt.alloc(), "1 ")?;
-    add_values(&mut line)?;
-    assert!(rt; line.as_str() == "1 256x");
-    Ok(())
 }

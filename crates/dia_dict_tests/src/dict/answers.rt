@@ -26,7 +26,7 @@ pub fn same_answers<A: Book, B: Book>(rt: &impl Abort, a: &A, b: &B) {
 /// Checks that the AVPs are the same.
 fn same_entries<A: Book, B: Book>(rt: &impl Abort, a: &A, b: &B) {
     let entries = a.entries();
-    assert_eq!(rt; b.entries(), entries);
+    assert!(rt; b.entries() == entries);
     for place in 0..entries {
         same_entry(rt, a, b, a.entry_at(place), b.entry_at(place));
     }
@@ -35,7 +35,7 @@ fn same_entries<A: Book, B: Book>(rt: &impl Abort, a: &A, b: &B) {
 /// Checks that the commands are the same.
 fn same_definitions<A: Book, B: Book>(rt: &impl Abort, a: &A, b: &B) {
     let commands = a.commands();
-    assert_eq!(rt; b.commands(), commands);
+    assert!(rt; b.commands() == commands);
     for place in 0..commands {
         same_definition(rt, a, b, a.command_at(place), b.command_at(place));
     }
@@ -45,18 +45,14 @@ fn same_definitions<A: Book, B: Book>(rt: &impl Abort, a: &A, b: &B) {
 fn same_avps<A: Book, B: Book>(rt: &impl Abort, a: &A, b: &B, code: u32) {
     for vendor in VENDORS {
         let key = Key { code, vendor };
-        assert_eq!(rt; a.avp(key), b.avp(key), "{code}:{vendor}");
+        assert!(rt; a.avp(key) == b.avp(key));
     }
 }
 
 /// Checks that the commands of a code are the same.
 fn same_commands<A: Book, B: Book>(rt: &impl Abort, a: &A, b: &B, code: u32) {
     for class in [Class::Request, Class::Answer, Class::Error] {
-        assert_eq!(rt;
-            a.has_command(code, class),
-            b.has_command(code, class),
-            "{code}"
-        );
+        assert!(rt; a.has_command(code, class) == b.has_command(code, class));
         same_selected(rt, a, b, code, class, 0);
         same_selected(rt, a, b, code, class, 5);
     }
@@ -71,11 +67,7 @@ fn same_selected<A: Book, B: Book>(
     class: Class,
     app: u32,
 ) {
-    assert_eq!(rt;
-        a.select(code, class, app),
-        b.select(code, class, app),
-        "{code} {app}"
-    );
+    assert!(rt; a.select(code, class, app) == b.select(code, class, app));
 }
 
 /// Checks that two AVPs are the same, and their groups.
@@ -131,6 +123,6 @@ fn same_slots<A: Book, B: Book>(rt: &impl Abort, a: &A, b: &B, one: DefId, other
 {
     for vendor in VENDORS {
         let key = Key { code, vendor };
-        assert_eq!(rt; a.slot(one, key), b.slot(other, key), "{code}:{vendor}");
+        assert!(rt; a.slot(one, key) == b.slot(other, key));
     }
 }

@@ -1,9 +1,8 @@
 //! The base dictionary.
 
 use super::answers::same_answers;
-use super::{book_of, same};
+use super::{read, same};
 use dia_dict::{base_book, base_text, named_is_sound};
-use std::test::Fail;
 
 /// The 64-bit FNV-1a hash of a text.
 fn fnv1a(text: &str) -> u64 {
@@ -25,10 +24,9 @@ fn text_is_that_of_the_profile(rt: HostRuntime) {
 }
 
 #[test]
-fn base_text_names_the_base_book(rt: HostRuntime) -> Result<(), Fail> {
+fn base_text_names_the_base_book(rt: HostRuntime) {
     named_is_sound();
-    let base = base_book(rt.alloc())?;
-    let read = book_of(rt.alloc(), base_text())?;
+    let base = base_book(rt.alloc()).expect(&rt, "memory");
+    let read = read(&rt, base_text()).expect(&rt, "the base dictionary");
     same_answers(&rt, &base, &read);
-    Ok(())
 }

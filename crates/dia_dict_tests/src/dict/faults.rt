@@ -1,12 +1,11 @@
 //! Sources that name no dictionary, each by its first fault: its kind, and the names that are told.
 
-use super::fault_of;
+use super::read;
 use crate::words::same;
 use dia_dict::DictFault;
 use dia_rows::{Names, Row};
-use std::alloc::Global;
+use std::alloc::{AllocError, Global};
 use std::process::Abort;
-use std::test::Fail;
 
 const ROWS: &str = r"
 # Each kind, in the order in which they are told.
@@ -35,60 +34,54 @@ $T$RULE*1025 => Limit T
 ";
 
 #[test]
-fn tells_the_first_fault(rt: HostRuntime) -> Result<(), Fail> {
+fn tells_the_first_fault(rt: HostRuntime) {
     let mut names = Names::new(rt.alloc());
     for line in ROWS.lines() {
-        if let Some(row) = names.row(line)? {
-            tells(&rt, &names, &row)?;
+        if let Some(row) = names.row(line).expect(&rt, line) {
+            tells(&rt, &names, &row);
         }
     }
-    Ok(())
 }
 
 /// Checks the fault of the text of a row.
-fn tells(rt: &(impl AllocGlobal + Abort), names: &Names, row: &Row<'_>) -> Result<(), Fail> {
-    let text = names.text(row.call)?;
-    let fault = fault_of(rt.alloc(), str::from_utf8(text.as_slice())?)?;
-    let found = fault_words(rt.alloc(), &fault)?;
+fn tells(rt: &(impl AllocGlobal + Abort), names: &Names, row: &Row<'_>) {
+    let text = names.text(row.call).expect(rt, row.line);
+    let text = str::from_utf8(text.as_slice()).expect(rt, row.line);
+    let fault = read(rt, text).err().expect(rt, row.line);
+    let found = fault_words(rt.alloc(), &fault).expect(rt, "memory");
     same(rt, found.as_bytes(), row.wanted.as_bytes(), row.line);
-    Ok(())
 }
 
 /// The kind of a fault, and the names that are told.
-fn fault_words(alloc: Global, fault: &DictFault) -> Result<String, Fail> {
+fn fault_words(alloc: Global, fault: &DictFault) -> Result<String, AllocError> {
     match fault {
         DictFault::Stands { kind, name, slot } => {
             let mut text = format!(in alloc; "{kind:?}")?;
             for part in [name.as_str(), slot.as_str()] {
                 if !part.is_empty() {
-                    text.push(' ')?;
-                    text.push_str(part)?;
+                    write!(text, " {part}")?;
                 }
             }
             Ok(text)
         }
-        DictFault::NoMemory => Err(Fail::new("no memory")),
+        DictFault::NoMemory => Err(AllocError),
     }
 }
 
-/// What people are told of the fault of a text.
-fn words(alloc: Global, text: &str) -> Result<String, Fail> {
-    Ok(fault_of(alloc, text)?.to_string(alloc)?)
-}
-
-/// Checks what people are told of the fault of a text.
-fn told(rt: &(impl AllocGlobal + Abort), text: &str, message: &str) -> Result<(), Fail> {
-    assert_eq!(rt; words(rt.alloc(), text)?.as_str(), message);
-    Ok(())
-}
-
 /// A fault's message for people has the names that there are, and no blanks where there are none.
-#[test]
-fn tells_people_of_a_fault(rt: HostRuntime) -> Result<(), Fail> {
-    told(
-        &rt,
+const TOLD: [(&str, &str); 2] = [
+    (
         "<T> ::= < Diameter Header: 302, REQ > { Z }",
         "undefined-name: T Z",
-    )?;
-    told(&rt, "%avp X 9002 Grouped any", "no-group-format: X")
+    ),
+    ("%avp X 9002 Grouped any", "no-group-format: X"),
+];
+
+#[test]
+fn tells_people_of_a_fault(rt: HostRuntime) {
+    for (text, words) in TOLD.iter() {
+        let fault = read(&rt, text).err().expect(&rt, text);
+        let told = fault.to_string(rt.alloc()).expect(&rt, "memory");
+        same(&rt, told.as_bytes(), words.as_bytes(), words);
+    }
 }

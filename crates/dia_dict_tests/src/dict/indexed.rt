@@ -1,11 +1,9 @@
 //! Books with tables for their look-ups: many rules, and keys that share a bucket.
 
-use super::lookups::indexed_of;
-use super::{declarations, finds};
+use super::{declarations, finds, indexed_of};
 use dia_dict::{Book, Class, IndexedBook, Key, Slot};
 use std::alloc::{AllocError, Global};
 use std::process::Abort;
-use std::test::Fail;
 
 /// A command of so many rules, each for an AVP of its own.
 fn rules(alloc: Global, count: u32) -> Result<String, AllocError> {
@@ -23,7 +21,7 @@ fn stands(rt: &impl Abort, book: &IndexedBook, code: u32, slot: Slot) {
     let found = book
         .select(302, Class::Request, 0)
         .map(|def| book.slot(def, key));
-    assert_eq!(rt; found, Some(slot), "{code}");
+    assert!(rt; found == Some(slot));
 }
 
 /// Checks that each rule is found.
@@ -36,10 +34,9 @@ fn finds_rules(rt: &impl Abort, book: &IndexedBook) {
 }
 
 #[test]
-fn finds_each_of_1024_rules(rt: HostRuntime) -> Result<(), Fail> {
-    let text = rules(rt.alloc(), 1024)?;
-    finds_rules(&rt, &*indexed_of(rt.alloc(), text.as_str())?);
-    Ok(())
+fn finds_each_of_1024_rules(rt: HostRuntime) {
+    let text = rules(rt.alloc(), 1024).expect(&rt, "memory");
+    finds_rules(&rt, &*indexed_of(&rt, text.as_str()));
 }
 
 /// The inverse of the odd number that keys are multiplied by: the products of the keys below are 1, 2, 3 and so on.
@@ -67,7 +64,7 @@ fn neighbours(alloc: Global, count: u64) -> Result<String, AllocError> {
 /// Checks that each key is found.
 fn finds_neighbours(rt: &impl Abort, book: &IndexedBook) {
     let entries = book.entries();
-    assert_eq!(rt; entries, 1000);
+    assert!(rt; entries == 1000);
     for place in 0..entries {
         let entry = book.entry_at(place);
         finds(rt, book, book.entry_key(entry), Some(entry));
@@ -78,8 +75,7 @@ fn finds_neighbours(rt: &impl Abort, book: &IndexedBook) {
 }
 
 #[test]
-fn finds_keys_that_share_a_bucket(rt: HostRuntime) -> Result<(), Fail> {
-    let text = neighbours(rt.alloc(), 1000)?;
-    finds_neighbours(&rt, &*indexed_of(rt.alloc(), text.as_str())?);
-    Ok(())
+fn finds_keys_that_share_a_bucket(rt: HostRuntime) {
+    let text = neighbours(rt.alloc(), 1000).expect(&rt, "memory");
+    finds_neighbours(&rt, &*indexed_of(&rt, text.as_str()));
 }

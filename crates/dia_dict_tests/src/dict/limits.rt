@@ -1,8 +1,7 @@
 //! Sources at their limits, and above them.
 
-use super::{book_of, declarations, fault_of};
+use super::{declarations, read};
 use dia_dict::{Book, DictFault, DictKind};
-use std::test::Fail;
 
 /// Whether a fault is that there is too much, of no name.
 fn is_limit(fault: &DictFault) -> bool {
@@ -15,12 +14,11 @@ fn is_limit(fault: &DictFault) -> bool {
 }
 
 #[test]
-fn a_source_has_16384_parts_at_most(rt: HostRuntime) -> Result<(), Fail> {
-    let most = declarations(rt.alloc(), 16384)?;
-    let book = book_of(rt.alloc(), most.as_str())?;
-    assert_eq!(rt; book.entries(), 16384);
-    let more = declarations(rt.alloc(), 16385)?;
-    let fault = fault_of(rt.alloc(), more.as_str())?;
+fn a_source_has_16384_parts_at_most(rt: HostRuntime) {
+    let most = declarations(rt.alloc(), 16384).expect(&rt, "memory");
+    let book = read(&rt, most.as_str()).expect(&rt, "a dictionary");
+    assert!(rt; book.entries() == 16384);
+    let more = declarations(rt.alloc(), 16385).expect(&rt, "memory");
+    let fault = read(&rt, more.as_str()).err().expect(&rt, "a fault");
     assert!(rt; is_limit(&fault));
-    Ok(())
 }

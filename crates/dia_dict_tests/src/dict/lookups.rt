@@ -13,13 +13,12 @@
 //! Where there is none, the answer is `-`. `all` are the look-ups of `answers`, which both books of a dictionary answer alike.
 
 use super::answers::same_answers;
-use super::book_of;
-use crate::words::{number_of, same, words_of};
-use dia_dict::{Book, Class, IndexedBook, Key, PlainBook, base_text};
-use dia_rows::{Names, Row, RowFault, field};
+use super::{indexed_of, read};
+use crate::words::{number_of, same};
+use dia_dict::{Book, Class, Key, base_text};
+use dia_rows::{Names, Row, field, word};
 use std::alloc::{AllocError, Global};
 use std::process::Abort;
-use std::test::Fail;
 
 const ROWS: &str = r"
 # The AVPs of the base dictionary: the declared ones, and then the groups.
@@ -102,83 +101,79 @@ entry 1 | $NODES => -
 ";
 
 #[test]
-fn looks_up(rt: HostRuntime) -> Result<(), Fail> {
+fn looks_up(rt: HostRuntime) {
     let mut names = Names::new(rt.alloc());
-    names.define("base", Vec::from_slice(rt.alloc(), base_text().as_bytes())?)?;
+    let base = Vec::from_slice(rt.alloc(), base_text().as_bytes()).expect(&rt, "memory");
+    names.define("base", base).expect(&rt, "memory");
     for line in ROWS.lines() {
-        if let Some(row) = names.row(line)? {
-            check_row(&rt, &names, &row)?;
+        if let Some(row) = names.row(line).expect(&rt, line) {
+            answers(&rt, &names, &row);
         }
     }
-    Ok(())
 }
 
 /// Checks a row with both kinds of book.
-fn check_row(rt: &(impl AllocGlobal + Abort), names: &Names, row: &Row<'_>) -> Result<(), Fail> {
-    let text = names.text(field(row.call, 1))?;
-    let text = str::from_utf8(text.as_slice())?;
-    let plain = plain_of(rt.alloc(), text)?;
-    answers(rt, &*plain, row)?;
-    let indexed = indexed_of(rt.alloc(), text)?;
-    answers(rt, &*indexed, row)?;
+fn answers(rt: &(impl AllocGlobal + Abort), names: &Names, row: &Row<'_>) {
+    let text = names.text(field(row.call, 1)).expect(rt, row.line);
+    let text = str::from_utf8(text.as_slice()).expect(rt, row.line);
+    let plain = Box::new(rt.alloc(), read(rt, text).expect(rt, text))
+        .ok()
+        .expect(rt, "memory");
+    let indexed = indexed_of(rt, text);
     if row.call.starts_with("all ") {
         same_answers(rt, &*plain, &*indexed);
+        return;
     }
-    Ok(())
-}
-
-fn plain_of(alloc: Global, text: &str) -> Result<Box<PlainBook>, Fail> {
-    Ok(Box::new(alloc, book_of(alloc, text)?)?)
-}
-
-/// The book of a text, with its tables.
-pub(super) fn indexed_of(alloc: Global, text: &str) -> Result<Box<IndexedBook>, Fail> {
-    Ok(Box::new(
-        alloc,
-        IndexedBook::from_plain(alloc, book_of(alloc, text)?)?,
-    )?)
+    is_answer(rt, &*plain, row);
+    is_answer(rt, &*indexed, row);
 }
 
 /// Checks what a book answers to a row.
-fn answers<B: Book>(rt: &(impl AllocGlobal + Abort), book: &B, row: &Row<'_>) -> Result<(), Fail> {
-    let words = words_of(rt.alloc(), field(row.call, 0))?;
-    let found = answer(rt.alloc(), book, words.as_slice())?;
+fn is_answer<B: Book>(rt: &(impl AllocGlobal + Abort), book: &B, row: &Row<'_>) {
+    let call = field(row.call, 0);
+    let first = word(call, 1);
+    let found = match word(call, 0) {
+        "entry" => entry(rt.alloc(), book, number_of(rt, first) as usize),
+        "command" => owned(rt.alloc(), command(book, number_of(rt, first) as usize)),
+        "avp" => {
+            let vendor = number_of(rt, word(call, 2));
+            let code = number_of(rt, first);
+            owned(rt.alloc(), avp(book, Key { code, vendor }))
+        }
+        verb => {
+            let class = class_of(word(call, 2));
+            let code = number_of(rt, first);
+            selects(rt, book, verb, (code, class), word(call, 3))
+        }
+    };
+    let found = found.expect(rt, "memory");
     same(rt, found.as_bytes(), row.wanted.as_bytes(), row.line);
-    Ok(())
 }
 
-/// What a book answers to words.
-fn answer<B: Book>(alloc: Global, book: &B, words: &[&str]) -> Result<String, Fail> {
-    match words {
-        ["all"] => Ok(String::from_str(alloc, "alike")?),
-        ["entry", place] => Ok(entry(alloc, book, number_of(place)? as usize)?),
-        ["avp", code, vendor] => {
-            let (code, vendor) = (number_of(code)?, number_of(vendor)?);
-            Ok(owned(alloc, avp(book, Key { code, vendor }))?)
+/// What a book answers of the command that a message of a code and a class selects.
+fn selects<B: Book>(
+    rt: &(impl AllocGlobal + Abort),
+    book: &B,
+    verb: &str,
+    message: (u32, Class),
+    last: &str,
+) -> Result<String, AllocError> {
+    let (code, class) = message;
+    match verb {
+        "select" => owned(rt.alloc(), selected(book, code, class, number_of(rt, last))),
+        "slot" => slot(rt.alloc(), book, code, class, number_of(rt, last)),
+        _ => {
+            let has = book.has_command(code, class);
+            format!(in rt.alloc(); "{has}")
         }
-        ["command", place] => Ok(owned(alloc, command(book, number_of(place)? as usize))?),
-        ["select", code, class, app] => {
-            let (code, class, app) = (number_of(code)?, class_of(class)?, number_of(app)?);
-            Ok(owned(alloc, selected(book, code, class, app))?)
-        }
-        ["slot", code, class, avp] => {
-            let (code, class, avp) = (number_of(code)?, class_of(class)?, number_of(avp)?);
-            Ok(slot(alloc, book, code, class, avp)?)
-        }
-        ["has", code, class] => {
-            let has = book.has_command(number_of(code)?, class_of(class)?);
-            Ok(format!(in alloc; "{has}")?)
-        }
-        _ => Err(Fail::from(RowFault::Row)),
     }
 }
 
-fn class_of(word: &str) -> Result<Class, RowFault> {
+fn class_of(word: &str) -> Class {
     match word {
-        "request" => Ok(Class::Request),
-        "answer" => Ok(Class::Answer),
-        "error" => Ok(Class::Error),
-        _ => Err(RowFault::Row),
+        "request" => Class::Request,
+        "answer" => Class::Answer,
+        _ => Class::Error,
     }
 }
 

@@ -5,70 +5,47 @@ use dia_wire::{
     AVP_MANDATORY, AVP_PROTECTED, AVP_VENDOR, Avp, AvpFault, AvpHead, Avps, Key, avp_head, key,
     next_avp, number32,
 };
-use std::alloc::Global;
 use std::process::Abort;
-use std::test::Fail;
 
 #[test]
-fn displays_a_key(rt: HostRuntime) -> Result<(), Fail> {
+fn displays_a_key(rt: HostRuntime) {
     let key = Key {
         code: 1400,
         vendor: 10415,
     };
-    assert!(rt; format!(in rt.alloc(); "{key}")?.as_str() == "1400:10415");
-    Ok(())
+    let text = key.to_string(rt.alloc()).expect(&rt, "memory");
+    assert!(rt; text.as_str() == "1400:10415");
+}
+
+/// An Origin-Host and an Origin-Realm stand in the request, and nothing behind them.
+#[test]
+fn reads_the_avps_in_order(rt: HostRuntime) {
+    let (host, rest) = first_of(&rt, &REQUEST[20..]);
+    let wanted = Key {
+        code: 264,
+        vendor: 0,
+    };
+    assert!(rt; key(&host) == wanted && host.flags == 0x40 && host.bytes == b"a.b".as_slice());
+    assert!(rt; host.agrees() && host.length() == 11);
+    let (realm, rest) = first_of(&rt, rest);
+    assert!(rt; realm.code == 296 && realm.bytes == b"b".as_slice());
+    assert!(rt; matches!(next_avp(rest), Ok(None)));
 }
 
 /// The first AVP of a level, and what follows it.
-fn first_of(level: &[u8]) -> Result<(Avp<'_>, &[u8]), Fail> {
-    Ok(next_avp(level)?.ok_or("an AVP")?)
-}
-
-/// Checks the Origin-Host of the request.
-fn is_the_host(rt: &impl Abort, avp: &Avp<'_>) {
-    assert!(rt;
-        key(avp)
-            == Key {
-                code: 264,
-                vendor: 0
-            }
-    );
-    assert!(rt; avp.flags == 0x40);
-    assert!(rt; avp.bytes == b"a.b".as_slice());
-    assert!(rt; avp.agrees());
-    assert!(rt; avp.length() == 11);
-}
-
-/// Checks that the Origin-Realm of the request is the last AVP.
-fn ends_with_the_realm(rt: &impl Abort, level: &[u8]) -> Result<(), Fail> {
-    let (avp, rest) = first_of(level)?;
-    assert!(rt; avp.code == 296);
-    assert!(rt; avp.bytes == b"b".as_slice());
-    assert!(rt; matches!(next_avp(rest), Ok(None)));
-    Ok(())
-}
-
-#[test]
-fn reads_the_avps_in_order(rt: HostRuntime) -> Result<(), Fail> {
-    let (first, rest) = first_of(&REQUEST[20..])?;
-    is_the_host(&rt, &first);
-    ends_with_the_realm(&rt, rest)
-}
-
-/// The codes of a level's AVPs, up to the first fault.
-fn codes(alloc: Global, level: &[u8]) -> Result<Vec<u32>, Fail> {
-    let mut codes = Vec::new(alloc);
-    for avp in Avps::new(level) {
-        codes.push(avp?.code)?;
-    }
-    Ok(codes)
+fn first_of<'a>(rt: &impl Abort, level: &'a [u8]) -> (Avp<'a>, &'a [u8]) {
+    next_avp(level).expect(rt, "an AVP").expect(rt, "an AVP")
 }
 
 /// Checks the codes of a level's AVPs.
-fn has_codes(rt: &(impl AllocGlobal + Abort), level: &[u8], wanted: &[u32]) -> Result<(), Fail> {
-    let codes = codes(rt.alloc(), level)?;
-    assert!(rt; codes.as_slice() == wanted);
-    Ok(())
+fn has_codes(rt: &impl Abort, level: &[u8], wanted: &[u32]) {
+    let mut count = 0;
+    for avp in Avps::new(level) {
+        let code = avp.expect(rt, "an AVP").code;
+        assert!(rt; wanted.get(count) == Some(&code));
+        count += 1;
+    }
+    assert!(rt; count == wanted.len());
 }
 
 /// Checks that a level ends behind its first fault, which follows one AVP.
@@ -80,10 +57,10 @@ fn ends_at_the_fault(rt: &impl Abort, level: &[u8]) {
 }
 
 #[test]
-fn goes_over_a_level(rt: HostRuntime) -> Result<(), Fail> {
+fn goes_over_a_level(rt: HostRuntime) {
     ends_at_the_fault(&rt, &REQUEST[20..36]);
-    has_codes(&rt, &[], &[])?;
-    has_codes(&rt, REQUEST.split_at(20).1, &[264, 296])
+    has_codes(&rt, &[], &[]);
+    has_codes(&rt, REQUEST.split_at(20).1, &[264, 296]);
 }
 
 /// Checks that no AVP begins a level of 12 bytes.
@@ -103,8 +80,10 @@ fn refuses_bad_lengths(rt: HostRuntime) {
 }
 
 /// The head of the AVP that these bytes begin.
-fn head_of(bytes: &[u8], room: usize) -> Result<AvpHead, Fail> {
-    Ok(avp_head(bytes, room)?.ok_or("a head")?)
+fn head_of(rt: &impl Abort, bytes: &[u8], room: usize) -> AvpHead {
+    avp_head(bytes, room)
+        .expect(rt, "a head")
+        .expect(rt, "a head")
 }
 
 /// Checks that the head isn't whole yet.
@@ -113,15 +92,13 @@ fn is_not_whole(rt: &impl Abort, bytes: &[u8], room: usize) {
 }
 
 #[test]
-fn reads_a_head_before_its_data(rt: HostRuntime) -> Result<(), Fail> {
+fn reads_a_head_before_its_data(rt: HostRuntime) {
     is_not_whole(&rt, &REQUEST[20..27], 24);
-    let head = head_of(&REQUEST[20..28], 24)?;
+    let head = head_of(&rt, &REQUEST[20..28], 24);
     assert!(rt; head.code == 264 && head.length == 11 && head.vendor.is_none());
     let long = [0, 0, 1, 8, 0xc0, 0, 0, 12, 0, 0, 0x28, 0xaf];
     is_not_whole(&rt, &long[..11], 12);
-    let head = head_of(&long, 12)?;
-    assert!(rt; head.vendor == Some(10415));
-    Ok(())
+    assert!(rt; head_of(&rt, &long, 12).vendor == Some(10415));
 }
 
 /// An AVP without data and without a Vendor-ID.

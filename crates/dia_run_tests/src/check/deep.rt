@@ -2,26 +2,41 @@
 
 ghost use Rattle.std.specs.Prelude.{◌≤◌};
 
-use super::pieces::feed_sizes;
-use super::{AVPS, WATCHDOG, assert_levels, base_books, feed};
+use super::pieces::feed_pieces;
+use super::{AVPS, WATCHDOG, feed};
 use crate::books::{Books, Task, is_verdict};
 use dia_check::{Levels, Stream, Unknown};
-use dia_dict::Book;
+use dia_dict::{Book, base_text};
 use dia_rows::{RowFault, bytes_of};
 use std::alloc::Global;
 use std::process::Abort;
-use std::test::Fail;
 
-/// How many Failed-AVPs lie in one another, and the length of the outermost.
+/// How many groups lie in one another.
 const DEPTH: u32 = 100_000;
 
-const GROUPS: usize = 800_008;
-
-/// The length of a message with them.
-const LENGTH: usize = 800_052;
-
-/// The place of the outermost Failed-AVP, behind the header, the Origin-Host and the Origin-Realm.
-const FIRST: u32 = 44;
+/// A message of a command with so many groups of a code in one another, AVPs before, in the innermost and behind them.
+fn groups(
+    alloc: Global,
+    heads: (u32, u32),
+    depth: u32,
+    around: (&str, &str, &str),
+) -> Result<Vec<u8>, RowFault>
+    requires { depth ≤ 1000000 }
+{
+    let (command, code) = heads;
+    let (before, inside, behind) = around;
+    let inner = inside.len() / 2;
+    let length = 8 * depth as usize + 20 + (before.len() + behind.len()) / 2 + inner;
+    let mut text = format!(in alloc;
+        "01{length:06x}80{command:06x}000000000000000100000002{before}"
+    )?;
+    for outer in 0..depth {
+        let length = 8 * (depth - outer) as usize + inner;
+        write!(text, "{code:08x}00{length:06x}")?;
+    }
+    write!(text, "{inside}{behind}")?;
+    bytes_of(alloc, text.as_bytes())
+}
 
 /// A watchdog request with so many Failed-AVPs in one another, an unknown AVP in the innermost, and an Origin-Host and an
 /// Origin-Realm before or behind them.
@@ -33,150 +48,69 @@ pub(super) fn nested(
 ) -> Result<Vec<u8>, RowFault>
     requires { depth ≤ 1000000 }
 {
-    let length = FIRST + 8 * depth + 8;
-    let mut text = format!(in alloc; "01{length:06x}80000118000000000000000100000002{before}")?;
-    for outer in 0..depth {
-        let length = 8 * (depth - outer) + 8;
-        write!(text, "0000011700{length:06x}")?;
-    }
-    write!(text, "0000270f00000008{behind}")?;
-    bytes_of(alloc, text.as_bytes())
-}
-
-/// Both books answer as is wanted under a limit on levels.
-fn check_limit(
-    rt: &(impl AllocGlobal + Abort),
-    books: &Books,
-    bytes: &[u8],
-    levels: Levels,
-    wanted: &str,
-) -> Result<(), Fail> {
-    let task = Task {
-        unknown: Unknown::Kept,
-        levels,
-        message: bytes,
-        wanted: wanted.as_bytes(),
-    };
-    books.judge(rt, task, wanted)
-}
-
-/// The place of the innermost group is 44 + 8 * 99999.
-const TOO_DEEP: &str = "1 fault 5012 at 800036 depth Failed-AVP\n";
-
-/// Both books go as deep as is asked, and no deeper.
-fn goes_deep(rt: &(impl AllocGlobal + Abort), books: &Books, bytes: &[u8]) -> Result<(), Fail> {
-    check_limit(rt, books, bytes, Levels::Any, WATCHDOG)?;
-    check_limit(rt, books, bytes, Levels::AtMost(DEPTH), WATCHDOG)?;
-    check_limit(rt, books, bytes, Levels::AtMost(DEPTH - 1), TOO_DEEP)
-}
-
-#[test]
-fn goes_as_deep_as_a_message(rt: HostRuntime) -> Result<(), Fail> {
-    let bytes = nested(rt.alloc(), DEPTH, AVPS, "")?;
-    let books = base_books(rt.alloc())?;
-    goes_deep(&rt, &books, bytes.as_slice())
-}
-
-/// How many levels are open after so many bytes of a message whose outermost Failed-AVP begins at a place.
-fn open_after(count: usize, first: usize) -> usize {
-    if count < 20 || count >= LENGTH {
-        return 0;
-    }
-    if count < first || count - first >= GROUPS {
-        return 1;
-    }
-    1 + (count - first) / 8
-}
-
-/// Feeds a message byte by byte, and looks at its levels after each.
-fn count_levels<B: Book>(
-    rt: &(impl AllocGlobal + Abort),
-    book: &B,
-    bytes: &[u8],
-    first: usize,
-) -> Result<(), Fail> {
-    assert!(rt; bytes.len() == LENGTH);
-    let mut stream = Stream::new(rt.alloc(), book, Unknown::Kept, Levels::Any);
-    for place in 0..bytes.len() {
-        let count = place + 1;
-        feed(rt, &mut stream, &bytes[place..count], 1, count == LENGTH);
-        assert_levels(rt, stream.levels(), open_after(count, first), count);
-    }
-    is_verdict(rt, book, stream.finish(), WATCHDOG.as_bytes(), WATCHDOG)
-}
-
-#[test]
-fn counts_a_hundred_thousand_levels(rt: HostRuntime) -> Result<(), Fail> {
-    let last = nested(rt.alloc(), DEPTH, AVPS, "")?;
-    let books = base_books(rt.alloc())?;
-    count_levels(&rt, &*books.plain, last.as_slice(), 44)
-}
-
-#[test]
-fn counts_levels_before_other_avps(rt: HostRuntime) -> Result<(), Fail> {
-    let first = nested(rt.alloc(), DEPTH, "", AVPS)?;
-    let books = base_books(rt.alloc())?;
-    count_levels(&rt, &*books.indexed, first.as_slice(), 20)
-}
-
-/// Pieces of several sizes, the last of which holds the whole message.
-const SIZES: [usize; 3] = [7, 4_096, 800_052];
-
-#[test]
-fn takes_deep_messages_in_pieces(rt: HostRuntime) -> Result<(), Fail> {
-    let bytes = nested(rt.alloc(), DEPTH, AVPS, "")?;
-    let books = base_books(rt.alloc())?;
-    let levels = Levels::AtMost(DEPTH);
-    feed_sizes(
-        &rt,
-        &*books.plain,
-        levels,
-        bytes.as_slice(),
-        &SIZES,
-        WATCHDOG,
+    groups(
+        alloc,
+        (280, 279),
+        depth,
+        (before, "0000270f00000008", behind),
     )
 }
 
-/// The faults of streams that open fewer levels: each limit, and the verdict with the place of the group that it refuses.
-const LIMITS: [(u32, &str); 4] = [
-    (0, "1 fault 5012 at 44 depth Failed-AVP\n"),
-    (1, "1 fault 5012 at 52 depth Failed-AVP\n"),
-    (50_000, "1 fault 5012 at 400044 depth Failed-AVP\n"),
-    (99_999, "1 fault 5012 at 800036 depth Failed-AVP\n"),
+/// Each limit, and the verdict with the place of the group that it refuses: the innermost of 100,000 stands at 44 + 8 * 99999.
+const LIMITS: [(Levels, &str); 6] = [
+    (Levels::Any, WATCHDOG),
+    (Levels::AtMost(100_000), WATCHDOG),
+    (
+        Levels::AtMost(99_999),
+        "1 fault 5012 at 800036 depth Failed-AVP\n",
+    ),
+    (
+        Levels::AtMost(50_000),
+        "1 fault 5012 at 400044 depth Failed-AVP\n",
+    ),
+    (Levels::AtMost(1), "1 fault 5012 at 52 depth Failed-AVP\n"),
+    (Levels::AtMost(0), "1 fault 5012 at 44 depth Failed-AVP\n"),
 ];
 
-/// Streams that open fewer levels tell the fault.
-fn feed_limits<B: Book>(
-    rt: &(impl AllocGlobal + Abort),
-    book: &B,
-    bytes: &[u8],
-) -> Result<(), Fail> {
-    for (limit, wanted) in LIMITS.iter() {
-        feed_sizes(rt, book, Levels::AtMost(*limit), bytes, &SIZES, wanted)?;
+/// Both books go as deep as is asked, and no deeper: over a whole message, and in pieces of several sizes.
+#[test]
+fn goes_as_deep_as_a_message(rt: HostRuntime) {
+    let message = nested(rt.alloc(), DEPTH, AVPS, "").expect(&rt, "a message");
+    let books = Books::new(&rt, base_text().as_bytes());
+    for (levels, wanted) in LIMITS.iter() {
+        judges(&rt, &books, *levels, message.as_slice(), wanted);
     }
-    Ok(())
+}
+
+/// Checks the verdict of both books, and of their streams.
+fn judges(
+    rt: &(impl AllocGlobal + Abort),
+    books: &Books,
+    levels: Levels,
+    message: &[u8],
+    wanted: &str,
+) {
+    let task = Task {
+        unknown: Unknown::Kept,
+        levels,
+        message,
+        wanted,
+    };
+    books.judge(rt, task);
+    feed_pieces(rt, &*books.plain, task, 7);
+    feed_pieces(rt, &*books.plain, task, 4096);
+    feed_pieces(rt, &*books.indexed, task, 4096);
+    feed_pieces(rt, &*books.indexed, task, 800_052);
 }
 
 #[test]
-fn refuses_deep_messages_in_pieces(rt: HostRuntime) -> Result<(), Fail> {
-    let bytes = nested(rt.alloc(), DEPTH, AVPS, "")?;
-    let books = base_books(rt.alloc())?;
-    feed_limits(&rt, &*books.indexed, bytes.as_slice())
-}
-
-#[test]
-fn goes_down_half_a_million_levels(rt: HostRuntime) -> Result<(), Fail> {
-    let bytes = nested(rt.alloc(), 500_000, AVPS, "")?;
-    let books = base_books(rt.alloc())?;
-    feed_sizes(
-        &rt,
-        &*books.plain,
-        Levels::Any,
-        bytes.as_slice(),
-        &[4_096],
-        WATCHDOG,
-    )?;
-    check_limit(&rt, &books, bytes.as_slice(), Levels::Any, WATCHDOG)
+fn goes_down_half_a_million_levels(rt: HostRuntime) {
+    let message = nested(rt.alloc(), 500_000, AVPS, "").expect(&rt, "a message");
+    let books = Books::new(&rt, base_text().as_bytes());
+    judges(&rt, &books, Levels::Any, message.as_slice(), WATCHDOG);
+    let message = nodes(rt.alloc(), 500_000).expect(&rt, "a message");
+    let books = Books::new(&rt, NODES.as_bytes());
+    judges(&rt, &books, Levels::Any, message.as_slice(), VALID);
 }
 
 /// Groups of one kind that hold each other, and a command of them.
@@ -187,59 +121,79 @@ const NODES: &str =
 const VALID: &str = "0 valid T\n";
 
 /// A message of `NODES` with so many groups in one another, and nothing else.
-fn nodes(alloc: Global, depth: u32) -> Result<Vec<u8>, Fail>
+fn nodes(alloc: Global, depth: u32) -> Result<Vec<u8>, RowFault>
     requires { depth ≤ 1000000 }
 {
-    let text = crate::commands::nested_nodes(alloc, depth)?;
-    Ok(bytes_of(alloc, text.as_bytes())?)
+    groups(alloc, (301, 9001), depth, ("", "", ""))
 }
 
 #[test]
-fn judges_half_a_million_nodes(rt: HostRuntime) -> Result<(), Fail> {
-    let bytes = nodes(rt.alloc(), 500_000)?;
-    let books = Books::new(rt.alloc(), NODES.as_bytes())?;
-    check_limit(&rt, &books, bytes.as_slice(), Levels::Any, VALID)?;
-    feed_sizes(
+fn counts_a_hundred_thousand_levels(rt: HostRuntime) {
+    let books = Books::new(&rt, base_text().as_bytes());
+    let message = nested(rt.alloc(), DEPTH, AVPS, "").expect(&rt, "a message");
+    counts(
+        &rt,
+        &*books.plain,
+        message.as_slice(),
+        (44, 800_052),
+        WATCHDOG,
+    );
+    let message = nested(rt.alloc(), DEPTH, "", AVPS).expect(&rt, "a message");
+    counts(
         &rt,
         &*books.indexed,
-        Levels::Any,
-        bytes.as_slice(),
-        &[4_096],
+        message.as_slice(),
+        (20, 800_028),
+        WATCHDOG,
+    );
+    let books = Books::new(&rt, NODES.as_bytes());
+    let message = nodes(rt.alloc(), DEPTH).expect(&rt, "a message");
+    counts(&rt, &*books.plain, message.as_slice(), (20, 800_020), VALID);
+    counts(
+        &rt,
+        &*books.indexed,
+        message.as_slice(),
+        (20, 800_020),
         VALID,
-    )
+    );
 }
 
-/// Feeds a message of a hundred thousand nodes byte by byte: k + 1 levels are open after 20 + 8 k bytes, and none at the end.
-fn count_nodes<B: Book>(
+/// Feeds a message byte by byte, and looks at its levels after each. Its groups begin at the first place, and end at the other.
+fn counts<B: Book>(
     rt: &(impl AllocGlobal + Abort),
     book: &B,
-    bytes: &[u8],
-) -> Result<(), Fail> {
+    message: &[u8],
+    groups: (usize, usize),
+    wanted: &str,
+) {
     let mut stream = Stream::new(rt.alloc(), book, Unknown::Kept, Levels::Any);
-    for place in 0..bytes.len() {
+    for place in 0..message.len() {
         let count = place + 1;
         feed(
             rt,
             &mut stream,
-            &bytes[place..count],
+            &message[place..count],
             1,
-            count == bytes.len(),
+            count == message.len(),
         );
-        let open = if count < 20 || count == bytes.len() {
+        let levels = if count == message.len() {
             0
         } else {
-            1 + (count - 20) / 8
+            open_after(count, groups)
         };
-        assert_levels(rt, stream.levels(), open, count);
+        assert!(rt; stream.levels() == levels, "after {count} bytes");
     }
-    is_verdict(rt, book, stream.finish(), VALID.as_bytes(), VALID)
+    is_verdict(rt, book, stream.finish(), wanted);
 }
 
-#[test]
-fn counts_a_hundred_thousand_nodes(rt: HostRuntime) -> Result<(), Fail> {
-    let bytes = nodes(rt.alloc(), DEPTH)?;
-    assert!(rt; bytes.len() == 800_020);
-    let books = Books::new(rt.alloc(), NODES.as_bytes())?;
-    count_nodes(&rt, &*books.plain, bytes.as_slice())?;
-    count_nodes(&rt, &*books.indexed, bytes.as_slice())
+/// How many levels are open after so many bytes of a message that goes on behind them.
+fn open_after(count: usize, groups: (usize, usize)) -> usize {
+    let (first, end) = groups;
+    if count < 20 {
+        0
+    } else if count < first || count >= end {
+        1
+    } else {
+        1 + (count - first) / 8
+    }
 }

@@ -1,12 +1,12 @@
 //! Messages of the greatest length.
 
-use super::pieces::{check_level, feed_sizes};
-use super::{AVPS, WATCHDOG, base_books};
-use crate::books::Task;
+use super::pieces::{check_level, feed_pieces};
+use super::{AVPS, WATCHDOG};
+use crate::books::{Books, Task};
 use dia_check::{Levels, Unknown};
+use dia_dict::base_text;
 use dia_rows::{RowFault, bytes_of};
 use std::alloc::Global;
-use std::test::Fail;
 
 /// The greatest Message Length that is a multiple of four.
 const LENGTH: usize = 16_777_212;
@@ -51,40 +51,8 @@ fn valid(message: &[u8]) -> Task<'_> {
         unknown: Unknown::Kept,
         levels: Levels::Any,
         message,
-        wanted: WATCHDOG.as_bytes(),
+        wanted: WATCHDOG,
     }
-}
-
-#[test]
-fn takes_one_avp_that_fills_the_message(rt: HostRuntime) -> Result<(), Fail> {
-    let bytes = filled(rt.alloc())?;
-    assert!(rt; bytes.len() == LENGTH);
-    let books = base_books(rt.alloc())?;
-    books.judge(&rt, valid(bytes.as_slice()), WATCHDOG)?;
-    let sizes = [61, 4_096, LENGTH];
-    feed_sizes(
-        &rt,
-        &*books.plain,
-        Levels::Any,
-        bytes.as_slice(),
-        &sizes,
-        WATCHDOG,
-    )
-}
-
-#[test]
-fn takes_many_avps(rt: HostRuntime) -> Result<(), Fail> {
-    let bytes = repeated(rt.alloc())?;
-    assert!(rt; bytes.len() == LENGTH);
-    let books = base_books(rt.alloc())?;
-    feed_sizes(
-        &rt,
-        &*books.indexed,
-        Levels::Any,
-        bytes.as_slice(),
-        &[4_099],
-        WATCHDOG,
-    )
 }
 
 /// How many levels are open after so many bytes of the message with the Failed-AVP.
@@ -100,11 +68,25 @@ const LEVELS: [(usize, usize); 8] = [
 ];
 
 #[test]
-fn keeps_a_group_open_to_its_end(rt: HostRuntime) -> Result<(), Fail> {
-    let bytes = filled(rt.alloc())?;
-    let books = base_books(rt.alloc())?;
-    for (count, levels) in LEVELS.iter() {
-        check_level(&rt, &*books.indexed, bytes.as_slice(), *count, *levels);
+fn takes_one_avp_that_fills_the_message(rt: HostRuntime) {
+    let books = Books::new(&rt, base_text().as_bytes());
+    let bytes = filled(rt.alloc()).expect(&rt, "a message");
+    let bytes = bytes.as_slice();
+    assert!(rt; bytes.len() == LENGTH);
+    books.judge(&rt, valid(bytes));
+    for size in [61, 4_096, LENGTH] {
+        feed_pieces(&rt, &*books.plain, valid(bytes), size);
     }
-    Ok(())
+    for (count, levels) in LEVELS.iter() {
+        let (front, _) = bytes.split_at_checked(*count).expect(&rt, "a front");
+        check_level(&rt, &*books.indexed, front, *levels);
+    }
+}
+
+#[test]
+fn takes_many_avps(rt: HostRuntime) {
+    let bytes = repeated(rt.alloc()).expect(&rt, "a message");
+    assert!(rt; bytes.len() == LENGTH);
+    let books = Books::new(&rt, base_text().as_bytes());
+    feed_pieces(&rt, &*books.indexed, valid(bytes.as_slice()), 4_099);
 }

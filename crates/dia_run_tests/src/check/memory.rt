@@ -4,10 +4,10 @@
 
 ghost use Rattle.std.specs.Prelude.{◌<◌};
 
+use super::AVPS;
 use super::deep::nested;
-use super::{AVPS, base_books};
 use dia_check::{Levels, Refusal, Selected, Stream, StreamFault, Unknown};
-use dia_dict::{Book, Class};
+use dia_dict::{Book, Class, IndexedBook, base_book};
 use std::process::Abort;
 
 /// A stream that is fed pieces of a size answers for the message, or is spent where memory is refused.
@@ -22,8 +22,7 @@ fn feeds_or_is_spent<B: Book>(rt: &(impl AllocGlobal + Abort), book: &B, bytes: 
             return;
         }
     }
-    let found = stream.finish().ok();
-    assert_eq!(rt; found, watchdog(book));
+    assert!(rt; stream.finish().ok() == watchdog(book));
 }
 
 /// The answer for a watchdog request.
@@ -53,8 +52,11 @@ fn a_stream_answers_or_memory_is_refused(rt: HostRuntime) {
         return;
     };
     // An error says that there was no memory for a book.
-    if let Ok(books) = base_books(rt.alloc()) {
-        feeds_all(&rt, &*books.plain, bytes.as_slice());
-        feeds_all(&rt, &*books.indexed, bytes.as_slice());
+    let Ok(plain) = base_book(rt.alloc()) else {
+        return;
+    };
+    feeds_all(&rt, &plain, bytes.as_slice());
+    if let Ok(indexed) = IndexedBook::new(rt.alloc(), &plain) {
+        feeds_all(&rt, &indexed, bytes.as_slice());
     }
 }

@@ -5,13 +5,11 @@
 
 use crate::words::same;
 use dia_compat::{
-    Table, TableFault, one_table, one_table_fault, parse_table, read_tables_are_writable,
-    render_table,
+    TableFault, one_table, one_table_fault, parse_table, read_tables_are_writable, render_table,
 };
 use dia_rows::{Names, Row};
 use std::alloc::{AllocError, Global};
 use std::process::Abort;
-use std::test::Fail;
 
 const ROWS: &str = r"
 # Pairs.
@@ -72,74 +70,65 @@ $BLANK*33554433 => limit 0
 ";
 
 #[test]
-fn reads_tables(rt: HostRuntime) -> Result<(), Fail> {
+fn reads_tables(rt: HostRuntime) {
     one_table();
     one_table_fault();
     read_tables_are_writable();
-    check_rows(&rt, ROWS)
-}
-
-#[test]
-fn keeps_the_limits(rt: HostRuntime) -> Result<(), Fail> {
-    check_rows(&rt, LIMITS)
+    answers(&rt, ROWS);
+    answers(&rt, LIMITS);
 }
 
 /// Checks each row of a text.
-fn check_rows(rt: &(impl AllocGlobal + Abort), text: &str) -> Result<(), Fail> {
+fn answers(rt: &(impl AllocGlobal + Abort), rows: &str) {
     let mut names = Names::new(rt.alloc());
-    check_lines(rt, &mut names, text)
-}
-
-fn check_lines(rt: &(impl AllocGlobal + Abort), names: &mut Names, text: &str) -> Result<(), Fail> {
-    for line in text.lines() {
-        if let Some(row) = names.row(line)? {
-            check_row(rt, names, &row)?;
+    for line in rows.lines() {
+        if let Some(row) = names.row(line).expect(rt, line) {
+            answer(rt, &names, &row);
         }
     }
-    Ok(())
 }
 
 /// Checks the answer to the text of a row.
-fn check_row(rt: &(impl AllocGlobal + Abort), names: &Names, row: &Row<'_>) -> Result<(), Fail> {
-    let text = names.text(row.call)?;
-    let text = str::from_utf8(text.as_slice())?;
-    let wanted = names.text(row.wanted)?;
+fn answer(rt: &(impl AllocGlobal + Abort), names: &Names, row: &Row<'_>) {
+    let text = names.text(row.call).expect(rt, row.line);
+    let text = str::from_utf8(text.as_slice()).expect(rt, row.line);
+    let wanted = names.text(row.wanted).expect(rt, row.line);
     let found = if row.wanted.starts_with("renders ") {
-        written(rt, text)?
+        written(rt, text)
     } else {
-        answer(rt.alloc(), text)?
+        read(rt.alloc(), text).expect(rt, "memory")
     };
     same(rt, found.as_bytes(), wanted.as_slice(), row.line);
-    Ok(())
 }
 
 /// The pairs that were read, or the fault.
-fn answer(alloc: Global, text: &str) -> Result<String, Fail> {
+fn read(alloc: Global, text: &str) -> Result<String, AllocError> {
+    let mut pairs = String::new(alloc);
     match parse_table(alloc, text) {
-        Ok(table) => Ok(pairs_of(alloc, &table)?),
-        Err(TableFault::Syntax { line }) => Ok(format!(in alloc; "syntax {line}")?),
-        Err(TableFault::Limit { line }) => Ok(format!(in alloc; "limit {line}")?),
-        Err(TableFault::NoMemory) => Err(Fail::from(TableFault::NoMemory)),
+        Ok(table) => {
+            push_pairs(&mut pairs, "command ", &table.commands)?;
+            push_pairs(&mut pairs, "avp ", &table.avps)?;
+        }
+        Err(TableFault::Syntax { line }) => write!(pairs, "syntax {line}")?,
+        Err(TableFault::Limit { line }) => write!(pairs, "limit {line}")?,
+        Err(TableFault::NoMemory) => return Err(AllocError),
     }
+    Ok(pairs)
 }
 
-/// The pairs of a table.
-fn pairs_of(alloc: Global, table: &Table) -> Result<String, AllocError> {
-    let mut text = String::new(alloc);
-    super::push_pairs(&mut text, "command ", &table.commands)?;
-    super::push_pairs(&mut text, "avp ", &table.avps)?;
-    Ok(text)
+/// Pushes pairs of names as text, each behind a word.
+fn push_pairs(text: &mut String, word: &str, pairs: &[(String, String)]) -> Result<(), AllocError> {
+    for (a, b) in pairs {
+        write!(text, "{word}{a} = {b};")?;
+    }
+    Ok(())
 }
 
 /// A table as it is written. What is written is read as the table again.
-fn written(rt: &(impl AllocGlobal + Abort), text: &str) -> Result<String, Fail> {
-    let table = parse_table(rt.alloc(), text)?;
-    let text = render_table(rt.alloc(), &table)?;
-    let read = parse_table(rt.alloc(), text.as_str())?;
+fn written(rt: &(impl AllocGlobal + Abort), text: &str) -> String {
+    let table = parse_table(rt.alloc(), text).expect(rt, text);
+    let text = render_table(rt.alloc(), &table).expect(rt, text);
+    let read = parse_table(rt.alloc(), text.as_str()).expect(rt, "a table");
     assert!(rt; read == table);
-    format_written(rt.alloc(), text.as_str())
-}
-
-fn format_written(alloc: Global, text: &str) -> Result<String, Fail> {
-    Ok(format!(in alloc; "renders {text}")?)
+    format!(in rt.alloc(); "renders {text}").expect(rt, "memory")
 }

@@ -11,214 +11,121 @@
 //! end, and its answer the state that the end then is in and what it did. `common` is answered by the applications that an
 //! end shares with the other.
 
-use super::names::names;
+use super::names::NAMES;
 use super::steps::STEPS;
 use super::{Ends, end, first, second, tell};
-use crate::words::{number_of, same, words_of};
+use crate::words::{number_of, same};
 use dia_peer::{App, Cause, Core, Event, Kind, Output, Role};
-use dia_rows::{Names, Row, RowFault, bytes_of, field, without_blanks};
+use dia_rows::{Names, Row, bytes_of, field, without_blanks, word};
 use std::alloc::{AllocError, Global};
 use std::process::Abort;
-use std::test::Fail;
 
 #[test]
-fn plays_connections(rt: HostRuntime) -> Result<(), Fail> {
-    let mut names = names(rt.alloc())?;
-    let mut ends = ends_of(rt.alloc(), &["1"], "auth:1", "auth:1")?;
-    plays_rows(&rt, &mut names, &mut ends)
-}
-
-fn plays_rows(
-    rt: &(impl AllocGlobal + Abort),
-    names: &mut Names,
-    ends: &mut Ends,
-) -> Result<(), Fail> {
+fn plays_connections(rt: HostRuntime) {
+    let mut names = Names::new(rt.alloc());
+    names.learn_all(NAMES).expect(&rt, "names");
+    let mut ends = ends_of(&rt, "ends 1 | auth:1 | auth:1");
     for line in STEPS.lines() {
-        if let Some(row) = names.row(line)? {
-            plays_row(rt, names, ends, &row)?;
+        if let Some(row) = names.row(line).expect(&rt, line) {
+            plays(&rt, &names, &mut ends, &row);
         }
     }
-    Ok(())
 }
 
-/// Checks a row: new ends, or a step of the ends that there are.
-fn plays_row(
-    rt: &(impl AllocGlobal + Abort),
-    names: &Names,
-    ends: &mut Ends,
-    row: &Row<'_>,
-) -> Result<(), Fail> {
-    let words = words_of(rt.alloc(), field(row.call, 0))?;
-    if let ["ends", numbers @ ..] = words.as_slice() {
-        *ends = ends_of(rt.alloc(), numbers, field(row.call, 1), field(row.call, 2))?;
-    }
-    plays(rt, names, ends, row, words.as_slice())
-}
-
-/// New ends with these applications.
-fn ends_of(alloc: Global, numbers: &[&str], ours: &str, theirs: &str) -> Result<Ends, Fail> {
-    let (hop, state) = match numbers {
-        [hop] => (number_of(hop)?, None),
-        [hop, state] => (number_of(hop)?, Some(number_of(state)?)),
-        _ => return Err(Fail::from(RowFault::Row)),
+/// Checks a row: new ends, or a step of the ends that there are. Blanks count for nothing.
+fn plays(rt: &(impl AllocGlobal + Abort), names: &Names, ends: &mut Ends, row: &Row<'_>) {
+    let found = match word(row.call, 0) {
+        "ends" => begins(rt, ends, row.call),
+        "i" => done(rt, names, &mut ends.initiator, row.call),
+        _ => done(rt, names, &mut ends.responder, row.call),
     };
-    let initiator = initiator_of(alloc, hop, state, ours)?;
-    let responder = responder_of(alloc, state, theirs)?;
-    Ok(Ends {
-        initiator,
-        responder,
-    })
+    let found = without_blanks(rt.alloc(), found.as_bytes()).expect(rt, "memory");
+    let wanted = names.text(row.wanted).expect(rt, row.line);
+    let wanted = without_blanks(rt.alloc(), wanted.as_slice()).expect(rt, "memory");
+    same(rt, found.as_slice(), wanted.as_slice(), row.line);
 }
 
-fn initiator_of(
-    alloc: Global,
-    hop: u32,
-    state: Option<u32>,
-    apps: &str,
-) -> Result<Box<Core>, Fail> {
-    let apps = apps_of(alloc, apps)?;
-    let mut config = first(alloc, apps.as_slice())?;
-    config.hop = hop;
-    config.state_id = state;
-    Ok(end(alloc, config, Role::Initiator)?)
+/// New ends, and their states.
+fn begins(rt: &(impl AllocGlobal + Abort), ends: &mut Ends, call: &str) -> String {
+    *ends = ends_of(rt, call);
+    let (a, b) = (ends.initiator.state(), ends.responder.state());
+    format!(in rt.alloc(); "{a:?} {b:?}").expect(rt, "memory")
 }
 
-fn responder_of(alloc: Global, state: Option<u32>, apps: &str) -> Result<Box<Core>, Fail> {
-    let apps = apps_of(alloc, apps)?;
-    let mut config = second(alloc, apps.as_slice())?;
-    config.state_id = state;
-    Ok(end(alloc, config, Role::Responder)?)
+/// New ends with the numbers and the applications of a row.
+fn ends_of(rt: &(impl AllocGlobal + Abort), call: &str) -> Ends {
+    let numbers = field(call, 0);
+    let state = match word(numbers, 2) {
+        "" => None,
+        number => Some(number_of(rt, number)),
+    };
+    let apps = apps_of(rt, field(call, 1));
+    let mut ours = first(rt.alloc(), apps.as_slice()).expect(rt, "memory");
+    ours.hop = number_of(rt, word(numbers, 1));
+    ours.state_id = state;
+    let apps = apps_of(rt, field(call, 2));
+    let mut theirs = second(rt.alloc(), apps.as_slice()).expect(rt, "memory");
+    theirs.state_id = state;
+    Ends {
+        initiator: end(rt, ours, Role::Initiator),
+        responder: end(rt, theirs, Role::Responder),
+    }
 }
 
 /// Applications, each as its kind and its number.
-pub(super) fn apps_of(alloc: Global, text: &str) -> Result<Vec<App>, Fail> {
-    let mut apps = Vec::new(alloc);
+pub(super) fn apps_of(rt: &(impl AllocGlobal + Abort), text: &str) -> Vec<App> {
+    let mut apps = Vec::new(rt.alloc());
     for word in text.split_ascii_whitespace() {
-        apps.push(app_of(word)?)?;
+        apps.push(app_of(rt, word)).ok().expect(rt, "memory");
     }
-    Ok(apps)
+    apps
 }
 
 /// An application such as `auth:4`, or `auth:4@10415` for one of a vendor.
-fn app_of(word: &str) -> Result<App, RowFault> {
-    let (kind, rest) = word.split_once(':').ok_or(RowFault::Row)?;
-    let kind = match kind {
-        "auth" => Kind::Auth,
-        "acct" => Kind::Acct,
-        _ => return Err(RowFault::Row),
+fn app_of(rt: &impl Abort, word: &str) -> App {
+    let (kind, rest) = word.split_once(':').expect(rt, word);
+    let kind = if kind == "auth" {
+        Kind::Auth
+    } else {
+        Kind::Acct
     };
-    let (id, vendor) = match rest.split_once('@') {
-        Some((id, vendor)) => (id, Some(number_of(vendor)?)),
-        None => (rest, None),
-    };
-    let id = number_of(id)?;
-    Ok(App { kind, id, vendor })
-}
-
-/// Checks what is done at a step.
-fn plays(
-    rt: &(impl AllocGlobal + Abort),
-    names: &Names,
-    ends: &mut Ends,
-    row: &Row<'_>,
-    words: &[&str],
-) -> Result<(), Fail> {
-    let found = found(rt, names, ends, words)?;
-    is_done(rt, names, row, found.as_str())
-}
-
-/// What is done, as text.
-fn found(
-    rt: &(impl AllocGlobal + Abort),
-    names: &Names,
-    ends: &mut Ends,
-    words: &[&str],
-) -> Result<String, Fail> {
-    match words {
-        ["ends", ..] => Ok(states(rt.alloc(), ends)?),
-        ["i", words @ ..] => done(rt, names, &mut ends.initiator, words),
-        ["r", words @ ..] => done(rt, names, &mut ends.responder, words),
-        _ => Err(Fail::from(RowFault::Row)),
+    match rest.split_once('@') {
+        Some((id, vendor)) => App {
+            kind,
+            id: number_of(rt, id),
+            vendor: Some(number_of(rt, vendor)),
+        },
+        None => App {
+            kind,
+            id: number_of(rt, rest),
+            vendor: None,
+        },
     }
-}
-
-/// Checks what was done, where blanks count for nothing.
-fn is_done(
-    rt: &(impl AllocGlobal + Abort),
-    names: &Names,
-    row: &Row<'_>,
-    found: &str,
-) -> Result<(), Fail> {
-    let wanted = names.text(row.wanted)?;
-    let found = without_blanks(rt.alloc(), found.as_bytes())?;
-    let wanted = without_blanks(rt.alloc(), wanted.as_slice())?;
-    same(rt, found.as_slice(), wanted.as_slice(), row.line);
-    Ok(())
-}
-
-/// The states of both ends.
-fn states(alloc: Global, ends: &Ends) -> Result<String, AllocError> {
-    let (a, b) = (ends.initiator.state(), ends.responder.state());
-    format!(in alloc; "{a:?} {b:?}")
 }
 
 /// What an end does at a step, as text.
-fn done(
-    rt: &(impl AllocGlobal + Abort),
-    names: &Names,
-    core: &mut Core,
-    words: &[&str],
-) -> Result<String, Fail> {
-    match words {
-        [word] => happens(rt, core, word),
-        ["stop", cause] => stops(rt, core, cause),
-        ["comes", message @ ..] => comes(rt, names, core, message),
-        _ => Err(Fail::from(RowFault::Row)),
-    }
+fn done(rt: &(impl AllocGlobal + Abort), names: &Names, core: &mut Core, call: &str) -> String {
+    let (_, message) = call.split_once(" comes ").unwrap_or(("", ""));
+    let digits = names.text(message).expect(rt, call);
+    let bytes = bytes_of(rt.alloc(), digits.as_slice()).expect(rt, call);
+    let event = match word(call, 1) {
+        "common" => return common(rt.alloc(), core).expect(rt, "memory"),
+        "start" => Event::Start,
+        "tick" => Event::Tick,
+        "lost" => Event::Lost,
+        "stop" => Event::Stop(cause_of(word(call, 2))),
+        _ => Event::Bytes(bytes.as_slice()),
+    };
+    let outputs = tell(rt, core, event);
+    told(rt.alloc(), core, outputs.as_slice()).expect(rt, "memory")
 }
 
-fn happens(rt: &(impl AllocGlobal + Abort), core: &mut Core, word: &str) -> Result<String, Fail> {
+fn cause_of(word: &str) -> Cause {
     match word {
-        "common" => Ok(common(rt.alloc(), core)?),
-        "start" => told(rt, core, Event::Start),
-        "tick" => told(rt, core, Event::Tick),
-        "lost" => told(rt, core, Event::Lost),
-        _ => Err(Fail::from(RowFault::Row)),
+        "Rebooting" => Cause::Rebooting,
+        "Busy" => Cause::Busy,
+        _ => Cause::DoNotWant,
     }
-}
-
-fn stops(rt: &(impl AllocGlobal + Abort), core: &mut Core, cause: &str) -> Result<String, Fail> {
-    let cause = cause_of(cause)?;
-    told(rt, core, Event::Stop(cause))
-}
-
-fn comes(
-    rt: &(impl AllocGlobal + Abort),
-    names: &Names,
-    core: &mut Core,
-    message: &[&str],
-) -> Result<String, Fail> {
-    let bytes = message_of(rt.alloc(), names, message)?;
-    told(rt, core, Event::Bytes(bytes.as_slice()))
-}
-
-fn cause_of(word: &str) -> Result<Cause, RowFault> {
-    match word {
-        "Rebooting" => Ok(Cause::Rebooting),
-        "Busy" => Ok(Cause::Busy),
-        "DoNotWant" => Ok(Cause::DoNotWant),
-        _ => Err(RowFault::Row),
-    }
-}
-
-/// The message of these words.
-fn message_of(alloc: Global, names: &Names, words: &[&str]) -> Result<Vec<u8>, RowFault> {
-    let mut bytes = Vec::new(alloc);
-    for word in words {
-        let part = bytes_of(alloc, names.text(word)?.as_slice())?;
-        bytes.extend_from_slice(part.as_slice())?;
-    }
-    Ok(bytes)
 }
 
 /// The applications that an end shares with the other, as text.
@@ -231,31 +138,20 @@ fn common(alloc: Global, core: &Core) -> Result<String, AllocError> {
 }
 
 /// The state that an end is in behind an event, and what it did, as text.
-fn told(
-    rt: &(impl AllocGlobal + Abort),
-    core: &mut Core,
-    event: Event<'_>,
-) -> Result<String, Fail> {
-    let outputs = tell(rt, core, event)?;
+fn told(alloc: Global, core: &Core, outputs: &[Output]) -> Result<String, AllocError> {
     let state = core.state();
-    let mut text = format!(in rt.alloc(); "{state:?}")?;
-    for output in outputs.as_slice() {
-        push_output(&mut text, output)?;
+    let mut text = format!(in alloc; "{state:?}")?;
+    for output in outputs {
+        match output {
+            Output::Send(bytes) => push_sent(&mut text, bytes.as_slice())?,
+            Output::Close(why) => write!(text, " close {why:?}")?,
+        }
     }
     Ok(text)
 }
 
-fn push_output(text: &mut String, output: &Output) -> Result<(), AllocError> {
-    match output {
-        Output::Send(bytes) => {
-            text.push_str(" send ")?;
-            push_digits(text, bytes.as_slice())
-        }
-        Output::Close(why) => write!(text, " close {why:?}"),
-    }
-}
-
-fn push_digits(text: &mut String, bytes: &[u8]) -> Result<(), AllocError> {
+fn push_sent(text: &mut String, bytes: &[u8]) -> Result<(), AllocError> {
+    text.push_str(" send ")?;
     for byte in bytes {
         write!(text, "{byte:02x}")?;
     }

@@ -3,7 +3,7 @@
 ghost use Rattle.std.specs.Prelude.{◌<◌};
 
 use dia_peer::{App, Kind};
-use std::alloc::{AllocError, Global};
+use std::process::Abort;
 
 /// The linear congruential generator of Knuth's MMIX.
 #[derive(Drop)]
@@ -43,19 +43,19 @@ impl Draw {
     }
 
     /// One or more applications with a number from 1 to 3, in any order of kinds.
-    pub(super) fn apps(&mut self, alloc: Global) -> Result<Vec<App>, AllocError> {
-        let mut apps = Vec::new(alloc);
+    pub(super) fn apps(&mut self, rt: &(impl AllocGlobal + Abort)) -> Vec<App> {
+        let mut apps = Vec::new(rt.alloc());
         for id in 1..4 {
             for kind in [Kind::Acct, Kind::Auth] {
                 if self.one_in(3) {
-                    apps.push(self.app(kind, id))?;
+                    apps.push(self.app(kind, id)).ok().expect(rt, "memory");
                 }
             }
         }
         if apps.is_empty() {
-            apps.push(self.app(Kind::Auth, 1))?;
+            apps.push(self.app(Kind::Auth, 1)).ok().expect(rt, "memory");
         }
-        Ok(apps)
+        apps
     }
 
     fn app(&mut self, kind: Kind, id: u32) -> App {

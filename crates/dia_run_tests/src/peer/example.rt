@@ -1,76 +1,53 @@
 //! The program of the crate's docs.
 
-use super::{Ends, auth, first, second};
-use dia_peer::{Cause, Core, Event, Output, State};
-use std::alloc::{AllocError, Global};
+use super::{auth, end, first, second};
+use dia_peer::{Cause, Core, Event, Output, Role, State};
 use std::process::Abort;
-use std::test::Fail;
 
 /// What a core sends at an event.
-fn told(alloc: Global, core: &mut Core, event: Event<'_>) -> Result<Vec<Vec<u8>>, AllocError> {
-    let mut sent = Vec::new(alloc);
-    for output in core.step(event)? {
+fn told(rt: &(impl AllocGlobal + Abort), core: &mut Core, event: Event<'_>) -> Vec<Vec<u8>> {
+    let mut sent = Vec::new(rt.alloc());
+    for output in core.step(event).expect(rt, "memory") {
         if let Output::Send(bytes) = output {
-            sent.push(bytes)?;
+            sent.push(bytes).ok().expect(rt, "memory");
         }
     }
-    Ok(sent)
-}
-
-/// What a core sends as each of these messages comes.
-fn delivered(
-    alloc: Global,
-    core: &mut Core,
-    queue: &[Vec<u8>],
-) -> Result<Vec<Vec<u8>>, AllocError> {
-    let mut sent = Vec::new(alloc);
-    for bytes in queue {
-        for answer in told(alloc, core, Event::Bytes(bytes))? {
-            sent.push(answer)?;
-        }
-    }
-    Ok(sent)
+    sent
 }
 
 /// One end is told of an event, and the messages of both ends are delivered until none is left.
-fn exchanged(
-    alloc: Global,
-    core: &mut Core,
-    event: Event<'_>,
-    other: &mut Core,
-) -> Result<(), AllocError> {
-    let requests = told(alloc, core, event)?;
-    let answers = delivered(alloc, other, &requests)?;
-    delivered(alloc, core, &answers)?;
-    Ok(())
+fn exchanged(rt: &(impl AllocGlobal + Abort), core: &mut Core, event: Event<'_>, other: &mut Core) {
+    for request in told(rt, core, event) {
+        for answer in told(rt, other, Event::Bytes(&request)) {
+            told(rt, core, Event::Bytes(&answer));
+        }
+    }
+}
+
+/// Both ends are in these states.
+fn are(rt: &impl Abort, initiator: &Core, responder: &Core, state: State) {
+    assert!(rt; initiator.state() == state && responder.state() == state);
 }
 
 /// The capabilities are exchanged, a watchdog is sent and answered, and the initiator goes.
-fn from_start_to_end(
-    rt: &(impl AllocGlobal + Abort),
-    initiator: &mut Core,
-    responder: &mut Core,
-) -> Result<(), Fail> {
-    let alloc = rt.alloc();
-    told(alloc, responder, Event::Start)?;
-    exchanged(alloc, initiator, Event::Start, responder)?;
-    assert_eq!(rt; initiator.state(), State::Open);
-    assert_eq!(rt; responder.state(), State::Open);
+fn from_start_to_end(rt: &(impl AllocGlobal + Abort), initiator: &mut Core, responder: &mut Core) {
+    told(rt, responder, Event::Start);
+    exchanged(rt, initiator, Event::Start, responder);
+    are(rt, initiator, responder, State::Open);
 
     // No message came for a time: a watchdog and its answer.
-    exchanged(alloc, initiator, Event::Tick, responder)?;
-    assert_eq!(rt; initiator.state(), State::Open);
+    exchanged(rt, initiator, Event::Tick, responder);
+    are(rt, initiator, responder, State::Open);
 
-    exchanged(alloc, initiator, Event::Stop(Cause::Rebooting), responder)?;
-    assert_eq!(rt; initiator.state(), State::Closed);
-    assert_eq!(rt; responder.state(), State::Closed);
-    Ok(())
+    exchanged(rt, initiator, Event::Stop(Cause::Rebooting), responder);
+    are(rt, initiator, responder, State::Closed);
 }
 
 #[test]
-fn two_ends_from_start_to_end(rt: HostRuntime) -> Result<(), Fail> {
-    let ours = first(rt.alloc(), &[auth(4)])?;
-    let theirs = second(rt.alloc(), &[auth(4)])?;
-    let mut ends = Ends::new(rt.alloc(), ours, theirs)?;
-    from_start_to_end(&rt, &mut ends.initiator, &mut ends.responder)
+fn two_ends_from_start_to_end(rt: HostRuntime) {
+    let ours = first(rt.alloc(), &[auth(4)]).expect(&rt, "memory");
+    let theirs = second(rt.alloc(), &[auth(4)]).expect(&rt, "memory");
+    let mut initiator = end(&rt, ours, Role::Initiator);
+    let mut responder = end(&rt, theirs, Role::Responder);
+    from_start_to_end(&rt, &mut initiator, &mut responder);
 }

@@ -7,14 +7,12 @@
 //! ADDRESSES is how many there are. In place of applications `FROM..TO` stands for those for authentication with these
 //! numbers.
 
+use super::auth;
 use super::connections::apps_of;
-use super::{auth, first};
-use crate::words::{range_of, same};
+use crate::words::{number_of, same};
 use dia_peer::{App, Config, ConfigFault, Core, Ip, Role};
 use dia_rows::{Names, Row, field};
-use std::alloc::Global;
 use std::process::Abort;
-use std::test::Fail;
 
 const ROWS: &str = r"
 let N = x
@@ -45,103 +43,93 @@ a.b | b | p | 1 | auth:4 auth:4294967295 => Application
 ";
 
 #[test]
-fn judges_configurations(rt: HostRuntime) -> Result<(), Fail> {
+fn judges_configurations(rt: HostRuntime) {
     let mut names = Names::new(rt.alloc());
-    judges_all(&rt, &mut names)
-}
-
-fn judges_all(rt: &(impl AllocGlobal + Abort), names: &mut Names) -> Result<(), Fail> {
     for line in ROWS.lines() {
-        if let Some(row) = names.row(line)? {
-            judges(rt, names, &row)?;
+        if let Some(row) = names.row(line).expect(&rt, line) {
+            judges(&rt, &names, &row);
         }
     }
-    Ok(())
 }
 
 /// Checks why the configuration of a row is refused, where it is.
-fn judges(rt: &(impl AllocGlobal + Abort), names: &Names, row: &Row<'_>) -> Result<(), Fail> {
-    let config = config_of(rt.alloc(), names, row.call)?;
-    let refusal = Core::new(rt.alloc(), Box::into_inner(config), Role::Initiator).err();
-    let found = match refusal {
-        Some(fault) => format!(in rt.alloc(); "{fault:?}")?,
-        None => String::from_str(rt.alloc(), "good")?,
+fn judges(rt: &(impl AllocGlobal + Abort), names: &Names, row: &Row<'_>) {
+    let config = config_of(rt, names, row.call);
+    let found = match Core::new(rt.alloc(), config, Role::Initiator).err() {
+        Some(fault) => format!(in rt.alloc(); "{fault:?}").expect(rt, "memory"),
+        None => String::from_str(rt.alloc(), "good").expect(rt, "memory"),
     };
     same(rt, found.as_bytes(), row.wanted.as_bytes(), row.line);
-    Ok(())
 }
 
 /// The configuration of a row.
-fn config_of(alloc: Global, names: &Names, call: &str) -> Result<Box<Config>, Fail> {
-    let mut config = Box::new(alloc, first(alloc, &[])?)?;
-    config.host = name_of(alloc, names, field(call, 0))?;
-    config.realm = name_of(alloc, names, field(call, 1))?;
-    config.product = name_of(alloc, names, field(call, 2))?;
-    config.addresses = addresses(alloc, field(call, 3))?;
-    config.apps = apps(alloc, field(call, 4))?;
-    Ok(config)
+fn config_of(rt: &(impl AllocGlobal + Abort), names: &Names, call: &str) -> Config {
+    Config {
+        host: name_of(rt, names, field(call, 0)),
+        realm: name_of(rt, names, field(call, 1)),
+        product: name_of(rt, names, field(call, 2)),
+        addresses: addresses(rt, field(call, 3)),
+        apps: apps(rt, field(call, 4)),
+        vendor: 0,
+        state_id: None,
+        hop: 1,
+        e2e: 1,
+    }
 }
 
-fn name_of(alloc: Global, names: &Names, text: &str) -> Result<String, Fail> {
-    let bytes = names.text(text)?;
-    Ok(String::from_str(alloc, str::from_utf8(bytes.as_slice())?)?)
+fn name_of(rt: &(impl AllocGlobal + Abort), names: &Names, text: &str) -> String {
+    let bytes = names.text(text).expect(rt, text);
+    let name = str::from_utf8(bytes.as_slice()).expect(rt, text);
+    String::from_str(rt.alloc(), name).expect(rt, "memory")
 }
 
 /// So many addresses.
-fn addresses(alloc: Global, count: &str) -> Result<Vec<Ip>, Fail> {
-    let count: usize = count.parse()?;
-    let mut addresses = Vec::new(alloc);
-    for _ in 0..count {
-        addresses.push(Ip::V4([127, 0, 0, 1]))?;
-    }
-    Ok(addresses)
+fn addresses(rt: &(impl AllocGlobal + Abort), count: &str) -> Vec<Ip> {
+    let count = number_of(rt, count) as usize;
+    vec![in rt.alloc(); Ip::V4([127, 0, 0, 1]); count].expect(rt, "memory")
 }
 
 /// The applications of a text.
-fn apps(alloc: Global, text: &str) -> Result<Vec<App>, Fail> {
-    if !text.contains("..") {
-        return apps_of(alloc, text);
+fn apps(rt: &(impl AllocGlobal + Abort), text: &str) -> Vec<App> {
+    let Some((from, to)) = text.split_once("..") else {
+        return apps_of(rt, text);
+    };
+    let mut apps = Vec::new(rt.alloc());
+    for id in number_of(rt, from)..number_of(rt, to) {
+        apps.push(auth(id)).ok().expect(rt, "memory");
     }
-    let mut apps = Vec::new(alloc);
-    for id in range_of(text)? {
-        apps.push(auth(u32::try_from(id)?))?;
-    }
-    Ok(apps)
+    apps
 }
 
-/// Checks what people are told of a fault.
-fn says(rt: &(impl AllocGlobal + Abort), fault: ConfigFault, words: &str) -> Result<(), Fail> {
-    let text = format!(in rt.alloc(); "{fault}")?;
-    same(rt, text.as_bytes(), words.as_bytes(), words);
-    Ok(())
-}
-
-#[test]
-fn tells_people_of_a_fault(rt: HostRuntime) -> Result<(), Fail> {
-    says(
-        &rt,
+/// What people are told of each fault.
+const TOLD: [(ConfigFault, &str); 6] = [
+    (
         ConfigFault::Host,
         "the host is no DiameterIdentity of at most 255 bytes",
-    )?;
-    says(
-        &rt,
+    ),
+    (
         ConfigFault::Realm,
         "the realm is no DiameterIdentity of at most 255 bytes",
-    )?;
-    says(
-        &rt,
+    ),
+    (
         ConfigFault::Product,
         "the product's name is longer than 255 bytes",
-    )?;
-    says(
-        &rt,
+    ),
+    (
         ConfigFault::Address,
         "there are no addresses, or more than 64",
-    )?;
-    says(
-        &rt,
+    ),
+    (
         ConfigFault::Application,
         "there are no applications, more than 1024, the relay's, or one twice",
-    )?;
-    says(&rt, ConfigFault::NoMemory, "out of memory")
+    ),
+    (ConfigFault::NoMemory, "out of memory"),
+];
+
+#[test]
+fn tells_people_of_a_fault(rt: HostRuntime) {
+    for (fault, words) in TOLD.iter() {
+        let text = fault.to_string(rt.alloc()).expect(&rt, words);
+        same(&rt, text.as_bytes(), words.as_bytes(), words);
+    }
 }

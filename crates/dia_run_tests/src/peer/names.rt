@@ -1,10 +1,6 @@
 //! Messages of the ends `a.b` and `c.d`.
 
-use dia_rows::Names;
-use std::alloc::Global;
-use std::test::Fail;
-
-const NAMES: &str = r"
+pub(super) const NAMES: &str = r"
 let I = 000000000000000100000002
 let OH = 000001084000000b612e6200
 let OR = 000001284000000962000000
@@ -48,10 +44,3 @@ let LATE_DWR = 0100002c80000118 00000000ffffffff00000002 $OH $OR
 let LATE_DWA = 0100003800000118 00000000ffffffff00000002 $SUCCESS $OH2 $OR2
 let WRAPPED_DWR = 0100002c80000118 000000000000000000000003 $OH $OR
 ";
-
-/// The names of `NAMES`.
-pub(super) fn names(alloc: Global) -> Result<Names, Fail> {
-    let mut names = Names::new(alloc);
-    names.learn_all(NAMES)?;
-    Ok(names)
-}

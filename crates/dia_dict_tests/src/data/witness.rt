@@ -1,23 +1,6 @@
-//! Shortest data of a format, and shortest data that one format accepts and another doesn't. The expected answers were worked
-//! out by hand from RFC 6733 and from docs/FORMATS.md.
-//!
-//! ```text
-//! shortest FORMAT => DATA
-//! witness FORMAT FORMAT => DATA
-//! ```
-//!
-//! FORMAT is a word of dictionaries; `Enumerated(0..3,7..7)` has the list of these ranges. DATA is written as that of an
-//! OctetString is, and `-` is none.
+//! Shortest data of a format, and shortest data that one format accepts and another doesn't.
 
-use crate::data::format_of;
-use crate::words::{same, words_of};
-use dia_breaking_data::{shortest, witness};
-use dia_data::{Format, print_value};
-use dia_rows::{Names, Row, RowFault};
-use std::process::Abort;
-use std::test::Fail;
-
-const ROWS: &str = r"
+pub(super) const ROWS: &str = r"
 # What is shortest of each format.
 shortest OctetString => x
 shortest IPFilterRule => x
@@ -356,31 +339,3 @@ witness Unsigned32 Enumerated(9..4294967295,0..8) => -
 witness UTF8String Enumerated(0..4294967295) => x
 witness Integer64 Enumerated(0..4294967295) => x0000000000000000
 ";
-
-/// Checks a row.
-fn check_row(rt: &(impl AllocGlobal + Abort), row: &Row<'_>) -> Result<(), Fail> {
-    let words = words_of(rt.alloc(), row.call)?;
-    let found = match words.as_slice() {
-        ["shortest", format] => shortest(&format_of(rt.alloc(), format)?),
-        ["witness", f, g] => witness(&format_of(rt.alloc(), f)?, &format_of(rt.alloc(), g)?),
-        _ => return Err(Fail::from(RowFault::Row)),
-    };
-    let Some(data) = found else {
-        same(rt, b"-", row.wanted.as_bytes(), row.line);
-        return Ok(());
-    };
-    let shown = print_value(rt.alloc(), &Format::OctetString, data.as_slice())?;
-    same(rt, shown.as_bytes(), row.wanted.as_bytes(), row.line);
-    Ok(())
-}
-
-#[test]
-fn finds_shortest_data(rt: HostRuntime) -> Result<(), Fail> {
-    let mut names = Names::new(rt.alloc());
-    for line in ROWS.lines() {
-        if let Some(row) = names.row(line)? {
-            check_row(&rt, &row)?;
-        }
-    }
-    Ok(())
-}

@@ -1,9 +1,6 @@
-//! Messages cut short, and with a Length that says something else.
+//! Messages cut short, and AVPs with a Length that says something else.
 
-use super::check_rows;
-use std::test::Fail;
-
-const ROWS: &str = r"
+pub const ROWS: &str = r"
 # A request that is cut short.
 fronts 0..44 check kept any | $base | $REQUEST => 1 truncated\n
 fronts 44..45 check kept any | $base | $REQUEST => 0 valid DWR\n
@@ -46,9 +43,19 @@ check kept any | $base | 0100002c80000118 $I 0000010840000018612e6200 $OR => 1 f
 
 # A Vendor-ID from the data.
 check kept any | $base | 0100002c80000118 $I 00000108c000000c612e6200 $OR => 1 fault 5001 at 20 unknown 264:1630429696\n
-";
 
-#[test]
-fn checks_what_is_cut_short(rt: HostRuntime) -> Result<(), Fail> {
-    check_rows(&rt, ROWS)
-}
+# The limit of levels.
+check kept 1 | $base | 0100003c80000118 $I $OH $OR 0000011740000010 0000270f00000008 => 0 valid DWR\n
+check kept 0 | $base | 0100003c80000118 $I $OH $OR 0000011740000010 0000270f00000008 => 1 fault 5012 at 44 depth Failed-AVP\n
+check kept 0 | $base | 0100003480000118 $I $OH $OR 0000011740000008 => 1 fault 5012 at 44 depth Failed-AVP\n
+
+# Fronts of messages whose header is at fault: shorter than a header, and as long or longer.
+fronts 0..20 check kept any | $base | 0000002c80000118 $I $OH $OR => 1 truncated\n
+fronts 20..45 check kept any | $base | 0000002c80000118 $I $OH $OR => 1 fault 5011 at 0 version -\n
+fronts 0..20 check kept any | $base | 0100002d80000118 $I $OH $OR => 1 truncated\n
+fronts 20..45 check kept any | $base | 0100002d80000118 $I $OH $OR => 1 fault 5015 at 1 length -\n
+fronts 0..20 check kept any | $base | 0100001080000118 $I $OH $OR => 1 truncated\n
+fronts 20..45 check kept any | $base | 0100001080000118 $I $OH $OR => 1 fault 5015 at 1 length -\n
+fronts 0..20 check kept any | $base | 0100000080000118 $I $OH $OR => 1 truncated\n
+fronts 20..45 check kept any | $base | 0100000080000118 $I $OH $OR => 1 fault 5015 at 1 length -\n
+";

@@ -1,9 +1,6 @@
 //! How often the rules of levels in one another are met.
 
-use super::check_rows;
-use std::test::Fail;
-
-const ROWS: &str = r"
+pub const ROWS: &str = r"
 # A number X at most twice, nodes, and a number Y: once in each node, and once or more in the request.
 let NODES = $X $Y <Node> ::= < AVP Header: 9001 > *2 [ X ] * [ Node ] { Y } $T *2 [ X ] * [ Node ] 1* { Y }
 let ONE_X = 0000232a0000000c00000001
@@ -37,8 +34,3 @@ check kept any | $THREE | 0100002c8000012e $I $ONE_Z $ONE_X => 1 fault 5005 at 4
 check kept any | $THREE | 0100002c8000012e $I $ONE_Y $ONE_X => 1 fault 5005 at 44 missing Z\n
 check kept any | $THREE | 010000208000012e $I $ONE_Z => 1 fault 5005 at 32 missing X\n
 ";
-
-#[test]
-fn counts_in_levels(rt: HostRuntime) -> Result<(), Fail> {
-    check_rows(&rt, ROWS)
-}

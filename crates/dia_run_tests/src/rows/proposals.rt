@@ -1,9 +1,6 @@
 //! Tables that are proposed, and compared with.
 
-use super::rows;
-use std::test::Fail;
-
-const ROWS: &str = r#"
+pub const ROWS: &str = r"
 # A second request of the same code, for one application. Groups that hold each other, under their names in each dictionary.
 let T5 = <T5> ::= < Diameter Header: 302, REQ, 5 > { X }
 let P_AND_Q = <P> ::= < AVP Header: 9100 > { Q } <Q> ::= < AVP Header: 9101 > { P }
@@ -23,15 +20,15 @@ compare kept | $X $T { X } | $X | command T = T\navp X = X\n => 1 no command T =
 propose kept | $X | $X => 0
 compare kept | $X | $X | => 0 yes\n
 
+# The commands of the base dictionary stand at their first mention. Their wildcards let in all its AVPs.
+propose kept DWR CER DWR | $base | $base => 0 command DWR = DWR\ncommand CER = CER\navp User-Name = User-Name\n$BASE_AVPS
+propose refused | $base | $base => 0
+propose kept DWR Q R | $base | $base => 2 propose: no command Q\n
+
 # The first name of no command.
 propose kept T Q R | $X $T { X } | $X $T 1*3 { X } => 2 propose: no command Q\n
 
 # The empty name is no command's.
 propose kept - | $X $T { X } | $X $T { X } => 2 propose: no command \n
 propose kept T - | $X $T { X } | $X $T { X } => 2 propose: no command \n
-"#;
-
-#[test]
-fn proposes_tables(rt: HostRuntime) -> Result<(), Fail> {
-    rows(&rt, ROWS)
-}
+";

@@ -1,9 +1,6 @@
 //! Verdicts on messages.
 
-use super::rows;
-use std::test::Fail;
-
-const ROWS: &str = r#"
+pub const ROWS: &str = r"
 # A Session-Id `a`, an empty Failed-AVP, and the Result-Code of an error answer.
 let S = 000001074000000961000000
 let FAILED = 0000011740000008
@@ -85,9 +82,24 @@ let LETTER = 61
 check kept any | <T> ::= < Diameter Header: 0, REQ > * [ AVP ] | 0101001c80000000 $I 0000270f00010008 $ZERO*65536 => 0 valid T\n
 check kept any | %avp X 9003 UTF8String any $T { X } | 0101001c8000012e $I 0000232b00010008 $LETTER*65536 => 0 valid T\n
 check kept any | %avp X 9003 UTF8String any $T { X } | 0101001c8000012e $I 0000232b00010008 $LETTER*65535 ff => 1 fault 5004 at 20 leaf-value X\n
-"#;
 
-#[test]
-fn tells_verdicts(rt: HostRuntime) -> Result<(), Fail> {
-    rows(&rt, ROWS)
-}
+# Valid messages: of the smallest kind, with padding of any value, with a Vendor-ID of 0, with an unknown AVP with M clear, with the
+# same in a group, and errors with P clear and set.
+check kept any | $base | 0100003c80000118 $I $OH $OR 00000117400000100000270f00000008 => 0 valid DWR\n
+
+# Faults of headers.
+check kept any | $base | 0100002c10000118 $I $OH $OR => 1 fault 5013 at 4 bits -\n
+check kept any | $base | 0100002c8000012e $I $OH $OR => 1 fault 3001 at 5 command -\n
+check kept any | $base | 0100003080000118 $I $OH $OR => 1 truncated\n
+check kept any | $base | 0100002880000118 $I $OH $OR => 1 trailing\n
+
+# An empty identity, a cause that is none, a cause of two bytes, two Origin-Hosts where one may stand, and a Session-Id behind the
+# place of fixed AVPs.
+check kept any | $base | 010000388000011a $I $OH $OR 000001114000000a00000000 => 1 fault 5014 at 44 leaf-length Disconnect-Cause\n
+check kept any | $base | 0100003880000118 $I $OH $OH $OR => 1 fault 5009 at 32 too-many Origin-Host\n
+
+# No more levels are opened than asked.
+check kept 1 | $base | 0100003c80000118 $I $OH $OR 00000117400000100000270f00000008 => 0 valid DWR\n
+check kept 0 | $base | 0100003c80000118 $I $OH $OR 00000117400000100000270f00000008 => 1 fault 5012 at 44 depth Failed-AVP\n
+check kept 0 | $base | 0100003480000118 $I $OH $OR 0000011740000008 => 1 fault 5012 at 44 depth Failed-AVP\n
+";

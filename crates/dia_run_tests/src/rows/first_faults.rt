@@ -1,10 +1,6 @@
-//! Which of two faults is told: at one AVP by the order of the reasons, else by the place, in the body and in groups.
+//! Which of two faults is told: at one AVP by the order of the reasons, else by the place.
 
-use super::rows;
-use std::process::Abort;
-use std::test::Fail;
-
-const ROWS: &str = r#"
+pub const ROWS: &str = r"
 # Rules in the order fixed, required, forbidden, optional. E and K are known, and no rule lists them.
 let RULES = %avp A 9001 Unsigned32 must %avp B 9002 Unsigned32 must %avp C 9003 DiameterIdentity any %avp D 9006 DiameterIdentity must %avp E 9007 DiameterIdentity any %avp H 9005 Grouped must <G> ::= < AVP Header: 9004 > [ C ] <H> ::= < AVP Header: 9005 > [ C ] <K> ::= < AVP Header: 9008 > [ C ] <N> ::= < AVP Header: 9009 > { C } $T < A > { B } *0 [ G ] [ C ] [ D ] [ H ] [ N ]
 
@@ -69,72 +65,4 @@ check kept any | $RULES | 010000288000012e $I $A $N_EMPTY => 1 fault 5005 at 40 
 check kept any | $RULES | 010000348000012e $I $A $N_OF_C => 1 fault 5005 at 52 missing B\n
 check kept any | $RULES | 0100003c8000012e $I $A $B $N_EMPTY $UNKNOWN => 1 fault 5005 at 52 missing C\n
 check kept any | $RULES | 010000488000012e $I $A $B $N_OF_C $UNKNOWN => 1 fault 5001 at 64 unknown 9999:0\n
-"#;
-
-#[test]
-fn tells_the_first_fault(rt: HostRuntime) -> Result<(), Fail> {
-    rows(&rt, ROWS)
-}
-
-/// Each level begins with one S and has no Never.
-const LEVELS: &str =
-    "%avp S 9001 Unsigned32 any %avp Must 9002 Unsigned32 must %avp Never 9003 OctetString any \
-    %avp Number 9004 Unsigned32 any %avp Name 9005 DiameterIdentity any <Full> ::= < AVP Header: 9006 > { Number } \
-    <Nest> ::= < AVP Header: 9007 > < S > *0 [ Never ] * [ AVP ] \
-    <T> ::= < Diameter Header: 302, REQ > < S > *0 [ Never ] * [ AVP ]";
-
-/// The bytes of an S and a Number in front of the faults of a level.
-const FRONT: &str = "000023290000000c000000010000232c0000000c00000007";
-
-/// How many bytes `FRONT` has, and a group's first bytes behind it.
-const FRONT_LENGTH: usize = 24;
-
-const GROUP_LENGTH: usize = 32;
-
-/// An empty group that wants a Number.
-const FULL: &str = "0000232e00000008";
-
-/// AVPs with one fault each behind `FRONT`: the AVP, the fault's place from the AVP's, its code, its reason and its subject.
-const FAULTS: [(&str, u8, u32, &str); 8] = [
-    ("0000232c00000007", 0, 5014, "avp-length -"),
-    ("0000270f40000008", 0, 5001, "unknown 9999:0"),
-    ("0000232a0000000c00000001", 0, 3009, "m-bit Must"),
-    ("000023290000000c00000001", 0, 5008, "not-allowed S"),
-    ("0000232b00000008", 0, 5009, "too-many Never"),
-    ("0000232c0000000a00010000", 0, 5014, "leaf-length Number"),
-    ("0000232d00000008", 0, 5004, "leaf-value Name"),
-    (FULL, 8, 5005, "missing Number"),
-];
-
-/// Two faults behind one another, in so many groups.
-fn tells_first(
-    rt: &(impl AllocGlobal + Abort),
-    groups: u8,
-    first: (&str, u8, u32, &str),
-    second: &str,
-) -> Result<(), Fail> {
-    let (avp, from_avp, code, words) = first;
-    let mut avps = format!(in rt.alloc(); "{FRONT}{avp}{second}")?;
-    for _group in 0..groups {
-        let length = 8 + avps.len() / 2;
-        avps = format!(in rt.alloc(); "{FRONT}0000232f00{length:06x}{avps}")?;
-    }
-    let place = 20 + groups as usize * GROUP_LENGTH + FRONT_LENGTH + from_avp as usize;
-    let length = 20 + avps.len() / 2;
-    let row = format!(in rt.alloc();
-        "check kept any | {LEVELS} | 01{length:06x}8000012e $I {avps} => 1 fault {code} at {place} {words}\\n"
-    )?;
-    rows(rt, row.as_str())
-}
-
-#[test]
-fn tells_the_first_of_two_faults(rt: HostRuntime) -> Result<(), Fail> {
-    for groups in 0..3 {
-        for first in FAULTS.iter() {
-            for second in FAULTS.iter() {
-                tells_first(&rt, groups, *first, second.0)?;
-            }
-        }
-    }
-    Ok(())
-}
+";

@@ -1,70 +1,6 @@
-//! How many bytes of each piece a stream takes, when it is done, and what it answers then.
+//! How many bytes of each piece a stream takes, when it is done, what it answers then; and how many levels are open.
 
-use super::{check_rows, feed, subjects};
-use crate::books::is_verdict;
-use crate::words::number_of;
-use dia_check::{Levels, Stream, Unknown};
-use dia_dict::Book;
-use dia_rows::{Names, Row, RowFault};
-use std::process::Abort;
-use std::test::Fail;
-
-/// Checks a row of pieces, over both kinds of book.
-pub(super) fn takes(
-    rt: &(impl AllocGlobal + Abort),
-    names: &Names,
-    row: &Row<'_>,
-    pieces: &[&str],
-) -> Result<(), Fail> {
-    let (books, message) = subjects(rt.alloc(), names, row.call)?;
-    let wanted = names.text(row.wanted)?;
-    let (message, wanted) = (message.as_slice(), wanted.as_slice());
-    takes_pieces(rt, &*books.plain, pieces, message, wanted, row.line)?;
-    takes_pieces(rt, &*books.indexed, pieces, message, wanted, row.line)
-}
-
-/// A stream takes the pieces of a message, and answers as is wanted.
-fn takes_pieces<B: Book>(
-    rt: &(impl AllocGlobal + Abort),
-    book: &B,
-    pieces: &[&str],
-    message: &[u8],
-    wanted: &[u8],
-    line: &str,
-) -> Result<(), Fail> {
-    let mut stream = Stream::new(rt.alloc(), book, Unknown::Kept, Levels::Any);
-    let mut rest = message;
-    for piece in pieces {
-        rest = takes_piece(rt, &mut stream, rest, piece)?;
-    }
-    is_verdict(rt, book, stream.finish(), wanted, line)
-}
-
-/// A stream takes as many of the first bytes as the piece says. The bytes behind it.
-fn takes_piece<'b, B: Book>(
-    rt: &impl Abort,
-    stream: &mut Stream<'_, B>,
-    bytes: &'b [u8],
-    piece: &str,
-) -> Result<&'b [u8], RowFault> {
-    let (count, taken, done) = piece_of(piece)?;
-    let (front, rest) = bytes.split_at_checked(count).ok_or(RowFault::Row)?;
-    feed(rt, stream, front, taken, done);
-    Ok(rest)
-}
-
-/// The numbers of COUNT/TAKEN/more, and whether `done` stands at its end.
-fn piece_of(word: &str) -> Result<(usize, usize, bool), RowFault> {
-    let (count, rest) = word.split_once('/').ok_or(RowFault::Row)?;
-    let (taken, end) = rest.split_once('/').ok_or(RowFault::Row)?;
-    Ok((
-        number_of(count)? as usize,
-        number_of(taken)? as usize,
-        end == "done",
-    ))
-}
-
-const ROWS: &str = r"
+pub const ROWS: &str = r"
 # A header alone is taken where the version is wrong.
 take 44/20/done 0/0/done 0/0/done | $base | 0200002c80000118 $I $OH $OR => 1 fault 5011 at 0 version -\n
 take 20/20/done 24/0/done 0/0/done | $base | 0200002c80000118 $I $OH $OR => 1 fault 5011 at 0 version -\n
@@ -119,9 +55,7 @@ take 31/31/more 10/10/more 3/3/done | $base | 0100002c80000118 $I 00000108400000
 take 29/29/more 14/14/more 0/0/more | $base | 0100002c80000118 $I 000001084000000bff2e6200000001284000000762000000 => 1 truncated\n
 take 28/28/more 8/8/more 8/8/done | $base | 0100002c80000118 $I 0000270f40000008ffffffffffffffffffffffffffffffff => 1 fault 5001 at 20 unknown 9999:0\n
 take 28/28/more 15/15/more 0/0/more | $base | 0100002c80000118 $I 0000270f40000008ffffffffffffffffffffffffffffffff => 1 truncated\n
-";
 
-#[test]
-fn streams_take_pieces(rt: HostRuntime) -> Result<(), Fail> {
-    check_rows(&rt, ROWS)
-}
+# A watchdog request with three Failed-AVPs in one another, and an unknown AVP in the innermost.
+open | $base | 0100004c80000118 $I $OH $OR 0000011700000020 0000011700000018 0000011700000010 0000270f00000008 => 0/0 19/0 20/1 51/1 52/2 59/2 60/3 67/3 68/4 75/4 76/0
+";
