@@ -23,7 +23,6 @@ use Rattle.dia_compat.specs.PairTests.{NamePair, is_pair, names_app, wants_app, 
 use Rattle.dia_compat.proofs.RunsOfFixedRules.{IsIn}
 use Rattle.dia_compat.proofs.MemberCounts.{in_contains, contains_in, any_in, in_any}
 use Rattle.dia_compat.proofs.FitInSecond.{all_of}
-use Rattle.dia_compat.proofs.ComputedTests.{wanted_in}
 use Rattle.dia_compat.proofs.DecidedTests.{all_in_decides, implied}
 
 -- ---- classes, applications and heads
@@ -176,6 +175,13 @@ some_one d code class app other = (
 )
 
 -- ---- what is wanted
+
+pub wanted_in : (da db : Dictionary) (c d : PlainDefinition) → IsWanted da db c d → Contains db.commands d
+wanted_in da db c d (error i x y) = i
+wanted_in da db c d (same_app code app class i x y) = i
+wanted_in da db c d (no_app code app class i x y z) = i
+wanted_in da db c d (both_none code class i x y) = i
+wanted_in da db c d (other_app code app class i x y z) = i
 
 module _ (sides : Sides) (sa : IsDictionary sides.first) (sb : IsDictionary sides.second) where
   -- a definition of an application, by the parts that two heads share

@@ -149,11 +149,11 @@ has_wildcard_decides rules = (
 
 -- ---- the fixed rules
 
-abbrev FixedFirst : List DRule → Type 0
+abbrev pub FixedFirst : List DRule → Type 0
 FixedFirst [] = Unit {0}
 FixedFirst (r ∷ rules) = ((is_fixed r ≡ true) × FixedFirst rules) ⊎ (fixed_rules (r ∷ rules) ≡ [])
 
-fixed_here : (r : DRule) (rules : List DRule) (b : Bool) → is_fixed r ≡ b → fixed_rules (r ∷ rules) ≡ cond b (r ∷ fixed_rules rules) (fixed_rules rules)
+pub fixed_here : (r : DRule) (rules : List DRule) (b : Bool) → is_fixed r ≡ b → fixed_rules (r ∷ rules) ≡ cond b (r ∷ fixed_rules rules) (fixed_rules rules)
 fixed_here r rules b e = ap (λ (x : Bool). cond x (r ∷ fixed_rules rules) (fixed_rules rules)) e
 
 none_fixed : (loose : List DRule) → list_any is_fixed loose ≡ false → fixed_rules loose ≡ []
@@ -168,7 +168,7 @@ parts_first : (fixed loose : List DRule) → list_all is_fixed fixed ≡ true �
 parts_first [] loose h k = loose_first loose k
 parts_first (r ∷ fixed) loose h k = let p = and_parts (is_fixed r) (list_all is_fixed fixed) h in inl (p.0, parts_first fixed loose p.1 k)
 
-fixed_first : (rules : List DRule) → AreRules rules → FixedFirst rules
+pub fixed_first : (rules : List DRule) → AreRules rules → FixedFirst rules
 fixed_first rules are = let f = are.fixed_first in subst FixedFirst (sym f.2) (parts_first f.0 f.1 f.3 f.4)
 
 agrees_decides : (r s : DRule) → Decides (option_eq same_key r.key s.key) (r.key ≡ s.key)
@@ -180,7 +180,7 @@ agrees_decides r s = by r.key s.key
     by (Some k) None = (λ e. absurd (let f : false ≡ true = e in cc), λ h. absurd (none-some k (sym h)))
     by (Some k) (Some l) = (λ e. ap (λ (x : Key). Some x) (same_key-true k l e), λ h. subst (λ (x : Key). same_key k x ≡ true) (same_Some k l h) (same_key-refl k))
 
-no_rule : (r : DRule) (rules : List DRule) → is_fixed r ≡ true → fixed_rules (r ∷ rules) ≢ []
+pub no_rule : (r : DRule) (rules : List DRule) → is_fixed r ≡ true → fixed_rules (r ∷ rules) ≢ []
 no_rule r rules e none = let f : r ∷ fixed_rules rules ≡ [] = sym (fixed_here r rules true e) ∙ none in cc
 
 fixed_head : (r : DRule) (rules : List DRule) → FixedFirst (r ∷ rules) → (b : Bool) → is_fixed r ≡ b → fixed_rules (r ∷ rules) ≡ cond b (r ∷ fixed_rules rules) []
@@ -188,7 +188,7 @@ fixed_head r rules h true e = fixed_here r rules true e
 fixed_head r rules (inl h) false e = absurd (let f : true ≡ false = sym h.0 ∙ e in cc)
 fixed_head r rules (inr h) false e = h
 
-tail_first : (r : DRule) (rules : List DRule) → FixedFirst (r ∷ rules) → is_fixed r ≡ true → FixedFirst rules
+pub tail_first : (r : DRule) (rules : List DRule) → FixedFirst (r ∷ rules) → is_fixed r ≡ true → FixedFirst rules
 tail_first r rules (inl h) e = h.1
 tail_first r rules (inr h) e = absurd (no_rule r rules e h)
 

@@ -26,13 +26,16 @@ use Rattle.dia_compat.proofs.DecidedTests.{decides}
 use Rattle.dia_compat.proofs.CommandPairs.{command_pair_decides}
 use Rattle.dia_compat.proofs.GroupNumbers.{number_of, group_there, group_missing}
 use Rattle.dia_compat.proofs.LookUpsOfKeys.{entry_found, found_entry, command_found, found_command, covered_decides, comes_decides, uncovered_is, fit_decides}
-use Rattle.dia_compat.proofs.ComputedTests.{if_some}
 use Rattle.dia_compat.proofs.FirstFailedTest.{first_failed, tenth_failed}
 
-command_rules : (d : Dictionary) (c : PlainDefinition) → IsDictionary d → IsIn c d.commands → AreRules c.rules
+if_some : {X : Type 0} (P : X → Type 0) (o : Option X) → ((x : X) → o ≡ Some x → P x) → IfSome o P
+if_some P None f = tt
+if_some P (Some x) f = f x refl
+
+pub command_rules : (d : Dictionary) (c : PlainDefinition) → IsDictionary d → IsIn c d.commands → AreRules c.rules
 command_rules d c sound i = all_of (λ (x : PlainDefinition). AreRules x.rules) (definitions d) c sound.rules (in_right (groups d) d.commands c i)
 
-same_place : {X : Type 0} (xs : List X) (i j : ℕ) (x y : X) (o : Option ℕ) → o ≡ Some i → o ≡ Some j → slice_get xs i ≡ Some x → slice_get xs j ≡ Some y → y ≡ x
+pub same_place : {X : Type 0} (xs : List X) (i j : ℕ) (x y : X) (o : Option ℕ) → o ≡ Some i → o ≡ Some j → slice_get xs i ≡ Some x → slice_get xs j ≡ Some y → y ≡ x
 same_place xs i j x y o e f at at' = let same : j ≡ i = same_Some j i (sym f ∙ e) in same_Some y x (sym at' ∙ ap (slice_get xs) same ∙ at)
 
 module _ (all : Compared) (sa : IsDictionary all.sides.first) (sb : IsDictionary all.sides.second) where
@@ -54,7 +57,7 @@ module _ (all : Compared) (sa : IsDictionary all.sides.first) (sb : IsDictionary
   abbrev pass : Test → List DRule → List DRule → Bool
   pass t a b = is_passed all t a b
 
-  pass_decides : (a b : List DRule) → AreRules a → AreRules b → (t : Test) → Decides (pass t a b) (Pass t a b)
+  pub pass_decides : (a b : List DRule) → AreRules a → AreRules b → (t : Test) → Decides (pass t a b) (Pass t a b)
   pass_decides a b ra rb = decides all (IsPairKey da db table) a b ra rb (covered_decides all sa sb) (comes_decides all sa sb) (uncovered_is all sa sb) (fit_decides all sa sb)
 
   -- ---- commands

@@ -47,18 +47,6 @@ all_stops {X} p xs i j b within same h e = by (list_all p xs) refl
     by false f = refl
     by true f = let m = member p xs i j b within same h in sym e ∙ m.2 ∙ list_all_at p xs f i m.0 m.1
 
-pub all_more_at : {X : Type 0} (p : X → Bool) (xs : List X) (i : ℕ) (x : X) (b : Bool) → slice_get xs i ≡ Some x → b ≡ p x → b ≡ true → list_all p (take i xs) ≡ true
-    → list_all p (take (i + 1) xs) ≡ true
-all_more_at p xs i x b at e holds before =
-    ap (list_all p) (taken xs i x at) ∙ list_all-append p (take i xs) (x ∷ []) ∙ and_from (list_all p (take i xs)) (p x && true) before (and_from (p x) true (sym e ∙ holds) refl)
-
-pub all_stops_at : {X : Type 0} (p : X → Bool) (xs : List X) (i : ℕ) (x : X) (b : Bool) → slice_get xs i ≡ Some x → b ≡ p x → b ≡ false → false ≡ list_all p xs
-all_stops_at {X} p xs i x b at e fails = by (list_all p xs) refl
-  where
-    by : (r : Bool) → list_all p xs ≡ r → false ≡ r
-    by false f = refl
-    by true f = sym fails ∙ e ∙ list_all_at p xs f i x at
-
 pub none_more_at : {X : Type 0} (p : X → Bool) (xs : List X) (i : ℕ) (x : X) (b : Bool) → slice_get xs i ≡ Some x → b ≡ p x → b ≡ false → list_any p (take i xs) ≡ false
     → list_any p (take (i + 1) xs) ≡ false
 none_more_at p xs i x b at e fails before =

@@ -18,7 +18,6 @@ pub mod FirstFailedTest
 pub mod FailedPairs
 pub mod ComparisonAnswers
 pub mod KindsOfRefusal
-pub mod ComputedTests
 pub mod WordsOfLines
 pub mod TableLines
 pub mod TableReadBack
@@ -28,3 +27,6 @@ pub mod WantedDefinitions
 pub mod NamedCommands
 pub mod OneProposal
 pub mod WritableProposal
+pub mod ListsOfFailings
+pub mod FailingTests
+pub mod FailingPairs

@@ -1,9 +1,8 @@
 -- Look-ups by slot, and the fixed rules that were gone through.
-use Rattle.std.proofs.Common.{◌≡◌, ℕ, zero, suc, ◌<◌, ◌≤◌, Bool, true, false, cond, List, [], ◌∷◌, length, drop, get_or, Option, Some, None, refl, sym, ap, ◌∙◌}
+use Rattle.std.proofs.Common.{◌≡◌, ℕ, zero, suc, ◌<◌, Bool, true, false, cond, List, [], ◌∷◌, length, drop, get_or, Option, Some, None, refl, sym, ap, ◌∙◌}
 use Rattle.std.specs.Prelude.{◌||◌, ◌&&◌, not, position, slice_get, IfSome, option_and_then}
 use Rattle.std.specs.Option.{option_map_or}
 use Rattle.std.proofs.lemmas.Option.{none-some, same_Some, slice_get-get_or}
-use Rattle.std.proofs.lemmas.List.{drop_all}
 use Rattle.dia_wire.specs.declared.Key.{Key}
 use Rattle.dia_book.specs.declared.DRule.{DRule}
 use Rattle.dia_book.specs.declared.Slot.{Slot}
@@ -61,9 +60,6 @@ one_further [] (t ∷ b) zero s at = or_not (not (is_fixed t)) ∙ ap (λ (r : D
 one_further (r ∷ a) (t ∷ b) zero s at = ap (λ (x : DRule). not (is_fixed x) || (leads r x && begins_with a b)) (same_Some t s at)
 one_further [] (t ∷ b) (suc i) s at = ap (λ (z : List DRule). begins_with z (drop i b)) (sym (drop_none i)) ∙ one_further [] b i s at
 one_further (r ∷ a) (t ∷ b) (suc i) s at = one_further a b i s at
-
-pub all_gone : (a b : List DRule) (i : ℕ) → length b ≤ i → begins_with (drop i a) (drop i b) ≡ true
-all_gone a b i past = ap (begins_with (drop i a)) (drop_all i b past)
 
 pub goes_on : (a b : List DRule) (i : ℕ) (s d : DRule) (x y : Bool) → i < length b → s ≡ get_or b i d → begins_with a b ≡ begins_with (drop i a) (drop i b)
     → x ≡ is_fixed s → x ≡ true → y ≡ option_map_or (λ r. leads r s) (slice_get a i) false → begins_with a b ≡ (y && begins_with (drop (suc i) a) (drop (suc i) b))

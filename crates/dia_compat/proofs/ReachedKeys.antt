@@ -225,16 +225,6 @@ all_then sides P Q R x y z one two first second either = record {
     by key shared (inl p) = two.grew.grows key (one.there key p shared)
     by key shared (inr q) = two.there key q shared
 
--- the same keys in other words
-pub all_same : (sides : Sides) (P Q : Key → Type 0) (x y : Reached) → ComesToAll sides P x y → ((key : Key) → P key → Q key) → ((key : Key) → Q key → IsShared sides key → P key)
-    → ComesToAll sides Q x y
-all_same sides P Q x y all first second = record {
-  grew = grew_then sides.first (λ key. P key × IsShared sides key) (λ _. ⊥) (λ key. Q key × IsShared sides key) x y y all.grew (grew_none sides.first (λ _. ⊥) y) (λ key p. (first key p.0, p.1))
-      (λ key none. absurd none);
-  there = λ key q shared. all.there key (second key q shared) shared;
-  rest = all.rest;
-}
-
 pub all_none : (sides : Sides) (P : Key → Type 0) (r : Reached) → ((key : Key) → ¬ P key) → ComesToAll sides P r r
 all_none sides P r none = record { grew = grew_none sides.first (λ key. P key × IsShared sides key) r; there = λ key p _. absurd (none key p); rest = λ key _ i. inr i }
 

@@ -1,14 +1,12 @@
 -- The lines of a table's text: a line says one thing, a text one table, and it has one first line that fits none.
 use Rattle.std.proofs.Common.{◌≡◌, ◌≢◌, ℕ, zero, suc, ◌+◌, ◌<◌, ◌≤◌, List, [], ◌∷◌, ◌++◌, length, get_or, take, drop, Some, option_to_list, codes, refl, sym, ap, subst, ◌∙◌, inl, inr, arith}
-use Rattle.std.specs.Prelude.{◌⊎◌, slice_get, ◌==◌}
-use Rattle.std.specs.List.{AllByRecursion, slice_split}
-use Rattle.std.specs.Str.Lines.{lines, lines_of_parts}
-use Rattle.std.proofs.lemmas.Bool.{cases_order, cond_both}
+use Rattle.std.specs.Prelude.{◌⊎◌, slice_get}
+use Rattle.std.specs.List.{AllByRecursion}
+use Rattle.std.specs.Str.Lines.{lines}
+use Rattle.std.proofs.lemmas.Bool.{cases_order}
 use Rattle.std.proofs.lemmas.Option.{none-some, same_Some}
 use Rattle.std.proofs.lemmas.List.{take-append-drop, take-take, length-append, append-nil}
 use Rattle.std.proofs.lemmas.List.Elements.{filter_map-append}
-use Rattle.std.proofs.lemmas.List.Sums.{count_by-le-length}
-use Rattle.std.proofs.lemmas.List.Splits.{length-slice_split}
 use Rattle.dia_compat.specs.declared.table.TableFault.{TableFault}
 use Rattle.dia_compat.specs.declared.table.TableFault.TheVariants as fault
 use Rattle.dia_compat.specs.TableText.{PlainTable, Line, Blank, Command, Avp, command_pair, avp_pair, table_of, with_line}
@@ -126,19 +124,7 @@ all_append : {X : Type 0} (P : X → Type 0) (xs ys : List X) → AllByRecursion
 all_append P [] ys h k = k
 all_append P (x ∷ xs) ys h k = (h.0, all_append P xs ys h.1 k)
 
-all_last : {X : Type 0} (P : X → Type 0) (xs : List X) (x : X) → AllByRecursion P (xs ++ x ∷ []) → P x
-all_last P [] x h = h.0
-all_last P (y ∷ xs) x h = all_last P xs x h.1
-
 -- a pair more is within the limits where there is room for it
-pub adds_blank : (line : List ℕ) (t : PlainTable) → IsWithinLimits t → IsLine Blank line → Adds line t t
-adds_blank line t limits is = record {
-  said = Blank;
-  is_line = is;
-  added = λ i. record { commands = sym (append-nil t.commands) i; avps = sym (append-nil t.avps) i };
-  limits = limits;
-}
-
 pub adds_command : (line a b : List ℕ) (old new : PlainTable) → IsWithinLimits old → IsLine (Command a b) line → HasRoom old (a, b) → new.commands ≡ old.commands ++ (a, b) ∷ []
     → new.avps ≡ old.avps → Adds line old new
 adds_command line a b old new limits is room commands avps = record {
@@ -162,28 +148,6 @@ adds_avp line a b old new limits is room commands avps = record {
     omega (arith, room.0, ap length commands, ap length avps, length-append old.avps ((a, b) ∷ [])),
     subst (AllByRecursion HasShortNames) (sym commands) limits.1,
     subst (AllByRecursion HasShortNames) (sym avps) (all_append HasShortNames old.avps ((a, b) ∷ []) limits.2 (room.1, tt)),
-  );
-}
-
-pub passes_command : (line a b : List ℕ) (t : PlainTable) → IsLine (Command a b) line → ¬ HasRoom t (a, b) → PassesLimit line t
-passes_command line a b t is none = record {
-  said = Command a b;
-  is_line = is;
-  passed = λ limits. let few = limits.0 in none (
-    omega (arith, few, length-append t.commands ((a, b) ∷ []), length-append {A = List ℕ × List ℕ} t.avps []),
-    all_last HasShortNames t.commands
-        (a, b) limits.1,
-  );
-}
-
-pub passes_avp : (line a b : List ℕ) (t : PlainTable) → IsLine (Avp a b) line → ¬ HasRoom t (a, b) → PassesLimit line t
-passes_avp line a b t is none = record {
-  said = Avp a b;
-  is_line = is;
-  passed = λ limits. let few = limits.0 in none (
-    omega (arith, few, length-append {A = List ℕ × List ℕ} t.commands [], length-append t.avps ((a, b) ∷ [])),
-    all_last HasShortNames t.avps
-        (a, b) limits.2,
   );
 }
 
@@ -292,16 +256,3 @@ pub line_at : (ts : List (List ℕ)) (i : ℕ) (line : List ℕ) → i < length 
 line_at [] i line within is = absurd (omega arith)
 line_at (t ∷ ts) zero line within is = ap (λ (x : List ℕ). Some x) (sym is)
 line_at (t ∷ ts) (suc i) line within is = line_at ts i line (omega arith) is
-
-lines_of_parts-few : (parts : List (List ℕ)) → length (lines_of_parts parts) ≤ length parts
-lines_of_parts-few [] = omega arith
-lines_of_parts-few (x ∷ []) = cond_both (length x == 0) [] (x ∷ []) (λ (ts : List (List ℕ)). length ts ≤ 1) (λ _. omega arith) (λ _. omega arith)
-lines_of_parts-few (x ∷ y ∷ more) = let h = lines_of_parts-few (y ∷ more) in omega arith
-
-pub lines_few : (text : List ℕ) → length (lines text) ≤ length text + 1
-lines_few text =
-    let parts = slice_split (λ (b : ℕ). b == 10) text in
-    let few = lines_of_parts-few parts in
-    let many = length-slice_split (λ (b : ℕ). b == 10) text in
-    let fewer = count_by-le-length (λ (b : ℕ). b == 10) text in
-    omega arith

@@ -12,7 +12,7 @@ use Rattle.dia_compat.specs.TableText.{PlainTable, HasShortNames, most_pairs}
 use Rattle.dia_compat.specs.WrittenTable.{AreNames, IsWritable}
 use Rattle.dia_compat.specs.Closed.{NamesEntry}
 use Rattle.dia_compat.specs.Proposed.{AreBeside, AreCommandPairs, IsProposal}
-use Rattle.dia_compat.proofs.ComputedTests.{wanted_in}
+use Rattle.dia_compat.proofs.CommandPairs.{wanted_in}
 use Rattle.dia_compat.proofs.MemberCounts.{all_in, contains_in}
 use Rattle.dia_compat.proofs.RunsOfFixedRules.{IsIn, all_map, all_append}
 

@@ -13,3 +13,4 @@ pub mod Lines
 pub mod ReachedKeys
 pub mod WantedNames
 pub mod NamedCommands
+pub mod Failings

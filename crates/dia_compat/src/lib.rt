@@ -5,6 +5,7 @@ mod checking;
 mod comparing;
 mod laws;
 mod proposing;
+mod reasons;
 mod table;
 
 pub use checking::{Answer, PairKind, Test, check_table, refutes};
@@ -13,4 +14,5 @@ pub use laws::{
     one_proposal, one_table, one_table_fault, read_tables_are_writable,
 };
 pub use proposing::{ProposeFault, propose};
+pub use reasons::{Failing, failings};
 pub use table::{MAX_NAME, MAX_PAIRS, MAX_TABLE, Table, TableFault, parse_table, render_table};

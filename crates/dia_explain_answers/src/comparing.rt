@@ -1,5 +1,6 @@
 //! What is told of a pair that fails a test.
 
+mod both;
 mod heads;
 mod pairing;
 mod rules;
@@ -9,15 +10,25 @@ use crate::books::group_named;
 use crate::checking::push_policy;
 use crate::inputs::{read_book, text_of};
 use crate::sides::{Side, sites_of};
-use dia_book::{Book, Key};
+use both::Both;
+use dia_book::Book;
 use dia_check::Unknown;
-use dia_compat::{Answer, PairKind, Table, TableFault, Test, check_table, parse_table};
+use dia_compat::{
+    Answer, Failing, PairKind, Table, TableFault, Test, check_table, failings, parse_table,
+};
 use dia_explain_places::{InputNames, push_place};
 use dia_io::{Input, Inputs};
-use heads::{push_avp_pair, push_command_pair};
+use heads::{
+    Avps, push_formats, push_heads, push_keys, push_m_rules, push_not_beside, push_p_flags,
+    push_unserved,
+};
 use pairing::{Pairing, command_named, key_named, place_of_pair};
-use rules::push_rules_failure;
+use rules::{push_counts, push_crowded, push_fixed, push_required, push_uncovered, push_unlisted};
 use std::alloc::{AllocError, Global};
+use wildcards::{
+    push_let_in, push_not_counted, push_other, push_stranger, push_wildcard_least,
+    push_wildcard_most, push_wildcard_only,
+};
 
 /// Adds the note of the first pair of a table that fails a test.
 pub fn push_compare(
@@ -88,23 +99,29 @@ fn push_pairing<A: Book, B: Book>(
         return Ok(());
     };
     push_head(out, pairing, kind, pair, reason)?;
-    match kind {
-        PairKind::Command => {
-            if let Some(names) = pairing.table.commands.get(pair) {
-                let first = names.0.as_str();
-                let second = names.1.as_str();
-                push_commands(alloc, out, pairing, first, second, reason)?;
-            }
-            Ok(())
+    let failings = failings(
+        alloc,
+        pairing.a.book,
+        pairing.b.book,
+        pairing.unknown,
+        pairing.table,
+        kind,
+        pair,
+        reason,
+    )?;
+    let Some(failing) = failings.first() else {
+        return Ok(());
+    };
+    let pairs = match kind {
+        PairKind::Command => &pairing.table.commands,
+        PairKind::Avp => &pairing.table.avps,
+    };
+    match pairs.get(pair) {
+        Some(names) => {
+            let names = (names.0.as_str(), names.1.as_str());
+            push_pair(alloc, out, pairing, kind, names, *failing)
         }
-        PairKind::Avp => {
-            if let Some(names) = pairing.table.avps.get(pair) {
-                let first = names.0.as_str();
-                let second = names.1.as_str();
-                push_avps(alloc, out, pairing, first, second, reason)?;
-            }
-            Ok(())
-        }
+        None => Ok(()),
     }
 }
 
@@ -146,71 +163,97 @@ fn subject_of(test: Test, kind: PairKind) -> &'static str {
     }
 }
 
-/// Adds what two commands differ in. Of names that no command has nothing is told here.
-fn push_commands<A: Book, B: Book>(
+/// Adds why two definitions of a pair fail the test. Of names that nothing has nothing is told here.
+fn push_pair<A: Book, B: Book>(
     alloc: Global,
     out: &mut String,
     pairing: &Pairing<'_, A, B>,
-    first: &str,
-    second: &str,
-    test: Test,
+    kind: PairKind,
+    names: (&str, &str),
+    failing: Failing,
 ) -> Result<(), AllocError> {
-    match (
-        command_named(pairing.a.book, first),
-        command_named(pairing.b.book, second),
-    ) {
-        (Some(x), Some(y)) => {
-            if test == Test::N10 {
-                push_command_pair(alloc, out, pairing, x, y)?;
-            } else {
-                push_rules_failure(alloc, out, pairing, x, y, test)?;
+    match kind {
+        PairKind::Command => {
+            if let (Some(x), Some(y)) = (
+                command_named(pairing.a.book, names.0),
+                command_named(pairing.b.book, names.1),
+            ) {
+                push_failing(alloc, out, &Both { pairing, x, y }, failing)?;
+                push_breaking(out, pairing, names.0)?;
             }
-            push_breaking(out, pairing, first)
+            Ok(())
         }
-        _ => Ok(()),
+        PairKind::Avp => {
+            if let (Some(first), Some(second)) = (
+                key_named(pairing.a.book, names.0),
+                key_named(pairing.b.book, names.1),
+            ) {
+                push_avps(alloc, out, pairing, &Avps { first, second }, failing)?;
+                push_breaking(out, pairing, "")?;
+            }
+            Ok(())
+        }
     }
 }
 
-/// Adds what two AVPs differ in. Of names that no AVP has nothing is told here.
+/// Adds what two AVPs, or the definitions of two Grouped AVPs, differ in.
 fn push_avps<A: Book, B: Book>(
     alloc: Global,
     out: &mut String,
     pairing: &Pairing<'_, A, B>,
-    first: &str,
-    second: &str,
-    test: Test,
+    avps: &Avps,
+    failing: Failing,
 ) -> Result<(), AllocError> {
-    match (
-        key_named(pairing.a.book, first),
-        key_named(pairing.b.book, second),
-    ) {
-        (Some(x), Some(y)) => {
-            if test == Test::N10 {
-                push_avp_pair(alloc, out, pairing, x, y)?;
-            } else {
-                push_groups(alloc, out, pairing, x, y, test)?;
+    match failing {
+        Failing::Keys => push_keys(alloc, out, pairing, avps),
+        Failing::MRules => push_m_rules(alloc, out, pairing, avps),
+        Failing::Formats => push_formats(alloc, out, pairing, avps),
+        _ => {
+            let x = group_named(pairing.a.book, avps.first);
+            let y = group_named(pairing.b.book, avps.second);
+            match (x, y) {
+                (Some(x), Some(y)) => push_failing(alloc, out, &Both { pairing, x, y }, failing),
+                _ => Ok(()),
             }
-            push_breaking(out, pairing, "")
         }
-        _ => Ok(()),
     }
 }
 
-/// Adds what two groups differ in.
-fn push_groups<A: Book, B: Book>(
+/// Adds what two definitions differ in, where that stands, and what to do.
+fn push_failing<A: Book, B: Book>(
     alloc: Global,
     out: &mut String,
-    pairing: &Pairing<'_, A, B>,
-    x: Key,
-    y: Key,
-    test: Test,
+    both: &Both<'_, '_, A, B>,
+    failing: Failing,
 ) -> Result<(), AllocError> {
-    match (
-        group_named(pairing.a.book, x),
-        group_named(pairing.b.book, y),
-    ) {
-        (Some(x), Some(y)) => push_rules_failure(alloc, out, pairing, x, y, test),
-        _ => Ok(()),
+    match failing {
+        Failing::Fixed { first, second } => push_fixed(alloc, out, both, first, second),
+        Failing::Counts { first, second } => push_counts(alloc, out, both, first, second),
+        Failing::Unlisted { first } => push_unlisted(alloc, out, both, first),
+        Failing::Uncovered { first } => push_uncovered(alloc, out, both, first),
+        Failing::Required { second } => push_required(alloc, out, both, second),
+        Failing::Crowded { first, second } => push_crowded(alloc, out, both, first, second),
+        Failing::NoWildcard { first } => push_wildcard_only(alloc, out, both, first),
+        Failing::CountsAsOther { first, wildcard } => {
+            push_other(alloc, out, both, first, wildcard)
+        }
+        Failing::WildcardMost { first, second } => {
+            push_wildcard_most(alloc, out, both, first, second)
+        }
+        Failing::WildcardLeast { first, second } => {
+            push_wildcard_least(alloc, out, both, first, second)
+        }
+        Failing::NotCounted { second, wildcard } => {
+            push_not_counted(alloc, out, both, second, wildcard)
+        }
+        Failing::Stranger { first, key } => push_stranger(alloc, out, both, first, key),
+        Failing::LetIn { first, key } => push_let_in(alloc, out, both, first, key),
+        Failing::Heads => push_heads(alloc, out, both),
+        Failing::PFlags => push_p_flags(alloc, out, both),
+        Failing::Unserved => push_unserved(alloc, out, both),
+        Failing::NotBeside { second } => push_not_beside(alloc, out, both, second),
+        Failing::FirstName | Failing::SecondName => Ok(()),
+        Failing::Keys | Failing::MRules | Failing::Formats => Ok(()),
     }
 }
 

@@ -47,7 +47,7 @@ pub(super) fn fixed_within(a: &[DRule], b: &[DRule]) -> bool
     true
 }
 
-fn is_fixed(rule: &DRule) -> bool
+pub(super) fn is_fixed(rule: &DRule) -> bool
     ensures { result ≡ is_fixed rule.now }
 {
     match rule.kind {
@@ -57,7 +57,7 @@ fn is_fixed(rule: &DRule) -> bool
 }
 
 /// Whether the rule at a place is a fixed one of the same key, with counts within.
-fn leads_at(rules: &[DRule], index: usize, rule: &DRule) -> bool
+pub(super) fn leads_at(rules: &[DRule], index: usize, rule: &DRule) -> bool
     ensures { result ≡ option_map_or (λ own. leads own rule.now) (slice_get rules.now index) false }
 {
     match rules.get(index) {

@@ -148,7 +148,7 @@ fn all_beside<A: Book, B: Book>(
 }
 
 /// Whether a command of the second isn't selected for messages of this one, or stands beside it.
-fn is_ready<A: Book, B: Book>(
+pub(super) fn is_ready<A: Book, B: Book>(
     sides: &Sides<'_, A, B>,
     beside: &IndexSet<(&str, &str)>,
     command: &Definition,

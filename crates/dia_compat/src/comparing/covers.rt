@@ -159,6 +159,13 @@ impl<'a, A: Book, B: Book> Cover<'a, A, B> {
         self.paired.table()
     }
 
+    /// The keys that the first dictionary knows and that are not covered, in its order.
+    pub fn uncovered(&self) -> &[Key]
+        ensures { result.now ≡ uncovered_keys self.now }
+    {
+        &self.uncovered
+    }
+
     /// Whether what the wildcard of a definition of the first lets in is covered.
     pub fn covers_wildcard(&self, a: &Rules<'_, A>) -> bool
         ensures { result ≡ is_wild_covered self.now a.now }
@@ -249,7 +256,7 @@ fn all_strangers_fit<A: Book, B: Book>(a: &A, b: &B) -> bool
     true
 }
 
-fn stranger_fits<A: Book, B: Book>(a: &A, b: &B, entry: Entry) -> bool
+pub(super) fn stranger_fits<A: Book, B: Book>(a: &A, b: &B, entry: Entry) -> bool
     requires { entry < length (B.meaning b.now).entries }
     ensures { IfSome (slice_get (B.meaning b.now).entries entry)
         (λ e. result ≡ stranger_fits (A.meaning a.now) e) }

@@ -39,7 +39,7 @@ pub(super) fn let_in<A: Book, B: Book>(a: &Rules<'_, A>, b: &Rules<'_, B>) -> bo
     a.list().iter().all(|rule| is_let_in(rule, b, wild))
 }
 
-fn is_let_in<B: Book>(rule: &DRule, b: &Rules<'_, B>, wild: bool) -> bool
+pub(super) fn is_let_in<B: Book>(rule: &DRule, b: &Rules<'_, B>, wild: bool) -> bool
     ensures { result ≡ let_in_rule b.now wild rule.now }
 {
     match rule.key {
@@ -55,7 +55,7 @@ pub(super) fn all_covered<A: Book, B: Book>(a: &Rules<'_, A>, cover: &Cover<'_, 
     a.list().iter().all(|rule| rule_is_covered(rule, cover))
 }
 
-fn rule_is_covered<A: Book, B: Book>(rule: &DRule, cover: &Cover<'_, A, B>) -> bool
+pub(super) fn rule_is_covered<A: Book, B: Book>(rule: &DRule, cover: &Cover<'_, A, B>) -> bool
     ensures { result ≡ covered_rule (is_covered cover.now) rule.now }
 {
     match rule.key {

@@ -10,13 +10,20 @@ ghost use Rattle.dia_compat.specs.PairTests.{all_selected, failed_commands, fail
 ghost use Rattle.dia_compat.specs.Closed.{AvpPair};
 ghost use Rattle.dia_compat.specs.FirstFailures.{IsAnswerOf, IsFirstFailed, IsFound, PairTest};
 ghost use Rattle.dia_compat.specs.FirstFailures.{failed_command, FailsEntries, FailsAvp};
+ghost use Rattle.std.specs.Option.{option_map};
+ghost use Rattle.dia_compat.specs.PairTests.{entry_named, plain_names};
+ghost use Rattle.dia_compat.specs.Failings.{command_failings, pairs_in, AreAvpFailings};
+ghost use Rattle.dia_compat.specs.Failings.{AreFailings, AreFailingsAt};
 
 use super::commands::{all_selected, may_stand_for, set_of_pairs};
 use super::covers::Cover;
+use super::failing_heads::name_failings;
+use super::failing_pairs::{definition_failings, entry_failings};
 use super::named_book::NamedBook;
 use super::nine_tests::failed_rules;
 use super::sides::Sides;
 use crate::checking::{Answer, PairKind, Test};
+use crate::reasons::Failing;
 use crate::table::Table;
 use dia_book::{Book, DefId, Entry, Format, MRule};
 use dia_data::format_below;
@@ -122,6 +129,89 @@ impl<'a, A: Book, B: Book> Comparison<'a, A, B> {
         }
     }
 
+    /// All that fails a test of the pair at a place of the table.
+    pub fn failings(
+        &self,
+        alloc: Global,
+        kind: PairKind,
+        pair: usize,
+        test: Test,
+    ) -> Result<Vec<Failing>, AllocError>
+        ensures { IfOk result (λ all. AreFailingsAt self.now kind pair test all.items) }
+    {
+        match self.names_at(kind, pair) {
+            Some(names) => self.failings_of(alloc, kind, names.0, names.1, test),
+            None => Ok(Vec::new(alloc)),
+        }
+    }
+
+    /// The names of the pair at a place of the table.
+    fn names_at(&self, kind: PairKind, pair: usize) -> Option<(&str, &str)>
+        ensures { option_map plain_names result ≡ slice_get (pairs_in kind self.now) pair }
+    {
+        let table = self.cover.table();
+        match kind {
+            PairKind::Command => names_of(&table.commands, pair),
+            PairKind::Avp => names_of(&table.avps, pair),
+        }
+    }
+
+    fn failings_of(
+        &self,
+        alloc: Global,
+        kind: PairKind,
+        first: &str,
+        second: &str,
+        test: Test,
+    ) -> Result<Vec<Failing>, AllocError>
+        ensures { IfOk result
+            (λ all. AreFailings self.now kind test (first.now, second.now) all.items) }
+    {
+        match kind {
+            PairKind::Command => self.command_failings(alloc, first, second, test),
+            PairKind::Avp => self.avp_failings(alloc, first, second, test),
+        }
+    }
+
+    fn command_failings(
+        &self,
+        alloc: Global,
+        first: &str,
+        second: &str,
+        test: Test,
+    ) -> Result<Vec<Failing>, AllocError>
+        ensures { IfOk result
+            (λ all. all.items ≡ command_failings self.now (first.now, second.now) test) }
+    {
+        match self.a.command(first) {
+            Some(first) => match self.b.command(second) {
+                Some(second) => definition_failings(alloc, &self.cover, test, first, second),
+                None => name_failings(alloc, test, true, false),
+            },
+            None => name_failings(alloc, test, false, self.b.command(second).is_some()),
+        }
+    }
+
+    fn avp_failings(
+        &self,
+        alloc: Global,
+        first: &str,
+        second: &str,
+        test: Test,
+    ) -> Result<Vec<Failing>, AllocError>
+        ensures { IfOk result (λ all. AreAvpFailings self.now test
+            (entry_named self.now.sides.first first.now)
+            (entry_named self.now.sides.second second.now) all.items) }
+    {
+        match self.a.avp(first) {
+            Some(first) => match self.b.avp(second) {
+                Some(second) => entry_failings(alloc, &self.cover, test, first, second),
+                None => name_failings(alloc, test, true, false),
+            },
+            None => name_failings(alloc, test, false, self.b.avp(second).is_some()),
+        }
+    }
+
     /// The first test that a pair of commands fails.
     fn failed_command(&self, first: &str, second: &str) -> Option<Test>
         ensures { result ≡ failed_command self.now (first.now, second.now) }
@@ -146,6 +236,15 @@ impl<'a, A: Book, B: Book> Comparison<'a, A, B> {
             },
             None => Some(Test::N10),
         }
+    }
+}
+
+fn names_of(pairs: &[(String, String)], place: usize) -> Option<(&str, &str)>
+    ensures { option_map plain_names result ≡ option_map plain_pair (slice_get pairs.now place) }
+{
+    match pairs.get(place) {
+        Some(pair) => Some((pair.0.as_str(), pair.1.as_str())),
+        None => None,
     }
 }
 
@@ -247,7 +346,7 @@ fn is_avp_pair<A: Book, B: Book>(a: &A, b: &B, first: Entry, second: Entry) -> b
         && is_format_kept(a.format(first), b.format(second))
 }
 
-fn is_m_kept(rule: MRule, other: MRule) -> bool
+pub(super) fn is_m_kept(rule: MRule, other: MRule) -> bool
     ensures { IsTrue result ↔ (other ≡ MRule.Any) ⊎ (other ≡ rule) }
 {
     match other {
@@ -257,7 +356,7 @@ fn is_m_kept(rule: MRule, other: MRule) -> bool
     }
 }
 
-fn is_format_kept(format: &Format, other: &Format) -> bool
+pub(super) fn is_format_kept(format: &Format, other: &Format) -> bool
     ensures { IsTrue result ↔ FormatBelow (plain_format format.now) (plain_format other.now) ⊎
         ((plain_format format.now ≡ Grouped) × (plain_format other.now ≡ Grouped)) }
 {

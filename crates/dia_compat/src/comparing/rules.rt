@@ -1,8 +1,10 @@
 //! Definitions with look-up by key.
-ghost use Rattle.std.specs.Prelude.{◌≡◌, ◌<◌, length, slice_get};
+ghost use Rattle.std.specs.Prelude.{◌≡◌, ◌<◌, length, position, slice_get};
+ghost use Rattle.std.specs.Option.{option_map};
 ghost use Rattle.dia_book.specs.Dictionary.{definitions};
-ghost use Rattle.dia_check.specs.Valid.{is_listed, has_wildcard};
+ghost use Rattle.dia_check.specs.Valid.{is_listed, is_wildcard, has_wildcard};
 ghost use Rattle.dia_compat.specs.Tests.{rules_in, rule_of, wildcard_of};
+ghost use Rattle.dia_compat.specs.Failings.{place_of_key, placed_rule, placed_wildcard};
 
 use dia_book::{Book, DRule, DefId, Key, Slot};
 use std::marker::Model;
@@ -33,6 +35,40 @@ impl<'a, B: Book> Rules<'a, B> {
         ensures { result.now ≡ self.now }
     {
         &self.book.def(self.def).rules
+    }
+
+    /// The place of the rule of a key.
+    pub fn place(&self, key: Key) -> Option<usize>
+        ensures { result ≡ place_of_key self.now key }
+    {
+        // Opened, for what the definition's number keeps.
+        let _ = self.list();
+        match self.book.slot(self.def, key) {
+            Slot::Fixed(index) => Some(index),
+            Slot::Loose(index) => Some(index),
+            Slot::Unlisted => None,
+        }
+    }
+
+    /// The rule of a key, with its place.
+    pub fn placed(&self, key: Key) -> Option<(usize, DRule)>
+        ensures { result ≡ placed_rule self.now key }
+    {
+        match self.place(key) {
+            Some(index) => placed_at(self.list(), index),
+            None => None,
+        }
+    }
+
+    /// The wildcard, with its place.
+    pub fn placed_wildcard(&self) -> Option<(usize, DRule)>
+        ensures { result ≡ placed_wildcard self.now }
+    {
+        let rules = self.list();
+        match place_of_wildcard(rules) {
+            Some(index) => placed_at(rules, index),
+            None => None,
+        }
     }
 
     /// The rule of a key.
@@ -73,4 +109,19 @@ fn rule_at(rules: &[DRule], index: usize) -> Option<DRule>
     ensures { result ≡ slice_get rules.now index }
 {
     rules.get(index).copied()
+}
+
+fn place_of_wildcard(rules: &[DRule]) -> Option<usize>
+    ensures { result ≡ position is_wildcard rules.now }
+{
+    rules.iter().position(|rule| rule.key.is_none())
+}
+
+fn placed_at(rules: &[DRule], index: usize) -> Option<(usize, DRule)>
+    ensures { result ≡ option_map (λ r. (index, r)) (slice_get rules.now index) }
+{
+    match rule_at(rules, index) {
+        Some(rule) => Some((index, rule)),
+        None => None,
+    }
 }

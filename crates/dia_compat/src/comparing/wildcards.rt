@@ -45,7 +45,7 @@ fn all_listed<A: Book, B: Book>(a: &Rules<'_, A>, b: &Rules<'_, B>) -> bool
     a.list().iter().all(|rule| is_listed(rule, b))
 }
 
-fn is_listed<B: Book>(rule: &DRule, b: &Rules<'_, B>) -> bool
+pub(super) fn is_listed<B: Book>(rule: &DRule, b: &Rules<'_, B>) -> bool
     ensures { result ≡ listed_rule b.now rule.now }
 {
     match rule.key {
@@ -87,7 +87,7 @@ fn lists_all<A: Book, B: Book>(a: &Rules<'_, A>, b: &Rules<'_, B>) -> bool
     b.list().iter().all(|rule| lists(a, rule))
 }
 
-fn lists<A: Book>(a: &Rules<'_, A>, rule: &DRule) -> bool
+pub(super) fn lists<A: Book>(a: &Rules<'_, A>, rule: &DRule) -> bool
     ensures { result ≡ of_key (is_listed a.now) rule.now }
 {
     match rule.key {

@@ -1,37 +1,31 @@
 //! What is told of two AVPs or two commands that can't stand for each other: the test N10.
 
+use crate::comparing::both::{Both, push_avp_line};
 use crate::comparing::pairing::Pairing;
-use crate::comparing::rules::push_avp_line;
 use crate::rule_text::{format_word, m_word};
 use crate::sides::Side;
 use dia_book::{Book, Class, DefHead, Definition, Format, Key, MRule, Pxy};
-use dia_data::{Values, format_below};
+use dia_breaking_data::witness;
+use dia_data::{Values, push_value};
 use std::alloc::{AllocError, Global};
 
-/// Adds what two AVPs differ in: their keys, their M rules, or their formats.
-pub fn push_avp_pair<A: Book, B: Book>(
+/// The keys of two AVPs of a pair.
+#[derive(Clone, Copy)]
+pub struct Avps {
+    pub first: Key,
+    pub second: Key,
+}
+
+/// Adds that two AVPs have not one code and vendor.
+pub fn push_keys<A: Book, B: Book>(
     alloc: Global,
     out: &mut String,
     pairing: &Pairing<'_, A, B>,
-    x: Key,
-    y: Key,
+    avps: &Avps,
 ) -> Result<(), AllocError> {
-    if x != y {
-        push_key_line(alloc, out, pairing.a, x)?;
-        push_key_line(alloc, out, pairing.b, y)?;
-        return out.push_str("hint: the two have to have one code and one vendor\n");
-    }
-    let (Some(first), Some(second)) = (pairing.a.book.avp(x), pairing.b.book.avp(y)) else {
-        return Ok(());
-    };
-    let rule = pairing.a.book.rule(first);
-    let other = pairing.b.book.rule(second);
-    if other != MRule::Any && other != rule {
-        return push_m_rules(alloc, out, pairing, x, rule, other);
-    }
-    let format = pairing.a.book.format(first);
-    let taken = pairing.b.book.format(second);
-    push_formats(alloc, out, pairing, x, format, taken)
+    push_key_line(alloc, out, pairing.a, avps.first)?;
+    push_key_line(alloc, out, pairing.b, avps.second)?;
+    out.push_str("hint: the two have to have one code and one vendor\n")
 }
 
 /// Adds a line with the code and the vendor of an AVP.
@@ -57,16 +51,23 @@ fn push_key_line<B: Book>(
     side.end(alloc, out, at)
 }
 
-fn push_m_rules<A: Book, B: Book>(
+/// Adds what two AVPs say of the M flag.
+pub fn push_m_rules<A: Book, B: Book>(
     alloc: Global,
     out: &mut String,
     pairing: &Pairing<'_, A, B>,
-    key: Key,
-    rule: MRule,
-    other: MRule,
+    avps: &Avps,
 ) -> Result<(), AllocError> {
-    push_avp_line(alloc, out, pairing.a, key, sent_flag(rule))?;
-    push_avp_line(alloc, out, pairing.b, key, taken_flag(other))?;
+    let (Some(first), Some(second)) = (
+        pairing.a.book.avp(avps.first),
+        pairing.b.book.avp(avps.second),
+    ) else {
+        return Ok(());
+    };
+    let other = pairing.b.book.rule(second);
+    let sent = sent_flag(pairing.a.book.rule(first));
+    push_avp_line(alloc, out, pairing.a, avps.first, sent)?;
+    push_avp_line(alloc, out, pairing.b, avps.second, taken_flag(other))?;
     let a = pairing.a.name;
     let b = pairing.b.name;
     let word = m_word(other);
@@ -92,22 +93,28 @@ fn taken_flag(rule: MRule) -> &'static str {
     }
 }
 
-fn push_formats<A: Book, B: Book>(
+/// Adds the formats of two AVPs.
+pub fn push_formats<A: Book, B: Book>(
     alloc: Global,
     out: &mut String,
     pairing: &Pairing<'_, A, B>,
-    key: Key,
-    format: &Format,
-    taken: &Format,
+    avps: &Avps,
 ) -> Result<(), AllocError> {
-    if format_below(format, taken) {
+    let (Some(first), Some(second)) = (
+        pairing.a.book.avp(avps.first),
+        pairing.b.book.avp(avps.second),
+    ) else {
         return Ok(());
-    }
+    };
+    let format = pairing.a.book.format(first);
+    let taken = pairing.b.book.format(second);
     if let (Format::Enumerated(values), Format::Enumerated(others)) = (format, taken) {
-        return push_lists(alloc, out, pairing, key, values, others);
+        push_avp_line(alloc, out, pairing.a, avps.first, values_word(values))?;
+        push_avp_line(alloc, out, pairing.b, avps.second, values_word(others))?;
+        return hint_lists(out, pairing.b.name, format, taken);
     }
-    push_format_line(alloc, out, pairing.a, key, format)?;
-    push_format_line(alloc, out, pairing.b, key, taken)?;
+    push_format_line(alloc, out, pairing.a, avps.first, format)?;
+    push_format_line(alloc, out, pairing.b, avps.second, taken)?;
     let b = pairing.b.name;
     write!(
         out,
@@ -134,27 +141,33 @@ fn push_format_line<B: Book>(
     side.end(alloc, out, at)
 }
 
-/// Adds the first number of one list that isn't in another.
-fn push_lists<A: Book, B: Book>(
-    alloc: Global,
+/// What to do about two formats with lists of numbers, of which the second may lack one of the first.
+fn hint_lists(
     out: &mut String,
-    pairing: &Pairing<'_, A, B>,
-    key: Key,
-    values: &Values,
-    others: &Values,
+    b: &str,
+    format: &Format,
+    taken: &Format,
 ) -> Result<(), AllocError> {
-    let b = pairing.b.name;
-    push_avp_line(alloc, out, pairing.a, key, values_word(values))?;
-    push_avp_line(alloc, out, pairing.b, key, values_word(others))?;
-    match first_beyond(values, others) {
-        Some(number) => write!(
-            out,
-            "hint: {number} isn't in the list of {b}: add it there, or take the list out\n"
-        ),
-        None => write!(
+    match witness(format, taken) {
+        Some(number) if has_list(format) => {
+            out.push_str("hint: ")?;
+            push_value(out, format, number.as_slice())?;
+            write!(
+                out,
+                " isn't in the list of {b}: add it there, or take the list out\n"
+            )
+        }
+        _ => write!(
             out,
             "hint: without a list each number may be sent: take the list of {b} out, or give one list to both\n"
         ),
+    }
+}
+
+fn has_list(format: &Format) -> bool {
+    match format {
+        Format::Enumerated(values) => values.list().is_some(),
+        _ => false,
     }
 }
 
@@ -165,71 +178,72 @@ fn values_word(values: &Values) -> &'static str {
     }
 }
 
-/// The first number of a list that another list doesn't have; none where there is no list of the first.
-fn first_beyond(values: &Values, others: &Values) -> Option<u32> {
-    let listed = others.numbers()?;
-    for range in values.numbers()? {
-        let (low, high) = *range;
-        let place = listed.partition_point(|other| other.1 < low);
-        match listed.get(place) {
-            Some(other) if other.0 <= low => {
-                if other.1 < high {
-                    return other.1.checked_add(1);
-                }
-            }
-            _ => return Some(low),
-        }
-    }
-    None
-}
-
-/// Adds what two commands differ in: their code or class, their P flag; or which definition has no pair.
-pub fn push_command_pair<A: Book, B: Book>(
+/// Adds that two commands have not one code, or that one is for requests and the other is not.
+pub fn push_heads<A: Book, B: Book>(
     alloc: Global,
     out: &mut String,
-    pairing: &Pairing<'_, A, B>,
-    x: &Definition,
-    y: &Definition,
+    both: &Both<'_, '_, A, B>,
 ) -> Result<(), AllocError> {
-    if !is_same_kind(&x.head, &y.head) {
-        push_head_line(alloc, out, pairing.a, x)?;
-        push_head_line(alloc, out, pairing.b, y)?;
-        return out.push_str(
-            "hint: the two have to have one Command Code, and both REQ or both none\n",
-        );
-    }
-    if let (Some(p), Some(other)) = (p_of(&x.head), p_of(&y.head)) {
-        if other != Pxy::Either && other != p {
-            push_p_line(alloc, out, pairing.a, x, p)?;
-            push_p_line(alloc, out, pairing.b, y, other)?;
-            return out.push_str("hint: make PXY of the two headers agree\n");
-        }
-    }
-    push_selection(alloc, out, pairing, x)
+    push_head_line(alloc, out, both.pairing.a, both.x)?;
+    push_head_line(alloc, out, both.pairing.b, both.y)?;
+    out.push_str("hint: the two have to have one Command Code, and both REQ or both none\n")
 }
 
-/// Whether two heads are of one code and class.
-fn is_same_kind(x: &DefHead, y: &DefHead) -> bool {
-    match (x, y) {
-        (
-            DefHead::Command { code, class, .. },
-            DefHead::Command {
-                code: other_code,
-                class: other_class,
-                ..
-            },
-        ) => code == other_code && class == other_class,
-        (DefHead::Error { .. }, DefHead::Error { .. }) => true,
-        _ => false,
+/// Adds what two commands say of the P flag.
+pub fn push_p_flags<A: Book, B: Book>(
+    alloc: Global,
+    out: &mut String,
+    both: &Both<'_, '_, A, B>,
+) -> Result<(), AllocError> {
+    push_p_line(alloc, out, both.pairing.a, both.x)?;
+    push_p_line(alloc, out, both.pairing.b, both.y)?;
+    out.push_str("hint: make PXY of the two headers agree\n")
+}
+
+/// Adds that the second dictionary has no definition for all messages of a command.
+pub fn push_unserved<A: Book, B: Book>(
+    alloc: Global,
+    out: &mut String,
+    both: &Both<'_, '_, A, B>,
+) -> Result<(), AllocError> {
+    push_head_line(alloc, out, both.pairing.a, both.x)?;
+    let b = both.pairing.b.name;
+    match both.x.head {
+        DefHead::Command { app: Some(app), .. } => write!(
+            out,
+            "hint: {b} has no such definition for application {app}, nor one without an application: add one there\n"
+        ),
+        _ => write!(
+            out,
+            "hint: {b} has no such definition without an application: add one there, \
+             or give the one in the first dictionary its application\n"
+        ),
     }
 }
 
-fn p_of(head: &DefHead) -> Option<Pxy> {
-    match head {
-        DefHead::Group(_) => None,
-        DefHead::Command { p, .. } => Some(*p),
-        DefHead::Error { p } => Some(*p),
+/// Adds a command of the second dictionary that messages of the first's may be read by, and that the table has no pair for.
+pub fn push_not_beside<A: Book, B: Book>(
+    alloc: Global,
+    out: &mut String,
+    both: &Both<'_, '_, A, B>,
+    place: usize,
+) -> Result<(), AllocError> {
+    push_head_line(alloc, out, both.pairing.a, both.x)?;
+    let book = both.pairing.b.book;
+    if place >= book.commands() {
+        return Ok(());
     }
+    let other = book.def(book.command_at(place));
+    push_head_line(alloc, out, both.pairing.b, other)?;
+    let first = both.x.name.as_str();
+    let second = other.name.as_str();
+    let b = both.pairing.b.name;
+    let table = both.pairing.name;
+    write!(
+        out,
+        "hint: {b} may read messages of {first} by {second}: \
+         add the line command {first} = {second} to {table}, as `diacmd propose` does\n"
+    )
 }
 
 /// Adds a line with the messages that a command is for.
@@ -270,114 +284,23 @@ fn push_p_line<B: Book>(
     out: &mut String,
     side: &Side<'_, B>,
     def: &Definition,
-    p: Pxy,
 ) -> Result<(), AllocError> {
+    let flag = match def.head {
+        DefHead::Command { p, .. } => p_word(p),
+        DefHead::Error { p } => p_word(p),
+        DefHead::Group(_) => return Ok(()),
+    };
     let name = def.name.as_str();
     let at = side.definition_at(def);
-    let flag = match p {
-        Pxy::Clear => "without PXY: its P flag is clear",
-        Pxy::Set => "with PXY: its P flag is set",
-        Pxy::Either => "with [, PXY]: its P flag may be either",
-    };
     side.begin(out, at)?;
     write!(out, "{name} is {flag}")?;
     side.end(alloc, out, at)
 }
 
-/// The second dictionary reads messages of a command by definitions of its own, and each needs a pair with the command. Adds the
-/// first that has none in the table, or that the dictionary has no such definition.
-fn push_selection<A: Book, B: Book>(
-    alloc: Global,
-    out: &mut String,
-    pairing: &Pairing<'_, A, B>,
-    x: &Definition,
-) -> Result<(), AllocError> {
-    push_head_line(alloc, out, pairing.a, x)?;
-    let b = pairing.b.name;
-    for index in 0..pairing.b.book.commands() {
-        let other = pairing.b.book.def(pairing.b.book.command_at(index));
-        if is_wanted(pairing, &x.head, &other.head) && !is_beside(pairing, x, other) {
-            push_head_line(alloc, out, pairing.b, other)?;
-            let first = x.name.as_str();
-            let second = other.name.as_str();
-            let table = pairing.name;
-            return write!(
-                out,
-                "hint: {b} may read messages of {first} by {second}: \
-                 add the line command {first} = {second} to {table}, as `diacmd propose` does\n"
-            );
-        }
-    }
-    let app = match x.head {
-        DefHead::Command { app: Some(app), .. } => Some(app),
-        _ => None,
-    };
-    match app {
-        Some(app) => write!(
-            out,
-            "hint: {b} has no such definition for application {app}, nor one without an application: add one there\n"
-        ),
-        None => write!(
-            out,
-            "hint: {b} has no such definition without an application: add one there, \
-             or give the one in the first dictionary its application\n"
-        ),
-    }
-}
-
-/// Whether the table has two commands as a pair.
-fn is_beside<A: Book, B: Book>(
-    pairing: &Pairing<'_, A, B>,
-    x: &Definition,
-    y: &Definition,
-) -> bool {
-    pairing.table.commands.iter().any(|pair| pair.0.as_str() == x.name.as_str()
-        && pair.1.as_str() == y.name.as_str())
-}
-
-/// Whether a command of the second dictionary may be selected for messages of one of the first.
-fn is_wanted<A: Book, B: Book>(
-    pairing: &Pairing<'_, A, B>,
-    head: &DefHead,
-    other: &DefHead,
-) -> bool {
-    match (head, other) {
-        (
-            DefHead::Command {
-                code,
-                class,
-                app,
-                ..
-            },
-            DefHead::Command { app: other_app, .. },
-        ) => is_same_kind(head, other) && wants_app(pairing, *code, *class, *app, *other_app),
-        (DefHead::Error { .. }, DefHead::Error { .. }) => true,
-        _ => false,
-    }
-}
-
-fn wants_app<A: Book, B: Book>(
-    pairing: &Pairing<'_, A, B>,
-    code: u32,
-    class: Class,
-    app: Option<u32>,
-    other: Option<u32>,
-) -> bool {
-    match (app, other) {
-        (None, None) => true,
-        (None, Some(other)) => !names_app(pairing.a.book, code, class, other),
-        (Some(app), None) => !names_app(pairing.b.book, code, class, app),
-        (Some(app), Some(other)) => app == other,
-    }
-}
-
-/// Whether a command of this code, this class and this very application exists.
-fn names_app<B: Book>(book: &B, code: u32, class: Class, app: u32) -> bool {
-    match book.select(code, class, app) {
-        Some(def) => match book.def(def).head {
-            DefHead::Command { app: own, .. } => own == Some(app),
-            _ => false,
-        },
-        None => false,
+fn p_word(p: Pxy) -> &'static str {
+    match p {
+        Pxy::Clear => "without PXY: its P flag is clear",
+        Pxy::Set => "with PXY: its P flag is set",
+        Pxy::Either => "with [, PXY]: its P flag may be either",
     }
 }

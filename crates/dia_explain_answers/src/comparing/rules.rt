@@ -1,251 +1,157 @@
-//! What is told of two definitions that fail one of the tests N1 to N9.
+//! What is told of rules that fail one of the tests N1 to N5.
 
-use crate::comparing::pairing::{
-    Covers, Pairing, is_fixed, lists, max_within, may_stand, rule_of, wildcard_of, within,
-};
-use crate::comparing::wildcards::{
-    push_wildcard_least, push_wildcard_lets_in, push_wildcard_most, push_wildcard_only,
-};
-use crate::rule_text::{push_counted, push_loose, push_rule, push_slot, widened};
-use crate::sides::Side;
-use dia_book::{Book, DRule, Definition, Key};
+use crate::comparing::both::{Both, push_avp_line};
+use crate::comparing::pairing::Pairing;
+use crate::rule_text::{push_loose, push_rule, push_slot, widened};
+use dia_book::{Book, DRule, Key, RuleKind};
 use dia_check::Unknown;
-use dia_compat::Test;
 use std::alloc::{AllocError, Global};
 
-/// Adds the first AVP with which two definitions fail a test, where its rules stand, and what to do.
-pub fn push_rules_failure<A: Book, B: Book>(
+/// N1: a fixed rule of the second that the first doesn't have at the same place; `own` is its rule of the same AVP.
+pub fn push_fixed<A: Book, B: Book>(
     alloc: Global,
     out: &mut String,
-    pairing: &Pairing<'_, A, B>,
-    x: &Definition,
-    y: &Definition,
-    test: Test,
+    both: &Both<'_, '_, A, B>,
+    own: Option<usize>,
+    place: usize,
 ) -> Result<(), AllocError> {
-    match test {
-        Test::N1 => push_fixed(alloc, out, pairing, x, y),
-        Test::N2 => push_common(alloc, out, pairing, x, y),
-        Test::N3 => push_not_let_in(alloc, out, pairing, x, y),
-        Test::N4 => push_not_covered(alloc, out, pairing, x),
-        Test::N5 => push_own(alloc, out, pairing, x, y),
-        Test::N6 => push_wildcard_only(alloc, out, pairing, x, y),
-        Test::N7 => push_wildcard_most(alloc, out, pairing, x, y),
-        Test::N8 => push_wildcard_least(alloc, out, pairing, x, y),
-        Test::N9 => push_wildcard_lets_in(alloc, out, pairing, x),
-        Test::N10 => Ok(()),
-    }
-}
-
-/// Adds a line about a rule: `DEFINITION VERB COUNTS of AVP, by RULE`, with its place.
-pub fn push_rule_line<B: Book>(
-    alloc: Global,
-    out: &mut String,
-    side: &Side<'_, B>,
-    def: &Definition,
-    place: (usize, DRule),
-    verb: &str,
-) -> Result<(), AllocError> {
-    let (index, rule) = place;
-    let name = def.name.as_str();
-    let at = side.rule_at(def, index);
-    side.begin(out, at)?;
-    write!(out, "{name} {verb} ")?;
-    push_counted(out, side, &rule)?;
-    out.push_str(", by ")?;
-    push_rule(out, side, &rule)?;
-    side.end(alloc, out, at)
-}
-
-/// Adds a line about a definition that has no rule for something.
-pub fn push_no_rule<B: Book>(
-    alloc: Global,
-    out: &mut String,
-    side: &Side<'_, B>,
-    def: &Definition,
-    what: &str,
-) -> Result<(), AllocError> {
-    let name = def.name.as_str();
-    let at = side.definition_at(def);
-    side.begin(out, at)?;
-    write!(out, "{name} has no rule {what}")?;
-    side.end(alloc, out, at)
-}
-
-/// N1: the first fixed rule of the second that the first doesn't have at the same place.
-fn push_fixed<A: Book, B: Book>(
-    alloc: Global,
-    out: &mut String,
-    pairing: &Pairing<'_, A, B>,
-    x: &Definition,
-    y: &Definition,
-) -> Result<(), AllocError> {
-    let Some(index) = first_not_leading(&x.rules, &y.rules) else {
-        return Ok(());
-    };
-    let Some(rule) = y.rules.get(index) else {
-        return Ok(());
-    };
-    let Some(key) = rule.key else {
-        return Ok(());
-    };
-    let wanted = (index, *rule);
-    match rule_of(&x.rules, key) {
+    match own {
         Some(own) => {
-            push_rule_line(alloc, out, pairing.a, x, own, "sends")?;
-            push_rule_line(alloc, out, pairing.b, y, wanted, "wants at the front")?;
+            both.push_first(alloc, out, own, "sends")?;
+            both.push_second(alloc, out, place, "wants at the front")?;
         }
         None => {
-            push_rule_line(alloc, out, pairing.b, y, wanted, "wants at the front")?;
-            push_no_rule(alloc, out, pairing.a, x, "for it")?;
+            both.push_second(alloc, out, place, "wants at the front")?;
+            both.push_none_of_first(alloc, out, "for it")?;
         }
     }
-    hint_fixed(out, pairing, rule, rule_of(&x.rules, key), index)
+    hint_fixed(out, both, own, place)
 }
 
-/// What to do about a fixed rule of the second, at this place, from the rule of the first.
+/// What to do about a fixed rule of the second, from the rule of the first.
 fn hint_fixed<A: Book, B: Book>(
     out: &mut String,
+    both: &Both<'_, '_, A, B>,
+    own: Option<usize>,
+    place: usize,
+) -> Result<(), AllocError> {
+    match own {
+        Some(own) if is_fixed(both.first(own)) => {
+            if own == place {
+                hint_counts(out, both, own, place)
+            } else {
+                hint_order(out, both.pairing, own, place)
+            }
+        }
+        _ => hint_loose(out, both, place),
+    }
+}
+
+fn is_fixed(rule: Option<DRule>) -> bool {
+    match rule {
+        Some(rule) => rule.kind == RuleKind::Fixed,
+        None => false,
+    }
+}
+
+fn hint_order<A: Book, B: Book>(
+    out: &mut String,
     pairing: &Pairing<'_, A, B>,
-    rule: &DRule,
-    own: Option<(usize, DRule)>,
-    index: usize,
+    own: usize,
+    place: usize,
 ) -> Result<(), AllocError> {
     let a = pairing.a.name;
     let b = pairing.b.name;
-    match own {
-        Some((place, own)) if is_fixed(&own) && place == index => {
-            hint_counts(out, pairing, &own, rule)
-        }
-        Some((place, own)) if is_fixed(&own) => {
-            let number = place.saturating_add(1);
-            let other = index.saturating_add(1);
-            write!(
-                out,
-                "hint: it is fixed rule number {number} in {a}, and number {other} in {b}: use one order\n"
-            )
-        }
-        _ => {
-            let number = index.saturating_add(1);
-            write!(out, "hint: in {b} write ")?;
-            push_loose(out, pairing.b, rule)?;
-            write!(
-                out,
-                ", or make it fixed rule number {number} in {a}, as the sender then sends it\n"
-            )
-        }
-    }
+    let number = own.saturating_add(1);
+    let other = place.saturating_add(1);
+    write!(
+        out,
+        "hint: it is fixed rule number {number} in {a}, and number {other} in {b}: use one order\n"
+    )
+}
+
+fn hint_loose<A: Book, B: Book>(
+    out: &mut String,
+    both: &Both<'_, '_, A, B>,
+    place: usize,
+) -> Result<(), AllocError> {
+    let Some(rule) = both.second(place) else {
+        return Ok(());
+    };
+    let a = both.pairing.a.name;
+    let b = both.pairing.b.name;
+    let number = place.saturating_add(1);
+    write!(out, "hint: in {b} write ")?;
+    push_loose(out, both.pairing.b, &rule)?;
+    write!(
+        out,
+        ", or make it fixed rule number {number} in {a}, as the sender then sends it\n"
+    )
 }
 
 /// What to do about counts that don't go together.
 fn hint_counts<A: Book, B: Book>(
     out: &mut String,
-    pairing: &Pairing<'_, A, B>,
-    own: &DRule,
-    rule: &DRule,
+    both: &Both<'_, '_, A, B>,
+    first: usize,
+    second: usize,
 ) -> Result<(), AllocError> {
-    let a = pairing.a.name;
-    let b = pairing.b.name;
+    let (Some(own), Some(rule)) = (both.first(first), both.second(second)) else {
+        return Ok(());
+    };
+    let a = both.pairing.a.name;
+    let b = both.pairing.b.name;
     write!(out, "hint: in {b} write ")?;
-    push_rule(out, pairing.b, &widened(own, rule))?;
+    push_rule(out, both.pairing.b, &widened(&own, &rule))?;
     write!(
         out,
         "; or have the sender keep to the counts of {b}, and say so in {a}\n"
     )
 }
 
-/// The first place of a fixed rule at which the other rules have no fixed rule of the same AVP with counts within.
-fn first_not_leading(a: &[DRule], b: &[DRule]) -> Option<usize> {
-    for (index, rule) in b.iter().enumerate() {
-        if !is_fixed(rule) {
-            return None;
-        }
-        let leads = match a.get(index) {
-            Some(own) => is_fixed(own) && own.key == rule.key && within(own, rule),
-            None => false,
-        };
-        if !leads {
-            return Some(index);
-        }
-    }
-    None
-}
-
-/// N2: the first AVP that both list, of which the first may send more or fewer than the second accepts.
-fn push_common<A: Book, B: Book>(
+/// N2: an AVP that both list, of which the first may send more or fewer than the second accepts.
+pub fn push_counts<A: Book, B: Book>(
     alloc: Global,
     out: &mut String,
-    pairing: &Pairing<'_, A, B>,
-    x: &Definition,
-    y: &Definition,
+    both: &Both<'_, '_, A, B>,
+    first: usize,
+    second: usize,
 ) -> Result<(), AllocError> {
-    for (index, rule) in x.rules.iter().enumerate() {
-        let Some(key) = rule.key else {
-            continue;
-        };
-        if let Some(other) = rule_of(&y.rules, key) {
-            if !within(rule, &other.1) {
-                push_rule_line(alloc, out, pairing.a, x, (index, *rule), "sends")?;
-                push_rule_line(alloc, out, pairing.b, y, other, "accepts")?;
-                return hint_counts(out, pairing, rule, &other.1);
-            }
-        }
-    }
-    Ok(())
+    both.push_first(alloc, out, first, "sends")?;
+    both.push_second(alloc, out, second, "accepts")?;
+    hint_counts(out, both, first, second)
 }
 
-/// The AVP of a rule whose greatest count isn't 0.
-pub fn sent_key(rule: &DRule) -> Option<Key> {
-    if may_stand(rule) { rule.key } else { None }
-}
-
-/// The first rule of an AVP that may stand in one definition, and that another doesn't list.
-pub fn first_unlisted(a: &[DRule], b: &[DRule]) -> Option<(usize, DRule)> {
-    for (index, rule) in a.iter().enumerate() {
-        if let Some(key) = sent_key(rule) {
-            if !lists(b, key) {
-                return Some((index, *rule));
-            }
-        }
-    }
-    None
-}
-
-/// N3: the first AVP that may stand in the first, and that the second doesn't list.
-fn push_not_let_in<A: Book, B: Book>(
+/// N3: an AVP that may stand in the first, and that the second doesn't list.
+pub fn push_unlisted<A: Book, B: Book>(
     alloc: Global,
     out: &mut String,
-    pairing: &Pairing<'_, A, B>,
-    x: &Definition,
-    y: &Definition,
+    both: &Both<'_, '_, A, B>,
+    first: usize,
 ) -> Result<(), AllocError> {
-    let Some(place) = first_unlisted(&x.rules, &y.rules) else {
+    let Some(rule) = both.first(first) else {
         return Ok(());
     };
-    push_rule_line(alloc, out, pairing.a, x, place, "sends")?;
-    push_no_rule(alloc, out, pairing.b, y, "for it, nor for AVP")?;
-    let b = pairing.b.name;
+    both.push_first(alloc, out, first, "sends")?;
+    both.push_none_of_second(alloc, out, "for it, nor for AVP")?;
+    let b = both.pairing.b.name;
     write!(out, "hint: in {b} add [ ")?;
-    push_slot(out, pairing.a, &place.1)?;
+    push_slot(out, both.pairing.a, &rule)?;
     out.push_str(" ] or * [ AVP ]\n")
 }
 
-/// N4: the first AVP that may stand in the first, and needs a pair of its own that the table doesn't have.
-fn push_not_covered<A: Book, B: Book>(
+/// N4: an AVP that may stand in the first, and needs a pair of its own that the table doesn't have.
+pub fn push_uncovered<A: Book, B: Book>(
     alloc: Global,
     out: &mut String,
-    pairing: &Pairing<'_, A, B>,
-    x: &Definition,
+    both: &Both<'_, '_, A, B>,
+    first: usize,
 ) -> Result<(), AllocError> {
-    let covers = Covers::new(alloc, pairing)?;
-    for (index, rule) in x.rules.iter().enumerate() {
-        if let Some(key) = sent_key(rule) {
-            if !covers.covers(key) {
-                push_rule_line(alloc, out, pairing.a, x, (index, *rule), "sends")?;
-                return push_no_pair(alloc, out, pairing, key);
-            }
-        }
+    both.push_first(alloc, out, first, "sends")?;
+    match both.first(first) {
+        Some(DRule { key: Some(key), .. }) => push_no_pair(alloc, out, both.pairing, key),
+        _ => Ok(()),
     }
-    Ok(())
 }
 
 /// Adds what is to be done about an AVP that isn't covered.
@@ -297,85 +203,47 @@ fn push_unknown_to(out: &mut String, dictionary: &str, key: Key) -> Result<(), A
     out.push_str(" here\n")
 }
 
-/// Adds a line about the declaration of an AVP.
-pub fn push_avp_line<B: Book>(
+/// N5: an AVP that only the second lists, and wants.
+pub fn push_required<A: Book, B: Book>(
     alloc: Global,
     out: &mut String,
-    side: &Side<'_, B>,
-    key: Key,
-    what: &str,
+    both: &Both<'_, '_, A, B>,
+    second: usize,
 ) -> Result<(), AllocError> {
-    let Some(entry) = side.book.avp(key) else {
+    both.push_second(alloc, out, second, "wants")?;
+    both.push_none_of_first(alloc, out, "for it")?;
+    let Some(rule) = both.second(second) else {
         return Ok(());
     };
-    let name = side.book.entry_name(entry);
-    let at = side.avp_at(name);
-    side.begin(out, at)?;
-    write!(out, "{name} {what}")?;
-    side.end(alloc, out, at)
+    let a = both.pairing.a.name;
+    let b = both.pairing.b.name;
+    write!(out, "hint: in {b} write [ ")?;
+    push_slot(out, both.pairing.b, &rule)?;
+    write!(
+        out,
+        " ]; or have the sender send it always, and say so in {a}\n"
+    )
 }
 
-/// N5: the first AVP that only the second lists, and of which too few or too many may come.
-fn push_own<A: Book, B: Book>(
+/// N5: an AVP that only the second lists, of which the first's wildcard, at this place, may bring more.
+pub fn push_crowded<A: Book, B: Book>(
     alloc: Global,
     out: &mut String,
-    pairing: &Pairing<'_, A, B>,
-    x: &Definition,
-    y: &Definition,
+    both: &Both<'_, '_, A, B>,
+    first: usize,
+    second: usize,
 ) -> Result<(), AllocError> {
-    let wildcard = wildcard_of(&x.rules);
-    for (index, rule) in y.rules.iter().enumerate() {
-        let Some(key) = rule.key else {
-            continue;
-        };
-        if lists(&x.rules, key) {
-            continue;
-        }
-        if rule.min > 0 {
-            push_rule_line(alloc, out, pairing.b, y, (index, *rule), "wants")?;
-            push_no_rule(alloc, out, pairing.a, x, "for it")?;
-            return hint_own(out, pairing, key, rule);
-        }
-        if let Some(own) = wildcard {
-            if may_come(pairing, key) && !max_within(own.1.max, rule.max) {
-                push_rule_line(alloc, out, pairing.a, x, own, "sends")?;
-                push_rule_line(alloc, out, pairing.b, y, (index, *rule), "accepts")?;
-                return hint_own(out, pairing, key, rule);
-            }
-        }
-    }
-    Ok(())
-}
-
-/// Whether a wildcard of the first dictionary may let an AVP in.
-fn may_come<A: Book, B: Book>(pairing: &Pairing<'_, A, B>, key: Key) -> bool {
-    match pairing.unknown {
-        Unknown::Kept => true,
-        Unknown::Refused => pairing.a.book.avp(key).is_some(),
-    }
-}
-
-fn hint_own<A: Book, B: Book>(
-    out: &mut String,
-    pairing: &Pairing<'_, A, B>,
-    key: Key,
-    rule: &DRule,
-) -> Result<(), AllocError> {
-    let a = pairing.a.name;
-    let b = pairing.b.name;
-    if rule.min > 0 {
-        write!(out, "hint: in {b} write [ ")?;
-        pairing.b.push_name(out, key)?;
-        write!(
-            out,
-            " ]; or have the sender send it always, and say so in {a}\n"
-        )
-    } else {
-        write!(
-            out,
-            "hint: what AVP lets in may be of this kind: in {b} write * [ "
-        )?;
-        pairing.b.push_name(out, key)?;
-        write!(out, " ], or list it in {a}\n")
-    }
+    both.push_first(alloc, out, first, "sends")?;
+    both.push_second(alloc, out, second, "accepts")?;
+    let Some(rule) = both.second(second) else {
+        return Ok(());
+    };
+    let a = both.pairing.a.name;
+    let b = both.pairing.b.name;
+    write!(
+        out,
+        "hint: what AVP lets in may be of this kind: in {b} write * [ "
+    )?;
+    push_slot(out, both.pairing.b, &rule)?;
+    write!(out, " ], or list it in {a}\n")
 }

@@ -1,102 +1,84 @@
 //! What is told of two definitions that fail one of the tests of wildcards, N6 to N9.
 
-use crate::comparing::pairing::{Covers, Pairing, lists, max_within, wildcard_of};
-use crate::comparing::rules::{
-    first_unlisted, push_avp_line, push_no_pair, push_no_rule, push_rule_line,
-};
+use crate::comparing::both::{Both, push_avp_line};
+use crate::comparing::pairing::Pairing;
+use crate::comparing::rules::push_no_pair;
 use crate::rule_text::{format_word, m_word};
-use dia_book::{Book, DRule, Definition, Format, Key, MRule};
-use dia_check::Unknown;
+use dia_book::{Book, Key};
 use std::alloc::{AllocError, Global};
 
 /// N6: the first has a wildcard, and the second has none.
 pub fn push_wildcard_only<A: Book, B: Book>(
     alloc: Global,
     out: &mut String,
-    pairing: &Pairing<'_, A, B>,
-    x: &Definition,
-    y: &Definition,
+    both: &Both<'_, '_, A, B>,
+    first: usize,
 ) -> Result<(), AllocError> {
-    let Some(own) = wildcard_of(&x.rules) else {
-        return Ok(());
-    };
-    push_rule_line(alloc, out, pairing.a, x, own, "sends")?;
-    push_no_rule(alloc, out, pairing.b, y, "for AVP")?;
-    let a = pairing.a.name;
-    let b = pairing.b.name;
+    both.push_first(alloc, out, first, "sends")?;
+    both.push_none_of_second(alloc, out, "for AVP")?;
+    let a = both.pairing.a.name;
+    let b = both.pairing.b.name;
     write!(
         out,
         "hint: add * [ AVP ] in {b}, or take the rule of AVP out in {a}\n"
     )
 }
 
-/// N7: the wildcard of the second has a greatest count.
+/// N7: a rule of the first whose AVPs the second's wildcard counts.
+pub fn push_other<A: Book, B: Book>(
+    alloc: Global,
+    out: &mut String,
+    both: &Both<'_, '_, A, B>,
+    first: usize,
+    wildcard: usize,
+) -> Result<(), AllocError> {
+    both.push_first(alloc, out, first, "sends")?;
+    both.push_second(alloc, out, wildcard, "accepts")?;
+    let b = both.pairing.b.name;
+    write!(
+        out,
+        "hint: what {b} doesn't list counts as AVP there: list it, or write * [ AVP ]\n"
+    )
+}
+
+/// N7: the greatest counts of the wildcards.
 pub fn push_wildcard_most<A: Book, B: Book>(
     alloc: Global,
     out: &mut String,
-    pairing: &Pairing<'_, A, B>,
-    x: &Definition,
-    y: &Definition,
+    both: &Both<'_, '_, A, B>,
+    first: usize,
+    second: usize,
 ) -> Result<(), AllocError> {
-    let Some(other) = wildcard_of(&y.rules) else {
-        return Ok(());
-    };
-    let b = pairing.b.name;
-    if let Some(place) = first_unlisted(&x.rules, &y.rules) {
-        push_rule_line(alloc, out, pairing.a, x, place, "sends")?;
-        push_rule_line(alloc, out, pairing.b, y, other, "accepts")?;
-        return write!(
-            out,
-            "hint: what {b} doesn't list counts as AVP there: list it, or write * [ AVP ]\n"
-        );
-    }
-    let Some(own) = wildcard_of(&x.rules) else {
-        return Ok(());
-    };
-    if !max_within(own.1.max, other.1.max) {
-        push_rule_line(alloc, out, pairing.a, x, own, "sends")?;
-        push_rule_line(alloc, out, pairing.b, y, other, "accepts")?;
-        let a = pairing.a.name;
-        write!(
-            out,
-            "hint: write * [ AVP ] in {b}, or lower the greatest count in {a}\n"
-        )?;
-    }
-    Ok(())
+    both.push_first(alloc, out, first, "sends")?;
+    both.push_second(alloc, out, second, "accepts")?;
+    let a = both.pairing.a.name;
+    let b = both.pairing.b.name;
+    write!(
+        out,
+        "hint: write * [ AVP ] in {b}, or lower the greatest count in {a}\n"
+    )
 }
 
-/// N8: the wildcard of the second has a least count.
+/// N8: the least counts of the wildcards.
 pub fn push_wildcard_least<A: Book, B: Book>(
     alloc: Global,
     out: &mut String,
-    pairing: &Pairing<'_, A, B>,
-    x: &Definition,
-    y: &Definition,
+    both: &Both<'_, '_, A, B>,
+    first: Option<usize>,
+    second: usize,
 ) -> Result<(), AllocError> {
-    let Some(other) = wildcard_of(&y.rules) else {
-        return Ok(());
-    };
-    let least = other.1.min;
-    match wildcard_of(&x.rules) {
-        Some(own) if own.1.min >= least => {
-            push_rule_line(alloc, out, pairing.a, x, own, "sends")?;
-            push_rule_line(alloc, out, pairing.b, y, other, "wants")?;
-            if let Some(listed) = first_listed(&y.rules, &x.rules) {
-                push_rule_line(alloc, out, pairing.b, y, listed, "lists")?;
-                out.push_str(
-                    "hint: what the first lets in by AVP may be one of these, which don't count as AVP\n",
-                )?;
-            }
-        }
-        Some(own) => {
-            push_rule_line(alloc, out, pairing.a, x, own, "sends")?;
-            push_rule_line(alloc, out, pairing.b, y, other, "wants")?;
-        }
-        None => {
-            push_no_rule(alloc, out, pairing.a, x, "for AVP")?;
-            push_rule_line(alloc, out, pairing.b, y, other, "wants")?;
-        }
+    match first {
+        Some(first) => both.push_first(alloc, out, first, "sends")?,
+        None => both.push_none_of_first(alloc, out, "for AVP")?,
     }
+    both.push_second(alloc, out, second, "wants")?;
+    hint_least(out, both.pairing)
+}
+
+fn hint_least<A: Book, B: Book>(
+    out: &mut String,
+    pairing: &Pairing<'_, A, B>,
+) -> Result<(), AllocError> {
     let b = pairing.b.name;
     write!(
         out,
@@ -104,95 +86,65 @@ pub fn push_wildcard_least<A: Book, B: Book>(
     )
 }
 
-/// The first rule of an AVP that one definition lists, and another doesn't.
-fn first_listed(b: &[DRule], a: &[DRule]) -> Option<(usize, DRule)> {
-    for (index, rule) in b.iter().enumerate() {
-        if let Some(key) = rule.key {
-            if !lists(a, key) {
-                return Some((index, *rule));
-            }
-        }
-    }
-    None
-}
-
-/// N9: the wildcard of the first lets in an AVP that needs a pair of its own, or that the second may not accept.
-pub fn push_wildcard_lets_in<A: Book, B: Book>(
+/// N8: an AVP that the second lists, and that the first may let in by its wildcard.
+pub fn push_not_counted<A: Book, B: Book>(
     alloc: Global,
     out: &mut String,
-    pairing: &Pairing<'_, A, B>,
-    x: &Definition,
+    both: &Both<'_, '_, A, B>,
+    second: usize,
+    wildcard: usize,
 ) -> Result<(), AllocError> {
-    let Some(own) = wildcard_of(&x.rules) else {
-        return Ok(());
-    };
-    push_rule_line(alloc, out, pairing.a, x, own, "sends")?;
-    if pairing.unknown == Unknown::Kept {
-        if let Some(key) = first_stranger(pairing.a.book, pairing.b.book) {
-            return push_stranger(alloc, out, pairing, key);
-        }
+    if let Some(own) = both.x.rules.iter().position(|rule| rule.key.is_none()) {
+        both.push_first(alloc, out, own, "sends")?;
     }
-    let covers = Covers::new(alloc, pairing)?;
-    match first_uncovered(pairing.a.book, &covers, x) {
-        Some(key) => {
-            push_avp_line(alloc, out, pairing.a, key, "may come by that rule")?;
-            push_no_pair(alloc, out, pairing, key)
-        }
-        None => Ok(()),
-    }
+    both.push_second(alloc, out, wildcard, "wants")?;
+    both.push_second(alloc, out, second, "lists")?;
+    out.push_str(
+        "hint: what the first lets in by AVP may be one of these, which don't count as AVP\n",
+    )?;
+    hint_least(out, both.pairing)
 }
 
-/// The first AVP that the second dictionary alone knows, and doesn't accept with any data and the M flag clear.
-fn first_stranger<A: Book, B: Book>(a: &A, b: &B) -> Option<Key> {
-    for index in 0..b.entries() {
-        let entry = b.entry_at(index);
-        let key = b.entry_key(entry);
-        let fits = *b.format(entry) == Format::OctetString && b.rule(entry) != MRule::Must;
-        if a.avp(key).is_none() && !fits {
-            return Some(key);
-        }
-    }
-    None
-}
-
-fn push_stranger<A: Book, B: Book>(
+/// N9: an AVP that the first's wildcard lets in, and that needs a pair of its own.
+pub fn push_let_in<A: Book, B: Book>(
     alloc: Global,
     out: &mut String,
-    pairing: &Pairing<'_, A, B>,
+    both: &Both<'_, '_, A, B>,
+    first: usize,
     key: Key,
 ) -> Result<(), AllocError> {
-    let Some(entry) = pairing.b.book.avp(key) else {
+    both.push_first(alloc, out, first, "sends")?;
+    push_avp_line(alloc, out, both.pairing.a, key, "may come by that rule")?;
+    push_no_pair(alloc, out, both.pairing, key)
+}
+
+/// N9: an AVP that the first's wildcard lets in unknown, and that the second knows and may not accept.
+pub fn push_stranger<A: Book, B: Book>(
+    alloc: Global,
+    out: &mut String,
+    both: &Both<'_, '_, A, B>,
+    first: usize,
+    key: Key,
+) -> Result<(), AllocError> {
+    both.push_first(alloc, out, first, "sends")?;
+    let side = both.pairing.b;
+    let Some(entry) = side.book.avp(key) else {
         return Ok(());
     };
-    let rule = m_word(pairing.b.book.rule(entry));
-    let format = format_word(pairing.b.book.format(entry));
-    let name = pairing.b.book.entry_name(entry);
-    let a = pairing.a.name;
-    let at = pairing.b.avp_at(name);
-    pairing.b.begin(out, at)?;
+    let rule = m_word(side.book.rule(entry));
+    let format = format_word(side.book.format(entry));
+    let name = side.book.entry_name(entry);
+    let a = both.pairing.a.name;
+    let at = side.avp_at(name);
+    side.begin(out, at)?;
     write!(
         out,
         "{name} is {format} here, with the rule {rule}; {a} doesn't know it, so it may come with any data, without the M flag"
     )?;
-    pairing.b.end(alloc, out, at)?;
+    side.end(alloc, out, at)?;
     write!(
         out,
         "hint: declare it in {a} as here, and propose again; \
          or give --unknown refused to each command, if both nodes refuse unknown AVPs\n"
     )
-}
-
-/// The first AVP of the first dictionary that a definition doesn't list, and that isn't covered.
-fn first_uncovered<A: Book, B: Book>(
-    a: &A,
-    covers: &Covers<'_, A, B>,
-    x: &Definition,
-) -> Option<Key> {
-    for index in 0..a.entries() {
-        let key = a.entry_key(a.entry_at(index));
-        if !lists(&x.rules, key) && !covers.covers(key) {
-            return Some(key);
-        }
-    }
-    None
 }
