@@ -1,10 +1,10 @@
 //! All faults of a source, each with what has it and what it does not go with.
 
+use crate::words::same;
 use dia_ccf::parse;
 use dia_dict::{Finding, Part, PartKind, faults};
 use std::alloc::{AllocError, Global};
 use std::process::Abort;
-use std::test::Fail;
 
 /// The second A is told for its name, and not compared with B.
 const TEXT: &str = "
@@ -34,15 +34,14 @@ const WANTED: &[&str] = &[
 ];
 
 #[test]
-fn tells_all_faults_with_their_places(rt: HostRuntime) -> Result<(), Fail> {
-    let source = parse(rt.alloc(), TEXT)?;
-    let findings = faults(rt.alloc(), &source)?;
-    assert_eq!(rt; findings.len(), WANTED.len());
+fn tells_all_faults_with_their_places(rt: HostRuntime) {
+    let source = parse(rt.alloc(), TEXT).expect(&rt, TEXT);
+    let findings = faults(rt.alloc(), &source).expect(&rt, "memory");
+    assert!(rt; findings.len() == WANTED.len());
     for (finding, wanted) in findings.iter().zip(WANTED.iter()) {
-        let words = words_of(rt.alloc(), finding)?;
-        assert_eq!(rt; words.as_str(), *wanted);
+        let words = words_of(rt.alloc(), finding).expect(&rt, "memory");
+        same(&rt, words.as_bytes(), wanted.as_bytes(), wanted);
     }
-    Ok(())
 }
 
 fn words_of(alloc: Global, finding: &Finding<'_>) -> Result<String, AllocError> {
