@@ -10,9 +10,6 @@ use Rattle.dia_dict.specs.Base.{base_source}
 use Rattle.dia_dict.specs.Resolution.{first_wrong, IsToldOf, wrong_limits, wrong_names, no_groups, header_mismatches, duplicate_keys, duplicate_commands, wrong_rules}
 
 -- each kind of fault by itself, which takes less memory than all at once
-wrong_limits-base_source : wrong_limits base_source ≡ []
-wrong_limits-base_source = refl
-
 wrong_names-base_source : wrong_names base_source ≡ []
 wrong_names-base_source = refl
 
@@ -37,7 +34,7 @@ none_wrong s a b c d e f g = rw (a, b, c, d, e, f, g) refl
 
 pub first_wrong-base_source : first_wrong base_source ≡ None
 first_wrong-base_source = none_wrong base_source
-    wrong_limits-base_source wrong_names-base_source no_groups-base_source header_mismatches-base_source duplicate_keys-base_source duplicate_commands-base_source wrong_rules-base_source
+    refl wrong_names-base_source no_groups-base_source header_mismatches-base_source duplicate_keys-base_source duplicate_commands-base_source wrong_rules-base_source
 
 -- no fault of a sound source can be told
 pub none_told : (s : PlainSource) (fault : DictFault) (kind : DictKind) (name slot : String Global) → first_wrong s ≡ None → fault ≡ Stands kind name slot → IsToldOf s fault → ⊥

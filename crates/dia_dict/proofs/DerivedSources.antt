@@ -12,8 +12,7 @@ use Rattle.dia_ccf.specs.Names.{is_group, is_fixed}
 use Rattle.dia_ccf.specs.Plain.{PlainSource, PlainDecl, PlainDef, PlainRule}
 use Rattle.dia_ccf.specs.Tokens.{Token}
 use Rattle.dia_ccf.proofs.WhatFollows.{fixed-in_order}
-use Rattle.dia_dict.specs.Resolution.{all_defs}
-use Rattle.dia_dict.proofs.FaultlessSources.{IsFormed}
+use Rattle.dia_dict.proofs.FaultlessSources.{IsFormed, all_defs}
 use Rattle.dia_book.proofs.Members.{at_filter_map, at_append}
 
 -- a member of a list whose tokens are derived is derived

@@ -1,29 +1,31 @@
 -- Lists in which no member is like an earlier one.
-use Rattle.std.proofs.Common.{◌≡◌, ℕ, zero, suc, ◌+◌, ◌<◌, Bool, true, false, cond, List, [], ◌∷◌, ◌++◌, length, Some, refl, sym, ap, ◌∙◌, ⊎_elim, arith}
-use Rattle.std.specs.Prelude.{slice_get}
+use Rattle.std.proofs.Common.{◌≡◌, ℕ, zero, suc, ◌+◌, ◌<◌, Bool, true, false, List, [], ◌∷◌, ◌++◌, length, find, Option, Some, None, refl, sym, ap, ◌∙◌, ⊎_elim, arith}
+use Rattle.std.specs.Prelude.{slice_get, is_some}
 use Rattle.std.specs.List.{list_any}
+use Rattle.std.specs.Option.{option_map_or}
 use Rattle.std.proofs.lemmas.Bool.{both_ways, cases_order}
 use Rattle.std.proofs.lemmas.List.{append_assoc, length_push}
 use Rattle.std.proofs.lemmas.Option.{none-some, same_Some}
 use Rattle.dia_book.proofs.NumberedGroups.{slice_get-append_left}
-use Rattle.dia_book.proofs.Members.{list_any-none_at}
+use Rattle.dia_book.proofs.Members.{find-is_some, list_any-none_at}
 use Rattle.dia_dict.specs.Resolution.{repeats}
 
-fresh_and_rest : {X : Type 0} (same : X → X → Bool) (earlier : List X) (z : X) (zs : List X) (b : Bool) → list_any (same z) earlier ≡ b
-    → cond b (z ∷ repeats same (earlier ++ z ∷ []) zs) (repeats same (earlier ++ z ∷ []) zs) ≡ [] → (list_any (same z) earlier ≡ false) × (repeats same (earlier ++ z ∷ []) zs ≡ [])
-fresh_and_rest same earlier z zs true here none = absurd (let p : z ∷ repeats same (earlier ++ z ∷ []) zs ≡ [] = none in cc)
-fresh_and_rest same earlier z zs false here none = (here, none)
+fresh_and_rest : {X : Type 0} (same : X → X → Bool) (earlier : List X) (z : X) (zs : List X) (o : Option X) → find (same z) earlier ≡ o
+    → option_map_or (λ y. (z, y) ∷ repeats same (earlier ++ z ∷ []) zs) o (repeats same (earlier ++ z ∷ []) zs) ≡ []
+    → (list_any (same z) earlier ≡ false) × (repeats same (earlier ++ z ∷ []) zs ≡ [])
+fresh_and_rest same earlier z zs (Some y) here none = absurd (let p : (z, y) ∷ repeats same (earlier ++ z ∷ []) zs ≡ [] = none in cc)
+fresh_and_rest {X} same earlier z zs None here none = (sym (find-is_some (same z) earlier) ∙ ap (λ (o : Option X). is_some o) here, none)
 
 -- no member is like an earlier one
 pub repeats-none_at : {X : Type 0} (same : X → X → Bool) (earlier xs : List X) → repeats same earlier xs ≡ [] → (i j : ℕ) (x y : X)
     → slice_get (earlier ++ xs) i ≡ Some x → slice_get xs j ≡ Some y → i < length earlier + j → same y x ≡ false
 repeats-none_at same earlier [] none i j x y at at' below = absurd (none-some y at')
 repeats-none_at same earlier (z ∷ zs) none i zero x y at at' below =
-    let fresh = (fresh_and_rest same earlier z zs (list_any (same z) earlier) refl none).0 in
+    let fresh = (fresh_and_rest same earlier z zs (find (same z) earlier) refl none).0 in
     let known : slice_get earlier i ≡ Some x = sym (slice_get-append_left earlier (z ∷ zs) i (omega arith)) ∙ at in
     ap (λ w. same w x) (sym (same_Some z y at')) ∙ list_any-none_at (same z) earlier fresh i x known
 repeats-none_at same earlier (z ∷ zs) none i (suc j) x y at at' below =
-    let rest = (fresh_and_rest same earlier z zs (list_any (same z) earlier) refl none).1 in
+    let rest = (fresh_and_rest same earlier z zs (find (same z) earlier) refl none).1 in
     repeats-none_at same (earlier ++ z ∷ []) zs rest i j x y (ap (λ ys. slice_get ys i) (append_assoc earlier (z ∷ []) zs) ∙ at) at' (omega (arith, length_push earlier z))
 
 -- so two places with members that are like one another are one

@@ -6,9 +6,12 @@ pub use Rattle.dia_book.proofs.Members
 pub mod KeyTables
 pub mod BookRows
 pub mod Repeats
+pub mod Firsts
+pub mod Placing
+pub mod RepeatsTold
+pub mod FirstNamed
 pub mod EntryLists
 pub mod Copies
-pub mod Refusals
 pub mod Duplicates
 pub mod Distinct
 pub mod FaultlessSources

@@ -24,8 +24,8 @@ use Rattle.dia_book.specs.declared.Class.TheVariants as classes
 use Rattle.dia_book.specs.declared.DefHead.{DefHead}
 use Rattle.dia_book.specs.declared.DefHead.TheVariants.{Group, Command, Error}
 use Rattle.dia_book.specs.Dictionary.{PlainDefinition, DictEntry, IsDictionary, AreRules, IsSameSelector, IsCommandHead, IsLeast, is_fixed, groups as groups_of, definitions, entry_of}
-use Rattle.dia_dict.specs.Resolution.{resolved, declared_entry, bare_entry, bare_groups, definition_of, rule_of, head_of, key_of_name, key_of_decl, group_key, names_decl, names_def, avp_names}
-use Rattle.dia_dict.specs.Resolution.{all_defs, is_bare, repeats, same_selector, agrees_with, is_grouped, format_of, class_of, is_bad, least, greatest, slot_name, same_slot}
+use Rattle.dia_dict.specs.Resolution.{resolved, declared_entry, bare_entry, bare_groups, definition_of, rule_of, head_of, key_of_name, key_of_decl, group_key, names_decl, names_def}
+use Rattle.dia_dict.specs.Resolution.{is_bare, repeats, same_selector, agrees_with, is_grouped, format_of, class_of, is_bad, least, greatest, slot_name, same_slot}
 use Rattle.std.proofs.lemmas.Bool.{and_from, and_parts, eq-eqb, both_ways, not-false, not-true, or_from, ltb-false, eqb-false}
 use Rattle.std.proofs.lemmas.List.{map-append, length-map, length-append}
 use Rattle.std.proofs.lemmas.List.Filters.{length-filter_both}
@@ -37,7 +37,7 @@ use Rattle.dia_book.proofs.Members.{AreApart, into_left, into_right, into_map, A
 use Rattle.dia_book.proofs.Members.{find-is_some, at_Contains, at_filter_map, position-is_some, list_any-none_at, AreApart-filter}
 use Rattle.dia_dict.proofs.Distinct.{repeats-distinct}
 use Rattle.dia_book.specs.Opened.{front, rest, front-append-rest, list_all-front}
-use Rattle.dia_dict.proofs.FaultlessSources.{IsFormed, IsClean}
+use Rattle.dia_dict.proofs.FaultlessSources.{IsFormed, IsClean, all_defs, avp_names}
 use Rattle.dia_book.proofs.SameKeys.{same_key-refl, same_key-equal, same_key-true}
 
 same_bytes-equal : (a b : List ℕ) → a ≡ b → same_bytes a b ≡ true

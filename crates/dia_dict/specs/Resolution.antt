@@ -2,7 +2,7 @@
 use Rattle.std.specs.Prelude.{◌≡◌, ℕ, ◌+◌, nat_lt, nat_eq, Bool, true, false, not, ◌==◌, ◌&&◌, if◌then◌else◌, List, [], ◌∷◌, ◌++◌, length}
 use Rattle.std.specs.Prelude.{map, filter, Option, Some, None, option_and_then, unwrap_or, find, is_some, slice_get, string_bytes, ⊤}
 use Rattle.std.specs.Bool.{beq}
-use Rattle.std.specs.List.{flat_map, list_any}
+use Rattle.std.specs.List.{enumerate_from, flat_map, list_any}
 use Rattle.std.specs.Option.{option_eq, option_map, option_map_or, option_or}
 use Rattle.dia_terms.specs.declared.Pxy.{Pxy}
 use Rattle.dia_terms.specs.declared.Pxy.TheVariants.{Clear, Set}
@@ -31,6 +31,9 @@ use Rattle.dia_dict.specs.declared.fault.DictKind.{DictKind}
 use Rattle.dia_dict.specs.declared.fault.DictKind.TheVariants as kind
 use Rattle.dia_dict.specs.declared.fault.DictFault.{DictFault}
 use Rattle.dia_dict.specs.declared.fault.DictFault.TheVariants as fault
+use Rattle.dia_dict.specs.declared.findings.Part.{Part}
+use Rattle.dia_dict.specs.declared.findings.PartKind.{PartKind}
+use Rattle.dia_dict.specs.declared.findings.PartKind.TheVariants as part
 use Rattle.dia_book.specs.Dictionary.{PlainDefinition, DictEntry, Dictionary}
 
 -- ---- the meaning
@@ -127,8 +130,9 @@ resolved s = record {
   commands = map (definition_of s) s.commands;
 }
 
--- ---- what is wrong. Each kind has the list of its faults, of declarations, groups and commands, each in the order of the text; the first fault of the first kind is told
+-- ---- what is wrong, and where. Each kind has the list of its faults, of declarations, groups and commands, each in the order of the text; the first fault of the first kind is told
 
+-- what is told of a fault
 pub record Wrong : Type 0 where
   pub kind : DictKind
   pub name : List ℕ
@@ -137,26 +141,95 @@ pub record Wrong : Type 0 where
 abbrev pub wrong : DictKind → List ℕ → List ℕ → Wrong
 wrong kind name slot = record { kind = kind; name = name; slot = slot }
 
--- groups and then commands
-abbrev pub all_defs : PlainSource → List PlainDef
-all_defs s = s.groups ++ s.commands
+-- a fault, the part or the rule that has it, and the other one that it does not go with: the first of those that are alike, or a group's declaration
+pub record PlainFinding : Type 0 where
+  pub wrong : Wrong
+  pub part : Option Part
+  pub other : Option Part
 
--- the members that are like an earlier one
-abbrev pub repeats : {X : Type 0} → (X → X → Bool) → List X → List X → List X
+abbrev pub finding : Wrong → Part → Option Part → PlainFinding
+finding told own other = record { wrong = told; part = Some own; other = other }
+
+-- ---- the parts and the rules, each with its place
+
+abbrev pub part_at : PartKind → ℕ → Part
+part_at kind i = record { kind = kind; index = i; rule = None }
+
+abbrev pub rule_at : Part → ℕ → Part
+rule_at d i = record { kind = d.kind; index = d.index; rule = Some i }
+
+abbrev pub placed : {X : Type 0} → (ℕ → Part) → List X → List (Part × X)
+placed at xs = map (λ n. (at n.0, n.1)) (enumerate_from 0 xs)
+
+abbrev pub placed_avps : PlainSource → List (Part × PlainDecl)
+placed_avps s = placed (part_at part.Declaration) s.avps
+
+abbrev pub placed_groups : PlainSource → List (Part × PlainDef)
+placed_groups s = placed (part_at part.Group) s.groups
+
+abbrev pub placed_commands : PlainSource → List (Part × PlainDef)
+placed_commands s = placed (part_at part.Command) s.commands
+
+-- groups and then commands
+abbrev pub placed_defs : PlainSource → List (Part × PlainDef)
+placed_defs s = placed_groups s ++ placed_commands s
+
+abbrev pub placed_rules : Part × PlainDef → List (Part × PlainRule)
+placed_rules d = placed (rule_at d.0) d.1.rules
+
+-- ---- members that are alike
+
+-- the members that are like an earlier one, each with the first that it is like
+abbrev pub repeats : {X : Type 0} → (X → X → Bool) → List X → List X → List (X × X)
 repeats same earlier [] = []
-repeats same earlier (x ∷ xs) = if list_any (same x) earlier then x ∷ repeats same (earlier ++ x ∷ []) xs else repeats same (earlier ++ x ∷ []) xs
+repeats same earlier (x ∷ xs) = option_map_or (λ y. (x, y) ∷ repeats same (earlier ++ x ∷ []) xs) (find (same x) earlier) (repeats same (earlier ++ x ∷ []) xs)
+
+-- the members that are like no earlier one
+abbrev pub firsts : {X : Type 0} → (X → X → Bool) → List X → List X → List X
+firsts same earlier [] = []
+firsts same earlier (x ∷ xs) = if list_any (same x) earlier then firsts same (earlier ++ x ∷ []) xs else x ∷ firsts same (earlier ++ x ∷ []) xs
+
+-- the faults of those that pass a test
+abbrev pub alone : {X : Type 0} → (X → Bool) → (X → Wrong) → List (Part × X) → List PlainFinding
+alone test bad xs = map (λ x. finding (bad x.1) x.0 None) (filter (λ x. test x.1) xs)
+
+-- the faults of those that are like an earlier one
+abbrev pub again : {X : Type 0} → (X → X → Bool) → (X → Wrong) → List (Part × X) → List PlainFinding
+again same bad xs = map (λ p. finding (bad p.0.1) p.0.0 (Some p.1.0)) (repeats (λ x y. same x.1 y.1) [] xs)
+
+-- ---- limits
 
 abbrev pub is_long : PlainDef → Bool
 is_long d = nat_lt max_rules (length d.rules)
 
-abbrev pub too_many_rules : List PlainDef → List Wrong
-too_many_rules defs = map (λ d. wrong kind.Limit d.name []) (filter is_long defs)
+abbrev pub too_many_rules : List (Part × PlainDef) → List PlainFinding
+too_many_rules defs = alone is_long (λ d. wrong kind.Limit d.name []) defs
 
-abbrev pub too_many : PlainSource → List Wrong
-too_many s = if nat_lt max_parts (length s.avps + length s.groups + length s.commands) then wrong kind.Limit [] [] ∷ [] else []
+abbrev pub too_many : PlainSource → List PlainFinding
+too_many s = if nat_lt max_parts (length s.avps + length s.groups + length s.commands) then record { wrong = wrong kind.Limit [] []; part = None; other = None } ∷ [] else []
 
-abbrev pub duplicate_names : List (List ℕ) → List Wrong
-duplicate_names names = map (λ name. wrong kind.DuplicateName name []) (repeats same_bytes [] names)
+-- ---- names
+
+abbrev pub same_decl_name : PlainDecl → PlainDecl → Bool
+same_decl_name a b = same_bytes a.name b.name
+
+abbrev pub same_def_name : PlainDef → PlainDef → Bool
+same_def_name a b = same_bytes a.name b.name
+
+abbrev pub duplicate_avps : List (Part × PlainDecl) → List PlainFinding
+duplicate_avps ds = again same_decl_name (λ d. wrong kind.DuplicateName d.name []) ds
+
+abbrev pub duplicate_defs : List (Part × PlainDef) → List PlainFinding
+duplicate_defs ds = again same_def_name (λ d. wrong kind.DuplicateName d.name []) ds
+
+-- the first declaration, group and command of each name
+abbrev pub first_decls : List (Part × PlainDecl) → List (Part × PlainDecl)
+first_decls ds = firsts (λ a b. same_decl_name a.1 b.1) [] ds
+
+abbrev pub first_defs : List (Part × PlainDef) → List (Part × PlainDef)
+first_defs ds = firsts (λ a b. same_def_name a.1 b.1) [] ds
+
+-- ---- declarations and headers, of the first part of each name
 
 abbrev pub is_grouped : FormatName → Bool
 is_grouped name.Grouped = true
@@ -165,8 +238,8 @@ is_grouped f = false
 abbrev pub lacks_group : PlainSource → PlainDecl → Bool
 lacks_group s d = is_grouped d.format && not (list_any (names_def d.name) s.groups)
 
-abbrev pub no_groups : PlainSource → List Wrong
-no_groups s = map (λ d. wrong kind.NoGroupFormat d.name []) (filter (lacks_group s) s.avps)
+abbrev pub no_groups : PlainSource → List PlainFinding
+no_groups s = alone (lacks_group s) (λ d. wrong kind.NoGroupFormat d.name []) (first_decls (placed_avps s))
 
 abbrev pub agrees_with : PlainDef → PlainDecl → Bool
 agrees_with g d = is_grouped d.format && same_key (group_key g.head) (key_of_decl d)
@@ -174,23 +247,33 @@ agrees_with g d = is_grouped d.format && same_key (group_key g.head) (key_of_dec
 abbrev pub is_mismatched : PlainSource → PlainDef → Bool
 is_mismatched s g = option_map_or (λ d. not (agrees_with g d)) (find (names_decl g.name) s.avps) false
 
-abbrev pub header_mismatches : PlainSource → List Wrong
-header_mismatches s = map (λ g. wrong kind.HeaderMismatch g.name []) (filter (is_mismatched s) s.groups)
+-- the place of a name's declaration
+abbrev pub declared_at : PlainSource → List ℕ → Option Part
+declared_at s text = option_map (λ d. d.0) (find (λ d. names_decl text d.1) (placed_avps s))
+
+abbrev pub mismatch_of : PlainSource → Part × PlainDef → PlainFinding
+mismatch_of s g = finding (wrong kind.HeaderMismatch g.1.name []) g.0 (declared_at s g.1.name)
+
+abbrev pub header_mismatches : PlainSource → List PlainFinding
+header_mismatches s = map (mismatch_of s) (filter (λ g. is_mismatched s g.1) (first_defs (placed_groups s)))
 
 -- the names of AVPs with their keys, in the order of the entries
-abbrev pub avp_names : PlainSource → List (List ℕ × Key)
-avp_names s = map (λ d. (d.name, key_of_decl d)) s.avps ++ map (λ g. (g.name, group_key g.head)) (bare_groups s)
+abbrev pub placed_names : PlainSource → List (Part × (List ℕ × Key))
+placed_names s = map (λ d. (d.0, (d.1.name, key_of_decl d.1))) (first_decls (placed_avps s))
+    ++ map (λ g. (g.0, (g.1.name, group_key g.1.head))) (filter (λ g. is_bare s g.1) (first_defs (placed_groups s)))
 
-abbrev pub duplicate_keys : PlainSource → List Wrong
-duplicate_keys s = map (λ n. wrong kind.DuplicateKey n.0 []) (repeats (λ a b. same_key a.1 b.1) [] (avp_names s))
+abbrev pub duplicate_keys : PlainSource → List PlainFinding
+duplicate_keys s = again (λ a b. same_key a.1 b.1) (λ n. wrong kind.DuplicateKey n.0 []) (placed_names s)
 
 abbrev pub same_selector : Head → Head → Bool
 same_selector (head.Command c r p a) (head.Command d t q b) = (c == d) && beq r t && option_eq nat_eq a b
 same_selector (head.Error p) (head.Error q) = true
 same_selector g h = false
 
-abbrev pub duplicate_commands : PlainSource → List Wrong
-duplicate_commands s = map (λ d. wrong kind.DuplicateCommand d.name []) (repeats (λ a b. same_selector a.head b.head) [] s.commands)
+abbrev pub duplicate_commands : PlainSource → List PlainFinding
+duplicate_commands s = again (λ a b. same_selector a.head b.head) (λ d. wrong kind.DuplicateCommand d.name []) (first_defs (placed_commands s))
+
+-- ---- rules
 
 abbrev pub is_undefined : PlainSource → PlainRule → Bool
 is_undefined s r = option_map_or (λ name. not (is_some (key_of_name s name))) r.name false
@@ -202,10 +285,10 @@ slot_name r = slot_text r.name
 abbrev pub same_slot : PlainRule → PlainRule → Bool
 same_slot a b = same_bytes (slot_name a) (slot_name b)
 
-abbrev pub repeated_in : PlainDef → List Wrong
-repeated_in d = map (λ r. wrong kind.RepeatedSlot d.name (slot_name r)) (repeats same_slot [] d.rules)
+abbrev pub repeated_in : Part × PlainDef → List PlainFinding
+repeated_in d = again same_slot (λ r. wrong kind.RepeatedSlot d.1.name (slot_name r)) (placed_rules d)
 
-abbrev pub repeated_slots : List PlainDef → List Wrong
+abbrev pub repeated_slots : List (Part × PlainDef) → List PlainFinding
 repeated_slots defs = flat_map repeated_in defs
 
 abbrev pub is_min_over_max : PlainRule → Bool
@@ -225,28 +308,33 @@ is_bad kind.RequiredMin s r = is_required_min r
 is_bad kind.OptionalMin s r = is_optional_min r
 is_bad kind s r = false
 
-abbrev pub bad_in : DictKind → PlainSource → PlainDef → List Wrong
-bad_in kind s d = map (λ r. wrong kind d.name (slot_name r)) (filter (is_bad kind s) d.rules)
+abbrev pub bad_in : DictKind → PlainSource → Part × PlainDef → List PlainFinding
+bad_in kind s d = alone (is_bad kind s) (λ r. wrong kind d.1.name (slot_name r)) (placed_rules d)
 
-abbrev pub bad_rules : DictKind → PlainSource → List PlainDef → List Wrong
+abbrev pub bad_rules : DictKind → PlainSource → List (Part × PlainDef) → List PlainFinding
 bad_rules kind s defs = flat_map (bad_in kind s) defs
 
-abbrev pub wrong_limits : PlainSource → List Wrong
-wrong_limits s = too_many_rules (all_defs s) ++ too_many s
+-- ---- all
 
-abbrev pub wrong_names : PlainSource → List Wrong
-wrong_names s = duplicate_names (map (λ d. d.name) s.avps) ++ duplicate_names (map (λ d. d.name) s.groups) ++ duplicate_names (map (λ d. d.name) s.commands)
+abbrev pub wrong_limits : PlainSource → List PlainFinding
+wrong_limits s = too_many_rules (placed_defs s) ++ too_many s
 
-abbrev pub wrong_entries : PlainSource → List Wrong
+abbrev pub wrong_names : PlainSource → List PlainFinding
+wrong_names s = duplicate_avps (placed_avps s) ++ duplicate_defs (placed_groups s) ++ duplicate_defs (placed_commands s)
+
+abbrev pub wrong_entries : PlainSource → List PlainFinding
 wrong_entries s = no_groups s ++ header_mismatches s ++ duplicate_keys s ++ duplicate_commands s
 
-abbrev pub wrong_rules : PlainSource → List Wrong
-wrong_rules s = bad_rules kind.UndefinedName s (all_defs s) ++ repeated_slots (all_defs s) ++ bad_rules kind.MinOverMax s (all_defs s)
-    ++ bad_rules kind.RequiredMin s (all_defs s) ++ bad_rules kind.OptionalMin s (all_defs s)
+abbrev pub wrong_rules : PlainSource → List PlainFinding
+wrong_rules s = bad_rules kind.UndefinedName s (placed_defs s) ++ repeated_slots (placed_defs s) ++ bad_rules kind.MinOverMax s (placed_defs s)
+    ++ bad_rules kind.RequiredMin s (placed_defs s) ++ bad_rules kind.OptionalMin s (placed_defs s)
 
--- all that is wrong, in the order in which it is told
+-- all that is wrong, in the order in which it is told. A part with the name of an earlier one is told for its name, and compared with no other part
+abbrev pub all_findings : PlainSource → List PlainFinding
+all_findings s = wrong_limits s ++ wrong_names s ++ wrong_entries s ++ wrong_rules s
+
 abbrev pub all_wrong : PlainSource → List Wrong
-all_wrong s = wrong_limits s ++ wrong_names s ++ wrong_entries s ++ wrong_rules s
+all_wrong s = map (λ f. f.wrong) (all_findings s)
 
 abbrev pub first_wrong : PlainSource → Option Wrong
 first_wrong s = slice_get (all_wrong s) 0

@@ -1,39 +1,61 @@
 -- What a check of a source answers.
-use Rattle.std.specs.Prelude.{◌≡◌, ℕ, Bool, true, List, [], Option, Some, None, slice_get, string_bytes, take, ⊤}
-use Rattle.std.specs.List.{list_any}
+use Rattle.std.specs.Prelude.{◌≡◌, ℕ, List, [], Option, Some, None, slice_get, string_bytes, ⊤}
+use Rattle.std.specs.Borrow.{Bor}
 use Rattle.dia_wire.specs.declared.Key.{Key}
-use Rattle.dia_dict.specs.declared.resolving.checks.KeyedName.{KeyedName}
+use Rattle.dia_ccf.specs.Plain.{PlainDecl, PlainDef, plain_decl, plain_def}
+use Rattle.dia_dict.specs.declared.resolving.finding.repeats.Keyed.{Keyed}
+use Rattle.dia_dict.specs.declared.resolving.parts.PlacedDecl.{PlacedDecl}
+use Rattle.dia_dict.specs.declared.resolving.parts.PlacedDef.{PlacedDef}
 use Rattle.dia_dict.specs.declared.fault.DictFault.{DictFault}
 use Rattle.dia_dict.specs.declared.fault.DictFault.TheVariants as fault
-use Rattle.dia_dict.specs.declared.resolving.refusal.Told.{Told}
+use Rattle.dia_dict.specs.declared.findings.Part.{Part}
+use Rattle.dia_dict.specs.declared.findings.Told.{Told}
+use Rattle.dia_dict.specs.declared.findings.Finding.{Finding}
 use Rattle.dia_dict.specs.declared.resolving.refusal.Refusal.{Refusal}
 use Rattle.dia_dict.specs.declared.resolving.refusal.Refusal.TheVariants as refusal
-use Rattle.dia_dict.specs.Resolution.{Wrong, wrong, repeats}
+use Rattle.dia_dict.specs.declared.fault.DictKind.TheVariants as kind
+use Rattle.dia_dict.specs.declared.selectors.Selector.{Selector}
+use Rattle.dia_dict.specs.Selectors.{selector_of}
+use Rattle.dia_dict.specs.Resolution.{Wrong, wrong, PlainFinding, finding, head_of}
 
 abbrev pub told : Told → Wrong
 told t = wrong t.kind t.name.now t.slot.now
+
+abbrev pub plain_finding : Finding → PlainFinding
+plain_finding f = record { wrong = told f.told; part = f.part; other = f.other }
+
+-- ---- parts as they lie in memory
+
+abbrev pub placed_decl : PlacedDecl → Part × PlainDecl
+placed_decl d = (d.part, plain_decl d.decl.now)
+
+abbrev pub placed_def : PlacedDef → Part × PlainDef
+placed_def d = (d.part, plain_def d.def.now)
+
+-- ---- what is compared, and what is told where it repeats
+
+abbrev pub keyed_text : Keyed (Bor (List ℕ)) → Part × (List ℕ × Wrong)
+keyed_text i = (i.part, (i.key.now, told i.told))
+
+abbrev pub keyed_key : Keyed Key → Part × (Key × Wrong)
+keyed_key i = (i.part, (i.key, told i.told))
+
+abbrev pub told_key : Part × (List ℕ × Key) → Part × (Key × Wrong)
+told_key n = (n.0, (n.1.1, wrong kind.DuplicateKey n.1.0 []))
+
+abbrev pub keyed_selector : Keyed Selector → Part × (Selector × Wrong)
+keyed_selector i = (i.part, (i.key, told i.told))
+
+abbrev pub told_selector : Part × PlainDef → Part × (Selector × Wrong)
+told_selector d = (d.0, (selector_of (head_of d.1.head), wrong kind.DuplicateCommand d.1.name []))
+
+-- ---- answers
 
 -- the first of what is wrong is told
 abbrev pub IsRefused : List Wrong → Refusal → Type 0
 IsRefused ws (refusal.Stands t) = slice_get ws 0 ≡ Some (told t)
 IsRefused ws refusal.NoMemory = ⊤
 
--- the refusal tells just this
-abbrev pub Tells : Refusal → Wrong → Type 0
-Tells (refusal.Stands t) w = told t ≡ w
-Tells refusal.NoMemory w = ⊥
-
 abbrev pub wrong_of : DictFault → Option Wrong
 wrong_of (fault.Stands kind name slot) = Some (wrong kind (string_bytes name) (string_bytes slot))
 wrong_of fault.NoMemory = None
-
--- the item at a place is like one before it, and no item before it is
-pub record IsFirstRepeat {X : Type 0} (same : X → X → Bool) (items : List X) (place : ℕ) : Type 0 where
-  pub item : X
-  pub at : slice_get items place ≡ Some item
-  pub repeated : list_any (same item) (take place items) ≡ true
-  pub first : repeats same [] (take place items) ≡ []
-
--- an AVP's name and key
-abbrev pub name_and_key : KeyedName → List ℕ × Key
-name_and_key n = (n.name.now, n.key)

@@ -22,6 +22,7 @@
 mod base;
 mod entry_list;
 mod fault;
+mod findings;
 mod indexed_book;
 mod key_table;
 mod plain_book;
@@ -34,6 +35,10 @@ pub use dia_book::{
     Slot, accepts,
 };
 pub use fault::{DictFault, DictKind};
+pub use findings::{Finding, Part, PartKind, Told};
 pub use indexed_book::IndexedBook;
 pub use plain_book::PlainBook;
-pub use resolving::{named_is_sound, resolve};
+pub use resolving::{
+    MAX_PARTS, MAX_RULES, faults, greatest_count, key_of_declaration, key_of_group, least_count,
+    named_is_sound, resolve,
+};

@@ -1,26 +1,31 @@
 //! A dictionary out of a source.
-ghost use Rattle.std.specs.Prelude.{◌≡◌, [], None, IfOk, IfErr};
+ghost use Rattle.std.specs.Prelude.{◌≡◌, None, IfOk, IfErr, map};
 ghost use Rattle.dia_ccf.specs.Plain.{plain_source};
-ghost use Rattle.dia_dict.specs.Resolution.{resolved, all_wrong, wrong_limits};
-ghost use Rattle.dia_dict.specs.Resolution.{wrong_names, first_wrong, IsToldOf};
-ghost use Rattle.dia_dict.specs.SourceChecks.{IsRefused};
+ghost use Rattle.dia_dict.specs.Resolution.{resolved, all_findings, all_wrong, first_wrong};
+ghost use Rattle.dia_dict.specs.Resolution.{IsToldOf};
+ghost use Rattle.dia_dict.specs.SourceChecks.{IsRefused, plain_finding};
 
 mod building;
 mod checks;
-mod distinct;
+mod finding;
 mod names;
+mod parts;
 mod refusal;
 mod rules;
 mod soundness;
 
 use crate::fault::DictFault;
+use crate::findings::Finding;
 use crate::plain_book::PlainBook;
+pub use checks::{MAX_PARTS, MAX_RULES};
 use dia_book::Book;
 use dia_ccf::Source;
 use names::Names;
+pub use names::{key_of_declaration, key_of_group};
 use refusal::Refusal;
+pub use rules::{greatest_count, least_count};
 pub use soundness::named_is_sound;
-use std::alloc::Global;
+use std::alloc::{AllocError, Global};
 
 /// The dictionary that a source names.
 ///
@@ -40,26 +45,27 @@ pub fn resolve(alloc: Global, source: Source) -> Result<PlainBook, DictFault>
     }
 }
 
+/// All that is wrong with a source: by kind in the order of `DictKind`, and those of one kind in the order declarations,
+/// groups, commands, each in the order of the text. A part with the name of an earlier one is told for its name, and not
+/// compared with other declarations, groups and commands.
+pub fn faults(alloc: Global, source: &Source) -> Result<Vec<Finding<'_>>, AllocError>
+    ensures { IfOk result (λ findings. map plain_finding findings.items
+        ≡ all_findings (plain_source source.now)) }
+{
+    let names = Names::new(alloc, source)?;
+    finding::found(alloc, &names)
+}
+
 /// The dictionary, where nothing is wrong.
 fn checked(alloc: Global, source: &Source) -> Result<PlainBook, Refusal<'_>>
     ensures ok { IfOk result (λ book. (first_wrong (plain_source source.now) ≡ None)
         × (⟦<PlainBook as Book>⟧.meaning book ≡ resolved (plain_source source.now))) }
     ensures err { IfErr result (IsRefused (all_wrong (plain_source source.now))) }
 {
-    checks::limits(source)?;
     let names = Names::new(alloc, source)?;
-    named(alloc, &names)
-}
-
-/// The dictionary of a source that is within its limits and has distinct names, where nothing else is wrong.
-fn named<'a>(alloc: Global, names: &Names<'a>) -> Result<PlainBook, Refusal<'a>>
-    requires within { wrong_limits (plain_source names.now.source.now) ≡ [] }
-    requires distinct { wrong_names (plain_source names.now.source.now) ≡ [] }
-    ensures ok { IfOk result (λ book. (first_wrong (plain_source names.now.source.now) ≡ None)
-        × (⟦<PlainBook as Book>⟧.meaning book ≡ resolved (plain_source names.now.source.now))) }
-    ensures err { IfErr result (IsRefused (all_wrong (plain_source names.now.source.now))) }
-{
-    checks::entries(alloc, names)?;
-    rules::check(alloc, names)?;
-    Ok(building::book(alloc, names)?)
+    let findings = finding::found(alloc, &names)?;
+    match findings.first() {
+        Some(first) => Err(Refusal::Stands(first.told)),
+        None => Ok(building::book(alloc, &names)?),
+    }
 }

@@ -4,6 +4,7 @@ mod answers;
 mod base;
 mod example;
 mod faults;
+mod findings;
 mod indexed;
 mod limits;
 mod lookups;

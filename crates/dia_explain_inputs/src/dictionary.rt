@@ -1,12 +1,10 @@
 //! What is told of a dictionary that is refused.
 
 mod expecting;
-mod finding;
 mod hints;
 mod meaning;
 mod parts;
 mod texts;
-mod wrongs;
 
 use dia_ccf::{CcfFault, MAX_TEXT, parse};
 use dia_explain_places::{push_excerpt, push_place, walk_over};

@@ -4,7 +4,7 @@ ghost use Rattle.dia_data.specs.Plain.{plain_format, ranges_of};
 ghost use Rattle.dia_ccf.specs.Plain.{plain_source, plain_decl, plain_def, plain_rule};
 ghost use Rattle.dia_book.specs.Dictionary.{plain_definition};
 ghost use Rattle.dia_dict.specs.PlainMeaning.{entries_of};
-ghost use Rattle.dia_dict.specs.Resolution.{resolved, all_wrong, declared_entry};
+ghost use Rattle.dia_dict.specs.Resolution.{resolved, all_findings, declared_entry};
 ghost use Rattle.dia_dict.specs.Resolution.{bare_entry, is_bare, definition_of};
 ghost use Rattle.dia_dict.specs.Resolution.{rule_of, head_of, class_of, proxy_of, format_of};
 
@@ -19,7 +19,7 @@ use dia_wire::Key;
 use std::alloc::{AllocError, Global};
 
 pub(super) fn book(alloc: Global, names: &Names<'_>) -> Result<PlainBook, AllocError>
-    requires { all_wrong (plain_source names.now.source.now) ≡ [] }
+    requires { all_findings (plain_source names.now.source.now) ≡ [] }
     ensures { IfOk result (λ book. ⟦<PlainBook as Book>⟧.meaning book
         ≡ resolved (plain_source names.now.source.now)) }
 {

@@ -1,16 +1,23 @@
 //! What is told of a dictionary text that is well formed, and names no dictionary.
 
 mod advice;
+mod notes;
 mod words;
 
-use crate::dictionary::finding::find_faults;
 use crate::dictionary::parts::Parts;
-use crate::dictionary::wrongs::{Fault, Faults, MOST, MOST_NAMES, Wrong};
 use advice::{push_general, push_special};
 use dia_ccf::Source;
+use dia_dict::{DictKind, faults};
 use dia_explain_places::{push_place, walk_over};
+use notes::{Note, notes_of};
 use std::alloc::{AllocError, Global};
 use words::push_wrong;
+
+/// The most faults that are told.
+const MOST: usize = 50;
+
+/// The most names that are listed where they are too many for a fault each.
+const MOST_NAMES: usize = 200;
 
 /// Adds the faults of meaning of a text that spells this source, and tells whether there are any.
 pub fn push_meaning(
@@ -20,74 +27,57 @@ pub fn push_meaning(
     text: &[u8],
     source: &Source,
 ) -> Result<bool, AllocError> {
-    let walk = walk_over(alloc, text)?;
-    let parts = Parts::new(alloc, source, &walk.sites)?;
-    let faults = find_faults(alloc, &parts)?;
-    if faults.is_empty() {
+    let findings = faults(alloc, source)?;
+    if findings.is_empty() {
         return Ok(false);
     }
+    let walk = walk_over(alloc, text)?;
+    let parts = Parts::new(alloc, source, text, &walk.sites)?;
     let names = parts.names_of_avps(alloc)?;
-    push_told(out, name, text, &faults, &names)?;
-    push_rest(out, name, &faults)?;
+    let notes = notes_of(alloc, &findings)?;
+    push_told(out, name, &parts, &names, &notes)?;
+    push_rest(out, name, &notes)?;
     Ok(true)
 }
 
-/// Adds the faults that are told one by one. What helps with each fault of a kind is told once.
+/// Adds the first faults one by one. What helps with each fault of a kind is told once.
 fn push_told(
     out: &mut String,
     name: &str,
-    text: &[u8],
-    faults: &Faults<'_>,
+    parts: &Parts<'_>,
     names: &[&str],
+    notes: &[Note<'_>],
 ) -> Result<(), AllocError> {
     let mut advised = None;
-    for fault in &faults.told {
-        push_fault(out, name, text, fault)?;
-        let kind = Some(kind_of(fault));
-        if !push_special(out, names, fault)? && advised != kind {
-            push_general(out, fault)?;
+    for note in notes.iter().take(MOST) {
+        push_note(out, name, parts, note)?;
+        let kind = Some(note.finding.told.kind);
+        if !push_special(out, parts, names, note)? && advised != kind {
+            push_general(out, parts, note)?;
             advised = kind;
         }
     }
     Ok(())
 }
 
-fn push_fault(
+fn push_note(
     out: &mut String,
     name: &str,
-    text: &[u8],
-    fault: &Fault<'_>,
+    parts: &Parts<'_>,
+    note: &Note<'_>,
 ) -> Result<(), AllocError> {
-    if let Wrong::ManyParts { .. } = fault.wrong {
-        write!(out, "{name}: ")?;
-    } else {
-        push_place(out, name, text, fault.at)?;
+    match note.place(parts) {
+        Some(at) => push_place(out, name, parts.text, at)?,
+        None => write!(out, "{name}: ")?,
     }
-    push_wrong(out, text, fault)?;
+    push_wrong(out, parts, note)?;
     out.push('\n')?;
     Ok(())
 }
 
-/// The number of a kind.
-fn kind_of(fault: &Fault<'_>) -> u8 {
-    match fault.wrong {
-        Wrong::ManyRules { .. } | Wrong::ManyParts { .. } => 0,
-        Wrong::NameAgain { .. } => 1,
-        Wrong::NoGroup { .. } => 2,
-        Wrong::Mismatch { .. } => 3,
-        Wrong::KeyAgain { .. } => 4,
-        Wrong::CommandAgain { .. } => 5,
-        Wrong::Undefined { .. } => 6,
-        Wrong::SlotAgain { .. } => 7,
-        Wrong::MinOverMax { .. } => 8,
-        Wrong::RequiredMin { .. } => 9,
-        Wrong::OptionalMin { .. } => 10,
-    }
-}
-
 /// Adds how many faults more there are, and which names are undefined besides.
-fn push_rest(out: &mut String, name: &str, faults: &Faults<'_>) -> Result<(), AllocError> {
-    let more = faults.more;
+fn push_rest(out: &mut String, name: &str, notes: &[Note<'_>]) -> Result<(), AllocError> {
+    let more = notes.len().saturating_sub(MOST);
     if more == 0 {
         return Ok(());
     }
@@ -95,21 +85,28 @@ fn push_rest(out: &mut String, name: &str, faults: &Faults<'_>) -> Result<(), Al
         out,
         "{name}: these are the first {MOST} faults, and there are {more} more\n"
     )?;
-    push_names(out, &faults.names)
+    push_undefined(out, notes)
 }
 
-fn push_names(out: &mut String, names: &[&str]) -> Result<(), AllocError> {
-    let mut between = "hint: these names aren't defined either: ";
-    for name in names {
-        write!(out, "{between}{name}")?;
-        between = ", ";
+/// Adds the undefined names of the faults that aren't told one by one.
+fn push_undefined(out: &mut String, notes: &[Note<'_>]) -> Result<(), AllocError> {
+    let mut count: usize = 0;
+    for note in notes.iter().skip(MOST) {
+        if note.finding.told.kind == DictKind::UndefinedName && count < MOST_NAMES {
+            out.push_str(if count == 0 {
+                "hint: these names aren't defined either: "
+            } else {
+                ", "
+            })?;
+            out.push_str(note.finding.told.slot)?;
+            count = count.saturating_add(1);
+        }
     }
-    if names.is_empty() {
-        return Ok(());
-    }
-    if names.len() == MOST_NAMES {
+    if count == MOST_NAMES {
         out.push_str(", ..")?;
     }
-    out.push('\n')?;
+    if count > 0 {
+        out.push('\n')?;
+    }
     Ok(())
 }

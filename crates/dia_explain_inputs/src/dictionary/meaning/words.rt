@@ -1,148 +1,156 @@
 //! A fault of meaning in words.
 
-use crate::dictionary::finding::{
-    MAX_PARTS, MAX_RULES, greatest, is_grouped, key_of, key_of_group, least,
-};
-use crate::dictionary::parts::{PlacedDecl, PlacedDef, PlacedRule};
-use crate::dictionary::wrongs::{Fault, NamedKey, What, Wrong};
-use dia_ccf::Head;
-use dia_explain_places::push_line_column;
+use super::notes::Note;
+use crate::dictionary::parts::Parts;
+use dia_ccf::{FormatName, Head};
+use dia_dict::{DictKind, MAX_PARTS, MAX_RULES, Part, PartKind, greatest_count, least_count};
 use dia_wire::Key;
 use std::alloc::AllocError;
 
 /// Adds what is wrong.
-pub fn push_wrong(out: &mut String, text: &[u8], fault: &Fault<'_>) -> Result<(), AllocError> {
-    match fault.wrong {
-        Wrong::ManyRules { def } => push_many_rules(out, &def),
-        Wrong::ManyParts { count } => {
-            write!(
-                out,
-                "{count} declarations, groups and commands; a dictionary has at most {MAX_PARTS}"
-            )
+pub fn push_wrong(out: &mut String, parts: &Parts<'_>, note: &Note<'_>) -> Result<(), AllocError> {
+    let Some(part) = note.finding.part else {
+        return push_many_parts(out, parts);
+    };
+    let name = note.finding.told.name;
+    let other = note.finding.other;
+    match note.finding.told.kind {
+        DictKind::Limit => push_many_rules(out, parts, name, part),
+        DictKind::DuplicateName => {
+            push_name_again(out, name, part.kind)?;
+            push_first(out, parts, other)
         }
-        Wrong::NameAgain { what, name, first } => {
-            push_name_again(out, what, name)?;
-            push_first(out, text, first)
+        DictKind::NoGroupFormat => write!(
+            out,
+            "{name} is declared as Grouped, and there is no group <{name}>"
+        ),
+        DictKind::HeaderMismatch => push_mismatch(out, parts, name, part, other),
+        DictKind::DuplicateKey => push_key_again(out, parts, name, part, other),
+        DictKind::DuplicateCommand => push_command_again(out, parts, name, part, other),
+        DictKind::UndefinedName
+        | DictKind::RepeatedSlot
+        | DictKind::MinOverMax
+        | DictKind::RequiredMin
+        | DictKind::OptionalMin => {
+            push_definition(out, parts, name, part)?;
+            push_wrong_rule(out, parts, note, part)
         }
-        Wrong::NoGroup { decl } => push_no_group(out, &decl),
-        Wrong::Mismatch { group, decl } => push_mismatch(out, text, &group, &decl),
-        Wrong::KeyAgain { avp, first } => push_key_again(out, text, &avp, &first),
-        Wrong::CommandAgain { command, first } => {
-            push_command_again(out, &command, &first)?;
-            push_at(out, text, first.at)
-        }
-        _ => push_wrong_rule(out, text, fault),
     }
 }
 
-/// Adds what is wrong with a rule.
-fn push_wrong_rule(out: &mut String, text: &[u8], fault: &Fault<'_>) -> Result<(), AllocError> {
-    match fault.wrong {
-        Wrong::Undefined { rule, more, next } => {
-            push_undefined(out, text, &rule)?;
-            push_more(out, text, more, next)
-        }
-        Wrong::SlotAgain { rule, first } => {
-            push_definition(out, text, &rule)?;
-            let slot = rule.rule.slot_name();
-            write!(out, " has two rules for {slot}")?;
-            push_first(out, text, first)
-        }
-        Wrong::MinOverMax { rule } => {
-            push_definition(out, text, &rule)?;
-            push_bounds(out, &rule)
-        }
-        Wrong::RequiredMin { rule } => {
-            push_definition(out, text, &rule)?;
-            let slot = rule.rule.slot_name();
-            write!(
-                out,
-                " requires {slot} by {{ {slot} }}, with a least count of 0"
-            )
-        }
-        Wrong::OptionalMin { rule } => {
-            push_definition(out, text, &rule)?;
-            let slot = rule.rule.slot_name();
-            let count = least(rule.rule);
-            write!(
-                out,
-                " has [ {slot} ], which is optional, with a least count of {count}"
-            )
-        }
-        _ => Ok(()),
-    }
+fn push_many_parts(out: &mut String, parts: &Parts<'_>) -> Result<(), AllocError> {
+    let source = parts.source;
+    let defs = source.groups.len().saturating_add(source.commands.len());
+    let count = source.avps.len().saturating_add(defs);
+    write!(
+        out,
+        "{count} declarations, groups and commands; a dictionary has at most {MAX_PARTS}"
+    )
 }
 
-fn push_many_rules(out: &mut String, def: &PlacedDef<'_>) -> Result<(), AllocError> {
-    let name = def.def.name.as_str();
-    let count = def.def.rules.len();
+fn push_many_rules(
+    out: &mut String,
+    parts: &Parts<'_>,
+    name: &str,
+    part: Part,
+) -> Result<(), AllocError> {
+    let count = match parts.def(part) {
+        Some(def) => def.rules.len(),
+        None => 0,
+    };
     write!(
         out,
         "{name} has {count} rules; a definition has at most {MAX_RULES}"
     )
 }
 
-fn push_name_again(out: &mut String, what: What, name: &str) -> Result<(), AllocError> {
-    match what {
-        What::Declaration => write!(out, "{name} is declared twice"),
-        What::Group => write!(out, "the group {name} is defined twice"),
-        What::Command => write!(out, "the command {name} is defined twice"),
+fn push_name_again(out: &mut String, name: &str, kind: PartKind) -> Result<(), AllocError> {
+    match kind {
+        PartKind::Declaration => write!(out, "{name} is declared twice"),
+        PartKind::Group => write!(out, "the group {name} is defined twice"),
+        PartKind::Command => write!(out, "the command {name} is defined twice"),
     }
 }
 
 /// Adds the place of the first of two.
-fn push_first(out: &mut String, text: &[u8], first: usize) -> Result<(), AllocError> {
+fn push_first(out: &mut String, parts: &Parts<'_>, first: Option<Part>) -> Result<(), AllocError> {
     out.push_str(", first")?;
-    push_at(out, text, first)
+    push_at(out, parts, first)
 }
 
-fn push_at(out: &mut String, text: &[u8], at: usize) -> Result<(), AllocError> {
+fn push_at(out: &mut String, parts: &Parts<'_>, part: Option<Part>) -> Result<(), AllocError> {
+    let Some(part) = part else {
+        return Ok(());
+    };
     out.push_str(" at ")?;
-    push_line_column(out, text, at)
-}
-
-fn push_no_group(out: &mut String, decl: &PlacedDecl<'_>) -> Result<(), AllocError> {
-    let name = decl.decl.name.as_str();
-    write!(
-        out,
-        "{name} is declared as Grouped, and there is no group <{name}>"
-    )
+    parts.push_line_column(out, part)
 }
 
 fn push_mismatch(
     out: &mut String,
-    text: &[u8],
-    group: &PlacedDef<'_>,
-    decl: &PlacedDecl<'_>,
+    parts: &Parts<'_>,
+    name: &str,
+    group: Part,
+    declaration: Option<Part>,
 ) -> Result<(), AllocError> {
-    let name = group.def.name.as_str();
-    if is_grouped(decl) {
+    if is_grouped(parts, declaration) {
         write!(out, "the group {name} has ")?;
-        push_key(out, key_of_group(group))?;
+        push_key_of(out, parts, Some(group))?;
         out.push_str(", and its declaration has ")?;
-        push_key(out, key_of(decl))?;
+        push_key_of(out, parts, declaration)?;
     } else {
         write!(out, "{name} is a group here, and isn't declared as Grouped")?;
     }
-    push_at(out, text, decl.at)
+    push_at(out, parts, declaration)
+}
+
+fn is_grouped(parts: &Parts<'_>, declaration: Option<Part>) -> bool {
+    let Some(part) = declaration else {
+        return false;
+    };
+    match parts.decl(part) {
+        Some(decl) => matches!(decl.format, FormatName::Grouped),
+        None => false,
+    }
 }
 
 fn push_key_again(
     out: &mut String,
-    text: &[u8],
-    avp: &NamedKey<'_>,
-    first: &NamedKey<'_>,
+    parts: &Parts<'_>,
+    name: &str,
+    part: Part,
+    first: Option<Part>,
 ) -> Result<(), AllocError> {
-    let name = avp.name;
-    let other = first.name;
     write!(out, "{name} has ")?;
-    push_key(out, avp.key)?;
-    write!(out, ", as {other} has")?;
-    push_at(out, text, first.at)
+    push_key_of(out, parts, Some(part))?;
+    out.push_str(", as ")?;
+    push_name_of(out, parts, first)?;
+    out.push_str(" has")?;
+    push_at(out, parts, first)
+}
+
+fn push_name_of(out: &mut String, parts: &Parts<'_>, part: Option<Part>) -> Result<(), AllocError> {
+    let Some(part) = part else {
+        return Ok(());
+    };
+    match parts.name(part) {
+        Some(name) => out.push_str(name),
+        None => Ok(()),
+    }
+}
+
+fn push_key_of(out: &mut String, parts: &Parts<'_>, part: Option<Part>) -> Result<(), AllocError> {
+    let Some(part) = part else {
+        return Ok(());
+    };
+    match parts.key(part) {
+        Some(key) => push_key(out, key),
+        None => Ok(()),
+    }
 }
 
 /// Adds a code and its vendor.
-pub fn push_key(out: &mut String, key: Key) -> Result<(), AllocError> {
+fn push_key(out: &mut String, key: Key) -> Result<(), AllocError> {
     let code = key.code;
     let vendor = key.vendor;
     if vendor == 0 {
@@ -154,14 +162,18 @@ pub fn push_key(out: &mut String, key: Key) -> Result<(), AllocError> {
 
 fn push_command_again(
     out: &mut String,
-    command: &PlacedDef<'_>,
-    first: &PlacedDef<'_>,
+    parts: &Parts<'_>,
+    name: &str,
+    command: Part,
+    first: Option<Part>,
 ) -> Result<(), AllocError> {
-    let name = command.def.name.as_str();
-    let other = first.def.name.as_str();
     write!(out, "{name} is for ")?;
-    push_messages(out, command.def.head)?;
-    write!(out, ", as is {other}")
+    if let Some(def) = parts.def(command) {
+        push_messages(out, def.head)?;
+    }
+    out.push_str(", as is ")?;
+    push_name_of(out, parts, first)?;
+    push_at(out, parts, first)
 }
 
 /// Adds which messages a command is for.
@@ -185,24 +197,53 @@ fn push_messages(out: &mut String, head: Head) -> Result<(), AllocError> {
 }
 
 /// Adds the definition of a rule, with its place.
-fn push_definition(out: &mut String, text: &[u8], rule: &PlacedRule<'_>) -> Result<(), AllocError> {
-    let name = rule.def.def.name.as_str();
+fn push_definition(
+    out: &mut String,
+    parts: &Parts<'_>,
+    name: &str,
+    rule: Part,
+) -> Result<(), AllocError> {
+    let definition = Part {
+        kind: rule.kind,
+        index: rule.index,
+        rule: None,
+    };
     write!(out, "{name} (")?;
-    push_line_column(out, text, rule.def.at)?;
+    parts.push_line_column(out, definition)?;
     out.push_str(")")
 }
 
-fn push_undefined(out: &mut String, text: &[u8], rule: &PlacedRule<'_>) -> Result<(), AllocError> {
-    push_definition(out, text, rule)?;
-    let slot = rule.rule.slot_name();
-    write!(
-        out,
-        " has a rule for {slot}, which is neither declared nor a group"
-    )
+/// Adds what is wrong with a rule.
+fn push_wrong_rule(
+    out: &mut String,
+    parts: &Parts<'_>,
+    note: &Note<'_>,
+    part: Part,
+) -> Result<(), AllocError> {
+    let slot = note.finding.told.slot;
+    match note.finding.told.kind {
+        DictKind::UndefinedName => {
+            write!(
+                out,
+                " has a rule for {slot}, which is neither declared nor a group"
+            )?;
+            push_more(out, parts, note)
+        }
+        DictKind::RepeatedSlot => {
+            write!(out, " has two rules for {slot}")?;
+            push_first(out, parts, note.finding.other)
+        }
+        DictKind::RequiredMin => write!(
+            out,
+            " requires {slot} by {{ {slot} }}, with a least count of 0"
+        ),
+        kind => push_counts(out, parts, kind, slot, part),
+    }
 }
 
 /// Adds how many rules more name the same AVP.
-fn push_more(out: &mut String, text: &[u8], more: usize, next: usize) -> Result<(), AllocError> {
+fn push_more(out: &mut String, parts: &Parts<'_>, note: &Note<'_>) -> Result<(), AllocError> {
+    let more = note.more;
     if more == 0 {
         return Ok(());
     }
@@ -211,13 +252,28 @@ fn push_more(out: &mut String, text: &[u8], more: usize, next: usize) -> Result<
     } else {
         write!(out, "; {more} more rules name it, the next")?;
     }
-    push_at(out, text, next)
+    push_at(out, parts, note.next)
 }
 
-fn push_bounds(out: &mut String, rule: &PlacedRule<'_>) -> Result<(), AllocError> {
-    let slot = rule.rule.slot_name();
-    let low = least(rule.rule);
-    let high = greatest(rule.rule).unwrap_or(low);
+/// Adds the counts of a rule that don't go together, or not with its brackets.
+fn push_counts(
+    out: &mut String,
+    parts: &Parts<'_>,
+    kind: DictKind,
+    slot: &str,
+    part: Part,
+) -> Result<(), AllocError> {
+    let Some(rule) = parts.rule(part) else {
+        return Ok(());
+    };
+    let low = least_count(rule.kind, rule.qual);
+    if kind == DictKind::OptionalMin {
+        return write!(
+            out,
+            " has [ {slot} ], which is optional, with a least count of {low}"
+        );
+    }
+    let high = greatest_count(rule.qual).unwrap_or(low);
     write!(
         out,
         " asks for at least {low} {slot}, and for at most {high}"

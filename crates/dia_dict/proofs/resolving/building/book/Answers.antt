@@ -6,7 +6,7 @@ use Rattle.dia_ccf.specs.Plain.{plain_source, plain_decl, plain_def}
 use Rattle.dia_book.specs.Dictionary.{DictEntry, Dictionary, IsDictionary, plain_definition}
 use Rattle.dia_dict.specs.PlainMeaning.{dictionary_of, entry_of_row}
 use Rattle.dia_dict.specs.Resolution.{resolved, declared_entry, bare_entry, is_bare, definition_of}
-use Rattle.dia_dict.proofs.FaultlessSources.{formed, clean}
+use Rattle.dia_dict.proofs.FaultlessSources.{formed, no_findings}
 use Rattle.dia_dict.proofs.SoundSources.{sound, few}
 use Rattle.dia_dict.proofs.resolving.building.book.Goals as goal
 use Rattle.dia_dict.proofs.resolving.building.book.Goals.{In_ok-commands}
@@ -29,7 +29,7 @@ new-requires-clause-few c =
     let m = meant c in
     omega (
       arith,
-      few s (formed source) (clean s c.requires),
+      few s (formed source) (no_findings s c.requires),
       ap (λ (d : Dictionary). length d.entries) m,
       ap (λ (d : Dictionary). length d.commands) m,
       length-map c.push_groups.new.entries.rows.items (entry_of_row (map plain_definition c.push_groups.new.entries.groups.items)),
@@ -39,4 +39,4 @@ new-requires-clause-few c =
 pub new-requires-clause-sound : goal.new-requires-clause-sound
 new-requires-clause-sound c =
     let source = c.args.names.now.source.now in
-    subst IsDictionary (sym (meant c)) (sound (plain_source source) (formed source) (clean (plain_source source) c.requires))
+    subst IsDictionary (sym (meant c)) (sound (plain_source source) (formed source) (no_findings (plain_source source) c.requires))

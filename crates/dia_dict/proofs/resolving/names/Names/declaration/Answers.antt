@@ -1,23 +1,19 @@
-use Rattle.std.proofs.Common.{◌<◌, length, refl, ap, sym, ◌∙◌, arith}
-use Rattle.std.specs.Prelude.{string_bytes}
+use Rattle.std.proofs.Common.{Option, ap, sym, ◌∙◌}
 use Rattle.std.specs.Option.{option_map}
-use Rattle.std.proofs.lemmas.Option.{slice_get_read}
-use Rattle.dia_ccf.specs.declared.source.Decl.{Decl}
-use Rattle.dia_ccf.specs.Plain.{PlainDecl, plain_decl}
-use Rattle.dia_book.proofs.LookUpsByName.{found_by_name, length_by_name}
+use Rattle.dia_ccf.specs.Plain.{PlainDecl, plain_source, plain_decl}
+use Rattle.dia_dict.specs.declared.findings.Part.{Part}
+use Rattle.dia_dict.specs.declared.findings.PartKind.TheVariants.{Declaration}
+use Rattle.dia_dict.specs.Resolution.{part_at, names_decl}
+use Rattle.dia_dict.proofs.Placing.{find-placed}
 use Rattle.dia_dict.proofs.resolving.names.Names.declaration.Goals as goal
 
-pub returns-in_err-place : goal.returns-in_err-place
-returns-in_err-place c =
-    let names = c.args.self.now in
-    ap (option_map (λ d. plain_decl d.now)) c.from_residual.ensures
-    ∙ sym (found_by_name plain_decl (λ (d : PlainDecl). d.name) names.source.now.avps.items names.avps.value.keys names.all_avps c.args.name.now _ (rw c.deref.ensures at c.in_err-place.ensures.index))
+abbrev unplaced : Option (Part × PlainDecl) → Option PlainDecl
+unplaced d = option_map (λ x. x.1) d
+
+pub returns-in_err-placed : goal.returns-in_err-placed
+returns-in_err-placed c =
+    ap (option_map (λ d. plain_decl d.now)) c.from_residual.ensures ∙ ap unplaced c.in_err-placed.ensures
+    ∙ find-placed (part_at Declaration) (names_decl c.args.name.now) (plain_source c.args.self.now.source.now).avps
 
 pub returns : goal.returns
-returns c =
-    let names = c.args.self.now in
-    let avps = names.source.now.avps.items in
-    let found = found_by_name plain_decl (λ (d : PlainDecl). d.name) avps names.avps.value.keys names.all_avps c.args.name.now _ (rw c.deref.ensures at c.in_ok-place.ensures.index) in
-    let long = length_by_name (λ (d : Decl). string_bytes d.name) avps names.avps.value.keys names.all_avps in
-    let within : c.in_ok-place.place < length avps = omega (arith, (rw c.deref.ensures at c.in_ok-place.ensures.within), long) in
-    sym (found ∙ ap (option_map plain_decl) (slice_get_read avps (length avps) c.in_ok-place.place c.index.result.now refl within c.index.ensures))
+returns c = ap unplaced c.in_ok-placed.ensures ∙ find-placed (part_at Declaration) (names_decl c.args.name.now) (plain_source c.args.self.now.source.now).avps

@@ -1,33 +1,24 @@
-use Rattle.std.proofs.Common.{◌≡◌, List, [], map, subst}
-use Rattle.std.proofs.lemmas.Result.{err_from_is_err_and}
+use Rattle.std.proofs.Common.{List, map, ap, ◌∙◌}
 use Rattle.dia_ccf.specs.declared.source.Decl.{Decl}
 use Rattle.dia_ccf.specs.declared.source.Def.{Def}
-use Rattle.dia_ccf.specs.Plain.{PlainDecl, PlainDef, plain_decl, plain_def}
-use Rattle.dia_dict.specs.Resolution.{duplicate_names}
-use Rattle.dia_dict.specs.SourceChecks.{IsRefused}
-use Rattle.dia_dict.proofs.Refusals.{IsRefused-left, IsRefused-right, none-append}
+use Rattle.dia_ccf.specs.Plain.{plain_decl, plain_def}
+use Rattle.dia_dict.specs.declared.findings.PartKind.TheVariants.{Declaration, Group, Command}
+use Rattle.dia_dict.specs.declared.resolving.parts.PlacedDecl.{PlacedDecl}
+use Rattle.dia_dict.specs.declared.resolving.parts.PlacedDef.{PlacedDef}
+use Rattle.dia_dict.specs.Resolution.{placed, part_at, first_decls, first_defs}
+use Rattle.dia_dict.specs.SourceChecks.{placed_decl, placed_def}
 use Rattle.dia_dict.proofs.resolving.names.Names.new.Goals as goal
 
-pub returns-in_err-avps-clause-err : goal.returns-in_err-avps-clause-err
-returns-in_err-avps-clause-err c =
-    let e = c.in_err-avps.field-0.0 in
-    let p = err_from_is_err_and c.from_residual.result c.from_residual.ensures.1 in
-    let avps = subst (λ (ds : List Decl). IsRefused (duplicate_names (map (λ (d : PlainDecl). d.name) (map plain_decl ds))) e) c.deref.ensures.value c.in_err-avps.ensures.err in
-    rw (p.1, p.2) (IsRefused-left _ _ e (IsRefused-left _ _ e avps))
-
-pub returns-in_err-groups-clause-err : goal.returns-in_err-groups-clause-err
-returns-in_err-groups-clause-err c =
-    let p = err_from_is_err_and c.from_residual-in_err-groups.result c.from_residual-in_err-groups.ensures.1 in
-    let avps = subst (λ (ds : List Decl). duplicate_names (map (λ (d : PlainDecl). d.name) (map plain_decl ds)) ≡ []) c.deref.ensures.value c.in_ok-avps.ensures.distinct in
-    let groups = subst (λ (ds : List Def). IsRefused
-    (duplicate_names (map (λ (d : PlainDef). d.name) (map plain_def ds))) c.in_err-groups.field-0.0) c.deref-2.ensures.value c.in_err-groups.ensures.err in
-    rw (p.1, p.2) (IsRefused-left _ _ c.in_err-groups.field-0.0 (IsRefused-right _ _ c.in_err-groups.field-0.0 avps groups))
-
-pub returns-in_err-set_of_definitions-clause-err : goal.returns-in_err-set_of_definitions-clause-err
-returns-in_err-set_of_definitions-clause-err c =
-    let e = c.in_err-set_of_definitions.field-0.0 in
-    let p = err_from_is_err_and c.from_residual-in_err-set_of_definitions.result c.from_residual-in_err-set_of_definitions.ensures.1 in
-    let avps = subst (λ (ds : List Decl). duplicate_names (map (λ (d : PlainDecl). d.name) (map plain_decl ds)) ≡ []) c.deref.ensures.value c.in_ok-avps.ensures.distinct in
-    let groups = subst (λ (ds : List Def). duplicate_names (map (λ (d : PlainDef). d.name) (map plain_def ds)) ≡ []) c.deref-2.ensures.value c.in_ok-groups.ensures.distinct in
-    let commands = subst (λ (ds : List Def). IsRefused (duplicate_names (map (λ (d : PlainDef). d.name) (map plain_def ds))) e) c.deref-3.ensures.value c.in_err-set_of_definitions.ensures.err in
-    rw (p.1, p.2) (IsRefused-right _ _ e (none-append _ _ avps groups) commands)
+pub invariant_of-result : goal.invariant_of-result
+invariant_of-result c =
+    let avps = c.in_ok-avps.ensures ∙ ap (λ (ds : List Decl). placed (part_at Declaration) (map plain_decl ds)) c.deref.ensures.value in
+    let groups = c.in_ok-groups.ensures ∙ ap (λ (ds : List Def). placed (part_at Group) (map plain_def ds)) c.deref-2.ensures.value in
+    let commands = c.in_ok-commands.ensures ∙ ap (λ (ds : List Def). placed (part_at Command) (map plain_def ds)) c.deref-3.ensures.value in
+    record {
+      all_avps = avps;
+      all_groups = groups;
+      all_commands = commands;
+      kept_avps = c.in_ok-first_avps.ensures ∙ ap (λ (ps : List PlacedDecl). first_decls (map placed_decl ps)) c.deref-4.ensures.value ∙ ap first_decls avps;
+      kept_groups = c.in_ok-first_groups.ensures ∙ ap (λ (ps : List PlacedDef). first_defs (map placed_def ps)) c.deref-5.ensures.value ∙ ap first_defs groups;
+      kept_commands = c.in_ok-first_commands.ensures ∙ ap (λ (ps : List PlacedDef). first_defs (map placed_def ps)) c.deref-6.ensures.value ∙ ap first_defs commands;
+    }

@@ -1,8 +1,0 @@
-use Rattle.std.proofs.Common.{string_bytes, rules, tests}
-use Rattle.std.proofs.lemmas.Iterator.{YieldsList-from_slice, YieldsList-from_map_by}
-use Rattle.std.proofs.lemmas.Iterator.Consumers.{map_from_collect}
-use Rattle.dia_dict.proofs.resolving.names.names_of_avps.Goals as goal
-
-pub returns : goal.returns
-returns c = map_from_collect _ c.collect.ensures.ran (YieldsList-from_map_by _ (λ n. n.now) (λ d. string_bytes d.name)
-    (YieldsList-from_slice c.args.avps.now cc) c.map.ensures.closure (λ x r q k. search (rules, tests)))

@@ -1,8 +1,0 @@
-use Rattle.std.proofs.Common.{◌≡◌, [], take}
-use Rattle.std.specs.List.{flat_map}
-use Rattle.dia_ccf.specs.Plain.{plain_def}
-use Rattle.dia_dict.specs.Resolution.{repeated_in}
-use Rattle.dia_dict.proofs.resolving.rules.slots.Given as goal
-
-abbrev pub invariant-loop-def : goal.invariant-loop-def
-invariant-loop-def l = flat_map (λ d. repeated_in (plain_def d)) (take l.def-index l.defs) ≡ []

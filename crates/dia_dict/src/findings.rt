@@ -1,0 +1,122 @@
+//! What is wrong with a source, and where.
+ghost use Rattle.std.specs.Prelude.{◌≡◌, Some, None, [], IfOk};
+ghost use Rattle.dia_dict.specs.Resolution.{wrong, finding, part_at, rule_at};
+ghost use Rattle.dia_dict.specs.SourceChecks.{told, plain_finding, wrong_of};
+
+use crate::fault::{DictFault, DictKind};
+use std::alloc::{AllocError, Global};
+
+/// What a part of a source is.
+#[derive(Clone, Copy, Debug, PartialEq, Eq)]
+pub enum PartKind {
+    Declaration,
+    Group,
+    Command,
+}
+
+/// A part of a source by its index among those of its kind, or a rule of it by the rule's index.
+#[derive(Clone, Copy, Debug, PartialEq, Eq)]
+pub struct Part {
+    pub kind: PartKind,
+    pub index: usize,
+    pub rule: Option<usize>,
+}
+
+impl PartKind {
+    /// The part of this kind with this index.
+    pub(crate) fn at(self, index: usize) -> Part
+        ensures { result ≡ part_at self index }
+    {
+        Part {
+            kind: self,
+            index,
+            rule: None,
+        }
+    }
+}
+
+impl Part {
+    /// The rule of this part with this index.
+    pub(crate) fn rule_at(self, index: usize) -> Part
+        ensures { result ≡ rule_at self index }
+    {
+        Part {
+            kind: self.kind,
+            index: self.index,
+            rule: Some(index),
+        }
+    }
+}
+
+/// What is told of a fault: the names are those of `DictFault`, and parts of the source.
+#[derive(Clone, Copy, Debug, PartialEq, Eq)]
+pub struct Told<'a> {
+    pub kind: DictKind,
+    pub name: &'a str,
+    pub slot: &'a str,
+}
+
+/// A fault of a source.
+#[derive(Clone, Copy, Debug, PartialEq, Eq)]
+pub struct Finding<'a> {
+    pub told: Told<'a>,
+    /// What has the fault. A source with too many parts has it as a whole.
+    pub part: Option<Part>,
+    /// What it does not go with: the first of those that it is like, or the declaration of a group.
+    pub other: Option<Part>,
+}
+
+impl<'a> Told<'a> {
+    /// A fault of a definition or an AVP.
+    pub(crate) fn of(kind: DictKind, name: &'a str) -> Self
+        ensures { told result ≡ wrong kind name.now [] }
+    {
+        Told {
+            kind,
+            name,
+            slot: "",
+        }
+    }
+
+    /// A fault of a definition's rule.
+    pub(crate) fn of_rule(kind: DictKind, name: &'a str, slot: &'a str) -> Self
+        ensures { told result ≡ wrong kind name.now slot.now }
+    {
+        Told { kind, name, slot }
+    }
+
+    /// The finding that this part has the fault.
+    pub(crate) fn at(self, part: Part) -> Finding<'a>
+        ensures { plain_finding result ≡ finding (told self.entry) part None }
+    {
+        Finding {
+            told: self,
+            part: Some(part),
+            other: None,
+        }
+    }
+
+    /// The finding that this part has the fault, and does not go with the other.
+    pub(crate) fn at_both(self, part: Part, other: Option<Part>) -> Finding<'a>
+        ensures { plain_finding result ≡ finding (told self.entry) part other }
+    {
+        Finding {
+            told: self,
+            part: Some(part),
+            other,
+        }
+    }
+
+    /// The fault, with copies of the names.
+    pub(crate) fn fault(self, alloc: Global) -> Result<DictFault, AllocError>
+        ensures { IfOk result (λ fault. wrong_of fault ≡ Some (told self.entry)) }
+    {
+        let name = String::from_str(alloc, self.name)?;
+        let slot = String::from_str(alloc, self.slot)?;
+        Ok(DictFault::Stands {
+            kind: self.kind,
+            name,
+            slot,
+        })
+    }
+}

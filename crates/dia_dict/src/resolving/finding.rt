@@ -1,0 +1,28 @@
+//! All that is wrong with a source, in the order in which it is told.
+ghost use Rattle.std.specs.Prelude.{◌≡◌, IfOk, map};
+ghost use Rattle.dia_ccf.specs.Plain.{plain_source};
+ghost use Rattle.dia_dict.specs.Resolution.{all_findings};
+ghost use Rattle.dia_dict.specs.SourceChecks.{plain_finding};
+
+mod entries;
+mod limits;
+mod repeated_names;
+mod repeats;
+mod rule_faults;
+
+use super::names::Names;
+use crate::findings::Finding;
+use std::alloc::{AllocError, Global};
+
+/// All that is wrong with a source.
+pub(super) fn found<'a>(alloc: Global, names: &Names<'a>) -> Result<Vec<Finding<'a>>, AllocError>
+    ensures { IfOk result (λ findings. map plain_finding findings.items
+        ≡ all_findings (plain_source names.now.source.now)) }
+{
+    let mut findings = Vec::new(alloc);
+    limits::push_limits(&mut findings, names)?;
+    repeated_names::push_names(alloc, &mut findings, names)?;
+    entries::push_entries(alloc, &mut findings, names)?;
+    rule_faults::push_all_rules(alloc, &mut findings, names)?;
+    Ok(findings)
+}
