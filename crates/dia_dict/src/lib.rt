@@ -36,4 +36,4 @@ pub use dia_book::{
 pub use fault::{DictFault, DictKind};
 pub use indexed_book::IndexedBook;
 pub use plain_book::PlainBook;
-pub use resolving::{named_is_sound, resolve};
+pub use resolving::{book_of, named_is_sound, resolve};
