@@ -1,30 +1,40 @@
 -- Runs of which a dictionary is refused.
 use Rattle.std.proofs.Common.{◌≡◌, ◌≢◌, ℕ, List, Option, Result, Ok, Err, refl, sym, subst, inl, inr}
-use Rattle.std.specs.Prelude.{IfOk, IsErr, IsOk}
+use Rattle.std.specs.Prelude.{IfOk, IsErr, IsOk, string_bytes}
 use Rattle.std.specs.Io.KnownBytes.{Appends}
 use Rattle.std.proofs.lemmas.Bool.{false≢true}
 use Rattle.dia_dict.specs.Dictionary.{Dictionary}
 use Rattle.dia_policy.specs.declared.Unknown.{Unknown}
 use Rattle.dia_policy.specs.declared.Levels.{Levels}
 use Rattle.dia_io.specs.declared.Inputs.{Inputs}
-use Rattle.dia_io.specs.declared.Exit.{Exit}
 use Rattle.dia_io.specs.declared.Exit.TheVariants as exits
 use Rattle.dia_io.specs.Writing.{AppendsFront}
 use Rattle.dia_lines.specs.declared.fault.LinesFault.{LinesFault}
 use Rattle.dia_lines.specs.declared.fault.LinesFault.TheVariants as faults
 use Rattle.dia_lines.specs.FeedToSink.{LinesAnswered}
 use Rattle.dia_run.specs.declared.inputs.Refused.{Refused}
+use Rattle.dia_run.specs.declared.reporting.Answered.{Answered}
+use Rattle.dia_run.specs.declared.reporting.Reported.{Reported}
 use Rattle.dia_run.specs.declared.inputs.Refused.TheVariants.{Bad, NoMemory}
 use Rattle.dia_run.specs.Texts.{line, dictionary_line, IsDictionaryText, IsNoDictionaryText}
 use Rattle.dia_run.specs.Refusals.{TellsOf}
+use Rattle.dia_run.specs.Report.{TellsRefusal}
 use Rattle.dia_run.proofs.RefusedInputs.{TellsOf-map}
 use Rattle.dia_captures.specs.Lines.{MessageCommand, OfLine, AreLinesAnswered, IsFrontPut, RefusesFirst, refutations}
 use Rattle.dia_captures.proofs.LinesOfMessages.{all_refused, front_refused, nothing_answered, nothing_put}
 
--- what holds of a text holds of the line that it is
-pub tells_line : (P : List ℕ → Type 0) (r : Refused) (text : List ℕ) → TellsOf (λ told. text ≡ line told) r → P text → TellsOf (λ told. P (line told)) r
-tells_line P (Bad bad) text is h = subst P is h
-tells_line P NoMemory text is h = tt
+-- what holds of a refusal's text holds of the line that it is
+pub tells_line : (P : List ℕ → Type 0) (r : Refused) (a : Answered) → TellsRefusal r a → P (string_bytes a.text) → TellsOf (λ told. P (line told)) r
+tells_line P (Bad bad) a (is, is_text, is_exit) h = subst P is_text h
+tells_line P NoMemory a none h = absurd none
+
+pub ends_badly : (r : Refused) (a : Answered) → TellsRefusal r a → a.exit ≡ exits.Bad
+ends_badly (Bad bad) a (is, is_text, is_exit) = is_exit
+ends_badly NoMemory a none = absurd none
+
+pub has_memory : (r : Refused) (a : Answered) → TellsRefusal r a → r ≢ NoMemory
+has_memory (Bad bad) a tells = λ e. cc
+has_memory NoMemory a none = absurd none
 
 -- the first of two dictionaries is refused
 pub first_tells : (u : Unknown) (most : Levels) (inputs : Inputs) (r : Refused) → TellsOf (RefusesFirst inputs) r → TellsOf ((refutations u most).refuses inputs) r
@@ -40,18 +50,18 @@ second_tells u most inputs a r is_a h =
 
 module _ (command : MessageCommand) (inputs : Inputs) (fed old new : Option (List ℕ)) (why : Refused) where
   -- its line was put
-  pub refusal_answered : (r : Result Exit LinesFault) → TellsOf (command.refuses inputs) why → (why ≡ NoMemory → r ≡ Err faults.NoMemory)
-      → IfOk r (λ exit. exit ≡ exits.Bad) → (IsOk r → TellsOf (λ told. Appends old new (line told)) why)
-      → IfOk r (AreLinesAnswered command inputs fed fed old new)
-  refusal_answered (Ok exit) tells memory bad is_put =
-      all_refused command inputs fed old new why exit (λ none. let e : Ok exit ≡ Err faults.NoMemory = memory none in cc) tells (is_put refl) bad
+  pub refusal_answered : (r : Result Reported LinesFault) → TellsOf (command.refuses inputs) why → (why ≡ NoMemory → r ≡ Err faults.NoMemory)
+      → IfOk r (λ x. x.exit ≡ exits.Bad) → (IsOk r → TellsOf (λ told. Appends old new (line told)) why)
+      → IfOk r (λ x. AreLinesAnswered command inputs fed fed old new x.exit)
+  refusal_answered (Ok x) tells memory bad is_put =
+      all_refused command inputs fed old new why x.exit (λ none. let e : Ok x ≡ Err faults.NoMemory = memory none in cc) tells (is_put refl) bad
   refusal_answered (Err fault) tells memory bad is_put = tt
 
   -- a beginning of it was put, or nothing
-  pub refusal_front : (r : Result Exit LinesFault) → TellsOf (command.refuses inputs) why → (why ≡ NoMemory → r ≡ Err faults.NoMemory)
+  pub refusal_front : (r : Result Reported LinesFault) → TellsOf (command.refuses inputs) why → (why ≡ NoMemory → r ≡ Err faults.NoMemory)
       → (r ≡ Err faults.Device → TellsOf (λ told. AppendsFront old new (line told)) why) → (r ≡ Err faults.NoMemory → new ≡ old)
       → r ≢ Err faults.Endless → IsErr r → IsFrontPut command inputs fed fed old new
-  refusal_front (Ok exit) tells memory front nothing counted err = absurd (false≢true err)
+  refusal_front (Ok x) tells memory front nothing counted err = absurd (false≢true err)
   refusal_front (Err faults.Device) tells memory front nothing counted err =
       front_refused command inputs fed old new why (λ none. let e : Err faults.Device ≡ Err faults.NoMemory = memory none in cc) tells (front refl)
   refusal_front (Err faults.NoMemory) tells memory front nothing counted err =

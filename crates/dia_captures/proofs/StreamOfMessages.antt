@@ -20,6 +20,7 @@ use Rattle.dia_streams.proofs.OneStream.{stream_once}
 use Rattle.dia_streams.specs.Streams as streams
 use Rattle.dia_streams.proofs.OtherLines.{IsStreamTold-map, SomeTold-map, WholeTold-map}
 use Rattle.dia_run.specs.declared.inputs.Refused.{Refused}
+use Rattle.dia_run.specs.declared.reporting.Reported.{Reported}
 use Rattle.dia_run.specs.declared.inputs.Refused.TheVariants.{Bad, NoMemory}
 use Rattle.dia_run.specs.Texts.{line, IsDictionaryText}
 use Rattle.dia_run.specs.Refusals.{TellsOf, bad_input_text}
@@ -92,24 +93,24 @@ module _ (u : Unknown) (most : Levels) (inputs : Inputs) where
     }
 
     -- its line was put
-    pub stream_refused : (why : Refused) (r : Result Exit LinesFault) → TellsOf (RefusesFirst inputs) why → (why ≡ NoMemory → r ≡ Err faults.NoMemory)
-        → IfOk r (λ exit. exit ≡ exits.Bad) → (IsOk r → TellsOf (λ text. Appends old new (line text)) why)
-        → IfOk r (IsStreamAnswered u most inputs fed fed old new)
-    stream_refused (Bad bad) (Ok exit) tells memory is_bad is_put = record {
+    pub stream_refused : (why : Refused) (r : Result Reported LinesFault) → TellsOf (RefusesFirst inputs) why → (why ≡ NoMemory → r ≡ Err faults.NoMemory)
+        → IfOk r (λ x. x.exit ≡ exits.Bad) → (IsOk r → TellsOf (λ text. Appends old new (line text)) why)
+        → IfOk r (λ x. IsStreamAnswered u most inputs fed fed old new x.exit)
+    stream_refused (Bad bad) (Ok x) tells memory is_bad is_put = record {
       read = [];
       text = line (bad_input_text bad);
       consumed = Consumes-nil fed;
       outcome = λ rest gives. refused (bad_input_text bad) tells (refl, is_bad);
       is_put = is_put refl;
     }
-    stream_refused NoMemory (Ok exit) tells memory is_bad is_put = let e : Ok exit ≡ Err faults.NoMemory = memory refl in cc
+    stream_refused NoMemory (Ok x) tells memory is_bad is_put = let e : Ok x ≡ Err faults.NoMemory = memory refl in cc
     stream_refused why (Err fault) tells memory is_bad is_put = tt
 
     -- a beginning of it was put, or nothing
-    pub stream_refused_front : (why : Refused) (r : Result Exit LinesFault) → TellsOf (RefusesFirst inputs) why → (why ≡ NoMemory → r ≡ Err faults.NoMemory)
+    pub stream_refused_front : (why : Refused) (r : Result Reported LinesFault) → TellsOf (RefusesFirst inputs) why → (why ≡ NoMemory → r ≡ Err faults.NoMemory)
         → (r ≡ Err faults.Device → TellsOf (λ text. AppendsFront old new (line text)) why) → (r ≡ Err faults.NoMemory → new ≡ old)
         → r ≢ Err faults.Endless → IsErr r → IsStreamFrontPut u most inputs fed fed old new
-    stream_refused_front why (Ok exit) tells memory front nothing counted err = absurd (false≢true err)
+    stream_refused_front why (Ok x) tells memory front nothing counted err = absurd (false≢true err)
     stream_refused_front (Bad bad) (Err faults.Device) tells memory front nothing counted err = inr (bad_input_text bad, tells, Consumes-nil fed, front refl)
     stream_refused_front NoMemory (Err faults.Device) tells memory front nothing counted err =
         let e : Err faults.Device ≡ Err faults.NoMemory = memory refl in cc

@@ -72,7 +72,7 @@ impl<'a, B: Book> MessageJudge for CheckJudge<'a, B> {
 
     fn judge(&self, alloc: Global, message: &[u8], text: &mut String) -> Result<Exit, AllocError> {
         let answer = check(alloc, self.book, self.unknown, self.levels, message);
-        let outcome = verdict(alloc, self.book, answer)?;
+        let outcome = verdict(alloc, self.book, &answer)?;
         text.push_str(outcome.text.as_str())?;
         Ok(outcome.exit)
     }
@@ -102,7 +102,7 @@ fn checked<B: Book>(
     ensures { Ends (IsMessageChecked unknown levels (B.meaning book.now) message.now) result }
 {
     let answer = check_message(alloc, book, unknown, levels, message)?;
-    let outcome = verdict(alloc, book, answer)?;
+    let outcome = verdict(alloc, book, &answer)?;
     Ok(outcome)
 }
 

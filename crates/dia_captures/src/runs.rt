@@ -16,7 +16,7 @@ use crate::judges::{CheckJudge, RefuteJudge};
 use dia_check::{Levels, Unknown};
 use dia_io::{Exit, Feed, Inputs, Sink, put_all};
 use dia_lines::{LinesFault, answer_lines};
-use dia_run::{Refused, outcome_of, read_dictionary};
+use dia_run::{Answered, Refused, Report, Reported, answer_of, read_dictionary};
 use dia_streams::answer_stream;
 use std::alloc::Global;
 
@@ -28,13 +28,15 @@ pub fn check_lines<F: Feed, S: Sink>(
     inputs: &Inputs,
     feed: &mut F,
     sink: &mut S,
-) -> Result<Exit, LinesFault>
+) -> Result<Reported, LinesFault>
     requires sound_feed { ¬ IsTrue (F.has_failed feed.old) }
     requires sound_sink { ¬ IsTrue (S.has_failed sink.old) }
-    ensures answered { IfOk result (AreLinesAnswered (checks unknown levels) inputs.now
-        (F.remaining feed.old) (F.remaining feed.new) (S.written sink.old) (S.written sink.new)) }
-    ensures all { IfOk result (λ exit. exit ≢ Exit.Bad → IsAtEnd (F.remaining feed.new)) }
-    ensures unread { result ≡ Ok Exit.Bad → feed.new ≡ feed.old }
+    ensures answered { IfOk result (λ reported. AreLinesAnswered (checks unknown levels) inputs.now
+        (F.remaining feed.old) (F.remaining feed.new) (S.written sink.old) (S.written sink.new)
+        reported.exit) }
+    ensures all { IfOk result
+        (λ reported. reported.exit ≢ Exit.Bad → IsAtEnd (F.remaining feed.new)) }
+    ensures unread { IfOk result (λ reported. reported.exit ≡ Exit.Bad → feed.new ≡ feed.old) }
     ensures device { (result ≡ Err Device)
         ↔ (IsTrue (F.has_failed feed.new) ⊎ IsTrue (S.has_failed sink.new)) }
     ensures front { IsErr result → IsFrontPut (checks unknown levels) inputs.now
@@ -46,17 +48,17 @@ pub fn check_lines<F: Feed, S: Sink>(
     ensures pieces { result ≡ Err Endless
         → IfSome (F.remaining feed.old) (λ bytes. most_pieces ≤ length bytes) }
 {
-    let book = match read_dictionary(alloc, 1, &inputs.first) {
-        Ok(book) => book,
+    let first = match read_dictionary(alloc, 1, &inputs.first) {
+        Ok(read) => read,
         Err(refused) => return refuse(alloc, refused, sink),
     };
     let judge = CheckJudge {
-        book: &*book,
+        book: &first.book,
         unknown,
         levels,
     };
     let checked = answer_lines(alloc, &judge, feed, sink)?;
-    Ok(yes_if(checked.each))
+    Ok(ended(checked.each))
 }
 
 /// `refute` of each line of a feed: yes where one refutes.
@@ -67,13 +69,15 @@ pub fn refute_lines<F: Feed, S: Sink>(
     inputs: &Inputs,
     feed: &mut F,
     sink: &mut S,
-) -> Result<Exit, LinesFault>
+) -> Result<Reported, LinesFault>
     requires sound_feed { ¬ IsTrue (F.has_failed feed.old) }
     requires sound_sink { ¬ IsTrue (S.has_failed sink.old) }
-    ensures answered { IfOk result (AreLinesAnswered (refutations unknown levels) inputs.now
-        (F.remaining feed.old) (F.remaining feed.new) (S.written sink.old) (S.written sink.new)) }
-    ensures all { IfOk result (λ exit. exit ≢ Exit.Bad → IsAtEnd (F.remaining feed.new)) }
-    ensures unread { result ≡ Ok Exit.Bad → feed.new ≡ feed.old }
+    ensures answered { IfOk result (λ reported. AreLinesAnswered (refutations unknown levels) inputs.now
+        (F.remaining feed.old) (F.remaining feed.new) (S.written sink.old) (S.written sink.new)
+        reported.exit) }
+    ensures all { IfOk result
+        (λ reported. reported.exit ≢ Exit.Bad → IsAtEnd (F.remaining feed.new)) }
+    ensures unread { IfOk result (λ reported. reported.exit ≡ Exit.Bad → feed.new ≡ feed.old) }
     ensures device { (result ≡ Err Device)
         ↔ (IsTrue (F.has_failed feed.new) ⊎ IsTrue (S.has_failed sink.new)) }
     ensures front { IsErr result → IsFrontPut (refutations unknown levels) inputs.now
@@ -88,21 +92,21 @@ pub fn refute_lines<F: Feed, S: Sink>(
         → IfSome (F.remaining feed.old) (λ bytes. most_pieces ≤ length bytes) }
 {
     let first = match read_dictionary(alloc, 1, &inputs.first) {
-        Ok(book) => book,
+        Ok(read) => read,
         Err(refused) => return refuse(alloc, refused, sink),
     };
     let second = match read_dictionary(alloc, 2, &inputs.second) {
-        Ok(book) => book,
+        Ok(read) => read,
         Err(refused) => return refuse(alloc, refused, sink),
     };
     let judge = RefuteJudge {
-        first: &*first,
-        second: &*second,
+        first: &first.book,
+        second: &second.book,
         unknown,
         levels,
     };
     let refuted = answer_lines(alloc, &judge, feed, sink)?;
-    Ok(yes_if(refuted.some))
+    Ok(ended(refuted.some))
 }
 
 /// `check` of each message of a stream: yes where each is valid.
@@ -113,12 +117,13 @@ pub fn check_stream<F: Feed, S: Sink>(
     inputs: &Inputs,
     feed: &mut F,
     sink: &mut S,
-) -> Result<Exit, LinesFault>
+) -> Result<Reported, LinesFault>
     requires sound_feed { ¬ IsTrue (F.has_failed feed.old) }
     requires sound_sink { ¬ IsTrue (S.has_failed sink.old) }
-    ensures answered { IfOk result (IsStreamAnswered unknown levels inputs.now
-        (F.remaining feed.old) (F.remaining feed.new) (S.written sink.old) (S.written sink.new)) }
-    ensures unread { result ≡ Ok Exit.Bad → feed.new ≡ feed.old }
+    ensures answered { IfOk result (λ reported. IsStreamAnswered unknown levels inputs.now
+        (F.remaining feed.old) (F.remaining feed.new) (S.written sink.old) (S.written sink.new)
+        reported.exit) }
+    ensures unread { IfOk result (λ reported. reported.exit ≡ Exit.Bad → feed.new ≡ feed.old) }
     ensures device { (result ≡ Err Device)
         ↔ (IsTrue (F.has_failed feed.new) ⊎ IsTrue (S.has_failed sink.new)) }
     ensures front { IsErr result → IsStreamFrontPut unknown levels inputs.now
@@ -130,23 +135,23 @@ pub fn check_stream<F: Feed, S: Sink>(
     ensures pieces { result ≡ Err Endless
         → IfSome (F.remaining feed.old) (λ bytes. most_places ≤ length bytes) }
 {
-    let book = match read_dictionary(alloc, 1, &inputs.first) {
-        Ok(book) => book,
+    let first = match read_dictionary(alloc, 1, &inputs.first) {
+        Ok(read) => read,
         Err(refused) => return refuse(alloc, refused, sink),
     };
     let judge = CheckJudge {
-        book: &*book,
+        book: &first.book,
         unknown,
         levels,
     };
     let told = answer_stream(alloc, &judge, feed, sink)?;
-    Ok(yes_if(told.each))
+    Ok(ended(told.each))
 }
 
 /// Puts the line of a dictionary that is refused.
-fn refuse<S: Sink>(alloc: Global, refused: Refused, sink: &mut S) -> Result<Exit, LinesFault>
+fn refuse<S: Sink>(alloc: Global, refused: Refused, sink: &mut S) -> Result<Reported, LinesFault>
     requires { ¬ IsTrue (S.has_failed sink.old) }
-    ensures exit { IfOk result (λ exit. exit ≡ Exit.Bad) }
+    ensures exit { IfOk result (λ reported. reported.exit ≡ Exit.Bad) }
     ensures put { IsOk result
         → TellsOf (λ told. Appends (S.written sink.old) (S.written sink.new) (line told)) refused }
     ensures device { (result ≡ Err Device) ↔ IsTrue (S.has_failed sink.new) }
@@ -156,13 +161,16 @@ fn refuse<S: Sink>(alloc: Global, refused: Refused, sink: &mut S) -> Result<Exit
     ensures no_memory { result ≡ Err NoMemory → S.written sink.new ≡ S.written sink.old }
     ensures counted { result ≢ Err Endless }
 {
-    let outcome = outcome_of(alloc, Err(refused))?;
-    put_all(sink, outcome.text.as_bytes())?;
-    Ok(outcome.exit)
+    let Answered { text, exit, report } = answer_of(alloc, Err(refused))?;
+    put_all(sink, text.as_bytes())?;
+    Ok(Reported { exit, report })
 }
 
-fn yes_if(yes: bool) -> Exit
-    ensures { result ≡ (if yes then Exit.Yes else Exit.No) }
+/// How a command ended whose messages were read: yes or no.
+fn ended(yes: bool) -> Reported
+    ensures { result.exit ≡ (if yes then Exit.Yes else Exit.No) }
 {
-    if yes { Exit::Yes } else { Exit::No }
+    let exit = if yes { Exit::Yes } else { Exit::No };
+    let report = Report::Done;
+    Reported { exit, report }
 }

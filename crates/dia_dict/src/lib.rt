@@ -39,6 +39,6 @@ pub use findings::{Finding, Part, PartKind, Told};
 pub use indexed_book::IndexedBook;
 pub use plain_book::PlainBook;
 pub use resolving::{
-    MAX_PARTS, MAX_RULES, faults, greatest_count, key_of_declaration, key_of_group, least_count,
-    named_is_sound, resolve,
+    MAX_PARTS, MAX_RULES, book_of, faults, greatest_count, key_of_declaration, key_of_group,
+    least_count, named_is_sound, resolve,
 };

@@ -38,7 +38,16 @@ pub fn resolve(alloc: Global, source: Source) -> Result<PlainBook, DictFault>
         × (⟦<PlainBook as Book>⟧.meaning book ≡ resolved (plain_source source))) }
     ensures err { IfErr result (IsToldOf (plain_source source)) }
 {
-    match checked(alloc, &source) {
+    book_of(alloc, &source)
+}
+
+/// What `resolve` answers, of a source that is kept.
+pub fn book_of(alloc: Global, source: &Source) -> Result<PlainBook, DictFault>
+    ensures ok { IfOk result (λ book. (first_wrong (plain_source source.now) ≡ None)
+        × (⟦<PlainBook as Book>⟧.meaning book ≡ resolved (plain_source source.now))) }
+    ensures err { IfErr result (IsToldOf (plain_source source.now)) }
+{
+    match checked(alloc, source) {
         Ok(book) => Ok(book),
         Err(Refusal::Stands(told)) => Err(told.fault(alloc)?),
         Err(Refusal::NoMemory) => Err(DictFault::NoMemory),

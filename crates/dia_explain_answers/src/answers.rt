@@ -1,61 +1,25 @@
 //! What is told of an answer that isn't yes.
 
-use crate::checking::{Asked, push_check};
+use crate::checking::push_check;
 use crate::comparing::push_compare;
 use crate::faults::push_show;
-use crate::lines::{Alone, push_alone};
 use crate::refuting::push_refute;
-use dia_explain_places::InputNames;
-use dia_io::{Command, Inputs, Task};
+use dia_explain_places::InputTexts;
+use dia_run::Report;
 use std::alloc::{AllocError, Global};
 
-/// Adds the reason of an answer that isn't yes.
+/// Adds the reason of an answer that isn't yes. Of inputs that are refused nothing is told here.
 pub fn push_answer(
     alloc: Global,
     out: &mut String,
-    task: &Task,
-    names: &InputNames<'_>,
-    inputs: &Inputs,
+    texts: &InputTexts<'_>,
+    report: &Report,
 ) -> Result<(), AllocError> {
-    match task {
-        Task::Whole(command) => push_whole(alloc, out, command, names, inputs),
-        Task::CheckLines { unknown, levels } => {
-            let alone = Alone {
-                command: "check",
-                dictionaries: &[names.first],
-                what: "the fault",
-            };
-            push_alone(out, names.messages, &Asked::new(*unknown, *levels), &alone)
-        }
-        Task::RefuteLines { unknown, levels } => {
-            let alone = Alone {
-                command: "refute",
-                dictionaries: &[names.first, names.second],
-                what: "the answer",
-            };
-            push_alone(out, names.messages, &Asked::new(*unknown, *levels), &alone)
-        }
-        _ => Ok(()),
-    }
-}
-
-/// Adds the reason of a command whose inputs were read whole.
-fn push_whole(
-    alloc: Global,
-    out: &mut String,
-    command: &Command,
-    names: &InputNames<'_>,
-    inputs: &Inputs,
-) -> Result<(), AllocError> {
-    match command {
-        Command::Show => push_show(alloc, out, names, inputs),
-        Command::Check { unknown, levels } => {
-            push_check(alloc, out, &Asked::new(*unknown, *levels), names, inputs)
-        }
-        Command::Refute { unknown, levels } => {
-            push_refute(alloc, out, &Asked::new(*unknown, *levels), names, inputs)
-        }
-        Command::Compare { unknown } => push_compare(alloc, out, *unknown, names, inputs),
-        _ => Ok(()),
+    match report {
+        Report::Cut(listing) => push_show(alloc, out, texts, listing),
+        Report::Invalid(found) => push_check(alloc, out, texts, found),
+        Report::Unrefuting(found) => push_refute(alloc, out, texts, found),
+        Report::Compared(found) => push_compare(alloc, out, texts, found),
+        Report::Done | Report::Refused(_) | Report::NoCommand(_) | Report::Listed(_) => Ok(()),
     }
 }

@@ -1,12 +1,10 @@
 //! How messages are checked, and what is told of one that isn't valid.
 
 use crate::faults::{Message, push_refusal};
-use crate::inputs::{bytes_of, read_book, text_of};
 use crate::sides::{Side, sites_of};
-use dia_book::Book;
-use dia_check::{Levels, Refusal, Selected, Unknown, check};
-use dia_explain_places::InputNames;
-use dia_io::Inputs;
+use dia_check::{Levels, Unknown};
+use dia_explain_places::InputTexts;
+use dia_run::Invalid;
 use std::alloc::{AllocError, Global};
 
 /// How messages are checked.
@@ -43,40 +41,12 @@ pub fn push_policy(out: &mut String, unknown: Unknown) -> Result<(), AllocError>
 pub fn push_check(
     alloc: Global,
     out: &mut String,
-    asked: &Asked,
-    names: &InputNames<'_>,
-    inputs: &Inputs,
+    texts: &InputTexts<'_>,
+    found: &Invalid,
 ) -> Result<(), AllocError> {
-    let Some(book) = read_book(alloc, &inputs.first)? else {
-        return Ok(());
-    };
-    let sites = sites_of(alloc, &inputs.first)?;
-    let Some(bytes) = bytes_of(alloc, &inputs.message)? else {
-        return Ok(());
-    };
-    let side = Side {
-        book: &*book,
-        name: names.first,
-        text: text_of(&inputs.first),
-        sites: &sites,
-    };
-    let message = Message {
-        name: names.message,
-        text: text_of(&inputs.message),
-        bytes: bytes.as_slice(),
-    };
-    match checked(alloc, side.book, asked, message.bytes) {
-        Ok(_) => Ok(()),
-        Err(refusal) => push_refusal(alloc, out, &side, &message, asked, &refusal),
-    }
-}
-
-/// Checks a message.
-pub fn checked<B: Book>(
-    alloc: Global,
-    book: &B,
-    asked: &Asked,
-    bytes: &[u8],
-) -> Result<Selected, Refusal> {
-    check(alloc, book, asked.unknown, asked.levels, bytes)
+    let sites = sites_of(alloc, texts.first.text)?;
+    let side = Side::of(&texts.first, &found.first, &sites);
+    let message = Message::of(&texts.message, &found.message);
+    let asked = Asked::new(found.unknown, found.levels);
+    push_refusal(alloc, out, &side, &message, &asked, &found.refusal)
 }

@@ -8,16 +8,13 @@ mod wildcards;
 
 use crate::books::group_named;
 use crate::checking::push_policy;
-use crate::inputs::{read_book, text_of};
 use crate::sides::{Side, sites_of};
 use both::Both;
 use dia_book::Book;
 use dia_check::Unknown;
-use dia_compat::{
-    Answer, Failing, PairKind, Table, TableFault, Test, check_table, failings, parse_table,
-};
-use dia_explain_places::{InputNames, push_place};
-use dia_io::{Input, Inputs};
+use dia_compat::{Answer, Failing, PairKind, Test, failings};
+use dia_explain_places::{InputTexts, push_place};
+use dia_run::Compared;
 use heads::{
     Avps, push_formats, push_heads, push_keys, push_m_rules, push_not_beside, push_p_flags,
     push_unserved,
@@ -34,70 +31,35 @@ use wildcards::{
 pub fn push_compare(
     alloc: Global,
     out: &mut String,
-    unknown: Unknown,
-    names: &InputNames<'_>,
-    inputs: &Inputs,
+    texts: &InputTexts<'_>,
+    found: &Compared,
 ) -> Result<(), AllocError> {
-    let Some(first) = read_book(alloc, &inputs.first)? else {
+    let Answer::No { kind, pair, reason } = found.answer else {
         return Ok(());
     };
-    let Some(second) = read_book(alloc, &inputs.second)? else {
-        return Ok(());
-    };
-    let Some(table) = table_of(alloc, &inputs.table)? else {
-        return Ok(());
-    };
-    let first_sites = sites_of(alloc, &inputs.first)?;
-    let second_sites = sites_of(alloc, &inputs.second)?;
-    let a = Side {
-        book: &*first,
-        name: names.first,
-        text: text_of(&inputs.first),
-        sites: &first_sites,
-    };
-    let b = Side {
-        book: &*second,
-        name: names.second,
-        text: text_of(&inputs.second),
-        sites: &second_sites,
-    };
+    let first_sites = sites_of(alloc, texts.first.text)?;
+    let second_sites = sites_of(alloc, texts.second.text)?;
+    let a = Side::of(&texts.first, &found.books.first, &first_sites);
+    let b = Side::of(&texts.second, &found.books.second, &second_sites);
     let pairing = Pairing {
         a: &a,
         b: &b,
-        unknown,
-        table: &table,
-        name: names.table,
-        text: text_of(&inputs.table),
+        unknown: found.unknown,
+        table: &found.table,
+        name: texts.table.name,
+        text: texts.table.text,
     };
-    push_pairing(alloc, out, &pairing)
-}
-
-fn table_of(alloc: Global, input: &Input) -> Result<Option<Table>, AllocError> {
-    let Ok(text) = str::from_utf8(text_of(input)) else {
-        return Ok(None);
-    };
-    match parse_table(alloc, text) {
-        Ok(table) => Ok(Some(table)),
-        Err(TableFault::NoMemory) => Err(AllocError),
-        Err(_) => Ok(None),
-    }
+    push_pairing(alloc, out, &pairing, kind, pair, reason)
 }
 
 fn push_pairing<A: Book, B: Book>(
     alloc: Global,
     out: &mut String,
     pairing: &Pairing<'_, A, B>,
+    kind: PairKind,
+    pair: usize,
+    reason: Test,
 ) -> Result<(), AllocError> {
-    let answer = check_table(
-        alloc,
-        pairing.a.book,
-        pairing.b.book,
-        pairing.unknown,
-        pairing.table,
-    )?;
-    let Answer::No { kind, pair, reason } = answer else {
-        return Ok(());
-    };
     push_head(out, pairing, kind, pair, reason)?;
     let failings = failings(
         alloc,

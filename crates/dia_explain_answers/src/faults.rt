@@ -16,7 +16,7 @@ use avp::{explain_avp, push_avp_fault};
 use avp_bytes::{part, push_avp};
 use dia_book::{Book, Class, DefId};
 use dia_check::{Fault, Reason, Refusal};
-use dia_explain_places::{place_of_byte, push_place};
+use dia_explain_places::{NamedText, place_of_byte, push_place};
 use dia_wire::{COMMAND_ERROR, COMMAND_REQUEST, Header, read_header};
 use header::push_header_fault;
 use path::{Step, Way, way_to};
@@ -33,6 +33,17 @@ pub struct Message<'a> {
     pub name: &'a str,
     pub text: &'a [u8],
     pub bytes: &'a [u8],
+}
+
+impl<'a> Message<'a> {
+    /// The message that a text spells, with its bytes.
+    pub fn of(message: &NamedText<'a>, bytes: &'a [u8]) -> Self {
+        Message {
+            name: message.name,
+            text: message.text,
+            bytes,
+        }
+    }
 }
 
 /// Adds the fault of a message that isn't valid. Of bytes that are no message nothing is told here.

@@ -9,10 +9,11 @@ mod books;
 mod checking;
 mod comparing;
 mod faults;
-mod inputs;
 mod lines;
 mod refuting;
 mod rule_text;
 mod sides;
 
 pub use answers::push_answer;
+pub use checking::Asked;
+pub use lines::{push_check_alone, push_refute_alone};

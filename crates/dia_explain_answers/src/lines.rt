@@ -8,14 +8,45 @@ const STANDARD_INPUT: &str = "-";
 
 /// The command for one message: its name, its dictionaries, and what it then explains.
 #[derive(Clone, Copy)]
-pub struct Alone<'a> {
-    pub command: &'a str,
-    pub dictionaries: &'a [&'a str],
-    pub what: &'a str,
+struct Alone<'a> {
+    command: &'a str,
+    dictionaries: &'a [&'a str],
+    what: &'a str,
 }
 
-/// Adds the command that explains one line. `messages` is the word that names the text of all.
-pub fn push_alone(
+/// Adds the command that explains one line of `check`. `messages` is the word that names the text of all.
+pub fn push_check_alone(
+    out: &mut String,
+    messages: &str,
+    asked: &Asked,
+    dictionary: &str,
+) -> Result<(), AllocError> {
+    let alone = Alone {
+        command: "check",
+        dictionaries: &[dictionary],
+        what: "the fault",
+    };
+    push_alone(out, messages, asked, &alone)
+}
+
+/// Adds the command that explains one line of `refute`. `messages` is the word that names the text of all.
+pub fn push_refute_alone(
+    out: &mut String,
+    messages: &str,
+    asked: &Asked,
+    first: &str,
+    second: &str,
+) -> Result<(), AllocError> {
+    let alone = Alone {
+        command: "refute",
+        dictionaries: &[first, second],
+        what: "the answer",
+    };
+    push_alone(out, messages, asked, &alone)
+}
+
+/// Adds the command that explains one line.
+fn push_alone(
     out: &mut String,
     messages: &str,
     asked: &Asked,

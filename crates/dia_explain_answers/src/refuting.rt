@@ -1,13 +1,12 @@
 //! What is told of a message that refutes nothing.
 
-use crate::checking::{Asked, checked, push_policy};
+use crate::checking::{Asked, push_policy};
 use crate::faults::{Message, command_for, push_refusal};
-use crate::inputs::{bytes_of, read_book, text_of};
 use crate::sides::{Side, sites_of};
 use dia_book::Book;
-use dia_check::Refusal;
-use dia_explain_places::InputNames;
-use dia_io::Inputs;
+use dia_check::{Refusal, Selected};
+use dia_explain_places::InputTexts;
+use dia_run::{BothBooks, Unrefuting};
 use dia_wire::read_header;
 use std::alloc::{AllocError, Global};
 
@@ -15,59 +14,40 @@ use std::alloc::{AllocError, Global};
 pub fn push_refute(
     alloc: Global,
     out: &mut String,
-    asked: &Asked,
-    names: &InputNames<'_>,
-    inputs: &Inputs,
+    texts: &InputTexts<'_>,
+    found: &Unrefuting,
 ) -> Result<(), AllocError> {
-    let Some(first) = read_book(alloc, &inputs.first)? else {
-        return Ok(());
-    };
-    let Some(second) = read_book(alloc, &inputs.second)? else {
-        return Ok(());
-    };
-    let Some(bytes) = bytes_of(alloc, &inputs.message)? else {
-        return Ok(());
-    };
-    let message = Message {
-        name: names.message,
-        text: text_of(&inputs.message),
-        bytes: bytes.as_slice(),
-    };
-    match checked(alloc, &*first, asked, message.bytes) {
-        Ok(_) => push_both(out, &*first, &*second, names, &message, asked),
+    let message = Message::of(&texts.message, &found.message);
+    let asked = Asked::new(found.unknown, found.levels);
+    match &found.under_first {
+        Ok(_) => push_both(out, &found.books, texts, &message, &asked),
         Err(refusal) => {
-            let sites = sites_of(alloc, &inputs.first)?;
-            let side = Side {
-                book: &*first,
-                name: names.first,
-                text: text_of(&inputs.first),
-                sites: &sites,
-            };
-            push_not_first(out, &side, &message, &refusal)?;
-            push_refusal(alloc, out, &side, &message, asked, &refusal)?;
-            push_swapped(alloc, out, &*second, names, asked, &message)
+            let sites = sites_of(alloc, texts.first.text)?;
+            let side = Side::of(&texts.first, &found.books.first, &sites);
+            push_not_first(out, &side, &message, refusal)?;
+            push_refusal(alloc, out, &side, &message, &asked, refusal)?;
+            push_swapped(out, texts.second.name, &found.under_second)
         }
     }
 }
 
 /// Adds that a message is valid under both dictionaries.
-fn push_both<A: Book, B: Book>(
+fn push_both(
     out: &mut String,
-    first: &A,
-    second: &B,
-    names: &InputNames<'_>,
+    books: &BothBooks,
+    texts: &InputTexts<'_>,
     message: &Message<'_>,
     asked: &Asked,
 ) -> Result<(), AllocError> {
     let (Some(left), Some(right)) = (
-        command_name(first, message.bytes),
-        command_name(second, message.bytes),
+        command_name(&books.first.book, message.bytes),
+        command_name(&books.second.book, message.bytes),
     ) else {
         return Ok(());
     };
     let name = message.name;
-    let a = names.first;
-    let b = names.second;
+    let a = texts.first.name;
+    let b = texts.second.name;
     write!(
         out,
         "{name}: the message is valid under both dictionaries: {left} in {a}, {right} in {b}\n"
@@ -113,23 +93,16 @@ fn push_not_first<B: Book>(
 }
 
 /// Adds a hint where the second dictionary accepts what the first doesn't.
-fn push_swapped<B: Book>(
-    alloc: Global,
+fn push_swapped(
     out: &mut String,
-    second: &B,
-    names: &InputNames<'_>,
-    asked: &Asked,
-    message: &Message<'_>,
+    second: &str,
+    under_second: &Result<Selected, Refusal>,
 ) -> Result<(), AllocError> {
-    match checked(alloc, second, asked, message.bytes) {
-        Ok(_) => {
-            let name = names.second;
-            write!(
-                out,
-                "hint: it is valid under {name}: the dictionary of the side that sends the message stands first\n"
-            )
-        }
-        Err(Refusal::NoMemory) => Err(AllocError),
+    match under_second {
+        Ok(_) => write!(
+            out,
+            "hint: it is valid under {second}: the dictionary of the side that sends the message stands first\n"
+        ),
         Err(_) => Ok(()),
     }
 }

@@ -1,9 +1,9 @@
 //! Dictionaries with the texts that they were read from, and where the parts of these stand.
 
-use crate::inputs::text_of;
 use dia_book::{Book, DefHead, Definition, Key};
-use dia_explain_places::{DefSite, Sites, back, push_excerpt, push_place, walk_over};
-use dia_io::Input;
+use dia_dict::IndexedBook;
+use dia_explain_places::{DefSite, NamedText, Sites, back, push_excerpt, push_place, walk_over};
+use dia_run::ReadBook;
 use std::alloc::{AllocError, Global};
 
 /// A dictionary, the word that names its text, the text, and the places of its parts.
@@ -16,9 +16,21 @@ pub struct Side<'a, B: Book> {
 }
 
 /// The places of the parts of a dictionary's text.
-pub fn sites_of(alloc: Global, input: &Input) -> Result<Sites, AllocError> {
-    let walk = walk_over(alloc, text_of(input))?;
+pub fn sites_of(alloc: Global, text: &[u8]) -> Result<Sites, AllocError> {
+    let walk = walk_over(alloc, text)?;
     Ok(walk.sites)
+}
+
+impl<'a> Side<'a, IndexedBook> {
+    /// A dictionary that was read from a text.
+    pub fn of(dictionary: &NamedText<'a>, read: &'a ReadBook, sites: &'a Sites) -> Self {
+        Side {
+            book: &read.book,
+            name: dictionary.name,
+            text: dictionary.text,
+            sites,
+        }
+    }
 }
 
 impl<B: Book> Side<'_, B> {

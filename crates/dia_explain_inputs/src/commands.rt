@@ -1,8 +1,6 @@
 //! Names of commands that the first dictionary doesn't have.
 
-use crate::strangers::NamedInput;
-use crate::vocabulary::{Vocabulary, source_of};
-use dia_io::Input;
+use crate::vocabulary::{NamedSource, Vocabulary};
 use std::alloc::{AllocError, Global};
 
 const ONE_COMMAND: &str = "a command is <NAME> ::= < Diameter Header: CODE, REQ > and its rules";
@@ -18,16 +16,11 @@ pub fn push_unknown_commands(
     alloc: Global,
     out: &mut String,
     names: &[String],
-    first: &NamedInput<'_>,
-    second: &NamedInput<'_>,
+    first: &NamedSource<'_>,
+    second: &NamedSource<'_>,
 ) -> Result<(), AllocError> {
-    let missing = match source_of(alloc, first.input)? {
-        Some(source) => {
-            let known = Vocabulary::of(alloc, &source)?;
-            push_missing(alloc, out, names, first.name, &known)?
-        }
-        None => return Ok(()),
-    };
+    let known = Vocabulary::of(alloc, first.source)?;
+    let missing = push_missing(alloc, out, names, first.name, &known)?;
     if missing.is_empty() {
         return Ok(());
     }
@@ -35,19 +28,15 @@ pub fn push_unknown_commands(
 }
 
 /// Adds that a dictionary has no commands, where it has none: then nothing breaks.
-pub fn push_no_commands(
-    alloc: Global,
-    out: &mut String,
-    name: &str,
-    input: &Input,
-) -> Result<(), AllocError> {
-    match source_of(alloc, input)? {
-        Some(source) if source.commands.is_empty() => write!(
-            out,
-            "{name}: the dictionary has no commands, so this answer says nothing\nhint: {ONE_COMMAND}\n"
-        ),
-        _ => Ok(()),
+pub fn push_no_commands(out: &mut String, dictionary: &NamedSource<'_>) -> Result<(), AllocError> {
+    let NamedSource { name, source } = *dictionary;
+    if !source.commands.is_empty() {
+        return Ok(());
     }
+    write!(
+        out,
+        "{name}: the dictionary has no commands, so this answer says nothing\nhint: {ONE_COMMAND}\n"
+    )
 }
 
 /// Adds the names that no command has, and answers them.
@@ -113,21 +102,16 @@ fn push_found_in_second(
     alloc: Global,
     out: &mut String,
     missing: &[&str],
-    second: &NamedInput<'_>,
+    second: &NamedSource<'_>,
 ) -> Result<(), AllocError> {
-    match source_of(alloc, second.input)? {
-        Some(source) => {
-            let known = Vocabulary::of(alloc, &source)?;
-            match missing.iter().find(|name| known.commands.has(name)) {
-                Some(name) => {
-                    let dictionary = second.name;
-                    write!(
-                        out,
-                        "hint: {dictionary} has a command {name}; the dictionary of the side that sends stands first\n"
-                    )
-                }
-                None => Ok(()),
-            }
+    let known = Vocabulary::of(alloc, second.source)?;
+    match missing.iter().find(|name| known.commands.has(name)) {
+        Some(name) => {
+            let dictionary = second.name;
+            write!(
+                out,
+                "hint: {dictionary} has a command {name}; the dictionary of the side that sends stands first\n"
+            )
         }
         None => Ok(()),
     }

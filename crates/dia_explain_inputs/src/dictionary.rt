@@ -6,34 +6,39 @@ mod meaning;
 mod parts;
 mod texts;
 
-use dia_ccf::{CcfFault, MAX_TEXT, parse};
-use dia_explain_places::{push_excerpt, push_place, walk_over};
-use dia_io::Input;
+use dia_ccf::MAX_TEXT;
+use dia_explain_places::{NamedText, push_excerpt, push_place, walk_over};
+use dia_run::BadDictionary;
 use meaning::push_meaning;
 use std::alloc::{AllocError, Global};
 use texts::push_syntax;
 
-/// Adds the note of a dictionary, and tells whether it is refused.
+/// Adds the note of a dictionary that is refused for this.
 pub fn push_dictionary(
     alloc: Global,
     out: &mut String,
-    name: &str,
-    input: &Input,
-) -> Result<bool, AllocError> {
-    let Input::Bytes(bytes) = input else {
-        write!(out, "{name}: the text has more than {MAX_TEXT} bytes\n")?;
-        out.push_str(
-            "hint: leave out what the comparison doesn't need; render writes a dictionary without its comments\n",
-        )?;
-        return Ok(true);
-    };
-    match str::from_utf8(bytes) {
-        Ok(text) => push_text(alloc, out, name, text),
-        Err(error) => {
-            push_not_text(alloc, out, name, bytes, error.valid_up_to())?;
-            Ok(true)
+    dictionary: &NamedText<'_>,
+    why: &BadDictionary,
+) -> Result<(), AllocError> {
+    let NamedText { name, text } = *dictionary;
+    match why {
+        BadDictionary::TooLong => push_too_long(out, name),
+        BadDictionary::NotText { at } => push_not_text(alloc, out, name, text, *at),
+        BadDictionary::Wrong { source, .. } => {
+            push_meaning(alloc, out, name, text, source)?;
+            Ok(())
         }
+        BadDictionary::Syntax { .. } | BadDictionary::Number { .. } | BadDictionary::Limit { .. } =>
+            push_token(alloc, out, name, text),
     }
+}
+
+fn push_too_long(out: &mut String, name: &str) -> Result<(), AllocError> {
+    write!(
+        out,
+        "{name}: the text has more than {MAX_TEXT} bytes\n\
+         hint: leave out what the comparison doesn't need; render writes a dictionary without its comments\n"
+    )
 }
 
 /// Adds the note of a text that isn't UTF-8 from a place on.
@@ -55,16 +60,11 @@ pub fn push_not_text(
     Ok(())
 }
 
-fn push_text(alloc: Global, out: &mut String, name: &str, text: &str) -> Result<bool, AllocError> {
-    match parse(alloc, text) {
-        Ok(source) => push_meaning(alloc, out, name, text.as_bytes(), &source),
-        Err(CcfFault::NoMemory) => Err(AllocError),
-        Err(_) => {
-            let walk = walk_over(alloc, text.as_bytes())?;
-            if let Some(refused) = walk.refused {
-                push_syntax(alloc, out, name, text.as_bytes(), &walk, &refused)?;
-            }
-            Ok(true)
-        }
+/// Adds the first token that the grammar doesn't allow.
+fn push_token(alloc: Global, out: &mut String, name: &str, text: &[u8]) -> Result<(), AllocError> {
+    let walk = walk_over(alloc, text)?;
+    match walk.refused {
+        Some(refused) => push_syntax(alloc, out, name, text, &walk, &refused),
+        None => Ok(()),
     }
 }

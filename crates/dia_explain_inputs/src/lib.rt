@@ -6,12 +6,14 @@
 mod commands;
 mod dictionary;
 mod messages;
+mod refused;
 mod strangers;
 mod tables;
 mod vocabulary;
 
 pub use commands::{push_no_commands, push_unknown_commands};
-pub use dictionary::push_dictionary;
-pub use messages::{push_length, push_message};
-pub use strangers::{NamedInput, push_strangers};
-pub use tables::{push_no_pairs, push_table};
+pub use messages::push_length;
+pub use refused::push_refused;
+pub use strangers::push_strangers;
+pub use tables::push_no_pairs;
+pub use vocabulary::NamedSource;

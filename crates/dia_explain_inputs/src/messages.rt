@@ -1,36 +1,47 @@
 //! What is told of a message that is refused.
 
-use dia_explain_places::{back, count_digits, is_white, place_of_byte, push_excerpt, push_place};
-use dia_io::Input;
+use dia_explain_places::{
+    NamedText, back, count_digits, is_white, place_of_byte, push_excerpt, push_place,
+};
 use dia_policy::MAX_MESSAGE_TEXT;
+use dia_run::BadMessage;
 use dia_wire::{HEADER_LENGTH, HeadFault, read_header};
 use std::alloc::{AllocError, Global};
 
-/// Adds the note of a message.
+/// Adds the note of a message that is refused for this.
 pub fn push_message(
     alloc: Global,
     out: &mut String,
-    name: &str,
-    input: &Input,
+    message: &NamedText<'_>,
+    why: &BadMessage,
 ) -> Result<(), AllocError> {
-    let Input::Bytes(text) = input else {
-        return write!(
+    let NamedText { name, text } = *message;
+    match why {
+        BadMessage::TooLong => write!(
             out,
             "{name}: the text has more than {MAX_MESSAGE_TEXT} bytes\n"
-        );
-    };
+        ),
+        BadMessage::NotHexadecimal => push_no_digits(alloc, out, name, text),
+        BadMessage::NoMessage(_) => push_length(alloc, out, message),
+    }
+}
+
+/// Adds why a text isn't hexadecimal.
+fn push_no_digits(
+    alloc: Global,
+    out: &mut String,
+    name: &str,
+    text: &[u8],
+) -> Result<(), AllocError> {
     if let Some(at) = first_bad(text) {
         return push_no_digit(alloc, out, name, text, at);
     }
     let digits = count_digits(text);
-    if digits % 2 == 1 {
-        write!(
-            out,
-            "{name}: the number of hexadecimal digits is odd, {digits}: one is missing or too many\n"
-        )?;
-        return push_two_digits_hint(out, text);
-    }
-    push_text_length(alloc, out, name, text)
+    write!(
+        out,
+        "{name}: the number of hexadecimal digits is odd, {digits}: one is missing or too many\n"
+    )?;
+    push_two_digits_hint(out, text)
 }
 
 /// The place of the first byte that is neither a digit nor white space.
@@ -213,21 +224,9 @@ pub fn is_numbered(text: &[u8]) -> bool {
 pub fn push_length(
     alloc: Global,
     out: &mut String,
-    name: &str,
-    input: &Input,
+    message: &NamedText<'_>,
 ) -> Result<(), AllocError> {
-    match input {
-        Input::Bytes(text) => push_text_length(alloc, out, name, text),
-        Input::TooLong => Ok(()),
-    }
-}
-
-fn push_text_length(
-    alloc: Global,
-    out: &mut String,
-    name: &str,
-    text: &[u8],
-) -> Result<(), AllocError> {
+    let NamedText { name, text } = *message;
     let bytes = count_digits(text) / 2;
     if is_numbered(text) {
         return write!(

@@ -1,8 +1,7 @@
 //! The names of a table that its dictionaries don't have.
 
-use crate::vocabulary::{Vocabulary, source_of};
-use dia_explain_places::{Word, push_place, words_of};
-use dia_io::Input;
+use crate::vocabulary::{NamedSource, Vocabulary};
+use dia_explain_places::{NamedText, Word, push_place, words_of};
 use std::alloc::{AllocError, Global};
 
 /// The most names that are told of a side.
@@ -15,20 +14,13 @@ enum Side {
     Second,
 }
 
-/// A dictionary, and the word that names it.
-#[derive(Clone, Copy)]
-pub struct NamedInput<'a> {
-    pub name: &'a str,
-    pub input: &'a Input,
-}
-
 /// Adds the names of a table that its dictionaries don't have, and what to do about those that are like no other.
 pub fn push_strangers(
     alloc: Global,
     out: &mut String,
-    table: &NamedInput<'_>,
-    first: &NamedInput<'_>,
-    second: &NamedInput<'_>,
+    table: &NamedText<'_>,
+    first: &NamedSource<'_>,
+    second: &NamedSource<'_>,
 ) -> Result<(), AllocError> {
     let of_first = push_side(alloc, out, table, Side::First, first)?;
     let of_second = push_side(alloc, out, table, Side::Second, second)?;
@@ -45,30 +37,22 @@ pub fn push_strangers(
 fn push_side(
     alloc: Global,
     out: &mut String,
-    table: &NamedInput<'_>,
+    table: &NamedText<'_>,
     side: Side,
-    dictionary: &NamedInput<'_>,
+    dictionary: &NamedSource<'_>,
 ) -> Result<bool, AllocError> {
-    let Input::Bytes(text) = table.input else {
-        return Ok(false);
-    };
-    match source_of(alloc, dictionary.input)? {
-        Some(source) => {
-            let known = Vocabulary::of(alloc, &source)?;
-            push_among(out, table.name, text, side, dictionary.name, &known)
-        }
-        None => Ok(false),
-    }
+    let known = Vocabulary::of(alloc, dictionary.source)?;
+    push_among(out, table, side, dictionary.name, &known)
 }
 
 fn push_among(
     out: &mut String,
-    table: &str,
-    text: &[u8],
+    table: &NamedText<'_>,
     side: Side,
     dictionary: &str,
     known: &Vocabulary<'_>,
 ) -> Result<bool, AllocError> {
+    let NamedText { name, text } = *table;
     let mut start = 0usize;
     let mut count = 0usize;
     let mut is_odd = false;
@@ -76,7 +60,7 @@ fn push_among(
         if let Some(pair) = stranger(text, start, side, known) {
             count = count.saturating_add(1);
             if count <= MOST {
-                push_place(out, table, text, pair.word.at)?;
+                push_place(out, name, text, pair.word.at)?;
                 if !push_stranger(out, dictionary, known, &pair)? {
                     is_odd = true;
                 }

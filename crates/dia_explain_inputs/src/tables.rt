@@ -1,12 +1,12 @@
 //! What is told of a table that is refused.
 
 use crate::dictionary::push_not_text;
-use dia_compat::{MAX_NAME, MAX_PAIRS, MAX_TABLE, TableFault, parse_table};
+use dia_compat::{MAX_NAME, MAX_PAIRS, MAX_TABLE, Table};
 use dia_explain_places::{
-    InputNames, PairWords, Word, back, push_excerpt, push_place, push_shown, start_of_line,
-    words_of,
+    InputTexts, NamedText, PairWords, Word, back, push_excerpt, push_place, push_shown,
+    start_of_line, words_of,
 };
-use dia_io::Input;
+use dia_run::BadTable;
 use std::alloc::{AllocError, Global};
 
 /// How many bytes of a word are told.
@@ -22,28 +22,19 @@ enum Slot {
     End,
 }
 
-/// Adds the note of a table.
+/// Adds the note of a table that is refused for this.
 pub fn push_table(
     alloc: Global,
     out: &mut String,
-    name: &str,
-    input: &Input,
+    table: &NamedText<'_>,
+    why: &BadTable,
 ) -> Result<(), AllocError> {
-    let Input::Bytes(bytes) = input else {
-        return write!(out, "{name}: the text has more than {MAX_TABLE} bytes\n");
-    };
-    match str::from_utf8(bytes) {
-        Ok(text) => push_text(alloc, out, name, text),
-        Err(error) => push_not_text(alloc, out, name, bytes, error.valid_up_to()),
-    }
-}
-
-fn push_text(alloc: Global, out: &mut String, name: &str, text: &str) -> Result<(), AllocError> {
-    match parse_table(alloc, text) {
-        Ok(_) => Ok(()),
-        Err(TableFault::NoMemory) => Err(AllocError),
-        Err(TableFault::Syntax { line }) => push_syntax(alloc, out, name, text.as_bytes(), line),
-        Err(TableFault::Limit { line }) => push_limit(alloc, out, name, text.as_bytes(), line),
+    let NamedText { name, text } = *table;
+    match why {
+        BadTable::TooLong => write!(out, "{name}: the text has more than {MAX_TABLE} bytes\n"),
+        BadTable::NotText { at } => push_not_text(alloc, out, name, text, *at),
+        BadTable::Syntax { line } => push_syntax(alloc, out, name, text, *line),
+        BadTable::Limit { line } => push_limit(alloc, out, name, text, *line),
     }
 }
 
@@ -218,33 +209,18 @@ fn push_limit(
 /// Adds that a table lists no command, where it lists none.
 pub fn push_no_pairs(
     out: &mut String,
-    words: &InputNames<'_>,
-    input: &Input,
+    texts: &InputTexts<'_>,
+    table: &Table,
 ) -> Result<(), AllocError> {
-    let Input::Bytes(text) = input else {
-        return Ok(());
-    };
-    if lists_command(text) {
+    if !table.commands.is_empty() {
         return Ok(());
     }
-    let InputNames {
-        first,
-        second,
-        table,
-        ..
-    } = *words;
+    let name = texts.table.name;
+    let first = texts.first.name;
+    let second = texts.second.name;
     write!(
         out,
-        "{table}: the table lists no command, so this yes says nothing\n"
-    )?;
-    write!(
-        out,
-        "hint: `diacmd propose {first} {second} COMMAND..` writes the table for these commands of {first}\n"
+        "{name}: the table lists no command, so this yes says nothing\n\
+         hint: `diacmd propose {first} {second} COMMAND..` writes the table for these commands of {first}\n"
     )
-}
-
-/// Whether a line has a pair of commands.
-fn lists_command(text: &[u8]) -> bool {
-    text.split(|byte| *byte == b'\n').any(|line| words_of(line, 0).kind.text
-        == b"command".as_slice())
 }

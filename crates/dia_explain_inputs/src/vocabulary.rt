@@ -1,10 +1,16 @@
 //! The names that a dictionary has.
 
-use dia_ccf::{CcfFault, Decl, Def, Source, parse};
+use dia_ccf::{Decl, Def, Source};
 use dia_explain_places::{nearest_command, nearest_name};
-use dia_io::Input;
 use indexmap::IndexSet;
 use std::alloc::{AllocError, Global};
+
+/// What a dictionary's text says, and the word that names the text.
+#[derive(Clone, Copy)]
+pub struct NamedSource<'a> {
+    pub name: &'a str,
+    pub source: &'a Source,
+}
 
 /// Names, each once.
 #[derive(Drop)]
@@ -65,19 +71,4 @@ fn names_of_decls(alloc: Global, decls: &[Decl]) -> Result<Vec<&str>, AllocError
 
 fn names_of_defs(alloc: Global, defs: &[Def]) -> Result<Vec<&str>, AllocError> {
     defs.iter().map(|def| def.name.as_str()).collect(alloc)
-}
-
-/// The source that an input spells, if it spells one.
-pub fn source_of(alloc: Global, input: &Input) -> Result<Option<Box<Source>>, AllocError> {
-    let Input::Bytes(bytes) = input else {
-        return Ok(None);
-    };
-    let Ok(text) = str::from_utf8(bytes) else {
-        return Ok(None);
-    };
-    match parse(alloc, text) {
-        Ok(source) => Ok(Some(Box::new(alloc, source)?)),
-        Err(CcfFault::NoMemory) => Err(AllocError),
-        Err(_) => Ok(None),
-    }
 }

@@ -8,7 +8,7 @@
 
 mod digits;
 mod grammar;
-mod input_names;
+mod input_texts;
 mod lines;
 mod nearest;
 mod place;
@@ -18,7 +18,7 @@ mod walking;
 
 pub use digits::{count_digits, place_of_byte};
 pub use grammar::{FORMATS, State, Why};
-pub use input_names::InputNames;
+pub use input_texts::{InputTexts, NamedText};
 pub use lines::{PairWords, Word, start_of_line, words_of};
 pub use nearest::{distance, nearest_command, nearest_name};
 pub use place::{Place, back, place_of, push_excerpt, push_line_column, push_place, push_shown};

@@ -11,3 +11,4 @@ pub mod LinesOfPairs
 pub mod HexTexts
 pub mod DecodedPieces
 pub mod FedTexts
+pub mod Verdicts

@@ -25,6 +25,9 @@ use Rattle.dia_dict.specs.Dictionary.{Dictionary}
 use Rattle.dia_check.specs.declared.Unknown.{Unknown}
 use Rattle.dia_check.specs.declared.Levels.{Levels}
 use Rattle.dia_io.specs.declared.Inputs.{Inputs}
+use Rattle.dia_dict.specs.declared.IndexedBook.{IndexedBook}
+use Rattle.dia_run.specs.declared.reporting.Answered.{Answered}
+use Rattle.dia_run.specs.Report.{Answers, HasReport, TellsRefusal}
 use Rattle.dia_run.specs.Outcome.{Ends, IsRenderOutcome, no_source, IsMessageOutcome, no_dictionary, no_message, IsPairOutcome, ended, no_first, no_second, IsComparison, no_table, IsRefutation}
 
 pub TellsOf-map : (P Q : List ℕ → Type 0) (r : Refused) → ((told : List ℕ) → P told → Q told) → TellsOf P r → TellsOf Q r
@@ -50,11 +53,6 @@ most_bytes TooLong text h = absurd h
 pub is_fault_of : (read text : List ℕ) (f : CcfFault) → read ≡ text → length text ≤ max_text → (length read ≤ max_text → IsFault read f) → IsFault text f
 is_fault_of read text f same short h = subst (λ (t : List ℕ). (length t ≤ max_text → IsFault t f)) same h short
 
-pub Ends-map : (P Q : List ℕ → Exit → Type 0) (r : Result Outcome Refused) → ((text : List ℕ) (exit : Exit) → P text exit → Q text exit) → Ends P r → Ends Q r
-Ends-map P Q (Ok o) f h = f (string_bytes o.text) o.exit h
-Ends-map P Q (Err (Bad bad)) f h = f (line (bad_input_text bad)) exits.Bad h
-Ends-map P Q (Err NoMemory) f h = tt
-
 -- what was made is written: an outcome as it is, a refusal as its line
 pub outcome_is : {E : Type 0} (P : List ℕ → Exit → Type 0) (made : Result Outcome Refused) (r : Result Outcome E) → IfOk made (λ o. r ≡ Ok o)
     → IfErr made (TellsOf (λ told. IfOk r (λ o. string_bytes o.text ≡ line told)))
@@ -64,6 +62,22 @@ outcome_is P (Err (Bad bad)) (Ok o) done text exit memory ends = rw (text, exit 
 outcome_is P (Err (Bad bad)) (Err e) done text exit memory ends = tt
 outcome_is P (Err NoMemory) (Ok o) done text exit memory ends = let e = memory refl in absurd cc
 outcome_is P (Err NoMemory) (Err e) done text exit memory ends = tt
+
+-- what was made is answered: as it is, or the line of a refusal
+pub answer_is : {E : Type 0} (P : List ℕ → Exit → Type 0) (made : Result Answered Refused) (r : Result Answered E) → IfOk made (λ a. r ≡ Ok a)
+    → IfErr made (λ refused. IfOk r (TellsRefusal refused)) → Answers P made → IfOk r (λ a. P (string_bytes a.text) a.exit)
+answer_is P (Ok a) r done refusal ends = rw done ends
+answer_is P (Err (Bad bad)) (Ok a) done refusal ends = rw (refusal.1.0, refusal.1.1) ends
+answer_is P (Err NoMemory) (Ok a) done refusal ends = absurd refusal
+answer_is P (Err refused) (Err e) done refusal ends = tt
+
+-- and so is its report
+pub report_is : {E : Type 0} (meaning : IndexedBook → Dictionary) (inputs : Inputs) (made : Result Answered Refused) (r : Result Answered E) → IfOk made (λ a. r ≡ Ok a)
+    → IfErr made (λ refused. IfOk r (TellsRefusal refused)) → IfOk made (HasReport meaning inputs) → IfOk r (HasReport meaning inputs)
+report_is meaning inputs (Ok a) r done refusal has = rw done has
+report_is meaning inputs (Err (Bad bad)) (Ok a) done refusal has = rw refusal.0 refusal.1
+report_is meaning inputs (Err NoMemory) (Ok a) done refusal has = absurd refusal
+report_is meaning inputs (Err refused) (Err e) done refusal has = tt
 
 -- a refusal of an input ends the command
 pub Ends-no_source : (inputs : Inputs) (r : Refused) → TellsOf (λ told. (why : List ℕ) × IsNoSourceText inputs.first why × (told ≡ dictionary_line 1 why)) r → Ends (IsRenderOutcome inputs) (Err r)

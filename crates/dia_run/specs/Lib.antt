@@ -6,3 +6,4 @@ pub mod Pairs
 pub mod Outcome
 pub mod Inclusion
 pub mod FedTexts
+pub mod Report

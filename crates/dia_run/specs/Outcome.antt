@@ -1,6 +1,6 @@
 -- What the program writes for its inputs, and how it ends.
 use Rattle.std.specs.Prelude.{◌≡◌, ◌≢◌, ℕ, ◌<◌, ◌≤◌, Bool, true, false, List, ◌++◌, length, take, drop, slice_index, map, codes}
-use Rattle.std.specs.Prelude.{string_bytes, Result, Ok, Err, ⊤}
+use Rattle.std.specs.Prelude.{string_bytes, Result, Ok, Err}
 use Rattle.dia_dict.specs.Dictionary.{Dictionary}
 use Rattle.dia_wire.specs.declared.Header.{Header}
 use Rattle.dia_wire.specs.Number.{number}
@@ -20,7 +20,6 @@ use Rattle.dia_compat.specs.Proposed.{IsProposal, IsFirstUnknown}
 use Rattle.dia_compat.specs.WrittenTable.{table_text}
 use Rattle.dia_run.specs.declared.commands.Outcome.{Outcome}
 use Rattle.dia_run.specs.declared.inputs.Refused.{Refused}
-use Rattle.dia_run.specs.declared.inputs.Refused.TheVariants.{Bad as BadInput, NoMemory}
 use Rattle.dia_io.specs.declared.Command.{Command}
 use Rattle.dia_io.specs.declared.Command.TheVariants.{Show, Render, Check, Compare, Refute, Propose}
 use Rattle.dia_io.specs.declared.Input.{Input}
@@ -29,7 +28,7 @@ use Rattle.dia_io.specs.declared.Exit.{Exit}
 use Rattle.dia_io.specs.declared.Exit.TheVariants.{Yes, No, Bad}
 use Rattle.dia_run.specs.Texts.{line, dictionary_line, IsSourceText, IsNoSourceText, IsDictionaryText, IsNoDictionaryText}
 use Rattle.dia_run.specs.Texts.{IsMessageText, IsNoMessageText}
-use Rattle.dia_run.specs.Refusals.{bad_input_text}
+use Rattle.dia_run.specs.Refusals.{TellsOf}
 use Rattle.dia_run.specs.Verdict.{IsVerdict}
 use Rattle.dia_run.specs.Pairs.{IsTableText, IsNoTableText, IsAnswerText}
 use Rattle.dia_run.specs.Listing.{header_line, IsListing}
@@ -151,5 +150,4 @@ IsOutcome (Propose u names) inputs text exit = IsProposeOutcome u (map (λ name.
 -- what was made holds: an outcome, or the line of a refusal
 abbrev pub Ends : (List ℕ → Exit → Type 0) → Result Outcome Refused → Type 0
 Ends P (Ok o) = P (string_bytes o.text) o.exit
-Ends P (Err (BadInput bad)) = P (line (bad_input_text bad)) Bad
-Ends P (Err NoMemory) = ⊤
+Ends P (Err refused) = TellsOf (λ told. P (line told) Bad) refused

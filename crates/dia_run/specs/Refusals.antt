@@ -6,7 +6,7 @@ use Rattle.dia_wire.specs.declared.header.MessageFault.TheVariants.{Short, Versi
 use Rattle.dia_run.specs.declared.inputs.Refused.{Refused}
 use Rattle.dia_run.specs.declared.inputs.Refused.TheVariants.{Bad, NoMemory}
 use Rattle.dia_run.specs.declared.inputs.bad_input.BadInput.{BadInput}
-use Rattle.dia_run.specs.declared.inputs.bad_input.BadInput.TheVariants.{Dictionary, Table, Message, NoCommand}
+use Rattle.dia_run.specs.declared.inputs.bad_input.BadInput.TheVariants.{Dictionary, Table, Message}
 use Rattle.dia_run.specs.declared.inputs.bad_input.BadDictionary.{BadDictionary}
 use Rattle.dia_run.specs.declared.inputs.bad_input.BadDictionary.TheVariants as dictionary
 use Rattle.dia_run.specs.declared.inputs.bad_input.BadTable.{BadTable}
@@ -18,15 +18,15 @@ use Rattle.dia_run.specs.Pairs.{table_line}
 
 abbrev pub bad_dictionary_text : BadDictionary → List ℕ
 bad_dictionary_text dictionary.TooLong = codes "too long"
-bad_dictionary_text dictionary.NotText = codes "not text"
+bad_dictionary_text (dictionary.NotText place) = codes "not text"
 bad_dictionary_text (dictionary.Syntax n) = fault_at (codes "syntax") n
 bad_dictionary_text (dictionary.Number n) = fault_at (codes "number") n
 bad_dictionary_text (dictionary.Limit n) = fault_at (codes "limit") n
-bad_dictionary_text (dictionary.Wrong kind name slot) = wrong_text (wrong kind (string_bytes name) (string_bytes slot))
+bad_dictionary_text (dictionary.Wrong source kind name slot) = wrong_text (wrong kind (string_bytes name) (string_bytes slot))
 
 abbrev pub bad_table_text : BadTable → List ℕ
 bad_table_text table.TooLong = codes "too long"
-bad_table_text table.NotText = codes "not text"
+bad_table_text (table.NotText place) = codes "not text"
 bad_table_text (table.Syntax n) = fault_at (codes "syntax") n
 bad_table_text (table.Limit n) = fault_at (codes "limit") n
 
@@ -46,7 +46,6 @@ bad_message_word (message.NoMessage fault) = message_fault_word fault
 abbrev pub bad_input_text : BadInput → List ℕ
 bad_input_text (Dictionary number why) = dictionary_line number (bad_dictionary_text why)
 bad_input_text (Table why) = table_line (bad_table_text why)
-bad_input_text (NoCommand name) = codes "propose: no command " ++ string_bytes name
 bad_input_text (Message why) = codes "message: " ++ bad_message_word why
 
 -- what is told holds, unless memory was refused

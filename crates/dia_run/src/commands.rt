@@ -1,12 +1,14 @@
 //! The text of each command, and how it ends.
 
 ghost use Rattle.std.specs.Prelude.{◌≡◌, Ok, IfOk, IfErr, IsErr, string_bytes};
+ghost use Rattle.dia_run.specs.Report.{TellsRefusal};
 ghost use Rattle.dia_io.specs.declared.Exit.TheVariants.{Bad};
 ghost use Rattle.dia_run.specs.Texts.{line};
 ghost use Rattle.dia_run.specs.Refusals.{TellsOf, bad_input_text};
 
 use crate::inputs::Refused;
 use crate::inputs::bad_input::BadInput;
+use crate::reporting::{Answered, Report};
 use dia_io::Exit;
 use std::alloc::{AllocError, Global};
 
@@ -57,4 +59,27 @@ pub fn outcome_of(alloc: Global, made: Result<Outcome, Refused>) -> Result<Outco
         Err(Refused::Bad(bad)) => refuse(alloc, &bad),
         Err(Refused::NoMemory) => Err(AllocError),
     }
+}
+
+/// What is answered for a command: what was made, or the line of an input that is refused.
+pub fn answer_of(alloc: Global, made: Result<Answered, Refused>) -> Result<Answered, AllocError>
+    ensures done { IfOk made (λ answered. result ≡ Ok answered) }
+    ensures refused { IfErr made (λ refused. IfOk result (TellsRefusal refused)) }
+{
+    match made {
+        Ok(answered) => Ok(answered),
+        Err(Refused::Bad(bad)) => refused(alloc, bad),
+        Err(Refused::NoMemory) => Err(AllocError),
+    }
+}
+
+/// The answer of an input that is refused.
+fn refused(alloc: Global, bad: BadInput) -> Result<Answered, AllocError>
+    ensures text { IfOk result (λ answered. string_bytes answered.text ≡ line (bad_input_text bad)) }
+    ensures exit { IfOk result (λ answered. answered.exit ≡ Exit.Bad) }
+    ensures report { IfOk result (λ answered. answered.report ≡ Report.Refused bad) }
+{
+    let Outcome { text, exit } = refuse(alloc, &bad)?;
+    let report = Report::Refused(bad);
+    Ok(Answered { text, exit, report })
 }

@@ -19,16 +19,21 @@
 
 mod commands;
 mod inputs;
+mod reporting;
 mod running;
 
 pub use commands::check::{check_message, is_endless, verdict};
-pub use commands::{Outcome, outcome_of, told};
+pub use commands::{Outcome, answer_of, outcome_of, told};
 pub use dia_io::{
     Command, Exit, Failed, Feed, FromReader, Input, InputFault, Inputs, RunFault, Sink, ToWriter,
     read_input,
 };
 pub use dia_policy::MAX_MESSAGE_TEXT;
 pub use inputs::Refused;
+pub use inputs::bad_input::{BadDictionary, BadInput, BadMessage, BadTable};
 pub use inputs::dictionary::read_dictionary;
 pub use inputs::message::{is_white, read_message};
-pub use running::run;
+pub use reporting::{
+    Answered, BothBooks, Compared, CutListing, Invalid, ReadBook, Report, Reported, Unrefuting,
+};
+pub use running::{answer, run, run_reporting};

@@ -5,17 +5,20 @@ ghost use Rattle.std.specs.Prelude.{IsTrue, string_bytes};
 ghost use Rattle.std.specs.Io.KnownBytes.{Appends};
 ghost use Rattle.dia_io.specs.declared.Exit.{Exit as AnyExit};
 ghost use Rattle.dia_io.specs.Writing.{AppendsFront};
-ghost use Rattle.dia_run.specs.Outcome.{Ends, IsOutcome};
+ghost use Rattle.dia_run.specs.Outcome.{IsOutcome};
 ghost use Rattle.dia_run.specs.Inclusion.{ShowsInclusion};
+ghost use Rattle.dia_run.specs.Report.{Answers, HasReport, IsReport};
 
+use crate::commands::answer_of;
 use crate::commands::check::check;
 use crate::commands::compare::compare;
 use crate::commands::propose::propose;
 use crate::commands::refute::refute;
 use crate::commands::render::render;
 use crate::commands::show::show;
-use crate::commands::{Outcome, outcome_of};
 use crate::inputs::Refused;
+use crate::reporting::{Answered, Reported};
+use dia_dict::{Book, IndexedBook};
 use dia_io::{Command, Exit, Inputs, RunFault, Sink, put_all};
 use std::alloc::{AllocError, Global};
 
@@ -46,22 +49,54 @@ pub fn run<S: Sink>(
         → sink.new ≡ sink.old }
     ensures no_memory { result ≡ Err RunFault.NoMemory → S.written sink.new ≡ S.written sink.old }
 {
-    let outcome = perform(alloc, command, inputs)?;
-    put_all(sink, outcome.text.as_bytes())?;
-    Ok(outcome.exit)
+    let reported = run_reporting(alloc, command, inputs, sink)?;
+    Ok(reported.exit)
 }
 
-/// The text of a command for its inputs, and how it ends.
-fn perform(alloc: Global, command: &Command, inputs: &Inputs) -> Result<Outcome, AllocError>
-    ensures { IfOk result (λ outcome. IsOutcome command.now inputs.now
-        (string_bytes outcome.text) outcome.exit) }
+/// `run`, with a report of what was read and found.
+pub fn run_reporting<S: Sink>(
+    alloc: Global,
+    command: &Command,
+    inputs: &Inputs,
+    sink: &mut S,
+) -> Result<Reported, RunFault>
+    requires { ¬ IsTrue (S.has_failed sink.old) }
+    ensures text { IfOk result (λ reported. (text : List ℕ) × IsOutcome command.now inputs.now text reported.exit
+        × IsReport ⟦<IndexedBook as Book>⟧.meaning inputs.now reported.report text reported.exit
+        × Appends (S.written sink.old) (S.written sink.new) text) }
+    // For these inputs there is one text, and one end.
+    ensures one { (a b : List ℕ) (x y : AnyExit)
+        → IsOutcome command.now inputs.now a x → IsOutcome command.now inputs.now b y
+        → (a ≡ b) × (x ≡ y) }
+    // Where `compare` answers yes, what is valid under the first dictionary is valid under the second.
+    ensures inclusion { IfOk result (λ reported. ShowsInclusion command.now inputs.now reported.exit) }
+    ensures device { (result ≡ Err RunFault.Device) ↔ IsTrue (S.has_failed sink.new) }
+    ensures front { result ≡ Err RunFault.Device
+        → (text : List ℕ) × (exit : AnyExit) × IsOutcome command.now inputs.now text exit
+        × AppendsFront (S.written sink.old) (S.written sink.new) text }
+    // An empty text is put as no piece.
+    ensures nothing { (exit : AnyExit) → IsOutcome command.now inputs.now [] exit
+        → sink.new ≡ sink.old }
+    ensures no_memory { result ≡ Err RunFault.NoMemory → S.written sink.new ≡ S.written sink.old }
 {
-    outcome_of(alloc, attempt(alloc, command, inputs))
+    let Answered { text, exit, report } = answer(alloc, command, inputs)?;
+    put_all(sink, text.as_bytes())?;
+    Ok(Reported { exit, report })
 }
 
-/// The outcome of a command, or why an input of it is refused.
-fn attempt(alloc: Global, command: &Command, inputs: &Inputs) -> Result<Outcome, Refused>
-    ensures { Ends (IsOutcome command.now inputs.now) result }
+/// The text of a command for its inputs, how it ends, and a report of what was read and found.
+pub fn answer(alloc: Global, command: &Command, inputs: &Inputs) -> Result<Answered, AllocError>
+    ensures outcome { IfOk result (λ answered. IsOutcome command.now inputs.now
+        (string_bytes answered.text) answered.exit) }
+    ensures report { IfOk result (HasReport ⟦<IndexedBook as Book>⟧.meaning inputs.now) }
+{
+    answer_of(alloc, attempt(alloc, command, inputs))
+}
+
+/// The answer of a command, or why an input of it is refused.
+fn attempt(alloc: Global, command: &Command, inputs: &Inputs) -> Result<Answered, Refused>
+    ensures outcome { Answers (IsOutcome command.now inputs.now) result }
+    ensures report { IfOk result (HasReport ⟦<IndexedBook as Book>⟧.meaning inputs.now) }
 {
     match command {
         Command::Show => show(alloc, inputs),

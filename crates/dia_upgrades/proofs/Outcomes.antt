@@ -1,5 +1,5 @@
 -- How `breaking` ends.
-use Rattle.std.proofs.Common.{◌≡◌, ℕ, ◌+◌, List, [], length, Result, Ok, Err, sym, subst, ◌∙◌, inl, inr}
+use Rattle.std.proofs.Common.{◌≡◌, ◌≢◌, ℕ, ◌+◌, List, [], length, Result, Ok, Err, refl, sym, subst, ◌∙◌, inl, inr}
 use Rattle.std.specs.Prelude.{◌↔◌, Contains, IfOk, string_bytes}
 use Rattle.std.proofs.lemmas.List.Elements.{All-contains}
 use Rattle.dia_book.specs.Dictionary.{Dictionary, PlainDefinition, IsDictionary, groups}
@@ -11,6 +11,11 @@ use Rattle.dia_io.specs.declared.Inputs.{Inputs}
 use Rattle.dia_io.specs.declared.Exit.{Exit}
 use Rattle.dia_io.specs.declared.Exit.TheVariants.{Yes, No, Bad}
 use Rattle.dia_run.specs.declared.commands.Outcome.{Outcome}
+use Rattle.dia_dict.specs.declared.IndexedBook.{IndexedBook}
+use Rattle.dia_run.specs.declared.reporting.BothBooks.{BothBooks}
+use Rattle.dia_run.specs.declared.reporting.Report.{Report}
+use Rattle.dia_run.specs.declared.reporting.Report.TheVariants.{Listed, NoCommand}
+use Rattle.dia_run.specs.Report.{AreReadFrom, IsReport}
 use Rattle.dia_run.specs.Texts.{line}
 use Rattle.dia_run.specs.Outcome.{ended, no_first, no_second}
 use Rattle.dia_run.proofs.OneInput.{one_dictionary, dictionary_or_not}
@@ -52,6 +57,13 @@ pub unnamed : {E : Type 0} (asked : Asked) (a b : Dictionary) (name : List ℕ) 
     → IfOk r (λ o. string_bytes o.text ≡ line (no_command_line name)) → IfOk r (λ o. o.exit ≡ Bad) → IfOk r (λ o. IsListed asked a b (string_bytes o.text) o.exit)
 unnamed asked a b name (Err e) first text exit = tt
 unnamed asked a b name (Ok o) first text exit = no_command name first (text, exit)
+
+-- the report of two dictionaries that were read
+pub reported : (meaning : IndexedBook → Dictionary) (inputs : Inputs) (books : BothBooks) (text : List ℕ) (exit : Exit) (report : Report) → (exit ≢ Bad → report ≡ Listed books)
+    → (exit ≡ Bad → report ≡ NoCommand books) → AreReadFrom meaning inputs books → IsReport meaning inputs report text exit
+reported meaning inputs books text Yes report listed bad read = let other : Yes ≢ Bad = λ e. cc in rw (listed other) (read, other)
+reported meaning inputs books text No report listed bad read = let other : No ≢ Bad = λ e. cc in rw (listed other) (read, other)
+reported meaning inputs books text Bad report listed bad read = rw (bad refl) (read, refl)
 
 -- a yes says that nothing breaks
 pub yes_is_safe : (asked : Asked) (inputs : Inputs) (text : List ℕ) (exit : Exit) → IsBreakingOutcome asked inputs text exit → exit ≡ Yes → IsSafeUpgrade asked inputs × (text ≡ line nothing_breaks)

@@ -1,11 +1,11 @@
 //! The command, from its inputs to what is written.
 
-ghost use Rattle.std.specs.Prelude.{◌≡◌, ◌↔◌, ℕ, List, [], IfOk, Err, IsTrue, string_bytes};
+ghost use Rattle.std.specs.Prelude.{◌≡◌, ◌≢◌, ◌↔◌, ℕ, List, [], IfOk, Err, IsTrue, string_bytes};
 ghost use Rattle.std.specs.Io.KnownBytes.{Appends};
 ghost use Rattle.dia_io.specs.declared.Exit.{Exit as AnyExit};
 ghost use Rattle.dia_io.specs.Writing.{AppendsFront};
 ghost use Rattle.dia_run.specs.Texts.{line};
-ghost use Rattle.dia_run.specs.Outcome.{Ends};
+ghost use Rattle.dia_run.specs.Report.{Answers, HasReport, IsReport};
 ghost use Rattle.dia_upgrades.specs.Outcome.{IsListed, IsBreakingOutcome, nothing_breaks, no_command_line};
 ghost use Rattle.dia_upgrades.specs.Outcome.{IsSafeUpgrade, IsUnsafeUpgrade, AreRefused};
 
@@ -13,9 +13,11 @@ use crate::asked::Asked;
 use crate::lines::lines_of;
 use crate::naming::named;
 use dia_breaking::Upgrade;
-use dia_dict::Book;
+use dia_dict::{Book, IndexedBook};
 use dia_io::{Exit, Inputs, RunFault, Sink, put_all};
-use dia_run::{Outcome, Refused, outcome_of, read_dictionary, told};
+use dia_run::{
+    Answered, BothBooks, Outcome, Refused, Report, Reported, answer_of, read_dictionary, told,
+};
 use std::alloc::{AllocError, Global};
 
 /// Writes a line for each way in which messages that the side of the first dictionary sends break under the second, or
@@ -27,47 +29,63 @@ pub fn breaking<S: Sink>(
     asked: Asked<'_>,
     inputs: &Inputs,
     sink: &mut S,
-) -> Result<Exit, RunFault>
+) -> Result<Reported, RunFault>
     requires { ¬ IsTrue (S.has_failed sink.old) }
     ensures text { IfOk result
-        (λ exit. (text : List ℕ) × IsBreakingOutcome asked.entry inputs.now text exit
+        (λ reported. (text : List ℕ) × IsBreakingOutcome asked.entry inputs.now text reported.exit
+        × IsReport ⟦<IndexedBook as Book>⟧.meaning inputs.now reported.report text reported.exit
         × Appends (S.written sink.old) (S.written sink.new) text) }
     // Where it answers yes, nothing breaks, and it has said so.
-    ensures yes { IfOk result (λ exit. exit ≡ Exit.Yes → IsSafeUpgrade asked.entry inputs.now
+    ensures yes { IfOk result (λ reported. reported.exit ≡ Exit.Yes → IsSafeUpgrade asked.entry inputs.now
         × Appends (S.written sink.old) (S.written sink.new) (line nothing_breaks)) }
     // Where it answers no, it has written the lines of the commands, and at least one.
-    ensures no { IfOk result (λ exit. exit ≡ Exit.No
+    ensures no { IfOk result (λ reported. reported.exit ≡ Exit.No
         → (told : List ℕ) × IsUnsafeUpgrade asked.entry inputs.now (line told)
         × Appends (S.written sink.old) (S.written sink.new) (line told)) }
     ensures bad { IfOk result
-        (λ exit. (exit ≡ Exit.Bad) ↔ AreRefused asked.entry inputs.now) }
+        (λ reported. (reported.exit ≡ Exit.Bad) ↔ AreRefused asked.entry inputs.now) }
     ensures device { (result ≡ Err RunFault.Device) ↔ IsTrue (S.has_failed sink.new) }
     ensures front { result ≡ Err RunFault.Device
         → (text : List ℕ) × (exit : AnyExit) × IsBreakingOutcome asked.entry inputs.now text exit
         × AppendsFront (S.written sink.old) (S.written sink.new) text }
     ensures no_memory { result ≡ Err RunFault.NoMemory → S.written sink.new ≡ S.written sink.old }
 {
-    let outcome = perform(alloc, asked, inputs)?;
-    put_all(sink, outcome.text.as_bytes())?;
-    Ok(outcome.exit)
+    let Answered { text, exit, report } = perform(alloc, asked, inputs)?;
+    put_all(sink, text.as_bytes())?;
+    Ok(Reported { exit, report })
 }
 
-/// The text for the inputs, and how it ends.
-fn perform(alloc: Global, asked: Asked<'_>, inputs: &Inputs) -> Result<Outcome, AllocError>
-    ensures { IfOk result (λ outcome. IsBreakingOutcome asked.entry inputs.now
-        (string_bytes outcome.text) outcome.exit) }
+/// The text for the inputs, how it ends, and a report of what was read and found.
+fn perform(alloc: Global, asked: Asked<'_>, inputs: &Inputs) -> Result<Answered, AllocError>
+    ensures outcome { IfOk result (λ answered. IsBreakingOutcome asked.entry inputs.now
+        (string_bytes answered.text) answered.exit) }
+    ensures report { IfOk result (HasReport ⟦<IndexedBook as Book>⟧.meaning inputs.now) }
 {
-    outcome_of(alloc, attempt(alloc, asked, inputs))
+    answer_of(alloc, attempt(alloc, asked, inputs))
 }
 
-/// The outcome, or why an input is refused.
-fn attempt(alloc: Global, asked: Asked<'_>, inputs: &Inputs) -> Result<Outcome, Refused>
-    ensures { Ends (IsBreakingOutcome asked.entry inputs.now) result }
+/// The answer, or why an input is refused.
+fn attempt(alloc: Global, asked: Asked<'_>, inputs: &Inputs) -> Result<Answered, Refused>
+    ensures outcome { Answers (IsBreakingOutcome asked.entry inputs.now) result }
+    ensures report { IfOk result (HasReport ⟦<IndexedBook as Book>⟧.meaning inputs.now) }
 {
     let first = read_dictionary(alloc, 1, &inputs.first)?;
     let second = read_dictionary(alloc, 2, &inputs.second)?;
-    let outcome = compared(alloc, asked, &*first, &*second)?;
-    Ok(outcome)
+    let Outcome { text, exit } = compared(alloc, asked, &first.book, &second.book)?;
+    let report = report_of(exit, BothBooks { first, second });
+    Ok(Answered { text, exit, report })
+}
+
+/// The report of two dictionaries that were read.
+fn report_of(exit: Exit, books: BothBooks) -> Report
+    ensures listed { exit ≢ Exit.Bad → result ≡ Report.Listed books }
+    ensures bad { exit ≡ Exit.Bad → result ≡ Report.NoCommand books }
+{
+    match exit {
+        Exit::Yes => Report::Listed(books),
+        Exit::No => Report::Listed(books),
+        Exit::Bad => Report::NoCommand(books),
+    }
 }
 
 /// The outcome for two dictionaries that were read.

@@ -1,9 +1,14 @@
 //! Commands that read their messages a piece at a time.
 
+use crate::word_of;
 use dia_captures::{Lines, Tallied, check_lines, check_stream, refute_lines};
-use dia_cli::{Ending, Origin};
-use dia_io::{Exit, FromReader, Inputs, Task, ToWriter};
+use dia_cli::{Ending, Origin, Origins};
+use dia_explain_answers::{Asked, push_check_alone, push_refute_alone};
+use dia_io::{Exit, FromReader, Inputs, ToWriter};
 use dia_lines::LinesFault;
+use dia_policy::{Levels, Unknown};
+use dia_run::Reported;
+use std::alloc::{AllocError, Global};
 use std::io::Read;
 use std::rt::Files;
 use std::{fs, io};
@@ -11,65 +16,98 @@ use std::{fs, io};
 /// Standard output, as it is named where it fails.
 const OUTPUT: &str = "standard output";
 
+/// A command whose messages are read a piece at a time: the lines that it puts, and how messages are checked.
+#[derive(Clone, Copy)]
+pub(crate) struct Capture {
+    lines: Lines,
+    unknown: Unknown,
+    levels: Levels,
+}
+
+impl Capture {
+    pub(crate) fn new(lines: Lines, unknown: Unknown, levels: Levels) -> Self {
+        Capture {
+            lines,
+            unknown,
+            levels,
+        }
+    }
+}
+
 /// Runs a command that reads its messages a piece at a time, and tells on standard error what came of them, unless it is to be
 /// quiet.
 pub(crate) fn captured<'a, R>(
     rt: &R,
-    task: &Task,
+    capture: Capture,
+    inputs: &Inputs,
+    origins: &Origins<'a>,
+    quiet: bool,
+) -> Result<Reported, Ending<'a>>
+where
+    R: AllocGlobal + Files + Input + Print + Eprint,
+{
+    let reported = opened(rt, capture, inputs, origins.messages, quiet)?;
+    if !quiet && reported.exit == Exit::No {
+        advise(rt, capture, origins);
+    }
+    Ok(reported)
+}
+
+/// Opens the messages, and runs the command over them.
+fn opened<'a, R>(
+    rt: &R,
+    capture: Capture,
     inputs: &Inputs,
     messages: Origin<'a>,
     quiet: bool,
-) -> Result<Exit, Ending<'a>>
+) -> Result<Reported, Ending<'a>>
 where
     R: AllocGlobal + Files + Input + Print + Eprint,
 {
     match messages {
         Origin::File { path, .. } => match fs::open(rt, path) {
-            Ok(file) => answer(rt, task, inputs, file, path, quiet),
+            Ok(file) => answer(rt, capture, inputs, file, path, quiet),
             Err(error) => Err(Ending::Device {
                 name: path,
                 error: Some(error),
             }),
         },
-        _ => answer(rt, task, inputs, rt.reader(), "-", quiet),
+        _ => answer(rt, capture, inputs, rt.reader(), "-", quiet),
     }
 }
 
 /// Writes what a command says of the messages that a reader gives. `name` is the word that names the reader.
 fn answer<'a, R, D>(
     rt: &R,
-    task: &Task,
+    capture: Capture,
     inputs: &Inputs,
     reader: D,
     name: &'a str,
     quiet: bool,
-) -> Result<Exit, Ending<'a>>
+) -> Result<Reported, Ending<'a>>
 where
     R: AllocGlobal + Print + Eprint,
     D: Read + Drop,
 {
     let mut feed = FromReader::new(reader);
     let alloc = rt.alloc();
-    let mut sink = Tallied::new(alloc, lines_of(task), ToWriter::new(io::writer(rt)));
-    let ended = match task {
-        Task::CheckLines { unknown, levels } => {
-            check_lines(alloc, *unknown, *levels, inputs, &mut feed, &mut sink)
-        }
-        Task::RefuteLines { unknown, levels } => {
-            refute_lines(alloc, *unknown, *levels, inputs, &mut feed, &mut sink)
-        }
-        Task::CheckStream { unknown, levels } => {
-            check_stream(alloc, *unknown, *levels, inputs, &mut feed, &mut sink)
-        }
-        // No words ask for these here.
-        Task::Whole(_) | Task::Breaking { .. } => Ok(Exit::Bad),
+    let Capture {
+        lines,
+        unknown,
+        levels,
+    } = capture;
+    let mut sink = Tallied::new(alloc, lines, ToWriter::new(io::writer(rt)));
+    let ended = match lines {
+        Lines::Checked => check_lines(alloc, unknown, levels, inputs, &mut feed, &mut sink),
+        Lines::Refuted => refute_lines(alloc, unknown, levels, inputs, &mut feed, &mut sink),
+        Lines::Placed => check_stream(alloc, unknown, levels, inputs, &mut feed, &mut sink),
     };
     match ended {
-        Ok(exit) => {
-            if !quiet && exit != Exit::Bad {
+        Ok(reported) => {
+            if !quiet && reported.exit != Exit::Bad {
                 summarize(rt, &mut sink);
             }
-            Ok(exit)
+            Ok(reported)
         }
         Err(LinesFault::NoMemory) => Err(Ending::NoMemory),
         Err(LinesFault::Device | LinesFault::Endless) => {
@@ -88,13 +126,25 @@ where
     }
 }
 
-/// Whose lines are put.
-fn lines_of(task: &Task) -> Lines {
-    match task {
-        Task::RefuteLines { .. } => Lines::Refuted,
-        Task::CheckStream { .. } => Lines::Placed,
-        _ => Lines::Checked,
+/// Tells how one message is explained by itself. Where memory or the device fails, nothing is told.
+fn advise<R: AllocGlobal + Eprint>(rt: &R, capture: Capture, origins: &Origins<'_>) {
+    if let Ok(text) = advice(rt.alloc(), capture, origins) {
+        let _ = eprint!(rt; "{text}");
     }
+}
+
+fn advice(alloc: Global, capture: Capture, origins: &Origins<'_>) -> Result<String, AllocError> {
+    let mut out = String::new(alloc);
+    let messages = word_of(origins.messages);
+    let first = word_of(origins.first);
+    let second = word_of(origins.second);
+    let asked = Asked::new(capture.unknown, capture.levels);
+    match capture.lines {
+        Lines::Checked => push_check_alone(&mut out, messages, &asked, first)?,
+        Lines::Refuted => push_refute_alone(&mut out, messages, &asked, first, second)?,
+        Lines::Placed => {}
+    }
+    Ok(out)
 }
 
 /// Tells how many lines are as they should be, and what the others say. Where memory or the device fails, nothing is told.

@@ -1,7 +1,7 @@
 //! `diacmd`: the workbench for Diameter dictionaries and messages, on the command line.
 //!
 //! `main` reads the command line and the inputs, does what is asked for with standard output, explains the answer on standard
-//! error, and returns the status. `run`, `breaking`, `check_lines` and their like decide what is written and how the program
+//! error, and returns the status. `run_reporting`, `breaking`, `check_lines` and their like decide what is written and how the program
 //! ends. They are functions over values, and so are those that decide the rest.
 #![tactic(auto)]
 
@@ -10,14 +10,15 @@ mod notes;
 #[cfg(test)]
 mod tests;
 
-use captured::captured;
+use captured::{Capture, captured};
+use dia_captures::Lines;
 use dia_cli::{
     BASE_DICTIONARY, Ending, OfProcess, Origin, Origins, STANDARD_INPUT, finish, open_inputs,
     parse_words,
 };
-use dia_explain_places::InputNames;
+use dia_explain_places::{InputTexts, NamedText};
 use dia_io::Task;
-use dia_run::{Command, Exit, Inputs, ToWriter, run};
+use dia_run::{Command, Exit, Inputs, Report, Reported, ToWriter, run_reporting};
 use dia_upgrades::{Asked, breaking};
 use notes::explain;
 use std::process::ExitCode;
@@ -56,11 +57,12 @@ where
     let inputs = open_inputs(rt.alloc(), &OfProcess::new(rt), &origins)?;
     let quiet = request.is_quiet();
     let task = request.into_task();
-    let exit = run_task(rt, &task, &inputs, origins.messages, quiet)?;
+    let reported = run_task(rt, &task, &inputs, &origins, quiet)?;
     if !quiet {
-        note(rt, &task, &origins, &inputs, exit);
+        let texts = texts_of(&origins, &inputs);
+        note(rt, &texts, names_of(&task), &reported.report);
     }
-    Ok(exit)
+    Ok(reported.exit)
 }
 
 /// Does what is asked for.
@@ -68,9 +70,9 @@ fn run_task<'a, R>(
     rt: &R,
     task: &Task,
     inputs: &Inputs,
-    messages: Origin<'a>,
+    origins: &Origins<'a>,
     quiet: bool,
-) -> Result<Exit, Ending<'a>>
+) -> Result<Reported, Ending<'a>>
 where
     R: AllocGlobal + Files + Input + Print + Eprint,
 {
@@ -90,56 +92,90 @@ where
             };
             list(rt, asked, inputs)
         }
-        _ => captured(rt, task, inputs, messages, quiet),
+        Task::CheckLines { unknown, levels } => {
+            let capture = Capture::new(Lines::Checked, *unknown, *levels);
+            captured(rt, capture, inputs, origins, quiet)
+        }
+        Task::RefuteLines { unknown, levels } => {
+            let capture = Capture::new(Lines::Refuted, *unknown, *levels);
+            captured(rt, capture, inputs, origins, quiet)
+        }
+        Task::CheckStream { unknown, levels } => {
+            let capture = Capture::new(Lines::Placed, *unknown, *levels);
+            captured(rt, capture, inputs, origins, quiet)
+        }
     }
 }
 
 /// Runs a command whose inputs were read whole.
-fn answer<'a, R>(rt: &R, command: &Command, inputs: &Inputs) -> Result<Exit, Ending<'a>>
+fn answer<'a, R>(rt: &R, command: &Command, inputs: &Inputs) -> Result<Reported, Ending<'a>>
 where
     R: AllocGlobal + Print,
 {
     let mut sink = ToWriter::new(io::writer(rt));
-    match run(rt.alloc(), command, inputs, &mut sink) {
-        Ok(exit) => Ok(exit),
+    match run_reporting(rt.alloc(), command, inputs, &mut sink) {
+        Ok(reported) => Ok(reported),
         Err(fault) => Err(Ending::of_run(fault, "standard output", sink.failure())),
     }
 }
 
 /// Lists what breaks.
-fn list<'a, R>(rt: &R, asked: Asked<'_>, inputs: &Inputs) -> Result<Exit, Ending<'a>>
+fn list<'a, R>(rt: &R, asked: Asked<'_>, inputs: &Inputs) -> Result<Reported, Ending<'a>>
 where
     R: AllocGlobal + Print,
 {
     let mut sink = ToWriter::new(io::writer(rt));
     match breaking(rt.alloc(), asked, inputs, &mut sink) {
-        Ok(exit) => Ok(exit),
+        Ok(reported) => Ok(reported),
         Err(fault) => Err(Ending::of_run(fault, "standard output", sink.failure())),
     }
 }
 
-/// Explains on standard error how a task ended. Where memory or the device fails, there is no note.
+/// Explains a report on standard error. Where memory or the device fails, there is no note.
 fn note<R: AllocGlobal + Eprint>(
     rt: &R,
-    task: &Task,
-    origins: &Origins<'_>,
-    inputs: &Inputs,
-    exit: Exit,
+    texts: &InputTexts<'_>,
+    names: &[String],
+    report: &Report,
 ) {
-    let names = InputNames {
-        first: word_of(origins.first),
-        second: word_of(origins.second),
-        table: word_of(origins.table),
-        message: word_of(origins.message),
-        messages: word_of(origins.messages),
-    };
-    if let Ok(text) = explain(rt.alloc(), task, &names, inputs, exit) {
+    if let Ok(text) = explain(rt.alloc(), texts, names, report) {
         let _ = eprint!(rt; "{text}");
     }
 }
 
+/// The names of the commands that are asked for.
+fn names_of(task: &Task) -> &[String] {
+    match task {
+        Task::Whole(Command::Propose { names, .. }) | Task::Breaking { names, .. } => {
+            names.as_slice()
+        }
+        _ => &[],
+    }
+}
+
+fn texts_of<'a>(origins: &Origins<'a>, inputs: &'a Inputs) -> InputTexts<'a> {
+    InputTexts {
+        first: named(origins.first, &inputs.first),
+        second: named(origins.second, &inputs.second),
+        table: named(origins.table, &inputs.table),
+        message: named(origins.message, &inputs.message),
+    }
+}
+
+/// The text of an input, with the word that names it.
+fn named<'a>(origin: Origin<'a>, input: &'a dia_io::Input) -> NamedText<'a> {
+    let text = match input {
+        dia_io::Input::Bytes(bytes) => bytes.as_slice(),
+        dia_io::Input::TooLong => b"".as_slice(),
+    };
+    NamedText {
+        name: word_of(origin),
+        text,
+    }
+}
+
 /// The word that names an input.
-fn word_of(origin: Origin<'_>) -> &str {
+pub(crate) fn word_of(origin: Origin<'_>) -> &str {
     match origin {
         Origin::Nowhere => "",
         Origin::Base => BASE_DICTIONARY,

@@ -5,11 +5,10 @@ use crate::faults::avp::{hint_bad_length, push_bad_length};
 use crate::faults::avp_bytes::push_avp;
 use crate::faults::path::Step;
 use crate::faults::{Message, push_groups, push_spot};
-use crate::inputs::{bytes_of, read_book, text_of};
 use crate::sides::{Side, sites_of};
 use dia_book::Book;
-use dia_explain_places::InputNames;
-use dia_io::Inputs;
+use dia_explain_places::InputTexts;
+use dia_run::CutListing;
 use dia_wire::{HEADER_LENGTH, key, next_avp};
 use std::alloc::{AllocError, Global};
 
@@ -35,27 +34,12 @@ struct Listing<'a, B: Book> {
 pub fn push_show(
     alloc: Global,
     out: &mut String,
-    names: &InputNames<'_>,
-    inputs: &Inputs,
+    texts: &InputTexts<'_>,
+    cut: &CutListing,
 ) -> Result<(), AllocError> {
-    let Some(book) = read_book(alloc, &inputs.first)? else {
-        return Ok(());
-    };
-    let Some(bytes) = bytes_of(alloc, &inputs.message)? else {
-        return Ok(());
-    };
-    let sites = sites_of(alloc, &inputs.first)?;
-    let side = Side {
-        book: &*book,
-        name: names.first,
-        text: text_of(&inputs.first),
-        sites: &sites,
-    };
-    let message = Message {
-        name: names.message,
-        text: text_of(&inputs.message),
-        bytes: bytes.as_slice(),
-    };
+    let sites = sites_of(alloc, texts.first.text)?;
+    let side = Side::of(&texts.first, &cut.first, &sites);
+    let message = Message::of(&texts.message, &cut.message);
     push_end(alloc, out, &side, &message)
 }
 

@@ -3,7 +3,9 @@
 ghost use Rattle.std.specs.Prelude.{◌≡◌, ◌≢◌, ◌<◌, ◌++◌, length, codes, Err, IfOk};
 ghost use Rattle.std.specs.Prelude.{OnOk, string_bytes, slice_get, Some};
 ghost use Rattle.dia_dict.specs.Dictionary.{PlainDefinition, definitions};
-ghost use Rattle.dia_run.specs.Outcome.{Ends, IsCheckOutcome};
+ghost use Rattle.dia_check.specs.Faults.{IsAnswer};
+ghost use Rattle.dia_run.specs.Outcome.{IsCheckOutcome};
+ghost use Rattle.dia_run.specs.Report.{Answers, HasReport, IsReport};
 ghost use Rattle.dia_run.specs.Texts.{line};
 ghost use Rattle.dia_run.specs.Verdict.{IsVerdict, fault_line, reason_word, subject_text};
 
@@ -13,8 +15,10 @@ pub use crate::commands::check::feeding::{check_message, is_endless};
 use crate::commands::{Outcome, told};
 use crate::inputs::Refused;
 use crate::inputs::dictionary::read_dictionary;
+use crate::inputs::message::read_message;
+use crate::reporting::{Answered, Invalid, Report};
 use dia_check::{Fault, Levels, Reason, Refusal, Selected, Subject, Unknown};
-use dia_dict::{Book, DefId};
+use dia_dict::{Book, DefId, IndexedBook};
 use dia_io::{Exit, Inputs};
 use std::alloc::{AllocError, Global};
 
@@ -24,29 +28,43 @@ pub fn check(
     unknown: Unknown,
     levels: Levels,
     inputs: &Inputs,
-) -> Result<Outcome, Refused>
-    ensures { Ends (IsCheckOutcome unknown levels inputs.now) result }
+) -> Result<Answered, Refused>
+    ensures outcome { Answers (IsCheckOutcome unknown levels inputs.now) result }
+    ensures report { IfOk result (HasReport ⟦<IndexedBook as Book>⟧.meaning inputs.now) }
 {
-    let book = read_dictionary(alloc, 1, &inputs.first)?;
-    let answer = check_message(alloc, &*book, unknown, levels, &inputs.message)?;
-    let outcome = verdict(alloc, &*book, answer)?;
-    Ok(outcome)
+    let first = read_dictionary(alloc, 1, &inputs.first)?;
+    let answer = check_message(alloc, &first.book, unknown, levels, &inputs.message)?;
+    let Outcome { text, exit } = verdict(alloc, &first.book, &answer)?;
+    let Err(refusal) = answer else {
+        let report = Report::Done;
+        return Ok(Answered { text, exit, report });
+    };
+    let message = read_message(alloc, &inputs.message)?;
+    let report = Report::Invalid(Invalid {
+        first,
+        message,
+        unknown,
+        levels,
+        refusal,
+    });
+    Ok(Answered { text, exit, report })
 }
 
 /// The line of an answer.
 pub fn verdict<B: Book>(
     alloc: Global,
     book: &B,
-    answer: Result<Selected, Refusal>,
+    answer: &Result<Selected, Refusal>,
 ) -> Result<Outcome, AllocError>
-    requires def { IfOk answer (λ found. found.def < length (definitions (B.meaning book.now))) }
-    requires live { answer ≢ Err Refusal.Spent }
+    requires def { IfOk answer.now
+        (λ found. found.def < length (definitions (B.meaning book.now))) }
+    requires live { answer.now ≢ Err Refusal.Spent }
     ensures { IfOk result (λ outcome. IsVerdict
-        (B.meaning book.now) answer (string_bytes outcome.text) outcome.exit) }
+        (B.meaning book.now) answer.now (string_bytes outcome.text) outcome.exit) }
 {
     match answer {
         Ok(found) => valid(alloc, book, found.def),
-        Err(Refusal::Fault(fault)) => faulty(alloc, book, &fault),
+        Err(Refusal::Fault(fault)) => faulty(alloc, book, fault),
         Err(Refusal::Truncated) => told(alloc, "truncated\n", Exit::No),
         Err(Refusal::Trailing) => told(alloc, "trailing\n", Exit::No),
         Err(Refusal::NoMemory) => Err(AllocError),

@@ -2,32 +2,42 @@
 
 ghost use Rattle.std.specs.Prelude.{◌≡◌, IfOk, string_bytes};
 ghost use Rattle.dia_compat.specs.TableText.{plain_table, plain_pair};
-ghost use Rattle.dia_run.specs.Outcome.{Ends, IsCompareOutcome};
+ghost use Rattle.dia_run.specs.Outcome.{IsCompareOutcome};
 ghost use Rattle.dia_run.specs.Pairs.{IsAnswerText, NamesPair, failure_line, test_word};
+ghost use Rattle.dia_run.specs.Report.{Answers, HasReport};
 
 use crate::commands::{Outcome, told};
 use crate::inputs::Refused;
 use crate::inputs::dictionary::read_dictionary;
 use crate::inputs::table::read_table;
+use crate::reporting::{Answered, BothBooks, Compared, Report};
 use dia_check::Unknown;
 use dia_compat::{Answer, PairKind, Table, Test, check_table};
+use dia_dict::{Book, IndexedBook};
 use dia_io::{Exit, Inputs};
 use std::alloc::{AllocError, Global};
 
 /// The answer for both dictionaries and the table.
-pub fn compare(alloc: Global, unknown: Unknown, inputs: &Inputs) -> Result<Outcome, Refused>
-    ensures { Ends (IsCompareOutcome unknown inputs.now) result }
+pub fn compare(alloc: Global, unknown: Unknown, inputs: &Inputs) -> Result<Answered, Refused>
+    ensures outcome { Answers (IsCompareOutcome unknown inputs.now) result }
+    ensures report { IfOk result (HasReport ⟦<IndexedBook as Book>⟧.meaning inputs.now) }
 {
     let first = read_dictionary(alloc, 1, &inputs.first)?;
     let second = read_dictionary(alloc, 2, &inputs.second)?;
     let table = read_table(alloc, &inputs.table)?;
-    let answer = check_table(alloc, &*first, &*second, unknown, &table)?;
-    let outcome = answered(alloc, &table, answer)?;
-    Ok(outcome)
+    let answer = check_table(alloc, &first.book, &second.book, unknown, &table)?;
+    let Outcome { text, exit } = told_of(alloc, &table, answer)?;
+    let report = Report::Compared(Compared {
+        books: BothBooks { first, second },
+        table,
+        unknown,
+        answer,
+    });
+    Ok(Answered { text, exit, report })
 }
 
 /// The line of an answer, and how the program ends.
-fn answered(alloc: Global, table: &Table, answer: Answer) -> Result<Outcome, AllocError>
+fn told_of(alloc: Global, table: &Table, answer: Answer) -> Result<Outcome, AllocError>
     requires { NamesPair (plain_table table.now) answer }
     ensures { IfOk result (λ outcome. IsAnswerText
         (plain_table table.now) answer (string_bytes outcome.text) outcome.exit) }

@@ -3,15 +3,16 @@
 ghost use Rattle.std.specs.Prelude.{◌≡◌, map, IfOk, string_bytes};
 ghost use Rattle.dia_compat.specs.WrittenTable.{table_text};
 ghost use Rattle.dia_compat.specs.TableText.{plain_table};
-ghost use Rattle.dia_run.specs.Outcome.{Ends, IsProposeOutcome, no_command_line};
-ghost use Rattle.dia_run.specs.Refusals.{bad_input_text};
+ghost use Rattle.dia_run.specs.Outcome.{IsProposeOutcome, no_command_line};
+ghost use Rattle.dia_run.specs.Report.{Answers, HasReport};
+ghost use Rattle.dia_run.specs.Texts.{line};
 
-use crate::commands::Outcome;
 use crate::inputs::Refused;
-use crate::inputs::bad_input::BadInput;
 use crate::inputs::dictionary::read_dictionary;
+use crate::reporting::{Answered, BothBooks, Report};
 use dia_check::Unknown;
 use dia_compat::{ProposeFault, Table, render_table};
+use dia_dict::{Book, IndexedBook};
 use dia_io::{Exit, Inputs};
 use std::alloc::{AllocError, Global};
 
@@ -21,40 +22,49 @@ pub fn propose(
     unknown: Unknown,
     names: &[String],
     inputs: &Inputs,
-) -> Result<Outcome, Refused>
-    ensures { Ends (IsProposeOutcome unknown
+) -> Result<Answered, Refused>
+    ensures outcome { Answers (IsProposeOutcome unknown
         (map (λ name. string_bytes name) names.now) inputs.now) result }
+    ensures report { IfOk result (HasReport ⟦<IndexedBook as Book>⟧.meaning inputs.now) }
 {
     let first = read_dictionary(alloc, 1, &inputs.first)?;
     let second = read_dictionary(alloc, 2, &inputs.second)?;
-    match dia_compat::propose(alloc, &*first, &*second, unknown, names) {
+    match dia_compat::propose(alloc, &first.book, &second.book, unknown, names) {
         Ok(table) => {
-            let outcome = listed(alloc, &table)?;
-            Ok(outcome)
+            let answered = listed(alloc, &table)?;
+            Ok(answered)
         }
         Err(ProposeFault::UnknownCommand { name }) => {
-            let bad = no_command(alloc, name.as_str())?;
-            Err(Refused::Bad(bad))
+            let books = BothBooks { first, second };
+            let answered = no_command(alloc, name.as_str(), books)?;
+            Ok(answered)
         }
         Err(ProposeFault::NoMemory) => Err(Refused::NoMemory),
     }
 }
 
-/// The refusal of a name, with a copy of it.
-fn no_command(alloc: Global, name: &str) -> Result<BadInput, AllocError>
-    ensures { IfOk result (λ bad. bad_input_text bad ≡ no_command_line name.now) }
+/// The answer of a name that is no command's.
+fn no_command(alloc: Global, name: &str, books: BothBooks) -> Result<Answered, AllocError>
+    ensures text { IfOk result
+        (λ answered. string_bytes answered.text ≡ line (no_command_line name.now)) }
+    ensures exit { IfOk result (λ answered. answered.exit ≡ Exit.Bad) }
+    ensures report { IfOk result (λ answered. answered.report ≡ Report.NoCommand books) }
 {
-    let name = String::from_str(alloc, name)?;
-    Ok(BadInput::NoCommand { name })
+    let text = format!(in alloc; "propose: no command {name}\n")?;
+    let exit = Exit::Bad;
+    let report = Report::NoCommand(books);
+    Ok(Answered { text, exit, report })
 }
 
 /// The text of a table.
-fn listed(alloc: Global, table: &Table) -> Result<Outcome, AllocError>
+fn listed(alloc: Global, table: &Table) -> Result<Answered, AllocError>
     ensures text { IfOk result
-        (λ outcome. string_bytes outcome.text ≡ table_text (plain_table table.now)) }
-    ensures exit { IfOk result (λ outcome. outcome.exit ≡ Exit.Yes) }
+        (λ answered. string_bytes answered.text ≡ table_text (plain_table table.now)) }
+    ensures exit { IfOk result (λ answered. answered.exit ≡ Exit.Yes) }
+    ensures report { IfOk result (λ answered. answered.report ≡ Report.Done) }
 {
     let text = render_table(alloc, table)?;
     let exit = Exit::Yes;
-    Ok(Outcome { text, exit })
+    let report = Report::Done;
+    Ok(Answered { text, exit, report })
 }

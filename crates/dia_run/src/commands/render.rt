@@ -1,19 +1,24 @@
 //! `render`: the canonical text of a dictionary text.
 
-ghost use Rattle.dia_run.specs.Outcome.{Ends, IsRenderOutcome};
+ghost use Rattle.std.specs.Prelude.{IfOk};
+ghost use Rattle.dia_run.specs.Outcome.{IsRenderOutcome};
+ghost use Rattle.dia_run.specs.Report.{Answers, HasReport};
 
-use crate::commands::Outcome;
 use crate::inputs::Refused;
 use crate::inputs::dictionary::read_source;
+use crate::reporting::{Answered, Report};
+use dia_dict::{Book, IndexedBook};
 use dia_io::{Exit, Inputs};
 use std::alloc::Global;
 
 /// The canonical text of the first dictionary, which is read and not resolved.
-pub fn render(alloc: Global, inputs: &Inputs) -> Result<Outcome, Refused>
-    ensures { Ends (IsRenderOutcome inputs.now) result }
+pub fn render(alloc: Global, inputs: &Inputs) -> Result<Answered, Refused>
+    ensures outcome { Answers (IsRenderOutcome inputs.now) result }
+    ensures report { IfOk result (HasReport ⟦<IndexedBook as Book>⟧.meaning inputs.now) }
 {
     let source = read_source(alloc, 1, &inputs.first)?;
     let text = dia_ccf::render(alloc, &source)?;
     let exit = Exit::Yes;
-    Ok(Outcome { text, exit })
+    let report = Report::Done;
+    Ok(Answered { text, exit, report })
 }

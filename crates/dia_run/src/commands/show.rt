@@ -1,16 +1,18 @@
 //! `show`: a message, an AVP a line.
 
-ghost use Rattle.std.specs.Prelude.{◌≡◌, ◌++◌, OnOk, string_bytes};
+ghost use Rattle.std.specs.Prelude.{◌≡◌, ◌≢◌, ◌++◌, IfOk, OnOk, string_bytes};
 ghost use Rattle.dia_run.specs.Listing.{header_line};
 ghost use Rattle.dia_run.specs.Outcome.{Ends, IsShowOutcome, IsMessageShown, listing_exit};
+ghost use Rattle.dia_run.specs.Report.{Answers, HasReport};
 
 use crate::commands::Outcome;
 use crate::commands::show::listing::push_level;
 use crate::inputs::Refused;
 use crate::inputs::dictionary::read_dictionary;
 use crate::inputs::message::read_message;
+use crate::reporting::{Answered, CutListing, Report};
 use dia_data::push_hex_byte;
-use dia_dict::Book;
+use dia_dict::{Book, IndexedBook};
 use dia_io::{Exit, Inputs};
 use dia_wire::{HEADER_LENGTH, Header, split_message};
 use std::alloc::{AllocError, Global};
@@ -18,17 +20,29 @@ use std::alloc::{AllocError, Global};
 mod listing;
 
 /// The lines of the message, with the names of the first dictionary.
-pub fn show(alloc: Global, inputs: &Inputs) -> Result<Outcome, Refused>
-    ensures { Ends (IsShowOutcome inputs.now) result }
+pub fn show(alloc: Global, inputs: &Inputs) -> Result<Answered, Refused>
+    ensures outcome { Answers (IsShowOutcome inputs.now) result }
+    ensures report { IfOk result (HasReport ⟦<IndexedBook as Book>⟧.meaning inputs.now) }
 {
-    let book = read_dictionary(alloc, 1, &inputs.first)?;
-    let bytes = read_message(alloc, &inputs.message)?;
-    show_message(alloc, &*book, bytes.as_slice())
+    let first = read_dictionary(alloc, 1, &inputs.first)?;
+    let message = read_message(alloc, &inputs.message)?;
+    let Outcome { text, exit } = show_message(alloc, &first.book, message.as_slice())?;
+    let report = match exit {
+        Exit::Yes => return Ok(Answered {
+            text,
+            exit,
+            report: Report::Done,
+        }),
+        Exit::No => Report::Cut(CutListing { first, message }),
+        Exit::Bad => unreachable!(),
+    };
+    Ok(Answered { text, exit, report })
 }
 
 /// The lines of a message.
 fn show_message<B: Book>(alloc: Global, book: &B, bytes: &[u8]) -> Result<Outcome, Refused>
-    ensures { Ends (IsMessageShown (B.meaning book.now) bytes.now) result }
+    ensures outcome { Ends (IsMessageShown (B.meaning book.now) bytes.now) result }
+    ensures exit { IfOk result (λ outcome. outcome.exit ≢ Exit.Bad) }
 {
     let (header, body) = split_message(bytes)?;
     let mut text = String::new(alloc);

@@ -4,6 +4,7 @@ ghost use Rattle.std.specs.Prelude.{◌≡◌};
 ghost use Rattle.dia_run.specs.Refusals.{message_fault_word};
 ghost use Rattle.dia_run.specs.Texts.{or_dash};
 
+use dia_ccf::Source;
 use dia_dict::DictKind;
 use dia_wire::MessageFault;
 use std::fmt;
@@ -15,8 +16,6 @@ pub enum BadInput {
     Dictionary { number: u8, why: BadDictionary },
     Table(BadTable),
     Message(BadMessage),
-    /// The first dictionary has no command of this name.
-    NoCommand { name: String },
 }
 
 /// Why a text names no dictionary.
@@ -24,8 +23,10 @@ pub enum BadInput {
 pub enum BadDictionary {
     /// More bytes than the text of a dictionary may have.
     TooLong,
-    /// Bytes that are no UTF-8.
-    NotText,
+    /// Bytes that are no UTF-8, from this place on.
+    NotText {
+        at: usize,
+    },
     Syntax {
         line: u32,
     },
@@ -35,8 +36,9 @@ pub enum BadDictionary {
     Limit {
         line: u32,
     },
-    /// The first fault of its definitions. A name is empty where there is none.
+    /// What the text says, and the first fault of its definitions. A name is empty where there is none.
     Wrong {
+        source: Box<Source>,
         kind: DictKind,
         name: String,
         slot: String,
@@ -48,8 +50,8 @@ pub enum BadDictionary {
 pub enum BadTable {
     /// More bytes than the text of a table may have.
     TooLong,
-    /// Bytes that are no UTF-8.
-    NotText,
+    /// Bytes that are no UTF-8, from this place on.
+    NotText { at: usize },
     Syntax { line: u32 },
     Limit { line: u32 },
 }
@@ -75,7 +77,6 @@ impl fmt::Display for BadInput {
             BadInput::Dictionary { number, why } => write!(f, "dictionary {number}: {why}"),
             BadInput::Table(why) => write!(f, "table: {why}"),
             BadInput::Message(why) => write!(f, "message: {why}"),
-            BadInput::NoCommand { name } => write!(f, "propose: no command {name}"),
         }
     }
 }
@@ -89,11 +90,16 @@ impl fmt::Display for BadDictionary {
     fn fmt<W: fmt::Write>(&self, f: &mut fmt::Formatter<W>) -> fmt::Result {
         match self {
             BadDictionary::TooLong => write!(f, "too long"),
-            BadDictionary::NotText => write!(f, "not text"),
+            BadDictionary::NotText { .. } => write!(f, "not text"),
             BadDictionary::Syntax { line } => write!(f, "syntax at line {line}"),
             BadDictionary::Number { line } => write!(f, "number at line {line}"),
             BadDictionary::Limit { line } => write!(f, "limit at line {line}"),
-            BadDictionary::Wrong { kind, name, slot } => {
+            BadDictionary::Wrong {
+                kind,
+                name,
+                slot,
+                ..
+            } => {
                 let name = or_dash(name.as_str());
                 let slot = or_dash(slot.as_str());
                 write!(f, "{kind} {name} {slot}")
@@ -111,7 +117,7 @@ impl fmt::Display for BadTable {
     fn fmt<W: fmt::Write>(&self, f: &mut fmt::Formatter<W>) -> fmt::Result {
         match self {
             BadTable::TooLong => write!(f, "too long"),
-            BadTable::NotText => write!(f, "not text"),
+            BadTable::NotText { .. } => write!(f, "not text"),
             BadTable::Syntax { line } => write!(f, "syntax at line {line}"),
             BadTable::Limit { line } => write!(f, "limit at line {line}"),
         }

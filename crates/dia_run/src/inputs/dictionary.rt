@@ -2,17 +2,20 @@
 
 ghost use Rattle.std.specs.Prelude.{◌≡◌, ◌≢◌, List, ℕ, IfOk, IfErr};
 ghost use Rattle.dia_dict.specs.Resolution.{wrong};
+ghost use Rattle.dia_io.specs.declared.Input.{Input as AnyInput};
 ghost use Rattle.dia_ccf.specs.Plain.{plain_source};
 ghost use Rattle.dia_dict.specs.Dictionary.{IsDictionary};
 ghost use Rattle.dia_run.specs.Texts.{IsSourceText, IsNoSourceText};
 ghost use Rattle.dia_run.specs.Texts.{IsDictionaryText, IsNoDictionaryText};
 ghost use Rattle.dia_run.specs.Texts.{dictionary_line, fault_text, wrong_text};
 ghost use Rattle.dia_run.specs.Refusals.{TellsOf, bad_dictionary_text};
+ghost use Rattle.dia_run.specs.Report.{HasSource};
 
 use crate::inputs::bad_input::{BadDictionary, BadInput};
 use crate::inputs::{Refused, bytes_within};
+use crate::reporting::ReadBook;
 use dia_ccf::{CcfFault, MAX_TEXT, Source, parse};
-use dia_dict::{Book, DictFault, DictKind, IndexedBook, PlainBook, resolve};
+use dia_dict::{Book, DictFault, DictKind, IndexedBook, PlainBook, book_of};
 use dia_io::Input;
 use std::alloc::{AllocError, AllocFailed, Global};
 
@@ -21,12 +24,17 @@ pub fn read_source(alloc: Global, number: u8, input: &Input) -> Result<Source, R
     ensures source { IfOk result (λ source. IsSourceText input.now (plain_source source)) }
     ensures told { IfErr result (TellsOf (λ told. (why : List ℕ) × IsNoSourceText input.now why
         × (told ≡ dictionary_line number why))) }
+    ensures kept { IfErr result (HasSource input.now) }
 {
     let Some(bytes) = bytes_within(input, MAX_TEXT) else {
         return Err(tell(number, BadDictionary::TooLong));
     };
-    let Ok(text) = str::from_utf8(bytes) else {
-        return Err(tell(number, BadDictionary::NotText));
+    let text = match str::from_utf8(bytes) {
+        Ok(text) => text,
+        Err(error) => {
+            let at = error.valid_up_to();
+            return Err(tell(number, BadDictionary::NotText { at }));
+        }
     };
     match parse(alloc, text) {
         Ok(source) => Ok(source),
@@ -34,40 +42,40 @@ pub fn read_source(alloc: Global, number: u8, input: &Input) -> Result<Source, R
     }
 }
 
-/// The dictionary that an input's text names. It is boxed: the prover takes minutes for a function that holds two by value.
-pub fn read_dictionary(
-    alloc: Global,
-    number: u8,
-    input: &Input,
-) -> Result<Box<IndexedBook>, Refused>
+/// What an input's text says, and the dictionary that it names. It is boxed: the prover takes minutes for a function that holds
+/// two by value.
+pub fn read_dictionary(alloc: Global, number: u8, input: &Input) -> Result<Box<ReadBook>, Refused>
+    ensures source { IfOk result (λ read. IsSourceText input.now (plain_source read.value.source)) }
     ensures book { IfOk result
-        (λ book. IsDictionaryText input.now (⟦<IndexedBook as Book>⟧.meaning book.value)) }
+        (λ read. IsDictionaryText input.now (⟦<IndexedBook as Book>⟧.meaning read.value.book)) }
     ensures told { IfErr result (TellsOf (λ told. (why : List ℕ) × IsNoDictionaryText input.now why
         × (told ≡ dictionary_line number why))) }
+    ensures kept { IfErr result (HasSource input.now) }
 {
     let source = read_source(alloc, number, input)?;
-    match resolve(alloc, source) {
-        Ok(book) => indexed(alloc, book),
+    match book_of(alloc, &source) {
+        Ok(book) => indexed(alloc, source, book),
         Err(DictFault::NoMemory) => Err(Refused::NoMemory),
         Err(DictFault::Stands { kind, name, slot }) => {
-            let why = wrong_of(alloc, kind, name.as_str(), slot.as_str())?;
+            let why = wrong_of(alloc, source, kind, name.as_str(), slot.as_str())?;
             Err(tell(number, why))
         }
     }
 }
 
-/// The book with an index.
-fn indexed(alloc: Global, book: PlainBook) -> Result<Box<IndexedBook>, Refused>
-    ensures meaning { IfOk result (λ indexed. ⟦<IndexedBook as Book>⟧.meaning indexed.value
+/// The source and its book, which gets an index.
+fn indexed(alloc: Global, source: Source, book: PlainBook) -> Result<Box<ReadBook>, Refused>
+    ensures source { IfOk result (λ read. read.value.source ≡ source) }
+    ensures meaning { IfOk result (λ read. ⟦<IndexedBook as Book>⟧.meaning read.value.book
         ≡ ⟦<PlainBook as Book>⟧.meaning book) }
     ensures sound { IfOk result
-        (λ indexed. IsDictionary (⟦<IndexedBook as Book>⟧.meaning indexed.value)) }
+        (λ read. IsDictionary (⟦<IndexedBook as Book>⟧.meaning read.value.book)) }
     ensures no_memory { IfErr result (λ refused. refused ≡ Refused.NoMemory) }
 {
-    let indexed = IndexedBook::from_plain(alloc, book)?;
-    has_dictionary(&indexed);
-    match Box::new(alloc, indexed) {
-        Ok(indexed) => Ok(indexed),
+    let book = IndexedBook::from_plain(alloc, book)?;
+    has_dictionary(&book);
+    match Box::new(alloc, ReadBook { source, book }) {
+        Ok(read) => Ok(read),
         Err(AllocFailed { .. }) => Err(Refused::NoMemory),
     }
 }
@@ -79,7 +87,7 @@ fn has_dictionary<B: Book>(book: &B)
 
 fn tell(number: u8, why: BadDictionary) -> Refused
     ensures told { TellsOf (λ told. told ≡ dictionary_line number (bad_dictionary_text why)) result }
-    ensures bad { result ≢ Refused.NoMemory }
+    ensures bad { result ≡ Refused.Bad (BadInput.Dictionary number why) }
 {
     Refused::Bad(BadInput::Dictionary { number, why })
 }
@@ -89,6 +97,7 @@ fn tell_fault(number: u8, fault: CcfFault) -> Refused
     ensures told { TellsOf (λ told. (fault ≢ CcfFault.NoMemory)
         × (told ≡ dictionary_line number (fault_text fault))) result }
     ensures memory { result ≡ Refused.NoMemory → fault ≡ CcfFault.NoMemory }
+    ensures kept { (input : AnyInput) → HasSource input result }
 {
     match fault {
         CcfFault::Syntax { line, .. } => tell(number, BadDictionary::Syntax { line }),
@@ -98,17 +107,26 @@ fn tell_fault(number: u8, fault: CcfFault) -> Refused
     }
 }
 
-/// Why the definitions name no dictionary, with copies of the names.
+/// Why the definitions of a source name no dictionary, with copies of the names.
 fn wrong_of(
     alloc: Global,
+    source: Source,
     kind: DictKind,
     name: &str,
     slot: &str,
 ) -> Result<BadDictionary, AllocError>
-    ensures { IfOk result (λ why. bad_dictionary_text why
+    ensures text { IfOk result (λ why. bad_dictionary_text why
         ≡ wrong_text (wrong kind name.now slot.now)) }
+    ensures kept { (input : AnyInput) (number : ℕ) → IsSourceText input (plain_source source)
+        → IfOk result (λ why. HasSource input (Refused.Bad (BadInput.Dictionary number why))) }
 {
     let name = String::from_str(alloc, name)?;
     let slot = String::from_str(alloc, slot)?;
-    Ok(BadDictionary::Wrong { kind, name, slot })
+    let source = Box::new(alloc, source)?;
+    Ok(BadDictionary::Wrong {
+        source,
+        kind,
+        name,
+        slot,
+    })
 }

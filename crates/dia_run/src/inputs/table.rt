@@ -19,8 +19,12 @@ pub fn read_table(alloc: Global, input: &Input) -> Result<Table, Refused>
     let Some(bytes) = bytes_within(input, MAX_TABLE) else {
         return Err(tell(BadTable::TooLong));
     };
-    let Ok(text) = str::from_utf8(bytes) else {
-        return Err(tell(BadTable::NotText));
+    let text = match str::from_utf8(bytes) {
+        Ok(text) => text,
+        Err(error) => {
+            let at = error.valid_up_to();
+            return Err(tell(BadTable::NotText { at }));
+        }
     };
     match parse_table(alloc, text) {
         Ok(table) => Ok(table),

@@ -38,4 +38,4 @@ returns-in_err-checked-clause-endless g c = λ e.
 
 pub returns-clause-answered : goal.returns-clause-answered
 returns-clause-answered g c =
-    all_answered (checks c.args.unknown c.args.levels) c.args.inputs.now _ (of_check c.args.unknown c.args.levels c.args.inputs.now _ (rw (← c.deref.ensures) at c.in-Ok.ensures.book)) _ _ _ _ c.in_ok-checked.checked c.yes_if.result (first_stands c.args.inputs.now _ (rw (← c.deref.ensures) at c.in-Ok.ensures.book)) c.yes_if.ensures c.in_ok-checked.ensures.answered
+    all_answered (checks c.args.unknown c.args.levels) c.args.inputs.now _ (of_check c.args.unknown c.args.levels c.args.inputs.now _ (rw (← c.deref.ensures) at c.in-Ok.ensures.book)) _ _ _ _ c.in_ok-checked.checked c.ended.result.exit (first_stands c.args.inputs.now _ (rw (← c.deref.ensures) at c.in-Ok.ensures.book)) c.ended.ensures c.in_ok-checked.ensures.answered

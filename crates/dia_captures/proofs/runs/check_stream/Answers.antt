@@ -34,4 +34,4 @@ returns-in_err-told-clause-endless g c = λ e.
 
 pub returns-clause-answered : goal.returns-clause-answered
 returns-clause-answered g c =
-    stream_answered c.args.unknown c.args.levels c.args.inputs.now _ (rw (← c.deref.ensures) at c.in-Ok.ensures.book) _ _ _ _ c.in_ok-told.told c.yes_if.result c.yes_if.ensures c.in_ok-told.ensures.told
+    stream_answered c.args.unknown c.args.levels c.args.inputs.now _ (rw (← c.deref.ensures) at c.in-Ok.ensures.book) _ _ _ _ c.in_ok-told.told c.ended.result.exit c.ended.ensures c.in_ok-told.ensures.told

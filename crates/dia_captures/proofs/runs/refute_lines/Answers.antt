@@ -56,5 +56,5 @@ returns-in_err-refuted-clause-endless g c = λ e.
 pub returns-clause-answered : goal.returns-clause-answered
 returns-clause-answered g c =
     all_answered (refutations c.args.unknown c.args.levels) c.args.inputs.now _
-    (of_refute c.args.unknown c.args.levels c.args.inputs.now _ _ (rw (← c.deref.ensures) at c.in-Ok.ensures.book) (rw (← c.deref-2.ensures) at c.in-Ok-read_dictionary.ensures.book)) _ _ _ _ c.in_ok-refuted.refuted c.yes_if.result
-    (both_stand c.args.unknown c.args.levels c.args.inputs.now _ _ (rw (← c.deref.ensures) at c.in-Ok.ensures.book) (rw (← c.deref-2.ensures) at c.in-Ok-read_dictionary.ensures.book)) c.yes_if.ensures c.in_ok-refuted.ensures.answered
+    (of_refute c.args.unknown c.args.levels c.args.inputs.now _ _ (rw (← c.deref.ensures) at c.in-Ok.ensures.book) (rw (← c.deref-2.ensures) at c.in-Ok-read_dictionary.ensures.book)) _ _ _ _ c.in_ok-refuted.refuted c.ended.result.exit
+    (both_stand c.args.unknown c.args.levels c.args.inputs.now _ _ (rw (← c.deref.ensures) at c.in-Ok.ensures.book) (rw (← c.deref-2.ensures) at c.in-Ok-read_dictionary.ensures.book)) c.ended.ensures c.in_ok-refuted.ensures.answered

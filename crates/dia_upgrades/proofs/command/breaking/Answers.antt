@@ -4,20 +4,20 @@ use Rattle.dia_upgrades.proofs.command.breaking.Goals as goal
 
 pub returns-in_err-put_all-clause-front : goal.returns-in_err-put_all-clause-front
 returns-in_err-put_all-clause-front g c = λ device.
-    (string_bytes c.in_ok-outcome.outcome.text, c.in_ok-outcome.outcome.exit, c.in_ok-outcome.ensures, rw c.as_bytes.ensures.value at c.put_all.ensures.front)
+    (string_bytes c.in_ok-text.text, c.in_ok-text.exit, c.in_ok-text.ensures.outcome, rw c.as_bytes.ensures.value at c.put_all.ensures.front)
 
 pub returns-clause-text : goal.returns-clause-text
-returns-clause-text g c = (string_bytes c.in_ok-outcome.outcome.text, c.in_ok-outcome.ensures, rw c.as_bytes.ensures.value at c.in_ok-put_all.ensures.ok)
+returns-clause-text g c = (string_bytes c.in_ok-text.text, c.in_ok-text.ensures.outcome, c.in_ok-text.ensures.report, rw c.as_bytes.ensures.value at c.in_ok-put_all.ensures.ok)
 
 pub returns-clause-yes : goal.returns-clause-yes
 returns-clause-yes g c = λ is_yes.
-    let said = yes_is_safe c.args.asked c.args.inputs.now _ _ c.in_ok-outcome.ensures is_yes in
+    let said = yes_is_safe c.args.asked c.args.inputs.now _ _ c.in_ok-text.ensures.outcome is_yes in
     (said.0, rw (c.as_bytes.ensures.value, said.1) at c.in_ok-put_all.ensures.ok)
 
 pub returns-clause-no : goal.returns-clause-no
 returns-clause-no g c = λ is_no.
-    let told = no_is_told c.args.asked c.args.inputs.now _ _ c.in_ok-outcome.ensures is_no in
+    let told = no_is_told c.args.asked c.args.inputs.now _ _ c.in_ok-text.ensures.outcome is_no in
     (told.0, told.1, rw (c.as_bytes.ensures.value, told.2) at c.in_ok-put_all.ensures.ok)
 
 pub returns-clause-bad : goal.returns-clause-bad
-returns-clause-bad g c = bad_is_refused c.args.asked c.args.inputs.now _ _ c.in_ok-outcome.ensures
+returns-clause-bad g c = bad_is_refused c.args.asked c.args.inputs.now _ _ c.in_ok-text.ensures.outcome

@@ -1,7 +1,10 @@
-use Rattle.dia_run.proofs.RefusedInputs.{outcome_is}
+use Rattle.dia_run.proofs.RefusedInputs.{answer_is, report_is}
 use Rattle.dia_upgrades.specs.Outcome.{IsBreakingOutcome}
 use Rattle.dia_upgrades.proofs.command.perform.Goals as goal
 
-pub returns : goal.returns
-returns c =
-    outcome_is (IsBreakingOutcome c.args.asked c.args.inputs.now) _ _ c.outcome_of.ensures.done c.outcome_of.ensures.text c.outcome_of.ensures.exit c.outcome_of.ensures.memory c.attempt.ensures
+pub returns-clause-outcome : goal.returns-clause-outcome
+returns-clause-outcome c =
+    answer_is (IsBreakingOutcome c.args.asked c.args.inputs.now) _ _ c.answer_of.ensures.done c.answer_of.ensures.refused c.attempt.ensures.outcome
+
+pub returns-clause-report : goal.returns-clause-report
+returns-clause-report c = report_is _ c.args.inputs.now _ _ c.answer_of.ensures.done c.answer_of.ensures.refused c.attempt.ensures.report

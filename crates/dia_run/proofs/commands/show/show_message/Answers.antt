@@ -4,8 +4,8 @@ use Rattle.std.proofs.lemmas.Result.{err_from_is_err_and}
 use Rattle.dia_run.proofs.OutcomeParts.{Ends-unsplit, listed}
 use Rattle.dia_run.proofs.commands.show.show_message.Goals as goal
 
-pub returns-in_err-header : goal.returns-in_err-header
-returns-in_err-header g c =
+pub returns-in_err-header-clause-outcome : goal.returns-in_err-header-clause-outcome
+returns-in_err-header-clause-outcome g c =
     let p = err_from_is_err_and c.from_residual.result c.from_residual.ensures.1 in
     rw p.1 (Ends-unsplit _ c.args.bytes.now _ _ p.0 refl p.2 c.in_err-header.ensures.short.0 c.in_err-header.ensures.version.0
     c.in_err-header.ensures.length_fault.0 c.in_err-header.ensures.truncated.0 c.in_err-header.ensures.trailing.0)
@@ -13,7 +13,7 @@ returns-in_err-header g c =
 pub push_level-requires : goal.push_level-requires
 push_level-requires g c = omega (arith, ap length c.in_ok-header.ensures.body, length-drop 20 c.args.bytes.now)
 
-pub returns : goal.returns
-returns g c =
+pub returns-clause-outcome : goal.returns-clause-outcome
+returns-clause-outcome g c =
     listed _ c.args.bytes.now _ _ _ _ c.in_ok-header.header _ _ c.new-text.ensures.bytes c.in_ok-push_header.ensures c.in_ok-header.ensures.head c.in_ok-header.ensures.long
     c.in_ok-header.ensures.body c.in_ok-bad.ensures c.listing_exit-exit.ensures

@@ -17,6 +17,10 @@ pub returns-in_ok-why-in-Err-Stands-clause-told : goal.returns-in_ok-why-in-Err-
 returns-in_ok-why-in-Err-Stands-clause-told c =
     let is_first = rw c.in-Err-Stands.field-0-is at c.in-Err-Stands.ensures.err in
     let is_wrong = wrong c.in-Err-Stands.kind (string_bytes c.in-Err-Stands.name) (string_bytes c.in-Err-Stands.slot) in
-    let why = rw (c.as_str.ensures.value, c.as_str-in-Err-Stands.ensures.value) at c.in_ok-why-in-Err-Stands.ensures in
+    let why = rw (c.as_str.ensures.value, c.as_str-in-Err-Stands.ensures.value) at c.in_ok-why-in-Err-Stands.ensures.text in
     told_why (IsNoDictionaryText c.args.input.now) c.args.number (bad_dictionary_text c.in_ok-why-in-Err-Stands.why) _
     (inr (plain_source c.in_ok-source.source, is_wrong, c.in_ok-source.ensures.source, is_first, why)) c.tell.ensures.told
+
+pub returns-in_ok-why-in-Err-Stands-clause-kept : goal.returns-in_ok-why-in-Err-Stands-clause-kept
+returns-in_ok-why-in-Err-Stands-clause-kept c =
+    rw c.tell.ensures.bad (c.in_ok-why-in-Err-Stands.ensures.kept c.args.input.now c.args.number c.in_ok-source.ensures.source)
