@@ -2,7 +2,8 @@
 
 use crate::inputs::text_of;
 use dia_book::{Book, DefHead, Definition, Key};
-use dia_explain_places::{DefSite, Sites, back, push_excerpt, push_place, walk_over};
+use dia_ccf::{Refused, read};
+use dia_explain_places::{DefSite, Sites, back, push_excerpt, push_place};
 use dia_io::Input;
 use std::alloc::{AllocError, Global};
 
@@ -17,8 +18,12 @@ pub struct Side<'a, B: Book> {
 
 /// The places of the parts of a dictionary's text.
 pub fn sites_of(alloc: Global, input: &Input) -> Result<Sites, AllocError> {
-    let walk = walk_over(alloc, text_of(input))?;
-    Ok(walk.sites)
+    let text = str::from_utf8(text_of(input)).unwrap_or("");
+    match read(alloc, text) {
+        Ok(source) => dia_explain_places::sites_of(alloc, text, &source),
+        Err(Refused::NoMemory) => Err(AllocError),
+        Err(Refused::TooLong | Refused::At(_)) => Ok(Sites::new(alloc)),
+    }
 }
 
 impl<B: Book> Side<'_, B> {

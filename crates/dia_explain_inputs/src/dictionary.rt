@@ -5,13 +5,15 @@ mod finding;
 mod hints;
 mod meaning;
 mod parts;
+mod scene;
 mod texts;
 mod wrongs;
 
-use dia_ccf::{CcfFault, MAX_TEXT, parse};
-use dia_explain_places::{push_excerpt, push_place, walk_over};
+use dia_ccf::{MAX_TEXT, Refused, read};
+use dia_explain_places::{push_excerpt, push_place};
 use dia_io::Input;
 use meaning::push_meaning;
+use scene::Scene;
 use std::alloc::{AllocError, Global};
 use texts::push_syntax;
 
@@ -23,10 +25,7 @@ pub fn push_dictionary(
     input: &Input,
 ) -> Result<bool, AllocError> {
     let Input::Bytes(bytes) = input else {
-        write!(out, "{name}: the text has more than {MAX_TEXT} bytes\n")?;
-        out.push_str(
-            "hint: leave out what the comparison doesn't need; render writes a dictionary without its comments\n",
-        )?;
+        push_too_long(out, name)?;
         return Ok(true);
     };
     match str::from_utf8(bytes) {
@@ -36,6 +35,13 @@ pub fn push_dictionary(
             Ok(true)
         }
     }
+}
+
+fn push_too_long(out: &mut String, name: &str) -> Result<(), AllocError> {
+    write!(out, "{name}: the text has more than {MAX_TEXT} bytes\n")?;
+    out.push_str(
+        "hint: leave out what the comparison doesn't need; render writes a dictionary without its comments\n",
+    )
 }
 
 /// Adds the note of a text that isn't UTF-8 from a place on.
@@ -58,14 +64,15 @@ pub fn push_not_text(
 }
 
 fn push_text(alloc: Global, out: &mut String, name: &str, text: &str) -> Result<bool, AllocError> {
-    match parse(alloc, text) {
-        Ok(source) => push_meaning(alloc, out, name, text.as_bytes(), &source),
-        Err(CcfFault::NoMemory) => Err(AllocError),
-        Err(_) => {
-            let walk = walk_over(alloc, text.as_bytes())?;
-            if let Some(refused) = walk.refused {
-                push_syntax(alloc, out, name, text.as_bytes(), &walk, &refused)?;
-            }
+    match read(alloc, text) {
+        Ok(source) => push_meaning(alloc, out, name, text, &source),
+        Err(Refused::NoMemory) => Err(AllocError),
+        Err(Refused::TooLong) => {
+            push_too_long(out, name)?;
+            Ok(true)
+        }
+        Err(Refused::At(misfit)) => {
+            push_syntax(alloc, out, name, &Scene::new(text, &misfit))?;
             Ok(true)
         }
     }

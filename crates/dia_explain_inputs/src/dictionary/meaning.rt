@@ -8,7 +8,7 @@ use crate::dictionary::parts::Parts;
 use crate::dictionary::wrongs::{Fault, Faults, MOST, MOST_NAMES, Wrong};
 use advice::{push_general, push_special};
 use dia_ccf::Source;
-use dia_explain_places::{push_place, walk_over};
+use dia_explain_places::{push_place, sites_of};
 use std::alloc::{AllocError, Global};
 use words::push_wrong;
 
@@ -17,17 +17,17 @@ pub fn push_meaning(
     alloc: Global,
     out: &mut String,
     name: &str,
-    text: &[u8],
+    text: &str,
     source: &Source,
 ) -> Result<bool, AllocError> {
-    let walk = walk_over(alloc, text)?;
-    let parts = Parts::new(alloc, source, &walk.sites)?;
+    let sites = sites_of(alloc, text, source)?;
+    let parts = Parts::new(alloc, source, &sites)?;
     let faults = find_faults(alloc, &parts)?;
     if faults.is_empty() {
         return Ok(false);
     }
     let names = parts.names_of_avps(alloc)?;
-    push_told(out, name, text, &faults, &names)?;
+    push_told(out, name, text.as_bytes(), &faults, &names)?;
     push_rest(out, name, &faults)?;
     Ok(true)
 }
