@@ -24,7 +24,7 @@ cap_size least most n m false true e f is small =
     absurd (omega arith)
 cap_size least most n m false false e f is small = rw (e, f, and_false (nat_le least m), and_false (nat_le least n)) refl
 
-number_capped : (least most n : ℕ) → most < 4294967296 → number_at least most (Number (min n 4294967296)) ≡ number_at least most (Number n)
+pub number_capped : (least most n : ℕ) → most < 4294967296 → number_at least most (Number (min n 4294967296)) ≡ number_at least most (Number n)
 number_capped least most n small = cap_size least most n (min n 4294967296) (nat_le n most) (nat_le (min n 4294967296) most) refl refl refl small
 
 head_capped : (at : HeadPlace) (n : ℕ) → next_in_head at (Number (min n 4294967296)) ≡ next_in_head at (Number n)

@@ -6,6 +6,7 @@ use Rattle.std.proofs.lemmas.Bool.{le-leb, leb-true}
 use Rattle.dia_terms.specs.declared.RuleKind.{RuleKind}
 use Rattle.dia_terms.specs.declared.RuleKind.TheVariants.{Fixed, Required, Optional}
 use Rattle.dia_ccf.specs.declared.source.Qual.{Qual}
+use Rattle.dia_ccf.specs.Names.{is_fixed}
 use Rattle.dia_ccf.specs.Plain.{PlainDecl, PlainRule, PlainDef, PlainSource}
 use Rattle.dia_ccf.specs.Tokens.{Token, Less, Greater, Open_brace, Close_brace, Open_bracket, Close_bracket, Open_parenthesis, Close_parenthesis, Star, Dots, Assign, Colon, Declares, Number, Name}
 use Rattle.dia_ccf.specs.Limits.{max_number, max_value}
@@ -24,6 +25,10 @@ use Rattle.dia_ccf.proofs.MachineCompleteness.{and_false}
 abbrev pub is_sound : Place → Bool
 is_sound (After_value d ranges n) = nat_le n max_value
 is_sound (After_dots d ranges low) = nat_le low max_value
+is_sound (Fixed_name d qual) = all_fixed d.rules
+is_sound (Fixed_close d qual name) = all_fixed d.rules
+is_sound (Loose_name d kind qual) = not (is_fixed kind)
+is_sound (Loose_close d rule) = not (is_fixed rule.kind)
 is_sound place = true
 
 abbrev leads_soundly : Option State → Bool
@@ -56,7 +61,12 @@ sound_loose done d qual t = sound_cond (same_sign Open_brace t) (Some (done, Loo
     (sound_map (λ u. (done, Loose_name d Optional qual)) (sign_at Open_bracket t) (λ u. refl))
 
 sound_bracket : (done : PlainSource) (d : PlainDef) (qual : Qual) (t : Token) → leads_soundly (on_bracket done d qual t) ≡ true
-sound_bracket done d qual t = sound_cond (all_fixed d.rules && same_sign Less t) (Some (done, Fixed_name d qual)) _ refl (sound_loose done d (Some qual) t)
+sound_bracket done d qual t = by_tests (all_fixed d.rules) (same_sign Less t) refl
+  where
+    by_tests : (fixed less : Bool) → all_fixed d.rules ≡ fixed → leads_soundly (cond (fixed && less) (Some (done, Fixed_name d qual)) (on_loose done d (Some qual) t)) ≡ true
+    by_tests true true e = e
+    by_tests true false e = sound_loose done d (Some qual) t
+    by_tests false less e = sound_loose done d (Some qual) t
 
 sound_rules : (done : PlainSource) (d : PlainDef) (t : Token) → leads_soundly (on_rules done d t) ≡ true
 sound_rules done d t =
@@ -89,13 +99,13 @@ sound_step done (Qual_min d n) t h = sound_map (λ u. (done, Qual_star d (Some n
 sound_step done (Qual_star d min) t h = sound_cond (is_number t) (option_map (λ n. (done, Qual_done d (record { min = min; max = Some n }))) (number_at 0 max_number t)) _
     (sound_map (λ n. (done, Qual_done d (record { min = min; max = Some n }))) (number_at 0 max_number t) (λ n. refl)) (sound_bracket done d (record { min = min; max = None }) t)
 sound_step done (Qual_done d qual) t h = sound_bracket done d qual t
-sound_step done (Fixed_name d qual) t h = sound_map (λ n. (done, Fixed_close d qual n)) (name_at t) (λ n. refl)
+sound_step done (Fixed_name d qual) t h = sound_map (λ n. (done, Fixed_close d qual n)) (name_at t) (λ n. h)
 sound_step done (Fixed_close d qual n) t h = sound_map (λ u. (done, Rules (with_rule d (fixed_rule n (Some qual))))) (sign_at Greater t) (λ u. refl)
 sound_step done (Angle_name d) t h = sound_map (λ n. (done, Angle_close d n)) (name_at t) (λ n. refl)
 sound_step done (Angle_close d n) t h = sound_map (λ u. (done, After_angle d n)) (sign_at Greater t) (λ u. refl)
 sound_step done (After_angle d n) t h = sound_cond (same_sign Assign t) (Some (add_def done d, Head_open n)) _ refl
     (sound_cond (all_fixed d.rules) (on_rules done (with_rule d (fixed_rule n None)) t) None (sound_rules done (with_rule d (fixed_rule n None)) t) refl)
-sound_step done (Loose_name d kind qual) t h = sound_map (λ n. (done, Loose_close d (record { kind = kind; name = n; qual = qual }))) (slot_at t) (λ n. refl)
+sound_step done (Loose_name d kind qual) t h = sound_map (λ n. (done, Loose_close d (record { kind = kind; name = n; qual = qual }))) (slot_at t) (λ n. h)
 sound_step done (Loose_close d r) t h = sound_map (λ u. (done, Rules (with_rule d r))) (sign_at (closing_sign r.kind) t) (λ u. refl)
 
 pub sound_next : (p q : State) (t : Token) → is_sound p.1 ≡ true → next p t ≡ Some q → is_sound q.1 ≡ true

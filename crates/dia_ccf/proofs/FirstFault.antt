@@ -17,12 +17,18 @@ use Rattle.dia_ccf.specs.Faults.{CanBegin, IsFirstFault, Fits, IsNumberFault, Is
 use Rattle.dia_ccf.specs.Machine.{State, Place, Between, In_values, After_value, After_dots, In_head, Flags, Group_vendor, Error_flags, Loose_close, with_rule, closing_sign}
 use Rattle.dia_ccf.specs.Machine.{sign_at, Command_code, Group_code, Rules, Qual_star, Qual_done, After_angle, Decl_code, Decl_number, Decl_values, HeadPlace}
 use Rattle.dia_ccf.specs.Machine.{is_none, all_fixed, is_enumerated, number_at, next, step, whole, refused, least_at, outcome, Reads, Stops, gone_on, ended}
+use Rattle.dia_ccf.specs.declared.wanted.Wanted.{Wanted}
+use Rattle.dia_ccf.specs.declared.wanted.Wanted.TheVariants.{Item}
+use Rattle.dia_ccf.specs.Wanting.{fits, may_end, wanted_at, behind_all}
+use Rattle.dia_ccf.specs.Refusals.{IsWanted}
 use Rattle.dia_ccf.specs.ReaderFunctions.{nothing_read}
 use Rattle.dia_ccf.proofs.MachineSoundness.{sound}
 use Rattle.dia_ccf.proofs.MachineCompleteness.{complete}
 use Rattle.dia_ccf.proofs.Completions.{is_sound, sound_next, can_complete}
 use Rattle.dia_ccf.proofs.TokenTests.{some_is, number_at-is}
 use Rattle.dia_ccf.proofs.MachineCompleteness.{and_false}
+use Rattle.dia_ccf.proofs.WantedBehind.{wanted_behind}
+use Rattle.dia_ccf.proofs.WhatIsWanted.{next_some, whole_some}
 use Rattle.dia_ccf.proofs.MachineRuns.{take_one, number_at-some}
 
 -- why the machine stops in a state
@@ -38,10 +44,11 @@ pub record Stopped (start : State) (ts : List Token) (k : Refusal) (rest : List 
   pub goes : (more : List Token) → outcome start (front ++ more) ≡ outcome state more
   pub sound : is_sound state.1 ≡ true
   pub stands : Stands state k rest
+  pub wants : wanted_at state.1 ≡ behind_all (wanted_at start.1) front
 
 stopped_end : (start : State) (o : Option PlainSource) (k : Refusal) (rest : List Token) → whole start ≡ o → is_sound start.1 ≡ true → ended o ≡ Stops k rest → Stopped start [] k rest
 stopped_end start (Some s) k rest w h e = absurd cc
-stopped_end start None k [] w h e = record { front = []; state = start; parts = refl; goes = λ more. refl; sound = h; stands = (w, cc) }
+stopped_end start None k [] w h e = record { front = []; state = start; parts = refl; goes = λ more. refl; sound = h; stands = (w, cc); wants = refl }
 stopped_end start None k (t ∷ us) w h e = absurd cc
 
 stopped_here : (start : State) (t : Token) (ts : List Token) (k : Refusal) (rest : List Token) → is_sound start.1 ≡ true
@@ -58,6 +65,7 @@ stopped_here start t ts k (u ∷ us) h e s =
       goes = λ more. refl;
       sound = h;
       stands = (ap (next start) (sym same) ∙ e, sym why_is ∙ ap (refused start) same);
+      wants = refl;
     }
 
 stopped_step : (start : State) (t : Token) (ts : List Token) (k : Refusal) (rest : List Token) (o : Option State) → next start t ≡ o
@@ -73,6 +81,7 @@ stopped_step start t ts k rest (Some q) e h s before =
       goes = λ more. take_one start t q (r.front ++ more) e ∙ r.goes more;
       sound = r.sound;
       stands = r.stands;
+      wants = r.wants ∙ ap (λ (w : Wanted). behind_all w r.front) (wanted_behind start q t h e);
     }
 
 stopped : (ts : List Token) (start : State) (k : Refusal) (rest : List Token) → is_sound start.1 ≡ true → outcome start ts ≡ Stops k rest → Stopped start ts k rest
@@ -190,6 +199,27 @@ module _ (front : List Token) (q : State) (k : Refusal) (goes : (more : List Tok
   fits_then : (rest : List Token) (t : Token) → Fits (front ++ rest) (length front) t → is_some (next q t) ≡ true
   fits_then rest t fits = begun front q t goes (subst (λ (f : List Token). CanBegin (f ++ t ∷ [])) (front_of rest) fits)
 
+  -- what can stand in the state is what can stand behind the front
+  wanted_here : (w : Wanted) → wanted_at q.1 ≡ w → IsWanted front w
+  wanted_here w is = record {
+    fitting = λ t. (
+      λ some. fitting front q t (next q t) goes h refl (next_some q t ∙ ap (λ (v : Wanted). fits v t) is ∙ some),
+      λ can. sym (ap (λ (v : Wanted). fits v t) is) ∙ sym (next_some q t) ∙ begun front q t goes can,
+    );
+    ending = (
+      λ may. ends_read (whole q) refl (whole_some q ∙ ap may_end is ∙ may),
+      λ (s, d). sym (ap may_end is) ∙ sym (whole_some q) ∙ ended_some (whole q) s (sym (goes []) ∙ complete (front ++ []) s (subst (λ (f : List Token). Derives f s) (sym (append-nil front)) d)),
+    );
+  }
+    where
+      ends_read : (o : Option PlainSource) → whole q ≡ o → is_some o ≡ true → (s : PlainSource) × Derives front s
+      ends_read None e some = absurd cc
+      ends_read (Some s) e some = (s, sound front s (ap (outcome (nothing_read, Between)) (sym (append-nil front)) ∙ goes [] ∙ ap ended e))
+
+      ended_some : (o : Option PlainSource) (s : PlainSource) → ended o ≡ Reads s → is_some o ≡ true
+      ended_some None s e = absurd cc
+      ended_some (Some x) s e = refl
+
   at_front : (rest : List Token) → slice_get (front ++ rest) (length front) ≡ slice_get rest 0
   at_front rest = get_seam front rest
 
@@ -251,6 +281,7 @@ pub record Is_told (ts : List Token) (n : ℕ) (k : Refusal) : Type 0 where
   pub limit : k ≡ refusal.Limit → IsLimitFault ts n
   pub no_number : k ≡ refusal.Syntax → IsNumberFault ts n → ⊥
   pub no_limit : k ≡ refusal.Syntax → IsLimitFault ts n → ⊥
+  pub wanted : IsWanted (take n ts) (behind_all Item (take n ts))
 
 -- where the machine stops with the tokens from n on left, the first fault stands at n
 pub told : (ts : List Token) (n : ℕ) (k : Refusal) (rest : List Token) → outcome (nothing_read, Between) ts ≡ Stops k rest → length ts ≡ n + length rest → Is_told ts n k
@@ -263,5 +294,7 @@ told ts n k rest h long =
       limit = limit_told r.front r.state k r.goes r.sound rest r.stands;
       no_number = number_untold r.front r.state k r.goes r.sound rest r.stands;
       no_limit = limit_untold r.front r.state k r.goes r.sound rest r.stands;
+      wanted = subst (λ (f : List Token). IsWanted f (behind_all Item f)) (sym (front_of r.front r.state k r.goes r.sound rest))
+          (wanted_here r.front r.state k r.goes r.sound (behind_all Item r.front) r.wants);
     } in
     subst (λ (f : List Token). Is_told f n k) (sym r.parts) (subst (λ (m : ℕ). Is_told (r.front ++ rest) m k) at here)

@@ -15,8 +15,11 @@ pub mod ReaderInRules
 pub mod HeadCompleteness
 pub mod MachineCompleteness
 pub mod Completions
+pub mod WantedBehind
+pub mod WhatIsWanted
 pub mod FirstFault
 pub mod CappedNumbers
 pub mod ReaderFindings
+pub mod ReaderAdvances
 pub mod OneFault
 pub mod ReaderAnswers

@@ -1,18 +1,43 @@
 -- What the reader's end says of the text that it began with.
-use Rattle.std.proofs.Common.{◌≡◌, ℕ, List, map, drop, sym, ap, subst, ◌∙◌}
+use Rattle.std.proofs.Common.{◌≡◌, ℕ, ◌+◌, ◌≤◌, Bool, true, false, List, length, map, take, drop, refl, sym, ap, subst, ◌∙◌}
+use Rattle.std.proofs.lemmas.List.{take-map}
 use Rattle.dia_ccf.specs.declared.fault.CcfFault.{CcfFault}
 use Rattle.dia_ccf.specs.declared.fault.CcfFault.TheVariants as faults
 use Rattle.dia_ccf.specs.declared.reading.refusal.Refusal.{Refusal}
 use Rattle.dia_ccf.specs.declared.reading.refusal.Refusal.TheVariants as refusal
 use Rattle.dia_ccf.specs.declared.reading.Reader.{Reader}
+use Rattle.dia_ccf.specs.declared.refused.Refused.{Refused}
+use Rattle.dia_ccf.specs.declared.refused.Refused.TheVariants as refuseds
+use Rattle.dia_ccf.specs.declared.refused.Misfit.{Misfit}
+use Rattle.dia_ccf.specs.declared.wanted.Wanted.TheVariants.{Item}
+use Rattle.dia_ccf.specs.Limits.{max_text}
 use Rattle.dia_ccf.specs.Plain.{PlainSource}
-use Rattle.dia_ccf.specs.Tokens.{placed_tokens, tokens}
+use Rattle.dia_ccf.specs.Tokens.{Token, placed_tokens, tokens, line_at}
 use Rattle.dia_ccf.specs.Grammar.{Derives}
 use Rattle.dia_ccf.specs.Faults.{IsFault}
-use Rattle.dia_ccf.specs.LexerTokens.{capped}
+use Rattle.dia_ccf.specs.Refusals.{IsWanted, IsMisfit, IsRefused, fault_of}
+use Rattle.dia_ccf.specs.Wanting.{behind_all}
+use Rattle.dia_ccf.specs.LexerTokens.{capped, left_from}
 use Rattle.dia_ccf.specs.Machine.{Between, Outcome, Stops, outcome}
-use Rattle.dia_ccf.specs.ReaderFunctions.{left, Course, course, StopsAt, IsToldAt, nothing_read}
-use Rattle.dia_ccf.proofs.ReaderFindings.{all_left, never, syntax_told, number_told, limit_told}
+use Rattle.dia_ccf.specs.ReaderFunctions.{left, Course, course, StopsAt, IsToldAt, told_at, nothing_read}
+use Rattle.dia_ccf.proofs.WantedBehind.{behind_all-capped}
+use Rattle.dia_ccf.proofs.ReaderFindings.{all_left, never, place_is, stands, syntax_told, number_told, limit_told}
+
+abbrev misfit_of : Reader → CcfFault → Misfit
+misfit_of reader fault = record { fault = fault; at = reader.at; wanted = reader.wanted; last = reader.last; earlier = reader.earlier }
+
+abbrev is_memory : CcfFault → Bool
+is_memory faults.NoMemory = true
+is_memory fault = false
+
+-- the tokens as the reader sees them
+seen_tokens : (text : List ℕ) → left_from text 0 ≡ map capped (tokens text)
+seen_tokens text = all_left text 0 refl
+
+wants_tokens : (text : List ℕ) (k : ℕ) → behind_all Item (take k (left_from text 0)) ≡ behind_all Item (take k (tokens text))
+wants_tokens text k =
+    ap (λ (ts : List Token). behind_all Item (take k ts)) (seen_tokens text)
+    ∙ ap (behind_all Item) (take-map capped k (tokens text)) ∙ behind_all-capped Item (take k (tokens text))
 
 begins_whole : (reader : Reader) (text : List ℕ) → reader.text.now ≡ text → reader.taken ≡ 0 → left reader ≡ map capped (tokens text)
 begins_whole reader text same none =
@@ -29,14 +54,17 @@ never_derived : (reader end : Reader) (text : List ℕ) (k : Refusal) (s : Plain
     → course (nothing_read, Between) reader ≡ (end.text.now, Stops k (left end)) → Derives (tokens text) s → ⊥
 never_derived reader end text k s same none h d = never text s k (left end) (outcome_of reader text end.text.now (Stops k (left end)) same none h).1 d
 
-pub only_memory : (reader end : Reader) (text : List ℕ) (k : Refusal) (fault : CcfFault) (s : PlainSource) → reader.text.now ≡ text → reader.taken ≡ 0
-    → StopsAt (course (nothing_read, Between) reader) k end → IsToldAt k end fault → Derives (tokens text) s → fault ≡ faults.NoMemory
-only_memory reader end text refusal.NoMemory fault s same none h told d = told
-only_memory reader end text refusal.Syntax fault s same none h told d = absurd (never_derived reader end text refusal.Syntax s same none h d)
-only_memory reader end text refusal.Number fault s same none h told d = absurd (never_derived reader end text refusal.Number s same none h d)
-only_memory reader end text refusal.Limit fault s same none h told d = absurd (never_derived reader end text refusal.Limit s same none h d)
+pub only_memory : (reader end : Reader) (text : List ℕ) (k : Refusal) (refused : Refused) (s : PlainSource) → reader.text.now ≡ text → reader.taken ≡ 0
+    → StopsAt (course (nothing_read, Between) reader) k end → IsToldAt k end refused → Derives (tokens text) s → refused ≡ refuseds.NoMemory
+only_memory reader end text refusal.NoMemory refused s same none h told d = told
+only_memory reader end text refusal.Syntax refused s same none h told d = absurd (never_derived reader end text refusal.Syntax s same none h d)
+only_memory reader end text refusal.Number refused s same none h told d = absurd (never_derived reader end text refusal.Number s same none h d)
+only_memory reader end text refusal.Limit refused s same none h told d = absurd (never_derived reader end text refusal.Limit s same none h d)
 
-module _ (reader end : Reader) (text : List ℕ) (same : reader.text.now ≡ text) (none : reader.taken ≡ 0) where
+no_memory : (f : CcfFault) → is_memory f ≡ false → f ≡ faults.NoMemory → ⊥
+no_memory f h e = absurd (let both : true ≡ false = ap is_memory (sym e) ∙ h in cc)
+
+module _ (reader end : Reader) (text : List ℕ) (same : reader.text.now ≡ text) (none : reader.taken ≡ 0) (small : length text ≤ max_text) where
   -- the machine's end over the text that the reader ended with
   stopped_at : (k : Refusal) → course (nothing_read, Between) reader ≡ (end.text.now, Stops k (left end))
       → (end.text.now ≡ text) × (outcome (nothing_read, Between) (map capped (tokens end.text.now)) ≡ Stops k (left end))
@@ -44,14 +72,39 @@ module _ (reader end : Reader) (text : List ℕ) (same : reader.text.now ≡ tex
       let o = outcome_of reader text end.text.now (Stops k (left end)) same none h in
       (o.0, ap (λ (bytes : List ℕ). outcome (nothing_read, Between) (map capped (tokens bytes))) o.0 ∙ o.1)
 
-  pub is_fault : (k : Refusal) (fault : CcfFault) → StopsAt (course (nothing_read, Between) reader) k end → IsToldAt k end fault → IsFault text fault
-  is_fault refusal.Syntax fault h told =
+  misfit : (k : Refusal) (f : CcfFault) → is_memory f ≡ false → outcome (nothing_read, Between) (map capped (tokens end.text.now)) ≡ Stops k (left end)
+      → IsFault end.text.now f → IsMisfit end.text.now (misfit_of end f)
+  misfit k f other stops told =
+      let here = stands end.text.now end.taken end.at end.counted end.reached end.placed k stops in
+      record {
+        token = end.taken;
+        first = here.first;
+        told = told;
+        no_memory = no_memory f other;
+        place = place_is end.text.now end.taken end.at end.counted end.reached end.placed;
+        last = end.before;
+        earlier = end.before_that;
+        wanted = subst (IsWanted (take end.taken (tokens end.text.now))) (sym (end.wants ∙ wants_tokens end.text.now end.taken)) here.wanted;
+      }
+
+  told_text : (f : CcfFault) (refused : Refused) → end.text.now ≡ text → refused ≡ told_at end f → IsMisfit end.text.now (misfit_of end f) → IsRefused text refused
+  told_text f refused is told h = subst (IsRefused text) (sym told) (small, subst (λ (bytes : List ℕ). IsMisfit bytes (misfit_of end f)) is h)
+
+  pub is_refused : (k : Refusal) (refused : Refused) → StopsAt (course (nothing_read, Between) reader) k end → IsToldAt k end refused → IsRefused text refused
+  is_refused refusal.Syntax refused h told =
       let o = stopped_at refusal.Syntax h in
-      subst (λ (bytes : List ℕ). IsFault bytes fault) o.0 (subst (IsFault end.text.now) (sym told) (syntax_told end.text.now end.taken end.at end.counted end.reached end.lined o.1))
-  is_fault refusal.Number fault h told =
+      let f = faults.Syntax (end.taken + 1) (line_at end.text.now end.at) in
+      told_text f refused o.0 told (misfit refusal.Syntax f refl o.1 (syntax_told end.text.now end.taken end.at end.counted end.reached end.placed o.1))
+  is_refused refusal.Number refused h told =
       let o = stopped_at refusal.Number h in
-      subst (λ (bytes : List ℕ). IsFault bytes fault) o.0 (subst (IsFault end.text.now) (sym told) (number_told end.text.now end.taken end.at end.counted end.reached end.lined o.1))
-  is_fault refusal.Limit fault h told =
+      let f = faults.Number (line_at end.text.now end.at) in
+      told_text f refused o.0 told (misfit refusal.Number f refl o.1 (number_told end.text.now end.taken end.at end.counted end.reached end.placed o.1))
+  is_refused refusal.Limit refused h told =
       let o = stopped_at refusal.Limit h in
-      subst (λ (bytes : List ℕ). IsFault bytes fault) o.0 (subst (IsFault end.text.now) (sym told) (limit_told end.text.now end.taken end.at end.counted end.reached end.lined o.1))
-  is_fault refusal.NoMemory fault h told = subst (IsFault text) (sym told) tt
+      let f = faults.Limit (line_at end.text.now end.at) in
+      told_text f refused o.0 told (misfit refusal.Limit f refl o.1 (limit_told end.text.now end.taken end.at end.counted end.reached end.placed o.1))
+  is_refused refusal.NoMemory refused h told = subst (IsRefused text) (sym told) tt
+
+-- memory alone is told as memory
+pub only_no_memory : (refused : Refused) → refused ≡ refuseds.NoMemory → fault_of refused ≡ faults.NoMemory
+only_no_memory refused h = ap fault_of h

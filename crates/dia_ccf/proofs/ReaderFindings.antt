@@ -9,7 +9,7 @@ use Rattle.dia_ccf.specs.declared.reading.refusal.Refusal.TheVariants as refusal
 use Rattle.dia_ccf.specs.Plain.{PlainSource}
 use Rattle.dia_ccf.specs.Tokens.{Token, Placed, placed_tokens, tokens, line_at}
 use Rattle.dia_ccf.specs.Grammar.{Derives}
-use Rattle.dia_ccf.specs.Faults.{IsFault, token_line, line_of}
+use Rattle.dia_ccf.specs.Faults.{IsFault, token_place, place_of, line_of}
 use Rattle.dia_ccf.specs.LexerTokens.{capped, tokens_from, left_from}
 use Rattle.dia_ccf.specs.Machine.{Between, Reads, Stops, outcome}
 use Rattle.dia_ccf.specs.ReaderFunctions.{nothing_read}
@@ -18,7 +18,7 @@ use Rattle.dia_ccf.proofs.MachineCompleteness.{complete}
 use Rattle.dia_ccf.proofs.CappedNumbers.{reads_uncapped, stops_uncapped}
 use Rattle.dia_ccf.proofs.FirstFault.{Is_told, told}
 
-get_dropped : {X : Type 0} (n : ℕ) (xs : List X) → slice_get (drop n xs) 0 ≡ slice_get xs n
+pub get_dropped : {X : Type 0} (n : ℕ) (xs : List X) → slice_get (drop n xs) 0 ≡ slice_get xs n
 get_dropped zero [] = refl
 get_dropped zero (x ∷ xs) = refl
 get_dropped (suc n) [] = refl
@@ -46,9 +46,12 @@ never text t k rest h d =
 -- ---- faults
 
 module _ (text : List ℕ) (taken at : ℕ) (counted : drop taken (placed_tokens text) ≡ tokens_from text at)
-    (reached : taken ≤ length (placed_tokens text)) (lined : token_line text (slice_get (tokens_from text at) 0) ≡ line_at text at) where
+    (reached : taken ≤ length (placed_tokens text)) (lies : token_place text (slice_get (tokens_from text at) 0) ≡ at) where
+  pub place_is : at ≡ place_of text taken
+  place_is = sym lies ∙ ap (token_place text) (ap (λ (ps : List Placed). slice_get ps 0) (sym counted) ∙ get_dropped taken (placed_tokens text))
+
   line_is : line_at text at ≡ line_of text taken
-  line_is = sym lined ∙ ap (token_line text) (ap (λ (ps : List Placed). slice_get ps 0) (sym counted) ∙ get_dropped taken (placed_tokens text))
+  line_is = ap (line_at text) place_is
 
   left_length : (rest : List Token) → map capped rest ≡ left_from text at → length (tokens text) ≡ taken + length rest
   left_length rest h =
@@ -57,7 +60,7 @@ module _ (text : List ℕ) (taken at : ℕ) (counted : drop taken (placed_tokens
       let c = length-map (placed_tokens text) (λ (p : Placed). p.token) in
       omega arith
 
-  stands : (k : Refusal) → outcome (nothing_read, Between) (map capped (tokens text)) ≡ Stops k (left_from text at) → Is_told (tokens text) taken k
+  pub stands : (k : Refusal) → outcome (nothing_read, Between) (map capped (tokens text)) ≡ Stops k (left_from text at) → Is_told (tokens text) taken k
   stands k h =
       let e = stops_uncapped (nothing_read, Between) (tokens text) k (left_from text at) h in
       told (tokens text) taken k e.0 e.1 (left_length e.0 e.2)

@@ -30,13 +30,16 @@ IsNumberFault ts k = (n : ℕ) × (slice_get ts k ≡ Some (Number n)) × (other
 abbrev pub IsLimitFault : List Token → ℕ → Type 0
 IsLimitFault ts k = (name : List ℕ) × (slice_get ts k ≡ Some (Name name)) × (max_name < length name) × Fits ts k (Name (codes "a"))
 
--- the line on which token k stands, and behind the last token the line on which the text ends
-abbrev pub token_line : List ℕ → Option Placed → ℕ
-token_line text None = line_at text (length text)
-token_line text (Some token) = line_at text token.at
+-- the place of token k, and behind the last token the end of the text
+abbrev pub token_place : List ℕ → Option Placed → ℕ
+token_place text None = length text
+token_place text (Some token) = token.at
+
+abbrev pub place_of : List ℕ → ℕ → ℕ
+place_of text k = token_place text (slice_get (placed_tokens text) k)
 
 abbrev pub line_of : List ℕ → ℕ → ℕ
-line_of text k = token_line text (slice_get (placed_tokens text) k)
+line_of text k = line_at text (place_of text k)
 
 -- what is told of a text within the limit. Tokens count from 1
 abbrev pub IsFault : List ℕ → CcfFault → Type 0

@@ -3,9 +3,12 @@ pub mod Names
 pub mod Tokens
 pub mod Front
 pub mod LexerTokens
+pub mod Lexemes
 pub mod Plain
 pub mod Grammar
 pub mod Faults
 pub mod CanonicalText
 pub mod Machine
+pub mod Wanting
+pub mod Refusals
 pub mod ReaderFunctions

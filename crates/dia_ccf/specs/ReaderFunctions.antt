@@ -8,8 +8,11 @@ use Rattle.dia_ccf.specs.declared.reading.Reader.{Reader}
 use Rattle.dia_ccf.specs.declared.source.Source.{Source}
 use Rattle.dia_ccf.specs.declared.fault.CcfFault.{CcfFault}
 use Rattle.dia_ccf.specs.declared.fault.CcfFault.TheVariants as faults
+use Rattle.dia_ccf.specs.declared.refused.Refused.{Refused}
+use Rattle.dia_ccf.specs.declared.refused.Refused.TheVariants as refuseds
 use Rattle.dia_ccf.specs.Tokens.{Token, Comma, line_at}
 use Rattle.dia_ccf.specs.LexerTokens.{left_from}
+use Rattle.dia_ccf.specs.declared.reading.definitions.Opening.{Opening}
 use Rattle.dia_ccf.specs.declared.reading.definitions.Behind.{Behind}
 use Rattle.dia_ccf.specs.declared.reading.definitions.Behind.TheVariants as behinds
 use Rattle.dia_terms.specs.declared.RuleKind.TheVariants.{Fixed}
@@ -80,15 +83,15 @@ pub record Reads_by {Y : Type 0} (numbers names : Bool) (read : Token → Option
   pub refused_is : (token : Token) → refused state token ≡ why numbers names token
   pub unfinished : whole state ≡ None
 
--- the place behind a definition and the name that was read behind it
-abbrev pub behind : Option (String Global) → Place
+-- the place behind a definition and the beginning of the next one, if it was read
+abbrev pub behind : Option Opening → Place
 behind None = Between
-behind (Some name) = Def_assign (string_bytes name)
+behind (Some opening) = Def_assign (string_bytes opening.name)
 
 -- the state behind some rules of a definition and what stands behind them
 abbrev pub after_rules : PlainSource → PlainDef → Behind → State
 after_rules done d (behinds.Rule rule) = (done, Rules (with_rule d (plain_rule rule)))
-after_rules done d (behinds.Definition name) = (add_def done d, Def_assign (string_bytes name))
+after_rules done d (behinds.Definition opening) = (add_def done d, Def_assign (string_bytes opening.name))
 after_rules done d behinds.Nothing = (add_def done d, Between)
 
 -- a fixed rule comes only behind fixed ones
@@ -97,7 +100,7 @@ KeepsOrder (behinds.Rule rule) fixed = rule.kind ≡ Fixed → fixed ≡ true
 KeepsOrder found fixed = Unit {0}
 
 abbrev pub NamesNext : Behind → Type 0
-NamesNext (behinds.Definition name) = IsTrue (is_name (string_bytes name))
+NamesNext (behinds.Definition opening) = IsTrue (is_name (string_bytes opening.name))
 NamesNext found = Unit {0}
 
 -- a rule has a token at least
@@ -115,8 +118,11 @@ abbrev pub nothing_read : PlainSource
 nothing_read = record { avps = []; groups = []; commands = [] }
 
 -- what is told where the reader stands
-abbrev pub IsToldAt : Refusal → Reader → CcfFault → Type 0
-IsToldAt refusal.Syntax reader fault = fault ≡ faults.Syntax (reader.taken + 1) (line_at reader.text.now reader.at)
-IsToldAt refusal.Number reader fault = fault ≡ faults.Number (line_at reader.text.now reader.at)
-IsToldAt refusal.Limit reader fault = fault ≡ faults.Limit (line_at reader.text.now reader.at)
-IsToldAt refusal.NoMemory reader fault = fault ≡ faults.NoMemory
+abbrev pub told_at : Reader → CcfFault → Refused
+told_at reader fault = refuseds.At (record { fault = fault; at = reader.at; wanted = reader.wanted; last = reader.last; earlier = reader.earlier })
+
+abbrev pub IsToldAt : Refusal → Reader → Refused → Type 0
+IsToldAt refusal.Syntax reader refused = refused ≡ told_at reader (faults.Syntax (reader.taken + 1) (line_at reader.text.now reader.at))
+IsToldAt refusal.Number reader refused = refused ≡ told_at reader (faults.Number (line_at reader.text.now reader.at))
+IsToldAt refusal.Limit reader refused = refused ≡ told_at reader (faults.Limit (line_at reader.text.now reader.at))
+IsToldAt refusal.NoMemory reader refused = refused ≡ refuseds.NoMemory

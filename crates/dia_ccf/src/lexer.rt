@@ -9,6 +9,8 @@ ghost use Rattle.dia_ccf.specs.Tokens.{Token as AnyToken, Number, sign, run_toke
 ghost use Rattle.dia_ccf.specs.Front.{front, begins_blank, blank, run_piece, byte_piece, run_front};
 ghost use Rattle.dia_ccf.specs.LexerTokens.{tokens_from, IsNext, capped, shown, shown_sign};
 
+use crate::names::{is_same, is_same_word};
+
 /// A sign of the text.
 #[derive(Clone, Copy, PartialEq, Eq)]
 pub(crate) enum Sign {
@@ -42,6 +44,60 @@ pub(crate) enum Token<'a> {
     Name(&'a str),
     /// A character or a run that no text has.
     Other,
+}
+
+impl Token<'_> {
+    ghost use Rattle.std.specs.Prelude.{map};
+    ghost use Rattle.std.specs.Char.{to_ascii_lowercase};
+    ghost use Rattle.dia_ccf.specs.Machine.{same_sign, is_word, is_keyword, is_number};
+    ghost use Rattle.dia_ccf.specs.Wanting.{value_of};
+
+    /// Whether the token is the sign.
+    pub(crate) fn is_sign(self, sign: Sign) -> bool
+        ensures { result ≡ same_sign (shown_sign sign) (shown self.entry) }
+    {
+        match self {
+            Token::Sign(found) => found == sign,
+            _ => false,
+        }
+    }
+
+    /// Whether the token is a number.
+    pub(crate) fn is_number(self) -> bool
+        ensures { result ≡ is_number (shown self.entry) }
+    {
+        matches!(self, Token::Number(_) | Token::TooGreat)
+    }
+
+    /// Whether the token is the word.
+    pub(crate) fn is_word(self, word: &str) -> bool
+        ensures { result ≡ is_word word.now (shown self.entry) }
+    {
+        match self {
+            Token::Name(name) => is_same(name, word),
+            _ => false,
+        }
+    }
+
+    /// Whether the token is the word in either letter case.
+    pub(crate) fn is_keyword(self, word: &str) -> bool
+        ensures { result ≡ is_keyword (map to_ascii_lowercase word.now) (shown self.entry) }
+    {
+        match self {
+            Token::Name(name) => is_same_word(name, word),
+            _ => false,
+        }
+    }
+
+    /// The number, and 0 for any other token.
+    pub(crate) fn value(self) -> u32
+        ensures { result ≡ value_of (shown self.entry) }
+    {
+        match self {
+            Token::Number(n) => n,
+            _ => 0,
+        }
+    }
 }
 
 /// A token, and the places in bytes where it begins and where it ends.

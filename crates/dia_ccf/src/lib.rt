@@ -17,18 +17,24 @@
 
 mod fault;
 mod format_words;
+mod lexemes;
 mod lexer;
 mod limits;
 mod names;
 mod parsing;
 mod reading;
+mod refused;
 mod rendering;
 mod source;
+mod wanted;
 
 pub use dia_terms::{MAX_NAME, MRule, Pxy, RuleKind};
 pub use fault::CcfFault;
+pub use lexemes::{Kind, Lexeme, first_name, next_lexeme};
 pub use limits::MAX_TEXT;
 pub use names::is_name;
-pub use parsing::{one_fault, one_source, parse};
+pub use parsing::{one_fault, one_source, parse, read};
+pub use refused::{Misfit, Refused};
 pub use rendering::render;
 pub use source::{Decl, Def, FormatName, Head, Qual, Rule, Source};
+pub use wanted::{InDeclaration, InDefinition, InHead, InRules, Wanted};

@@ -7,10 +7,12 @@ ghost use Rattle.dia_ccf.specs.Plain.{PlainSource, plain_source};
 ghost use Rattle.dia_ccf.specs.Tokens.{Token, tokens};
 ghost use Rattle.dia_ccf.specs.Grammar.{Derives};
 ghost use Rattle.dia_ccf.specs.Faults.{IsFault};
+ghost use Rattle.dia_ccf.specs.Refusals.{IsRefused};
 
 use crate::fault::CcfFault;
 use crate::limits::MAX_TEXT;
 use crate::reading::Reader;
+use crate::refused::Refused;
 use crate::source::Source;
 use std::alloc::Global;
 
@@ -31,13 +33,28 @@ pub fn parse(alloc: Global, text: &str) -> Result<Source, CcfFault>
     ensures too_long { max_text < length text.now → result ≡ Err (CcfFault.Limit 0) }
     ensures fault { length text.now ≤ max_text → IfErr result (IsFault text.now) }
 {
+    match read(alloc, text) {
+        Ok(source) => Ok(source),
+        Err(refused) => Err(refused.fault()),
+    }
+}
+
+/// Reads a text as [`parse`] does. Of a text that is refused it tells the place, and what could stand there.
+pub fn read(alloc: Global, text: &str) -> Result<Source, Refused>
+    ensures found { IfOk result (λ source. Derives (tokens text.now) (plain_source source)) }
+    ensures only { (source : PlainSource) → length text.now ≤ max_text
+        → Derives (tokens text.now) source
+        → MatchResult result (λ found. plain_source found ≡ source) (λ e. e ≡ Refused.NoMemory) }
+    ensures too_long { max_text < length text.now → result ≡ Err Refused.TooLong }
+    ensures refused { IfErr result (IsRefused text.now) }
+{
     if text.len() > MAX_TEXT {
-        return Err(CcfFault::Limit { line: 0 });
+        return Err(Refused::TooLong);
     }
     let mut reader = Reader::new(alloc, text);
     match reader.source() {
         Ok(source) => Ok(source),
-        Err(refusal) => Err(reader.fault(refusal)),
+        Err(refusal) => Err(reader.refused(refusal)),
     }
 }
 

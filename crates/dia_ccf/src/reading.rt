@@ -1,11 +1,14 @@
 //! Reading the grammar (RFC 6733 section 3.2) with one token of look-ahead.
-ghost use Rattle.std.specs.Prelude.{◌≡◌, ◌+◌, ◌≤◌, drop, length, map, slice_get, OnOk, IfErr};
+ghost use Rattle.std.specs.Prelude.{◌≡◌, ◌+◌, ◌-◌, ◌≤◌, take, drop, length, map, slice_get, OnOk, IfErr};
 ghost use Rattle.std.specs.Char.{to_ascii_lowercase};
 ghost use Rattle.dia_ccf.specs.Limits.{max_text};
 ghost use Rattle.dia_ccf.specs.Plain.{plain_source, plain_decl, plain_def};
 ghost use Rattle.dia_ccf.specs.Machine.{add_decl, add_def};
 ghost use Rattle.dia_ccf.specs.Tokens.{placed_tokens, line_at};
-ghost use Rattle.dia_ccf.specs.Faults.{token_line};
+ghost use Rattle.dia_ccf.specs.declared.wanted.Wanted.TheVariants.{Item};
+ghost use Rattle.dia_ccf.specs.Faults.{token_place};
+ghost use Rattle.dia_ccf.specs.Refusals.{place_before};
+ghost use Rattle.dia_ccf.specs.Wanting.{behind_all};
 ghost use Rattle.dia_ccf.specs.LexerTokens.{tokens_from, left_from, ahead, sees};
 
 mod declarations;
@@ -16,7 +19,10 @@ mod refusal;
 use crate::fault::CcfFault;
 use crate::lexer::{Sign, Token, next_token};
 use crate::names::{is_name, is_same, is_same_word};
+use crate::refused::{Misfit, Refused};
 use crate::source::{Decl, Def, Head, Source};
+use crate::wanted::Wanted;
+use definitions::Opening;
 use dia_terms::MAX_NAME;
 use refusal::Refusal;
 use std::alloc::Global;
@@ -33,6 +39,11 @@ pub(crate) struct Reader<'a> {
     end: usize,
     /// How many tokens stand before it.
     taken: u32,
+    /// What can stand in its place.
+    wanted: Wanted,
+    /// The places of the token before it, and of the one before that.
+    last: Option<usize>,
+    earlier: Option<usize>,
     ghost small: { length text.now ≤ max_text },
     ghost within: { end ≤ length text.now },
     ghost long: { at + length (ahead token) ≤ end },
@@ -41,9 +52,11 @@ pub(crate) struct Reader<'a> {
     ghost counted: { drop taken (placed_tokens text.now) ≡ tokens_from text.now at },
     ghost rest: { drop (length (ahead token)) (tokens_from text.now at)
         ≡ tokens_from text.now end },
-    ghost lined: { token_line text.now (slice_get (tokens_from text.now at) 0)
-        ≡ line_at text.now at },
+    ghost placed: { token_place text.now (slice_get (tokens_from text.now at) 0) ≡ at },
     ghost begins: { left_from text.now at ≡ sees token (left_from text.now end) },
+    ghost wants: { wanted ≡ behind_all Item (take taken (left_from text.now 0)) },
+    ghost before: { last ≡ place_before text.now taken },
+    ghost before_that: { earlier ≡ place_before text.now (taken - 1) },
 }
 
 impl<'a> Reader<'a> {
@@ -52,7 +65,7 @@ impl<'a> Reader<'a> {
     ghost use Rattle.dia_ccf.specs.Machine.{Between, same_sign, is_word, is_keyword, is_number};
     ghost use Rattle.dia_ccf.specs.Machine.{number_at, name_at, sign_at, keyword_at};
     ghost use Rattle.dia_ccf.specs.ReaderFunctions.{left, Passes, Takes, Accepts, Finishes};
-    ghost use Rattle.dia_ccf.specs.ReaderFunctions.{IsToldAt, course, begins_with, nothing_read};
+    ghost use Rattle.dia_ccf.specs.ReaderFunctions.{IsToldAt, told_at, course, begins_with, nothing_read};
 
     /// A reader that stands at the first token.
     pub(crate) fn new(alloc: Global, text: &'a str) -> Self
@@ -67,6 +80,9 @@ impl<'a> Reader<'a> {
             at,
             end,
             taken: 0,
+            wanted: Wanted::Item,
+            last: None,
+            earlier: None,
         }
     }
 
@@ -75,11 +91,24 @@ impl<'a> Reader<'a> {
         requires { IsSome self.old.token }
         ensures { Passes self.old (ahead self.old.token) self.new }
     {
+        self.wanted = self.wanted_behind();
+        self.earlier = self.last;
+        self.last = Some(self.at);
         let (token, at, end) = look(self.text, self.end);
         self.token = token;
         self.at = at;
         self.end = end;
         self.taken += 1;
+    }
+
+    /// What can stand behind the token ahead.
+    fn wanted_behind(&self) -> Wanted
+        ensures { result ≡ behind_all self.now.wanted (ahead self.now.token) }
+    {
+        match self.token {
+            Some(token) => self.wanted.behind(token),
+            None => self.wanted,
+        }
     }
 
     /// Whether the sign stands ahead.
@@ -207,35 +236,50 @@ impl<'a> Reader<'a> {
         };
         let mut next = None;
         loop {
-            if let Some(name) = next {
-                let (def, following) = self.definition(name)?;
+            let at = self.at;
+            if let Some(opening) = next {
+                let (def, following) = self.definition(opening)?;
                 keep_definition(&mut source, def)?;
                 next = following;
             } else if self.takes(Sign::Declares) {
-                let decl = self.declaration()?;
+                let decl = self.declaration(at)?;
                 keep_declaration(&mut source, decl)?;
             } else if self.token.is_none() {
                 return Ok(source);
             } else {
-                next = Some(self.defined_name()?);
+                let name = self.defined_name()?;
+                next = Some(Opening { at, name });
             }
         }
     }
 
-    /// The fault of a refusal at the token ahead.
-    pub(crate) fn fault(&self, refusal: Refusal) -> CcfFault
+    /// What is told of a refusal at the token ahead.
+    pub(crate) fn refused(&self, refusal: Refusal) -> Refused
         ensures { IsToldAt refusal self.now result }
     {
         let line = line_of(self.text, self.at);
         match refusal {
-            Refusal::Syntax => CcfFault::Syntax {
+            Refusal::Syntax => self.misfit(CcfFault::Syntax {
                 token: self.taken + 1,
                 line,
-            },
-            Refusal::Number => CcfFault::Number { line },
-            Refusal::Limit => CcfFault::Limit { line },
-            Refusal::NoMemory => CcfFault::NoMemory,
+            }),
+            Refusal::Number => self.misfit(CcfFault::Number { line }),
+            Refusal::Limit => self.misfit(CcfFault::Limit { line }),
+            Refusal::NoMemory => Refused::NoMemory,
         }
+    }
+
+    /// A fault of the token ahead.
+    fn misfit(&self, fault: CcfFault) -> Refused
+        ensures { result ≡ told_at self.now fault }
+    {
+        Refused::At(Misfit {
+            fault,
+            at: self.at,
+            wanted: self.wanted,
+            last: self.last,
+            earlier: self.earlier,
+        })
     }
 }
 
@@ -247,8 +291,8 @@ fn look(text: &str, from: usize) -> (Option<Token<'_>>, usize, usize)
     ensures same { tokens_from text.now from ≡ tokens_from text.now result.1 }
     ensures rest { drop (length (ahead result.0)) (tokens_from text.now result.1)
         ≡ tokens_from text.now result.2 }
-    ensures lined { token_line text.now (slice_get (tokens_from text.now result.1) 0)
-        ≡ line_at text.now result.1 }
+    ensures placed { token_place text.now (slice_get (tokens_from text.now result.1) 0)
+        ≡ result.1 }
     ensures begins { left_from text.now result.1 ≡ sees result.0 (left_from text.now result.2) }
 {
     match next_token(text, from) {

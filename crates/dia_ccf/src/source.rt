@@ -30,6 +30,8 @@ pub enum FormatName {
 /// A declared AVP (our profile).
 #[derive(Debug, Drop)]
 pub struct Decl {
+    /// The place in bytes of its first token, `%avp`.
+    pub at: usize,
     pub name: String,
     pub code: u32,
     /// 0 is no vendor.
@@ -79,6 +81,8 @@ pub struct Qual {
 /// A rule of a definition (RFC 6733 section 3.2).
 #[derive(Debug, Drop)]
 pub struct Rule {
+    /// The place in bytes of its first token, a count, a `*` or a bracket.
+    pub at: usize,
     pub kind: RuleKind,
     /// `None` is the wildcard, which stands for all AVPs that no rule of the definition names.
     pub name: Option<String>,
@@ -107,6 +111,8 @@ impl Rule {
 /// A group or a command, with its rules in the order of the text.
 #[derive(Debug, Drop)]
 pub struct Def {
+    /// The place in bytes of its first token, a `<` or its name.
+    pub at: usize,
     pub name: String,
     pub head: Head,
     pub rules: Vec<Rule>,

@@ -44,7 +44,7 @@ pub fn push_check(
     texts: &InputTexts<'_>,
     found: &Invalid,
 ) -> Result<(), AllocError> {
-    let sites = sites_of(alloc, texts.first.text)?;
+    let sites = sites_of(alloc, &texts.first, &found.first)?;
     let side = Side::of(&texts.first, &found.first, &sites);
     let message = Message::of(&texts.message, &found.message);
     let asked = Asked::new(found.unknown, found.levels);

@@ -37,8 +37,8 @@ pub fn push_compare(
     let Answer::No { kind, pair, reason } = found.answer else {
         return Ok(());
     };
-    let first_sites = sites_of(alloc, texts.first.text)?;
-    let second_sites = sites_of(alloc, texts.second.text)?;
+    let first_sites = sites_of(alloc, &texts.first, &found.books.first)?;
+    let second_sites = sites_of(alloc, &texts.second, &found.books.second)?;
     let a = Side::of(&texts.first, &found.books.first, &first_sites);
     let b = Side::of(&texts.second, &found.books.second, &second_sites);
     let pairing = Pairing {

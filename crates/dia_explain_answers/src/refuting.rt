@@ -22,7 +22,7 @@ pub fn push_refute(
     match &found.under_first {
         Ok(_) => push_both(out, &found.books, texts, &message, &asked),
         Err(refusal) => {
-            let sites = sites_of(alloc, texts.first.text)?;
+            let sites = sites_of(alloc, &texts.first, &found.books.first)?;
             let side = Side::of(&texts.first, &found.books.first, &sites);
             push_not_first(out, &side, &message, refusal)?;
             push_refusal(alloc, out, &side, &message, &asked, refusal)?;

@@ -2,7 +2,7 @@
 
 use dia_book::{Book, DefHead, Definition, Key};
 use dia_dict::IndexedBook;
-use dia_explain_places::{DefSite, NamedText, Sites, back, push_excerpt, push_place, walk_over};
+use dia_explain_places::{DefSite, NamedText, Sites, back, push_excerpt, push_place};
 use dia_run::ReadBook;
 use std::alloc::{AllocError, Global};
 
@@ -16,9 +16,13 @@ pub struct Side<'a, B: Book> {
 }
 
 /// The places of the parts of a dictionary's text.
-pub fn sites_of(alloc: Global, text: &[u8]) -> Result<Sites, AllocError> {
-    let walk = walk_over(alloc, text)?;
-    Ok(walk.sites)
+pub fn sites_of(
+    alloc: Global,
+    dictionary: &NamedText<'_>,
+    read: &ReadBook,
+) -> Result<Sites, AllocError> {
+    let text = str::from_utf8(dictionary.text).unwrap_or("");
+    dia_explain_places::sites_of(alloc, text, &read.source)
 }
 
 impl<'a> Side<'a, IndexedBook> {

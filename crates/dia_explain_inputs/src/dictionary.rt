@@ -4,12 +4,14 @@ mod expecting;
 mod hints;
 mod meaning;
 mod parts;
+mod scene;
 mod texts;
 
-use dia_ccf::MAX_TEXT;
-use dia_explain_places::{NamedText, push_excerpt, push_place, walk_over};
+use dia_ccf::{MAX_TEXT, Refused, read};
+use dia_explain_places::{NamedText, push_excerpt, push_place};
 use dia_run::BadDictionary;
 use meaning::push_meaning;
+use scene::Scene;
 use std::alloc::{AllocError, Global};
 use texts::push_syntax;
 
@@ -25,7 +27,7 @@ pub fn push_dictionary(
         BadDictionary::TooLong => push_too_long(out, name),
         BadDictionary::NotText { at } => push_not_text(alloc, out, name, text, *at),
         BadDictionary::Wrong { source, .. } => {
-            push_meaning(alloc, out, name, text, source)?;
+            push_meaning(alloc, out, name, str::from_utf8(text).unwrap_or(""), source)?;
             Ok(())
         }
         BadDictionary::Syntax { .. } | BadDictionary::Number { .. } | BadDictionary::Limit { .. } =>
@@ -62,9 +64,11 @@ pub fn push_not_text(
 
 /// Adds the first token that the grammar doesn't allow.
 fn push_token(alloc: Global, out: &mut String, name: &str, text: &[u8]) -> Result<(), AllocError> {
-    let walk = walk_over(alloc, text)?;
-    match walk.refused {
-        Some(refused) => push_syntax(alloc, out, name, text, &walk, &refused),
-        None => Ok(()),
+    let text = str::from_utf8(text).unwrap_or("");
+    match read(alloc, text) {
+        Ok(_) => Ok(()),
+        Err(Refused::NoMemory) => Err(AllocError),
+        Err(Refused::TooLong) => push_too_long(out, name),
+        Err(Refused::At(misfit)) => push_syntax(alloc, out, name, &Scene::new(text, &misfit)),
     }
 }

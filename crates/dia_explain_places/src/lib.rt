@@ -2,25 +2,20 @@
 //!
 //! A place counts the bytes in front of it. A reader is told it as line and column, with the line of the text and a caret
 //! below it.
-//!
-//! `walk_over` reads a dictionary text up to the first token that the grammar doesn't allow there.
 #![tactic(auto)]
 
 mod digits;
-mod grammar;
 mod input_texts;
 mod lines;
 mod nearest;
 mod place;
-mod rows;
-mod tokens;
-mod walking;
+mod runs;
+mod sites;
 
 pub use digits::{count_digits, place_of_byte};
-pub use grammar::{FORMATS, State, Why};
 pub use input_texts::{InputTexts, NamedText};
 pub use lines::{PairWords, Word, start_of_line, words_of};
 pub use nearest::{distance, nearest_command, nearest_name};
 pub use place::{Place, back, place_of, push_excerpt, push_line_column, push_place, push_shown};
-pub use tokens::{Kind, Token, front_of_run, is_white};
-pub use walking::{DefSite, Refused, Sites, Walk, walk_over};
+pub use runs::{front_of_run, is_white};
+pub use sites::{DefSite, Sites, sites_of};

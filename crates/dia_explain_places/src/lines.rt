@@ -4,7 +4,7 @@ ghost use Rattle.std.specs.Prelude.{◌≡◌, ◌<◌, ℕ, length};
 ghost use Rattle.dia_explain_places.specs.Places.{line_at};
 
 use crate::place::back;
-use crate::tokens::{Kind, next_token};
+use crate::runs::is_name_run;
 
 /// A word of a line, and the place where it begins. Where there is none it is empty, and its place is the end of the line.
 #[derive(Clone, Copy)]
@@ -31,10 +31,7 @@ impl Word<'_> {
 
     /// Whether the word is a name.
     pub fn is_name(&self) -> bool {
-        match next_token(self.text, 0) {
-            Some(token) => token.kind == Kind::Name && token.text.len() == self.text.len(),
-            None => false,
-        }
+        is_name_run(self.text)
     }
 
     /// The place behind the word.

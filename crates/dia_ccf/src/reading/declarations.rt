@@ -21,11 +21,12 @@ impl<'a> Reader<'a> {
     ghost use Rattle.dia_ccf.specs.Machine.{rule_at, is_none, same_sign};
     ghost use Rattle.dia_ccf.specs.ReaderFunctions.{Accepts, Leads, course, begins_with, left};
 
-    /// A declaration, where its `%avp` was read.
-    pub(super) fn declaration(&mut self) -> Result<Decl, Refusal>
+    /// A declaration, whose `%avp` stands at a place and was read.
+    pub(super) fn declaration(&mut self, at: usize) -> Result<Decl, Refusal>
         ensures read { (done : PlainSource)
             → Leads (course (done, Decl_name) self.old)
             (λ d. (add_decl done (plain_decl d), Between)) result self.new }
+        ensures placed { IfOk result (λ d. d.at ≡ at) }
         ensures farther { OnOk result (self.old.taken ≤ self.new.taken) }
     {
         let name = self.name()?;
@@ -35,6 +36,7 @@ impl<'a> Reader<'a> {
         let rule = self.m_rule()?;
         let values = self.values(format)?;
         Ok(Decl {
+            at,
             name,
             code,
             vendor,

@@ -8,13 +8,20 @@ use crate::lexer::{Sign, Token};
 use crate::source::{Def, Qual, Rule};
 use dia_terms::RuleKind;
 
+/// The beginning of a definition: its place and its name.
+#[derive(Drop)]
+pub(super) struct Opening {
+    pub(super) at: usize,
+    pub(super) name: String,
+}
+
 /// What stands behind some rules of a definition.
 #[derive(Drop)]
 enum Behind {
     /// One more rule.
     Rule(Rule),
-    /// The name of the next definition, in angle brackets.
-    Definition(String),
+    /// The beginning of the next definition, in angle brackets.
+    Definition(Opening),
     /// Nothing of this definition.
     Nothing,
 }
@@ -71,26 +78,33 @@ impl<'a> Reader<'a> {
         Ok(name)
     }
 
-    /// The definition whose name was read, and the name in angle brackets that follows it and begins the next definition.
-    pub(super) fn definition(&mut self, name: String) -> Result<(Def, Option<String>), Refusal>
-        requires { IsTrue (is_name (string_bytes name)) }
+    /// The definition whose beginning was read, and the beginning of the next one, where that is a name in angle brackets.
+    pub(super) fn definition(&mut self, opening: Opening) -> Result<(Def, Option<Opening>), Refusal>
+        requires { IsTrue (is_name (string_bytes opening.name)) }
         ensures read { (done : PlainSource)
-            → Leads (course (done, Def_assign (string_bytes name)) self.old)
+            → Leads (course (done, Def_assign (string_bytes opening.name)) self.old)
             (λ found. (add_def done (plain_def found.0), behind found.1)) result self.new }
         ensures named { IfOk result
-            (λ found. IfSome found.1 (λ next. IsTrue (is_name (string_bytes next)))) }
+            (λ found. IfSome found.1 (λ next. IsTrue (is_name (string_bytes next.name)))) }
         ensures farther { OnOk result (self.old.taken < self.new.taken) }
     {
+        let Opening { at, name } = opening;
         self.expect(Sign::Assign)?;
         self.expect(Sign::Less)?;
         let head = self.head()?;
         self.expect(Sign::Greater)?;
         let (rules, next) = self.rules()?;
-        Ok((Def { name, head, rules }, next))
+        let def = Def {
+            at,
+            name,
+            head,
+            rules,
+        };
+        Ok((def, next))
     }
 
-    /// The rules of a definition, and the name in angle brackets that follows them and is no rule.
-    fn rules(&mut self) -> Result<(Vec<Rule>, Option<String>), Refusal>
+    /// The rules of a definition, and the beginning of the next one, where that is a name in angle brackets.
+    fn rules(&mut self) -> Result<(Vec<Rule>, Option<Opening>), Refusal>
         ensures read { (done : PlainSource) (name : List ℕ) (head : AnyHead)
             → Leads
             (course (done, Rules (record { name = name; head = head; rules = [] })) self.old)
@@ -102,7 +116,7 @@ impl<'a> Reader<'a> {
         ensures ordered { IfOk result
             (λ found. IsTrue (fixed_first (map (λ r. r.kind) found.0.items))) }
         ensures named { IfOk result
-            (λ found. IfSome found.1 (λ next. IsTrue (is_name (string_bytes next)))) }
+            (λ found. IfSome found.1 (λ next. IsTrue (is_name (string_bytes next.name)))) }
         ensures farther { OnOk result (self.old.taken ≤ self.new.taken) }
     {
         let mut rules = Vec::new(self.alloc);
@@ -113,7 +127,7 @@ impl<'a> Reader<'a> {
                     only_fixed = is_fixed(rule.kind);
                     rules.push(rule)?;
                 }
-                Behind::Definition(name) => return Ok((rules, Some(name))),
+                Behind::Definition(opening) => return Ok((rules, Some(opening))),
                 Behind::Nothing => return Ok((rules, None)),
             }
         }
@@ -127,12 +141,14 @@ impl<'a> Reader<'a> {
         ensures named { IfOk result NamesNext }
         ensures farther { IfOk result (λ found. Goes found self.old.taken self.new.taken) }
     {
+        let at = self.at;
         if self.takes(Sign::Less) {
             let name = self.name_in_angles()?;
             if self.is_at_definition(only_fixed) {
-                return Ok(Behind::Definition(name));
+                return Ok(Behind::Definition(Opening { at, name }));
             }
             return Ok(Behind::Rule(Rule {
+                at,
                 kind: RuleKind::Fixed,
                 name: Some(name),
                 qual: None,
@@ -143,7 +159,7 @@ impl<'a> Reader<'a> {
             return Ok(Behind::Rule(rule));
         }
         if self.is_at_loose() {
-            let rule = self.loose(None)?;
+            let rule = self.loose(at, None)?;
             return Ok(Behind::Rule(rule));
         }
         Ok(Behind::Nothing)
@@ -191,20 +207,22 @@ impl<'a> Reader<'a> {
         ensures ordered { IfOk result (λ rule. rule.kind ≡ RuleKind.Fixed → fixed ≡ true) }
         ensures farther { OnOk result (self.old.taken < self.new.taken) }
     {
+        let at = self.at;
         let qual = self.qualifier()?;
         if self.takes_fixed(fixed) {
             let name = self.name_in_angles()?;
             return Ok(Rule {
+                at,
                 kind: RuleKind::Fixed,
                 name: Some(name),
                 qual: Some(qual),
             });
         }
-        self.loose(Some(qual))
+        self.loose(at, Some(qual))
     }
 
-    /// A rule that is not fixed, behind its qualifier.
-    fn loose(&mut self, qual: Option<Qual>) -> Result<Rule, Refusal>
+    /// A rule that is not fixed, behind its qualifier. The rule begins at the place.
+    fn loose(&mut self, at: usize, qual: Option<Qual>) -> Result<Rule, Refusal>
         requires { IsTrue (is_qualifier qual) }
         ensures read { (done : PlainSource) (d : PlainDef) (state : State)
             → Wants false false (on_loose done d qual) state (left self.old)
@@ -217,6 +235,7 @@ impl<'a> Reader<'a> {
             let name = self.slot()?;
             self.expect(Sign::CloseBrace)?;
             return Ok(Rule {
+                at,
                 kind: RuleKind::Required,
                 name,
                 qual,
@@ -226,6 +245,7 @@ impl<'a> Reader<'a> {
         let name = self.slot()?;
         self.expect(Sign::CloseBracket)?;
         Ok(Rule {
+            at,
             kind: RuleKind::Optional,
             name,
             qual,

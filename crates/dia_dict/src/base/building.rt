@@ -59,6 +59,7 @@ fn declaration(alloc: Global, row: &AvpRow) -> Result<Decl, AllocError>
     ensures { IfOk result (λ decl. plain_decl decl ≡ decl_of_row row.now) }
 {
     Ok(Decl {
+        at: 0,
         name: String::from_str(alloc, row.name)?,
         code: row.code,
         vendor: 0,
@@ -97,6 +98,7 @@ fn definition(alloc: Global, row: &DefRow) -> Result<Def, AllocError>
     ensures { IfOk result (λ def. plain_def def ≡ def_of_row row.now) }
 {
     Ok(Def {
+        at: 0,
         name: String::from_str(alloc, row.name)?,
         head: row.head,
         rules: rules(alloc, row.rules)?,
@@ -119,6 +121,7 @@ fn rule(alloc: Global, row: RuleRow) -> Result<Rule, AllocError>
     ensures { IfOk result (λ rule. plain_rule rule ≡ rule_of_row row) }
 {
     Ok(Rule {
+        at: 0,
         kind: kind(row),
         name: name(alloc, row)?,
         qual: qualifier(row),

@@ -37,7 +37,7 @@ pub fn push_show(
     texts: &InputTexts<'_>,
     cut: &CutListing,
 ) -> Result<(), AllocError> {
-    let sites = sites_of(alloc, texts.first.text)?;
+    let sites = sites_of(alloc, &texts.first, &cut.first)?;
     let side = Side::of(&texts.first, &cut.first, &sites);
     let message = Message::of(&texts.message, &cut.message);
     push_end(alloc, out, &side, &message)

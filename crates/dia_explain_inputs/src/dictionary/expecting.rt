@@ -1,116 +1,122 @@
-//! What may stand in a state, in the words of the grammar.
+//! What can stand at a place, in the words of the grammar.
 
-use dia_explain_places::State;
+use dia_ccf::{InDeclaration, InDefinition, InHead, InRules, RuleKind, Wanted};
 
-/// What may stand in a state.
-pub fn expected(state: State) -> &'static str {
-    match state {
-        State::Between => "%avp, the name of a definition, or the end of the text",
-        State::Fixed | State::Angled | State::Loose => {
-            "a rule, as { X }, [ X ] or *3 [ X ], the next definition, %avp, or the end of the text"
-        }
-        State::DefName | State::LateName => "the name of a definition",
-        State::AngledName | State::FixedName => "the name of an AVP",
-        State::Required | State::Optional => "the name of an AVP, or AVP for any other",
-        State::Assign => "::= behind the name of a definition",
-        State::LateAssign =>
-            "::=, since behind { X } and [ X ] a name in angle brackets begins a definition",
-        State::DefClose | State::AngledClose | State::FixedClose | State::LateClose => {
-            "> behind the name"
-        }
-        State::RequiredClose => "} behind the name",
-        State::OptionalClose => "] behind the name",
-        State::FixedStar | State::LooseStar => "* behind the least count, as in 1*3 { X }",
-        State::FixedMost => "a greatest count, or <, { or [",
-        State::FixedBracket => "<, { or [ behind the counts",
-        State::LooseMost => "a greatest count, or { or [",
-        State::LooseBracket => "{ or [ behind the counts",
-        _ if is_of_declaration(state) => expected_of_declaration(state),
-        _ => expected_of_head(state),
+/// What can stand at a place.
+pub fn expected(wanted: Wanted) -> &'static str {
+    match wanted {
+        Wanted::Item => "%avp, the name of a definition, or the end of the text",
+        Wanted::Declaration(place) => expected_of_declaration(place),
+        Wanted::Definition(place) => expected_of_definition(place),
+        Wanted::Head(place) => expected_of_head(place),
+        Wanted::Rules(place) => expected_of_rules(place),
     }
 }
 
-/// Which number may stand in a state.
-pub fn expected_number(state: State) -> &'static str {
-    match state {
-        State::Fixed | State::Angled | State::Loose => "a least count below 2^32",
-        State::FixedMost | State::LooseMost => "a greatest count below 2^32",
-        State::CommandFlags
-        | State::CommandFlagsComma
-        | State::CommandProxy
-        | State::CommandProxyComma
-        | State::CommandApp => "an Application-ID below 2^32",
-        State::GroupVendor => "a vendor's number below 2^32",
-        State::ListNumber => "a value below 2^31",
-        _ => expected(state),
+/// Which number can stand at a place.
+pub fn expected_number(wanted: Wanted) -> &'static str {
+    match wanted {
+        Wanted::Rules(InRules::Rule { .. } | InRules::Angled { .. }) => "a least count below 2^32",
+        Wanted::Rules(InRules::Greatest { .. }) => "a greatest count below 2^32",
+        Wanted::Head(InHead::Flags { pxy, comma, .. }) if !(pxy && comma) => {
+            "an Application-ID below 2^32"
+        }
+        Wanted::Head(InHead::Vendor { comma: false }) => "a vendor's number below 2^32",
+        Wanted::Declaration(InDeclaration::DotsOrValue { .. }) => "a value below 2^31",
+        _ => expected(wanted),
     }
 }
 
-/// Whether a declaration is under way.
-pub fn is_of_declaration(state: State) -> bool {
-    matches!(
-        state,
-        State::DeclName
-            | State::DeclCode
-            | State::DeclFormat
-            | State::DeclVendor
-            | State::DeclOnlyFormat
-            | State::DeclRule
-            | State::EnumRule
-            | State::BehindEnum
-            | State::ListFirst
-            | State::ListNumber
-            | State::ListHigh
-            | State::ListNext
-    )
-}
-
-fn expected_of_declaration(state: State) -> &'static str {
-    match state {
-        State::DeclName => "the name of an AVP",
-        State::DeclCode => "the AVP code, a number below 2^32",
-        State::DeclFormat => {
+fn expected_of_declaration(place: InDeclaration) -> &'static str {
+    match place {
+        InDeclaration::Name => "the name of an AVP",
+        InDeclaration::Code => "the AVP code, a number below 2^32",
+        InDeclaration::VendorOrFormat => {
             "vendor, or a data format: OctetString, Integer32, Integer64, Unsigned32, Unsigned64, Float32, \
              Float64, Grouped, Address, Time, UTF8String, DiameterIdentity, DiameterURI, Enumerated, \
              IPFilterRule or QoSFilterRule"
         }
-        State::DeclOnlyFormat => {
+        InDeclaration::Format => {
             "a data format: OctetString, Integer32, Integer64, Unsigned32, Unsigned64, Float32, \
              Float64, Grouped, Address, Time, UTF8String, DiameterIdentity, DiameterURI, Enumerated, \
              IPFilterRule or QoSFilterRule"
         }
-        State::DeclVendor => "the vendor's number, below 2^32",
-        State::DeclRule | State::EnumRule => "the rule of the M flag: must, mustnot or any",
-        State::BehindEnum => {
+        InDeclaration::Vendor => "the vendor's number, below 2^32",
+        InDeclaration::MRule { .. } => "the rule of the M flag: must, mustnot or any",
+        InDeclaration::ValuesOrItem => {
             "( and a list of values, %avp, the name of a definition, or the end of the text"
         }
-        State::ListFirst => "a value below 2^31",
-        State::ListNumber => ".. and the end of a range, the next value, or )",
-        State::ListHigh => "the end of the range: no less than its start, and below 2^31",
-        _ => "the next value, below 2^31, or )",
+        InDeclaration::FirstValue => "a value below 2^31",
+        InDeclaration::DotsOrValue { .. } => ".. and the end of a range, the next value, or )",
+        InDeclaration::High { .. } => {
+            "the end of the range: no less than its start, and below 2^31"
+        }
+        InDeclaration::NextValue => "the next value, below 2^31, or )",
     }
 }
 
-fn expected_of_head(state: State) -> &'static str {
-    match state {
-        State::HeadOpen => "< Diameter Header: .. > or < AVP Header: .. >",
-        State::HeadWord => "Diameter Header for a command, or AVP Header for a group",
-        State::DiameterHeader | State::AvpHeader => "Header",
-        State::DiameterColon | State::AvpColon => ": behind Header",
-        State::CommandCode => "the Command Code, a number below 2^24, or code",
-        State::CommandFlags => "REQ, PXY, the Application-ID, or >",
-        State::CommandFlagsComma => "REQ, PXY or the Application-ID, a number below 2^32",
-        State::CommandProxy => "PXY, the Application-ID, or >",
-        State::CommandProxyComma => "PXY or the Application-ID, a number below 2^32",
-        State::CommandApp => "the Application-ID, or >",
-        State::CommandAppComma => "the Application-ID, a number below 2^32",
-        State::ErrorComma | State::ErrorWord => "ERR behind code",
-        State::ErrorProxy => "PXY, [, PXY], or >",
-        State::ErrorProxyComma | State::ErrorEither | State::ErrorEitherComma => "PXY",
-        State::ErrorEitherClose => "]",
-        State::GroupCode => "the AVP code, a number below 2^32",
-        State::GroupVendor => "the vendor's number, or >",
-        State::GroupVendorComma => "the vendor's number, below 2^32",
-        _ => "> at the end of the header",
+fn expected_of_definition(place: InDefinition) -> &'static str {
+    match place {
+        InDefinition::Name => "the name of a definition",
+        InDefinition::Close => "> behind the name",
+        InDefinition::Assign => "::= behind the name of a definition",
+        InDefinition::Head => "< Diameter Header: .. > or < AVP Header: .. >",
+    }
+}
+
+fn expected_of_head(place: InHead) -> &'static str {
+    match place {
+        InHead::Word => "Diameter Header for a command, or AVP Header for a group",
+        InHead::Header { .. } => "Header",
+        InHead::Colon { .. } => ": behind Header",
+        InHead::CommandCode => "the Command Code, a number below 2^24, or code",
+        InHead::Flags {
+            request,
+            pxy,
+            comma,
+        } => expected_flags(request, pxy, comma),
+        InHead::ErrorWord { .. } => "ERR behind code",
+        InHead::ErrorProxy { comma: false } => "PXY, [, PXY], or >",
+        InHead::ErrorProxy { comma: true } | InHead::ErrorEither { .. } => "PXY",
+        InHead::EitherClose => "]",
+        InHead::GroupCode => "the AVP code, a number below 2^32",
+        InHead::Vendor { comma: false } => "the vendor's number, or >",
+        InHead::Vendor { comma: true } => "the vendor's number, below 2^32",
+        InHead::Close => "> at the end of the header",
+    }
+}
+
+/// What can stand behind the Command Code and some flags.
+fn expected_flags(request: bool, pxy: bool, comma: bool) -> &'static str {
+    match (request, pxy, comma) {
+        (_, true, false) => "the Application-ID, or >",
+        (_, true, true) => "the Application-ID, a number below 2^32",
+        (true, false, false) => "PXY, the Application-ID, or >",
+        (true, false, true) => "PXY or the Application-ID, a number below 2^32",
+        (false, false, false) => "REQ, PXY, the Application-ID, or >",
+        (false, false, true) => "REQ, PXY or the Application-ID, a number below 2^32",
+    }
+}
+
+fn expected_of_rules(place: InRules) -> &'static str {
+    match place {
+        InRules::Rule { .. } | InRules::Angled { only_fixed: true } => {
+            "a rule, as { X }, [ X ] or *3 [ X ], the next definition, %avp, or the end of the text"
+        }
+        InRules::Angled { only_fixed: false } =>
+            "::=, since behind { X } and [ X ] a name in angle brackets begins a definition",
+        InRules::Star { .. } => "* behind the least count, as in 1*3 { X }",
+        InRules::Greatest { only_fixed: true } => "a greatest count, or <, { or [",
+        InRules::Greatest { only_fixed: false } => "a greatest count, or { or [",
+        InRules::Bracket { only_fixed: true } => "<, { or [ behind the counts",
+        InRules::Bracket { only_fixed: false } => "{ or [ behind the counts",
+        InRules::FixedName | InRules::AngledName { only_fixed: true } => "the name of an AVP",
+        InRules::AngledName { only_fixed: false } => "the name of a definition",
+        InRules::FixedClose | InRules::AngledClose { .. } => "> behind the name",
+        InRules::LooseName { .. } => "the name of an AVP, or AVP for any other",
+        InRules::LooseClose {
+            kind: RuleKind::Optional,
+        } => "] behind the name",
+        InRules::LooseClose { .. } => "} behind the name",
     }
 }

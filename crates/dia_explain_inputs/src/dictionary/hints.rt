@@ -6,94 +6,82 @@ mod definitions;
 mod formats;
 mod whole;
 
-use crate::dictionary::expecting::is_of_declaration;
-use dia_explain_places::{Kind, Refused, Token, Walk, Why, back, place_of, push_line_column};
+use crate::dictionary::scene::{Scene, Token};
+use dia_ccf::{CcfFault, Kind, Wanted};
+use dia_explain_places::{back, place_of, push_line_column};
 use std::alloc::AllocError;
 
 /// Adds a hint, if there is one.
-pub fn push_hint(
-    out: &mut String,
-    text: &[u8],
-    walk: &Walk<'_>,
-    refused: &Refused<'_>,
-) -> Result<(), AllocError> {
-    if refused.why == Why::Limit {
+pub fn push_hint(out: &mut String, scene: &Scene<'_>) -> Result<(), AllocError> {
+    if let CcfFault::Limit { .. } = scene.fault {
         return out.push_str("hint: shorten the name\n");
     }
-    if let Some(hint) = hint_of(text, walk, refused) {
+    if let Some(hint) = hint_of(scene) {
         return write!(out, "hint: {hint}\n");
     }
-    if let Some(format) = formats::meant(walk, refused) {
+    if let Some(format) = formats::meant(scene) {
         return write!(out, "hint: did you mean {format}?\n");
     }
-    if let Some(hint) = general_hint(walk) {
+    if let Some(hint) = general_hint(scene) {
         return write!(out, "hint: {hint}\n");
     }
-    match refused.token {
-        None => push_last(out, text, walk, refused.at, "its last word"),
-        Some(_) if definitions::is_close(walk.state) => {
-            push_last(out, text, walk, refused.at, "the name before it")
-        }
+    match scene.token {
+        None => push_last(out, scene, "its last word"),
+        Some(_) if definitions::is_close(scene.wanted) => push_last(
+            out,
+            scene,
+            "the name before it",
+        ),
         Some(_) => Ok(()),
     }
 }
 
-fn hint_of(text: &[u8], walk: &Walk<'_>, refused: &Refused<'_>) -> Option<&'static str> {
-    if let Some(hint) = whole::hint_of(text) {
+fn hint_of(scene: &Scene<'_>) -> Option<&'static str> {
+    if let Some(hint) = whole::hint_of(scene.text) {
         return Some(hint);
     }
-    if let Some(hint) = definitions::hint_of_comment(text, walk) {
+    if let Some(hint) = definitions::hint_of_comment(scene) {
         return Some(hint);
     }
-    match refused.token {
-        Some(token) => hint_of_token(text, walk, refused, &token),
-        None => definitions::hint_of_end(walk),
+    match scene.token {
+        Some(token) => hint_of_token(scene, &token),
+        None => definitions::hint_of_end(scene),
     }
 }
 
-fn hint_of_token(
-    text: &[u8],
-    walk: &Walk<'_>,
-    refused: &Refused<'_>,
-    token: &Token<'_>,
-) -> Option<&'static str> {
+fn hint_of_token(scene: &Scene<'_>, token: &Token<'_>) -> Option<&'static str> {
     if token.kind == Kind::Other {
-        if let Some(hint) = characters::hint_of(back(text, token.at), walk.state) {
+        if let Some(hint) = characters::hint_of(back(scene.text, token.at), scene.wanted) {
             return Some(hint);
         }
     }
-    if is_of_declaration(walk.state) {
-        if let Some(hint) = declarations::hint_of(walk.state, refused.why, token) {
+    if let Wanted::Declaration(place) = scene.wanted {
+        if let Some(hint) = declarations::hint_of(place, scene.fault, token) {
             return Some(hint);
         }
     }
-    definitions::hint_of(text, walk, token)
+    definitions::hint_of(scene, token)
 }
 
 /// What helps wherever nothing else does.
-fn general_hint(walk: &Walk<'_>) -> Option<&'static str> {
-    if walk.earlier.is_none() {
+fn general_hint(scene: &Scene<'_>) -> Option<&'static str> {
+    if scene.earlier.is_none() {
         return Some(
             "a dictionary has lines %avp NAME CODE [vendor N] FORMAT RULE, and definitions <NAME> ::= < .. > \
              with their rules: `diacmd render @base` prints one",
         );
     }
-    if is_of_declaration(walk.state) {
-        return declarations::general(walk.state);
+    match scene.wanted {
+        Wanted::Declaration(place) => declarations::general(place),
+        _ => None,
     }
-    None
 }
 
 /// Adds where the last word stands that was taken, if it stands on another line.
-fn push_last(
-    out: &mut String,
-    text: &[u8],
-    walk: &Walk<'_>,
-    at: usize,
-    what: &str,
-) -> Result<(), AllocError> {
-    match walk.last {
-        Some(last) if place_of(text, last.at).line != place_of(text, at).line => {
+fn push_last(out: &mut String, scene: &Scene<'_>, what: &str) -> Result<(), AllocError> {
+    let text = scene.text;
+    match scene.last {
+        Some(last) if place_of(text, last.at).line != place_of(text, scene.at).line => {
             write!(out, "hint: {what} stands at ")?;
             push_line_column(out, text, last.at)?;
             out.push_str("\n")

@@ -8,7 +8,7 @@ use crate::dictionary::parts::Parts;
 use advice::{push_general, push_special};
 use dia_ccf::Source;
 use dia_dict::{DictKind, faults};
-use dia_explain_places::{push_place, walk_over};
+use dia_explain_places::{push_place, sites_of};
 use notes::{Note, notes_of};
 use std::alloc::{AllocError, Global};
 use words::push_wrong;
@@ -24,15 +24,15 @@ pub fn push_meaning(
     alloc: Global,
     out: &mut String,
     name: &str,
-    text: &[u8],
+    text: &str,
     source: &Source,
 ) -> Result<bool, AllocError> {
     let findings = faults(alloc, source)?;
     if findings.is_empty() {
         return Ok(false);
     }
-    let walk = walk_over(alloc, text)?;
-    let parts = Parts::new(alloc, source, text, &walk.sites)?;
+    let sites = sites_of(alloc, text, source)?;
+    let parts = Parts::new(alloc, source, text.as_bytes(), &sites)?;
     let names = parts.names_of_avps(alloc)?;
     let notes = notes_of(alloc, &findings)?;
     push_told(out, name, &parts, &names, &notes)?;

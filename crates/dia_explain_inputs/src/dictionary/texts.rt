@@ -2,9 +2,9 @@
 
 use crate::dictionary::expecting::{expected, expected_number};
 use crate::dictionary::hints::push_hint;
-use dia_explain_places::{
-    Kind, Refused, Token, Walk, Why, back, push_excerpt, push_place, push_shown,
-};
+use crate::dictionary::scene::{Scene, Token};
+use dia_ccf::{CcfFault, Kind};
+use dia_explain_places::{back, push_excerpt, push_place, push_shown};
 use std::alloc::{AllocError, Global};
 
 /// How many bytes of a token are told.
@@ -15,54 +15,42 @@ pub fn push_syntax(
     alloc: Global,
     out: &mut String,
     name: &str,
-    text: &[u8],
-    walk: &Walk<'_>,
-    refused: &Refused<'_>,
+    scene: &Scene<'_>,
 ) -> Result<(), AllocError> {
-    push_place(out, name, text, refused.at)?;
-    match refused.why {
-        Why::Limit => out.push_str("the name has more than 128 bytes\n")?,
-        Why::Number => {
-            push_quoted(alloc, out, text, refused)?;
-            let wanted = expected_number(walk.state);
+    push_place(out, name, scene.text, scene.at)?;
+    match scene.fault {
+        CcfFault::Limit { .. } => out.push_str("the name has more than 128 bytes\n")?,
+        CcfFault::Number { .. } => {
+            push_quoted(alloc, out, scene)?;
+            let wanted = expected_number(scene.wanted);
             write!(out, " is out of range; expected {wanted}\n")?;
         }
-        Why::Syntax => {
-            push_found(alloc, out, text, refused)?;
-            let wanted = expected(walk.state);
+        CcfFault::Syntax { .. } | CcfFault::NoMemory => {
+            push_found(alloc, out, scene)?;
+            let wanted = expected(scene.wanted);
             write!(out, "; expected {wanted}\n")?;
         }
     }
-    push_excerpt(alloc, out, text, refused.at)?;
-    push_hint(out, text, walk, refused)
+    push_excerpt(alloc, out, scene.text, scene.at)?;
+    push_hint(out, scene)
 }
 
 /// Adds what stands at the place.
-fn push_found(
-    alloc: Global,
-    out: &mut String,
-    text: &[u8],
-    refused: &Refused<'_>,
-) -> Result<(), AllocError> {
-    if refused.token.is_none() {
+fn push_found(alloc: Global, out: &mut String, scene: &Scene<'_>) -> Result<(), AllocError> {
+    if scene.token.is_none() {
         return out.push_str("the text ends here");
     }
     out.push_str("found ")?;
-    push_quoted(alloc, out, text, refused)
+    push_quoted(alloc, out, scene)
 }
 
 /// Adds the token in quotes.
-fn push_quoted(
-    alloc: Global,
-    out: &mut String,
-    text: &[u8],
-    refused: &Refused<'_>,
-) -> Result<(), AllocError> {
-    let Some(token) = refused.token else {
+fn push_quoted(alloc: Global, out: &mut String, scene: &Scene<'_>) -> Result<(), AllocError> {
+    let Some(token) = scene.token else {
         return Ok(());
     };
     out.push('"')?;
-    push_shown(alloc, out, shown_bytes(text, &token))?;
+    push_shown(alloc, out, shown_bytes(scene.text, &token))?;
     out.push('"')?;
     Ok(())
 }

@@ -1,22 +1,6 @@
-use Rattle.dia_ccf.specs.Machine.{Reads}
-use Rattle.dia_ccf.specs.Plain.{plain_source}
-use Rattle.dia_ccf.proofs.ReaderFindings.{found, only}
-use Rattle.dia_ccf.proofs.ReaderAnswers.{outcome_of, only_memory, is_fault}
+use Rattle.std.proofs.Common.{◌∙◌}
+use Rattle.dia_ccf.proofs.ReaderAnswers.{only_no_memory}
 use Rattle.dia_ccf.proofs.parsing.parse.Goals as goal
 
-pub returns-in-Ok-clause-found : goal.returns-in-Ok-clause-found
-returns-in-Ok-clause-found c = found c.args.text.now (plain_source c.in-Ok.source)
-    (outcome_of c.new-reader.result c.args.text.now c.source.new.self.text.now (Reads (plain_source c.in-Ok.source)) c.new-reader.ensures.0 c.new-reader.ensures.1 c.in-Ok.ensures).1
-
-pub returns-in-Ok-clause-only : goal.returns-in-Ok-clause-only
-returns-in-Ok-clause-only c = λ source small derived.
-    only c.args.text.now (plain_source c.in-Ok.source) source (outcome_of c.new-reader.result c.args.text.now c.source.new.self.text.now
-    (Reads (plain_source c.in-Ok.source)) c.new-reader.ensures.0 c.new-reader.ensures.1 c.in-Ok.ensures).1 derived
-
 pub returns-in-Err-clause-only : goal.returns-in-Err-clause-only
-returns-in-Err-clause-only c = λ source small derived.
-    only_memory c.new-reader.result c.source.new.self c.args.text.now c.in-Err.refusal c.fault.result source c.new-reader.ensures.0 c.new-reader.ensures.1 c.in-Err.ensures c.fault.ensures derived
-
-pub returns-in-Err-clause-fault : goal.returns-in-Err-clause-fault
-returns-in-Err-clause-fault c = λ small.
-    is_fault c.new-reader.result c.source.new.self c.args.text.now c.new-reader.ensures.0 c.new-reader.ensures.1 c.in-Err.refusal c.fault.result c.in-Err.ensures c.fault.ensures
+returns-in-Err-clause-only c = λ source small derived. c.fault.ensures ∙ only_no_memory c.in-Err.refused (c.in-Err.ensures.only source small derived)

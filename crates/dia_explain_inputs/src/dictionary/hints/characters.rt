@@ -1,10 +1,10 @@
 //! What to do about a character that may stand in comments alone.
 
-use crate::dictionary::expecting::is_of_declaration;
-use dia_explain_places::{State, front_of_run};
+use dia_ccf::{InDeclaration, InRules, Wanted};
+use dia_explain_places::front_of_run;
 
 /// What to do about the character at the front.
-pub fn hint_of(rest: &[u8], state: State) -> Option<&'static str> {
+pub fn hint_of(rest: &[u8], wanted: Wanted) -> Option<&'static str> {
     match *rest.first()? {
         0x80.. => Some(hint_of_unicode(rest)),
         b'_' => Some("a name has letters, digits and dashes: write - for _"),
@@ -22,12 +22,12 @@ pub fn hint_of(rest: &[u8], state: State) -> Option<&'static str> {
         b'@' => Some(
             "a line with @ is one of a .dia file: dictionaries/from_dia.py makes a dictionary text of it",
         ),
-        _ => hint_of_sign(rest, state),
+        _ => hint_of_sign(rest, wanted),
     }
 }
 
 /// What to do about a sign that stands for something else elsewhere.
-fn hint_of_sign(rest: &[u8], state: State) -> Option<&'static str> {
+fn hint_of_sign(rest: &[u8], wanted: Wanted) -> Option<&'static str> {
     if rest.starts_with(b"#include") {
         return Some("a text has no includes: `cat` makes one dictionary of several files");
     }
@@ -37,8 +37,8 @@ fn hint_of_sign(rest: &[u8], state: State) -> Option<&'static str> {
     if rest.starts_with(b"%") {
         return Some(hint_of_percent(rest));
     }
-    if is_of_declaration(state) {
-        return hint_of_dash(rest, state);
+    if let Wanted::Declaration(_) = wanted {
+        return hint_of_dash(rest, wanted);
     }
     if rest.starts_with(b"|") || rest.starts_with(b"/") {
         return Some("a definition has no alternatives: make each an optional rule, as [ X ] [ Y ]");
@@ -46,10 +46,10 @@ fn hint_of_sign(rest: &[u8], state: State) -> Option<&'static str> {
     if rest.starts_with(b"=") {
         return Some("a definition is <NAME> ::= < Diameter Header: .. >, and its sign is ::=");
     }
-    if rest.starts_with(b"+") && is_of_rules(state) {
+    if rest.starts_with(b"+") && is_of_rules(wanted) {
         return Some("one or more of X is 1* { X }, and any number * [ X ]");
     }
-    hint_of_dash(rest, state)
+    hint_of_dash(rest, wanted)
 }
 
 /// What to do about a character that isn't ASCII.
@@ -83,8 +83,8 @@ fn hint_of_percent(rest: &[u8]) -> &'static str {
 }
 
 /// What to do about a dash in what looks like a number or a range.
-fn hint_of_dash(rest: &[u8], state: State) -> Option<&'static str> {
-    if rest.starts_with(b"-") && is_in_list(state) {
+fn hint_of_dash(rest: &[u8], wanted: Wanted) -> Option<&'static str> {
+    if rest.starts_with(b"-") && is_in_list(wanted) {
         return Some(
             "a list has values from 0 to 2147483647, and no negative ones: leave the list out, if the AVP has such a value",
         );
@@ -92,10 +92,10 @@ fn hint_of_dash(rest: &[u8], state: State) -> Option<&'static str> {
     if !front_of_run(rest).contains(&b'-') {
         return None;
     }
-    if is_in_list(state) {
+    if is_in_list(wanted) {
         return Some("a range of values is written with two dots, as 0..3");
     }
-    if is_of_rules(state) {
+    if is_of_rules(wanted) {
         Some("the counts of a rule are LEAST*GREATEST, as 0*1 { X }")
     } else {
         None
@@ -103,13 +103,21 @@ fn hint_of_dash(rest: &[u8], state: State) -> Option<&'static str> {
 }
 
 /// Whether a rule may begin.
-fn is_of_rules(state: State) -> bool {
-    matches!(state, State::Fixed | State::Angled | State::Loose)
+fn is_of_rules(wanted: Wanted) -> bool {
+    matches!(
+        wanted,
+        Wanted::Rules(InRules::Rule { .. } | InRules::Angled { only_fixed: true })
+    )
 }
 
-fn is_in_list(state: State) -> bool {
+fn is_in_list(wanted: Wanted) -> bool {
     matches!(
-        state,
-        State::ListFirst | State::ListNumber | State::ListHigh | State::ListNext
+        wanted,
+        Wanted::Declaration(
+            InDeclaration::FirstValue
+                | InDeclaration::DotsOrValue { .. }
+                | InDeclaration::High { .. }
+                | InDeclaration::NextValue
+        )
     )
 }

@@ -1,34 +1,38 @@
 //! What to do about a token of a declaration.
 
-use dia_explain_places::{Kind, State, Token, Why};
+use crate::dictionary::scene::Token;
+use dia_ccf::{CcfFault, InDeclaration, Kind};
 
-pub fn hint_of(state: State, why: Why, token: &Token<'_>) -> Option<&'static str> {
-    if is_before_rule(state) && token.text == b",".as_slice() {
+pub fn hint_of(place: InDeclaration, fault: CcfFault, token: &Token<'_>) -> Option<&'static str> {
+    if is_before_rule(place) && token.text == b",".as_slice() {
         return Some("the words of a declaration stand without commas");
     }
-    match state {
-        State::DeclName => hint_of_name(token),
-        State::DeclCode => hint_of_code(token),
-        State::DeclVendor | State::DeclFormat => hint_of_vendor(state, token),
-        State::DeclRule | State::EnumRule => hint_of_rule(token),
-        State::BehindEnum => hint_behind_enum(token),
-        State::ListHigh if why == Why::Number => Some("a range is LOW..HIGH"),
-        State::ListFirst | State::ListNumber | State::ListNext => hint_of_list(token),
-        _ => None,
+    match place {
+        InDeclaration::Name => hint_of_name(token),
+        InDeclaration::Code => hint_of_code(token),
+        InDeclaration::Vendor | InDeclaration::VendorOrFormat => hint_of_vendor(place, token),
+        InDeclaration::Format => None,
+        InDeclaration::MRule { .. } => hint_of_rule(token),
+        InDeclaration::ValuesOrItem => hint_behind_enum(token),
+        InDeclaration::High { .. } => match fault {
+            CcfFault::Number { .. } => Some("a range is LOW..HIGH"),
+            _ => None,
+        },
+        InDeclaration::FirstValue | InDeclaration::DotsOrValue { .. } | InDeclaration::NextValue =>
+            { hint_of_list(token) }
     }
 }
 
 /// Whether a declaration is under way, and no list of values.
-fn is_before_rule(state: State) -> bool {
+fn is_before_rule(place: InDeclaration) -> bool {
     matches!(
-        state,
-        State::DeclName
-            | State::DeclCode
-            | State::DeclFormat
-            | State::DeclVendor
-            | State::DeclOnlyFormat
-            | State::DeclRule
-            | State::EnumRule
+        place,
+        InDeclaration::Name
+            | InDeclaration::Code
+            | InDeclaration::VendorOrFormat
+            | InDeclaration::Vendor
+            | InDeclaration::Format
+            | InDeclaration::MRule { .. }
     )
 }
 
@@ -65,11 +69,11 @@ fn hint_of_code(token: &Token<'_>) -> Option<&'static str> {
     None
 }
 
-fn hint_of_vendor(state: State, token: &Token<'_>) -> Option<&'static str> {
-    if state == State::DeclVendor && token.kind == Kind::Name {
+fn hint_of_vendor(place: InDeclaration, token: &Token<'_>) -> Option<&'static str> {
+    if place == InDeclaration::Vendor && token.kind == Kind::Name {
         return Some("the vendor is told by its number, as vendor 10415 for 3GPP");
     }
-    if state == State::DeclFormat && token.kind == Kind::Number {
+    if place == InDeclaration::VendorOrFormat && token.kind == Kind::Number {
         return Some("write vendor before the number of the vendor");
     }
     if token.text == b"(".as_slice() {
@@ -139,8 +143,8 @@ fn hint_of_list(token: &Token<'_>) -> Option<&'static str> {
 }
 
 /// What helps with any other token of a declaration.
-pub fn general(state: State) -> Option<&'static str> {
-    if is_before_rule(state) {
+pub fn general(place: InDeclaration) -> Option<&'static str> {
+    if is_before_rule(place) {
         Some(
             "a declaration is %avp NAME CODE [vendor N] FORMAT RULE, as %avp Session-Id 263 UTF8String must",
         )

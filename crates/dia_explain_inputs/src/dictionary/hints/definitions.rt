@@ -1,6 +1,8 @@
 //! What to do about a token of a definition, or between definitions.
 
-use dia_explain_places::{Kind, State, Token, Walk, back, is_white};
+use crate::dictionary::scene::{Scene, Token};
+use dia_ccf::{InDefinition, InHead, InRules, Kind, Wanted};
+use dia_explain_places::{back, is_white};
 
 const LATE_FIXED: &str = "a fixed rule < X > stands before all rules { X } and [ X ]";
 
@@ -9,10 +11,10 @@ const COUNTS_FIRST: &str = "the counts of a rule stand before it, as * [ X ] or 
 const MUST_NOT: &str = "the rule mustnot is one word";
 
 /// What to do about a comment that cuts a header off.
-pub fn hint_of_comment(text: &[u8], walk: &Walk<'_>) -> Option<&'static str> {
-    let rest = back(text, walk.last?.end());
+pub fn hint_of_comment(scene: &Scene<'_>) -> Option<&'static str> {
+    let rest = back(scene.text, scene.last?.end());
     let blanks = rest.iter().take_while(|byte| is_white(**byte)).count();
-    if is_of_header(walk.state) && back(rest, blanks).starts_with(b";") {
+    if is_of_header(scene.wanted) && back(rest, blanks).starts_with(b";") {
         Some("a ; begins a comment, up to the end of its line: commas stand in a header")
     } else {
         None
@@ -20,88 +22,91 @@ pub fn hint_of_comment(text: &[u8], walk: &Walk<'_>) -> Option<&'static str> {
 }
 
 /// What to do where the text ends.
-pub fn hint_of_end(walk: &Walk<'_>) -> Option<&'static str> {
-    match walk.state {
-        State::LateAssign => Some(LATE_FIXED),
-        State::FixedMost | State::LooseMost | State::FixedBracket | State::LooseBracket => {
-            Some(COUNTS_FIRST)
-        }
-        State::Assign if is_must_not(walk) => Some(MUST_NOT),
+pub fn hint_of_end(scene: &Scene<'_>) -> Option<&'static str> {
+    match scene.wanted {
+        Wanted::Rules(InRules::Angled { only_fixed: false }) => Some(LATE_FIXED),
+        Wanted::Rules(InRules::Greatest { .. } | InRules::Bracket { .. }) => Some(COUNTS_FIRST),
+        Wanted::Definition(InDefinition::Assign) if is_must_not(scene) => Some(MUST_NOT),
         _ => None,
     }
 }
 
 /// Whether the last two words are must and not.
-fn is_must_not(walk: &Walk<'_>) -> bool {
-    match (walk.earlier, walk.last) {
+fn is_must_not(scene: &Scene<'_>) -> bool {
+    match (scene.earlier, scene.last) {
         (Some(must), Some(not)) => must.text == b"must".as_slice() && not.text == b"not".as_slice(),
         _ => false,
     }
 }
 
-pub fn hint_of(text: &[u8], walk: &Walk<'_>, token: &Token<'_>) -> Option<&'static str> {
-    if is_of_header(walk.state) {
-        return hint_of_header(walk.state, token);
+pub fn hint_of(scene: &Scene<'_>, token: &Token<'_>) -> Option<&'static str> {
+    if is_of_header(scene.wanted) {
+        return hint_of_header(scene.wanted, token);
     }
-    match walk.state {
-        State::LateAssign | State::LateName => Some(LATE_FIXED),
-        State::Assign => hint_of_assign(back(text, token.at), walk, token),
-        State::Between => hint_of_between(token),
-        State::HeadOpen => Some(
+    match scene.wanted {
+        Wanted::Item => hint_of_between(token),
+        Wanted::Definition(InDefinition::Assign) => hint_of_assign(scene, token),
+        Wanted::Definition(InDefinition::Head) => Some(
             "behind ::= stands a header: < Diameter Header: CODE, REQ > for a request, without REQ for an answer, \
              or < AVP Header: CODE > for a group",
         ),
-        State::FixedBracket | State::FixedMost | State::LooseBracket | State::LooseMost => {
+        Wanted::Head(place) => hint_of_number(place, token),
+        Wanted::Rules(place) => hint_of_rule(place, token),
+        Wanted::Declaration(_) | Wanted::Definition(_) => hint_of_close(scene.wanted, token),
+    }
+}
+
+/// What to do about a token among rules.
+fn hint_of_rule(place: InRules, token: &Token<'_>) -> Option<&'static str> {
+    match place {
+        InRules::Angled { only_fixed: false } | InRules::AngledName { only_fixed: false } => {
+            Some(LATE_FIXED)
+        }
+        InRules::Greatest { .. } | InRules::Bracket { .. } => {
             Some("a rule is [LEAST]*[GREATEST] and then < X >, { X } or [ X ], as 1*3 { X }")
         }
-        State::FixedStar | State::LooseStar => {
+        InRules::Star { .. } => {
             Some("counts are LEAST*GREATEST: from 1 to 3 is 1*3, and just 2 is 2*2")
         }
-        State::CommandCode | State::GroupCode => hint_of_number(walk.state, token),
-        State::AngledName | State::FixedName if token.text == b"AVP".as_slice() => {
+        InRules::AngledName { .. } | InRules::FixedName if token.text == b"AVP".as_slice() => {
             Some("AVP in a rule is the wildcard, and can't be fixed: write { AVP } or [ AVP ]")
         }
-        State::Fixed | State::Angled | State::Loose if token.text == b"(".as_slice() => Some(
+        InRules::Rule { .. } | InRules::Angled { .. } if token.text == b"(".as_slice() => Some(
             "a rule has no round brackets, and its counts stand before it, as 1*3 { X }",
         ),
-        _ => hint_of_close(walk.state, token),
+        _ => hint_of_close(Wanted::Rules(place), token),
     }
 }
 
 /// Whether a header is under way, behind its first word.
-fn is_of_header(state: State) -> bool {
+fn is_of_header(wanted: Wanted) -> bool {
     matches!(
-        state,
-        State::CommandFlags
-            | State::CommandFlagsComma
-            | State::CommandProxy
-            | State::CommandProxyComma
-            | State::CommandApp
-            | State::CommandAppComma
-            | State::ErrorComma
-            | State::ErrorWord
-            | State::GroupVendor
-            | State::GroupVendorComma
-            | State::HeadClose
+        wanted,
+        Wanted::Head(
+            InHead::Flags { .. } | InHead::ErrorWord { .. } | InHead::Vendor { .. } | InHead::Close
+        )
     )
 }
 
 /// What to do about what stands for the number in a header.
-fn hint_of_number(state: State, token: &Token<'_>) -> Option<&'static str> {
+fn hint_of_number(place: InHead, token: &Token<'_>) -> Option<&'static str> {
+    if !matches!(place, InHead::CommandCode | InHead::GroupCode) {
+        return None;
+    }
     if token.text.starts_with(b"0x") || token.text.starts_with(b"0X") {
         return Some("codes are decimal");
     }
     if token.kind != Kind::Name {
         return None;
     }
-    if state == State::CommandCode {
+    if place == InHead::CommandCode {
         Some("a command has its number in the header, as 272 for Credit-Control")
     } else {
         Some("a group has the code of its AVP in the header, as 279 for Failed-AVP")
     }
 }
 
-fn hint_of_header(state: State, token: &Token<'_>) -> Option<&'static str> {
+fn hint_of_header(wanted: Wanted, token: &Token<'_>) -> Option<&'static str> {
     if b"{[<".contains(token.text.first()?) {
         return Some("a header ends with >, as < Diameter Header: 272, REQ >");
     }
@@ -114,19 +119,20 @@ fn hint_of_header(state: State, token: &Token<'_>) -> Option<&'static str> {
         return Some("REQ stands behind the Command Code, before PXY and the Application-ID");
     }
     if token.text.eq_ignore_ascii_case(b"ERR")
-        || state == State::ErrorComma
-        || state == State::ErrorWord
+        || matches!(wanted, Wanted::Head(InHead::ErrorWord { .. }))
     {
         return Some(
             "the answers with an error of all commands have one definition: < Diameter Header: code, ERR >",
         );
     }
-    if token.kind == Kind::Name && is_of_flags(state) {
+    if token.kind == Kind::Name && matches!(wanted, Wanted::Head(InHead::Flags { .. })) {
         return Some(
             "a request has REQ, and an answer has no word for it; PXY is there where the P flag is set",
         );
     }
-    if state == State::HeadClose && (token.kind == Kind::Number || token.text == b",".as_slice()) {
+    if wanted == Wanted::Head(InHead::Close)
+        && (token.kind == Kind::Number || token.text == b",".as_slice())
+    {
         return Some(
             "a command has one Application-ID, and a group one vendor: define the command once for each application",
         );
@@ -134,25 +140,14 @@ fn hint_of_header(state: State, token: &Token<'_>) -> Option<&'static str> {
     None
 }
 
-fn is_of_flags(state: State) -> bool {
-    matches!(
-        state,
-        State::CommandFlags
-            | State::CommandFlagsComma
-            | State::CommandProxy
-            | State::CommandProxyComma
-            | State::CommandApp
-            | State::CommandAppComma
-    )
-}
-
-/// What to do about a token behind a name that begins a definition. `rest` is the text from the token on.
-fn hint_of_assign(rest: &[u8], walk: &Walk<'_>, token: &Token<'_>) -> Option<&'static str> {
-    let last = walk.last?;
+/// What to do about a token behind a name that begins a definition.
+fn hint_of_assign(scene: &Scene<'_>, token: &Token<'_>) -> Option<&'static str> {
+    let rest = back(scene.text, token.at);
+    let last = scene.last?;
     if rest.starts_with(b":=") || rest.starts_with(b"::") || rest.starts_with(b": =") {
         return Some("the sign of a definition is ::=");
     }
-    if is_must_not(walk) {
+    if is_must_not(scene) {
         return Some(MUST_NOT);
     }
     if token.text == b"AVP".as_slice() || has_bar(rest) {
@@ -163,7 +158,7 @@ fn hint_of_assign(rest: &[u8], walk: &Walk<'_>, token: &Token<'_>) -> Option<&'s
     if last.text.eq_ignore_ascii_case(b"avp") {
         return Some("a declaration begins with %avp");
     }
-    if last.text == b">".as_slice() || walk.earlier.is_none() {
+    if last.text == b">".as_slice() || scene.earlier.is_none() {
         return None;
     }
     if token.kind == Kind::Number && last.text != b"RFC".as_slice() {
@@ -204,21 +199,19 @@ fn hint_of_between(token: &Token<'_>) -> Option<&'static str> {
 }
 
 /// Whether a name was read, and the bracket behind it is wanted.
-pub fn is_close(state: State) -> bool {
+pub fn is_close(wanted: Wanted) -> bool {
     matches!(
-        state,
-        State::DefClose
-            | State::AngledClose
-            | State::FixedClose
-            | State::LateClose
-            | State::RequiredClose
-            | State::OptionalClose
+        wanted,
+        Wanted::Definition(InDefinition::Close)
+            | Wanted::Rules(
+                InRules::FixedClose | InRules::AngledClose { .. } | InRules::LooseClose { .. }
+            )
     )
 }
 
 /// What to do about a name of several words.
-fn hint_of_close(state: State, token: &Token<'_>) -> Option<&'static str> {
-    if is_close(state) && token.kind == Kind::Name {
+fn hint_of_close(wanted: Wanted, token: &Token<'_>) -> Option<&'static str> {
+    if is_close(wanted) && token.kind == Kind::Name {
         Some("a name has no spaces: join its words by a dash")
     } else {
         None

@@ -1,9 +1,30 @@
 //! The format that was meant.
 
-use dia_explain_places::{FORMATS, Refused, State, Walk, distance};
+use crate::dictionary::scene::Scene;
+use dia_ccf::{InDeclaration, Wanted};
+use dia_explain_places::distance;
 
 /// How much of two words may differ, between a common beginning and a common end.
 const MOST: usize = 2;
+
+/// The formats but Enumerated.
+static FORMATS: [&str; 15] = [
+    "OctetString",
+    "Integer32",
+    "Integer64",
+    "Unsigned32",
+    "Unsigned64",
+    "Float32",
+    "Float64",
+    "Grouped",
+    "Address",
+    "Time",
+    "UTF8String",
+    "DiameterIdentity",
+    "DiameterURI",
+    "IPFilterRule",
+    "QoSFilterRule",
+];
 
 /// Words for formats in other places, and the format that is meant.
 static OTHERS: [(&str, &str); 16] = [
@@ -26,9 +47,11 @@ static OTHERS: [(&str, &str); 16] = [
 ];
 
 /// The format that is meant, where one is wanted and another word stands.
-pub fn meant(walk: &Walk<'_>, refused: &Refused<'_>) -> Option<&'static str> {
-    match walk.state {
-        State::DeclFormat | State::DeclOnlyFormat => format_of(refused.token?.text),
+pub fn meant(scene: &Scene<'_>) -> Option<&'static str> {
+    match scene.wanted {
+        Wanted::Declaration(InDeclaration::VendorOrFormat | InDeclaration::Format) => {
+            format_of(scene.token?.text)
+        }
         _ => None,
     }
 }

@@ -10,14 +10,14 @@ use Rattle.dia_ccf.proofs.reading.Reader.definition.Goals as goal
 
 pub returns-in_err-expect-clause-read : goal.returns-in_err-expect-clause-read
 returns-in_err-expect-clause-read c = λ done.
-    (let name = string_bytes c.args.name in
+    (let name = string_bytes c.args.opening.name in
     exits (course (done, Def_assign name) c.args.self.now)
     (λ found. (add_def done (plain_def found.0), behind found.1)) c.in_err-expect.field-0.0 c.from_residual.result c.expect.new.self c.from_residual.ensures.1
     (sign_leads (done, Def_assign name) (done, Head_open name) Assign c.args.self.now c.expect.new.self (Err c.in_err-expect.field-0.0) (λ t. refl) (λ t. refl) refl c.in_err-expect.ensures))
 
 pub returns-in_err-expect-2-clause-read : goal.returns-in_err-expect-2-clause-read
 returns-in_err-expect-2-clause-read c = λ done.
-    (let name = string_bytes c.args.name in
+    (let name = string_bytes c.args.opening.name in
     leads_along (course (done, Def_assign name) c.args.self.now) (course (done, Head_open name) c.expect.new.self)
     (λ found. (add_def done (plain_def found.0), behind found.1)) c.from_residual-in_err-expect-2.result c.expect-2.new.self
     (sign_leads (done, Def_assign name) (done, Head_open name) Assign c.args.self.now c.expect.new.self (Ok tt) (λ t. refl) (λ t. refl) refl c.in_ok-expect.ensures)
@@ -28,7 +28,7 @@ returns-in_err-expect-2-clause-read c = λ done.
 
 pub returns-in_err-head-clause-read : goal.returns-in_err-head-clause-read
 returns-in_err-head-clause-read c = λ done.
-    (let name = string_bytes c.args.name in
+    (let name = string_bytes c.args.opening.name in
     leads_along (course (done, Def_assign name) c.args.self.now) (course (done, In_head name Head_word) c.expect-2.new.self)
     (λ found. (add_def done (plain_def found.0), behind found.1)) c.from_residual-in_err-head.result c.head.new.self
     (sign_leads (done, Def_assign name) (done, Head_open name) Assign c.args.self.now c.expect.new.self (Ok tt) (λ t. refl) (λ t. refl) refl c.in_ok-expect.ensures
@@ -39,7 +39,7 @@ returns-in_err-head-clause-read c = λ done.
 
 pub returns-in_err-expect-3-clause-read : goal.returns-in_err-expect-3-clause-read
 returns-in_err-expect-3-clause-read c = λ done.
-    (let name = string_bytes c.args.name in
+    (let name = string_bytes c.args.opening.name in
     let head = c.in_ok-head.head in
     let d : PlainDef = record { name = name; head = head; rules = [] } in
     leads_along (course (done, Def_assign name) c.args.self.now) (course (done, In_head name (Head_end head)) c.head.new.self)
@@ -54,7 +54,7 @@ returns-in_err-expect-3-clause-read c = λ done.
 
 pub returns-in_err-rules-clause-read : goal.returns-in_err-rules-clause-read
 returns-in_err-rules-clause-read c = λ done.
-    (let name = string_bytes c.args.name in
+    (let name = string_bytes c.args.opening.name in
     let head = c.in_ok-head.head in
     let d : PlainDef = record { name = name; head = head; rules = [] } in
     leads_along (course (done, Def_assign name) c.args.self.now) (course (done, Rules d) c.expect-3.new.self)
@@ -69,7 +69,7 @@ returns-in_err-rules-clause-read c = λ done.
 
 pub returns-clause-read : goal.returns-clause-read
 returns-clause-read c = λ done.
-    (let name = string_bytes c.args.name in
+    (let name = string_bytes c.args.opening.name in
     let head = c.in_ok-head.head in
     let d : PlainDef = record { name = name; head = head; rules = [] } in
     sign_leads (done, Def_assign name) (done, Head_open name) Assign c.args.self.now c.expect.new.self (Ok tt) (λ t. refl) (λ t. refl) refl c.in_ok-expect.ensures

@@ -9,7 +9,7 @@ use Rattle.dia_ccf.proofs.reading.Reader.source.Given as goal
 abbrev pub invariant-loop-next : goal.invariant-loop-next
 invariant-loop-next l = record {
   read : course (nothing_read, Between) l.initial.self ≡ course (plain_source l.source, behind l.next) l.self;
-  named : IfSome l.next (λ next. IsTrue (is_name (string_bytes next)));
+  named : IfSome l.next (λ next. IsTrue (is_name (string_bytes next.name)));
 }
 
 abbrev pub decreases-loop-next : goal.decreases-loop-next

@@ -1,0 +1,43 @@
+//! Where a text is refused, and what could stand there.
+ghost use Rattle.std.specs.Prelude.{◌≡◌};
+ghost use Rattle.dia_ccf.specs.Refusals.{fault_of};
+
+use crate::fault::CcfFault;
+use crate::wanted::Wanted;
+
+/// Why a text is no dictionary, and where.
+#[derive(Clone, Copy, Debug, PartialEq, Eq)]
+pub enum Refused {
+    /// The text is longer than [`MAX_TEXT`](crate::MAX_TEXT).
+    TooLong,
+    /// Memory was refused.
+    NoMemory,
+    /// A token can't stand where it stands, or the text can't end where it ends.
+    At(Misfit),
+}
+
+/// The first token with which no text of the grammar begins, or the end of the text.
+#[derive(Clone, Copy, Debug, PartialEq, Eq)]
+pub struct Misfit {
+    pub fault: CcfFault,
+    /// The place in bytes where the token begins, or the length of the text.
+    pub at: usize,
+    /// What could stand there.
+    pub wanted: Wanted,
+    /// The places of the token before it, and of the one before that.
+    pub last: Option<usize>,
+    pub earlier: Option<usize>,
+}
+
+impl Refused {
+    /// What [`parse`](crate::parse) answers.
+    pub fn fault(self) -> CcfFault
+        ensures { result ≡ fault_of self }
+    {
+        match self {
+            Refused::TooLong => CcfFault::Limit { line: 0 },
+            Refused::NoMemory => CcfFault::NoMemory,
+            Refused::At(misfit) => misfit.fault,
+        }
+    }
+}

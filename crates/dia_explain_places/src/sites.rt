@@ -1,0 +1,77 @@
+//! Where the names of a dictionary's parts stand in its text.
+
+use dia_ccf::{Decl, Def, Rule, Source, first_name};
+use std::alloc::{AllocError, Global};
+
+/// A definition: the place of its name, and which of all rules is its first.
+#[derive(Clone, Copy)]
+pub struct DefSite {
+    pub at: usize,
+    pub is_group: bool,
+    pub first_rule: usize,
+}
+
+/// The places of the names of declarations, definitions and rules. The groups stand before the commands, and the rules
+/// are in the order of the definitions.
+#[derive(Drop)]
+pub struct Sites {
+    pub decls: Vec<usize>,
+    pub defs: Vec<DefSite>,
+    pub rules: Vec<usize>,
+}
+
+/// The places of the names of a source, which was read from this text.
+pub fn sites_of(alloc: Global, text: &str, source: &Source) -> Result<Sites, AllocError> {
+    let mut sites = Sites::new(alloc);
+    sites.add_declarations(text, &source.avps)?;
+    sites.add_definitions(text, &source.groups, true)?;
+    sites.add_definitions(text, &source.commands, false)?;
+    Ok(sites)
+}
+
+impl Sites {
+    /// No places.
+    pub fn new(alloc: Global) -> Self {
+        Sites {
+            decls: Vec::new(alloc),
+            defs: Vec::new(alloc),
+            rules: Vec::new(alloc),
+        }
+    }
+
+    fn add_declarations(&mut self, text: &str, decls: &[Decl]) -> Result<(), AllocError> {
+        for decl in decls {
+            self.decls.push(name_from(text, decl.at))?;
+        }
+        Ok(())
+    }
+
+    fn add_definitions(
+        &mut self,
+        text: &str,
+        defs: &[Def],
+        is_group: bool,
+    ) -> Result<(), AllocError> {
+        for def in defs {
+            self.defs.push(DefSite {
+                at: name_from(text, def.at),
+                is_group,
+                first_rule: self.rules.len(),
+            })?;
+            self.add_rules(text, &def.rules)?;
+        }
+        Ok(())
+    }
+
+    fn add_rules(&mut self, text: &str, rules: &[Rule]) -> Result<(), AllocError> {
+        for rule in rules {
+            self.rules.push(name_from(text, rule.at))?;
+        }
+        Ok(())
+    }
+}
+
+/// The place of the first name of a part that begins at a place.
+fn name_from(text: &str, at: usize) -> usize {
+    first_name(text, at).unwrap_or(at)
+}
