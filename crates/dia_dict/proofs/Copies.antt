@@ -1,11 +1,11 @@
 -- Copies of the lists of a book.
-use Rattle.std.proofs.Common.{◌≡◌, ℕ, ◌+◌, ◌≤◌, List, [], ◌∷◌, length, map, Option, refl, sym, ap, ◌∙◌, arith}
-use Rattle.std.specs.List.{AllZip, filter_map, cons_option, range_with_len}
+use Rattle.std.proofs.Common.{◌≡◌, ◌+◌, ◌≤◌, List, [], ◌∷◌, length, map, refl, ap, ◌∙◌, arith}
+use Rattle.std.specs.List.{AllZip, cons_option, range_with_len}
 use Rattle.std.proofs.lemmas.List.{length-map}
 use Rattle.std.proofs.lemmas.List.Elements.{length_all_zip}
 use Rattle.dia_book.specs.declared.Definition.{Definition}
 use Rattle.dia_book.specs.Limits.{max_parts}
-use Rattle.dia_book.specs.Dictionary.{PlainDefinition, DictEntry, plain_definition}
+use Rattle.dia_book.specs.Dictionary.{PlainDefinition, plain_definition}
 use Rattle.dia_dict.specs.declared.entry_list.Row.{Row}
 use Rattle.dia_dict.specs.PlainMeaning.{entry_of_row, entries_of, dictionary_of, numbers, IsCopyOfRow}
 

@@ -1,13 +1,12 @@
 -- Names, keys and selectors that stand twice.
-use Rattle.std.proofs.Common.{◌≡◌, ℕ, Bool, true, List, [], ◌∷◌, ◌++◌, map, find, cond, Option, Some, None, refl, sym, ap, ◌∙◌, Bor}
-use Rattle.std.specs.Prelude.{not, IsTrue}
+use Rattle.std.proofs.Common.{◌≡◌, ℕ, Bool, true, List, [], ◌∷◌, ◌++◌, map, find, cond, Option, Some, refl, sym, ap, ◌∙◌, Bor}
+use Rattle.std.specs.Prelude.{not}
 use Rattle.std.specs.List.{list_all}
 use Rattle.std.specs.Option.{option_map_or}
 use Rattle.std.specs.Str.{bytes_eq}
 use Rattle.std.proofs.lemmas.Bool.{and_parts, and_from}
 use Rattle.std.proofs.lemmas.List.Folds.{list_all-append, list_all-map}
 use Rattle.dia_wire.specs.declared.Key.{Key}
-use Rattle.dia_ccf.specs.declared.source.Def.{Def}
 use Rattle.dia_ccf.specs.declared.source.Head.{Head}
 use Rattle.dia_ccf.specs.declared.source.Source.{Source}
 use Rattle.dia_ccf.specs.Names.{is_group}
@@ -16,7 +15,7 @@ use Rattle.dia_book.specs.Keys.{same_key}
 use Rattle.dia_dict.specs.declared.findings.Part.{Part}
 use Rattle.dia_dict.specs.declared.findings.PartKind.TheVariants as part
 use Rattle.dia_dict.specs.declared.selectors.Selector.{Selector}
-use Rattle.dia_dict.specs.Resolution.{Wrong, PlainFinding, finding, part_at, placed, placed_commands, first_defs, same_def_name, repeats, again, same_selector, head_of}
+use Rattle.dia_dict.specs.Resolution.{Wrong, finding, part_at, placed, placed_commands, first_defs, same_def_name, repeats, again, same_selector, head_of}
 use Rattle.dia_dict.specs.Selectors.{selector_of}
 use Rattle.dia_dict.proofs.Firsts.{list_all-firsts}
 use Rattle.dia_dict.proofs.Placing.{placed-members}
@@ -67,7 +66,8 @@ first_commands-are s =
     list_all-firsts is_command (λ a b. same_def_name a.1 b.1) [] all members
 
 -- commands that are compared by the selectors of their heads
-pub again-selectors : (eq : Selector → Selector → Bool) → ((a b : Head) → not (is_group a) ≡ true → not (is_group b) ≡ true → eq (selector_of (head_of a)) (selector_of (head_of b)) ≡ same_selector a b)
+pub again-selectors : (eq : Selector → Selector → Bool)
+    → ((a b : Head) → not (is_group a) ≡ true → not (is_group b) ≡ true → eq (selector_of (head_of a)) (selector_of (head_of b)) ≡ same_selector a b)
     → (bad : PlainDef → Wrong) (commands : List (Part × PlainDef)) → list_all is_command commands ≡ true
     → again (λ a b. eq (selector_of (head_of a.head)) (selector_of (head_of b.head))) bad commands ≡ again same_command bad commands
 again-selectors eq alike bad commands all =

@@ -20,7 +20,7 @@ use Rattle.dia_dict.specs.declared.fault.DictKind.{DictKind}
 use Rattle.dia_dict.specs.declared.findings.Part.{Part}
 use Rattle.dia_dict.specs.declared.findings.PartKind.TheVariants as part
 use Rattle.dia_dict.specs.Resolution.{Wrong, wrong, PlainFinding, finding, all_findings, all_wrong, wrong_limits, wrong_names, wrong_entries, wrong_rules, too_many}
-use Rattle.dia_dict.specs.Resolution.{part_at, rule_at, placed, placed_avps, placed_groups, placed_commands, placed_defs, placed_rules, placed_names, first_decls, first_defs, firsts, alone, again, repeats}
+use Rattle.dia_dict.specs.Resolution.{part_at, rule_at, placed_avps, placed_groups, placed_commands, placed_defs, placed_rules, placed_names, first_decls, first_defs, firsts, alone, again, repeats}
 use Rattle.dia_dict.specs.Resolution.{duplicate_avps, duplicate_defs, same_decl_name, same_def_name, no_groups, header_mismatches, mismatch_of, duplicate_keys, duplicate_commands, bad_rules, bad_in}
 use Rattle.dia_dict.specs.Resolution.{repeated_slots, repeated_in, same_slot, slot_name, lacks_group, is_mismatched, is_long, is_bad, is_bare, bare_groups, key_of_decl, group_key}
 use Rattle.dia_dict.proofs.Duplicates.{same_named, same_command}
@@ -106,7 +106,8 @@ filter-map : {X Y : Type 0} (f : X → Y) (p : Y → Bool) (xs : List X) → fil
 filter-map f p [] = refl
 filter-map {X} {Y} f p (x ∷ xs) = by (p (f x)) (filter-map f p xs)
   where
-    by : (b : Bool) → filter p (map f xs) ≡ map f (filter (λ y. p (f y)) xs) → cond b (f x ∷ filter p (map f xs)) (filter p (map f xs)) ≡ map f (cond b (x ∷ filter (λ y. p (f y)) xs) (filter (λ y. p (f y)) xs))
+    by : (b : Bool) → filter p (map f xs) ≡ map f (filter (λ y. p (f y)) xs)
+        → cond b (f x ∷ filter p (map f xs)) (filter p (map f xs)) ≡ map f (cond b (x ∷ filter (λ y. p (f y)) xs) (filter (λ y. p (f y)) xs))
     by true e = ap (λ ys. f x ∷ ys) e
     by false e = e
 
@@ -178,7 +179,8 @@ module _ (s : PlainSource) where
   placed_def_at : (i : ℕ) (d : PlainDef) → slice_get (all_defs s) i ≡ Some d → (e : Part × PlainDef) × (slice_get (placed_defs s) i ≡ Some e) × (e.1 ≡ d)
   placed_def_at = member_placed (placed_defs s) (all_defs s) members_defs
 
-  no_bad_rules : (k : DictKind) → bad_rules k s (placed_defs s) ≡ [] → (i j : ℕ) (d : PlainDef) (r : PlainRule) → slice_get (all_defs s) i ≡ Some d → slice_get d.rules j ≡ Some r → is_bad k s r ≡ false
+  no_bad_rules : (k : DictKind) → bad_rules k s (placed_defs s) ≡ []
+      → (i j : ℕ) (d : PlainDef) (r : PlainRule) → slice_get (all_defs s) i ≡ Some d → slice_get d.rules j ≡ Some r → is_bad k s r ≡ false
   no_bad_rules k none i j d r at at' =
       let e = placed_def_at i d at in
       alone-none (placed_rules e.0) e.0.1.rules (placed-members (rule_at e.0.0) e.0.1.rules) (is_bad k s) (λ (x : PlainRule). wrong k e.0.1.name (slot_name x))

@@ -1,5 +1,5 @@
 -- Lists of parts, each with its place.
-use Rattle.std.proofs.Common.{◌≡◌, ℕ, ◌+◌, ◌<◌, Bool, true, false, cond, List, [], ◌∷◌, ◌++◌, length, map, filter, find, take, get_or, Option, Some, None, refl, sym, ap, ◌∙◌, arith}
+use Rattle.std.proofs.Common.{◌≡◌, ℕ, ◌+◌, ◌<◌, Bool, true, false, cond, List, [], ◌∷◌, ◌++◌, length, map, filter, find, take, get_or, None, refl, sym, ap, ◌∙◌, arith}
 use Rattle.std.specs.Prelude.{if◌then◌else◌}
 use Rattle.std.specs.List.{enumerate_from, list_any, flat_map}
 use Rattle.std.specs.Option.{option_map}
@@ -27,7 +27,8 @@ module _ (at : ℕ → Part) where
   placed-push : {X : Type 0} (xs : List X) (x : X) → placed at (xs ++ x ∷ []) ≡ placed at xs ++ (at (length xs), x) ∷ []
   placed-push {X} xs x =
       let e : 0 + length xs ≡ length xs = omega arith in
-      ap (map (λ (n : ℕ × X). (at n.0, n.1))) (numbers-push 0 xs x ∙ ap {B = List (ℕ × X)} (λ m. enumerate_from 0 xs ++ (m, x) ∷ []) e) ∙ map-append (λ (n : ℕ × X). (at n.0, n.1)) (enumerate_from 0 xs) ((length xs, x) ∷ [])
+      ap (map (λ (n : ℕ × X). (at n.0, n.1))) (numbers-push 0 xs x ∙ ap {B = List (ℕ × X)} (λ m. enumerate_from 0 xs ++ (m, x) ∷ []) e)
+      ∙ map-append (λ (n : ℕ × X). (at n.0, n.1)) (enumerate_from 0 xs) ((length xs, x) ∷ [])
 
   -- one part more in memory
   pub placed-more : {X Y : Type 0} (f : X → Y) (xs : List X) (i : ℕ) (x : X) → i < length xs → x ≡ get_or xs i x

@@ -16,7 +16,7 @@ use Rattle.dia_dict.specs.declared.resolving.refusal.Refusal.TheVariants as refu
 use Rattle.dia_dict.specs.declared.fault.DictKind.TheVariants as kind
 use Rattle.dia_dict.specs.declared.selectors.Selector.{Selector}
 use Rattle.dia_dict.specs.Selectors.{selector_of}
-use Rattle.dia_dict.specs.Resolution.{Wrong, wrong, PlainFinding, finding, head_of}
+use Rattle.dia_dict.specs.Resolution.{Wrong, wrong, PlainFinding, head_of}
 
 abbrev pub told : Told → Wrong
 told t = wrong t.kind t.name.now t.slot.now

@@ -1,4 +1,4 @@
-use Rattle.std.proofs.Common.{[], List, map, sym, ap, ◌∙◌}
+use Rattle.std.proofs.Common.{[], map, sym, ap, ◌∙◌}
 use Rattle.std.specs.Prelude.{string_bytes}
 use Rattle.std.proofs.lemmas.List.{take_all}
 use Rattle.dia_terms.specs.Names.{same_bytes}

@@ -1,4 +1,4 @@
-use Rattle.std.proofs.Common.{◌++◌, List, [], map, filter, sym, ap, ◌∙◌, ℕ}
+use Rattle.std.proofs.Common.{◌++◌, List, map, filter, sym, ap, ◌∙◌, ℕ}
 use Rattle.std.proofs.lemmas.List.{map-append}
 use Rattle.dia_wire.specs.declared.Key.{Key}
 use Rattle.dia_ccf.specs.Plain.{PlainDecl, PlainDef, plain_source}

@@ -10,10 +10,9 @@ use Rattle.dia_ccf.specs.Names.{is_group}
 use Rattle.dia_ccf.specs.Plain.{PlainDef, plain_source}
 use Rattle.dia_dict.specs.declared.selectors.Selector.{Selector}
 use Rattle.dia_dict.specs.declared.fault.DictKind.TheVariants.{DuplicateCommand}
-use Rattle.dia_dict.specs.declared.findings.Part.{Part}
 use Rattle.dia_dict.specs.declared.resolving.finding.repeats.Keyed.{Keyed}
 use Rattle.dia_dict.specs.declared.resolving.parts.PlacedDef.{PlacedDef}
-use Rattle.dia_dict.specs.Resolution.{Wrong, wrong, PlainFinding, first_defs, placed_commands, same_selector, head_of}
+use Rattle.dia_dict.specs.Resolution.{wrong, PlainFinding, first_defs, placed_commands, same_selector, head_of}
 use Rattle.dia_dict.specs.Selectors.{selector_of}
 use Rattle.dia_dict.specs.contracts.selectors.SelectorPartialEq.TheImpl as selectors
 use Rattle.dia_dict.specs.SourceChecks.{told, plain_finding, placed_def, keyed_selector, told_selector}

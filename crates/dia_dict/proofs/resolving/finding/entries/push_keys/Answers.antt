@@ -4,7 +4,7 @@ use Rattle.dia_ccf.specs.Plain.{plain_source}
 use Rattle.dia_book.specs.Keys.{same_key}
 use Rattle.dia_dict.specs.declared.fault.DictKind.TheVariants.{DuplicateKey}
 use Rattle.dia_dict.specs.declared.resolving.finding.repeats.Keyed.{Keyed}
-use Rattle.dia_dict.specs.Resolution.{Wrong, wrong, PlainFinding, placed_names}
+use Rattle.dia_dict.specs.Resolution.{wrong, PlainFinding, placed_names}
 use Rattle.dia_dict.specs.SourceChecks.{told, plain_finding, keyed_key}
 use Rattle.dia_dict.proofs.RepeatsTold.{repeats-told}
 use Rattle.dia_dict.proofs.resolving.finding.entries.push_keys.Goals as goal

@@ -3,7 +3,6 @@ use Rattle.std.proofs.lemmas.List.{take_all}
 use Rattle.dia_ccf.specs.Plain.{PlainDecl, plain_source}
 use Rattle.dia_dict.specs.declared.fault.DictKind.TheVariants.{NoGroupFormat}
 use Rattle.dia_dict.specs.declared.findings.Part.{Part}
-use Rattle.dia_dict.specs.declared.resolving.parts.PlacedDecl.{PlacedDecl}
 use Rattle.dia_dict.specs.Resolution.{PlainFinding, wrong, alone, lacks_group}
 use Rattle.dia_dict.specs.SourceChecks.{plain_finding, placed_decl}
 use Rattle.dia_dict.proofs.resolving.finding.entries.push_lacking.Goals as goal

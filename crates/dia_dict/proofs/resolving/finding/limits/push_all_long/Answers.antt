@@ -2,7 +2,6 @@ use Rattle.std.proofs.Common.{◌≡◌, ◌++◌, List, [], map, sym, ap, ◌�
 use Rattle.std.proofs.lemmas.List.{append_assoc}
 use Rattle.dia_ccf.specs.Plain.{PlainDef, plain_source}
 use Rattle.dia_dict.specs.declared.fault.DictKind.TheVariants.{Limit}
-use Rattle.dia_dict.specs.declared.findings.Part.{Part}
 use Rattle.dia_dict.specs.Resolution.{PlainFinding, wrong, is_long, too_many_rules, placed_groups, placed_commands}
 use Rattle.dia_dict.specs.SourceChecks.{plain_finding, placed_def}
 use Rattle.dia_dict.proofs.Placing.{alone-append}

@@ -19,5 +19,6 @@ returns c =
     let first = c.in_ok-push_names_of_avps.ensures ∙ ap (λ ds. before ++ duplicate_avps ds) avps in
     let second = c.in_ok-push_names_of_definitions.ensures ∙ (λ i. first i ++ duplicate_defs (groups i)) in
     subst (λ (fs : List PlainFinding). OnOk c.push_names_of_definitions-2.result (map plain_finding c.push_names_of_definitions-2.new.findings.items ≡ fs))
-    ((λ i. second i ++ duplicate_defs (commands i)) ∙ ap (λ (fs : List PlainFinding). fs ++ of_commands) (append_assoc before of_avps of_groups) ∙ append_assoc before (of_avps ++ of_groups) of_commands)
+    ((λ i. second i ++ duplicate_defs (commands i)) ∙ ap (λ (fs : List PlainFinding). fs ++ of_commands) (append_assoc before of_avps of_groups)
+    ∙ append_assoc before (of_avps ++ of_groups) of_commands)
     c.push_names_of_definitions-2.ensures

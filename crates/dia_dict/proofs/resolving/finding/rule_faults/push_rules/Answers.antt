@@ -1,6 +1,5 @@
-use Rattle.std.proofs.Common.{◌≡◌, List, map, sym, ap, ◌∙◌, subst, OnOk}
-use Rattle.dia_ccf.specs.Plain.{PlainDef, plain_source}
-use Rattle.dia_dict.specs.declared.findings.Part.{Part}
+use Rattle.std.proofs.Common.{◌≡◌, List, map, ap, ◌∙◌, subst, OnOk}
+use Rattle.dia_ccf.specs.Plain.{plain_source}
 use Rattle.dia_dict.specs.Resolution.{PlainFinding, bad_in}
 use Rattle.dia_dict.specs.SourceChecks.{plain_finding, placed_def}
 use Rattle.dia_dict.proofs.Placing.{told-of-defs}

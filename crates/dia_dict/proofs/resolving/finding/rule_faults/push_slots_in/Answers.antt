@@ -3,7 +3,7 @@ use Rattle.dia_terms.specs.Names.{same_bytes}
 use Rattle.dia_ccf.specs.Plain.{PlainRule}
 use Rattle.dia_dict.specs.declared.fault.DictKind.TheVariants.{RepeatedSlot}
 use Rattle.dia_dict.specs.declared.resolving.finding.repeats.Keyed.{Keyed}
-use Rattle.dia_dict.specs.Resolution.{Wrong, wrong, PlainFinding, placed_rules, slot_name}
+use Rattle.dia_dict.specs.Resolution.{wrong, PlainFinding, placed_rules, slot_name}
 use Rattle.dia_dict.specs.SourceChecks.{told, plain_finding, placed_def, keyed_text}
 use Rattle.dia_dict.proofs.Duplicates.{same_text, text_of}
 use Rattle.dia_dict.proofs.RepeatsTold.{repeats-told}

@@ -1,4 +1,4 @@
-use Rattle.std.proofs.Common.{Option, ap, sym, ◌∙◌}
+use Rattle.std.proofs.Common.{Option, ap, ◌∙◌}
 use Rattle.std.specs.Option.{option_map}
 use Rattle.dia_ccf.specs.Plain.{PlainDecl, plain_source, plain_decl}
 use Rattle.dia_dict.specs.declared.findings.Part.{Part}
