@@ -25,11 +25,11 @@ use Rattle.dia_captures.proofs.LinesOfMessages.{all_refused, front_refused, noth
 
 -- what holds of a refusal's text holds of the line that it is
 pub tells_line : (P : List ℕ → Type 0) (r : Refused) (a : Answered) → TellsRefusal r a → P (string_bytes a.text) → TellsOf (λ told. P (line told)) r
-tells_line P (Bad bad) a (is, is_text, is_exit) h = subst P is_text h
+tells_line P (Bad bad) a tells h = subst P tells.1.0 h
 tells_line P NoMemory a none h = absurd none
 
 pub ends_badly : (r : Refused) (a : Answered) → TellsRefusal r a → a.exit ≡ exits.Bad
-ends_badly (Bad bad) a (is, is_text, is_exit) = is_exit
+ends_badly (Bad bad) a tells = tells.1.1
 ends_badly NoMemory a none = absurd none
 
 pub has_memory : (r : Refused) (a : Answered) → TellsRefusal r a → r ≢ NoMemory
