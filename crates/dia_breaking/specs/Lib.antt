@@ -3,6 +3,7 @@ pub mod Closed
 pub mod ClosedBy
 pub mod ClosedRules
 pub mod Closing
+pub mod CommandLevels
 pub mod Confirmed
 pub mod Exits
 pub mod Free

@@ -1,9 +1,10 @@
 //! What is found of a command before its sites are walked.
 ghost use Rattle.std.specs.Prelude.{◌≡◌, IfOk, map, nat_le};
 ghost use Rattle.dia_breaking_sites.specs.Selection.{max_body};
+ghost use Rattle.dia_breaking.specs.CommandLevels.{IsLevelOf};
 ghost use Rattle.dia_breaking.specs.Headers.{HasHead};
 ghost use Rattle.dia_breaking.specs.Sender.{costs_of};
-ghost use Rattle.dia_breaking.specs.TheLines.{AreIfRoom, AreLevels, IsCommandLevel, IsStartOf};
+ghost use Rattle.dia_breaking.specs.TheLines.{AreIfRoom, AreLevels, IsStartOf};
 ghost use Rattle.dia_breaking.specs.ToldApps.{AreToldApps};
 ghost use Rattle.dia_breaking.specs.Upgrades.{sides_of};
 
@@ -84,8 +85,8 @@ fn levels_of<A: Book, B: Book>(
     head: &Head,
     apps: &[u32],
 ) -> Result<Vec<Vec<LevelLine>>, AllocError>
-    ensures { IfOk result (λ levels. AreLevels (IsCommandLevel (sides_of upgrade.now).sender (sides_of upgrade.now).receiver
-        (costs_of upgrade.now.lengths) head.now) apps.now (map (λ lines. lines.items) levels.items)) }
+    ensures { IfOk result (λ levels. AreLevels (IsLevelOf (sides_of upgrade.now) (costs_of upgrade.now.lengths) head.now)
+        apps.now (map (λ lines. lines.items) levels.items)) }
 {
     let mut levels = Vec::new(alloc);
     for app in apps {
@@ -101,8 +102,8 @@ fn levels_for<A: Book, B: Book>(
     head: &Head,
     app: u32,
 ) -> Result<Vec<LevelLine>, AllocError>
-    ensures { IfOk result (λ lines. IsCommandLevel (sides_of upgrade.now).sender (sides_of upgrade.now).receiver
-        (costs_of upgrade.now.lengths) head.now app lines.items) }
+    ensures { IfOk result
+        (λ lines. IsLevelOf (sides_of upgrade.now) (costs_of upgrade.now.lengths) head.now app lines.items) }
 {
     if !command_site(upgrade.b, head, app).is_read {
         return Ok(Vec::new(alloc));

@@ -19,13 +19,14 @@ loop-number-preserved g c =
     let is = c.deref-site-items.ensures.value in
     let i = c.loop-number.number in
     let P : ℕ → Site → Type 0 = λ number site. IsClosedAt (ground_of c.args.closing.now) found.lines.items found.command number site in
-    let Q : ℕ → Type 0 = λ n. (number : ℕ) (site : Site) → number < n → slice_get found.sites.items number ≡ Some site → P number site in
-    let more : Q i → P i c.site-item.result → Q (i + 1) = λ old own number site less at.
-    before_more P sites i _ (omega arith) (λ n s lt here. old n s lt (subst (λ (xs : List Site). slice_get xs n ≡ Some s) is here)) own number site less
-    (subst (λ (xs : List Site). slice_get xs number ≡ Some site) (sym is) at) in
+    let kept = λ (old : (number : ℕ) (site : Site) → number < i → slice_get found.sites.items number ≡ Some site → P number site).
+    λ (n : ℕ) (s : Site) (lt : n < i) (here : slice_get sites n ≡ Some s). old n s lt (subst (λ (xs : List Site). slice_get xs n ≡ Some s) is here) in
     elim c.if-site.branch [
-      | then-site+in_ok-closed+else-not-closed w ↦ ∥∥₁_map₂ c.loop-number.invariant (w.in_ok-closed.ensures w.if-not-closed.false) more
-      | else-site w ↦ ∥∥₁_map c.loop-number.invariant (λ old. more old (λ x y is_read read. absurd (let e : true ≡ false = sym is_read ∙ w.if-site.false in cc)))
+      | then-site+in_ok-closed+else-not-closed w ↦ ∥∥₁_map₂ c.loop-number.invariant (w.in_ok-closed.ensures w.if-not-closed.false) (λ old own number site less at.
+          before_more P sites i _ (omega arith) (kept old) own number site less (subst (λ (xs : List Site). slice_get xs number ≡ Some site) (sym is) at))
+      | else-site w ↦ ∥∥₁_map c.loop-number.invariant (λ old number site less at.
+          before_more P sites i _ (omega arith) (kept old) (λ x y is_read read. absurd (let e : true ≡ false = sym is_read ∙ w.if-site.false in cc)) number site less
+          (subst (λ (xs : List Site). slice_get xs number ≡ Some site) (sym is) at))
     ]
 
 pub returns : goal.returns
