@@ -22,9 +22,7 @@ use Rattle.dia_breaking_avps.specs.Sent.{group_of}
 use Rattle.dia_compat.specs.Tests.{rules_in}
 use Rattle.dia_book.specs.declared.DRule.{DRule}
 use Rattle.dia_breaking_levels.specs.declared.line.Line.{Line as LevelLine}
-use Rattle.dia_breaking_levels.specs.Levels.{HasEachLine}
-use Rattle.dia_breaking_levels.specs.LevelTests.{price}
-use Rattle.dia_breaking.specs.Outlooks.{group_rules, HasGroupLines}
+use Rattle.dia_breaking.specs.Outlooks.{group_rules, HasGroupLines, HasLinesFor}
 use Rattle.dia_breaking_shortest.specs.Floors.{AreFloors}
 use Rattle.dia_breaking.specs.declared.apps.Apps.{Apps}
 use Rattle.dia_breaking.specs.declared.heads.Head.{Head}
@@ -34,11 +32,13 @@ use Rattle.dia_breaking.specs.declared.line.Place.TheVariants as places
 use Rattle.dia_breaking.specs.declared.line.Site.{Site}
 use Rattle.dia_breaking.specs.declared.ways.Way.{Way}
 use Rattle.dia_breaking.specs.Closed.{IsFreeOf}
-use Rattle.dia_breaking.specs.Closing.{HoldsWays, IsClosedBy}
+use Rattle.dia_breaking.specs.Closing.{HoldsWays, IsClosedBy, ground}
 use Rattle.dia_breaking.specs.Certified.{IsToldAt, way_to, ways_of, room_at, IsClosedWith, IsClosedGroup, IsClosedCommand, IsClosedAt, AreClosedAt, AreClosedTogether}
 use Rattle.dia_breaking.specs.Free.{IsReadBy, IsFreeLevel, TellsFlags, AreValidWhereFree}
-use Rattle.dia_breaking.specs.Headers.{head_in, AreApps, TellsRefusal, IsCommandPlace, AreHeadersMet}
+use Rattle.dia_breaking.specs.Headers.{head_in, AreApps, TellsRefusal, IsCommandPlace, AreHeadersMet, both_apps}
 use Rattle.dia_breaking.specs.OwnKeys.{own_key, own_keys}
+use Rattle.dia_breaking.specs.Sides.{sides, answer}
+use Rattle.dia_breaking.specs.Lengths.{Costs}
 use Rattle.dia_breaking.proofs.ClosedSites.{safe_site, safe_for_fewer}
 use Rattle.dia_breaking.proofs.Lists.{all_in, contains_at}
 use Rattle.dia_breaking.proofs.OpenCommands.{into_filter_map}
@@ -150,7 +150,7 @@ module _ (da db : Dictionary) (c : ℕ) (x : PlainDefinition) (at : slice_get (d
   -- ---- safe
 
   module _ (who : Sends) (u : Unknown) (f : Key → ℕ) (told : List Site) (lines : List Line) (floors : AreFloors da who f)
-      (closed : AreClosedTogether da db who u f told lines c) where
+      (closed : AreClosedTogether (sides da db who u) f (answer c told lines)) where
     less : (number : ℕ) (site : Site) (levels : List LevelLine) (y z : PlainDefinition) (avps : List PlainAvp) → slice_get told number ≡ Some site → IsReadBy da db c site.place y z
         → All (IsToldAt lines number) levels → IsFreeLevel da db u told lines c y z avps → IsFreeOf da db u levels (own_keys lines) y z avps
     less number site levels y z avps at_site read tells free = record {
@@ -180,7 +180,7 @@ module _ (da db : Dictionary) (c : ℕ) (x : PlainDefinition) (at : slice_get (d
         subst (IsSafeSite da db who u (IsFreeLevel da db u told lines c) (sites_of told)) k.is (safe_at r.0 r.1 k.a k.b_side r.2 k.is_read k.read)
 
     pub valid_by : (head : Head) (first second : Apps) → IsDictionary da → IsDictionary db → head_in x.head ≡ Some head → AreApps da first → AreApps db second
-        → AreHeadersMet da db told lines first second c head → AreValidWhereFree da db who u told lines c
+        → AreHeadersMet da db (answer c told lines) (both_apps first second) head → AreValidWhereFree (sides da db who u) (answer c told lines)
     valid_by head first second sa sb is_head in_a in_b told_heads bytes sent free =
         let by = headers_met da db sa (sites_of told) told lines c x at head is_head (holds_read told head is_head) first second in_a in_b told_heads in
         valid da db who u (IsFreeLevel da db u told lines c) (TellsRefusal lines) (TellsFlags da db told lines c) (sites_of told) all_safe c x at
@@ -188,7 +188,7 @@ module _ (da db : Dictionary) (c : ℕ) (x : PlainDefinition) (at : slice_get (d
 
 pub certified : (da db : Dictionary) (who : Sends) (u : Unknown) (f : Key → ℕ) (c : ℕ) (x : PlainDefinition) (told : List Site) (lines : List Line) (head : Head) (first second : Apps)
     → IsDictionary da → IsDictionary db → slice_get (definitions da) c ≡ Some x → head_in x.head ≡ Some head → AreApps da first → AreApps db second → AreFloors da who f
-    → AreHeadersMet da db told lines first second c head → AreClosedTogether da db who u f told lines c → AreValidWhereFree da db who u told lines c
+    → AreHeadersMet da db (answer c told lines) (both_apps first second) head → AreClosedTogether (sides da db who u) f (answer c told lines) → AreValidWhereFree (sides da db who u) (answer c told lines)
 certified da db who u f c x told lines head first second sa sb at is_head in_a in_b floors heads closed =
     valid_by da db c x at who u f told lines floors closed head first second sa sb is_head in_a in_b heads
 
@@ -214,34 +214,34 @@ group_found d key i r at is = by k.0.group refl
 pub closed_group : (da db : Dictionary) (who : Sends) (u : Unknown) (f : Key → ℕ) (groups : List Way) (own : List Key) (told : List LevelLine) (key : Key) (way a_def b_def : ℕ) (r s : Option ℕ)
     → r ≡ Some a_def → s ≡ Some b_def → option_and_then (λ (def : ℕ). slice_get (definitions da) def) r ≡ group_of da key
     → option_and_then (λ (def : ℕ). slice_get (definitions db) def) s ≡ group_of db key
-    → IsClosedBy da db who u f groups told own a_def b_def way → IsClosedGroup da db who u f groups own told key way
+    → IsClosedBy (ground (sides da db who u) f groups own) told a_def b_def way → IsClosedGroup (ground (sides da db who u) f groups own) told key way
 closed_group da db who u f groups own told key way a_def b_def r s is_r is_s in_a in_b closed x y at_x at_y sites holds =
     closed x y sites (sym (ap (option_and_then (λ (def : ℕ). slice_get (definitions da) def)) is_r) ∙ in_a ∙ at_x)
     (sym (ap (option_and_then (λ (def : ℕ). slice_get (definitions db) def)) is_s) ∙ in_b ∙ at_y) holds
 
 pub closed_command : (da db : Dictionary) (who : Sends) (u : Unknown) (f : Key → ℕ) (groups : List Way) (own : List Key) (told : List LevelLine) (c def : ℕ) (head : Head) (app : ℕ)
-    → selected db head.code head.class app ≡ Some def → IsClosedBy da db who u f groups told own c def 0 → IsClosedCommand da db who u f groups own told c head app
+    → selected db head.code head.class app ≡ Some def → IsClosedBy (ground (sides da db who u) f groups own) told c def 0 → IsClosedCommand (ground (sides da db who u) f groups own) told c head app
 closed_command da db who u f groups own told c def head app select closed x y number at_x is at_y sites holds =
     closed x y sites at_x (ap (slice_get (definitions db)) (same_Some def number (sym select ∙ is)) ∙ at_y) holds
 
 -- the site of a group, or of the command, is closed by what is told there
 pub closed_at : (da db : Dictionary) (who : Sends) (u : Unknown) (f : Key → ℕ) (groups : List Way) (own : List Key) (lines : List Line) (told : List LevelLine) (c number : ℕ) (site : Site) (key : Key)
     (outer : ℕ)
-    → site.place ≡ places.Group key outer → All (IsToldAt lines number) told → IsClosedGroup da db who u f groups own told key site.way → IsClosedAt da db who u f groups own lines c number site
+    → site.place ≡ places.Group key outer → All (IsToldAt lines number) told → IsClosedGroup (ground (sides da db who u) f groups own) told key site.way → IsClosedAt (ground (sides da db who u) f groups own) lines c number site
 closed_at da db who u f groups own lines told c number site key outer is tells closed y z is_read read =
-    subst (λ (place : Place). IsReadBy da db c place y z → (told : List LevelLine) × All (IsToldAt lines number) told × IsClosedWith da db who u f groups own told (room_at place site.way) y z)
+    subst (λ (place : Place). IsReadBy da db c place y z → (told : List LevelLine) × All (IsToldAt lines number) told × IsClosedWith (ground (sides da db who u) f groups own) told (room_at place site.way) y z)
     (sym is)
     (λ r. (told, tells, closed y z r.0 r.1)) read
 
 pub closed_command_at : (da db : Dictionary) (who : Sends) (u : Unknown) (f : Key → ℕ) (groups : List Way) (own : List Key) (lines : List Line) (told : List LevelLine) (c number : ℕ) (site : Site)
     (head : Head)
     (app : ℕ) (is_told proxiable : Bool) (x : PlainDefinition) → slice_get (definitions da) c ≡ Some x → head_in x.head ≡ Some head → site.place ≡ places.Command app is_told proxiable
-    → All (IsToldAt lines number) told → IsClosedCommand da db who u f groups own told c head app → IsClosedAt da db who u f groups own lines c number site
+    → All (IsToldAt lines number) told → IsClosedCommand (ground (sides da db who u) f groups own) told c head app → IsClosedAt (ground (sides da db who u) f groups own) lines c number site
 closed_command_at da db who u f groups own lines told c number site head app is_told proxiable x at is_head is tells closed y z is_read read =
-    subst (λ (place : Place). IsReadBy da db c place y z → (told : List LevelLine) × All (IsToldAt lines number) told × IsClosedWith da db who u f groups own told (room_at place site.way) y z)
+    subst (λ (place : Place). IsReadBy da db c place y z → (told : List LevelLine) × All (IsToldAt lines number) told × IsClosedWith (ground (sides da db who u) f groups own) told (room_at place site.way) y z)
     (sym is) by read
   where
-    by : IsReadBy da db c (places.Command app is_told proxiable) y z → (told : List LevelLine) × All (IsToldAt lines number) told × IsClosedWith da db who u f groups own told max_body y z
+    by : IsReadBy da db c (places.Command app is_told proxiable) y z → (told : List LevelLine) × All (IsToldAt lines number) told × IsClosedWith (ground (sides da db who u) f groups own) told max_body y z
     by (at_y, (own_head, n, its, select, at_z)) =
         let same : x ≡ y = same_Some x y (sym at ∙ at_y) in
         let heads : own_head ≡ head = same_Some own_head head (sym its ∙ ap (λ (w : PlainDefinition). head_in w.head) (sym same) ∙ is_head) in
@@ -251,12 +251,12 @@ abbrev rules_of : Option PlainDefinition → List DRule
 rules_of o = option_map_or (λ (y : PlainDefinition). y.rules) o []
 
 -- what is kept of a group's levels is of its definitions
-pub group_lines : (da db : Dictionary) (listed other : Key → ℕ) (key : Key) (lines : List LevelLine) (a_def b_def : ℕ) (r s : Option ℕ) → r ≡ Some a_def → s ≡ Some b_def
+pub group_lines : (da db : Dictionary) (k : Costs) (key : Key) (lines : List LevelLine) (a_def b_def : ℕ) (r s : Option ℕ) → r ≡ Some a_def → s ≡ Some b_def
     → option_and_then (λ (def : ℕ). slice_get (definitions da) def) r ≡ group_of da key → option_and_then (λ (def : ℕ). slice_get (definitions db) def) s ≡ group_of db key
-    → HasGroupLines da db listed other key lines → HasEachLine (price listed other (rules_in da a_def)) (rules_in da a_def) (rules_in db b_def) lines
-group_lines da db listed other key lines a_def b_def r s is_r is_s in_a in_b has =
-    subst (λ (o : Option PlainDefinition). HasEachLine (price listed other (rules_of o)) (rules_of o) (rules_in db b_def) lines) (sym at_a)
-    (subst (λ (o : Option PlainDefinition). HasEachLine (price listed other (group_rules da key)) (group_rules da key) (rules_of o) lines) (sym at_b) has)
+    → HasGroupLines da db k key lines → HasLinesFor k (rules_in da a_def) (rules_in db b_def) lines
+group_lines da db k key lines a_def b_def r s is_r is_s in_a in_b has =
+    subst (λ (o : Option PlainDefinition). HasLinesFor k (rules_of o) (rules_in db b_def) lines) (sym at_a)
+    (subst (λ (o : Option PlainDefinition). HasLinesFor k (group_rules da key) (rules_of o) lines) (sym at_b) has)
   where
     at_a : slice_get (definitions da) a_def ≡ group_of da key
     at_a = sym (ap (option_and_then (λ (def : ℕ). slice_get (definitions da) def)) is_r) ∙ in_a
@@ -266,7 +266,7 @@ group_lines da db listed other key lines a_def b_def r s is_r is_s in_a in_b has
 
 -- by the sites and the lines of the answer
 pub closed_together : (da db : Dictionary) (who : Sends) (u : Unknown) (f : Key → ℕ) (groups : List Way) (own lines : List Line) (c : ℕ) (told : List Site) → groups ≡ ways_of told → own ≡ lines
-    → AreClosedAt da db who u f groups (own_keys own) lines c told → AreClosedTogether da db who u f told lines c
+    → AreClosedAt (ground (sides da db who u) f groups (own_keys own)) (answer c told lines) → AreClosedTogether (sides da db who u) f (answer c told lines)
 closed_together da db who u f groups own lines c told is_groups is_own closed =
-    subst (λ (xs : List Way). AreClosedAt da db who u f xs (own_keys lines) lines c told) is_groups
-    (subst (λ (ls : List Line). AreClosedAt da db who u f groups (own_keys ls) lines c told) is_own closed)
+    subst (λ (xs : List Way). AreClosedAt (ground (sides da db who u) f xs (own_keys lines)) (answer c told lines)) is_groups
+    (subst (λ (ls : List Line). AreClosedAt (ground (sides da db who u) f groups (own_keys ls)) (answer c told lines)) is_own closed)

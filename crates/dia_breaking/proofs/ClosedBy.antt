@@ -34,11 +34,12 @@ use Rattle.dia_breaking.specs.declared.levels.LevelCost.{LevelCost}
 use Rattle.dia_breaking.specs.declared.ways.Other.{Other}
 use Rattle.dia_breaking.specs.declared.ways.Way.{Way}
 use Rattle.dia_breaking.specs.Closed.{IsSentKeys, IsTold, IsClosedSite}
-use Rattle.dia_breaking.specs.ClosedRules.{AreWaysOf, IsFirst, IsLongOrTold, first_spare, is_closed_at, is_closed_rule, is_fine, is_safe, is_settled, leads, spare_by_way, spare_of}
-use Rattle.dia_breaking.specs.Closing.{HoldsWays, IsClosedBy}
-use Rattle.dia_breaking.specs.Lengths.{length_of_entry, listed_length, other_length}
+use Rattle.dia_breaking.specs.ClosedRules.{AreWaysOf, IsFirst, IsLongOrTold, first_spare, is_closed_at, is_closed_rule, is_fine, is_safe, is_settled, leads, spare_by_way, spare_of, look_ups}
+use Rattle.dia_breaking.specs.Closing.{HoldsWays, IsClosedBy, ground}
+use Rattle.dia_breaking.specs.Lengths.{length_of_entry, listed_length, other_length, costs}
 use Rattle.dia_breaking.specs.LevelCosts.{IsCostOf, with_listed}
 use Rattle.dia_breaking.specs.Telling.{AreGroups, IsTelling, IsUntold, StandsForStrangers, told}
+use Rattle.dia_breaking.specs.Sides.{sides}
 use Rattle.dia_breaking.proofs.Shortest.{any_least, lists_some, unlisted}
 use Rattle.dia_breaking.proofs.LevelCosts.{one_is_shortest}
 use Rattle.dia_breaking.proofs.Tellings.{no_group}
@@ -133,9 +134,9 @@ led false l h e = absurd (let bad : false ≡ true = e in cc)
 module _ (da db : Dictionary) (who : Sends) (u : Unknown) (lengths : List ℕ) (telling : Telling) (tells : Key → Bool) (owns : List Key) (ways : Key → Option ℕ) (groups : List Way)
     (others : List Other)
     (cost : LevelCost) (rules : List DRule) (way : ℕ) (strange_unlisted : (key : Key) → entry_of da key ≡ None → is_listed rules key ≡ false)
-    (costs : IsCostOf (listed_length da who lengths) (other_length da who lengths) rules cost) (found : IsTelling da db who u telling) (shown : (key : Key) → tells key ≡ true → Contains owns key)
+    (costs : IsCostOf (listed_length da who lengths) (other_length da who lengths) rules cost) (found : IsTelling (sides da db who u) telling) (shown : (key : Key) → tells key ≡ true → Contains owns key)
     (are : AreWaysOf groups ways) (first : IsFirst (other_length da who lengths) tells ways telling.own.items others)
-    (by_rules : list_all (is_closed_rule tells telling ways (listed_length da who lengths) cost way) rules ≡ true)
+    (by_rules : list_all (is_closed_rule (look_ups tells telling ways) (listed_length da who lengths) cost way) rules ≡ true)
     (by_wild : max_body < way + cost.beside + first_spare (λ key. not (is_listed rules key)) others) (fits : way ≤ max_body) (sites : List Site) (holds : HoldsWays da db groups sites) where
   abbrev listed : Key → ℕ
   listed = listed_length da who lengths
@@ -201,7 +202,7 @@ module _ (da db : Dictionary) (who : Sends) (u : Unknown) (lengths : List ℕ) (
       by false none = leaf_good keys key own is same parts.0 none
       by true e = by_way (ways key) refl (sym (ap (λ (k : Key). leads ways k (listed key) n) same) ∙ led own.is_group (leads ways own.key (listed key) n) parts.1 e)
 
-  safe_good : (keys : List Key) (key : Key) (n : ℕ) → is_listed rules key ≡ true → is_safe tells telling ways key (listed key) n ≡ true → n ≤ way + total listed keys → IsGood keys key
+  safe_good : (keys : List Key) (key : Key) (n : ℕ) → is_listed rules key ≡ true → is_safe (look_ups tells telling ways) key (listed key) n ≡ true → n ≤ way + total listed keys → IsGood keys key
   safe_good keys key n lists safe within = by_place (get same_key telling.places key) refl
     where
       by_own : (place : ℕ) → get same_key telling.places key ≡ Some place → (o : Option Own) → slice_get telling.own.items place ≡ o → IsGood keys key
@@ -226,11 +227,11 @@ module _ (da db : Dictionary) (who : Sends) (u : Unknown) (lengths : List ℕ) (
       let least = costs.listed_within key rule (contains_in rules rule i, is) keys (stand_placed who rules keys stand) comes in
       let same = stand_price da who lengths rules keys stand in
       let n : ℕ = way + with_listed cost rule (listed key) in
-      let closed : is_closed_at tells telling ways key (listed key) n ≡ true =
-      sym (ap (λ (o : Option Key). option_map_or (λ k. is_closed_at tells telling ways k (listed k) (way + with_listed cost rule (listed k))) o true) is)
-      ∙ all_true (is_closed_rule tells telling ways listed cost way) rules rule by_rules i in
+      let closed : is_closed_at (look_ups tells telling ways) key (listed key) n ≡ true =
+      sym (ap (λ (o : Option Key). option_map_or (λ k. is_closed_at (look_ups tells telling ways) k (listed k) (way + with_listed cost rule (listed k))) o true) is)
+      ∙ all_true (is_closed_rule (look_ups tells telling ways) listed cost way) rules rule by_rules i in
       safe_good keys key n lists
-      (right_of (nat_lt max_body n) (is_safe tells telling ways key (listed key) n) (λ e. let over = ltb-true max_body n e in omega (arith, over, least, same, room, fits)) closed)
+      (right_of (nat_lt max_body n) (is_safe (look_ups tells telling ways) key (listed key) n) (λ e. let over = ltb-true max_body n e in omega (arith, over, least, same, room, fits)) closed)
       (omega (arith, least, same))
 
   -- ---- a key that comes through the wildcard
@@ -354,33 +355,19 @@ module _ (da db : Dictionary) (who : Sends) (u : Unknown) (lengths : List ℕ) (
 rules_of_def : (d : Dictionary) (def : ℕ) (x : PlainDefinition) → slice_get (definitions d) def ≡ Some x → rules_in d def ≡ x.rules
 rules_of_def d def x at = ap (λ (o : Option PlainDefinition). option_map_or (λ (y : PlainDefinition). y.rules) o []) at
 
-module _ {X : Type 0} (meaning : X → Dictionary) (db : Dictionary) (book a : X) (sent who : Sends) (same : book ≡ a) (sender : sent ≡ who) (u : Unknown) (entries : List ℕ) (keys : List Key)
-    (telling : Telling)
-    (tells : Key → Bool) (owns : List Key) (ways : Key → Option ℕ) (groups : List Way) (others : List Other) (cost : LevelCost) (a_def b_def way : ℕ) (lines answer : List Line) where
-  moved : (P : Dictionary → Sends → Type 0) → P (meaning book) sent → P (meaning a) who
-  moved P h = subst (λ (s : Sends). P (meaning a) s) sender (subst (λ (p : X). P (meaning p) sent) same h)
-
+module _ (da db : Dictionary) (who : Sends) (u : Unknown) (entries : List ℕ) (keys : List Key) (telling : Telling) (tells : Key → Bool) (owns : List Key) (ways : Key → Option ℕ) (groups : List Way)
+    (others : List Other) (cost : LevelCost) (a_def b_def way : ℕ) (lines answer : List Line) where
   abbrev rules : List DRule
-  rules = rules_in (meaning a) a_def
+  rules = rules_in da a_def
 
-  pub closed_when : IsDictionary (meaning a) → ((y : ℕ) → FirstIsShortest (other_length (meaning a) sent entries) keys (rules_in (meaning a) a_def) (rules_in db y))
-      → (OtherIsShortest (other_length (meaning book) sent entries) keys (rules_in (meaning a) a_def) → IsCostOf (listed_length (meaning book) sent entries) (other_length (meaning book) sent entries)
-      (rules_in (meaning a) a_def) cost)
-      → ((key : Key) → tells key ≡ true → Contains owns key) → AreWaysOf groups ways → IsFirst (other_length (meaning book) sent entries) tells ways telling.own.items others
-      → list_all (is_closed_rule tells telling ways (listed_length (meaning book) sent entries) cost way) (rules_in (meaning a) a_def) ≡ true
-      → max_body < way + cost.beside + first_spare (λ key. not (is_listed (rules_in (meaning a) a_def) key)) others → All (IsLongOrTold way answer) lines → way ≤ max_body
-      → IsTelling (meaning a) db who u telling
-      → HasEachLine (price (listed_length (meaning book) sent entries) (other_length (meaning book) sent entries) (rules_in (meaning a) a_def)) (rules_in (meaning a) a_def) (rules_in db b_def) lines
-      → IsClosedBy (meaning a) db who u (listed_length (meaning a) who entries) groups answer owns a_def b_def way
+  pub closed_when : IsDictionary da → ((y : ℕ) → FirstIsShortest (other_length da who entries) keys rules (rules_in db y))
+      → (OtherIsShortest (other_length da who entries) keys rules → IsCostOf (listed_length da who entries) (other_length da who entries) rules cost)
+      → ((key : Key) → tells key ≡ true → Contains owns key) → AreWaysOf groups ways → IsFirst (other_length da who entries) tells ways telling.own.items others
+      → list_all (is_closed_rule (look_ups tells telling ways) (listed_length da who entries) cost way) rules ≡ true
+      → max_body < way + cost.beside + first_spare (λ key. not (is_listed rules key)) others → All (IsLongOrTold way answer) lines → way ≤ max_body
+      → IsTelling (sides da db who u) telling → HasEachLine (price (listed_length da who entries) (other_length da who entries) rules) rules (rules_in db b_def) lines
+      → IsClosedBy (ground (sides da db who u) (listed_length da who entries) groups owns) answer a_def b_def way
   closed_when sound shortest costs shown are first by_rules by_wild known fits found each x y sites at_x at_y holds =
-      closed_by (meaning a) db who u entries telling tells owns ways groups others cost rules way (λ key none. unlisted (meaning a) a_def key sound none)
-      (moved (λ d s. IsCostOf (listed_length d s entries) (other_length d s entries) rules cost) (costs other)) found shown are
-      (moved (λ d s. IsFirst (other_length d s entries) tells ways telling.own.items others) first)
-      (moved (λ d s. list_all (is_closed_rule tells telling ways (listed_length d s entries) cost way) rules ≡ true) by_rules) by_wild fits sites holds (rules_in db b_def) lines answer
-      (moved (λ d s. HasEachLine (price (listed_length d s entries) (other_length d s entries) rules) rules (rules_in db b_def) lines) each) known x y
-      (rules_of_def (meaning a) a_def x at_x) (rules_of_def db b_def y at_y)
-    where
-      other : OtherIsShortest (other_length (meaning book) sent entries) keys (rules_in (meaning a) a_def)
-      other =
-          subst (λ (p : X). OtherIsShortest (other_length (meaning p) sent entries) keys (rules_in (meaning a) a_def)) (sym same)
-          (one_is_shortest (other_length (meaning a) sent entries) keys (rules_in (meaning a) a_def) db shortest)
+      closed_by da db who u entries telling tells owns ways groups others cost rules way (λ key none. unlisted da a_def key sound none)
+      (costs (one_is_shortest (other_length da who entries) keys rules db shortest)) found shown are first by_rules by_wild fits sites holds (rules_in db b_def) lines answer each known x y
+      (rules_of_def da a_def x at_x) (rules_of_def db b_def y at_y)

@@ -13,9 +13,10 @@ use Rattle.dia_compat.specs.Closed.{IsIncluded}
 use Rattle.dia_compat.specs.TableText.{PlainTable}
 use Rattle.dia_breaking.specs.declared.line.Line.{Line}
 use Rattle.dia_breaking.specs.Confirmed.{IsConfirmed, EachConfirmedBreaks, NoneConfirmed, ListsCommand}
+use Rattle.dia_breaking.specs.Sides.{sides}
 
 pub confirmed : (da db : Dictionary) (who : Sends) (u : Unknown) (bytes : List ℕ) (c : ℕ) → AreBytes bytes → IsValidOf da (own_policy who) levels.Any bytes c
-    → (¬ IsValid db u levels.Any bytes) → IsConfirmed da db who u bytes c
+    → (¬ IsValid db u levels.Any bytes) → IsConfirmed (sides da db who u) bytes c
 confirmed da db Any u bytes c are valid refused = (valid_sent da Any bytes c (λ e. absurd cc) are valid, refused)
 confirmed da db Known u bytes c are valid refused = (valid_sent da Known bytes c (λ e. absurd cc) are valid, refused)
 confirmed da db Listed u bytes c are valid refused = (valid, refused)
@@ -25,28 +26,28 @@ are_bytes [] h = tt
 are_bytes (x ∷ xs) h = (h 0, are_bytes xs (λ k. h (suc k)))
 
 pub refused : (da db : Dictionary) (who : Sends) (u : Unknown) (bytes : List ℕ) (c : ℕ) (accepted : Bool) → AreBytes bytes → (own : Unknown) → own ≡ own_policy who
-    → IsValidOf da own levels.Any bytes c → (IsTrue accepted ↔ IsValid db u levels.Any bytes) → IsTrue (not accepted) → IsConfirmed da db who u bytes c
+    → IsValidOf da own levels.Any bytes c → (IsTrue accepted ↔ IsValid db u levels.Any bytes) → IsTrue (not accepted) → IsConfirmed (sides da db who u) bytes c
 refused da db who u bytes c true are own same valid iff h = absurd cc
 refused da db who u bytes c false are own same valid iff h =
     confirmed da db who u bytes c are (subst (λ p. IsValidOf da p levels.Any bytes c) same valid) (λ v. absurd (let e : false ≡ true = iff.1 v in cc))
 
 -- ---- a command that a table lists, where it shows inclusion
 
-valid_of : (da db : Dictionary) (who : Sends) (u : Unknown) (bytes : List ℕ) (c : ℕ) → IsConfirmed da db who u bytes c
+valid_of : (da db : Dictionary) (who : Sends) (u : Unknown) (bytes : List ℕ) (c : ℕ) → IsConfirmed (sides da db who u) bytes c
     → IsValidOf da (own_policy who) levels.Any bytes c × (¬ IsValid db u levels.Any bytes)
 valid_of da db Any u bytes c h = (sent_valid da Any bytes c h.0, h.1)
 valid_of da db Known u bytes c h = (sent_valid da Known bytes c h.0, h.1)
 valid_of da db Listed u bytes c h = h
 
 pub none_breaks : (da db : Dictionary) (who : Sends) (table : PlainTable) (c : ℕ) (bytes : List ℕ) → IsIncluded da db (own_policy who) table → ListsCommand da table c
-    → ¬ IsConfirmed da db who (own_policy who) bytes c
+    → ¬ IsConfirmed (sides da db who (own_policy who)) bytes c
 none_breaks da db who table c bytes included (command, pair, at, inside, named) h =
     let v = valid_of da db who (own_policy who) bytes c h in
     let r = included levels.Any bytes c command pair at inside named v.0 in
     v.1 (r.0, r.4)
 
 pub none_confirmed : (da db : Dictionary) (who : Sends) (table : PlainTable) (c : ℕ) (lines : List Line) → IsIncluded da db (own_policy who) table → ListsCommand da table c
-    → EachConfirmedBreaks da db who (own_policy who) c lines → NoneConfirmed lines
+    → EachConfirmedBreaks (sides da db who (own_policy who)) c lines → NoneConfirmed lines
 none_confirmed da db who table c lines included listed each k d within is =
     let m = each k d within is in
     none_breaks da db who table c m.0 included listed m.1

@@ -29,6 +29,7 @@ use Rattle.dia_breaking.specs.Listing.{Told, command_levels, flag_causes, group_
 use Rattle.dia_breaking.specs.Orders.{IsInOrderOf, joined, of_each}
 use Rattle.dia_breaking.specs.OwnBreaks.{HaveDataBreaks, IsOwnBreaks, TellData, TellsData}
 use Rattle.dia_breaking.specs.Sites.{other_head}
+use Rattle.dia_breaking.specs.Sides.{sides}
 use Rattle.dia_breaking.proofs.Lists.{all_in, all_more, contains_at, same_image}
 
 -- ---- members
@@ -116,9 +117,9 @@ found_plain db head base apps levels groups count steps =
 
 module _ (da db : Dictionary) (who : Sends) (u : Unknown) where
   abbrev Tells : Line → Type 0
-  Tells line = TellsData da db who u line.cause
+  Tells line = TellsData (sides da db who u) line.cause
 
-  plain : (cause : Cause) → IsOther (subject cause) → TellsData da db who u cause
+  plain : (cause : Cause) → IsOther (subject cause) → TellsData (sides da db who u) cause
   plain (causes.Format key found) other = absurd (other key refl)
   plain (causes.LevelAsLeaf key) other = absurd (other key refl)
   plain causes.Command other = tt
@@ -130,29 +131,29 @@ module _ (da db : Dictionary) (who : Sends) (u : Unknown) where
   plain causes.Unproved other = tt
 
   -- where nothing is told of data
-  pub plain_lines : (lines : List Line) (told : List Told) → map tells lines ≡ told → All IsPlain told → TellData da db who u lines
+  pub plain_lines : (lines : List Line) (told : List Told) → map tells lines ≡ told → All IsPlain told → TellData (sides da db who u) lines
   plain_lines lines told is all i d within =
       let same = get_or-map tells lines i d (tells d) within in
       plain (get_or lines i d).cause (subst IsPlain same (subst (All IsPlain) (sym is) all i (tells d) (omega (arith, within, length-map lines tells))))
 
   -- one line more, or none
-  pub data_more : (old new : List Line) (site : ℕ) (cause : Cause) (takes : ℕ) → (new ≡ old) ⊎ (new ≡ old ++ new_line site cause takes ∷ []) → TellsData da db who u cause
-      → TellData da db who u old → TellData da db who u new
+  pub data_more : (old new : List Line) (site : ℕ) (cause : Cause) (takes : ℕ) → (new ≡ old) ⊎ (new ≡ old ++ new_line site cause takes ∷ []) → TellsData (sides da db who u) cause
+      → TellData (sides da db who u) old → TellData (sides da db who u) new
   data_more old new site cause takes (inl same) own all = subst (All Tells) (sym same) all
   data_more old new site cause takes (inr adds) own all = all_more Tells old (new_line site cause takes) new adds all own
 
-  pub data_in_order : (all sorted : List Line) → IsInOrderOf (λ (line : Line). line.site) all sorted → TellData da db who u all → TellData da db who u sorted
+  pub data_in_order : (all sorted : List Line) → IsInOrderOf (λ (line : Line). line.site) all sorted → TellData (sides da db who u) all → TellData (sides da db who u) sorted
   data_in_order all sorted order have = all_in_order Tells (λ (line : Line). line.site) all sorted order have
 
   -- where only what is known of lines changes
-  pub data_kept : (old new : List Line) → map unchecked new ≡ map unchecked old → TellData da db who u old → TellData da db who u new
+  pub data_kept : (old new : List Line) → map unchecked new ≡ map unchecked old → TellData (sides da db who u) old → TellData (sides da db who u) new
   data_kept old new same all = all_from Tells new (λ i line at.
       let r = same_image unchecked new old line same (contains_at new i line at) in
-      subst (TellsData da db who u) (ap (λ (l : Line). l.cause) r.2) (all_in Tells old r.0 all r.1))
+      subst (TellsData (sides da db who u)) (ap (λ (l : Line). l.cause) r.2) (all_in Tells old r.0 all r.1))
 
   -- ---- what AVPs break by themselves
 
-  pub head_tells : (kind : Kind) (key : Key) (found : HeadBreak) → IfSome (head_cause kind key found) (TellsData da db who u)
+  pub head_tells : (kind : Kind) (key : Key) (found : HeadBreak) → IfSome (head_cause kind key found) (TellsData (sides da db who u))
   head_tells kinds.Unknown key (head_breaks.Unknown m) = tt
   head_tells kinds.Unknown key (head_breaks.MBit m) = tt
   head_tells kinds.MBit key (head_breaks.Unknown m) = tt
@@ -160,20 +161,20 @@ module _ (da db : Dictionary) (who : Sends) (u : Unknown) where
   head_tells kinds.Data key (head_breaks.Unknown m) = tt
   head_tells kinds.Data key (head_breaks.MBit m) = tt
 
-  pub with_size : (o : Option Cause) (size : ℕ) → IfSome o (TellsData da db who u) → IfSome (option_map (λ (cause : Cause). (cause, size)) o) (λ (pair : Cause × ℕ). TellsData da db who u pair.0)
+  pub with_size : (o : Option Cause) (size : ℕ) → IfSome o (TellsData (sides da db who u)) → IfSome (option_map (λ (cause : Cause). (cause, size)) o) (λ (pair : Cause × ℕ). TellsData (sides da db who u) pair.0)
   with_size None size own = tt
   with_size (Some cause) size own = own
 
-  pub have_data : (length : Key → ℕ) (own : List OwnBreaks) → All (IsOwnBreaks da db who u length) own → HaveDataBreaks da db who u own
+  pub have_data : (length : Key → ℕ) (own : List OwnBreaks) → All (IsOwnBreaks (sides da db who u) length) own → HaveDataBreaks (sides da db who u) own
   have_data length own all i d within = (all i d within).content
 
-  pub data_at : (own : List OwnBreaks) (place : ℕ) (one : OwnBreaks) → slice_get own place ≡ Some one → HaveDataBreaks da db who u own → IsDataBreak da db who u one.key one.breaks.data
+  pub data_at : (own : List OwnBreaks) (place : ℕ) (one : OwnBreaks) → slice_get own place ≡ Some one → HaveDataBreaks (sides da db who u) own → IsDataBreak da db who u one.key one.breaks.data
   data_at own place one at have = all_in (λ (x : OwnBreaks). IsDataBreak da db who u x.key x.breaks.data) own one have (contains_at own place one at)
 
   -- of a level that B reads as a leaf, where the data of a shortest AVP may have been tried
-  pub tried_tells : (key : Key) (cause : Cause) → (cause ≡ causes.Format key None) ⊎ (cause ≡ causes.LevelAsLeaf key) → IsDataBreak da db who u key Undecided → TellsData da db who u cause
-  tried_tells key cause (inl is) content = subst (TellsData da db who u) (sym is) (inr content)
-  tried_tells key cause (inr is) content = subst (TellsData da db who u) (sym is) content
+  pub tried_tells : (key : Key) (cause : Cause) → (cause ≡ causes.Format key None) ⊎ (cause ≡ causes.LevelAsLeaf key) → IsDataBreak da db who u key Undecided → TellsData (sides da db who u) cause
+  tried_tells key cause (inl is) content = subst (TellsData (sides da db who u)) (sym is) (inr content)
+  tried_tells key cause (inr is) content = subst (TellsData (sides da db who u)) (sym is) content
 
 pub when_on_ok : {X E : Type 0} (P Q : Type 0) (r : Result X E) → (P → Q) → OnOk r P → OnOk r Q
 when_on_ok P Q (Ok x) f h = f h

@@ -1,53 +1,21 @@
 -- The sites and the lines that are found are those of the one list.
 use Rattle.std.proofs.Common.{◌≡◌, ℕ, List, [], ◌∷◌, ◌++◌, Option, Some, None, map, sym, ap, subst, ◌∙◌, inl, inr}
-use Rattle.std.specs.Prelude.{◌⊎◌, ◌<◌, All, IfSome, length, option_and_then, slice_get}
+use Rattle.std.specs.Prelude.{◌⊎◌, ◌<◌, IfSome, length, option_and_then, slice_get}
 use Rattle.std.proofs.Math.Logic.{∥∥₁_map}
 use Rattle.std.proofs.lemmas.List.{map-append}
-use Rattle.dia_wire.specs.declared.Key.{Key}
 use Rattle.dia_book.specs.Dictionary.{Dictionary, PlainDefinition, definitions}
-use Rattle.dia_policy.specs.declared.Sends.{Sends}
-use Rattle.dia_policy.specs.declared.Unknown.{Unknown}
 use Rattle.dia_compat.proofs.ReachedKeys.{there_is, at_some}
-use Rattle.dia_breaking_shortest.specs.Exact.{AreExact}
-use Rattle.dia_breaking.specs.declared.exits.Outlook.{Outlook}
 use Rattle.dia_breaking.specs.declared.heads.Head.{Head}
-use Rattle.dia_breaking.specs.declared.keys.Telling.{Telling}
 use Rattle.dia_breaking.specs.declared.line.Cause.TheVariants as causes
 use Rattle.dia_breaking.specs.declared.line.Line.{Line}
 use Rattle.dia_breaking.specs.declared.line.Site.{Site}
-use Rattle.dia_breaking.specs.declared.own_breaks.OwnBreaks.{OwnBreaks}
 use Rattle.dia_breaking.specs.declared.start.Start.{Start}
-use Rattle.dia_breaking.specs.Exits.{AreOutlooks}
-use Rattle.dia_breaking.specs.Headers.{head_in}
-use Rattle.dia_breaking.specs.Lengths.{listed_length, other_length, AreEntryLengths, AreExactlyOthers}
+use Rattle.dia_breaking.specs.Headers.{HasHead, head_in}
 use Rattle.dia_breaking.specs.Listing.{Told, IsListing, basis_of, new_line, tells, unchecked}
-use Rattle.dia_breaking.specs.OwnBreaks.{AreOwnBreaks}
-use Rattle.dia_breaking.specs.Telling.{IsExactTelling}
-use Rattle.dia_breaking.specs.TheLines.{AreAllOrUnproved, exact, added, alone, AreFacts, AreLinesOrUnproved, AreTheLines, HasLevelLines, IsStartOf}
+use Rattle.dia_breaking.specs.TheLines.{Facts, AreAllOrUnproved, exact, added, alone, AreKnown, AreLinesOrUnproved, AreTheLines, IsStartOf, costs_in}
 use Rattle.dia_breaking.specs.Words.{head_at}
+use Rattle.dia_breaking.specs.Sides.{Sides, answer}
 use Rattle.dia_breaking.proofs.ToldLists.{tells_kept}
-
--- ---- what is the same for all commands
-
-module _ (d da db : Dictionary) (s who : Sends) (u : Unknown) (lengths : List ℕ) (others : List Key) (telling : Telling) (outlooks : List Outlook) (own : List OwnBreaks) (same : d ≡ da)
-    (sender : s ≡ who) where
-  pub facts_found : (least : List ℕ) → AreExact da who least → AreEntryLengths da least lengths → AreExactlyOthers da db s lengths others → IsExactTelling da db who u telling
-      → AreOutlooks da db telling (listed_length d s lengths) (other_length d s lengths) others outlooks
-      → All (HasLevelLines da db (listed_length d s lengths) (other_length d s lengths) others) outlooks
-      → AreOwnBreaks da db s u (listed_length d s lengths) telling.own.items own → AreFacts da db who u lengths others telling outlooks own
-  facts_found least is_exact entries are_others told groups levels breaks = record {
-    least = least;
-    are_least = is_exact;
-    are_lengths = entries;
-    are_others = subst (λ (w : Sends). AreExactlyOthers da db w lengths others) sender are_others;
-    is_telling = told;
-    are_outlooks = subst (λ (w : Sends). AreOutlooks da db telling (listed_length da w lengths) (other_length da w lengths) others outlooks) sender
-        (subst (λ (x : Dictionary). AreOutlooks da db telling (listed_length x s lengths) (other_length x s lengths) others outlooks) same groups);
-    have_lines = subst (λ (w : Sends). All (HasLevelLines da db (listed_length da w lengths) (other_length da w lengths) others) outlooks) sender
-        (subst (λ (x : Dictionary). All (HasLevelLines da db (listed_length x s lengths) (other_length x s lengths) others) outlooks) same levels);
-    are_own = subst (λ (w : Sends). AreOwnBreaks da db w u (listed_length da w lengths) telling.own.items own) sender
-        (subst (λ (x : Dictionary). AreOwnBreaks da db s u (listed_length x s lengths) telling.own.items own) same breaks);
-  }
 
 -- ---- of a command
 
@@ -74,25 +42,13 @@ lines_kept IsAll sites old new same (exact all) = exact (subst IsAll (sym (tells
 lines_kept IsAll sites old new same (added told all is) = added told all (tells_kept new old same ∙ is)
 lines_kept IsAll sites old new same (alone read is) = alone read (tells_kept new old same ∙ is)
 
-module _ (da db : Dictionary) (who : Sends) (u : Unknown) (c : ℕ) (lengths : List ℕ) (others : List Key) (telling : Telling) (outlooks : List Outlook) (own : List OwnBreaks) (start : Start) where
-  module _ (head : Head) (sites : List Site) (facts : ∥ AreFacts da db who u lengths others telling outlooks own ∥₁) (same : start.head ≡ head) where
-    the_lines : (told : List Told) → IsStartOf da db who lengths others telling c start → IfSome (slice_get (definitions da) c) (λ (x : PlainDefinition). head_in x.head ≡ Some head) → IsListing db (basis_of start own outlooks) sites told
-        → ∥ AreTheLines da db who u c sites told ∥₁
-    the_lines told is_start in_a listing = ∥∥₁_map facts (λ known. record {
-      lengths = lengths;
-      others = others;
-      telling = telling;
-      outlooks = outlooks;
-      own = own;
-      start = start;
-      facts = known;
-      head_is = subst (λ (h : Head). IfSome (slice_get (definitions da) c) (λ (x : PlainDefinition). head_in x.head ≡ Some h)) (sym same) in_a;
-      is_start = is_start;
-      is_listing = listing;
-    })
+module _ (s : Sides) (c : ℕ) (made : Facts) (start : Start) (head : Head) (sites : List Site) (shown : ∥ AreKnown s made ∥₁) (same : start.head ≡ head) where
+  the_lines : (told : List Told) → IsStartOf s.sender s.receiver made.telling (costs_in s made) c start → HasHead s.sender c head → IsListing s.receiver (basis_of start made.own made.outlooks) sites told
+      → ∥ AreTheLines s c sites told ∥₁
+  the_lines told is_start (x, at, is) listing = ∥∥₁_map shown (λ known. record { made = made; start = start; facts = known.facts; head_is = (x, at, is ∙ ap Some (sym same)); is_start = is_start; is_listing = listing })
 
-    pub lines_found : (lines : List Line) → IsStartOf da db who lengths others telling c start → IfSome (slice_get (definitions da) c) (λ (x : PlainDefinition). head_in x.head ≡ Some head)
-        → AreAllOrUnproved (IsListing db (basis_of start own outlooks) sites) sites lines → AreLinesOrUnproved da db who u c sites lines
-    lines_found lines begins in_a (exact all) = exact (the_lines (map tells lines) begins in_a all)
-    lines_found lines begins in_a (added told all is) = added told (the_lines told begins in_a all) is
-    lines_found lines begins in_a (alone read is) = alone read is
+  pub lines_found : (lines : List Line) → IsStartOf s.sender s.receiver made.telling (costs_in s made) c start → HasHead s.sender c head
+      → AreAllOrUnproved (IsListing s.receiver (basis_of start made.own made.outlooks) sites) sites lines → AreLinesOrUnproved s (answer c sites lines)
+  lines_found lines begins in_a (exact all) = exact (the_lines (map tells lines) begins in_a all)
+  lines_found lines begins in_a (added told all is) = added told (the_lines told begins in_a all) is
+  lines_found lines begins in_a (alone read is) = alone read is

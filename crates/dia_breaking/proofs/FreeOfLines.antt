@@ -15,13 +15,14 @@ use Rattle.dia_breaking.specs.Confirmed.{told_of}
 use Rattle.dia_breaking.specs.Free.{IsLineOf, IsFreeLevel, TellsFlags, IsFree, AreValidWhereFree}
 use Rattle.dia_breaking.specs.Headers.{TellsRefusal}
 use Rattle.dia_breaking.specs.OwnKeys.{own_key}
+use Rattle.dia_breaking.specs.Sides.{sides, answer}
 use Rattle.dia_breaking.proofs.Lists.{same_image}
 
 no_member : (lines : List Line) (line : Line) → lines ≡ [] → Contains lines line → ⊥
 no_member lines line none (i, within, is) = absurd (let e : length lines ≡ 0 = ap length none in omega (arith, within, e))
 
 -- where nothing is told, each message is free
-pub nothing_told : (da db : Dictionary) (who : Sends) (u : Unknown) (sites : List Site) (lines : List Line) (c : ℕ) → AreValidWhereFree da db who u sites lines c → lines ≡ [] → AreValid da db who u c
+pub nothing_told : (da db : Dictionary) (who : Sends) (u : Unknown) (sites : List Site) (lines : List Line) (c : ℕ) → AreValidWhereFree (sides da db who u) (answer c sites lines) → lines ≡ [] → AreValid da db who u c
 nothing_told da db who u sites lines c valid none bytes sent =
     valid bytes sent (record {
       shown = λ line inside. absurd (no_member lines line none inside);
@@ -33,12 +34,12 @@ nothing_told da db who u sites lines c valid none bytes sent =
     })
 
 -- where each is valid, each that is free is
-pub all_valid : (da db : Dictionary) (who : Sends) (u : Unknown) (sites : List Site) (lines : List Line) (c : ℕ) → AreValid da db who u c → AreValidWhereFree da db who u sites lines c
+pub all_valid : (da db : Dictionary) (who : Sends) (u : Unknown) (sites : List Site) (lines : List Line) (c : ℕ) → AreValid da db who u c → AreValidWhereFree (sides da db who u) (answer c sites lines)
 all_valid da db who u sites lines c valid bytes sent free = valid bytes sent
 
 -- where it isn't shown that nothing else breaks, none is free
 pub none_free : (da db : Dictionary) (who : Sends) (u : Unknown) (sites : List Site) (lines : List Line) (c : ℕ) (line : Line) → Contains lines line → line.cause ≡ causes.Unproved
-    → AreValidWhereFree da db who u sites lines c
+    → AreValidWhereFree (sides da db who u) (answer c sites lines)
 none_free da db who u sites lines c line inside is bytes sent free = absurd (free.shown line inside is)
 
 -- ---- lines of which something else is known
@@ -85,5 +86,5 @@ module _ (da db : Dictionary) (u : Unknown) (sites : List Site) (old new : List 
     };
   }
 
-  pub still_valid : (who : Sends) → AreValidWhereFree da db who u sites old c → AreValidWhereFree da db who u sites new c
+  pub still_valid : (who : Sends) → AreValidWhereFree (sides da db who u) (answer c sites old) → AreValidWhereFree (sides da db who u) (answer c sites new)
   still_valid who valid bytes sent free = valid bytes sent (still_free sent.header sent.command sent.avps free)

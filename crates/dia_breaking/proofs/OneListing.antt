@@ -6,7 +6,7 @@ use Rattle.dia_breaking_ways.specs.declared.graph.Step.{Step}
 use Rattle.dia_breaking_ways.specs.declared.graph.Reach.{Reach}
 use Rattle.dia_breaking_ways.proofs.OneWalk.{one_walk}
 use Rattle.dia_breaking.specs.declared.line.Site.{Site}
-use Rattle.dia_breaking.specs.Listing.{Told, Basis, IsWalkFrom, IsListing, start_of, sites_of, lines_of}
+use Rattle.dia_breaking.specs.Listing.{Told, Basis, IsWalkFrom, IsListing, start_of, sites_of, lines_of, numbers}
 use Rattle.dia_breaking.specs.Orders.{IsInOrderOf}
 use Rattle.dia_breaking.proofs.InOrder.{one_in_order}
 
@@ -22,8 +22,8 @@ one_listing db basis sites others told lines first second =
     let same = one_from (is_some (start_of db basis)) basis.graph first.steps second.steps first.reached second.reached first.is_walk second.is_walk in
     let number = λ (line : Told). line.site in (
       first.sites_are ∙ ap (sites_of db basis at (length basis.apps)) same.0 ∙ sym second.sites_are,
-      one_in_order number (lines_of db basis at (length basis.apps) second.steps second.reached) told lines
-          (subst (λ (ways : List (Option Reach)). IsInOrderOf number (lines_of db basis at (length basis.apps) second.steps ways) told) same.1
-          (subst (λ (steps : List Step). IsInOrderOf number (lines_of db basis at (length basis.apps) steps first.reached) told) same.0 first.lines_are))
+      one_in_order number (lines_of db basis (numbers at (length basis.apps)) second.steps second.reached) told lines
+          (subst (λ (ways : List (Option Reach)). IsInOrderOf number (lines_of db basis (numbers at (length basis.apps)) second.steps ways) told) same.1
+          (subst (λ (steps : List Step). IsInOrderOf number (lines_of db basis (numbers at (length basis.apps)) steps first.reached) told) same.0 first.lines_are))
           second.lines_are,
     )

@@ -28,11 +28,12 @@ use Rattle.dia_breaking.specs.declared.line.Site.{Site}
 use Rattle.dia_breaking.specs.declared.own_breaks.OwnBreaks.{OwnBreaks}
 use Rattle.dia_breaking.specs.declared.own_lines.Kind.{Kind}
 use Rattle.dia_breaking.specs.declared.own_lines.Kind.TheVariants as kinds
-use Rattle.dia_breaking.specs.Listing.{Told, Basis, IsListing, start_of, sites_of, lines_of, own_cause, own_line, own_lines, data_length, head_cause, reach_at, reached_line, with_room}
+use Rattle.dia_breaking.specs.Listing.{Told, Basis, IsListing, start_of, sites_of, lines_of, own_cause, own_line, own_lines, data_length, head_cause, reach_at, reached_line, with_room, numbers}
 use Rattle.dia_breaking.specs.Listing.{header_lines, command_levels, group_levels}
 use Rattle.dia_breaking.specs.Orders.{IsInOrderOf, joined, of_each}
 use Rattle.dia_breaking.specs.OwnBreaks.{IsOwnBreaks}
 use Rattle.dia_breaking.specs.Sites.{command_sites, group_site, group_sites, site_number}
+use Rattle.dia_breaking.specs.Sides.{sides}
 use Rattle.dia_breaking.proofs.OneSolution.{first_key, rest_keys}
 use Rattle.dia_breaking.proofs.OwnBreaks.{no_head, silent_by_taken, taken_by_silent}
 
@@ -128,12 +129,12 @@ abbrev pub keys_of : List OwnBreaks → List Key
 keys_of all = map (λ own. own.key) all
 
 module _ (da db : Dictionary) (who : Sends) (u : Unknown) (floor : Key → ℕ) where
-  alike : (one other : OwnBreaks) → IsOwnBreaks da db who u floor one → IsOwnBreaks da db who u floor other → one.key ≡ other.key → Alike one other
+  alike : (one other : OwnBreaks) → IsOwnBreaks (sides da db who u) floor one → IsOwnBreaks (sides da db who u) floor other → one.key ≡ other.key → Alike one other
   alike one other is are same =
       let least : other.least ≡ one.least = are.least ∙ ap floor (sym same) ∙ sym is.least in
       let at : OwnBreaks = record { key = one.key; least = one.least; breaks = other.breaks } in
       let path : other ≡ at = λ i. record { key = sym same i; least = least i; breaks = other.breaks } in
-      let moved : IsOwnBreaks da db who u floor at = subst (λ (own : OwnBreaks). IsOwnBreaks da db who u floor own) path are in
+      let moved : IsOwnBreaks (sides da db who u) floor at = subst (λ (own : OwnBreaks). IsOwnBreaks (sides da db who u) floor own) path are in
       let heads = one_head da db who u one.key one.breaks.head other.breaks.head is.head moved.head in (
         same,
         λ kind size.
@@ -142,13 +143,13 @@ module _ (da db : Dictionary) (who : Sends) (u : Unknown) (floor : Key → ℕ) 
             ∙ ap (λ (own : OwnBreaks). own_cause kind own size) (sym path),
       )
 
-  pub all_alike : (xs ys : List OwnBreaks) → keys_of xs ≡ keys_of ys → All (IsOwnBreaks da db who u floor) xs → All (IsOwnBreaks da db who u floor) ys
+  pub all_alike : (xs ys : List OwnBreaks) → keys_of xs ≡ keys_of ys → All (IsOwnBreaks (sides da db who u) floor) xs → All (IsOwnBreaks (sides da db who u) floor) ys
       → AreAlike xs ys
   all_alike [] [] same is are = tt
   all_alike [] (y ∷ ys) same is are = absurd (let bad : [] ≡ y.key ∷ map (λ (own : OwnBreaks). own.key) ys = same in cc)
   all_alike (x ∷ xs) [] same is are = absurd (let bad : x.key ∷ map (λ (own : OwnBreaks). own.key) xs ≡ [] = same in cc)
   all_alike (x ∷ xs) (y ∷ ys) same is are =
-      let P = IsOwnBreaks da db who u floor in (
+      let P = IsOwnBreaks (sides da db who u) floor in (
         alike x y (All-head P x xs is) (All-head P y ys are) (ap (λ (ks : List Key). first_key ks x.key) same),
         all_alike xs ys (ap rest_keys same) (All-tail P x xs is) (All-tail P y ys are),
       )
@@ -204,7 +205,7 @@ listing_by db basis others sites told are is =
     let unknown = same_lines basis.own others are first count kinds.Unknown is.reached in
     let m_bits = same_lines basis.own others are first count kinds.MBit is.reached in
     let formats = same_lines basis.own others are first count kinds.Data is.reached in
-    let lines_same : lines_of db basis first count is.steps is.reached ≡ lines_of db next first count is.steps is.reached =
+    let lines_same : lines_of db basis (numbers first count) is.steps is.reached ≡ lines_of db next (numbers first count) is.steps is.reached =
     λ j. of_each (header_lines db basis.head basis.base) basis.apps ++ of_each command_levels basis.levels ++ of_each (group_levels count basis.groups) is.steps
     ++ unknown j ++ m_bits j ++ formats j in
     record {

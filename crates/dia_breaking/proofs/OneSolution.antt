@@ -14,11 +14,12 @@ use Rattle.dia_breaking.specs.declared.apps.Apps.{Apps}
 use Rattle.dia_breaking.specs.declared.heads.Head.{Head}
 use Rattle.dia_breaking.specs.declared.keys.Own.{Own}
 use Rattle.dia_breaking.specs.declared.keys.Telling.{Telling}
-use Rattle.dia_breaking.specs.Headers.{apps_of}
+use Rattle.dia_breaking.specs.Headers.{apps_of, both_apps}
 use Rattle.dia_breaking.specs.Lengths.{AreExactlyOthers, listed_length}
 use Rattle.dia_breaking.specs.SentKeys.{AreSentInOrder, IsStranger, entry_keys, keys_of_b_alone}
 use Rattle.dia_breaking.specs.Telling.{AreOwnOf, IsExactlyOwn, IsExactTelling, is_news}
 use Rattle.dia_breaking.specs.ToldApps.{AreOpenApps, AreToldApps, IsLeastUnnamed, selects}
+use Rattle.dia_breaking.specs.Sides.{sides}
 use Rattle.dia_breaking.proofs.OneOrder.{one_sorted}
 
 pub one_stranger : (da db : Dictionary) (key other : Key) → IsStranger da db key → IsStranger da db other → key ≡ other
@@ -51,32 +52,32 @@ rest_keys [] = []
 rest_keys (k ∷ ks) = ks
 
 module _ (da db : Dictionary) (who : Sends) (u : Unknown) where
-  pub one_own : (own other : Own) → IsExactlyOwn da db who u own → IsExactlyOwn da db who u other → own.key ≡ other.key → own ≡ other
+  pub one_own : (own other : Own) → IsExactlyOwn (sides da db who u) own → IsExactlyOwn (sides da db who u) other → own.key ≡ other.key → own ≡ other
   one_own own other is are same =
-      let moved = subst (λ (k : Key). IsExactlyOwn da db who u (record { key = k; is_group = own.is_group; breaks = own.breaks })) same is in
+      let moved = subst (λ (k : Key). IsExactlyOwn (sides da db who u) (record { key = k; is_group = own.is_group; breaks = own.breaks })) same is in
       let group : own.is_group ≡ other.is_group = moved.group ∙ sym are.group in
       let breaks : own.breaks ≡ other.breaks = alike own.breaks other.breaks moved.silent are.silent in
       λ i. record { key = same i; is_group = group i; breaks = breaks i }
 
-  one_list : (all others : List Own) → map (λ (own : Own). own.key) all ≡ map (λ (own : Own). own.key) others → All (IsExactlyOwn da db who u) all → All (IsExactlyOwn da db who u) others
+  one_list : (all others : List Own) → map (λ (own : Own). own.key) all ≡ map (λ (own : Own). own.key) others → All (IsExactlyOwn (sides da db who u)) all → All (IsExactlyOwn (sides da db who u)) others
       → all ≡ others
   one_list [] [] same each each_other = refl
   one_list [] (other ∷ others) same each each_other = absurd (let bad : [] ≡ other.key ∷ map (λ (own : Own). own.key) others = same in cc)
   one_list (own ∷ all) [] same each each_other = absurd (let bad : own.key ∷ map (λ (own : Own). own.key) all ≡ [] = same in cc)
   one_list (own ∷ all) (other ∷ others) same each each_other =
-      let P = IsExactlyOwn da db who u in
+      let P = IsExactlyOwn (sides da db who u) in
       let here : own ≡ other = one_own own other (All-head P own all each) (All-head P other others each_other) (ap (λ (ks : List Key). first_key ks own.key) same) in
       let rest : all ≡ others = one_list all others (ap rest_keys same) (All-tail P own all each) (All-tail P other others each_other) in
       λ i. here i ∷ rest i
 
-  pub one_list_told : (keys : List Key) (all others : List Own) → AreOwnOf da db who u keys all → AreOwnOf da db who u keys others → all ≡ others
+  pub one_list_told : (keys : List Key) (all others : List Own) → AreOwnOf (sides da db who u) keys all → AreOwnOf (sides da db who u) keys others → all ≡ others
   one_list_told keys all others are are_other = one_list all others (are.0 ∙ sym are_other.0) are.1 are_other.1
 
-  pub one_telling : (telling other : Telling) → IsExactTelling da db who u telling → IsExactTelling da db who u other
+  pub one_telling : (telling other : Telling) → IsExactTelling (sides da db who u) telling → IsExactTelling (sides da db who u) other
       → (telling.own.items ≡ other.own.items) × ((key : Key) → get same_key telling.places key ≡ get same_key other.places key)
   one_telling telling other is are =
       let keys = one_list_sent da db who is.keys are.keys is.sent are.sent in
-      let all = one_list_told are.keys is.all are.all (subst (λ (ks : List Key). AreOwnOf da db who u ks is.all) keys is.each) are.each in
+      let all = one_list_told are.keys is.all are.all (subst (λ (ks : List Key). AreOwnOf (sides da db who u) ks is.all) keys is.each) are.each in
       let items : telling.own.items ≡ other.own.items = is.told_are ∙ ap (filter is_news) all ∙ sym are.told_are in
       (items, λ key. is.places key ∙ ap (position (λ (own : Own). same_key own.key key)) items ∙ sym (are.places key))
 
@@ -93,11 +94,11 @@ one_unnamed first second (Some app) (Some other) least least_other = by (cases_o
     by (inr (inl lt)) = absurd (least.1 (least_other.2 app lt))
     by (inr (inr gt)) = absurd (least_other.1 (least.2 other gt))
 
-pub one_list_of_apps : (da : Dictionary) (first second : Apps) (c : ℕ) (head : Head) (apps others : List ℕ) → AreToldApps da first second c head apps → AreToldApps da first second c head others
+pub one_list_of_apps : (da : Dictionary) (first second : Apps) (c : ℕ) (head : Head) (apps others : List ℕ) → AreToldApps da (both_apps first second) c head apps → AreToldApps da (both_apps first second) c head others
     → apps ≡ others
 one_list_of_apps da first second c head apps others are are_other = by head.app are are_other
   where
-    by : (o : Option ℕ) → MatchOption o (AreOpenApps da first second c head apps) (λ app. apps ≡ app ∷ []) → MatchOption o (AreOpenApps da first second c head others) (λ app. others ≡ app ∷ [])
+    by : (o : Option ℕ) → MatchOption o (AreOpenApps da (both_apps first second) c head apps) (λ app. apps ≡ app ∷ []) → MatchOption o (AreOpenApps da (both_apps first second) c head others) (λ app. others ≡ app ∷ [])
         → apps ≡ others
     by (Some app) is is_other = is ∙ sym is_other
     by None (found, least, is) (other, least_other, is_other) =

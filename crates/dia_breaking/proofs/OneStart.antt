@@ -11,10 +11,8 @@ use Rattle.dia_book.specs.declared.DRule.{DRule}
 use Rattle.dia_book.specs.Dictionary.{Dictionary}
 use Rattle.dia_book.specs.Keys.{same_key}
 use Rattle.dia_compat.specs.Tests.{rules_in}
-use Rattle.dia_policy.specs.declared.Sends.{Sends}
 use Rattle.dia_breaking_sites.specs.Selection.{max_body}
 use Rattle.dia_breaking_levels.specs.declared.line.Line.{Line as LevelLine}
-use Rattle.dia_breaking_levels.specs.Exact.{AreLevelLines}
 use Rattle.dia_breaking_levels.proofs.ExactLines.{lines_one}
 use Rattle.dia_breaking_ways.specs.Walks.{plain_exits}
 use Rattle.dia_breaking.specs.declared.apps.Apps.{Apps}
@@ -25,24 +23,24 @@ use Rattle.dia_breaking.specs.declared.heads.Head.{Head}
 use Rattle.dia_breaking.specs.declared.keys.Telling.{Telling}
 use Rattle.dia_breaking.specs.declared.start.Start.{Start}
 use Rattle.dia_breaking.specs.Exits.{AreExits, IsInnerOrNone, IsOutlook, exit_by}
-use Rattle.dia_breaking.specs.Headers.{AreApps, apps_of, row_app}
-use Rattle.dia_breaking.specs.Lengths.{listed_length, other_length}
+use Rattle.dia_breaking.specs.Headers.{AreApps, apps_of, row_app, both_apps}
+use Rattle.dia_breaking.specs.Lengths.{Costs}
 use Rattle.dia_breaking.specs.LevelCosts.{cost_of, with_listed}
 use Rattle.dia_breaking.specs.Listing.{lines_in}
 use Rattle.dia_breaking.specs.Nodes.{exits_in, level_in, node_in}
 use Rattle.dia_breaking.specs.Outlooks.{group_rules}
-use Rattle.dia_breaking.specs.TheLines.{AreAppsWithRoom, AreCommandLevels, AreLinesBetween, HasLevelLines, IsCommandLevel, IsStartOf}
+use Rattle.dia_breaking.specs.TheLines.{AreLinesOf, AreIfRoom, AreLevels, AreLinesBetween, HasLevelLines, IsCommandLevel, IsStartOf}
 use Rattle.dia_breaking.specs.ToldApps.{AreToldApps, IsLeastUnnamed, selects}
 use Rattle.dia_breaking.proofs.OneSolution.{first_key, one_list_of_apps, rest_keys}
 
 -- ---- where levels lead
 
-module _ (listed other : Key → ℕ) (others : List Key) (t next : Telling) (places : (key : Key) → get same_key t.places key ≡ get same_key next.places key) where
-  pub one_exits : (rules : List DRule) (x y : Exits) → AreExits t listed other others rules x → AreExits next listed other others rules y → (x.base ≡ y.base) × (exits_in x ≡ exits_in y)
+module _ (k : Costs) (t next : Telling) (places : (key : Key) → get same_key t.places key ≡ get same_key next.places key) where
+  pub one_exits : (rules : List DRule) (x y : Exits) → AreExits t k rules x → AreExits next k rules y → (x.base ≡ y.base) × (exits_in x ≡ exits_in y)
   one_exits rules x y is are =
-      let cost = cost_of listed other others rules in
-      let moved : filter_map (exit_by t listed cost) rules ≡ filter_map (exit_by next listed cost) rules =
-      λ i. filter_map (λ (rule : DRule). option_and_then (λ (key : Key). option_map (λ (place : ℕ). (place, with_listed cost rule (listed key))) (places key i)) rule.key) rules in
+      let cost = cost_of k.listed k.other k.others rules in
+      let moved : filter_map (exit_by t k.listed cost) rules ≡ filter_map (exit_by next k.listed cost) rules =
+      λ i. filter_map (λ (rule : DRule). option_and_then (λ (key : Key). option_map (λ (place : ℕ). (place, with_listed cost rule (k.listed key))) (places key i)) rule.key) rules in
       let lists : x.listed.items ≡ y.listed.items = is.listed_are ∙ moved ∙ sym are.listed_are in
       let beside : x.beside ≡ y.beside = is.beside ∙ sym are.beside in
       (is.base ∙ sym are.base, λ i. record { listed = lists i; beside = beside i })
@@ -51,12 +49,12 @@ module _ (listed other : Key → ℕ) (others : List Key) (t next : Telling) (pl
 
   module _ (da db : Dictionary) where
     abbrev HasLines : Key → Option Inner → Type 0
-    HasLines key found = IfSome found (λ inner. AreLevelLines listed other others (group_rules da key) (group_rules db key) inner.lines.items)
+    HasLines key found = IfSome found (λ inner. AreLinesOf k (group_rules da key) (group_rules db key) inner.lines.items)
 
     abbrev lines_by : Option Inner → List LevelLine
     lines_by found = option_map_or (λ inner. inner.lines.items) found []
 
-    one_inner : (key : Key) (x y : Option Inner) → IsInnerOrNone da db t listed other others key x → IsInnerOrNone da db next listed other others key y → HasLines key x → HasLines key y
+    one_inner : (key : Key) (x y : Option Inner) → IsInnerOrNone da db t k key x → IsInnerOrNone da db next k key y → HasLines key x → HasLines key y
         → (option_map level_in x ≡ option_map level_in y) × (lines_by x ≡ lines_by y)
     one_inner key None None is are lines more = (refl, refl)
     one_inner key None (Some y) is are lines more = absurd (is are.0)
@@ -64,21 +62,21 @@ module _ (listed other : Key → ℕ) (others : List Key) (t next : Telling) (pl
     one_inner key (Some x) (Some y) is are lines more =
         let exits = one_exits (group_rules da key) x.exits y.exits is.1.exits are.1.exits in
         let least : x.least ≡ y.least = is.1.least ∙ sym are.1.least in
-        let same = lines_one listed other others (group_rules da key) (group_rules db key) x.lines.items y.lines.items lines more in
+        let same = lines_one k.listed k.other k.others (group_rules da key) (group_rules db key) x.lines.items y.lines.items lines more in
         (λ i. Some (record { least = least i; exits = exits.1 i }), same)
 
     abbrev IsKept : Telling → Outlook → Type 0
-    IsKept telling outlook = IsOutlook da db telling listed other others outlook
+    IsKept telling outlook = IsOutlook da db telling k outlook
 
     abbrev HasKeptLines : Outlook → Type 0
-    HasKeptLines outlook = HasLevelLines da db listed other others outlook
+    HasKeptLines outlook = HasLevelLines da db k outlook
 
     one_outlook : (x y : Outlook) → x.key ≡ y.key → IsKept t x → IsKept next y → HasKeptLines x → HasKeptLines y → (node_in x ≡ node_in y) × (lines_in x ≡ lines_in y)
     one_outlook x y same is are lines more =
-        let moved = subst (λ (key : Key). IsInnerOrNone da db next listed other others key y.inner) (sym same) are.inner_is in
+        let moved = subst (λ (key : Key). IsInnerOrNone da db next k key y.inner) (sym same) are.inner_is in
         let moved_lines = subst (λ (key : Key). HasLines key y.inner) (sym same) more in
         let both = one_inner x.key x.inner y.inner is.inner_is moved lines moved_lines in
-        let out : x.other ≡ y.other = is.other_is ∙ ap other same ∙ sym are.other_is in
+        let out : x.other ≡ y.other = is.other_is ∙ ap k.other same ∙ sym are.other_is in
         (λ i. record { other = out i; level = both.0 i }, both.1)
 
     pub one_list_of_outlooks : (xs ys : List Outlook) → map (λ (outlook : Outlook). outlook.key) xs ≡ map (λ (outlook : Outlook). outlook.key) ys → All (IsKept t) xs → All (IsKept next) ys
@@ -106,13 +104,13 @@ module _ (da : Dictionary) (c : ℕ) (head : Head) (apps : List ℕ) where
   AreToldBy first second = MatchOption head.app (AreOpenBy first second) (λ app. apps ≡ app ∷ [])
 
   told_by : (x y first second : Apps) → apps_of x head.code head.class ≡ apps_of first head.code head.class → apps_of y head.code head.class ≡ apps_of second head.code head.class
-      → AreToldApps da x y c head apps → AreToldApps da first second c head apps
+      → AreToldApps da (both_apps x y) c head apps → AreToldApps da (both_apps first second) c head apps
   told_by x y first second p q are =
       subst (λ (named : List ℕ). AreToldBy (apps_of first head.code head.class) named) q
       (subst (λ (named : List ℕ). AreToldBy named (apps_of y head.code head.class)) p are)
 
 module _ (da db : Dictionary) (x y first second : Apps) (a : AreApps da x) (b : AreApps db y) (a_too : AreApps da first) (b_too : AreApps db second) (c : ℕ) (head : Head) where
-  one_room : (has_room : Bool) (apps others : List ℕ) → AreAppsWithRoom has_room da x y c head apps → AreAppsWithRoom has_room da first second c head others → apps ≡ others
+  one_room : (has_room : Bool) (apps others : List ℕ) → AreIfRoom has_room (AreToldApps da (both_apps x y) c head) apps → AreIfRoom has_room (AreToldApps da (both_apps first second) c head) others → apps ≡ others
   one_room true apps others is are =
       one_list_of_apps da x y c head apps others is
       (told_by da c head others first second x y (same_apps da first x a_too a head.code head.class) (same_apps db second y b_too b head.code head.class) are)
@@ -120,18 +118,18 @@ module _ (da db : Dictionary) (x y first second : Apps) (a : AreApps da x) (b : 
 
 -- ---- the levels of a command
 
-module _ (da db : Dictionary) (listed other : Key → ℕ) (others : List Key) where
-  one_between : (is_read : Bool) (a b : Option ℕ) (x y : List LevelLine) → AreLinesBetween da db listed other others is_read a b x → AreLinesBetween da db listed other others is_read a b y → x ≡ y
+module _ (da db : Dictionary) (k : Costs) where
+  one_between : (is_read : Bool) (a b : Option ℕ) (x y : List LevelLine) → AreLinesBetween da db k is_read a b x → AreLinesBetween da db k is_read a b y → x ≡ y
   one_between false a b x y is are = is ∙ sym are
   one_between true None b x y is are = is ∙ sym are
   one_between true (Some a) None x y is are = is ∙ sym are
-  one_between true (Some a) (Some b) x y is are = lines_one listed other others (rules_in da a) (rules_in db b) x y is are
+  one_between true (Some a) (Some b) x y is are = lines_one k.listed k.other k.others (rules_in da a) (rules_in db b) x y is are
 
-  one_level : (head : Head) (app : ℕ) (x y : List LevelLine) → IsCommandLevel da db listed other others head app x → IsCommandLevel da db listed other others head app y → x ≡ y
+  one_level : (head : Head) (app : ℕ) (x y : List LevelLine) → IsCommandLevel da db k head app x → IsCommandLevel da db k head app y → x ≡ y
   one_level head app x y is are = one_between _ _ _ x y is are
 
-  one_levels : (head : Head) (apps : List ℕ) (xs ys : List (List LevelLine)) → AreCommandLevels da db listed other others head apps xs
-      → AreCommandLevels da db listed other others head apps ys → xs ≡ ys
+  one_levels : (head : Head) (apps : List ℕ) (xs ys : List (List LevelLine)) → AreLevels (IsCommandLevel da db k head) apps xs
+      → AreLevels (IsCommandLevel da db k head) apps ys → xs ≡ ys
   one_levels head [] xs ys is are = is ∙ sym are
   one_levels head (app ∷ apps) [] ys is are = absurd is
   one_levels head (app ∷ apps) (x ∷ xs) [] is are = absurd are
@@ -153,23 +151,21 @@ pub record AreSame (s r : Start) : Type 0 where
   pub apps : s.apps.items ≡ r.apps.items
   pub levels : levels_in s ≡ levels_in r
 
-module _ (da db : Dictionary) (who : Sends) (lengths : List ℕ) (others : List Key) (t next : Telling) (places : (key : Key) → get same_key t.places key ≡ get same_key next.places key) (c : ℕ) where
-  pub one_start : (s r : Start) → s.head ≡ r.head → IsStartOf da db who lengths others t c s → IsStartOf da db who lengths others next c r → AreSame s r
+module _ (da db : Dictionary) (k : Costs) (t next : Telling) (places : (key : Key) → get same_key t.places key ≡ get same_key next.places key) (c : ℕ) where
+  pub one_start : (s r : Start) → s.head ≡ r.head → IsStartOf da db t k c s → IsStartOf da db next k c r → AreSame s r
   one_start s r head is are =
-      let both = one_exits (listed_length da who lengths) (other_length da who lengths) others t next places (rules_in da c) is.exits are.exits is.are_exits are.are_exits in
+      let both = one_exits k t next places (rules_in da c) is.exits are.exits is.are_exits are.are_exits in
       let base : s.base ≡ r.base = is.base_is ∙ both.0 ∙ sym are.base_is in
-      let by_base = subst (λ (n : ℕ). AreAppsWithRoom (nat_le n max_body) da are.first are.second c r.head r.apps.items) (sym base) are.apps_are in
-      let by_head = subst (λ (h : Head). AreAppsWithRoom (nat_le s.base max_body) da are.first are.second c h r.apps.items) (sym head) by_base in
-      let apps = one_room da db is.first is.second are.first are.second is.are_first is.are_second are.are_first are.are_second c s.head
+      let by_base = subst (λ (n : ℕ). AreIfRoom (nat_le n max_body) (AreToldApps da are.both c r.head) r.apps.items) (sym base) are.apps_are in
+      let by_head = subst (λ (h : Head). AreIfRoom (nat_le s.base max_body) (AreToldApps da are.both c h) r.apps.items) (sym head) by_base in
+      let apps = one_room da db is.both.first is.both.second are.both.first are.both.second is.are_first is.are_second are.are_first are.are_second c s.head
       (nat_le s.base max_body) s.apps.items r.apps.items is.apps_are by_head in
-      let listed = listed_length da who lengths in
-      let other = other_length da who lengths in
-      let of_head = subst (λ (h : Head). AreCommandLevels da db listed other others h r.apps.items (levels_in r)) (sym head) are.levels_are in
-      let of_apps = subst (λ (all : List ℕ). AreCommandLevels da db listed other others s.head all (levels_in r)) (sym apps) of_head in
+      let of_head = subst (λ (h : Head). AreLevels (IsCommandLevel da db k h) r.apps.items (levels_in r)) (sym head) are.levels_are in
+      let of_apps = subst (λ (all : List ℕ). AreLevels (IsCommandLevel da db k s.head) all (levels_in r)) (sym apps) of_head in
       record {
         head = head;
         base = base;
         exits = is.exits_are ∙ both.1 ∙ sym are.exits_are;
         apps = apps;
-        levels = one_levels da db listed other others s.head s.apps.items (levels_in s) (levels_in r) is.levels_are of_apps;
+        levels = one_levels da db k s.head s.apps.items (levels_in s) (levels_in r) is.levels_are of_apps;
       }

@@ -9,6 +9,7 @@ use Rattle.dia_book.proofs.Members.{at_Contains, into_filter}
 use Rattle.dia_compat.proofs.RunsOfFixedRules.{IsIn}
 use Rattle.dia_compat.proofs.MemberCounts.{contains_in, in_left, in_right}
 use Rattle.dia_compat.proofs.ReachedKeys.{some_of}
+use Rattle.dia_policy.specs.declared.Sends.{Sends}
 use Rattle.dia_policy.specs.declared.Sends.TheVariants.{Any, Known, Listed}
 use Rattle.dia_breaking_shortest.proofs.Strangers.{key_at, key_in, at_most}
 use Rattle.dia_breaking.specs.SentKeys.{AreSentInOrder, AreSentKeys, HasKeys, entry_keys, keys_of_b_alone}
@@ -78,3 +79,8 @@ sent_of_listed da db keys are = record {
   others = λ any. absurd (let bad : Listed ≡ Any = any in cc);
   strange = λ any. absurd (let bad : Listed ≡ Any = any in cc);
 }
+
+pub sent_of : (da db : Dictionary) (who : Sends) (keys : List Key) → AreSentInOrder da db who keys → AreSentKeys da db who keys
+sent_of da db Any keys in_order = sent_of_any da db keys in_order
+sent_of da db Known keys in_order = sent_of_known da db keys in_order
+sent_of da db Listed keys in_order = sent_of_listed da db keys in_order

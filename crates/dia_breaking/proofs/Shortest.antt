@@ -21,7 +21,8 @@ use Rattle.dia_breaking_shortest.specs.Floors.{shortest_head}
 use Rattle.dia_breaking_shortest.proofs.Strangers.{key_in}
 use Rattle.dia_breaking_levels.specs.Levels.{FirstIsShortest}
 use Rattle.dia_breaking_levels.specs.LevelTests.{too_long, is_outside}
-use Rattle.dia_breaking.specs.Lengths.{length_of_entry, listed_length, other_length, AreOthers}
+use Rattle.dia_breaking.specs.Lengths.{AreExactlyOthers, costs_by, length_of_entry, listed_length, other_length}
+use Rattle.dia_breaking.specs.LevelCosts.{PicksShortest}
 
 -- ---- keys that a dictionary doesn't know
 
@@ -143,9 +144,11 @@ module _ (da db : Dictionary) (lengths : List ℕ) (others : List Key) (sa : IsD
   outside : (key : Key) → is_listed (rules_in da x) key ≡ false → is_listed (rules_in db y) key ≡ false → test key ≡ true
   outside key la lb = ap (λ (b : Bool). not b && not (is_listed (rules_in db y) key)) la ∙ ap (λ (b : Bool). not b) lb
 
-  by_any : AreOthers da db Any lengths others → FirstIsShortest (other_length da Any lengths) others (rules_in da x) (rules_in db y)
-  by_any (own, is, vendor, na, nb) = λ key la lb.
-      let passes = outside own (unlisted da x own sa na) (unlisted db y own sb nb) in
+  by_any : AreExactlyOthers da db Any lengths others → FirstIsShortest (other_length da Any lengths) others (rules_in da x) (rules_in db y)
+  by_any (own, stranger, is) = λ key la lb.
+      let na = stranger.strange.0 in
+      let vendor = stranger.vendor in
+      let passes = outside own (unlisted da x own sa na) (unlisted db y own sb stranger.strange.1) in
       let found : find test others ≡ Some own = ap (find test) is ∙ ap (λ (b : Bool). if b then Some own else None) passes in
       let length_own : listed_length da Any lengths own ≡ 8 = ap (λ (o : Option ℕ). option_map_or (length_of_entry lengths) o (shortest_head own)) na
       ∙ ap (λ (n : ℕ). shortest_head (record { code = own.code; vendor = n })) vendor in
@@ -153,8 +156,8 @@ module _ (da db : Dictionary) (lengths : List ℕ) (others : List Key) (sa : IsD
       let least = any_least da lengths key in
       omega (arith, is_eight, least)
 
-  by_known : AreOthers da db Known lengths others → FirstIsShortest (other_length da Known lengths) others (rules_in da x) (rules_in db y)
-  by_known (sorted, all) = λ key la lb. by key (outside key la lb) (entry_of da key) refl
+  by_known : AreExactlyOthers da db Known lengths others → FirstIsShortest (other_length da Known lengths) others (rules_in da x) (rules_in db y)
+  by_known (sorted, all, stable) = λ key la lb. by key (outside key la lb) (entry_of da key) refl
     where
       by : (key : Key) → test key ≡ true → (o : Option ℕ) → entry_of da key ≡ o → option_map_or (other_length da Known lengths) (find test others) too_long ≤ other_length da Known lengths key
       by key t (Some i) e =
@@ -169,8 +172,8 @@ module _ (da db : Dictionary) (lengths : List ℕ) (others : List Key) (sa : IsD
   by_listed : FirstIsShortest (other_length da Listed lengths) others (rules_in da x) (rules_in db y)
   by_listed = λ key la lb. found_most (other_length da Listed lengths) (λ k. omega arith) (find test others)
 
-pub first_is_shortest : (da db : Dictionary) (who : Sends) (lengths : List ℕ) (others : List Key) → IsDictionary da → IsDictionary db → AreOthers da db who lengths others
-    → (x y : ℕ) → FirstIsShortest (other_length da who lengths) others (rules_in da x) (rules_in db y)
+pub first_is_shortest : (da db : Dictionary) (who : Sends) (lengths : List ℕ) (others : List Key) → IsDictionary da → IsDictionary db → AreExactlyOthers da db who lengths others
+    → PicksShortest da db (costs_by da who lengths others)
 first_is_shortest da db Any lengths others sa sb are x y = by_any da db lengths others sa sb x y are
 first_is_shortest da db Known lengths others sa sb are x y = by_known da db lengths others sa sb x y are
 first_is_shortest da db Listed lengths others sa sb are x y = by_listed da db lengths others sa sb x y

@@ -17,6 +17,7 @@ use Rattle.dia_breaking.specs.declared.keys.Own.{Own}
 use Rattle.dia_breaking.specs.declared.keys.Telling.{Telling}
 use Rattle.dia_breaking.specs.SentKeys.{AreSentInOrder}
 use Rattle.dia_breaking.specs.Telling.{Adds, AreExactlyTold, IsExactTelling, IsExactlyOwn, is_news}
+use Rattle.dia_breaking.specs.Sides.{sides}
 use Rattle.dia_breaking.proofs.Lists.{contains_at}
 use Rattle.dia_breaking.proofs.OrderedKeys.{apart_of_images, sent_apart}
 
@@ -24,15 +25,15 @@ no_member : {X : Type 0} (x : X) → Contains [] x → ⊥
 no_member x (i, within, is) = absurd (let e : i < 0 = within in omega (arith, e))
 
 module _ (da db : Dictionary) (who : Sends) (u : Unknown) where
-  pub none_exactly_told : (telling : Telling) → telling.own.items ≡ [] → AreExactlyTold da db who u [] telling
+  pub none_exactly_told : (telling : Telling) → telling.own.items ≡ [] → AreExactlyTold (sides da db who u) [] telling
   none_exactly_told telling items = record {
     all = [];
-    each = (refl, All-nil (IsExactlyOwn da db who u));
+    each = (refl, All-nil (IsExactlyOwn (sides da db who u)));
     told_are = items;
     have_places = λ own is. absurd (no_member own (subst (λ (xs : List Own). Contains xs own) items is));
   }
 
-  module _ (keys : List Key) (key : Key) (own : Own) (old new : Telling) (told : AreExactlyTold da db who u keys old) (same : own.key ≡ key) (is : IsExactlyOwn da db who u own)
+  module _ (keys : List Key) (key : Key) (own : Own) (old new : Telling) (told : AreExactlyTold (sides da db who u) keys old) (same : own.key ≡ key) (is : IsExactlyOwn (sides da db who u) own)
       (adds : Adds own old new) where
     items_more : (b : Bool) → is_news own ≡ b → new.own.items ≡ (if b then old.own.items ++ own ∷ [] else old.own.items) → new.own.items ≡ filter is_news (told.all ++ own ∷ [])
     items_more true e items =
@@ -61,12 +62,12 @@ module _ (da db : Dictionary) (who : Sends) (u : Unknown) where
             last (inl j) = kept true (same_key own.key o.key) (here true (same_key own.key o.key) e refl) (told.have_places o j)
             last (inr f) = ap (λ (p : Option ℕ). is_some p) (here true true e (same_key-equal own.key o.key (ap (λ (x : Own). x.key) f)))
 
-    pub one_more_exactly : AreExactlyTold da db who u (keys ++ key ∷ []) new
+    pub one_more_exactly : AreExactlyTold (sides da db who u) (keys ++ key ∷ []) new
     one_more_exactly = record {
       all = told.all ++ own ∷ [];
       each = (
         map-append (λ (o : Own). o.key) told.all (own ∷ []) ∙ ap (λ (ks : List Key). ks ++ own.key ∷ []) told.each.0 ∙ ap (λ (k : Key). keys ++ k ∷ []) same,
-        All-push (IsExactlyOwn da db who u) told.all own told.each.1 is,
+        All-push (IsExactlyOwn (sides da db who u)) told.all own told.each.1 is,
       );
       told_are = items_more (is_news own) refl adds.items;
       have_places = places_more (is_news own) refl;
@@ -101,8 +102,8 @@ module _ (da db : Dictionary) (who : Sends) (u : Unknown) where
             let some : IsSome (get same_key telling.places key) = subst (λ (k : Key). IsSome (get same_key telling.places k)) same (have x (contains_at telling.own.items j x at)) in
             there j x at same (get same_key telling.places key) refl some ∙ sym e
 
-  pub exact_telling : (keys : List Key) (telling : Telling) → IsDictionary da → IsDictionary db → AreSentInOrder da db who keys → AreExactlyTold da db who u keys telling
-      → ((key : Key) (place : ℕ) → get same_key telling.places key ≡ Some place → (own : Own) × (slice_get telling.own.items place ≡ Some own) × (own.key ≡ key)) → IsExactTelling da db who u telling
+  pub exact_telling : (keys : List Key) (telling : Telling) → IsDictionary da → IsDictionary db → AreSentInOrder da db who keys → AreExactlyTold (sides da db who u) keys telling
+      → ((key : Key) (place : ℕ) → get same_key telling.places key ≡ Some place → (own : Own) × (slice_get telling.own.items place ≡ Some own) × (own.key ≡ key)) → IsExactTelling (sides da db who u) telling
   exact_telling keys telling sa sb sent told placed = record {
     keys = keys;
     all = told.all;

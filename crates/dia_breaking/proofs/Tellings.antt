@@ -28,6 +28,7 @@ use Rattle.dia_breaking.specs.declared.keys.Own.{Own}
 use Rattle.dia_breaking.specs.declared.keys.Telling.{Telling}
 use Rattle.dia_breaking.specs.SentKeys.{AreSentKeys, IsStrange}
 use Rattle.dia_breaking.specs.Telling.{Adds, AreGroups, AreTold, IsTelling, IsToldOf, IsUntold, StandsForStrangers, is_news}
+use Rattle.dia_breaking.specs.Sides.{sides}
 
 -- ---- keys that a dictionary doesn't know
 
@@ -82,7 +83,7 @@ no_groups : (da db : Dictionary) (key : Key) (b : Bool) → b ≡ (is_some (grou
 no_groups da db key b is none both = both_ways b none (is ∙ and_from (is_some (group_of da key)) (is_some (group_of db key)) both.0 both.1)
 
 -- what is found says that there is nothing to tell
-nothing_told : (da db : Dictionary) (who : Sends) (u : Unknown) (key : Key) (own : Own) → IsToldOf da db who u key own → is_news own ≡ false → IsUntold da db who u key
+nothing_told : (da db : Dictionary) (who : Sends) (u : Unknown) (key : Key) (own : Own) → IsToldOf (sides da db who u) key own → is_news own ≡ false → IsUntold da db who u key
 nothing_told da db who u key own is none = (
   (is.silent (left_of own.breaks own.is_group none)).1,
   no_groups da db key own.is_group is.group (right_of own.breaks own.is_group none),
@@ -99,9 +100,9 @@ nothing_told da db who u key own is none = (
 -- ---- one key after the other
 
 module _ (da db : Dictionary) (who : Sends) (u : Unknown) where
-  module _ (keys : List Key) (key : Key) (own : Own) (old new : Telling) (told : AreTold da db who u keys old) (is : IsToldOf da db who u key own) (adds : Adds own old new) where
-    own_alike : IsToldOf da db who u own.key own
-    own_alike = subst (λ (k : Key). IsToldOf da db who u k own) (sym is.key_is) is
+  module _ (keys : List Key) (key : Key) (own : Own) (old new : Telling) (told : AreTold (sides da db who u) keys old) (is : IsToldOf (sides da db who u) key own) (adds : Adds own old new) where
+    own_alike : IsToldOf (sides da db who u) own.key own
+    own_alike = subst (λ (k : Key). IsToldOf (sides da db who u) k own) (sym is.key_is) is
 
     placed_more : (q : Key) (place : ℕ) → (b c : Bool) → new.own.items ≡ (if b then old.own.items ++ own ∷ [] else old.own.items) → same_key own.key q ≡ c
         → (if b && c then Some (length old.own.items) else get same_key old.places q) ≡ Some place → (o : Own) × (slice_get new.own.items place ≡ Some o) × (o.key ≡ q)
@@ -127,13 +128,13 @@ module _ (da db : Dictionary) (who : Sends) (u : Unknown) where
         at_front (x ∷ xs) ys (suc n) o at = at_front xs ys n o at
     placed_more q place false c items same e = let (o, at, k) = told.placed q place e in (o, ap (λ xs. slice_get xs place) items ∙ at, k)
 
-    each_more : (b : Bool) → new.own.items ≡ (if b then old.own.items ++ own ∷ [] else old.own.items) → (o : Own) → Contains new.own.items o → IsToldOf da db who u o.key o
+    each_more : (b : Bool) → new.own.items ≡ (if b then old.own.items ++ own ∷ [] else old.own.items) → (o : Own) → Contains new.own.items o → IsToldOf (sides da db who u) o.key o
     each_more false items o i = told.each o (subst (λ xs. Contains xs o) items i)
     each_more true items o i = by (in_append old.own.items (own ∷ []) o (in_contains (old.own.items ++ own ∷ []) o (subst (λ xs. Contains xs o) items i)))
       where
-        by : IsIn o old.own.items ⊎ IsIn o (own ∷ []) → IsToldOf da db who u o.key o
+        by : IsIn o old.own.items ⊎ IsIn o (own ∷ []) → IsToldOf (sides da db who u) o.key o
         by (inl j) = told.each o (contains_in old.own.items o j)
-        by (inr (inl e)) = subst (λ (x : Own). IsToldOf da db who u x.key x) (sym e) own_alike
+        by (inr (inl e)) = subst (λ (x : Own). IsToldOf (sides da db who u) x.key x) (sym e) own_alike
         by (inr (inr j)) = absurd j
 
     -- a key that has no place had none
@@ -142,21 +143,21 @@ module _ (da db : Dictionary) (who : Sends) (u : Unknown) where
     had_none q true false e = (e, refl)
     had_none q false c e = (e, refl)
 
-    rest_more : (q : Key) → Contains (keys ++ key ∷ []) q → get same_key new.places q ≡ None → (o : Own) × IsToldOf da db who u q o × (is_news o ≡ false)
+    rest_more : (q : Key) → Contains (keys ++ key ∷ []) q → get same_key new.places q ≡ None → (o : Own) × IsToldOf (sides da db who u) q o × (is_news o ≡ false)
     rest_more q i e = by (in_append keys (key ∷ []) q (in_contains (keys ++ key ∷ []) q i)) (had_none q (is_news own) (same_key own.key q) (sym (adds.places q) ∙ e))
       where
-        by : IsIn q keys ⊎ IsIn q (key ∷ []) → (get same_key old.places q ≡ None) × ((is_news own && same_key own.key q) ≡ false) → (o : Own) × IsToldOf da db who u q o × (is_news o ≡ false)
+        by : IsIn q keys ⊎ IsIn q (key ∷ []) → (get same_key old.places q ≡ None) × ((is_news own && same_key own.key q) ≡ false) → (o : Own) × IsToldOf (sides da db who u) q o × (is_news o ≡ false)
         by (inl j) none = told.rest q (contains_in keys q j) none.0
         by (inr (inr j)) none = absurd j
         by (inr (inl same)) none =
             let alike : same_key own.key q ≡ true = ap (same_key own.key) (same ∙ sym is.key_is) ∙ same_key-refl own.key in
-            (own, subst (λ (k : Key). IsToldOf da db who u k own) (sym same) is, untold (is_news own) (same_key own.key q) alike none.1)
+            (own, subst (λ (k : Key). IsToldOf (sides da db who u) k own) (sym same) is, untold (is_news own) (same_key own.key q) alike none.1)
           where
             untold : (b c : Bool) → c ≡ true → (b && c) ≡ false → b ≡ false
             untold false c e h = refl
             untold true c e h = absurd (both_ways c h e)
 
-    pub one_more_told : AreTold da db who u (keys ++ key ∷ []) new
+    pub one_more_told : AreTold (sides da db who u) (keys ++ key ∷ []) new
     one_more_told = record {
       placed = λ q place e. placed_more q place (is_news own) (same_key own.key q) adds.items refl (sym (adds.places q) ∙ e);
       each = λ o i. each_more (is_news own) adds.items o i;
@@ -165,7 +166,7 @@ module _ (da db : Dictionary) (who : Sends) (u : Unknown) where
 
   -- ---- all keys
 
-  module _ (keys : List Key) (telling : Telling) (sent : AreSentKeys da db who keys) (told : AreTold da db who u keys telling) where
+  module _ (keys : List Key) (telling : Telling) (sent : AreSentKeys da db who keys) (told : AreTold (sides da db who u) keys telling) where
     abbrev IsSettled : Key → Type 0
     IsSettled key = IsUntold da db who u key ⊎ ((own : Own) × Contains telling.own.items own × StandsForStrangers da db key own)
 
@@ -199,7 +200,7 @@ module _ (da db : Dictionary) (who : Sends) (u : Unknown) where
     not_known Known is key none e = inl (unsent_alone da db who u key (λ any. absurd (let bad : Known ≡ Any = is ∙ any in cc)) none, λ both. no_group da key none both.0)
     not_known Listed is key none e = inl (unsent_alone da db who u key (λ any. absurd (let bad : Listed ≡ Any = is ∙ any in cc)) none, λ both. no_group da key none both.0)
 
-    pub all_told : IsTelling da db who u telling
+    pub all_told : IsTelling (sides da db who u) telling
     all_told = record {
       placed = told.placed;
       silent = λ own i none. ((told.each own i).silent none).1;

@@ -20,7 +20,8 @@ use Rattle.dia_breaking.specs.declared.line.Place.{Place}
 use Rattle.dia_breaking.specs.declared.line.Place.TheVariants as places
 use Rattle.dia_breaking.specs.declared.line.Site.{Site}
 use Rattle.dia_breaking.specs.Free.{IsReadBy, HasThisP, TellsFlags}
-use Rattle.dia_breaking.specs.Headers.{head_in, allows, apps_of, AreApps, TellsRefusal, IsCommandPlace, IsReadFor, TellsFlagFor, IsFlagMet, IsMetAs, IsMetFor, AreMetFor, IsOtherMet, AreHeadersMet}
+use Rattle.dia_breaking.specs.Headers.{head_in, allows, apps_of, AreApps, TellsRefusal, IsCommandPlace, IsReadFor, TellsFlagFor, IsFlagMet, IsMetAs, IsMetFor, AreMetFor, IsOtherMet, AreHeadersMet, both_apps}
+use Rattle.dia_breaking.specs.Sides.{answer}
 use Rattle.dia_breaking.proofs.Lists.{all_in}
 use Rattle.dia_breaking.proofs.OpenCommands.{command_stands, no_error, selects_open, named_listed}
 
@@ -79,7 +80,7 @@ module _ (da db : Dictionary) (sound : IsDictionary da) (sites : List SiteOf) (t
   Flags other flags = (AllowsP other.head flags × HasSite sites x other max_body) ⊎ ((¬ AllowsP other.head flags) × TellsFlags da db told lines c other flags)
 
   flag_met : (set : Bool) (flags app number : ℕ) (other : PlainDefinition) (its : Head) → slice_get (definitions db) number ≡ Some other → head_in other.head ≡ Some its
-      → selected db head.code head.class app ≡ Some number → HasThisP set flags → PHolds head.p flags → IsFlagMet told lines app head.p its.p set → Flags other flags
+      → selected db head.code head.class app ≡ Some number → HasThisP set flags → PHolds head.p flags → IsFlagMet (answer c told lines) app head.p its.p set → Flags other flags
   flag_met set flags app number other its is its_head select has allowed met = by (met (holds_allows head.p set flags has allowed))
     where
       by : ((allows its.p set ≡ true) × IsReadFor told app) ⊎ ((allows its.p set ≡ false) × TellsFlagFor told lines app set) → Flags other flags
@@ -89,7 +90,7 @@ module _ (da db : Dictionary) (sound : IsDictionary da) (sites : List SiteOf) (t
         (line, set, x, inside, cause, (site, at_site, read_at da db c x head site.place app number other at is_head here select is), has),
       )
 
-  met_number : (app number : ℕ) → selected db head.code head.class app ≡ Some number → IsMetAs db told lines head app number → IsMetAt db sites (TellsFlags da db told lines c) x number
+  met_number : (app number : ℕ) → selected db head.code head.class app ≡ Some number → IsMetAs db (answer c told lines) head app number → IsMetAt db sites (TellsFlags da db told lines c) x number
   met_number app number select m = record { other = m.other; is_other = m.is_other; each = λ flags allowed. by flags (head_allows x.head head flags is_head allowed) (is_set flags) }
     where
       by : (flags : ℕ) → PHolds head.p flags → HasP flags ⊎ (¬ HasP flags) → Flags m.other flags
@@ -102,14 +103,14 @@ module _ (da db : Dictionary) (sound : IsDictionary da) (sites : List SiteOf) (t
   abbrev MetBy : DefHead → Type 0
   MetBy h = IsMetBy da db sites (TellsRefusal lines) (TellsFlags da db told lines c) x h
 
-  met_by : (app : ℕ) → IsMetFor db told lines head app → Met head.code head.class app
+  met_by : (app : ℕ) → IsMetFor db (answer c told lines) head app → Met head.code head.class app
   met_by app m = record { selects = m.selects; each = λ number select. met_number app number select (m.each number select) }
 
-  met_at : (code : ℕ) (class : Class) (app : ℕ) → head.code ≡ code → head.class ≡ class → IsMetFor db told lines head app → Met code class app
+  met_at : (code : ℕ) (class : Class) (app : ℕ) → head.code ≡ code → head.class ≡ class → IsMetFor db (answer c told lines) head app → Met code class app
   met_at code class app same kind m = subst (λ (k : Class). Met code k app) kind (subst (λ (n : ℕ). Met n head.class app) same (met_by app m))
 
   -- of its own application, or of errors
-  own_by : (app : ℕ) → head.app ≡ Some app → IsMetFor db told lines head app → (h : DefHead) → head_in h ≡ Some head → MetBy h
+  own_by : (app : ℕ) → head.app ≡ Some app → IsMetFor db (answer c told lines) head app → (h : DefHead) → head_in h ≡ Some head → MetBy h
   own_by app is m (Group key) e = absurd (none-some head e)
   own_by app is m (Command code class None p) e =
       let same = same_Some _ head e in absurd (none-some app (ap (λ (h : Head). h.app) same ∙ is))
@@ -121,14 +122,14 @@ module _ (da db : Dictionary) (sound : IsDictionary da) (sites : List SiteOf) (t
       let same = same_Some _ head e in (head.code, app, met_at head.code classes.Error app refl (sym (ap (λ (h : Head). h.class) same)) m)
 
   -- of all applications that no other command names
-  module _ (first second : Apps) (in_a : AreApps da first) (in_b : AreApps db second) (named : AreMetFor da db told lines head c (apps_of second head.code head.class))
-      (unnamed : IsOtherMet db told lines head (apps_of first head.code head.class) (apps_of second head.code head.class)) where
+  module _ (first second : Apps) (in_a : AreApps da first) (in_b : AreApps db second) (named : AreMetFor da db (answer c told lines) head (apps_of second head.code head.class))
+      (unnamed : IsOtherMet db (answer c told lines) head (apps_of first head.code head.class) (apps_of second head.code head.class)) where
     open_parts : (p : Pxy) → x.head ≡ Command head.code head.class None p → MetBy (Command head.code head.class None p)
     open_parts p own =
         let stands = command_stands da sound c x head.code head.class None p own at in
         let other = no_error da sound c x head.code head.class None p own stands in (
           λ app few none some.
-              met_by app (all_in (λ (app : ℕ). selected da head.code head.class app ≡ Some c → IsMetFor db told lines head app) (apps_of second head.code head.class) app named
+              met_by app (all_in (λ (app : ℕ). selected da head.code head.class app ≡ Some c → IsMetFor db (answer c told lines) head app) (apps_of second head.code head.class) app named
               (named_listed head.code head.class app other db second in_b some) (selects_open da sound c x head.code head.class app p own stands none)),
           (
             unnamed.0,
@@ -152,7 +153,7 @@ module _ (da db : Dictionary) (sound : IsDictionary da) (sites : List SiteOf) (t
         ap (λ (n : ℕ). Command n class None p) number ∙ ap (λ (k : Class). Command head.code k None p) kind in
         subst (λ (k : DefHead). MetBy k) (sym parts) (open_parts p (own ∙ parts))
 
-  pub headers_met : (first second : Apps) → AreApps da first → AreApps db second → AreHeadersMet da db told lines first second c head → MetBy x.head
+  pub headers_met : (first second : Apps) → AreApps da first → AreApps db second → AreHeadersMet da db (answer c told lines) (both_apps first second) head → MetBy x.head
   headers_met first second in_a in_b met = by head.app refl
     where
       by : (o : Option ℕ) → head.app ≡ o → MetBy x.head
@@ -161,9 +162,9 @@ module _ (da db : Dictionary) (sound : IsDictionary da) (sites : List SiteOf) (t
 
 -- ---- the answers of tests
 
-pub selected_met : (db : Dictionary) (told : List Site) (lines : List Line) (head : Head) (app def : ℕ) → selected db head.code head.class app ≡ Some def → IsMetAs db told lines head app def
-    → IsMetFor db told lines head app
-selected_met db told lines head app def select met = record {
+pub selected_met : (db : Dictionary) (c : ℕ) (told : List Site) (lines : List Line) (head : Head) (app def : ℕ) → selected db head.code head.class app ≡ Some def → IsMetAs db (answer c told lines) head app def
+    → IsMetFor db (answer c told lines) head app
+selected_met db c told lines head app def select met = record {
   selects = inl (subst (λ (o : Option ℕ). IsSome o) (sym select) refl);
-  each = λ number is. subst (IsMetAs db told lines head app) (same_Some def number (sym select ∙ is)) met;
+  each = λ number is. subst (IsMetAs db (answer c told lines) head app) (same_Some def number (sym select ∙ is)) met;
 }

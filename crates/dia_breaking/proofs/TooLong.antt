@@ -112,28 +112,17 @@ no_message_of_group da db who u c x at is bytes s = absurd (by x.head is (subst 
     by (Command code class app p) e q = absurd (let f : None ≡ Some (record { code = code; class = class; app = app; p = p }) = e in cc)
     by (Error p) e q = absurd cc
 
--- by the length that is computed, where the book and the sender are the same
-pub too_long_when : {X : Type 0} (meaning : X → Dictionary) (db : Dictionary) (book a : X) (sent who : Sends) (u : Unknown) (entries : List ℕ) (keys : List Key) (c n : ℕ) → book ≡ a → sent ≡ who
-    → c < length (definitions (meaning a)) → ((y : ℕ) → FirstIsShortest (other_length (meaning a) sent entries) keys (rules_in (meaning a) c) (rules_in db y))
-    → (OtherIsShortest (other_length (meaning book) sent entries) keys (rules_in (meaning a) c)
-    → IsWithinAll (price (listed_length (meaning book) sent entries) (other_length (meaning book) sent entries) (rules_in (meaning a) c)) (rules_in (meaning a) c) n)
-    → max_body < n → AreFloors (meaning a) who (listed_length (meaning a) who entries) → AreValid (meaning a) db who u c
-too_long_when meaning db book a sent who u entries keys c n same sender within shortest least long floors =
-    unsent (meaning a) db who u entries (rules_in (meaning a) c) c n x.0 x.1 rules_are floors
-    (moved_least (one_is_shortest (other_length (meaning a) who entries) keys (rules_in (meaning a) c) db first)) long
+-- by the length that is computed
+pub too_long_when : (da db : Dictionary) (who : Sends) (u : Unknown) (entries : List ℕ) (keys : List Key) (c n : ℕ) → c < length (definitions da)
+    → ((y : ℕ) → FirstIsShortest (other_length da who entries) keys (rules_in da c) (rules_in db y))
+    → (OtherIsShortest (other_length da who entries) keys (rules_in da c)
+    → IsWithinAll (price (listed_length da who entries) (other_length da who entries) (rules_in da c)) (rules_in da c) n)
+    → max_body < n → AreFloors da who (listed_length da who entries) → AreValid da db who u c
+too_long_when da db who u entries keys c n within shortest least long floors =
+    unsent da db who u entries (rules_in da c) c n x.0 x.1 rules_are floors (least (one_is_shortest (other_length da who entries) keys (rules_in da c) db shortest)) long
   where
-    x : (y : PlainDefinition) × (slice_get (definitions (meaning a)) c ≡ Some y)
-    x = there_is (definitions (meaning a)) c within
+    x : (y : PlainDefinition) × (slice_get (definitions da) c ≡ Some y)
+    x = there_is (definitions da) c within
 
-    rules_are : rules_in (meaning a) c ≡ x.0.rules
+    rules_are : rules_in da c ≡ x.0.rules
     rules_are = ap (λ (o : Option PlainDefinition). option_map_or (λ (y : PlainDefinition). y.rules) o []) x.1
-
-    Least : Dictionary → Sends → Type 0
-    Least d s = OtherIsShortest (other_length d s entries) keys (rules_in (meaning a) c)
-        → IsWithinAll (price (listed_length d s entries) (other_length d s entries) (rules_in (meaning a) c)) (rules_in (meaning a) c) n
-
-    moved_least : Least (meaning a) who
-    moved_least = subst (λ (s : Sends). Least (meaning a) s) sender (subst (λ (p : _). Least (meaning p) sent) same least)
-
-    first : (y : ℕ) → FirstIsShortest (other_length (meaning a) who entries) keys (rules_in (meaning a) c) (rules_in db y)
-    first = subst (λ (s : Sends). (y : ℕ) → FirstIsShortest (other_length (meaning a) s entries) keys (rules_in (meaning a) c) (rules_in db y)) sender shortest

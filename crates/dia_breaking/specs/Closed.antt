@@ -8,10 +8,10 @@ use Rattle.dia_policy.specs.declared.Unknown.{Unknown}
 use Rattle.dia_policy.specs.declared.Sends.{Sends}
 use Rattle.dia_check.specs.Valid.{Placed}
 use Rattle.dia_breaking_sites.specs.Sent.{StandAsSent}
-use Rattle.dia_breaking_sites.specs.Sites.{Site, HasSite, FitsAlone}
+use Rattle.dia_breaking_sites.specs.Sites.{Site, HasSite, FitsAlone, IsSafeSite}
 use Rattle.dia_breaking_avps.specs.Sent.{group_of}
 use Rattle.dia_breaking_avps.specs.Laws.{FitKeyAlone}
-use Rattle.dia_breaking_shortest.specs.Floors.{shortest_head, total}
+use Rattle.dia_breaking_shortest.specs.Floors.{AreFloors, shortest_head, total}
 use Rattle.dia_breaking_levels.specs.declared.line.Line.{Line as LevelLine}
 use Rattle.dia_breaking_levels.specs.Levels.{ShowsAt}
 use Rattle.dia_breaking.specs.SentKeys.{IsStrange}
@@ -41,3 +41,8 @@ pub record IsClosedSite (da db : Dictionary) (who : Sends) (u : Unknown) (length
 pub record IsFreeOf (da db : Dictionary) (u : Unknown) (told : List LevelLine) (own : List Key) (x y : PlainDefinition) (avps : List PlainAvp) : Type 0 where
   pub level : (line : LevelLine) → Contains told line → ¬ ShowsAt x.rules y.rules (map key_of avps) line.reason line.key
   pub fits : (key : Key) (v : PlainAvp) → Contains own key → Contains avps v → StandsIn da db (key_of v) key → FitsAlone da db u v
+
+-- at a site that is closed, by lengths that no AVP is below, nothing breaks in levels that are free of what is told there
+abbrev pub ClosedSitesAreSafe : Type 0
+ClosedSitesAreSafe = (da db : Dictionary) (who : Sends) (u : Unknown) (length : Key → ℕ) (sites : List Site) (told : List LevelLine) (own : List Key) (site : Site)
+    → AreFloors da who length → IsClosedSite da db who u length sites told own site → IsSafeSite da db who u (IsFreeOf da db u told own) sites site

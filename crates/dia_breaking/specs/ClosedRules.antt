@@ -5,6 +5,7 @@ use Rattle.std.specs.List.{list_any}
 use Rattle.dia_wire.specs.declared.Key.{Key}
 use Rattle.dia_book.specs.Keys.{same_key}
 use Rattle.dia_book.specs.declared.DRule.{DRule}
+use Rattle.dia_check.specs.Valid.{is_listed}
 use Rattle.dia_breaking_sites.specs.Selection.{max_body}
 use Rattle.dia_breaking_shortest.specs.Floors.{shortest_head}
 use Rattle.dia_breaking_levels.specs.declared.line.Line.{Line as LevelLine}
@@ -33,18 +34,26 @@ is_fine tells own = not own.breaks || tells own.key
 abbrev pub is_settled : (Key → Bool) → (Key → Option ℕ) → ℕ → ℕ → Own → Bool
 is_settled tells ways least length own = is_fine tells own && (not own.is_group || leads ways own.key least length)
 
+-- what is looked up of keys: whether a line tells that their AVPs break by themselves, what there is to tell, and the ways to groups
+pub record LookUps : Type 0 where
+  pub tells : Key → Bool
+  pub telling : Telling
+  pub ways : Key → Option ℕ
+
+abbrev pub look_ups : (Key → Bool) → Telling → (Key → Option ℕ) → LookUps
+look_ups tells telling ways = record { tells = tells; telling = telling; ways = ways }
+
 -- so it is with the key, or there is nothing to tell of it
-abbrev pub is_safe : (Key → Bool) → Telling → (Key → Option ℕ) → Key → ℕ → ℕ → Bool
-is_safe tells telling ways key least length = option_map_or (is_settled tells ways least length) (told telling key) true
+abbrev pub is_safe : LookUps → Key → ℕ → ℕ → Bool
+is_safe found key least length = option_map_or (is_settled found.tells found.ways least length) (told found.telling key) true
 
 -- or there is no room for it
-abbrev pub is_closed_at : (Key → Bool) → Telling → (Key → Option ℕ) → Key → ℕ → ℕ → Bool
-is_closed_at tells telling ways key least length = nat_lt max_body length || is_safe tells telling ways key least length
+abbrev pub is_closed_at : LookUps → Key → ℕ → ℕ → Bool
+is_closed_at found key least length = nat_lt max_body length || is_safe found key least length
 
 -- so for the rule's key, in messages that take so much around the level
-abbrev pub is_closed_rule : (Key → Bool) → Telling → (Key → Option ℕ) → (Key → ℕ) → LevelCost → ℕ → DRule → Bool
-is_closed_rule tells telling ways listed cost way rule =
-    option_map_or (λ key. is_closed_at tells telling ways key (listed key) (way + with_listed cost rule (listed key))) rule.key true
+abbrev pub is_closed_rule : LookUps → (Key → ℕ) → LevelCost → ℕ → DRule → Bool
+is_closed_rule found listed cost way rule = option_map_or (λ key. is_closed_at found key (listed key) (way + with_listed cost rule (listed key))) rule.key true
 
 -- ---- AVPs by a wildcard
 
@@ -58,6 +67,10 @@ spare_of other tells ways own = max (other own.key) (spare_by_way tells ways own
 
 abbrev pub other_of : (Key → ℕ) → (Key → Bool) → (Key → Option ℕ) → Own → Other
 other_of other tells ways own = record { key = own.key; spare = spare_of other tells ways own }
+
+-- no rule is of the key
+abbrev pub is_unlisted : List DRule → Key → Bool
+is_unlisted rules key = not (is_listed rules key)
 
 -- that of the first whose key passes a test
 abbrev pub first_spare : (Key → Bool) → List Other → ℕ

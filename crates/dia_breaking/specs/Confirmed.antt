@@ -1,29 +1,33 @@
 -- What two checks of a message show: one under the sender's dictionary, one under the receiver's.
 use Rattle.std.specs.Prelude.{◌≡◌, ◌≢◌, ⊤, ℕ, ◌-◌, nat_le, Bool, true, false, not, ◌&&◌, if◌then◌else◌, List, [], ◌∷◌, All, Some, Contains, slice_get}
 use Rattle.dia_book.specs.Dictionary.{Dictionary, PlainDefinition, definitions}
-use Rattle.dia_policy.specs.declared.Unknown.{Unknown}
 use Rattle.dia_policy.specs.declared.Levels.TheVariants as levels
 use Rattle.dia_policy.specs.declared.Sends.{Sends}
 use Rattle.dia_policy.specs.declared.Sends.TheVariants.{Any, Known, Listed}
 use Rattle.dia_check.specs.Valid.{IsValid, IsValidOf}
 use Rattle.dia_breaking_sites.specs.Sent.{own_policy, Breaks}
+use Rattle.dia_compat.specs.Closed.{IsIncluded}
 use Rattle.dia_compat.specs.TableText.{PlainTable}
 use Rattle.dia_breaking.specs.declared.line.Cause.{Cause}
 use Rattle.dia_breaking.specs.declared.line.Cause.TheVariants as causes
 use Rattle.dia_breaking.specs.declared.line.Line.{Line}
+use Rattle.dia_breaking.specs.Sides.{Sides, sides}
 use Rattle.dia_breaking.specs.declared.line.Standing.{Standing}
 use Rattle.dia_breaking.specs.declared.line.Standing.TheVariants.{Confirmed, Unchecked, Undecided}
 
+abbrev pub IsConfirmedBy : Sends → Sides → List ℕ → ℕ → Type 0
+IsConfirmedBy Any s bytes c = Breaks s.sender s.receiver Any s.unknown bytes c
+IsConfirmedBy Known s bytes c = Breaks s.sender s.receiver Known s.unknown bytes c
+IsConfirmedBy Listed s bytes c = IsValidOf s.sender (own_policy Listed) levels.Any bytes c × (¬ IsValid s.receiver s.unknown levels.Any bytes)
+
 -- the message is valid for the sender, as one of the command c, and not for the receiver. Where all AVPs have to be listed, it is only known to
 -- be valid for a sender that sends what it knows
-abbrev pub IsConfirmed : Dictionary → Dictionary → Sends → Unknown → List ℕ → ℕ → Type 0
-IsConfirmed da db Any u bytes c = Breaks da db Any u bytes c
-IsConfirmed da db Known u bytes c = Breaks da db Known u bytes c
-IsConfirmed da db Listed u bytes c = IsValidOf da (own_policy Listed) levels.Any bytes c × (¬ IsValid db u levels.Any bytes)
+abbrev pub IsConfirmed : Sides → List ℕ → ℕ → Type 0
+IsConfirmed s bytes c = IsConfirmedBy s.sends s bytes c
 
 -- each line that is told as confirmed has such a message
-abbrev pub EachConfirmedBreaks : Dictionary → Dictionary → Sends → Unknown → ℕ → List Line → Type 0
-EachConfirmedBreaks da db who u c lines = All (λ line. line.standing ≡ Confirmed → (bytes : List ℕ) × IsConfirmed da db who u bytes c) lines
+abbrev pub EachConfirmedBreaks : Sides → ℕ → List Line → Type 0
+EachConfirmedBreaks s c lines = All (λ line. line.standing ≡ Confirmed → (bytes : List ℕ) × IsConfirmed s bytes c) lines
 
 -- what a line tells, whatever is known of it: its site, and what breaks
 abbrev pub told_of : Line → ℕ × Cause
@@ -73,3 +77,13 @@ HaveStandings left (line ∷ lines) = IsStandingOf left line line.standing × Ha
 -- the table has a pair of the command c
 abbrev pub ListsCommand : Dictionary → PlainTable → ℕ → Type 0
 ListsCommand da table c = (command : PlainDefinition) × (pair : List ℕ × List ℕ) × (slice_get (definitions da) c ≡ Some command) × Contains table.commands pair × (command.name ≡ pair.0)
+
+-- where a table shows inclusion, with the sender's own policy for unknown AVPs on both sides, no message breaks a command that it lists
+abbrev pub IncludedBreakNothing : Type 0
+IncludedBreakNothing = (da db : Dictionary) (who : Sends) (table : PlainTable) (c : ℕ) (bytes : List ℕ) → IsIncluded da db (own_policy who) table → ListsCommand da table c
+    → ¬ IsConfirmed (sides da db who (own_policy who)) bytes c
+
+-- and no line of such a command is told as confirmed
+abbrev pub IncludedHaveNoLines : Type 0
+IncludedHaveNoLines = (da db : Dictionary) (who : Sends) (table : PlainTable) (c : ℕ) (lines : List Line) → IsIncluded da db (own_policy who) table → ListsCommand da table c
+    → EachConfirmedBreaks (sides da db who (own_policy who)) c lines → NoneConfirmed lines

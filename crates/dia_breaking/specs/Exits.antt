@@ -13,6 +13,7 @@ use Rattle.dia_breaking.specs.declared.exits.Inner.{Inner}
 use Rattle.dia_breaking.specs.declared.exits.Outlook.{Outlook}
 use Rattle.dia_breaking.specs.declared.keys.Telling.{Telling}
 use Rattle.dia_breaking.specs.declared.levels.LevelCost.{LevelCost}
+use Rattle.dia_breaking.specs.Lengths.{Costs}
 use Rattle.dia_breaking.specs.LevelCosts.{cost_of, with_listed}
 use Rattle.dia_breaking.specs.Outlooks.{group_rules}
 use Rattle.dia_breaking.specs.Telling.{AreGroups}
@@ -22,26 +23,25 @@ abbrev pub exit_by : Telling → (Key → ℕ) → LevelCost → DRule → Optio
 exit_by telling listed cost rule = option_and_then (λ key. option_map (λ place. (place, with_listed cost rule (listed key))) (get same_key telling.places key)) rule.key
 
 -- those of the rules, in their order, with the costs of their levels
-pub record AreExits (telling : Telling) (listed other : Key → ℕ) (others : List Key) (rules : List DRule) (exits : Exits) : Type 0 where
-  pub base : exits.base ≡ (cost_of listed other others rules).base
-  pub listed_are : exits.listed.items ≡ filter_map (exit_by telling listed (cost_of listed other others rules)) rules
-  pub beside : exits.beside ≡ (cost_of listed other others rules).beside
+pub record AreExits (telling : Telling) (k : Costs) (rules : List DRule) (exits : Exits) : Type 0 where
+  pub base : exits.base ≡ (cost_of k.listed k.other k.others rules).base
+  pub listed_are : exits.listed.items ≡ filter_map (exit_by telling k.listed (cost_of k.listed k.other k.others rules)) rules
+  pub beside : exits.beside ≡ (cost_of k.listed k.other k.others rules).beside
 
 -- of a group of both: what its least level takes, and where A's levels lead
-pub record IsInner (da : Dictionary) (telling : Telling) (listed other : Key → ℕ) (others : List Key) (key : Key) (inner : Inner) : Type 0 where
-  pub least : inner.least ≡ listed key - shortest_head key
-  pub exits : AreExits telling listed other others (group_rules da key) inner.exits
+pub record IsInner (da : Dictionary) (telling : Telling) (k : Costs) (key : Key) (inner : Inner) : Type 0 where
+  pub least : inner.least ≡ k.listed key - shortest_head key
+  pub exits : AreExits telling k (group_rules da key) inner.exits
 
 -- a group of both has such a level, and no other AVP has one
-abbrev pub IsInnerOrNone : Dictionary → Dictionary → Telling → (Key → ℕ) → (Key → ℕ) → List Key → Key → Option Inner → Type 0
-IsInnerOrNone da db telling listed other others key inner = MatchOption inner (¬ AreGroups da db key) (λ inner. AreGroups da db key × IsInner da telling listed other others key inner)
+abbrev pub IsInnerOrNone : Dictionary → Dictionary → Telling → Costs → Key → Option Inner → Type 0
+IsInnerOrNone da db telling k key inner = MatchOption inner (¬ AreGroups da db key) (λ inner. AreGroups da db key × IsInner da telling k key inner)
 
 -- of an AVP of which there is something to tell: its least length through a wildcard, and its group, if it is one for both
-pub record IsOutlook (da db : Dictionary) (telling : Telling) (listed other : Key → ℕ) (others : List Key) (outlook : Outlook) : Type 0 where
-  pub other_is : outlook.other ≡ other outlook.key
-  pub inner_is : IsInnerOrNone da db telling listed other others outlook.key outlook.inner
+pub record IsOutlook (da db : Dictionary) (telling : Telling) (k : Costs) (outlook : Outlook) : Type 0 where
+  pub other_is : outlook.other ≡ k.other outlook.key
+  pub inner_is : IsInnerOrNone da db telling k outlook.key outlook.inner
 
 -- of all that is told, in its order
-abbrev pub AreOutlooks : Dictionary → Dictionary → Telling → (Key → ℕ) → (Key → ℕ) → List Key → List Outlook → Type 0
-AreOutlooks da db telling listed other others outlooks =
-    (map (λ outlook. outlook.key) outlooks ≡ map (λ own. own.key) telling.own.items) × All (IsOutlook da db telling listed other others) outlooks
+abbrev pub AreOutlooks : Dictionary → Dictionary → Telling → Costs → List Outlook → Type 0
+AreOutlooks da db telling k outlooks = (map (λ outlook. outlook.key) outlooks ≡ map (λ own. own.key) telling.own.items) × All (IsOutlook da db telling k) outlooks

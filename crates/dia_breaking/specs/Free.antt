@@ -7,11 +7,10 @@ use Rattle.dia_book.specs.declared.DefHead.{DefHead}
 use Rattle.dia_book.specs.Dictionary.{Dictionary, PlainDefinition, definitions, selected}
 use Rattle.dia_policy.specs.declared.Unknown.{Unknown}
 use Rattle.dia_policy.specs.declared.Levels.TheVariants as levels
-use Rattle.dia_policy.specs.declared.Sends.{Sends}
 use Rattle.dia_check.specs.Valid.{IsValid}
 use Rattle.dia_breaking_sites.specs.Sent.{IsSent}
 use Rattle.dia_breaking_sites.specs.Sites.{FitsAlone}
-use Rattle.dia_breaking_sites.specs.Selection.{AboutFlags, IsAsked}
+use Rattle.dia_breaking_sites.specs.Selection.{AboutFlags, AreValid, IsAsked}
 use Rattle.dia_breaking_avps.specs.Sent.{group_of}
 use Rattle.dia_breaking_levels.specs.declared.line.Line.{Line as LevelLine}
 use Rattle.dia_breaking_levels.specs.Levels.{ShowsAt}
@@ -24,6 +23,7 @@ use Rattle.dia_breaking.specs.declared.line.Site.{Site}
 use Rattle.dia_breaking.specs.Closed.{StandsIn}
 use Rattle.dia_breaking.specs.Headers.{head_in, TellsRefusal}
 use Rattle.dia_breaking.specs.OwnKeys.{own_key}
+use Rattle.dia_breaking.specs.Sides.{Sides, Answer}
 
 -- ---- the levels of a line
 
@@ -69,7 +69,11 @@ pub record IsFree (da db : Dictionary) (u : Unknown) (sites : List Site) (lines 
   pub shown : (line : Line) → Contains lines line → line.cause ≢ causes.Unproved
   pub asked : IsAsked da db (IsFreeLevel da db u sites lines c) (TellsRefusal lines) (TellsFlags da db sites lines c) header command avps
 
+-- each message of the command that A's side sends is valid under B
+abbrev pub AllAreValid : Sides → ℕ → Type 0
+AllAreValid s c = AreValid s.sender s.receiver s.sends s.unknown c
+
 -- each message of the command that A's side sends, and that is free of the lines, is valid under B
-abbrev pub AreValidWhereFree : Dictionary → Dictionary → Sends → Unknown → List Site → List Line → ℕ → Type 0
-AreValidWhereFree da db who u sites lines c = (bytes : List ℕ) (sent : IsSent da who bytes c) → IsFree da db u sites lines c sent.header sent.command sent.avps
-    → IsValid db u levels.Any bytes
+abbrev pub AreValidWhereFree : Sides → Answer → Type 0
+AreValidWhereFree s answer = (bytes : List ℕ) (sent : IsSent s.sender s.sends bytes answer.command)
+    → IsFree s.sender s.receiver s.unknown answer.sites answer.lines answer.command sent.header sent.command sent.avps → IsValid s.receiver s.unknown levels.Any bytes

@@ -11,12 +11,14 @@ use Rattle.dia_book.specs.declared.DefHead.{DefHead}
 use Rattle.dia_book.specs.declared.DefHead.TheVariants.{Group, Command, Error}
 use Rattle.dia_book.specs.Dictionary.{Dictionary, PlainDefinition, definitions, selected, same_class}
 use Rattle.dia_breaking.specs.declared.apps.Apps.{Apps}
+use Rattle.dia_breaking.specs.declared.apps.BothApps.{BothApps}
 use Rattle.dia_breaking.specs.declared.heads.Head.{Head}
 use Rattle.dia_breaking.specs.declared.line.Cause.TheVariants as causes
 use Rattle.dia_breaking.specs.declared.line.Line.{Line}
 use Rattle.dia_breaking.specs.declared.line.Place.{Place}
 use Rattle.dia_breaking.specs.declared.line.Place.TheVariants as places
 use Rattle.dia_breaking.specs.declared.line.Site.{Site}
+use Rattle.dia_breaking.specs.Sides.{Answer}
 
 -- ---- the applications that commands name
 
@@ -41,6 +43,9 @@ row_app class row = if same_class row.0 class then Some row.1 else None
 abbrev pub apps_of : Apps → ℕ → Class → List ℕ
 apps_of apps code class = filter_map (row_app class) (rows_of apps code)
 
+abbrev pub both_apps : Apps → Apps → BothApps
+both_apps first second = record { first = first; second = second }
+
 -- ---- the definitions of B
 
 -- what the header says, with the code 0 and the application 0 for errors
@@ -48,6 +53,10 @@ abbrev pub head_in : DefHead → Option Head
 head_in (Group key) = None
 head_in (Command code class app p) = Some (record { code = code; class = class; app = app; p = p })
 head_in (Error p) = Some (record { code = 0; class = classes.Error; app = Some 0; p = p })
+
+-- the definition of this number is of a command with this head
+abbrev pub HasHead : Dictionary → ℕ → Head → Type 0
+HasHead d c head = (x : PlainDefinition) × (slice_get (definitions d) c ≡ Some x) × (head_in x.head ≡ Some head)
 
 -- a line tells that B selects no definition
 abbrev pub TellsRefusal : List Line → Type 0
@@ -73,34 +82,35 @@ allows pxy.Set set = set
 allows pxy.Either set = true
 
 -- if the head allows this P flag, B's definition allows it, and the level is read; or a line tells that it is forbidden
-abbrev pub IsFlagMet : List Site → List Line → ℕ → Pxy → Pxy → Bool → Type 0
-IsFlagMet sites lines app p other set = allows p set ≡ true → ((allows other set ≡ true) × IsReadFor sites app) ⊎ ((allows other set ≡ false) × TellsFlagFor sites lines app set)
+abbrev pub IsFlagMet : Answer → ℕ → Pxy → Pxy → Bool → Type 0
+IsFlagMet answer app p other set =
+    allows p set ≡ true → ((allows other set ≡ true) × IsReadFor answer.sites app) ⊎ ((allows other set ≡ false) × TellsFlagFor answer.sites answer.lines app set)
 
 -- of this number B has a definition of a command, which meets each P flag
-pub record IsMetAs (db : Dictionary) (sites : List Site) (lines : List Line) (head : Head) (app def : ℕ) : Type 0 where
+pub record IsMetAs (db : Dictionary) (answer : Answer) (head : Head) (app def : ℕ) : Type 0 where
   pub other : PlainDefinition
   pub is_other : slice_get (definitions db) def ≡ Some other
   pub other_head : Head
   pub is_head : head_in other.head ≡ Some other_head
-  pub clear : IsFlagMet sites lines app head.p other_head.p false
-  pub set : IsFlagMet sites lines app head.p other_head.p true
+  pub clear : IsFlagMet answer app head.p other_head.p false
+  pub set : IsFlagMet answer app head.p other_head.p true
 
 -- for this application B selects such a definition, or a line tells that it selects none
-pub record IsMetFor (db : Dictionary) (sites : List Site) (lines : List Line) (head : Head) (app : ℕ) : Type 0 where
-  pub selects : IsSome (selected db head.code head.class app) ⊎ TellsRefusal lines
-  pub each : (def : ℕ) → selected db head.code head.class app ≡ Some def → IsMetAs db sites lines head app def
+pub record IsMetFor (db : Dictionary) (answer : Answer) (head : Head) (app : ℕ) : Type 0 where
+  pub selects : IsSome (selected db head.code head.class app) ⊎ TellsRefusal answer.lines
+  pub each : (def : ℕ) → selected db head.code head.class app ≡ Some def → IsMetAs db answer head app def
 
 -- so for those of the applications for which A selects the command
-abbrev pub AreMetFor : Dictionary → Dictionary → List Site → List Line → Head → ℕ → List ℕ → Type 0
-AreMetFor da db sites lines head c apps = All (λ app. selected da head.code head.class app ≡ Some c → IsMetFor db sites lines head app) apps
+abbrev pub AreMetFor : Dictionary → Dictionary → Answer → Head → List ℕ → Type 0
+AreMetFor da db answer head apps = All (λ app. selected da head.code head.class app ≡ Some answer.command → IsMetFor db answer head app) apps
 
 -- and for one that is none of these
-abbrev pub IsOtherMet : Dictionary → List Site → List Line → Head → List ℕ → List ℕ → Type 0
-IsOtherMet db sites lines head first second = (app : ℕ) × (¬ Contains first app) × (¬ Contains second app) × IsMetFor db sites lines head app
+abbrev pub IsOtherMet : Dictionary → Answer → Head → List ℕ → List ℕ → Type 0
+IsOtherMet db answer head first second = (app : ℕ) × (¬ Contains first app) × (¬ Contains second app) × IsMetFor db answer head app
 
 -- the headers that tell of all are met, for a command with this head
-abbrev pub AreHeadersMet : Dictionary → Dictionary → List Site → List Line → Apps → Apps → ℕ → Head → Type 0
-AreHeadersMet da db sites lines first second c head =
-    ((app : ℕ) → head.app ≡ Some app → IsMetFor db sites lines head app)
-    × (head.app ≡ None → AreMetFor da db sites lines head c (apps_of second head.code head.class) × IsOtherMet db sites lines head (apps_of first head.code head.class)
-    (apps_of second head.code head.class))
+abbrev pub AreHeadersMet : Dictionary → Dictionary → Answer → BothApps → Head → Type 0
+AreHeadersMet da db answer both head =
+    ((app : ℕ) → head.app ≡ Some app → IsMetFor db answer head app)
+    × (head.app ≡ None → AreMetFor da db answer head (apps_of both.second head.code head.class)
+    × IsOtherMet db answer head (apps_of both.first head.code head.class) (apps_of both.second head.code head.class))

@@ -1,5 +1,5 @@
 -- What the AVPs take that the sender's side sends.
-use Rattle.std.specs.Prelude.{◌≡◌, ℕ, ◌<◌, ⊤, min, max, List, [], ◌∷◌, length, map, None, slice_get}
+use Rattle.std.specs.Prelude.{◌≡◌, ℕ, ◌<◌, min, max, List, [], ◌∷◌, length, slice_get}
 use Rattle.std.specs.List.Sorted.{IsPermutation, IsNonDecreasingBy, IsStableByKey}
 use Rattle.std.specs.Ordering.{nat_cmp}
 use Rattle.std.specs.Option.{option_map_or}
@@ -31,20 +31,13 @@ other_length d Any lengths key = listed_length d Any lengths key
 other_length d Known lengths key = listed_length d Known lengths key
 other_length d Listed lengths key = too_long
 
--- the keys that a wildcard lets in, so that the first that no rule lists is one of a shortest AVP: one that neither dictionary knows,
--- or those that the sender's knows, in order
-abbrev pub AreOthers : Dictionary → Dictionary → Sends → List ℕ → List Key → Type 0
-AreOthers da db Any lengths keys = (key : Key) × (keys ≡ key ∷ []) × (key.vendor ≡ 0) × (entry_of da key ≡ None) × (entry_of db key ≡ None)
-AreOthers da db Known lengths keys = IsNonDecreasingBy (listed_length da Known lengths) keys × IsPermutation (map (λ e. e.key) da.entries) keys
-AreOthers da db Listed lengths keys = ⊤
-
 -- the entries have the same lengths in both lists
 abbrev pub AreSameLengths : Dictionary → List ℕ → List ℕ → Type 0
 AreSameLengths d xs ys = (e : ℕ) → e < length d.entries → entry_length ys e ≡ entry_length xs e
 
 -- ---- exactly these
 
--- where a wildcard lets in any, the stranger; where it lets in what A knows, A's keys by the lengths of their AVPs, and those of one length in A's order
+-- the keys that a wildcard lets in, so that the first that no rule lists is one of a shortest AVP: where it lets in any, the stranger; where it lets in what A knows, A's keys by the lengths of their AVPs, and those of one length in A's order
 abbrev pub AreExactlyOthers : Dictionary → Dictionary → Sends → List ℕ → List Key → Type 0
 AreExactlyOthers da db Any lengths keys = (key : Key) × IsStranger da db key × (keys ≡ key ∷ [])
 AreExactlyOthers da db Known lengths keys =
@@ -56,3 +49,18 @@ AreExactlyOthers da db Listed lengths keys = keys ≡ []
 -- for each entry its length of the other list
 abbrev pub AreEntryLengths : Dictionary → List ℕ → List ℕ → Type 0
 AreEntryLengths d xs ys = (length ys ≡ length d.entries) × AreSameLengths d xs ys
+
+-- ---- what AVPs take in levels
+
+-- by a rule and by a wildcard, and the keys that a wildcard lets in
+pub record Costs : Type 0 where
+  pub listed : Key → ℕ
+  pub other : Key → ℕ
+  pub others : List Key
+
+abbrev pub costs : (Key → ℕ) → (Key → ℕ) → List Key → Costs
+costs listed other others = record { listed = listed; other = other; others = others }
+
+-- where the entries have these lengths
+abbrev pub costs_by : Dictionary → Sends → List ℕ → List Key → Costs
+costs_by d who lengths others = costs (listed_length d who lengths) (other_length d who lengths) others

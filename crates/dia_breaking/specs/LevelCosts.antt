@@ -5,10 +5,12 @@ use Rattle.dia_wire.specs.declared.Key.{Key}
 use Rattle.dia_book.specs.declared.DRule.{DRule}
 use Rattle.dia_check.specs.Valid.{is_listed}
 use Rattle.dia_compat.specs.Below.{HasRule}
-use Rattle.dia_compat.specs.Tests.{wildcard_of}
-use Rattle.dia_breaking_levels.specs.Levels.{IsWithinAllWith}
+use Rattle.dia_book.specs.Dictionary.{Dictionary}
+use Rattle.dia_compat.specs.Tests.{rules_in, wildcard_of}
+use Rattle.dia_breaking_levels.specs.Levels.{FirstIsShortest, IsWithinAllWith}
 use Rattle.dia_breaking_levels.specs.LevelTests.{too_long, capped, price, least_filler, least_length}
 use Rattle.dia_breaking.specs.declared.levels.LevelCost.{LevelCost}
+use Rattle.dia_breaking.specs.Lengths.{Costs}
 
 -- with an AVP of the rule's key, which is this long
 abbrev pub with_listed : LevelCost → DRule → ℕ → ℕ
@@ -33,3 +35,7 @@ cost_from base filler rules = record { base = base; beside = option_map_or (besi
 
 abbrev pub cost_of : (listed other : Key → ℕ) → List Key → List DRule → LevelCost
 cost_of listed other others rules = cost_from (least_length listed other others rules) (least_filler other others rules) rules
+
+-- where two rules sets are those of the dictionaries, the first key that neither lists has a shortest AVP
+abbrev pub PicksShortest : Dictionary → Dictionary → Costs → Type 0
+PicksShortest da db k = (x y : ℕ) → FirstIsShortest k.other k.others (rules_in da x) (rules_in db y)

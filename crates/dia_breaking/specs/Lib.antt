@@ -1,7 +1,9 @@
 pub mod Certified
 pub mod Closed
+pub mod ClosedBy
 pub mod ClosedRules
 pub mod Closing
+pub mod CommandLevels
 pub mod Confirmed
 pub mod Exits
 pub mod Free
@@ -14,9 +16,12 @@ pub mod Orders
 pub mod Outlooks
 pub mod OwnBreaks
 pub mod OwnKeys
+pub mod Sender
 pub mod SentKeys
+pub mod Sides
 pub mod Sites
 pub mod Telling
 pub mod TheLines
 pub mod ToldApps
+pub mod Upgrades
 pub mod Words

@@ -26,6 +26,7 @@ use Rattle.dia_breaking.specs.declared.line.Site.{Site}
 use Rattle.dia_breaking.specs.declared.line.Standing.TheVariants.{Unchecked}
 use Rattle.dia_breaking.specs.declared.own_breaks.OwnBreaks.{OwnBreaks}
 use Rattle.dia_breaking.specs.declared.own_lines.Kind.{Kind}
+use Rattle.dia_breaking.specs.declared.sites.Numbers.{Numbers}
 use Rattle.dia_breaking.specs.declared.own_lines.Kind.TheVariants as kinds
 use Rattle.dia_breaking.specs.declared.start.Start.{Start}
 use Rattle.dia_breaking.specs.Headers.{allows}
@@ -46,6 +47,9 @@ abbrev pub subject : Cause → Cause
 subject (causes.Format key found) = causes.Format key None
 subject (causes.LevelAsLeaf key) = causes.Format key None
 subject cause = cause
+
+abbrev pub subject_with : Cause × ℕ → Cause × ℕ
+subject_with found = (subject found.0, found.1)
 
 -- what is known of the line is left apart too
 abbrev pub tells : Line → Told
@@ -166,10 +170,17 @@ abbrev pub sites_of : Dictionary → Basis → ℕ → ℕ → List Step → Lis
 sites_of db basis first count steps = command_sites db basis.head basis.apps ++ group_sites basis.own first count steps
 
 -- in the order in which the lines of one site stand
-abbrev pub lines_of : Dictionary → Basis → ℕ → ℕ → List Step → List (Option Reach) → List Told
-lines_of db basis first count steps reached =
-    of_each (header_lines db basis.head basis.base) basis.apps ++ of_each command_levels basis.levels ++ of_each (group_levels count basis.groups) steps
-    ++ own_lines kinds.Unknown first count basis.own reached ++ own_lines kinds.MBit first count basis.own reached ++ own_lines kinds.Data first count basis.own reached
+abbrev pub numbers : ℕ → ℕ → Numbers
+numbers first count = record { first = first; count = count }
+
+abbrev pub lines_of : Dictionary → Basis → Numbers → List Step → List (Option Reach) → List Told
+lines_of db basis n steps reached =
+    of_each (header_lines db basis.head basis.base) basis.apps ++ of_each command_levels basis.levels ++ of_each (group_levels n.count basis.groups) steps
+    ++ own_lines kinds.Unknown n.first n.count basis.own reached ++ own_lines kinds.MBit n.first n.count basis.own reached ++ own_lines kinds.Data n.first n.count basis.own reached
+
+-- what is told stands in the order of the sites
+abbrev pub AreInOrder : List Told → List Told → Type 0
+AreInOrder all told = IsInOrderOf (λ (line : Told). line.site) all told
 
 -- a walk begins only where B's side reads a level of the command
 abbrev pub IsWalkFrom : Bool → Graph → List Step → List (Option Reach) → Type 0
@@ -182,7 +193,12 @@ pub record IsListing (db : Dictionary) (basis : Basis) (sites : List Site) (told
   pub reached : List (Option Reach)
   pub is_walk : IsWalkFrom (is_some (start_of db basis)) basis.graph steps reached
   pub sites_are : sites ≡ sites_of db basis (unwrap_or (start_of db basis) 0) (length basis.apps) steps
-  pub lines_are : IsInOrderOf (λ (line : Told). line.site) (lines_of db basis (unwrap_or (start_of db basis) 0) (length basis.apps) steps reached) told
+  pub lines_are : AreInOrder (lines_of db basis (numbers (unwrap_or (start_of db basis) 0) (length basis.apps)) steps reached) told
+
+-- from one basis there is one list of sites, and one of lines
+abbrev pub ListingsAreOne : Type 0
+ListingsAreOne = (db : Dictionary) (basis : Basis) (sites others : List Site) (told lines : List Told) → IsListing db basis sites told → IsListing db basis others lines
+    → (sites ≡ others) × (told ≡ lines)
 
 -- ---- of what is known of two dictionaries
 

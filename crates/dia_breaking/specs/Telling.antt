@@ -12,6 +12,7 @@ use Rattle.dia_breaking_avps.specs.Laws.{FitKeyAlone}
 use Rattle.dia_breaking.specs.declared.keys.Own.{Own}
 use Rattle.dia_breaking.specs.declared.keys.Telling.{Telling}
 use Rattle.dia_breaking.specs.SentKeys.{AreSentInOrder, IsStrange}
+use Rattle.dia_breaking.specs.Sides.{Sides}
 
 -- both dictionaries see a level in AVPs of the key
 abbrev pub AreGroups : Dictionary → Dictionary → Key → Type 0
@@ -26,10 +27,10 @@ abbrev pub StandsForStrangers : Dictionary → Dictionary → Key → Own → Ty
 StandsForStrangers da db key own = IsStrange da db key × IsStrange da db own.key × (own.key.vendor ≡ 0) × (own.breaks ≡ true)
 
 -- what is found of a key, where nothing breaks, is that B accepts each M flag of its AVPs, and that they fit alone
-pub record IsToldOf (da db : Dictionary) (who : Sends) (u : Unknown) (key : Key) (own : Own) : Type 0 where
+pub record IsToldOf (s : Sides) (key : Key) (own : Own) : Type 0 where
   pub key_is : own.key ≡ key
-  pub silent : own.breaks ≡ false → AcceptsFlags da db who u key × FitKeyAlone da db who u key
-  pub group : own.is_group ≡ (is_some (group_of da key) && is_some (group_of db key))
+  pub silent : own.breaks ≡ false → AcceptsFlags s.sender s.receiver s.sends s.unknown key × FitKeyAlone s.sender s.receiver s.sends s.unknown key
+  pub group : own.is_group ≡ (is_some (group_of s.sender key) && is_some (group_of s.receiver key))
 
 -- what is told of the key
 abbrev pub told : Telling → Key → Option Own
@@ -45,17 +46,17 @@ pub record Adds (own : Own) (old new : Telling) : Type 0 where
   pub places : (key : Key) → get same_key new.places key ≡ (if is_news own && same_key own.key key then Some (length old.own.items) else get same_key old.places key)
 
 -- of these keys all is told that there is to tell
-pub record AreTold (da db : Dictionary) (who : Sends) (u : Unknown) (keys : List Key) (telling : Telling) : Type 0 where
+pub record AreTold (s : Sides) (keys : List Key) (telling : Telling) : Type 0 where
   pub placed : (key : Key) (place : ℕ) → get same_key telling.places key ≡ Some place → (own : Own) × (slice_get telling.own.items place ≡ Some own) × (own.key ≡ key)
-  pub each : (own : Own) → Contains telling.own.items own → IsToldOf da db who u own.key own
-  pub rest : (key : Key) → Contains keys key → get same_key telling.places key ≡ None → (own : Own) × IsToldOf da db who u key own × (is_news own ≡ false)
+  pub each : (own : Own) → Contains telling.own.items own → IsToldOf s own.key own
+  pub rest : (key : Key) → Contains keys key → get same_key telling.places key ≡ None → (own : Own) × IsToldOf s key own × (is_news own ≡ false)
 
 -- what is told, and of every key that is not: there is nothing to tell, or another stands for it
-pub record IsTelling (da db : Dictionary) (who : Sends) (u : Unknown) (telling : Telling) : Type 0 where
+pub record IsTelling (s : Sides) (telling : Telling) : Type 0 where
   pub placed : (key : Key) (place : ℕ) → get same_key telling.places key ≡ Some place → (own : Own) × (slice_get telling.own.items place ≡ Some own) × (own.key ≡ key)
-  pub silent : (own : Own) → Contains telling.own.items own → own.breaks ≡ false → FitKeyAlone da db who u own.key
-  pub leaf : (own : Own) → Contains telling.own.items own → own.is_group ≡ false → ¬ AreGroups da db own.key
-  pub rest : (key : Key) → get same_key telling.places key ≡ None → IsUntold da db who u key ⊎ ((own : Own) × Contains telling.own.items own × StandsForStrangers da db key own)
+  pub silent : (own : Own) → Contains telling.own.items own → own.breaks ≡ false → FitKeyAlone s.sender s.receiver s.sends s.unknown own.key
+  pub leaf : (own : Own) → Contains telling.own.items own → own.is_group ≡ false → ¬ AreGroups s.sender s.receiver own.key
+  pub rest : (key : Key) → get same_key telling.places key ≡ None → IsUntold s.sender s.receiver s.sends s.unknown key ⊎ ((own : Own) × Contains telling.own.items own × StandsForStrangers s.sender s.receiver key own)
 
 -- ---- exactly these
 
@@ -68,26 +69,26 @@ abbrev pub BreaksNothing : Dictionary → Dictionary → Sends → Unknown → K
 BreaksNothing da db who u key = AcceptsFlags da db who u key × (AreGroups da db key ⊎ IsDataTaken da db who u key)
 
 -- what there is to tell of its key
-pub record IsExactlyOwn (da db : Dictionary) (who : Sends) (u : Unknown) (own : Own) : Type 0 where
-  pub group : own.is_group ≡ (is_some (group_of da own.key) && is_some (group_of db own.key))
-  pub silent : (own.breaks ≡ false) ↔ BreaksNothing da db who u own.key
+pub record IsExactlyOwn (s : Sides) (own : Own) : Type 0 where
+  pub group : own.is_group ≡ (is_some (group_of s.sender own.key) && is_some (group_of s.receiver own.key))
+  pub silent : (own.breaks ≡ false) ↔ BreaksNothing s.sender s.receiver s.sends s.unknown own.key
 
 -- what there is to tell of each of these keys, in their order
-abbrev pub AreOwnOf : Dictionary → Dictionary → Sends → Unknown → List Key → List Own → Type 0
-AreOwnOf da db who u keys all = (map (λ own. own.key) all ≡ keys) × All (IsExactlyOwn da db who u) all
+abbrev pub AreOwnOf : Sides → List Key → List Own → Type 0
+AreOwnOf s keys all = (map (λ own. own.key) all ≡ keys) × All (IsExactlyOwn s) all
 
 -- of these keys exactly that is told of which there is something to tell, in their order; what has a place is told, and what is told has a place
-pub record AreExactlyTold (da db : Dictionary) (who : Sends) (u : Unknown) (keys : List Key) (telling : Telling) : Type 0 where
+pub record AreExactlyTold (s : Sides) (keys : List Key) (telling : Telling) : Type 0 where
   pub all : List Own
-  pub each : AreOwnOf da db who u keys all
+  pub each : AreOwnOf s keys all
   pub told_are : telling.own.items ≡ filter is_news all
   pub have_places : (own : Own) → Contains telling.own.items own → IsSome (get same_key telling.places own.key)
 
 -- of all keys of AVPs that A's side may send exactly that is told of which there is something to tell, in their order, and each key has its place
-pub record IsExactTelling (da db : Dictionary) (who : Sends) (u : Unknown) (telling : Telling) : Type 0 where
+pub record IsExactTelling (s : Sides) (telling : Telling) : Type 0 where
   pub keys : List Key
   pub all : List Own
-  pub sent : AreSentInOrder da db who keys
-  pub each : AreOwnOf da db who u keys all
+  pub sent : AreSentInOrder s.sender s.receiver s.sends keys
+  pub each : AreOwnOf s keys all
   pub told_are : telling.own.items ≡ filter is_news all
   pub places : (key : Key) → get same_key telling.places key ≡ position (λ own. same_key own.key key) telling.own.items

@@ -2,7 +2,7 @@
 use Rattle.std.specs.Prelude.{◌≡◌, ◌⊎◌, ℕ, ◌<◌, nat_eq, Bool, List, [], ◌∷◌, ◌++◌, filter, Option, Some, option_to_list, MatchOption, Contains}
 use Rattle.std.specs.Option.{option_eq}
 use Rattle.dia_book.specs.Dictionary.{Dictionary, selected}
-use Rattle.dia_breaking.specs.declared.apps.Apps.{Apps}
+use Rattle.dia_breaking.specs.declared.apps.BothApps.{BothApps}
 use Rattle.dia_breaking.specs.declared.heads.Head.{Head}
 use Rattle.dia_breaking.specs.Headers.{apps_of}
 
@@ -13,17 +13,21 @@ selects da c head app = option_eq nat_eq (selected da head.code head.class app) 
 abbrev pub IsNamed : List ℕ → List ℕ → ℕ → Type 0
 IsNamed first second app = Contains first app ⊎ Contains second app
 
+-- no command of the head's code and class names the application, in neither dictionary
+abbrev pub IsUnnamed : BothApps → Head → ℕ → Type 0
+IsUnnamed both head app = (¬ Contains (apps_of both.first head.code head.class) app) × (¬ Contains (apps_of both.second head.code head.class) app)
+
 -- the least application that none of the two lists names; none, where they name all
 abbrev pub IsLeastUnnamed : List ℕ → List ℕ → Option ℕ → Type 0
 IsLeastUnnamed first second found =
     MatchOption found ((app : ℕ) → app < 4294967296 → IsNamed first second app) (λ app. (app < 4294967296) × (¬ IsNamed first second app) × ((other : ℕ) → other < app → IsNamed first second other))
 
 -- of a command without application: those that B names and for which A selects the command, in B's order, and the least that neither dictionary names
-abbrev pub AreOpenApps : Dictionary → Apps → Apps → ℕ → Head → List ℕ → Type 0
-AreOpenApps da first second c head apps =
-    (found : Option ℕ) × IsLeastUnnamed (apps_of first head.code head.class) (apps_of second head.code head.class) found
-    × (apps ≡ filter (selects da c head) (apps_of second head.code head.class) ++ option_to_list found)
+abbrev pub AreOpenApps : Dictionary → BothApps → ℕ → Head → List ℕ → Type 0
+AreOpenApps da both c head apps =
+    (found : Option ℕ) × IsLeastUnnamed (apps_of both.first head.code head.class) (apps_of both.second head.code head.class) found
+    × (apps ≡ filter (selects da c head) (apps_of both.second head.code head.class) ++ option_to_list found)
 
 -- the command's own application, or those
-abbrev pub AreToldApps : Dictionary → Apps → Apps → ℕ → Head → List ℕ → Type 0
-AreToldApps da first second c head apps = MatchOption head.app (AreOpenApps da first second c head apps) (λ app. apps ≡ app ∷ [])
+abbrev pub AreToldApps : Dictionary → BothApps → ℕ → Head → List ℕ → Type 0
+AreToldApps da both c head apps = MatchOption head.app (AreOpenApps da both c head apps) (λ app. apps ≡ app ∷ [])

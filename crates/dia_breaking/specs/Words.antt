@@ -1,16 +1,20 @@
 -- The words of a line: `PATH: REASON SUBJECT: DETAIL`. A is the sender's dictionary, B the receiver's.
-use Rattle.std.specs.Prelude.{◌≡◌, ℕ, zero, suc, Bool, true, false, not, ◌&&◌, ◌==◌, nat_lt, nat_le, if◌then◌else◌, List, [], ◌∷◌, ◌++◌, length, codes}
+use Rattle.std.specs.Prelude.{◌≡◌, ℕ, zero, suc, Bool, true, false, not, ◌&&◌, ◌==◌, nat_lt, nat_le, if◌then◌else◌, List, [], ◌∷◌, ◌++◌, length, codes, string_bytes}
 use Rattle.std.specs.Prelude.{Option, Some, None, unwrap_or, option_and_then, slice_get}
 use Rattle.std.specs.List.{flat_map, list_any}
 use Rattle.std.specs.Option.{option_map, option_map_or, option_or}
 use Rattle.std.specs.Int.{w32, cast_signed}
+use Rattle.std.specs.declared.string.String.{String}
+use Rattle.std.specs.Borrow.{Bor}
 use Rattle.std.specs.Fmt.{decimal, signed_decimal}
 use Rattle.dia_wire.specs.declared.Key.{Key}
 use Rattle.dia_data.specs.Number.{number}
 use Rattle.dia_data.specs.Ranges.{covers}
-use Rattle.dia_data.specs.Plain.{PlainFormat, OctetString, Integer32, Integer64, Unsigned32, Unsigned64, Float32, Float64, Grouped, Address}
+use Rattle.dia_data.specs.declared.Format.{Format}
+use Rattle.dia_data.specs.Plain.{PlainFormat, plain_format, OctetString, Integer32, Integer64, Unsigned32, Unsigned64, Float32, Float64, Grouped, Address}
 use Rattle.dia_data.specs.Plain.{Time, Utf8String, DiameterIdentity, DiameterUri, Enumerated, IpFilterRule, QosFilterRule}
 use Rattle.dia_data.specs.Shown.{hexadecimal}
+use Rattle.dia_breaking_data.specs.declared.short_data.Witness.{Witness}
 use Rattle.dia_breaking_data.specs.Shortest.{witness_bytes}
 use Rattle.dia_book.specs.declared.DRule.{DRule}
 use Rattle.dia_book.specs.Dictionary.{Dictionary, definitions, groups, selected}
@@ -35,6 +39,11 @@ use Rattle.dia_breaking.specs.declared.line.Standing.{Standing}
 use Rattle.dia_breaking.specs.declared.line.Standing.TheVariants.{Confirmed, Unchecked, Undecided}
 use Rattle.dia_breaking.specs.Headers.{head_in}
 use Rattle.dia_breaking.specs.Outlooks.{group_rules}
+use Rattle.dia_breaking.specs.Sides.{Sides}
+
+-- the text is added
+abbrev pub Writes : {Z : Type 0} → String Z → String Z → List ℕ → Type 0
+Writes old new text = string_bytes new ≡ string_bytes old ++ text
 
 -- ---- names
 
@@ -42,12 +51,12 @@ abbrev pub name_in : Dictionary → Key → Option (List ℕ)
 name_in d key = option_map (λ e. e.name) (known d key)
 
 -- the name in A, else in B, else `AVP`
-abbrev pub avp_name : Dictionary → Dictionary → Key → List ℕ
-avp_name da db key = unwrap_or (option_or (name_in da key) (name_in db key)) (codes "AVP")
+abbrev pub avp_name : Sides → Key → List ℕ
+avp_name s key = unwrap_or (option_or (name_in s.sender key) (name_in s.receiver key)) (codes "AVP")
 
 -- `AVP` also where the wildcard counts
-abbrev pub subject_name : Dictionary → Dictionary → Option Key → List ℕ
-subject_name da db key = option_map_or (avp_name da db) key (codes "AVP")
+abbrev pub subject_name : Sides → Option Key → List ℕ
+subject_name s key = option_map_or (avp_name s) key (codes "AVP")
 
 abbrev pub definition_name : Dictionary → ℕ → List ℕ
 definition_name d def = option_map_or (λ x. x.name) (slice_get (definitions d) def) []
@@ -74,12 +83,12 @@ abbrev pub application_text : Bool → ℕ → List ℕ
 application_text true app = codes "[application " ++ decimal app ++ codes "]"
 application_text false app = []
 
-abbrev pub place_text : Dictionary → Dictionary → ℕ → Place → List ℕ
-place_text da db c (places.Command app is_told proxiable) = definition_name da c ++ application_text is_told app
-place_text da db c (places.Group key outer) = codes "/" ++ avp_name da db key
+abbrev pub place_text : Sides → ℕ → Place → List ℕ
+place_text s c (places.Command app is_told proxiable) = definition_name s.sender c ++ application_text is_told app
+place_text s c (places.Group key outer) = codes "/" ++ avp_name s key
 
-abbrev pub path_text : Dictionary → Dictionary → ℕ → List Site → List ℕ
-path_text da db c path = flat_map (λ site. place_text da db c site.place) path
+abbrev pub path_text : Sides → ℕ → List Site → List ℕ
+path_text s c path = flat_map (λ site. place_text s c site.place) path
 
 -- ---- counts
 
@@ -128,10 +137,10 @@ abbrev pub head_at : Dictionary → ℕ → Option Head
 head_at d def = option_and_then (λ x. head_in x.head) (slice_get (definitions d) def)
 
 -- and those of B
-abbrev pub accepted_rules : Dictionary → Dictionary → ℕ → Place → List DRule
-accepted_rules da db c (places.Command app is_told proxiable) =
-    option_map_or (rules_in db) (option_and_then (λ head. selected db head.code head.class app) (head_at da c)) []
-accepted_rules da db c (places.Group key outer) = group_rules db key
+abbrev pub accepted_rules : Sides → ℕ → Place → List DRule
+accepted_rules s c (places.Command app is_told proxiable) =
+    option_map_or (rules_in s.receiver) (option_and_then (λ head. selected s.receiver head.code head.class app) (head_at s.sender c)) []
+accepted_rules s c (places.Group key outer) = group_rules s.receiver key
 
 -- of these counts, and of the AVP that stands before
 abbrev pub counts_text : Reason → Bounds → Bounds → List ℕ → List ℕ
@@ -143,14 +152,13 @@ counts_text MissingOthers sent accepted behind = bounds_text accepted ++ codes "
 counts_text TooManyOthers sent accepted behind = bounds_text accepted ++ codes " accepted"
 counts_text Order sent accepted behind = codes "behind " ++ behind ++ codes " sent"
 
-abbrev pub level_detail : Dictionary → Dictionary → (Key → ℕ) → ℕ → LevelLine → Place → List ℕ
-level_detail da db other c line place =
-    counts_text line.reason (sent_bounds other (sent_rules da c place) line.key) (accepted_bounds (accepted_rules da db c place) line.key)
-    (subject_name da db line.behind)
+abbrev pub level_detail : Sides → (Key → ℕ) → ℕ → LevelLine → Place → List ℕ
+level_detail s other c line place =
+    counts_text line.reason (sent_bounds other (sent_rules s.sender c place) line.key) (accepted_bounds (accepted_rules s c place) line.key) (subject_name s line.behind)
 
-abbrev pub level_text : Dictionary → Dictionary → (Key → ℕ) → ℕ → Option Site → LevelLine → List ℕ
-level_text da db other c site line = reason_word line.reason ++ codes " " ++ subject_name da db line.key ++ codes ": "
-    ++ option_map_or (λ s. level_detail da db other c line s.place) site []
+abbrev pub level_text : Sides → (Key → ℕ) → ℕ → Option Site → LevelLine → List ℕ
+level_text s other c site line = reason_word line.reason ++ codes " " ++ subject_name s line.key ++ codes ": "
+    ++ option_map_or (λ at. level_detail s other c line at.place) site []
 
 -- ---- formats
 
@@ -171,6 +179,12 @@ format_word DiameterUri = codes "DiameterURI"
 format_word (Enumerated ranges) = codes "Enumerated"
 format_word IpFilterRule = codes "IPFilterRule"
 format_word QosFilterRule = codes "QoSFilterRule"
+
+abbrev pub plain_of : Option (Bor Format) → Option PlainFormat
+plain_of format = option_map (λ f. plain_format f.now) format
+
+abbrev pub bytes_of : Option (Bor Witness) → Option (List ℕ)
+bytes_of found = option_map (λ d. witness_bytes d.now) found
 
 abbrev pub format_in : Dictionary → Key → Option PlainFormat
 format_in d key = option_map (λ e. e.format) (known d key)
@@ -217,22 +231,36 @@ unknown_detail Kept true = codes "M set sent, not known"
 unknown_detail Kept false = codes "sent, not known"
 unknown_detail Refused m = codes "sent, not known"
 
+abbrev pub m_bit_text : Sides → Key → Bool → List ℕ
+m_bit_text s key m = codes "m-bit " ++ avp_name s key ++ codes ": M " ++ flag_word m ++ codes " sent, M " ++ flag_word (not m) ++ codes " accepted"
+
+abbrev pub format_text : Sides → Key → Option (List ℕ) → List ℕ
+format_text s key found = codes "format " ++ avp_name s key ++ codes ": " ++ format_detail (format_in s.sender key) (format_in s.receiver key) found
+
 abbrev pub refused_application : Place → List ℕ
 refused_application (places.Command app is_told proxiable) = codes "application " ++ decimal app ++ codes ": not accepted"
 refused_application (places.Group key outer) = []
 
+-- where a line stands: the command, its sites, and the number of one
+pub record Spot : Type 0 where
+  pub command : ℕ
+  pub sites : List Site
+  pub site : ℕ
+
+abbrev pub spot : ℕ → List Site → ℕ → Spot
+spot c sites site = record { command = c; sites = sites; site = site }
+
 -- the reason, the subject and the detail
-abbrev pub cause_text : Dictionary → Dictionary → Unknown → (Key → ℕ) → ℕ → List Site → ℕ → Cause → List ℕ
-cause_text da db u other c sites n causes.Command = codes "command -: not accepted"
-cause_text da db u other c sites n causes.Application = option_map_or (λ site. refused_application site.place) (slice_get (path_to sites n) 0) []
-cause_text da db u other c sites n (causes.Proxiable set) = codes "proxiable -: P " ++ flag_word set ++ codes " sent"
-cause_text da db u other c sites n (causes.Level line) = level_text da db other c (slice_get sites n) line
-cause_text da db u other c sites n (causes.Unknown key m) = codes "unknown " ++ avp_name da db key ++ codes ": " ++ unknown_detail u m
-cause_text da db u other c sites n (causes.MBit key m) = codes "m-bit " ++ avp_name da db key ++ codes ": M " ++ flag_word m ++ codes " sent, M " ++ flag_word (not m) ++ codes " accepted"
-cause_text da db u other c sites n (causes.Format key found) =
-    codes "format " ++ avp_name da db key ++ codes ": " ++ format_detail (format_in da key) (format_in db key) (option_map witness_bytes found)
-cause_text da db u other c sites n (causes.LevelAsLeaf key) = avp_name da db key ++ codes ": " ++ formats_text (format_in da key) (format_in db key)
-cause_text da db u other c sites n causes.Unproved = codes "-: nothing more found, not proved"
+abbrev pub cause_text : Sides → (Key → ℕ) → Spot → Cause → List ℕ
+cause_text s other at causes.Command = codes "command -: not accepted"
+cause_text s other at causes.Application = option_map_or (λ site. refused_application site.place) (slice_get (path_to at.sites at.site) 0) []
+cause_text s other at (causes.Proxiable set) = codes "proxiable -: P " ++ flag_word set ++ codes " sent"
+cause_text s other at (causes.Level line) = level_text s other at.command (slice_get at.sites at.site) line
+cause_text s other at (causes.Unknown key m) = codes "unknown " ++ avp_name s key ++ codes ": " ++ unknown_detail s.unknown m
+cause_text s other at (causes.MBit key m) = m_bit_text s key m
+cause_text s other at (causes.Format key found) = format_text s key (option_map witness_bytes found)
+cause_text s other at (causes.LevelAsLeaf key) = avp_name s key ++ codes ": " ++ formats_text (format_in s.sender key) (format_in s.receiver key)
+cause_text s other at causes.Unproved = codes "-: nothing more found, not proved"
 
 abbrev pub standing_text : Standing → List ℕ
 standing_text Confirmed = []
@@ -244,7 +272,7 @@ abbrev pub is_command : Dictionary → ℕ → Bool
 is_command d c = nat_le (length (groups d)) c && nat_lt c (length (definitions d))
 
 -- a line about the command c of A: where A has no such command, nothing
-abbrev pub words_of : Dictionary → Dictionary → Unknown → (Key → ℕ) → ℕ → List Site → Line → List ℕ
-words_of da db u other c sites line = if is_command da c
-    then path_text da db c (path_to sites line.site) ++ codes ": " ++ standing_text line.standing ++ cause_text da db u other c sites line.site line.cause
+abbrev pub words_of : Sides → (Key → ℕ) → ℕ → List Site → Line → List ℕ
+words_of s other c sites line = if is_command s.sender c
+    then path_text s c (path_to sites line.site) ++ codes ": " ++ standing_text line.standing ++ cause_text s other (spot c sites line.site) line.cause
     else []

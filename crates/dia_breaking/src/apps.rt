@@ -28,8 +28,7 @@ impl Apps {
 
     /// The applications that commands of the code and the class name.
     pub fn of(&self, alloc: Global, code: u32, class: Class) -> Result<Vec<u32>, AllocError>
-        ensures { IfOk result
-            (λ apps. apps.items ≡ apps_of self.now code class) }
+        ensures { IfOk result (λ apps. apps.items ≡ apps_of self.now code class) }
     {
         match self.by_code.get(&code) {
             Some(rows) => apps_in(alloc, rows, class),
@@ -39,10 +38,8 @@ impl Apps {
 }
 
 fn push_app(by_code: &mut HashMap<u32, Vec<(Class, u32)>>, head: DefHead) -> Result<(), AllocError>
-    ensures { OnOk result ((code : ℕ)
-        → unwrap_or (option_map (λ v. v.items) (get nat_eq by_code.new code)) []
-        ≡ unwrap_or (option_map (λ v. v.items) (get nat_eq by_code.old code)) []
-        ++ filter_map (app_row code) (head ∷ [])) }
+    ensures { OnOk result ((code : ℕ) → unwrap_or (option_map (λ v. v.items) (get nat_eq by_code.new code)) []
+        ≡ unwrap_or (option_map (λ v. v.items) (get nat_eq by_code.old code)) [] ++ filter_map (app_row code) (head ∷ [])) }
 {
     if let DefHead::Command {
         code,
@@ -67,8 +64,7 @@ fn apps_in(alloc: Global, rows: &[(Class, u32)], class: Class) -> Result<Vec<u32
 }
 
 fn push_row(apps: &mut Vec<u32>, row: (Class, u32), class: Class) -> Result<(), AllocError>
-    ensures { OnOk result
-        (apps.new.items ≡ apps.old.items ++ filter_map (row_app class) (row ∷ [])) }
+    ensures { OnOk result (apps.new.items ≡ apps.old.items ++ filter_map (row_app class) (row ∷ [])) }
 {
     if row.0 == class {
         apps.push(row.1)?;

@@ -15,8 +15,7 @@ use dia_book::{Book, Class, DRule, DefId, Format, Key, MRule, Slot};
 pub(crate) fn group_of<B: Book>(book: &B, key: Key) -> Option<DefId>
     ensures within { IfSome result (λ def. def < length (definitions (B.meaning book.now))) }
     ensures group { is_some result ≡ is_some (group_of (B.meaning book.now) key) }
-    ensures definition { option_and_then (λ def. slice_get (definitions (B.meaning book.now)) def) result
-        ≡ group_of (B.meaning book.now) key }
+    ensures definition { option_and_then (slice_get (definitions (B.meaning book.now))) result ≡ group_of (B.meaning book.now) key }
 {
     let entry = book.avp(key)?;
     book.group(entry)
@@ -38,8 +37,7 @@ pub(crate) fn name_of<B: Book>(book: &B, key: Key) -> Option<&str>
 }
 
 pub(crate) fn format_of<B: Book>(book: &B, key: Key) -> Option<&Format>
-    ensures { option_map (λ format. plain_format format.now) result
-        ≡ format_in (B.meaning book.now) key }
+    ensures { option_map (λ format. plain_format format.now) result ≡ format_in (B.meaning book.now) key }
 {
     let entry = book.avp(key)?;
     Some(book.format(entry))

@@ -1,6 +1,6 @@
 //! How often AVPs may stand in a level.
-ghost use Rattle.std.specs.Prelude.{◌≡◌, ◌++◌, OnOk, string_bytes};
-ghost use Rattle.dia_breaking.specs.Words.{bounds_of, bounds_text, max_text, no_bounds, rule_bounds, wild_bounds};
+ghost use Rattle.std.specs.Prelude.{◌≡◌, ◌++◌, OnOk};
+ghost use Rattle.dia_breaking.specs.Words.{bounds_of, bounds_text, max_text, no_bounds, rule_bounds, wild_bounds, Writes};
 
 use dia_book::DRule;
 use std::alloc::AllocError;
@@ -60,7 +60,7 @@ impl Bounds {
 
 /// Adds counts, as `3`, `0..1` or `1..*`.
 pub(crate) fn push_bounds(out: &mut String, bounds: Bounds) -> Result<(), AllocError>
-    ensures { OnOk result (string_bytes out.new ≡ string_bytes out.old ++ bounds_text bounds) }
+    ensures { OnOk result (Writes out.old out.new (bounds_text bounds)) }
 {
     let min = bounds.min;
     write!(out, "{min}")?;
@@ -68,7 +68,7 @@ pub(crate) fn push_bounds(out: &mut String, bounds: Bounds) -> Result<(), AllocE
 }
 
 fn push_max(out: &mut String, min: u32, max: Option<u32>) -> Result<(), AllocError>
-    ensures { OnOk result (string_bytes out.new ≡ string_bytes out.old ++ max_text min max) }
+    ensures { OnOk result (Writes out.old out.new (max_text min max)) }
 {
     match max {
         None => out.push_str("..*"),

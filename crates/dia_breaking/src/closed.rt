@@ -1,22 +1,20 @@
 //! Whether it is shown that nothing breaks but what the lines of an answer tell. What a walk has found is looked at anew, site
 //! by site.
-ghost use Rattle.std.specs.Prelude.{◌≡◌, ◌⊎◌, ◌++◌, ◌∷◌, [], ◌<◌, IfOk, IfSome, IsTrue, OnOk, Some};
-ghost use Rattle.std.specs.Prelude.{length, slice_get, option_and_then};
+ghost use Rattle.std.specs.Prelude.{◌≡◌, ◌⊎◌, ◌++◌, ◌∷◌, [], ◌<◌, IfOk, IsTrue, OnOk, length};
 ghost use Rattle.std.specs.List.{filter_map};
 ghost use Rattle.dia_book.specs.Dictionary.{definitions};
-ghost use Rattle.dia_breaking_sites.specs.Selection.{AreValid};
-ghost use Rattle.dia_breaking_avps.specs.Sent.{group_of};
 ghost use Rattle.dia_breaking.specs.Certified.{AreClosedAt, AreClosedTogether, IsClosedAt};
 ghost use Rattle.dia_breaking.specs.Certified.{IsClosedCommand, IsClosedGroup, way_to, ways_of};
-ghost use Rattle.dia_breaking.specs.Free.{AreValidWhereFree};
-ghost use Rattle.dia_breaking.specs.Headers.{head_in};
-ghost use Rattle.dia_breaking.specs.Lengths.{listed_length, other_length};
+ghost use Rattle.dia_breaking.specs.ClosedBy.{ground_of};
+ghost use Rattle.dia_breaking.specs.Free.{AllAreValid, AreValidWhereFree};
+ghost use Rattle.dia_breaking.specs.Headers.{HasHead};
 ghost use Rattle.dia_breaking.specs.Listing.{new_line};
-ghost use Rattle.dia_breaking.specs.Outlooks.{HaveGroupLines};
-ghost use Rattle.dia_breaking.specs.OwnKeys.{own_keys};
-ghost use Rattle.dia_breaking.specs.Telling.{IsTelling};
+ghost use Rattle.dia_breaking.specs.Sender.{costs_of};
+ghost use Rattle.dia_breaking.specs.Sides.{answer_of};
+ghost use Rattle.dia_breaking.specs.TheLines.{HaveSameSites};
+ghost use Rattle.dia_breaking.specs.Upgrades.{sides_of};
 
-use crate::books::command_of;
+use crate::books::{command_of, group_of};
 use crate::closing::Closing;
 use crate::headers::are_headers_met;
 use crate::heads::Head;
@@ -38,19 +36,11 @@ impl<'a, A: Book, B: Book> Upgrade<'a, A, B> {
         head: &Head,
         mut found: Breaks,
     ) -> Result<Breaks, AllocError>
-        requires within { found.command < length (definitions (A.meaning self.now.a.now)) }
-        requires head { IfSome (slice_get (definitions (A.meaning self.now.a.now)) found.command)
-            (λ c. head_in c.head ≡ Some head.now) }
-        ensures command { IfOk result (λ breaks. breaks.command ≡ found.command) }
-        ensures head { IfOk result
-            (λ breaks. (breaks.code ≡ found.code) × (breaks.class ≡ found.class)) }
-        ensures sites { IfOk result (λ breaks. breaks.sites.items ≡ found.sites.items) }
-        ensures free { IfOk result (λ breaks. ∥ AreValidWhereFree
-            (A.meaning self.now.a.now) (B.meaning self.now.b.now) self.now.sends self.now.unknown
-            breaks.sites.items breaks.lines.items breaks.command ∥₁) }
+        requires { HasHead (sides_of self.now).sender found.command head.now }
+        ensures same { IfOk result (HaveSameSites found) }
+        ensures free { IfOk result (λ breaks. ∥ AreValidWhereFree (sides_of self.now) (answer_of breaks) ∥₁) }
         ensures kept { IfOk result (λ breaks. (breaks.lines.items ≡ found.lines.items)
-            ⊎ (breaks.lines.items
-            ≡ found.lines.items ++ new_line 0 Cause.Unproved 0 ∷ [])) }
+            ⊎ (breaks.lines.items ≡ found.lines.items ++ new_line 0 Cause.Unproved 0 ∷ [])) }
     {
         let certified = self.is_certified(alloc, head, &found)?;
         if certified {
@@ -63,17 +53,13 @@ impl<'a, A: Book, B: Book> Upgrade<'a, A, B> {
     /// Whether it is shown that each message of a command with this head that is free of the lines is valid under B, by the
     /// sites that a walk has found. The error comes only where memory was refused.
     fn is_certified(&self, alloc: Global, head: &Head, found: &Breaks) -> Result<bool, AllocError>
-        requires within { found.now.command < length (definitions (A.meaning self.now.a.now)) }
-        requires head { IfSome (slice_get (definitions (A.meaning self.now.a.now)) found.now.command)
-            (λ c. head_in c.head ≡ Some head.now) }
-        ensures { IfOk result (λ yes. IsTrue yes → ∥ AreValidWhereFree
-            (A.meaning self.now.a.now) (B.meaning self.now.b.now) self.now.sends self.now.unknown
-            found.now.sites.items found.now.lines.items found.now.command ∥₁) }
+        requires { HasHead (sides_of self.now).sender found.now.command head.now }
+        ensures { IfOk result (λ yes. IsTrue yes → ∥ AreValidWhereFree (sides_of self.now) (answer_of found.now) ∥₁) }
     {
         if self.is_too_long(found.command) {
             return Ok(true);
         }
-        let met = are_headers_met(alloc, self.a, self.b, &self.apps, head, found)?;
+        let met = are_headers_met(alloc, self.lengths.book, self.b, &self.apps, head, found)?;
         if !met {
             return Ok(false);
         }
@@ -82,22 +68,17 @@ impl<'a, A: Book, B: Book> Upgrade<'a, A, B> {
 
     /// Whether no message has room for the least level of the command.
     fn is_too_long(&self, command: DefId) -> bool
-        requires { command < length (definitions (A.meaning self.now.a.now)) }
-        ensures { IsTrue result → ∥ AreValid (A.meaning self.now.a.now) (B.meaning self.now.b.now)
-            self.now.sends self.now.unknown command ∥₁ }
+        requires { command < length (definitions (sides_of self.now).sender) }
+        ensures { IsTrue result → ∥ AllAreValid (sides_of self.now) command ∥₁ }
     {
-        ROOM < length_least(self.a, command, &self.lengths)
+        ROOM < length_least(self.lengths.book, command, &self.lengths)
     }
 
     /// Whether the sites are closed, but for what the lines tell.
     fn are_closed(&self, alloc: Global, head: &Head, found: &Breaks) -> Result<bool, AllocError>
-        requires within { found.now.command < length (definitions (A.meaning self.now.a.now)) }
-        requires head { IfSome (slice_get (definitions (A.meaning self.now.a.now)) found.now.command)
-            (λ c. head_in c.head ≡ Some head.now) }
-        ensures { IfOk result (λ yes. IsTrue yes → ∥ AreClosedTogether
-            (A.meaning self.now.a.now) (B.meaning self.now.b.now) self.now.sends self.now.unknown
-            (listed_length (A.meaning self.now.a.now) self.now.sends self.now.lengths.entries.items)
-            found.now.sites.items found.now.lines.items found.now.command ∥₁) }
+        requires { HasHead (sides_of self.now).sender found.now.command head.now }
+        ensures { IfOk result (λ yes. IsTrue yes
+            → ∥ AreClosedTogether (sides_of self.now) (costs_of self.now.lengths).listed (answer_of found.now) ∥₁) }
     {
         let groups = groups_of(alloc, &found.sites)?;
         let closing = Closing::new(alloc, self, &groups, &found.lines)?;
@@ -118,8 +99,8 @@ fn groups_of(alloc: Global, sites: &[Site]) -> Result<Vec<Way>, AllocError>
 
 /// Adds the way to the site, if it is that of a group at which B's side reads a level.
 fn push_way(groups: &mut Vec<Way>, site: &Site) -> Result<(), AllocError>
-    ensures { OnOk result (groups.new.items ≡ groups.old.items
-        ++ filter_map (λ site. way_to site.place site.way site.is_read) (site.now ∷ [])) }
+    ensures { OnOk result (groups.new.items
+        ≡ groups.old.items ++ filter_map (λ site. way_to site.place site.way site.is_read) (site.now ∷ [])) }
 {
     if let Place::Group { key, .. } = site.place {
         if site.is_read {
@@ -136,28 +117,8 @@ fn are_sites_closed<A: Book, B: Book>(
     head: &Head,
     found: &Breaks,
 ) -> Result<bool, AllocError>
-    requires within { found.now.command
-        < length (definitions (A.meaning closing.now.upgrade.now.a.now)) }
-    requires head { IfSome (slice_get (definitions (A.meaning closing.now.upgrade.now.a.now))
-        found.now.command) (λ c. head_in c.head ≡ Some head.now) }
-    ensures { IfOk result (λ yes. IsTrue yes
-        → IsTelling (A.meaning closing.now.upgrade.now.a.now) (B.meaning closing.now.upgrade.now.b.now)
-        closing.now.upgrade.now.sends closing.now.upgrade.now.unknown
-        closing.now.upgrade.now.telling.value
-        → HaveGroupLines (A.meaning closing.now.upgrade.now.a.now)
-        (B.meaning closing.now.upgrade.now.b.now)
-        (listed_length (A.meaning closing.now.upgrade.now.lengths.book.now)
-        closing.now.upgrade.now.lengths.sends closing.now.upgrade.now.lengths.entries.items)
-        (other_length (A.meaning closing.now.upgrade.now.lengths.book.now)
-        closing.now.upgrade.now.lengths.sends closing.now.upgrade.now.lengths.entries.items)
-        closing.now.upgrade.now.outlooks.items
-        → AreClosedAt (A.meaning closing.now.upgrade.now.a.now)
-        (B.meaning closing.now.upgrade.now.b.now)
-        closing.now.upgrade.now.sends closing.now.upgrade.now.unknown
-        (listed_length (A.meaning closing.now.upgrade.now.a.now) closing.now.upgrade.now.sends
-        closing.now.upgrade.now.lengths.entries.items)
-        closing.now.groups.now (own_keys closing.now.lines.now) found.now.lines.items found.now.command
-        found.now.sites.items) }
+    requires { HasHead (sides_of closing.now.upgrade.now).sender found.now.command head.now }
+    ensures { IfOk result (λ yes. IsTrue yes → ∥ AreClosedAt (ground_of closing.now) (answer_of found.now) ∥₁) }
 {
     for (number, site) in found.sites.iter().enumerate() {
         if site.is_read {
@@ -179,28 +140,9 @@ fn is_site_closed<A: Book, B: Book>(
     number: usize,
     site: &Site,
 ) -> Result<bool, AllocError>
-    requires within { found.now.command
-        < length (definitions (A.meaning closing.now.upgrade.now.a.now)) }
-    requires head { IfSome (slice_get (definitions (A.meaning closing.now.upgrade.now.a.now))
-        found.now.command) (λ c. head_in c.head ≡ Some head.now) }
+    requires { HasHead (sides_of closing.now.upgrade.now).sender found.now.command head.now }
     ensures { IfOk result (λ yes. IsTrue yes
-        → IsTelling (A.meaning closing.now.upgrade.now.a.now) (B.meaning closing.now.upgrade.now.b.now)
-        closing.now.upgrade.now.sends closing.now.upgrade.now.unknown
-        closing.now.upgrade.now.telling.value
-        → HaveGroupLines (A.meaning closing.now.upgrade.now.a.now)
-        (B.meaning closing.now.upgrade.now.b.now)
-        (listed_length (A.meaning closing.now.upgrade.now.lengths.book.now)
-        closing.now.upgrade.now.lengths.sends closing.now.upgrade.now.lengths.entries.items)
-        (other_length (A.meaning closing.now.upgrade.now.lengths.book.now)
-        closing.now.upgrade.now.lengths.sends closing.now.upgrade.now.lengths.entries.items)
-        closing.now.upgrade.now.outlooks.items
-        → IsClosedAt (A.meaning closing.now.upgrade.now.a.now)
-        (B.meaning closing.now.upgrade.now.b.now)
-        closing.now.upgrade.now.sends closing.now.upgrade.now.unknown
-        (listed_length (A.meaning closing.now.upgrade.now.a.now) closing.now.upgrade.now.sends
-        closing.now.upgrade.now.lengths.entries.items)
-        closing.now.groups.now (own_keys closing.now.lines.now) found.now.lines.items found.now.command
-        number site.now) }
+        → ∥ IsClosedAt (ground_of closing.now) found.now.lines.items found.now.command number site.now ∥₁) }
 {
     let told = level_lines_at(alloc, &found.lines, number)?;
     match site.place {
@@ -220,17 +162,8 @@ fn is_command_closed<A: Book, B: Book>(
     app: u32,
     told: &[LevelLine],
 ) -> Result<bool, AllocError>
-    requires { command < length (definitions (A.meaning closing.now.upgrade.now.a.now)) }
-    ensures { IfOk result (λ yes. IsTrue yes
-        → IsTelling (A.meaning closing.now.upgrade.now.a.now) (B.meaning closing.now.upgrade.now.b.now)
-        closing.now.upgrade.now.sends closing.now.upgrade.now.unknown
-        closing.now.upgrade.now.telling.value
-        → IsClosedCommand (A.meaning closing.now.upgrade.now.a.now)
-        (B.meaning closing.now.upgrade.now.b.now)
-        closing.now.upgrade.now.sends closing.now.upgrade.now.unknown
-        (listed_length (A.meaning closing.now.upgrade.now.a.now) closing.now.upgrade.now.sends
-        closing.now.upgrade.now.lengths.entries.items)
-        closing.now.groups.now (own_keys closing.now.lines.now) told.now command head.now app) }
+    requires { command < length (definitions (sides_of closing.now.upgrade.now).sender) }
+    ensures { IfOk result (λ yes. IsTrue yes → ∥ IsClosedCommand (ground_of closing.now) told.now command head.now app ∥₁) }
 {
     let Some(def) = command_of(closing.upgrade.b, head.code, head.class, app) else {
         return Ok(false);
@@ -246,42 +179,17 @@ fn is_group_closed<A: Book, B: Book>(
     way: u64,
     told: &[LevelLine],
 ) -> bool
-    ensures { IsTrue result
-        → IsTelling (A.meaning closing.now.upgrade.now.a.now) (B.meaning closing.now.upgrade.now.b.now)
-        closing.now.upgrade.now.sends closing.now.upgrade.now.unknown
-        closing.now.upgrade.now.telling.value
-        → HaveGroupLines (A.meaning closing.now.upgrade.now.a.now)
-        (B.meaning closing.now.upgrade.now.b.now)
-        (listed_length (A.meaning closing.now.upgrade.now.lengths.book.now)
-        closing.now.upgrade.now.lengths.sends closing.now.upgrade.now.lengths.entries.items)
-        (other_length (A.meaning closing.now.upgrade.now.lengths.book.now)
-        closing.now.upgrade.now.lengths.sends closing.now.upgrade.now.lengths.entries.items)
-        closing.now.upgrade.now.outlooks.items
-        → IsClosedGroup (A.meaning closing.now.upgrade.now.a.now)
-        (B.meaning closing.now.upgrade.now.b.now)
-        closing.now.upgrade.now.sends closing.now.upgrade.now.unknown
-        (listed_length (A.meaning closing.now.upgrade.now.a.now) closing.now.upgrade.now.sends
-        closing.now.upgrade.now.lengths.entries.items)
-        closing.now.groups.now (own_keys closing.now.lines.now) told.now key way }
+    ensures { IsTrue result → ∥ IsClosedGroup (ground_of closing.now) told.now key way ∥₁ }
 {
-    let Some(a_def) = group_def(closing.upgrade.a, key) else {
+    let upgrade = closing.upgrade;
+    let Some(a_def) = group_of(upgrade.lengths.book, key) else {
         return false;
     };
-    let Some(b_def) = group_def(closing.upgrade.b, key) else {
+    let Some(b_def) = group_of(upgrade.b, key) else {
         return false;
     };
-    let Some(lines) = closing.upgrade.level_lines_of(key) else {
+    let Some(lines) = upgrade.level_lines_of(key) else {
         return false;
     };
     closing.is_closed(a_def, b_def, way, lines, told)
-}
-
-/// The definition of the group with this key.
-fn group_def<B: Book>(book: &B, key: Key) -> Option<DefId>
-    ensures within { IfSome result (λ def. def < length (definitions (B.meaning book.now))) }
-    ensures group { option_and_then (λ def. slice_get (definitions (B.meaning book.now)) def) result
-        ≡ group_of (B.meaning book.now) key }
-{
-    let entry = book.avp(key)?;
-    book.group(entry)
 }

@@ -1,24 +1,19 @@
 //! Whether a pair of definitions is closed: what breaks in the levels that both read is told, and their groups lead to known sites.
-ghost use Rattle.std.specs.Prelude.{◌≡◌, ◌+◌, ◌<◌, ◌≤◌, IfOk, OnOk, IsTrue, All, Contains, false};
-ghost use Rattle.std.specs.Prelude.{length, map, find, not};
+ghost use Rattle.std.specs.Prelude.{◌≡◌, ◌+◌, ◌<◌, ◌≤◌, IfOk, OnOk, IsTrue, All, Contains, false, length, map, find};
 ghost use Rattle.std.specs.HashMap.{get};
 ghost use Rattle.std.specs.HashSet.{contains};
 ghost use Rattle.std.specs.List.{list_all};
-ghost use Rattle.std.specs.List.Sorted.{IsPermutation, IsNonDecreasingBy};
 ghost use Rattle.dia_book.specs.Keys.{same_key};
 ghost use Rattle.dia_book.specs.Dictionary.{definitions};
-ghost use Rattle.dia_check.specs.Valid.{is_listed};
 ghost use Rattle.dia_breaking_sites.specs.Selection.{max_body};
 ghost use Rattle.dia_compat.specs.Tests.{rules_in};
-ghost use Rattle.dia_breaking_levels.specs.Levels.{HasEachLine};
-ghost use Rattle.dia_breaking_levels.specs.LevelTests.{price};
-ghost use Rattle.dia_breaking.specs.ClosedRules.{AreWaysOf, IsFirst, IsLongOrTold, first_spare};
+ghost use Rattle.dia_breaking.specs.ClosedRules.{AreWaysOf, IsFirst, IsLongOrTold, first_spare, is_unlisted};
 ghost use Rattle.dia_breaking.specs.ClosedRules.{is_closed_rule, is_fine, is_safe, is_settled, leads};
 ghost use Rattle.dia_breaking.specs.ClosedRules.{other_of, spare_by_way};
-ghost use Rattle.dia_breaking.specs.Closing.{IsClosedBy};
-ghost use Rattle.dia_breaking.specs.Lengths.{listed_length, other_length};
-ghost use Rattle.dia_breaking.specs.OwnKeys.{AddsOwnKey, AreOwnKeys, own_keys};
-ghost use Rattle.dia_breaking.specs.Telling.{IsTelling};
+ghost use Rattle.dia_breaking.specs.Outlooks.{HasLinesFor};
+ghost use Rattle.dia_breaking.specs.OwnKeys.{AddsOwnKey, AreOwnKeys};
+ghost use Rattle.dia_breaking.specs.Sender.{costs_of};
+ghost use Rattle.dia_breaking.specs.Upgrades.{sides_of};
 
 use crate::books::{lists, rules_of};
 use crate::keys::Own;
@@ -47,13 +42,14 @@ pub(crate) struct Closing<'u, 'a, A: Book, B: Book> {
     pub others: Vec<Other>,
     ghost ways_are: { AreWaysOf groups.now (get same_key ways) },
     ghost own_keys_are: { AreOwnKeys lines.now (contains same_key own_keys) },
-    ghost first: { IsFirst (other_length (A.meaning upgrade.now.lengths.book.now)
-        upgrade.now.lengths.sends upgrade.now.lengths.entries.items)
-        (contains same_key own_keys) (get same_key ways) upgrade.now.telling.value.own.items
-        others.items },
+    ghost first: { IsFirst (costs_of upgrade.now.lengths).other (contains same_key own_keys) (get same_key ways)
+        upgrade.now.telling.value.own.items others.items },
 }
 
 impl<'u, 'a, A: Book, B: Book> Closing<'u, 'a, A, B> {
+    ghost use Rattle.dia_breaking.specs.Closing.{IsClosedBy};
+    ghost use Rattle.dia_breaking.specs.ClosedBy.{ground_of, look_ups_of};
+
     /// `groups` are the sites of groups, the key of each and the way to it, and `lines` what is told.
     pub fn new(
         alloc: Global,
@@ -95,30 +91,17 @@ impl<'u, 'a, A: Book, B: Book> Closing<'u, 'a, A, B> {
         lines: &[LevelLine],
         told: &[LevelLine],
     ) -> bool
-        requires first { a_def < length (definitions (A.meaning self.now.upgrade.now.a.now)) }
-        requires second { b_def < length (definitions (B.meaning self.now.upgrade.now.b.now)) }
-        ensures { IsTrue result
-            → IsTelling (A.meaning self.now.upgrade.now.a.now) (B.meaning self.now.upgrade.now.b.now)
-            self.now.upgrade.now.sends self.now.upgrade.now.unknown
-            self.now.upgrade.now.telling.value
-            → HasEachLine (price
-            (listed_length (A.meaning self.now.upgrade.now.lengths.book.now)
-            self.now.upgrade.now.lengths.sends self.now.upgrade.now.lengths.entries.items)
-            (other_length (A.meaning self.now.upgrade.now.lengths.book.now)
-            self.now.upgrade.now.lengths.sends self.now.upgrade.now.lengths.entries.items)
-            (rules_in (A.meaning self.now.upgrade.now.a.now) a_def))
-            (rules_in (A.meaning self.now.upgrade.now.a.now) a_def)
-            (rules_in (B.meaning self.now.upgrade.now.b.now) b_def) lines.now
-            → IsClosedBy (A.meaning self.now.upgrade.now.a.now) (B.meaning self.now.upgrade.now.b.now)
-            self.now.upgrade.now.sends self.now.upgrade.now.unknown
-            (listed_length (A.meaning self.now.upgrade.now.a.now) self.now.upgrade.now.sends
-            self.now.upgrade.now.lengths.entries.items)
-            self.now.groups.now told.now (own_keys self.now.lines.now) a_def b_def way }
+        requires first { a_def < length (definitions (sides_of self.now.upgrade.now).sender) }
+        requires second { b_def < length (definitions (sides_of self.now.upgrade.now).receiver) }
+        ensures { IsTrue result → ∥ (HasLinesFor (costs_of self.now.upgrade.now.lengths)
+            (rules_in (sides_of self.now.upgrade.now).sender a_def) (rules_in (sides_of self.now.upgrade.now).receiver b_def) lines.now
+            → IsClosedBy (ground_of self.now) told.now a_def b_def way) ∥₁ }
     {
         if ROOM < way {
             return false;
         }
-        let cost = LevelCost::new(self.upgrade.a, a_def, &self.upgrade.lengths);
+        let upgrade = self.upgrade;
+        let cost = LevelCost::new(upgrade.lengths.book, a_def, &upgrade.lengths);
         if !self.are_rules_closed(a_def, way, &cost)
             || !self.is_wildcard_closed(a_def, way, &cost)
         {
@@ -129,24 +112,19 @@ impl<'u, 'a, A: Book, B: Book> Closing<'u, 'a, A, B> {
 
     /// Whether each AVP that a rule lists is settled, or has no room.
     fn are_rules_closed(&self, a_def: DefId, way: u64, cost: &LevelCost) -> bool
-        requires { a_def < length (definitions (A.meaning self.now.upgrade.now.a.now)) }
-        ensures { result ≡ list_all (is_closed_rule (contains same_key self.now.own_keys)
-            self.now.upgrade.now.telling.value (get same_key self.now.ways)
-            (listed_length (A.meaning self.now.upgrade.now.lengths.book.now)
-            self.now.upgrade.now.lengths.sends self.now.upgrade.now.lengths.entries.items)
-            cost.now way) (rules_in (A.meaning self.now.upgrade.now.a.now) a_def) }
+        requires { a_def < length (definitions (sides_of self.now.upgrade.now).sender) }
+        ensures { result ≡ list_all (is_closed_rule (look_ups_of self.now) (costs_of self.now.upgrade.now.lengths).listed
+            cost.now way) (rules_in (sides_of self.now.upgrade.now).sender a_def) }
     {
-        rules_of(self.upgrade.a, a_def)
+        let upgrade = self.upgrade;
+        rules_of(upgrade.lengths.book, a_def)
             .iter()
             .all(|rule| self.is_rule_closed(way, cost, rule))
     }
 
     fn is_rule_closed(&self, way: u64, cost: &LevelCost, rule: &DRule) -> bool
-        ensures { result ≡ is_closed_rule (contains same_key self.now.own_keys)
-            self.now.upgrade.now.telling.value (get same_key self.now.ways)
-            (listed_length (A.meaning self.now.upgrade.now.lengths.book.now)
-            self.now.upgrade.now.lengths.sends self.now.upgrade.now.lengths.entries.items)
-            cost.now way rule.now }
+        ensures { result
+            ≡ is_closed_rule (look_ups_of self.now) (costs_of self.now.upgrade.now.lengths).listed cost.now way rule.now }
     {
         match rule.key {
             Some(key) => {
@@ -161,8 +139,7 @@ impl<'u, 'a, A: Book, B: Book> Closing<'u, 'a, A, B> {
     /// Whether a key whose least AVP stands in messages of this length is settled, or there is nothing to tell of it.
     fn is_safe(&self, key: Key, least: u64, length: u64) -> bool
         requires { length ≤ max_body }
-        ensures { result ≡ is_safe (contains same_key self.now.own_keys)
-            self.now.upgrade.now.telling.value (get same_key self.now.ways) key least length }
+        ensures { result ≡ is_safe (look_ups_of self.now) key least length }
     {
         match self.upgrade.telling.find(key) {
             Some(own) => self.is_settled(&own, least, length),
@@ -173,8 +150,7 @@ impl<'u, 'a, A: Book, B: Book> Closing<'u, 'a, A, B> {
     /// Whether the AVP is fine by itself, and leads to its site if both dictionaries see a level in it.
     fn is_settled(&self, own: &Own, least: u64, length: u64) -> bool
         requires { length ≤ max_body }
-        ensures { result ≡ is_settled (contains same_key self.now.own_keys)
-            (get same_key self.now.ways) least length own.now }
+        ensures { result ≡ is_settled (look_ups_of self.now).tells (look_ups_of self.now).ways least length own.now }
     {
         is_fine(&self.own_keys, own) && (!own.is_group || self.leads(own.key, least, length))
     }
@@ -196,20 +172,18 @@ impl<'u, 'a, A: Book, B: Book> Closing<'u, 'a, A, B> {
     /// Whether no message has room for an AVP that the wildcard lets in, of which there is something to tell, and that isn't
     /// settled. It is enough to look at the first AVP that no rule lists, since the others have no less to spare.
     fn is_wildcard_closed(&self, a_def: DefId, way: u64, cost: &LevelCost) -> bool
-        requires { a_def < length (definitions (A.meaning self.now.upgrade.now.a.now)) }
-        ensures { IsTrue result → max_body < way + cost.now.beside + first_spare
-            (λ key. not (is_listed (rules_in (A.meaning self.now.upgrade.now.a.now) a_def) key))
-            self.now.others.items }
+        requires { a_def < length (definitions (sides_of self.now.upgrade.now).sender) }
+        ensures { IsTrue result → max_body < way + cost.now.beside
+            + first_spare (is_unlisted (rules_in (sides_of self.now.upgrade.now).sender a_def)) self.now.others.items }
     {
         let beside = way.saturating_add(cost.beside);
         ROOM < beside.saturating_add(self.least_spare(a_def))
     }
 
     fn least_spare(&self, a_def: DefId) -> u64
-        requires { a_def < length (definitions (A.meaning self.now.upgrade.now.a.now)) }
-        ensures { result ≡ first_spare
-            (λ key. not (is_listed (rules_in (A.meaning self.now.upgrade.now.a.now) a_def) key))
-            self.now.others.items }
+        requires { a_def < length (definitions (sides_of self.now.upgrade.now).sender) }
+        ensures { result
+            ≡ first_spare (is_unlisted (rules_in (sides_of self.now.upgrade.now).sender a_def)) self.now.others.items }
     {
         match self.first_other(a_def) {
             Some(other) => other.spare,
@@ -218,15 +192,15 @@ impl<'u, 'a, A: Book, B: Book> Closing<'u, 'a, A, B> {
     }
 
     fn first_other(&self, a_def: DefId) -> Option<Other>
-        requires { a_def < length (definitions (A.meaning self.now.upgrade.now.a.now)) }
-        ensures { result ≡ find (λ other. not (is_listed
-            (rules_in (A.meaning self.now.upgrade.now.a.now) a_def) other.key))
-            self.now.others.items }
+        requires { a_def < length (definitions (sides_of self.now.upgrade.now).sender) }
+        ensures { result ≡ find
+            (λ other. is_unlisted (rules_in (sides_of self.now.upgrade.now).sender a_def) other.key) self.now.others.items }
     {
+        let upgrade = self.upgrade;
         self.others
             .iter()
             .copied()
-            .find(|other| !lists(self.upgrade.a, a_def, other.key))
+            .find(|other| !lists(upgrade.lengths.book, a_def, other.key))
     }
 }
 
@@ -252,8 +226,7 @@ fn own_keys_of(alloc: Global, lines: &[Line]) -> Result<HashSet<Key>, AllocError
 }
 
 fn add_own_key(keys: &mut HashSet<Key>, line: &Line) -> Result<(), AllocError>
-    ensures { OnOk result (AddsOwnKey line.now.cause
-        (contains same_key keys.old) (contains same_key keys.new)) }
+    ensures { OnOk result (AddsOwnKey line.now.cause (contains same_key keys.old) (contains same_key keys.new)) }
 {
     if let Some(key) = line.cause.own_key() {
         keys.insert(key)?;
@@ -276,10 +249,8 @@ fn others_of<C: Costs>(
     own_keys: &HashSet<Key>,
     ways: &HashMap<Key, u64>,
 ) -> Result<Vec<Other>, AllocError>
-    ensures sorted { IfOk result (λ others. IsNonDecreasingBy (λ o. o.spare) others.items) }
-    ensures all { IfOk result (λ others. IsPermutation
-        (map (other_of (C.other_length costs.now) (contains same_key own_keys.now)
-        (get same_key ways.now)) told.now) others.items) }
+    ensures { IfOk result (λ others. IsFirst (C.other_length costs.now) (contains same_key own_keys.now) (get same_key ways.now)
+        told.now others.items) }
 {
     let mut others = all_others(alloc, told, costs, own_keys, ways)?;
     others.sort_by_key(|other| other.spare)?;
@@ -294,8 +265,7 @@ fn all_others<C: Costs>(
     ways: &HashMap<Key, u64>,
 ) -> Result<Vec<Other>, AllocError>
     ensures { IfOk result (λ others. others.items
-        ≡ map (other_of (C.other_length costs.now) (contains same_key own_keys.now)
-        (get same_key ways.now)) told.now) }
+        ≡ map (other_of (C.other_length costs.now) (contains same_key own_keys.now) (get same_key ways.now)) told.now) }
 {
     told.iter()
         .map(|own| other_of(costs, own_keys, ways, own))
@@ -308,8 +278,7 @@ fn other_of<C: Costs>(
     ways: &HashMap<Key, u64>,
     own: &Own,
 ) -> Other
-    ensures { result ≡ other_of (C.other_length costs.now) (contains same_key own_keys.now)
-        (get same_key ways.now) own.now }
+    ensures { result ≡ other_of (C.other_length costs.now) (contains same_key own_keys.now) (get same_key ways.now) own.now }
 {
     Other {
         key: own.key,

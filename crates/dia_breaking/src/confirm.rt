@@ -7,6 +7,8 @@ ghost use Rattle.dia_breaking.specs.Confirmed.{EachConfirmedBreaks, HaveStanding
 ghost use Rattle.dia_breaking.specs.Confirmed.{IsStandingOf, has_no_message, is_checked, left_behind};
 ghost use Rattle.dia_breaking.specs.Confirmed.{most_checked_together};
 ghost use Rattle.dia_breaking.specs.Listing.{unchecked};
+ghost use Rattle.dia_breaking.specs.TheLines.{HaveSameSites};
+ghost use Rattle.dia_breaking.specs.Upgrades.{sides_of};
 
 use crate::line::{Breaks, Cause, Line, Standing};
 use crate::upgrade::Upgrade;
@@ -31,9 +33,7 @@ impl<'a, A: Book, B: Book> Upgrade<'a, A, B> {
         breaks: &Breaks,
         line: &Line,
     ) -> Result<Option<Vec<u8>>, AllocError>
-        ensures { IfOk result (λ found. IfSome found (λ bytes. IsConfirmed
-            (A.meaning self.now.a.now) (B.meaning self.now.b.now)
-            self.now.sends self.now.unknown bytes.items breaks.now.command)) }
+        ensures { IfOk result (λ found. IfSome found (λ bytes. IsConfirmed (sides_of self.now) bytes.items breaks.now.command)) }
     {
         let bytes = self.message(alloc, breaks, line)?;
         if self.is_confirmed(alloc, breaks.command, &bytes)? {
@@ -44,27 +44,25 @@ impl<'a, A: Book, B: Book> Upgrade<'a, A, B> {
     }
 
     fn is_confirmed(&self, alloc: Global, command: DefId, bytes: &[u8]) -> Result<bool, AllocError>
-        ensures { IfOk result (λ yes. IsTrue yes → IsConfirmed
-            (A.meaning self.now.a.now) (B.meaning self.now.b.now)
-            self.now.sends self.now.unknown bytes.now command) }
+        ensures { IfOk result (λ yes. IsTrue yes → IsConfirmed (sides_of self.now) bytes.now command) }
     {
-        let sent = is_message_of(alloc, self.a, own_policy(self.sends), command, bytes)?;
+        let sent = is_message_of(
+            alloc,
+            self.lengths.book,
+            own_policy(self.lengths.sends),
+            command,
+            bytes,
+        )?;
         let accepted = is_valid(alloc, self.b, self.unknown, bytes)?;
         Ok(sent && !accepted)
     }
 
     /// The lines with what is known of each. Where the lines stand, and what they tell, doesn't change.
     pub(crate) fn with_standings(&self, alloc: Global, breaks: Breaks) -> Result<Breaks, AllocError>
-        ensures command { IfOk result (λ told. told.command ≡ breaks.command) }
-        ensures head { IfOk result (λ told. (told.code ≡ breaks.code) × (told.class ≡ breaks.class)) }
-        ensures sites { IfOk result (λ told. told.sites ≡ breaks.sites) }
-        ensures kept { IfOk result (λ told. map unchecked told.lines.items
-            ≡ map unchecked breaks.lines.items) }
-        ensures each { IfOk result (λ told. EachConfirmedBreaks
-            (A.meaning self.now.a.now) (B.meaning self.now.b.now)
-            self.now.sends self.now.unknown breaks.command told.lines.items) }
-        ensures standings { IfOk result
-            (λ told. HaveStandings most_checked_together told.lines.items) }
+        ensures same { IfOk result (HaveSameSites breaks) }
+        ensures kept { IfOk result (λ told. map unchecked told.lines.items ≡ map unchecked breaks.lines.items) }
+        ensures each { IfOk result (λ told. EachConfirmedBreaks (sides_of self.now) breaks.command told.lines.items) }
+        ensures standings { IfOk result (λ told. HaveStandings most_checked_together told.lines.items) }
     {
         let mut lines = Vec::new(alloc);
         let mut left = MOST_CHECKED_TOGETHER;
@@ -85,8 +83,7 @@ impl<'a, A: Book, B: Book> Upgrade<'a, A, B> {
         left: u64,
     ) -> Result<Standing, AllocError>
         ensures confirmed { IfOk result (λ standing. standing ≡ Standing.Confirmed
-            → (bytes : List ℕ) × IsConfirmed (A.meaning self.now.a.now) (B.meaning self.now.b.now)
-            self.now.sends self.now.unknown bytes breaks.now.command) }
+            → (bytes : List ℕ) × IsConfirmed (sides_of self.now) bytes breaks.now.command) }
         ensures standing { IfOk result (IsStandingOf left line.now) }
     {
         if has_no_message(&line.cause) {
@@ -146,8 +143,7 @@ fn is_message_of<B: Book>(
     command: DefId,
     bytes: &[u8],
 ) -> Result<bool, AllocError>
-    ensures { IfOk result
-        (λ yes. IsTrue yes → IsValidOf (B.meaning book.now) unknown Any bytes.now command) }
+    ensures { IfOk result (λ yes. IsTrue yes → IsValidOf (B.meaning book.now) unknown Any bytes.now command) }
 {
     match check(alloc, book, unknown, Levels::Any, bytes) {
         Ok(found) => {
@@ -172,8 +168,7 @@ fn is_valid<B: Book>(
     unknown: Unknown,
     bytes: &[u8],
 ) -> Result<bool, AllocError>
-    ensures { IfOk result
-        (λ yes. IsTrue yes ↔ IsValid (B.meaning book.now) unknown Any bytes.now) }
+    ensures { IfOk result (λ yes. IsTrue yes ↔ IsValid (B.meaning book.now) unknown Any bytes.now) }
 {
     match check(alloc, book, unknown, Levels::Any, bytes) {
         Ok(_) => Ok(true),

@@ -1,14 +1,13 @@
 //! What is the same for all commands: where the levels of groups lead, and how they break.
-ghost use Rattle.std.specs.Prelude.{◌≡◌, ◌<◌, ◌++◌, ℕ, All, IfOk, IfSome, OnOk, length, option_to_list};
+ghost use Rattle.std.specs.Prelude.{◌≡◌, ◌<◌, ◌++◌, IfOk, IfSome, OnOk, length, option_to_list};
 ghost use Rattle.std.specs.List.{filter_map};
 ghost use Rattle.dia_book.specs.Dictionary.{definitions};
 ghost use Rattle.dia_compat.specs.Tests.{rules_in};
-ghost use Rattle.dia_breaking_levels.specs.Exact.{AreLevelLines};
-ghost use Rattle.dia_breaking_levels.specs.Levels.{FirstIsShortest};
-ghost use Rattle.dia_breaking.specs.Exits.{AreExits, AreOutlooks, IsInnerOrNone, exit_by};
-ghost use Rattle.dia_breaking.specs.Lengths.{listed_length, other_length};
-ghost use Rattle.dia_breaking.specs.Outlooks.{group_rules, HasGroupLines, HaveGroupLines};
-ghost use Rattle.dia_breaking.specs.TheLines.{HasLevelLines};
+ghost use Rattle.dia_breaking.specs.Exits.{AreExits, IsInnerOrNone, exit_by};
+ghost use Rattle.dia_breaking.specs.LevelCosts.{PicksShortest};
+ghost use Rattle.dia_breaking.specs.Outlooks.{group_rules, HasGroupLines};
+ghost use Rattle.dia_breaking.specs.Sender.{costs_of, sender_in};
+ghost use Rattle.dia_breaking.specs.TheLines.{AreAllOutlooks, AreLinesOf};
 
 use crate::books::{group_of, rules_of};
 use crate::keys::Telling;
@@ -33,19 +32,15 @@ pub(crate) struct Exits {
 impl Exits {
     pub fn of<A: Book>(
         alloc: Global,
-        a: &A,
         def: DefId,
         telling: &Telling,
         lengths: &Lengths<'_, A>,
     ) -> Result<Self, AllocError>
-        requires { def < length (definitions (A.meaning a.now)) }
-        ensures { IfOk result (AreExits telling.now
-            (listed_length (A.meaning lengths.now.book.now) lengths.now.sends lengths.now.entries.items)
-            (other_length (A.meaning lengths.now.book.now) lengths.now.sends lengths.now.entries.items)
-            lengths.now.others.items (rules_in (A.meaning a.now) def)) }
+        requires { def < length (definitions (sender_in lengths.now)) }
+        ensures { IfOk result (AreExits telling.now (costs_of lengths.now) (rules_in (sender_in lengths.now) def)) }
     {
-        let cost = LevelCost::new(a, def, lengths);
-        let listed = exits_by(alloc, rules_of(a, def), telling, lengths, &cost)?;
+        let cost = LevelCost::new(lengths.book, def, lengths);
+        let listed = exits_by(alloc, rules_of(lengths.book, def), telling, lengths, &cost)?;
         Ok(Exits {
             base: cost.base,
             listed,
@@ -61,9 +56,8 @@ fn exits_by<A: Book>(
     lengths: &Lengths<'_, A>,
     cost: &LevelCost,
 ) -> Result<Vec<(usize, u64)>, AllocError>
-    ensures { IfOk result (λ listed. listed.items ≡ filter_map (exit_by telling.now
-        (listed_length (A.meaning lengths.now.book.now) lengths.now.sends lengths.now.entries.items)
-        cost.now) rules.now) }
+    ensures { IfOk result (λ listed. listed.items
+        ≡ filter_map (exit_by telling.now (costs_of lengths.now).listed cost.now) rules.now) }
 {
     let mut listed = Vec::new(alloc);
     for rule in rules {
@@ -88,9 +82,7 @@ fn exit_by<A: Book>(
     lengths: &Lengths<'_, A>,
     cost: &LevelCost,
 ) -> Option<(usize, u64)>
-    ensures { result ≡ exit_by telling.now
-        (listed_length (A.meaning lengths.now.book.now) lengths.now.sends lengths.now.entries.items)
-        cost.now rule.now }
+    ensures { result ≡ exit_by telling.now (costs_of lengths.now).listed cost.now rule.now }
 {
     let key = rule.key?;
     let place = telling.places.get(&key).copied()?;
@@ -119,37 +111,18 @@ pub(crate) struct Outlook {
 /// The AVPs of which there is something to tell, in the order of `Telling::own`.
 pub(crate) fn outlooks<A: Book, B: Book>(
     alloc: Global,
-    a: &A,
     b: &B,
     telling: &Telling,
     lengths: &Lengths<'_, A>,
 ) -> Result<Vec<Outlook>, AllocError>
-    requires { (x y : ℕ) → FirstIsShortest (other_length (A.meaning lengths.now.book.now)
-        lengths.now.sends lengths.now.entries.items) lengths.now.others.items
-        (rules_in (A.meaning a.now) x) (rules_in (B.meaning b.now) y) }
-    ensures exact { IfOk result (λ outlooks. AreOutlooks (A.meaning a.now) (B.meaning b.now)
-        telling.now
-        (listed_length (A.meaning lengths.now.book.now)
-        lengths.now.sends lengths.now.entries.items)
-        (other_length (A.meaning lengths.now.book.now)
-        lengths.now.sends lengths.now.entries.items)
-        lengths.now.others.items outlooks.items) }
-    ensures lines { IfOk result (λ outlooks. HaveGroupLines (A.meaning a.now) (B.meaning b.now)
-        (listed_length (A.meaning lengths.now.book.now)
-        lengths.now.sends lengths.now.entries.items)
-        (other_length (A.meaning lengths.now.book.now)
-        lengths.now.sends lengths.now.entries.items) outlooks.items) }
-    ensures levels { IfOk result (λ outlooks. All (HasLevelLines (A.meaning a.now) (B.meaning b.now)
-        (listed_length (A.meaning lengths.now.book.now)
-        lengths.now.sends lengths.now.entries.items)
-        (other_length (A.meaning lengths.now.book.now)
-        lengths.now.sends lengths.now.entries.items)
-        lengths.now.others.items) outlooks.items) }
+    requires { PicksShortest (sender_in lengths.now) (B.meaning b.now) (costs_of lengths.now) }
+    ensures { IfOk result (λ outlooks. AreAllOutlooks
+        (sender_in lengths.now) (B.meaning b.now) telling.now (costs_of lengths.now) outlooks.items) }
 {
     let mut outlooks = Vec::new(alloc);
     for own in &telling.own {
         let key = own.key;
-        let inner = inner_of(alloc, a, b, key, telling, lengths)?;
+        let inner = inner_of(alloc, b, key, telling, lengths)?;
         outlooks.push(Outlook {
             key,
             other: lengths.other(key),
@@ -161,36 +134,19 @@ pub(crate) fn outlooks<A: Book, B: Book>(
 
 fn inner_of<A: Book, B: Book>(
     alloc: Global,
-    a: &A,
     b: &B,
     key: Key,
     telling: &Telling,
     lengths: &Lengths<'_, A>,
 ) -> Result<Option<Inner>, AllocError>
-    requires { (x y : ℕ) → FirstIsShortest (other_length (A.meaning lengths.now.book.now)
-        lengths.now.sends lengths.now.entries.items) lengths.now.others.items
-        (rules_in (A.meaning a.now) x) (rules_in (B.meaning b.now) y) }
-    ensures exact { IfOk result (IsInnerOrNone (A.meaning a.now) (B.meaning b.now) telling.now
-        (listed_length (A.meaning lengths.now.book.now)
-        lengths.now.sends lengths.now.entries.items)
-        (other_length (A.meaning lengths.now.book.now)
-        lengths.now.sends lengths.now.entries.items)
-        lengths.now.others.items key) }
+    requires { PicksShortest (sender_in lengths.now) (B.meaning b.now) (costs_of lengths.now) }
+    ensures exact { IfOk result (IsInnerOrNone (sender_in lengths.now) (B.meaning b.now) telling.now (costs_of lengths.now) key) }
     ensures lines { IfOk result (λ inner. IfSome inner (λ inner. HasGroupLines
-        (A.meaning a.now) (B.meaning b.now)
-        (listed_length (A.meaning lengths.now.book.now)
-        lengths.now.sends lengths.now.entries.items)
-        (other_length (A.meaning lengths.now.book.now)
-        lengths.now.sends lengths.now.entries.items) key inner.lines.items)) }
-    ensures levels { IfOk result (λ inner. IfSome inner (λ inner. AreLevelLines
-        (listed_length (A.meaning lengths.now.book.now)
-        lengths.now.sends lengths.now.entries.items)
-        (other_length (A.meaning lengths.now.book.now)
-        lengths.now.sends lengths.now.entries.items) lengths.now.others.items
-        (group_rules (A.meaning a.now) key) (group_rules (B.meaning b.now) key)
-        inner.lines.items)) }
+        (sender_in lengths.now) (B.meaning b.now) (costs_of lengths.now) key inner.lines.items)) }
+    ensures levels { IfOk result (λ inner. IfSome inner (λ inner. AreLinesOf (costs_of lengths.now)
+        (group_rules (sender_in lengths.now) key) (group_rules (B.meaning b.now) key) inner.lines.items)) }
 {
-    let Some(a_def) = group_of(a, key) else {
+    let Some(a_def) = group_of(lengths.book, key) else {
         return Ok(None);
     };
     let Some(b_def) = group_of(b, key) else {
@@ -198,7 +154,7 @@ fn inner_of<A: Book, B: Book>(
     };
     Ok(Some(Inner {
         least: lengths.listed(key).saturating_sub(shortest_head(key)),
-        exits: Exits::of(alloc, a, a_def, telling, lengths)?,
-        lines: level_lines(alloc, a, a_def, b, b_def, lengths)?,
+        exits: Exits::of(alloc, a_def, telling, lengths)?,
+        lines: level_lines(alloc, lengths.book, a_def, b, b_def, lengths)?,
     }))
 }

@@ -1,11 +1,11 @@
 //! The words of formats, and of data.
-ghost use Rattle.std.specs.Prelude.{◌≡◌, ◌++◌, ℕ, List, None, OnOk, IfNone, IfSome, codes};
-ghost use Rattle.std.specs.Prelude.{is_some, string_bytes};
-ghost use Rattle.std.specs.Option.{option_map, option_map_or};
+ghost use Rattle.std.specs.Prelude.{◌≡◌, ◌++◌, ℕ, List, None, Some, OnOk, IfNone, IfSome, codes, is_some};
+ghost use Rattle.std.specs.Option.{option_map_or};
 ghost use Rattle.dia_data.specs.Plain.{plain_format, Enumerated};
 ghost use Rattle.dia_breaking_data.specs.Shortest.{witness_bytes};
 ghost use Rattle.dia_breaking.specs.Words.{data_text, format_detail, format_word, formats_text};
-ghost use Rattle.dia_breaking.specs.Words.{number_text, ranges_at, ranges_in, AreListed};
+ghost use Rattle.dia_breaking.specs.Words.{number_text, ranges_at, ranges_in, AreListed, Writes};
+ghost use Rattle.dia_breaking.specs.Words.{bytes_of, plain_of};
 
 use dia_book::Format;
 use dia_breaking_data::Witness;
@@ -19,9 +19,8 @@ pub(crate) fn push_format_detail(
     accepted: Option<&Format>,
     found: Option<&Witness>,
 ) -> Result<(), AllocError>
-    ensures { OnOk result (string_bytes out.new ≡ string_bytes out.old
-        ++ format_detail (option_map (λ f. plain_format f.now) sent.entry)
-        (option_map (λ f. plain_format f.now) accepted.entry) (option_map (λ d. witness_bytes d.now) found.entry)) }
+    ensures { OnOk result (Writes out.old out.new
+        (format_detail (plain_of sent.entry) (plain_of accepted.entry) (bytes_of found.entry))) }
 {
     let Some(bytes) = found else {
         return push_formats(out, sent, accepted);
@@ -34,11 +33,9 @@ pub(crate) fn push_format_detail(
 
 /// The first of two formats that have a list of numbers.
 fn listed<'a>(sent: Option<&'a Format>, accepted: Option<&Format>) -> Option<&'a Format>
-    ensures found { IfSome result (λ f. AreListed (option_map (λ f. plain_format f.now) sent.entry)
-        (option_map (λ f. plain_format f.now) accepted.entry) (plain_format f.now)) }
-    ensures none { IfNone result ((bytes : List ℕ) → data_text
-        (ranges_at (option_map (λ f. plain_format f.now) sent.entry))
-        (ranges_at (option_map (λ f. plain_format f.now) accepted.entry)) bytes ≡ None) }
+    ensures found { IfSome result (λ f. AreListed (plain_of sent.entry) (plain_of accepted.entry) (plain_format f.now)) }
+    ensures none { IfNone result ((bytes : List ℕ)
+        → data_text (ranges_at (plain_of sent.entry)) (ranges_at (plain_of accepted.entry)) bytes ≡ None) }
 {
     let format = sent?;
     let other = accepted?;
@@ -60,9 +57,8 @@ fn has_list(format: &Format) -> bool
 
 /// Adds a number of a list.
 fn push_data(out: &mut String, format: &Format, bytes: &Witness) -> Result<(), AllocError>
-    ensures { (ranges : List (ℕ × ℕ)) → plain_format format.now ≡ Enumerated (Some ranges)
-        → OnOk result (string_bytes out.new ≡ string_bytes out.old
-        ++ (number_text ranges (witness_bytes bytes.now) ++ codes " sent, not in the list")) }
+    ensures { (ranges : List (ℕ × ℕ)) → plain_format format.now ≡ Enumerated (Some ranges) → OnOk result (Writes
+        out.old out.new (number_text ranges (witness_bytes bytes.now) ++ codes " sent, not in the list")) }
 {
     push_value(out, format, bytes.as_slice())?;
     out.push_str(" sent, not in the list")
@@ -74,9 +70,7 @@ pub(crate) fn push_formats(
     sent: Option<&Format>,
     accepted: Option<&Format>,
 ) -> Result<(), AllocError>
-    ensures { OnOk result (string_bytes out.new ≡ string_bytes out.old
-        ++ formats_text (option_map (λ f. plain_format f.now) sent.entry)
-        (option_map (λ f. plain_format f.now) accepted.entry)) }
+    ensures { OnOk result (Writes out.old out.new (formats_text (plain_of sent.entry) (plain_of accepted.entry))) }
 {
     out.push_str(word_or(sent, "any data"))?;
     out.push_str(" sent, ")?;
@@ -86,8 +80,7 @@ pub(crate) fn push_formats(
 
 /// The word of a format, or this one where there is none.
 fn word_or<'a>(format: Option<&Format>, otherwise: &'a str) -> &'a str
-    ensures { result.now
-        ≡ option_map_or format_word (option_map (λ f. plain_format f.now) format.entry) otherwise.now }
+    ensures { result.now ≡ option_map_or format_word (plain_of format.entry) otherwise.now }
 {
     match format {
         Some(format) => format_word(format),

@@ -19,8 +19,8 @@ pub(crate) fn push_header_lines<B: Book>(
     start: &Start,
     lines: &mut Vec<Line>,
 ) -> Result<(), AllocError>
-    ensures { OnOk result (AddsTold lines.old.items lines.new.items (of_each
-        (header_lines (B.meaning b.now) start.now.head start.now.base) start.now.apps.items)) }
+    ensures { OnOk result (AddsTold lines.old.items lines.new.items
+        (of_each (header_lines (B.meaning b.now) start.now.head start.now.base) start.now.apps.items)) }
 {
     for site in 0..start.apps.len() {
         push_header_at(b, start, site, lines)?;
@@ -35,8 +35,7 @@ fn push_header_at<B: Book>(
     lines: &mut Vec<Line>,
 ) -> Result<(), AllocError>
     ensures { OnOk result (AddsTold lines.old.items lines.new.items (option_map_or
-        (header_lines (B.meaning b.now) start.now.head start.now.base site)
-        (slice_get start.now.apps.items site) [])) }
+        (header_lines (B.meaning b.now) start.now.head start.now.base site) (slice_get start.now.apps.items site) [])) }
 {
     match start.apps.get(site) {
         Some(app) => push_header(b, &start.head, start.base, site, *app, lines),
@@ -53,8 +52,7 @@ fn push_header<B: Book>(
     app: u32,
     lines: &mut Vec<Line>,
 ) -> Result<(), AllocError>
-    ensures { OnOk result (AddsTold lines.old.items lines.new.items
-        (header_lines (B.meaning b.now) head.now base site app)) }
+    ensures { OnOk result (AddsTold lines.old.items lines.new.items (header_lines (B.meaning b.now) head.now base site app)) }
 {
     match other_head(b, head, app) {
         Some(other) => {

@@ -1,14 +1,15 @@
 //! The headers of a command that have to be looked at. Where the command names an application, it is the header with that one.
 //! Else they are the headers with the applications that B alone names, and one with an application that neither dictionary
 //! names.
-ghost use Rattle.std.specs.Prelude.{◌≡◌, ◌<◌, ℕ, true, length, IfOk, IfSome, Some, Contains};
+ghost use Rattle.std.specs.Prelude.{◌≡◌, ◌<◌, ℕ, true, length, IfOk, IfSome, Some};
 ghost use Rattle.std.specs.Prelude.{◌++◌, ◌||◌, nat_eq, slice_get, IsTrue};
 ghost use Rattle.std.specs.List.{list_any};
 ghost use Rattle.dia_book.specs.Dictionary.{definitions};
 ghost use Rattle.dia_breaking.specs.Headers.{apps_of, AreHeadersMet, AreMetFor, IsCommandPlace};
 ghost use Rattle.dia_breaking.specs.declared.line.Site.{Site as AnySite};
 ghost use Rattle.dia_breaking.specs.Headers.{IsFlagMet, IsMetAs, IsMetFor, IsOtherMet};
-ghost use Rattle.dia_breaking.specs.ToldApps.{IsLeastUnnamed, selects};
+ghost use Rattle.dia_breaking.specs.Sides.{answer_of};
+ghost use Rattle.dia_breaking.specs.ToldApps.{IsLeastUnnamed, IsUnnamed, selects};
 
 use crate::apps::BothApps;
 use crate::heads::{Head, allows, head_of};
@@ -28,9 +29,8 @@ pub(crate) fn are_headers_met<A: Book, B: Book>(
     head: &Head,
     found: &Breaks,
 ) -> Result<bool, AllocError>
-    ensures { IfOk result (λ yes. IsTrue yes → AreHeadersMet (A.meaning a.now) (B.meaning b.now)
-        found.now.sites.items found.now.lines.items both.now.first both.now.second
-        found.now.command head.now) }
+    ensures { IfOk result (λ yes. IsTrue yes
+        → AreHeadersMet (A.meaning a.now) (B.meaning b.now) (answer_of found.now) both.now head.now) }
 {
     match head.app {
         Some(app) => Ok(is_met_at(b, head, found, 0, app)),
@@ -48,12 +48,9 @@ fn are_open_met<A: Book, B: Book>(
     found: &Breaks,
 ) -> Result<bool, AllocError>
     ensures named { IfOk result (λ yes. IsTrue yes → AreMetFor (A.meaning a.now) (B.meaning b.now)
-        found.now.sites.items found.now.lines.items head.now found.now.command
-        (apps_of both.now.second head.now.code head.now.class)) }
-    ensures other { IfOk result (λ yes. IsTrue yes → IsOtherMet (B.meaning b.now)
-        found.now.sites.items found.now.lines.items head.now
-        (apps_of both.now.first head.now.code head.now.class)
-        (apps_of both.now.second head.now.code head.now.class)) }
+        (answer_of found.now) head.now (apps_of both.now.second head.now.code head.now.class)) }
+    ensures other { IfOk result (λ yes. IsTrue yes → IsOtherMet (B.meaning b.now) (answer_of found.now) head.now
+        (apps_of both.now.first head.now.code head.now.class) (apps_of both.now.second head.now.code head.now.class)) }
 {
     let others = both.second.of(alloc, head.code, head.class)?;
     let Some(number) = met_apps(a, b, head, found, &others) else {
@@ -74,8 +71,7 @@ fn met_apps<A: Book, B: Book>(
     found: &Breaks,
     apps: &[u32],
 ) -> Option<usize>
-    ensures { IfSome result (λ number. AreMetFor (A.meaning a.now) (B.meaning b.now)
-        found.now.sites.items found.now.lines.items head.now found.now.command apps.now) }
+    ensures { IfSome result (λ number. AreMetFor (A.meaning a.now) (B.meaning b.now) (answer_of found.now) head.now apps.now) }
 {
     let mut number = 0_usize;
     for app in apps {
@@ -101,8 +97,7 @@ pub(crate) fn selects<A: Book>(a: &A, command: DefId, head: &Head, app: u32) -> 
 
 /// Whether the header with this application is met, where its site has this number.
 fn is_met_at<B: Book>(b: &B, head: &Head, found: &Breaks, number: usize, app: u32) -> bool
-    ensures { IsTrue result → IsMetFor (B.meaning b.now) found.now.sites.items
-        found.now.lines.items head.now app }
+    ensures { IsTrue result → IsMetFor (B.meaning b.now) (answer_of found.now) head.now app }
 {
     let Some(site) = found.sites.get(number) else {
         return false;
@@ -129,9 +124,8 @@ fn is_command_place(place: Place, app: u32) -> bool
 /// Whether B's definition allows each P flag that the head allows, or a line at the site tells that B doesn't.
 fn is_met_as<B: Book>(b: &B, head: &Head, found: &Breaks, number: usize, def: DefId) -> bool
     requires { def < length (definitions (B.meaning b.now)) }
-    ensures { IsTrue result → (app : ℕ) (site : AnySite)
-        → slice_get found.now.sites.items number ≡ Some site → IsCommandPlace app site.place
-        → IsMetAs (B.meaning b.now) found.now.sites.items found.now.lines.items head.now app def }
+    ensures { IsTrue result → (app : ℕ) (site : AnySite) → slice_get found.now.sites.items number ≡ Some site
+        → IsCommandPlace app site.place → IsMetAs (B.meaning b.now) (answer_of found.now) head.now app def }
 {
     match head_of(b, def) {
         Some(other) => {
@@ -145,9 +139,8 @@ fn is_met_as<B: Book>(b: &B, head: &Head, found: &Breaks, number: usize, def: De
 /// Whether this P flag is met. It is met if A's head doesn't allow it, if B's head allows it and B's side reads the level, or
 /// if a line at the site tells that B doesn't allow it.
 fn is_flag_met(found: &Breaks, number: usize, p: Pxy, other: Pxy, set: bool) -> bool
-    ensures { IsTrue result → (app : ℕ) (site : AnySite)
-        → slice_get found.now.sites.items number ≡ Some site → IsCommandPlace app site.place
-        → IsFlagMet found.now.sites.items found.now.lines.items app p other set }
+    ensures { IsTrue result → (app : ℕ) (site : AnySite) → slice_get found.now.sites.items number ≡ Some site
+        → IsCommandPlace app site.place → IsFlagMet (answer_of found.now) app p other set }
 {
     if !allows(p, set) {
         return true;
@@ -160,8 +153,7 @@ fn is_flag_met(found: &Breaks, number: usize, p: Pxy, other: Pxy, set: bool) -> 
 
 /// Whether B's side reads a level at the site of this number.
 fn is_read(sites: &[Site], number: usize) -> bool
-    ensures { IsTrue result → (site : AnySite) → slice_get sites.now number ≡ Some site
-        → site.is_read ≡ true }
+    ensures { IsTrue result → (site : AnySite) → slice_get sites.now number ≡ Some site → site.is_read ≡ true }
 {
     match sites.get(number) {
         Some(site) => site.is_read,
@@ -175,12 +167,9 @@ pub(crate) fn unnamed_app(
     both: &BothApps,
     head: &Head,
 ) -> Result<Option<u32>, AllocError>
-    ensures unnamed { IfOk result (λ found. IfSome found (λ app.
-        (¬ Contains (apps_of both.now.first head.now.code head.now.class) app)
-        × (¬ Contains (apps_of both.now.second head.now.code head.now.class) app))) }
-    ensures exact { IfOk result (λ found. IsLeastUnnamed
-        (apps_of both.now.first head.now.code head.now.class)
-        (apps_of both.now.second head.now.code head.now.class) found) }
+    ensures unnamed { IfOk result (λ found. IfSome found (λ app. IsUnnamed both.now head.now app)) }
+    ensures exact { IfOk result (IsLeastUnnamed
+        (apps_of both.now.first head.now.code head.now.class) (apps_of both.now.second head.now.code head.now.class)) }
 {
     let first = both.first.of(alloc, head.code, head.class)?;
     let second = both.second.of(alloc, head.code, head.class)?;
@@ -209,8 +198,7 @@ fn joined(alloc: Global, first: &[u32], second: &[u32]) -> Result<Vec<u32>, Allo
 }
 
 fn is_named(first: &[u32], second: &[u32], app: u32) -> bool
-    ensures { result ≡ (list_any (λ n. nat_eq n app) first.now
-        || list_any (λ n. nat_eq n app) second.now) }
+    ensures { result ≡ (list_any (λ n. nat_eq n app) first.now || list_any (λ n. nat_eq n app) second.now) }
 {
     first.contains(&app) || second.contains(&app)
 }

@@ -50,8 +50,7 @@ impl Head {
 /// The head of a command of the dictionary.
 pub(crate) fn head_of<B: Book>(book: &B, def: DefId) -> Option<Head>
     requires { def < length (definitions (B.meaning book.now)) }
-    ensures { IfSome (slice_get (definitions (B.meaning book.now)) def)
-        (λ d. result ≡ head_in d.head) }
+    ensures { IfSome (slice_get (definitions (B.meaning book.now)) def) (λ d. result ≡ head_in d.head) }
 {
     Head::of(book.def(def).head)
 }
@@ -76,8 +75,7 @@ pub(crate) fn told_apps<A: Book>(
     command: DefId,
     head: &Head,
 ) -> Result<Vec<u32>, AllocError>
-    ensures { IfOk result (λ apps. AreToldApps (A.meaning a.now) both.now.first both.now.second
-        command head.now apps.items) }
+    ensures { IfOk result (λ apps. AreToldApps (A.meaning a.now) both.now command head.now apps.items) }
 {
     match head.app {
         Some(app) => {
@@ -97,8 +95,7 @@ fn open_apps<A: Book>(
     command: DefId,
     head: &Head,
 ) -> Result<Vec<u32>, AllocError>
-    ensures { IfOk result (λ apps. AreOpenApps (A.meaning a.now) both.now.first both.now.second
-        command head.now apps.items) }
+    ensures { IfOk result (λ apps. AreOpenApps (A.meaning a.now) both.now command head.now apps.items) }
 {
     let others = both.second.of(alloc, head.code, head.class)?;
     let mut apps = own_apps(alloc, a, command, head, &others)?;
@@ -116,8 +113,7 @@ fn own_apps<A: Book>(
     head: &Head,
     others: &[u32],
 ) -> Result<Vec<u32>, AllocError>
-    ensures { IfOk result (λ apps. apps.items
-        ≡ filter (selects (A.meaning a.now) command head.now) others.now) }
+    ensures { IfOk result (λ apps. apps.items ≡ filter (selects (A.meaning a.now) command head.now) others.now) }
 {
     let mut apps = Vec::new(alloc);
     for app in others {
@@ -133,8 +129,7 @@ fn push_own<A: Book>(
     head: &Head,
     app: u32,
 ) -> Result<(), AllocError>
-    ensures { OnOk result (apps.new.items ≡ apps.old.items
-        ++ filter (selects (A.meaning a.now) command head.now) (app ∷ [])) }
+    ensures { OnOk result (apps.new.items ≡ apps.old.items ++ filter (selects (A.meaning a.now) command head.now) (app ∷ [])) }
 {
     if selects(a, command, head, app) {
         apps.push(app)?;

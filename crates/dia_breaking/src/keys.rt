@@ -1,15 +1,15 @@
 //! The keys of the AVPs that A's side may send: all that A knows, also those of which no message can hold an AVP. There is
 //! something to tell of AVPs that break by themselves, or in which both dictionaries see a level.
 ghost use Rattle.std.specs.Prelude.{◌≡◌, ◌≤◌, ◌<◌, ◌&&◌, ◌⊎◌, ℕ, false, [], None, Contains};
-ghost use Rattle.std.specs.Prelude.{◌++◌, ◌∷◌, IfOk, OnOk, filter, is_some};
+ghost use Rattle.std.specs.Prelude.{◌++◌, ◌∷◌, ◌↔◌, IfOk, OnOk, filter, is_some};
 ghost use Rattle.std.specs.HashMap.{get};
 ghost use Rattle.std.specs.List.Sorted.{IsNonDecreasing, IsPermutation};
 ghost use Rattle.dia_wire.specs.declared.Key.{Key as AnyKey};
 ghost use Rattle.dia_book.specs.Keys.{same_key};
 ghost use Rattle.dia_breaking_avps.specs.Breaks.{IsSilent, IsSilentData};
 ghost use Rattle.dia_breaking_avps.specs.Sent.{group_of};
-ghost use Rattle.dia_breaking.specs.SentKeys.{AreSentInOrder, AreSentKeys, entry_keys, is_unknown};
-ghost use Rattle.dia_breaking.specs.SentKeys.{keys_of_b_alone};
+ghost use Rattle.dia_breaking.specs.SentKeys.{AreSentInOrder, entry_keys, is_unknown, keys_of_b_alone};
+ghost use Rattle.dia_breaking.specs.Sides.{sides};
 ghost use Rattle.dia_breaking.specs.Telling.{Adds, AreExactlyTold, AreTold, IsExactlyOwn, IsExactTelling, IsTelling};
 ghost use Rattle.dia_breaking.specs.Telling.{IsToldOf, told};
 
@@ -33,8 +33,8 @@ pub(crate) struct Own {
 
 /// What there is to tell of a key.
 fn own_of<A: Book, B: Book>(a: &A, b: &B, key: Key, sends: Sends, unknown: Unknown) -> Own
-    ensures told { IsToldOf (A.meaning a.now) (B.meaning b.now) sends unknown key result }
-    ensures exact { IsExactlyOwn (A.meaning a.now) (B.meaning b.now) sends unknown result }
+    ensures told { IsToldOf (sides (A.meaning a.now) (B.meaning b.now) sends unknown) key result }
+    ensures exact { IsExactlyOwn (sides (A.meaning a.now) (B.meaning b.now) sends unknown) result }
 {
     let breaks = avp_breaks(a, b, key, sends, unknown);
     Own {
@@ -45,8 +45,7 @@ fn own_of<A: Book, B: Book>(a: &A, b: &B, key: Key, sends: Sends, unknown: Unkno
 }
 
 fn breaks_alone(breaks: AvpBreaks) -> bool
-    ensures silent { result ≡ false → IsSilent breaks }
-    ensures heard { IsSilent breaks → result ≡ false }
+    ensures { (result ≡ false) ↔ IsSilent breaks }
 {
     match breaks.head {
         Some(_) => true,
@@ -56,15 +55,13 @@ fn breaks_alone(breaks: AvpBreaks) -> bool
 
 /// Whether both dictionaries see a level in AVPs of the key.
 fn are_groups<A: Book, B: Book>(a: &A, b: &B, key: Key) -> bool
-    ensures { result ≡ (is_some (group_of (A.meaning a.now) key)
-        && is_some (group_of (B.meaning b.now) key)) }
+    ensures { result ≡ (is_some (group_of (A.meaning a.now) key) && is_some (group_of (B.meaning b.now) key)) }
 {
     group_of(a, key).is_some() && group_of(b, key).is_some()
 }
 
 fn breaks_data(found: DataBreak) -> bool
-    ensures silent { result ≡ false → IsSilentData found }
-    ensures heard { IsSilentData found → result ≡ false }
+    ensures { (result ≡ false) ↔ IsSilentData found }
 {
     match found {
         DataBreak::Fits => false,
@@ -83,9 +80,7 @@ fn sent_keys<A: Book, B: Book>(
     b: &B,
     sends: Sends,
 ) -> Result<Vec<Key>, AllocError>
-    ensures sent { IfOk result (λ keys. AreSentKeys (A.meaning a.now) (B.meaning b.now) sends keys.items) }
-    ensures exact { IfOk result
-        (λ keys. AreSentInOrder (A.meaning a.now) (B.meaning b.now) sends keys.items) }
+    ensures { IfOk result (λ keys. AreSentInOrder (A.meaning a.now) (B.meaning b.now) sends keys.items) }
 {
     let keys = keys_of(alloc, a)?;
     match sends {
@@ -103,8 +98,7 @@ fn with_others<A: Book, B: Book>(
     b: &B,
 ) -> Result<Vec<Key>, AllocError>
     requires { keys.items ≡ entry_keys (A.meaning a.now) }
-    ensures { IfOk result (λ all. AreSentInOrder (A.meaning a.now) (B.meaning b.now)
-        Sends.Any all.items) }
+    ensures { IfOk result (λ all. AreSentInOrder (A.meaning a.now) (B.meaning b.now) Sends.Any all.items) }
 {
     let mut all = keys;
     all.extend_from_slice(&keys_of_b_alone(alloc, a, b)?)?;
@@ -114,8 +108,7 @@ fn with_others<A: Book, B: Book>(
 
 /// The keys that B alone knows.
 fn keys_of_b_alone<A: Book, B: Book>(alloc: Global, a: &A, b: &B) -> Result<Vec<Key>, AllocError>
-    ensures { IfOk result (λ keys. keys.items
-        ≡ keys_of_b_alone (A.meaning a.now) (B.meaning b.now)) }
+    ensures { IfOk result (λ keys. keys.items ≡ keys_of_b_alone (A.meaning a.now) (B.meaning b.now)) }
 {
     let all = keys_of(alloc, b)?;
     let mut keys = Vec::new(alloc);
@@ -127,8 +120,7 @@ fn keys_of_b_alone<A: Book, B: Book>(alloc: Global, a: &A, b: &B) -> Result<Vec<
 
 /// Adds a key that A doesn't know.
 fn push_unknown<A: Book>(keys: &mut Vec<Key>, a: &A, key: Key) -> Result<(), AllocError>
-    ensures { OnOk result (keys.new.items
-        ≡ keys.old.items ++ filter (is_unknown (A.meaning a.now)) (key ∷ [])) }
+    ensures { OnOk result (keys.new.items ≡ keys.old.items ++ filter (is_unknown (A.meaning a.now)) (key ∷ [])) }
 {
     if a.avp(key).is_none() {
         keys.push(key)?;
@@ -184,9 +176,8 @@ impl Telling {
         sends: Sends,
         unknown: Unknown,
     ) -> Result<Self, AllocError>
-        ensures telling { IfOk result (IsTelling (A.meaning a.now) (B.meaning b.now) sends unknown) }
-        ensures exact { IfOk result
-            (IsExactTelling (A.meaning a.now) (B.meaning b.now) sends unknown) }
+        ensures telling { IfOk result (IsTelling (sides (A.meaning a.now) (B.meaning b.now) sends unknown)) }
+        ensures exact { IfOk result (IsExactTelling (sides (A.meaning a.now) (B.meaning b.now) sends unknown)) }
     {
         let keys = sent_keys(alloc, a, b, sends)?;
         let mut telling = Telling::empty(alloc);
@@ -213,12 +204,10 @@ impl Telling {
         unknown: Unknown,
         keys: &[Key],
     ) -> Result<(), AllocError>
-        requires told { AreTold (A.meaning a.now) (B.meaning b.now) sends unknown [] self.old }
-        requires exact { AreExactlyTold (A.meaning a.now) (B.meaning b.now) sends unknown [] self.old }
-        ensures told { OnOk result (AreTold (A.meaning a.now) (B.meaning b.now) sends unknown
-            keys.now self.new) }
-        ensures exact { OnOk result (AreExactlyTold (A.meaning a.now) (B.meaning b.now) sends unknown
-            keys.now self.new) }
+        requires told { AreTold (sides (A.meaning a.now) (B.meaning b.now) sends unknown) [] self.old }
+        requires exact { AreExactlyTold (sides (A.meaning a.now) (B.meaning b.now) sends unknown) [] self.old }
+        ensures told { OnOk result (AreTold (sides (A.meaning a.now) (B.meaning b.now) sends unknown) keys.now self.new) }
+        ensures exact { OnOk result (AreExactlyTold (sides (A.meaning a.now) (B.meaning b.now) sends unknown) keys.now self.new) }
     {
         for key in keys {
             self.add(own_of(a, b, *key, sends, unknown))?;

@@ -1,13 +1,12 @@
 //! The lengths of the AVPs that A's side sends.
-ghost use Rattle.std.specs.Prelude.{◌≡◌, ◌⊎◌, IfOk, IsSome, MatchBool, None, map};
+ghost use Rattle.std.specs.Prelude.{◌≡◌, ◌⊎◌, ◌∷◌, [], IfOk, IsSome, MatchBool};
 ghost use Rattle.std.specs.List.Sorted.{IsPermutation, IsNonDecreasingBy, IsStableByKey};
 ghost use Rattle.std.specs.Ordering.{nat_cmp};
-ghost use Rattle.dia_book.specs.Dictionary.{Dictionary, entry_of};
+ghost use Rattle.dia_book.specs.Dictionary.{entry_of};
 ghost use Rattle.dia_breaking_shortest.specs.Exact.{AreExact};
 ghost use Rattle.dia_breaking_shortest.specs.Floors.{AreFloors};
-ghost use Rattle.dia_breaking.specs.Lengths.{listed_length, other_length, AreOthers};
-ghost use Rattle.dia_breaking.specs.Lengths.{AreEntryLengths, AreExactlyOthers, AreSameLengths};
-ghost use Rattle.dia_breaking.specs.SentKeys.{IsStrange, IsStranger};
+ghost use Rattle.dia_breaking.specs.Lengths.{AreEntryLengths, AreExactlyOthers, listed_length};
+ghost use Rattle.dia_breaking.specs.SentKeys.{IsStrange, IsStranger, entry_keys};
 
 use dia_book::{Book, Key};
 use dia_breaking_levels::{Costs, TOO_LONG};
@@ -15,7 +14,7 @@ use dia_breaking_shortest::{Least, least_lengths, shortest_head};
 use dia_policy::Sends;
 use std::alloc::{AllocError, Global};
 
-/// The lengths of the shortest AVPs that A's side sends.
+/// A's dictionary, what A's side sends, and the lengths of the shortest AVPs that it sends.
 #[derive(Drop)]
 pub(crate) struct Lengths<'a, A: Book> {
     pub book: &'a A,
@@ -25,114 +24,59 @@ pub(crate) struct Lengths<'a, A: Book> {
     pub entries: Vec<u64>,
     /// Keys that a wildcard lets in. The first of them that no rule lists is one of a shortest AVP.
     pub others: Vec<Key>,
+    ghost floors: { ∥ AreFloors (A.meaning book.now) sends (listed_length (A.meaning book.now) sends entries.items) ∥₁ },
 }
 
 impl<'a, A: Book> Lengths<'a, A> {
+    ghost use Rattle.dia_breaking.specs.Sender.{sender_in};
+
     /// The lengths of A's entries.
     pub fn new<B: Book>(alloc: Global, book: &'a A, b: &B, sends: Sends) -> Result<Self, AllocError>
-        ensures others { IfOk result (λ lengths. AreOthers (A.meaning book.now)
-            (B.meaning b.now) lengths.sends lengths.entries.items lengths.others.items) }
-        ensures exact { IfOk result (λ lengths. AreExactlyOthers (A.meaning book.now)
-            (B.meaning b.now) lengths.sends lengths.entries.items lengths.others.items) }
-        ensures entries { IfOk result (λ lengths. AreEntryLengths (A.meaning book.now)
-            lengths.least.lengths.items lengths.entries.items) }
-        ensures least { IfOk result (λ lengths. AreExact (A.meaning book.now) sends
-            lengths.least.lengths.items) }
         ensures book { IfOk result (λ lengths. lengths.book.now ≡ book.now) }
         ensures sends { IfOk result (λ lengths. lengths.sends ≡ sends) }
-        ensures floors { IfOk result (λ lengths. AreFloors (A.meaning book.now) sends
-            (listed_length (A.meaning book.now) sends lengths.entries.items)) }
+        ensures least { IfOk result (λ lengths. AreExact (sender_in lengths) lengths.sends lengths.least.lengths.items) }
+        ensures entries { IfOk result
+            (λ lengths. AreEntryLengths (sender_in lengths) lengths.least.lengths.items lengths.entries.items) }
+        ensures others { IfOk result (λ lengths. AreExactlyOthers
+            (sender_in lengths) (B.meaning b.now) lengths.sends lengths.entries.items lengths.others.items) }
     {
         let least = least_lengths(alloc, book, sends)?;
-        match sends {
-            Sends::Any => Self::with_stranger(alloc, book, least, stranger(book, b)),
-            Sends::Known => Self::with_known(alloc, book, least),
-            Sends::Listed => Self::with_none(alloc, book, least),
-        }
-    }
-
-    /// Where any AVP comes through a wildcard, none is shorter than one that neither dictionary knows, without vendor.
-    fn with_stranger(alloc: Global, book: &'a A, least: Least, key: Key) -> Result<Self, AllocError>
-        requires vendor { key.vendor ≡ 0 }
-        requires first { entry_of (A.meaning book.now) key ≡ None }
-        ensures others { (db : Dictionary) → entry_of db key ≡ None
-            → IfOk result (λ lengths. AreOthers (A.meaning book.now) db
-            lengths.sends lengths.entries.items lengths.others.items) }
-        ensures exact { (db : Dictionary) → IsStranger (A.meaning book.now) db key
-            → IfOk result (λ lengths. AreExactlyOthers (A.meaning book.now) db
-            lengths.sends lengths.entries.items lengths.others.items) }
-        ensures entries { IfOk result (λ lengths. AreEntryLengths (A.meaning book.now)
-            lengths.least.lengths.items lengths.entries.items) }
-        ensures book { IfOk result (λ lengths. lengths.book.now ≡ book.now) }
-        ensures sends { IfOk result (λ lengths. lengths.sends ≡ Sends.Any) }
-        ensures least { IfOk result (λ lengths. lengths.least ≡ least) }
-        ensures same { IfOk result (λ lengths. AreSameLengths (A.meaning book.now)
-            least.lengths.items lengths.entries.items) }
-    {
         let entries = lengths_of_entries(alloc, book, &least)?;
-        let mut others = Vec::new(alloc);
-        others.push(key)?;
+        let others = others_of(alloc, book, b, sends, &entries)?;
         Ok(Lengths {
             book,
-            sends: Sends::Any,
+            sends,
             least,
             entries,
             others,
         })
     }
+}
 
-    /// Where a wildcard lets in the AVPs that A knows, the shortest come first.
-    fn with_known(alloc: Global, book: &'a A, least: Least) -> Result<Self, AllocError>
-        ensures others { (db : Dictionary)
-            → IfOk result (λ lengths. AreOthers (A.meaning book.now) db
-            lengths.sends lengths.entries.items lengths.others.items) }
-        ensures exact { (db : Dictionary)
-            → IfOk result (λ lengths. AreExactlyOthers (A.meaning book.now) db
-            lengths.sends lengths.entries.items lengths.others.items) }
-        ensures entries { IfOk result (λ lengths. AreEntryLengths (A.meaning book.now)
-            lengths.least.lengths.items lengths.entries.items) }
-        ensures book { IfOk result (λ lengths. lengths.book.now ≡ book.now) }
-        ensures sends { IfOk result (λ lengths. lengths.sends ≡ Sends.Known) }
-        ensures least { IfOk result (λ lengths. lengths.least ≡ least) }
-        ensures same { IfOk result (λ lengths. AreSameLengths (A.meaning book.now)
-            least.lengths.items lengths.entries.items) }
-    {
-        let entries = lengths_of_entries(alloc, book, &least)?;
-        let others = in_order(alloc, book, &entries)?;
-        Ok(Lengths {
-            book,
-            sends: Sends::Known,
-            least,
-            entries,
-            others,
-        })
+/// The keys that a wildcard lets in. Where it lets in any, no AVP is shorter than one that neither dictionary knows, without
+/// vendor; where it lets in what A knows, the shortest come first; and where each AVP has to be listed, it lets in none.
+fn others_of<A: Book, B: Book>(
+    alloc: Global,
+    a: &A,
+    b: &B,
+    sends: Sends,
+    entries: &[u64],
+) -> Result<Vec<Key>, AllocError>
+    ensures { IfOk result (λ keys. AreExactlyOthers (A.meaning a.now) (B.meaning b.now) sends entries.now keys.items) }
+{
+    match sends {
+        Sends::Any => only(alloc, stranger(a, b)),
+        Sends::Known => in_order(alloc, a, entries),
+        Sends::Listed => Ok(Vec::new(alloc)),
     }
+}
 
-    /// Where each AVP has to be listed, a wildcard lets in none.
-    fn with_none(alloc: Global, book: &'a A, least: Least) -> Result<Self, AllocError>
-        ensures others { (db : Dictionary)
-            → IfOk result (λ lengths. AreOthers (A.meaning book.now) db
-            lengths.sends lengths.entries.items lengths.others.items) }
-        ensures exact { (db : Dictionary)
-            → IfOk result (λ lengths. AreExactlyOthers (A.meaning book.now) db
-            lengths.sends lengths.entries.items lengths.others.items) }
-        ensures entries { IfOk result (λ lengths. AreEntryLengths (A.meaning book.now)
-            lengths.least.lengths.items lengths.entries.items) }
-        ensures book { IfOk result (λ lengths. lengths.book.now ≡ book.now) }
-        ensures sends { IfOk result (λ lengths. lengths.sends ≡ Sends.Listed) }
-        ensures least { IfOk result (λ lengths. lengths.least ≡ least) }
-        ensures same { IfOk result (λ lengths. AreSameLengths (A.meaning book.now)
-            least.lengths.items lengths.entries.items) }
-    {
-        let entries = lengths_of_entries(alloc, book, &least)?;
-        Ok(Lengths {
-            book,
-            sends: Sends::Listed,
-            least,
-            entries,
-            others: Vec::new(alloc),
-        })
-    }
+fn only(alloc: Global, key: Key) -> Result<Vec<Key>, AllocError>
+    ensures { IfOk result (λ keys. keys.items ≡ key ∷ []) }
+{
+    let mut keys = Vec::new(alloc);
+    keys.push(key)?;
+    Ok(keys)
 }
 
 /// The length of a shortest AVP of a key.
@@ -154,13 +98,11 @@ fn length_of<A: Book>(book: &A, sends: Sends, entries: &[u64], key: Key) -> u64
 
 /// The keys of A's entries, ordered by the lengths of their shortest AVPs.
 fn in_order<A: Book>(alloc: Global, book: &A, entries: &[u64]) -> Result<Vec<Key>, AllocError>
-    ensures sorted { IfOk result (λ keys. IsNonDecreasingBy
-        (listed_length (A.meaning book.now) Sends.Known entries.now) keys.items) }
-    ensures all { IfOk result (λ keys. IsPermutation
-        (map (λ e. e.key) (A.meaning book.now).entries) keys.items) }
-    ensures stable { IfOk result (λ keys. IsStableByKey
-        (listed_length (A.meaning book.now) Sends.Known entries.now) nat_cmp
-        (map (λ e. e.key) (A.meaning book.now).entries) keys.items) }
+    ensures sorted { IfOk result
+        (λ keys. IsNonDecreasingBy (listed_length (A.meaning book.now) Sends.Known entries.now) keys.items) }
+    ensures all { IfOk result (λ keys. IsPermutation (entry_keys (A.meaning book.now)) keys.items) }
+    ensures stable { IfOk result (λ keys. IsStableByKey (listed_length (A.meaning book.now) Sends.Known entries.now) nat_cmp
+        (entry_keys (A.meaning book.now)) keys.items) }
 {
     let mut keys = keys_of(alloc, book)?;
     keys.sort_by_key(|key| length_of(book, Sends::Known, entries, *key))?;
@@ -169,7 +111,7 @@ fn in_order<A: Book>(alloc: Global, book: &A, entries: &[u64]) -> Result<Vec<Key
 
 /// The keys of the entries.
 pub(crate) fn keys_of<B: Book>(alloc: Global, book: &B) -> Result<Vec<Key>, AllocError>
-    ensures { IfOk result (λ keys. keys.items ≡ map (λ e. e.key) (B.meaning book.now).entries) }
+    ensures { IfOk result (λ keys. keys.items ≡ entry_keys (B.meaning book.now)) }
 {
     let mut keys = Vec::new(alloc);
     for index in 0..book.entries() {
@@ -180,10 +122,7 @@ pub(crate) fn keys_of<B: Book>(alloc: Global, book: &B) -> Result<Vec<Key>, Allo
 
 /// The first key without vendor that neither dictionary knows. There is one, as they know fewer keys than there are codes.
 pub(crate) fn stranger<A: Book, B: Book>(a: &A, b: &B) -> Key
-    ensures vendor { result.vendor ≡ 0 }
-    ensures first { entry_of (A.meaning a.now) result ≡ None }
-    ensures second { entry_of (B.meaning b.now) result ≡ None }
-    ensures exact { IsStranger (A.meaning a.now) (B.meaning b.now) result }
+    ensures { IsStranger (A.meaning a.now) (B.meaning b.now) result }
 {
     for code in 0..u32::MAX {
         let key = Key { code, vendor: 0 };
@@ -207,8 +146,7 @@ fn lengths_of_entries<A: Book>(
     book: &A,
     least: &Least,
 ) -> Result<Vec<u64>, AllocError>
-    ensures { IfOk result (λ lengths. AreEntryLengths (A.meaning book.now)
-        least.now.lengths.items lengths.items) }
+    ensures { IfOk result (λ lengths. AreEntryLengths (A.meaning book.now) least.now.lengths.items lengths.items) }
 {
     let mut lengths = Vec::new(alloc);
     for index in 0..book.entries() {
@@ -218,11 +156,11 @@ fn lengths_of_entries<A: Book>(
 }
 
 impl<'a, A: Book> Costs for Lengths<'a, A> {
-    ghost listed_length = { λ lengths key. listed_length
-        (A.meaning lengths.book.now) lengths.sends lengths.entries.items key };
+    ghost use Rattle.dia_breaking.specs.Sender.{costs_of};
 
-    ghost other_length = { λ lengths key. other_length
-        (A.meaning lengths.book.now) lengths.sends lengths.entries.items key };
+    ghost listed_length = { λ lengths. (costs_of lengths).listed };
+
+    ghost other_length = { λ lengths. (costs_of lengths).other };
 
     ghost other_keys = { λ lengths. lengths.others.items };
 

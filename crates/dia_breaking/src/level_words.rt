@@ -1,14 +1,14 @@
 //! The words of lines about how often AVPs stand in a level, and in which order.
 ghost use Rattle.std.specs.Prelude.{◌≡◌, ◌<◌, ◌++◌, [], OnOk, IfSome, codes, length, nat_lt};
-ghost use Rattle.std.specs.Prelude.{option_and_then, string_bytes};
+ghost use Rattle.std.specs.Prelude.{option_and_then};
 ghost use Rattle.std.specs.Option.{option_map_or};
 ghost use Rattle.dia_book.specs.Dictionary.{definitions, selected};
 ghost use Rattle.dia_compat.specs.Tests.{rules_in};
-ghost use Rattle.dia_breaking.specs.Lengths.{other_length};
 ghost use Rattle.dia_breaking_levels.specs.LevelTests.{too_long};
+ghost use Rattle.dia_breaking.specs.Upgrades.{other_length_of, sides_of};
 ghost use Rattle.dia_breaking.specs.Words.{accepted_bounds, accepted_rules, bounds_text, head_at};
 ghost use Rattle.dia_breaking.specs.Words.{level_detail, level_text, no_bounds, sent_bounds};
-ghost use Rattle.dia_breaking.specs.Words.{sent_rules, subject_name, wild_bounds};
+ghost use Rattle.dia_breaking.specs.Words.{Writes, sent_rules, subject_name, wild_bounds};
 
 use crate::books::{command_of, group_of, rule_of, wildcard_of};
 use crate::bounds::{Bounds, push_bounds};
@@ -28,11 +28,9 @@ impl<'a, A: Book, B: Book> Upgrade<'a, A, B> {
         site: Option<Site>,
         line: &LevelLine,
     ) -> Result<(), AllocError>
-        requires { command < length (definitions (A.meaning self.now.a.now)) }
-        ensures { OnOk result (string_bytes out.new ≡ string_bytes out.old
-            ++ level_text (A.meaning self.now.a.now) (B.meaning self.now.b.now)
-            (other_length (A.meaning self.now.a.now) self.now.sends self.now.lengths.entries.items)
-            command site line.now) }
+        requires { command < length (definitions (sides_of self.now).sender) }
+        ensures { OnOk result (Writes out.old out.new
+            (level_text (sides_of self.now) (other_length_of self.now) command site line.now)) }
     {
         let reason = line.reason;
         write!(out, "{reason} ")?;
@@ -51,11 +49,9 @@ impl<'a, A: Book, B: Book> Upgrade<'a, A, B> {
         line: &LevelLine,
         place: Place,
     ) -> Result<(), AllocError>
-        requires { command < length (definitions (A.meaning self.now.a.now)) }
-        ensures { OnOk result (string_bytes out.new ≡ string_bytes out.old
-            ++ level_detail (A.meaning self.now.a.now) (B.meaning self.now.b.now)
-            (other_length (A.meaning self.now.a.now) self.now.sends self.now.lengths.entries.items)
-            command line.now place) }
+        requires { command < length (definitions (sides_of self.now).sender) }
+        ensures { OnOk result (Writes out.old out.new
+            (level_detail (sides_of self.now) (other_length_of self.now) command line.now place)) }
     {
         let sent = self.sent_bounds(command, place, line.key);
         let accepted = self.accepted_bounds(command, place, line.key);
@@ -68,9 +64,8 @@ impl<'a, A: Book, B: Book> Upgrade<'a, A, B> {
     }
 
     fn push_behind(&self, out: &mut String, behind: Option<Key>) -> Result<(), AllocError>
-        ensures { OnOk result (string_bytes out.new ≡ string_bytes out.old ++ (codes "behind "
-            ++ subject_name (A.meaning self.now.a.now) (B.meaning self.now.b.now) behind
-            ++ codes " sent")) }
+        ensures { OnOk result (Writes out.old out.new
+            (codes "behind " ++ subject_name (sides_of self.now) behind ++ codes " sent")) }
     {
         out.push_str("behind ")?;
         self.push_subject(out, behind)?;
@@ -80,10 +75,8 @@ impl<'a, A: Book, B: Book> Upgrade<'a, A, B> {
     /// How often A's definition lets the AVP stand in the level. Without a key, how often it lets the AVPs stand there that it
     /// doesn't list.
     fn sent_bounds(&self, command: DefId, place: Place, key: Option<Key>) -> Bounds
-        requires { command < length (definitions (A.meaning self.now.a.now)) }
-        ensures { result ≡ sent_bounds (other_length (A.meaning self.now.a.now)
-            self.now.sends self.now.lengths.entries.items)
-            (sent_rules (A.meaning self.now.a.now) command place) key }
+        requires { command < length (definitions (sides_of self.now).sender) }
+        ensures { result ≡ sent_bounds (other_length_of self.now) (sent_rules (sides_of self.now).sender command place) key }
     {
         match self.sent_definition(command, place) {
             Some(def) => self.sent_by(def, key),
@@ -92,24 +85,21 @@ impl<'a, A: Book, B: Book> Upgrade<'a, A, B> {
     }
 
     fn sent_by(&self, def: DefId, key: Option<Key>) -> Bounds
-        requires { def < length (definitions (A.meaning self.now.a.now)) }
-        ensures { result ≡ sent_bounds (other_length (A.meaning self.now.a.now)
-            self.now.sends self.now.lengths.entries.items)
-            (rules_in (A.meaning self.now.a.now) def) key }
+        requires { def < length (definitions (sides_of self.now).sender) }
+        ensures { result ≡ sent_bounds (other_length_of self.now) (rules_in (sides_of self.now).sender def) key }
     {
-        let wildcard = wildcard_of(self.a, def);
+        let wildcard = wildcard_of(self.lengths.book, def);
         let Some(key) = key else {
             return Bounds::of_rule(wildcard);
         };
-        match rule_of(self.a, def, key) {
+        match rule_of(self.lengths.book, def, key) {
             Some(rule) => Bounds::of(rule),
             None => self.sent_by_wildcard(wildcard, key),
         }
     }
 
     fn sent_by_wildcard(&self, wildcard: Option<DRule>, key: Key) -> Bounds
-        ensures { result ≡ option_map_or (wild_bounds (nat_lt (other_length (A.meaning self.now.a.now)
-            self.now.sends self.now.lengths.entries.items key) too_long)) wildcard no_bounds }
+        ensures { result ≡ option_map_or (wild_bounds (nat_lt (other_length_of self.now key) too_long)) wildcard no_bounds }
     {
         match wildcard {
             Some(wildcard) => Bounds::of_wildcard(self.lengths.other(key) < TOO_LONG, wildcard),
@@ -120,9 +110,8 @@ impl<'a, A: Book, B: Book> Upgrade<'a, A, B> {
     /// How often B's definition lets the AVP stand in the level. Without a key, how often it lets the AVPs stand there that it
     /// doesn't list.
     fn accepted_bounds(&self, command: DefId, place: Place, key: Option<Key>) -> Bounds
-        requires { command < length (definitions (A.meaning self.now.a.now)) }
-        ensures { result ≡ accepted_bounds (accepted_rules (A.meaning self.now.a.now)
-            (B.meaning self.now.b.now) command place) key }
+        requires { command < length (definitions (sides_of self.now).sender) }
+        ensures { result ≡ accepted_bounds (accepted_rules (sides_of self.now) command place) key }
     {
         match self.accepted_definition(command, place) {
             Some(def) => self.accepted_by(def, key),
@@ -131,8 +120,8 @@ impl<'a, A: Book, B: Book> Upgrade<'a, A, B> {
     }
 
     fn accepted_by(&self, def: DefId, key: Option<Key>) -> Bounds
-        requires { def < length (definitions (B.meaning self.now.b.now)) }
-        ensures { result ≡ accepted_bounds (rules_in (B.meaning self.now.b.now) def) key }
+        requires { def < length (definitions (sides_of self.now).receiver) }
+        ensures { result ≡ accepted_bounds (rules_in (sides_of self.now).receiver def) key }
     {
         match key {
             Some(key) => Bounds::of_rule(rule_of(self.b, def, key)),
@@ -142,23 +131,23 @@ impl<'a, A: Book, B: Book> Upgrade<'a, A, B> {
 
     /// The definition of A by which the level at a place is read, in messages of a command.
     fn sent_definition(&self, command: DefId, place: Place) -> Option<DefId>
-        requires { command < length (definitions (A.meaning self.now.a.now)) }
-        ensures within { IfSome result (λ def. def < length (definitions (A.meaning self.now.a.now))) }
-        ensures rules { option_map_or (rules_in (A.meaning self.now.a.now)) result []
-            ≡ sent_rules (A.meaning self.now.a.now) command place }
+        requires { command < length (definitions (sides_of self.now).sender) }
+        ensures within { IfSome result (λ def. def < length (definitions (sides_of self.now).sender)) }
+        ensures rules { option_map_or (rules_in (sides_of self.now).sender) result []
+            ≡ sent_rules (sides_of self.now).sender command place }
     {
         match place {
             Place::Command { .. } => Some(command),
-            Place::Group { key, .. } => group_of(self.a, key),
+            Place::Group { key, .. } => group_of(self.lengths.book, key),
         }
     }
 
     /// The definition by which B reads the level.
     fn accepted_definition(&self, command: DefId, place: Place) -> Option<DefId>
-        requires { command < length (definitions (A.meaning self.now.a.now)) }
-        ensures within { IfSome result (λ def. def < length (definitions (B.meaning self.now.b.now))) }
-        ensures rules { option_map_or (rules_in (B.meaning self.now.b.now)) result []
-            ≡ accepted_rules (A.meaning self.now.a.now) (B.meaning self.now.b.now) command place }
+        requires { command < length (definitions (sides_of self.now).sender) }
+        ensures within { IfSome result (λ def. def < length (definitions (sides_of self.now).receiver)) }
+        ensures rules { option_map_or (rules_in (sides_of self.now).receiver) result []
+            ≡ accepted_rules (sides_of self.now) command place }
     {
         match place {
             Place::Command { app, .. } => self.selected_for(command, app),
@@ -168,13 +157,12 @@ impl<'a, A: Book, B: Book> Upgrade<'a, A, B> {
 
     /// The definition that B selects for messages of a command of A, with this application.
     fn selected_for(&self, command: DefId, app: u32) -> Option<DefId>
-        requires { command < length (definitions (A.meaning self.now.a.now)) }
-        ensures within { IfSome result (λ def. def < length (definitions (B.meaning self.now.b.now))) }
-        ensures selected { result ≡ option_and_then
-            (λ head. selected (B.meaning self.now.b.now) head.code head.class app)
-            (head_at (A.meaning self.now.a.now) command) }
+        requires { command < length (definitions (sides_of self.now).sender) }
+        ensures within { IfSome result (λ def. def < length (definitions (sides_of self.now).receiver)) }
+        ensures selected { result ≡ option_and_then (λ head. selected (sides_of self.now).receiver head.code head.class app)
+            (head_at (sides_of self.now).sender command) }
     {
-        match head_of(self.a, command) {
+        match head_of(self.lengths.book, command) {
             Some(head) => command_of(self.b, head.code, head.class, app),
             None => None,
         }
@@ -182,8 +170,8 @@ impl<'a, A: Book, B: Book> Upgrade<'a, A, B> {
 }
 
 fn push_both(out: &mut String, sent: Bounds, accepted: Bounds) -> Result<(), AllocError>
-    ensures { OnOk result (string_bytes out.new ≡ string_bytes out.old ++ (bounds_text sent
-        ++ codes " sent, " ++ bounds_text accepted ++ codes " accepted")) }
+    ensures { OnOk result (Writes out.old out.new
+        (bounds_text sent ++ codes " sent, " ++ bounds_text accepted ++ codes " accepted")) }
 {
     push_bounds(out, sent)?;
     out.push_str(" sent, ")?;
@@ -192,16 +180,14 @@ fn push_both(out: &mut String, sent: Bounds, accepted: Bounds) -> Result<(), All
 }
 
 fn push_sent(out: &mut String, sent: Bounds) -> Result<(), AllocError>
-    ensures { OnOk result (string_bytes out.new
-        ≡ string_bytes out.old ++ (bounds_text sent ++ codes " sent")) }
+    ensures { OnOk result (Writes out.old out.new (bounds_text sent ++ codes " sent")) }
 {
     push_bounds(out, sent)?;
     out.push_str(" sent")
 }
 
 fn push_accepted(out: &mut String, accepted: Bounds) -> Result<(), AllocError>
-    ensures { OnOk result (string_bytes out.new
-        ≡ string_bytes out.old ++ (bounds_text accepted ++ codes " accepted")) }
+    ensures { OnOk result (Writes out.old out.new (bounds_text accepted ++ codes " accepted")) }
 {
     push_bounds(out, accepted)?;
     out.push_str(" accepted")

@@ -21,16 +21,14 @@ pub(crate) struct LevelCost {
 }
 
 impl LevelCost {
-    ghost use Rattle.dia_breaking.specs.LevelCosts.{IsCostOf, cost_of, with_listed, with_other};
+    ghost use Rattle.dia_breaking.specs.LevelCosts.{IsCostOf, cost_of, with_listed};
 
     pub fn new<A: Book, C: Costs>(a: &A, def: DefId, costs: &C) -> Self
         requires { def < length (definitions (A.meaning a.now)) }
-        ensures exact { result ≡ cost_of (C.listed_length costs.now) (C.other_length costs.now)
-            (C.other_keys costs.now) (rules_in (A.meaning a.now) def) }
-        ensures within { OtherIsShortest (C.other_length costs.now) (C.other_keys costs.now)
-            (rules_in (A.meaning a.now) def) → IsCostOf
-            (C.listed_length costs.now) (C.other_length costs.now)
-            (rules_in (A.meaning a.now) def) result }
+        ensures exact { result ≡ cost_of
+            (C.listed_length costs.now) (C.other_length costs.now) (C.other_keys costs.now) (rules_in (A.meaning a.now) def) }
+        ensures within { OtherIsShortest (C.other_length costs.now) (C.other_keys costs.now) (rules_in (A.meaning a.now) def)
+            → IsCostOf (C.listed_length costs.now) (C.other_length costs.now) (rules_in (A.meaning a.now) def) result }
     {
         let base = length_least(a, def, costs);
         let beside = match wildcard_of(a, def) {
@@ -70,8 +68,7 @@ fn beside(base: u64, filler: u64, wild: &DRule) -> u64
 /// The length of a shortest AVP that no rule lists.
 fn filler_length<A: Book, C: Costs>(a: &A, def: DefId, costs: &C) -> u64
     requires { def < length (definitions (A.meaning a.now)) }
-    ensures { result ≡ least_filler (C.other_length costs.now) (C.other_keys costs.now)
-        (rules_in (A.meaning a.now) def) }
+    ensures { result ≡ least_filler (C.other_length costs.now) (C.other_keys costs.now) (rules_in (A.meaning a.now) def) }
 {
     match filler_key(a, def, costs) {
         Some(key) => costs.other(key),
@@ -81,8 +78,7 @@ fn filler_length<A: Book, C: Costs>(a: &A, def: DefId, costs: &C) -> u64
 
 fn filler_key<A: Book, C: Costs>(a: &A, def: DefId, costs: &C) -> Option<Key>
     requires { def < length (definitions (A.meaning a.now)) }
-    ensures { result ≡ find (λ key. not (is_listed (rules_in (A.meaning a.now) def) key))
-        (C.other_keys costs.now) }
+    ensures { result ≡ find (λ key. not (is_listed (rules_in (A.meaning a.now) def) key)) (C.other_keys costs.now) }
 {
     costs
         .others()

@@ -1,19 +1,19 @@
 //! The lines of a command.
-ghost use Rattle.std.specs.Prelude.{◌≡◌, ◌⊎◌, ◌<◌, ◌++◌, ◌∷◌, [], true, IfOk, IfSome, None, OnOk, Some, length};
+ghost use Rattle.std.specs.Prelude.{◌≡◌, ◌⊎◌, ◌++◌, ◌∷◌, [], true, IfOk, IfSome, None, OnOk, length};
 ghost use Rattle.std.specs.Prelude.{map, option_to_list, slice_get};
 ghost use Rattle.std.specs.Option.{option_map_or};
-ghost use Rattle.dia_book.specs.Dictionary.{definitions};
 ghost use Rattle.dia_breaking.specs.Confirmed.{EachConfirmedBreaks, HaveStandings, most_checked_together};
 ghost use Rattle.dia_breaking.specs.Free.{AreValidWhereFree};
-ghost use Rattle.dia_breaking.specs.Headers.{head_in};
-ghost use Rattle.dia_breaking.specs.Listing.{AddsTold, IsListing};
-ghost use Rattle.dia_breaking.specs.Listing.{IsWalkFrom, Told};
-ghost use Rattle.dia_breaking.specs.Listing.{basis_of, command_levels, group_levels, level_lines};
-ghost use Rattle.dia_breaking.specs.Listing.{lines_in, lines_of, new_line, subject, tells, with_room};
+ghost use Rattle.dia_breaking.specs.Headers.{HasHead};
+ghost use Rattle.dia_breaking.specs.Listing.{AddsTold, IsListing, IsWalkFrom};
+ghost use Rattle.dia_breaking.specs.Listing.{command_levels, group_levels, level_lines};
+ghost use Rattle.dia_breaking.specs.Listing.{AreInOrder, lines_in, new_line, subject, tells, with_room};
 ghost use Rattle.dia_breaking.specs.Orders.{IsInOrderOf, of_each};
-ghost use Rattle.dia_breaking.specs.OwnBreaks.{HaveDataBreaks, TellData};
+ghost use Rattle.dia_breaking.specs.OwnBreaks.{TellData};
+ghost use Rattle.dia_breaking.specs.Sides.{answer_of};
 ghost use Rattle.dia_breaking.specs.Sites.{group_sites};
 ghost use Rattle.dia_breaking.specs.TheLines.{AreAllOrUnproved, AreLinesOrUnproved, IsOfHead};
+ghost use Rattle.dia_breaking.specs.Upgrades.{basis_for, lines_for, sides_of};
 ghost use Rattle.dia_breaking.specs.declared.line.Line.{Line as AnyLine};
 
 use crate::header_lines::push_header_lines;
@@ -37,25 +37,14 @@ impl<'a, A: Book, B: Book> Upgrade<'a, A, B> {
         command: DefId,
         head: &Head,
     ) -> Result<Breaks, AllocError>
-        requires within { command < length (definitions (A.meaning self.now.a.now)) }
-        requires head { IfSome (slice_get (definitions (A.meaning self.now.a.now)) command)
-            (λ c. head_in c.head ≡ Some head.now) }
+        requires { HasHead (sides_of self.now).sender command head.now }
         ensures command { IfOk result (λ breaks. breaks.command ≡ command) }
         ensures head { IfOk result (λ breaks. IsOfHead breaks head.now) }
-        ensures free { IfOk result (λ breaks. ∥ AreValidWhereFree
-            (A.meaning self.now.a.now) (B.meaning self.now.b.now) self.now.sends self.now.unknown
-            breaks.sites.items breaks.lines.items command ∥₁) }
-        ensures each { IfOk result (λ breaks. EachConfirmedBreaks
-            (A.meaning self.now.a.now) (B.meaning self.now.b.now)
-            self.now.sends self.now.unknown command breaks.lines.items) }
-        ensures standings { IfOk result
-            (λ breaks. HaveStandings most_checked_together breaks.lines.items) }
-        ensures formats { IfOk result (λ breaks. ∥ TellData
-            (A.meaning self.now.a.now) (B.meaning self.now.b.now) self.now.sends self.now.unknown
-            breaks.lines.items ∥₁) }
-        ensures lines { IfOk result (λ breaks. AreLinesOrUnproved
-            (A.meaning self.now.a.now) (B.meaning self.now.b.now) self.now.sends self.now.unknown
-            command breaks.sites.items breaks.lines.items) }
+        ensures free { IfOk result (λ breaks. ∥ AreValidWhereFree (sides_of self.now) (answer_of breaks) ∥₁) }
+        ensures each { IfOk result (λ breaks. EachConfirmedBreaks (sides_of self.now) command breaks.lines.items) }
+        ensures standings { IfOk result (λ breaks. HaveStandings most_checked_together breaks.lines.items) }
+        ensures formats { IfOk result (λ breaks. ∥ TellData (sides_of self.now) breaks.lines.items ∥₁) }
+        ensures lines { IfOk result (λ breaks. AreLinesOrUnproved (sides_of self.now) (answer_of breaks)) }
     {
         let found = self.found(alloc, command, head)?;
         self.with_standings(alloc, found)
@@ -63,20 +52,12 @@ impl<'a, A: Book, B: Book> Upgrade<'a, A, B> {
 
     /// The lines that a walk over the sites finds.
     fn found(&self, alloc: Global, command: DefId, head: &Head) -> Result<Breaks, AllocError>
-        requires within { command < length (definitions (A.meaning self.now.a.now)) }
-        requires head { IfSome (slice_get (definitions (A.meaning self.now.a.now)) command)
-            (λ c. head_in c.head ≡ Some head.now) }
+        requires { HasHead (sides_of self.now).sender command head.now }
         ensures command { IfOk result (λ breaks. breaks.command ≡ command) }
         ensures head { IfOk result (λ breaks. IsOfHead breaks head.now) }
-        ensures free { IfOk result (λ breaks. ∥ AreValidWhereFree
-            (A.meaning self.now.a.now) (B.meaning self.now.b.now) self.now.sends self.now.unknown
-            breaks.sites.items breaks.lines.items command ∥₁) }
-        ensures lines { IfOk result (λ breaks. AreLinesOrUnproved
-            (A.meaning self.now.a.now) (B.meaning self.now.b.now) self.now.sends self.now.unknown
-            command breaks.sites.items breaks.lines.items) }
-        ensures formats { IfOk result (λ breaks. ∥ TellData
-            (A.meaning self.now.a.now) (B.meaning self.now.b.now) self.now.sends self.now.unknown
-            breaks.lines.items ∥₁) }
+        ensures free { IfOk result (λ breaks. ∥ AreValidWhereFree (sides_of self.now) (answer_of breaks) ∥₁) }
+        ensures lines { IfOk result (λ breaks. AreLinesOrUnproved (sides_of self.now) (answer_of breaks)) }
+        ensures formats { IfOk result (λ breaks. ∥ TellData (sides_of self.now) breaks.lines.items ∥₁) }
     {
         let start = Start::of(alloc, self, command, head)?;
         self.found_from(alloc, command, &start)
@@ -84,23 +65,13 @@ impl<'a, A: Book, B: Book> Upgrade<'a, A, B> {
 
     /// The lines that a walk from this start finds.
     fn found_from(&self, alloc: Global, command: DefId, start: &Start) -> Result<Breaks, AllocError>
-        requires within { command < length (definitions (A.meaning self.now.a.now)) }
-        requires head { IfSome (slice_get (definitions (A.meaning self.now.a.now)) command)
-            (λ c. head_in c.head ≡ Some start.now.head) }
+        requires { HasHead (sides_of self.now).sender command start.now.head }
         ensures command { IfOk result (λ breaks. breaks.command ≡ command) }
         ensures head { IfOk result (λ breaks. IsOfHead breaks start.now.head) }
-        ensures free { IfOk result (λ breaks. ∥ AreValidWhereFree
-            (A.meaning self.now.a.now) (B.meaning self.now.b.now) self.now.sends self.now.unknown
-            breaks.sites.items breaks.lines.items command ∥₁) }
-        ensures listing { IfOk result (λ breaks. AreAllOrUnproved
-            (IsListing (B.meaning self.now.b.now)
-            (basis_of start.now self.now.own.items self.now.outlooks.items) breaks.sites.items)
-            breaks.sites.items breaks.lines.items) }
-        ensures formats { IfOk result (λ breaks. HaveDataBreaks
-            (A.meaning self.now.a.now) (B.meaning self.now.b.now) self.now.sends self.now.unknown
-            self.now.own.items → TellData
-            (A.meaning self.now.a.now) (B.meaning self.now.b.now) self.now.sends self.now.unknown
-            breaks.lines.items) }
+        ensures free { IfOk result (λ breaks. ∥ AreValidWhereFree (sides_of self.now) (answer_of breaks) ∥₁) }
+        ensures listing { IfOk result (λ breaks. AreAllOrUnproved (IsListing (sides_of self.now).receiver
+            (basis_for self.now start.now) breaks.sites.items) breaks.sites.items breaks.lines.items) }
+        ensures formats { IfOk result (λ breaks. ∥ TellData (sides_of self.now) breaks.lines.items ∥₁) }
     {
         let sites = command_sites(alloc, self.b, &start.head, &start.apps)?;
         let first = first_read(&sites);
@@ -135,18 +106,11 @@ impl<'a, A: Book, B: Book> Upgrade<'a, A, B> {
     ) -> Result<Breaks, AllocError>
         ensures command { IfOk result (λ breaks. breaks.command ≡ command) }
         ensures head { IfOk result (λ breaks. IsOfHead breaks start.now.head) }
-        ensures sites { IfOk result (λ breaks. breaks.sites.items ≡ sites.items
-            ++ group_sites self.now.own.items numbers.first numbers.count walk.now.steps.items) }
-        ensures lines { IfOk result (λ breaks. IsInOrderOf (λ (told : Told). told.site)
-            (lines_of (B.meaning self.now.b.now)
-            (basis_of start.now self.now.own.items self.now.outlooks.items)
-            numbers.first numbers.count walk.now.steps.items walk.now.reached.items)
-            (map tells breaks.lines.items)) }
-        ensures formats { IfOk result (λ breaks. HaveDataBreaks
-            (A.meaning self.now.a.now) (B.meaning self.now.b.now) self.now.sends self.now.unknown
-            self.now.own.items → TellData
-            (A.meaning self.now.a.now) (B.meaning self.now.b.now) self.now.sends self.now.unknown
-            breaks.lines.items) }
+        ensures sites { IfOk result (λ breaks. breaks.sites.items
+            ≡ sites.items ++ group_sites self.now.own.items numbers.first numbers.count walk.now.steps.items) }
+        ensures lines { IfOk result
+            (λ breaks. AreInOrder (lines_for self.now start.now numbers walk.now) (map tells breaks.lines.items)) }
+        ensures formats { IfOk result (λ breaks. ∥ TellData (sides_of self.now) breaks.lines.items ∥₁) }
     {
         push_group_sites(&mut sites, &self.own, numbers, &walk.steps)?;
         let lines = self.lines_by(alloc, start, numbers, walk)?;
@@ -166,9 +130,8 @@ impl<'a, A: Book, B: Book> Upgrade<'a, A, B> {
         start: &Start,
         is_read: bool,
     ) -> Result<Option<Walk>, AllocError>
-        ensures walk { IfOk result (λ found. IfSome found (λ walk. IsWalkFrom is_read
-            (basis_of start.now self.now.own.items self.now.outlooks.items).graph
-            walk.steps.items walk.reached.items)) }
+        ensures walk { IfOk result (λ found. IfSome found (λ walk.
+            IsWalkFrom is_read (basis_for self.now start.now).graph walk.steps.items walk.reached.items)) }
         ensures none { IfOk result (λ found. found ≡ None → is_read ≡ true) }
     {
         if is_read {
@@ -189,16 +152,8 @@ impl<'a, A: Book, B: Book> Upgrade<'a, A, B> {
         numbers: Numbers,
         walk: &Walk,
     ) -> Result<Vec<Line>, AllocError>
-        ensures order { IfOk result (λ lines. IsInOrderOf (λ (told : Told). told.site)
-            (lines_of (B.meaning self.now.b.now)
-            (basis_of start.now self.now.own.items self.now.outlooks.items)
-            numbers.first numbers.count walk.now.steps.items walk.now.reached.items)
-            (map tells lines.items)) }
-        ensures formats { IfOk result (λ lines. HaveDataBreaks
-            (A.meaning self.now.a.now) (B.meaning self.now.b.now) self.now.sends self.now.unknown
-            self.now.own.items → TellData
-            (A.meaning self.now.a.now) (B.meaning self.now.b.now) self.now.sends self.now.unknown
-            lines.items) }
+        ensures order { IfOk result (λ lines. AreInOrder (lines_for self.now start.now numbers walk.now) (map tells lines.items)) }
+        ensures formats { IfOk result (λ lines. ∥ TellData (sides_of self.now) lines.items ∥₁) }
     {
         let mut lines = Vec::new(alloc);
         push_header_lines(self.b, start, &mut lines)?;
@@ -234,9 +189,8 @@ impl<'a, A: Book, B: Book> Upgrade<'a, A, B> {
         index: usize,
         lines: &mut Vec<Line>,
     ) -> Result<(), AllocError>
-        ensures { OnOk result (AddsTold lines.old.items lines.new.items
-            (option_map_or (group_levels count (map lines_in self.now.outlooks.items) index)
-            (slice_get steps.now index) [])) }
+        ensures { OnOk result (AddsTold lines.old.items lines.new.items (option_map_or
+            (group_levels count (map lines_in self.now.outlooks.items) index) (slice_get steps.now index) [])) }
     {
         match steps.get(index) {
             Some(step) => self.push_group_level(count.saturating_add(index), step, lines),
@@ -250,9 +204,8 @@ impl<'a, A: Book, B: Book> Upgrade<'a, A, B> {
         step: &Step,
         lines: &mut Vec<Line>,
     ) -> Result<(), AllocError>
-        ensures { OnOk result (AddsTold lines.old.items lines.new.items
-            (option_map_or (level_lines site step.now.way)
-            (slice_get (map lines_in self.now.outlooks.items) step.now.place) [])) }
+        ensures { OnOk result (AddsTold lines.old.items lines.new.items (option_map_or
+            (level_lines site step.now.way) (slice_get (map lines_in self.now.outlooks.items) step.now.place) [])) }
     {
         match self.outlooks.get(step.place) {
             Some(outlook) => match &outlook.inner {
@@ -296,8 +249,7 @@ pub(crate) fn push_line(
     takes: u64,
 ) -> Result<(), AllocError>
     ensures items { OnOk result (lines.new.items ≡ lines.old.items ++ new_line site cause takes ∷ []) }
-    ensures told { OnOk result (AddsTold lines.old.items lines.new.items
-        (tells (new_line site cause takes) ∷ [])) }
+    ensures told { OnOk result (AddsTold lines.old.items lines.new.items (tells (new_line site cause takes) ∷ [])) }
 {
     lines.push(Line {
         site,
@@ -315,8 +267,8 @@ pub(crate) fn push_with_room(
     cause: Cause,
     takes: u64,
 ) -> Result<(), AllocError>
-    ensures told { OnOk result (AddsTold lines.old.items lines.new.items
-        (option_to_list (with_room site takes (subject cause)))) }
+    ensures told { OnOk result
+        (AddsTold lines.old.items lines.new.items (option_to_list (with_room site takes (subject cause)))) }
     ensures items { OnOk result ((lines.new.items ≡ lines.old.items)
         ⊎ (lines.new.items ≡ lines.old.items ++ new_line site cause takes ∷ [])) }
 {
@@ -348,8 +300,7 @@ fn push_level_line(
     way: u64,
     line: &LevelLine,
 ) -> Result<(), AllocError>
-    ensures { OnOk result (AddsTold lines.old.items lines.new.items
-        (level_lines site way (line.now ∷ []))) }
+    ensures { OnOk result (AddsTold lines.old.items lines.new.items (level_lines site way (line.now ∷ []))) }
 {
     let length = way.saturating_add(line.length);
     push_with_room(lines, site, Cause::Level(*line), length)
@@ -368,8 +319,7 @@ fn push_command_levels(start: &Start, lines: &mut Vec<Line>) -> Result<(), Alloc
 
 fn push_command_level(start: &Start, site: usize, lines: &mut Vec<Line>) -> Result<(), AllocError>
     ensures { OnOk result (AddsTold lines.old.items lines.new.items
-        (option_map_or (command_levels site)
-        (slice_get (map (λ found. found.items) start.now.levels.items) site) [])) }
+        (option_map_or (command_levels site) (slice_get (map (λ found. found.items) start.now.levels.items) site) [])) }
 {
     match start.levels.get(site) {
         Some(found) => push_level_lines(lines, site, 0, found),

@@ -1,6 +1,7 @@
 //! The message of a line.
 ghost use Rattle.std.specs.Prelude.{◌<◌, length};
 ghost use Rattle.dia_book.specs.Dictionary.{definitions};
+ghost use Rattle.dia_breaking.specs.Upgrades.{sides_of};
 
 use crate::books::m_rule_of;
 use crate::line::{Breaks, Cause, Line, Place, Site};
@@ -118,7 +119,7 @@ impl<'a, A: Book, B: Book> Upgrade<'a, A, B> {
         let Some(def) = self.definition_of_a(breaks.code, breaks.class, outer.place) else {
             return Ok(Vec::new(alloc));
         };
-        let parts = level_with(alloc, self.a, def, &self.lengths, key)?;
+        let parts = level_with(alloc, self.lengths.book, def, &self.lengths, key)?;
         let (front, rest) = around(alloc, &parts, key)?;
         self.push_parts(out, &front)?;
         let length = line.length.saturating_sub(inner.way);
@@ -143,7 +144,7 @@ impl<'a, A: Book, B: Book> Upgrade<'a, A, B> {
         let shown = Shown::of(&line.cause);
         match shown.key() {
             Some(key) => {
-                let parts = level_with(alloc, self.a, def, &self.lengths, key)?;
+                let parts = level_with(alloc, self.lengths.book, def, &self.lengths, key)?;
                 let (front, rest) = around(alloc, &parts, key)?;
                 self.push_parts(out, &front)?;
                 self.push_shown(out, &shown)?;
@@ -165,14 +166,22 @@ impl<'a, A: Book, B: Book> Upgrade<'a, A, B> {
         def: DefId,
         cause: &Cause,
     ) -> Result<Vec<Part>, AllocError>
-        requires { def < length (definitions (A.meaning self.now.a.now)) }
+        requires { def < length (definitions (sides_of self.now).sender) }
     {
         let Cause::Level(line) = cause else {
-            return level_least(alloc, self.a, def, &self.lengths);
+            return level_least(alloc, self.lengths.book, def, &self.lengths);
         };
         match self.definition_of_b(breaks.code, breaks.class, place) {
-            Some(other) => line_level(alloc, self.a, def, self.b, other, &self.lengths, line),
-            None => level_least(alloc, self.a, def, &self.lengths),
+            Some(other) => line_level(
+                alloc,
+                self.lengths.book,
+                def,
+                self.b,
+                other,
+                &self.lengths,
+                line,
+            ),
+            None => level_least(alloc, self.lengths.book, def, &self.lengths),
         }
     }
 
@@ -186,7 +195,7 @@ impl<'a, A: Book, B: Book> Upgrade<'a, A, B> {
 
     fn push_part(&self, out: &mut Vec<u8>, part: &Part) -> Result<(), AllocError> {
         for _ in 0..part.count {
-            push_least(out, self.a, &self.lengths.least, part.key)?;
+            push_least(out, self.lengths.book, &self.lengths.least, part.key)?;
         }
         Ok(())
     }
@@ -195,10 +204,10 @@ impl<'a, A: Book, B: Book> Upgrade<'a, A, B> {
     fn push_shown(&self, out: &mut Vec<u8>, shown: &Shown) -> Result<(), AllocError> {
         match *shown {
             Shown::Level => Ok(()),
-            Shown::Least { key } => push_least(out, self.a, &self.lengths.least, key),
+            Shown::Least { key } => push_least(out, self.lengths.book, &self.lengths.least, key),
             Shown::Flag { key, m } => {
                 let place = out.len();
-                push_least(out, self.a, &self.lengths.least, key)?;
+                push_least(out, self.lengths.book, &self.lengths.least, key)?;
                 set_m(out, place, m);
                 Ok(())
             }
@@ -217,7 +226,7 @@ impl<'a, A: Book, B: Book> Upgrade<'a, A, B> {
     }
 
     fn wants_m(&self, key: Key) -> bool {
-        match m_rule_of(self.a, key) {
+        match m_rule_of(self.lengths.book, key) {
             Some(MRule::Must) => true,
             Some(MRule::MustNot) => false,
             Some(MRule::Any) => m_rule_of(self.b, key) == Some(MRule::Must),

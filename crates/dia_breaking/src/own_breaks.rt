@@ -1,7 +1,8 @@
 //! How the AVPs of which there is something to tell break by themselves.
-ghost use Rattle.std.specs.Prelude.{◌≡◌, All, IfOk, map};
-ghost use Rattle.dia_breaking.specs.Lengths.{listed_length};
+ghost use Rattle.std.specs.Prelude.{◌≡◌, IfOk};
 ghost use Rattle.dia_breaking.specs.OwnBreaks.{AreOwnBreaks, IsOwnBreaks};
+ghost use Rattle.dia_breaking.specs.Sender.{costs_of, sender_in};
+ghost use Rattle.dia_breaking.specs.Sides.{sides};
 
 use crate::keys::Own;
 use crate::lengths::Lengths;
@@ -24,39 +25,34 @@ pub(crate) struct OwnBreaks {
 /// How each of these AVPs breaks by itself, in the order of the AVPs.
 pub(crate) fn own_breaks<A: Book, B: Book>(
     alloc: Global,
-    a: &A,
     b: &B,
     own: &[Own],
     lengths: &Lengths<'_, A>,
     unknown: Unknown,
 ) -> Result<Vec<OwnBreaks>, AllocError>
-    ensures { IfOk result (λ found. AreOwnBreaks (A.meaning a.now) (B.meaning b.now)
-        lengths.now.sends unknown
-        (listed_length (A.meaning lengths.now.book.now) lengths.now.sends lengths.now.entries.items)
-        own.now found.items) }
+    ensures { IfOk result (λ found. AreOwnBreaks
+        (sides (sender_in lengths.now) (B.meaning b.now) lengths.now.sends unknown) (costs_of lengths.now).listed own.now found.items) }
 {
     let mut found = Vec::new(alloc);
     for one in own {
-        found.push(breaks_of(a, b, one.key, lengths, unknown))?;
+        found.push(breaks_of(b, one.key, lengths, unknown))?;
     }
     Ok(found)
 }
 
 fn breaks_of<A: Book, B: Book>(
-    a: &A,
     b: &B,
     key: Key,
     lengths: &Lengths<'_, A>,
     unknown: Unknown,
 ) -> OwnBreaks
     ensures key { result.key ≡ key }
-    ensures breaks { IsOwnBreaks (A.meaning a.now) (B.meaning b.now) lengths.now.sends unknown
-        (listed_length (A.meaning lengths.now.book.now) lengths.now.sends lengths.now.entries.items)
-        result }
+    ensures breaks { IsOwnBreaks
+        (sides (sender_in lengths.now) (B.meaning b.now) lengths.now.sends unknown) (costs_of lengths.now).listed result }
 {
     OwnBreaks {
         key,
         least: lengths.listed(key),
-        breaks: avp_breaks(a, b, key, lengths.sends, unknown),
+        breaks: avp_breaks(lengths.book, b, key, lengths.sends, unknown),
     }
 }

@@ -1,10 +1,10 @@
 //! The lines of AVPs that break by themselves.
-ghost use Rattle.std.specs.Prelude.{◌≡◌, ◌⊎◌, [], None, IfOk, IfSome, OnOk, option_to_list, slice_get};
+ghost use Rattle.std.specs.Prelude.{◌≡◌, ◌⊎◌, [], None, IfOk, OnOk, option_to_list, slice_get};
 ghost use Rattle.std.specs.Option.{option_map, option_map_or};
-ghost use Rattle.dia_breaking_avps.specs.Breaks.{IsDataBreak};
 ghost use Rattle.dia_breaking.specs.Listing.{AddsTold, head_cause, own_cause, own_line};
-ghost use Rattle.dia_breaking.specs.Listing.{own_lines, reach_at, reached_line, subject, with_data};
-ghost use Rattle.dia_breaking.specs.OwnBreaks.{HaveDataBreaks, TellData, TellsData};
+ghost use Rattle.dia_breaking.specs.Listing.{own_lines, reach_at, reached_line, subject, subject_with, with_data};
+ghost use Rattle.dia_breaking.specs.OwnBreaks.{HasDataBreak, KeepsData, TellsIfBreaks};
+ghost use Rattle.dia_breaking.specs.Upgrades.{KeepsIfKnown, sides_of};
 
 use crate::books::format_of;
 use crate::line::{Cause, Line};
@@ -47,13 +47,7 @@ impl<'a, A: Book, B: Book> Upgrade<'a, A, B> {
     ) -> Result<(), AllocError>
         ensures told { OnOk result (AddsTold lines.old.items lines.new.items
             (own_lines kind numbers.first numbers.count self.now.own.items reached.now)) }
-        ensures formats { OnOk result (HaveDataBreaks
-            (A.meaning self.now.a.now) (B.meaning self.now.b.now) self.now.sends self.now.unknown
-            self.now.own.items → TellData
-            (A.meaning self.now.a.now) (B.meaning self.now.b.now) self.now.sends self.now.unknown
-            lines.old.items → TellData
-            (A.meaning self.now.a.now) (B.meaning self.now.b.now) self.now.sends self.now.unknown
-            lines.new.items) }
+        ensures formats { OnOk result (KeepsIfKnown self.now lines.old.items lines.new.items) }
     {
         for place in 0..self.own.len() {
             self.push_own_at(alloc, kind, numbers, reached, place, lines)?;
@@ -71,15 +65,8 @@ impl<'a, A: Book, B: Book> Upgrade<'a, A, B> {
         lines: &mut Vec<Line>,
     ) -> Result<(), AllocError>
         ensures told { OnOk result (AddsTold lines.old.items lines.new.items
-            (option_map_or (reached_line kind numbers.first numbers.count reached.now place)
-            (slice_get self.now.own.items place) [])) }
-        ensures formats { OnOk result (HaveDataBreaks
-            (A.meaning self.now.a.now) (B.meaning self.now.b.now) self.now.sends self.now.unknown
-            self.now.own.items → TellData
-            (A.meaning self.now.a.now) (B.meaning self.now.b.now) self.now.sends self.now.unknown
-            lines.old.items → TellData
-            (A.meaning self.now.a.now) (B.meaning self.now.b.now) self.now.sends self.now.unknown
-            lines.new.items) }
+            (option_map_or (reached_line kind numbers.first numbers.count reached.now place) (slice_get self.now.own.items place) [])) }
+        ensures formats { OnOk result (KeepsIfKnown self.now lines.old.items lines.new.items) }
     {
         match self.own.get(place) {
             Some(own) => match reach_at(reached, place) {
@@ -102,13 +89,8 @@ impl<'a, A: Book, B: Book> Upgrade<'a, A, B> {
     ) -> Result<(), AllocError>
         ensures told { OnOk result (AddsTold lines.old.items lines.new.items
             (option_to_list (own_line kind numbers.first numbers.count own.now reach.now))) }
-        ensures formats { OnOk result (IsDataBreak
-            (A.meaning self.now.a.now) (B.meaning self.now.b.now) self.now.sends self.now.unknown
-            own.now.key own.now.breaks.data → TellData
-            (A.meaning self.now.a.now) (B.meaning self.now.b.now) self.now.sends self.now.unknown
-            lines.old.items → TellData
-            (A.meaning self.now.a.now) (B.meaning self.now.b.now) self.now.sends self.now.unknown
-            lines.new.items) }
+        ensures formats { OnOk result
+            (HasDataBreak (sides_of self.now) own.now → KeepsData (sides_of self.now) lines.old.items lines.new.items) }
     {
         match self.own_cause(alloc, kind, own, reach.length)? {
             Some((cause, length)) => {
@@ -126,13 +108,8 @@ impl<'a, A: Book, B: Book> Upgrade<'a, A, B> {
         own: &OwnBreaks,
         length: u64,
     ) -> Result<Option<(Cause, u64)>, AllocError>
-        ensures told { IfOk result (λ found. option_map (λ pair. (subject pair.0, pair.1)) found
-            ≡ own_cause kind own.now length) }
-        ensures formats { IfOk result (λ found. IsDataBreak
-            (A.meaning self.now.a.now) (B.meaning self.now.b.now) self.now.sends self.now.unknown
-            own.now.key own.now.breaks.data → IfSome found (λ pair. TellsData
-            (A.meaning self.now.a.now) (B.meaning self.now.b.now) self.now.sends self.now.unknown
-            pair.0)) }
+        ensures told { IfOk result (λ found. option_map subject_with found ≡ own_cause kind own.now length) }
+        ensures formats { IfOk result (TellsIfBreaks (sides_of self.now) own.now) }
     {
         match kind {
             Kind::Data => self.data_cause(alloc, own, length),
@@ -149,13 +126,8 @@ impl<'a, A: Book, B: Book> Upgrade<'a, A, B> {
         own: &OwnBreaks,
         length: u64,
     ) -> Result<Option<(Cause, u64)>, AllocError>
-        ensures told { IfOk result (λ found. option_map (λ pair. (subject pair.0, pair.1)) found
-            ≡ own_cause Kind.Data own.now length) }
-        ensures formats { IfOk result (λ found. IsDataBreak
-            (A.meaning self.now.a.now) (B.meaning self.now.b.now) self.now.sends self.now.unknown
-            own.now.key own.now.breaks.data → IfSome found (λ pair. TellsData
-            (A.meaning self.now.a.now) (B.meaning self.now.b.now) self.now.sends self.now.unknown
-            pair.0)) }
+        ensures told { IfOk result (λ found. option_map subject_with found ≡ own_cause Kind.Data own.now length) }
+        ensures formats { IfOk result (TellsIfBreaks (sides_of self.now) own.now) }
     {
         let key = own.key;
         match own.breaks.data {
@@ -179,8 +151,7 @@ impl<'a, A: Book, B: Book> Upgrade<'a, A, B> {
     /// Whether B's leaf refuses the data of a shortest AVP.
     fn tried(&self, alloc: Global, key: Key) -> Result<Cause, AllocError>
         ensures told { IfOk result (λ cause. subject cause ≡ Cause.Format key None) }
-        ensures either { IfOk result (λ cause. (cause ≡ Cause.Format key None)
-            ⊎ (cause ≡ Cause.LevelAsLeaf key)) }
+        ensures either { IfOk result (λ cause. (cause ≡ Cause.Format key None) ⊎ (cause ≡ Cause.LevelAsLeaf key)) }
     {
         let Some(format) = format_of(self.b, key) else {
             return Ok(Cause::LevelAsLeaf { key });
@@ -189,7 +160,7 @@ impl<'a, A: Book, B: Book> Upgrade<'a, A, B> {
             return Ok(Cause::LevelAsLeaf { key });
         }
         let mut bytes = Vec::new(alloc);
-        push_least(&mut bytes, self.a, &self.lengths.least, key)?;
+        push_least(&mut bytes, self.lengths.book, &self.lengths.least, key)?;
         let head = shortest_head(key) as usize;
         if is_refused(format, &bytes, head) {
             Ok(Cause::Format { key, data: None })

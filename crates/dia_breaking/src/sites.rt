@@ -121,8 +121,7 @@ pub(crate) fn push_group_sites(
     numbers: Numbers,
     steps: &[Step],
 ) -> Result<(), AllocError>
-    ensures { OnOk result (sites.new.items ≡ sites.old.items
-        ++ group_sites own.now numbers.first numbers.count steps.now) }
+    ensures { OnOk result (sites.new.items ≡ sites.old.items ++ group_sites own.now numbers.first numbers.count steps.now) }
 {
     for step in steps {
         push_group_site(sites, own, numbers, step)?;
@@ -136,8 +135,7 @@ fn push_group_site(
     numbers: Numbers,
     step: &Step,
 ) -> Result<(), AllocError>
-    ensures { OnOk result (sites.new.items ≡ sites.old.items
-        ++ group_sites own.now numbers.first numbers.count (step.now ∷ [])) }
+    ensures { OnOk result (sites.new.items ≡ sites.old.items ++ group_sites own.now numbers.first numbers.count (step.now ∷ [])) }
 {
     match own.get(step.place) {
         Some(one) => {

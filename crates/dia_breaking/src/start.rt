@@ -1,10 +1,12 @@
 //! What is found of a command before its sites are walked.
-ghost use Rattle.std.specs.Prelude.{◌≡◌, ◌<◌, IfOk, length, map, nat_le};
-ghost use Rattle.dia_book.specs.Dictionary.{definitions};
+ghost use Rattle.std.specs.Prelude.{◌≡◌, IfOk, map, nat_le};
 ghost use Rattle.dia_breaking_sites.specs.Selection.{max_body};
-ghost use Rattle.dia_breaking.specs.Lengths.{listed_length, other_length};
-ghost use Rattle.dia_breaking.specs.TheLines.{AreAppsWithRoom, AreCommandLevels};
-ghost use Rattle.dia_breaking.specs.TheLines.{IsCommandLevel, IsStartOf};
+ghost use Rattle.dia_breaking.specs.CommandLevels.{IsLevelOf};
+ghost use Rattle.dia_breaking.specs.Headers.{HasHead};
+ghost use Rattle.dia_breaking.specs.Sender.{costs_of};
+ghost use Rattle.dia_breaking.specs.TheLines.{AreIfRoom, AreLevels, IsStartOf};
+ghost use Rattle.dia_breaking.specs.ToldApps.{AreToldApps};
+ghost use Rattle.dia_breaking.specs.Upgrades.{sides_of};
 
 use crate::books::command_of;
 use crate::exits::Exits;
@@ -40,20 +42,12 @@ impl Start {
         command: DefId,
         head: &Head,
     ) -> Result<Self, AllocError>
-        requires { command < length (definitions (A.meaning upgrade.now.a.now)) }
+        requires { HasHead (sides_of upgrade.now).sender command head.now }
         ensures head { IfOk result (λ start. start.head ≡ head.now) }
-        ensures start { IfOk result (IsStartOf
-            (A.meaning upgrade.now.a.now) (B.meaning upgrade.now.b.now) upgrade.now.sends
-            upgrade.now.lengths.entries.items upgrade.now.lengths.others.items
-            upgrade.now.telling.value command) }
+        ensures start { IfOk result (IsStartOf (sides_of upgrade.now).sender (sides_of upgrade.now).receiver
+            upgrade.now.telling.value (costs_of upgrade.now.lengths) command) }
     {
-        let exits = Exits::of(
-            alloc,
-            upgrade.a,
-            command,
-            &upgrade.telling,
-            &upgrade.lengths,
-        )?;
+        let exits = Exits::of(alloc, command, &upgrade.telling, &upgrade.lengths)?;
         let apps = apps_with_room(alloc, upgrade, command, head, exits.base)?;
         let levels = levels_of(alloc, upgrade, head, &apps)?;
         Ok(Start {
@@ -74,12 +68,11 @@ fn apps_with_room<A: Book, B: Book>(
     head: &Head,
     base: u64,
 ) -> Result<Vec<u32>, AllocError>
-    ensures { IfOk result (λ apps. AreAppsWithRoom (nat_le base max_body)
-        (A.meaning upgrade.now.a.now) upgrade.now.apps.value.first upgrade.now.apps.value.second
-        command head.now apps.items) }
+    ensures { IfOk result (λ apps. AreIfRoom (nat_le base max_body)
+        (AreToldApps (sides_of upgrade.now).sender upgrade.now.apps.value command head.now) apps.items) }
 {
     if base <= ROOM {
-        told_apps(alloc, upgrade.a, &upgrade.apps, command, head)
+        told_apps(alloc, upgrade.lengths.book, &upgrade.apps, command, head)
     } else {
         Ok(Vec::new(alloc))
     }
@@ -92,14 +85,8 @@ fn levels_of<A: Book, B: Book>(
     head: &Head,
     apps: &[u32],
 ) -> Result<Vec<Vec<LevelLine>>, AllocError>
-    ensures { IfOk result (λ levels. AreCommandLevels
-        (A.meaning upgrade.now.a.now) (B.meaning upgrade.now.b.now)
-        (listed_length (A.meaning upgrade.now.lengths.book.now)
-        upgrade.now.lengths.sends upgrade.now.lengths.entries.items)
-        (other_length (A.meaning upgrade.now.lengths.book.now)
-        upgrade.now.lengths.sends upgrade.now.lengths.entries.items)
-        upgrade.now.lengths.others.items head.now apps.now
-        (map (λ lines. lines.items) levels.items)) }
+    ensures { IfOk result (λ levels. AreLevels (IsLevelOf (sides_of upgrade.now) (costs_of upgrade.now.lengths) head.now)
+        apps.now (map (λ lines. lines.items) levels.items)) }
 {
     let mut levels = Vec::new(alloc);
     for app in apps {
@@ -115,18 +102,13 @@ fn levels_for<A: Book, B: Book>(
     head: &Head,
     app: u32,
 ) -> Result<Vec<LevelLine>, AllocError>
-    ensures { IfOk result (λ lines. IsCommandLevel
-        (A.meaning upgrade.now.a.now) (B.meaning upgrade.now.b.now)
-        (listed_length (A.meaning upgrade.now.lengths.book.now)
-        upgrade.now.lengths.sends upgrade.now.lengths.entries.items)
-        (other_length (A.meaning upgrade.now.lengths.book.now)
-        upgrade.now.lengths.sends upgrade.now.lengths.entries.items)
-        upgrade.now.lengths.others.items head.now app lines.items) }
+    ensures { IfOk result
+        (λ lines. IsLevelOf (sides_of upgrade.now) (costs_of upgrade.now.lengths) head.now app lines.items) }
 {
     if !command_site(upgrade.b, head, app).is_read {
         return Ok(Vec::new(alloc));
     }
-    let Some(a_def) = command_of(upgrade.a, head.code, head.class, app) else {
+    let Some(a_def) = command_of(upgrade.lengths.book, head.code, head.class, app) else {
         return Ok(Vec::new(alloc));
     };
     let Some(b_def) = command_of(upgrade.b, head.code, head.class, app) else {

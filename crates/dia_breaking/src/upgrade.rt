@@ -1,24 +1,19 @@
 //! Two dictionaries, with what is the same for all commands.
-ghost use Rattle.std.specs.Prelude.{◌≡◌, ◌<◌, ℕ, [], IfOk, IfSome, IsSome, None, Some, length, map};
+ghost use Rattle.std.specs.Prelude.{◌≡◌, ◌<◌, [], IfOk, IfSome, IsSome, None, length, map};
 ghost use Rattle.std.proofs.Props.{props};
 ghost use Rattle.dia_book.specs.Dictionary.{definitions};
-ghost use Rattle.dia_breaking_sites.specs.Selection.{AreValid};
 ghost use Rattle.dia_compat.specs.Tests.{rules_in};
-ghost use Rattle.dia_breaking_shortest.specs.Floors.{AreFloors};
-ghost use Rattle.dia_breaking_levels.specs.Exact.{AreLevelLines};
-ghost use Rattle.dia_breaking_levels.specs.Levels.{FirstIsShortest, HasEachLine};
-ghost use Rattle.dia_breaking_levels.specs.LevelTests.{price};
 ghost use Rattle.dia_breaking_ways.specs.Walks.{plain_node};
-ghost use Rattle.dia_breaking.specs.Confirmed.{EachConfirmedBreaks, HaveStandings};
-ghost use Rattle.dia_breaking.specs.Confirmed.{most_checked_together};
-ghost use Rattle.dia_breaking.specs.Free.{AreValidWhereFree};
+ghost use Rattle.dia_breaking.specs.Confirmed.{EachConfirmedBreaks, HaveStandings, most_checked_together};
+ghost use Rattle.dia_breaking.specs.Free.{AllAreValid, AreValidWhereFree};
 ghost use Rattle.dia_breaking.specs.Headers.{AreApps};
-ghost use Rattle.dia_breaking.specs.Lengths.{listed_length, other_length};
+ghost use Rattle.dia_breaking.specs.LevelCosts.{PicksShortest};
 ghost use Rattle.dia_breaking.specs.Nodes.{node_in};
-ghost use Rattle.dia_breaking.specs.OwnBreaks.{AreOwnBreaks, TellData};
-ghost use Rattle.dia_breaking.specs.Outlooks.{HasGroupLines, HaveGroupLines};
-ghost use Rattle.dia_breaking.specs.Telling.{IsTelling};
-ghost use Rattle.dia_breaking.specs.TheLines.{AreFacts, AreLinesOrUnproved, IsOfHead};
+ghost use Rattle.dia_breaking.specs.OwnBreaks.{TellData};
+ghost use Rattle.dia_breaking.specs.Outlooks.{HasGroupLines, HasLinesFor};
+ghost use Rattle.dia_breaking.specs.Sender.{costs_of, sender_in};
+ghost use Rattle.dia_breaking.specs.Sides.{answer_of, sides};
+ghost use Rattle.dia_breaking.specs.TheLines.{AreKnown, AreLinesOf, AreLinesOrUnproved, IsOfHead, facts_by};
 ghost use Rattle.dia_breaking.specs.Words.{head_at};
 
 use crate::apps::BothApps;
@@ -39,11 +34,10 @@ use std::alloc::{AllocError, Global};
 /// Messages of A's side that B's side reads.
 #[derive(Drop)]
 pub struct Upgrade<'a, A: Book, B: Book> {
-    pub(crate) a: &'a A,
-    pub(crate) b: &'a B,
-    pub(crate) sends: Sends,
-    pub(crate) unknown: Unknown,
+    /// A's dictionary, what its side sends, and what its AVPs take.
     pub(crate) lengths: Lengths<'a, A>,
+    pub(crate) b: &'a B,
+    pub(crate) unknown: Unknown,
     pub(crate) telling: Box<Telling>,
     pub(crate) apps: Box<BothApps>,
     /// The AVPs of which there is something to tell, in the order of `Telling::own`.
@@ -52,29 +46,17 @@ pub struct Upgrade<'a, A: Book, B: Book> {
     pub(crate) nodes: Vec<Node>,
     /// How they break by themselves.
     pub(crate) own: Vec<OwnBreaks>,
-    ghost same: { lengths.book.now ≡ a.now },
-    ghost sender: { lengths.sends ≡ sends },
-    ghost shortest: { (x y : ℕ) → FirstIsShortest (other_length (A.meaning a.now) lengths.sends
-        lengths.entries.items) lengths.others.items
-        (rules_in (A.meaning a.now) x) (rules_in (B.meaning b.now) y) },
-    ghost floors: { ∥ AreFloors (A.meaning a.now) sends
-        (listed_length (A.meaning a.now) sends lengths.entries.items) ∥₁ },
-    ghost told: { ∥ IsTelling (A.meaning a.now) (B.meaning b.now) sends unknown telling.value ∥₁ },
-    ghost group_lines: { ∥ HaveGroupLines (A.meaning a.now) (B.meaning b.now)
-        (listed_length (A.meaning lengths.book.now) lengths.sends lengths.entries.items)
-        (other_length (A.meaning lengths.book.now) lengths.sends lengths.entries.items)
-        outlooks.items ∥₁ },
+    ghost shortest: { PicksShortest (sender_in lengths) (B.meaning b.now) (costs_of lengths) },
     ghost graph: { map plain_node nodes.items ≡ map node_in outlooks.items },
-    ghost own_breaks: { ∥ AreOwnBreaks (A.meaning a.now) (B.meaning b.now) lengths.sends unknown
-        (listed_length (A.meaning lengths.book.now) lengths.sends lengths.entries.items)
-        telling.value.own.items own.items ∥₁ },
-    ghost facts: { ∥ AreFacts (A.meaning a.now) (B.meaning b.now) sends unknown
-        lengths.entries.items lengths.others.items telling.value outlooks.items own.items ∥₁ },
-    ghost first_apps: { AreApps (A.meaning a.now) apps.value.first } by { Prim.hlevel props },
+    ghost known: { ∥ AreKnown (sides (sender_in lengths) (B.meaning b.now) lengths.sends unknown)
+        (facts_by lengths.entries.items lengths.others.items telling.value outlooks.items own.items) ∥₁ },
+    ghost first_apps: { AreApps (sender_in lengths) apps.value.first } by { Prim.hlevel props },
     ghost second_apps: { AreApps (B.meaning b.now) apps.value.second } by { Prim.hlevel props },
 }
 
 impl<'a, A: Book, B: Book> Upgrade<'a, A, B> {
+    ghost use Rattle.dia_breaking.specs.Upgrades.{receiver_of, sender_of, sides_of};
+
     /// What A's side sends, read under B by a side that has this policy for AVPs that it doesn't know. The error comes only where
     /// memory was refused.
     pub fn new(
@@ -84,24 +66,23 @@ impl<'a, A: Book, B: Book> Upgrade<'a, A, B> {
         sends: Sends,
         unknown: Unknown,
     ) -> Result<Self, AllocError>
-        ensures sender { IfOk result (λ made. made.a.now ≡ a.now) }
-        ensures receiver { IfOk result (λ made. made.b.now ≡ b.now) }
-        ensures sends { IfOk result (λ made. made.sends ≡ sends) }
-        ensures unknown { IfOk result (λ made. made.unknown ≡ unknown) }
+        ensures sender { IfOk result (λ made. sender_of made ≡ a.now) }
+        ensures receiver { IfOk result (λ made. receiver_of made ≡ b.now) }
+        ensures sends { IfOk result (λ made. (sides_of made).sends ≡ sends) }
+        ensures unknown { IfOk result (λ made. (sides_of made).unknown ≡ unknown) }
     {
         let lengths = Lengths::new(alloc, a, b, sends)?;
-        let telling = Box::new(alloc, Telling::new(alloc, a, b, sends, unknown)?)?;
-        let named = BothApps::new(alloc, a, b)?;
+        let book = lengths.book;
+        let telling = Box::new(alloc, Telling::new(alloc, book, b, lengths.sends, unknown)?)?;
+        let named = BothApps::new(alloc, book, b)?;
         let apps = Box::new(alloc, named)?;
-        let outlooks = outlooks(alloc, a, b, &telling, &lengths)?;
+        let outlooks = outlooks(alloc, b, &telling, &lengths)?;
         let nodes = nodes_of(alloc, &outlooks)?;
-        let own = own_breaks(alloc, a, b, &telling.own, &lengths, unknown)?;
+        let own = own_breaks(alloc, b, &telling.own, &lengths, unknown)?;
         Ok(Upgrade {
-            a,
-            b,
-            sends,
-            unknown,
             lengths,
+            b,
+            unknown,
             telling,
             apps,
             outlooks,
@@ -112,24 +93,15 @@ impl<'a, A: Book, B: Book> Upgrade<'a, A, B> {
 
     /// The dictionary of A's side.
     pub fn sender(&self) -> &'a A
-        ensures { result.now ≡ self.now.a.now }
+        ensures { result.now ≡ sender_of self.now }
     {
-        self.a
+        self.lengths.book
     }
 
     /// How the levels of a group break, if both dictionaries see a level in AVPs of the key.
     pub(crate) fn level_lines_of(&self, key: Key) -> Option<&[LevelLine]>
-        ensures { HaveGroupLines (A.meaning self.now.a.now) (B.meaning self.now.b.now)
-            (listed_length (A.meaning self.now.lengths.book.now)
-            self.now.lengths.sends self.now.lengths.entries.items)
-            (other_length (A.meaning self.now.lengths.book.now)
-            self.now.lengths.sends self.now.lengths.entries.items) self.now.outlooks.items
-            → IfSome result (λ lines. HasGroupLines
-            (A.meaning self.now.a.now) (B.meaning self.now.b.now)
-            (listed_length (A.meaning self.now.lengths.book.now)
-            self.now.lengths.sends self.now.lengths.entries.items)
-            (other_length (A.meaning self.now.lengths.book.now)
-            self.now.lengths.sends self.now.lengths.entries.items) key lines.now) }
+        ensures { IfSome result (λ lines. ∥ HasGroupLines
+            (sides_of self.now).sender (sides_of self.now).receiver (costs_of self.now.lengths) key lines.now ∥₁) }
     {
         let place = self.telling.places.get(&key).copied()?;
         let outlook = self.outlooks.get(place)?;
@@ -152,31 +124,20 @@ impl<'a, A: Book, B: Book> Upgrade<'a, A, B> {
     /// is confirmed has a message that is valid under A, as one of the command, and not under B (`IsConfirmed`). The error comes
     /// only where memory was refused.
     pub fn breaks(&self, alloc: Global, command: DefId) -> Result<Breaks, AllocError>
-        requires { command < length (definitions (A.meaning self.now.a.now)) }
-        ensures free { IfOk result (λ breaks. ∥ AreValidWhereFree
-            (A.meaning self.now.a.now) (B.meaning self.now.b.now) self.now.sends self.now.unknown
-            breaks.sites.items breaks.lines.items command ∥₁) }
-        ensures all { IfOk result (λ breaks. breaks.lines.items ≡ [] → ∥ AreValid
-            (A.meaning self.now.a.now) (B.meaning self.now.b.now)
-            self.now.sends self.now.unknown command ∥₁) }
-        ensures each { IfOk result (λ breaks. EachConfirmedBreaks
-            (A.meaning self.now.a.now) (B.meaning self.now.b.now)
-            self.now.sends self.now.unknown command breaks.lines.items) }
-        ensures standings { IfOk result
-            (λ breaks. HaveStandings most_checked_together breaks.lines.items) }
-        ensures formats { IfOk result (λ breaks. ∥ TellData
-            (A.meaning self.now.a.now) (B.meaning self.now.b.now) self.now.sends self.now.unknown
-            breaks.lines.items ∥₁) }
+        requires { command < length (definitions (sides_of self.now).sender) }
+        ensures free { IfOk result (λ breaks. ∥ AreValidWhereFree (sides_of self.now) (answer_of breaks) ∥₁) }
+        ensures all { IfOk result (λ breaks. breaks.lines.items ≡ [] → ∥ AllAreValid (sides_of self.now) command ∥₁) }
+        ensures each { IfOk result (λ breaks. EachConfirmedBreaks (sides_of self.now) command breaks.lines.items) }
+        ensures standings { IfOk result (λ breaks. HaveStandings most_checked_together breaks.lines.items) }
+        ensures formats { IfOk result (λ breaks. ∥ TellData (sides_of self.now) breaks.lines.items ∥₁) }
         ensures command { IfOk result (λ breaks. breaks.command ≡ command) }
-        ensures head { IfSome (head_at (A.meaning self.now.a.now) command)
-            (λ head. IfOk result (λ breaks. IsOfHead breaks head)) }
-        ensures none { head_at (A.meaning self.now.a.now) command ≡ None → IfOk result
-            (λ breaks. (breaks.sites.items ≡ []) × (breaks.lines.items ≡ [])) }
-        ensures lines { IfOk result (λ breaks. IsSome (head_at (A.meaning self.now.a.now) command)
-            → AreLinesOrUnproved (A.meaning self.now.a.now) (B.meaning self.now.b.now)
-            self.now.sends self.now.unknown command breaks.sites.items breaks.lines.items) }
+        ensures head { IfSome (head_at (sides_of self.now).sender command) (λ head. IfOk result (λ breaks. IsOfHead breaks head)) }
+        ensures none { head_at (sides_of self.now).sender command ≡ None
+            → IfOk result (λ breaks. (breaks.sites.items ≡ []) × (breaks.lines.items ≡ [])) }
+        ensures lines { IfOk result (λ breaks. IsSome (head_at (sides_of self.now).sender command)
+            → AreLinesOrUnproved (sides_of self.now) (answer_of breaks)) }
     {
-        match head_of(self.a, command) {
+        match head_of(self.lengths.book, command) {
             Some(head) => self.lines_of(alloc, command, &head),
             None => {
                 let lines = Vec::new(alloc);
@@ -193,17 +154,17 @@ impl<'a, A: Book, B: Book> Upgrade<'a, A, B> {
 
     /// The definition of A by which the level at a place is read.
     pub(crate) fn definition_of_a(&self, code: u32, class: Class, place: Place) -> Option<DefId>
-        ensures { IfSome result (λ def. def < length (definitions (A.meaning self.now.a.now))) }
+        ensures { IfSome result (λ def. def < length (definitions (sides_of self.now).sender)) }
     {
         match place {
-            Place::Command { app, .. } => command_of(self.a, code, class, app),
-            Place::Group { key, .. } => group_of(self.a, key),
+            Place::Command { app, .. } => command_of(self.lengths.book, code, class, app),
+            Place::Group { key, .. } => group_of(self.lengths.book, key),
         }
     }
 
     /// The definition of B by which the level at a place is read.
     pub(crate) fn definition_of_b(&self, code: u32, class: Class, place: Place) -> Option<DefId>
-        ensures { IfSome result (λ def. def < length (definitions (B.meaning self.now.b.now))) }
+        ensures { IfSome result (λ def. def < length (definitions (sides_of self.now).receiver)) }
     {
         match place {
             Place::Command { app, .. } => command_of(self.b, code, class, app),
@@ -218,24 +179,20 @@ impl<'a, A: Book, B: Book> Upgrade<'a, A, B> {
         a_def: DefId,
         b_def: DefId,
     ) -> Result<Vec<LevelLine>, AllocError>
-        requires first { a_def < length (definitions (A.meaning self.now.a.now)) }
-        requires second { b_def < length (definitions (B.meaning self.now.b.now)) }
-        ensures complete { IfOk result (λ lines. HasEachLine (price
-            (listed_length (A.meaning self.now.lengths.book.now)
-            self.now.lengths.sends self.now.lengths.entries.items)
-            (other_length (A.meaning self.now.lengths.book.now)
-            self.now.lengths.sends self.now.lengths.entries.items)
-            (rules_in (A.meaning self.now.a.now) a_def))
-            (rules_in (A.meaning self.now.a.now) a_def)
-            (rules_in (B.meaning self.now.b.now) b_def) lines.items) }
-        ensures exact { IfOk result (λ lines. AreLevelLines
-            (listed_length (A.meaning self.now.lengths.book.now)
-            self.now.lengths.sends self.now.lengths.entries.items)
-            (other_length (A.meaning self.now.lengths.book.now)
-            self.now.lengths.sends self.now.lengths.entries.items) self.now.lengths.others.items
-            (rules_in (A.meaning self.now.a.now) a_def)
-            (rules_in (B.meaning self.now.b.now) b_def) lines.items) }
+        requires first { a_def < length (definitions (sides_of self.now).sender) }
+        requires second { b_def < length (definitions (sides_of self.now).receiver) }
+        ensures complete { IfOk result (λ lines. HasLinesFor (costs_of self.now.lengths)
+            (rules_in (sides_of self.now).sender a_def) (rules_in (sides_of self.now).receiver b_def) lines.items) }
+        ensures exact { IfOk result (λ lines. AreLinesOf (costs_of self.now.lengths)
+            (rules_in (sides_of self.now).sender a_def) (rules_in (sides_of self.now).receiver b_def) lines.items) }
     {
-        level_lines(alloc, self.a, a_def, self.b, b_def, &self.lengths)
+        level_lines(
+            alloc,
+            self.lengths.book,
+            a_def,
+            self.b,
+            b_def,
+            &self.lengths,
+        )
     }
 }

@@ -1,15 +1,13 @@
 //! The words of a line.
-ghost use Rattle.std.specs.Prelude.{◌≡◌, ◌<◌, ◌++◌, OnErr, OnOk, IfOk, codes, length, slice_get};
-ghost use Rattle.std.specs.Prelude.{[], not, string_bytes};
-ghost use Rattle.std.specs.Option.{option_map, option_map_or};
+ghost use Rattle.std.specs.Prelude.{◌≡◌, ◌<◌, ◌++◌, OnErr, OnOk, IfOk, codes, length, slice_get, [], string_bytes};
+ghost use Rattle.std.specs.Option.{option_map_or};
 ghost use Rattle.dia_book.specs.Dictionary.{definitions};
-ghost use Rattle.dia_breaking.specs.Lengths.{other_length};
-ghost use Rattle.dia_breaking.specs.Words.{application_text, avp_name, cause_text, definition_name};
-ghost use Rattle.dia_breaking_data.specs.Shortest.{witness_bytes};
-ghost use Rattle.dia_breaking.specs.Words.{flag_word, format_detail, format_in, formats_text};
-ghost use Rattle.dia_breaking.specs.Words.{is_command, path_text, path_to, place_text};
+ghost use Rattle.dia_breaking.specs.Upgrades.{other_length_of, sides_of};
+ghost use Rattle.dia_breaking.specs.Words.{application_text, avp_name, bytes_of, cause_text, definition_name};
+ghost use Rattle.dia_breaking.specs.Words.{flag_word, format_in, format_text, formats_text, m_bit_text};
+ghost use Rattle.dia_breaking.specs.Words.{is_command, path_text, path_to, place_text, spot};
 ghost use Rattle.dia_breaking.specs.Words.{refused_application, standing_text, subject_name};
-ghost use Rattle.dia_breaking.specs.Words.{unknown_detail, words_of};
+ghost use Rattle.dia_breaking.specs.Words.{Writes, unknown_detail, words_of};
 
 use crate::books::{format_of, name_of};
 use crate::format_words::{push_format_detail, push_formats};
@@ -30,10 +28,8 @@ impl<'a, A: Book, B: Book> Upgrade<'a, A, B> {
         breaks: &Breaks,
         line: &Line,
     ) -> Result<(), AllocError>
-        ensures words { OnOk result (string_bytes out.new ≡ string_bytes out.old
-            ++ words_of (A.meaning self.now.a.now) (B.meaning self.now.b.now) self.now.unknown
-            (other_length (A.meaning self.now.a.now) self.now.sends self.now.lengths.entries.items)
-            breaks.now.command breaks.now.sites.items line.now) }
+        ensures words { OnOk result (Writes out.old out.new
+            (words_of (sides_of self.now) (other_length_of self.now) breaks.now.command breaks.now.sites.items line.now)) }
         ensures unchanged { OnErr result (string_bytes out.new ≡ string_bytes out.old) }
     {
         let words = self.words(alloc, breaks, line)?;
@@ -41,13 +37,11 @@ impl<'a, A: Book, B: Book> Upgrade<'a, A, B> {
     }
 
     fn words(&self, alloc: Global, breaks: &Breaks, line: &Line) -> Result<String, AllocError>
-        ensures { IfOk result (λ words. string_bytes words
-            ≡ words_of (A.meaning self.now.a.now) (B.meaning self.now.b.now) self.now.unknown
-            (other_length (A.meaning self.now.a.now) self.now.sends self.now.lengths.entries.items)
-            breaks.now.command breaks.now.sites.items line.now) }
+        ensures { IfOk result (λ words. string_bytes words ≡ words_of
+            (sides_of self.now) (other_length_of self.now) breaks.now.command breaks.now.sites.items line.now) }
     {
         let mut out = String::new(alloc);
-        if is_command(self.a, breaks.command) {
+        if is_command(self.lengths.book, breaks.command) {
             let path = breaks.path(alloc, line.site)?;
             self.push_path(&mut out, breaks.command, &path)?;
             push_standing(&mut out, line.standing)?;
@@ -57,9 +51,8 @@ impl<'a, A: Book, B: Book> Upgrade<'a, A, B> {
     }
 
     fn push_path(&self, out: &mut String, command: DefId, path: &[Site]) -> Result<(), AllocError>
-        requires { command < length (definitions (A.meaning self.now.a.now)) }
-        ensures { OnOk result (string_bytes out.new ≡ string_bytes out.old
-            ++ path_text (A.meaning self.now.a.now) (B.meaning self.now.b.now) command path.now) }
+        requires { command < length (definitions (sides_of self.now).sender) }
+        ensures { OnOk result (Writes out.old out.new (path_text (sides_of self.now) command path.now)) }
     {
         for site in path {
             self.push_place(out, command, site.place)?;
@@ -68,13 +61,12 @@ impl<'a, A: Book, B: Book> Upgrade<'a, A, B> {
     }
 
     fn push_place(&self, out: &mut String, command: DefId, place: Place) -> Result<(), AllocError>
-        requires { command < length (definitions (A.meaning self.now.a.now)) }
-        ensures { OnOk result (string_bytes out.new ≡ string_bytes out.old
-            ++ place_text (A.meaning self.now.a.now) (B.meaning self.now.b.now) command place) }
+        requires { command < length (definitions (sides_of self.now).sender) }
+        ensures { OnOk result (Writes out.old out.new (place_text (sides_of self.now) command place)) }
     {
         match place {
             Place::Command { app, is_told, .. } => {
-                out.push_str(command_name(self.a, command))?;
+                out.push_str(command_name(self.lengths.book, command))?;
                 push_application(out, is_told, app)
             }
             Place::Group { key, .. } => {
@@ -86,16 +78,15 @@ impl<'a, A: Book, B: Book> Upgrade<'a, A, B> {
 
     /// Adds the name in A, else in B, else `AVP`.
     fn push_name(&self, out: &mut String, key: Key) -> Result<(), AllocError>
-        ensures { OnOk result (string_bytes out.new ≡ string_bytes out.old
-            ++ avp_name (A.meaning self.now.a.now) (B.meaning self.now.b.now) key) }
+        ensures { OnOk result (Writes out.old out.new (avp_name (sides_of self.now) key)) }
     {
         out.push_str(self.avp_name(key))
     }
 
     fn avp_name(&self, key: Key) -> &str
-        ensures { result.now ≡ avp_name (A.meaning self.now.a.now) (B.meaning self.now.b.now) key }
+        ensures { result.now ≡ avp_name (sides_of self.now) key }
     {
-        match name_of(self.a, key) {
+        match name_of(self.lengths.book, key) {
             Some(name) => name,
             None => match name_of(self.b, key) {
                 Some(name) => name,
@@ -106,8 +97,7 @@ impl<'a, A: Book, B: Book> Upgrade<'a, A, B> {
 
     /// Adds the name of an AVP, or `AVP` where the wildcard counts.
     pub(crate) fn push_subject(&self, out: &mut String, key: Option<Key>) -> Result<(), AllocError>
-        ensures { OnOk result (string_bytes out.new ≡ string_bytes out.old
-            ++ subject_name (A.meaning self.now.a.now) (B.meaning self.now.b.now) key) }
+        ensures { OnOk result (Writes out.old out.new (subject_name (sides_of self.now) key)) }
     {
         match key {
             Some(key) => self.push_name(out, key),
@@ -122,12 +112,10 @@ impl<'a, A: Book, B: Book> Upgrade<'a, A, B> {
         line: &Line,
         path: &[Site],
     ) -> Result<(), AllocError>
-        requires within { breaks.now.command < length (definitions (A.meaning self.now.a.now)) }
+        requires within { breaks.now.command < length (definitions (sides_of self.now).sender) }
         requires path { path.now ≡ path_to breaks.now.sites.items line.now.site }
-        ensures { OnOk result (string_bytes out.new ≡ string_bytes out.old
-            ++ cause_text (A.meaning self.now.a.now) (B.meaning self.now.b.now) self.now.unknown
-            (other_length (A.meaning self.now.a.now) self.now.sends self.now.lengths.entries.items)
-            breaks.now.command breaks.now.sites.items line.now.site line.now.cause) }
+        ensures { OnOk result (Writes out.old out.new
+            (cause_text (sides_of self.now) (other_length_of self.now) (spot breaks.now.command breaks.now.sites.items line.now.site) line.now.cause)) }
     {
         match line.cause {
             Cause::Command => out.push_str("command -: not accepted"),
@@ -146,9 +134,8 @@ impl<'a, A: Book, B: Book> Upgrade<'a, A, B> {
     }
 
     fn push_unknown(&self, out: &mut String, key: Key, m: bool) -> Result<(), AllocError>
-        ensures { OnOk result (string_bytes out.new ≡ string_bytes out.old ++ (codes "unknown "
-            ++ avp_name (A.meaning self.now.a.now) (B.meaning self.now.b.now) key
-            ++ codes ": " ++ unknown_detail self.now.unknown m)) }
+        ensures { OnOk result (Writes out.old out.new
+            (codes "unknown " ++ avp_name (sides_of self.now) key ++ codes ": " ++ unknown_detail self.now.unknown m)) }
     {
         out.push_str("unknown ")?;
         self.push_name(out, key)?;
@@ -157,10 +144,7 @@ impl<'a, A: Book, B: Book> Upgrade<'a, A, B> {
     }
 
     fn push_m_bit(&self, out: &mut String, key: Key, m: bool) -> Result<(), AllocError>
-        ensures { OnOk result (string_bytes out.new ≡ string_bytes out.old ++ (codes "m-bit "
-            ++ avp_name (A.meaning self.now.a.now) (B.meaning self.now.b.now) key
-            ++ codes ": M " ++ flag_word m ++ codes " sent, M " ++ flag_word (not m)
-            ++ codes " accepted")) }
+        ensures { OnOk result (Writes out.old out.new (m_bit_text (sides_of self.now) key m)) }
     {
         let name = self.avp_name(key);
         let sent = flag_word(m);
@@ -174,27 +158,30 @@ impl<'a, A: Book, B: Book> Upgrade<'a, A, B> {
         key: Key,
         found: Option<&Witness>,
     ) -> Result<(), AllocError>
-        ensures { OnOk result (string_bytes out.new ≡ string_bytes out.old ++ (codes "format "
-            ++ avp_name (A.meaning self.now.a.now) (B.meaning self.now.b.now) key ++ codes ": "
-            ++ format_detail (format_in (A.meaning self.now.a.now) key)
-            (format_in (B.meaning self.now.b.now) key)
-            (option_map (λ d. witness_bytes d.now) found.entry))) }
+        ensures { OnOk result (Writes out.old out.new (format_text (sides_of self.now) key (bytes_of found.entry))) }
     {
         out.push_str("format ")?;
         self.push_name(out, key)?;
         out.push_str(": ")?;
-        push_format_detail(out, format_of(self.a, key), format_of(self.b, key), found)
+        push_format_detail(
+            out,
+            format_of(self.lengths.book, key),
+            format_of(self.b, key),
+            found,
+        )
     }
 
     fn push_level_as_leaf(&self, out: &mut String, key: Key) -> Result<(), AllocError>
-        ensures { OnOk result (string_bytes out.new ≡ string_bytes out.old
-            ++ (avp_name (A.meaning self.now.a.now) (B.meaning self.now.b.now) key ++ codes ": "
-            ++ formats_text (format_in (A.meaning self.now.a.now) key)
-            (format_in (B.meaning self.now.b.now) key))) }
+        ensures { OnOk result (Writes out.old out.new
+            (avp_name (sides_of self.now) key ++ codes ": " ++ formats_text (format_in (sides_of self.now).sender key) (format_in (sides_of self.now).receiver key))) }
     {
         self.push_name(out, key)?;
         out.push_str(": ")?;
-        push_formats(out, format_of(self.a, key), format_of(self.b, key))
+        push_formats(
+            out,
+            format_of(self.lengths.book, key),
+            format_of(self.b, key),
+        )
     }
 }
 
@@ -224,8 +211,7 @@ fn site_at(sites: &[Site], site: usize) -> Option<Site>
 }
 
 fn push_proxiable(out: &mut String, set: bool) -> Result<(), AllocError>
-    ensures { OnOk result (string_bytes out.new ≡ string_bytes out.old
-        ++ (codes "proxiable -: P " ++ flag_word set ++ codes " sent")) }
+    ensures { OnOk result (Writes out.old out.new (codes "proxiable -: P " ++ flag_word set ++ codes " sent")) }
 {
     out.push_str("proxiable -: P ")?;
     out.push_str(flag_word(set))?;
@@ -233,8 +219,7 @@ fn push_proxiable(out: &mut String, set: bool) -> Result<(), AllocError>
 }
 
 fn push_application(out: &mut String, is_told: bool, app: u32) -> Result<(), AllocError>
-    ensures { OnOk result (string_bytes out.new
-        ≡ string_bytes out.old ++ application_text is_told app) }
+    ensures { OnOk result (Writes out.old out.new (application_text is_told app)) }
 {
     if is_told {
         write!(out, "[application {app}]")
@@ -244,8 +229,7 @@ fn push_application(out: &mut String, is_told: bool, app: u32) -> Result<(), All
 }
 
 fn push_standing(out: &mut String, standing: Standing) -> Result<(), AllocError>
-    ensures { OnOk result (string_bytes out.new
-        ≡ string_bytes out.old ++ (codes ": " ++ standing_text standing)) }
+    ensures { OnOk result (Writes out.old out.new (codes ": " ++ standing_text standing)) }
 {
     out.push_str(": ")?;
     match standing {
@@ -256,8 +240,8 @@ fn push_standing(out: &mut String, standing: Standing) -> Result<(), AllocError>
 
 /// Adds that the application of the command's site, with which the path begins, is refused.
 fn push_refused(out: &mut String, path: &[Site]) -> Result<(), AllocError>
-    ensures { OnOk result (string_bytes out.new ≡ string_bytes out.old
-        ++ option_map_or (λ site. refused_application site.place) (slice_get path.now 0) []) }
+    ensures { OnOk result (Writes out.old out.new
+        (option_map_or (λ site. refused_application site.place) (slice_get path.now 0) [])) }
 {
     match path.first() {
         Some(site) => push_refused_at(out, site.place),
@@ -266,8 +250,7 @@ fn push_refused(out: &mut String, path: &[Site]) -> Result<(), AllocError>
 }
 
 fn push_refused_at(out: &mut String, place: Place) -> Result<(), AllocError>
-    ensures { OnOk result (string_bytes out.new
-        ≡ string_bytes out.old ++ refused_application place) }
+    ensures { OnOk result (Writes out.old out.new (refused_application place)) }
 {
     match place {
         Place::Command { app, .. } => write!(out, "application {app}: not accepted"),

@@ -13,6 +13,7 @@ use Rattle.dia_upgrades.specs.declared.asked.Asked.{Asked}
 use Rattle.dia_upgrades.specs.Asking.{names_of, IsAskedFor, AreCommands}
 use Rattle.dia_upgrades.specs.Places.{asked_places}
 use Rattle.dia_upgrades.specs.Told.{AreTold}
+use Rattle.dia_breaking.specs.Sides.{sides}
 
 -- of each command of A that is asked for, with its number among A's definitions, each message that A's side sends is valid under B
 abbrev pub NothingBreaks : Asked → Dictionary → Dictionary → Type 0
@@ -21,7 +22,7 @@ NothingBreaks asked a b = (number : ℕ) (command : PlainDefinition) → slice_g
 
 -- the text is that of the lines of the commands that are asked for
 abbrev pub AreAllTold : Asked → Dictionary → Dictionary → List ℕ → Type 0
-AreAllTold asked a b text = AreTold a b asked.sends asked.unknown asked.messages (asked_places a (names_of asked)) text
+AreAllTold asked a b text = AreTold (sides a b asked.sends asked.unknown) asked.messages (asked_places a (names_of asked)) text
 
 -- what is told where nothing breaks
 abbrev pub nothing_breaks : List ℕ

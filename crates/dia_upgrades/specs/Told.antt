@@ -2,7 +2,6 @@
 use Rattle.std.specs.Prelude.{◌≡◌, ℕ, ◌+◌, Bool, true, false, List, [], ◌∷◌, ◌++◌, length, codes}
 use Rattle.hex.specs.Hex.{IsBytes, encode_lower}
 use Rattle.dia_policy.specs.declared.sends.Sends.{Sends}
-use Rattle.dia_policy.specs.declared.Unknown.{Unknown}
 use Rattle.dia_book.specs.Dictionary.{Dictionary, groups}
 use Rattle.dia_breaking_shortest.specs.Exact.{AreExact}
 use Rattle.dia_breaking.specs.declared.line.Line.{Line}
@@ -15,6 +14,7 @@ use Rattle.dia_breaking.specs.Lengths.{AreEntryLengths, other_length}
 use Rattle.dia_breaking.specs.OwnBreaks.{TellData}
 use Rattle.dia_breaking.specs.TheLines.{AreLinesOrUnproved}
 use Rattle.dia_breaking.specs.Words.{words_of}
+use Rattle.dia_breaking.specs.Sides.{Sides, answer}
 use Rattle.dia_run.specs.Texts.{line}
 
 -- the text is one of the first, behind it one of the second, and so on
@@ -51,20 +51,20 @@ AreShortest a who lengths = ∥ ((least : List ℕ) × AreExact a who least × A
 -- the text is that of the lines of the command c: those that its dictionaries have, unless one tells that not all is shown. A message
 -- that A's side sends, and that breaks in none of their ways, is valid under B. A line that is confirmed has a message that breaks; which
 -- messages are checked follows from the lines' causes and lengths; and a line about a format has data that B refuses, if it names some
-pub record IsToldOf (a b : Dictionary) (who : Sends) (u : Unknown) (messages : Bool) (lengths : List ℕ) (c : ℕ) (text : List ℕ) : Type 0 where
+pub record IsToldOf (s : Sides) (messages : Bool) (lengths : List ℕ) (c : ℕ) (text : List ℕ) : Type 0 where
   pub sites : List Site
   pub lines : List Line
-  pub are_lines : AreLinesOrUnproved a b who u c sites lines
-  pub free : ∥ AreValidWhereFree a b who u sites lines c ∥₁
-  pub confirmed : EachConfirmedBreaks a b who u c lines
+  pub are_lines : AreLinesOrUnproved s (answer c sites lines)
+  pub free : ∥ AreValidWhereFree s (answer c sites lines) ∥₁
+  pub confirmed : EachConfirmedBreaks s c lines
   pub standings : HaveStandings most_checked_together lines
-  pub formats : ∥ TellData a b who u lines ∥₁
-  pub text_is : AreTexts (IsLineText messages (words_of a b u (other_length a who lengths) c sites)) lines text
+  pub formats : ∥ TellData s lines ∥₁
+  pub text_is : AreTexts (IsLineText messages (words_of s (other_length s.sender s.sends lengths) c sites)) lines text
 
 -- ---- all of them
 
 -- the text is that of the lines of A's commands at these places
-pub record AreTold (a b : Dictionary) (who : Sends) (u : Unknown) (messages : Bool) (places text : List ℕ) : Type 0 where
+pub record AreTold (s : Sides) (messages : Bool) (places text : List ℕ) : Type 0 where
   pub lengths : List ℕ
-  pub are_shortest : AreShortest a who lengths
-  pub each : AreTexts (λ place. IsToldOf a b who u messages lengths (length (groups a) + place)) places text
+  pub are_shortest : AreShortest s.sender s.sends lengths
+  pub each : AreTexts (λ place. IsToldOf s messages lengths (length (groups s.sender) + place)) places text

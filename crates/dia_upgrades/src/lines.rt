@@ -2,7 +2,7 @@
 
 ghost use Rattle.std.specs.Prelude.{◌≡◌, ◌<◌, All, IfOk, IsSome, OnOk, length, string_bytes};
 ghost use Rattle.dia_book.specs.Dictionary.{definitions};
-ghost use Rattle.dia_breaking.specs.Lengths.{other_length};
+ghost use Rattle.dia_breaking.specs.Upgrades.{facts_of, other_length_of, sides_of};
 ghost use Rattle.dia_breaking.specs.Words.{head_at, words_of};
 ghost use Rattle.dia_upgrades.specs.Places.{Adds};
 ghost use Rattle.dia_upgrades.specs.Told.{AreTexts, AreTold, IsLineText, IsMessageLine, IsToldOf};
@@ -19,10 +19,8 @@ pub(crate) fn lines_of<A: Book, B: Book>(
     places: &[usize],
     messages: bool,
 ) -> Result<String, AllocError>
-    requires { All (λ place. place < length (A.meaning upgrade.now.a.now).commands) places.now }
-    ensures { IfOk result (λ text. AreTold (A.meaning upgrade.now.a.now)
-        (B.meaning upgrade.now.b.now) upgrade.now.sends upgrade.now.unknown messages
-        places.now (string_bytes text)) }
+    requires { All (λ place. place < length (sides_of upgrade.now).sender.commands) places.now }
+    ensures { IfOk result (λ text. AreTold (sides_of upgrade.now) messages places.now (string_bytes text)) }
 {
     let mut text = String::new(alloc);
     for place in places {
@@ -40,10 +38,9 @@ fn push_command<A: Book, B: Book>(
     command: DefId,
     messages: bool,
 ) -> Result<(), AllocError>
-    requires { command < length (definitions (A.meaning upgrade.now.a.now)) }
-    ensures { OnOk result (IsSome (head_at (A.meaning upgrade.now.a.now) command)
-        → Adds (IsToldOf (A.meaning upgrade.now.a.now) (B.meaning upgrade.now.b.now)
-        upgrade.now.sends upgrade.now.unknown messages upgrade.now.lengths.entries.items command)
+    requires { command < length (definitions (sides_of upgrade.now).sender) }
+    ensures { OnOk result (IsSome (head_at (sides_of upgrade.now).sender command)
+        → Adds (IsToldOf (sides_of upgrade.now) messages (facts_of upgrade.now).lengths command)
         (string_bytes text.old) (string_bytes text.new)) }
 {
     let breaks = upgrade.breaks(alloc, command)?;
@@ -59,9 +56,7 @@ fn push_lines<A: Book, B: Book>(
     messages: bool,
 ) -> Result<(), AllocError>
     ensures { OnOk result (Adds (AreTexts (IsLineText messages
-        (words_of (A.meaning upgrade.now.a.now) (B.meaning upgrade.now.b.now) upgrade.now.unknown
-        (other_length (A.meaning upgrade.now.a.now)
-        upgrade.now.sends upgrade.now.lengths.entries.items)
+        (words_of (sides_of upgrade.now) (other_length_of upgrade.now)
         breaks.now.command breaks.now.sites.items)) breaks.now.lines.items)
         (string_bytes text.old) (string_bytes text.new)) }
 {
@@ -81,9 +76,7 @@ fn push_line<A: Book, B: Book>(
     messages: bool,
 ) -> Result<(), AllocError>
     ensures { OnOk result (Adds (IsLineText messages
-        (words_of (A.meaning upgrade.now.a.now) (B.meaning upgrade.now.b.now) upgrade.now.unknown
-        (other_length (A.meaning upgrade.now.a.now)
-        upgrade.now.sends upgrade.now.lengths.entries.items)
+        (words_of (sides_of upgrade.now) (other_length_of upgrade.now)
         breaks.now.command breaks.now.sites.items) line.now)
         (string_bytes text.old) (string_bytes text.new)) }
 {

@@ -1,21 +1,23 @@
+use Rattle.std.proofs.Math.Logic.{∥∥₁_map₂}
 use Rattle.dia_compat.proofs.ReachedKeys.{at_some}
-use Rattle.dia_breaking.specs.Lengths.{listed_length, other_length}
-use Rattle.dia_breaking.specs.OwnKeys.{own_keys}
+use Rattle.dia_breaking.specs.ClosedBy.{ground_of}
+use Rattle.dia_breaking.specs.Sender.{costs_of}
 use Rattle.dia_breaking.proofs.Certified.{closed_group, group_lines}
 use Rattle.dia_breaking.proofs.closed.is_group_closed.Goals as goal
 
 pub returns : goal.returns
-returns g c = λ yes tells have.
+returns g c = λ yes.
     let closing = c.args.closing.now in
-    let up = closing.upgrade.now in
-    let da = g.A.Book.meaning up.a.now in
-    let db = g.B.Book.meaning up.b.now in
-    let read = g.A.Book.meaning up.lengths.book.now in
-    let entries = up.lengths.entries.items in
-    let lines = c.in-Some-level_lines_of.lines.now in
+    let at = ground_of closing in
+    let s = at.sides in
+    let k = costs_of closing.upgrade.now.lengths in
     let a_def = c.in-Some.a_def in
-    let b_def = c.in-Some-group_def.b_def in
-    let each = group_lines da db (listed_length read up.lengths.sends entries) (other_length read up.lengths.sends entries) c.args.key lines a_def b_def c.group_def.result c.group_def-2.result
-    c.in-Some.is c.in-Some-group_def.is c.group_def.ensures.group c.group_def-2.ensures.group (at_some _ _ _ (c.level_lines_of.ensures have) c.in-Some-level_lines_of.is) in
-    closed_group da db up.sends up.unknown (listed_length da up.sends entries) closing.groups.now (own_keys closing.lines.now) c.args.told.now c.args.key c.args.way a_def b_def
-    c.group_def.result c.group_def-2.result c.in-Some.is c.in-Some-group_def.is c.group_def.ensures.group c.group_def-2.ensures.group (c.is_closed.ensures yes tells each)
+    let b_def = c.in-Some-group_of.b_def in
+    let in_a = c.group_of.ensures.definition in
+    let in_b = c.group_of-2.ensures.definition in
+    let has = at_some _ _ _ c.level_lines_of.ensures c.in-Some-level_lines_of.is in
+    ∥∥₁_map₂ (c.is_closed.ensures yes) has (λ closed lines.
+    closed_group s.sender s.receiver s.sends s.unknown at.length at.groups at.own c.args.told.now c.args.key c.args.way a_def b_def
+    c.group_of.result c.group_of-2.result c.in-Some.is c.in-Some-group_of.is in_a in_b
+    (closed (group_lines s.sender s.receiver k c.args.key c.in-Some-level_lines_of.lines.now a_def b_def c.group_of.result c.group_of-2.result c.in-Some.is c.in-Some-group_of.is
+    in_a in_b lines)))

@@ -2,15 +2,14 @@ use Rattle.std.proofs.Common.{None, arith}
 use Rattle.std.proofs.lemmas.Option.{slice_get-get_or}
 use Rattle.dia_book.specs.declared.RuleKind.TheVariants.{Fixed}
 use Rattle.dia_breaking.specs.Exits.{exit_by}
-use Rattle.dia_breaking.specs.Lengths.{listed_length}
+use Rattle.dia_breaking.specs.Sender.{costs_of}
 use Rattle.dia_breaking.proofs.FoundExits.{one_exit_more}
 use Rattle.dia_breaking.proofs.exits.exits_by.Goals as goal
 
 pub loop-rule-preserved : goal.loop-rule-preserved
 loop-rule-preserved g c =
-    let lengths = c.args.lengths.now in
     let rules = c.args.rules.now in
     let i = c.loop-rule.rule-index in
     one_exit_more
-    (exit_by c.args.telling.now (listed_length (g.A.Book.meaning lengths.book.now) lengths.sends lengths.entries.items) c.args.cost.now) rules i _ c.exit_by.result c.loop-rule.listed.items
+    (exit_by c.args.telling.now (costs_of c.args.lengths.now).listed c.args.cost.now) rules i _ c.exit_by.result c.loop-rule.listed.items
     c.push_exit.new.listed.items c.in_ok-push_exit.ensures c.exit_by.ensures c.loop-rule.invariant (slice_get-get_or rules i (record { kind = Fixed; key = None; min = 0; max = None }) (omega arith))

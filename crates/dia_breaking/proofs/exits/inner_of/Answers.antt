@@ -1,5 +1,5 @@
 use Rattle.std.proofs.Common.{rules}
-use Rattle.dia_breaking.specs.Lengths.{listed_length, other_length}
+use Rattle.dia_breaking.specs.Sender.{costs_of, sender_in}
 use Rattle.dia_breaking.proofs.FoundExits.{groups_of, inner_found}
 use Rattle.dia_breaking.proofs.Outlooks.{rules_of_group, has_group_lines, has_level_lines}
 use Rattle.dia_breaking.proofs.exits.inner_of.Goals as goal
@@ -9,31 +9,25 @@ level_lines-requires-clause-shortest g c = c.requires _ _
 
 pub returns-clause-lines : goal.returns-clause-lines
 returns-clause-lines g c =
-    let da = g.A.Book.meaning c.args.a.now in
+    let da = sender_in c.args.lengths.now in
     let db = g.B.Book.meaning c.args.b.now in
-    let lengths = c.args.lengths.now in
-    let d = g.A.Book.meaning lengths.book.now in
-    has_group_lines da db (listed_length d lengths.sends lengths.entries.items) (other_length d lengths.sends lengths.entries.items) c.args.key c.in-Some.a_def c.in-Some-group_of.b_def
+    has_group_lines da db (costs_of c.args.lengths.now) c.args.key c.in-Some.a_def c.in-Some-group_of.b_def
     c.in_ok-level_lines.field-0.items (rules_of_group da c.args.key c.in-Some.a_def c.group_of.result c.in-Some.is c.group_of.ensures.definition)
     (rules_of_group db c.args.key c.in-Some-group_of.b_def c.group_of-2.result c.in-Some-group_of.is c.group_of-2.ensures.definition) c.in_ok-level_lines.ensures.complete
 
 pub returns-clause-levels : goal.returns-clause-levels
 returns-clause-levels g c =
-    let da = g.A.Book.meaning c.args.a.now in
+    let da = sender_in c.args.lengths.now in
     let db = g.B.Book.meaning c.args.b.now in
-    let lengths = c.args.lengths.now in
-    let d = g.A.Book.meaning lengths.book.now in
-    has_level_lines da db (listed_length d lengths.sends lengths.entries.items) (other_length d lengths.sends lengths.entries.items) c.args.key c.in-Some.a_def c.in-Some-group_of.b_def
+    has_level_lines da db (costs_of c.args.lengths.now) c.args.key c.in-Some.a_def c.in-Some-group_of.b_def
     c.in_ok-level_lines.field-0.items (rules_of_group da c.args.key c.in-Some.a_def c.group_of.result c.in-Some.is c.group_of.ensures.definition)
-    (rules_of_group db c.args.key c.in-Some-group_of.b_def c.group_of-2.result c.in-Some-group_of.is c.group_of-2.ensures.definition) lengths.others.items c.in_ok-level_lines.ensures.exact
+    (rules_of_group db c.args.key c.in-Some-group_of.b_def c.group_of-2.result c.in-Some-group_of.is c.group_of-2.ensures.definition) c.in_ok-level_lines.ensures.exact
 
 pub returns-clause-exact : goal.returns-clause-exact
 returns-clause-exact g c =
-    let da = g.A.Book.meaning c.args.a.now in
-    let db = g.B.Book.meaning c.args.b.now in
-    let lengths = c.args.lengths.now in
-    let d = g.A.Book.meaning lengths.book.now in (
+    let da = sender_in c.args.lengths.now in
+    let db = g.B.Book.meaning c.args.b.now in (
       groups_of da db c.args.key c.group_of.result c.group_of-2.result c.in-Some.a_def c.in-Some-group_of.b_def c.in-Some.is c.in-Some-group_of.is c.group_of.ensures.group c.group_of-2.ensures.group,
-      inner_found da c.args.telling.now (listed_length d lengths.sends lengths.entries.items) (other_length d lengths.sends lengths.entries.items) lengths.others.items c.args.key c.in-Some.a_def _
+      inner_found da c.args.telling.now (costs_of c.args.lengths.now) c.args.key c.in-Some.a_def _
           (rules_of_group da c.args.key c.in-Some.a_def c.group_of.result c.in-Some.is c.group_of.ensures.definition) (search rules) (search rules),
     )

@@ -1,5 +1,6 @@
 use Rattle.std.proofs.Common.{rules}
 use Rattle.dia_breaking.specs.ToldApps.{AreOpenApps, AreToldApps}
+use Rattle.dia_breaking.specs.Headers.{both_apps}
 use Rattle.dia_breaking.proofs.FoundApps.{with_own, without_own}
 use Rattle.dia_breaking.proofs.Lists.{when_ok}
 use Rattle.dia_breaking.proofs.heads.told_apps.Goals as goal
@@ -13,5 +14,5 @@ returns-in-None g c =
     let first = c.args.both.now.first in
     let second = c.args.both.now.second in
     let head = c.args.head.now in
-    when_ok (λ apps. AreOpenApps da first second c.args.command head apps.items) (λ apps. AreToldApps da first second c.args.command head apps.items) c.open_apps.result
+    when_ok (λ apps. AreOpenApps da (both_apps first second) c.args.command head apps.items) (λ apps. AreToldApps da (both_apps first second) c.args.command head apps.items) c.open_apps.result
     (λ apps. without_own _ _ head.app c.in-None.is) c.open_apps.ensures

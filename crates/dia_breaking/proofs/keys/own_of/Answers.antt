@@ -8,7 +8,7 @@ returns-clause-told g c = record {
   key_is = refl;
   silent = λ e. silent_of (g.A.Book.meaning c.args.a.now) (g.B.Book.meaning c.args.b.now) c.args.sends c.args.unknown c.args.key c.avp_breaks-breaks.result c.avp_breaks-breaks.ensures.head
       c.avp_breaks-breaks.ensures.alone
-      (c.breaks_alone.ensures.silent e);
+      (c.breaks_alone.ensures.0 e);
   group = c.are_groups.ensures;
 }
 
@@ -20,5 +20,5 @@ returns-clause-exact g c =
       silent =
           exactly_silent (g.A.Book.meaning c.args.a.now)
           (g.B.Book.meaning c.args.b.now) c.args.sends c.args.unknown c.args.key breaks.result _ breaks.ensures.head breaks.ensures.content breaks.ensures.levels
-          c.breaks_alone.ensures.silent c.breaks_alone.ensures.heard;
+          c.breaks_alone.ensures.0 c.breaks_alone.ensures.1;
     }

@@ -9,8 +9,8 @@ unreachable-requires g c =
     (omega (arith, c.loop-code-test.false))
     c.loop-code.invariant
 
-pub returns-then-is_strange-clause-exact : goal.returns-then-is_strange-clause-exact
-returns-then-is_strange-clause-exact g c =
+pub returns-then-is_strange : goal.returns-then-is_strange
+returns-then-is_strange g c =
     let da = g.A.Book.meaning c.args.a.now in
     let db = g.B.Book.meaning c.args.b.now in
     is_stranger da db (record { code = c.loop-code.code; vendor = 0 }) c.if-is_strange.ensures refl c.loop-code.invariant

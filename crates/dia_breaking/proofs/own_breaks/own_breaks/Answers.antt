@@ -3,8 +3,9 @@ use Rattle.std.proofs.lemmas.List.{map_push, map_more}
 use Rattle.dia_wire.specs.declared.Key.{Key}
 use Rattle.dia_breaking.specs.declared.keys.Own.{Own}
 use Rattle.dia_breaking.specs.declared.own_breaks.OwnBreaks.{OwnBreaks}
-use Rattle.dia_breaking.specs.Lengths.{listed_length}
+use Rattle.dia_breaking.specs.Sender.{costs_of, sender_in}
 use Rattle.dia_breaking.specs.OwnBreaks.{IsOwnBreaks}
+use Rattle.dia_breaking.specs.Sides.{sides}
 use Rattle.dia_breaking.proofs.Lists.{all_more}
 use Rattle.dia_breaking.proofs.own_breaks.own_breaks.Goals as goal
 
@@ -17,7 +18,6 @@ loop-one-preserved g c =
     let items = c.in_ok-push.ensures.items in record {
       keys = ap (map key) items ∙ map_push key old c.breaks_of.result ∙ ap₂ (λ (keys : List Key) (k : Key). keys ++ k ∷ []) c.loop-one.invariant.keys c.breaks_of.ensures.key
           ∙ sym (map_more (λ (one : Own). one.key) own c.loop-one.one-index _ (omega arith));
-      each = all_more (IsOwnBreaks (g.A.Book.meaning c.args.a.now) (g.B.Book.meaning c.args.b.now) lengths.sends c.args.unknown
-          (listed_length (g.A.Book.meaning lengths.book.now) lengths.sends lengths.entries.items))
+      each = all_more (IsOwnBreaks (sides (sender_in lengths) (g.B.Book.meaning c.args.b.now) lengths.sends c.args.unknown) (costs_of lengths).listed)
           old c.breaks_of.result _ items c.loop-one.invariant.each c.breaks_of.ensures.breaks;
     }

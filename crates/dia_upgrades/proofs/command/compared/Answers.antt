@@ -5,6 +5,7 @@ use Rattle.dia_upgrades.specs.Told.{AreTold}
 use Rattle.dia_upgrades.proofs.AskedCommands.{asked_within}
 use Rattle.dia_upgrades.proofs.Outcomes.{listed, unnamed}
 use Rattle.dia_upgrades.proofs.command.compared.Goals as goal
+use Rattle.dia_breaking.specs.Sides.{sides}
 
 pub lines_of-requires : goal.lines_of-requires
 lines_of-requires g c =
@@ -23,7 +24,7 @@ returns-in_ok-lines-in-Ok g c =
     let same = rw c.in-Ok.is at c.in_ok-commands.ensures.exact in
     let made = c.in_ok-upgrade-in-Ok.ensures in
     let told = rw (c.deref.ensures.value, made.sender, made.receiver, made.sends, made.unknown) at c.in_ok-lines-in-Ok.ensures in
-    let all = subst (λ (places : List ℕ). AreTold da db asked.sends asked.unknown asked.messages places text) same told in
+    let all = subst (λ (places : List ℕ). AreTold (sides da db asked.sends asked.unknown) asked.messages places text) same told in
     listed asked da db text (g.met.A.Book.sound c.args.a.now) known all c.ended.result c.ended.ensures.none c.ended.ensures.some
 
 pub returns-in-Err : goal.returns-in-Err

@@ -1,7 +1,7 @@
 use Rattle.std.proofs.Common.{ℕ, string_bytes, subst}
 use Rattle.std.specs.Prelude.{IsSome}
-use Rattle.dia_breaking.specs.Lengths.{other_length}
 use Rattle.dia_breaking.specs.Words.{head_at, words_of}
+use Rattle.dia_breaking.specs.Upgrades.{other_length_of, sides_of}
 use Rattle.dia_upgrades.specs.Places.{Adds}
 use Rattle.dia_upgrades.specs.Told.{AreTexts, IsLineText, IsToldOf}
 use Rattle.dia_upgrades.proofs.LinesToTell.{on_ok}
@@ -10,15 +10,14 @@ use Rattle.dia_upgrades.proofs.lines.push_command.Goals as goal
 pub returns : goal.returns
 returns g c =
     let up = c.args.upgrade.now in
-    let da = g.A.Book.meaning up.a.now in
-    let db = g.B.Book.meaning up.b.now in
+    let da = (sides_of up).sender in
     let breaks = c.in_ok-breaks.breaks in
     let found = c.in_ok-breaks.ensures in
     let lengths = up.lengths.entries.items in
     let old = string_bytes c.args.text.now in
     let new = string_bytes c.push_lines.new.text in
-    let lines = λ (number : ℕ). AreTexts (IsLineText c.args.messages (words_of da db up.unknown (other_length da up.sends lengths) number breaks.sites.items)) breaks.lines.items in
-    on_ok (Adds (lines breaks.command) old new) (IsSome (head_at da c.args.command) → Adds (IsToldOf da db up.sends up.unknown c.args.messages lengths c.args.command) old new) c.push_lines.result
+    let lines = λ (number : ℕ). AreTexts (IsLineText c.args.messages (words_of (sides_of up) (other_length_of up) number breaks.sites.items)) breaks.lines.items in
+    on_ok (Adds (lines breaks.command) old new) (IsSome (head_at da c.args.command) → Adds (IsToldOf (sides_of up) c.args.messages lengths c.args.command) old new) c.push_lines.result
     (λ told some. (
       told.0,
       record {

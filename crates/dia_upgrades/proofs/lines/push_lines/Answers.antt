@@ -1,8 +1,8 @@
 use Rattle.std.proofs.Common.{◌≤◌, [], List, length, refl, string_bytes, subst, sym}
 use Rattle.std.proofs.lemmas.List.{append-nil, take_all}
-use Rattle.dia_breaking.specs.Lengths.{other_length}
 use Rattle.dia_breaking.specs.Words.{words_of}
 use Rattle.dia_breaking.specs.declared.line.Line.{Line}
+use Rattle.dia_breaking.specs.Upgrades.{other_length_of, sides_of}
 use Rattle.dia_upgrades.specs.Places.{Adds}
 use Rattle.dia_upgrades.specs.Told.{AreTexts, IsLineText}
 use Rattle.dia_upgrades.proofs.LinesToTell.{adds_more}
@@ -15,8 +15,7 @@ pub loop-line-preserved : goal.loop-line-preserved
 loop-line-preserved g c =
     let up = c.args.upgrade.now in
     let breaks = c.args.breaks.now in
-    let da = g.A.Book.meaning up.a.now in
-    let words = words_of da (g.B.Book.meaning up.b.now) up.unknown (other_length da up.sends up.lengths.entries.items) breaks.command breaks.sites.items in
+    let words = words_of (sides_of up) (other_length_of up) breaks.command breaks.sites.items in
     let line = c.line-item.result in
     let items = c.deref-line-items.result.now in
     let is = IsLineText c.args.messages words in
@@ -29,8 +28,7 @@ pub returns : goal.returns
 returns g c =
     let up = c.args.upgrade.now in
     let breaks = c.args.breaks.now in
-    let da = g.A.Book.meaning up.a.now in
-    let words = words_of da (g.B.Book.meaning up.b.now) up.unknown (other_length da up.sends up.lengths.entries.items) breaks.command breaks.sites.items in
+    let words = words_of (sides_of up) (other_length_of up) breaks.command breaks.sites.items in
     let told = c.loop-line.invariant in
     let end = subst (λ (lines : List Line). length lines ≤ c.loop-line.line-index) c.deref-line-items.ensures.value c.loop-line-test.false in
     let all = take_all c.loop-line.line-index breaks.lines.items end in

@@ -1,6 +1,7 @@
 use Rattle.std.proofs.Common.{sym, subst, take}
 use Rattle.std.proofs.lemmas.List.{take_more}
 use Rattle.dia_breaking.specs.Telling.{AreExactlyTold, AreTold}
+use Rattle.dia_breaking.specs.Sides.{sides}
 use Rattle.dia_breaking.proofs.Tellings.{one_more_told}
 use Rattle.dia_breaking.proofs.TellingPlaces.{one_more_exactly}
 use Rattle.dia_breaking.proofs.keys.Telling.add_all.Goals as goal
@@ -12,9 +13,9 @@ loop-key-preserved g c =
     let keys = c.args.keys.now in
     let i = c.loop-key.key-index in
     let more = sym (take_more keys i (record { code = 0; vendor = 0 }) c.loop-key-test.true) in (
-      subst (λ ks. AreTold da db c.args.sends c.args.unknown ks c.add.new.self) more
+      subst (λ ks. AreTold (sides da db c.args.sends c.args.unknown) ks c.add.new.self) more
           (one_more_told da db c.args.sends c.args.unknown (take i keys) _ c.own_of.result c.loop-key.self c.add.new.self c.loop-key.invariant.0 c.own_of.ensures.told c.in_ok-add.ensures),
-      subst (λ ks. AreExactlyTold da db c.args.sends c.args.unknown ks c.add.new.self) more
+      subst (λ ks. AreExactlyTold (sides da db c.args.sends c.args.unknown) ks c.add.new.self) more
           (one_more_exactly da db c.args.sends c.args.unknown (take i keys) _ c.own_of.result c.loop-key.self c.add.new.self c.loop-key.invariant.1 c.own_of.ensures.told.key_is c.own_of.ensures.exact
           c.in_ok-add.ensures),
     )

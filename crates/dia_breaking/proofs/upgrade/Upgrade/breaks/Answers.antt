@@ -5,54 +5,65 @@ use Rattle.dia_book.specs.Dictionary.{definitions, PlainDefinition}
 use Rattle.dia_compat.proofs.ReachedKeys.{there_is, at_some}
 use Rattle.dia_breaking.specs.Confirmed.{HaveStandings, IsConfirmed, most_checked_together}
 use Rattle.dia_breaking.specs.declared.heads.Head.{Head}
+use Rattle.dia_breaking.specs.Free.{AllAreValid}
 use Rattle.dia_breaking.specs.Headers.{head_in}
 use Rattle.dia_breaking.specs.OwnBreaks.{TellsData}
 use Rattle.dia_breaking.specs.TheLines.{IsOfHead}
+use Rattle.dia_breaking.specs.Upgrades.{sides_of}
 use Rattle.dia_breaking.specs.declared.line.Line.{Line}
 use Rattle.dia_breaking.specs.declared.line.Standing.TheVariants.{Confirmed}
 use Rattle.dia_breaking.specs.Words.{head_at}
 use Rattle.dia_breaking.proofs.FoundLines.{head_there, none_there}
 use Rattle.dia_breaking.proofs.FreeOfLines.{all_valid, nothing_told}
-use Rattle.dia_breaking.proofs.Lists.{none_of, when_ok}
+use Rattle.dia_breaking.proofs.Lists.{none_of, when_ok, when_two}
 use Rattle.dia_breaking.proofs.TooLong.{no_message_of_group}
 use Rattle.dia_breaking.proofs.upgrade.Upgrade.breaks.Goals as goal
 
+pub lines_of-requires : goal.lines_of-requires
+lines_of-requires g c =
+    let da = (sides_of c.args.self.now).sender in
+    let x = there_is (definitions da) c.args.command c.requires in (
+      x.0,
+      x.1,
+      sym (at_some (λ (y : PlainDefinition). c.head_of.result ≡ head_in y.head) (slice_get (definitions da) c.args.command) x.0 c.head_of.ensures x.1) ∙ c.in-Some.is,
+    )
+
 pub returns-in-Some-clause-all : goal.returns-in-Some-clause-all
 returns-in-Some-clause-all g c =
-    let up = c.args.self.now in
-    when_ok _ _ c.lines_of.result (λ told free none. ∥∥₁_map free (λ valid.
-    nothing_told (g.A.Book.meaning up.a.now) (g.B.Book.meaning up.b.now) up.sends up.unknown told.sites.items told.lines.items c.args.command valid none)) c.lines_of.ensures.free
+    let s = sides_of c.args.self.now in
+    when_two _ _ _ c.lines_of.result (λ told own free none. ∥∥₁_map free (λ valid.
+    subst (λ (number : ℕ). AllAreValid s number) own (nothing_told s.sender s.receiver s.sends s.unknown told.sites.items told.lines.items told.command valid none)))
+    c.lines_of.ensures.command c.lines_of.ensures.free
 
 pub returns-in-Some-clause-lines : goal.returns-in-Some-clause-lines
 returns-in-Some-clause-lines g c = when_ok _ _ c.lines_of.result (λ told lines some. lines) c.lines_of.ensures.lines
 
 pub returns-in-Some-clause-head : goal.returns-in-Some-clause-head
 returns-in-Some-clause-head g c =
-    let da = g.A.Book.meaning c.args.self.now.a.now in
+    let da = (sides_of c.args.self.now).sender in
     let at = head_there da c.args.command c.head_of.result c.requires c.head_of.ensures ∙ c.in-Some.is in
     subst (λ (o : Option Head). IfSome o (λ head. IfOk c.lines_of.result (λ breaks. IsOfHead breaks head))) (sym at) c.lines_of.ensures.head
 
 pub returns-in-Some-clause-none : goal.returns-in-Some-clause-none
 returns-in-Some-clause-none g c = λ none.
-    let da = g.A.Book.meaning c.args.self.now.a.now in
+    let da = (sides_of c.args.self.now).sender in
     let at = head_there da c.args.command c.head_of.result c.requires c.head_of.ensures ∙ c.in-Some.is in
     absurd (true≢false (ap (λ (o : Option Head). is_some o) (sym at ∙ none)))
 
 pub returns-in-None : goal.returns-in-None
 returns-in-None g c =
-    let up = c.args.self.now in
-    let da = g.A.Book.meaning up.a.now in
-    let db = g.B.Book.meaning up.b.now in
+    let s = sides_of c.args.self.now in
+    let da = s.sender in
     let x = there_is (definitions da) c.args.command c.requires in
     let none = head_there da c.args.command c.head_of.result c.requires c.head_of.ensures ∙ c.in-None.is in
-    let valid = no_message_of_group da db up.sends up.unknown c.args.command x.0 x.1
+    let valid = no_message_of_group da s.receiver s.sends s.unknown c.args.command x.0 x.1
     (sym c.in-None.is ∙ at_some (λ (y : PlainDefinition). c.head_of.result ≡ head_in y.head) (slice_get (definitions da) c.args.command) x.0 c.head_of.ensures x.1) in
     record {
-      free = ∣ all_valid da db up.sends up.unknown _ _ c.args.command valid ∣₁;
+      free = ∣ all_valid da s.receiver s.sends s.unknown _ _ c.args.command valid ∣₁;
       all = λ none. ∣ valid ∣₁;
-      each = none_of (λ (line : Line). line.standing ≡ Confirmed → (bytes : List ℕ) × IsConfirmed da db up.sends up.unknown bytes c.args.command) c.new-lines.result.items c.new-lines.ensures.items;
+      each = none_of (λ (line : Line). line.standing ≡ Confirmed → (bytes : List ℕ) × IsConfirmed s bytes c.args.command) c.new-lines.result.items c.new-lines.ensures.items;
       standings = subst (HaveStandings most_checked_together) (sym c.new-lines.ensures.items) tt;
-      formats = ∣ none_of (λ (line : Line). TellsData da db up.sends up.unknown line.cause) c.new-lines.result.items c.new-lines.ensures.items ∣₁;
+      formats = ∣ none_of (λ (line : Line). TellsData s line.cause) c.new-lines.result.items c.new-lines.ensures.items ∣₁;
       command = refl;
       head = none_there _ (head_at da c.args.command) none;
       none = λ none. (c.new.ensures.items, c.new-lines.ensures.items);

@@ -1,9 +1,10 @@
-use Rattle.std.proofs.Common.{◌≡◌, ℕ, List, length, get_or, map, sym, ap, subst, ◌∙◌, arith}
+use Rattle.std.proofs.Common.{◌≡◌, ℕ, List, refl, length, get_or, map, sym, ap, subst, ◌∙◌, arith}
 use Rattle.std.proofs.lemmas.List.{take_all}
 use Rattle.dia_breaking.specs.Confirmed.{HaveStandings, IsConfirmed, IsStandingOf, left_behind, most_checked_together}
 use Rattle.dia_breaking.specs.Listing.{unchecked}
 use Rattle.dia_breaking.specs.declared.line.Line.{Line}
 use Rattle.dia_breaking.specs.declared.line.Standing.TheVariants.{Confirmed}
+use Rattle.dia_breaking.specs.Upgrades.{sides_of}
 use Rattle.dia_breaking.proofs.Lists.{all_more, image_more, none_of}
 use Rattle.dia_breaking.proofs.Standings.{left_after, left_more, so_told, standings_more}
 use Rattle.dia_breaking.proofs.upgrade.Upgrade.with_standings.Goals as goal
@@ -15,7 +16,7 @@ loop-line-init g c =
     record {
       kept = ap (map unchecked) none;
       each = none_of (λ (line : Line). line.standing ≡ Confirmed
-          → (bytes : List ℕ) × IsConfirmed (g.A.Book.meaning up.a.now) (g.B.Book.meaning up.b.now) up.sends up.unknown bytes c.args.breaks.command) c.new-lines.result.items none;
+          → (bytes : List ℕ) × IsConfirmed (sides_of up) bytes c.args.breaks.command) c.new-lines.result.items none;
       standings = subst (HaveStandings most_checked_together) (sym none) tt;
       left = ap (left_after most_checked_together) (sym none);
     }
@@ -31,7 +32,7 @@ loop-line-preserved g c =
       kept = image_more unchecked old _ c.args.breaks.lines.items c.loop-line.line-index _ line is (omega (arith, ap length c.deref-line-items.ensures.value))
           (ap unchecked c.line-item.is ∙ ap (λ (xs : List Line). unchecked (get_or xs c.loop-line.line-index line)) c.deref-line-items.ensures.value) c.loop-line.invariant.kept;
       each = all_more (λ (line : Line). line.standing ≡ Confirmed
-          → (bytes : List ℕ) × IsConfirmed (g.A.Book.meaning up.a.now) (g.B.Book.meaning up.b.now) up.sends up.unknown bytes c.args.breaks.command) old _ _ is c.loop-line.invariant.each
+          → (bytes : List ℕ) × IsConfirmed (sides_of up) bytes c.args.breaks.command) old _ _ is c.loop-line.invariant.each
           c.in_ok-standing.ensures.confirmed;
       standings = subst (HaveStandings most_checked_together) (sym is) (standings_more most_checked_together old told c.loop-line.invariant.standings
           (subst (λ left. IsStandingOf left told told.standing) c.loop-line.invariant.left (so_told c.loop-line.left line told.standing c.in_ok-standing.ensures.standing)));
@@ -47,3 +48,6 @@ returns-clause-each g c = c.loop-line.invariant.each
 
 pub returns-clause-standings : goal.returns-clause-standings
 returns-clause-standings g c = c.loop-line.invariant.standings
+
+pub returns-clause-same : goal.returns-clause-same
+returns-clause-same g c = (refl, refl, refl, refl)
