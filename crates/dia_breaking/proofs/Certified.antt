@@ -9,7 +9,7 @@ use Rattle.dia_wire.specs.Wire.{PlainAvp}
 use Rattle.dia_book.specs.Dictionary.{Dictionary, DictEntry, PlainDefinition, IsDictionary, definitions, entry_of, group_place, selected}
 use Rattle.dia_book.proofs.Members.{at_Contains, at_filter_map}
 use Rattle.dia_check.specs.Valid.{known}
-use Rattle.dia_compat.proofs.GroupNumbers.{group_there, group_missing}
+use Rattle.dia_rules.proofs.GroupNumbers.{group_there, group_missing}
 use Rattle.dia_compat.proofs.ReachedKeys.{known_by_entry}
 use Rattle.dia_policy.specs.declared.Unknown.{Unknown}
 use Rattle.dia_policy.specs.declared.Sends.{Sends}
@@ -19,7 +19,7 @@ use Rattle.dia_breaking_sites.proofs.Members.{in_contains, contains_in}
 use Rattle.dia_breaking_sites.proofs.SafeMessages.{valid}
 use Rattle.dia_breaking_sites.proofs.Selected.{met}
 use Rattle.dia_breaking_avps.specs.Sent.{group_of}
-use Rattle.dia_compat.specs.Tests.{rules_in}
+use Rattle.dia_rules.specs.Rules.{rules_in}
 use Rattle.dia_book.specs.declared.DRule.{DRule}
 use Rattle.dia_breaking_levels.specs.declared.line.Line.{Line as LevelLine}
 use Rattle.dia_breaking.specs.Outlooks.{group_rules, HasGroupLines, HasLinesFor}

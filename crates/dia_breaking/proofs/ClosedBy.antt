@@ -20,10 +20,8 @@ use Rattle.dia_breaking_sites.specs.Sites.{Site, HasSite}
 use Rattle.dia_breaking_sites.specs.Selection.{max_body}
 use Rattle.dia_breaking_avps.specs.Sent.{group_of}
 use Rattle.dia_breaking_avps.specs.Laws.{FitKeyAlone}
-use Rattle.dia_compat.specs.Tests.{rules_in}
-use Rattle.dia_compat.proofs.RunsOfFixedRules.{IsIn, in_all}
-use Rattle.dia_compat.proofs.MemberCounts.{any_in, in_at, in_contains, contains_in}
-use Rattle.dia_compat.proofs.FitInSecond.{all_of}
+use Rattle.dia_rules.specs.Rules.{rules_in}
+use Rattle.dia_rules.proofs.Members.{IsIn, in_all, any_in, in_at, in_contains, contains_in, all_of}
 use Rattle.dia_breaking_shortest.specs.Floors.{shortest_head, total}
 use Rattle.dia_breaking_levels.specs.declared.line.Line.{Line}
 use Rattle.dia_breaking_levels.specs.Levels.{HasEachLine, FirstIsShortest, OtherIsShortest, Shows, ShowsAt}

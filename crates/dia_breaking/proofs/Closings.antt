@@ -12,8 +12,7 @@ use Rattle.std.proofs.lemmas.List.Sorted.{Contains-permutation}
 use Rattle.dia_wire.specs.declared.Key.{Key}
 use Rattle.dia_book.specs.Keys.{same_key}
 use Rattle.dia_book.proofs.SameKeys.{same_key-refl, same_key-true}
-use Rattle.dia_compat.proofs.RunsOfFixedRules.{IsIn}
-use Rattle.dia_compat.proofs.MemberCounts.{any_in, in_contains, contains_in}
+use Rattle.dia_rules.proofs.Members.{IsIn, any_in, in_contains, contains_in}
 use Rattle.dia_breaking_shortest.proofs.Strangers.{in_map}
 use Rattle.dia_breaking_levels.specs.contracts.line.Reason.{the_type}
 use Rattle.dia_breaking_levels.specs.declared.line.Line.{Line as LevelLine}

@@ -4,7 +4,7 @@ use Rattle.std.specs.Prelude.{◌⊎◌, ◌<◌, IfSome, length, option_and_the
 use Rattle.std.proofs.Math.Logic.{∥∥₁_map}
 use Rattle.std.proofs.lemmas.List.{map-append}
 use Rattle.dia_book.specs.Dictionary.{Dictionary, PlainDefinition, definitions}
-use Rattle.dia_compat.proofs.ReachedKeys.{there_is, at_some}
+use Rattle.dia_rules.proofs.Members.{there_is, at_some}
 use Rattle.dia_breaking.specs.declared.heads.Head.{Head}
 use Rattle.dia_breaking.specs.declared.line.Cause.TheVariants as causes
 use Rattle.dia_breaking.specs.declared.line.Line.{Line}

@@ -11,9 +11,7 @@ use Rattle.dia_book.specs.declared.DefHead.{DefHead}
 use Rattle.dia_book.specs.declared.DefHead.TheVariants.{Group, Command, Error}
 use Rattle.dia_book.specs.Dictionary.{Dictionary, DictEntry, PlainDefinition, IsDictionary, IsCommandHead, IsSameSelector, groups, definitions, selected, is_command, same_class}
 use Rattle.dia_book.proofs.Members.{at_append, at_filter_map}
-use Rattle.dia_compat.proofs.RunsOfFixedRules.{IsIn}
-use Rattle.dia_compat.proofs.MemberCounts.{in_at, in_contains, contains_in}
-use Rattle.dia_compat.proofs.FitInSecond.{all_of}
+use Rattle.dia_rules.proofs.Members.{IsIn, in_at, in_contains, contains_in, all_of}
 use Rattle.dia_compat.proofs.SelectedCommands.{Choice, NoChoice, choose, Reads, reads, class_same, is_of_code}
 use Rattle.dia_breaking_sites.specs.Selection.{NamesApp}
 use Rattle.dia_breaking.specs.declared.apps.Apps.{Apps}

@@ -9,7 +9,7 @@ use Rattle.dia_book.specs.declared.DRule.{DRule}
 use Rattle.dia_book.specs.Dictionary.{Dictionary, PlainDefinition, definitions}
 use Rattle.dia_book.proofs.SameKeys.{same_key-true}
 use Rattle.dia_breaking_avps.specs.Sent.{group_of}
-use Rattle.dia_compat.specs.Tests.{rules_in}
+use Rattle.dia_rules.specs.Rules.{rules_in}
 use Rattle.dia_breaking_levels.specs.declared.line.Line.{Line as LevelLine}
 use Rattle.dia_breaking_levels.specs.Levels.{HasEachLine}
 use Rattle.dia_breaking_levels.specs.LevelTests.{price}

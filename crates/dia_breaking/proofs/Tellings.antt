@@ -22,8 +22,7 @@ use Rattle.dia_breaking_avps.specs.Sent.{group_of}
 use Rattle.dia_breaking_avps.specs.Breaks.{AcceptsFlags, IsDataBreak, IsHeadBreak, IsSilent}
 use Rattle.dia_breaking_avps.specs.Laws.{FitKeyAlone}
 use Rattle.dia_breaking_avps.proofs.Alone.{key_alone}
-use Rattle.dia_compat.proofs.RunsOfFixedRules.{IsIn}
-use Rattle.dia_compat.proofs.MemberCounts.{in_at, in_contains, contains_in, in_append}
+use Rattle.dia_rules.proofs.Members.{IsIn, in_at, in_contains, contains_in, in_append}
 use Rattle.dia_breaking.specs.declared.keys.Own.{Own}
 use Rattle.dia_breaking.specs.declared.keys.Telling.{Telling}
 use Rattle.dia_breaking.specs.SentKeys.{AreSentKeys, IsStrange}

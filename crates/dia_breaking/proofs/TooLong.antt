@@ -20,8 +20,8 @@ use Rattle.dia_check.specs.Valid.{AllowsP, Placed}
 use Rattle.dia_breaking_sites.specs.Sent.{AreBytes, StandAsSent}
 use Rattle.dia_breaking_sites.specs.Selection.{max_body, AreValid}
 use Rattle.dia_breaking_sites.proofs.Members.{all_parts}
-use Rattle.dia_compat.specs.Tests.{rules_in}
-use Rattle.dia_compat.proofs.ReachedKeys.{there_is}
+use Rattle.dia_rules.specs.Rules.{rules_in}
+use Rattle.dia_rules.proofs.Members.{there_is}
 use Rattle.dia_breaking_levels.specs.Levels.{FirstIsShortest, OtherIsShortest, IsWithinAll}
 use Rattle.dia_breaking_levels.specs.LevelTests.{price}
 use Rattle.dia_breaking_shortest.specs.Floors.{AreFloors}

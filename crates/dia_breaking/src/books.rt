@@ -5,7 +5,7 @@ ghost use Rattle.std.specs.Option.{option_map};
 ghost use Rattle.dia_book.specs.Dictionary.{definitions, selected};
 ghost use Rattle.dia_data.specs.Plain.{plain_format};
 ghost use Rattle.dia_check.specs.Valid.{is_listed};
-ghost use Rattle.dia_compat.specs.Tests.{rule_of, rules_in, wildcard_of};
+ghost use Rattle.dia_rules.specs.Rules.{rule_of, rules_in, wildcard_of};
 ghost use Rattle.dia_breaking_avps.specs.Sent.{group_of};
 ghost use Rattle.dia_breaking.specs.Words.{format_in, name_in};
 

@@ -6,7 +6,7 @@ ghost use Rattle.std.specs.List.{list_all};
 ghost use Rattle.dia_book.specs.Keys.{same_key};
 ghost use Rattle.dia_book.specs.Dictionary.{definitions};
 ghost use Rattle.dia_breaking_sites.specs.Selection.{max_body};
-ghost use Rattle.dia_compat.specs.Tests.{rules_in};
+ghost use Rattle.dia_rules.specs.Rules.{rules_in};
 ghost use Rattle.dia_breaking.specs.ClosedRules.{AreWaysOf, IsFirst, IsLongOrTold, first_spare, is_unlisted};
 ghost use Rattle.dia_breaking.specs.ClosedRules.{is_closed_rule, is_fine, is_safe, is_settled, leads};
 ghost use Rattle.dia_breaking.specs.ClosedRules.{other_of, spare_by_way};

@@ -2,7 +2,7 @@
 ghost use Rattle.std.specs.Prelude.{◌≡◌, ◌<◌, length, not, find};
 ghost use Rattle.dia_book.specs.Dictionary.{definitions};
 ghost use Rattle.dia_check.specs.Valid.{is_listed};
-ghost use Rattle.dia_compat.specs.Tests.{rules_in};
+ghost use Rattle.dia_rules.specs.Rules.{rules_in};
 ghost use Rattle.dia_breaking_levels.specs.LevelTests.{least_filler};
 ghost use Rattle.dia_breaking_levels.specs.Levels.{OtherIsShortest};
 ghost use Rattle.dia_breaking.specs.LevelCosts.{beside_of};

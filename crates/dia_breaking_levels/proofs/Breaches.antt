@@ -7,8 +7,7 @@ use Rattle.std.proofs.lemmas.Option.{none-some, same_Some}
 use Rattle.dia_wire.specs.declared.Key.{Key}
 use Rattle.dia_book.specs.declared.DRule.{DRule}
 use Rattle.dia_check.specs.Valid.{InBounds, Placed, fixed_rules, is_listed, has_wildcard}
-use Rattle.dia_compat.proofs.RunsOfFixedRules.{IsIn, in_all}
-use Rattle.dia_compat.proofs.MemberCounts.{at_in, in_contains, contains_in, all_in, none_or_some}
+use Rattle.dia_rules.proofs.Members.{IsIn, in_all, at_in, in_contains, contains_in, all_in, none_or_some}
 use Rattle.dia_breaking_levels.specs.CountsAndRanks.{AreSound, times, strangers, rank, InOrder, AreInPlace}
 use Rattle.dia_breaking_levels.specs.Breaches.{IsLate, Breach}
 use Rattle.dia_breaking_levels.specs.Breaches.Breach.{Few, Many, Not_allowed, Few_others, Many_others, Late}

@@ -14,10 +14,10 @@ use Rattle.dia_book.proofs.Members.{AreApart, AreApart-filter}
 use Rattle.dia_check.specs.Valid.{InBounds, Runs, Placed, MayBeLoose, fixed_rules, loose_rules, is_listed, has_wildcard, counted}
 use Rattle.dia_check.proofs.LongestRuns.{AreDistinct}
 use Rattle.dia_check.proofs.RuleCounts.{fixed_place}
-use Rattle.dia_compat.specs.Below.{HasRule, HasWildcard}
-use Rattle.dia_compat.proofs.RunsOfFixedRules.{IsIn, in_all, all_map, all_middle, IsRunKey}
-use Rattle.dia_compat.proofs.MemberCounts.{in_at, at_in, in_contains, contains_in, all_in, in_filter, into_filter, in_right, in_append, count_append, count_none, count_all}
-use Rattle.dia_compat.proofs.PlacedInSecond.{listed, is_listed_by, runs_none, runs_some}
+use Rattle.dia_rules.specs.Rules.{HasRule, HasWildcard}
+use Rattle.dia_rules.proofs.Members.{IsIn, in_all, all_map}
+use Rattle.dia_rules.proofs.RulesOfKeys.{all_middle, IsRunKey, listed, is_listed_by, runs_none, runs_some}
+use Rattle.dia_rules.proofs.Members.{in_at, at_in, in_contains, contains_in, all_in, in_filter, into_filter, in_right, in_append, count_append, count_none, count_all}
 use Rattle.dia_breaking_levels.specs.CountsAndRanks.{AreSound, times, strangers, rank, InOrder, AreInPlace}
 
 -- ---- the rules of a dictionary

@@ -9,11 +9,8 @@ use Rattle.dia_book.specs.Keys.{same_key}
 use Rattle.dia_book.proofs.SameKeys.{same_key-refl}
 use Rattle.dia_book.proofs.Members.{find-is_some}
 use Rattle.dia_check.specs.Valid.{Placed, fixed_rules, is_listed, is_wildcard, has_wildcard}
-use Rattle.dia_compat.specs.Below.{HasRule, HasWildcard}
-use Rattle.dia_compat.specs.Tests.{rule_of, wildcard_of}
-use Rattle.dia_compat.proofs.RunsOfFixedRules.{IsIn}
-use Rattle.dia_compat.proofs.MemberCounts.{in_contains, contains_in, in_left, in_right, any_in, in_any, count_in}
-use Rattle.dia_compat.proofs.FitInSecond.{in_filter_map}
+use Rattle.dia_rules.specs.Rules.{HasRule, HasWildcard, rule_of, wildcard_of}
+use Rattle.dia_rules.proofs.Members.{IsIn, in_contains, contains_in, in_left, in_right, any_in, in_any, count_in, in_filter_map}
 use Rattle.dia_breaking_levels.specs.declared.floor.Floor.{Floor}
 use Rattle.dia_breaking_levels.specs.declared.line.Line.{Line}
 use Rattle.dia_breaking_levels.specs.declared.line.Reason.{Reason}

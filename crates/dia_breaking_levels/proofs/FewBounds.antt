@@ -6,9 +6,8 @@ use Rattle.dia_wire.specs.declared.Key.{Key}
 use Rattle.dia_book.specs.declared.DRule.{DRule}
 use Rattle.dia_check.specs.Valid.{Placed, is_listed}
 use Rattle.dia_check.proofs.RuleCounts.{counts_key}
-use Rattle.dia_compat.specs.Tests.{wildcard_of}
-use Rattle.dia_compat.proofs.RunsOfFixedRules.{IsIn}
-use Rattle.dia_compat.proofs.MemberCounts.{count_cons, count_in, count_mono}
+use Rattle.dia_rules.specs.Rules.{wildcard_of}
+use Rattle.dia_rules.proofs.Members.{IsIn, count_cons, count_in, count_mono}
 use Rattle.dia_breaking_levels.specs.declared.floor.Floor.{Floor}
 use Rattle.dia_breaking_levels.specs.CountsAndRanks.{AreSound, strangers}
 use Rattle.dia_breaking_levels.specs.LeastLevels.{total}

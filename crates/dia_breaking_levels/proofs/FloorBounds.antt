@@ -7,8 +7,7 @@ use Rattle.dia_book.specs.Keys.{same_key}
 use Rattle.dia_book.specs.declared.DRule.{DRule}
 use Rattle.dia_book.proofs.SameKeys.{same_key-true}
 use Rattle.dia_check.specs.Valid.{is_listed}
-use Rattle.dia_compat.proofs.RunsOfFixedRules.{IsIn}
-use Rattle.dia_compat.proofs.MemberCounts.{any_in}
+use Rattle.dia_rules.proofs.Members.{IsIn, any_in}
 use Rattle.dia_breaking_levels.specs.Strangers.{needs, needed}
 use Rattle.dia_breaking_levels.specs.LevelTests.{too_long, capped, many, rule_floor, inner_length, cheapest, base_length, needed_up}
 use Rattle.dia_breaking_levels.proofs.RuleSums.{sum_of}

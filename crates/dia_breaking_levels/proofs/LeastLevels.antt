@@ -14,10 +14,10 @@ use Rattle.dia_book.proofs.SameKeys.{same_key-refl, same_key-true}
 use Rattle.dia_book.proofs.Members.{AreApart, AreApart-filter}
 use Rattle.dia_check.specs.Valid.{InBounds, Runs, Placed, MayBeLoose, fixed_rules, loose_rules, is_listed, is_wildcard, counted}
 use Rattle.dia_check.proofs.RuleCounts.{filter_all, filter_none, counts_key}
-use Rattle.dia_compat.proofs.RunsOfFixedRules.{IsIn}
-use Rattle.dia_compat.proofs.MemberCounts.{at_in, in_contains, contains_in, all_in, in_filter, in_any, in_append, count_cons, count_append, count_none, count_all}
-use Rattle.dia_compat.proofs.PlacedInSecond.{is_listed_by}
-use Rattle.dia_compat.proofs.FitInSecond.{all_of}
+use Rattle.dia_rules.proofs.Members.{IsIn}
+use Rattle.dia_rules.proofs.Members.{at_in, in_contains, contains_in, all_in, in_filter, in_any, in_append, count_cons, count_append, count_none, count_all}
+use Rattle.dia_rules.proofs.RulesOfKeys.{is_listed_by}
+use Rattle.dia_rules.proofs.Members.{all_of}
 use Rattle.dia_breaking_levels.specs.CountsAndRanks.{AreSound, times, strangers, AreInPlace}
 use Rattle.dia_breaking_levels.specs.LeastLevels.{total, copies, or_filler, planned, counts_part, plan_by, plan, CountsWild, IsFiller, IsCheapest}
 use Rattle.dia_breaking_levels.proofs.CountsAndRanks.{placed-in_place}

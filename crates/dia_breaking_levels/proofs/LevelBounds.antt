@@ -10,10 +10,9 @@ use Rattle.dia_book.specs.declared.DRule.{DRule}
 use Rattle.dia_book.proofs.Members.{at_find}
 use Rattle.dia_check.specs.Valid.{InBounds, Placed, is_listed, is_wildcard, counted}
 use Rattle.dia_check.proofs.RuleCounts.{counts_key}
-use Rattle.dia_compat.specs.Tests.{wildcard_of}
-use Rattle.dia_compat.proofs.RunsOfFixedRules.{IsIn}
-use Rattle.dia_compat.proofs.MemberCounts.{in_at, count_mono}
-use Rattle.dia_compat.proofs.PlacedInSecond.{is_listed_by}
+use Rattle.dia_rules.specs.Rules.{wildcard_of}
+use Rattle.dia_rules.proofs.Members.{IsIn, in_at, count_mono}
+use Rattle.dia_rules.proofs.RulesOfKeys.{is_listed_by}
 use Rattle.dia_breaking_levels.specs.CountsAndRanks.{AreSound, times, AreInPlace}
 use Rattle.dia_breaking_levels.specs.LeastLevels.{total}
 use Rattle.dia_breaking_levels.specs.LevelTests.{too_long, price, has_room, swapped, rule_floor, many, listed_at_least, listed_at_most}

@@ -9,9 +9,8 @@ use Rattle.dia_book.specs.Dictionary.{lists_key}
 use Rattle.dia_book.proofs.SameKeys.{same_key-refl, same_key-true}
 use Rattle.dia_book.proofs.Members.{at_find, find-is_some}
 use Rattle.dia_check.specs.Valid.{Placed, is_listed}
-use Rattle.dia_compat.specs.Tests.{rule_of, wildcard_of}
-use Rattle.dia_compat.proofs.RunsOfFixedRules.{IsIn}
-use Rattle.dia_compat.proofs.MemberCounts.{in_at, count_mono}
+use Rattle.dia_rules.specs.Rules.{rule_of, wildcard_of}
+use Rattle.dia_rules.proofs.Members.{IsIn, in_at, count_mono}
 use Rattle.dia_breaking_levels.specs.declared.floor.Floor.{Floor}
 use Rattle.dia_breaking_levels.specs.CountsAndRanks.{AreSound, times}
 use Rattle.dia_breaking_levels.specs.LeastLevels.{total}

@@ -12,7 +12,7 @@ use Rattle.dia_book.proofs.Members.{find-is_some}
 use Rattle.std.specs.Prelude.{is_some}
 use Rattle.dia_check.specs.Valid.{is_listed}
 use Rattle.dia_check.proofs.OneKeyMore.{at_position}
-use Rattle.dia_compat.specs.Tests.{rule_of}
+use Rattle.dia_rules.specs.Rules.{rule_of}
 use Rattle.dia_breaking_levels.specs.declared.floor.Floor.{Floor}
 use Rattle.dia_breaking_levels.specs.declared.line.Reason.TheVariants.{Order}
 use Rattle.dia_breaking_levels.specs.declared.offers.Offer.{Offer}

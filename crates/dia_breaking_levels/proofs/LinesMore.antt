@@ -5,7 +5,7 @@ use Rattle.std.proofs.lemmas.Option.{slice_get-get_or}
 use Rattle.std.proofs.lemmas.List.{append-nil}
 use Rattle.std.proofs.lemmas.List.Elements.{filter_map-append}
 use Rattle.std.specs.List.{cons_option}
-use Rattle.dia_compat.proofs.FilteredMembers.{taken}
+use Rattle.dia_rules.proofs.Members.{taken}
 
 one_further : {X Y : Type 0} (h : X → Option Y) (xs : List X) (i : ℕ) (d : X) → i < length xs → filter_map h (take (i + 1) xs) ≡ filter_map h (take i xs) ++ filter_map h (get_or xs i d ∷ [])
 one_further h xs i d within = ap (filter_map h) (taken xs i (get_or xs i d) (slice_get-get_or xs i d within)) ∙ filter_map-append h (take i xs) (get_or xs i d ∷ [])

@@ -11,9 +11,8 @@ use Rattle.dia_book.proofs.Members.{find-is_some}
 use Rattle.dia_book.proofs.SameKeys.{same_key-refl, same_key-true}
 use Rattle.dia_check.specs.Valid.{Placed, is_listed, is_wildcard, has_wildcard, counted}
 use Rattle.dia_check.proofs.RuleCounts.{counts_key}
-use Rattle.dia_compat.specs.Tests.{rule_of, wildcard_of}
-use Rattle.dia_compat.proofs.RunsOfFixedRules.{IsIn}
-use Rattle.dia_compat.proofs.MemberCounts.{contains_in, count_cons, count_in, count_mono}
+use Rattle.dia_rules.specs.Rules.{rule_of, wildcard_of}
+use Rattle.dia_rules.proofs.Members.{IsIn, contains_in, count_cons, count_in, count_mono}
 use Rattle.dia_breaking_levels.specs.declared.floor.Floor.{Floor}
 use Rattle.dia_breaking_levels.specs.CountsAndRanks.{AreSound, times}
 use Rattle.dia_breaking_levels.specs.LeastLevels.{total}

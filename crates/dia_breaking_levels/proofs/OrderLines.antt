@@ -9,10 +9,9 @@ use Rattle.dia_book.specs.Dictionary.{AreRules, is_fixed}
 use Rattle.dia_book.proofs.Members.{at_find}
 use Rattle.dia_check.specs.Valid.{Placed, fixed_rules, is_listed}
 use Rattle.dia_check.proofs.KeysByCounts.{fixed_few}
-use Rattle.dia_compat.specs.Tests.{rule_of, wildcard_of}
-use Rattle.dia_compat.proofs.RunsOfFixedRules.{IsIn}
-use Rattle.dia_compat.proofs.MemberCounts.{in_at, in_filter}
-use Rattle.dia_compat.proofs.PlacedInSecond.{is_listed_by}
+use Rattle.dia_rules.specs.Rules.{rule_of, wildcard_of}
+use Rattle.dia_rules.proofs.Members.{IsIn, in_at, in_filter}
+use Rattle.dia_rules.proofs.RulesOfKeys.{is_listed_by}
 use Rattle.dia_breaking_levels.specs.declared.floor.Floor.{Floor}
 use Rattle.dia_breaking_levels.specs.declared.line.Line.{Line}
 use Rattle.dia_breaking_levels.specs.declared.line.Reason.{Reason}

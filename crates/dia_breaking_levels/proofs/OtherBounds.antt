@@ -7,9 +7,8 @@ use Rattle.dia_book.specs.declared.DRule.{DRule}
 use Rattle.dia_book.proofs.Members.{find-is_some}
 use Rattle.dia_check.specs.Valid.{Placed, is_listed, is_wildcard, has_wildcard, counted}
 use Rattle.dia_check.proofs.RuleCounts.{counts_key}
-use Rattle.dia_compat.specs.Tests.{wildcard_of}
-use Rattle.dia_compat.proofs.RunsOfFixedRules.{IsIn}
-use Rattle.dia_compat.proofs.MemberCounts.{contains_in, count_cons, count_none, count_mono, none_or_some}
+use Rattle.dia_rules.specs.Rules.{wildcard_of}
+use Rattle.dia_rules.proofs.Members.{IsIn, contains_in, count_cons, count_none, count_mono, none_or_some}
 use Rattle.dia_breaking_levels.specs.CountsAndRanks.{AreSound, strangers}
 use Rattle.dia_breaking_levels.specs.LeastLevels.{total}
 use Rattle.dia_breaking_levels.specs.LevelTests.{too_long, price, has_room, swapped, many, other_at_least, refilled}

@@ -7,8 +7,7 @@ use Rattle.dia_wire.specs.declared.Key.{Key}
 use Rattle.dia_book.specs.declared.DRule.{DRule}
 use Rattle.dia_check.specs.Valid.{Placed, is_listed}
 use Rattle.dia_check.proofs.RuleCounts.{counts_key}
-use Rattle.dia_compat.proofs.RunsOfFixedRules.{IsIn}
-use Rattle.dia_compat.proofs.MemberCounts.{count_cons}
+use Rattle.dia_rules.proofs.Members.{IsIn, count_cons}
 use Rattle.dia_breaking_levels.specs.CountsAndRanks.{AreSound, strangers, AreInPlace}
 use Rattle.dia_breaking_levels.specs.LeastLevels.{total, copies, or_filler}
 use Rattle.dia_breaking_levels.specs.Strangers.{needs, needed}

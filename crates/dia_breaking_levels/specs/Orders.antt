@@ -3,7 +3,7 @@ use Rattle.std.specs.Prelude.{◌≡◌, ℕ, ◌<◌, ◌≤◌, List, Some, sl
 use Rattle.dia_wire.specs.declared.Key.{Key}
 use Rattle.dia_book.specs.declared.DRule.{DRule}
 use Rattle.dia_check.specs.Valid.{fixed_rules}
-use Rattle.dia_compat.specs.Below.{HasRule}
+use Rattle.dia_rules.specs.Rules.{HasRule}
 use Rattle.dia_breaking_levels.specs.CountsAndRanks.{rank}
 
 -- one key stands before another

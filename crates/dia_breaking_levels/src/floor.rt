@@ -2,7 +2,7 @@
 ghost use Rattle.std.specs.Prelude.{◌≡◌, ◌==◌, min, find, option_and_then, None};
 ghost use Rattle.std.specs.Option.{option_map_or};
 ghost use Rattle.dia_check.specs.Valid.{has_wildcard};
-ghost use Rattle.dia_compat.specs.Tests.{rules_in, wildcard_of};
+ghost use Rattle.dia_rules.specs.Rules.{rules_in, wildcard_of};
 ghost use Rattle.dia_breaking_levels.specs.Strangers.{needs};
 ghost use Rattle.dia_breaking_levels.specs.LevelTests.{inner_length, cheapest, outer_length};
 ghost use Rattle.dia_breaking_levels.specs.LevelTests.{is_outside, base_length, needed_up};

@@ -7,10 +7,9 @@ use Rattle.dia_wire.specs.declared.Key.{Key}
 use Rattle.dia_book.specs.declared.DRule.{DRule}
 use Rattle.dia_book.specs.Dictionary.{Dictionary, DictEntry, PlainDefinition, IsDictionary, AreRules, entry_of, definitions}
 use Rattle.dia_check.specs.Valid.{known, is_listed, Placed}
-use Rattle.dia_compat.proofs.GroupNumbers.{number_of, group_there}
-use Rattle.dia_compat.proofs.MemberCounts.{contains_in, in_at, in_contains}
-use Rattle.dia_compat.proofs.PlacedInSecond.{is_listed_by}
-use Rattle.dia_compat.proofs.RunsOfFixedRules.{IsIn}
+use Rattle.dia_rules.proofs.GroupNumbers.{number_of, group_there}
+use Rattle.dia_rules.proofs.Members.{contains_in, in_at, in_contains, IsIn}
+use Rattle.dia_rules.proofs.RulesOfKeys.{is_listed_by}
 use Rattle.dia_policy.specs.declared.Sends.{Sends}
 use Rattle.dia_policy.specs.declared.Sends.TheVariants.{Any, Known, Listed}
 use Rattle.dia_breaking_sites.specs.Sent.{StandAsSent}

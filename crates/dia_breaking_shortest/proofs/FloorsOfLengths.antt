@@ -13,7 +13,7 @@ use Rattle.dia_book.proofs.SameKeys.{same_key-true}
 use Rattle.dia_check.specs.Valid.{known, is_listed, Placed}
 use Rattle.dia_check.proofs.AvpFaults.{kept_rules}
 use Rattle.dia_check.proofs.OneKeyMore.{at_position}
-use Rattle.dia_compat.proofs.GroupNumbers.{number_of, group_there}
+use Rattle.dia_rules.proofs.GroupNumbers.{number_of, group_there}
 use Rattle.dia_policy.specs.declared.Sends.{Sends}
 use Rattle.dia_policy.specs.declared.Sends.TheVariants.{Any, Known, Listed}
 use Rattle.dia_breaking_sites.specs.Sent.{StandAsSent, AreBytes}

@@ -7,8 +7,7 @@ use Rattle.dia_wire.specs.declared.Key.{Key}
 use Rattle.dia_book.specs.Limits.{max_parts}
 use Rattle.dia_book.specs.Dictionary.{Dictionary, DictEntry, IsDictionary, entry_of}
 use Rattle.dia_check.specs.Valid.{known}
-use Rattle.dia_compat.proofs.MemberCounts.{in_at}
-use Rattle.dia_compat.proofs.RunsOfFixedRules.{IsIn}
+use Rattle.dia_rules.proofs.Members.{in_at, IsIn}
 use Rattle.dia_breaking_shortest.proofs.FloorsOfLengths.{entry_at}
 
 -- a key without vendor that can be spelled, and that the dictionary doesn't know

@@ -20,9 +20,7 @@ use Rattle.dia_compat.specs.Sides.{Sides}
 use Rattle.dia_compat.specs.TableText.{PlainTable}
 use Rattle.dia_compat.specs.Closed.{HasCode, IsError, IsBeside, NamesApp, IsWanted, error, same_app, no_app, both_none, other_app, IsServed, SameCodeAndClass, CommandPair}
 use Rattle.dia_compat.specs.PairTests.{NamePair, is_pair, names_app, wants_app, is_wanted, serves, serves_app, same_code_and_class, p_of, p_within, is_proxiable, is_selected}
-use Rattle.dia_compat.proofs.RunsOfFixedRules.{IsIn}
-use Rattle.dia_compat.proofs.MemberCounts.{in_contains, contains_in, any_in, in_any}
-use Rattle.dia_compat.proofs.FitInSecond.{all_of}
+use Rattle.dia_rules.proofs.Members.{IsIn, in_contains, contains_in, any_in, in_any, all_of}
 use Rattle.dia_compat.proofs.DecidedTests.{all_in_decides, implied}
 
 -- ---- classes, applications and heads

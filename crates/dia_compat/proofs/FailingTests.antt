@@ -17,7 +17,8 @@ use Rattle.dia_compat.specs.declared.checking.Test.TheVariants.{N1, N2, N3, N4, 
 use Rattle.dia_compat.specs.declared.reasons.Failing.{Failing}
 use Rattle.dia_compat.specs.declared.reasons.Failing.TheVariants as failing
 use Rattle.dia_compat.specs.Sides.{Compared}
-use Rattle.dia_compat.specs.Tests.{is_kept, is_within, is_max_within, is_above_zero, rule_of, wildcard_of, may_come, leads, begins_with, common_rule, let_in_rule, covered_rule, has_room}
+use Rattle.dia_compat.specs.Tests.{is_kept, is_within, is_max_within, is_above_zero, may_come, leads, begins_with, common_rule, let_in_rule, covered_rule, has_room}
+use Rattle.dia_rules.specs.Rules.{rule_of, wildcard_of}
 use Rattle.dia_compat.specs.Tests.{own_rule, listed_rule, bounded_wildcard, required_wildcard, of_key}
 use Rattle.dia_compat.specs.PairTests.{is_covered, uncovered_keys, stranger_fits, strangers_fit, is_passed}
 use Rattle.dia_compat.specs.Failings.{Placed, placed_at, place_of_key, placed_rule, placed_wildcard, unless, among, fails_fixed, fails_counts, fails_crowded, fails_own_key, fails_own}

@@ -8,13 +8,8 @@ use Rattle.std.proofs.lemmas.List.Elements.{filter-append}
 use Rattle.std.proofs.lemmas.List.Folds.{list_all-append, list_any-append}
 use Rattle.std.proofs.lemmas.Option.{slice_get-get_or, slice_get_within, same_Some}
 use Rattle.dia_book.proofs.Members.{list_all_at}
-use Rattle.dia_compat.proofs.MemberCounts.{in_any, in_at}
+use Rattle.dia_rules.proofs.Members.{in_any, in_at, taken}
 use Rattle.dia_compat.proofs.SetsOfNames.{get_none}
-
-pub taken : {X : Type 0} (xs : List X) (i : ℕ) (x : X) → slice_get xs i ≡ Some x → take (i + 1) xs ≡ take i xs ++ x ∷ []
-taken {X} xs i x at =
-    let within = slice_get_within xs i x at in
-    take_more xs i x within ∙ ap (λ (y : X). take i xs ++ y ∷ []) (same_Some (get_or xs i x) x (sym (slice_get-get_or xs i x within) ∙ at))
 
 pub kept : {X : Type 0} (p : X → Bool) (xs : List X) (i : ℕ) (x : X) → slice_get xs i ≡ Some x → p x ≡ true → filter p (take (i + 1) xs) ≡ filter p (take i xs) ++ x ∷ []
 kept {X} p xs i x at e = ap (filter p) (taken xs i x at) ∙ filter-append p (take i xs) (x ∷ []) ∙ ap (λ (b : Bool). filter p (take i xs) ++ cond b (x ∷ []) []) e

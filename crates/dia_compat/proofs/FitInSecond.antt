@@ -28,25 +28,11 @@ use Rattle.dia_compat.specs.declared.checking.Test.{Test}
 use Rattle.dia_compat.specs.declared.checking.Test.TheVariants.{N1, N2, N3, N4, N5, N6, N7, N8, N9, N10}
 use Rattle.dia_compat.specs.Below.{IsCoveredAlone, IsCovered, IsKnown, DefBelow}
 use Rattle.dia_compat.specs.Closed.{NamesEntry, IsPairKey, BothGrouped, AvpPair, AvpTest, IsClosed}
-use Rattle.dia_compat.proofs.RunsOfFixedRules.{IsIn, in_all}
-use Rattle.dia_compat.proofs.MemberCounts.{in_at, at_in, in_contains, contains_in, in_left, all_in}
-use Rattle.dia_compat.proofs.PlacedInSecond.{ByWild, Comes, comes, still_placed, is_listed_by}
+use Rattle.dia_rules.proofs.Members.{IsIn, in_all, in_at, at_in, in_contains, contains_in, in_left, all_in, all_of, in_filter_map}
+use Rattle.dia_compat.proofs.PlacedInSecond.{ByWild, Comes, comes, still_placed}
+use Rattle.dia_rules.proofs.RulesOfKeys.{is_listed_by}
 
 -- ---- entries
-
-pub all_of : {X : Type 0} (P : X → Type 0) (xs : List X) (x : X) → All P xs → IsIn x xs → P x
-all_of P [] x all h = absurd h
-all_of P (y ∷ xs) x all (inl e) = subst P (sym e) (all 0 y (omega arith))
-all_of P (y ∷ xs) x all (inr h) = all_of P xs x (λ k d lt. all (suc k) d (omega (arith, lt))) h
-
-pub in_filter_map : {X Y : Type 0} (h : X → Option Y) (xs : List X) (x : X) (y : Y) → IsIn x xs → h x ≡ Some y → IsIn y (filter_map h xs)
-in_filter_map h [] x y i e = absurd i
-in_filter_map {X} {Y} h (z ∷ xs) x y (inl same) e = subst (λ (o : Option Y). IsIn y (cons_option o (filter_map h xs))) (sym (ap h (sym same) ∙ e)) (inl refl)
-in_filter_map {X} {Y} h (z ∷ xs) x y (inr i) e = by (h z) (in_filter_map h xs x y i e)
-  where
-    by : (o : Option Y) → IsIn y (filter_map h xs) → IsIn y (cons_option o (filter_map h xs))
-    by None j = j
-    by (Some w) j = inr j
 
 known_found : (d : Dictionary) (key : Key) → find (λ e. same_key key e.key) d.entries ≡ known d key
 known_found d key = find-place (λ (e : DictEntry). same_key key e.key) d.entries

@@ -1,5 +1,4 @@
 pub mod RunsOfFixedRules
-pub mod MemberCounts
 pub mod PlacedInSecond
 pub mod FitInSecond
 pub mod SelectedCommands
@@ -10,7 +9,6 @@ pub mod FilteredMembers
 pub mod ServedApplications
 pub mod SetsOfPairs
 pub mod CommandPairs
-pub mod GroupNumbers
 pub mod LookUpsOfKeys
 pub mod LeastProposal
 pub mod OneAnswer

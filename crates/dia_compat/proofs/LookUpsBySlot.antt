@@ -9,38 +9,8 @@ use Rattle.dia_book.specs.declared.Slot.{Slot}
 use Rattle.dia_book.specs.declared.Slot.TheVariants.{Fixed, Loose, Unlisted}
 use Rattle.dia_book.specs.Dictionary.{Dictionary, PlainDefinition, definitions, lists_key, is_fixed, slot_at, slot_of}
 use Rattle.dia_book.proofs.LookUpsByName.{find-place}
-use Rattle.dia_compat.specs.Tests.{rules_in, rule_of, leads, begins_with}
-
-abbrev pub place_in : Slot → Option ℕ
-place_in (Fixed i) = Some i
-place_in (Loose i) = Some i
-place_in Unlisted = None
-
-slot_place : (rules : List DRule) (o : Option ℕ) → option_and_then (slice_get rules) (place_in (option_map_or (slot_at rules) o Unlisted)) ≡ option_and_then (slice_get rules) o
-slot_place rules None = refl
-slot_place rules (Some i) = by (slice_get rules i) refl
-  where
-    kind : (r : DRule) (b : Bool) → slice_get rules i ≡ Some r → option_and_then (slice_get rules) (place_in (cond b (Fixed i) (Loose i))) ≡ slice_get rules i
-    kind r true e = refl
-    kind r false e = refl
-
-    by : (o : Option DRule) → slice_get rules i ≡ o → option_and_then (slice_get rules) (place_in (option_map_or (λ rule. cond (is_fixed rule) (Fixed i) (Loose i)) o Unlisted)) ≡ slice_get rules i
-    by None e = sym e
-    by (Some r) e = kind r (is_fixed r) e
-
-no_rule : (p : Option ℕ) → option_and_then (slice_get (let none : List DRule = [] in none)) p ≡ None
-no_rule None = refl
-no_rule (Some i) = refl
-
--- what stands at the slot of a key is its rule
-pub rule_at : (d : Dictionary) (def : ℕ) (key : Key) (s : Slot) → IfSome (slice_get (definitions d) def) (λ x. s ≡ slot_of x.rules key)
-    → option_and_then (slice_get (rules_in d def)) (place_in s) ≡ rule_of (rules_in d def) key
-rule_at d def key s is = by (slice_get (definitions d) def) is
-  where
-    by : (o : Option PlainDefinition) → IfSome o (λ x. s ≡ slot_of x.rules key) → option_and_then (slice_get (option_map_or (λ x. x.rules) o [])) (place_in s) ≡ rule_of
-        (option_map_or (λ x. x.rules) o []) key
-    by None h = no_rule (place_in s)
-    by (Some x) h = ap (λ (t : Slot). option_and_then (slice_get x.rules) (place_in t)) h ∙ slot_place x.rules (position (lists_key key) x.rules) ∙ sym (find-place (lists_key key) x.rules)
+use Rattle.dia_compat.specs.Tests.{leads, begins_with}
+use Rattle.dia_rules.specs.Rules.{rules_in, rule_of}
 
 -- ---- the fixed rules
 

@@ -20,16 +20,16 @@ use Rattle.dia_compat.specs.declared.proposing.naming.NamedCommands.{NamedComman
 use Rattle.dia_compat.specs.declared.proposing.reaching.Reached.{Reached}
 use Rattle.dia_compat.specs.Sides.{Sides}
 use Rattle.dia_compat.specs.TableText.{plain_pair}
-use Rattle.dia_compat.specs.Below.{HasRule, IsListed, HasWildcard, IsAboveZero, IsKnown, IsCoveredAlone}
+use Rattle.dia_compat.specs.Below.{IsAboveZero, IsKnown, IsCoveredAlone}
+use Rattle.dia_rules.specs.Rules.{HasRule, IsListed, HasWildcard}
 use Rattle.dia_compat.specs.Closed.{NamesEntry, NamesCommand}
 use Rattle.dia_compat.specs.Proposed.{WantsPair, IsProposed, by_command, by_group, AreCommandPairs, AreAvpPairs}
 use Rattle.dia_compat.specs.ReachedKeys.{has, Waits, IsShared, Admits, Wants, Follows, root, in_group}
 use Rattle.dia_compat.specs.PairTests.{command_named}
 use Rattle.dia_compat.specs.WantedNames.{or_alone, wanted_names, names_beside}
 use Rattle.dia_compat.specs.NamedCommands.{shared_pair, Same, Adds, AddsOnce, name_at, AreRoots, NamedSoFar}
-use Rattle.dia_compat.proofs.RunsOfFixedRules.{IsIn}
-use Rattle.dia_compat.proofs.MemberCounts.{in_at, at_in, in_contains, contains_in, in_left, in_right, in_append, in_any, any_in}
-use Rattle.dia_compat.proofs.FitInSecond.{known_entry, entry_known, in_filter_map}
+use Rattle.dia_rules.proofs.Members.{IsIn, in_at, at_in, in_contains, contains_in, in_left, in_right, in_append, in_any, any_in, in_filter_map}
+use Rattle.dia_compat.proofs.FitInSecond.{known_entry, entry_known}
 use Rattle.dia_compat.proofs.SelectedCommands.{one_command, found_or_not, Found, NotFound}
 use Rattle.dia_compat.proofs.ReachedKeys.{is_known, rest_then}
 use Rattle.dia_compat.proofs.WantedDefinitions.{are_beside, filter_map_order}

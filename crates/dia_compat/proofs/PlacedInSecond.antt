@@ -16,25 +16,14 @@ use Rattle.dia_check.specs.declared.Unknown.TheVariants.{Kept}
 use Rattle.dia_check.specs.Valid.{InBounds, Runs, fixed_rules, loose_rules, is_listed, is_wildcard, has_wildcard, MayBeLoose, counted, Placed}
 use Rattle.dia_check.proofs.LongestRuns.{AreDistinct}
 use Rattle.dia_compat.specs.declared.checking.Test.TheVariants.{N1, N2, N3, N5, N6, N7, N8}
-use Rattle.dia_compat.specs.Below.{MaxWithin, FixedWithin, IsAboveZero, HasRule, HasWildcard, IsKnown, DefBelow}
-use Rattle.dia_compat.proofs.RunsOfFixedRules.{IsIn, in_all, all_map, in_bounds, max_within, IsRunKey, Split, split, all_middle}
-use Rattle.dia_compat.proofs.MemberCounts.{at_in, in_contains, contains_in, all_in, in_filter, into_filter, any_in, in_any}
-use Rattle.dia_compat.proofs.MemberCounts.{in_right, in_append, count_append, count_none, count_all, count_mono, count_in, none_or_some}
+use Rattle.dia_compat.specs.Below.{MaxWithin, FixedWithin, IsAboveZero, IsKnown, DefBelow}
+use Rattle.dia_rules.specs.Rules.{HasRule, HasWildcard}
+use Rattle.dia_compat.proofs.RunsOfFixedRules.{in_bounds, max_within, Split, split}
+use Rattle.dia_rules.proofs.Members.{IsIn, in_all, all_map, at_in, in_contains, contains_in, all_in, in_filter, into_filter, any_in, in_any}
+use Rattle.dia_rules.proofs.RulesOfKeys.{IsRunKey, all_middle, lists, listed, is_listed_by, times, not_same, runs_none, runs_some}
+use Rattle.dia_rules.proofs.Members.{in_right, in_append, count_append, count_none, count_all, count_mono, count_in, none_or_some}
 
 -- ---- rules
-
-key_of_test : (key : Key) (o : Option Key) → option_map_or (same_key key) o false ≡ true → o ≡ Some key
-key_of_test key None h = absurd (let e : false ≡ true = h in cc)
-key_of_test key (Some k) h = ap (λ (x : Key). Some x) (sym (same_key-true key k h))
-
-lists : (r : DRule) (key : Key) → r.key ≡ Some key → lists_key key r ≡ true
-lists r key h = ap (λ (o : Option Key). option_map_or (same_key key) o false) h ∙ same_key-refl key
-
-pub listed : (rules : List DRule) (key : Key) → is_listed rules key ≡ true → (r : DRule) × IsIn r rules × (r.key ≡ Some key)
-listed rules key h = let s = any_in (lists_key key) rules h in (s.0, s.1, key_of_test key s.0.key s.2)
-
-pub is_listed_by : (rules : List DRule) (key : Key) (r : DRule) → IsIn r rules → r.key ≡ Some key → is_listed rules key ≡ true
-is_listed_by rules key r i e = in_any (lists_key key) rules r i (lists r key e)
 
 not_both : (b : Bool) → b ≡ true → b ≡ false → ⊥
 not_both b e f = absurd (let h : true ≡ false = sym e ∙ f in cc)
@@ -96,9 +85,6 @@ fixed_in (r ∷ fa) (t ∷ fb) s w (inr h) = let ih = fixed_in fa fb s w.2 h in 
 
 -- ---- how often a key comes
 
-abbrev pub times : Key → List Key → ℕ
-times k keys = count_by (λ q. same_key q k) keys
-
 abbrev pub strangers : List DRule → List Key → ℕ
 strangers rules keys = count_by (λ q. not (is_listed rules q)) keys
 
@@ -107,43 +93,6 @@ counted_key rules s keys k e = ap (λ (o : Option Key). count_by (λ (q : Key). 
 
 counted_wild : (rules : List DRule) (s : DRule) (keys : List Key) → s.key ≡ None → counted rules s keys ≡ strangers rules keys
 counted_wild rules s keys e = ap (λ (o : Option Key). count_by (λ (q : Key). if not (is_some o) then not (is_listed rules q) else option_map_or (same_key q) o false) keys) e
-
-not_same : (q k : Key) → q ≢ k → same_key q k ≡ false
-not_same q k h = false_from_ne_true (same_key q k) (λ e. h (same_key-true q k e))
-
-other_run : (r : DRule) (run : List Key) (k : Key) → r.key ≢ Some k → AllByRecursion (λ key. r.key ≡ Some key) run → times k run ≡ 0
-other_run r run k other all = count_none (λ (q : Key). same_key q k) run (λ q i.
-    not_same q k (λ e. other (in_all (λ (key : Key). r.key ≡ Some key) q run all i ∙ ap (λ (x : Key). Some x) e)))
-
-own_run : (r : DRule) (run : List Key) (k : Key) → r.key ≡ Some k → AllByRecursion (λ key. r.key ≡ Some key) run → times k run ≡ length run
-own_run r run k own all = count_all (λ (q : Key). same_key q k) run (all_map (λ (q : Key). r.key ≡ Some q) (λ (q : Key). same_key q k ≡ true)
-    (λ q e. ap (λ (x : Key). same_key x k) (same_Some q k (sym e ∙ own)) ∙ same_key-refl k) run all)
-
-pub runs_none : (rules : List DRule) (keys rest : List Key) (k : Key) → Runs rules keys rest → AllByRecursion (λ r. r.key ≢ Some k) rules → times k keys ≡ times k rest
-runs_none [] keys rest k h none = ap (times k) h
-runs_none (r ∷ rules) keys rest k (run, after, parts, all, bounds, more) none =
-    let here = ap (times k) parts in
-    let both = count_append (λ (q : Key). same_key q k) run after in
-    let zeros = other_run r run k none.0 all in
-    let ih = runs_none rules after rest k more none.1 in
-    omega (arith, here, both, zeros, ih)
-
-pub runs_some : (rules : List DRule) (keys rest : List Key) (k : Key) (r : DRule) → Runs rules keys rest → AreDistinct rules → IsIn r rules → r.key ≡ Some k
-    → (n : ℕ) × (times k keys ≡ n + times k rest) × InBounds r n
-runs_some [] keys rest k r h distinct i e = absurd i
-runs_some (s ∷ rules) keys rest k r (run, after, parts, all, bounds, more) distinct (inl same) e =
-    let here = ap (times k) parts in
-    let both = count_append (λ (q : Key). same_key q k) run after in
-    let own : s.key ≡ Some k = ap (λ (x : DRule). x.key) (sym same) ∙ e in
-    let ones = own_run s run k own all in
-    let behind = runs_none rules after rest k more (all_map (λ (t : DRule). (key : Key) → s.key ≡ Some key → t.key ≢ Some key) (λ (t : DRule). t.key ≢ Some k) (λ t new. new k own) rules distinct.0) in
-    (length run, omega (arith, here, both, ones, behind), subst (λ (t : DRule). InBounds t (length run)) (sym same) bounds)
-runs_some (s ∷ rules) keys rest k r (run, after, parts, all, bounds, more) distinct (inr i) e =
-    let here = ap (times k) parts in
-    let both = count_append (λ (q : Key). same_key q k) run after in
-    let zeros = other_run s run k (λ own. in_all (λ (t : DRule). (key : Key) → s.key ≡ Some key → t.key ≢ Some key) r rules distinct.0 i k own e) all in
-    let ih = runs_some rules after rest k r more distinct.1 i e in
-    (ih.0, omega (arith, here, both, zeros, ih.1), ih.2)
 
 above : (m : Option ℕ) (n : ℕ) → 1 ≤ n → IfSome m (λ k. n ≤ k) → IfSome m (λ k. 0 < k)
 above None n one h = tt

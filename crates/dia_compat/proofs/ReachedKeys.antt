@@ -16,21 +16,17 @@ use Rattle.dia_book.specs.Dictionary.{Dictionary, DictEntry, PlainDefinition, de
 use Rattle.dia_check.specs.Valid.{known, is_listed}
 use Rattle.dia_compat.specs.declared.proposing.reaching.Reached.{Reached}
 use Rattle.dia_compat.specs.Sides.{Sides}
-use Rattle.dia_compat.specs.Tests.{rules_in}
-use Rattle.dia_compat.specs.Below.{IsListed, HasWildcard, IsAboveZero, IsKnown}
+use Rattle.dia_rules.specs.Rules.{rules_in, IsListed, HasWildcard}
+use Rattle.dia_compat.specs.Below.{IsAboveZero, IsKnown}
 use Rattle.dia_compat.specs.ReachedKeys.{has, Waits, IsShared, IsAllowedBy, IsAllowed, Admits, Wants, Inserts, potential, Grew}
 use Rattle.dia_compat.specs.ReachedKeys.{ComesTo, ComesToAll, Follows, root, in_group, IsSharedGroup, AllWait, AreRest, Sorts}
-use Rattle.dia_compat.proofs.RunsOfFixedRules.{IsIn}
-use Rattle.dia_compat.proofs.MemberCounts.{in_at, at_in, in_contains, contains_in, in_left, in_right, in_append, into_filter, count_cons, count_mono}
-use Rattle.dia_compat.proofs.PlacedInSecond.{listed, is_listed_by}
+use Rattle.dia_rules.proofs.Members.{IsIn, in_at, at_in, in_contains, contains_in, in_left, in_right, in_append, into_filter, count_cons, count_mono}
+use Rattle.dia_rules.proofs.RulesOfKeys.{listed, is_listed_by}
 use Rattle.dia_compat.proofs.FitInSecond.{known_entry}
 use Rattle.dia_compat.proofs.SelectedCommands.{found_or_not, Found, NotFound}
+use Rattle.dia_rules.proofs.Members.{some_of}
 
 -- ---- keys that are known
-
-pub some_of : {X : Type 0} (o : Option X) → IsSome o → (x : X) × (o ≡ Some x)
-some_of None h = absurd (let e : false ≡ true = h in cc)
-some_of (Some x) h = (x, refl)
 
 pub known_by_entry : (d : Dictionary) (key : Key) (i : ℕ) → entry_of d key ≡ Some i → (e : DictEntry) × (slice_get d.entries i ≡ Some e) × (known d key ≡ Some e)
 known_by_entry d key i at = by (found_or_not (λ (e : DictEntry). same_key key e.key) d.entries)
@@ -45,18 +41,6 @@ known_by_entry d key i at = by (found_or_not (λ (e : DictEntry). same_key key e
 
 pub is_known : (d : Dictionary) (key : Key) → IsSome (entry_of d key) → IsKnown d key
 is_known d key h = let i = some_of (entry_of d key) h in let k = known_by_entry d key i.0 i.1 in ap (λ (o : Option DictEntry). is_some o) k.2
-
-pub when_some : {X : Type 0} (P : X → Type 0) (o : Option X) → ((x : X) → o ≡ Some x → P x) → IfSome o P
-when_some P None h = tt
-when_some P (Some x) h = h x refl
-
-pub at_some : {X : Type 0} (P : X → Type 0) (o : Option X) (x : X) → IfSome o P → o ≡ Some x → P x
-at_some {X} P o x h e = let Q : Option X → Type 0 = λ w. IfSome w P in subst Q e h
-
-pub there_is : {X : Type 0} (xs : List X) (i : ℕ) → i < length xs → (x : X) × (slice_get xs i ≡ Some x)
-there_is [] i h = absurd (omega arith)
-there_is (x ∷ xs) zero h = (x, refl)
-there_is (x ∷ xs) (suc i) h = there_is xs i (omega arith)
 
 -- ---- counts
 
@@ -401,37 +385,6 @@ sorts_all sides rules x mid y rest same waits near all = record {
     there : (key : Key) → (¬ IsListed rules key) → IsShared sides key → (has x key ≡ true) ⊎ Contains x.rest.items key → has y key ≡ true
     there key q shared (inl h) = all.comes.grew.grows key (same key ∙ h)
     there key q shared (inr i) = all.comes.there key (in_contains x.rest.items key i, q) shared
-
--- ---- groups
-
-group_there : (xs : List DictEntry) (i : ℕ) (e : DictEntry) (g : PlainDefinition) → slice_get xs i ≡ Some e → e.group ≡ Some g
-    → slice_get (filter_map (λ x. x.group) xs) (length (filter_map (λ x. x.group) (take i xs))) ≡ Some g
-group_there [] i e g at is = absurd (none-some e at)
-group_there (x ∷ xs) zero e g at is = ap (λ (o : Option PlainDefinition). slice_get (cons_option o (filter_map (λ (y : DictEntry). y.group) xs)) 0)
-    (ap (λ (y : DictEntry). y.group) (same_Some x e at) ∙ is)
-group_there (x ∷ xs) (suc i) e g at is = by x.group (group_there xs i e g at is)
-  where
-    by : (o : Option PlainDefinition) → slice_get (filter_map (λ y. y.group) xs) (length (filter_map (λ y. y.group) (take i xs))) ≡ Some g
-        → slice_get (cons_option o (filter_map (λ y. y.group) xs)) (length (cons_option o (filter_map (λ y. y.group) (take i xs)))) ≡ Some g
-    by None h = h
-    by (Some d) h = h
-
--- the number of an entry's group is that of its definition
-pub group_number : (d : Dictionary) (i n : ℕ) (e : DictEntry) → slice_get d.entries i ≡ Some e → group_place d i ≡ Some n
-    → (g : PlainDefinition) × (e.group ≡ Some g) × (slice_get (definitions d) n ≡ Some g)
-group_number d i n e at is = by e.group refl
-  where
-    number : ℕ
-    number = length (filter_map (λ (y : DictEntry). y.group) (take i d.entries))
-
-    read : group_place d i ≡ option_map (λ _. number) e.group
-    read = ap (λ (o : Option DictEntry). option_and_then (λ (x : DictEntry). option_map (λ _. number) x.group) o) at
-
-    by : (o : Option PlainDefinition) → e.group ≡ o → (g : PlainDefinition) × (e.group ≡ Some g) × (slice_get (definitions d) n ≡ Some g)
-    by None h = absurd (let f : None ≡ Some n = sym (read ∙ ap (λ (o : Option PlainDefinition). option_map (λ _. number) o) h) ∙ is in cc)
-    by (Some g) h =
-        let same : number ≡ n = same_Some number n (sym (read ∙ ap (λ (o : Option PlainDefinition). option_map (λ _. number) o) h) ∙ is) in
-        (g, h, ap (slice_get (definitions d)) (sym same) ∙ into_left (groups d) d.commands number g (group_there d.entries i e g at h))
 
 -- ---- the keys that follow
 

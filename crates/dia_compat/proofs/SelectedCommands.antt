@@ -22,9 +22,8 @@ use Rattle.dia_compat.specs.declared.checking.Test.TheVariants.{N1, N2, N3, N4, 
 use Rattle.dia_compat.specs.Below.{DefBelow}
 use Rattle.dia_compat.specs.Closed.{NamesCommand, IsPairKey, HasCode, IsError, IsBeside, NamesApp, IsWanted, error, same_app}
 use Rattle.dia_compat.specs.Closed.{no_app, both_none, other_app, IsServed, CommandPair, CommandTest, IsClosed, IsIncluded}
-use Rattle.dia_compat.proofs.RunsOfFixedRules.{IsIn}
-use Rattle.dia_compat.proofs.MemberCounts.{in_at, at_in, in_contains, contains_in, in_right}
-use Rattle.dia_compat.proofs.FitInSecond.{all_of, body}
+use Rattle.dia_rules.proofs.Members.{IsIn, in_at, at_in, in_contains, contains_in, in_right, all_of}
+use Rattle.dia_compat.proofs.FitInSecond.{body}
 
 -- ---- a search
 

@@ -12,7 +12,7 @@ use Rattle.dia_book.proofs.Lists.{position-map, list_any-map}
 use Rattle.dia_book.specs.Dictionary.{Dictionary, PlainDefinition, groups, definitions}
 use Rattle.dia_book.proofs.Members.{into_map}
 use Rattle.dia_book.proofs.NumberedGroups.{slice_get-append_right}
-use Rattle.dia_compat.proofs.MemberCounts.{any_in, at_in}
+use Rattle.dia_rules.proofs.Members.{any_in, at_in}
 
 abbrev pub same_text : Bor (List ℕ) → Bor (List ℕ) → Bool
 same_text a b = bytes_eq a.now b.now

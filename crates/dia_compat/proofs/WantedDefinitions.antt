@@ -19,9 +19,7 @@ use Rattle.dia_compat.specs.Closed.{HasCode, NamesApp, IsWanted, error, same_app
 use Rattle.dia_compat.specs.Proposed.{AreBeside}
 use Rattle.dia_compat.specs.PairTests.{names_app, wants_app, is_wanted}
 use Rattle.dia_compat.specs.WantedNames.{wanted_name, wanted_names, or_alone, names_beside}
-use Rattle.dia_compat.proofs.RunsOfFixedRules.{IsIn}
-use Rattle.dia_compat.proofs.MemberCounts.{in_at, at_in, in_contains, contains_in, any_in, in_any}
-use Rattle.dia_compat.proofs.FitInSecond.{all_of, in_filter_map}
+use Rattle.dia_rules.proofs.Members.{IsIn, in_at, at_in, in_contains, contains_in, any_in, in_any, all_of, in_filter_map}
 use Rattle.dia_compat.proofs.SelectedCommands.{Reads, reads, is_of_code}
 
 -- ---- lists of pairs

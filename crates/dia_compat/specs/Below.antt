@@ -10,6 +10,7 @@ use Rattle.dia_check.specs.declared.Unknown.TheVariants.{Kept}
 use Rattle.dia_check.specs.Valid.{known, fixed_rules}
 use Rattle.dia_compat.specs.declared.checking.Test.{Test}
 use Rattle.dia_compat.specs.declared.checking.Test.TheVariants.{N1, N2, N3, N4, N5, N6, N7, N8, N9, N10}
+use Rattle.dia_rules.specs.Rules.{HasRule, IsListed, HasWildcard}
 
 -- the bounds of one rule lie within those of another
 abbrev pub MaxWithin : Option ℕ → Option ℕ → Type 0
@@ -23,16 +24,6 @@ Within a b = (b.min ≤ a.min) × MaxWithin a.max b.max
 -- the max is none or above 0
 abbrev pub IsAboveZero : Option ℕ → Type 0
 IsAboveZero max = IfSome max (λ n. 0 < n)
-
--- the rule of a key, and the wildcard
-abbrev pub HasRule : List DRule → Key → DRule → Type 0
-HasRule rules key r = Contains rules r × (r.key ≡ Some key)
-
-abbrev pub IsListed : List DRule → Key → Type 0
-IsListed rules key = (r : DRule) × HasRule rules key r
-
-abbrev pub HasWildcard : List DRule → DRule → Type 0
-HasWildcard rules w = Contains rules w × (w.key ≡ None)
 
 -- an unknown AVP of this key is accepted, and so may the dictionary's be
 abbrev pub IsCoveredAlone : Dictionary → Dictionary → Unknown → Key → Type 0

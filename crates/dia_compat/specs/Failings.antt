@@ -20,7 +20,8 @@ use Rattle.dia_compat.specs.Closed.{BothGrouped}
 use Rattle.dia_check.specs.declared.Unknown.{Unknown}
 use Rattle.dia_compat.specs.TableText.{PlainTable}
 use Rattle.dia_compat.specs.Sides.{Sides, Compared, compared}
-use Rattle.dia_compat.specs.Tests.{is_within, is_max_within, is_above_zero, is_kept, may_come, rules_in, leads, let_in_rule, covered_rule, listed_rule, of_key}
+use Rattle.dia_compat.specs.Tests.{is_within, is_max_within, is_above_zero, is_kept, may_come, leads, let_in_rule, covered_rule, listed_rule, of_key}
+use Rattle.dia_rules.specs.Rules.{rules_in}
 use Rattle.dia_compat.specs.PairTests.{NamePair, entry_named, command_named, is_covered, uncovered_keys, stranger_fits}
 use Rattle.dia_compat.specs.PairTests.{same_code_and_class, is_proxiable, serves, is_ready}
 

@@ -8,7 +8,8 @@ use Rattle.dia_check.specs.Valid.{known}
 use Rattle.dia_compat.specs.declared.proposing.ProposeFault.{ProposeFault}
 use Rattle.dia_compat.specs.declared.proposing.ProposeFault.TheVariants.{UnknownCommand, NoMemory}
 use Rattle.dia_compat.specs.TableText.{PlainTable}
-use Rattle.dia_compat.specs.Below.{HasRule, IsListed, HasWildcard, IsAboveZero, IsCoveredAlone, IsKnown}
+use Rattle.dia_compat.specs.Below.{IsAboveZero, IsCoveredAlone, IsKnown}
+use Rattle.dia_rules.specs.Rules.{HasRule, IsListed, HasWildcard}
 use Rattle.dia_compat.specs.Closed.{NamesEntry, NamesCommand, IsWanted, BothGrouped, IsClosed}
 
 -- a definition of A wants a pair for a key that B knows

@@ -8,7 +8,8 @@ use Rattle.dia_book.specs.Dictionary.{Dictionary, DictEntry, PlainDefinition}
 use Rattle.dia_check.specs.Valid.{known}
 use Rattle.dia_compat.specs.declared.proposing.reaching.Reached.{Reached}
 use Rattle.dia_compat.specs.Sides.{Sides}
-use Rattle.dia_compat.specs.Below.{HasRule, IsListed, HasWildcard, IsAboveZero, IsKnown}
+use Rattle.dia_compat.specs.Below.{IsAboveZero, IsKnown}
+use Rattle.dia_rules.specs.Rules.{HasRule, IsListed, HasWildcard}
 use Rattle.dia_compat.specs.Closed.{BothGrouped}
 
 -- it has come to the AVP with this key

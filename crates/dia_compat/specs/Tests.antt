@@ -10,6 +10,7 @@ use Rattle.dia_check.specs.declared.Unknown.{Unknown}
 use Rattle.dia_check.specs.declared.Unknown.TheVariants.{Kept, Refused}
 use Rattle.dia_check.specs.Valid.{is_listed, is_wildcard}
 use Rattle.dia_compat.specs.Sides.{Sides}
+use Rattle.dia_rules.specs.Rules.{rule_of, wildcard_of}
 
 -- ---- bounds
 
@@ -30,16 +31,6 @@ is_kept Kept = true
 is_kept Refused = false
 
 -- ---- look-ups
-
--- the rules of a definition by its number
-abbrev pub rules_in : Dictionary → ℕ → List DRule
-rules_in d def = option_map_or (λ x. x.rules) (slice_get (definitions d) def) []
-
-abbrev pub rule_of : List DRule → Key → Option DRule
-rule_of rules key = find (lists_key key) rules
-
-abbrev pub wildcard_of : List DRule → Option DRule
-wildcard_of rules = find is_wildcard rules
 
 -- what a test says of the key of a rule; it says nothing of the wildcard
 abbrev pub of_key : (Key → Bool) → DRule → Bool

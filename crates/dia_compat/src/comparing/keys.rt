@@ -2,7 +2,8 @@
 ghost use Rattle.std.specs.Prelude.{◌≡◌};
 ghost use Rattle.std.specs.List.{list_all};
 ghost use Rattle.dia_check.specs.Valid.{has_wildcard};
-ghost use Rattle.dia_compat.specs.Tests.{wildcard_of, common_rule, let_in_rule};
+ghost use Rattle.dia_compat.specs.Tests.{common_rule, let_in_rule};
+ghost use Rattle.dia_rules.specs.Rules.{wildcard_of};
 ghost use Rattle.dia_compat.specs.Tests.{covered_rule, own_rule, has_room, may_come};
 ghost use Rattle.dia_compat.specs.PairTests.{is_covered};
 

@@ -1,7 +1,8 @@
 //! The two dictionaries that are compared.
 ghost use Rattle.std.specs.Prelude.{◌≡◌, ◌<◌, ◌↔◌, IsTrue, length};
 ghost use Rattle.dia_book.specs.Dictionary.{IsDictionary, definitions};
-ghost use Rattle.dia_compat.specs.Tests.{is_kept, may_come, rules_in};
+ghost use Rattle.dia_compat.specs.Tests.{is_kept, may_come};
+ghost use Rattle.dia_rules.specs.Rules.{rules_in};
 ghost use Rattle.dia_compat.specs.ReachedKeys.{IsShared};
 
 use super::rules::Rules;

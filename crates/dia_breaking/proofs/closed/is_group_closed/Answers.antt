@@ -1,5 +1,5 @@
 use Rattle.std.proofs.Math.Logic.{∥∥₁_map₂}
-use Rattle.dia_compat.proofs.ReachedKeys.{at_some}
+use Rattle.dia_rules.proofs.Members.{at_some}
 use Rattle.dia_breaking.specs.ClosedBy.{ground_of}
 use Rattle.dia_breaking.specs.Sender.{costs_of}
 use Rattle.dia_breaking.proofs.Certified.{closed_group, group_lines}

@@ -1,7 +1,7 @@
 use Rattle.std.proofs.Common.{Option, ap, subst, ◌∙◌}
 use Rattle.std.specs.Prelude.{find}
 use Rattle.dia_wire.specs.declared.Key.{Key}
-use Rattle.dia_compat.specs.Tests.{rules_in}
+use Rattle.dia_rules.specs.Rules.{rules_in}
 use Rattle.dia_breaking_levels.specs.LevelTests.{price, is_outside, lines_of}
 use Rattle.dia_breaking_levels.specs.Offers.{HasOrdersFrom}
 use Rattle.dia_breaking_levels.proofs.CountsAndRanks.{rules_sound}

@@ -2,7 +2,7 @@ use Rattle.std.proofs.Common.{◌≡◌, ◌<◌, ℕ, length, arith, sym, ap, s
 use Rattle.std.specs.Prelude.{slice_get}
 use Rattle.dia_book.specs.Dictionary.{Dictionary}
 use Rattle.dia_compat.specs.NamedCommands.{shared_pair}
-use Rattle.dia_compat.proofs.ReachedKeys.{there_is}
+use Rattle.dia_rules.proofs.Members.{there_is}
 use Rattle.dia_compat.proofs.WantedDefinitions.{filter_map_more}
 use Rattle.dia_compat.proofs.proposing.shared_pairs.Goals as goal
 

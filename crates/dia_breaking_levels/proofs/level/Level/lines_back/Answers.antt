@@ -3,7 +3,7 @@ use Rattle.std.specs.Prelude.{slice_get, reverse, Some}
 use Rattle.std.proofs.lemmas.Option.{slice_get-get_or}
 use Rattle.dia_book.specs.declared.DRule.{DRule}
 use Rattle.dia_book.specs.declared.RuleKind.TheVariants.{Fixed}
-use Rattle.dia_compat.specs.Tests.{rules_in}
+use Rattle.dia_rules.specs.Rules.{rules_in}
 use Rattle.dia_breaking_levels.specs.Exact.{IsOrderOf, AreOrderLines}
 use Rattle.dia_breaking_levels.specs.Offers.{AreTrueFrom, AreOfferedFrom}
 use Rattle.dia_breaking_levels.proofs.OfferedKeys.{listed_at, at_or_last, true_lower, offered_more, order_lines_more}

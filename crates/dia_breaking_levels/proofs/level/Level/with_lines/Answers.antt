@@ -1,5 +1,5 @@
 use Rattle.std.proofs.Common.{sym, ap, ◌∙◌}
-use Rattle.dia_compat.specs.Tests.{rules_in}
+use Rattle.dia_rules.specs.Rules.{rules_in}
 use Rattle.dia_breaking_levels.specs.LevelTests.{line_of}
 use Rattle.dia_breaking_levels.proofs.LinesMore.{lines_more, lines_same}
 use Rattle.dia_breaking_levels.proofs.level.Level.with_lines.Goals as goal

@@ -1,11 +1,30 @@
 -- Members of lists, and how many of them pass a test.
-use Rattle.std.proofs.Common.{◌≡◌, ℕ, zero, suc, ◌+◌, ◌≤◌, Bool, true, false, cond, List, [], ◌∷◌, ◌++◌, length, filter, Some, refl, sym, ap, subst, ◌∙◌, arith, inl, inr}
-use Rattle.std.specs.Prelude.{◌⊎◌, ◌||◌, Contains, slice_get, count_by}
-use Rattle.std.specs.List.{list_any, AllByRecursion}
-use Rattle.std.proofs.lemmas.Option.{none-some, same_Some}
+use Rattle.std.proofs.Common.{◌≡◌, ℕ, suc, ◌<◌, ◌≤◌, List, [], ◌∷◌, ◌++◌, length, Option, Some, None, refl, sym, ap, subst, ◌∙◌, arith, inl, inr, zero, ◌+◌, Bool, true, false, cond, filter}
+use Rattle.std.proofs.Common.{take, get_or}
+use Rattle.std.specs.Prelude.{◌⊎◌, IfSome, ◌||◌, Contains, slice_get, count_by, IsSome, All}
+use Rattle.std.specs.List.{AllByRecursion, list_any, filter_map, cons_option}
+use Rattle.std.proofs.lemmas.Option.{none-some, same_Some, slice_get-get_or, slice_get_within}
 use Rattle.std.proofs.lemmas.List.Sums.{sum_by-cons, sum_by-append}
 use Rattle.dia_book.proofs.Members.{IsAt, at_Contains}
-use Rattle.dia_compat.proofs.RunsOfFixedRules.{IsIn}
+use Rattle.std.proofs.lemmas.List.{take_more}
+
+-- membership by recursion
+abbrev pub IsIn : {X : Type 0} → X → List X → Type 0
+IsIn x [] = ⊥
+IsIn x (y ∷ ys) = (x ≡ y) ⊎ IsIn x ys
+
+pub in_all : {X : Type 0} (P : X → Type 0) (x : X) (xs : List X) → AllByRecursion P xs → IsIn x xs → P x
+in_all P x [] all h = absurd h
+in_all P x (y ∷ ys) all (inl e) = subst P (sym e) all.0
+in_all P x (y ∷ ys) all (inr h) = in_all P x ys all.1 h
+
+pub all_map : {X : Type 0} (P Q : X → Type 0) → ((x : X) → P x → Q x) → (xs : List X) → AllByRecursion P xs → AllByRecursion Q xs
+all_map P Q f [] h = tt
+all_map P Q f (x ∷ xs) h = (f x h.0, all_map P Q f xs h.1)
+
+pub all_append : {X : Type 0} (P : X → Type 0) (xs ys : List X) → AllByRecursion P xs → AllByRecursion P ys → AllByRecursion P (xs ++ ys)
+all_append P [] ys h k = k
+all_append P (x ∷ xs) ys h k = (h.0, all_append P xs ys h.1 k)
 
 -- ---- members
 
@@ -139,3 +158,38 @@ none_or_some {X} p (y ∷ xs) = by (p y) refl (none_or_some p xs)
         either x (inl same) = ap p same ∙ e
         either x (inr i) = none x i
     by false e (inr s) = inr (s.0, inr s.1, s.2)
+
+pub all_of : {X : Type 0} (P : X → Type 0) (xs : List X) (x : X) → All P xs → IsIn x xs → P x
+all_of P [] x all h = absurd h
+all_of P (y ∷ xs) x all (inl e) = subst P (sym e) (all 0 y (omega arith))
+all_of P (y ∷ xs) x all (inr h) = all_of P xs x (λ k d lt. all (suc k) d (omega (arith, lt))) h
+
+pub in_filter_map : {X Y : Type 0} (h : X → Option Y) (xs : List X) (x : X) (y : Y) → IsIn x xs → h x ≡ Some y → IsIn y (filter_map h xs)
+in_filter_map h [] x y i e = absurd i
+in_filter_map {X} {Y} h (z ∷ xs) x y (inl same) e = subst (λ (o : Option Y). IsIn y (cons_option o (filter_map h xs))) (sym (ap h (sym same) ∙ e)) (inl refl)
+in_filter_map {X} {Y} h (z ∷ xs) x y (inr i) e = by (h z) (in_filter_map h xs x y i e)
+  where
+    by : (o : Option Y) → IsIn y (filter_map h xs) → IsIn y (cons_option o (filter_map h xs))
+    by None j = j
+    by (Some w) j = inr j
+
+pub taken : {X : Type 0} (xs : List X) (i : ℕ) (x : X) → slice_get xs i ≡ Some x → take (i + 1) xs ≡ take i xs ++ x ∷ []
+taken {X} xs i x at =
+    let within = slice_get_within xs i x at in
+    take_more xs i x within ∙ ap (λ (y : X). take i xs ++ y ∷ []) (same_Some (get_or xs i x) x (sym (slice_get-get_or xs i x within) ∙ at))
+
+pub some_of : {X : Type 0} (o : Option X) → IsSome o → (x : X) × (o ≡ Some x)
+some_of None h = absurd (let e : false ≡ true = h in cc)
+some_of (Some x) h = (x, refl)
+
+pub when_some : {X : Type 0} (P : X → Type 0) (o : Option X) → ((x : X) → o ≡ Some x → P x) → IfSome o P
+when_some P None h = tt
+when_some P (Some x) h = h x refl
+
+pub at_some : {X : Type 0} (P : X → Type 0) (o : Option X) (x : X) → IfSome o P → o ≡ Some x → P x
+at_some {X} P o x h e = let Q : Option X → Type 0 = λ w. IfSome w P in subst Q e h
+
+pub there_is : {X : Type 0} (xs : List X) (i : ℕ) → i < length xs → (x : X) × (slice_get xs i ≡ Some x)
+there_is [] i h = absurd (omega arith)
+there_is (x ∷ xs) zero h = (x, refl)
+there_is (x ∷ xs) (suc i) h = there_is xs i (omega arith)

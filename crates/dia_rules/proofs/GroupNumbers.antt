@@ -1,5 +1,5 @@
 -- The number of an entry's definition.
-use Rattle.std.proofs.Common.{◌≡◌, ℕ, zero, suc, ◌<◌, List, [], ◌∷◌, length, take, Option, Some, None, refl, ap, ◌∙◌}
+use Rattle.std.proofs.Common.{◌≡◌, ℕ, zero, suc, ◌<◌, List, [], ◌∷◌, length, take, Option, Some, None, refl, ap, ◌∙◌, sym}
 use Rattle.std.specs.Prelude.{slice_get, IfSome, option_and_then}
 use Rattle.std.specs.List.{filter_map, cons_option}
 use Rattle.std.specs.Option.{option_map}
@@ -43,3 +43,20 @@ group_within d i = by (slice_get d.entries i) refl
     by : (o : Option DictEntry) → slice_get d.entries i ≡ o → IfSome (option_and_then (λ (x : DictEntry). option_map (λ _. number_of d i) x.group) o) (λ x. x < length (definitions d))
     by None at = tt
     by (Some e) at = of e at e.group refl
+
+-- the number of an entry's group is that of its definition
+pub group_number : (d : Dictionary) (i n : ℕ) (e : DictEntry) → slice_get d.entries i ≡ Some e → group_place d i ≡ Some n
+    → (g : PlainDefinition) × (e.group ≡ Some g) × (slice_get (definitions d) n ≡ Some g)
+group_number d i n e at is = by e.group refl
+  where
+    number : ℕ
+    number = length (filter_map (λ (y : DictEntry). y.group) (take i d.entries))
+
+    read : group_place d i ≡ option_map (λ _. number) e.group
+    read = ap (λ (o : Option DictEntry). option_and_then (λ (x : DictEntry). option_map (λ _. number) x.group) o) at
+
+    by : (o : Option PlainDefinition) → e.group ≡ o → (g : PlainDefinition) × (e.group ≡ Some g) × (slice_get (definitions d) n ≡ Some g)
+    by None h = absurd (let f : None ≡ Some n = sym (read ∙ ap (λ (o : Option PlainDefinition). option_map (λ _. number) o) h) ∙ is in cc)
+    by (Some g) h =
+        let same : number ≡ n = same_Some number n (sym (read ∙ ap (λ (o : Option PlainDefinition). option_map (λ _. number) o) h) ∙ is) in
+        (g, h, ap (slice_get (definitions d)) (sym same) ∙ into_left (groups d) d.commands number g (mapped_at (λ (x : DictEntry). x.group) d.entries i e g at h))

@@ -1,0 +1,3 @@
+pub mod GroupNumbers
+pub mod Members
+pub mod RulesOfKeys
