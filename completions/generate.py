@@ -41,11 +41,16 @@ class Argument:
         self.is_dictionary = bool(DICTIONARY.search(told))
 
 
+def told_by(program, *words):
+    """What the program prints under the name `diacmd`, whatever its file is called."""
+    return subprocess.run(['diacmd', *words], executable=program, capture_output=True, encoding='utf-8', check=True).stdout
+
+
 class Help:
     """A text of help: its sections, with the rows of each."""
 
     def __init__(self, program, *words):
-        text = subprocess.run([program, *words, '--help'], capture_output=True, encoding='utf-8', check=True).stdout
+        text = told_by(program, *words, '--help')
         self.about, *rest = text.rstrip('\n').split('\n')
         self.usage, self.rows = '', {}
         rows = []
@@ -63,8 +68,7 @@ class Help:
 
 class Program:
     def __init__(self, program):
-        version = subprocess.run([program, '--version'], capture_output=True, encoding='utf-8', check=True).stdout
-        self.version = version.split('\n')[0]
+        self.version = told_by(program, '--version').split('\n')[0]
         self.help = Help(program)
         self.briefs = dict(self.help.rows['Commands'])
         self.commands = {name: Help(program, name) for name in self.briefs if name != 'help'}
