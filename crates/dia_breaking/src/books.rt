@@ -15,7 +15,8 @@ use dia_book::{Book, Class, DRule, DefId, Format, Key, MRule, Slot};
 pub(crate) fn group_of<B: Book>(book: &B, key: Key) -> Option<DefId>
     ensures within { IfSome result (λ def. def < length (definitions (B.meaning book.now))) }
     ensures group { is_some result ≡ is_some (group_of (B.meaning book.now) key) }
-    ensures definition { option_and_then (slice_get (definitions (B.meaning book.now))) result ≡ group_of (B.meaning book.now) key }
+    ensures definition { option_and_then (slice_get (definitions (B.meaning book.now))) result
+        ≡ group_of (B.meaning book.now) key }
 {
     let entry = book.avp(key)?;
     book.group(entry)

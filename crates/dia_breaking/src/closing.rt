@@ -1,4 +1,5 @@
-//! Whether a pair of definitions is closed: what breaks in the levels that both read is told, and their groups lead to known sites.
+//! Whether a pair of definitions is closed: what breaks in the levels that both read is told, and their groups lead to known
+//! sites.
 ghost use Rattle.std.specs.Prelude.{◌≡◌, ◌+◌, ◌<◌, ◌≤◌, IfOk, OnOk, IsTrue, All, Contains, false, length, map, find};
 ghost use Rattle.std.specs.HashMap.{get};
 ghost use Rattle.std.specs.HashSet.{contains};
@@ -94,8 +95,8 @@ impl<'u, 'a, A: Book, B: Book> Closing<'u, 'a, A, B> {
         requires first { a_def < length (definitions (sides_of self.now.upgrade.now).sender) }
         requires second { b_def < length (definitions (sides_of self.now.upgrade.now).receiver) }
         ensures { IsTrue result → ∥ (HasLinesFor (costs_of self.now.upgrade.now.lengths)
-            (rules_in (sides_of self.now.upgrade.now).sender a_def) (rules_in (sides_of self.now.upgrade.now).receiver b_def) lines.now
-            → IsClosedBy (ground_of self.now) told.now a_def b_def way) ∥₁ }
+            (rules_in (sides_of self.now.upgrade.now).sender a_def) (rules_in (sides_of self.now.upgrade.now).receiver b_def)
+            lines.now → IsClosedBy (ground_of self.now) told.now a_def b_def way) ∥₁ }
     {
         if ROOM < way {
             return false;

@@ -152,7 +152,7 @@ impl<'a, A: Book, B: Book> Upgrade<'a, A, B> {
         numbers: Numbers,
         walk: &Walk,
     ) -> Result<Vec<Line>, AllocError>
-        ensures order { IfOk result (λ lines. AreInOrder (lines_for self.now start.now numbers walk.now) (map tells lines.items)) }
+        ensures order { IfOk result (λ told. AreInOrder (lines_for self.now start.now numbers walk.now) (map tells told.items)) }
         ensures formats { IfOk result (λ lines. ∥ TellData (sides_of self.now) lines.items ∥₁) }
     {
         let mut lines = Vec::new(alloc);

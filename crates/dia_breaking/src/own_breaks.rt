@@ -30,8 +30,8 @@ pub(crate) fn own_breaks<A: Book, B: Book>(
     lengths: &Lengths<'_, A>,
     unknown: Unknown,
 ) -> Result<Vec<OwnBreaks>, AllocError>
-    ensures { IfOk result (λ found. AreOwnBreaks
-        (sides (sender_in lengths.now) (B.meaning b.now) lengths.now.sends unknown) (costs_of lengths.now).listed own.now found.items) }
+    ensures { IfOk result (λ found. AreOwnBreaks (sides (sender_in lengths.now) (B.meaning b.now) lengths.now.sends unknown)
+        (costs_of lengths.now).listed own.now found.items) }
 {
     let mut found = Vec::new(alloc);
     for one in own {

@@ -64,8 +64,8 @@ impl<'a, A: Book, B: Book> Upgrade<'a, A, B> {
         place: usize,
         lines: &mut Vec<Line>,
     ) -> Result<(), AllocError>
-        ensures told { OnOk result (AddsTold lines.old.items lines.new.items
-            (option_map_or (reached_line kind numbers.first numbers.count reached.now place) (slice_get self.now.own.items place) [])) }
+        ensures told { OnOk result (AddsTold lines.old.items lines.new.items (option_map_or
+            (reached_line kind numbers.first numbers.count reached.now place) (slice_get self.now.own.items place) [])) }
         ensures formats { OnOk result (KeepsIfKnown self.now lines.old.items lines.new.items) }
     {
         match self.own.get(place) {

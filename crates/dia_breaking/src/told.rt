@@ -38,8 +38,7 @@ pub(crate) fn level_lines_at(
 
 /// Whether it is told of a site that B forbids this P flag.
 pub(crate) fn tells_flag(lines: &[Line], site: usize, set: bool) -> bool
-    ensures { IsTrue result
-        → (line : AnyLine) × Contains lines.now line × (line.site ≡ site) × (line.cause ≡ Cause.Proxiable set) }
+    ensures { IsTrue result → (l : AnyLine) × Contains lines.now l × (l.site ≡ site) × (l.cause ≡ Cause.Proxiable set) }
 {
     for line in lines_from(lines, site) {
         if line.site != site {

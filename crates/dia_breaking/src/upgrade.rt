@@ -131,7 +131,7 @@ impl<'a, A: Book, B: Book> Upgrade<'a, A, B> {
         ensures standings { IfOk result (λ breaks. HaveStandings most_checked_together breaks.lines.items) }
         ensures formats { IfOk result (λ breaks. ∥ TellData (sides_of self.now) breaks.lines.items ∥₁) }
         ensures command { IfOk result (λ breaks. breaks.command ≡ command) }
-        ensures head { IfSome (head_at (sides_of self.now).sender command) (λ head. IfOk result (λ breaks. IsOfHead breaks head)) }
+        ensures head { IfSome (head_at (sides_of self.now).sender command) (λ own. IfOk result (λ breaks. IsOfHead breaks own)) }
         ensures none { head_at (sides_of self.now).sender command ≡ None
             → IfOk result (λ breaks. (breaks.sites.items ≡ []) × (breaks.lines.items ≡ [])) }
         ensures lines { IfOk result (λ breaks. IsSome (head_at (sides_of self.now).sender command)

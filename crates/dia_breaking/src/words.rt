@@ -114,8 +114,8 @@ impl<'a, A: Book, B: Book> Upgrade<'a, A, B> {
     ) -> Result<(), AllocError>
         requires within { breaks.now.command < length (definitions (sides_of self.now).sender) }
         requires path { path.now ≡ path_to breaks.now.sites.items line.now.site }
-        ensures { OnOk result (Writes out.old out.new
-            (cause_text (sides_of self.now) (other_length_of self.now) (spot breaks.now.command breaks.now.sites.items line.now.site) line.now.cause)) }
+        ensures { OnOk result (Writes out.old out.new (cause_text (sides_of self.now)
+            (other_length_of self.now) (spot breaks.now.command breaks.now.sites.items line.now.site) line.now.cause)) }
     {
         match line.cause {
             Cause::Command => out.push_str("command -: not accepted"),
@@ -172,8 +172,8 @@ impl<'a, A: Book, B: Book> Upgrade<'a, A, B> {
     }
 
     fn push_level_as_leaf(&self, out: &mut String, key: Key) -> Result<(), AllocError>
-        ensures { OnOk result (Writes out.old out.new
-            (avp_name (sides_of self.now) key ++ codes ": " ++ formats_text (format_in (sides_of self.now).sender key) (format_in (sides_of self.now).receiver key))) }
+        ensures { OnOk result (Writes out.old out.new (avp_name (sides_of self.now) key ++ codes ": "
+            ++ formats_text (format_in (sides_of self.now).sender key) (format_in (sides_of self.now).receiver key))) }
     {
         self.push_name(out, key)?;
         out.push_str(": ")?;

@@ -3,7 +3,6 @@ use Rattle.std.proofs.Math.Logic.{∥∥₁_map}
 use Rattle.std.proofs.lemmas.List.{take_all}
 use Rattle.dia_book.specs.Dictionary.{Dictionary, groups}
 use Rattle.dia_breaking.specs.Words.{head_at}
-use Rattle.dia_breaking.specs.TheLines.{facts}
 use Rattle.std.specs.Prelude.{IsSome}
 use Rattle.dia_breaking.specs.Upgrades.{sender_of, sides_of}
 use Rattle.dia_upgrades.specs.Places.{Adds}

@@ -2,6 +2,9 @@ use Rattle.std.proofs.Common.{ℕ, string_bytes, subst}
 use Rattle.std.specs.Prelude.{IsSome}
 use Rattle.dia_breaking.specs.Words.{head_at, words_of}
 use Rattle.dia_breaking.specs.Upgrades.{other_length_of, sides_of}
+use Rattle.dia_breaking.specs.Free.{AreValidWhereFree}
+use Rattle.dia_breaking.specs.Sides.{answer}
+use Rattle.dia_breaking.specs.TheLines.{AreLinesOrUnproved}
 use Rattle.dia_upgrades.specs.Places.{Adds}
 use Rattle.dia_upgrades.specs.Told.{AreTexts, IsLineText, IsToldOf}
 use Rattle.dia_upgrades.proofs.LinesToTell.{on_ok}
@@ -23,8 +26,8 @@ returns g c =
       record {
         sites = breaks.sites.items;
         lines = breaks.lines.items;
-        are_lines = found.lines some;
-        free = found.free;
+        are_lines = subst (λ (number : ℕ). AreLinesOrUnproved (sides_of up) (answer number breaks.sites.items breaks.lines.items)) found.command (found.lines some);
+        free = subst (λ (number : ℕ). ∥ AreValidWhereFree (sides_of up) (answer number breaks.sites.items breaks.lines.items) ∥₁) found.command found.free;
         confirmed = found.each;
         standings = found.standings;
         formats = found.formats;
