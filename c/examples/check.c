@@ -1,5 +1,5 @@
 /* check DICTIONARY MESSAGE: checks the message of a file of hexadecimal digits against the dictionary of a file.
- *     cc check.c $(pkg-config --cflags --libs libdia) */
+ *     cc check.c $(pkg-config --cflags --libs dia) */
 #include <dia.h>
 #include <stdio.h>
 

@@ -104,9 +104,6 @@ static void messages_are_checked(void) {
     m[4] = 0xa0;
     EXPECT(dia_check(&dict, DIA_KEPT, 0, m, 64, &v) == DIA_OK && is_fault(&v, 5013, 4, DIA_R_BITS, DIA_ABOUT_NOTHING, 0));
     m[4] = 0x80;
-    m[44 + 4] = 0;
-    EXPECT(dia_check(&dict, DIA_KEPT, 0, m, 64, &v) == DIA_OK && is_fault(&v, 3009, 44, DIA_R_M_BIT, DIA_ABOUT_AVP, 296));
-    m[44 + 4] = 0x40;
     m[3] = 44;
     EXPECT(dia_check(&dict, DIA_KEPT, 0, m, 44, &v) == DIA_OK && is_fault(&v, 5005, 44, DIA_R_MISSING, DIA_ABOUT_AVP, 296));
     /* an AVP of the code 99999 behind the others, of 8 bytes and with no data, and M clear */
@@ -115,6 +112,27 @@ static void messages_are_checked(void) {
     EXPECT(dia_check(&dict, DIA_KEPT, 0, m, 72, &v) == DIA_OK && v.outcome == DIA_VALID);
     EXPECT(dia_check(&dict, DIA_UNKNOWN_REFUSED, 0, m, 72, &v) == DIA_OK
         && is_fault(&v, 5001, 64, DIA_R_UNKNOWN, DIA_ABOUT_AVP, 99999));
+    dia_dict_close(&dict);
+}
+
+static void faults_are_told(void) {
+    /* the command 300, with an AVP of 8 bytes and no data behind the header */
+    static const uint8_t m[28] = {1, 0, 0, 28, 0x80, 0, 1, 44, 0, 0, 0, 0, 0, 0, 0, 0, 0, 0, 0, 0, 0, 0, 0, 1, 0, 0, 0, 8};
+    dia_dict dict = DIA_DICT_INIT;
+    dia_problem problem;
+    dia_verdict v;
+    EXPECT(open_text("%avp A 1 OctetString must <T> ::= < Diameter Header: 300, REQ > [ A ]", &dict, &problem) == DIA_OK);
+    EXPECT(dia_check(&dict, DIA_KEPT, 0, m, 28, &v) == DIA_OK && is_fault(&v, 3009, 20, DIA_R_M_BIT, DIA_ABOUT_AVP, 1));
+    dia_dict_close(&dict);
+    EXPECT(open_text("%avp A 1 Unsigned32 any <T> ::= < Diameter Header: 300, REQ > [ A ]", &dict, &problem) == DIA_OK);
+    EXPECT(dia_check(&dict, DIA_KEPT, 0, m, 28, &v) == DIA_OK && is_fault(&v, 5014, 20, DIA_R_LEAF_LENGTH, DIA_ABOUT_AVP, 1));
+    dia_dict_close(&dict);
+    EXPECT(open_text("%avp A 1 OctetString any <T> ::= < Diameter Header: 300, REQ > { A } 1*{ AVP }", &dict, &problem) == DIA_OK);
+    EXPECT(dia_check(&dict, DIA_KEPT, 0, m, 28, &v) == DIA_OK && is_fault(&v, 5005, 28, DIA_R_MISSING, DIA_ABOUT_WILDCARD, 0));
+    dia_dict_close(&dict);
+    EXPECT(open_text("%avp A 1 Grouped any A ::= < AVP Header: 1 > <T> ::= < Diameter Header: 300, REQ > [ A ]", &dict, &problem) == DIA_OK);
+    EXPECT(dia_check(&dict, DIA_KEPT, 1, m, 28, &v) == DIA_OK && v.outcome == DIA_VALID);
+    EXPECT(dia_check(&dict, DIA_KEPT, 0, m, 28, &v) == DIA_OK && is_fault(&v, 5012, 20, DIA_R_DEPTH, DIA_ABOUT_AVP, 1));
     dia_dict_close(&dict);
 }
 
@@ -176,6 +194,7 @@ int main(void) {
     handles_are_open_or_closed();
     a_share_outlives_its_dictionary();
     messages_are_checked();
+    faults_are_told();
     names_are_told();
     lengths_are_told();
     texts_are_read_in_pieces();

@@ -1,5 +1,5 @@
-/* Each allocation of a call refused in turn, by a heap of its own in the place of heap.c: the call answers DIA_NO_MEMORY, and
- * has changed and lost nothing. Calls that take no memory take none. */
+/* Each allocation of a call refused in turn, by a heap of its own in the place of heap.c: the call answers DIA_NO_MEMORY and
+ * has changed and lost nothing, or it does without and answers as ever. Calls that take no memory take none. */
 #include "tests.h"
 #include <stdlib.h>
 
@@ -69,19 +69,32 @@ static dia_status renders(void) {
     return dia_render((const uint8_t *)source, strlen(source), &text, &problem);
 }
 
-/* Refuses the first, the second and so on, until all is given; at least `least` were refused. */
-static void refuse_each(const char *name, dia_status (*call)(void), long least) {
+static void close_dict(void) {
+    dia_dict_close(&dict);
+}
+
+static void close_nothing(void) {
+}
+
+/* Refuses the first, the second and so on, until all is given; at least `least` calls answered DIA_NO_MEMORY. */
+static void refuse_each(const char *name, dia_status (*call)(void), void (*undo)(void), long least) {
     static const dia_verdict untouched = {9, 9, 9, 9, 9, 9, 9, 9};
-    long refused = 0, had = blocks;
+    long refused = 0, without = 0, had = blocks;
     dia_dict dict_before = dict, other_before = other;
     dia_text text_before = text;
     for (;;) {
-        until = refused + 1;
+        until = refused + without + 1;
         verdict = untouched;
         dia_status status = call();
         if (until > 0) {
             EXPECT(status == DIA_OK);
             break;
+        }
+        if (status == DIA_OK) {
+            without++;
+            undo();
+            EXPECT(blocks == had);
+            continue;
         }
         refused++;
         EXPECT(status == DIA_NO_MEMORY);
@@ -91,7 +104,7 @@ static void refuse_each(const char *name, dia_status (*call)(void), long least) 
         EXPECT(memcmp(&verdict, &untouched, sizeof verdict) == 0);
     }
     until = 0;
-    printf("%s: %ld refused\n", name, refused);
+    printf("%s: %ld refused, %ld done without\n", name, refused, without);
     EXPECT(refused >= least);
 }
 
@@ -113,13 +126,13 @@ static void take_no_memory(void) {
 }
 
 int main(void) {
-    refuse_each("open", opens, 10);
+    refuse_each("open", opens, close_dict, 10);
     dia_dict_close(&dict);
     EXPECT(blocks == 0);
-    refuse_each("open_base", opens_base, 100);
-    refuse_each("share", shares, 1);
-    refuse_each("check", checks, 1);
-    refuse_each("render", renders, 2);
+    refuse_each("open_base", opens_base, close_dict, 100);
+    refuse_each("share", shares, close_nothing, 1);
+    refuse_each("check", checks, close_nothing, 1);
+    refuse_each("render", renders, close_nothing, 2);
     take_no_memory();
     EXPECT(blocks == 0);
     return tell_counts();

@@ -1,6 +1,6 @@
 //! Checks of messages.
 
-ghost use Rattle.std.specs.Prelude.{◌⊎◌, ◌≡◌, ◌≢◌, None, IfSome};
+ghost use Rattle.std.specs.Prelude.{◌⊎◌, ◌≡◌, ◌≢◌, None, IfSome, IsSome};
 ghost use Rattle.dia_check.specs.Faults.{HasLength};
 ghost use Rattle.dia_c.specs.Held.{dict_in};
 ghost use Rattle.dia_c.specs.Verdicts.{Answers, IsHeadVerdict, IsUnknownPolicy};
@@ -25,6 +25,7 @@ pub extern "C" fn dia_check(
     ensures done { result ≡ DONE → IfSome (dict_in handle.old.slot.seal.held)
         (λ d. Answers d unknown levels message.now verdict.new) }
     ensures closed { result ≡ IS_CLOSED → handle.old.slot.seal.held ≡ None }
+    ensures was_open { result ≢ IS_CLOSED → result ≢ BAD_ARGUMENT → IsSome (dict_in handle.old.slot.seal.held) }
     ensures bad { result ≡ BAD_ARGUMENT → ¬ IsUnknownPolicy unknown }
     ensures good { result ≢ BAD_ARGUMENT → IsUnknownPolicy unknown }
     ensures only { result ≢ DONE → verdict.new ≡ verdict.old }

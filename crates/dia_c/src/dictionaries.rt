@@ -1,6 +1,6 @@
 //! Dictionaries: opened from a text or built in, shared, closed, and asked for names.
 
-ghost use Rattle.std.specs.Prelude.{◌⊎◌, ◌≡◌, ◌≢◌, ◌≤◌, ◌<◌, length, take, None, Some, IsSome, IfSome, IfOk};
+ghost use Rattle.std.specs.Prelude.{◌⊎◌, ◌≡◌, ◌≢◌, ◌≤◌, ◌<◌, ℕ, List, length, take, None, Some, IsSome, IfSome, IfOk};
 ghost use Rattle.dia_book.specs.Dictionary.{definitions, entry_of, groups};
 ghost use Rattle.dia_dict.specs.Base.{base};
 ghost use Rattle.dia_c.specs.Held.{dict_in, MayBeDict};
@@ -138,7 +138,11 @@ pub extern "C" fn dia_command_name(
         (λ d. (length (definitions d) ≤ command) ⊎ (command < length (groups d))) }
     ensures count { result ≡ DONE → count.new ≤ length out.new }
     ensures room { result ≡ NO_ROOM → length out.new < count.new }
+    ensures wanted { result ≡ NO_ROOM → IfSome (dict_in handle.old.slot.seal.held)
+        (λ d. (name : List ℕ) × IsCommandName d command name × (count.new ≡ length name)) }
+    ensures only { (result ≡ NONE) ⊎ (result ≡ IS_CLOSED) → count.new ≡ count.old }
     ensures closed { result ≡ IS_CLOSED → handle.old.slot.seal.held ≡ None }
+    ensures was_open { result ≢ IS_CLOSED → IsSome (dict_in handle.old.slot.seal.held) }
 {
     let Some(held) = handle.take(alloc) else {
         return IS_CLOSED;
@@ -169,7 +173,11 @@ pub extern "C" fn dia_avp_name(
         (λ d. entry_of d (record { code = code; vendor = vendor }) ≡ None) }
     ensures count { result ≡ DONE → count.new ≤ length out.new }
     ensures room { result ≡ NO_ROOM → length out.new < count.new }
+    ensures wanted { result ≡ NO_ROOM → IfSome (dict_in handle.old.slot.seal.held)
+        (λ d. (name : List ℕ) × IsAvpName d (record { code = code; vendor = vendor }) name × (count.new ≡ length name)) }
+    ensures only { (result ≡ NONE) ⊎ (result ≡ IS_CLOSED) → count.new ≡ count.old }
     ensures closed { result ≡ IS_CLOSED → handle.old.slot.seal.held ≡ None }
+    ensures was_open { result ≢ IS_CLOSED → IsSome (dict_in handle.old.slot.seal.held) }
 {
     let Some(held) = handle.take(alloc) else {
         return IS_CLOSED;

@@ -58,6 +58,7 @@ pub extern "C" fn dia_text_read(
         (λ text. (count.new ≡ min (length out.old) (length text - from))
         × (take count.new out.new ≡ take count.new (drop from text))) }
     ensures closed { result ≡ IS_CLOSED → handle.old.slot.seal.held ≡ None }
+    ensures was_open { result ≡ DONE → IsSome (text_in handle.old.slot.seal.held) }
     ensures only { result ≡ IS_CLOSED → (count.new ≡ count.old) × (out.new ≡ out.old) }
 {
     let Some(held) = handle.take(alloc) else {
@@ -76,6 +77,7 @@ pub extern "C" fn dia_text_length(alloc: Global, handle: &mut TextHandle, count:
     ensures done { result ≡ DONE → IfSome (text_in handle.old.slot.seal.held)
         (λ text. count.new ≡ length text) }
     ensures closed { result ≡ IS_CLOSED → handle.old.slot.seal.held ≡ None }
+    ensures was_open { result ≡ DONE → IsSome (text_in handle.old.slot.seal.held) }
     ensures only { result ≡ IS_CLOSED → count.new ≡ count.old }
 {
     let Some(held) = handle.take(alloc) else {

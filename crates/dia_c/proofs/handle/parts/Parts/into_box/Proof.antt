@@ -15,7 +15,6 @@ use contract.BorrowLft.{◌⊑◌}
 use contract.Monad.{fact}
 use contract.Running.{tables}
 use denote.Exit.{no}
-use denote.RattleType.{RattleType}
 use denote.Param.{param, bounded}
 use denote.RawPtr.{block_ptr}
 use denote.Signature.{plain}

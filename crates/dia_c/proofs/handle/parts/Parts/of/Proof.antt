@@ -16,7 +16,6 @@ use contract.BorrowLft.{◌⊑◌}
 use contract.Monad.{fact}
 use contract.Running.{tables}
 use denote.Exit.{no}
-use denote.RattleType.{RattleType}
 use denote.Builtin.{RawPtr}
 use denote.Param.{param, layout, bounded}
 use denote.RawPtr.{Ptr, block_ptr, null_ptr, ptr_val, in_a_block}

@@ -1,5 +1,5 @@
 -- The pointer and the allocator of a seal that holds something become those of the parts.
-use Rattle.std.proofs.Common.{List, [], ◌∷◌, ◌++◌, Option, Some, refl, sym, subst}
+use Rattle.std.proofs.Common.{List, [], ◌∷◌, ◌++◌, Option, refl, sym, subst}
 use Rattle.std.specs.Prelude.{IsSome}
 use mir.Val.{Val}
 use base.Logic.{SProp, ent, id⊢}
