@@ -39,18 +39,19 @@ told_of f subject.Wildcard = record { outcome = 1; command = 0; code = f.code; p
 abbrev pub fault_verdict : Fault → Verdict
 fault_verdict f = told_of f f.subject
 
-abbrev pub verdict_of : Result Selected Refusal → Verdict
-verdict_of (Ok found) = said 0 found.def
-verdict_of (Err (refusal.Fault f)) = fault_verdict f
-verdict_of (Err refusal.Truncated) = said 2 0
-verdict_of (Err refusal.Trailing) = said 3 0
-verdict_of (Err refusal.NoMemory) = said 4 0
-verdict_of (Err refusal.Spent) = said 5 0
+-- the verdict of an answer; out of memory has none
+abbrev pub IsVerdict : Result Selected Refusal → Verdict → Type 0
+IsVerdict (Ok found) verdict = verdict ≡ said 0 found.def
+IsVerdict (Err (refusal.Fault f)) verdict = verdict ≡ fault_verdict f
+IsVerdict (Err refusal.Truncated) verdict = verdict ≡ said 2 0
+IsVerdict (Err refusal.Trailing) verdict = verdict ≡ said 3 0
+IsVerdict (Err refusal.NoMemory) verdict = ⊥
+IsVerdict (Err refusal.Spent) verdict = ⊥
 
 -- the verdict is that of the answer of a check, with the policy and the limit of these numbers
 abbrev pub Answers : Dictionary → ℕ → ℕ → List ℕ → Verdict → Type 0
 Answers d unknown levels bytes verdict = (answer : Result Selected Refusal)
-    × IsAnswer d (policy_of unknown) (limit_of levels) bytes answer × (verdict ≡ verdict_of answer)
+    × IsAnswer d (policy_of unknown) (limit_of levels) bytes answer × IsVerdict answer verdict
 
 -- no message begins with the bytes: there are fewer than a header has, the version is not 1, or no message has this Message Length
 pub data IsHeadVerdict (bytes : List ℕ) (verdict : Verdict) : Type 0 where

@@ -6,7 +6,7 @@ ghost use Rattle.dia_dict.specs.Base.{base};
 ghost use Rattle.dia_dict.specs.Resolution.{first_wrong, resolved, IsToldOf};
 ghost use Rattle.dia_ccf.specs.Plain.{plain_source};
 ghost use Rattle.dia_ccf.specs.Faults.{IsFault};
-ghost use Rattle.dia_c.specs.Openings.{IsTextOf, IsRenderedOf, HasProblem, IsProblemOf, number_of, problem_of};
+ghost use Rattle.dia_c.specs.Openings.{IsTextOf, IsRenderedOf, HasProblem, IsUnread, IsProblemOf, number_of, problem_of};
 
 use crate::held::Held;
 use dia_book::Book;
@@ -114,7 +114,8 @@ pub fn base_opened(alloc: Global) -> Result<Box<Held>, AllocError>
 {
     match indexed(alloc, base_book(alloc)?) {
         Ok(held) => Ok(held),
-        Err(Refused::Bad(_) | Refused::NoMemory) => Err(AllocError),
+        Err(Refused::NoMemory) => Err(AllocError),
+        Err(Refused::Bad(_)) => unreachable!(),
     }
 }
 
@@ -164,7 +165,7 @@ fn kind_number(kind: DictKind) -> u32
 pub fn canonical(alloc: Global, text: &[u8]) -> Result<Box<Held>, Refused>
     ensures text { IfOk result (λ held. IfSome (text_in (Some held.value)) (IsRenderedOf text.now)) }
     ensures is_text { IfOk result (λ held. IsSome (text_in (Some held.value))) }
-    ensures problem { IfErr result (λ e. (p : Problem) → e ≡ Refused.Bad p → HasProblem text.now p) }
+    ensures problem { IfErr result (λ e. (p : Problem) → e ≡ Refused.Bad p → IsUnread text.now p) }
 {
     let Ok(words) = str::from_utf8(text) else {
         return Err(Refused::Bad(NOT_TEXT));

@@ -2,7 +2,7 @@
 
 ghost use Rattle.std.specs.Prelude.{◌⊎◌, ◌≡◌, ◌≢◌, ◌-◌, length, take, drop, min, None, IsSome, IfSome};
 ghost use Rattle.dia_c.specs.Held.{text_in};
-ghost use Rattle.dia_c.specs.Openings.{HasProblem, IsRenderedOf};
+ghost use Rattle.dia_c.specs.Openings.{IsUnread, IsRenderedOf};
 
 use crate::handle::{TextHandle, words_in};
 use crate::names::copied_from;
@@ -22,7 +22,7 @@ pub extern "C" fn dia_render(
     ensures done { result ≡ DONE → IfSome (text_in rendered.new.slot.seal.held) (IsRenderedOf text.now) }
     ensures is_open { result ≡ DONE → IsSome (text_in rendered.new.slot.seal.held) }
     ensures kept { result ≢ DONE → rendered.new.slot.seal.held ≡ rendered.old.slot.seal.held }
-    ensures refused { result ≡ REFUSED → HasProblem text.now problem.new }
+    ensures refused { result ≡ REFUSED → IsUnread text.now problem.new }
     ensures only { result ≢ REFUSED → problem.new ≡ problem.old }
     ensures was_closed { result ≢ IS_OPEN → rendered.old.slot.seal.held ≡ None }
     ensures was_open { result ≡ IS_OPEN → IsSome rendered.old.slot.seal.held }

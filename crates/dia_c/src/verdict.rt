@@ -2,7 +2,7 @@
 
 ghost use Rattle.std.specs.Prelude.{◌≡◌, None, IfOk, IfErr, IfSome, Result};
 ghost use Rattle.dia_check.specs.Faults.{HasLength, IsAnswer, code_of, row_of, simple};
-ghost use Rattle.dia_c.specs.Verdicts.{IsHeadVerdict, IsUnknownPolicy, fault_verdict, limit_of, policy_of, verdict_of};
+ghost use Rattle.dia_c.specs.Verdicts.{IsHeadVerdict, IsUnknownPolicy, IsVerdict, fault_verdict, limit_of, policy_of};
 
 use dia_book::Book;
 use dia_check::{Fault, Levels, Reason, Refusal, Selected, Subject, Unknown, check};
@@ -77,9 +77,22 @@ pub fn checked<B: Book>(
     message: &[u8],
 ) -> Result<Verdict, AllocError>
     ensures { IfOk result (λ verdict. (answer : Result Selected Refusal)
-        × IsAnswer (B.meaning book.now) unknown levels message.now answer × (verdict ≡ verdict_of answer)) }
+        × IsAnswer (B.meaning book.now) unknown levels message.now answer × IsVerdict answer verdict) }
 {
-    told(check(alloc, book, unknown, levels, message))
+    match check(alloc, book, unknown, levels, message) {
+        Ok(found) => Ok(Verdict {
+            command: found.def.index() as u32,
+            ..ALL_ZERO
+        }),
+        Err(Refusal::Fault(fault)) => Ok(faulty(fault)),
+        Err(Refusal::Truncated) => Ok(TRUNCATED),
+        Err(Refusal::Trailing) => Ok(Verdict {
+            outcome: 3,
+            ..ALL_ZERO
+        }),
+        Err(Refusal::NoMemory) => Err(AllocError),
+        Err(Refusal::Spent) => unreachable!(),
+    }
 }
 
 /// The Message Length of the header with which the bytes begin, or what is wrong with it.
@@ -105,25 +118,6 @@ fn header_fault(place: u32, code: u32, reason: Reason) -> Verdict
         reason,
         subject: Subject::Nothing,
     })
-}
-
-/// The verdict of an answer.
-fn told(answer: Result<Selected, Refusal>) -> Result<Verdict, AllocError>
-    ensures { IfOk result (λ verdict. verdict ≡ verdict_of answer) }
-{
-    match answer {
-        Ok(found) => Ok(Verdict {
-            command: found.def.index() as u32,
-            ..ALL_ZERO
-        }),
-        Err(Refusal::Fault(fault)) => Ok(faulty(fault)),
-        Err(Refusal::Truncated) => Ok(TRUNCATED),
-        Err(Refusal::Trailing) => Ok(Verdict {
-            outcome: 3,
-            ..ALL_ZERO
-        }),
-        Err(Refusal::NoMemory | Refusal::Spent) => Err(AllocError),
-    }
 }
 
 /// The verdict of a fault.
