@@ -127,10 +127,12 @@ static void faults_are_told(void) {
     EXPECT(open_text("%avp A 1 Unsigned32 any <T> ::= < Diameter Header: 300, REQ > [ A ]", &dict, &problem) == DIA_OK);
     EXPECT(dia_check(&dict, DIA_KEPT, 0, m, 28, &v) == DIA_OK && is_fault(&v, 5014, 20, DIA_R_LEAF_LENGTH, DIA_ABOUT_AVP, 1));
     dia_dict_close(&dict);
-    EXPECT(open_text("%avp A 1 OctetString any <T> ::= < Diameter Header: 300, REQ > { A } 1*{ AVP }", &dict, &problem) == DIA_OK);
+    EXPECT(open_text("%avp A 1 OctetString any <T> ::= < Diameter Header: 300, REQ > { A } 1*{ AVP }", &dict, &problem)
+        == DIA_OK);
     EXPECT(dia_check(&dict, DIA_KEPT, 0, m, 28, &v) == DIA_OK && is_fault(&v, 5005, 28, DIA_R_MISSING, DIA_ABOUT_WILDCARD, 0));
     dia_dict_close(&dict);
-    EXPECT(open_text("%avp A 1 Grouped any A ::= < AVP Header: 1 > <T> ::= < Diameter Header: 300, REQ > [ A ]", &dict, &problem) == DIA_OK);
+    EXPECT(open_text("%avp A 1 Grouped any A ::= < AVP Header: 1 > <T> ::= < Diameter Header: 300, REQ > [ A ]", &dict, &problem)
+        == DIA_OK);
     EXPECT(dia_check(&dict, DIA_KEPT, 1, m, 28, &v) == DIA_OK && v.outcome == DIA_VALID);
     EXPECT(dia_check(&dict, DIA_KEPT, 0, m, 28, &v) == DIA_OK && is_fault(&v, 5012, 20, DIA_R_DEPTH, DIA_ABOUT_AVP, 1));
     dia_dict_close(&dict);

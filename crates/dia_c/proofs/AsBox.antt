@@ -31,5 +31,6 @@ some_of None is = absurd (true≢false (sym is))
 module _ (E : Bx) {M : Type 1} {𝓤 : Ura M} {𝓛 : Logic 𝓤} {K : Type 0} {Γ : List (Item 𝓤)} {G : Goal 𝓤 𝓛.H} where
   -- a box by value is one machine value: a pointer into a block and the handle of the allocator
   pub as_word : K → (v : D E) (vs : List Val)
-      → ((b o : ℕ) (hv : Val) → Fits E.al hv → vs ≡ word E hv b o ∷ [] → Seq K 𝓛 (‵ ((B E).own_val v (word E hv b o ∷ [])) ∷ Γ) G) → Seq K 𝓛 (‵ ((B E).own_val v vs) ∷ Γ) G
+      → ((b o : ℕ) (hv : Val) → Fits E.al hv → vs ≡ word E hv b o ∷ [] → Seq K 𝓛 (‵ ((B E).own_val v (word E hv b o ∷ [])) ∷ Γ) G)
+      → Seq K 𝓛 (‵ ((B E).own_val v vs) ∷ Γ) G
   as_word t v vs k = box_out E t v vs (λ b o hv e is fits. box_in E t v b o v.value e refl $ k b o hv fits is)

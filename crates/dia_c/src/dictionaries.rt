@@ -1,6 +1,7 @@
 //! Dictionaries: opened from a text or built in, shared, closed, and asked for names.
 
-ghost use Rattle.std.specs.Prelude.{◌⊎◌, ◌≡◌, ◌≢◌, ◌≤◌, ◌<◌, ℕ, List, length, take, None, Some, IsSome, IfSome, IfOk};
+ghost use Rattle.std.specs.Prelude.{◌⊎◌, ◌≡◌, ◌≢◌, ◌≤◌, ◌<◌, ℕ, List, length, take};
+ghost use Rattle.std.specs.Prelude.{None, Some, IsSome, IfSome, IfOk};
 ghost use Rattle.dia_book.specs.Dictionary.{definitions, entry_of, groups};
 ghost use Rattle.dia_dict.specs.Base.{base};
 ghost use Rattle.dia_c.specs.Held.{dict_in, MayBeDict};

@@ -1,4 +1,4 @@
-//! A handle of a dict.
+//! A handle of a dictionary.
 
 ghost use Rattle.std.specs.Prelude.{◌≡◌, ◌↔◌, IfSome, IsSome, IsTrue, None, Option, Some};
 ghost use Rattle.dia_c.specs.declared.held.Held.{Held as AnyHeld};

@@ -9,7 +9,7 @@ use crate::held::Held;
 use std::alloc::Global;
 use std::marker::Model;
 
-/// What a handle holds, behind one pointer; or null, and nothing.
+/// What a handle holds, behind one pointer; or null, and nothing. A drop frees nothing: `into_box` takes out what is freed.
 #[repr(C)]
 #[derive(Drop)]
 pub struct Seal {
@@ -42,6 +42,7 @@ impl Seal {
         Seal::of_parts(Parts::of(book))
     }
 
+    /// The pointer loses its type, which C does not know.
     fn of_parts(parts: Parts<Held, Global>) -> Seal
         ensures { result.held ≡ Some parts.value }
     {
@@ -52,6 +53,7 @@ impl Seal {
         }
     }
 
+    /// The pointer has its type again.
     fn into_parts(self) -> Parts<Held, Global>
         requires { IsSome self.held }
         ensures { self.held ≡ Some result.value }
