@@ -1,0 +1,197 @@
+/* libdia: dictionaries of Diameter (RFC 6733) and checks of messages against them, proved.
+ *
+ * docs/LIBRARY.md shows how a program begins. What each function answers is proved of the code behind it: the comments say it
+ * in words, the clauses of crates/dia_c/src say it exactly.
+ *
+ * RULES FOR ALL FUNCTIONS
+ *  - No pointer is NULL, not even where its length is 0, and each is aligned for its type. Nothing writes the memory behind a
+ *    const pointer during the call. Nothing else touches the memory behind another pointer during the call, and it overlaps
+ *    no other argument.
+ *  - Nothing that is passed is kept after the call. Lengths and places are in bytes.
+ *  - A function that may fail answers a status, DIA_OK or another. On any other than DIA_OK it has changed nothing that its
+ *    comment does not name.
+ *  - A function may answer DIA_NO_MEMORY, where malloc or realloc refused, unless its comment says "takes no memory".
+ *  - No function waits, prints, calls back, reads a clock or a file, or keeps anything outside its handles.
+ *  - Not from a signal handler, and not in the forked child of a process with threads. malloc, realloc and free are of one
+ *    allocator, and align to 16.
+ *
+ * HANDLES
+ *  A handle is a struct of the caller's. DIA_DICT_INIT and DIA_TEXT_INIT, which are zero bytes, make a closed one. An open one
+ *  holds a pointer to what the library owns, and is closed once; closing a closed handle does nothing. Its fields are the
+ *  library's. It may be moved as bytes, and then only one of the copies is used.
+ *
+ * THREADS
+ *  One call at a time for each handle. Threads use different handles at once, also of one dictionary (dia_dict_share).
+ *  A handle goes to another thread behind a lock, or a thread's start or join.
+ */
+#ifndef DIA_H
+#define DIA_H
+
+#include <stddef.h>
+#include <stdint.h>
+
+#ifdef __cplusplus
+extern "C" {
+#endif
+
+/* The version of this header. Within a version no struct, value or meaning changes; functions and values are only added. */
+#define DIA_ABI_VERSION 1u
+
+/* The version of the library, which a program compares with DIA_ABI_VERSION first. Takes no memory. */
+uint32_t dia_abi_version(void);
+
+typedef uint32_t dia_status;
+enum {
+    DIA_OK = 0,
+    DIA_REFUSED = 1,     /* the input is not what the function reads, and the function says why */
+    DIA_NONE = 2,        /* there is none */
+    DIA_NO_MEMORY = 3,   /* memory was refused */
+    DIA_NO_ROOM = 4,     /* there is less room than *count bytes */
+    DIA_IS_OPEN = 5,     /* the handle to be opened is open already */
+    DIA_IS_CLOSED = 6,   /* the handle to be used is closed */
+    DIA_BAD_ARGUMENT = 7 /* a number among the arguments has no meaning */
+};
+
+#define DIA_MAX_NAME 128u     /* the most bytes of a name */
+#define DIA_MAX_TEXT 1048576u /* the most bytes of a dictionary's text */
+
+/* ---- dictionaries ---- */
+
+typedef struct dia_dict {
+    void *dia_private;
+    uint32_t dia_state;
+} dia_dict;
+#define DIA_DICT_INIT { NULL, 0 }
+
+/* Why a text is no dictionary: the kind of its first fault. */
+enum {
+    DIA_NOT_TEXT = 0, /* the bytes are not UTF-8 */
+    DIA_SYNTAX = 1,   /* the token of this number is not expected here */
+    DIA_NUMBER = 2,   /* a number is out of range */
+    DIA_LIMIT = 3,    /* a name is too long; on line 0, the text is */
+    /* The kinds of docs/FAULTS.md, in its order. */
+    DIA_TOO_MANY_PARTS = 10,
+    DIA_DUPLICATE_NAME = 11,
+    DIA_NO_GROUP_FORMAT = 12,
+    DIA_HEADER_MISMATCH = 13,
+    DIA_DUPLICATE_KEY = 14,
+    DIA_DUPLICATE_COMMAND = 15,
+    DIA_UNDEFINED_NAME = 16,
+    DIA_REPEATED_SLOT = 17,
+    DIA_MIN_OVER_MAX = 18,
+    DIA_REQUIRED_MIN = 19,
+    DIA_OPTIONAL_MIN = 20
+};
+
+typedef struct dia_problem {
+    uint32_t kind;
+    uint32_t line;  /* from 1, of DIA_SYNTAX, DIA_NUMBER and DIA_LIMIT; else 0 */
+    uint32_t token; /* from 1, of DIA_SYNTAX; else 0 */
+} dia_problem;
+
+/* Opens a closed handle with the dictionary of a text (docs/FORMATS.md).
+ * DIA_REFUSED: *problem says why; it is written on no other status. */
+dia_status dia_dict_open(const uint8_t *text, size_t text_len, dia_dict *dict, dia_problem *problem);
+
+/* Opens a closed handle with the built-in dictionary of RFC 6733. */
+dia_status dia_dict_open_base(dia_dict *dict);
+
+/* Opens the closed handle `other` with the dictionary of `dict`. It lives until the last of its handles is closed.
+ * The time and the memory of a share do not grow with the dictionary. */
+dia_status dia_dict_share(dia_dict *dict, dia_dict *other);
+
+/* Closes the handle. Takes no memory. */
+void dia_dict_close(dia_dict *dict);
+
+/* The name of the command of a verdict of this dictionary, and the name of an AVP (vendor 0: none). *count bytes are written,
+ * with no zero behind them. DIA_NONE: there is no such command or AVP. DIA_NO_ROOM: the name has *count bytes, at most
+ * DIA_MAX_NAME. Takes no memory. */
+dia_status dia_command_name(dia_dict *dict, uint32_t command, uint8_t *out, size_t out_len, size_t *count);
+dia_status dia_avp_name(dia_dict *dict, uint32_t code, uint32_t vendor, uint8_t *out, size_t out_len, size_t *count);
+
+/* ---- checks ---- */
+
+/* What becomes of AVPs that the dictionary does not know. */
+enum {
+    DIA_KEPT = 0,           /* they are accepted where their M bit is clear */
+    DIA_UNKNOWN_REFUSED = 1 /* they are a fault */
+};
+
+/* How many grouped AVPs may be open in one another: a number, or this. */
+#define DIA_ANY_LEVELS UINT32_MAX
+
+enum { DIA_VALID = 0, DIA_FAULT = 1, DIA_TRUNCATED = 2, DIA_TRAILING = 3 };
+
+/* The reasons of docs/FAULTS.md. */
+enum {
+    DIA_R_VERSION = 0,
+    DIA_R_LENGTH = 1,
+    DIA_R_BITS = 2,
+    DIA_R_COMMAND = 3,
+    DIA_R_APPLICATION = 4,
+    DIA_R_PROXIABLE = 5,
+    DIA_R_AVP_LENGTH = 6,
+    DIA_R_UNKNOWN = 7,
+    DIA_R_M_BIT = 8,
+    DIA_R_MISSING = 9,
+    DIA_R_NOT_ALLOWED = 10,
+    DIA_R_TOO_MANY = 11,
+    DIA_R_LEAF_LENGTH = 12,
+    DIA_R_LEAF_VALUE = 13,
+    DIA_R_DEPTH = 14
+};
+
+enum {
+    DIA_ABOUT_NOTHING = 0,
+    DIA_ABOUT_AVP = 1,
+    DIA_ABOUT_WILDCARD = 2 /* AVPs that no rule lists are missing */
+};
+
+/* Fields that an outcome does not have are 0. */
+typedef struct dia_verdict {
+    uint32_t outcome;
+    uint32_t command;    /* of DIA_VALID: for dia_command_name */
+    uint32_t code;       /* of DIA_FAULT: the Result-Code (RFC 6733 section 7.1) */
+    uint32_t place;      /* of DIA_FAULT: in bytes from the first of the message */
+    uint32_t reason;     /* of DIA_FAULT: DIA_R_.. */
+    uint32_t subject;    /* of DIA_FAULT: DIA_ABOUT_.. */
+    uint32_t avp_code;   /* of DIA_ABOUT_AVP */
+    uint32_t avp_vendor; /* of DIA_ABOUT_AVP; 0: none */
+} dia_verdict;
+
+/* Checks the bytes of one message. DIA_OK: *verdict is what `diacmd check` says; it is written on no other status.
+ * DIA_BAD_ARGUMENT: `unknown` is neither of its two values. */
+dia_status dia_check(dia_dict *dict, uint32_t unknown, uint32_t levels, const uint8_t *message, size_t message_len,
+                     dia_verdict *verdict);
+
+/* How many bytes the message has that begins with these, at least 20: its Message Length (RFC 6733 section 3).
+ * DIA_REFUSED: no message begins so, and *verdict is what a check would say, or DIA_TRUNCATED of fewer than 20 bytes.
+ * Takes no memory. */
+dia_status dia_message_length(const uint8_t *header, size_t header_len, uint32_t *length, dia_verdict *verdict);
+
+/* ---- texts ---- */
+
+typedef struct dia_text {
+    void *dia_private;
+    uint32_t dia_state;
+} dia_text;
+#define DIA_TEXT_INIT { NULL, 0 }
+
+/* Opens a closed handle with the text that `diacmd render` writes of a dictionary's text. Definitions need not fit together.
+ * DIA_REFUSED: *problem says why; it is written on no other status. */
+dia_status dia_render(const uint8_t *source, size_t source_len, dia_text *text, dia_problem *problem);
+
+/* Copies the text's bytes from place `from` on, as many as there is room for: *count of them, 0 at the end.
+ * Takes no memory. */
+dia_status dia_text_read(dia_text *text, size_t from, uint8_t *out, size_t out_len, size_t *count);
+
+/* How many bytes the text has. Takes no memory. */
+dia_status dia_text_length(dia_text *text, size_t *length);
+
+/* Closes the handle. Takes no memory. */
+void dia_text_close(dia_text *text);
+
+#ifdef __cplusplus
+}
+#endif
+#endif

@@ -1,0 +1,204 @@
+/* What each function answers. The expected values are from RFC 6733, docs/FORMATS.md and docs/FAULTS.md. */
+#include "tests.h"
+
+static uint8_t bytes[DIA_MAX_TEXT + 1];
+
+static int is_name(const uint8_t *name, size_t count, const char *expected) {
+    return count == strlen(expected) && memcmp(name, expected, count) == 0;
+}
+
+static int is_fault(const dia_verdict *v, uint32_t code, uint32_t place, uint32_t reason, uint32_t about, uint32_t avp) {
+    return v->outcome == DIA_FAULT && v->command == 0 && v->code == code && v->place == place && v->reason == reason
+        && v->subject == about && v->avp_code == avp && v->avp_vendor == 0;
+}
+
+static int has_problem(const char *text, uint32_t kind, uint32_t line, uint32_t token) {
+    dia_dict dict = DIA_DICT_INIT;
+    dia_problem problem = {99, 99, 99};
+    dia_status status = open_text(text, &dict, &problem);
+    return status == DIA_REFUSED && dict.dia_private == NULL && dict.dia_state == 0 && problem.kind == kind
+        && problem.line == line && problem.token == token;
+}
+
+static void texts_are_refused(void) {
+    EXPECT(has_problem("\xff", DIA_NOT_TEXT, 0, 0));
+    EXPECT(has_problem("x", DIA_SYNTAX, 1, 2));
+    EXPECT(has_problem("\n]", DIA_SYNTAX, 2, 1));
+    EXPECT(has_problem("%avp A 4294967296 OctetString any", DIA_NUMBER, 1, 0));
+    EXPECT(has_problem("%avp A 1 OctetString any\n%avp A 2 OctetString any", DIA_DUPLICATE_NAME, 0, 0));
+    EXPECT(has_problem("%avp A 1 Grouped any", DIA_NO_GROUP_FORMAT, 0, 0));
+    EXPECT(has_problem("%avp A 1 OctetString any\n%avp B 1 OctetString any", DIA_DUPLICATE_KEY, 0, 0));
+    EXPECT(has_problem("G ::= < AVP Header: 1 > { B }", DIA_UNDEFINED_NAME, 0, 0));
+    EXPECT(has_problem("%avp A 1 OctetString any\nG ::= < AVP Header: 2 > { A } [ A ]", DIA_REPEATED_SLOT, 0, 0));
+    EXPECT(has_problem("%avp A 1 OctetString any\nG ::= < AVP Header: 2 > 3*2{ A }", DIA_MIN_OVER_MAX, 0, 0));
+    EXPECT(has_problem("%avp A 1 OctetString any\nG ::= < AVP Header: 2 > 0*2{ A }", DIA_REQUIRED_MIN, 0, 0));
+    EXPECT(has_problem("%avp A 1 OctetString any\nG ::= < AVP Header: 2 > 1*2[ A ]", DIA_OPTIONAL_MIN, 0, 0));
+    dia_dict dict = DIA_DICT_INIT;
+    dia_problem problem = {99, 99, 99};
+    memset(bytes, ' ', sizeof bytes);
+    EXPECT(dia_dict_open(bytes, sizeof bytes, &dict, &problem) == DIA_REFUSED);
+    EXPECT(problem.kind == DIA_LIMIT && problem.line == 0 && problem.token == 0);
+    memset(bytes, 'n', DIA_MAX_NAME + 1);
+    EXPECT(dia_dict_open(bytes, DIA_MAX_NAME + 1, &dict, &problem) == DIA_REFUSED);
+    EXPECT(problem.kind == DIA_LIMIT && problem.line == 1 && problem.token == 0);
+}
+
+static void handles_are_open_or_closed(void) {
+    dia_dict dict = DIA_DICT_INIT, other = DIA_DICT_INIT;
+    dia_text text = DIA_TEXT_INIT;
+    dia_problem problem = {99, 99, 99};
+    dia_verdict verdict = {99, 99, 99, 99, 99, 99, 99, 99};
+    uint8_t name[DIA_MAX_NAME];
+    size_t count = 99;
+    EXPECT(dia_check(&dict, DIA_KEPT, 0, watchdog, 64, &verdict) == DIA_IS_CLOSED && verdict.outcome == 99);
+    EXPECT(dia_dict_share(&dict, &other) == DIA_IS_CLOSED && other.dia_state == 0);
+    EXPECT(dia_command_name(&dict, 0, name, sizeof name, &count) == DIA_IS_CLOSED);
+    EXPECT(dia_avp_name(&dict, 264, 0, name, sizeof name, &count) == DIA_IS_CLOSED);
+    EXPECT(dia_text_read(&text, 0, name, sizeof name, &count) == DIA_IS_CLOSED);
+    EXPECT(dia_text_length(&text, &count) == DIA_IS_CLOSED && count == 99);
+    dia_dict_close(&dict);
+    dia_text_close(&text);
+    EXPECT(open_text(one_avp, &dict, &problem) == DIA_OK);
+    EXPECT(open_text(one_avp, &dict, &problem) == DIA_IS_OPEN);
+    EXPECT(open_text("x", &dict, &problem) == DIA_IS_OPEN && problem.kind == 99);
+    EXPECT(dia_dict_open_base(&dict) == DIA_IS_OPEN);
+    EXPECT(dia_dict_open_base(&other) == DIA_OK);
+    EXPECT(dia_dict_share(&dict, &other) == DIA_IS_OPEN);
+    EXPECT(dia_check(&dict, 2, 0, watchdog, 64, &verdict) == DIA_BAD_ARGUMENT && verdict.outcome == 99);
+    dia_dict_close(&dict);
+    dia_dict_close(&dict);
+    EXPECT(dia_avp_name(&dict, 1, 0, name, sizeof name, &count) == DIA_IS_CLOSED);
+    dia_dict_close(&other);
+}
+
+static void a_share_outlives_its_dictionary(void) {
+    dia_dict dict = DIA_DICT_INIT, other = DIA_DICT_INIT;
+    dia_problem problem;
+    uint8_t name[1];
+    size_t count = 99;
+    EXPECT(open_text(one_avp, &dict, &problem) == DIA_OK);
+    EXPECT(dia_dict_share(&dict, &other) == DIA_OK);
+    EXPECT(dia_avp_name(&dict, 1, 0, name, sizeof name, &count) == DIA_OK && is_name(name, count, "A"));
+    dia_dict_close(&dict);
+    EXPECT(dia_avp_name(&other, 1, 0, name, sizeof name, &count) == DIA_OK && is_name(name, count, "A"));
+    EXPECT(dia_avp_name(&other, 264, 0, name, sizeof name, &count) == DIA_NONE);
+    dia_dict_close(&other);
+}
+
+static void messages_are_checked(void) {
+    dia_dict dict = DIA_DICT_INIT;
+    dia_verdict v;
+    uint8_t name[DIA_MAX_NAME], m[84];
+    size_t count = 99;
+    EXPECT(dia_dict_open_base(&dict) == DIA_OK);
+    EXPECT(dia_check(&dict, DIA_KEPT, DIA_ANY_LEVELS, watchdog, 64, &v) == DIA_OK && v.outcome == DIA_VALID);
+    EXPECT(dia_command_name(&dict, v.command, name, sizeof name, &count) == DIA_OK && is_name(name, count, "DWR"));
+    EXPECT(dia_check(&dict, DIA_KEPT, 0, watchdog, 60, &v) == DIA_OK && v.outcome == DIA_TRUNCATED);
+    EXPECT(dia_check(&dict, DIA_KEPT, 0, watchdog, 0, &v) == DIA_OK && v.outcome == DIA_TRUNCATED);
+    memset(m, 0, sizeof m);
+    memcpy(m, watchdog, 64);
+    EXPECT(dia_check(&dict, DIA_KEPT, 0, m, 68, &v) == DIA_OK && v.outcome == DIA_TRAILING);
+    m[0] = 2;
+    EXPECT(dia_check(&dict, DIA_KEPT, 0, m, 64, &v) == DIA_OK && is_fault(&v, 5011, 0, DIA_R_VERSION, DIA_ABOUT_NOTHING, 0));
+    m[0] = 1;
+    m[4] = 0xa0;
+    EXPECT(dia_check(&dict, DIA_KEPT, 0, m, 64, &v) == DIA_OK && is_fault(&v, 5013, 4, DIA_R_BITS, DIA_ABOUT_NOTHING, 0));
+    m[4] = 0x80;
+    m[3] = 44;
+    EXPECT(dia_check(&dict, DIA_KEPT, 0, m, 44, &v) == DIA_OK && is_fault(&v, 5005, 44, DIA_R_MISSING, DIA_ABOUT_AVP, 296));
+    /* an AVP of the code 99999 behind the others, of 8 bytes and with no data, and M clear */
+    m[3] = 72;
+    memcpy(m + 64, "\x00\x01\x86\x9f\x00\x00\x00\x08", 8);
+    EXPECT(dia_check(&dict, DIA_KEPT, 0, m, 72, &v) == DIA_OK && v.outcome == DIA_VALID);
+    EXPECT(dia_check(&dict, DIA_UNKNOWN_REFUSED, 0, m, 72, &v) == DIA_OK
+        && is_fault(&v, 5001, 64, DIA_R_UNKNOWN, DIA_ABOUT_AVP, 99999));
+    dia_dict_close(&dict);
+}
+
+static void faults_are_told(void) {
+    /* the command 300, with an AVP of 8 bytes and no data behind the header */
+    static const uint8_t m[28] = {1, 0, 0, 28, 0x80, 0, 1, 44, 0, 0, 0, 0, 0, 0, 0, 0, 0, 0, 0, 0, 0, 0, 0, 1, 0, 0, 0, 8};
+    dia_dict dict = DIA_DICT_INIT;
+    dia_problem problem;
+    dia_verdict v;
+    EXPECT(open_text("%avp A 1 OctetString must <T> ::= < Diameter Header: 300, REQ > [ A ]", &dict, &problem) == DIA_OK);
+    EXPECT(dia_check(&dict, DIA_KEPT, 0, m, 28, &v) == DIA_OK && is_fault(&v, 3009, 20, DIA_R_M_BIT, DIA_ABOUT_AVP, 1));
+    dia_dict_close(&dict);
+    EXPECT(open_text("%avp A 1 Unsigned32 any <T> ::= < Diameter Header: 300, REQ > [ A ]", &dict, &problem) == DIA_OK);
+    EXPECT(dia_check(&dict, DIA_KEPT, 0, m, 28, &v) == DIA_OK && is_fault(&v, 5014, 20, DIA_R_LEAF_LENGTH, DIA_ABOUT_AVP, 1));
+    dia_dict_close(&dict);
+    EXPECT(open_text("%avp A 1 OctetString any <T> ::= < Diameter Header: 300, REQ > { A } 1*{ AVP }", &dict, &problem)
+        == DIA_OK);
+    EXPECT(dia_check(&dict, DIA_KEPT, 0, m, 28, &v) == DIA_OK && is_fault(&v, 5005, 28, DIA_R_MISSING, DIA_ABOUT_WILDCARD, 0));
+    dia_dict_close(&dict);
+    EXPECT(open_text("%avp A 1 Grouped any A ::= < AVP Header: 1 > <T> ::= < Diameter Header: 300, REQ > [ A ]", &dict, &problem)
+        == DIA_OK);
+    EXPECT(dia_check(&dict, DIA_KEPT, 1, m, 28, &v) == DIA_OK && v.outcome == DIA_VALID);
+    EXPECT(dia_check(&dict, DIA_KEPT, 0, m, 28, &v) == DIA_OK && is_fault(&v, 5012, 20, DIA_R_DEPTH, DIA_ABOUT_AVP, 1));
+    dia_dict_close(&dict);
+}
+
+static void names_are_told(void) {
+    dia_dict dict = DIA_DICT_INIT;
+    uint8_t name[DIA_MAX_NAME];
+    size_t count = 99;
+    EXPECT(dia_dict_open_base(&dict) == DIA_OK);
+    EXPECT(dia_avp_name(&dict, 264, 0, name, 11, &count) == DIA_OK && is_name(name, count, "Origin-Host"));
+    EXPECT(dia_avp_name(&dict, 264, 0, name, 10, &count) == DIA_NO_ROOM && count == 11);
+    EXPECT(dia_avp_name(&dict, 264, 1, name, sizeof name, &count) == DIA_NONE);
+    EXPECT(dia_command_name(&dict, UINT32_MAX, name, sizeof name, &count) == DIA_NONE);
+    dia_dict_close(&dict);
+}
+
+static void lengths_are_told(void) {
+    dia_verdict v;
+    uint8_t m[20];
+    uint32_t length = 99;
+    memcpy(m, watchdog, 20);
+    EXPECT(dia_message_length(m, 20, &length, &v) == DIA_OK && length == 64);
+    EXPECT(dia_message_length(watchdog, 64, &length, &v) == DIA_OK && length == 64);
+    length = 99;
+    EXPECT(dia_message_length(m, 19, &length, &v) == DIA_REFUSED && v.outcome == DIA_TRUNCATED && length == 99);
+    m[3] = 18;
+    EXPECT(dia_message_length(m, 20, &length, &v) == DIA_REFUSED && is_fault(&v, 5015, 1, DIA_R_LENGTH, DIA_ABOUT_NOTHING, 0));
+    m[3] = 21;
+    EXPECT(dia_message_length(m, 20, &length, &v) == DIA_REFUSED && is_fault(&v, 5015, 1, DIA_R_LENGTH, DIA_ABOUT_NOTHING, 0));
+    m[0] = 0;
+    EXPECT(dia_message_length(m, 20, &length, &v) == DIA_REFUSED && is_fault(&v, 5011, 0, DIA_R_VERSION, DIA_ABOUT_NOTHING, 0));
+    EXPECT(length == 99);
+}
+
+static void texts_are_read_in_pieces(void) {
+    static const char untidy[] = "%avp   A 1\tOctetString  any ; a comment", canonical[] = "%avp A 1 OctetString any\n";
+    dia_text text = DIA_TEXT_INIT;
+    dia_problem problem;
+    uint8_t piece[7], all[64];
+    size_t count = 0, from = 0;
+    EXPECT(dia_render((const uint8_t *)"x", 1, &text, &problem) == DIA_REFUSED && problem.kind == DIA_SYNTAX);
+    EXPECT(dia_render((const uint8_t *)untidy, strlen(untidy), &text, &problem) == DIA_OK);
+    EXPECT(dia_render((const uint8_t *)untidy, strlen(untidy), &text, &problem) == DIA_IS_OPEN);
+    EXPECT(dia_text_length(&text, &count) == DIA_OK && count == strlen(canonical));
+    while (dia_text_read(&text, from, piece, sizeof piece, &count) == DIA_OK && count > 0) {
+        EXPECT(count == 7 || count == strlen(canonical) % 7);
+        memcpy(all + from, piece, count);
+        from += count;
+    }
+    EXPECT(is_name(all, from, canonical));
+    EXPECT(dia_text_read(&text, SIZE_MAX, piece, sizeof piece, &count) == DIA_OK && count == 0);
+    EXPECT(dia_text_read(&text, 0, piece, 0, &count) == DIA_OK && count == 0);
+    dia_text_close(&text);
+    EXPECT(dia_text_read(&text, 0, piece, sizeof piece, &count) == DIA_IS_CLOSED);
+}
+
+int main(void) {
+    EXPECT(dia_abi_version() == DIA_ABI_VERSION);
+    texts_are_refused();
+    handles_are_open_or_closed();
+    a_share_outlives_its_dictionary();
+    messages_are_checked();
+    faults_are_told();
+    names_are_told();
+    lengths_are_told();
+    texts_are_read_in_pieces();
+    return tell_counts();
+}

@@ -1,0 +1,27 @@
+/* The sizes and places that the proved code was built with. */
+#include "dia.h"
+
+#define AT(type, field, place) _Static_assert(offsetof(type, field) == place, #type "." #field)
+
+_Static_assert(sizeof(dia_dict) == 16, "dia_dict");
+AT(dia_dict, dia_private, 0);
+AT(dia_dict, dia_state, 8);
+
+_Static_assert(sizeof(dia_text) == 16, "dia_text");
+AT(dia_text, dia_private, 0);
+AT(dia_text, dia_state, 8);
+
+_Static_assert(sizeof(dia_problem) == 12, "dia_problem");
+AT(dia_problem, kind, 0);
+AT(dia_problem, line, 4);
+AT(dia_problem, token, 8);
+
+_Static_assert(sizeof(dia_verdict) == 32, "dia_verdict");
+AT(dia_verdict, outcome, 0);
+AT(dia_verdict, command, 4);
+AT(dia_verdict, code, 8);
+AT(dia_verdict, place, 12);
+AT(dia_verdict, reason, 16);
+AT(dia_verdict, subject, 20);
+AT(dia_verdict, avp_code, 24);
+AT(dia_verdict, avp_vendor, 28);

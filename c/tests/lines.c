@@ -1,0 +1,94 @@
+/* lines DICTIONARY MESSAGES: writes of each line of hexadecimal digits what `diacmd check --lines` writes. */
+#include "dia.h"
+#include <stdio.h>
+#include <stdlib.h>
+#include <string.h>
+
+static const char *const reasons[] = {
+    "version", "length", "bits", "command", "application", "proxiable", "avp-length", "unknown",
+    "m-bit", "missing", "not-allowed", "too-many", "leaf-length", "leaf-value", "depth",
+};
+
+static uint8_t source[DIA_MAX_TEXT + 1];
+static char line[1 << 17];
+
+static void tell_subject(dia_dict *dict, const dia_verdict *v) {
+    uint8_t name[DIA_MAX_NAME];
+    size_t count;
+    if (v->subject == DIA_ABOUT_NOTHING) {
+        puts("-");
+    } else if (v->subject == DIA_ABOUT_WILDCARD) {
+        puts("AVP");
+    } else if (dia_avp_name(dict, v->avp_code, v->avp_vendor, name, sizeof name, &count) == DIA_OK) {
+        printf("%.*s\n", (int)count, (const char *)name);
+    } else {
+        printf("%u:%u\n", (unsigned)v->avp_code, (unsigned)v->avp_vendor);
+    }
+}
+
+static int tell(dia_dict *dict, const dia_verdict *v) {
+    uint8_t name[DIA_MAX_NAME];
+    size_t count;
+    switch (v->outcome) {
+    case DIA_VALID:
+        if (dia_command_name(dict, v->command, name, sizeof name, &count) != DIA_OK) {
+            return 0;
+        }
+        printf("valid %.*s\n", (int)count, (const char *)name);
+        return 1;
+    case DIA_FAULT:
+        if (v->reason >= sizeof reasons / sizeof *reasons) {
+            return 0;
+        }
+        printf("fault %u at %u %s ", (unsigned)v->code, (unsigned)v->place, reasons[v->reason]);
+        tell_subject(dict, v);
+        return 1;
+    default:
+        puts(v->outcome == DIA_TRUNCATED ? "truncated" : "trailing");
+        return 1;
+    }
+}
+
+static int check_line(dia_dict *dict) {
+    size_t len = strcspn(line, "\n") / 2;
+    uint8_t *message = malloc(len != 0 ? len : 1); /* of just this length, so that a sanitizer sees a read behind it */
+    dia_verdict verdict;
+    unsigned byte;
+    int told;
+    if (message == NULL) {
+        return 0;
+    }
+    for (size_t i = 0; i < len; i++) {
+        if (sscanf(line + 2 * i, "%2x", &byte) != 1) {
+            free(message);
+            return 0;
+        }
+        message[i] = (uint8_t)byte;
+    }
+    told = dia_check(dict, DIA_KEPT, DIA_ANY_LEVELS, message, len, &verdict) == DIA_OK && tell(dict, &verdict);
+    free(message);
+    return told;
+}
+
+int main(int argc, char **argv) {
+    dia_dict dict = DIA_DICT_INIT;
+    dia_problem problem;
+    FILE *file;
+    size_t len;
+    if (argc != 3 || (file = fopen(argv[1], "rb")) == NULL) {
+        return 2;
+    }
+    len = fread(source, 1, sizeof source, file);
+    fclose(file);
+    if (dia_dict_open(source, len, &dict, &problem) != DIA_OK || (file = fopen(argv[2], "r")) == NULL) {
+        return 2;
+    }
+    while (fgets(line, sizeof line, file) != NULL) {
+        if (!check_line(&dict)) {
+            return 3;
+        }
+    }
+    fclose(file);
+    dia_dict_close(&dict);
+    return 0;
+}

@@ -1,0 +1,139 @@
+/* Each allocation of a call refused in turn, by a heap of its own in the place of heap.c: the call answers DIA_NO_MEMORY and
+ * has changed and lost nothing, or it does without and answers as ever. Calls that take no memory take none. */
+#include "tests.h"
+#include <stdlib.h>
+
+typedef struct {
+    uint64_t ok;
+    void *memory;
+} taken;
+
+static long blocks, until, asked;
+static char nowhere;
+
+/* The one that is counted down to is refused; where `until` is 0, none is. */
+static int is_refused(void) {
+    asked++;
+    return until > 0 && --until == 0;
+}
+
+taken rattle_alloc(size_t size, size_t align);
+taken rattle_realloc(void *memory, size_t kept, size_t size, size_t align);
+void rattle_dealloc(void *memory);
+
+taken rattle_alloc(size_t size, size_t align) {
+    if (is_refused()) {
+        return (taken){0, &nowhere};
+    }
+    blocks++;
+    return (taken){1, malloc(size != 0 ? size : align)};
+}
+
+taken rattle_realloc(void *memory, size_t kept, size_t size, size_t align) {
+    (void)kept;
+    if (is_refused()) {
+        return (taken){0, &nowhere};
+    }
+    return (taken){1, realloc(memory, size != 0 ? size : align)};
+}
+
+void rattle_dealloc(void *memory) {
+    blocks--;
+    free(memory);
+}
+
+static dia_dict dict, other;
+static dia_text text;
+static dia_problem problem;
+static dia_verdict verdict;
+static const char source[] = "%avp A 1 OctetString any\n%avp B 2 Grouped any\nB ::= < AVP Header: 2 > { A }\n"
+                             "C ::= < Diameter Header: 1000, REQ > { A } *[ B ]\n";
+
+static dia_status opens(void) {
+    return open_text(source, &dict, &problem);
+}
+
+static dia_status opens_base(void) {
+    return dia_dict_open_base(&dict);
+}
+
+static dia_status shares(void) {
+    return dia_dict_share(&dict, &other);
+}
+
+static dia_status checks(void) {
+    return dia_check(&dict, DIA_KEPT, DIA_ANY_LEVELS, watchdog, sizeof watchdog, &verdict);
+}
+
+static dia_status renders(void) {
+    return dia_render((const uint8_t *)source, strlen(source), &text, &problem);
+}
+
+static void close_dict(void) {
+    dia_dict_close(&dict);
+}
+
+static void close_nothing(void) {
+}
+
+/* Refuses the first, the second and so on, until all is given; at least `least` calls answered DIA_NO_MEMORY. */
+static void refuse_each(const char *name, dia_status (*call)(void), void (*undo)(void), long least) {
+    static const dia_verdict untouched = {9, 9, 9, 9, 9, 9, 9, 9};
+    long refused = 0, without = 0, had = blocks;
+    dia_dict dict_before = dict, other_before = other;
+    dia_text text_before = text;
+    for (;;) {
+        until = refused + without + 1;
+        verdict = untouched;
+        dia_status status = call();
+        if (until > 0) {
+            EXPECT(status == DIA_OK);
+            break;
+        }
+        if (status == DIA_OK) {
+            without++;
+            undo();
+            EXPECT(blocks == had);
+            continue;
+        }
+        refused++;
+        EXPECT(status == DIA_NO_MEMORY);
+        EXPECT(blocks == had);
+        EXPECT(dict.dia_state == dict_before.dia_state && other.dia_state == other_before.dia_state);
+        EXPECT(text.dia_state == text_before.dia_state);
+        EXPECT(memcmp(&verdict, &untouched, sizeof verdict) == 0);
+    }
+    until = 0;
+    printf("%s: %ld refused, %ld done without\n", name, refused, without);
+    EXPECT(refused >= least);
+}
+
+static void take_no_memory(void) {
+    uint8_t name[DIA_MAX_NAME];
+    size_t count;
+    uint32_t length;
+    long before = asked;
+    EXPECT(dia_abi_version() == DIA_ABI_VERSION);
+    EXPECT(dia_avp_name(&dict, 264, 0, name, sizeof name, &count) == DIA_OK);
+    EXPECT(dia_command_name(&dict, verdict.command, name, sizeof name, &count) == DIA_OK);
+    EXPECT(dia_message_length(watchdog, 20, &length, &verdict) == DIA_OK);
+    EXPECT(dia_text_length(&text, &count) == DIA_OK);
+    EXPECT(dia_text_read(&text, 0, name, sizeof name, &count) == DIA_OK);
+    dia_dict_close(&dict);
+    dia_dict_close(&other);
+    dia_text_close(&text);
+    EXPECT(asked == before);
+}
+
+int main(void) {
+    refuse_each("open", opens, close_dict, 10);
+    dia_dict_close(&dict);
+    EXPECT(blocks == 0);
+    refuse_each("open_base", opens_base, close_dict, 100);
+    refuse_each("share", shares, close_nothing, 1);
+    refuse_each("check", checks, close_nothing, 1);
+    refuse_each("render", renders, close_nothing, 2);
+    take_no_memory();
+    EXPECT(blocks == 0);
+    return tell_counts();
+}

@@ -1,0 +1,5 @@
+pub mod Handles
+pub mod Held
+pub mod Names
+pub mod Openings
+pub mod Verdicts

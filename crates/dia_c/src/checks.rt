@@ -1,0 +1,70 @@
+//! Checks of messages.
+
+ghost use Rattle.std.specs.Prelude.{◌⊎◌, ◌≡◌, ◌≢◌, None, IfSome, IsSome};
+ghost use Rattle.dia_check.specs.Faults.{HasLength};
+ghost use Rattle.dia_c.specs.Held.{dict_in};
+ghost use Rattle.dia_c.specs.Verdicts.{Answers, IsHeadVerdict, IsUnknownPolicy};
+
+use crate::handle::{DictHandle, owner_in};
+use crate::status::{BAD_ARGUMENT, DONE, IS_CLOSED, NO_MEMORY, REFUSED};
+use crate::verdict::{Verdict, checked, limit_of, message_length, policy_of};
+use std::alloc::{AllocError, Global};
+
+/// What `diacmd check` says of a message.
+#[unsafe(no_mangle)]
+pub extern "C" fn dia_check(
+    alloc: Global,
+    handle: &mut DictHandle,
+    unknown: u32,
+    levels: u32,
+    message: &[u8],
+    verdict: &mut Verdict,
+) -> u32
+    ensures ends { (result ≡ DONE) ⊎ (result ≡ NO_MEMORY) ⊎ (result ≡ IS_CLOSED) ⊎ (result ≡ BAD_ARGUMENT) }
+    ensures kept { handle.new.slot.seal.held ≡ handle.old.slot.seal.held }
+    ensures done { result ≡ DONE → IfSome (dict_in handle.old.slot.seal.held)
+        (λ d. Answers d unknown levels message.now verdict.new) }
+    ensures closed { result ≡ IS_CLOSED → handle.old.slot.seal.held ≡ None }
+    ensures was_open { result ≢ IS_CLOSED → result ≢ BAD_ARGUMENT → IsSome (dict_in handle.old.slot.seal.held) }
+    ensures bad { result ≡ BAD_ARGUMENT → ¬ IsUnknownPolicy unknown }
+    ensures good { result ≢ BAD_ARGUMENT → IsUnknownPolicy unknown }
+    ensures only { result ≢ DONE → verdict.new ≡ verdict.old }
+{
+    let Some(unknown) = policy_of(unknown) else {
+        return BAD_ARGUMENT;
+    };
+    let levels = limit_of(levels);
+    let Some(held) = handle.take(alloc) else {
+        return IS_CLOSED;
+    };
+    let answer = checked(alloc, &**owner_in(&held), unknown, levels, message);
+    handle.put(held);
+    match answer {
+        Ok(told) => {
+            *verdict = told;
+            DONE
+        }
+        Err(AllocError) => NO_MEMORY,
+    }
+}
+
+/// How many bytes the message has whose header begins these.
+#[unsafe(no_mangle)]
+pub extern "C" fn dia_message_length(header: &[u8], length: &mut u32, verdict: &mut Verdict) -> u32
+    ensures ends { (result ≡ DONE) ⊎ (result ≡ REFUSED) }
+    ensures done { result ≡ DONE → HasLength header.now length.new }
+    ensures refused { result ≡ REFUSED → IsHeadVerdict header.now verdict.new }
+    ensures only { result ≡ DONE → verdict.new ≡ verdict.old }
+    ensures kept { result ≡ REFUSED → length.new ≡ length.old }
+{
+    match message_length(header) {
+        Ok(found) => {
+            *length = found;
+            DONE
+        }
+        Err(told) => {
+            *verdict = told;
+            REFUSED
+        }
+    }
+}

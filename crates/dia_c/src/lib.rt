@@ -1,0 +1,45 @@
+//! The proved dictionaries and checks for programs in C: `c/dia.h` says how they are called, and `docs/LIBRARY.md` how a
+//! program begins. Each export calls a function of a library below, and states its clauses again.
+#![tactic(auto)]
+
+ghost use Rattle.std.specs.Prelude.{◌≡◌};
+
+mod checks;
+mod dictionaries;
+mod handle;
+mod held;
+mod names;
+mod opening;
+mod status;
+mod texts;
+mod verdict;
+
+pub use checks::{dia_check, dia_message_length};
+pub use dictionaries::{
+    dia_avp_name, dia_command_name, dia_dict_close, dia_dict_open, dia_dict_open_base,
+    dia_dict_share,
+};
+pub use handle::{DictHandle, TextHandle};
+pub use opening::Problem;
+pub use texts::{dia_render, dia_text_close, dia_text_length, dia_text_read};
+pub use verdict::Verdict;
+
+/// The version of this interface, which a program compares with `DIA_ABI_VERSION` of its header.
+const ABI_VERSION: u32 = 1;
+
+/// The version of this interface.
+#[unsafe(no_mangle)]
+pub extern "C" fn dia_abi_version() -> u32
+    ensures { result ≡ ABI_VERSION }
+{
+    ABI_VERSION
+}
+
+fn sent<T: Send>(x: T) -> T {
+    x
+}
+
+/// C may give a handle to another thread: this asks for the proofs.
+pub fn crossed(handles: (DictHandle, TextHandle)) -> (DictHandle, TextHandle) {
+    sent(handles)
+}

@@ -1,0 +1,178 @@
+//! What is said of a message.
+
+ghost use Rattle.std.specs.Prelude.{◌≡◌, None, IfOk, IfErr, IfSome, Result};
+ghost use Rattle.dia_check.specs.Faults.{HasLength, IsAnswer, code_of, row_of, simple};
+ghost use Rattle.dia_c.specs.Verdicts.{IsHeadVerdict, IsUnknownPolicy, IsVerdict, fault_verdict, limit_of, policy_of};
+
+use dia_book::Book;
+use dia_check::{Fault, Levels, Reason, Refusal, Selected, Subject, Unknown, check};
+use dia_wire::{HeadFault, read_header};
+use std::alloc::{AllocError, Global};
+
+/// What is said of a message.
+#[repr(C)]
+#[derive(Clone, Copy, Debug, PartialEq, Eq)]
+pub struct Verdict {
+    /// 0: valid. 1: a fault. 2: truncated. 3: trailing.
+    pub outcome: u32,
+    /// Of a valid message: the definition of its command.
+    pub command: u32,
+    /// Of a fault: the result code (RFC 6733 section 7.1).
+    pub code: u32,
+    /// Of a fault: its place in bytes from the first.
+    pub place: u32,
+    /// Of a fault: the number of its reason.
+    pub reason: u32,
+    /// Of a fault: 0 where it is about no AVP, 1 about the AVP of this code and vendor, 2 about AVPs that no rule lists.
+    pub subject: u32,
+    pub avp_code: u32,
+    pub avp_vendor: u32,
+}
+
+const ALL_ZERO: Verdict = Verdict {
+    outcome: 0,
+    command: 0,
+    code: 0,
+    place: 0,
+    reason: 0,
+    subject: 0,
+    avp_code: 0,
+    avp_vendor: 0,
+};
+
+/// There are fewer bytes than the header or than Message Length.
+const TRUNCATED: Verdict = Verdict {
+    outcome: 2,
+    ..ALL_ZERO
+};
+
+/// The policy of a number.
+pub fn policy_of(unknown: u32) -> Option<Unknown>
+    ensures some { IfSome result (λ policy. (policy ≡ policy_of unknown) × IsUnknownPolicy unknown) }
+    ensures none { result ≡ None → ¬ IsUnknownPolicy unknown }
+{
+    match unknown {
+        0 => Some(Unknown::Kept),
+        1 => Some(Unknown::Refused),
+        _ => None,
+    }
+}
+
+/// The limit of a number.
+pub fn limit_of(levels: u32) -> Levels
+    ensures { result ≡ limit_of levels }
+{
+    if levels == u32::MAX {
+        return Levels::Any;
+    }
+    Levels::AtMost(levels)
+}
+
+/// The verdict on a message.
+pub fn checked<B: Book>(
+    alloc: Global,
+    book: &B,
+    unknown: Unknown,
+    levels: Levels,
+    message: &[u8],
+) -> Result<Verdict, AllocError>
+    ensures { IfOk result (λ verdict. (answer : Result Selected Refusal)
+        × IsAnswer (B.meaning book.now) unknown levels message.now answer × IsVerdict answer verdict) }
+{
+    match check(alloc, book, unknown, levels, message) {
+        Ok(found) => Ok(Verdict {
+            command: found.def.index() as u32,
+            ..ALL_ZERO
+        }),
+        Err(Refusal::Fault(fault)) => Ok(faulty(fault)),
+        Err(Refusal::Truncated) => Ok(TRUNCATED),
+        Err(Refusal::Trailing) => Ok(Verdict {
+            outcome: 3,
+            ..ALL_ZERO
+        }),
+        Err(Refusal::NoMemory) => Err(AllocError),
+        Err(Refusal::Spent) => unreachable!(),
+    }
+}
+
+/// The Message Length of the header with which the bytes begin, or what is wrong with it.
+pub fn message_length(bytes: &[u8]) -> Result<u32, Verdict>
+    ensures length { IfOk result (HasLength bytes.now) }
+    ensures fault { IfErr result (IsHeadVerdict bytes.now) }
+{
+    match read_header(bytes) {
+        Ok((_, length)) => Ok(length),
+        Err(HeadFault::Short) => Err(TRUNCATED),
+        Err(HeadFault::Version) => Err(header_fault(0, 5011, Reason::Version)),
+        Err(HeadFault::Length) => Err(header_fault(1, 5015, Reason::Length)),
+    }
+}
+
+/// The verdict of a fault of the header.
+fn header_fault(place: u32, code: u32, reason: Reason) -> Verdict
+    ensures { code ≡ code_of reason → result ≡ fault_verdict (simple place reason) }
+{
+    faulty(Fault {
+        place,
+        code,
+        reason,
+        subject: Subject::Nothing,
+    })
+}
+
+/// The verdict of a fault.
+fn faulty(fault: Fault) -> Verdict
+    ensures { result ≡ fault_verdict fault }
+{
+    let reason = reason_number(fault.reason);
+    match fault.subject {
+        Subject::Nothing => Verdict {
+            outcome: 1,
+            code: fault.code,
+            place: fault.place,
+            reason,
+            ..ALL_ZERO
+        },
+        Subject::Avp(key) => Verdict {
+            outcome: 1,
+            code: fault.code,
+            place: fault.place,
+            reason,
+            subject: 1,
+            avp_code: key.code,
+            avp_vendor: key.vendor,
+            ..ALL_ZERO
+        },
+        Subject::Wildcard => Verdict {
+            outcome: 1,
+            code: fault.code,
+            place: fault.place,
+            reason,
+            subject: 2,
+            ..ALL_ZERO
+        },
+    }
+}
+
+/// The number of a reason.
+fn reason_number(reason: Reason) -> u32
+    ensures { result ≡ row_of reason }
+{
+    match reason {
+        Reason::Version => 0,
+        Reason::Length => 1,
+        Reason::Bits => 2,
+        Reason::Command => 3,
+        Reason::Application => 4,
+        Reason::Proxiable => 5,
+        Reason::AvpLength => 6,
+        Reason::Unknown => 7,
+        Reason::MBit => 8,
+        Reason::Missing => 9,
+        Reason::NotAllowed => 10,
+        Reason::TooMany => 11,
+        Reason::LeafLength => 12,
+        Reason::LeafValue => 13,
+        Reason::Depth => 14,
+    }
+}
