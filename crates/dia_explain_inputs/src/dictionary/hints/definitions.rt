@@ -58,24 +58,45 @@ pub fn hint_of(scene: &Scene<'_>, token: &Token<'_>) -> Option<&'static str> {
 
 /// What to do about a token among rules.
 fn hint_of_rule(place: InRules, token: &Token<'_>) -> Option<&'static str> {
+    if is_late(place) {
+        return Some(LATE_FIXED);
+    }
     match place {
-        InRules::Angled { only_fixed: false } | InRules::AngledName { only_fixed: false } => {
-            Some(LATE_FIXED)
-        }
         InRules::Greatest { .. } | InRules::Bracket { .. } => {
             Some("a rule is [LEAST]*[GREATEST] and then < X >, { X } or [ X ], as 1*3 { X }")
         }
         InRules::Star { .. } => {
             Some("counts are LEAST*GREATEST: from 1 to 3 is 1*3, and just 2 is 2*2")
         }
-        InRules::AngledName { .. } | InRules::FixedName if token.text == b"AVP".as_slice() => {
-            Some("AVP in a rule is the wildcard, and can't be fixed: write { AVP } or [ AVP ]")
-        }
-        InRules::Rule { .. } | InRules::Angled { .. } if token.text == b"(".as_slice() => Some(
-            "a rule has no round brackets, and its counts stand before it, as 1*3 { X }",
-        ),
+        InRules::AngledName { .. } | InRules::FixedName => hint_of_fixed_name(place, token),
+        InRules::Rule { .. } | InRules::Angled { .. } => hint_of_bracket(place, token),
         _ => hint_of_close(Wanted::Rules(place), token),
     }
+}
+
+/// Whether a fixed rule has begun behind a rule that isn't fixed.
+fn is_late(place: InRules) -> bool {
+    match place {
+        InRules::Angled { only_fixed } => !only_fixed,
+        InRules::AngledName { only_fixed } => !only_fixed,
+        _ => false,
+    }
+}
+
+/// What to do about a token that stands for the name in a fixed rule.
+fn hint_of_fixed_name(place: InRules, token: &Token<'_>) -> Option<&'static str> {
+    if token.text == b"AVP".as_slice() {
+        return Some("AVP in a rule is the wildcard, and can't be fixed: write { AVP } or [ AVP ]");
+    }
+    hint_of_close(Wanted::Rules(place), token)
+}
+
+/// What to do about a token where a rule may begin.
+fn hint_of_bracket(place: InRules, token: &Token<'_>) -> Option<&'static str> {
+    if token.text == b"(".as_slice() {
+        return Some("a rule has no round brackets, and its counts stand before it, as 1*3 { X }");
+    }
+    hint_of_close(Wanted::Rules(place), token)
 }
 
 /// Whether a header is under way, behind its first word.
