@@ -39,8 +39,18 @@ pub fn push_compare(
     };
     let first_sites = sites_of(alloc, &texts.first, &found.books.first)?;
     let second_sites = sites_of(alloc, &texts.second, &found.books.second)?;
-    let a = Side::of(&texts.first, &found.books.first, &first_sites);
-    let b = Side::of(&texts.second, &found.books.second, &second_sites);
+    let a = Side {
+        book: &found.books.first.book,
+        name: texts.first.name,
+        text: texts.first.text,
+        sites: &first_sites,
+    };
+    let b = Side {
+        book: &found.books.second.book,
+        name: texts.second.name,
+        text: texts.second.text,
+        sites: &second_sites,
+    };
     let pairing = Pairing {
         a: &a,
         b: &b,

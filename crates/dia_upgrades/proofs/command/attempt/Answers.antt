@@ -23,5 +23,5 @@ returns-clause-outcome c = ended _ _ c.in_ok-first.ensures.book c.in_ok-second.e
 
 pub returns-clause-report : goal.returns-clause-report
 returns-clause-report c =
-    reported _ c.args.inputs.now _ _ _ c.report_of.result c.report_of.ensures.listed c.report_of.ensures.bad
-    ((c.in_ok-first.ensures.source, c.in_ok-first.ensures.book), c.in_ok-second.ensures.source, c.in_ok-second.ensures.book)
+    reported _ c.args.inputs.now _ _ _ c.report_of-report.result c.report_of-report.ensures.listed c.report_of-report.ensures.bad
+    ((c.in_ok-first.ensures.source, c.in_ok-first.ensures.book), (c.in_ok-second.ensures.source, c.in_ok-second.ensures.book))
