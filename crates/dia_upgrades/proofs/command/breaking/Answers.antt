@@ -16,9 +16,17 @@ pub returns-clause-bad : goal.returns-clause-bad
 returns-clause-bad g c = bad_is_refused c.args.asked c.args.inputs.now _ _ c.in_ok-text.ensures.outcome
 
 pub returns-clause-text : goal.returns-clause-text
-returns-clause-text g c = (string_bytes c.in_ok-text.field-0.text, c.in_ok-text.ensures.outcome, c.in_ok-text.ensures.report,
-    rw c.as_bytes.ensures.value at c.in_ok-put_all.ensures.ok)
+returns-clause-text g c = (
+  string_bytes c.in_ok-text.field-0.text,
+  c.in_ok-text.ensures.outcome,
+  c.in_ok-text.ensures.report,
+  rw c.as_bytes.ensures.value at c.in_ok-put_all.ensures.ok,
+)
 
 pub returns-in_err-put_all-clause-front : goal.returns-in_err-put_all-clause-front
-returns-in_err-put_all-clause-front g c = λ device. (string_bytes c.in_ok-text.field-0.text, c.in_ok-text.field-0.exit, c.in_ok-text.ensures.outcome,
-    rw c.as_bytes.ensures.value at c.put_all.ensures.front)
+returns-in_err-put_all-clause-front g c = λ device. (
+  string_bytes c.in_ok-text.field-0.text,
+  c.in_ok-text.field-0.exit,
+  c.in_ok-text.ensures.outcome,
+  rw c.as_bytes.ensures.value at c.put_all.ensures.front,
+)
