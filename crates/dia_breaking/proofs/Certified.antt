@@ -10,7 +10,7 @@ use Rattle.dia_book.specs.Dictionary.{Dictionary, DictEntry, PlainDefinition, Is
 use Rattle.dia_book.proofs.Members.{at_Contains, at_filter_map}
 use Rattle.dia_check.specs.Valid.{known}
 use Rattle.dia_rules.proofs.GroupNumbers.{group_there, group_missing}
-use Rattle.dia_compat.proofs.ReachedKeys.{known_by_entry}
+use Rattle.dia_rules.proofs.KnownKeys.{known_by_entry}
 use Rattle.dia_policy.specs.declared.Unknown.{Unknown}
 use Rattle.dia_policy.specs.declared.Sends.{Sends}
 use Rattle.dia_breaking_sites.specs.Sites.{Site as SiteOf, HasSite, IsSafeSite, AreSafe}

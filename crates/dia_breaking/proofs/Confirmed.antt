@@ -9,8 +9,7 @@ use Rattle.dia_policy.specs.declared.Sends.TheVariants.{Any, Known, Listed}
 use Rattle.dia_check.specs.Valid.{IsValid, IsValidOf}
 use Rattle.dia_breaking_sites.specs.Sent.{own_policy, AreBytes}
 use Rattle.dia_breaking_sites.proofs.SentIsValid.{sent_valid, valid_sent}
-use Rattle.dia_compat.specs.Closed.{IsIncluded}
-use Rattle.dia_compat.specs.TableText.{PlainTable}
+use Rattle.dia_rules.specs.Inclusion.{PlainTable, IsIncluded}
 use Rattle.dia_breaking.specs.declared.line.Line.{Line}
 use Rattle.dia_breaking.specs.Confirmed.{IsConfirmed, EachConfirmedBreaks, NoneConfirmed, ListsCommand}
 use Rattle.dia_breaking.specs.Sides.{sides}

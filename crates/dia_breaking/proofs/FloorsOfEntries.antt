@@ -7,7 +7,7 @@ use Rattle.std.proofs.lemmas.Option.{none-some, slice_get_within}
 use Rattle.std.proofs.lemmas.List.{length-append}
 use Rattle.dia_wire.specs.declared.Key.{Key}
 use Rattle.dia_book.specs.Dictionary.{Dictionary, DictEntry, entry_of}
-use Rattle.dia_compat.proofs.ReachedKeys.{known_by_entry}
+use Rattle.dia_rules.proofs.KnownKeys.{known_by_entry}
 use Rattle.dia_check.specs.Valid.{known}
 use Rattle.dia_policy.specs.declared.Sends.{Sends}
 use Rattle.dia_policy.specs.declared.Sends.TheVariants.{Any, Known, Listed}

@@ -9,8 +9,8 @@ use Rattle.dia_book.specs.declared.Class.{Class}
 use Rattle.dia_breaking_avps.specs.Sent.{group_of}
 use Rattle.dia_book.specs.Dictionary.{Dictionary, DictEntry, PlainDefinition, definitions, groups, entry_of, group_place, selected}
 use Rattle.dia_book.proofs.Members.{into_right}
-use Rattle.dia_compat.proofs.SelectedCommands.{Choice, NoChoice, choose}
-use Rattle.dia_compat.proofs.ReachedKeys.{known_by_entry}
+use Rattle.dia_rules.proofs.SelectedCommands.{Choice, NoChoice, choose}
+use Rattle.dia_rules.proofs.KnownKeys.{known_by_entry}
 use Rattle.dia_rules.proofs.GroupNumbers.{group_number}
 use Rattle.dia_rules.proofs.Members.{when_some}
 

@@ -12,7 +12,7 @@ use Rattle.dia_book.specs.declared.DefHead.TheVariants.{Group, Command, Error}
 use Rattle.dia_book.specs.Dictionary.{Dictionary, DictEntry, PlainDefinition, IsDictionary, IsCommandHead, IsSameSelector, groups, definitions, selected, is_command, same_class}
 use Rattle.dia_book.proofs.Members.{at_append, at_filter_map}
 use Rattle.dia_rules.proofs.Members.{IsIn, in_at, in_contains, contains_in, all_of}
-use Rattle.dia_compat.proofs.SelectedCommands.{Choice, NoChoice, choose, Reads, reads, class_same, is_of_code}
+use Rattle.dia_rules.proofs.SelectedCommands.{Choice, NoChoice, choose, Reads, reads, class_same, is_of_code}
 use Rattle.dia_breaking_sites.specs.Selection.{NamesApp}
 use Rattle.dia_breaking.specs.declared.apps.Apps.{Apps}
 use Rattle.dia_breaking.specs.Headers.{app_row, row_app, rows_of, apps_of, AreApps}

@@ -6,8 +6,7 @@ use Rattle.dia_policy.specs.declared.Sends.{Sends}
 use Rattle.dia_policy.specs.declared.Sends.TheVariants.{Any, Known, Listed}
 use Rattle.dia_check.specs.Valid.{IsValid, IsValidOf}
 use Rattle.dia_breaking_sites.specs.Sent.{own_policy, Breaks}
-use Rattle.dia_compat.specs.Closed.{IsIncluded}
-use Rattle.dia_compat.specs.TableText.{PlainTable}
+use Rattle.dia_rules.specs.Inclusion.{PlainTable, IsIncluded}
 use Rattle.dia_breaking.specs.declared.line.Cause.{Cause}
 use Rattle.dia_breaking.specs.declared.line.Cause.TheVariants as causes
 use Rattle.dia_breaking.specs.declared.line.Line.{Line}

@@ -9,8 +9,6 @@ mod reach;
 mod search;
 mod stages;
 mod steps;
-#[cfg(test)]
-mod tests;
 mod walking;
 
 pub use graph::{Exits, Level, Node, Reach, Step, Walk};

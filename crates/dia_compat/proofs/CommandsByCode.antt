@@ -27,8 +27,8 @@ use Rattle.dia_compat.specs.declared.checking.Test.TheVariants.{N10}
 use Rattle.dia_rules.specs.Rules.{rules_in}
 use Rattle.dia_compat.specs.WantedNames.{wanted_name, wanted_names}
 use Rattle.dia_rules.proofs.Members.{IsIn, in_at, at_in, any_in, in_any, taken}
-use Rattle.dia_compat.proofs.SelectedCommands.{Choice, NoChoice, choose, Reads, reads, class_same}
-use Rattle.dia_compat.proofs.SetsOfNames.{command_at}
+use Rattle.dia_rules.proofs.SelectedCommands.{Choice, NoChoice, choose, Reads, reads, class_same}
+use Rattle.dia_rules.proofs.SelectedCommands.{command_at}
 
 -- ---- what is told of some members alone
 

@@ -10,7 +10,7 @@ use Rattle.dia_compat.specs.declared.checking.Test.{Test}
 use Rattle.dia_compat.specs.declared.checking.Test.TheVariants.{N10}
 use Rattle.dia_compat.specs.PairTests.{NamePair, entry_named}
 use Rattle.dia_compat.specs.FirstFailures.{IsAnswerOf, FailsEntries, FailsAvp}
-use Rattle.dia_compat.proofs.SelectedCommands.{included}
+use Rattle.dia_compat.proofs.IncludedMessages.{included}
 
 pub concluded : {E : Type 0} (c : Compared) (r : Result Answer E) → IsDictionary c.sides.first → IsDictionary c.sides.second → IfOk r (IsAnswerOf c)
     → IfOk r (λ answer. answer ≡ Yes → IsIncluded c.sides.first c.sides.second c.sides.unknown c.table)

@@ -19,7 +19,8 @@ use Rattle.dia_compat.specs.Closed.{NamesEntry, NamesCommand, IsPairKey, IsWante
 use Rattle.dia_compat.specs.Proposed.{WantsPair, IsProposed, by_command, by_group, AreBeside, AreCommandPairs, IsProposal, ListsAll, IsLeast}
 use Rattle.dia_rules.proofs.Members.{IsIn, in_at, in_contains, contains_in, in_left, in_right, in_append}
 use Rattle.dia_compat.proofs.FitInSecond.{known_entry, entry_known, one_entry, has_group, pair_of}
-use Rattle.dia_compat.proofs.SelectedCommands.{one_command, pair_tests, tenth}
+use Rattle.dia_rules.proofs.SelectedCommands.{one_command}
+use Rattle.dia_compat.proofs.IncludedMessages.{pair_tests, tenth}
 
 -- a pair of names
 abbrev NamePair : Type 0

@@ -1,7 +1,7 @@
 pub mod RunsOfFixedRules
 pub mod PlacedInSecond
 pub mod FitInSecond
-pub mod SelectedCommands
+pub mod IncludedMessages
 pub mod DecidedTests
 pub mod LookUpsBySlot
 pub mod SetsOfNames
@@ -15,7 +15,6 @@ pub mod OneAnswer
 pub mod FirstFailedTest
 pub mod FailedPairs
 pub mod ComparisonAnswers
-pub mod KindsOfRefusal
 pub mod WordsOfLines
 pub mod TableLines
 pub mod TableReadBack

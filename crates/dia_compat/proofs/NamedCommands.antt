@@ -30,7 +30,8 @@ use Rattle.dia_compat.specs.WantedNames.{or_alone, wanted_names, names_beside}
 use Rattle.dia_compat.specs.NamedCommands.{shared_pair, Same, Adds, AddsOnce, name_at, AreRoots, NamedSoFar}
 use Rattle.dia_rules.proofs.Members.{IsIn, in_at, at_in, in_contains, contains_in, in_left, in_right, in_append, in_any, any_in, in_filter_map}
 use Rattle.dia_compat.proofs.FitInSecond.{known_entry, entry_known}
-use Rattle.dia_compat.proofs.SelectedCommands.{one_command, found_or_not, Found, NotFound}
+use Rattle.dia_rules.proofs.SelectedCommands.{one_command}
+use Rattle.dia_rules.proofs.Searches.{found_or_not, Found, NotFound}
 use Rattle.dia_compat.proofs.ReachedKeys.{is_known, rest_then}
 use Rattle.dia_compat.proofs.WantedDefinitions.{are_beside, filter_map_order}
 

@@ -23,21 +23,10 @@ use Rattle.dia_compat.specs.ReachedKeys.{ComesTo, ComesToAll, Follows, root, in_
 use Rattle.dia_rules.proofs.Members.{IsIn, in_at, at_in, in_contains, contains_in, in_left, in_right, in_append, into_filter, count_cons, count_mono}
 use Rattle.dia_rules.proofs.RulesOfKeys.{listed, is_listed_by}
 use Rattle.dia_compat.proofs.FitInSecond.{known_entry}
-use Rattle.dia_compat.proofs.SelectedCommands.{found_or_not, Found, NotFound}
+use Rattle.dia_rules.proofs.Searches.{found_or_not, Found, NotFound}
 use Rattle.dia_rules.proofs.Members.{some_of}
 
 -- ---- keys that are known
-
-pub known_by_entry : (d : Dictionary) (key : Key) (i : ℕ) → entry_of d key ≡ Some i → (e : DictEntry) × (slice_get d.entries i ≡ Some e) × (known d key ≡ Some e)
-known_by_entry d key i at = by (found_or_not (λ (e : DictEntry). same_key key e.key) d.entries)
-  where
-    by : Found (λ (e : DictEntry). same_key key e.key) d.entries ⊎ NotFound (λ (e : DictEntry). same_key key e.key) d.entries
-        → (e : DictEntry) × (slice_get d.entries i ≡ Some e) × (known d key ≡ Some e)
-    by (inl f) =
-        let same : f.place ≡ i = same_Some f.place i (sym f.is_place ∙ at) in
-        let there = ap (slice_get d.entries) (sym same) ∙ f.at in
-        (f.item, there, ap (λ (o : Option ℕ). option_and_then (λ (n : ℕ). slice_get d.entries n) o) at ∙ there)
-    by (inr n) = absurd (let e : None ≡ Some i = sym n.is_none ∙ at in cc)
 
 pub is_known : (d : Dictionary) (key : Key) → IsSome (entry_of d key) → IsKnown d key
 is_known d key h = let i = some_of (entry_of d key) h in let k = known_by_entry d key i.0 i.1 in ap (λ (o : Option DictEntry). is_some o) k.2

@@ -82,5 +82,3 @@ read_at {X} {Y} f xs i j y within same h = by (slice_get xs i) refl (subst (λ (
     by (Some x) e k = into_map f xs i x e ∙ ap (λ (z : Y). Some z) (sym k)
 
 -- the definition of the command at a place
-pub command_at : (d : Dictionary) (i n : ℕ) (x : PlainDefinition) → n ≡ length (groups d) + i → slice_get (definitions d) n ≡ Some x → slice_get d.commands i ≡ Some x
-command_at d i n x e at = sym (slice_get-append_right (groups d) d.commands i) ∙ ap (λ (k : ℕ). slice_get (definitions d) k) (sym e) ∙ at

@@ -18,6 +18,8 @@ use Rattle.dia_compat.specs.declared.checking.PairKind.{PairKind}
 use Rattle.dia_compat.specs.declared.checking.PairKind.TheVariants as kind
 use Rattle.dia_compat.specs.declared.checking.Test.{Test}
 use Rattle.dia_compat.specs.declared.checking.Test.TheVariants.{N1, N2, N3, N4, N5, N6, N7, N8, N9, N10}
+pub use Rattle.dia_rules.specs.Commands.{HasCode, IsError, NamesApp}
+pub use Rattle.dia_rules.specs.Inclusion.{IsBeside, IsIncluded}
 use Rattle.dia_compat.specs.TableText.{PlainTable}
 use Rattle.dia_compat.specs.Below.{Passes}
 
@@ -34,22 +36,6 @@ abbrev pub IsPairKey : Dictionary → Dictionary → PlainTable → Key → Type
 IsPairKey da db table key = (p : List ℕ × List ℕ) × Contains table.avps p × (e f : DictEntry) × NamesEntry da p.0 e × NamesEntry db p.1 f × (e.key ≡ key) × (f.key ≡ key)
 
 -- ---- commands
-
--- code and class of a command that has a number
-pub record HasCode (c : PlainDefinition) (code : ℕ) (class : Class) (app : Option ℕ) : Type 0 where
-  pub p : Pxy
-  pub head : c.head ≡ Command code class app p
-
-abbrev pub IsError : PlainDefinition → Type 0
-IsError c = (p : Pxy) × (c.head ≡ Error p)
-
--- the pair stands in the table
-abbrev pub IsBeside : PlainTable → PlainDefinition → PlainDefinition → Type 0
-IsBeside table c d = Contains table.commands (c.name, d.name)
-
--- some command of the dictionary is this code's, class's and application's
-abbrev pub NamesApp : Dictionary → ℕ → Class → Option ℕ → Type 0
-NamesApp d code class app = (c : PlainDefinition) × Contains d.commands c × HasCode c code class app
 
 -- a definition of B that may be selected for a message of A's command
 pub data IsWanted (da db : Dictionary) (c d : PlainDefinition) : Type 0 where
@@ -145,11 +131,3 @@ pub record IsFirstFailure (da db : Dictionary) (u : Unknown) (table : PlainTable
 abbrev pub IsTableAnswer : Dictionary → Dictionary → Unknown → PlainTable → Answer → Type 0
 IsTableAnswer da db u table Yes = IsClosed da db u table
 IsTableAnswer da db u table (No k i test) = IsFirstFailure da db u table k i test
-
--- ---- inclusion
-
--- each valid message of a command that the table lists is valid under the second dictionary, as a message of a command beside it
-abbrev pub IsIncluded : Dictionary → Dictionary → Unknown → PlainTable → Type 0
-IsIncluded da db u table = (most : Levels) (bytes : List ℕ) (c : ℕ) (command : PlainDefinition) (p : List ℕ × List ℕ)
-    → slice_get (definitions da) c ≡ Some command → Contains table.commands p → command.name ≡ p.0 → IsValidOf da u most bytes c
-    → (d : ℕ) × (other : PlainDefinition) × (slice_get (definitions db) d ≡ Some other) × IsBeside table command other × IsValidOf db u most bytes d

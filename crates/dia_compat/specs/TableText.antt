@@ -7,14 +7,10 @@ use Rattle.std.specs.Str.Lines.{lines}
 pub use Rattle.dia_policy.specs.Limits.{max_table}
 pub use Rattle.dia_terms.specs.Limits.{max_name}
 pub use Rattle.dia_terms.specs.Names.{is_run_byte, is_name_run}
+pub use Rattle.dia_rules.specs.Inclusion.{PlainTable}
 use Rattle.dia_compat.specs.declared.table.Table.{Table}
 use Rattle.dia_compat.specs.declared.table.TableFault.{TableFault}
 use Rattle.dia_compat.specs.declared.table.TableFault.TheVariants as fault
-
--- a table without where it lies in memory
-pub record PlainTable : Type 0 where
-  pub commands : List (List ℕ × List ℕ)
-  pub avps : List (List ℕ × List ℕ)
 
 abbrev pub plain_pair : String Global × String Global → List ℕ × List ℕ
 plain_pair p = (string_bytes p.0, string_bytes p.1)

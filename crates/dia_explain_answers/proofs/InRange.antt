@@ -4,7 +4,7 @@ use Rattle.std.specs.Prelude.{IfSome}
 use Rattle.std.proofs.lemmas.Option.{slice_get_within}
 use Rattle.dia_wire.specs.declared.Key.{Key}
 use Rattle.dia_book.specs.Dictionary.{Dictionary, definitions, entry_of, group_place}
-use Rattle.dia_compat.proofs.ReachedKeys.{known_by_entry}
+use Rattle.dia_rules.proofs.KnownKeys.{known_by_entry}
 use Rattle.dia_rules.proofs.GroupNumbers.{group_number}
 use Rattle.dia_rules.proofs.Members.{when_some}
 

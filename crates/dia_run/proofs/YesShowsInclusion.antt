@@ -7,7 +7,7 @@ use Rattle.dia_compat.specs.declared.Answer.TheVariants as answer
 use Rattle.dia_compat.specs.declared.PairKind.TheVariants as pair
 use Rattle.dia_compat.specs.TableText.{PlainTable}
 use Rattle.dia_compat.specs.Closed.{IsTableAnswer}
-use Rattle.dia_compat.proofs.SelectedCommands.{included}
+use Rattle.dia_compat.proofs.IncludedMessages.{included}
 use Rattle.dia_io.specs.declared.Command.{Command}
 use Rattle.dia_io.specs.declared.Command.TheVariants as command
 use Rattle.dia_io.specs.declared.Inputs.{Inputs}

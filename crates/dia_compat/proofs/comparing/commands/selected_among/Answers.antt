@@ -1,7 +1,7 @@
 use Rattle.std.proofs.Common.{Bool, List, [], ◌∷◌, ◌++◌, map, take, sym, ap, ◌∙◌}
 use Rattle.dia_book.specs.Dictionary.{plain_definition}
 use Rattle.dia_compat.specs.PairTests.{plain_names, is_selected}
-use Rattle.dia_compat.proofs.SetsOfNames.{command_at}
+use Rattle.dia_rules.proofs.SelectedCommands.{command_at}
 use Rattle.dia_compat.proofs.CommandsByCode.{map_more}
 use Rattle.dia_compat.proofs.comparing.commands.selected_among.Goals as goal
 

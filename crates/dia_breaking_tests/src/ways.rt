@@ -1,5 +1,6 @@
 //! Small graphs whose shortest ways are plain.
-use crate::{Exits, Level, Node, Reach, Step, Walk, walk};
+
+use dia_breaking_ways::{Exits, Level, Node, Reach, Step, Walk, walk};
 use std::alloc::{AllocError, Global};
 
 /// The `beside` of a level without a wildcard.

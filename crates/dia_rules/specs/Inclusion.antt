@@ -1,0 +1,21 @@
+-- A table of pairs of names, and when it shows that each valid message of one dictionary is valid under another.
+use Rattle.std.specs.Prelude.{◌≡◌, ℕ, List, Option, Some, Contains, slice_get}
+use Rattle.dia_book.specs.Dictionary.{Dictionary, PlainDefinition, definitions}
+use Rattle.dia_check.specs.declared.Unknown.{Unknown}
+use Rattle.dia_check.specs.declared.Levels.{Levels}
+use Rattle.dia_check.specs.Valid.{IsValidOf}
+
+-- a table without where it lies in memory
+pub record PlainTable : Type 0 where
+  pub commands : List (List ℕ × List ℕ)
+  pub avps : List (List ℕ × List ℕ)
+
+-- the pair stands in the table
+abbrev pub IsBeside : PlainTable → PlainDefinition → PlainDefinition → Type 0
+IsBeside table c d = Contains table.commands (c.name, d.name)
+
+-- each valid message of a command that the table lists is valid under the second dictionary, as a message of a command beside it
+abbrev pub IsIncluded : Dictionary → Dictionary → Unknown → PlainTable → Type 0
+IsIncluded da db u table = (most : Levels) (bytes : List ℕ) (c : ℕ) (command : PlainDefinition) (p : List ℕ × List ℕ)
+    → slice_get (definitions da) c ≡ Some command → Contains table.commands p → command.name ≡ p.0 → IsValidOf da u most bytes c
+    → (d : ℕ) × (other : PlainDefinition) × (slice_get (definitions db) d ≡ Some other) × IsBeside table command other × IsValidOf db u most bytes d
