@@ -69,6 +69,23 @@ def counts(low, high):
     return f"{low}..{'*' if high == math.inf else int(high)}"
 
 
+def runs(ranges, others=()):
+    """The numbers of the ranges that the others lack, as ranges in order, none of which touch."""
+    ends = sorted({end for low, high in (*ranges, *others) for end in (low, high + 1)})
+    found = []
+    for low, behind in zip(ends, ends[1:]):
+        if any(r[0] <= low <= r[1] for r in ranges) and not any(r[0] <= low <= r[1] for r in others):
+            if found and found[-1][1] == low - 1:
+                low = found.pop()[0]
+            found.append((low, behind - 1))
+    return " ".join(f"{low}" if low == high else f"{low}..{high}" for low, high in found)
+
+
+def whole(format, listed):
+    """A format with all numbers of its list."""
+    return f"{format} ( {runs(listed)} )" if listed else format
+
+
 def key_of(code, vendor):
     return code + (int(vendor or 0) << 32)
 
@@ -277,7 +294,7 @@ class Model:
     def breaking_data(self, mine, other):
         f, g = mine.format if mine else "any data", other.format
         listed = mine.listed if mine else None
-        words = f"{f} sent, {g} accepted"
+        words = f"{whole(f, listed)} sent, {whole(g, other.listed)} accepted"
         if g in ANY_DATA or f == g == "Grouped":
             return None
         if f == "Grouped":
@@ -297,9 +314,9 @@ class Model:
             return None if g == f else (4, words)
         if SIZES[f] == 8:
             return None if SIZES.get(g) == 8 else (8, words)
-        return self.breaking_number(listed, f, g, other.listed)
+        return self.breaking_number(listed, g, other.listed, words)
 
-    def breaking_number(self, listed, f, g, accepted):
+    def breaking_number(self, listed, g, accepted, words):
         numbers = lambda: (n for low, high in (listed or [(0, 2**32 - 1)]) for n in range(low, high + 1))
         if g in SIZES and SIZES[g] == 4:
             if not accepted:
@@ -307,11 +324,11 @@ class Model:
             first = next((n for n in numbers() if not any(low <= n <= high for low, high in accepted)), None)
             if first is None:
                 return None
-            return 4, f"{first} sent, not in the list" if listed else f"{f} sent, {g} accepted"
+            return 4, f"{runs(listed, accepted)} sent, not in the list" if listed else words
         for n in numbers():
             data = n.to_bytes(4, "big")
             if not is_data(g, data):
-                return 4, f"{f} sent, {g} accepted"
+                return 4, words
         return None
 
     # ---- sites
@@ -328,8 +345,7 @@ class Model:
             else:
                 if command.proxiable != b.proxiable:
                     found[path, "proxiable", None] = (f"P {'set' if command.proxiable else 'clear'} sent", 20 + self.least(command))
-                else:
-                    starts.append((0, len(starts), path, command, b))
+                starts.append((0, len(starts), path, command, b))
         seen, queue, order = set(), starts, itertools.count(len(starts))
         heapq.heapify(queue)
         best = {}
@@ -360,6 +376,12 @@ class Model:
     def name(self, key):
         entry = self.a.entries.get(key) or self.b.entries.get(key)
         return entry.name if entry else "AVP"
+
+    def flag_for(self, request, code, app):
+        """The P flag of the definition of B that messages of the code and the application select."""
+        others = [d for d in self.b.commands if d.selector == (str(code), request)]
+        own = [d for d in others if d.app == app] or [d for d in others if d.app is None]
+        return own[0].proxiable
 
     def selected(self, command):
         """Of each header that tells of others: the path, the reason where no definition is selected, else the definition."""

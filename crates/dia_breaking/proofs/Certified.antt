@@ -36,11 +36,13 @@ use Rattle.dia_breaking.specs.Closing.{HoldsWays, IsClosedBy, ground}
 use Rattle.dia_breaking.specs.Certified.{IsToldAt, way_to, ways_of, room_at, IsClosedWith, IsClosedGroup, IsClosedCommand, IsClosedAt, AreClosedAt, AreClosedTogether}
 use Rattle.dia_breaking.specs.Free.{IsReadBy, IsFreeLevel, TellsFlags, AreValidWhereFree}
 use Rattle.dia_breaking.specs.Headers.{head_in, AreApps, TellsRefusal, IsCommandPlace, AreHeadersMet, both_apps}
+use Rattle.dia_breaking.specs.Mended.{AreValidOnceMended}
 use Rattle.dia_breaking.specs.OwnKeys.{own_key, own_keys}
 use Rattle.dia_breaking.specs.Sides.{sides, answer}
 use Rattle.dia_breaking.specs.Lengths.{Costs}
 use Rattle.dia_breaking.proofs.ClosedSites.{safe_site, safe_for_fewer}
 use Rattle.dia_breaking.proofs.Lists.{all_in, contains_at}
+use Rattle.dia_breaking.proofs.MendedMessages.{once_mended}
 use Rattle.dia_breaking.proofs.OpenCommands.{into_filter_map}
 use Rattle.dia_breaking.proofs.ToldHeaders.{HoldsRead, read_at, headers_met}
 
@@ -147,6 +149,10 @@ module _ (da db : Dictionary) (c : ℕ) (x : PlainDefinition) (at : slice_get (d
   holds_read told head is_head app number other (site, inside, read, here) select is =
       has told site (between x max_body other) inside (command_at site.place site.way site.is_read app number head other is_head read here select is)
 
+  command_room : (place : Place) (way app : ℕ) → IsCommandPlace app place → room_at place way ≡ max_body
+  command_room (places.Command own is_told proxiable) way app here = refl
+  command_room (places.Group key outer) way app here = absurd here
+
   -- ---- safe
 
   module _ (who : Sends) (u : Unknown) (f : Key → ℕ) (told : List Site) (lines : List Line) (floors : AreFloors da who f)
@@ -186,11 +192,22 @@ module _ (da db : Dictionary) (c : ℕ) (x : PlainDefinition) (at : slice_get (d
         valid da db who u (IsFreeLevel da db u told lines c) (TellsRefusal lines) (TellsFlags da db told lines c) (sites_of told) all_safe c x at
         (met da db sa sb (sites_of told) (TellsRefusal lines) (TellsFlags da db told lines c) x c at by) bytes sent free.asked
 
+    pub mended_by : AreValidOnceMended (sides da db who u) (answer c told lines)
+    mended_by shown bytes mended sent app site other header level asked mends message =
+        let there = at_site site.place site.way site.is_read sent.command other level.is_read level.read in
+        let pair = has told site (between sent.command (room_at site.place site.way) other) level.inside there in
+        once_mended da db who u (IsFreeLevel da db u told lines c) (sites_of told) all_safe bytes mended c other header sent mends message
+        (subst (HasSite (sites_of told) sent.command other) (command_room site.place site.way app level.place) pair) asked
+
 pub certified : (da db : Dictionary) (who : Sends) (u : Unknown) (f : Key → ℕ) (c : ℕ) (x : PlainDefinition) (told : List Site) (lines : List Line) (head : Head) (first second : Apps)
     → IsDictionary da → IsDictionary db → slice_get (definitions da) c ≡ Some x → head_in x.head ≡ Some head → AreApps da first → AreApps db second → AreFloors da who f
     → AreHeadersMet da db (answer c told lines) (both_apps first second) head → AreClosedTogether (sides da db who u) f (answer c told lines) → AreValidWhereFree (sides da db who u) (answer c told lines)
 certified da db who u f c x told lines head first second sa sb at is_head in_a in_b floors heads closed =
     valid_by da db c x at who u f told lines floors closed head first second sa sb is_head in_a in_b heads
+
+pub certified_mended : (da db : Dictionary) (who : Sends) (u : Unknown) (f : Key → ℕ) (c : ℕ) (x : PlainDefinition) (told : List Site) (lines : List Line) → slice_get (definitions da) c ≡ Some x
+    → AreFloors da who f → AreClosedTogether (sides da db who u) f (answer c told lines) → AreValidOnceMended (sides da db who u) (answer c told lines)
+certified_mended da db who u f c x told lines at floors closed = mended_by da db c x at who u f told lines floors closed
 
 -- ---- what the tests of pairs show
 

@@ -14,6 +14,7 @@ use Rattle.dia_breaking.specs.declared.line.Site.{Site}
 use Rattle.dia_breaking.specs.Confirmed.{told_of}
 use Rattle.dia_breaking.specs.Free.{IsLineOf, IsFreeLevel, TellsFlags, IsFree, AreValidWhereFree}
 use Rattle.dia_breaking.specs.Headers.{TellsRefusal}
+use Rattle.dia_breaking.specs.Mended.{AreValidOnceMended, IsUnsent}
 use Rattle.dia_breaking.specs.OwnKeys.{own_key}
 use Rattle.dia_breaking.specs.Sides.{sides, answer}
 use Rattle.dia_breaking.proofs.Lists.{same_image}
@@ -41,6 +42,18 @@ all_valid da db who u sites lines c valid bytes sent free = valid bytes sent
 pub none_free : (da db : Dictionary) (who : Sends) (u : Unknown) (sites : List Site) (lines : List Line) (c : ℕ) (line : Line) → Contains lines line → line.cause ≡ causes.Unproved
     → AreValidWhereFree (sides da db who u) (answer c sites lines)
 none_free da db who u sites lines c line inside is bytes sent free = absurd (free.shown line inside is)
+
+pub none_mended : (da db : Dictionary) (who : Sends) (u : Unknown) (sites : List Site) (lines : List Line) (c : ℕ) (line : Line) → Contains lines line → line.cause ≡ causes.Unproved
+    → AreValidOnceMended (sides da db who u) (answer c sites lines)
+none_mended da db who u sites lines c line inside is shown bytes mended sent app site other header level asked mends message = absurd (shown line inside is)
+
+-- where none is sent
+pub unsent_valid : (da db : Dictionary) (who : Sends) (u : Unknown) (c : ℕ) → IsUnsent (sides da db who u) c → AreValid da db who u c
+unsent_valid da db who u c unsent bytes sent = absurd (unsent bytes sent)
+
+pub unsent_mended : (da db : Dictionary) (who : Sends) (u : Unknown) (sites : List Site) (lines : List Line) (c : ℕ) → IsUnsent (sides da db who u) c
+    → AreValidOnceMended (sides da db who u) (answer c sites lines)
+unsent_mended da db who u sites lines c unsent shown bytes mended sent app site other header level asked mends message = absurd (unsent bytes sent)
 
 -- ---- lines of which something else is known
 
@@ -88,3 +101,8 @@ module _ (da db : Dictionary) (u : Unknown) (sites : List Site) (old new : List 
 
   pub still_valid : (who : Sends) → AreValidWhereFree (sides da db who u) (answer c sites old) → AreValidWhereFree (sides da db who u) (answer c sites new)
   still_valid who valid bytes sent free = valid bytes sent (still_free sent.header sent.command sent.avps free)
+
+  pub still_mended : (who : Sends) → AreValidOnceMended (sides da db who u) (answer c sites old) → AreValidOnceMended (sides da db who u) (answer c sites new)
+  still_mended who valid shown bytes mended sent app site other header level asked mends message =
+      valid (λ line inside is. let t = there line inside in shown t.other t.inside (t.cause ∙ is)) bytes mended sent app site other header level
+      (λ a b inner lies. free_level a b inner (asked a b inner lies)) mends message

@@ -26,6 +26,7 @@ pub mod OpenCommands
 pub mod ToldHeaders
 pub mod Certified
 pub mod TooLong
+mod MendedMessages
 pub mod FreeOfLines
 mod Paths
 mod ValueTexts
@@ -37,3 +38,5 @@ pub mod Listings
 pub mod OneOwn
 pub mod OneStart
 pub mod TheOneList
+mod GapsInRanges
+mod LackingNumbers

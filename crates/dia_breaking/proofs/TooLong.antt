@@ -18,7 +18,7 @@ use Rattle.dia_policy.specs.declared.Sends.{Sends}
 use Rattle.dia_policy.specs.declared.Sends.TheVariants.{Any, Known, Listed}
 use Rattle.dia_check.specs.Valid.{AllowsP, Placed}
 use Rattle.dia_breaking_sites.specs.Sent.{AreBytes, StandAsSent}
-use Rattle.dia_breaking_sites.specs.Selection.{max_body, AreValid}
+use Rattle.dia_breaking_sites.specs.Selection.{max_body}
 use Rattle.dia_breaking_sites.proofs.Members.{all_parts}
 use Rattle.dia_rules.specs.Rules.{rules_in}
 use Rattle.dia_rules.proofs.Members.{there_is}
@@ -28,6 +28,8 @@ use Rattle.dia_breaking_shortest.specs.Floors.{AreFloors}
 use Rattle.dia_breaking_shortest.proofs.FloorsOfAvps.{no_message}
 use Rattle.dia_breaking.specs.Headers.{head_in}
 use Rattle.dia_breaking.specs.Lengths.{listed_length, other_length}
+use Rattle.dia_breaking.specs.Mended.{IsUnsent}
+use Rattle.dia_breaking.specs.Sides.{sides}
 use Rattle.dia_breaking.proofs.ClosedBy.{stand_price}
 use Rattle.dia_breaking.proofs.LevelCosts.{one_is_shortest}
 
@@ -85,6 +87,15 @@ message_within h vs b m are =
     let e = aligned vs m.body m.is_body in
     omega (arith, whole, less, e)
 
+pub body_bytes : (h : Header) (vs : List PlainAvp) (b : List ℕ) (m : IsMessage h vs b) → AreBytes b → AreBytes m.body
+body_bytes h vs b m are = (all_parts IsByte m.head m.body (subst AreBytes m.parts are)).1
+
+pub body_within : (h : Header) (vs : List PlainAvp) (b : List ℕ) (m : IsMessage h vs b) → AreBytes b → length m.body ≤ max_body
+body_within h vs b m are =
+    let whole : length b ≡ 20 + length m.body = ap length m.parts ∙ length-append m.head m.body ∙ ap (λ (k : ℕ). k + length m.body) (head_takes h (length b) m.head m.is_head) in
+    let within : length b ≤ 20 + max_body = message_within h vs b m are in
+    omega (arith, whole, within)
+
 -- ---- what its AVPs take
 
 placed_of : (who : Sends) (rules : List DRule) (keys : List Key) → StandAsSent who rules keys → Placed rules keys
@@ -93,7 +104,7 @@ placed_of Known rules keys stand = stand
 placed_of Listed rules keys stand = stand.0
 
 pub unsent : (da db : Dictionary) (who : Sends) (u : Unknown) (entries : List ℕ) (rules : List DRule) (c n : ℕ) (x : PlainDefinition) → slice_get (definitions da) c ≡ Some x → rules ≡ x.rules
-    → AreFloors da who (listed_length da who entries) → IsWithinAll (price (listed_length da who entries) (other_length da who entries) rules) rules n → max_body < n → AreValid da db who u c
+    → AreFloors da who (listed_length da who entries) → IsWithinAll (price (listed_length da who entries) (other_length da who entries) rules) rules n → max_body < n → IsUnsent (sides da db who u) c
 unsent da db who u entries rules c n x at same floors least long bytes s =
     let own : s.command.rules ≡ rules = ap (λ (y : PlainDefinition). y.rules) (same_Some s.command x (sym s.is_command ∙ at)) ∙ sym same in
     let keys = map key_of s.avps in
@@ -102,10 +113,10 @@ unsent da db who u entries rules c n x at same floors least long bytes s =
     let price_is = stand_price da who entries rules keys stand in
     let whole = no_message da who (listed_length da who entries) floors bytes c s in
     let within = message_within s.header s.avps bytes s.message s.are_bytes in
-    absurd (omega (arith, level, price_is, whole, within, long))
+    omega (arith, level, price_is, whole, within, long)
 
-pub no_message_of_group : (da db : Dictionary) (who : Sends) (u : Unknown) (c : ℕ) (x : PlainDefinition) → slice_get (definitions da) c ≡ Some x → None ≡ head_in x.head → AreValid da db who u c
-no_message_of_group da db who u c x at is bytes s = absurd (by x.head is (subst (λ (y : PlainDefinition). AllowsP y.head s.header.flags) (same_Some s.command x (sym s.is_command ∙ at)) s.proxiable))
+pub no_message_of_group : (da db : Dictionary) (who : Sends) (u : Unknown) (c : ℕ) (x : PlainDefinition) → slice_get (definitions da) c ≡ Some x → None ≡ head_in x.head → IsUnsent (sides da db who u) c
+no_message_of_group da db who u c x at is bytes s = by x.head is (subst (λ (y : PlainDefinition). AllowsP y.head s.header.flags) (same_Some s.command x (sym s.is_command ∙ at)) s.proxiable)
   where
     by : (h : DefHead) → None ≡ head_in h → AllowsP h s.header.flags → ⊥
     by (Group key) e p = p
@@ -117,7 +128,7 @@ pub too_long_when : (da db : Dictionary) (who : Sends) (u : Unknown) (entries : 
     → ((y : ℕ) → FirstIsShortest (other_length da who entries) keys (rules_in da c) (rules_in db y))
     → (OtherIsShortest (other_length da who entries) keys (rules_in da c)
     → IsWithinAll (price (listed_length da who entries) (other_length da who entries) (rules_in da c)) (rules_in da c) n)
-    → max_body < n → AreFloors da who (listed_length da who entries) → AreValid da db who u c
+    → max_body < n → AreFloors da who (listed_length da who entries) → IsUnsent (sides da db who u) c
 too_long_when da db who u entries keys c n within shortest least long floors =
     unsent da db who u entries (rules_in da c) c n x.0 x.1 rules_are floors (least (one_is_shortest (other_length da who entries) keys (rules_in da c) db shortest)) long
   where

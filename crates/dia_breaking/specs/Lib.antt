@@ -11,6 +11,7 @@ pub mod Headers
 pub mod Lengths
 pub mod LevelCosts
 pub mod Listing
+pub mod Mended
 pub mod Nodes
 pub mod Orders
 pub mod Outlooks
@@ -25,3 +26,5 @@ pub mod TheLines
 pub mod ToldApps
 pub mod Upgrades
 pub mod Words
+pub mod Gaps
+pub mod Runs

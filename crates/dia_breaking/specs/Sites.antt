@@ -25,12 +25,12 @@ both_allow head other set = allows head.p set && allows other.p set
 abbrev pub refused_site : Head → ℕ → Site
 refused_site head app = record { place = places.Command app false (not (allows head.p false)); way = 0; is_read = false }
 
--- B selects a definition with this head. P is set where it can't be clear
+-- B selects a definition with this head. P is set where it can't be clear; where no P flag is allowed by both, it is one that A allows
 abbrev pub read_site : Head → ℕ → Head → Site
 read_site head app other = record {
   place = places.Command app (is_none head.app && is_some other.app) (not (both_allow head other false) && (both_allow head other true || not (allows head.p false)));
   way = 0;
-  is_read = both_allow head other false || both_allow head other true;
+  is_read = true;
 }
 
 abbrev pub command_site : Dictionary → Head → ℕ → Site

@@ -1,21 +1,16 @@
 -- The words of a line: `PATH: REASON SUBJECT: DETAIL`. A is the sender's dictionary, B the receiver's.
 use Rattle.std.specs.Prelude.{◌≡◌, ℕ, zero, suc, Bool, true, false, not, ◌&&◌, ◌==◌, nat_lt, nat_le, if◌then◌else◌, List, [], ◌∷◌, ◌++◌, length, codes, string_bytes}
 use Rattle.std.specs.Prelude.{Option, Some, None, unwrap_or, option_and_then, slice_get}
-use Rattle.std.specs.List.{flat_map, list_any}
+use Rattle.std.specs.List.{flat_map}
 use Rattle.std.specs.Option.{option_map, option_map_or, option_or}
-use Rattle.std.specs.Int.{w32, cast_signed}
 use Rattle.std.specs.declared.string.String.{String}
 use Rattle.std.specs.Borrow.{Bor}
-use Rattle.std.specs.Fmt.{decimal, signed_decimal}
+use Rattle.std.specs.Fmt.{decimal}
 use Rattle.dia_wire.specs.declared.Key.{Key}
-use Rattle.dia_data.specs.Number.{number}
-use Rattle.dia_data.specs.Ranges.{covers}
 use Rattle.dia_data.specs.declared.Format.{Format}
 use Rattle.dia_data.specs.Plain.{PlainFormat, plain_format, OctetString, Integer32, Integer64, Unsigned32, Unsigned64, Float32, Float64, Grouped, Address}
 use Rattle.dia_data.specs.Plain.{Time, Utf8String, DiameterIdentity, DiameterUri, Enumerated, IpFilterRule, QosFilterRule}
-use Rattle.dia_data.specs.Shown.{hexadecimal}
-use Rattle.dia_breaking_data.specs.declared.short_data.Witness.{Witness}
-use Rattle.dia_breaking_data.specs.Shortest.{witness_bytes}
+use Rattle.dia_breaking.specs.Runs.{canonical, lacking_of, ranges_in}
 use Rattle.dia_book.specs.declared.DRule.{DRule}
 use Rattle.dia_book.specs.Dictionary.{Dictionary, definitions, groups, selected}
 use Rattle.dia_policy.specs.declared.Unknown.{Unknown}
@@ -183,42 +178,36 @@ format_word QosFilterRule = codes "QoSFilterRule"
 abbrev pub plain_of : Option (Bor Format) → Option PlainFormat
 plain_of format = option_map (λ f. plain_format f.now) format
 
-abbrev pub bytes_of : Option (Bor Witness) → Option (List ℕ)
-bytes_of found = option_map (λ d. witness_bytes d.now) found
-
 abbrev pub format_in : Dictionary → Key → Option PlainFormat
 format_in d key = option_map (λ e. e.format) (known d key)
 
+-- `3`, or `0..1`
+abbrev pub range_text : ℕ × ℕ → List ℕ
+range_text range = if range.0 == range.1 then decimal range.0 else decimal range.0 ++ codes ".." ++ decimal range.1
+
+-- each with a space behind it
+abbrev pub ranges_text : List (ℕ × ℕ) → List ℕ
+ranges_text ranges = flat_map (λ range. range_text range ++ codes " ") ranges
+
+-- the numbers of a list, if there is one: ` ( 0..1 3 )`
+abbrev pub list_text : Option (List (ℕ × ℕ)) → List ℕ
+list_text ranges = option_map_or (λ numbers. codes " ( " ++ ranges_text numbers ++ codes ")") (option_map canonical ranges) []
+
+-- the word of a format, and all numbers of its list
+abbrev pub whole_format : PlainFormat → List ℕ
+whole_format format = format_word format ++ list_text (ranges_in format)
+
 abbrev pub formats_text : Option PlainFormat → Option PlainFormat → List ℕ
 formats_text sent accepted =
-    option_map_or format_word sent (codes "any data") ++ codes " sent, " ++ option_map_or format_word accepted (codes "nothing") ++ codes " accepted"
-
-abbrev pub ranges_in : PlainFormat → Option (List (ℕ × ℕ))
-ranges_in (Enumerated ranges) = ranges
-ranges_in format = None
-
--- the number of an Enumerated AVP; what is none of the list in hexadecimal
-abbrev pub number_text : List (ℕ × ℕ) → List ℕ → List ℕ
-number_text ranges bytes =
-    if (length bytes == 4) && list_any (covers (number bytes)) ranges then signed_decimal (cast_signed w32 (number bytes)) else hexadecimal bytes
-
--- the data, where both formats have lists of numbers
-abbrev pub data_text : Option (List (ℕ × ℕ)) → Option (List (ℕ × ℕ)) → List ℕ → Option (List ℕ)
-data_text (Some ranges) (Some others) bytes = Some (number_text ranges bytes ++ codes " sent, not in the list")
-data_text (Some ranges) None bytes = None
-data_text None others bytes = None
+    option_map_or whole_format sent (codes "any data") ++ codes " sent, " ++ option_map_or whole_format accepted (codes "nothing") ++ codes " accepted"
 
 abbrev pub ranges_at : Option PlainFormat → Option (List (ℕ × ℕ))
 ranges_at format = option_and_then ranges_in format
 
--- both have a list, and this is the first
-abbrev pub AreListed : Option PlainFormat → Option PlainFormat → PlainFormat → Type 0
-AreListed sent accepted format = (ranges : List (ℕ × ℕ)) × (others : List (ℕ × ℕ)) × (ranges_at sent ≡ Some ranges) × (ranges_at accepted ≡ Some others)
-    × (format ≡ Enumerated (Some ranges))
-
-abbrev pub format_detail : Option PlainFormat → Option PlainFormat → Option (List ℕ) → List ℕ
-format_detail sent accepted found =
-    unwrap_or (option_and_then (data_text (ranges_at sent) (ranges_at accepted)) found) (formats_text sent accepted)
+-- where both formats have a list, all numbers of the first that the second lacks; else both formats
+abbrev pub format_detail : Option PlainFormat → Option PlainFormat → List ℕ
+format_detail sent accepted =
+    option_map_or (λ numbers. ranges_text numbers ++ codes "sent, not in the list") (lacking_of (ranges_at sent) (ranges_at accepted)) (formats_text sent accepted)
 
 -- ---- lines
 
@@ -234,8 +223,8 @@ unknown_detail Refused m = codes "sent, not known"
 abbrev pub m_bit_text : Sides → Key → Bool → List ℕ
 m_bit_text s key m = codes "m-bit " ++ avp_name s key ++ codes ": M " ++ flag_word m ++ codes " sent, M " ++ flag_word (not m) ++ codes " accepted"
 
-abbrev pub format_text : Sides → Key → Option (List ℕ) → List ℕ
-format_text s key found = codes "format " ++ avp_name s key ++ codes ": " ++ format_detail (format_in s.sender key) (format_in s.receiver key) found
+abbrev pub format_text : Sides → Key → List ℕ
+format_text s key = codes "format " ++ avp_name s key ++ codes ": " ++ format_detail (format_in s.sender key) (format_in s.receiver key)
 
 abbrev pub refused_application : Place → List ℕ
 refused_application (places.Command app is_told proxiable) = codes "application " ++ decimal app ++ codes ": not accepted"
@@ -258,7 +247,7 @@ cause_text s other at (causes.Proxiable set) = codes "proxiable -: P " ++ flag_w
 cause_text s other at (causes.Level line) = level_text s other at.command (slice_get at.sites at.site) line
 cause_text s other at (causes.Unknown key m) = codes "unknown " ++ avp_name s key ++ codes ": " ++ unknown_detail s.unknown m
 cause_text s other at (causes.MBit key m) = m_bit_text s key m
-cause_text s other at (causes.Format key found) = format_text s key (option_map witness_bytes found)
+cause_text s other at (causes.Format key found) = format_text s key
 cause_text s other at (causes.LevelAsLeaf key) = avp_name s key ++ codes ": " ++ formats_text (format_in s.sender key) (format_in s.receiver key)
 cause_text s other at causes.Unproved = codes "-: nothing more found, not proved"
 

@@ -6,9 +6,10 @@ ghost use Rattle.dia_book.specs.Dictionary.{definitions};
 ghost use Rattle.dia_breaking.specs.Certified.{AreClosedAt, AreClosedTogether, IsClosedAt};
 ghost use Rattle.dia_breaking.specs.Certified.{IsClosedCommand, IsClosedGroup, way_to, ways_of};
 ghost use Rattle.dia_breaking.specs.ClosedBy.{ground_of};
-ghost use Rattle.dia_breaking.specs.Free.{AllAreValid, AreValidWhereFree};
+ghost use Rattle.dia_breaking.specs.Free.{AreValidWhereFree};
 ghost use Rattle.dia_breaking.specs.Headers.{HasHead};
 ghost use Rattle.dia_breaking.specs.Listing.{new_line};
+ghost use Rattle.dia_breaking.specs.Mended.{AreValidOnceMended, IsUnsent};
 ghost use Rattle.dia_breaking.specs.Sender.{costs_of};
 ghost use Rattle.dia_breaking.specs.Sides.{answer_of};
 ghost use Rattle.dia_breaking.specs.TheLines.{HaveSameSites};
@@ -39,6 +40,7 @@ impl<'a, A: Book, B: Book> Upgrade<'a, A, B> {
         requires { HasHead (sides_of self.now).sender found.command head.now }
         ensures same { IfOk result (HaveSameSites found) }
         ensures free { IfOk result (λ breaks. ∥ AreValidWhereFree (sides_of self.now) (answer_of breaks) ∥₁) }
+        ensures mended { IfOk result (λ breaks. ∥ AreValidOnceMended (sides_of self.now) (answer_of breaks) ∥₁) }
         ensures kept { IfOk result (λ breaks. (breaks.lines.items ≡ found.lines.items)
             ⊎ (breaks.lines.items ≡ found.lines.items ++ new_line 0 Cause.Unproved 0 ∷ [])) }
     {
@@ -50,11 +52,13 @@ impl<'a, A: Book, B: Book> Upgrade<'a, A, B> {
         Ok(found)
     }
 
-    /// Whether it is shown that each message of a command with this head that is free of the lines is valid under B, by the
-    /// sites that a walk has found. The error comes only where memory was refused.
+    /// Whether it is shown that each message of a command with this head that is free of the lines is valid under B, also once its
+    /// header is mended, by the sites that a walk has found. The error comes only where memory was refused.
     fn is_certified(&self, alloc: Global, head: &Head, found: &Breaks) -> Result<bool, AllocError>
         requires { HasHead (sides_of self.now).sender found.now.command head.now }
-        ensures { IfOk result (λ yes. IsTrue yes → ∥ AreValidWhereFree (sides_of self.now) (answer_of found.now) ∥₁) }
+        ensures free { IfOk result (λ yes. IsTrue yes → ∥ AreValidWhereFree (sides_of self.now) (answer_of found.now) ∥₁) }
+        ensures mended { IfOk result (λ yes. IsTrue yes
+            → ∥ AreValidOnceMended (sides_of self.now) (answer_of found.now) ∥₁) }
     {
         if self.is_too_long(found.command) {
             return Ok(true);
@@ -69,7 +73,7 @@ impl<'a, A: Book, B: Book> Upgrade<'a, A, B> {
     /// Whether no message has room for the least level of the command.
     fn is_too_long(&self, command: DefId) -> bool
         requires { command < length (definitions (sides_of self.now).sender) }
-        ensures { IsTrue result → ∥ AllAreValid (sides_of self.now) command ∥₁ }
+        ensures { IsTrue result → ∥ IsUnsent (sides_of self.now) command ∥₁ }
     {
         ROOM < length_least(self.lengths.book, command, &self.lengths)
     }

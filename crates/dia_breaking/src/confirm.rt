@@ -10,23 +10,28 @@ ghost use Rattle.dia_breaking.specs.Listing.{unchecked};
 ghost use Rattle.dia_breaking.specs.TheLines.{HaveSameSites};
 ghost use Rattle.dia_breaking.specs.Upgrades.{sides_of};
 
-use crate::line::{Breaks, Cause, Line, Standing};
+use crate::heads::{allows, head_of};
+use crate::line::{Breaks, Cause, Line, Place, Site, Standing};
 use crate::upgrade::Upgrade;
 use dia_book::{Book, DefId};
 use dia_check::{Levels, Refusal, check};
 use dia_policy::{Sends, Unknown};
+use dia_wire::COMMAND_PROXIABLE;
 use std::alloc::{AllocError, Global};
 
 /// The most bytes of a message that is checked.
 const MOST_CHECKED: u64 = 1 << 20;
+
+/// The place of the Command Flags in a message.
+const COMMAND_FLAGS: usize = 4;
 
 /// The most bytes of all messages of a command that are checked.
 const MOST_CHECKED_TOGETHER: u64 = 1 << 24;
 
 impl<'a, A: Book, B: Book> Upgrade<'a, A, B> {
     /// The message of a line, where checks under both dictionaries show that it is valid under A, as one of the command, and not
-    /// under B. For `Listed` it is checked only that A knows its AVPs, and not that its rules list them. The error comes only
-    /// where memory was refused.
+    /// under B; behind the header also not with a P flag that B's definition takes. For `Listed` it is checked only that A knows
+    /// its AVPs, and not that its rules list them. The error comes only where memory was refused.
     pub fn confirmed_message(
         &self,
         alloc: Global,
@@ -36,10 +41,47 @@ impl<'a, A: Book, B: Book> Upgrade<'a, A, B> {
         ensures { IfOk result (λ found. IfSome found (λ bytes. IsConfirmed (sides_of self.now) bytes.items breaks.now.command)) }
     {
         let bytes = self.message(alloc, breaks, line)?;
-        if self.is_confirmed(alloc, breaks.command, &bytes)? {
+        let confirmed = self.is_confirmed(alloc, breaks.command, &bytes)?;
+        if confirmed && self.breaks_mended(alloc, breaks, line, &bytes)? {
             Ok(Some(bytes))
         } else {
             Ok(None)
+        }
+    }
+
+    /// Whether B's side refuses the message of a line also where its P flag is mended, unless the line is of the header.
+    fn breaks_mended(
+        &self,
+        alloc: Global,
+        breaks: &Breaks,
+        line: &Line,
+        bytes: &[u8],
+    ) -> Result<bool, AllocError> {
+        if is_of_header(&line.cause) {
+            return Ok(true);
+        }
+        let path = breaks.path(alloc, line.site)?;
+        match self.mended_flag(breaks, path.first()) {
+            Some(set) => {
+                let mended = with_flag(alloc, bytes, set)?;
+                Ok(!is_valid(alloc, self.b, self.unknown, &mended)?)
+            }
+            None => Ok(true),
+        }
+    }
+
+    /// The P flag that B's definition takes at a site of the command, where messages of the site have the other one.
+    fn mended_flag(&self, breaks: &Breaks, site: Option<&Site>) -> Option<bool> {
+        let place = site?.place;
+        let Place::Command { proxiable, .. } = place else {
+            return None;
+        };
+        let def = self.definition_of_b(breaks.code, breaks.class, place)?;
+        let head = head_of(self.b, def)?;
+        if allows(head.p, proxiable) {
+            None
+        } else {
+            Some(!proxiable)
         }
     }
 
@@ -97,6 +139,28 @@ impl<'a, A: Book, B: Book> Upgrade<'a, A, B> {
             None => Ok(Standing::Undecided),
         }
     }
+}
+
+/// Whether the line tells of the header.
+fn is_of_header(cause: &Cause) -> bool {
+    matches!(
+        cause,
+        Cause::Command | Cause::Application | Cause::Proxiable { .. }
+    )
+}
+
+/// The message with this P flag.
+fn with_flag(alloc: Global, bytes: &[u8], set: bool) -> Result<Vec<u8>, AllocError> {
+    let mut mended = Vec::new(alloc);
+    mended.extend_from_slice(bytes)?;
+    if let Some(flags) = mended.get_mut(COMMAND_FLAGS) {
+        *flags = if set {
+            *flags | COMMAND_PROXIABLE
+        } else {
+            *flags & !COMMAND_PROXIABLE
+        };
+    }
+    Ok(mended)
 }
 
 /// Whether no message is known that breaks as the line tells.

@@ -1,67 +1,70 @@
-//! The words of formats, and of data.
-ghost use Rattle.std.specs.Prelude.{◌≡◌, ◌++◌, ℕ, List, None, Some, OnOk, IfNone, IfSome, codes, is_some};
-ghost use Rattle.std.specs.Option.{option_map_or};
-ghost use Rattle.dia_data.specs.Plain.{plain_format, Enumerated};
-ghost use Rattle.dia_breaking_data.specs.Shortest.{witness_bytes};
-ghost use Rattle.dia_breaking.specs.Words.{data_text, format_detail, format_word, formats_text};
-ghost use Rattle.dia_breaking.specs.Words.{number_text, ranges_at, ranges_in, AreListed, Writes};
-ghost use Rattle.dia_breaking.specs.Words.{bytes_of, plain_of};
+//! The words of formats, and the numbers of their lists.
+ghost use Rattle.std.specs.Prelude.{◌≡◌, ◌++◌, IfOk, OnOk, codes};
+ghost use Rattle.std.specs.Option.{option_map, option_map_or};
+ghost use Rattle.dia_data.specs.Plain.{plain_format};
+ghost use Rattle.dia_breaking.specs.Runs.{lacking_of};
+ghost use Rattle.dia_breaking.specs.Words.{format_detail, format_word, formats_text, plain_of};
+ghost use Rattle.dia_breaking.specs.Words.{range_text, ranges_at, ranges_text, whole_format, Writes};
 
+use crate::number_lists::{lacking, numbers_of};
 use dia_book::Format;
-use dia_breaking_data::Witness;
-use dia_data::push_value;
-use std::alloc::AllocError;
+use std::alloc::{AllocError, Global};
 
-/// Adds the data that are sent, where both formats have lists of numbers, or else both formats.
+/// Adds all numbers that are sent and that the list of the other format lacks, where both have lists; else both formats.
 pub(crate) fn push_format_detail(
+    alloc: Global,
     out: &mut String,
     sent: Option<&Format>,
     accepted: Option<&Format>,
-    found: Option<&Witness>,
 ) -> Result<(), AllocError>
-    ensures { OnOk result (Writes out.old out.new
-        (format_detail (plain_of sent.entry) (plain_of accepted.entry) (bytes_of found.entry))) }
+    ensures { OnOk result (Writes out.old out.new (format_detail (plain_of sent.entry) (plain_of accepted.entry))) }
 {
-    let Some(bytes) = found else {
-        return push_formats(out, sent, accepted);
-    };
-    match listed(sent, accepted) {
-        Some(format) => push_data(out, format, bytes),
+    match lacking_of(alloc, sent, accepted)? {
+        Some(numbers) => push_lacking(out, &numbers),
         None => push_formats(out, sent, accepted),
     }
 }
 
-/// The first of two formats that have a list of numbers.
-fn listed<'a>(sent: Option<&'a Format>, accepted: Option<&Format>) -> Option<&'a Format>
-    ensures found { IfSome result (λ f. AreListed (plain_of sent.entry) (plain_of accepted.entry) (plain_format f.now)) }
-    ensures none { IfNone result ((bytes : List ℕ)
-        → data_text (ranges_at (plain_of sent.entry)) (ranges_at (plain_of accepted.entry)) bytes ≡ None) }
+/// The numbers of the first format that the second lacks, where both have a list.
+fn lacking_of(
+    alloc: Global,
+    sent: Option<&Format>,
+    accepted: Option<&Format>,
+) -> Result<Option<Vec<(u32, u32)>>, AllocError>
+    ensures { IfOk result (λ found. option_map (λ v. v.items) found
+        ≡ lacking_of (ranges_at (plain_of sent.entry)) (ranges_at (plain_of accepted.entry))) }
 {
-    let format = sent?;
-    let other = accepted?;
-    if has_list(format) && has_list(other) {
-        Some(format)
+    match (sent, accepted) {
+        (Some(sent), Some(accepted)) => lacking(alloc, sent, accepted),
+        _ => Ok(None),
+    }
+}
+
+fn push_lacking(out: &mut String, numbers: &[(u32, u32)]) -> Result<(), AllocError>
+    ensures { OnOk result (Writes out.old out.new (ranges_text numbers.now ++ codes "sent, not in the list")) }
+{
+    push_ranges(out, numbers)?;
+    out.push_str("sent, not in the list")
+}
+
+/// Adds ranges, each with a space behind it.
+fn push_ranges(out: &mut String, ranges: &[(u32, u32)]) -> Result<(), AllocError>
+    ensures { OnOk result (Writes out.old out.new (ranges_text ranges.now)) }
+{
+    for &(low, high) in ranges {
+        push_range(out, low, high)?;
+    }
+    Ok(())
+}
+
+fn push_range(out: &mut String, low: u32, high: u32) -> Result<(), AllocError>
+    ensures { OnOk result (Writes out.old out.new (range_text (low, high) ++ codes " ")) }
+{
+    if low == high {
+        write!(out, "{low} ")
     } else {
-        None
+        write!(out, "{low}..{high} ")
     }
-}
-
-fn has_list(format: &Format) -> bool
-    ensures { result ≡ is_some (ranges_in (plain_format format.now)) }
-{
-    match format {
-        Format::Enumerated(values) => values.list().is_some(),
-        _ => false,
-    }
-}
-
-/// Adds a number of a list.
-fn push_data(out: &mut String, format: &Format, bytes: &Witness) -> Result<(), AllocError>
-    ensures { (ranges : List (ℕ × ℕ)) → plain_format format.now ≡ Enumerated (Some ranges) → OnOk result (Writes
-        out.old out.new (number_text ranges (witness_bytes bytes.now) ++ codes " sent, not in the list")) }
-{
-    push_value(out, format, bytes.as_slice())?;
-    out.push_str(" sent, not in the list")
 }
 
 /// Adds both formats.
@@ -72,20 +75,43 @@ pub(crate) fn push_formats(
 ) -> Result<(), AllocError>
     ensures { OnOk result (Writes out.old out.new (formats_text (plain_of sent.entry) (plain_of accepted.entry))) }
 {
-    out.push_str(word_or(sent, "any data"))?;
+    push_format_or(out, sent, "any data")?;
     out.push_str(" sent, ")?;
-    out.push_str(word_or(accepted, "nothing"))?;
+    push_format_or(out, accepted, "nothing")?;
     out.push_str(" accepted")
 }
 
-/// The word of a format, or this one where there is none.
-fn word_or<'a>(format: Option<&Format>, otherwise: &'a str) -> &'a str
-    ensures { result.now ≡ option_map_or format_word (plain_of format.entry) otherwise.now }
+/// Adds a format, or this word where there is none.
+fn push_format_or(
+    out: &mut String,
+    format: Option<&Format>,
+    otherwise: &str,
+) -> Result<(), AllocError>
+    ensures { OnOk result (Writes out.old out.new (option_map_or whole_format (plain_of format.entry) otherwise.now)) }
 {
     match format {
-        Some(format) => format_word(format),
-        None => otherwise,
+        Some(format) => push_whole(out, format),
+        None => out.push_str(otherwise),
     }
+}
+
+/// Adds the word of a format, and all numbers of its list.
+fn push_whole(out: &mut String, format: &Format) -> Result<(), AllocError>
+    ensures { OnOk result (Writes out.old out.new (whole_format (plain_format format.now))) }
+{
+    out.push_str(format_word(format))?;
+    match numbers_of(format) {
+        Some(numbers) => push_list(out, numbers),
+        None => Ok(()),
+    }
+}
+
+fn push_list(out: &mut String, numbers: &[(u32, u32)]) -> Result<(), AllocError>
+    ensures { OnOk result (Writes out.old out.new (codes " ( " ++ ranges_text numbers.now ++ codes ")")) }
+{
+    out.push_str(" ( ")?;
+    push_ranges(out, numbers)?;
+    out.push_str(")")
 }
 
 fn format_word(format: &Format) -> &'static str

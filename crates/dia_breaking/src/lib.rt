@@ -24,6 +24,7 @@ mod line;
 mod lines;
 mod message;
 mod nodes;
+mod number_lists;
 mod own_breaks;
 mod own_lines;
 mod sites;

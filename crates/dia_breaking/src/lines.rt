@@ -8,6 +8,7 @@ ghost use Rattle.dia_breaking.specs.Headers.{HasHead};
 ghost use Rattle.dia_breaking.specs.Listing.{AddsTold, IsListing, IsWalkFrom};
 ghost use Rattle.dia_breaking.specs.Listing.{command_levels, group_levels, level_lines};
 ghost use Rattle.dia_breaking.specs.Listing.{AreInOrder, lines_in, new_line, subject, tells, with_room};
+ghost use Rattle.dia_breaking.specs.Mended.{AreValidOnceMended};
 ghost use Rattle.dia_breaking.specs.Orders.{IsInOrderOf, of_each};
 ghost use Rattle.dia_breaking.specs.OwnBreaks.{TellData};
 ghost use Rattle.dia_breaking.specs.Sides.{answer_of};
@@ -41,6 +42,7 @@ impl<'a, A: Book, B: Book> Upgrade<'a, A, B> {
         ensures command { IfOk result (λ breaks. breaks.command ≡ command) }
         ensures head { IfOk result (λ breaks. IsOfHead breaks head.now) }
         ensures free { IfOk result (λ breaks. ∥ AreValidWhereFree (sides_of self.now) (answer_of breaks) ∥₁) }
+        ensures mended { IfOk result (λ breaks. ∥ AreValidOnceMended (sides_of self.now) (answer_of breaks) ∥₁) }
         ensures each { IfOk result (λ breaks. EachConfirmedBreaks (sides_of self.now) command breaks.lines.items) }
         ensures standings { IfOk result (λ breaks. HaveStandings most_checked_together breaks.lines.items) }
         ensures formats { IfOk result (λ breaks. ∥ TellData (sides_of self.now) breaks.lines.items ∥₁) }
@@ -56,6 +58,7 @@ impl<'a, A: Book, B: Book> Upgrade<'a, A, B> {
         ensures command { IfOk result (λ breaks. breaks.command ≡ command) }
         ensures head { IfOk result (λ breaks. IsOfHead breaks head.now) }
         ensures free { IfOk result (λ breaks. ∥ AreValidWhereFree (sides_of self.now) (answer_of breaks) ∥₁) }
+        ensures mended { IfOk result (λ breaks. ∥ AreValidOnceMended (sides_of self.now) (answer_of breaks) ∥₁) }
         ensures lines { IfOk result (λ breaks. AreLinesOrUnproved (sides_of self.now) (answer_of breaks)) }
         ensures formats { IfOk result (λ breaks. ∥ TellData (sides_of self.now) breaks.lines.items ∥₁) }
     {
@@ -69,6 +72,7 @@ impl<'a, A: Book, B: Book> Upgrade<'a, A, B> {
         ensures command { IfOk result (λ breaks. breaks.command ≡ command) }
         ensures head { IfOk result (λ breaks. IsOfHead breaks start.now.head) }
         ensures free { IfOk result (λ breaks. ∥ AreValidWhereFree (sides_of self.now) (answer_of breaks) ∥₁) }
+        ensures mended { IfOk result (λ breaks. ∥ AreValidOnceMended (sides_of self.now) (answer_of breaks) ∥₁) }
         ensures listing { IfOk result (λ breaks. AreAllOrUnproved (IsListing (sides_of self.now).receiver
             (basis_for self.now start.now) breaks.sites.items) breaks.sites.items breaks.lines.items) }
         ensures formats { IfOk result (λ breaks. ∥ TellData (sides_of self.now) breaks.lines.items ∥₁) }

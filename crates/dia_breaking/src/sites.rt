@@ -51,7 +51,8 @@ fn refused_site(head: &Head, app: u32) -> Site
     }
 }
 
-/// The site where B selects a definition with the head `other`.
+/// The site where B selects a definition with the head `other`. B's side reads its level whatever its P flag: where no P flag
+/// is allowed by both, it is one that A allows.
 fn read_site(head: &Head, app: u32, other: &Head) -> Site
     ensures { result ≡ read_site head.now app other.now }
 {
@@ -65,7 +66,7 @@ fn read_site(head: &Head, app: u32, other: &Head) -> Site
             proxiable: !clear && must_set,
         },
         way: 0,
-        is_read: clear || set,
+        is_read: true,
     }
 }
 

@@ -8,6 +8,7 @@ ghost use Rattle.dia_breaking.specs.Confirmed.{EachConfirmedBreaks, HaveStanding
 ghost use Rattle.dia_breaking.specs.Free.{AllAreValid, AreValidWhereFree};
 ghost use Rattle.dia_breaking.specs.Headers.{AreApps};
 ghost use Rattle.dia_breaking.specs.LevelCosts.{PicksShortest};
+ghost use Rattle.dia_breaking.specs.Mended.{AreValidOnceMended};
 ghost use Rattle.dia_breaking.specs.Nodes.{node_in};
 ghost use Rattle.dia_breaking.specs.OwnBreaks.{TellData};
 ghost use Rattle.dia_breaking.specs.Outlooks.{HasGroupLines, HasLinesFor};
@@ -115,7 +116,9 @@ impl<'a, A: Book, B: Book> Upgrade<'a, A, B> {
     }
 
     /// All that can break the messages of a command of A. Where no line is `Unproved`, each message of the command that A's side
-    /// sends, and that breaks in none of the ways that the lines tell, is valid under B; so where there is no line, each is.
+    /// sends, and that breaks in none of the ways that the lines tell, is valid under B; so where there is no line, each is. A
+    /// line of the header hides none of the levels behind it: a message whose levels are free of the lines is valid under B once
+    /// its P flag and its application are such as B's definition takes.
     ///
     /// The sites, and the places, causes and lengths of the lines, are the one list that the dictionaries, the sender and the
     /// policy have. Behind it a line may be `Unproved`; where no shortest ways were found, that line stands alone. Which data
@@ -126,6 +129,7 @@ impl<'a, A: Book, B: Book> Upgrade<'a, A, B> {
     pub fn breaks(&self, alloc: Global, command: DefId) -> Result<Breaks, AllocError>
         requires { command < length (definitions (sides_of self.now).sender) }
         ensures free { IfOk result (λ breaks. ∥ AreValidWhereFree (sides_of self.now) (answer_of breaks) ∥₁) }
+        ensures mended { IfOk result (λ breaks. ∥ AreValidOnceMended (sides_of self.now) (answer_of breaks) ∥₁) }
         ensures all { IfOk result (λ breaks. breaks.lines.items ≡ [] → ∥ AllAreValid (sides_of self.now) command ∥₁) }
         ensures each { IfOk result (λ breaks. EachConfirmedBreaks (sides_of self.now) command breaks.lines.items) }
         ensures standings { IfOk result (λ breaks. HaveStandings most_checked_together breaks.lines.items) }

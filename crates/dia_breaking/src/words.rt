@@ -3,7 +3,7 @@ ghost use Rattle.std.specs.Prelude.{◌≡◌, ◌<◌, ◌++◌, OnErr, OnOk, I
 ghost use Rattle.std.specs.Option.{option_map_or};
 ghost use Rattle.dia_book.specs.Dictionary.{definitions};
 ghost use Rattle.dia_breaking.specs.Upgrades.{other_length_of, sides_of};
-ghost use Rattle.dia_breaking.specs.Words.{application_text, avp_name, bytes_of, cause_text, definition_name};
+ghost use Rattle.dia_breaking.specs.Words.{application_text, avp_name, cause_text, definition_name};
 ghost use Rattle.dia_breaking.specs.Words.{flag_word, format_in, format_text, formats_text, m_bit_text};
 ghost use Rattle.dia_breaking.specs.Words.{is_command, path_text, path_to, place_text, spot};
 ghost use Rattle.dia_breaking.specs.Words.{refused_application, standing_text, subject_name};
@@ -14,7 +14,6 @@ use crate::format_words::{push_format_detail, push_formats};
 use crate::line::{Breaks, Cause, Line, Place, Site, Standing};
 use crate::upgrade::Upgrade;
 use dia_book::{Book, DefId, Key};
-use dia_breaking_data::Witness;
 use dia_policy::Unknown;
 use std::alloc::{AllocError, Global};
 
@@ -45,7 +44,7 @@ impl<'a, A: Book, B: Book> Upgrade<'a, A, B> {
             let path = breaks.path(alloc, line.site)?;
             self.push_path(&mut out, breaks.command, &path)?;
             push_standing(&mut out, line.standing)?;
-            self.push_cause(&mut out, breaks, line, &path)?;
+            self.push_cause(alloc, &mut out, breaks, line, &path)?;
         }
         Ok(out)
     }
@@ -107,6 +106,7 @@ impl<'a, A: Book, B: Book> Upgrade<'a, A, B> {
 
     fn push_cause(
         &self,
+        alloc: Global,
         out: &mut String,
         breaks: &Breaks,
         line: &Line,
@@ -127,7 +127,7 @@ impl<'a, A: Book, B: Book> Upgrade<'a, A, B> {
             }
             Cause::Unknown { key, m } => self.push_unknown(out, key, m),
             Cause::MBit { key, m } => self.push_m_bit(out, key, m),
-            Cause::Format { key, data } => self.push_format(out, key, data.as_ref()),
+            Cause::Format { key, .. } => self.push_format(alloc, out, key),
             Cause::LevelAsLeaf { key } => self.push_level_as_leaf(out, key),
             Cause::Unproved => out.push_str("-: nothing more found, not proved"),
         }
@@ -152,22 +152,17 @@ impl<'a, A: Book, B: Book> Upgrade<'a, A, B> {
         write!(out, "m-bit {name}: M {sent} sent, M {accepted} accepted")
     }
 
-    fn push_format(
-        &self,
-        out: &mut String,
-        key: Key,
-        found: Option<&Witness>,
-    ) -> Result<(), AllocError>
-        ensures { OnOk result (Writes out.old out.new (format_text (sides_of self.now) key (bytes_of found.entry))) }
+    fn push_format(&self, alloc: Global, out: &mut String, key: Key) -> Result<(), AllocError>
+        ensures { OnOk result (Writes out.old out.new (format_text (sides_of self.now) key)) }
     {
         out.push_str("format ")?;
         self.push_name(out, key)?;
         out.push_str(": ")?;
         push_format_detail(
+            alloc,
             out,
             format_of(self.lengths.book, key),
             format_of(self.b, key),
-            found,
         )
     }
 

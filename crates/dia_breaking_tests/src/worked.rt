@@ -64,6 +64,15 @@ any | $X $T { X } | %avp X 9002 Time any $T { X } => nothing breaks\n
 any | %avp X 9002 DiameterURI any $T { X } | %avp X 9002 Address any $T { X } => nothing breaks\n
 any | %avp X 9002 Enumerated any ( 0..3 ) $T { X } | %avp X 9002 Enumerated any ( 0..1 3 ) $T { X } => T: format X: 2 sent, not in the list\n  01000020 $H 0000232a0000000c00000002\n
 
+# Lists: all numbers that B lacks, however the lists are cut, and each side's list.
+let E03 = %avp X 9002 Enumerated any ( 0..1 3 )
+any | %avp X 9002 Enumerated any ( 0..9 ) $T { X } | %avp X 9002 Enumerated any ( 0..1 3 7 ) $T { X } => T: format X: 2 4..6 8..9 sent, not in the list\n  01000020 $H 0000232a0000000c00000002\n
+any | %avp X 9002 Enumerated any ( 7..9 2 3 0..2 ) $T { X } | %avp X 9002 Enumerated any ( 9..12 8 1 ) $T { X } => T: format X: 0 2..3 7 sent, not in the list\n  01000020 $H $X0\n
+any | %avp X 9002 Enumerated any $T { X } | $E03 $T { X } => T: format X: Enumerated sent, Enumerated ( 0..1 3 ) accepted\n  01000020 $H 0000232a0000000c00000002\n
+any | $X $T { X } | $E03 $T { X } => T: format X: Unsigned32 sent, Enumerated ( 0..1 3 ) accepted\n  01000020 $H 0000232a0000000c00000002\n
+any | %avp X 9002 Enumerated any ( 1 ) $T { X } | %avp Y 9003 Time any <X> ::= < AVP Header: 9002 > [ Y ] $T { X } => T: format X: Enumerated ( 1 ) sent, Grouped accepted\n  01000020 $H 0000232a0000000c00000001\n
+any | $X $T { X } * [ AVP ] | $X %avp Y 9003 Enumerated any ( 1 ) $T { X } * [ AVP ] => T: format Y: any data sent, Enumerated ( 1 ) accepted\n  01000028 $H $X0 0000232b00000008\n
+
 # The M flag: a rule for it, an AVP that B doesn't know, and the same with M clear.
 any | $X $T { X } | %avp X 9002 Unsigned32 must $T { X } => T: m-bit X: M clear sent, M set accepted\n  01000020 $H $X0\n
 any | $X $T { X } | %avp Z 9004 Time any $T * [ AVP ] => T: unknown X: M set sent, not known\n  01000020 $H 0000232a4000000c00000000\n
@@ -74,6 +83,10 @@ any | $X $T { X } | $X $T { X } <T5> ::= < Diameter Header: 302, REQ, 5 > 2 * { 
 any | $X $T { X } | $X <T> ::= < Diameter Header: 302, REQ, 5 > { X } => T: application 0: not accepted\n  01000020 $H $X0\n
 any | $X $T { X } | $X <T> ::= < Diameter Header: 302 > { X } => T: command -: not accepted\n  01000020 $H $X0\n
 any | $X <T> ::= < Diameter Header: 302, REQ, PXY > { X } | $X $T { X } => T: proxiable -: P set sent\n  01000020 c000012e000000000000000000000000 $X0\n
+
+# The P flag never passes: the levels are compared all the same.
+any | $X <T> ::= < Diameter Header: 302, REQ, PXY > [ X ] | $X $T { X } => T: proxiable -: P set sent\n  01000014 c000012e000000000000000000000000\nT: missing X: 0..1 sent, 1 accepted\n  01000014 c000012e000000000000000000000000\n
+any | $X <G> ::= < AVP Header: 9100 > [ X ] <T> ::= < Diameter Header: 302, REQ, PXY > [ G ] | $X <G> ::= < AVP Header: 9100 > { X } $T [ G ] => T: proxiable -: P set sent\n  01000014 c000012e000000000000000000000000\nT/G: missing X: 0..1 sent, 1 accepted\n  0100001c c000012e000000000000000000000000 0000238c00000008\n
 
 # Groups in themselves, and groups that no message can hold.
 any | $S2 | $S2 => nothing breaks\n
@@ -95,7 +108,7 @@ any | %avp G 9100 OctetString any $T [ G ] | $G1 $T [ G ] => T: format G: OctetS
 
 # Numbers read as text: in UTF-8 a byte above 7f doesn't stand alone.
 let TEXT = %avp X 9002 UTF8String any
-any | %avp X 9002 Enumerated any ( 0..300 ) $T { X } | $TEXT $T { X } => T: format X: Enumerated sent, UTF8String accepted\n  01000020 $H 0000232a0000000c00000080\n
+any | %avp X 9002 Enumerated any ( 0..300 ) $T { X } | $TEXT $T { X } => T: format X: Enumerated ( 0..300 ) sent, UTF8String accepted\n  01000020 $H 0000232a0000000c00000080\n
 any | %avp X 9002 Enumerated any ( 0..127 ) $T { X } | $TEXT $T { X } => nothing breaks\n
 ";
 

@@ -14,7 +14,7 @@ use Rattle.dia_breaking.specs.declared.line.Line.{Line}
 use Rattle.dia_breaking.specs.declared.line.Standing.TheVariants.{Confirmed}
 use Rattle.dia_breaking.specs.Words.{head_at}
 use Rattle.dia_breaking.proofs.FoundLines.{head_there, none_there}
-use Rattle.dia_breaking.proofs.FreeOfLines.{all_valid, nothing_told}
+use Rattle.dia_breaking.proofs.FreeOfLines.{all_valid, nothing_told, unsent_mended, unsent_valid}
 use Rattle.dia_breaking.proofs.Lists.{none_of, when_ok, when_two}
 use Rattle.dia_breaking.proofs.TooLong.{no_message_of_group}
 use Rattle.dia_breaking.proofs.upgrade.Upgrade.breaks.Goals as goal
@@ -56,9 +56,11 @@ returns-in-None g c =
     let da = s.sender in
     let x = there_is (definitions da) c.args.command c.requires in
     let none = head_there da c.args.command c.head_of.result c.requires c.head_of.ensures ∙ c.in-None.is in
-    let valid = no_message_of_group da s.receiver s.sends s.unknown c.args.command x.0 x.1
+    let unsent = no_message_of_group da s.receiver s.sends s.unknown c.args.command x.0 x.1
     (sym c.in-None.is ∙ at_some (λ (y : PlainDefinition). c.head_of.result ≡ head_in y.head) (slice_get (definitions da) c.args.command) x.0 c.head_of.ensures x.1) in
+    let valid = unsent_valid da s.receiver s.sends s.unknown c.args.command unsent in
     record {
+      mended = ∣ unsent_mended da s.receiver s.sends s.unknown _ _ c.args.command unsent ∣₁;
       free = ∣ all_valid da s.receiver s.sends s.unknown _ _ c.args.command valid ∣₁;
       all = λ none. ∣ valid ∣₁;
       each = none_of (λ (line : Line). line.standing ≡ Confirmed → (bytes : List ℕ) × IsConfirmed s bytes c.args.command) c.new-lines.result.items c.new-lines.ensures.items;

@@ -12,7 +12,7 @@ use Rattle.dia_breaking.specs.Sites.{command_sites, first_read}
 use Rattle.dia_breaking.specs.Upgrades.{basis_for, sides_of}
 use Rattle.dia_breaking.proofs.FormatData.{data_more}
 use Rattle.dia_breaking.proofs.FoundLines.{with_unproved}
-use Rattle.dia_breaking.proofs.FreeOfLines.{none_free}
+use Rattle.dia_breaking.proofs.FreeOfLines.{none_free, none_mended}
 use Rattle.dia_breaking.proofs.Listings.{listing_of}
 use Rattle.dia_breaking.proofs.Lists.{when_ok, when_two}
 use Rattle.dia_breaking.proofs.upgrade.Upgrade.found_from.Goals as goal
@@ -44,6 +44,13 @@ returns-in_ok-unproved-in-None-clause-free g c =
     let line = new_line 0 causes.Unproved 0 in
     let inside = subst (λ lines. Contains lines line) (sym c.in_ok-unproved-in-None.ensures) (Contains-push [] line) in
     ∣ none_free s.sender s.receiver s.sends s.unknown c.in_ok-sites.sites.items c.in_ok-unproved-in-None.field-0.items c.args.command line inside refl ∣₁
+
+pub returns-in_ok-unproved-in-None-clause-mended : goal.returns-in_ok-unproved-in-None-clause-mended
+returns-in_ok-unproved-in-None-clause-mended g c =
+    let s = sides_of c.args.self.now in
+    let line = new_line 0 causes.Unproved 0 in
+    let inside = subst (λ lines. Contains lines line) (sym c.in_ok-unproved-in-None.ensures) (Contains-push [] line) in
+    ∣ none_mended s.sender s.receiver s.sends s.unknown c.in_ok-sites.sites.items c.in_ok-unproved-in-None.field-0.items c.args.command line inside refl ∣₁
 
 pub returns-in_ok-unproved-in-None-clause-formats : goal.returns-in_ok-unproved-in-None-clause-formats
 returns-in_ok-unproved-in-None-clause-formats g c =

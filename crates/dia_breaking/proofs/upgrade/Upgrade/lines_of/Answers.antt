@@ -3,12 +3,13 @@ use Rattle.std.proofs.Math.Logic.{∥∥₁_map}
 use Rattle.dia_breaking.specs.Confirmed.{EachConfirmedBreaks}
 use Rattle.dia_breaking.specs.Free.{AreValidWhereFree}
 use Rattle.dia_breaking.specs.declared.line.Site.{Site}
+use Rattle.dia_breaking.specs.Mended.{AreValidOnceMended}
 use Rattle.dia_breaking.specs.Sides.{answer}
 use Rattle.dia_breaking.specs.TheLines.{AreLinesOrUnproved, AreTheLines}
 use Rattle.dia_breaking.specs.Upgrades.{sides_of}
 use Rattle.dia_breaking.proofs.FormatData.{data_kept}
 use Rattle.dia_breaking.proofs.FoundLines.{lines_kept}
-use Rattle.dia_breaking.proofs.FreeOfLines.{still_valid}
+use Rattle.dia_breaking.proofs.FreeOfLines.{still_mended, still_valid}
 use Rattle.dia_breaking.proofs.Lists.{when_ok, when_two}
 use Rattle.dia_breaking.proofs.ToldLists.{told_kept}
 use Rattle.dia_breaking.proofs.upgrade.Upgrade.lines_of.Goals as goal
@@ -27,6 +28,12 @@ returns g c =
           subst (λ (at : List Site). AreValidWhereFree s (answer told.command at told.lines.items)) (sym same.3)
           (subst (λ (number : ℕ). AreValidWhereFree s (answer number found.sites.items told.lines.items)) (sym same.0)
           (still_valid s.sender s.receiver s.unknown found.sites.items found.lines.items told.lines.items found.command (told_kept told.lines.items found.lines.items kept) s.sends valid))))
+          c.with_standings.ensures.same c.with_standings.ensures.kept;
+      mended = when_two _ _ _ c.with_standings.result
+          (λ told same kept. ∥∥₁_map c.in_ok-found.ensures.mended (λ valid.
+          subst (λ (at : List Site). AreValidOnceMended s (answer told.command at told.lines.items)) (sym same.3)
+          (subst (λ (number : ℕ). AreValidOnceMended s (answer number found.sites.items told.lines.items)) (sym same.0)
+          (still_mended s.sender s.receiver s.unknown found.sites.items found.lines.items told.lines.items found.command (told_kept told.lines.items found.lines.items kept) s.sends valid))))
           c.with_standings.ensures.same c.with_standings.ensures.kept;
       lines = when_two _ _ _ c.with_standings.result
           (λ told same kept. subst (λ (at : List Site). AreLinesOrUnproved s (answer told.command at told.lines.items)) (sym same.3)

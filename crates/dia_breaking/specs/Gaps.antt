@@ -1,0 +1,19 @@
+-- What is left of ranges that are in order and apart where others are taken out.
+use Rattle.std.specs.Prelude.{ℕ, suc, ◌-◌, nat_lt, nat_le, if◌then◌else◌, List, [], ◌∷◌, ◌++◌}
+use Rattle.std.specs.List.{flat_map}
+
+-- the numbers from `low` on that stand before `from`
+abbrev pub front : ℕ → ℕ → List (ℕ × ℕ)
+front low from = if nat_lt low from then (low, from - 1) ∷ [] else []
+
+-- of one range
+abbrev pub gaps : ℕ → ℕ → List (ℕ × ℕ) → List (ℕ × ℕ)
+gaps low high [] = (low, high) ∷ []
+gaps low high (r ∷ rest) =
+    if nat_lt r.1 low then gaps low high rest
+    else (if nat_lt high r.0 then (low, high) ∷ []
+    else front low r.0 ++ (if nat_le high r.1 then [] else gaps (suc r.1) high rest))
+
+-- of each
+abbrev pub all_gaps : List (ℕ × ℕ) → List (ℕ × ℕ) → List (ℕ × ℕ)
+all_gaps ranges others = flat_map (λ r. gaps r.0 r.1 others) ranges

@@ -1,0 +1,53 @@
+-- Messages whose headers are mended: their P flag and their application are such as a definition of the receiver's takes.
+use Rattle.std.specs.Prelude.{◌≡◌, ◌≢◌, ◌↔◌, ℕ, Bool, true, List, Contains}
+use Rattle.std.specs.Int.{IsBitSet}
+use Rattle.dia_wire.specs.declared.Header.{Header}
+use Rattle.dia_wire.specs.Wire.{IsMessage}
+use Rattle.dia_book.specs.Dictionary.{Dictionary, PlainDefinition}
+use Rattle.dia_policy.specs.declared.Levels.TheVariants as levels
+use Rattle.dia_check.specs.Valid.{AllowsP, IsValid}
+use Rattle.dia_breaking_sites.specs.Sent.{IsSent}
+use Rattle.dia_breaking_sites.specs.Sites.{AreAsked}
+use Rattle.dia_breaking_sites.specs.Selection.{IsSelected}
+use Rattle.dia_breaking.specs.declared.line.Cause.TheVariants as causes
+use Rattle.dia_breaking.specs.declared.line.Line.{Line}
+use Rattle.dia_breaking.specs.declared.line.Site.{Site}
+use Rattle.dia_breaking.specs.Free.{IsFreeLevel, IsReadBy}
+use Rattle.dia_breaking.specs.Headers.{IsCommandPlace}
+use Rattle.dia_breaking.specs.Sides.{Sides, Answer}
+
+-- the number of the P flag among the bits of the Command Flags
+abbrev pub p_bit : ℕ
+p_bit = 6
+
+-- the new header is the old one, but for its P flag and its application: B's dictionary selects this definition for it, which allows its P flag
+pub record IsMendedFor (db : Dictionary) (other : PlainDefinition) (old new : Header) : Type 0 where
+  pub code : new.code ≡ old.code
+  pub flags : (bit : ℕ) → bit ≢ p_bit → IsBitSet new.flags bit ↔ IsBitSet old.flags bit
+  pub hop : new.hop ≡ old.hop
+  pub e2e : new.e2e ≡ old.e2e
+  pub selected : IsSelected db new other
+  pub allowed : AllowsP other.head new.flags
+
+-- it isn't said that something may break of which no line tells
+abbrev pub IsAllTold : List Line → Type 0
+IsAllTold lines = (line : Line) → Contains lines line → line.cause ≢ causes.Unproved
+
+-- the level of the command at this site is read by these definitions, in messages of this application
+pub record IsLevelAt (s : Sides) (sites : List Site) (c app : ℕ) (site : Site) (command other : PlainDefinition) : Type 0 where
+  pub inside : Contains sites site
+  pub is_read : site.is_read ≡ true
+  pub place : IsCommandPlace app site.place
+  pub read : IsReadBy s.sender s.receiver c site.place command other
+
+-- a message that A's side sends, whose levels are free of the lines where they are read by the definitions of a site of the command, is
+-- valid under B once its header is mended for that site's definition
+abbrev pub AreValidOnceMended : Sides → Answer → Type 0
+AreValidOnceMended s answer = IsAllTold answer.lines → (bytes mended : List ℕ) (sent : IsSent s.sender s.sends bytes answer.command) (app : ℕ) (site : Site) (other : PlainDefinition) (header : Header)
+    → IsLevelAt s answer.sites answer.command app site sent.command other
+    → AreAsked s.sender s.receiver (IsFreeLevel s.sender s.receiver s.unknown answer.sites answer.lines answer.command) sent.command other sent.avps
+    → IsMendedFor s.receiver other sent.header header → IsMessage header sent.avps mended → IsValid s.receiver s.unknown levels.Any mended
+
+-- no message of the command is sent
+abbrev pub IsUnsent : Sides → ℕ → Type 0
+IsUnsent s c = (bytes : List ℕ) → ¬ IsSent s.sender s.sends bytes c
