@@ -14,7 +14,7 @@ use Rattle.clap.specs.declared.error.kind.ErrorKind.TheVariants.{OutOfMemory}
 use Rattle.dia_cli.specs.Asking.{IsAtFault, IsRefused, IsUnrun, is_asked, is_limit}
 use Rattle.dia_cli.specs.Words.{IsProgram, IsRequestOf}
 use Rattle.dia_cli.specs.Origins.{reads_twice}
-use Rattle.dia_cli.specs.Request.{origins_of, read_once}
+use Rattle.dia_cli.specs.Request.{read_once}
 use Rattle.dia_cli.specs.declared.ending.Ending.{Ending}
 use Rattle.dia_cli.specs.declared.ending.Ending.TheVariants.{NoMemory, ReadTwice, Told}
 use Rattle.dia_cli.specs.declared.request.Request.{Request}
@@ -29,17 +29,17 @@ found_at (Some b) f g name rows P named read h =
 
 -- what holds of a request holds of it where it is read once
 pub read_keeps : (request : Request) (read : Result Request Ending) (P : Request → Type 0) → read ≡ read_once request → P request → IfOk read P
-read_keeps request read P is h = subst (λ r. IfOk r P) (sym is) (go (reads_twice (origins_of request.subcommand)))
+read_keeps request read P is h = subst (λ r. IfOk r P) (sym is) (go (reads_twice request.origins))
   where
     go : (twice : Bool) → IfOk (if twice then Err ReadTwice else Ok request) P
     go true = tt
     go false = h
 
-pub read_is_once : (request : Request) (read : Result Request Ending) → read ≡ read_once request → IfOk read (λ made. reads_twice (origins_of made.subcommand) ≡ false)
-read_is_once request read is = subst (λ r. IfOk r (λ made. reads_twice (origins_of made.subcommand) ≡ false)) (sym is) (go (reads_twice (origins_of request.subcommand)) refl)
+pub read_is_once : (request : Request) (read : Result Request Ending) → read ≡ read_once request → IfOk read (λ made. reads_twice made.origins ≡ false)
+read_is_once request read is = subst (λ r. IfOk r (λ made. reads_twice made.origins ≡ false)) (sym is) (go (reads_twice request.origins) refl)
   where
-    go : (twice : Bool) → reads_twice (origins_of request.subcommand) ≡ twice
-        → IfOk (if twice then Err ReadTwice else Ok request) (λ made. reads_twice (origins_of made.subcommand) ≡ false)
+    go : (twice : Bool) → reads_twice request.origins ≡ twice
+        → IfOk (if twice then Err ReadTwice else Ok request) (λ made. reads_twice made.origins ≡ false)
     go true e = tt
     go false e = e
 
@@ -58,9 +58,9 @@ unread word number (Err e) is parses none = ap (λ (o : Option (Bor Text)). is_l
 -- a request that isn't read names standard input twice
 pub read_unrun : (request : Request) (read : Result Request Ending) (found : Option (Text × List Row)) → read ≡ read_once request → IsSomeAnd found (IsRequestOf request)
     → IfErr read (IsUnrun found)
-read_unrun request read found is asked = subst (λ r. IfErr r (IsUnrun found)) (sym is) (go (reads_twice (origins_of request.subcommand)) refl)
+read_unrun request read found is asked = subst (λ r. IfErr r (IsUnrun found)) (sym is) (go (reads_twice request.origins) refl)
   where
-    go : (twice : Bool) → reads_twice (origins_of request.subcommand) ≡ twice → IfErr (if twice then Err ReadTwice else Ok request) (IsUnrun found)
+    go : (twice : Bool) → reads_twice request.origins ≡ twice → IfErr (if twice then Err ReadTwice else Ok request) (IsUnrun found)
     go true e = (request, asked, e)
     go false e = tt
 

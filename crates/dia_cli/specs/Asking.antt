@@ -6,7 +6,6 @@ use Rattle.clap.specs.ValueTests.{is_unsigned_in}
 use Rattle.clap.specs.Walk.{Row, Text, all_of, first_of}
 use Rattle.clap.specs.Words.{App, IsAmong, Kinds, fault_of, kind_of, subcommand_of}
 use Rattle.dia_cli.specs.Origins.{reads_twice}
-use Rattle.dia_cli.specs.Request.{origins_of}
 use Rattle.dia_cli.specs.Words.{IsProgram, IsRequestOf, flag_word}
 use Rattle.dia_cli.specs.declared.ending.Ending.{Ending}
 use Rattle.dia_cli.specs.declared.ending.Ending.TheVariants as ending
@@ -32,34 +31,42 @@ is_limit word = option_map_or (is_unsigned_in 0 4294967295) word true
 abbrev pub has_word : Text → List Row → Bool
 has_word id rows = is_some (first_of id rows)
 
--- `--unknown POLICY A B`
+-- the two dictionaries
 abbrev pub has_pair : List Row → Bool
-has_pair rows = is_policy (first_of (codes "unknown") rows) && (has_word (codes "A") rows && has_word (codes "B") rows)
+has_pair rows = has_word (codes "A") rows && has_word (codes "B") rows
+
+-- `--unknown POLICY`
+abbrev pub has_policy : List Row → Bool
+has_policy rows = is_policy (first_of (codes "unknown") rows)
+
+-- the policies of `check` and `refute`
+abbrev pub is_judged : List Row → Bool
+is_judged rows = has_policy rows && is_limit (first_of (codes "levels") rows)
+
+-- the policies of `check`, and its dictionary
+abbrev pub has_judged : List Row → Bool
+has_judged rows = is_judged rows && has_word (codes "D") rows
 
 abbrev pub has_shown : List Row → Bool
 has_shown rows = has_word (codes "dict") rows && has_word (codes "MESSAGE") rows
 
--- the policies of `check` and its inputs
-abbrev pub has_judged : List Row → Bool
-has_judged rows = is_policy (first_of (codes "unknown") rows) && (is_limit (first_of (codes "levels") rows)
-    && (has_word (codes "D") rows && has_word (codes "MESSAGE") rows))
-
 abbrev pub has_checked : List Row → Bool
-has_checked rows = is_flag (first_of (codes "lines") rows) && (is_flag (first_of (codes "stream") rows) && has_judged rows)
+has_checked rows = is_flag (first_of (codes "lines") rows) && (is_flag (first_of (codes "stream") rows)
+    && (has_judged rows && has_word (codes "MESSAGE") rows))
 
 abbrev pub has_compared : List Row → Bool
-has_compared rows = has_pair rows && has_word (codes "TABLE") rows
+has_compared rows = has_policy rows && (has_pair rows && has_word (codes "TABLE") rows)
 
 abbrev pub has_refuted : List Row → Bool
-has_refuted rows = has_pair rows && (is_limit (first_of (codes "levels") rows)
-    && (has_word (codes "MESSAGE") rows && is_flag (first_of (codes "lines") rows)))
+has_refuted rows = is_judged rows && (has_pair rows
+    && (is_flag (first_of (codes "lines") rows) && has_word (codes "MESSAGE") rows))
 
 abbrev pub has_proposed : List Row → Bool
-has_proposed rows = has_pair rows && is_some (all_of (codes "COMMAND") rows)
+has_proposed rows = has_policy rows && (has_pair rows && is_some (all_of (codes "COMMAND") rows))
 
 abbrev pub has_listed : List Row → Bool
-has_listed rows =
-    has_pair rows && (is_sender (first_of (codes "sends") rows) && is_flag (first_of (codes "messages") rows))
+has_listed rows = has_policy rows && (has_pair rows
+    && (is_sender (first_of (codes "sends") rows) && is_flag (first_of (codes "messages") rows)))
 
 -- the arguments that the subcommand of this name has
 abbrev pub has_arguments : Text → List Row → Bool
@@ -98,7 +105,7 @@ IsUnasked found NoMemory = ⊤
 abbrev pub IsUnrun : Option (Text × List Row) → Ending → Type 0
 IsUnrun found (ending.Told error) = is_asked found ≡ false
 IsUnrun found ending.ReadTwice =
-    (request : Request) × IsSomeAnd found (IsRequestOf request) × (reads_twice (origins_of request.subcommand) ≡ true)
+    (request : Request) × IsSomeAnd found (IsRequestOf request) × (reads_twice request.origins ≡ true)
 IsUnrun found ending.LinesAndStream = IsSomeAnd found (λ f. (f.0 ≡ codes "check") × HasLinesAndStream f.1)
 IsUnrun found ending.NoMemory = ⊤
 IsUnrun found made = ⊥

@@ -2,19 +2,20 @@
 use Rattle.std.specs.Prelude.{◌≡◌, ⊤, Bool, true, false, List, [], ◌∷◌, ◌++◌, map, Option, Some, None, Result, Ok, Err, codes, string_bytes, unwrap_or}
 use Rattle.std.specs.List.{list_all}
 use Rattle.clap.specs.Walk.{Text}
+use Rattle.dia_io.specs.declared.Command.TheVariants as command
+use Rattle.dia_io.specs.declared.Task.{Task}
+use Rattle.dia_io.specs.declared.Task.TheVariants.{Whole, Breaking, CheckLines, RefuteLines, CheckStream}
 use Rattle.dia_policy.specs.declared.Sends.{Sends}
 use Rattle.dia_policy.specs.declared.Sends.TheVariants.{Any, Known, Listed}
 use Rattle.dia_policy.specs.declared.Unknown.{Unknown}
 use Rattle.dia_policy.specs.declared.Unknown.TheVariants.{Kept, Refused}
+use Rattle.dia_cli.specs.InputWords.{AreNamed, InputTexts, one_text, pair_texts}
 use Rattle.dia_cli.specs.Origins.{reads_twice}
-use Rattle.dia_cli.specs.Request.{origins_of}
 use Rattle.dia_cli.specs.Slots.{Slot, choice, flag, is_plain_slot, number, text, word, words, words_of_slots}
 use Rattle.dia_cli.specs.Words.{IsLimitOf}
 use Rattle.dia_cli.specs.declared.ending.Ending.{Ending}
 use Rattle.dia_cli.specs.declared.ending.Ending.TheVariants as ending
 use Rattle.dia_cli.specs.declared.request.Request.{Request}
-use Rattle.dia_cli.specs.declared.request.Subcommand.{Subcommand}
-use Rattle.dia_cli.specs.declared.request.Subcommand.TheVariants as subcommand
 
 -- how `check` reads its messages
 pub data Manner : Type 0 where
@@ -94,34 +95,50 @@ words_of quiet form = words_of_slots (flag (codes "quiet") quiet ∷ form_option
 abbrev pub is_plain_form : Form → Bool
 is_plain_form form = list_all is_plain_slot (form_options form ++ form_inputs form)
 
--- the subcommand is the form's
-abbrev pub IsOfForm : Form → Subcommand → Type 0
-IsOfForm (show dictionary message) (subcommand.Show d m) = (d.now ≡ unwrap_or dictionary (codes "@base")) × (m.now ≡ message)
-IsOfForm (check alone unknown levels dictionary message) (subcommand.Check policy limit d m) =
-    (policy ≡ unknown) × IsLimitOf levels limit × (d.now ≡ dictionary) × (m.now ≡ message)
-IsOfForm (check in_lines unknown levels dictionary messages) (subcommand.CheckLines policy limit d m) =
-    (policy ≡ unknown) × IsLimitOf levels limit × (d.now ≡ dictionary) × (m.now ≡ messages)
-IsOfForm (check in_stream unknown levels dictionary bytes) (subcommand.CheckStream policy limit d b) =
-    (policy ≡ unknown) × IsLimitOf levels limit × (d.now ≡ dictionary) × (b.now ≡ bytes)
-IsOfForm (render dictionary) (subcommand.Render d) = d.now ≡ dictionary
-IsOfForm (compare unknown first second table) (subcommand.Compare policy a b t) =
-    (policy ≡ unknown) × (a.now ≡ first) × (b.now ≡ second) × (t.now ≡ table)
-IsOfForm (refute false unknown levels first second message) (subcommand.Refute policy limit a b m) =
-    (policy ≡ unknown) × IsLimitOf levels limit × (a.now ≡ first) × (b.now ≡ second) × (m.now ≡ message)
-IsOfForm (refute true unknown levels first second messages) (subcommand.RefuteLines policy limit a b m) =
-    (policy ≡ unknown) × IsLimitOf levels limit × (a.now ≡ first) × (b.now ≡ second) × (m.now ≡ messages)
-IsOfForm (propose unknown first second name names) (subcommand.Propose policy a b commands) =
-    (policy ≡ unknown) × (a.now ≡ first) × (b.now ≡ second) × (map string_bytes commands.items ≡ name ∷ names)
-IsOfForm (breaking sends unknown messages first second names) (subcommand.Breaking sender policy shown a b commands) =
-    (sender ≡ sends) × (policy ≡ unknown) × (shown ≡ messages) × (a.now ≡ first) × (b.now ≡ second)
-    × (map string_bytes commands.items ≡ names)
-IsOfForm form made = ⊥
+-- the task is the form's
+abbrev pub IsTaskOfForm : Form → Task → Type 0
+IsTaskOfForm (show dictionary message) (Whole command.Show) = ⊤
+IsTaskOfForm (check alone unknown levels dictionary message) (Whole (command.Check policy limit)) =
+    (policy ≡ unknown) × IsLimitOf levels limit
+IsTaskOfForm (check in_lines unknown levels dictionary messages) (CheckLines policy limit) =
+    (policy ≡ unknown) × IsLimitOf levels limit
+IsTaskOfForm (check in_stream unknown levels dictionary bytes) (CheckStream policy limit) =
+    (policy ≡ unknown) × IsLimitOf levels limit
+IsTaskOfForm (render dictionary) (Whole command.Render) = ⊤
+IsTaskOfForm (compare unknown first second table) (Whole (command.Compare policy)) = policy ≡ unknown
+IsTaskOfForm (refute false unknown levels first second message) (Whole (command.Refute policy limit)) =
+    (policy ≡ unknown) × IsLimitOf levels limit
+IsTaskOfForm (refute true unknown levels first second messages) (RefuteLines policy limit) =
+    (policy ≡ unknown) × IsLimitOf levels limit
+IsTaskOfForm (propose unknown first second name names) (Whole (command.Propose policy commands)) =
+    (policy ≡ unknown) × (map string_bytes commands.items ≡ name ∷ names)
+IsTaskOfForm (breaking sends unknown messages first second names) (Breaking sender policy shown commands) =
+    (sender ≡ sends) × (policy ≡ unknown) × (shown ≡ messages) × (map string_bytes commands.items ≡ names)
+IsTaskOfForm form task = ⊥
 
--- the words are accepted, and ask for the form's subcommand. They are refused only where they name standard input twice, or
--- where memory is
+-- the words of its inputs
+abbrev pub form_words : Form → InputTexts
+form_words (show dictionary message) =
+    record (one_text (unwrap_or dictionary (codes "@base"))) { message = Some message }
+form_words (check alone unknown levels dictionary message) = record (one_text dictionary) { message = Some message }
+form_words (check in_lines unknown levels dictionary messages) = record (one_text dictionary) { messages = Some messages }
+form_words (check in_stream unknown levels dictionary bytes) = record (one_text dictionary) { messages = Some bytes }
+form_words (render dictionary) = one_text dictionary
+form_words (compare unknown first second table) = record (pair_texts first second) { table = Some table }
+form_words (refute false unknown levels first second message) = record (pair_texts first second) { message = Some message }
+form_words (refute true unknown levels first second messages) = record (pair_texts first second) { messages = Some messages }
+form_words (propose unknown first second name names) = pair_texts first second
+form_words (breaking sends unknown messages first second names) = pair_texts first second
+
+-- the request is the form's, and its inputs come from where the words say
+abbrev pub IsOfForm : Form → Request → Type 0
+IsOfForm form request = IsTaskOfForm form request.task × AreNamed (form_words form) request.origins
+
+-- the words are accepted, and ask for the form's task. They are refused only where they name standard input twice, or where
+-- memory is
 abbrev pub IsAccepted : Bool → Form → Result Request Ending → Type 0
-IsAccepted quiet form (Ok request) = IsOfForm form request.subcommand × (request.quiet ≡ quiet)
+IsAccepted quiet form (Ok request) = IsOfForm form request × (request.quiet ≡ quiet)
 IsAccepted quiet form (Err ending.ReadTwice) =
-    (request : Request) × IsOfForm form request.subcommand × (reads_twice (origins_of request.subcommand) ≡ true)
+    (request : Request) × IsOfForm form request × (reads_twice request.origins ≡ true)
 IsAccepted quiet form (Err ending.NoMemory) = ⊤
 IsAccepted quiet form (Err made) = ⊥

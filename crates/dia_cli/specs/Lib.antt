@@ -1,6 +1,7 @@
 pub mod Asking
 pub mod Ending
 pub mod Forms
+pub mod InputWords
 pub mod Lines
 pub mod Origins
 pub mod Request

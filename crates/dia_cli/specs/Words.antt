@@ -4,18 +4,20 @@ use Rattle.std.specs.Borrow.{Bor}
 use Rattle.std.specs.Str.Parse.{IsNumeral, digits_value, without_leading_plus}
 use Rattle.clap.specs.Walk.{Row, Text, all_of, first_of, texts}
 use Rattle.clap.specs.Simple.{App, subcommand_of}
+use Rattle.dia_io.specs.declared.Command.TheVariants as command
+use Rattle.dia_io.specs.declared.Task.{Task}
+use Rattle.dia_io.specs.declared.Task.TheVariants.{Whole, Breaking, CheckLines, RefuteLines, CheckStream}
 use Rattle.dia_policy.specs.declared.Levels.{Levels}
 use Rattle.dia_policy.specs.declared.Levels.TheVariants.{Any, AtMost}
 use Rattle.dia_policy.specs.declared.Sends.{Sends}
 use Rattle.dia_policy.specs.declared.Sends.TheVariants as sent
 use Rattle.dia_policy.specs.declared.Unknown.{Unknown}
 use Rattle.dia_policy.specs.declared.Unknown.TheVariants.{Kept, Refused}
+use Rattle.dia_cli.specs.InputWords.{AreFound, InputTexts, one_text, pair_texts}
 use Rattle.dia_cli.specs.Lines.{program_app}
 use Rattle.dia_cli.specs.Rows.{command_rows, with_commands}
 use Rattle.dia_cli.specs.declared.request.Request.{Request}
-use Rattle.dia_cli.specs.declared.request.Subcommand.{Subcommand}
-use Rattle.dia_cli.specs.declared.request.Subcommand.TheVariants.{Show, Check, CheckLines, CheckStream, Render}
-use Rattle.dia_cli.specs.declared.request.Subcommand.TheVariants.{Compare, Refute, RefuteLines, Propose, Breaking}
+use Rattle.dia_cli.specs.declared.origin.Origins.{Origins}
 
 abbrev pub line_shape : Bor (List (Bor Text)) → Bor (List (Bor Text)) → App
 line_shape policies senders = with_commands policies senders program_app command_rows
@@ -39,61 +41,71 @@ IsLimitOf None levels = levels ≡ Any
 IsLimitOf (Some word) levels = IsNumeral 10 (without_leading_plus word)
     × (digits_value 10 (without_leading_plus word) < 2 ^ 32) × (levels ≡ AtMost (digits_value 10 (without_leading_plus word)))
 
--- what was found for `--unknown POLICY A B`
-abbrev pub ArePair : Unknown → Bor Text → Bor Text → List Row → Type 0
-ArePair unknown first second rows =
-    (first_of (codes "unknown") rows ≡ Some (policy_word unknown)) × (first_of (codes "A") rows ≡ Some first.now)
-    × (first_of (codes "B") rows ≡ Some second.now)
+-- the policy that was found
+abbrev pub IsPolicy : Unknown → List Row → Type 0
+IsPolicy unknown rows = first_of (codes "unknown") rows ≡ Some (policy_word unknown)
 
--- what was found for the policies of `check` and its inputs
-abbrev pub AreJudged : Unknown → Levels → Bor Text → Bor Text → List Row → Type 0
-AreJudged unknown levels dictionary message rows =
-    (first_of (codes "unknown") rows ≡ Some (policy_word unknown)) × IsLimitOf (first_of (codes "levels") rows) levels
-    × (first_of (codes "D") rows ≡ Some dictionary.now) × (first_of (codes "MESSAGE") rows ≡ Some message.now)
+-- the policies of `check` and `refute`
+abbrev pub AreJudged : Unknown → Levels → List Row → Type 0
+AreJudged unknown levels rows = IsPolicy unknown rows × IsLimitOf (first_of (codes "levels") rows) levels
 
--- with the options `--lines` and `--stream`
-abbrev pub AreChecked : Bool → Bool → Unknown → Levels → Bor Text → Bor Text → List Row → Type 0
-AreChecked lines stream unknown levels dictionary message rows =
-    (first_of (codes "lines") rows ≡ Some (flag_word lines)) × (first_of (codes "stream") rows ≡ Some (flag_word stream))
-    × AreJudged unknown levels dictionary message rows
+-- whether an option without a value was found
+abbrev pub IsFlag : Text → Bool → List Row → Type 0
+IsFlag id given rows = first_of id rows ≡ Some (flag_word given)
 
--- what was found for `refute`
-abbrev pub AreRefuted : Bool → Unknown → Levels → Bor Text → Bor Text → Bor Text → List Row → Type 0
-AreRefuted lines unknown levels first second message rows =
-    (first_of (codes "lines") rows ≡ Some (flag_word lines)) × ArePair unknown first second rows
-    × IsLimitOf (first_of (codes "levels") rows) levels × (first_of (codes "MESSAGE") rows ≡ Some message.now)
+-- `check` with `--lines` and `--stream`, or without them
+abbrev pub IsCheck : Bool → Bool → Unknown → Levels → Text × List Row → Type 0
+IsCheck lines stream unknown levels found =
+    (found.0 ≡ codes "check") × IsFlag (codes "lines") lines found.1 × IsFlag (codes "stream") stream found.1
+    × AreJudged unknown levels found.1
 
--- the subcommand that was found, with the first values of its arguments, and all names of commands
-abbrev pub IsSubcommandOf : Subcommand → Text × List Row → Type 0
-IsSubcommandOf (Show dictionary message) found =
-    (found.0 ≡ codes "show") × (first_of (codes "dict") found.1 ≡ Some dictionary.now)
-    × (first_of (codes "MESSAGE") found.1 ≡ Some message.now)
-IsSubcommandOf (Check unknown levels dictionary message) found =
-    (found.0 ≡ codes "check") × AreChecked false false unknown levels dictionary message found.1
-IsSubcommandOf (CheckLines unknown levels dictionary messages) found =
-    (found.0 ≡ codes "check") × AreChecked true false unknown levels dictionary messages found.1
-IsSubcommandOf (CheckStream unknown levels dictionary bytes) found =
-    (found.0 ≡ codes "check") × AreChecked false true unknown levels dictionary bytes found.1
-IsSubcommandOf (Render dictionary) found = (found.0 ≡ codes "render") × (first_of (codes "D") found.1 ≡ Some dictionary.now)
-IsSubcommandOf (Compare unknown first second table) found =
-    (found.0 ≡ codes "compare") × ArePair unknown first second found.1 × (first_of (codes "TABLE") found.1 ≡ Some table.now)
-IsSubcommandOf (Refute unknown levels first second message) found =
-    (found.0 ≡ codes "refute") × AreRefuted false unknown levels first second message found.1
-IsSubcommandOf (RefuteLines unknown levels first second messages) found =
-    (found.0 ≡ codes "refute") × AreRefuted true unknown levels first second messages found.1
-IsSubcommandOf (Propose unknown first second names) found =
-    (found.0 ≡ codes "propose") × ArePair unknown first second found.1
+-- `refute` with `--lines`, or without it
+abbrev pub IsRefute : Bool → Unknown → Levels → Text × List Row → Type 0
+IsRefute lines unknown levels found =
+    (found.0 ≡ codes "refute") × IsFlag (codes "lines") lines found.1 × AreJudged unknown levels found.1
+
+-- the task that was found: the name of its command, the first values of its options, and all names of commands
+abbrev pub IsTaskOf : Task → Text × List Row → Type 0
+IsTaskOf (Whole command.Show) found = found.0 ≡ codes "show"
+IsTaskOf (Whole command.Render) found = found.0 ≡ codes "render"
+IsTaskOf (Whole (command.Check unknown levels)) found = IsCheck false false unknown levels found
+IsTaskOf (CheckLines unknown levels) found = IsCheck true false unknown levels found
+IsTaskOf (CheckStream unknown levels) found = IsCheck false true unknown levels found
+IsTaskOf (Whole (command.Compare unknown)) found = (found.0 ≡ codes "compare") × IsPolicy unknown found.1
+IsTaskOf (Whole (command.Refute unknown levels)) found = IsRefute false unknown levels found
+IsTaskOf (RefuteLines unknown levels) found = IsRefute true unknown levels found
+IsTaskOf (Whole (command.Propose unknown names)) found =
+    (found.0 ≡ codes "propose") × IsPolicy unknown found.1
     × (all_of (codes "COMMAND") found.1 ≡ Some (map string_bytes names.items))
-IsSubcommandOf (Breaking sends unknown messages first second names) found =
-    (found.0 ≡ codes "breaking") × ArePair unknown first second found.1
-    × (first_of (codes "sends") found.1 ≡ Some (sends_word sends))
-    × (first_of (codes "messages") found.1 ≡ Some (flag_word messages))
+IsTaskOf (Breaking sends unknown messages names) found =
+    (found.0 ≡ codes "breaking") × IsPolicy unknown found.1
+    × (first_of (codes "sends") found.1 ≡ Some (sends_word sends)) × IsFlag (codes "messages") messages found.1
     × (unwrap_or (all_of (codes "COMMAND") found.1) [] ≡ map string_bytes names.items)
 
--- the request of a subcommand that was found
+-- the arguments that take the words of a task's inputs
+abbrev pub arguments_of : Task → InputTexts
+arguments_of (Whole command.Show) = record (one_text (codes "dict")) { message = Some (codes "MESSAGE") }
+arguments_of (Whole command.Render) = one_text (codes "D")
+arguments_of (Whole (command.Check unknown levels)) = record (one_text (codes "D")) { message = Some (codes "MESSAGE") }
+arguments_of (CheckLines unknown levels) = record (one_text (codes "D")) { messages = Some (codes "MESSAGE") }
+arguments_of (CheckStream unknown levels) = record (one_text (codes "D")) { messages = Some (codes "MESSAGE") }
+arguments_of (Whole (command.Compare unknown)) =
+    record (pair_texts (codes "A") (codes "B")) { table = Some (codes "TABLE") }
+arguments_of (Whole (command.Refute unknown levels)) =
+    record (pair_texts (codes "A") (codes "B")) { message = Some (codes "MESSAGE") }
+arguments_of (RefuteLines unknown levels) =
+    record (pair_texts (codes "A") (codes "B")) { messages = Some (codes "MESSAGE") }
+arguments_of (Whole (command.Propose unknown names)) = pair_texts (codes "A") (codes "B")
+arguments_of (Breaking sends unknown messages names) = pair_texts (codes "A") (codes "B")
+
+-- the task was found, and its inputs come from where the words of its arguments say
+abbrev pub IsAsked : Task → Origins → Text × List Row → Type 0
+IsAsked task origins found = IsTaskOf task found × AreFound (arguments_of task) origins found.1
+
+-- the request that was found
 abbrev pub IsRequestOf : Request → Text × List Row → Type 0
 IsRequestOf request found =
-    IsSubcommandOf request.subcommand found × (first_of (codes "quiet") found.1 ≡ Some (flag_word request.quiet))
+    IsAsked request.task request.origins found × IsFlag (codes "quiet") request.quiet found.1
 
 -- the program's line, where `--unknown` is one of the two policies and `--sends` one of the three senders
 pub record IsProgram (line : App) : Type 0 where

@@ -5,23 +5,27 @@ ghost use Rattle.std.specs.Prelude.{◌&&◌, [], ◌∷◌, true, Bool, ℕ, If
 ghost use Rattle.clap.specs.Walk.{Row, Text, texts};
 ghost use Rattle.clap.specs.Words.{all_of, found_of, first_of, rows_of, subcommand_rows_of};
 ghost use Rattle.dia_cli.specs.Asking.{HasLinesAndStream, IsRefused, IsUnasked, IsUnrun, IsWanting, has_judged, has_pair};
-ghost use Rattle.dia_cli.specs.Asking.{has_refuted, has_shown, has_compared, has_word, is_asked, is_flag, is_limit};
+ghost use Rattle.dia_cli.specs.Asking.{has_refuted, has_shown, has_compared, has_word, is_asked, is_flag, is_judged};
 ghost use Rattle.dia_cli.specs.Asking.{is_policy, is_sender};
 ghost use Rattle.dia_cli.specs.Forms.{Form, IsAccepted, form_name, is_plain_form, words_of};
 ghost use Rattle.dia_cli.specs.Origins.{reads_twice};
-ghost use Rattle.dia_cli.specs.Request.{origins_of, read_once};
-ghost use Rattle.dia_cli.specs.Words.{ArePair, IsAskedBy, IsLimitOf, IsRequestOf};
-ghost use Rattle.dia_cli.specs.Words.{AreJudged, IsSubcommandOf, flag_word, policy_word, sends_word};
+ghost use Rattle.dia_cli.specs.InputWords.{AreFound, one_text, pair_texts};
+ghost use Rattle.dia_cli.specs.Request.{read_once};
+ghost use Rattle.dia_cli.specs.Words.{IsAsked, IsAskedBy, IsFlag, IsPolicy, IsRequestOf};
+ghost use Rattle.dia_cli.specs.Words.{AreJudged, sends_word};
 
 use crate::ending::Ending;
 use crate::line::{Words, command_line};
-use crate::request::{Request, Subcommand};
+use crate::origin::Origins;
+use crate::request::Request;
 use crate::rows::ROWS;
 use crate::values::{
-    copies_of, flag_of, limit_of, names_of, policy_of, sends_of, word_of, words_of,
+    copies_of, dictionary_of, flag_of, limit_of, message_of, messages_of, names_of, policy_of,
+    sends_of, table_of, word_of, words_of,
 };
 use clap::ArgMatches;
 use clap::error::ErrorKind;
+use dia_io::{Command, Task};
 use dia_policy::{Levels, Sends, Unknown};
 use std::alloc::{AllocError, Global};
 use std::convert::AsStr;
@@ -35,7 +39,7 @@ static SENDERS: [&str; 3] = ["any", "known", "listed"];
 /// Reads the words, the program's own name first.
 pub fn parse_words<'a, S: AsStr>(alloc: Global, words: &'a [S]) -> Result<Request<'a>, Ending<'a>>
     ensures words { IfOk result (λ request. IsAskedBy (map S.text words.entry.now) request) }
-    ensures once { IfOk result (λ request. reads_twice (origins_of request.subcommand) ≡ false) }
+    ensures once { IfOk result (λ request. reads_twice request.origins ≡ false) }
     ensures refused { IfErr result (IsRefused (map S.text words.entry.now)) }
     ensures forms { (program : List ℕ) (quiet : Bool) (form : Form)
         → map S.text words.entry.now ≡ program ∷ form_name form ∷ words_of quiet form
@@ -47,7 +51,7 @@ pub fn parse_words<'a, S: AsStr>(alloc: Global, words: &'a [S]) -> Result<Reques
 /// What clap makes of the words, and what that asks for.
 fn parsed<'a, S: AsStr>(alloc: Global, words: &'a [S]) -> Result<Request<'a>, Ending<'a>>
     ensures words { IfOk result (λ request. IsAskedBy (map S.text words.entry.now) request) }
-    ensures once { IfOk result (λ request. reads_twice (origins_of request.subcommand) ≡ false) }
+    ensures once { IfOk result (λ request. reads_twice request.origins ≡ false) }
     ensures refused { IfErr result (IsRefused (map S.text words.entry.now)) }
 {
     let values = Words {
@@ -56,18 +60,18 @@ fn parsed<'a, S: AsStr>(alloc: Global, words: &'a [S]) -> Result<Request<'a>, En
     };
     let mut line = command_line(alloc, values, ROWS.as_slice())?;
     let matches = line.try_get_matches_from_mut(words)?;
-    asked(alloc, &mut line, &matches)
+    requested(alloc, &mut line, &matches)
 }
 
 /// What the arguments ask for that clap found.
-fn asked<'a>(
+fn requested<'a>(
     alloc: Global,
     line: &mut clap::Command<'a>,
     matches: &ArgMatches<'a>,
 ) -> Result<Request<'a>, Ending<'a>>
     ensures words { IfOk result
         (λ request. IsSomeAnd (subcommand_rows_of matches.now) (IsRequestOf request)) }
-    ensures once { IfOk result (λ request. reads_twice (origins_of request.subcommand) ≡ false) }
+    ensures once { IfOk result (λ request. reads_twice request.origins ≡ false) }
     ensures unrun { IfErr result (IsUnrun (subcommand_rows_of matches.now)) }
 {
     match request_of(alloc, matches) {
@@ -81,6 +85,13 @@ fn asked<'a>(
             "the words ask for nothing",
         )),
     }
+}
+
+/// A task, and where its inputs come from.
+#[derive(Drop)]
+struct Asked<'a> {
+    task: Task,
+    origins: Origins<'a>,
 }
 
 /// Why arguments that clap found are no request.
@@ -118,7 +129,7 @@ fn refused<'a>(line: &mut clap::Command<'a>, kind: ErrorKind, why: &str) -> Endi
 fn read_once(request: Request<'_>) -> Result<Request<'_>, Ending<'_>>
     ensures { result ≡ read_once request.entry }
 {
-    if request.origins().reads_twice() {
+    if request.origins.reads_twice() {
         Err(Ending::ReadTwice)
     } else {
         Ok(request)
@@ -133,17 +144,18 @@ fn request_of<'a>(alloc: Global, matches: &ArgMatches<'a>) -> Result<Request<'a>
 {
     let (name, found) = matches.subcommand().ok_or(Unasked::Nothing)?;
     let quiet = flag_of(found, "quiet").ok_or(Unasked::Nothing)?;
-    let subcommand = subcommand_of(alloc, name, found)?;
-    Ok(Request { subcommand, quiet })
+    let Asked { task, origins } = task_of(alloc, name, found)?;
+    Ok(Request {
+        task,
+        origins,
+        quiet,
+    })
 }
 
-/// The subcommand of this name.
-fn subcommand_of<'a>(
-    alloc: Global,
-    name: &str,
-    found: &ArgMatches<'a>,
-) -> Result<Subcommand<'a>, Unasked>
-    ensures made { IfOk result (λ made. IsSubcommandOf made (name.now, rows_of (found_of found.now))) }
+/// The task of the command of this name.
+fn task_of<'a>(alloc: Global, name: &str, found: &ArgMatches<'a>) -> Result<Asked<'a>, Unasked>
+    ensures made { IfOk result
+        (λ made. IsAsked made.task made.origins (name.now, rows_of (found_of found.now))) }
     ensures wanting { IfErr result (IsWanting name.now (rows_of (found_of found.now))) }
 {
     match name {
@@ -159,152 +171,162 @@ fn subcommand_of<'a>(
 }
 
 /// `show` with the arguments that were found.
-fn show_of<'a>(found: &ArgMatches<'a>) -> Option<Subcommand<'a>>
+fn show_of<'a>(found: &ArgMatches<'a>) -> Option<Asked<'a>>
     ensures made { IfSome result
-        (λ made. IsSubcommandOf made (codes "show", rows_of (found_of found.now))) }
+        (λ made. IsAsked made.task made.origins (codes "show", rows_of (found_of found.now))) }
     ensures none { result ≡ None → has_shown (rows_of (found_of found.now)) ≡ false }
 {
-    Some(Subcommand::Show {
-        dictionary: word_of(found, "dict")?,
-        message: word_of(found, "MESSAGE")?,
+    let origins = Origins::of_one(dictionary_of(found, "dict")?);
+    let message = message_of(found)?;
+    Some(Asked {
+        task: Task::Whole(Command::Show),
+        origins: Origins { message, ..origins },
     })
 }
 
 /// `check` with the arguments that were found.
-fn check_of<'a>(found: &ArgMatches<'a>) -> Result<Subcommand<'a>, Unasked>
+fn check_of<'a>(found: &ArgMatches<'a>) -> Result<Asked<'a>, Unasked>
     ensures made { IfOk result
-        (λ made. IsSubcommandOf made (codes "check", rows_of (found_of found.now))) }
+        (λ made. IsAsked made.task made.origins (codes "check", rows_of (found_of found.now))) }
     ensures wanting { IfErr result (IsWanting (codes "check") (rows_of (found_of found.now))) }
 {
     let lines = flag_of(found, "lines").ok_or(Unasked::Nothing)?;
     let stream = flag_of(found, "stream").ok_or(Unasked::Nothing)?;
-    let (unknown, levels, dictionary, input) = checked_of(found).ok_or(Unasked::Nothing)?;
+    let (unknown, levels, origins) = checked_of(found).ok_or(Unasked::Nothing)?;
+    let message = message_of(found).ok_or(Unasked::Nothing)?;
+    let messages = messages_of(found).ok_or(Unasked::Nothing)?;
     match (lines, stream) {
-        (false, false) => Ok(Subcommand::Check {
-            unknown,
-            levels,
-            dictionary,
-            message: input,
+        (false, false) => Ok(Asked {
+            task: Task::Whole(Command::Check { unknown, levels }),
+            origins: Origins { message, ..origins },
         }),
-        (true, false) => Ok(Subcommand::CheckLines {
-            unknown,
-            levels,
-            dictionary,
-            messages: input,
+        (true, false) => Ok(Asked {
+            task: Task::CheckLines { unknown, levels },
+            origins: Origins {
+                messages,
+                ..origins
+            },
         }),
-        (false, true) => Ok(Subcommand::CheckStream {
-            unknown,
-            levels,
-            dictionary,
-            bytes: input,
+        (false, true) => Ok(Asked {
+            task: Task::CheckStream { unknown, levels },
+            origins: Origins {
+                messages,
+                ..origins
+            },
         }),
         (true, true) => Err(Unasked::LinesAndStream),
     }
 }
 
-/// The policies of `check`, and where its inputs come from.
-fn checked_of<'a>(found: &ArgMatches<'a>) -> Option<(Unknown, Levels, &'a str, &'a str)>
-    ensures made { IfSome result
-        (λ made. AreJudged made.0 made.1 made.2 made.3 (rows_of (found_of found.now))) }
+/// The policies of `check`, and where its dictionary comes from.
+fn checked_of<'a>(found: &ArgMatches<'a>) -> Option<(Unknown, Levels, Origins<'a>)>
+    ensures judged { IfSome result (λ made. AreJudged made.0 made.1 (rows_of (found_of found.now))) }
+    ensures found { IfSome result
+        (λ made. AreFound (one_text (codes "D")) made.2 (rows_of (found_of found.now))) }
     ensures none { result ≡ None → has_judged (rows_of (found_of found.now)) ≡ false }
 {
-    let unknown = policy_of(word_of(found, "unknown")?)?;
+    let (unknown, levels) = judged_of(found)?;
+    let origins = Origins::of_one(dictionary_of(found, "D")?);
+    Some((unknown, levels, origins))
+}
+
+/// The policies of `check` and `refute`.
+fn judged_of(found: &ArgMatches<'_>) -> Option<(Unknown, Levels)>
+    ensures made { IfSome result (λ made. AreJudged made.0 made.1 (rows_of (found_of found.now))) }
+    ensures none { result ≡ None → is_judged (rows_of (found_of found.now)) ≡ false }
+{
+    let unknown = unknown_of(found)?;
     let levels = limit_of(word_of(found, "levels"))?;
-    Some((
-        unknown,
-        levels,
-        word_of(found, "D")?,
-        word_of(found, "MESSAGE")?,
-    ))
+    Some((unknown, levels))
 }
 
 /// `render` with the arguments that were found.
-fn render_of<'a>(found: &ArgMatches<'a>) -> Option<Subcommand<'a>>
+fn render_of<'a>(found: &ArgMatches<'a>) -> Option<Asked<'a>>
     ensures made { IfSome result
-        (λ made. IsSubcommandOf made (codes "render", rows_of (found_of found.now))) }
+        (λ made. IsAsked made.task made.origins (codes "render", rows_of (found_of found.now))) }
     ensures none { result ≡ None → has_word (codes "D") (rows_of (found_of found.now)) ≡ false }
 {
-    Some(Subcommand::Render {
-        dictionary: word_of(found, "D")?,
+    Some(Asked {
+        task: Task::Whole(Command::Render),
+        origins: Origins::of_one(dictionary_of(found, "D")?),
     })
 }
 
 /// `compare` with the arguments that were found.
-fn compare_of<'a>(found: &ArgMatches<'a>) -> Option<Subcommand<'a>>
+fn compare_of<'a>(found: &ArgMatches<'a>) -> Option<Asked<'a>>
     ensures made { IfSome result
-        (λ made. IsSubcommandOf made (codes "compare", rows_of (found_of found.now))) }
+        (λ made. IsAsked made.task made.origins (codes "compare", rows_of (found_of found.now))) }
     ensures none { result ≡ None → has_compared (rows_of (found_of found.now)) ≡ false }
 {
-    let (unknown, first, second) = pair_of(found)?;
-    Some(Subcommand::Compare {
-        unknown,
-        first,
-        second,
-        table: word_of(found, "TABLE")?,
+    let unknown = unknown_of(found)?;
+    let origins = pair_of(found)?;
+    let table = table_of(found)?;
+    Some(Asked {
+        task: Task::Whole(Command::Compare { unknown }),
+        origins: Origins { table, ..origins },
     })
 }
 
 /// `refute` with the arguments that were found.
-fn refute_of<'a>(found: &ArgMatches<'a>) -> Option<Subcommand<'a>>
+fn refute_of<'a>(found: &ArgMatches<'a>) -> Option<Asked<'a>>
     ensures made { IfSome result
-        (λ made. IsSubcommandOf made (codes "refute", rows_of (found_of found.now))) }
+        (λ made. IsAsked made.task made.origins (codes "refute", rows_of (found_of found.now))) }
     ensures none { result ≡ None → has_refuted (rows_of (found_of found.now)) ≡ false }
 {
-    let (unknown, first, second) = pair_of(found)?;
-    let levels = limit_of(word_of(found, "levels"))?;
-    let message = word_of(found, "MESSAGE")?;
+    let (unknown, levels) = judged_of(found)?;
+    let origins = pair_of(found)?;
     if flag_of(found, "lines")? {
-        Some(Subcommand::RefuteLines {
-            unknown,
-            levels,
-            first,
-            second,
-            messages: message,
+        let messages = messages_of(found)?;
+        Some(Asked {
+            task: Task::RefuteLines { unknown, levels },
+            origins: Origins {
+                messages,
+                ..origins
+            },
         })
     } else {
-        Some(Subcommand::Refute {
-            unknown,
-            levels,
-            first,
-            second,
-            message,
+        let message = message_of(found)?;
+        Some(Asked {
+            task: Task::Whole(Command::Refute { unknown, levels }),
+            origins: Origins { message, ..origins },
         })
     }
 }
 
 /// `propose` with the arguments that were found.
-fn propose_of<'a>(alloc: Global, found: &ArgMatches<'a>) -> Result<Subcommand<'a>, Unasked>
+fn propose_of<'a>(alloc: Global, found: &ArgMatches<'a>) -> Result<Asked<'a>, Unasked>
     ensures made { IfOk result
-        (λ made. IsSubcommandOf made (codes "propose", rows_of (found_of found.now))) }
+        (λ made. IsAsked made.task made.origins (codes "propose", rows_of (found_of found.now))) }
     ensures wanting { IfErr result (IsWanting (codes "propose") (rows_of (found_of found.now))) }
 {
-    let (unknown, first, second) = pair_of(found).ok_or(Unasked::Nothing)?;
+    let unknown = unknown_of(found).ok_or(Unasked::Nothing)?;
+    let origins = pair_of(found).ok_or(Unasked::Nothing)?;
     let words = words_of(found, "COMMAND").ok_or(Unasked::Nothing)?;
     let names = copies_of(alloc, words)?;
-    Ok(Subcommand::Propose {
-        unknown,
-        first,
-        second,
-        names,
+    Ok(Asked {
+        task: Task::Whole(Command::Propose { unknown, names }),
+        origins,
     })
 }
 
 /// `breaking` with the arguments that were found.
-fn breaking_of<'a>(alloc: Global, found: &ArgMatches<'a>) -> Result<Subcommand<'a>, Unasked>
+fn breaking_of<'a>(alloc: Global, found: &ArgMatches<'a>) -> Result<Asked<'a>, Unasked>
     ensures made { IfOk result
-        (λ made. IsSubcommandOf made (codes "breaking", rows_of (found_of found.now))) }
+        (λ made. IsAsked made.task made.origins (codes "breaking", rows_of (found_of found.now))) }
     ensures wanting { IfErr result (IsWanting (codes "breaking") (rows_of (found_of found.now))) }
 {
-    let (unknown, first, second) = pair_of(found).ok_or(Unasked::Nothing)?;
+    let unknown = unknown_of(found).ok_or(Unasked::Nothing)?;
+    let origins = pair_of(found).ok_or(Unasked::Nothing)?;
     let (sends, messages) = shown_of(found).ok_or(Unasked::Nothing)?;
     let names = names_of(alloc, found)?;
-    Ok(Subcommand::Breaking {
-        sends,
-        unknown,
-        messages,
-        first,
-        second,
-        names,
+    Ok(Asked {
+        task: Task::Breaking {
+            sends,
+            unknown,
+            messages,
+            names,
+        },
+        origins,
     })
 }
 
@@ -312,8 +334,8 @@ fn breaking_of<'a>(alloc: Global, found: &ArgMatches<'a>) -> Result<Subcommand<'
 fn shown_of(found: &ArgMatches<'_>) -> Option<(Sends, bool)>
     ensures sends { IfSome result (λ made.
         first_of (codes "sends") (rows_of (found_of found.now)) ≡ Some (sends_word made.0)) }
-    ensures messages { IfSome result (λ made.
-        first_of (codes "messages") (rows_of (found_of found.now)) ≡ Some (flag_word made.1)) }
+    ensures messages { IfSome result
+        (λ made. IsFlag (codes "messages") made.1 (rows_of (found_of found.now))) }
     ensures none { result ≡ None → (is_sender (first_of (codes "sends") (rows_of (found_of found.now)))
         && is_flag (first_of (codes "messages") (rows_of (found_of found.now)))) ≡ false }
 {
@@ -321,11 +343,20 @@ fn shown_of(found: &ArgMatches<'_>) -> Option<(Sends, bool)>
     Some((sends, flag_of(found, "messages")?))
 }
 
-/// The policy, and where the two dictionaries come from.
-fn pair_of<'a>(found: &ArgMatches<'a>) -> Option<(Unknown, &'a str, &'a str)>
-    ensures made { IfSome result (λ pair. ArePair pair.0 pair.1 pair.2 (rows_of (found_of found.now))) }
+/// The policy for AVPs that the dictionary doesn't know.
+fn unknown_of(found: &ArgMatches<'_>) -> Option<Unknown>
+    ensures made { IfSome result (λ unknown. IsPolicy unknown (rows_of (found_of found.now))) }
+    ensures none { result ≡ None → is_policy (first_of (codes "unknown") (rows_of (found_of found.now))) ≡ false }
+{
+    policy_of(word_of(found, "unknown")?)
+}
+
+/// Where the two dictionaries come from.
+fn pair_of<'a>(found: &ArgMatches<'a>) -> Option<Origins<'a>>
+    ensures made { IfSome result (λ origins.
+        AreFound (pair_texts (codes "A") (codes "B")) origins (rows_of (found_of found.now))) }
     ensures none { result ≡ None → has_pair (rows_of (found_of found.now)) ≡ false }
 {
-    let unknown = policy_of(word_of(found, "unknown")?)?;
-    Some((unknown, word_of(found, "A")?, word_of(found, "B")?))
+    let first = dictionary_of(found, "A")?;
+    Some(Origins::of_pair(first, dictionary_of(found, "B")?))
 }

@@ -7,9 +7,9 @@
 //! ```text
 //! let words = ["diacmd", "check", "@base", "/dev/null"];
 //! let request = parse_words(alloc, words.as_slice())?;
-//! let inputs = open_inputs(alloc, &OfProcess::new(&rt), &request.origins())?;
+//! let inputs = open_inputs(alloc, &OfProcess::new(&rt), &request.origins)?;
 //! let mut sink = ToWriter::new(Vec::new(alloc));
-//! let Task::Whole(command) = request.into_task() else {
+//! let Task::Whole(command) = request.task else {
 //!     return Err(Fail::from("the words ask for another run"));
 //! };
 //! let exit = run(alloc, &command, &inputs, &mut sink)?;
@@ -35,4 +35,4 @@ pub use ending::{Ending, finish};
 pub use opened_inputs::open_inputs;
 pub use opener::{OfProcess, Opener};
 pub use origin::{BASE_DICTIONARY, Origin, Origins, STANDARD_INPUT};
-pub use request::{Request, Subcommand};
+pub use request::Request;

@@ -87,14 +87,14 @@ pub struct Origins<'a> {
 }
 
 impl<'a> Origins<'a> {
-    ghost use Rattle.dia_cli.specs.Request.{one_origin, pair_origins};
+    ghost use Rattle.dia_cli.specs.InputWords.{one_origin, pair_origins};
 
     /// The origins where a dictionary is the only input.
-    pub(crate) fn of_dictionary(word: &'a str) -> Origins<'a>
-        ensures { result ≡ one_origin word.entry }
+    pub(crate) fn of_one(first: Origin<'a>) -> Origins<'a>
+        ensures { result ≡ one_origin first.entry }
     {
         Origins {
-            first: Origin::of_dictionary(word),
+            first,
             second: Origin::Nowhere,
             table: Origin::Nowhere,
             message: Origin::Nowhere,
@@ -103,12 +103,12 @@ impl<'a> Origins<'a> {
     }
 
     /// The origins where two dictionaries are the only inputs.
-    pub(crate) fn of_pair(first: &'a str, second: &'a str) -> Origins<'a>
+    pub(crate) fn of_pair(first: Origin<'a>, second: Origin<'a>) -> Origins<'a>
         ensures { result ≡ pair_origins first.entry second.entry }
     {
         Origins {
-            second: Origin::of_dictionary(second),
-            ..Origins::of_dictionary(first)
+            second,
+            ..Origins::of_one(first)
         }
     }
 

@@ -4,12 +4,51 @@ ghost use Rattle.std.specs.Prelude.{◌≡◌, [], IfOk, IfSome, None, Some, fal
 ghost use Rattle.std.specs.Prelude.{codes, unwrap_or};
 ghost use Rattle.clap.specs.Walk.{texts};
 ghost use Rattle.clap.specs.Words.{all_of, first_of, found_of, rows_of};
-ghost use Rattle.dia_cli.specs.Asking.{is_flag, is_limit, is_policy, is_sender};
+ghost use Rattle.dia_cli.specs.Asking.{has_word, is_flag, is_limit, is_policy, is_sender};
+ghost use Rattle.dia_cli.specs.InputWords.{IsFound};
+ghost use Rattle.dia_cli.specs.Origins.{dictionary_origin, message_origin, messages_origin, table_origin};
 ghost use Rattle.dia_cli.specs.Words.{IsLimitOf, flag_word, policy_word, sends_word};
 
+use crate::origin::Origin;
 use clap::ArgMatches;
 use dia_policy::{Levels, Sends, Unknown};
 use std::alloc::{AllocError, Global};
+
+/// The origin of the dictionary that this argument names.
+pub(crate) fn dictionary_of<'a>(found: &ArgMatches<'a>, id: &str) -> Option<Origin<'a>>
+    ensures found { IfSome result (λ origin.
+        IsFound dictionary_origin (Some id.now) origin (rows_of (found_of found.now))) }
+    ensures none { result ≡ None → has_word id.now (rows_of (found_of found.now)) ≡ false }
+{
+    Some(Origin::of_dictionary(word_of(found, id)?))
+}
+
+/// The origin of the table of pairs.
+pub(crate) fn table_of<'a>(found: &ArgMatches<'a>) -> Option<Origin<'a>>
+    ensures found { IfSome result (λ origin.
+        IsFound table_origin (Some (codes "TABLE")) origin (rows_of (found_of found.now))) }
+    ensures none { result ≡ None → has_word (codes "TABLE") (rows_of (found_of found.now)) ≡ false }
+{
+    Some(Origin::of_table(word_of(found, "TABLE")?))
+}
+
+/// The origin of the message.
+pub(crate) fn message_of<'a>(found: &ArgMatches<'a>) -> Option<Origin<'a>>
+    ensures found { IfSome result (λ origin.
+        IsFound message_origin (Some (codes "MESSAGE")) origin (rows_of (found_of found.now))) }
+    ensures none { result ≡ None → has_word (codes "MESSAGE") (rows_of (found_of found.now)) ≡ false }
+{
+    Some(Origin::of_message(word_of(found, "MESSAGE")?))
+}
+
+/// The origin of messages that are read a piece at a time.
+pub(crate) fn messages_of<'a>(found: &ArgMatches<'a>) -> Option<Origin<'a>>
+    ensures found { IfSome result (λ origin.
+        IsFound messages_origin (Some (codes "MESSAGE")) origin (rows_of (found_of found.now))) }
+    ensures none { result ≡ None → has_word (codes "MESSAGE") (rows_of (found_of found.now)) ≡ false }
+{
+    Some(Origin::of_messages(word_of(found, "MESSAGE")?))
+}
 
 /// The names of commands, also none.
 pub(crate) fn names_of(alloc: Global, found: &ArgMatches<'_>) -> Result<Vec<String>, AllocError>

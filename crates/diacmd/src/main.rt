@@ -13,8 +13,8 @@ mod tests;
 use captured::{Capture, captured};
 use dia_captures::Lines;
 use dia_cli::{
-    BASE_DICTIONARY, Ending, OfProcess, Origin, Origins, STANDARD_INPUT, finish, open_inputs,
-    parse_words,
+    BASE_DICTIONARY, Ending, OfProcess, Origin, Origins, Request, STANDARD_INPUT, finish,
+    open_inputs, parse_words,
 };
 use dia_explain_places::{InputTexts, NamedText};
 use dia_io::Task;
@@ -52,11 +52,12 @@ fn perform<'a, R>(rt: &R, words: &'a [String]) -> Result<Exit, Ending<'a>>
 where
     R: AllocGlobal + Files + Input + Print + Eprint,
 {
-    let request = parse_words(rt.alloc(), words)?;
-    let origins = request.origins();
+    let Request {
+        task,
+        origins,
+        quiet,
+    } = parse_words(rt.alloc(), words)?;
     let inputs = open_inputs(rt.alloc(), &OfProcess::new(rt), &origins)?;
-    let quiet = request.is_quiet();
-    let task = request.into_task();
     let reported = run_task(rt, &task, &inputs, &origins, quiet)?;
     if !quiet {
         let texts = texts_of(&origins, &inputs);

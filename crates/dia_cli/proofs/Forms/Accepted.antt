@@ -30,7 +30,7 @@ none_among (k ∷ ks) is kind among = absurd cc
 -- where a parse takes the words of a form
 module _ (line : App) (words : List Text) (quiet : Bool) (form : Form) (rows : List Row) (fine : fault_of line words ≡ [])
     (finds : subcommand_of line words ≡ Some (form_name form, rows)) (plain : is_plain_form form ≡ true) (found : Says quiet form rows) where
-  request_of_form : (request : Request) → IsSomeAnd (subcommand_of line words) (IsRequestOf request) → IsOfForm form request.subcommand × (request.quiet ≡ quiet)
+  request_of_form : (request : Request) → IsSomeAnd (subcommand_of line words) (IsRequestOf request) → IsOfForm form request × (request.quiet ≡ quiet)
   request_of_form request is =
       request_is quiet form rows request found (subst (λ (s : Option (Text × List Row)). IsSomeAnd s (IsRequestOf request)) finds is)
 

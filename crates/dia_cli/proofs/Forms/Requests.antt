@@ -1,5 +1,6 @@
 -- What is found of the words of a form is a subcommand with its arguments, and the request that is made of it is the form's.
 use Rattle.std.proofs.Common.{◌≡◌, ◌≢◌, ◌∙◌, Bool, true, false, List, [], ◌∷◌, Option, Some, None, refl, sym, ap, subst, codes, ◌&&◌, is_some}
+use Rattle.std.specs.Borrow.{Bor}
 use Rattle.std.specs.Prelude.{unwrap_or}
 use Rattle.std.specs.List.{list_all}
 use Rattle.std.proofs.lemmas.Slice.Eq.{bytes_eq-Decides}
@@ -7,18 +8,22 @@ use Rattle.std.specs.Str.{bytes_eq}
 use Rattle.clap.specs.ValueTests.{is_unsigned_in}
 use Rattle.clap.specs.Walk.{Row, Text, first_of}
 use Rattle.clap.proofs.WalkLemmas.{both}
+use Rattle.dia_io.specs.declared.Command.TheVariants as command
+use Rattle.dia_io.specs.declared.Task.{Task}
+use Rattle.dia_io.specs.declared.Task.TheVariants.{Whole, Breaking, CheckLines, RefuteLines, CheckStream}
 use Rattle.dia_policy.specs.declared.Levels.{Levels}
 use Rattle.dia_policy.specs.declared.Sends.{Sends}
 use Rattle.dia_policy.specs.declared.Sends.TheVariants.{Any, Known, Listed}
 use Rattle.dia_policy.specs.declared.Unknown.{Unknown}
 use Rattle.dia_policy.specs.declared.Unknown.TheVariants.{Kept, Refused}
-use Rattle.dia_cli.specs.Asking.{HasLinesAndStream, is_asked, is_flag, is_limit, is_policy, is_sender}
-use Rattle.dia_cli.specs.Forms.{Form, IsOfForm, alone, breaking, check, compare, form_inputs, form_name, in_lines, in_stream, is_lines, is_plain_form, is_stream, propose, refute, render, show}
+use Rattle.dia_cli.specs.Asking.{HasLinesAndStream, has_pair, is_asked, is_flag, is_limit, is_policy, is_sender}
+use Rattle.dia_cli.specs.Forms.{Form, IsOfForm, IsTaskOfForm, alone, breaking, check, compare, form_inputs, form_name, form_words, in_lines, in_stream, is_lines, is_plain_form, is_stream, propose, refute, render, show}
 use Rattle.dia_cli.specs.Slots.{Slot, is_plain, is_plain_slot, number}
-use Rattle.dia_cli.specs.Words.{IsLimitOf, IsRequestOf, IsSubcommandOf, flag_word, policy_word, sends_word}
+use Rattle.dia_cli.specs.InputWords.{AreFound, AreNamed, IsFound, IsNamed, one_text, pair_texts}
+use Rattle.dia_cli.specs.Words.{IsLimitOf, IsRequestOf, IsTaskOf, arguments_of, flag_word, policy_word, sends_word}
 use Rattle.dia_cli.specs.declared.request.Request.{Request}
-use Rattle.dia_cli.specs.declared.request.Subcommand.{Subcommand}
-use Rattle.dia_cli.specs.declared.request.Subcommand.TheVariants as subcommand
+use Rattle.dia_cli.specs.declared.origin.Origin.{Origin}
+use Rattle.dia_cli.specs.declared.origin.Origins.{Origins}
 use Rattle.dia_cli.proofs.Forms.Says.{Says, SaysForm, some_names}
 
 unlike : {X : Type 0} (a b : Text) → bytes_eq a b ≡ false → a ≡ b → X
@@ -99,27 +104,28 @@ number_passes None more plain = refl
 number_passes (Some n) more plain =
     let parts = both (is_plain n && is_unsigned_in 0 4294967295 n) (list_all is_plain_slot more) plain in (both (is_plain n) (is_unsigned_in 0 4294967295 n) parts.0).1
 
+pair_passes : (first second : Text) (rows : List Row) → first_of (codes "A") rows ≡ Some first → first_of (codes "B") rows ≡ Some second → has_pair rows ≡ true
+pair_passes first second rows one two = also (has_some _ first one) (has_some _ second two)
+
 pub form_is_asked : (quiet : Bool) (form : Form) (rows : List Row) → is_plain_form form ≡ true → Says quiet form rows → is_asked (Some (form_name form, rows)) ≡ true
 form_is_asked quiet (show dictionary message) rows plain says =
     also (has_flag _ quiet says.0) (also (has_some _ (unwrap_or dictionary (codes "@base")) says.1.0) (has_some _ message says.1.1))
 form_is_asked quiet (check manner unknown levels first second) rows plain says =
     also (has_flag _ quiet says.0) (also (has_flag _ (is_lines manner) says.1.0) (also (has_flag _ (is_stream manner) says.1.1)
-    (also (has_policy _ unknown says.1.2) (also (has_limit _ levels says.1.3 (number_passes levels (form_inputs (check manner unknown levels first second)) plain))
-    (also (has_some _ first says.1.4) (has_some _ second says.1.5))))))
+    (also (also (also (has_policy _ unknown says.1.2) (has_limit _ levels says.1.3 (number_passes levels (form_inputs (check manner unknown levels first second)) plain)))
+    (has_some _ first says.1.4)) (has_some _ second says.1.5))))
 form_is_asked quiet (render first) rows plain says = also (has_flag _ quiet says.0) (has_some _ first says.1)
 form_is_asked quiet (compare unknown first second table) rows plain says =
-    also (has_flag _ quiet says.0) (also (also (has_policy _ unknown says.1.0.0) (also (has_some _ first says.1.0.1) (has_some _ second says.1.0.2)))
-    (has_some _ table says.1.1))
+    also (has_flag _ quiet says.0) (also (has_policy _ unknown says.1.0.0) (also (pair_passes first second rows says.1.0.1 says.1.0.2) (has_some _ table says.1.1)))
 form_is_asked quiet (refute many unknown levels first second third) rows plain says =
-    also (has_flag _ quiet says.0) (also (also (has_policy _ unknown says.1.0.0) (also (has_some _ first says.1.0.1) (has_some _ second says.1.0.2)))
-    (also (has_limit _ levels says.1.2 (number_passes levels (form_inputs (refute many unknown levels first second third)) plain))
-    (also (has_some _ third says.1.3) (has_flag _ many says.1.1))))
+    also (has_flag _ quiet says.0)
+    (also (also (has_policy _ unknown says.1.0.0) (has_limit _ levels says.1.2 (number_passes levels (form_inputs (refute many unknown levels first second third)) plain)))
+    (also (pair_passes first second rows says.1.0.1 says.1.0.2) (also (has_flag _ many says.1.1) (has_some _ third says.1.3))))
 form_is_asked quiet (propose unknown first second name names) rows plain says =
-    also (has_flag _ quiet says.0) (also (also (has_policy _ unknown says.1.0.0) (also (has_some _ first says.1.0.1) (has_some _ second says.1.0.2)))
-    (has_some _ (name ∷ names) says.1.1))
+    also (has_flag _ quiet says.0) (also (has_policy _ unknown says.1.0.0) (also (pair_passes first second rows says.1.0.1 says.1.0.2) (has_some _ (name ∷ names) says.1.1)))
 form_is_asked quiet (breaking sends unknown messages first second names) rows plain says =
-    also (has_flag _ quiet says.0) (also (also (has_policy _ unknown says.1.0.0) (also (has_some _ first says.1.0.1) (has_some _ second says.1.0.2)))
-    (also (has_sender _ sends says.1.1) (has_flag _ messages says.1.2)))
+    also (has_flag _ quiet says.0) (also (has_policy _ unknown says.1.0.0) (also (pair_passes first second rows says.1.0.1 says.1.0.2)
+    (also (has_sender _ sends says.1.1) (has_flag _ messages says.1.2))))
 
 -- `--lines` and `--stream` stand together in no form
 pub form_reads_one_way : (quiet : Bool) (form : Form) (rows : List Row) → Says quiet form rows → (form_name form ≡ codes "check") × HasLinesAndStream rows → ⊥
@@ -128,31 +134,31 @@ form_reads_one_way quiet (check in_lines unknown levels first second) rows says 
 form_reads_one_way quiet (check in_stream unknown levels first second) rows says bad = let lines = sym says.1.0 ∙ bad.1.0 in absurd cc
 form_reads_one_way quiet form rows says bad = unlike (form_name form) (codes "check") refl bad.0
 
--- ---- the subcommand
+-- ---- the task
 
-abbrev subcommand_name : Subcommand → Text
-subcommand_name (subcommand.Show dictionary message) = codes "show"
-subcommand_name (subcommand.Check unknown levels dictionary message) = codes "check"
-subcommand_name (subcommand.CheckLines unknown levels dictionary messages) = codes "check"
-subcommand_name (subcommand.CheckStream unknown levels dictionary bytes) = codes "check"
-subcommand_name (subcommand.Render dictionary) = codes "render"
-subcommand_name (subcommand.Compare unknown first second table) = codes "compare"
-subcommand_name (subcommand.Refute unknown levels first second message) = codes "refute"
-subcommand_name (subcommand.RefuteLines unknown levels first second messages) = codes "refute"
-subcommand_name (subcommand.Propose unknown first second names) = codes "propose"
-subcommand_name (subcommand.Breaking sends unknown messages first second names) = codes "breaking"
+abbrev task_name : Task → Text
+task_name (Whole command.Show) = codes "show"
+task_name (Whole command.Render) = codes "render"
+task_name (Whole (command.Check unknown levels)) = codes "check"
+task_name (CheckLines unknown levels) = codes "check"
+task_name (CheckStream unknown levels) = codes "check"
+task_name (Whole (command.Compare unknown)) = codes "compare"
+task_name (Whole (command.Refute unknown levels)) = codes "refute"
+task_name (RefuteLines unknown levels) = codes "refute"
+task_name (Whole (command.Propose unknown names)) = codes "propose"
+task_name (Breaking sends unknown messages names) = codes "breaking"
 
-name_found : (made : Subcommand) (found : Text × List Row) → IsSubcommandOf made found → found.0 ≡ subcommand_name made
-name_found (subcommand.Show dictionary message) found is = is.0
-name_found (subcommand.Check unknown levels dictionary message) found is = is.0
-name_found (subcommand.CheckLines unknown levels dictionary messages) found is = is.0
-name_found (subcommand.CheckStream unknown levels dictionary bytes) found is = is.0
-name_found (subcommand.Render dictionary) found is = is.0
-name_found (subcommand.Compare unknown first second table) found is = is.0
-name_found (subcommand.Refute unknown levels first second message) found is = is.0
-name_found (subcommand.RefuteLines unknown levels first second messages) found is = is.0
-name_found (subcommand.Propose unknown first second names) found is = is.0
-name_found (subcommand.Breaking sends unknown messages first second names) found is = is.0
+name_found : (task : Task) (found : Text × List Row) → IsTaskOf task found → found.0 ≡ task_name task
+name_found (Whole command.Show) found is = is
+name_found (Whole command.Render) found is = is
+name_found (Whole (command.Check unknown levels)) found is = is.0
+name_found (CheckLines unknown levels) found is = is.0
+name_found (CheckStream unknown levels) found is = is.0
+name_found (Whole (command.Compare unknown)) found is = is.0
+name_found (Whole (command.Refute unknown levels)) found is = is.0
+name_found (RefuteLines unknown levels) found is = is.0
+name_found (Whole (command.Propose unknown names)) found is = is.0
+name_found (Breaking sends unknown messages names) found is = is.0
 
 other_flag : {X : Type 0} (word : Option Text) (x y : Bool) → word ≡ Some (flag_word x) → word ≡ Some (flag_word y) → x ≢ y → X
 other_flag word x y one two differ = absurd (differ (same_flag word x y one two))
@@ -163,52 +169,103 @@ not_false e = absurd cc
 not_true : false ≢ true
 not_true e = absurd cc
 
-subcommand_is : (form : Form) (rows : List Row) (made : Subcommand) → SaysForm form rows → IsSubcommandOf made (form_name form, rows) → IsOfForm form made
-subcommand_is (show dictionary message) rows (subcommand.Show d m) says is = (sym (same_value _ _ _ says.0 is.1), sym (same_value _ _ _ says.1 is.2))
-subcommand_is (check alone unknown levels first second) rows (subcommand.Check policy limit d m) says is =
-    (same_policy _ _ _ is.1.2.0 says.2, same_limit _ _ limit says.3 is.1.2.1, sym (same_value _ _ _ says.4 is.1.2.2), sym (same_value _ _ _ says.5 is.1.2.3))
-subcommand_is (check in_lines unknown levels first second) rows (subcommand.CheckLines policy limit d m) says is =
-    (same_policy _ _ _ is.1.2.0 says.2, same_limit _ _ limit says.3 is.1.2.1, sym (same_value _ _ _ says.4 is.1.2.2), sym (same_value _ _ _ says.5 is.1.2.3))
-subcommand_is (check in_stream unknown levels first second) rows (subcommand.CheckStream policy limit d m) says is =
-    (same_policy _ _ _ is.1.2.0 says.2, same_limit _ _ limit says.3 is.1.2.1, sym (same_value _ _ _ says.4 is.1.2.2), sym (same_value _ _ _ says.5 is.1.2.3))
-subcommand_is (check alone unknown levels first second) rows (subcommand.CheckLines policy limit d m) says is = other_flag _ true false is.1.0 says.0 not_false
-subcommand_is (check alone unknown levels first second) rows (subcommand.CheckStream policy limit d m) says is = other_flag _ true false is.1.1 says.1 not_false
-subcommand_is (check in_lines unknown levels first second) rows (subcommand.Check policy limit d m) says is = other_flag _ false true is.1.0 says.0 not_true
-subcommand_is (check in_lines unknown levels first second) rows (subcommand.CheckStream policy limit d m) says is = other_flag _ false true is.1.0 says.0 not_true
-subcommand_is (check in_stream unknown levels first second) rows (subcommand.Check policy limit d m) says is = other_flag _ false true is.1.1 says.1 not_true
-subcommand_is (check in_stream unknown levels first second) rows (subcommand.CheckLines policy limit d m) says is = other_flag _ false true is.1.1 says.1 not_true
-subcommand_is (render dictionary) rows (subcommand.Render d) says is = sym (same_value _ _ _ says is.1)
-subcommand_is (compare unknown first second table) rows (subcommand.Compare policy a b t) says is =
-    (same_policy _ _ _ is.1.0 says.0.0, sym (same_value _ _ _ says.0.1 is.1.1), sym (same_value _ _ _ says.0.2 is.1.2), sym (same_value _ _ _ says.1 is.2))
-subcommand_is (refute false unknown levels first second third) rows (subcommand.Refute policy limit a b m) says is = (
-  same_policy _ _ _ is.1.1.0 says.0.0,
-  same_limit _ _ limit says.2 is.1.2,
-  sym (same_value _ _ _ says.0.1 is.1.1.1),
-  sym (same_value _ _ _ says.0.2 is.1.1.2),
-  sym (same_value _ _ _ says.3 is.1.3),
+-- the word of an argument
+named : (origin_of : Bor Text → Origin) (id text : Text) (origin : Origin) (rows : List Row) → first_of id rows ≡ Some text → IsFound origin_of (Some id) origin rows
+    → IsNamed origin_of (Some text) origin
+named origin_of id text origin rows says (word, is, from) = (word, same_value _ _ _ is says, from)
+
+-- what the words of a form ask for
+abbrev IsAskedOf : Form → Task → Origins → Type 0
+IsAskedOf form task origins = IsTaskOfForm form task × AreNamed (form_words form) origins
+
+module _ (origins : Origins) (rows : List Row) where
+  -- one dictionary, and a message, or messages
+  one_named : (id dictionary : Text) → first_of id rows ≡ Some dictionary → AreFound (one_text id) origins rows → AreNamed (one_text dictionary) origins
+  one_named id dictionary says found = (named _ id dictionary origins.first rows says found.0, found.1, found.2, found.3, found.4)
+
+  message_named : (id dictionary message : Text) → first_of id rows ≡ Some dictionary → first_of (codes "MESSAGE") rows ≡ Some message
+      → AreFound (record (one_text id) { message = Some (codes "MESSAGE") }) origins rows → AreNamed (record (one_text dictionary) { message = Some message }) origins
+  message_named id dictionary message says text found =
+      (named _ id dictionary origins.first rows says found.0, found.1, found.2, named _ (codes "MESSAGE") message origins.message rows text found.3, found.4)
+
+  messages_named : (id dictionary messages : Text) → first_of id rows ≡ Some dictionary → first_of (codes "MESSAGE") rows ≡ Some messages
+      → AreFound (record (one_text id) { messages = Some (codes "MESSAGE") }) origins rows → AreNamed (record (one_text dictionary) { messages = Some messages }) origins
+  messages_named id dictionary messages says text found =
+      (named _ id dictionary origins.first rows says found.0, found.1, found.2, found.3, named _ (codes "MESSAGE") messages origins.messages rows text found.4)
+
+  -- two dictionaries, and more
+  module _ (first second : Text) (one : first_of (codes "A") rows ≡ Some first) (two : first_of (codes "B") rows ≡ Some second) where
+    pair_named : AreFound (pair_texts (codes "A") (codes "B")) origins rows → AreNamed (pair_texts first second) origins
+    pair_named found =
+        (named _ (codes "A") first origins.first rows one found.0, named _ (codes "B") second origins.second rows two found.1, found.2, found.3, found.4)
+
+    table_named : (table : Text) → first_of (codes "TABLE") rows ≡ Some table
+        → AreFound (record (pair_texts (codes "A") (codes "B")) { table = Some (codes "TABLE") }) origins rows → AreNamed (record (pair_texts first second) { table = Some table }) origins
+    table_named table says found = (
+      named _ (codes "A") first origins.first rows one found.0,
+      named _ (codes "B") second origins.second rows two found.1,
+      named _ (codes "TABLE") table origins.table rows says found.2,
+      found.3,
+      found.4,
+    )
+
+    pair_message_named : (message : Text) → first_of (codes "MESSAGE") rows ≡ Some message
+        → AreFound (record (pair_texts (codes "A") (codes "B")) { message = Some (codes "MESSAGE") }) origins rows
+        → AreNamed (record (pair_texts first second) { message = Some message }) origins
+    pair_message_named message says found = (
+      named _ (codes "A") first origins.first rows one found.0,
+      named _ (codes "B") second origins.second rows two found.1,
+      found.2,
+      named _ (codes "MESSAGE") message origins.message rows says found.3,
+      found.4,
+    )
+
+    pair_messages_named : (messages : Text) → first_of (codes "MESSAGE") rows ≡ Some messages
+        → AreFound (record (pair_texts (codes "A") (codes "B")) { messages = Some (codes "MESSAGE") }) origins rows
+        → AreNamed (record (pair_texts first second) { messages = Some messages }) origins
+    pair_messages_named messages says found = (
+      named _ (codes "A") first origins.first rows one found.0,
+      named _ (codes "B") second origins.second rows two found.1,
+      found.2,
+      found.3,
+      named _ (codes "MESSAGE") messages origins.messages rows says found.4,
+    )
+
+asked_is : (form : Form) (rows : List Row) (task : Task) (origins : Origins) → SaysForm form rows → IsTaskOf task (form_name form, rows) → AreFound (arguments_of task) origins rows
+    → IsAskedOf form task origins
+asked_is (show dictionary message) rows (Whole command.Show) origins says is found =
+    (tt, message_named origins rows (codes "dict") (unwrap_or dictionary (codes "@base")) message says.0 says.1 found)
+asked_is (render dictionary) rows (Whole command.Render) origins says is found = (tt, one_named origins rows (codes "D") dictionary says found)
+asked_is (check alone unknown levels first second) rows (Whole (command.Check policy limit)) origins says is found =
+    ((same_policy _ _ _ is.3.0 says.2, same_limit _ _ limit says.3 is.3.1), message_named origins rows (codes "D") first second says.4 says.5 found)
+asked_is (check in_lines unknown levels first second) rows (CheckLines policy limit) origins says is found =
+    ((same_policy _ _ _ is.3.0 says.2, same_limit _ _ limit says.3 is.3.1), messages_named origins rows (codes "D") first second says.4 says.5 found)
+asked_is (check in_stream unknown levels first second) rows (CheckStream policy limit) origins says is found =
+    ((same_policy _ _ _ is.3.0 says.2, same_limit _ _ limit says.3 is.3.1), messages_named origins rows (codes "D") first second says.4 says.5 found)
+asked_is (check alone unknown levels first second) rows (CheckLines policy limit) origins says is found = other_flag _ true false is.1 says.0 not_false
+asked_is (check alone unknown levels first second) rows (CheckStream policy limit) origins says is found = other_flag _ true false is.2 says.1 not_false
+asked_is (check in_lines unknown levels first second) rows (Whole (command.Check policy limit)) origins says is found = other_flag _ false true is.1 says.0 not_true
+asked_is (check in_lines unknown levels first second) rows (CheckStream policy limit) origins says is found = other_flag _ false true is.1 says.0 not_true
+asked_is (check in_stream unknown levels first second) rows (Whole (command.Check policy limit)) origins says is found = other_flag _ false true is.2 says.1 not_true
+asked_is (check in_stream unknown levels first second) rows (CheckLines policy limit) origins says is found = other_flag _ false true is.2 says.1 not_true
+asked_is (compare unknown first second table) rows (Whole (command.Compare policy)) origins says is found =
+    (same_policy _ _ _ is.1 says.0.0, table_named origins rows first second says.0.1 says.0.2 table says.1 found)
+asked_is (refute false unknown levels first second third) rows (Whole (command.Refute policy limit)) origins says is found =
+    ((same_policy _ _ _ is.2.0 says.0.0, same_limit _ _ limit says.2 is.2.1), pair_message_named origins rows first second says.0.1 says.0.2 third says.3 found)
+asked_is (refute true unknown levels first second third) rows (RefuteLines policy limit) origins says is found =
+    ((same_policy _ _ _ is.2.0 says.0.0, same_limit _ _ limit says.2 is.2.1), pair_messages_named origins rows first second says.0.1 says.0.2 third says.3 found)
+asked_is (refute false unknown levels first second third) rows (RefuteLines policy limit) origins says is found = other_flag _ true false is.1 says.1 not_false
+asked_is (refute true unknown levels first second third) rows (Whole (command.Refute policy limit)) origins says is found = other_flag _ false true is.1 says.1 not_true
+asked_is (propose unknown first second name names) rows (Whole (command.Propose policy commands)) origins says is found =
+    ((same_policy _ _ _ is.1 says.0.0, sym (same_value _ _ _ says.1 is.2)), pair_named origins rows first second says.0.1 says.0.2 found)
+asked_is (breaking sends unknown messages first second names) rows (Breaking sender policy shown commands) origins says is found = (
+  (same_sender _ _ _ is.2 says.1, same_policy _ _ _ is.1 says.0.0, same_flag _ _ _ is.3 says.2, same_names _ _ names says.3 is.4),
+  pair_named origins rows first second says.0.1 says.0.2 found,
 )
-subcommand_is (refute true unknown levels first second third) rows (subcommand.RefuteLines policy limit a b m) says is = (
-  same_policy _ _ _ is.1.1.0 says.0.0,
-  same_limit _ _ limit says.2 is.1.2,
-  sym (same_value _ _ _ says.0.1 is.1.1.1),
-  sym (same_value _ _ _ says.0.2 is.1.1.2),
-  sym (same_value _ _ _ says.3 is.1.3),
-)
-subcommand_is (refute false unknown levels first second third) rows (subcommand.RefuteLines policy limit a b m) says is = other_flag _ true false is.1.0 says.1 not_false
-subcommand_is (refute true unknown levels first second third) rows (subcommand.Refute policy limit a b m) says is = other_flag _ false true is.1.0 says.1 not_true
-subcommand_is (propose unknown first second name names) rows (subcommand.Propose policy a b commands) says is =
-    (same_policy _ _ _ is.1.0 says.0.0, sym (same_value _ _ _ says.0.1 is.1.1), sym (same_value _ _ _ says.0.2 is.1.2), sym (same_value _ _ _ says.1 is.2))
-subcommand_is (breaking sends unknown messages first second names) rows (subcommand.Breaking sender policy shown a b commands) says is = (
-  same_sender _ _ _ is.2 says.1,
-  same_policy _ _ _ is.1.0 says.0.0,
-  same_flag _ _ _ is.3 says.2,
-  sym (same_value _ _ _ says.0.1 is.1.1),
-  sym (same_value _ _ _ says.0.2 is.1.2),
-  same_names _ _ names says.3 is.4,
-)
-subcommand_is form rows made says is = unlike (form_name form) (subcommand_name made) refl (name_found made (form_name form, rows) is)
+asked_is (breaking sends unknown messages first second names) rows (Whole command.Show) origins says is found = unlike (codes "breaking") (codes "show") refl is
+asked_is form rows task origins says is found = unlike (form_name form) (task_name task) refl (name_found task (form_name form, rows) is)
 
 pub request_is : (quiet : Bool) (form : Form) (rows : List Row) (request : Request) → Says quiet form rows → IsRequestOf request (form_name form, rows)
-    → IsOfForm form request.subcommand × (request.quiet ≡ quiet)
+    → IsOfForm form request × (request.quiet ≡ quiet)
 request_is quiet form rows request says is =
-    (subcommand_is form rows request.subcommand says.1 is.0, same_flag (first_of (codes "quiet") rows) request.quiet quiet is.1 says.0)
+    (asked_is form rows request.task request.origins says.1 is.0.0 is.0.1, same_flag (first_of (codes "quiet") rows) request.quiet quiet is.1 says.0)

@@ -12,11 +12,11 @@ fn checks_a_message_without_bytes(rt: HostRuntime) -> Result<(), Fail> {
     let Ok(request) = parse_words(alloc, words.as_slice()) else {
         return Err(Fail::from("the words aren't read"));
     };
-    let Ok(inputs) = open_inputs(alloc, &OfProcess::new(&rt), &request.origins()) else {
+    let Ok(inputs) = open_inputs(alloc, &OfProcess::new(&rt), &request.origins) else {
         return Err(Fail::from("the files can't be read"));
     };
     let mut sink = ToWriter::new(Vec::new(alloc));
-    let Task::Whole(command) = request.into_task() else {
+    let Task::Whole(command) = request.task else {
         return Err(Fail::from("the words ask for another run"));
     };
     let exit = run(alloc, &command, &inputs, &mut sink)?;

@@ -17,9 +17,9 @@ returns-clause-words g c =
     let found = (c.in_ok-matches.ensures.ok.2 (ap is_simple line)).1 ∙ ap (λ app. subcommand_of app (map g.S.AsStr.text c.args.words.now)) line in
     let program : IsProgram (line_shape c.as_slice.result c.as_slice-2.result) =
     record { policies = c.as_slice.result; senders = c.as_slice-2.result; two = search rules; three = search rules; shape = refl } in
-    IfOk-weaker c.asked.result _ _
+    IfOk-weaker c.requested.result _ _
     (λ request asked. (line_shape c.as_slice.result c.as_slice-2.result, program, subst (λ sub. IsSomeAnd sub (IsRequestOf request)) found asked))
-    c.asked.ensures.words
+    c.requested.ensures.words
 
 pub returns-clause-refused : goal.returns-clause-refused
 returns-clause-refused g c =
@@ -29,9 +29,9 @@ returns-clause-refused g c =
     let found = (c.in_ok-matches.ensures.ok.2 (ap is_simple line)).1 ∙ ap (λ app. subcommand_of app (map g.S.AsStr.text c.args.words.now)) line in
     let program : IsProgram (line_shape c.as_slice.result c.as_slice-2.result) =
     record { policies = c.as_slice.result; senders = c.as_slice-2.result; two = search rules; three = search rules; shape = refl } in
-    IfErr-weaker c.asked.result _ _
+    IfErr-weaker c.requested.result _ _
     (λ made unrun. (line_shape c.as_slice.result c.as_slice-2.result, program, inr (subst (λ sub. IsUnrun sub made) found unrun)))
-    c.asked.ensures.unrun
+    c.requested.ensures.unrun
 
 pub returns-in_err-line-clause-refused : goal.returns-in_err-line-clause-refused
 returns-in_err-line-clause-refused g c =
