@@ -1,17 +1,13 @@
 -- A closed table includes each message of the commands that it lists.
-use Rattle.std.proofs.Common.{◌≡◌, ◌≢◌, ℕ, ◌+◌, Bool, true, false, ◌&&◌, List, [], ◌∷◌, length, map, get_or, Option, Some, None, refl, sym, ap, subst, ◌∙◌, inl, inr}
-use Rattle.std.specs.Prelude.{◌⊎◌, ◌==◌, nat_eq, IfSome, is_some, Contains, slice_get, position}
-use Rattle.std.specs.Option.{option_map, option_or, option_eq}
-use Rattle.std.proofs.lemmas.Bool.{and_parts, and_from, eqb-true, eq-eqb, false_from_ne_true}
-use Rattle.std.proofs.lemmas.Option.{none-some, same_Some, slice_get-get_or}
-use Rattle.std.proofs.lemmas.List.Quantifiers.{position-Some}
+use Rattle.std.proofs.Common.{◌≡◌, ◌≢◌, ℕ, ◌+◌, true, false, List, length, map, Option, Some, None, refl, sym, ap, subst, ◌∙◌, inl, inr}
+use Rattle.std.specs.Prelude.{◌⊎◌, IfSome, Contains, slice_get}
+use Rattle.std.proofs.lemmas.Option.{none-some, same_Some}
 use Rattle.dia_wire.specs.Wire.{key_of}
 use Rattle.dia_book.specs.declared.Class.{Class}
 use Rattle.dia_book.specs.declared.Class.TheVariants as classes
-use Rattle.dia_book.specs.declared.DefHead.{DefHead}
-use Rattle.dia_book.specs.declared.DefHead.TheVariants.{Group, Command, Error}
-use Rattle.dia_book.proofs.Members.{at_Contains, position-is_some, into_right}
-use Rattle.dia_book.specs.Dictionary.{Dictionary, PlainDefinition, IsDictionary, AreRules, IsCommandHead, groups, definitions, selected, is_command, same_class}
+use Rattle.dia_book.specs.declared.DefHead.TheVariants.{Command, Error}
+use Rattle.dia_book.proofs.Members.{at_Contains, into_right}
+use Rattle.dia_book.specs.Dictionary.{Dictionary, PlainDefinition, IsDictionary, groups, definitions, selected, is_command}
 use Rattle.dia_check.specs.declared.Unknown.{Unknown}
 use Rattle.dia_check.specs.declared.Levels.{Levels}
 use Rattle.dia_check.specs.Valid.{AllowsP, class_of, Placed, IsValidOf}
@@ -22,7 +18,7 @@ use Rattle.dia_compat.specs.declared.checking.Test.TheVariants.{N1, N2, N3, N4, 
 use Rattle.dia_compat.specs.Below.{DefBelow}
 use Rattle.dia_compat.specs.Closed.{NamesCommand, IsPairKey, HasCode, IsError, IsBeside, NamesApp, IsWanted, error, same_app}
 use Rattle.dia_compat.specs.Closed.{no_app, both_none, other_app, IsServed, CommandPair, CommandTest, IsClosed, IsIncluded}
-use Rattle.dia_rules.proofs.Members.{IsIn, in_at, at_in, in_contains, contains_in, in_right, all_of}
+use Rattle.dia_rules.proofs.Members.{IsIn, in_at, in_contains, contains_in}
 use Rattle.dia_rules.proofs.SelectedCommands.{Choice, NoChoice, choose, Reads, reads, is_of_errors, no_app_named, one_command, command_rules}
 use Rattle.dia_compat.proofs.FitInSecond.{body}
 

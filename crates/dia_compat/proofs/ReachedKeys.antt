@@ -1,18 +1,17 @@
 -- What a proposal comes to, step by step.
-use Rattle.std.proofs.Common.{◌≡◌, ℕ, zero, suc, ◌+◌, ◌<◌, ◌≤◌, Bool, true, false, not, cond, List, [], ◌∷◌, ◌++◌}
+use Rattle.std.proofs.Common.{◌≡◌, ℕ, ◌+◌, ◌<◌, ◌≤◌, Bool, true, false, not, cond, List, [], ◌∷◌, ◌++◌}
 use Rattle.std.proofs.Common.{length, map, filter, take, get_or, Option, Some, None, refl, sym, ap, subst, ◌∙◌, arith, inl, inr}
-use Rattle.std.specs.Prelude.{◌⊎◌, ◌↔◌, is_some, IsSome, IfSome, Contains, slice_get, count_by, option_and_then}
-use Rattle.std.specs.Option.{option_map, option_map_or}
-use Rattle.std.specs.List.{filter_map, cons_option}
+use Rattle.std.specs.Prelude.{◌⊎◌, ◌↔◌, is_some, IsSome, Contains, slice_get, count_by, option_and_then}
+use Rattle.std.specs.Option.{option_map_or}
 use Rattle.std.proofs.lemmas.Bool.{not-true}
 use Rattle.std.proofs.lemmas.List.{take_more, length-append}
-use Rattle.std.proofs.lemmas.Option.{none-some, same_Some}
+use Rattle.std.proofs.lemmas.Option.{same_Some}
 use Rattle.dia_wire.specs.declared.Key.{Key}
 use Rattle.dia_book.specs.Keys.{same_key}
 use Rattle.dia_book.proofs.SameKeys.{same_key-refl, same_key-true}
-use Rattle.dia_book.proofs.Members.{into_left, into_map}
+use Rattle.dia_book.proofs.Members.{into_map}
 use Rattle.dia_book.specs.declared.DRule.{DRule}
-use Rattle.dia_book.specs.Dictionary.{Dictionary, DictEntry, PlainDefinition, definitions, groups, entry_of, group_place}
+use Rattle.dia_book.specs.Dictionary.{Dictionary, DictEntry, PlainDefinition, definitions, entry_of}
 use Rattle.dia_check.specs.Valid.{known, is_listed}
 use Rattle.dia_compat.specs.declared.proposing.reaching.Reached.{Reached}
 use Rattle.dia_compat.specs.Sides.{Sides}
@@ -23,8 +22,8 @@ use Rattle.dia_compat.specs.ReachedKeys.{ComesTo, ComesToAll, Follows, root, in_
 use Rattle.dia_rules.proofs.Members.{IsIn, in_at, at_in, in_contains, contains_in, in_left, in_right, in_append, into_filter, count_cons, count_mono}
 use Rattle.dia_rules.proofs.RulesOfKeys.{listed, is_listed_by}
 use Rattle.dia_compat.proofs.FitInSecond.{known_entry}
-use Rattle.dia_rules.proofs.Searches.{found_or_not, Found, NotFound}
 use Rattle.dia_rules.proofs.Members.{some_of}
+use Rattle.dia_rules.proofs.KnownKeys.{known_by_entry}
 
 -- ---- keys that are known
 

@@ -9,9 +9,7 @@ use Rattle.std.proofs.lemmas.Option.{slice_get-map, slice_get-get_or, slice_get_
 use Rattle.std.proofs.lemmas.Slice.Eq.{bytes_eq-Decides}
 use Rattle.indexmap.specs.IndexSet.{insert_key}
 use Rattle.dia_book.proofs.Lists.{position-map, list_any-map}
-use Rattle.dia_book.specs.Dictionary.{Dictionary, PlainDefinition, groups, definitions}
 use Rattle.dia_book.proofs.Members.{into_map}
-use Rattle.dia_book.proofs.NumberedGroups.{slice_get-append_right}
 use Rattle.dia_rules.proofs.Members.{any_in, at_in}
 
 abbrev pub same_text : Bor (List ℕ) → Bor (List ℕ) → Bool

@@ -5,13 +5,11 @@ use Rattle.dia_data.specs.Plain.{Grouped}
 use Rattle.dia_data.specs.Below.{FormatBelow}
 use Rattle.dia_book.specs.declared.MRule.TheVariants.{Any}
 use Rattle.dia_book.specs.declared.Class.{Class}
-use Rattle.dia_book.specs.declared.Pxy.{Pxy}
 use Rattle.dia_book.specs.declared.DefHead.{DefHead}
 use Rattle.dia_book.specs.declared.DefHead.TheVariants.{Group, Command, Error}
 use Rattle.dia_book.specs.Dictionary.{Dictionary, DictEntry, PlainDefinition, definitions}
 use Rattle.dia_check.specs.declared.Unknown.{Unknown}
-use Rattle.dia_check.specs.declared.Levels.{Levels}
-use Rattle.dia_check.specs.Valid.{AllowsP, IsValidOf}
+use Rattle.dia_check.specs.Valid.{AllowsP}
 use Rattle.dia_compat.specs.declared.checking.Answer.{Answer}
 use Rattle.dia_compat.specs.declared.checking.Answer.TheVariants.{Yes, No}
 use Rattle.dia_compat.specs.declared.checking.PairKind.{PairKind}
