@@ -1,6 +1,14 @@
 -- Places of a text as a reader looks for them. A place counts the bytes in front of it.
-use Rattle.std.specs.Prelude.{◌≡◌, ℕ, ◌+◌, ◌-◌, ◌*◌, ◌==◌, ◌&&◌, ◌||◌, nat_lt, not, Bool, false, List, Option, Some, length, take, drop, count_by, slice_get}
+use Rattle.std.specs.Prelude.{◌≡◌, ℕ, ◌+◌, ◌-◌, ◌*◌, ◌==◌, ◌&&◌, ◌||◌, nat_lt, not, if◌then◌else◌, Bool, false, List, ◌++◌, length, take, drop, replicate, count_by}
+use Rattle.std.specs.Prelude.{Option, Some, slice_get, find, flat_map, unwrap_or, codes}
+use Rattle.std.specs.Option.{option_map}
 use Rattle.std.specs.List.{prefix_len, suffix_len, take_while}
+use Rattle.std.specs.Char.{encode_utf8}
+use Rattle.std.specs.Str.{chars}
+use Rattle.std.specs.Str.Lossy.{utf8_lossy}
+use Rattle.std.specs.Fmt.{decimal}
+use Rattle.dia_ccf.specs.LexerTokens.{tokens_from}
+use Rattle.dia_ccf.specs.Lexemes.{is_named}
 pub use Rattle.dia_terms.specs.Texts.{is_white}
 
 -- ---- lines and columns
@@ -33,11 +41,40 @@ characters bytes = count_by (λ c. not (is_inner c)) bytes
 abbrev pub column_at : List ℕ → ℕ → ℕ
 column_at text at = 1 + characters (line_front text at)
 
+-- a place as it is told: its line and its column, both in decimal
+abbrev pub line_column : List ℕ → ℕ → List ℕ
+line_column text at = decimal (line_at text at) ++ codes ":" ++ decimal (column_at text at)
+
+-- how a note begins: the word that names the text, and the place
+abbrev pub place_text : List ℕ → List ℕ → ℕ → List ℕ
+place_text name text at = name ++ codes ":" ++ line_column text at ++ codes ": "
+
+-- the place of the first name from a place on, or that place where there is none
+abbrev pub name_place : List ℕ → ℕ → ℕ
+name_place text at = unwrap_or (option_map (λ p. p.at) (find is_named (tokens_from text at))) at
+
 -- ---- what is shown of a line
 
 -- at most the last n bytes, from the beginning of a character on
 abbrev pub whole_end : ℕ → List ℕ → List ℕ
 whole_end n bytes = drop (prefix_len is_inner (drop (length bytes - n) bytes)) (drop (length bytes - n) bytes)
+
+-- a character as it is shown: for a control character a space
+abbrev pub shown_char : ℕ → List ℕ
+shown_char c = encode_utf8 (if nat_lt c 32 then 32 else c)
+
+-- bytes as they are shown: each character of their text
+abbrev pub shown : List ℕ → List ℕ
+shown bytes = flat_map shown_char (chars (utf8_lossy bytes))
+
+-- what is shown of the line in front of a place
+abbrev pub shown_front : List ℕ → ℕ → List ℕ
+shown_front text at = whole_end 70 (line_front text at)
+
+-- a line of a text, and below it a caret, in front of which stand as many spaces as characters in front of the place
+abbrev pub excerpt : List ℕ → ℕ → List ℕ
+excerpt text at = codes "  " ++ shown (shown_front text at) ++ shown (take 50 (line_rest text at)) ++ codes "\n  "
+    ++ replicate (characters (shown_front text at)) 32 ++ codes "^\n"
 
 -- ---- the digits of messages
 

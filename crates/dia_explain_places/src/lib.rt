@@ -18,4 +18,4 @@ pub use lines::{PairWords, Word, start_of_line, words_of};
 pub use nearest::{distance, nearest_command, nearest_name};
 pub use place::{Place, back, place_of, push_excerpt, push_line_column, push_place, push_shown};
 pub use runs::{front_of_run, is_white};
-pub use sites::{DefSite, Sites, sites_of};
+pub use sites::{DefSite, Sites, name_from, sites_of};

@@ -1,9 +1,12 @@
 //! Places of a text as a reader looks for them: line and column, and the line itself with a caret under the place.
 
-ghost use Rattle.std.specs.Prelude.{◌≡◌, ◌==◌, ◌&&◌, not, take, drop};
+ghost use Rattle.std.specs.Prelude.{◌≡◌, ◌==◌, ◌&&◌, ◌++◌, not, take, drop, OnOk, replicate, string_bytes};
 ghost use Rattle.std.specs.List.{prefix_len, suffix_len};
+ghost use Rattle.std.specs.Prelude.{flat_map};
+ghost use Rattle.std.specs.Str.{chars};
+ghost use Rattle.dia_explain_places.specs.Places.{line_column, place_text, excerpt, shown, shown_char};
 ghost use Rattle.dia_explain_places.specs.Places.{line_at, column_at, line_front, line_rest};
-ghost use Rattle.dia_explain_places.specs.Places.{characters, is_inner, whole_end};
+ghost use Rattle.dia_explain_places.specs.Places.{characters, is_inner, shown_front};
 
 use std::alloc::{AllocError, Global};
 
@@ -100,17 +103,19 @@ pub fn place_of(text: &[u8], at: usize) -> Place
 }
 
 /// Begins a note: `NAME:LINE:COLUMN: `.
-pub fn push_place(out: &mut String, name: &str, text: &[u8], at: usize) -> Result<(), AllocError> {
+pub fn push_place(out: &mut String, name: &str, text: &[u8], at: usize) -> Result<(), AllocError>
+    ensures { OnOk result (string_bytes out.new ≡ string_bytes out.old ++ place_text name.now text.now at) }
+{
     write!(out, "{name}:")?;
     push_line_column(out, text, at)?;
     out.push_str(": ")
 }
 
 /// Adds a place as `LINE:COLUMN`.
-pub fn push_line_column(out: &mut String, text: &[u8], at: usize) -> Result<(), AllocError> {
-    let place = place_of(text, at);
-    let line = place.line;
-    let column = place.column;
+pub fn push_line_column(out: &mut String, text: &[u8], at: usize) -> Result<(), AllocError>
+    ensures { OnOk result (string_bytes out.new ≡ string_bytes out.old ++ line_column text.now at) }
+{
+    let Place { line, column } = place_of(text, at);
     write!(out, "{line}:{column}")
 }
 
@@ -120,22 +125,30 @@ pub fn push_excerpt(
     out: &mut String,
     text: &[u8],
     at: usize,
-) -> Result<(), AllocError> {
-    let shown = shown_before(text, at);
-    let behind = shown_behind(text, at);
+) -> Result<(), AllocError>
+    ensures { OnOk result (string_bytes out.new ≡ string_bytes out.old ++ excerpt text.now at) }
+{
+    let before = shown_before(text, at);
     out.push_str("  ")?;
-    push_shown(alloc, out, shown)?;
-    push_shown(alloc, out, behind)?;
+    push_shown(alloc, out, before)?;
+    push_shown(alloc, out, shown_behind(text, at))?;
     out.push_str("\n  ")?;
-    for _ in 0..characters(shown) {
+    push_spaces(out, characters(before))?;
+    out.push_str("^\n")
+}
+
+fn push_spaces(out: &mut String, count: usize) -> Result<(), AllocError>
+    ensures { OnOk result (string_bytes out.new ≡ string_bytes out.old ++ replicate count 32) }
+{
+    for _column in 0..count {
         out.push(' ')?;
     }
-    out.push_str("^\n")
+    Ok(())
 }
 
 /// What is shown of a line before a place.
 fn shown_before(text: &[u8], at: usize) -> &[u8]
-    ensures { result.now ≡ whole_end 70 (line_front text.now at) }
+    ensures { result.now ≡ shown_front text.now at }
 {
     let before = line_before(text, at);
     let cut = back(before, before.len().saturating_sub(BEFORE));
@@ -157,8 +170,17 @@ fn shown_behind(text: &[u8], at: usize) -> &[u8]
 }
 
 /// Adds bytes as text, with a space for each control character.
-pub fn push_shown(alloc: Global, out: &mut String, bytes: &[u8]) -> Result<(), AllocError> {
+pub fn push_shown(alloc: Global, out: &mut String, bytes: &[u8]) -> Result<(), AllocError>
+    ensures { OnOk result (string_bytes out.new ≡ string_bytes out.old ++ shown bytes.now) }
+{
     let text = String::from_utf8_lossy(alloc, bytes)?;
+    push_characters(out, text.as_str())
+}
+
+fn push_characters(out: &mut String, text: &str) -> Result<(), AllocError>
+    ensures { OnOk result
+        (string_bytes out.new ≡ string_bytes out.old ++ flat_map shown_char (chars text.now)) }
+{
     for c in text.chars() {
         out.push(if c < ' ' { ' ' } else { c })?;
     }

@@ -1,5 +1,8 @@
 //! Where the names of a dictionary's parts stand in its text.
 
+ghost use Rattle.std.specs.Prelude.{◌≡◌};
+ghost use Rattle.dia_explain_places.specs.Places.{name_place};
+
 use dia_ccf::{Decl, Def, Rule, Source, first_name};
 use std::alloc::{AllocError, Global};
 
@@ -71,7 +74,9 @@ impl Sites {
     }
 }
 
-/// The place of the first name of a part that begins at a place.
-fn name_from(text: &str, at: usize) -> usize {
+/// The place of the first name of a part that begins at a place: the name of a declaration or a definition, or the one in a rule.
+pub fn name_from(text: &str, at: usize) -> usize
+    ensures { result ≡ name_place text.now at }
+{
     first_name(text, at).unwrap_or(at)
 }
