@@ -103,7 +103,11 @@ fn faulty<B: Book>(alloc: Global, book: &B, fault: &Fault) -> Result<Outcome, Al
 }
 
 /// Adds what a fault is about: an AVP by its name, or by code and vendor where the dictionary doesn't know it.
-fn push_subject<B: Book>(text: &mut String, book: &B, subject: Subject) -> Result<(), AllocError>
+pub fn push_subject<B: Book>(
+    text: &mut String,
+    book: &B,
+    subject: Subject,
+) -> Result<(), AllocError>
     ensures { OnOk result (string_bytes text.new
         ≡ string_bytes text.old ++ subject_text (B.meaning book.now) subject) }
 {
@@ -121,7 +125,8 @@ fn push_subject<B: Book>(text: &mut String, book: &B, subject: Subject) -> Resul
     }
 }
 
-fn reason_word(reason: Reason) -> &'static str
+/// The word of a reason.
+pub fn reason_word(reason: Reason) -> &'static str
     ensures { result.now ≡ reason_word reason }
 {
     match reason {
