@@ -1,5 +1,6 @@
 //! What is told of a dictionary that is refused.
 
+mod empty;
 mod expecting;
 mod hints;
 mod meaning;
@@ -7,9 +8,11 @@ mod parts;
 mod scene;
 mod texts;
 
+use crate::kinds::{is_capture, push_capture};
 use dia_ccf::{MAX_TEXT, Refused, read};
 use dia_explain_places::{NamedText, push_excerpt, push_place};
 use dia_run::BadDictionary;
+pub use empty::push_empty;
 use meaning::push_meaning;
 use scene::Scene;
 use std::alloc::{AllocError, Global};
@@ -23,6 +26,9 @@ pub fn push_dictionary(
     why: &BadDictionary,
 ) -> Result<(), AllocError> {
     let NamedText { name, text } = *dictionary;
+    if is_capture(text) {
+        return push_capture(out, name, "the text of a dictionary", CAPTURED);
+    }
     match why {
         BadDictionary::TooLong => push_too_long(out, name),
         BadDictionary::NotText { at } => push_not_text(alloc, out, name, text, *at),
@@ -35,11 +41,15 @@ pub fn push_dictionary(
     }
 }
 
+const CAPTURED: &str =
+    "the dictionary stands before the messages, and docs/CAPTURES.md says how to take these out of a capture";
+
 fn push_too_long(out: &mut String, name: &str) -> Result<(), AllocError> {
     write!(
         out,
         "{name}: the text has more than {MAX_TEXT} bytes\n\
-         hint: leave out what the comparison doesn't need; render writes a dictionary without its comments\n"
+         hint: leave out what the comparison doesn't need; render writes a dictionary without its comments\n\
+         hint: if this is a message or a capture: the dictionary stands before it\n"
     )
 }
 

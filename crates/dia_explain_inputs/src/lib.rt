@@ -5,13 +5,18 @@
 
 mod commands;
 mod dictionary;
+mod fronts;
+mod kinds;
 mod messages;
+mod padding;
 mod refused;
 mod strangers;
 mod tables;
 mod vocabulary;
 
 pub use commands::{push_no_commands, push_unknown_commands};
+pub use dictionary::push_empty;
+pub use fronts::push_front;
 pub use messages::push_length;
 pub use refused::push_refused;
 pub use strangers::push_strangers;

@@ -1,5 +1,7 @@
 //! What is told of a message that is refused.
 
+use crate::kinds::{is_capture, push_capture};
+use crate::padding::{digit_of, push_unpadded};
 use dia_explain_places::{
     NamedText, back, count_digits, is_white, place_of_byte, push_excerpt, push_place,
 };
@@ -58,11 +60,7 @@ fn push_no_digit(
     at: usize,
 ) -> Result<(), AllocError> {
     if is_capture(text) {
-        return write!(
-            out,
-            "{name}: this is a capture file (pcap), and not the hexadecimal text of a message\n\
-             hint: docs/CAPTURES.md says how to take the messages out of a capture\n"
-        );
+        return push_capture(out, name, "the hexadecimal text of a message", CAPTURED);
     }
     if is_binary(text) {
         return push_binary(out, name, text);
@@ -75,13 +73,13 @@ fn push_no_digit(
 }
 
 /// Whether bytes are no text: they have a control character that isn't white space, or aren't UTF-8.
-fn is_binary(text: &[u8]) -> bool {
+pub fn is_binary(text: &[u8]) -> bool {
     str::from_utf8(text).is_err()
         || text.iter().any(|byte| *byte < b' ' && !is_white(*byte) && *byte != b'\x0c')
 }
 
 /// Adds what bytes are that aren't text.
-fn push_binary(out: &mut String, name: &str, text: &[u8]) -> Result<(), AllocError> {
+pub fn push_binary(out: &mut String, name: &str, text: &[u8]) -> Result<(), AllocError> {
     if text.starts_with(b"\xff\xfe") || text.starts_with(b"\xfe\xff") {
         return write!(
             out,
@@ -106,17 +104,8 @@ fn push_binary(out: &mut String, name: &str, text: &[u8]) -> Result<(), AllocErr
     )
 }
 
-/// Whether a text begins as a file of packets does (pcap or pcapng).
-fn is_capture(text: &[u8]) -> bool {
-    text.starts_with(b"\xd4\xc3\xb2\xa1")
-        || text.starts_with(b"\xa1\xb2\xc3\xd4")
-        || text.starts_with(b"\x4d\x3c\xb2\xa1")
-        || text.starts_with(b"\xa1\xb2\x3c\x4d")
-        || text.starts_with(b"\x0a\x0d\x0d\x0a")
-}
-
 /// What to do about a character that is no digit.
-fn hint_of_digit(text: &[u8], at: usize) -> &'static str {
+pub fn hint_of_digit(text: &[u8], at: usize) -> &'static str {
     let rest = back(text, at);
     if rest.starts_with(b":") && has_offset(text, at) {
         return "this is a dump with offsets: `xxd -p FILE` writes one without, and `xxd -r DUMP | xxd -p` turns this one";
@@ -135,7 +124,7 @@ fn hint_of_text(text: &[u8]) -> Option<&'static str> {
     if text.starts_with(b"\xef\xbb\xbf") {
         return Some("the text begins with a byte order mark: save it as UTF-8 without one");
     }
-    if text.windows(4).any(|front| front == b"%avp".as_slice() || front == b" ::=".as_slice()) {
+    if has_word(text, b"%avp") || has_word(text, b"::=") {
         return Some("this looks like a dictionary: the dictionary stands before the message");
     }
     if text.starts_with(b"@base") {
@@ -158,6 +147,11 @@ fn hint_of_text(text: &[u8]) -> Option<&'static str> {
         return Some("this looks like base64: `base64 -d FILE | xxd -p` writes the digits");
     }
     None
+}
+
+/// Whether a word stands in a text.
+fn has_word(text: &[u8], word: &[u8]) -> bool {
+    text.windows(word.len().max(1)).any(|front| front == word)
 }
 
 fn hint_of_sign(rest: &[u8]) -> &'static str {
@@ -208,7 +202,9 @@ fn push_two_digits_hint(out: &mut String, text: &[u8]) -> Result<(), AllocError>
     out.push_str("hint: each byte has two digits, also one below 16\n")
 }
 
-const NUMBERED: &str = "the lines begin with offsets, as those of a dump do: \
+pub const CAPTURED: &str = "docs/CAPTURES.md says how to take the messages out of a capture";
+
+pub const NUMBERED: &str = "the lines begin with offsets, as those of a dump do: \
     `xxd -p FILE` writes one without, and so does wireshark's Copy as a Hex Stream";
 
 /// Whether the text begins as a dump whose first line has the offset 0 and whose second has 16.
@@ -249,7 +245,8 @@ pub fn push_length(
                 out,
                 "{name}: the Message Length, bytes 1 to 3, is under 20 or no multiple of four\n\
                  hint: mend the sender: it counts the header, and the AVPs with their padding\n"
-            )
+            )?;
+            push_unpadded(alloc, out, text)
         }
         Err(_) => {
             let version = head[0];
@@ -314,15 +311,5 @@ fn read_digits(text: &[u8], head: &mut [u8; 20]) {
         if seen >= 40 {
             return;
         }
-    }
-}
-
-/// The value of a hexadecimal digit.
-fn digit_of(byte: u8) -> u8 {
-    match byte {
-        b'0'..=b'9' => byte - b'0',
-        b'a'..=b'f' => byte - b'a' + 10,
-        b'A'..=b'F' => byte - b'A' + 10,
-        _ => 0,
     }
 }

@@ -13,6 +13,9 @@ use std::alloc::AllocError;
 
 /// Adds a hint, if there is one.
 pub fn push_hint(out: &mut String, scene: &Scene<'_>) -> Result<(), AllocError> {
+    if let Some(hint) = whole::hint_of(scene.text) {
+        return write!(out, "hint: {hint}\n");
+    }
     if let CcfFault::Limit { .. } = scene.fault {
         return out.push_str("hint: shorten the name\n");
     }
@@ -37,9 +40,6 @@ pub fn push_hint(out: &mut String, scene: &Scene<'_>) -> Result<(), AllocError> 
 }
 
 fn hint_of(scene: &Scene<'_>) -> Option<&'static str> {
-    if let Some(hint) = whole::hint_of(scene.text) {
-        return Some(hint);
-    }
     if let Some(hint) = definitions::hint_of_comment(scene) {
         return Some(hint);
     }
@@ -54,6 +54,11 @@ fn hint_of_token(scene: &Scene<'_>, token: &Token<'_>) -> Option<&'static str> {
         if let Some(hint) = characters::hint_of(back(scene.text, token.at), scene.wanted) {
             return Some(hint);
         }
+    }
+    if declarations::is_longer_word(scene) {
+        return Some(
+            "a declaration begins with %avp and a space, as in %avp Session-Id 263 UTF8String must",
+        );
     }
     if let Wanted::Declaration(place) = scene.wanted {
         if let Some(hint) = declarations::hint_of(place, scene.fault, token) {

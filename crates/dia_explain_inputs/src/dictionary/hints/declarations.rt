@@ -1,7 +1,7 @@
 //! What to do about a token of a declaration.
 
-use crate::dictionary::scene::Token;
-use dia_ccf::{CcfFault, InDeclaration, Kind};
+use crate::dictionary::scene::{Scene, Token};
+use dia_ccf::{CcfFault, InDeclaration, Kind, Wanted};
 
 pub fn hint_of(place: InDeclaration, fault: CcfFault, token: &Token<'_>) -> Option<&'static str> {
     if is_before_rule(place) && token.text == b",".as_slice() {
@@ -20,6 +20,14 @@ pub fn hint_of(place: InDeclaration, fault: CcfFault, token: &Token<'_>) -> Opti
         },
         InDeclaration::FirstValue | InDeclaration::DotsOrValue { .. } | InDeclaration::NextValue =>
             { hint_of_list(token) }
+    }
+}
+
+/// Whether what should be a code stands behind a word that only begins with %avp, as %avps.
+pub fn is_longer_word(scene: &Scene<'_>) -> bool {
+    match (scene.wanted, scene.earlier, scene.last) {
+        (Wanted::Declaration(InDeclaration::Code), Some(word), Some(name)) => word.end() == name.at,
+        _ => false,
     }
 }
 

@@ -1,6 +1,8 @@
 //! What to do about a token of a definition, or between definitions.
 
+use crate::dictionary::empty::RETURNS;
 use crate::dictionary::scene::{Scene, Token};
+use crate::kinds::is_cut_by_comment;
 use dia_ccf::{InDefinition, InHead, InRules, Kind, Wanted};
 use dia_explain_places::{back, is_white};
 
@@ -23,6 +25,9 @@ pub fn hint_of_comment(scene: &Scene<'_>) -> Option<&'static str> {
 
 /// What to do where the text ends.
 pub fn hint_of_end(scene: &Scene<'_>) -> Option<&'static str> {
+    if is_cut_by_comment(scene.text) {
+        return Some(RETURNS);
+    }
     match scene.wanted {
         Wanted::Rules(InRules::Angled { only_fixed: false }) => Some(LATE_FIXED),
         Wanted::Rules(InRules::Greatest { .. } | InRules::Bracket { .. }) => Some(COUNTS_FIRST),

@@ -1,5 +1,6 @@
 //! What a text is, if it is no dictionary at all.
 
+use crate::kinds::is_message;
 use dia_explain_places::{back, is_white};
 
 /// The beginnings of texts in XML.
@@ -67,7 +68,7 @@ fn hint_of_input(text: &[u8]) -> Option<&'static str> {
     if begins_pair(text) {
         return Some("this looks like a table of pairs: the order of the words is A B TABLE");
     }
-    if is_digits(text) {
+    if is_message(text) {
         return Some(
             "this looks like a message in hexadecimal: the dictionary stands before the message",
         );
@@ -80,12 +81,4 @@ fn begins_pair(text: &[u8]) -> bool {
     let line = text.iter().take_while(|byte| **byte != b'\n').count();
     let first = text.get(..line).unwrap_or(text);
     (first.starts_with(b"command ") || first.starts_with(b"avp ")) && first.contains(&b'=')
-}
-
-/// Whether all of a text is hexadecimal, and long.
-fn is_digits(text: &[u8]) -> bool {
-    text.len() >= 16
-        && text
-            .iter()
-            .all(|byte| byte.is_ascii_hexdigit() || is_white(*byte))
 }

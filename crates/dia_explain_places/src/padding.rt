@@ -1,0 +1,65 @@
+//! Padding that is missing. An AVP is padded to a multiple of four bytes, and its AVP Length doesn't count that (RFC 6733
+//! section 4.1).
+
+use crate::place::back;
+
+/// An AVP that has no padding, though its length is no multiple of four.
+#[derive(Clone, Copy)]
+pub struct Unpadded {
+    /// How many bytes of the level stand in front of it.
+    pub at: usize,
+    pub code: u32,
+    pub length: usize,
+}
+
+/// The head of an AVP: its code, and its AVP Length.
+#[derive(Clone, Copy)]
+struct Head {
+    code: u32,
+    length: usize,
+}
+
+/// The first AVP of a level behind which the next AVP, or the end of the level, stands without padding. `None` where each AVP up
+/// to the first that can't be read is padded.
+pub fn find_unpadded(level: &[u8]) -> Option<Unpadded> {
+    let mut rest = level;
+    for _ in level {
+        let Head { code, length } = head_of(rest)?;
+        let padded = length.saturating_add(3) / 4 * 4;
+        if !may_follow(back(rest, padded), rest.len() >= padded) {
+            let is_found = padded != length && may_follow(back(rest, length), true);
+            let at = level.len().saturating_sub(rest.len());
+            return if is_found { Some(Unpadded { at, code, length }) } else { None };
+        }
+        rest = back(rest, padded);
+    }
+    None
+}
+
+/// Whether a level may go on with these bytes behind an AVP: it ends, or an AVP begins.
+fn may_follow(rest: &[u8], is_within: bool) -> bool {
+    is_within && (rest.is_empty() || head_of(rest).is_some())
+}
+
+/// The head of the AVP at the front of some bytes, if it looks like one: no reserved flag is set, and the length is that of an AVP
+/// which ends among these bytes.
+fn head_of(rest: &[u8]) -> Option<Head> {
+    let flags = *rest.get(4)?;
+    let code = number(rest.get(..4)?);
+    let length = number(rest.get(5..8)?) as usize;
+    let least = if flags & 0x80 == 0 { 8 } else { 12 };
+    if flags & 0x1f == 0 && length >= least && length <= rest.len() {
+        Some(Head { code, length })
+    } else {
+        None
+    }
+}
+
+/// The number that at most four bytes spell in network byte order.
+fn number(bytes: &[u8]) -> u32 {
+    let mut value = 0u32;
+    for byte in bytes.iter().take(4) {
+        value = (value & 0x00ff_ffff) << 8 | u32::from(*byte);
+    }
+    value
+}
