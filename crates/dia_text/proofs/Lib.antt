@@ -1,0 +1,5 @@
+pub mod NumbersOfWords
+pub mod Letters
+pub mod Found
+pub mod Drafting
+pub mod LinesOfTexts

@@ -1,0 +1,74 @@
+-- The lines of a text, one after the other.
+use Rattle.std.proofs.Common.{◌≡◌, ℕ, add-one, ◌+◌, ◌<◌, ◌≤◌, List, [], ◌∷◌, ◌++◌, length, map, get_or, drop, drop-cons, append_assoc, false, All, Bor, Some, None, Result, Ok, refl, sym, ap, ◌∙◌, arith}
+use Rattle.std.proofs.lemmas.List.{drop_all, length-map, map-append, get_or-map}
+use Rattle.std.specs.Prelude.{◌==◌, ◌≢◌}
+use Rattle.std.proofs.lemmas.Bool.Decides.{nat_tests}
+use Rattle.std.proofs.lemmas.List.Splits.{slice_split_at, slice_split_none}
+use Rattle.dia_wire.specs.declared.Header.{Header}
+use Rattle.dia_book.specs.Dictionary.{Dictionary}
+use Rattle.dia_text.specs.declared.fault.Kind.{Kind}
+use Rattle.dia_text.specs.declared.fault.Misread.{Misread}
+use Rattle.dia_text.specs.declared.fault.Misread.TheVariants as misread
+use Rattle.dia_text.specs.Reading.{◌>>=◌, Fails}
+use Rattle.dia_text.specs.Lines.{line_of, header_of}
+use Rattle.dia_text.specs.Drafts.{Level, added}
+use Rattle.dia_text.specs.Made.{message_from, body_from, no_level, placed, Misses, step, finished, lines}
+
+pub bind_fails : {A B : Type 0} (e : Misread) (r : Result A Kind) (f : A → Result B Kind) → Fails e r → Fails e (r >>= f)
+bind_fails misread.NoMemory r f h = tt
+bind_fails (misread.Fault kind) r f h = rw h refl
+
+front_of : (ls : List (List ℕ)) (i : ℕ) (d : List ℕ) → i < length ls → drop i ls ≡ get_or ls i d ∷ drop (i + 1) ls
+front_of ls i d lt = drop-cons ls i d lt ∙ ap (λ (n : ℕ). get_or ls i d ∷ drop n ls) (sym (add-one i))
+
+-- a line and those behind it
+pub front : (ls : List (Bor (List ℕ))) (i : ℕ) (d : Bor (List ℕ)) → i < length ls → drop i (map (λ (x : Bor (List ℕ)). x.now) ls) ≡ (get_or ls i d).now ∷ drop (i + 1) (map (λ (x : Bor (List ℕ)). x.now) ls)
+front ls i d lt =
+    front_of (map (λ (x : Bor (List ℕ)). x.now) ls) i d.now (omega (arith, length-map ls (λ (x : Bor (List ℕ)). x.now)))
+    ∙ ap (λ (l : List ℕ). l ∷ drop (i + 1) (map (λ (x : Bor (List ℕ)). x.now) ls)) (get_or-map (λ (x : Bor (List ℕ)). x.now) ls i d d.now lt)
+
+pub within : (ls : List (Bor (List ℕ))) (i : ℕ) → i < length ls → i + 1 ≤ length (map (λ (x : Bor (List ℕ)). x.now) ls)
+within ls i lt = omega (arith, length-map ls (λ (x : Bor (List ℕ)). x.now))
+
+not_ten : (c : ℕ) → ¬ (c ≡ 10) → (c == 10) ≡ false
+not_ten c h = grind (arith, nat_tests)
+
+pub more_lines : (found : List (Bor (List ℕ))) (line : Bor (List ℕ)) (rest behind : List ℕ) → rest ≡ line.now ++ 10 ∷ behind → All (λ c. c ≢ 10) line.now
+    → map (λ (x : Bor (List ℕ)). x.now) (found ++ line ∷ []) ++ lines behind ≡ map (λ (x : Bor (List ℕ)). x.now) found ++ lines rest
+more_lines found line rest behind is all =
+    ap (λ (t : List (List ℕ)). t ++ lines behind) (map-append (λ (x : Bor (List ℕ)). x.now) found (line ∷ []))
+    ∙ append_assoc (map (λ (x : Bor (List ℕ)). x.now) found) (line.now ∷ []) (lines behind)
+    ∙ ap (λ (t : List (List ℕ)). map (λ (x : Bor (List ℕ)). x.now) found ++ t)
+    (sym (ap lines is ∙ slice_split_at (λ b. b == 10) line.now 10 behind (λ k d lt. not_ten _ (all k d lt)) refl))
+
+pub last_found : (found : List (Bor (List ℕ))) (rest : Bor (List ℕ)) → All (λ c. c ≢ 10) rest.now
+    → map (λ (x : Bor (List ℕ)). x.now) (found ++ rest ∷ []) ≡ map (λ (x : Bor (List ℕ)). x.now) found ++ lines rest.now
+last_found found rest all =
+    map-append (λ (x : Bor (List ℕ)). x.now) found (rest ∷ [])
+    ∙ ap (λ (t : List (List ℕ)). map (λ (x : Bor (List ℕ)). x.now) found ++ t) (sym (slice_split_none (λ b. b == 10) rest.now (λ k d lt. not_ten _ (all k d lt))))
+
+pub blank_line : (d : Dictionary) (ls : List (List ℕ)) (i : ℕ) (l : List ℕ) → drop i ls ≡ l ∷ drop (i + 1) ls → header_of d l ≡ Ok None
+    → message_from d (i + 1) (drop i ls) ≡ message_from d (i + 1 + 1) (drop (i + 1) ls)
+blank_line d ls i l parts blank = ap (message_from d (i + 1)) parts ∙ rw blank refl
+
+pub header_line : (d : Dictionary) (ls : List (List ℕ)) (i : ℕ) (l : List ℕ) (header : Header) → drop i ls ≡ l ∷ drop (i + 1) ls → header_of d l ≡ Ok (Some header)
+    → message_from d (i + 1) (drop i ls) ≡ body_from d header (i + 1 + 1) (drop (i + 1) ls) no_level
+header_line d ls i l header parts read = ap (message_from d (i + 1)) parts ∙ rw read refl
+
+pub no_header_line : (d : Dictionary) (ls : List (List ℕ)) (i : ℕ) (l : List ℕ) (e : Misread) → drop i ls ≡ l ∷ drop (i + 1) ls → Fails e (header_of d l)
+    → Misses (placed e (i + 1)) (message_from d (i + 1) (drop i ls))
+no_header_line d ls i l misread.NoMemory parts h = tt
+no_header_line d ls i l (misread.Fault kind) parts h = ap (message_from d (i + 1)) parts ∙ rw h refl
+
+pub next_line : (d : Dictionary) (header : Header) (ls : List (List ℕ)) (i : ℕ) (l : List ℕ) (level after : Level) → drop i ls ≡ l ∷ drop (i + 1) ls → (line_of d l >>= added level) ≡ Ok after
+    → body_from d header (i + 1) (drop i ls) level ≡ body_from d header (i + 1 + 1) (drop (i + 1) ls) after
+next_line d header ls i l level after parts read = ap (λ (xs : List (List ℕ)). body_from d header (i + 1) xs level) parts ∙ ap (λ r. step r (i + 1) (body_from d header (i + 1 + 1) (drop (i + 1) ls))) read
+
+pub bad_line : (d : Dictionary) (header : Header) (ls : List (List ℕ)) (i : ℕ) (l : List ℕ) (level : Level) (e : Misread) → drop i ls ≡ l ∷ drop (i + 1) ls → Fails e (line_of d l >>= added level)
+    → Misses (placed e (i + 1)) (body_from d header (i + 1) (drop i ls) level)
+bad_line d header ls i l level misread.NoMemory parts h = tt
+bad_line d header ls i l level (misread.Fault kind) parts h =
+    ap (λ (xs : List (List ℕ)). body_from d header (i + 1) xs level) parts ∙ ap (λ r. step r (i + 1) (body_from d header (i + 1 + 1) (drop (i + 1) ls))) h
+
+pub last_line : (d : Dictionary) (header : Header) (ls : List (List ℕ)) (i : ℕ) (level : Level) → length ls ≡ i → body_from d header (i + 1) (drop i ls) level ≡ finished header level.outer level.bytes (i + 1)
+last_line d header ls i level ends = ap (λ (xs : List (List ℕ)). body_from d header (i + 1) xs level) (drop_all i ls (omega (arith, ends)))

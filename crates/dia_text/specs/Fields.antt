@@ -1,0 +1,67 @@
+-- The parts of a line behind its first word: a keyword and what it says, which may be left out.
+use Rattle.std.specs.Prelude.{ℕ, ◌+◌, ◌^◌, ◌==◌, if◌then◌else◌, List, [], ◌∷◌, Option, Some, None, option_and_then, Result, Ok, Err, codes}
+use Rattle.std.specs.Option.{option_map, option_or}
+use Rattle.hex.specs.Hex.{decode_of}
+use Rattle.hex.specs.declared.error.FromHexError.{FromHexError}
+use Rattle.dia_terms.specs.Names.{same_bytes}
+use Rattle.dia_text.specs.declared.fault.Kind.{Kind}
+use Rattle.dia_text.specs.declared.fault.Kind.TheVariants.{Syntax, Value}
+use Rattle.dia_text.specs.Words.{first_word, behind_word}
+use Rattle.dia_text.specs.Numbers.{number_below, hex_byte_of, within}
+use Rattle.dia_text.specs.Reading.{◌>>=◌, some_or}
+
+-- a number below 2 ^ 32 behind its keyword
+unfoldable pub number_field : List ℕ → Option ℕ → List ℕ → Result (ℕ × List ℕ) Kind
+number_field keyword default text =
+    if same_bytes (first_word text) keyword
+    then (some_or (number_below (2 ^ 32) (first_word (behind_word text))) Value >>= λ n. Ok (n, behind_word (behind_word text)))
+    else (some_or default Syntax >>= λ n. Ok (n, text))
+
+-- what follows the letter at the front
+abbrev pub behind_letter : ℕ → List ℕ → Option (List ℕ)
+behind_letter letter [] = None
+behind_letter letter (c ∷ cs) = if c == letter then Some cs else None
+
+abbrev pub letter_then : ℕ → (List ℕ → Option ℕ) → List ℕ → Option (List ℕ) → Option ℕ
+letter_then flag more word None = more word
+letter_then flag more word (Some rest) = option_map (λ n. flag + n) (more rest)
+
+-- the sum of the flags of letters, which stand in the order of the table, each at most once
+abbrev pub letters_value : List (ℕ × ℕ) → List ℕ → Option ℕ
+letters_value [] [] = Some 0
+letters_value [] (c ∷ cs) = None
+letters_value (l ∷ ls) word = letter_then l.1 (letters_value ls) word (behind_letter l.0 word)
+
+-- flags: a dash for none, two hexadecimal digits, or letters
+abbrev pub flags_of : List (ℕ × ℕ) → List ℕ → Option ℕ
+flags_of letters [] = None
+flags_of letters (c ∷ cs) =
+    if same_bytes (c ∷ cs) (codes "-") then Some 0 else option_or (hex_byte_of (c ∷ cs)) (option_and_then (within 256) (letters_value letters (c ∷ cs)))
+
+unfoldable pub flags_field : List (ℕ × ℕ) → Option ℕ → List ℕ → Result (ℕ × List ℕ) Kind
+flags_field letters default text =
+    if same_bytes (first_word text) (codes "flags")
+    then (some_or (flags_of letters (first_word (behind_word text))) Value >>= λ n. Ok (n, behind_word (behind_word text)))
+    else (some_or default Syntax >>= λ n. Ok (n, text))
+
+-- an AVP Length that its field can say
+unfoldable pub length_field : List ℕ → Result (Option ℕ × List ℕ) Kind
+length_field text =
+    if same_bytes (first_word text) (codes "length")
+    then (some_or (number_below (2 ^ 24) (first_word (behind_word text))) Value >>= λ n. Ok (Some n, behind_word (behind_word text)))
+    else Ok (None, text)
+
+abbrev pub decoded : Result (List ℕ) FromHexError → Result (List ℕ) Kind
+decoded (Ok bytes) = Ok bytes
+decoded (Err e) = Err Value
+
+-- `x` and two hexadecimal digits a byte
+abbrev pub bytes_of : List ℕ → Result (List ℕ) Kind
+bytes_of [] = Err Syntax
+bytes_of (c ∷ cs) = if c == 120 then decoded (decode_of cs) else Err Value
+
+unfoldable pub padding_field : List ℕ → Result (Option (List ℕ) × List ℕ) Kind
+padding_field text =
+    if same_bytes (first_word text) (codes "pad")
+    then (bytes_of (first_word (behind_word text)) >>= λ bytes. Ok (Some bytes, behind_word (behind_word text)))
+    else Ok (None, text)

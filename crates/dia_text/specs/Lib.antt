@@ -1,0 +1,9 @@
+pub mod Words
+pub mod Numbers
+pub mod Reading
+pub mod Fields
+pub mod Keys
+pub mod Values
+pub mod Lines
+pub mod Drafts
+pub mod Made

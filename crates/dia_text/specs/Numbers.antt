@@ -1,0 +1,37 @@
+-- Numbers in decimal, and bytes in hexadecimal.
+use Rattle.std.specs.Prelude.{ℕ, ◌^◌, ◌+◌, ◌-◌, nat_lt, ◌==◌, ◌&&◌, if◌then◌else◌, List, [], ◌∷◌, length, slice_index, Option, Some, None, option_and_then, Result, Ok, Err}
+use Rattle.std.specs.Option.{option_map}
+use Rattle.std.specs.List.{list_all}
+use Rattle.std.specs.Char.{is_ascii_digit}
+use Rattle.std.specs.Str.Parse.{digits_value}
+use Rattle.hex.specs.Hex.{decode_sized}
+use Rattle.hex.specs.declared.error.FromHexError.{FromHexError}
+
+-- one decimal digit or more that write a number below 2 ^ 64
+abbrev pub number_of : List ℕ → Option ℕ
+number_of word =
+    if nat_lt 0 (length word) && list_all is_ascii_digit word && nat_lt (digits_value 10 word) (2 ^ 64) then Some (digits_value 10 word) else None
+
+abbrev pub within : ℕ → ℕ → Option ℕ
+within limit n = if nat_lt n limit then Some n else None
+
+-- a number below the limit
+abbrev pub number_below : ℕ → List ℕ → Option ℕ
+number_below limit word = option_and_then (within limit) (number_of word)
+
+-- a number below zero as two's complement, of which half stand for numbers from zero on
+abbrev pub complement : ℕ → ℕ → ℕ
+complement half n = if n == 0 then 0 else (half - n) + half
+
+-- a number from -half up to half, in two's complement
+abbrev pub signed_below : ℕ → List ℕ → Option ℕ
+signed_below half [] = None
+signed_below half (c ∷ cs) = if c == 45 then option_map (complement half) (number_below (half + 1) cs) else number_below half (c ∷ cs)
+
+abbrev pub first_byte : Result (List ℕ) FromHexError → Option ℕ
+first_byte (Ok bytes) = Some (slice_index bytes 0)
+first_byte (Err e) = None
+
+-- two hexadecimal digits
+abbrev pub hex_byte_of : List ℕ → Option ℕ
+hex_byte_of word = first_byte (decode_sized word 1)

@@ -1,0 +1,88 @@
+//! The first word of a message, and what the dictionary says of its command.
+ghost use Rattle.std.specs.Prelude.{◌≡◌, ◌<◌, ◌≤◌, ◌^◌, option_and_then, IfOk, IfSome};
+ghost use Rattle.std.specs.Option.{option_map};
+ghost use Rattle.dia_book.specs.Dictionary.{plain_definition};
+ghost use Rattle.dia_text.specs.Reading.{Gives};
+ghost use Rattle.dia_text.specs.Keys.{start_of, start_named, command_named};
+ghost use Rattle.dia_text.specs.Keys.{class_flags, p_flag};
+
+use crate::fault::{Kind, Misread};
+use dia_book::{Book, Class, DefHead, Definition};
+use dia_terms::Pxy;
+use dia_wire::{COMMAND_ERROR, COMMAND_PROXIABLE, COMMAND_REQUEST};
+
+/// What the first word of a message says: its code, and the flags and the application that it has where its line says no
+/// others.
+#[derive(Clone, Copy, Debug, PartialEq, Eq)]
+pub struct Start {
+    pub code: u32,
+    pub flags: Option<u8>,
+    pub app: Option<u32>,
+}
+
+/// The command that the dictionary has by this name.
+pub(crate) fn start_named<B: Book>(book: &B, word: &[u8]) -> Result<Start, Misread>
+    ensures value { Gives (λ start. start) result (start_named (B.meaning book.now) word.now) }
+    ensures small { IfOk result (λ start. start.code < 2 ^ 24) }
+{
+    let Some(definition) = command_named(book, word) else {
+        return Err(Misread::Fault(Kind::Name));
+    };
+    match start_of(&definition.head) {
+        Some(start) => Ok(start),
+        None => Err(Misread::Fault(Kind::Name)),
+    }
+}
+
+fn command_named<'a, B: Book>(book: &'a B, word: &[u8]) -> Option<&'a Definition>
+    ensures { option_map (λ definition. plain_definition definition.now) result
+        ≡ command_named (B.meaning book.now) word.now }
+{
+    for index in 0..book.commands() {
+        let definition = book.def(book.command_at(index));
+        if definition.name.as_bytes() == word {
+            return Some(definition);
+        }
+    }
+    None
+}
+
+fn start_of(head: &DefHead) -> Option<Start>
+    ensures value { result ≡ start_of head.now }
+    ensures small { IfSome result (λ start. start.code < 2 ^ 24) }
+{
+    match head {
+        DefHead::Command {
+            code,
+            class,
+            app,
+            p,
+        } if *code < 1 << 24 => Some(Start {
+            code: *code,
+            flags: Some(class_flags(*class) + p_flag(*p)),
+            app: Some(app.unwrap_or(0)),
+        }),
+        _ => None,
+    }
+}
+
+fn class_flags(class: Class) -> u8
+    ensures value { result ≡ class_flags class }
+    ensures small { result ≤ 128 }
+{
+    match class {
+        Class::Request => COMMAND_REQUEST,
+        Class::Answer => 0,
+        Class::Error => COMMAND_ERROR,
+    }
+}
+
+fn p_flag(p: Pxy) -> u8
+    ensures value { result ≡ p_flag p }
+    ensures small { result ≤ 64 }
+{
+    match p {
+        Pxy::Clear => 0,
+        Pxy::Set | Pxy::Either => COMMAND_PROXIABLE,
+    }
+}

@@ -1,0 +1,207 @@
+//! The parts of a line behind its first word: a keyword and what it says, which may be left out.
+ghost use Rattle.std.specs.Prelude.{◌≡◌, ◌≤◌, ◌^◌, length, option_copied};
+ghost use Rattle.std.specs.Prelude.{option_and_then};
+ghost use Rattle.std.specs.Option.{option_map};
+ghost use Rattle.dia_text.specs.Fields.{number_field, flags_field, flags_of};
+ghost use Rattle.dia_text.specs.Fields.{length_field, padding_field, bytes_of};
+ghost use Rattle.dia_text.specs.Fields.{letters_value, behind_letter, decoded};
+ghost use Rattle.hex.specs.Hex.{decode_of};
+ghost use Rattle.dia_text.specs.Numbers.{number_below, within};
+ghost use Rattle.dia_text.specs.Reading.{Gives, some_or};
+
+use crate::fault::{Kind, Misread};
+use crate::numbers::{hex_byte_of, number_below, number32};
+use crate::words::next_word;
+use hex::FromHexError;
+use std::alloc::Global;
+
+/// A number behind its keyword, or the default where the keyword doesn't stand there; and what follows.
+#[tactic(auto, unfolding(crate::specs::Fields::number_field))]
+pub(crate) fn number_field<'a>(
+    keyword: &[u8],
+    default: Option<u32>,
+    text: &'a [u8],
+) -> Result<(u32, &'a [u8]), Misread>
+    ensures { Gives (λ x. (x.0, x.1.now)) result
+        (number_field keyword.now default text.entry.now) }
+{
+    let (word, rest) = next_word(text);
+    if word == keyword {
+        let (word, rest) = next_word(rest);
+        let number = wanted_number(word)?;
+        Ok((number, rest))
+    } else {
+        let number = wanted(default)?;
+        Ok((number, text))
+    }
+}
+
+/// Flags behind their keyword, or the default where the keyword doesn't stand there; and what follows.
+#[tactic(auto, unfolding(crate::specs::Fields::flags_field))]
+pub(crate) fn flags_field<'a>(
+    letters: &[(u8, u8)],
+    default: Option<u8>,
+    text: &'a [u8],
+) -> Result<(u8, &'a [u8]), Misread>
+    requires { length letters.now ≤ 4 }
+    ensures { Gives (λ x. (x.0, x.1.now)) result
+        (flags_field letters.now default text.entry.now) }
+{
+    let (word, rest) = next_word(text);
+    if word == b"flags".as_slice() {
+        let (word, rest) = next_word(rest);
+        let flags = wanted_flags(letters, word)?;
+        Ok((flags, rest))
+    } else {
+        let flags = wanted_default(default)?;
+        Ok((flags, text))
+    }
+}
+
+fn wanted_number(word: &[u8]) -> Result<u32, Misread>
+    ensures { Gives (λ n. n) result (some_or (number_below (2 ^ 32) word.now) Kind.Value) }
+{
+    match number32(word) {
+        Some(number) => Ok(number),
+        None => Err(Misread::Fault(Kind::Value)),
+    }
+}
+
+fn wanted(default: Option<u32>) -> Result<u32, Misread>
+    ensures { Gives (λ n. n) result (some_or default Kind.Syntax) }
+{
+    match default {
+        Some(number) => Ok(number),
+        None => Err(Misread::Fault(Kind::Syntax)),
+    }
+}
+
+fn wanted_default(default: Option<u8>) -> Result<u8, Misread>
+    ensures { Gives (λ n. n) result (some_or default Kind.Syntax) }
+{
+    match default {
+        Some(flags) => Ok(flags),
+        None => Err(Misread::Fault(Kind::Syntax)),
+    }
+}
+
+fn wanted_flags(letters: &[(u8, u8)], word: &[u8]) -> Result<u8, Misread>
+    requires { length letters.now ≤ 4 }
+    ensures { Gives (λ n. n) result (some_or (flags_of letters.now word.now) Kind.Value) }
+{
+    match flags_of(letters, word) {
+        Some(flags) => Ok(flags),
+        None => Err(Misread::Fault(Kind::Value)),
+    }
+}
+
+/// The flags that a word writes: `-` for none, two hexadecimal digits, or letters in their order.
+fn flags_of(letters: &[(u8, u8)], word: &[u8]) -> Option<u8>
+    requires { length letters.now ≤ 4 }
+    ensures { result ≡ flags_of letters.now word.now }
+{
+    if word.is_empty() {
+        return None;
+    }
+    if word == b"-".as_slice() {
+        return Some(0);
+    }
+    match hex_byte_of(word) {
+        Some(flags) => Some(flags),
+        None => flags_by_letters(letters, word),
+    }
+}
+
+fn flags_by_letters(letters: &[(u8, u8)], word: &[u8]) -> Option<u8>
+    requires { length letters.now ≤ 4 }
+    ensures { result ≡ option_and_then (within 256) (letters_value letters.now word.now) }
+{
+    let total = letters_value(letters, word)?;
+    if total < 256 { Some(total as u8) } else { None }
+}
+
+/// An AVP Length behind its keyword; and what follows.
+#[tactic(auto, unfolding(crate::specs::Fields::length_field))]
+pub(crate) fn length_field(text: &[u8]) -> Result<(Option<u32>, &[u8]), Misread>
+    ensures { Gives (λ x. (x.0, x.1.now)) result (length_field text.entry.now) }
+{
+    let (word, rest) = next_word(text);
+    if word == b"length".as_slice() {
+        let (word, rest) = next_word(rest);
+        let length = wanted_length(word)?;
+        Ok((Some(length), rest))
+    } else {
+        Ok((None, text))
+    }
+}
+
+fn wanted_length(word: &[u8]) -> Result<u32, Misread>
+    ensures { Gives (λ n. n) result (some_or (number_below (2 ^ 24) word.now) Kind.Value) }
+{
+    match number_below(1 << 24, word) {
+        Some(length) => Ok(length as u32),
+        None => Err(Misread::Fault(Kind::Value)),
+    }
+}
+
+/// Padding behind its keyword; and what follows.
+#[tactic(auto, unfolding(crate::specs::Fields::padding_field))]
+pub(crate) fn padding_field(alloc: Global, text: &[u8]) -> Result<(Option<Vec<u8>>, &[u8]), Misread>
+    ensures { Gives (λ x. (option_map (λ bytes. bytes.items) x.0, x.1.now)) result
+        (padding_field text.entry.now) }
+{
+    let (word, rest) = next_word(text);
+    if word == b"pad".as_slice() {
+        let (word, rest) = next_word(rest);
+        let bytes = bytes_of(alloc, word)?;
+        Ok((Some(bytes), rest))
+    } else {
+        Ok((None, text))
+    }
+}
+
+/// The bytes that `x` and hexadecimal digits write.
+pub(crate) fn bytes_of(alloc: Global, word: &[u8]) -> Result<Vec<u8>, Misread>
+    ensures { Gives (λ bytes. bytes.items) result (bytes_of word.now) }
+{
+    match word {
+        [] => Err(Misread::Fault(Kind::Syntax)),
+        [b'x', digits @ ..] => decode(alloc, digits),
+        _ => Err(Misread::Fault(Kind::Value)),
+    }
+}
+
+fn decode(alloc: Global, digits: &[u8]) -> Result<Vec<u8>, Misread>
+    ensures { Gives (λ bytes. bytes.items) result (decoded (decode_of digits.now)) }
+{
+    match hex::decode(alloc, digits) {
+        Ok(bytes) => Ok(bytes),
+        Err(FromHexError::OutOfMemory) => Err(Misread::NoMemory),
+        Err(_) => Err(Misread::Fault(Kind::Value)),
+    }
+}
+
+/// The sum of the flags whose letters the word has, in their order.
+fn letters_value(letters: &[(u8, u8)], word: &[u8]) -> Option<u32>
+    requires { length letters.now ≤ 4 }
+    ensures { result ≡ letters_value letters.now word.now }
+{
+    let mut total = 0u32;
+    let mut rest = word;
+    for row in letters {
+        if let Some(behind) = behind_letter(row.0, rest) {
+            total += u32::from(row.1);
+            rest = behind;
+        }
+    }
+    if rest.is_empty() { Some(total) } else { None }
+}
+
+fn behind_letter(letter: u8, word: &[u8]) -> Option<&[u8]>
+    ensures { option_copied result ≡ behind_letter letter word.entry.now }
+{
+    match word {
+        [first, behind @ ..] if *first == letter => Some(behind),
+        _ => None,
+    }
+}

@@ -1,0 +1,144 @@
+//! The first word of an AVP's line, and what the dictionary says of the AVP.
+ghost use Rattle.std.specs.Prelude.{◌≡◌, ◌<◌, ◌≤◌, ◌^◌, length};
+ghost use Rattle.std.specs.Prelude.{option_and_then, slice_get, IfSome};
+ghost use Rattle.std.specs.Option.{option_map};
+ghost use Rattle.std.specs.List.{prefix_len, find};
+ghost use Rattle.dia_data.specs.Plain.{plain_format};
+ghost use Rattle.dia_text.specs.Reading.{Gives};
+ghost use Rattle.dia_text.specs.Keys.{numbered, vendor_code, is_no_slash};
+ghost use Rattle.dia_text.specs.Keys.{code_of_key, entry_named, code_of};
+ghost use Rattle.dia_text.specs.Keys.{entry_at, format_at, m_flag, default_flags};
+
+use crate::fault::{Kind, Misread};
+use crate::numbers::number32;
+use dia_book::{Book, Entry, Format, Key, MRule};
+use dia_wire::{AVP_MANDATORY, AVP_VENDOR};
+
+/// The code of an AVP, and its Vendor-ID where it has the field.
+#[derive(Clone, Copy, Debug, PartialEq, Eq)]
+pub struct AvpCode {
+    pub code: u32,
+    pub vendor: Option<u32>,
+}
+
+/// The AVP of a word: `CODE` or `CODE/VENDOR`, or else a name of the dictionary.
+pub(crate) fn code_of<B: Book>(book: &B, word: &[u8]) -> Result<AvpCode, Misread>
+    ensures { Gives (λ code. code) result (code_of (B.meaning book.now) word.now) }
+{
+    if let Some(code) = numbered(word) {
+        return Ok(code);
+    }
+    match key_named(book, word) {
+        Some(key) => Ok(code_of_key(&key)),
+        None => Err(Misread::Fault(Kind::Name)),
+    }
+}
+
+fn numbered(word: &[u8]) -> Option<AvpCode>
+    ensures { result ≡ numbered word.now }
+{
+    match number32(word) {
+        Some(code) => Some(AvpCode { code, vendor: None }),
+        None => vendor_code(word),
+    }
+}
+
+fn vendor_code(word: &[u8]) -> Option<AvpCode>
+    ensures { result ≡ vendor_code word.now }
+{
+    let at = slash_place(word);
+    if at == word.len() {
+        return None;
+    }
+    let code = number32(&word[..at])?;
+    let vendor = number32(&word[at + 1..])?;
+    Some(AvpCode {
+        code,
+        vendor: Some(vendor),
+    })
+}
+
+fn slash_place(word: &[u8]) -> usize
+    ensures at { result ≡ prefix_len is_no_slash word.now }
+    ensures within { result ≤ length word.now }
+{
+    word.iter().take_while(|b| **b != b'/').count()
+}
+
+fn code_of_key(key: &Key) -> AvpCode
+    ensures { result ≡ code_of_key key.now }
+{
+    AvpCode {
+        code: key.code,
+        vendor: if key.vendor == 0 {
+            None
+        } else {
+            Some(key.vendor)
+        },
+    }
+}
+
+/// The key of the AVP that the dictionary has by this name.
+fn key_named<B: Book>(book: &B, word: &[u8]) -> Option<Key>
+    ensures { result ≡ option_map (λ e. e.key) (entry_named (B.meaning book.now) word.now) }
+{
+    for index in 0..book.entries() {
+        let entry = book.entry_at(index);
+        if book.entry_name(entry).as_bytes() == word {
+            return Some(book.entry_key(entry));
+        }
+    }
+    None
+}
+
+fn entry<B: Book>(book: &B, code: &AvpCode) -> Option<Entry>
+    ensures entry { option_and_then (slice_get (B.meaning book.now).entries) result
+        ≡ entry_at (B.meaning book.now) code.now }
+    ensures known { IfSome result (λ entry. entry < length (B.meaning book.now).entries) }
+{
+    book.avp(Key {
+        code: code.code,
+        vendor: code.vendor.unwrap_or(0),
+    })
+}
+
+/// The format of an AVP that the dictionary knows.
+pub(crate) fn format_at<'a, B: Book>(book: &'a B, code: &AvpCode) -> Option<&'a Format>
+    ensures { option_map (λ format. plain_format format.now) result
+        ≡ format_at (B.meaning book.now) code.now }
+{
+    match entry(book, code) {
+        Some(entry) => Some(book.format(entry)),
+        None => None,
+    }
+}
+
+/// The flags of an AVP where its line says no others.
+pub(crate) fn default_flags<B: Book>(book: &B, code: &AvpCode) -> u8
+    ensures { result ≡ default_flags (B.meaning book.now) code.now }
+{
+    let vendor = match code.vendor {
+        Some(_) => AVP_VENDOR,
+        None => 0,
+    };
+    vendor + m_flag(rule_at(book, code))
+}
+
+fn rule_at<B: Book>(book: &B, code: &AvpCode) -> Option<MRule>
+    ensures { result ≡ option_map (λ e. e.rule) (entry_at (B.meaning book.now) code.now) }
+{
+    match entry(book, code) {
+        Some(entry) => Some(book.rule(entry)),
+        None => None,
+    }
+}
+
+fn m_flag(rule: Option<MRule>) -> u8
+    ensures value { result ≡ m_flag rule }
+    ensures small { result ≤ 64 }
+{
+    match rule {
+        Some(MRule::Must | MRule::Any) => AVP_MANDATORY,
+        Some(MRule::MustNot) | None => 0,
+    }
+}

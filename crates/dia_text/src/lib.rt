@@ -1,0 +1,38 @@
+//! Messages as text that people write: a line for each AVP, over any dictionary.
+//!
+//! `make` answers the bytes of the one message that a text writes, or the first line that no message goes on with. The first
+//! line with a word is the header's: `code N` or a command of the dictionary, then `flags F`, `app N`, `hop N` and `end N`
+//! in this order; behind a command's name the first two may be left out. Each other line is an AVP, the end of a group, or
+//! blank:
+//!
+//! ```text
+//! code 272 flags RP app 4 hop 1 end 2
+//! 264 flags M x612e62
+//! Auth-Application-Id 4
+//! 9002/32473 flags VM length 20 x00000001 pad xff
+//! Subscription-Id {
+//! } pad x00
+//! # a comment
+//! ```
+//!
+//! A value is `x` and hexadecimal digits, or a decimal number where the dictionary's format is a number. What is made needn't
+//! be valid.
+#![tactic(auto)]
+
+mod commands;
+mod draft;
+mod fault;
+mod fields;
+mod keys;
+mod line;
+mod lines;
+mod making;
+mod numbers;
+mod values;
+mod words;
+
+pub use fault::{Fault, Kind, Misread, NotMade};
+pub use keys::AvpCode;
+pub use line::{Head, Line};
+pub use lines::{header_of, line_of};
+pub use making::make;

@@ -1,0 +1,177 @@
+//! Lines, read.
+ghost use Rattle.std.specs.Prelude.{◌<◌, ◌^◌, IfOk, IfSome};
+ghost use Rattle.dia_text.specs.Numbers.{number_below};
+ghost use Rattle.dia_text.specs.Reading.{Gives, some_or};
+ghost use Rattle.dia_text.specs.Lines.{plain_line, no_more, head_at, leaf_at};
+ghost use Rattle.dia_text.specs.Lines.{open_at, close_at, avp_at, line_of};
+ghost use Rattle.dia_text.specs.Lines.{start_at, header_at, header_of};
+
+use crate::commands::{Start, start_named};
+use crate::fault::{Kind, Misread};
+use crate::fields::{flags_field, length_field, number_field, padding_field};
+use crate::keys::{code_of, default_flags, format_at};
+use crate::line::{Head, Line};
+use crate::numbers::number_below;
+use crate::values::value_of;
+use crate::words::next_word;
+use dia_book::Book;
+use dia_wire::Header;
+use std::alloc::Global;
+
+/// The letters of the AVP Flags (RFC 6733 section 4.1), in their order.
+const AVP_LETTERS: [(u8, u8); 3] = [(b'V', 0x80), (b'M', 0x40), (b'P', 0x20)];
+
+/// The letters of the Command Flags (RFC 6733 section 3), in their order.
+const HEADER_LETTERS: [(u8, u8); 4] = [(b'R', 0x80), (b'P', 0x40), (b'E', 0x20), (b'T', 0x10)];
+
+/// What a line behind the header says.
+#[tactic(auto, unfolding(crate::specs::Lines::line_of))]
+pub fn line_of<B: Book>(alloc: Global, book: &B, text: &[u8]) -> Result<Line, Misread>
+    ensures { Gives plain_line result (line_of (B.meaning book.now) text.now) }
+{
+    let (word, rest) = next_word(text);
+    if word.is_empty() {
+        Ok(Line::Blank)
+    } else if word == b"}".as_slice() {
+        close_at(alloc, rest)
+    } else {
+        avp_at(alloc, book, text)
+    }
+}
+
+#[tactic(auto, unfolding(crate::specs::Lines::avp_at))]
+fn avp_at<B: Book>(alloc: Global, book: &B, text: &[u8]) -> Result<Line, Misread>
+    ensures { Gives plain_line result (avp_at (B.meaning book.now) text.now) }
+{
+    let (head, text) = head_at(book, text)?;
+    let (word, rest) = next_word(text);
+    if word == b"{".as_slice() {
+        open_at(&head, rest)
+    } else {
+        leaf_at(alloc, book, &head, text)
+    }
+}
+
+#[tactic(auto, unfolding(crate::specs::Lines::head_at))]
+fn head_at<'a, B: Book>(book: &B, text: &'a [u8]) -> Result<(Head, &'a [u8]), Misread>
+    ensures { Gives (λ x. (x.0, x.1.now)) result (head_at (B.meaning book.now) text.entry.now) }
+{
+    let (word, rest) = next_word(text);
+    let code = code_of(book, word)?;
+    let default = default_flags(book, &code);
+    let (flags, rest) = flags_field(&AVP_LETTERS, Some(default), rest)?;
+    let (said_length, rest) = length_field(rest)?;
+    Ok((
+        Head {
+            code,
+            flags,
+            said_length,
+        },
+        rest,
+    ))
+}
+
+#[tactic(auto, unfolding(crate::specs::Lines::leaf_at))]
+fn leaf_at<B: Book>(alloc: Global, book: &B, head: &Head, text: &[u8]) -> Result<Line, Misread>
+    ensures { Gives plain_line result (leaf_at (B.meaning book.now) head.now text.now) }
+{
+    let (word, rest) = next_word(text);
+    let bytes = value_of(alloc, format_at(book, &head.code), word)?;
+    let (padding, rest) = padding_field(alloc, rest)?;
+    no_more(rest)?;
+    Ok(Line::Leaf(*head, bytes, padding))
+}
+
+#[tactic(auto, unfolding(crate::specs::Lines::open_at))]
+fn open_at(head: &Head, text: &[u8]) -> Result<Line, Misread>
+    ensures { Gives plain_line result (open_at head.now text.now) }
+{
+    no_more(text)?;
+    Ok(Line::Open(*head))
+}
+
+#[tactic(auto, unfolding(crate::specs::Lines::close_at))]
+fn close_at(alloc: Global, text: &[u8]) -> Result<Line, Misread>
+    ensures { Gives plain_line result (close_at text.now) }
+{
+    let (padding, rest) = padding_field(alloc, text)?;
+    no_more(rest)?;
+    Ok(Line::Close(padding))
+}
+
+fn no_more(text: &[u8]) -> Result<(), Misread>
+    ensures { Gives (λ _. tt) result (no_more text.now) }
+{
+    let (word, _) = next_word(text);
+    if word.is_empty() {
+        Ok(())
+    } else {
+        Err(Misread::Fault(Kind::Syntax))
+    }
+}
+
+/// The header that a line writes, or none where it is blank.
+#[tactic(auto, unfolding(crate::specs::Lines::header_of))]
+pub fn header_of<B: Book>(book: &B, text: &[u8]) -> Result<Option<Header>, Misread>
+    ensures value { Gives (λ header. header) result (header_of (B.meaning book.now) text.now) }
+    ensures small { IfOk result (λ header. IfSome header (λ h. h.code < 2 ^ 24)) }
+{
+    let (word, _) = next_word(text);
+    if word.is_empty() {
+        return Ok(None);
+    }
+    let header = header_at(book, text)?;
+    Ok(Some(header))
+}
+
+#[tactic(auto, unfolding(crate::specs::Lines::header_at))]
+fn header_at<B: Book>(book: &B, text: &[u8]) -> Result<Header, Misread>
+    ensures value { Gives (λ header. header) result (header_at (B.meaning book.now) text.now) }
+    ensures small { IfOk result (λ header. header.code < 2 ^ 24) }
+{
+    let (start, rest) = start_at(book, text)?;
+    let (flags, rest) = flags_field(&HEADER_LETTERS, start.flags, rest)?;
+    let (app, rest) = number_field(b"app", start.app, rest)?;
+    let (hop, rest) = number_field(b"hop", None, rest)?;
+    let (e2e, rest) = number_field(b"end", None, rest)?;
+    no_more(rest)?;
+    Ok(Header {
+        flags,
+        code: start.code,
+        app,
+        hop,
+        e2e,
+    })
+}
+
+#[tactic(auto, unfolding(crate::specs::Lines::start_at))]
+fn start_at<'a, B: Book>(book: &B, text: &'a [u8]) -> Result<(Start, &'a [u8]), Misread>
+    ensures value { Gives (λ x. (x.0, x.1.now)) result
+        (start_at (B.meaning book.now) text.entry.now) }
+    ensures small { IfOk result (λ x. x.0.code < 2 ^ 24) }
+{
+    let (word, rest) = next_word(text);
+    if word == b"code".as_slice() {
+        let (word, rest) = next_word(rest);
+        let code = wanted_code(word)?;
+        let start = Start {
+            code,
+            flags: None,
+            app: None,
+        };
+        Ok((start, rest))
+    } else {
+        let start = start_named(book, word)?;
+        Ok((start, rest))
+    }
+}
+
+fn wanted_code(word: &[u8]) -> Result<u32, Misread>
+    ensures value { Gives (λ n. n) result (some_or (number_below (2 ^ 24) word.now) Kind.Value) }
+    ensures small { IfOk result (λ n. n < 2 ^ 24) }
+{
+    match number_below(1 << 24, word) {
+        Some(code) => Ok(code as u32),
+        None => Err(Misread::Fault(Kind::Value)),
+    }
+}

@@ -1,0 +1,52 @@
+//! The words of a line.
+ghost use Rattle.std.specs.Prelude.{◌≡◌, ◌≤◌, length};
+ghost use Rattle.std.specs.List.{prefix_len};
+ghost use Rattle.dia_text.specs.Words.{is_blank, is_word_byte};
+ghost use Rattle.dia_text.specs.Words.{unblanked, first_word, behind_word};
+
+/// The first word, which is empty where there is none, and what follows it. Blanks separate words, and `#` begins a
+/// comment, up to the end of the line.
+pub(crate) fn next_word(text: &[u8]) -> (&[u8], &[u8])
+    ensures word { result.0.now ≡ first_word text.entry.now }
+    ensures rest { result.1.now ≡ behind_word text.entry.now }
+{
+    let text = without_blanks(text);
+    let end = word_len(text);
+    (&text[..end], &text[end..])
+}
+
+/// The text without the blanks at its front.
+pub(crate) fn without_blanks(text: &[u8]) -> &[u8]
+    ensures { result.now ≡ unblanked text.entry.now }
+{
+    let start = blanks_len(text);
+    &text[start..]
+}
+
+/// How many blanks stand at the front.
+fn blanks_len(bytes: &[u8]) -> usize
+    ensures len { result ≡ prefix_len is_blank bytes.now }
+    ensures within { result ≤ length bytes.now }
+{
+    bytes.iter().take_while(|b| is_blank(**b)).count()
+}
+
+/// How many bytes of a word stand at the front.
+fn word_len(bytes: &[u8]) -> usize
+    ensures len { result ≡ prefix_len is_word_byte bytes.now }
+    ensures within { result ≤ length bytes.now }
+{
+    bytes.iter().take_while(|b| is_word_byte(**b)).count()
+}
+
+fn is_blank(b: u8) -> bool
+    ensures { result ≡ is_blank b }
+{
+    b == b' ' || b == b'\t' || b == b'\r'
+}
+
+fn is_word_byte(b: u8) -> bool
+    ensures { result ≡ is_word_byte b }
+{
+    !(is_blank(b) || b == b'#')
+}
