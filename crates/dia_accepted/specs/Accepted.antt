@@ -1,0 +1,86 @@
+-- A list of accepted lines: its text, the lines of an answer that it accepts, and those of its own that accept nothing.
+use Rattle.std.specs.Prelude.{ℕ, ◌+◌, nat_lt, ◌||◌, Bool, not, if◌then◌else◌, List, [], ◌∷◌, ◌++◌, map, filter, string_bytes, Option, Some, None}
+use Rattle.std.specs.List.{list_any}
+use Rattle.std.specs.Option.{option_or}
+use Rattle.std.specs.Str.{bytes_eq}
+use Rattle.std.specs.Str.Lines.{lines}
+use Rattle.dia_accepted.specs.declared.list.Entry.{Entry}
+use Rattle.dia_accepted.specs.declared.list.ListFault.{ListFault}
+use Rattle.dia_accepted.specs.declared.list.ListFault.TheVariants.{Syntax, Limit}
+use Rattle.dia_accepted.specs.declared.told.Told.{Told}
+use Rattle.dia_accepted.specs.Words.{anywhere, counted, has_form, is_skipped}
+
+-- ---- the text of the list
+
+-- the most bytes of a list's text
+abbrev pub max_list : ℕ
+max_list = 1048576
+
+-- the most lines of a list
+abbrev pub max_lines : ℕ
+max_lines = 65536
+
+-- a line of the list, by its number, from 1, and what counts of it
+pub record PlainEntry : Type 0 where
+  pub line : ℕ
+  pub counted : List ℕ
+
+abbrev pub entry : ℕ → List ℕ → PlainEntry
+entry n words = record { line = n; counted = counted words }
+
+-- that of the line of this number, if it counts: it isn't empty, and doesn't begin with `#`
+abbrev pub entries_by : ℕ → List ℕ → List PlainEntry
+entries_by n words = if is_skipped words then [] else entry n words ∷ []
+
+-- those of lines that are numbered from n on
+abbrev pub entries_from : ℕ → List (List ℕ) → List PlainEntry
+entries_from n [] = []
+entries_from n (words ∷ rest) = entries_by n words ++ entries_from (n + 1) rest
+
+-- what is wrong with the line of this number
+abbrev pub line_fault : ℕ → List ℕ → Option ListFault
+line_fault n words = if nat_lt max_lines n then Some (Limit n) else (if is_skipped words || has_form words then None else Some (Syntax n))
+
+-- the first fault of lines that are numbered from n on
+abbrev pub fault_from : ℕ → List (List ℕ) → Option ListFault
+fault_from n [] = None
+fault_from n (words ∷ rest) = option_or (line_fault n words) (fault_from (n + 1) rest)
+
+abbrev pub entries_of : List ℕ → List PlainEntry
+entries_of text = entries_from 1 (lines text)
+
+abbrev pub list_fault : List ℕ → Option ListFault
+list_fault text = fault_from 1 (lines text)
+
+abbrev pub plain_entry : Entry → PlainEntry
+plain_entry e = record { line = e.line; counted = e.counted.items }
+
+-- ---- the lines of an answer
+
+-- a line with the place of its command among those of A, and with its message behind it, if it has one
+pub record PlainTold : Type 0 where
+  pub command : ℕ
+  pub words : List ℕ
+  pub message : List ℕ
+
+abbrev pub plain_told : Told → PlainTold
+plain_told t = record { command = t.command; words = string_bytes t.words; message = string_bytes t.message }
+
+-- a line of the list accepts one of the answer: what counts of the two is the same, or its path is `*` and the rest is the same
+abbrev pub accepts : List ℕ → PlainEntry → Bool
+accepts words e = bytes_eq (counted words) e.counted || bytes_eq (anywhere words) e.counted
+
+abbrev pub is_accepted : List PlainEntry → PlainTold → Bool
+is_accepted list told = list_any (accepts told.words) list
+
+-- the lines that the list doesn't accept
+abbrev pub left_of : List PlainEntry → List PlainTold → List PlainTold
+left_of list told = filter (λ t. not (is_accepted list t)) told
+
+-- it accepts none of these
+abbrev pub is_stale : List PlainTold → PlainEntry → Bool
+is_stale told e = not (list_any (λ t. accepts t.words e) told)
+
+-- the numbers of the lines that accept nothing
+abbrev pub stale_lines : List PlainEntry → List PlainTold → List ℕ
+stale_lines list told = map (λ e. e.line) (filter (is_stale told) list)

@@ -1,0 +1,23 @@
+-- Sets of texts.
+use Rattle.std.specs.Prelude.{ℕ, Bool, List, [], ◌∷◌, map, string_bytes}
+use Rattle.std.specs.List.{flat_map, list_any}
+use Rattle.std.specs.Str.{bytes_eq}
+use Rattle.std.specs.Global.{Vec}
+use Rattle.dia_accepted.specs.declared.list.Entry.{Entry}
+use Rattle.dia_accepted.specs.declared.told.Told.{Told}
+use Rattle.dia_accepted.specs.Words.{anywhere, counted}
+
+abbrev pub bytes_of : Vec ℕ → List ℕ
+bytes_of v = v.items
+
+-- the text is one of the keys
+abbrev pub has : List (Vec ℕ) → List ℕ → Bool
+has keys text = list_any (λ key. bytes_eq text (bytes_of key)) keys
+
+-- what counts of the lines of a list
+abbrev pub entry_texts : List Entry → List (List ℕ)
+entry_texts list = map (λ e. e.counted.items) list
+
+-- and of the lines of an answer, with their paths and with `*`
+abbrev pub told_texts : List Told → List (List ℕ)
+told_texts told = flat_map (λ t. counted (string_bytes t.words) ∷ anywhere (string_bytes t.words) ∷ []) told

@@ -1,0 +1,12 @@
+//! Lists of accepted lines: which lines of an answer of `breaking` are known already, and which lines of the list are of no use
+//! any more.
+#![tactic(auto)]
+
+mod accepting;
+mod list;
+mod told;
+mod words;
+
+pub use accepting::{left, stale};
+pub use list::{Entry, ListFault, MAX_LINES, MAX_LIST, read_list};
+pub use told::Told;

@@ -1,0 +1,160 @@
+//! The words of a line, `PATH: REASON SUBJECT: DETAIL`.
+ghost use Rattle.std.specs.Prelude.{◌≡◌, ◌≤◌, IfOk, drop, length, reverse, take};
+ghost use Rattle.std.specs.List.{prefix_len};
+ghost use Rattle.dia_accepted.specs.Words.{anywhere, begins, cause_of, command_of, counted, has_form};
+ghost use Rattle.dia_accepted.specs.Words.{has_level_reason, has_undecided_level, is_of_command, is_of_level};
+ghost use Rattle.dia_accepted.specs.Words.{is_of_name, is_of_path, is_parted, is_skipped, last_of, path_of, scope, scoped};
+
+use std::alloc::{AllocError, Global};
+
+/// What counts of a line: the command and the cause, and for a break of a level also the last name of the path.
+pub(crate) fn counted(alloc: Global, words: &[u8]) -> Result<Vec<u8>, AllocError>
+    ensures { IfOk result (λ made. made.items ≡ counted words.now) }
+{
+    let (path, cause) = words.split_at(path_len(words));
+    scoped(alloc, path, cause)
+}
+
+/// The same of a line with `*` in place of its path.
+pub(crate) fn anywhere(alloc: Global, words: &[u8]) -> Result<Vec<u8>, AllocError>
+    ensures { IfOk result (λ made. made.items ≡ anywhere words.now) }
+{
+    scoped(alloc, b"*", cause_of(words))
+}
+
+/// Whether a line of a list has the form of a line of an answer.
+pub(crate) fn has_form(words: &[u8]) -> bool
+    ensures { result ≡ has_form words.now }
+{
+    is_parted(words) && is_parted(behind(cause_of(words), 2))
+}
+
+/// Whether a line of a list doesn't count: it is empty, or begins with `#`.
+pub(crate) fn is_skipped(words: &[u8]) -> bool
+    ensures { result ≡ is_skipped words.now }
+{
+    match words.first() {
+        None => true,
+        Some(byte) => *byte == b'#',
+    }
+}
+
+fn scoped(alloc: Global, path: &[u8], cause: &[u8]) -> Result<Vec<u8>, AllocError>
+    ensures { IfOk result (λ made. made.items ≡ scoped path.now cause.now) }
+{
+    let mut made = Vec::from_slice(alloc, command_of(path))?;
+    if is_of_level(cause) {
+        made.push(b'/')?;
+        made.extend_from_slice(last_of(path))?;
+    }
+    made.extend_from_slice(cause)?;
+    Ok(made)
+}
+
+fn cause_of(words: &[u8]) -> &[u8]
+    ensures { result.now ≡ cause_of words.now }
+{
+    behind(words, path_len(words))
+}
+
+fn command_of(path: &[u8]) -> &[u8]
+    ensures { result.now ≡ command_of path.now }
+{
+    let (command, _) = path.split_at(command_len(path));
+    command
+}
+
+fn last_of(path: &[u8]) -> &[u8]
+    ensures { result.now ≡ last_of path.now }
+{
+    behind(path, path.len() - last_len(path))
+}
+
+fn is_of_level(cause: &[u8]) -> bool
+    ensures { result ≡ is_of_level cause.now }
+{
+    has_level_reason(cause) || has_undecided_level(cause)
+}
+
+fn has_level_reason(cause: &[u8]) -> bool
+    ensures { result ≡ has_level_reason cause.now }
+{
+    begins(cause, b": missing ")
+        || begins(cause, b": too-many ")
+        || begins(cause, b": not-allowed ")
+        || begins(cause, b": order ")
+}
+
+fn has_undecided_level(cause: &[u8]) -> bool
+    ensures { result ≡ has_undecided_level cause.now }
+{
+    begins(cause, b": undecided missing ")
+        || begins(cause, b": undecided too-many ")
+        || begins(cause, b": undecided not-allowed ")
+        || begins(cause, b": undecided order ")
+}
+
+/// Whether the words are `FRONT: REST`, where neither is empty.
+fn is_parted(words: &[u8]) -> bool
+    ensures { result ≡ is_parted words.now }
+{
+    let cause = cause_of(words);
+    path_len(words) > 0 && begins(cause, b": ") && cause.len() > 2
+}
+
+fn begins(words: &[u8], front: &[u8]) -> bool
+    ensures { result ≡ begins words.now front.now }
+{
+    words.starts_with(front)
+}
+
+/// What stands behind so many bytes.
+fn behind(bytes: &[u8], count: usize) -> &[u8]
+    ensures { result.now ≡ drop count bytes.now }
+{
+    if count <= bytes.len() {
+        &bytes[count..]
+    } else {
+        b""
+    }
+}
+
+fn path_len(words: &[u8]) -> usize
+    ensures len { result ≡ prefix_len is_of_path words.now }
+    ensures within { result ≤ length words.now }
+{
+    words.iter().take_while(|b| is_of_path(**b)).count()
+}
+
+fn command_len(path: &[u8]) -> usize
+    ensures len { result ≡ prefix_len is_of_command path.now }
+    ensures within { result ≤ length path.now }
+{
+    path.iter().take_while(|b| is_of_command(**b)).count()
+}
+
+/// How many bytes the last name of a path has.
+fn last_len(path: &[u8]) -> usize
+    ensures len { result ≡ prefix_len is_of_name (reverse path.now) }
+    ensures within { result ≤ length path.now }
+{
+    path.iter().rev().take_while(|b| is_of_name(**b)).count()
+}
+
+fn is_of_path(byte: u8) -> bool
+    ensures { result ≡ is_of_path byte }
+{
+    byte != b':'
+}
+
+fn is_of_command(byte: u8) -> bool
+    ensures { result ≡ is_of_command byte }
+{
+    !(byte == b'/' || byte == b'[')
+}
+
+fn is_of_name(byte: u8) -> bool
+    ensures { result ≡ is_of_name byte }
+{
+    byte != b'/'
+}
