@@ -1,115 +1,229 @@
 -- How `breaking` ends.
-use Rattle.std.proofs.Common.{◌≡◌, ◌≢◌, ℕ, ◌+◌, List, [], length, Result, Ok, Err, refl, sym, subst, ◌∙◌, inl, inr}
-use Rattle.std.specs.Prelude.{◌↔◌, Contains, IfOk, string_bytes}
-use Rattle.std.proofs.lemmas.List.Elements.{All-contains}
+use Rattle.std.proofs.Common.{◌≡◌, ◌≢◌, ℕ, ◌+◌, ◌≤◌, ◌<◌, ◌==◌, Bool, true, false, List, [], ◌∷◌, length, map, Bor, Result, Ok, Err, Some, None, Option, refl, sym, ap, subst, ◌∙◌, arith}
+use Rattle.std.specs.Prelude.{◌↔◌, Contains, IfErr, IfOk, string_bytes}
+use Rattle.std.specs.List.{AllByRecursion}
+use Rattle.std.proofs.lemmas.List.Elements.{All-contains, All-from_recursion}
 use Rattle.dia_book.specs.Dictionary.{Dictionary, PlainDefinition, IsDictionary, groups}
 use Rattle.dia_breaking_sites.specs.Selection.{AreValid}
 use Rattle.dia_breaking_sites.proofs.Members.{in_at, contains_in}
 use Rattle.dia_compat.specs.Closed.{NamesCommand}
 use Rattle.dia_compat.specs.Proposed.{IsFirstUnknown}
+use Rattle.dia_dict.specs.declared.IndexedBook.{IndexedBook}
+use Rattle.dia_io.specs.declared.Input.{Input}
+use Rattle.dia_io.specs.declared.Input.TheVariants as inputs
 use Rattle.dia_io.specs.declared.Inputs.{Inputs}
 use Rattle.dia_io.specs.declared.Exit.{Exit}
 use Rattle.dia_io.specs.declared.Exit.TheVariants.{Yes, No, Bad}
-use Rattle.dia_run.specs.declared.commands.Outcome.{Outcome}
-use Rattle.dia_dict.specs.declared.IndexedBook.{IndexedBook}
-use Rattle.dia_run.specs.declared.reporting.BothBooks.{BothBooks}
-use Rattle.dia_run.specs.declared.reporting.Report.{Report}
-use Rattle.dia_run.specs.declared.reporting.Report.TheVariants.{Listed, NoCommand}
-use Rattle.dia_run.specs.Report.{AreReadFrom, IsReport}
+use Rattle.dia_io.specs.Inputs.{Holds, IsOver}
+use Rattle.dia_accepted.specs.Accepted.{PlainEntry, PlainTold, left_of, list_fault, max_list, plain_told}
+use Rattle.dia_accepted.specs.declared.told.Told.{Told}
+use Rattle.dia_accepted.specs.declared.ListFault.{ListFault}
+use Rattle.dia_run.specs.declared.Refused.{Refused}
+use Rattle.dia_run.specs.declared.Refused.TheVariants as refusals
 use Rattle.dia_run.specs.Texts.{line}
 use Rattle.dia_run.specs.Outcome.{ended, no_first, no_second}
 use Rattle.dia_run.proofs.OneInput.{one_dictionary, dictionary_or_not}
 use Rattle.dia_upgrades.specs.declared.asked.Asked.{Asked}
+use Rattle.dia_upgrades.specs.declared.list.BadList.{BadList}
+use Rattle.dia_upgrades.specs.declared.list.BadList.TheVariants as lists
+use Rattle.dia_upgrades.specs.declared.reporting.Answered.{Answered}
+use Rattle.dia_upgrades.specs.declared.reporting.Found.{Found}
+use Rattle.dia_upgrades.specs.declared.reporting.Found.TheVariants as founds
+use Rattle.dia_upgrades.specs.declared.reporting.Judged.{Judged}
 use Rattle.dia_upgrades.specs.Asking.{names_of, AreCommands}
-use Rattle.dia_upgrades.specs.Outcome.{NothingBreaks, AreAllTold, nothing_breaks, no_command_line, IsListed, nothing, lines, no_command, IsBreakingOutcome, AreRead, IsSafeUpgrade, IsUnsafeUpgrade}
-use Rattle.dia_upgrades.specs.Outcome.{AreRefused, bad_first, bad_second, bad_name}
-use Rattle.dia_upgrades.specs.Places.{AreAllValid, AreLines, asked_places}
+use Rattle.dia_upgrades.specs.Lists.{IsListText, IsNoListText, list_line}
+use Rattle.dia_upgrades.specs.Outcome.{AreAllTold, AreRead, CanAsk, IsBreakingOutcome, IsAnyListed, IsListed, OfEach, TellsStale, no_command_line, no_commands_line, nothing_left, sides_in}
+use Rattle.dia_upgrades.specs.Outcome.{nothing, nothing_else, lines, bad_list, no_commands, no_command}
+use Rattle.dia_upgrades.specs.Outcome.{AreRefused, bad_first, bad_second, bad_accepted, none_there, bad_name, IsSafeUpgrade, safe, accepted, IsUnsafeUpgrade}
+use Rattle.dia_upgrades.specs.Report.{Answers, HasReport, TellsRefusal}
+use Rattle.dia_upgrades.specs.Places.{asked_places}
+use Rattle.dia_upgrades.specs.Told.{number_at, told_text}
 use Rattle.dia_upgrades.proofs.AskedCommands.{asked_each, command_stands}
-use Rattle.dia_upgrades.proofs.LinesToTell.{no_empty_line}
-use Rattle.dia_upgrades.proofs.ToldLines.{told_lines, told_valid}
+use Rattle.dia_upgrades.proofs.ToldLines.{told_accepted, told_valid}
 
--- where all commands that are asked for are valid, nothing breaks
-pub all_valid : (asked : Asked) (a b : Dictionary) → IsDictionary a → AreAllValid a b asked.sends asked.unknown (asked_places a (names_of asked)) → NothingBreaks asked a b
-all_valid asked a b sound valid = λ number command at is_asked.
+-- ---- what was made
+
+module _ {E : Type 0} (asked : Asked) (input : Input) (a b : Dictionary) (r : Result Judged E) where
+  abbrev pub IsJudged : Type 0
+  IsJudged = IfOk r (λ j. IsListed asked input a b (string_bytes j.text) j.exit j.found)
+
+-- what holds of the places that are asked for holds of each command
+of_each : (asked : Asked) (a : Dictionary) (P : ℕ → Type 0) → IsDictionary a → AllByRecursion (λ place. P (number_at a place)) (asked_places a (names_of asked)) → OfEach asked a P
+of_each asked a P sound all = λ number command at is_asked.
     let s = command_stands a sound number command is_asked.0 at in
     let inside = asked_each a sound (names_of asked) s.place command s.at is_asked in
-    subst (λ (n : ℕ). ∥ AreValid a b asked.sends asked.unknown n ∥₁) (sym s.number_is)
-    (All-contains (λ place. ∥ AreValid a b asked.sends asked.unknown (length (groups a) + place) ∥₁) (asked_places a (names_of asked)) s.place valid inside)
+    let places = asked_places a (names_of asked) in
+    subst P (sym s.number_is) (All-contains (λ place. P (number_at a place)) places s.place (All-from_recursion (λ place. P (number_at a place)) places all) inside)
 
--- the outcome of the text of the lines
-module _ (asked : Asked) (a b : Dictionary) (text : List ℕ) (sound : IsDictionary a) (known : AreCommands a (names_of asked)) (told : AreAllTold asked a b text) where
-  by_lines : {E : Type 0} (r : Result Outcome E) → AreLines text → (text ≡ [] → IfOk r (λ o. (o.exit ≡ Yes) × (string_bytes o.text ≡ line nothing_breaks)))
-      → (¬ (text ≡ []) → IfOk r (λ o. (o.exit ≡ No) × (string_bytes o.text ≡ text))) → IfOk r (λ o. IsListed asked a b (string_bytes o.text) o.exit)
-  by_lines (Err e) shape none some = tt
-  by_lines (Ok o) (inl empty) none some =
-      let made = none empty in
-      let valid = told_valid a b asked.sends asked.unknown asked.messages (asked_places a (names_of asked)) text told empty in
-      nothing known (all_valid asked a b sound valid) (subst (AreAllTold asked a b) empty told) made.1 made.0
-  by_lines (Ok o) (inr (t, is)) none some =
-      let made = some (no_empty_line text (t, is)) in lines t known (subst (AreAllTold asked a b) is told) (made.1 ∙ is) made.0
+module _ (asked : Asked) (input : Input) (a b : Dictionary) (list : List PlainEntry) (is_list : IsListText input list) where
+  module _ (sound : IsDictionary a) (can : CanAsk asked a) where
+    by_left : (told left : List PlainTold) (j : Judged) → AreAllTold asked a b told → TellsStale list told j.found → left_of list told ≡ left
+        → (left_of list told ≡ [] → (j.exit ≡ Yes) × (string_bytes j.text ≡ line (nothing_left told)))
+        → ((left_of list told ≡ [] → ⊥) → (j.exit ≡ No) × (string_bytes j.text ≡ told_text (left_of list told))) → IsListed asked input a b (string_bytes j.text) j.exit j.found
+    by_left [] [] j all stale is none some =
+        let made = none is in
+        nothing list is_list can all (of_each asked a (λ number. ∥ AreValid a b asked.sends asked.unknown number ∥₁) sound (told_valid a b asked.sends asked.unknown asked.messages (asked_places a (names_of asked)) [] all refl))
+        made.1 made.0 stale
+    by_left (t ∷ told) [] j all stale is none some =
+        let made = none is in
+        let places = asked_places a (names_of asked) in
+        nothing_else list (t ∷ told) is_list can all is (λ e. let z : t ∷ told ≡ [] = e in cc)
+        (of_each asked a _ sound (told_accepted a b asked.sends asked.unknown asked.messages list places (t ∷ told) all is)) made.1 made.0 stale
+    by_left told (t ∷ left) j all stale is none some =
+        let never : left_of list told ≡ [] → ⊥ = λ e. (let z : t ∷ left ≡ [] = sym is ∙ e in cc) in
+        let made = some never in lines list told is_list can all never made.1 made.0 stale
 
-  pub listed : {E : Type 0} (r : Result Outcome E) → (text ≡ [] → IfOk r (λ o. (o.exit ≡ Yes) × (string_bytes o.text ≡ line nothing_breaks)))
-      → (¬ (text ≡ []) → IfOk r (λ o. (o.exit ≡ No) × (string_bytes o.text ≡ text))) → IfOk r (λ o. IsListed asked a b (string_bytes o.text) o.exit)
-  listed r none some = by_lines r (told_lines a b asked.sends asked.unknown asked.messages (asked_places a (names_of asked)) text told) none some
+    pub by_lines : {E : Type 0} (told : List PlainTold) (r : Result Judged E) → AreAllTold asked a b told → IfOk r (λ j. TellsStale list told j.found)
+        → (left_of list told ≡ [] → IfOk r (λ j. (j.exit ≡ Yes) × (string_bytes j.text ≡ line (nothing_left told))))
+        → ((left_of list told ≡ [] → ⊥) → IfOk r (λ j. (j.exit ≡ No) × (string_bytes j.text ≡ told_text (left_of list told)))) → IsJudged asked input a b r
+    by_lines told (Err e) all stale none some = tt
+    by_lines told (Ok j) all stale none some = by_left told (left_of list told) j all stale refl none some
 
--- the outcome of a name that is no command's
-pub unnamed : {E : Type 0} (asked : Asked) (a b : Dictionary) (name : List ℕ) (r : Result Outcome E) → IsFirstUnknown a (names_of asked) name
-    → IfOk r (λ o. string_bytes o.text ≡ line (no_command_line name)) → IfOk r (λ o. o.exit ≡ Bad) → IfOk r (λ o. IsListed asked a b (string_bytes o.text) o.exit)
-unnamed asked a b name (Err e) first text exit = tt
-unnamed asked a b name (Ok o) first text exit = no_command name first (text, exit)
+  -- a dictionary without commands
+  pub empty : {E : Type 0} (r : Result Judged E) → a.commands ≡ [] → IfOk r (λ j. string_bytes j.text ≡ line no_commands_line) → IfOk r (λ j. j.exit ≡ Bad)
+      → IfOk r (λ j. j.found ≡ founds.NoCommands) → IsJudged asked input a b r
+  empty (Err e) none text exit is = tt
+  empty (Ok j) none text exit is = no_commands list is_list none (text, exit) is
 
--- the report of two dictionaries that were read
-pub reported : (meaning : IndexedBook → Dictionary) (inputs : Inputs) (books : BothBooks) (text : List ℕ) (exit : Exit) (report : Report) → (exit ≢ Bad → report ≡ Listed books)
-    → (exit ≡ Bad → report ≡ NoCommand books) → AreReadFrom meaning inputs books → IsReport meaning inputs report text exit
-reported meaning inputs books text Yes report listed bad read = let other : Yes ≢ Bad = λ e. cc in rw (listed other) (read, other)
-reported meaning inputs books text No report listed bad read = let other : No ≢ Bad = λ e. cc in rw (listed other) (read, other)
-reported meaning inputs books text Bad report listed bad read = rw (bad refl) (read, refl)
+  -- a name that is no command's
+  pub unnamed : {E : Type 0} (name : List ℕ) (r : Result Judged E) → a.commands ≢ [] → IsFirstUnknown a (names_of asked) name → IfOk r (λ j. string_bytes j.text ≡ line (no_command_line name))
+      → IfOk r (λ j. j.exit ≡ Bad) → IfOk r (λ j. j.found ≡ founds.NoCommand) → IsJudged asked input a b r
+  unnamed name (Err e) some first text exit is = tt
+  unnamed name (Ok j) some first text exit is = no_command list name is_list some first (text, exit) is
 
--- a yes says that nothing breaks
-pub yes_is_safe : (asked : Asked) (inputs : Inputs) (text : List ℕ) (exit : Exit) → IsBreakingOutcome asked inputs text exit → exit ≡ Yes → IsSafeUpgrade asked inputs × (text ≡ line nothing_breaks)
-yes_is_safe asked inputs text exit (ended a b is_a is_b (nothing known safe none is_text is_exit)) is_yes = ((a, b, record { first = is_a; second = is_b; known = known }, safe), is_text)
-yes_is_safe asked inputs text exit (ended a b is_a is_b (lines told known all is_text is_exit)) is_yes = absurd (let e : No ≡ Yes = sym is_exit ∙ is_yes in cc)
-yes_is_safe asked inputs text exit (ended a b is_a is_b (no_command name first refuses)) is_yes = absurd (let e : Bad ≡ Yes = sym refuses.1 ∙ is_yes in cc)
-yes_is_safe asked inputs text exit (no_first why none refuses) is_yes = absurd (let e : Bad ≡ Yes = sym refuses.1 ∙ is_yes in cc)
-yes_is_safe asked inputs text exit (no_second a why is_a none refuses) is_yes = absurd (let e : Bad ≡ Yes = sym refuses.1 ∙ is_yes in cc)
+-- a text that is no list
+pub unlisted : {E : Type 0} (asked : Asked) (input : Input) (a b : Dictionary) (bad : BadList) (r : Result Judged E) → IsNoListText input bad → IfOk r (λ j. string_bytes j.text ≡ line (list_line bad))
+    → IfOk r (λ j. j.exit ≡ Bad) → IfOk r (λ j. j.found ≡ founds.NoList bad) → IsJudged asked input a b r
+unlisted asked input a b bad (Err e) none text exit is = tt
+unlisted asked input a b bad (Ok j) none text exit is = bad_list bad none (text, exit) is
 
--- a no says which lines were told
-pub no_is_told : (asked : Asked) (inputs : Inputs) (text : List ℕ) (exit : Exit) → IsBreakingOutcome asked inputs text exit → exit ≡ No
-    → (told : List ℕ) × IsUnsafeUpgrade asked inputs (line told) × (text ≡ line told)
-no_is_told asked inputs text exit (ended a b is_a is_b (nothing known safe none is_text is_exit)) is_no = absurd (let e : Yes ≡ No = sym is_exit ∙ is_no in cc)
-no_is_told asked inputs text exit (ended a b is_a is_b (lines told known all is_text is_exit)) is_no = (told, (a, b, record { first = is_a; second = is_b; known = known }, all), is_text)
-no_is_told asked inputs text exit (ended a b is_a is_b (no_command name first refuses)) is_no = absurd (let e : Bad ≡ No = sym refuses.1 ∙ is_no in cc)
-no_is_told asked inputs text exit (no_first why none refuses) is_no = absurd (let e : Bad ≡ No = sym refuses.1 ∙ is_no in cc)
-no_is_told asked inputs text exit (no_second a why is_a none refuses) is_no = absurd (let e : Bad ≡ No = sym refuses.1 ∙ is_no in cc)
+pub no_items : {X : Type 0} (xs : List X) → length xs ≡ 0 → xs ≡ []
+no_items [] none = refl
+no_items (x ∷ xs) none = absurd (omega (arith, none))
 
--- ---- refused inputs
+pub some_items : {X : Type 0} (xs : List X) → length xs ≢ 0 → xs ≢ []
+some_items xs some none = some (ap length none)
 
--- inputs that were read aren't refused
-read_or_refused : (asked : Asked) (inputs : Inputs) (a b : Dictionary) → AreRead asked inputs a b → AreRefused asked inputs → ⊥
-read_or_refused asked inputs a b read (bad_first why none) = dictionary_or_not inputs.first a why read.first none
-read_or_refused asked inputs a b read (bad_second why none) = dictionary_or_not inputs.second b why read.second none
-read_or_refused asked inputs a b read (bad_name d name is_d inside unknown) =
-    let (command, names) = All-contains (λ n. (c : PlainDefinition) × NamesCommand a n c) (names_of asked) name read.known inside in
-    unknown command (subst (λ (e : Dictionary). NamesCommand e name command) (one_dictionary inputs.first a d read.first is_d) names)
+pub not_zero : (n : ℕ) → (n == 0) ≡ false → n ≢ 0
+not_zero n e zero = let t : (n == 0) ≡ true = ap (λ (k : ℕ). k == 0) zero in cc
 
-first_unknown : (a : Dictionary) (names : List (List ℕ)) (name : List ℕ) → IsFirstUnknown a names name → Contains names name
-first_unknown a names name first = contains_in names name (in_at names first.place name first.is_name)
+-- ---- lines that are left
 
-refused : (asked : Asked) (inputs : Inputs) (text : List ℕ) (exit : Exit) → IsBreakingOutcome asked inputs text exit → exit ≡ Bad → AreRefused asked inputs
-refused asked inputs text exit (ended a b is_a is_b (nothing known safe none is_text is_exit)) is_bad = absurd (let e : Yes ≡ Bad = sym is_exit ∙ is_bad in cc)
-refused asked inputs text exit (ended a b is_a is_b (lines told known all is_text is_exit)) is_bad = absurd (let e : No ≡ Bad = sym is_exit ∙ is_bad in cc)
-refused asked inputs text exit (ended a b is_a is_b (no_command name first refuses)) is_bad = bad_name a name is_a (first_unknown a (names_of asked) name first) first.unknown
-refused asked inputs text exit (no_first why none refuses) is_bad = bad_first why none
-refused asked inputs text exit (no_second a why is_a none refuses) is_bad = bad_second why none
+pub none_left : (left : List (Bor Told)) (told : List PlainTold) → map (λ (t : Bor Told). plain_told t.now) left ≡ told → (length left == 0) ≡ true → told ≡ []
+none_left [] told is none = sym is
+none_left (t ∷ left) told is none = absurd (let e : false ≡ true = none in cc)
 
-bad_exit : (asked : Asked) (inputs : Inputs) (text : List ℕ) (exit : Exit) → IsBreakingOutcome asked inputs text exit → AreRefused asked inputs → exit ≡ Bad
-bad_exit asked inputs text exit (ended a b is_a is_b (nothing known safe none is_text is_exit)) none_read =
-    absurd (read_or_refused asked inputs a b (record { first = is_a; second = is_b; known = known }) none_read)
-bad_exit asked inputs text exit (ended a b is_a is_b (lines told known all is_text is_exit)) none_read =
-    absurd (read_or_refused asked inputs a b (record { first = is_a; second = is_b; known = known }) none_read)
-bad_exit asked inputs text exit (ended a b is_a is_b (no_command name first refuses)) none_read = refuses.1
-bad_exit asked inputs text exit (no_first why none refuses) none_read = refuses.1
-bad_exit asked inputs text exit (no_second a why is_a none refuses) none_read = refuses.1
+pub some_left : (left : List (Bor Told)) (told : List PlainTold) → map (λ (t : Bor Told). plain_told t.now) left ≡ told → (length left == 0) ≡ false → told ≢ []
+some_left [] told is some = absurd (let e : true ≡ false = some in cc)
+some_left (t ∷ left) told is some = λ none. (let e : plain_told t.now ∷ map (λ (x : Bor Told). plain_told x.now) left ≡ [] = is ∙ none in cc)
 
-pub bad_is_refused : (asked : Asked) (inputs : Inputs) (text : List ℕ) (exit : Exit) → IsBreakingOutcome asked inputs text exit → (exit ≡ Bad) ↔ AreRefused asked inputs
-bad_is_refused asked inputs text exit outcome = (refused asked inputs text exit outcome, bad_exit asked inputs text exit outcome)
+pub tells_stale : {E : Type 0} (list : List PlainEntry) (told : List PlainTold) (is : Found) (r : Result Judged E) → IfOk r (λ j. j.found ≡ is) → TellsStale list told is
+    → IfOk r (λ j. TellsStale list told j.found)
+tells_stale list told is (Err e) same stale = tt
+tells_stale list told is (Ok j) same stale = subst (TellsStale list told) (sym same) stale
+
+pub ends_so : {E : Type 0} (exit : Exit) (text : List ℕ) (r : Result Judged E) → IfOk r (λ j. j.exit ≡ exit) → IfOk r (λ j. string_bytes j.text ≡ text)
+    → IfOk r (λ j. (j.exit ≡ exit) × (string_bytes j.text ≡ text))
+ends_so exit text (Err e) is says = tt
+ends_so exit text (Ok j) is says = (is, says)
+
+-- ---- what is answered
+
+pub answer_is : {E : Type 0} (P : List ℕ → Exit → Type 0) (made : Result Answered Refused) (r : Result Answered E) → IfOk made (λ a. r ≡ Ok a) → IfErr made (λ refused. IfOk r (TellsRefusal refused))
+    → Answers P made → IfOk r (λ a. P (string_bytes a.text) a.exit)
+answer_is P (Ok a) r done refusal ends = rw done ends
+answer_is P (Err (refusals.Bad bad)) (Ok a) done refusal ends = rw (refusal.1.0, refusal.1.1) ends
+answer_is P (Err refusals.NoMemory) (Ok a) done refusal ends = absurd refusal
+answer_is P (Err refused) (Err e) done refusal ends = tt
+
+pub report_is : {E : Type 0} (meaning : IndexedBook → Dictionary) (asked : Asked) (inputs : Inputs) (made : Result Answered Refused) (r : Result Answered E) → IfOk made (λ a. r ≡ Ok a)
+    → IfErr made (λ refused. IfOk r (TellsRefusal refused)) → IfOk made (HasReport meaning asked inputs) → IfOk r (HasReport meaning asked inputs)
+report_is meaning asked inputs (Ok a) r done refusal has = rw done has
+report_is meaning asked inputs (Err (refusals.Bad bad)) (Ok a) done refusal has = rw refusal.0 refusal.1
+report_is meaning asked inputs (Err refusals.NoMemory) (Ok a) done refusal has = absurd refusal
+report_is meaning asked inputs (Err refused) (Err e) done refusal has = tt
+
+-- ---- a list, or none
+
+same_held : (input : Input) (most : ℕ) (text other : List ℕ) → Holds input most text → Holds input most other → text ≡ other
+same_held (inputs.Bytes v) most text other h k = sym h.0 ∙ k.0
+same_held inputs.TooLong most text other h k = absurd h
+
+held_or_over : (input : Input) (most : ℕ) (text : List ℕ) → Holds input most text → IsOver input most → ⊥
+held_or_over (inputs.Bytes v) most text h over = let same = ap length h.0 in omega (arith, h.1, over, same)
+held_or_over inputs.TooLong most text h over = h
+
+no_fault : (text other : List ℕ) (fault : ListFault) → text ≡ other → list_fault text ≡ None → list_fault other ≡ Some fault → ⊥
+no_fault text other fault same none some = let e : None ≡ Some fault = sym none ∙ ap list_fault same ∙ some in cc
+
+list_or_not : (input : Input) (list : List PlainEntry) (bad : BadList) → IsListText input list → IsNoListText input bad → ⊥
+list_or_not input list lists.TooLong (text, holds, utf8, none, is) over = held_or_over input max_list text holds over
+list_or_not input list (lists.NotText at) (text, holds, utf8, none, is) (other, held, not_utf8) = not_utf8 (subst _ (same_held input max_list text other holds held) utf8)
+list_or_not input list (lists.Syntax n) (text, holds, utf8, none, is) (other, held, also, fault) = no_fault text other _ (same_held input max_list text other holds held) none fault
+list_or_not input list (lists.Limit n) (text, holds, utf8, none, is) (other, held, also, fault) = no_fault text other _ (same_held input max_list text other holds held) none fault
+
+-- ---- how it ends
+
+module _ (asked : Asked) (inputs : Inputs) (text : List ℕ) (exit : Exit) where
+  read : (a b : Dictionary) (list : List PlainEntry) → _ → _ → IsListText inputs.table list → CanAsk asked a → AreRead asked inputs a b list
+  read a b list is_a is_b is_list can = record { first = is_a; second = is_b; list_is = is_list; can_ask = can }
+
+  -- a yes says that nothing breaks, or nothing else
+  pub yes_is_safe : IsBreakingOutcome asked inputs text exit → exit ≡ Yes → IsSafeUpgrade asked inputs text
+  yes_is_safe (ended a b is_a is_b (is, nothing list is_list can told breaks is_text is_exit stale)) is_yes = safe a b list (read a b list is_a is_b is_list can) breaks is_text
+  yes_is_safe (ended a b is_a is_b (is, nothing_else list told is_list can all left some breaks is_text is_exit stale)) is_yes =
+      accepted a b list (read a b list is_a is_b is_list can) breaks is_text
+  yes_is_safe (ended a b is_a is_b (is, lines list told is_list can all left is_text is_exit stale)) is_yes = absurd (let e : No ≡ Yes = sym is_exit ∙ is_yes in cc)
+  yes_is_safe (ended a b is_a is_b (is, bad_list bad none refuses what)) is_yes = absurd (let e : Bad ≡ Yes = sym refuses.1 ∙ is_yes in cc)
+  yes_is_safe (ended a b is_a is_b (is, no_commands list is_list none refuses what)) is_yes = absurd (let e : Bad ≡ Yes = sym refuses.1 ∙ is_yes in cc)
+  yes_is_safe (ended a b is_a is_b (is, no_command list name is_list some first refuses what)) is_yes = absurd (let e : Bad ≡ Yes = sym refuses.1 ∙ is_yes in cc)
+  yes_is_safe (no_first why none refuses) is_yes = absurd (let e : Bad ≡ Yes = sym refuses.1 ∙ is_yes in cc)
+  yes_is_safe (no_second a why is_a none refuses) is_yes = absurd (let e : Bad ≡ Yes = sym refuses.1 ∙ is_yes in cc)
+
+  -- a no says which lines are left
+  pub no_is_unsafe : IsBreakingOutcome asked inputs text exit → exit ≡ No → IsUnsafeUpgrade asked inputs text
+  no_is_unsafe (ended a b is_a is_b (is, lines list told is_list can all left is_text is_exit stale)) is_no = (a, b, list, told, read a b list is_a is_b is_list can, all, left, is_text)
+  no_is_unsafe (ended a b is_a is_b (is, nothing list is_list can told breaks is_text is_exit stale)) is_no = absurd (let e : Yes ≡ No = sym is_exit ∙ is_no in cc)
+  no_is_unsafe (ended a b is_a is_b (is, nothing_else list told is_list can all left some breaks is_text is_exit stale)) is_no = absurd (let e : Yes ≡ No = sym is_exit ∙ is_no in cc)
+  no_is_unsafe (ended a b is_a is_b (is, bad_list bad none refuses what)) is_no = absurd (let e : Bad ≡ No = sym refuses.1 ∙ is_no in cc)
+  no_is_unsafe (ended a b is_a is_b (is, no_commands list is_list none refuses what)) is_no = absurd (let e : Bad ≡ No = sym refuses.1 ∙ is_no in cc)
+  no_is_unsafe (ended a b is_a is_b (is, no_command list name is_list some first refuses what)) is_no = absurd (let e : Bad ≡ No = sym refuses.1 ∙ is_no in cc)
+  no_is_unsafe (no_first why none refuses) is_no = absurd (let e : Bad ≡ No = sym refuses.1 ∙ is_no in cc)
+  no_is_unsafe (no_second a why is_a none refuses) is_no = absurd (let e : Bad ≡ No = sym refuses.1 ∙ is_no in cc)
+
+  -- inputs that were read aren't refused
+  read_or_refused : (a b : Dictionary) (list : List PlainEntry) → AreRead asked inputs a b list → AreRefused asked inputs → ⊥
+  read_or_refused a b list is (bad_first why none) = dictionary_or_not inputs.first a why is.first none
+  read_or_refused a b list is (bad_second why none) = dictionary_or_not inputs.second b why is.second none
+  read_or_refused a b list is (bad_accepted bad none) = list_or_not inputs.table list bad is.list_is none
+  read_or_refused a b list is (none_there d is_d none) = is.can_ask.some (subst (λ (e : Dictionary). e.commands ≡ []) (sym (one_dictionary inputs.first a d is.first is_d)) none)
+  read_or_refused a b list is (bad_name d name is_d inside unknown) =
+      let (command, names) = All-contains (λ n. (c : PlainDefinition) × NamesCommand a n c) (names_of asked) name is.can_ask.known inside in
+      unknown command (subst (λ (e : Dictionary). NamesCommand e name command) (one_dictionary inputs.first a d is.first is_d) names)
+
+  first_unknown : (a : Dictionary) (names : List (List ℕ)) (name : List ℕ) → IsFirstUnknown a names name → Contains names name
+  first_unknown a names name first = contains_in names name (in_at names first.place name first.is_name)
+
+  refused : IsBreakingOutcome asked inputs text exit → exit ≡ Bad → AreRefused asked inputs
+  refused (ended a b is_a is_b (is, nothing list is_list can told breaks is_text is_exit stale)) is_bad = absurd (let e : Yes ≡ Bad = sym is_exit ∙ is_bad in cc)
+  refused (ended a b is_a is_b (is, nothing_else list told is_list can all left some breaks is_text is_exit stale)) is_bad = absurd (let e : Yes ≡ Bad = sym is_exit ∙ is_bad in cc)
+  refused (ended a b is_a is_b (is, lines list told is_list can all left is_text is_exit stale)) is_bad = absurd (let e : No ≡ Bad = sym is_exit ∙ is_bad in cc)
+  refused (ended a b is_a is_b (is, bad_list bad none refuses what)) is_bad = bad_accepted bad none
+  refused (ended a b is_a is_b (is, no_commands list is_list none refuses what)) is_bad = none_there a is_a none
+  refused (ended a b is_a is_b (is, no_command list name is_list some first refuses what)) is_bad = bad_name a name is_a (first_unknown a (names_of asked) name first) first.unknown
+  refused (no_first why none refuses) is_bad = bad_first why none
+  refused (no_second a why is_a none refuses) is_bad = bad_second why none
+
+  bad_exit : IsBreakingOutcome asked inputs text exit → AreRefused asked inputs → exit ≡ Bad
+  bad_exit (ended a b is_a is_b (is, nothing list is_list can told breaks is_text is_exit stale)) none_read = absurd (read_or_refused a b list (read a b list is_a is_b is_list can) none_read)
+  bad_exit (ended a b is_a is_b (is, nothing_else list told is_list can all left some breaks is_text is_exit stale)) none_read =
+      absurd (read_or_refused a b list (read a b list is_a is_b is_list can) none_read)
+  bad_exit (ended a b is_a is_b (is, lines list told is_list can all left is_text is_exit stale)) none_read = absurd (read_or_refused a b list (read a b list is_a is_b is_list can) none_read)
+  bad_exit (ended a b is_a is_b (is, bad_list bad none refuses what)) none_read = refuses.1
+  bad_exit (ended a b is_a is_b (is, no_commands list is_list none refuses what)) none_read = refuses.1
+  bad_exit (ended a b is_a is_b (is, no_command list name is_list some first refuses what)) none_read = refuses.1
+  bad_exit (no_first why none refuses) none_read = refuses.1
+  bad_exit (no_second a why is_a none refuses) none_read = refuses.1
+
+  pub bad_is_refused : IsBreakingOutcome asked inputs text exit → (exit ≡ Bad) ↔ AreRefused asked inputs
+  bad_is_refused outcome = (refused outcome, bad_exit outcome)

@@ -1,46 +1,71 @@
--- What a text of lines tells of the commands.
-use Rattle.std.proofs.Common.{◌≡◌, ℕ, ◌+◌, Bool, List, [], length, refl, sym, subst, inr}
+-- What lines tell of the commands.
+use Rattle.std.proofs.Common.{◌≡◌, ℕ, ◌+◌, Bool, true, false, cond, List, [], ◌∷◌, length, refl, sym, ap, subst, ◌∙◌}
+use Rattle.std.specs.Prelude.{filter, not}
+use Rattle.std.specs.List.{AllByRecursion, list_any}
 use Rattle.std.proofs.Math.Logic.{∥∥₁_map}
-use Rattle.std.proofs.lemmas.List.Elements.{All-from_recursion, All-weaker}
+use Rattle.dia_accepted.specs.Accepted.{PlainEntry, PlainTold, accepts, is_accepted, left_of}
 use Rattle.dia_policy.specs.declared.sends.Sends.{Sends}
 use Rattle.dia_policy.specs.declared.Unknown.{Unknown}
-use Rattle.dia_book.specs.Dictionary.{Dictionary, groups}
+use Rattle.dia_book.specs.Dictionary.{Dictionary}
 use Rattle.dia_breaking_sites.specs.Selection.{AreValid}
 use Rattle.dia_breaking.specs.declared.line.Line.{Line}
 use Rattle.dia_breaking.proofs.FreeOfLines.{nothing_told}
-use Rattle.dia_breaking.specs.Lengths.{other_length}
-use Rattle.dia_breaking.specs.Words.{words_of}
 use Rattle.dia_breaking.specs.Sides.{sides}
-use Rattle.dia_upgrades.specs.Places.{AreAllValid, AreLines, EndsLine}
-use Rattle.dia_upgrades.specs.Told.{AreTold, IsLineText, IsToldOf, has_message}
-use Rattle.dia_upgrades.proofs.LinesToTell.{are_lines, behind_is_lines, each_empty, line_first, no_empty_line, none_told}
+use Rattle.dia_upgrades.specs.Outcome.{IsAcceptedWhole}
+use Rattle.dia_upgrades.specs.Told.{AreTold, IsLineTold, IsToldOf, number_at, words_at}
+use Rattle.dia_upgrades.proofs.Parts.{of_parts}
 
--- ---- a line
+-- ---- lines that are accepted
 
-pub line_ends : (messages : Bool) (words : Line → List ℕ) (told : Line) (text : List ℕ) → IsLineText messages words told text → EndsLine text
-line_ends messages words told text (behind, is, e) = subst EndsLine (sym e) (line_first (words told) behind (behind_is_lines (has_message messages told.standing) behind is))
+-- where none is left, each is accepted
+pub all_accepted : (list : List PlainEntry) (told : List PlainTold) → left_of list told ≡ [] → AllByRecursion (λ t. is_accepted list t ≡ true) told
+all_accepted list [] none = tt
+all_accepted list (t ∷ told) none = by (is_accepted list t) refl none
+  where
+    by : (b : Bool) → is_accepted list t ≡ b → cond (not b) (t ∷ left_of list told) (left_of list told) ≡ [] → AllByRecursion (λ x. is_accepted list x ≡ true) (t ∷ told)
+    by true e rest = (e, all_accepted list told rest)
+    by false e rest = absurd (let z : t ∷ left_of list told ≡ [] = rest in cc)
 
--- ---- commands
+no_members : {X : Type 0} (xs : List X) → AllByRecursion (λ x. ⊥) xs → xs ≡ []
+no_members [] none = refl
+no_members (x ∷ xs) (never, none) = absurd never
 
 module _ (a b : Dictionary) (who : Sends) (u : Unknown) (messages : Bool) where
-  command_lines : (lengths : List ℕ) (c : ℕ) (text : List ℕ) → IsToldOf (sides a b who u) messages lengths c text → AreLines text
-  command_lines lengths c text told =
-      let words = words_of (sides a b who u) (other_length a who lengths) c told.sites in
-      are_lines (IsLineText messages words) (λ x t is. inr (line_ends messages words x t is)) told.lines text told.text_is
-
   -- of a command of which nothing is told, each message that A's side sends is valid under B
-  command_valid : (lengths : List ℕ) (c : ℕ) → IsToldOf (sides a b who u) messages lengths c [] → ∥ AreValid a b who u c ∥₁
-  command_valid lengths c told =
-      let words = words_of (sides a b who u) (other_length a who lengths) c told.sites in
-      let none = none_told (IsLineText messages words) (λ x is. no_empty_line [] (line_ends messages words x [] is) refl) told.lines told.text_is in
-      ∥∥₁_map told.free (λ valid. nothing_told a b who u told.sites told.lines c valid none)
+  command_valid : (lengths : List ℕ) (place : ℕ) (told : List PlainTold) → IsToldOf (sides a b who u) messages lengths place told → AllByRecursion (λ t. ⊥) told
+      → ∥ AreValid a b who u (number_at a place) ∥₁
+  command_valid lengths place told is none =
+      let c = number_at a place in
+      let words = words_at (sides a b who u) lengths c is.sites in
+      let line_never = λ (x : Line) (ys : List PlainTold) (made : IsLineTold place messages words x ys) (all : AllByRecursion (λ (t : PlainTold). ⊥) ys).
+          (subst (AllByRecursion (λ (t : PlainTold). ⊥)) made.2 all).0 in
+      let never = of_parts (IsLineTold place messages words) (λ t. ⊥) (λ x. ⊥) line_never is.lines told is.told_are none in
+      ∥∥₁_map is.free (λ valid. nothing_told a b who u is.sites is.lines c valid (no_members is.lines never))
 
-  pub told_lines : (places text : List ℕ) → AreTold (sides a b who u) messages places text → AreLines text
-  told_lines places text told =
-      are_lines (λ place. IsToldOf (sides a b who u) messages told.lengths (length (groups a) + place)) (λ place. command_lines told.lengths (length (groups a) + place)) places text told.each
+  pub told_valid : (places : List ℕ) (told : List PlainTold) → AreTold (sides a b who u) messages places told → told ≡ [] → AllByRecursion (λ place. ∥ AreValid a b who u (number_at a place) ∥₁) places
+  told_valid places told is none =
+      of_parts (IsToldOf (sides a b who u) messages is.lengths) (λ t. ⊥) (λ place. ∥ AreValid a b who u (number_at a place) ∥₁) (command_valid is.lengths) places told is.each
+      (subst (AllByRecursion (λ (t : PlainTold). ⊥)) (sym none) tt)
 
-  pub told_valid : (places text : List ℕ) → AreTold (sides a b who u) messages places text → text ≡ [] → AreAllValid a b who u places
-  told_valid places text told none =
-      let is = λ (place : ℕ). IsToldOf (sides a b who u) messages told.lengths (length (groups a) + place) in
-      All-weaker (λ place. is place []) (λ place. ∥ AreValid a b who u (length (groups a) + place) ∥₁) (λ place. command_valid told.lengths (length (groups a) + place)) places
-      (All-from_recursion (λ place. is place []) places (each_empty is places text told.each none))
+  -- a command all of whose lines are accepted
+  pub told_accepted : (list : List PlainEntry) (places : List ℕ) (told : List PlainTold) → AreTold (sides a b who u) messages places told → left_of list told ≡ []
+      → AllByRecursion (λ place. IsAcceptedWhole (sides a b who u) list (number_at a place)) places
+  told_accepted list places told is none =
+      of_parts (IsToldOf s messages is.lengths) (λ t. is_accepted list t ≡ true) (λ place. IsAcceptedWhole s list (number_at a place)) each places told is.each (all_accepted list told none)
+    where
+      s = sides a b who u
+
+      each : (place : ℕ) (told : List PlainTold) → IsToldOf s messages is.lengths place told → AllByRecursion (λ t. is_accepted list t ≡ true) told → IsAcceptedWhole s list (number_at a place)
+      each place told made all =
+          let words = words_at s is.lengths (number_at a place) made.sites in
+          let line_accepted = λ (x : Line) (ys : List PlainTold) (l : IsLineTold place messages words x ys) (accepted : AllByRecursion (λ (t : PlainTold). is_accepted list t ≡ true) ys).
+              (subst (AllByRecursion (λ (t : PlainTold). is_accepted list t ≡ true)) l.2 accepted).0 in
+          record {
+            lengths = is.lengths;
+            sites = made.sites;
+            lines = made.lines;
+            are_shortest = is.are_shortest;
+            are_lines = made.are_lines;
+            accepted = of_parts (IsLineTold place messages words) (λ t. is_accepted list t ≡ true) (λ x. list_any (accepts (words x)) list ≡ true) line_accepted made.lines told made.told_are all;
+            free = made.free;
+          }

@@ -1,67 +1,144 @@
 -- What `breaking` writes for its inputs, and how it ends.
-use Rattle.std.specs.Prelude.{◌≡◌, ℕ, List, [], ◌++◌, Some, Contains, slice_get, codes}
+use Rattle.std.specs.Prelude.{◌≡◌, ◌≢◌, ℕ, true, List, [], ◌∷◌, ◌++◌, Some, Contains, slice_get, codes}
+use Rattle.std.specs.Global.{Vec}
+use Rattle.std.specs.List.{AllByRecursion, list_any}
 use Rattle.dia_book.specs.Dictionary.{Dictionary, PlainDefinition, definitions}
 use Rattle.dia_breaking_sites.specs.Selection.{AreValid}
 use Rattle.dia_compat.specs.Closed.{NamesCommand}
 use Rattle.dia_compat.specs.Proposed.{IsFirstUnknown}
+use Rattle.dia_io.specs.declared.Input.{Input}
 use Rattle.dia_io.specs.declared.Inputs.{Inputs}
 use Rattle.dia_io.specs.declared.Exit.{Exit}
 use Rattle.dia_io.specs.declared.Exit.TheVariants.{Yes, No}
 use Rattle.dia_run.specs.Texts.{line, IsDictionaryText, IsNoDictionaryText}
 use Rattle.dia_run.specs.Outcome.{IsPairOutcome, Refuses}
+use Rattle.dia_accepted.specs.Accepted.{PlainEntry, PlainTold, accepts, left_of, stale_lines}
+use Rattle.dia_breaking.specs.declared.line.Line.{Line}
+use Rattle.dia_breaking.specs.declared.line.Site.{Site}
+use Rattle.dia_breaking.specs.Free.{AreValidWhereFree}
+use Rattle.dia_breaking.specs.Sides.{Sides, answer, sides}
+use Rattle.dia_breaking.specs.TheLines.{AreLinesOrUnproved}
 use Rattle.dia_upgrades.specs.declared.asked.Asked.{Asked}
+use Rattle.dia_upgrades.specs.declared.list.BadList.{BadList}
+use Rattle.dia_upgrades.specs.declared.reporting.Found.{Found}
+use Rattle.dia_upgrades.specs.declared.reporting.Found.TheVariants as found
 use Rattle.dia_upgrades.specs.Asking.{names_of, IsAskedFor, AreCommands}
+use Rattle.dia_upgrades.specs.Lists.{IsListText, IsNoListText, list_line}
 use Rattle.dia_upgrades.specs.Places.{asked_places}
-use Rattle.dia_upgrades.specs.Told.{AreTold}
-use Rattle.dia_breaking.specs.Sides.{sides}
+use Rattle.dia_upgrades.specs.Told.{AreShortest, AreTold, told_text, words_at}
 
--- of each command of A that is asked for, with its number among A's definitions, each message that A's side sends is valid under B
+-- ---- what is claimed
+
+-- of each command of A that is asked for, with its number among A's definitions
+abbrev pub OfEach : Asked → Dictionary → (ℕ → Type 0) → Type 0
+OfEach asked a P = (number : ℕ) (command : PlainDefinition) → slice_get (definitions a) number ≡ Some command → IsAskedFor a (names_of asked) command → P number
+
+-- each message of it that A's side sends is valid under B
 abbrev pub NothingBreaks : Asked → Dictionary → Dictionary → Type 0
-NothingBreaks asked a b = (number : ℕ) (command : PlainDefinition) → slice_get (definitions a) number ≡ Some command
-    → IsAskedFor a (names_of asked) command → ∥ AreValid a b asked.sends asked.unknown number ∥₁
+NothingBreaks asked a b = OfEach asked a (λ number. ∥ AreValid a b asked.sends asked.unknown number ∥₁)
 
--- the text is that of the lines of the commands that are asked for
-abbrev pub AreAllTold : Asked → Dictionary → Dictionary → List ℕ → Type 0
-AreAllTold asked a b text = AreTold (sides a b asked.sends asked.unknown) asked.messages (asked_places a (names_of asked)) text
+abbrev pub sides_in : Asked → Dictionary → Dictionary → Sides
+sides_in asked a b = sides a b asked.sends asked.unknown
 
--- what is told where nothing breaks
+-- the list accepts each line of the command c, and each message that A's side sends and that is free of these lines is valid under B
+pub record IsAcceptedWhole (s : Sides) (list : List PlainEntry) (c : ℕ) : Type 0 where
+  pub lengths : List ℕ
+  pub sites : List Site
+  pub lines : List Line
+  pub are_shortest : AreShortest s.sender s.sends lengths
+  pub are_lines : AreLinesOrUnproved s (answer c sites lines)
+  pub accepted : AllByRecursion (λ line. list_any (accepts (words_at s lengths c sites line)) list ≡ true) lines
+  pub free : ∥ AreValidWhereFree s (answer c sites lines) ∥₁
+
+-- so it is of each command
+abbrev pub NothingElseBreaks : Asked → List PlainEntry → Dictionary → Dictionary → Type 0
+NothingElseBreaks asked list a b = OfEach asked a (IsAcceptedWhole (sides_in asked a b) list)
+
+-- ---- what is told
+
+-- these are the lines of the commands that are asked for
+abbrev pub AreAllTold : Asked → Dictionary → Dictionary → List PlainTold → Type 0
+AreAllTold asked a b told = AreTold (sides_in asked a b) asked.messages (asked_places a (names_of asked)) told
+
 abbrev pub nothing_breaks : List ℕ
 nothing_breaks = codes "nothing breaks"
+
+-- where the list accepts all that breaks
+abbrev pub nothing_else_breaks : List ℕ
+nothing_else_breaks = codes "nothing else breaks"
+
+-- where none of these lines is left
+abbrev pub nothing_left : List PlainTold → List ℕ
+nothing_left [] = nothing_breaks
+nothing_left (told ∷ more) = nothing_else_breaks
+
+-- what is told of a dictionary without commands
+abbrev pub no_commands_line : List ℕ
+no_commands_line = codes "breaking: no command"
 
 -- what is told of a name that is no command's
 abbrev pub no_command_line : List ℕ → List ℕ
 no_command_line name = codes "breaking: no command " ++ name
 
--- `breaking` of two dictionaries
-pub data IsListed (asked : Asked) (a b : Dictionary) (text : List ℕ) (exit : Exit) : Type 0 where
-  nothing : AreCommands a (names_of asked) → NothingBreaks asked a b → AreAllTold asked a b [] → text ≡ line nothing_breaks → exit ≡ Yes
-      → IsListed asked a b text exit
-  lines : (told : List ℕ) → AreCommands a (names_of asked) → AreAllTold asked a b (line told) → text ≡ line told → exit ≡ No
-      → IsListed asked a b text exit
-  no_command : (name : List ℕ) → IsFirstUnknown a (names_of asked) name → Refuses (no_command_line name) text exit
-      → IsListed asked a b text exit
+-- there are commands, and each name that is given is that of one
+pub record CanAsk (asked : Asked) (a : Dictionary) : Type 0 where
+  pub some : a.commands ≢ []
+  pub known : AreCommands a (names_of asked)
+
+-- what was found tells which lines of the list accept none of these
+abbrev pub TellsStale : List PlainEntry → List PlainTold → Found → Type 0
+TellsStale list told is = (stale : Vec ℕ) × (is ≡ found.Listed stale) × (stale.items ≡ stale_lines list told)
+
+-- `breaking` of two dictionaries and a list: what is written, how it ends, and what was found
+pub data IsListed (asked : Asked) (input : Input) (a b : Dictionary) (text : List ℕ) (exit : Exit) (is : Found) : Type 0 where
+  nothing : (list : List PlainEntry) → IsListText input list → CanAsk asked a → AreAllTold asked a b [] → NothingBreaks asked a b
+      → text ≡ line nothing_breaks → exit ≡ Yes → TellsStale list [] is → IsListed asked input a b text exit is
+  nothing_else : (list : List PlainEntry) (told : List PlainTold) → IsListText input list → CanAsk asked a → AreAllTold asked a b told
+      → left_of list told ≡ [] → told ≢ [] → NothingElseBreaks asked list a b → text ≡ line nothing_else_breaks → exit ≡ Yes
+      → TellsStale list told is → IsListed asked input a b text exit is
+  lines : (list : List PlainEntry) (told : List PlainTold) → IsListText input list → CanAsk asked a → AreAllTold asked a b told
+      → left_of list told ≢ [] → text ≡ told_text (left_of list told) → exit ≡ No → TellsStale list told is
+      → IsListed asked input a b text exit is
+  bad_list : (bad : BadList) → IsNoListText input bad → Refuses (list_line bad) text exit → is ≡ found.NoList bad → IsListed asked input a b text exit is
+  no_commands : (list : List PlainEntry) → IsListText input list → a.commands ≡ [] → Refuses no_commands_line text exit → is ≡ found.NoCommands
+      → IsListed asked input a b text exit is
+  no_command : (list : List PlainEntry) (name : List ℕ) → IsListText input list → a.commands ≢ [] → IsFirstUnknown a (names_of asked) name
+      → Refuses (no_command_line name) text exit → is ≡ found.NoCommand → IsListed asked input a b text exit is
+
+-- the same, whatever was found
+abbrev pub IsAnyListed : Asked → Input → Dictionary → Dictionary → List ℕ → Exit → Type 0
+IsAnyListed asked input a b text exit = (is : Found) × IsListed asked input a b text exit is
 
 -- `breaking` of the inputs
 abbrev pub IsBreakingOutcome : Asked → Inputs → List ℕ → Exit → Type 0
-IsBreakingOutcome asked inputs text exit = IsPairOutcome (IsListed asked) inputs text exit
+IsBreakingOutcome asked inputs text exit = IsPairOutcome (IsAnyListed asked inputs.table) inputs text exit
 
--- the inputs are the texts of these dictionaries, and each name that is given is that of a command of the first
-pub record AreRead (asked : Asked) (inputs : Inputs) (a b : Dictionary) : Type 0 where
+-- ---- how it ends
+
+-- the inputs are the texts of these dictionaries and of this list, and the commands can be asked for
+pub record AreRead (asked : Asked) (inputs : Inputs) (a b : Dictionary) (list : List PlainEntry) : Type 0 where
   pub first : IsDictionaryText inputs.first a
   pub second : IsDictionaryText inputs.second b
-  pub known : AreCommands a (names_of asked)
+  pub list_is : IsListText inputs.table list
+  pub can_ask : CanAsk asked a
 
--- what a no says: so they are, and this is the text of the lines
+-- what a no says: this is the text of the lines that the list doesn't accept, and there is one
 abbrev pub IsUnsafeUpgrade : Asked → Inputs → List ℕ → Type 0
-IsUnsafeUpgrade asked inputs text = (a : Dictionary) × (b : Dictionary) × AreRead asked inputs a b × AreAllTold asked a b text
+IsUnsafeUpgrade asked inputs text = (a : Dictionary) × (b : Dictionary) × (list : List PlainEntry) × (told : List PlainTold) × AreRead asked inputs a b list
+    × AreAllTold asked a b told × (left_of list told ≢ []) × (text ≡ told_text (left_of list told))
 
--- what a yes says: so they are, and nothing breaks
-abbrev pub IsSafeUpgrade : Asked → Inputs → Type 0
-IsSafeUpgrade asked inputs = (a : Dictionary) × (b : Dictionary) × AreRead asked inputs a b × NothingBreaks asked a b
+-- what a yes says: nothing breaks, or nothing but what the list accepts; and what is written says which
+pub data IsSafeUpgrade (asked : Asked) (inputs : Inputs) (text : List ℕ) : Type 0 where
+  safe : (a b : Dictionary) (list : List PlainEntry) → AreRead asked inputs a b list → NothingBreaks asked a b → text ≡ line nothing_breaks
+      → IsSafeUpgrade asked inputs text
+  accepted : (a b : Dictionary) (list : List PlainEntry) → AreRead asked inputs a b list → NothingElseBreaks asked list a b
+      → text ≡ line nothing_else_breaks → IsSafeUpgrade asked inputs text
 
--- the inputs are refused: one is no dictionary's text, or a name that is given is that of no command of the first
+-- the inputs are refused: one is no dictionary's text, or no list's; or the first has no commands, or none of a name that is given
 pub data AreRefused (asked : Asked) (inputs : Inputs) : Type 0 where
   bad_first : (why : List ℕ) → IsNoDictionaryText inputs.first why → AreRefused asked inputs
   bad_second : (why : List ℕ) → IsNoDictionaryText inputs.second why → AreRefused asked inputs
+  bad_accepted : (bad : BadList) → IsNoListText inputs.table bad → AreRefused asked inputs
+  none_there : (a : Dictionary) → IsDictionaryText inputs.first a → a.commands ≡ [] → AreRefused asked inputs
   bad_name : (a : Dictionary) (name : List ℕ) → IsDictionaryText inputs.first a → Contains (names_of asked) name
       → ((command : PlainDefinition) → ¬ NamesCommand a name command) → AreRefused asked inputs

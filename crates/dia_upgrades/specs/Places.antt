@@ -1,12 +1,11 @@
 -- The places of the commands that are asked for.
-use Rattle.std.specs.Prelude.{◌≡◌, ℕ, ◌+◌, ◌⊎◌, List, [], ◌∷◌, ◌++◌, length, All}
+use Rattle.std.specs.Prelude.{◌≡◌, ℕ, ◌+◌, List, [], ◌∷◌, ◌++◌, length, All}
 use Rattle.std.specs.List.{filter_map, range_with_len}
 use Rattle.dia_policy.specs.declared.sends.Sends.{Sends}
 use Rattle.dia_policy.specs.declared.Unknown.{Unknown}
 use Rattle.dia_book.specs.Dictionary.{Dictionary, groups}
 use Rattle.dia_breaking_sites.specs.Selection.{AreValid}
 use Rattle.dia_compat.specs.PairTests.{command_named}
-use Rattle.dia_run.specs.Texts.{line}
 
 -- those of the commands of these names, in the order of the names; of all commands, where no name is given
 abbrev pub asked_places : Dictionary → List (List ℕ) → List ℕ
@@ -17,16 +16,8 @@ asked_places d (name ∷ names) = filter_map (command_named d) (name ∷ names)
 abbrev pub AreAllValid : Dictionary → Dictionary → Sends → Unknown → List ℕ → Type 0
 AreAllValid a b sends unknown places = All (λ place. ∥ AreValid a b sends unknown (length (groups a) + place) ∥₁) places
 
--- ---- texts
+-- ---- what is added
 
--- the text ends a line
-abbrev pub EndsLine : List ℕ → Type 0
-EndsLine text = (told : List ℕ) × (text ≡ line told)
-
--- it is empty, or it ends a line
-abbrev pub AreLines : List ℕ → Type 0
-AreLines text = (text ≡ []) ⊎ EndsLine text
-
--- such a text was added
-abbrev pub Adds : (List ℕ → Type 0) → List ℕ → List ℕ → Type 0
-Adds is old new = (more : List ℕ) × is more × (new ≡ old ++ more)
+-- such a list was added
+abbrev pub Adds : {Y : Type 0} → (List Y → Type 0) → List Y → List Y → Type 0
+Adds {Y} is old new = (more : List Y) × is more × (new ≡ old ++ more)

@@ -1,6 +1,8 @@
 -- What is told of the commands that are asked for: the lines of each, in their order.
 use Rattle.std.specs.Prelude.{◌≡◌, ℕ, ◌+◌, Bool, true, false, List, [], ◌∷◌, ◌++◌, length, codes}
+use Rattle.std.specs.List.{flat_map}
 use Rattle.hex.specs.Hex.{IsBytes, encode_lower}
+use Rattle.dia_accepted.specs.Accepted.{PlainTold}
 use Rattle.dia_policy.specs.declared.sends.Sends.{Sends}
 use Rattle.dia_book.specs.Dictionary.{Dictionary, groups}
 use Rattle.dia_breaking_shortest.specs.Exact.{AreExact}
@@ -17,10 +19,10 @@ use Rattle.dia_breaking.specs.Words.{words_of}
 use Rattle.dia_breaking.specs.Sides.{Sides, answer}
 use Rattle.dia_run.specs.Texts.{line}
 
--- the text is one of the first, behind it one of the second, and so on
-abbrev pub AreTexts : {X : Type 0} → (X → List ℕ → Type 0) → List X → List ℕ → Type 0
-AreTexts is [] text = text ≡ []
-AreTexts is (x ∷ xs) text = (front : List ℕ) × (rest : List ℕ) × is x front × AreTexts is xs rest × (text ≡ front ++ rest)
+-- the list is one of the first, behind it one of the second, and so on
+abbrev pub AreParts : {X Y : Type 0} → (X → List Y → Type 0) → List X → List Y → Type 0
+AreParts is [] ys = ys ≡ []
+AreParts {X} {Y} is (x ∷ xs) ys = (front : List Y) × (rest : List Y) × is x front × AreParts is xs rest × (ys ≡ front ++ rest)
 
 -- ---- a line
 
@@ -38,33 +40,49 @@ abbrev pub IsBehind : Bool → List ℕ → Type 0
 IsBehind true text = IsMessageLine text
 IsBehind false text = text ≡ []
 
--- a line with its words, and with its message behind it if it has one
-abbrev pub IsLineText : Bool → (Line → List ℕ) → Line → List ℕ → Type 0
-IsLineText messages words told text = (behind : List ℕ) × IsBehind (has_message messages told.standing) behind × (text ≡ line (words told) ++ behind)
+-- a line of the command at this place: its words, and its message if it has one behind it
+abbrev pub told_as : ℕ → List ℕ → List ℕ → PlainTold
+told_as place words message = record { command = place; words = words; message = message }
+
+abbrev pub IsLineTold : ℕ → Bool → (Line → List ℕ) → Line → List PlainTold → Type 0
+IsLineTold place messages words line told =
+    (message : List ℕ) × IsBehind (has_message messages line.standing) message × (told ≡ told_as place (words line) message ∷ [])
+
+-- the text of lines: each ends a line, and its message stands behind it
+abbrev pub told_text : List PlainTold → List ℕ
+told_text told = flat_map (λ t. line t.words ++ t.message) told
 
 -- ---- a command
+
+-- the number of a command among the definitions, by its place among the commands
+abbrev pub number_at : Dictionary → ℕ → ℕ
+number_at d place = length (groups d) + place
+
+-- the words of a line, where A's entries have these lengths
+abbrev pub words_at : Sides → List ℕ → ℕ → List Site → Line → List ℕ
+words_at s lengths c sites line = words_of s (other_length s.sender s.sends lengths) c sites line
 
 -- for each of A's entries the length of a shortest AVP that A's side sends
 abbrev pub AreShortest : Dictionary → Sends → List ℕ → Type 0
 AreShortest a who lengths = ∥ ((least : List ℕ) × AreExact a who least × AreEntryLengths a least lengths) ∥₁
 
--- the text is that of the lines of the command c: those that its dictionaries have, unless one tells that not all is shown. A message
+-- these are told of the command at this place: the lines that its dictionaries have, unless one tells that not all is shown. A message
 -- that A's side sends, and that breaks in none of their ways, is valid under B. A line that is confirmed has a message that breaks; which
 -- messages are checked follows from the lines' causes and lengths; and a line about a format has data that B refuses, if it names some
-pub record IsToldOf (s : Sides) (messages : Bool) (lengths : List ℕ) (c : ℕ) (text : List ℕ) : Type 0 where
+pub record IsToldOf (s : Sides) (messages : Bool) (lengths : List ℕ) (place : ℕ) (told : List PlainTold) : Type 0 where
   pub sites : List Site
   pub lines : List Line
-  pub are_lines : AreLinesOrUnproved s (answer c sites lines)
-  pub free : ∥ AreValidWhereFree s (answer c sites lines) ∥₁
-  pub confirmed : EachConfirmedBreaks s c lines
+  pub are_lines : AreLinesOrUnproved s (answer (number_at s.sender place) sites lines)
+  pub free : ∥ AreValidWhereFree s (answer (number_at s.sender place) sites lines) ∥₁
+  pub confirmed : EachConfirmedBreaks s (number_at s.sender place) lines
   pub standings : HaveStandings most_checked_together lines
   pub formats : ∥ TellData s lines ∥₁
-  pub text_is : AreTexts (IsLineText messages (words_of s (other_length s.sender s.sends lengths) c sites)) lines text
+  pub told_are : AreParts (IsLineTold place messages (words_at s lengths (number_at s.sender place) sites)) lines told
 
 -- ---- all of them
 
--- the text is that of the lines of A's commands at these places
-pub record AreTold (s : Sides) (messages : Bool) (places text : List ℕ) : Type 0 where
+-- these are told of A's commands at these places
+pub record AreTold (s : Sides) (messages : Bool) (places : List ℕ) (told : List PlainTold) : Type 0 where
   pub lengths : List ℕ
   pub are_shortest : AreShortest s.sender s.sends lengths
-  pub each : AreTexts (λ place. IsToldOf s messages lengths (length (groups s.sender) + place)) places text
+  pub each : AreParts (IsToldOf s messages lengths) places told

@@ -1,27 +1,25 @@
 //! The command, from its inputs to what is written.
 
-ghost use Rattle.std.specs.Prelude.{◌≡◌, ◌≢◌, ◌↔◌, ℕ, List, [], IfOk, Err, IsTrue, string_bytes};
+ghost use Rattle.std.specs.Prelude.{◌≡◌, ◌↔◌, ℕ, List, IfErr, IfOk, Err, IsTrue, Ok, string_bytes};
 ghost use Rattle.std.specs.Io.KnownBytes.{Appends};
 ghost use Rattle.dia_io.specs.declared.Exit.{Exit as AnyExit};
 ghost use Rattle.dia_io.specs.Writing.{AppendsFront};
+ghost use Rattle.dia_run.specs.Refusals.{bad_input_text};
 ghost use Rattle.dia_run.specs.Texts.{line};
-ghost use Rattle.dia_run.specs.Report.{Answers, HasReport, IsReport};
-ghost use Rattle.dia_upgrades.specs.Outcome.{IsListed, IsBreakingOutcome, nothing_breaks, no_command_line};
-ghost use Rattle.dia_upgrades.specs.Outcome.{IsSafeUpgrade, IsUnsafeUpgrade, AreRefused};
+ghost use Rattle.dia_upgrades.specs.Outcome.{AreRefused, IsBreakingOutcome, IsSafeUpgrade, IsUnsafeUpgrade};
+ghost use Rattle.dia_upgrades.specs.Report.{Answers, HasReport, IsReport, TellsRefusal};
 
 use crate::asked::Asked;
-use crate::lines::lines_of;
-use crate::naming::named;
-use dia_breaking::Upgrade;
+use crate::judging::judged;
+use crate::reporting::{Answered, Judged, Report, Reported};
 use dia_dict::{Book, IndexedBook};
 use dia_io::{Exit, Inputs, RunFault, Sink, put_all};
-use dia_run::{
-    Answered, BothBooks, Outcome, Refused, Report, Reported, answer_of, read_dictionary, told,
-};
+use dia_run::{BadInput, BothBooks, Refused, read_dictionary};
 use std::alloc::{AllocError, Global};
 
-/// Writes a line for each way in which messages that the side of the first dictionary sends break under the second, or
-/// `nothing breaks`, and answers how it ended.
+/// Writes a line for each way in which messages that the side of the first dictionary sends break under the second, but for
+/// those that the list of accepted lines, the table's input, accepts; or `nothing breaks`, or `nothing else breaks` where the list
+/// accepts all that breaks. Answers how it ended, and a report, which has the lines of the list that accept nothing.
 ///
 /// The text is made first, and then written in whatever pieces the sink takes.
 pub fn breaking<S: Sink>(
@@ -33,15 +31,15 @@ pub fn breaking<S: Sink>(
     requires { ¬ IsTrue (S.has_failed sink.old) }
     ensures text { IfOk result
         (λ reported. (text : List ℕ) × IsBreakingOutcome asked.entry inputs.now text reported.exit
-        × IsReport ⟦<IndexedBook as Book>⟧.meaning inputs.now reported.report text reported.exit
+        × IsReport ⟦<IndexedBook as Book>⟧.meaning asked.entry inputs.now reported.report text reported.exit
         × Appends (S.written sink.old) (S.written sink.new) text) }
-    // Where it answers yes, nothing breaks, and it has said so.
-    ensures yes { IfOk result (λ reported. reported.exit ≡ Exit.Yes → IsSafeUpgrade asked.entry inputs.now
-        × Appends (S.written sink.old) (S.written sink.new) (line nothing_breaks)) }
-    // Where it answers no, it has written the lines of the commands, and at least one.
+    // Where it answers yes, nothing breaks, or nothing but what the list accepts, and it has said which.
+    ensures yes { IfOk result (λ reported. reported.exit ≡ Exit.Yes → (told : List ℕ) × IsSafeUpgrade asked.entry inputs.now told
+        × Appends (S.written sink.old) (S.written sink.new) told) }
+    // Where it answers no, it has written the lines that the list doesn't accept, and at least one.
     ensures no { IfOk result (λ reported. reported.exit ≡ Exit.No
-        → (told : List ℕ) × IsUnsafeUpgrade asked.entry inputs.now (line told)
-        × Appends (S.written sink.old) (S.written sink.new) (line told)) }
+        → (told : List ℕ) × IsUnsafeUpgrade asked.entry inputs.now told
+        × Appends (S.written sink.old) (S.written sink.new) told) }
     ensures bad { IfOk result
         (λ reported. (reported.exit ≡ Exit.Bad) ↔ AreRefused asked.entry inputs.now) }
     ensures device { (result ≡ Err RunFault.Device) ↔ IsTrue (S.has_failed sink.new) }
@@ -59,79 +57,44 @@ pub fn breaking<S: Sink>(
 fn perform(alloc: Global, asked: Asked<'_>, inputs: &Inputs) -> Result<Answered, AllocError>
     ensures outcome { IfOk result (λ answered. IsBreakingOutcome asked.entry inputs.now
         (string_bytes answered.text) answered.exit) }
-    ensures report { IfOk result (HasReport ⟦<IndexedBook as Book>⟧.meaning inputs.now) }
+    ensures report { IfOk result (HasReport ⟦<IndexedBook as Book>⟧.meaning asked.entry inputs.now) }
 {
     answer_of(alloc, attempt(alloc, asked, inputs))
 }
 
-/// The answer, or why an input is refused.
+/// The answer, or why a dictionary is refused.
 fn attempt(alloc: Global, asked: Asked<'_>, inputs: &Inputs) -> Result<Answered, Refused>
     ensures outcome { Answers (IsBreakingOutcome asked.entry inputs.now) result }
-    ensures report { IfOk result (HasReport ⟦<IndexedBook as Book>⟧.meaning inputs.now) }
+    ensures report { IfOk result (HasReport ⟦<IndexedBook as Book>⟧.meaning asked.entry inputs.now) }
 {
     let first = read_dictionary(alloc, 1, &inputs.first)?;
     let second = read_dictionary(alloc, 2, &inputs.second)?;
-    let Outcome { text, exit } = compared(alloc, asked, &first.book, &second.book)?;
-    let report = report_of(exit, BothBooks { first, second });
+    let Judged { text, exit, found } = judged(alloc, asked, &inputs.table, &first.book, &second.book)?;
+    let books = BothBooks { first, second };
+    let report = Report::Read { books, found };
     Ok(Answered { text, exit, report })
 }
 
-/// The report of two dictionaries that were read.
-fn report_of(exit: Exit, books: BothBooks) -> Report
-    ensures listed { exit ≢ Exit.Bad → result ≡ Report.Listed books }
-    ensures bad { exit ≡ Exit.Bad → result ≡ Report.NoCommand books }
+/// What is answered: what was made, or the line of a dictionary that is refused.
+fn answer_of(alloc: Global, made: Result<Answered, Refused>) -> Result<Answered, AllocError>
+    ensures done { IfOk made (λ answered. result ≡ Ok answered) }
+    ensures refused { IfErr made (λ refused. IfOk result (TellsRefusal refused)) }
 {
-    match exit {
-        Exit::Yes => Report::Listed(books),
-        Exit::No => Report::Listed(books),
-        Exit::Bad => Report::NoCommand(books),
+    match made {
+        Ok(answered) => Ok(answered),
+        Err(Refused::Bad(bad)) => refused(alloc, bad),
+        Err(Refused::NoMemory) => Err(AllocError),
     }
 }
 
-/// The outcome for two dictionaries that were read.
-fn compared<A: Book, B: Book>(
-    alloc: Global,
-    asked: Asked<'_>,
-    a: &A,
-    b: &B,
-) -> Result<Outcome, AllocError>
-    ensures { IfOk result (λ outcome. IsListed asked.entry (A.meaning a.now) (B.meaning b.now)
-        (string_bytes outcome.text) outcome.exit) }
+/// The answer of a dictionary that is refused.
+fn refused(alloc: Global, bad: BadInput) -> Result<Answered, AllocError>
+    ensures text { IfOk result (λ answered. string_bytes answered.text ≡ line (bad_input_text bad)) }
+    ensures exit { IfOk result (λ answered. answered.exit ≡ Exit.Bad) }
+    ensures report { IfOk result (λ answered. answered.report ≡ Report.Refused bad) }
 {
-    match named(alloc, a, asked.names)? {
-        Ok(commands) => {
-            let upgrade = Upgrade::new(alloc, a, b, asked.sends, asked.unknown)?;
-            let lines = lines_of(alloc, &upgrade, &commands, asked.messages)?;
-            ended(alloc, lines)
-        }
-        Err(name) => no_command(alloc, name),
-    }
-}
-
-/// The outcome of a name that is no command's.
-fn no_command(alloc: Global, name: &str) -> Result<Outcome, AllocError>
-    ensures text { IfOk result
-        (λ outcome. string_bytes outcome.text ≡ line (no_command_line name.now)) }
-    ensures exit { IfOk result (λ outcome. outcome.exit ≡ Exit.Bad) }
-{
-    let text = format!(in alloc; "breaking: no command {name}\n")?;
+    let text = format!(in alloc; "{bad}\n")?;
     let exit = Exit::Bad;
-    Ok(Outcome { text, exit })
-}
-
-/// The outcome of these lines.
-fn ended(alloc: Global, lines: String) -> Result<Outcome, AllocError>
-    ensures none { string_bytes lines ≡ [] → IfOk result (λ outcome. (outcome.exit ≡ Exit.Yes)
-        × (string_bytes outcome.text ≡ line nothing_breaks)) }
-    ensures some { ¬ (string_bytes lines ≡ []) → IfOk result (λ outcome. (outcome.exit ≡ Exit.No)
-        × (string_bytes outcome.text ≡ string_bytes lines)) }
-{
-    if lines.is_empty() {
-        told(alloc, "nothing breaks\n", Exit::Yes)
-    } else {
-        Ok(Outcome {
-            text: lines,
-            exit: Exit::No,
-        })
-    }
+    let report = Report::Refused(bad);
+    Ok(Answered { text, exit, report })
 }

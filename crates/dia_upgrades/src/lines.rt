@@ -1,15 +1,16 @@
 //! The lines of the commands.
 
-ghost use Rattle.std.specs.Prelude.{◌≡◌, ◌<◌, All, IfOk, IsSome, OnOk, length, string_bytes};
-ghost use Rattle.dia_book.specs.Dictionary.{definitions};
+ghost use Rattle.std.specs.Prelude.{◌≡◌, ◌<◌, All, IfOk, OnOk, length, map, string_bytes};
 ghost use Rattle.dia_breaking.specs.Upgrades.{facts_of, other_length_of, sides_of};
-ghost use Rattle.dia_breaking.specs.Words.{head_at, words_of};
+ghost use Rattle.dia_breaking.specs.Words.{words_of};
+ghost use Rattle.dia_accepted.specs.Accepted.{plain_told};
 ghost use Rattle.dia_upgrades.specs.Places.{Adds};
-ghost use Rattle.dia_upgrades.specs.Told.{AreTexts, AreTold, IsLineText, IsMessageLine, IsToldOf};
+ghost use Rattle.dia_upgrades.specs.Told.{AreParts, AreTold, IsBehind, IsLineTold, IsMessageLine, IsToldOf};
 ghost use Rattle.dia_upgrades.specs.Told.{has_message};
 
+use dia_accepted::Told;
 use dia_breaking::{Breaks, Line, Standing, Upgrade};
-use dia_dict::{Book, DefId};
+use dia_dict::Book;
 use std::alloc::{AllocError, Global};
 
 /// The lines of the commands at these places of A's commands.
@@ -18,74 +19,92 @@ pub(crate) fn lines_of<A: Book, B: Book>(
     upgrade: &Upgrade<'_, A, B>,
     places: &[usize],
     messages: bool,
-) -> Result<String, AllocError>
+) -> Result<Vec<Told>, AllocError>
     requires { All (λ place. place < length (sides_of upgrade.now).sender.commands) places.now }
-    ensures { IfOk result (λ text. AreTold (sides_of upgrade.now) messages places.now (string_bytes text)) }
+    ensures { IfOk result (λ told. AreTold (sides_of upgrade.now) messages places.now (map plain_told told.items)) }
 {
-    let mut text = String::new(alloc);
+    let mut told = Vec::new(alloc);
     for place in places {
-        let command = upgrade.sender().command_at(*place);
-        push_command(alloc, &mut text, upgrade, command, messages)?;
+        push_command(alloc, &mut told, upgrade, *place, messages)?;
     }
-    Ok(text)
+    Ok(told)
 }
 
-/// Adds the lines of a command of A.
+/// Adds the lines of a command of A, by its place among the commands.
 fn push_command<A: Book, B: Book>(
     alloc: Global,
-    text: &mut String,
+    told: &mut Vec<Told>,
     upgrade: &Upgrade<'_, A, B>,
-    command: DefId,
+    place: usize,
     messages: bool,
 ) -> Result<(), AllocError>
-    requires { command < length (definitions (sides_of upgrade.now).sender) }
-    ensures { OnOk result (IsSome (head_at (sides_of upgrade.now).sender command)
-        → Adds (IsToldOf (sides_of upgrade.now) messages (facts_of upgrade.now).lengths command)
-        (string_bytes text.old) (string_bytes text.new)) }
+    requires { place < length (sides_of upgrade.now).sender.commands }
+    ensures { OnOk result (Adds (IsToldOf (sides_of upgrade.now) messages (facts_of upgrade.now).lengths place)
+        (map plain_told told.old.items) (map plain_told told.new.items)) }
 {
+    let command = upgrade.sender().command_at(place);
     let breaks = upgrade.breaks(alloc, command)?;
-    push_lines(alloc, text, upgrade, &breaks, messages)
+    push_lines(alloc, told, upgrade, &breaks, place, messages)
 }
 
 /// Adds these lines.
 fn push_lines<A: Book, B: Book>(
     alloc: Global,
-    text: &mut String,
+    told: &mut Vec<Told>,
     upgrade: &Upgrade<'_, A, B>,
     breaks: &Breaks,
+    place: usize,
     messages: bool,
 ) -> Result<(), AllocError>
-    ensures { OnOk result (Adds (AreTexts (IsLineText messages
+    ensures { OnOk result (Adds (AreParts (IsLineTold place messages
         (words_of (sides_of upgrade.now) (other_length_of upgrade.now)
         breaks.now.command breaks.now.sites.items)) breaks.now.lines.items)
-        (string_bytes text.old) (string_bytes text.new)) }
+        (map plain_told told.old.items) (map plain_told told.new.items)) }
 {
     for line in &breaks.lines {
-        push_line(alloc, text, upgrade, breaks, line, messages)?;
+        push_line(alloc, told, upgrade, breaks, line, place, messages)?;
     }
     Ok(())
 }
 
-/// Adds a line, with its message behind it where messages are asked for and it has one.
+/// Adds a line, with its message where messages are asked for and it has one.
 fn push_line<A: Book, B: Book>(
     alloc: Global,
-    text: &mut String,
+    told: &mut Vec<Told>,
+    upgrade: &Upgrade<'_, A, B>,
+    breaks: &Breaks,
+    line: &Line,
+    command: usize,
+    messages: bool,
+) -> Result<(), AllocError>
+    ensures { OnOk result (Adds (IsLineTold command messages
+        (words_of (sides_of upgrade.now) (other_length_of upgrade.now)
+        breaks.now.command breaks.now.sites.items) line.now)
+        (map plain_told told.old.items) (map plain_told told.new.items)) }
+{
+    let mut words = String::new(alloc);
+    upgrade.push_words(alloc, &mut words, breaks, line)?;
+    let message = message_of(alloc, upgrade, breaks, line, messages)?;
+    told.push(Told { command, words, message })?;
+    Ok(())
+}
+
+/// The message of a line, on a line of its own, where messages are asked for and it has one; else nothing.
+fn message_of<A: Book, B: Book>(
+    alloc: Global,
     upgrade: &Upgrade<'_, A, B>,
     breaks: &Breaks,
     line: &Line,
     messages: bool,
-) -> Result<(), AllocError>
-    ensures { OnOk result (Adds (IsLineText messages
-        (words_of (sides_of upgrade.now) (other_length_of upgrade.now)
-        breaks.now.command breaks.now.sites.items) line.now)
-        (string_bytes text.old) (string_bytes text.new)) }
+) -> Result<String, AllocError>
+    ensures { IfOk result (λ text. IsBehind (has_message messages line.now.standing) (string_bytes text)) }
 {
-    upgrade.push_words(alloc, text, breaks, line)?;
-    text.push('\n')?;
     if has_message(messages, line.standing) {
-        return push_message(alloc, text, upgrade, breaks, line);
+        let message = upgrade.message(alloc, breaks, line)?;
+        digits_of(alloc, &message)
+    } else {
+        Ok(String::new(alloc))
     }
-    Ok(())
 }
 
 /// Whether a line has its message behind it.
@@ -98,27 +117,14 @@ fn has_message(messages: bool, standing: Standing) -> bool
     }
 }
 
-/// Adds the message of a line, on a line of its own.
-fn push_message<A: Book, B: Book>(
-    alloc: Global,
-    text: &mut String,
-    upgrade: &Upgrade<'_, A, B>,
-    breaks: &Breaks,
-    line: &Line,
-) -> Result<(), AllocError>
-    ensures { OnOk result (Adds IsMessageLine (string_bytes text.old) (string_bytes text.new)) }
-{
-    let message = upgrade.message(alloc, breaks, line)?;
-    push_digits(alloc, text, &message)
-}
-
-/// Adds the bytes of a message in hexadecimal, on a line of their own.
-fn push_digits(alloc: Global, text: &mut String, bytes: &[u8]) -> Result<(), AllocError>
-    ensures { OnOk result (Adds IsMessageLine (string_bytes text.old) (string_bytes text.new)) }
+/// The bytes of a message in hexadecimal, on a line of their own.
+fn digits_of(alloc: Global, bytes: &[u8]) -> Result<String, AllocError>
+    ensures { IfOk result (λ text. IsMessageLine (string_bytes text)) }
 {
     let digits = hex::encode(alloc, bytes)?;
+    let mut text = String::new(alloc);
     text.push_str("  ")?;
     text.push_str(digits.as_str())?;
     text.push('\n')?;
-    Ok(())
+    Ok(text)
 }

@@ -20,7 +20,7 @@ use dia_explain_places::{InputTexts, NamedText};
 use dia_io::Task;
 use dia_run::{Command, Exit, Inputs, Report, Reported, ToWriter, run_reporting};
 use dia_upgrades::{Asked, breaking};
-use notes::explain;
+use notes::{explain, explain_upgrade};
 use std::process::ExitCode;
 use std::rt::{Env, Files};
 use std::{env, io};
@@ -91,7 +91,7 @@ where
                 messages: *messages,
                 names: names.as_slice(),
             };
-            list(rt, asked, inputs)
+            list(rt, asked, inputs, origins, quiet)
         }
         Task::CheckLines { unknown, levels } => {
             let capture = Capture::new(Lines::Checked, *unknown, *levels);
@@ -120,15 +120,41 @@ where
     }
 }
 
-/// Lists what breaks.
-fn list<'a, R>(rt: &R, asked: Asked<'_>, inputs: &Inputs) -> Result<Reported, Ending<'a>>
+/// Lists what breaks, and explains it. What is answered has nothing more to explain.
+fn list<'a, R>(
+    rt: &R,
+    asked: Asked<'_>,
+    inputs: &Inputs,
+    origins: &Origins<'a>,
+    quiet: bool,
+) -> Result<Reported, Ending<'a>>
 where
-    R: AllocGlobal + Print,
+    R: AllocGlobal + Print + Eprint,
 {
     let mut sink = ToWriter::new(io::writer(rt));
     match breaking(rt.alloc(), asked, inputs, &mut sink) {
-        Ok(reported) => Ok(reported),
+        Ok(listed) => {
+            if !quiet {
+                let texts = texts_of(origins, inputs);
+                note_upgrade(rt, &texts, asked.names, &listed.report);
+            }
+            let exit = listed.exit;
+            let report = Report::Done;
+            Ok(Reported { exit, report })
+        }
         Err(fault) => Err(Ending::of_run(fault, "standard output", sink.failure())),
+    }
+}
+
+/// Explains what was found of an upgrade on standard error. Where memory or the device fails, there is no note.
+fn note_upgrade<R: AllocGlobal + Eprint>(
+    rt: &R,
+    texts: &InputTexts<'_>,
+    names: &[String],
+    report: &dia_upgrades::Report,
+) {
+    if let Ok(text) = explain_upgrade(rt.alloc(), texts, names, report) {
+        let _ = eprint!(rt; "{text}");
     }
 }
 

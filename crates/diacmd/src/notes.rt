@@ -3,11 +3,12 @@
 use dia_compat::Answer;
 use dia_explain_answers::push_answer;
 use dia_explain_inputs::{
-    NamedSource, push_length, push_no_commands, push_no_pairs, push_refused, push_strangers,
-    push_unknown_commands,
+    NamedSource, push_length, push_no_pairs, push_refused, push_strangers, push_unknown_commands,
 };
 use dia_explain_places::InputTexts;
+use dia_explain_upgrades::{push_bad_list, push_stale, push_without_commands};
 use dia_run::{BothBooks, Compared, Report};
+use dia_upgrades::Found;
 use std::alloc::{AllocError, Global};
 
 /// What is told on standard error of a report. `names` are those of the commands that were asked for. It is empty where there
@@ -27,10 +28,43 @@ pub(crate) fn explain(
             push_length(alloc, &mut out, &texts.message)?;
         }
         Report::Compared(found) => push_table(alloc, &mut out, texts, found)?,
-        Report::Listed(books) => push_no_commands(&mut out, &first_of(texts, books))?,
-        Report::Done | Report::Cut(_) => {}
+        Report::Done | Report::Cut(_) | Report::Listed(_) => {}
     }
     Ok(out)
+}
+
+/// What is told on standard error of an answer of `breaking`.
+pub(crate) fn explain_upgrade(
+    alloc: Global,
+    texts: &InputTexts<'_>,
+    names: &[String],
+    report: &dia_upgrades::Report,
+) -> Result<String, AllocError> {
+    let mut out = String::new(alloc);
+    match report {
+        dia_upgrades::Report::Refused(bad) => push_refused(alloc, &mut out, texts, bad)?,
+        dia_upgrades::Report::Read { books, found } => {
+            push_found(alloc, &mut out, texts, names, books, found)?;
+        }
+    }
+    Ok(out)
+}
+
+/// Adds what was found of two dictionaries and a list of accepted lines.
+fn push_found(
+    alloc: Global,
+    out: &mut String,
+    texts: &InputTexts<'_>,
+    names: &[String],
+    books: &BothBooks,
+    found: &Found,
+) -> Result<(), AllocError> {
+    match found {
+        Found::Listed { stale } => push_stale(alloc, out, &texts.table, stale),
+        Found::NoList(bad) => push_bad_list(alloc, out, &texts.table, bad),
+        Found::NoCommands => push_without_commands(out, &texts.first, &books.first.source),
+        Found::NoCommand => push_missing(alloc, out, texts, names, books),
+    }
 }
 
 /// Adds the names that no command of the first dictionary has.

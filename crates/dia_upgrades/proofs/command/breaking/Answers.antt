@@ -1,16 +1,20 @@
 use Rattle.std.proofs.Common.{string_bytes}
-use Rattle.dia_upgrades.proofs.Outcomes.{yes_is_safe, no_is_told, bad_is_refused}
+use Rattle.dia_upgrades.proofs.Outcomes.{bad_is_refused, no_is_unsafe, yes_is_safe}
 use Rattle.dia_upgrades.proofs.command.breaking.Goals as goal
 
 pub returns-clause-yes : goal.returns-clause-yes
-returns-clause-yes g c = λ is_yes.
-    let said = yes_is_safe c.args.asked c.args.inputs.now _ _ c.in_ok-text.ensures.outcome is_yes in
-    (said.0, rw (c.as_bytes.ensures.value, said.1) at c.in_ok-put_all.ensures.ok)
+returns-clause-yes g c = λ is_yes. (
+  string_bytes c.in_ok-text.field-0.text,
+  yes_is_safe c.args.asked c.args.inputs.now _ _ c.in_ok-text.ensures.outcome is_yes,
+  rw c.as_bytes.ensures.value at c.in_ok-put_all.ensures.ok,
+)
 
 pub returns-clause-no : goal.returns-clause-no
-returns-clause-no g c = λ is_no.
-    let told = no_is_told c.args.asked c.args.inputs.now _ _ c.in_ok-text.ensures.outcome is_no in
-    (told.0, told.1, rw (c.as_bytes.ensures.value, told.2) at c.in_ok-put_all.ensures.ok)
+returns-clause-no g c = λ is_no. (
+  string_bytes c.in_ok-text.field-0.text,
+  no_is_unsafe c.args.asked c.args.inputs.now _ _ c.in_ok-text.ensures.outcome is_no,
+  rw c.as_bytes.ensures.value at c.in_ok-put_all.ensures.ok,
+)
 
 pub returns-clause-bad : goal.returns-clause-bad
 returns-clause-bad g c = bad_is_refused c.args.asked c.args.inputs.now _ _ c.in_ok-text.ensures.outcome

@@ -1,0 +1,71 @@
+//! The list of accepted lines.
+
+use dia_explain_places::{NamedText, push_excerpt, push_place, start_of_line};
+use dia_upgrades::{BadList, MAX_LINES, MAX_LIST};
+use std::alloc::{AllocError, Global};
+
+/// The most lines of a list that are told one by one.
+const MOST: usize = 20;
+
+/// Adds why a list is refused.
+pub fn push_bad_list(
+    alloc: Global,
+    out: &mut String,
+    list: &NamedText<'_>,
+    bad: &BadList,
+) -> Result<(), AllocError> {
+    let NamedText { name, text } = *list;
+    match *bad {
+        BadList::TooLong => write!(out, "{name}: the text has more than {MAX_LIST} bytes\n"),
+        BadList::NotText { at } => {
+            push_place(out, name, text, at)?;
+            out.push_str("these bytes aren't UTF-8\n")?;
+            push_excerpt(alloc, out, text, at)?;
+            out.push_str("hint: save the file as UTF-8\n")
+        }
+        BadList::Syntax { line } => {
+            let at = start_of_line(text, line);
+            push_place(out, name, text, at)?;
+            out.push_str("this is no line of an answer of breaking, which is PATH: REASON SUBJECT: DETAIL\n")?;
+            push_excerpt(alloc, out, text, at)?;
+            write!(out, "hint: {}\n", hint_of(text))
+        }
+        BadList::Limit { line } => {
+            push_place(out, name, text, start_of_line(text, line))?;
+            write!(out, "this line is one too many: a list has at most {MAX_LINES}\n")?;
+            out.push_str("hint: a line with * for its path accepts its cause in every command\n")
+        }
+    }
+}
+
+fn hint_of(text: &[u8]) -> &'static str {
+    if text.starts_with(b"%avp") || text.starts_with(b"<") {
+        "this is a dictionary; a list is written by diacmd breaking A B > FILE"
+    } else {
+        "write the list by diacmd breaking A B > FILE, without --messages; a comment is a line that begins with #"
+    }
+}
+
+/// Adds the lines of a list that accept nothing.
+pub fn push_stale(
+    alloc: Global,
+    out: &mut String,
+    list: &NamedText<'_>,
+    stale: &[u32],
+) -> Result<(), AllocError> {
+    let NamedText { name, text } = *list;
+    for line in stale.iter().take(MOST) {
+        let at = start_of_line(text, *line);
+        push_place(out, name, text, at)?;
+        out.push_str("this line accepts nothing\n")?;
+        push_excerpt(alloc, out, text, at)?;
+    }
+    if stale.is_empty() {
+        return Ok(());
+    }
+    let count = stale.len();
+    if count > MOST {
+        write!(out, "{name}: {count} lines accept nothing\n")?;
+    }
+    out.push_str("hint: what such a line tells doesn't break any more, so the line can go\n")
+}

@@ -1,0 +1,39 @@
+-- Lists that are made of parts, one behind another.
+use Rattle.std.proofs.Common.{◌≡◌, ℕ, ◌+◌, ◌<◌, List, [], ◌∷◌, ◌++◌, length, take, get_or, Result, Ok, Err, refl, sym, ap, subst, ◌∙◌, append_assoc}
+use Rattle.std.specs.Prelude.{OnOk}
+use Rattle.std.specs.List.{AllByRecursion}
+use Rattle.std.proofs.lemmas.List.{append-nil, take_more}
+use Rattle.dia_upgrades.specs.Places.{Adds}
+use Rattle.dia_upgrades.specs.Told.{AreParts}
+
+pub on_ok : {X E : Type 0} (P Q : Type 0) (r : Result X E) → (P → Q) → OnOk r P → OnOk r Q
+on_ok P Q (Ok x) f p = f p
+on_ok P Q (Err e) f p = tt
+
+module _ {X Y : Type 0} (is : X → List Y → Type 0) where
+  one_behind : (xs : List X) (x : X) (old more : List Y) → AreParts is xs old → is x more → AreParts is (xs ++ x ∷ []) (old ++ more)
+  one_behind [] x old more none is_x = (more, [], is_x, refl, ap (λ (o : List Y). o ++ more) none ∙ sym (append-nil more))
+  one_behind (y ∷ xs) x old more (front, rest, is_y, are, e) is_x =
+      (front, rest ++ more, is_y, one_behind xs x rest more are is_x, ap (λ (o : List Y). o ++ more) e ∙ append_assoc front rest more)
+
+  pub one_more : (xs : List X) (i : ℕ) (d : X) (old new : List Y) → i < length xs → AreParts is (take i xs) old → Adds (is (get_or xs i d)) old new → AreParts is (take (i + 1) xs) new
+  one_more xs i d old new less are (more, is_x, e) =
+      subst (AreParts is (take (i + 1) xs)) (sym e) (subst (λ (ys : List X). AreParts is ys (old ++ more)) (sym (take_more xs i d less)) (one_behind (take i xs) (get_or xs i d) old more are is_x))
+
+  pub adds_more : (xs ys : List X) (i : ℕ) (d : X) (start old new : List Y) → ys ≡ xs → i < length ys → Adds (AreParts is (take i xs)) start old → Adds (is (get_or ys i d)) old new
+      → Adds (AreParts is (take (i + 1) xs)) start new
+  adds_more xs ys i d start old new same less (told, are, e) more =
+      let (added, is_x, f) = subst (λ (zs : List X). Adds (is (get_or zs i d)) old new) same more in
+      let next = one_more xs i d told (told ++ added) (subst (λ (zs : List X). i < length zs) same less) are (added, is_x, refl) in
+      (told ++ added, next, f ∙ ap (λ (o : List Y). o ++ added) e ∙ append_assoc start told added)
+
+  -- what holds of all members holds of those of each part
+  pub of_parts : (P : Y → Type 0) (Q : X → Type 0) → ((x : X) (ys : List Y) → is x ys → AllByRecursion P ys → Q x) → (xs : List X) (ys : List Y) → AreParts is xs ys → AllByRecursion P ys
+      → AllByRecursion Q xs
+  of_parts P Q each [] ys none all = tt
+  of_parts P Q each (x ∷ xs) ys (front, rest, is_x, are, e) all =
+      let both = split front rest (subst (AllByRecursion P) e all) in (each x front is_x both.0, of_parts P Q each xs rest are both.1)
+    where
+      split : (front rest : List Y) → AllByRecursion P (front ++ rest) → AllByRecursion P front × AllByRecursion P rest
+      split [] rest all = (tt, all)
+      split (y ∷ front) rest (here, all) = let both = split front rest all in ((here, both.0), both.1)

@@ -1,0 +1,182 @@
+//! What is written of two dictionaries that were read, and how it ends.
+
+ghost use Rattle.std.specs.Prelude.{◌≡◌, ◌++◌, ◌==◌, [], IfOk, OnOk, length, map, string_bytes};
+ghost use Rattle.dia_io.specs.declared.Input.{Input as AnyInput};
+ghost use Rattle.dia_run.specs.Texts.{line};
+ghost use Rattle.dia_accepted.specs.Accepted.{left_of, plain_entry, plain_told};
+ghost use Rattle.dia_upgrades.specs.Lists.{IsListText, list_line};
+ghost use Rattle.dia_upgrades.specs.Outcome.{IsListed, TellsStale, no_command_line, no_commands_line, nothing_left};
+ghost use Rattle.dia_upgrades.specs.Told.{told_text};
+
+use crate::asked::Asked;
+use crate::lines::lines_of;
+use crate::list::{BadList, read_accepted};
+use crate::naming::named;
+use crate::reporting::{Found, Judged};
+use dia_accepted::{Entry, Told, left, stale};
+use dia_breaking::Upgrade;
+use dia_dict::Book;
+use dia_io::{Exit, Input};
+use std::alloc::{AllocError, Global};
+
+/// What is written of two dictionaries and the text of a list of accepted lines. The list is judged first, then the first
+/// dictionary's commands, then the names.
+pub(crate) fn judged<A: Book, B: Book>(
+    alloc: Global,
+    asked: Asked<'_>,
+    input: &Input,
+    a: &A,
+    b: &B,
+) -> Result<Judged, AllocError>
+    ensures { IfOk result (λ judged. IsListed asked.entry input.now (A.meaning a.now) (B.meaning b.now)
+        (string_bytes judged.text) judged.exit judged.found) }
+{
+    let read = read_accepted(alloc, input)?;
+    match read {
+        Ok(list) => {
+            let entries = list.as_slice();
+            listed(alloc, asked, entries, a, b)
+        }
+        Err(bad) => no_list(alloc, bad),
+    }
+}
+
+/// What is written of two dictionaries, where this is the list of accepted lines.
+fn listed<A: Book, B: Book>(
+    alloc: Global,
+    asked: Asked<'_>,
+    list: &[Entry],
+    a: &A,
+    b: &B,
+) -> Result<Judged, AllocError>
+    ensures { (input : AnyInput) → IsListText input (map plain_entry list.now) → IfOk result (λ judged.
+        IsListed asked.entry input (A.meaning a.now) (B.meaning b.now)
+        (string_bytes judged.text) judged.exit judged.found) }
+{
+    if has_no_commands(a) {
+        return no_commands(alloc);
+    }
+    match named(alloc, a, asked.names)? {
+        Ok(commands) => {
+            let upgrade = Upgrade::new(alloc, a, b, asked.sends, asked.unknown)?;
+            let lines = lines_of(alloc, &upgrade, &commands, asked.messages)?;
+            let told = lines.as_slice();
+            compared(alloc, list, told)
+        }
+        Err(name) => no_command(alloc, name),
+    }
+}
+
+fn has_no_commands<A: Book>(a: &A) -> bool
+    ensures { result ≡ (length (A.meaning a.now).commands == 0) }
+{
+    a.commands() == 0
+}
+
+/// What is written of lines, and which lines of the list accept none of them.
+fn compared(alloc: Global, list: &[Entry], lines: &[Told]) -> Result<Judged, AllocError>
+    ensures stale { IfOk result (λ judged. TellsStale (map plain_entry list.now) (map plain_told lines.now) judged.found) }
+    ensures none { left_of (map plain_entry list.now) (map plain_told lines.now) ≡ [] → IfOk result (λ judged.
+        (judged.exit ≡ Exit.Yes) × (string_bytes judged.text ≡ line (nothing_left (map plain_told lines.now)))) }
+    ensures some { ¬ (left_of (map plain_entry list.now) (map plain_told lines.now) ≡ []) → IfOk result (λ judged.
+        (judged.exit ≡ Exit.No) × (string_bytes judged.text ≡ told_text (left_of (map plain_entry list.now) (map plain_told lines.now)))) }
+{
+    let left = left(alloc, list, lines)?;
+    let rest = left.as_slice();
+    let stale = stale(alloc, list, lines)?;
+    let found = Found::Listed { stale };
+    if rest.is_empty() {
+        return nothing_told(alloc, lines, found);
+    }
+    lines_told(alloc, rest, found)
+}
+
+/// What is written where no line is left of these.
+fn nothing_told(alloc: Global, lines: &[Told], found: Found) -> Result<Judged, AllocError>
+    ensures text { IfOk result (λ judged. string_bytes judged.text ≡ line (nothing_left (map plain_told lines.now))) }
+    ensures exit { IfOk result (λ judged. judged.exit ≡ Exit.Yes) }
+    ensures found { IfOk result (λ judged. judged.found ≡ found) }
+{
+    let text = String::from_str(alloc, nothing_left(lines))?;
+    let exit = Exit::Yes;
+    Ok(Judged { text, exit, found })
+}
+
+/// What is written of the lines that are left.
+fn lines_told(alloc: Global, lines: &[&Told], found: Found) -> Result<Judged, AllocError>
+    ensures text { IfOk result (λ judged. string_bytes judged.text ≡ told_text (map (λ t. plain_told t.now) lines.now)) }
+    ensures exit { IfOk result (λ judged. judged.exit ≡ Exit.No) }
+    ensures found { IfOk result (λ judged. judged.found ≡ found) }
+{
+    let text = text_of(alloc, lines)?;
+    let exit = Exit::No;
+    Ok(Judged { text, exit, found })
+}
+
+fn nothing_left(lines: &[Told]) -> &'static str
+    ensures { result.now ≡ line (nothing_left (map plain_told lines.now)) }
+{
+    if lines.is_empty() {
+        "nothing breaks\n"
+    } else {
+        "nothing else breaks\n"
+    }
+}
+
+/// The text of lines, each with its message behind it, if it has one.
+fn text_of(alloc: Global, lines: &[&Told]) -> Result<String, AllocError>
+    ensures { IfOk result (λ text. string_bytes text ≡ told_text (map (λ t. plain_told t.now) lines.now)) }
+{
+    let mut text = String::new(alloc);
+    for told in lines {
+        push_line(&mut text, told)?;
+    }
+    Ok(text)
+}
+
+fn push_line(text: &mut String, told: &Told) -> Result<(), AllocError>
+    ensures { OnOk result (string_bytes text.new ≡ string_bytes text.old
+        ++ (line (string_bytes told.now.words) ++ string_bytes told.now.message)) }
+{
+    text.push_str(told.words.as_str())?;
+    text.push('\n')?;
+    text.push_str(told.message.as_str())?;
+    Ok(())
+}
+
+/// What is written of a text that is no list.
+fn no_list(alloc: Global, bad: BadList) -> Result<Judged, AllocError>
+    ensures text { IfOk result (λ judged. string_bytes judged.text ≡ line (list_line bad)) }
+    ensures exit { IfOk result (λ judged. judged.exit ≡ Exit.Bad) }
+    ensures found { IfOk result (λ judged. judged.found ≡ Found.NoList bad) }
+{
+    let text = format!(in alloc; "accepted: {bad}\n")?;
+    let exit = Exit::Bad;
+    let found = Found::NoList(bad);
+    Ok(Judged { text, exit, found })
+}
+
+/// What is written of a dictionary without commands.
+fn no_commands(alloc: Global) -> Result<Judged, AllocError>
+    ensures text { IfOk result (λ judged. string_bytes judged.text ≡ line no_commands_line) }
+    ensures exit { IfOk result (λ judged. judged.exit ≡ Exit.Bad) }
+    ensures found { IfOk result (λ judged. judged.found ≡ Found.NoCommands) }
+{
+    let text = String::from_str(alloc, "breaking: no command\n")?;
+    let exit = Exit::Bad;
+    let found = Found::NoCommands;
+    Ok(Judged { text, exit, found })
+}
+
+/// What is written of a name that is no command's.
+fn no_command(alloc: Global, name: &str) -> Result<Judged, AllocError>
+    ensures text { IfOk result
+        (λ judged. string_bytes judged.text ≡ line (no_command_line name.now)) }
+    ensures exit { IfOk result (λ judged. judged.exit ≡ Exit.Bad) }
+    ensures found { IfOk result (λ judged. judged.found ≡ Found.NoCommand) }
+{
+    let text = format!(in alloc; "breaking: no command {name}\n")?;
+    let exit = Exit::Bad;
+    let found = Found::NoCommand;
+    Ok(Judged { text, exit, found })
+}

@@ -1,0 +1,49 @@
+//! What is answered: its text, how it ends, and what was read and found.
+
+use crate::list::BadList;
+use dia_io::Exit;
+use dia_run::{BadInput, BothBooks};
+
+/// What was found of two dictionaries and a list of accepted lines.
+#[derive(Debug, Drop)]
+pub enum Found {
+    /// What breaks was listed. These lines of the list of accepted ones, by their numbers from 1, accept nothing of it.
+    Listed { stale: Vec<u32> },
+    /// The text of the list is refused.
+    NoList(BadList),
+    /// The first dictionary has no commands.
+    NoCommands,
+    /// A name that is asked for is that of no command of the first dictionary.
+    NoCommand,
+}
+
+/// What was read of the inputs, and what was found: all by which an answer is explained.
+#[derive(Drop)]
+pub enum Report {
+    /// A dictionary is refused.
+    Refused(BadInput),
+    Read { books: BothBooks, found: Found },
+}
+
+/// What is written, how it ends, and the report.
+#[derive(Drop)]
+pub struct Answered {
+    pub text: String,
+    pub exit: Exit,
+    pub report: Report,
+}
+
+/// How it ended, once the text is written, and the report.
+#[derive(Drop)]
+pub struct Reported {
+    pub exit: Exit,
+    pub report: Report,
+}
+
+/// What is written of two dictionaries that were read, how it ends, and what was found.
+#[derive(Drop)]
+pub(crate) struct Judged {
+    pub text: String,
+    pub exit: Exit,
+    pub found: Found,
+}
