@@ -7,7 +7,7 @@ use Rattle.dia_ccf.specs.Limits.{max_text}
 use Rattle.dia_policy.specs.Limits.{max_table}
 use Rattle.dia_policy.specs.Limits.{max_message_text}
 use Rattle.dia_cli.specs.declared.origin.Origin.{Origin}
-use Rattle.dia_cli.specs.declared.origin.Origin.TheVariants.{Base, StandardInput, File}
+use Rattle.dia_cli.specs.declared.origin.Origin.TheVariants.{Base, File, Nowhere, StandardInput}
 use Rattle.dia_cli.specs.declared.origin.Origins.{Origins}
 
 -- `-` is standard input, and any other word is the name of a file
@@ -18,8 +18,9 @@ origin_within word limit = if bytes_eq word.now (codes "-") then StandardInput l
 abbrev pub dictionary_origin : Bor (List ℕ) → Origin
 dictionary_origin word = if bytes_eq word.now (codes "@base") then Base else origin_within word max_text
 
+-- where a table or a list of lines stands, `@none` has no lines
 abbrev pub table_origin : Bor (List ℕ) → Origin
-table_origin word = origin_within word max_table
+table_origin word = if bytes_eq word.now (codes "@none") then Nowhere else origin_within word max_table
 
 abbrev pub message_origin : Bor (List ℕ) → Origin
 message_origin word = origin_within word max_message_text

@@ -96,7 +96,8 @@ arguments_of (Whole (command.Refute unknown levels)) =
 arguments_of (RefuteLines unknown levels) =
     record (pair_texts (codes "A") (codes "B")) { messages = Some (codes "MESSAGE") }
 arguments_of (Whole (command.Propose unknown names)) = pair_texts (codes "A") (codes "B")
-arguments_of (Breaking sends unknown messages names) = pair_texts (codes "A") (codes "B")
+arguments_of (Breaking sends unknown messages names) =
+    record (pair_texts (codes "A") (codes "B")) { table = Some (codes "accepted") }
 
 -- the task was found, and its inputs come from where the words of its arguments say
 abbrev pub IsAsked : Task → Origins → Text × List Row → Type 0

@@ -260,7 +260,7 @@ fn compare_of<'a>(found: &ArgMatches<'a>) -> Option<Asked<'a>>
 {
     let unknown = unknown_of(found)?;
     let origins = pair_of(found)?;
-    let table = table_of(found)?;
+    let table = table_of(found, "TABLE")?;
     Some(Asked {
         task: Task::Whole(Command::Compare { unknown }),
         origins: Origins { table, ..origins },
@@ -318,6 +318,7 @@ fn breaking_of<'a>(alloc: Global, found: &ArgMatches<'a>) -> Result<Asked<'a>, U
     let unknown = unknown_of(found).ok_or(Unasked::Nothing)?;
     let origins = pair_of(found).ok_or(Unasked::Nothing)?;
     let (sends, messages) = shown_of(found).ok_or(Unasked::Nothing)?;
+    let table = table_of(found, "accepted").ok_or(Unasked::Nothing)?;
     let names = names_of(alloc, found)?;
     Ok(Asked {
         task: Task::Breaking {
@@ -326,7 +327,7 @@ fn breaking_of<'a>(alloc: Global, found: &ArgMatches<'a>) -> Result<Asked<'a>, U
             messages,
             names,
         },
-        origins,
+        origins: Origins { table, ..origins },
     })
 }
 

@@ -14,6 +14,9 @@ pub const STANDARD_INPUT: &str = "-";
 /// The word for the base dictionary, where a dictionary stands.
 pub const BASE_DICTIONARY: &str = "@base";
 
+/// The word for a text without lines, where a table or a list of lines stands.
+pub const NO_TABLE: &str = "@none";
+
 /// Where the text of an input comes from. A limit is the most bytes that the text may have.
 #[derive(Clone, Copy, Debug, PartialEq, Eq)]
 pub enum Origin<'a> {
@@ -37,11 +40,15 @@ impl<'a> Origin<'a> {
         }
     }
 
-    /// The origin of a table of pairs that this word names.
+    /// The origin of a table of pairs, or of a list of accepted lines, that this word names.
     pub fn of_table(word: &'a str) -> Origin<'a>
         ensures { result ≡ table_origin word.entry }
     {
-        Origin::within(word, MAX_TABLE)
+        if word == NO_TABLE {
+            Origin::Nowhere
+        } else {
+            Origin::within(word, MAX_TABLE)
+        }
     }
 
     /// The origin of a message that this word names.

@@ -1,6 +1,6 @@
 //! The commands of the program, a row each. The command line is made of them.
 
-use crate::origin::BASE_DICTIONARY;
+use crate::origin::{BASE_DICTIONARY, NO_TABLE};
 
 /// A command: its options and its inputs, in the order in which help tells them.
 #[derive(Clone, Copy, Debug)]
@@ -150,7 +150,7 @@ pub(crate) static ROWS: [CommandRow<'static>; 7] = [
             InputRow {
                 id: "TABLE",
                 count: Count::One,
-                help: "A table of pairs of names: a file, or - for standard input",
+                help: "A table of pairs of names: a file, @none, or - for standard input",
             },
         ],
     },
@@ -206,6 +206,14 @@ pub(crate) static ROWS: [CommandRow<'static>; 7] = [
                 id: "messages",
                 value: Value::Nothing,
                 help: "Prints behind each line a message that shows it, as hexadecimal text",
+            },
+            OptionRow {
+                id: "accepted",
+                value: Value::Word {
+                    name: "FILE",
+                    default: NO_TABLE,
+                },
+                help: "Lines that are known, as this command prints them, which aren't printed: a file, @none, or - for standard input",
             },
         ],
         inputs: &[

@@ -24,12 +24,12 @@ pub(crate) fn dictionary_of<'a>(found: &ArgMatches<'a>, id: &str) -> Option<Orig
 }
 
 /// The origin of the table of pairs.
-pub(crate) fn table_of<'a>(found: &ArgMatches<'a>) -> Option<Origin<'a>>
+pub(crate) fn table_of<'a>(found: &ArgMatches<'a>, id: &str) -> Option<Origin<'a>>
     ensures found { IfSome result (λ origin.
-        IsFound table_origin (Some (codes "TABLE")) origin (rows_of (found_of found.now))) }
-    ensures none { result ≡ None → has_word (codes "TABLE") (rows_of (found_of found.now)) ≡ false }
+        IsFound table_origin (Some id.now) origin (rows_of (found_of found.now))) }
+    ensures none { result ≡ None → has_word id.now (rows_of (found_of found.now)) ≡ false }
 {
-    Some(Origin::of_table(word_of(found, "TABLE")?))
+    Some(Origin::of_table(word_of(found, id)?))
 }
 
 /// The origin of the message.

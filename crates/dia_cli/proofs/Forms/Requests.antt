@@ -123,9 +123,9 @@ form_is_asked quiet (refute many unknown levels first second third) rows plain s
     (also (pair_passes first second rows says.1.0.1 says.1.0.2) (also (has_flag _ many says.1.1) (has_some _ third says.1.3))))
 form_is_asked quiet (propose unknown first second name names) rows plain says =
     also (has_flag _ quiet says.0) (also (has_policy _ unknown says.1.0.0) (also (pair_passes first second rows says.1.0.1 says.1.0.2) (has_some _ (name ∷ names) says.1.1)))
-form_is_asked quiet (breaking sends unknown messages first second names) rows plain says =
+form_is_asked quiet (breaking sends unknown messages accepted first second names) rows plain says =
     also (has_flag _ quiet says.0) (also (has_policy _ unknown says.1.0.0) (also (pair_passes first second rows says.1.0.1 says.1.0.2)
-    (also (has_sender _ sends says.1.1) (has_flag _ messages says.1.2))))
+    (also (also (has_sender _ sends says.1.1) (has_flag _ messages says.1.2)) (has_some _ (unwrap_or accepted (codes "@none")) says.1.4))))
 
 -- `--lines` and `--stream` stand together in no form
 pub form_reads_one_way : (quiet : Bool) (form : Form) (rows : List Row) → Says quiet form rows → (form_name form ≡ codes "check") × HasLinesAndStream rows → ⊥
@@ -199,12 +199,12 @@ module _ (origins : Origins) (rows : List Row) where
     pair_named found =
         (named _ (codes "A") first origins.first rows one found.0, named _ (codes "B") second origins.second rows two found.1, found.2, found.3, found.4)
 
-    table_named : (table : Text) → first_of (codes "TABLE") rows ≡ Some table
-        → AreFound (record (pair_texts (codes "A") (codes "B")) { table = Some (codes "TABLE") }) origins rows → AreNamed (record (pair_texts first second) { table = Some table }) origins
-    table_named table says found = (
+    table_named : (id table : Text) → first_of id rows ≡ Some table
+        → AreFound (record (pair_texts (codes "A") (codes "B")) { table = Some id }) origins rows → AreNamed (record (pair_texts first second) { table = Some table }) origins
+    table_named id table says found = (
       named _ (codes "A") first origins.first rows one found.0,
       named _ (codes "B") second origins.second rows two found.1,
-      named _ (codes "TABLE") table origins.table rows says found.2,
+      named _ id table origins.table rows says found.2,
       found.3,
       found.4,
     )
@@ -249,7 +249,7 @@ asked_is (check in_lines unknown levels first second) rows (CheckStream policy l
 asked_is (check in_stream unknown levels first second) rows (Whole (command.Check policy limit)) origins says is found = other_flag _ false true is.2 says.1 not_true
 asked_is (check in_stream unknown levels first second) rows (CheckLines policy limit) origins says is found = other_flag _ false true is.2 says.1 not_true
 asked_is (compare unknown first second table) rows (Whole (command.Compare policy)) origins says is found =
-    (same_policy _ _ _ is.1 says.0.0, table_named origins rows first second says.0.1 says.0.2 table says.1 found)
+    (same_policy _ _ _ is.1 says.0.0, table_named origins rows first second says.0.1 says.0.2 (codes "TABLE") table says.1 found)
 asked_is (refute false unknown levels first second third) rows (Whole (command.Refute policy limit)) origins says is found =
     ((same_policy _ _ _ is.2.0 says.0.0, same_limit _ _ limit says.2 is.2.1), pair_message_named origins rows first second says.0.1 says.0.2 third says.3 found)
 asked_is (refute true unknown levels first second third) rows (RefuteLines policy limit) origins says is found =
@@ -258,11 +258,11 @@ asked_is (refute false unknown levels first second third) rows (RefuteLines poli
 asked_is (refute true unknown levels first second third) rows (Whole (command.Refute policy limit)) origins says is found = other_flag _ false true is.1 says.1 not_true
 asked_is (propose unknown first second name names) rows (Whole (command.Propose policy commands)) origins says is found =
     ((same_policy _ _ _ is.1 says.0.0, sym (same_value _ _ _ says.1 is.2)), pair_named origins rows first second says.0.1 says.0.2 found)
-asked_is (breaking sends unknown messages first second names) rows (Breaking sender policy shown commands) origins says is found = (
+asked_is (breaking sends unknown messages accepted first second names) rows (Breaking sender policy shown commands) origins says is found = (
   (same_sender _ _ _ is.2 says.1, same_policy _ _ _ is.1 says.0.0, same_flag _ _ _ is.3 says.2, same_names _ _ names says.3 is.4),
-  pair_named origins rows first second says.0.1 says.0.2 found,
+  table_named origins rows first second says.0.1 says.0.2 (codes "accepted") (unwrap_or accepted (codes "@none")) says.4 found,
 )
-asked_is (breaking sends unknown messages first second names) rows (Whole command.Show) origins says is found = unlike (codes "breaking") (codes "show") refl is
+asked_is (breaking sends unknown messages accepted first second names) rows (Whole command.Show) origins says is found = unlike (codes "breaking") (codes "show") refl is
 asked_is form rows task origins says is found = unlike (form_name form) (task_name task) refl (name_found task (form_name form, rows) is)
 
 pub request_is : (quiet : Bool) (form : Form) (rows : List Row) (request : Request) → Says quiet form rows → IsRequestOf request (form_name form, rows)
