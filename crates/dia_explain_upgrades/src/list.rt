@@ -26,13 +26,18 @@ pub fn push_bad_list(
         BadList::Syntax { line } => {
             let at = start_of_line(text, line);
             push_place(out, name, text, at)?;
-            out.push_str("this is no line of an answer of breaking, which is PATH: REASON SUBJECT: DETAIL\n")?;
+            out.push_str(
+                "this is no line of an answer of breaking, which is PATH: REASON SUBJECT: DETAIL\n",
+            )?;
             push_excerpt(alloc, out, text, at)?;
             write!(out, "hint: {}\n", hint_of(text))
         }
         BadList::Limit { line } => {
             push_place(out, name, text, start_of_line(text, line))?;
-            write!(out, "this line is one too many: a list has at most {MAX_LINES}\n")?;
+            write!(
+                out,
+                "this line is one too many: a list has at most {MAX_LINES}\n"
+            )?;
             out.push_str("hint: a line with * for its path accepts its cause in every command\n")
         }
     }

@@ -22,7 +22,10 @@ pub fn push_without_commands(
     if avps == 0 && groups == 0 {
         out.push_str("the text declares nothing")?;
     } else {
-        write!(out, "the text has AVPs ({avps}) and groups ({groups}) alone")?;
+        write!(
+            out,
+            "the text has AVPs ({avps}) and groups ({groups}) alone"
+        )?;
     }
     out.push_str(
         "\nhint: a command is <NAME> ::= < Diameter Header: CODE, REQ > and its rules; `cat` puts the parts of a dictionary together\n",

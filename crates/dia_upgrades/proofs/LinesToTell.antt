@@ -1,6 +1,5 @@
 -- Lines that are added one behind another, and their texts.
-use Rattle.std.proofs.Common.{◌≡◌, ℕ, ◌+◌, ◌<◌, Bool, Bor, List, [], ◌∷◌, ◌++◌, get_or, length, map, take, refl, sym, ap, subst, ◌∙◌, append_assoc, string_bytes}
-use Rattle.std.specs.Prelude.{codes}
+use Rattle.std.proofs.Common.{◌≡◌, ℕ, ◌+◌, ◌<◌, Bool, Bor, List, [], ◌∷◌, ◌++◌, get_or, length, map, take, refl, sym, ap, ◌∙◌, append_assoc, string_bytes}
 use Rattle.std.proofs.lemmas.List.{append-nil, map-append, take_more}
 use Rattle.dia_accepted.specs.Accepted.{PlainTold, plain_told}
 use Rattle.dia_accepted.specs.declared.Told.{Told}
@@ -26,20 +25,22 @@ text_more (y ∷ xs) x =
     ap (λ (t : List ℕ). (line y.words ++ y.message) ++ t) (text_more xs x) ∙ sym (append_assoc (line y.words ++ y.message) (told_text xs) (line x.words ++ x.message))
 
 -- the text of lines, one line more
-pub text_next : (lines : List (Bor Told)) (i : ℕ) (t : Bor Told) (old new : List ℕ) → i < length lines
-    → new ≡ old ++ (line (string_bytes (get_or lines i t).now.words) ++ string_bytes (get_or lines i t).now.message)
+pub text_next : (lines : List (Bor Told)) (i : ℕ) (t : Bor Told) (old new : List ℕ) → i < length lines → t ≡ get_or lines i t
+    → new ≡ old ++ (line (string_bytes t.now.words) ++ string_bytes t.now.message)
     → old ≡ told_text (map (λ (x : Bor Told). plain_told x.now) (take i lines)) → new ≡ told_text (map (λ (x : Bor Told). plain_told x.now) (take (i + 1) lines))
-text_next lines i t old new less pushed before =
+text_next lines i t old new less is pushed before =
     let text = λ (x : Bor Told). plain_told x.now in
-    let x = get_or lines i t in
-    pushed ∙ ap (λ (o : List ℕ). o ++ (line (string_bytes x.now.words) ++ string_bytes x.now.message)) before
-    ∙ sym (text_more (map text (take i lines)) (text x)) ∙ ap told_text (sym (map-append text (take i lines) (x ∷ [])) ∙ ap (map text) (sym (take_more lines i t less)))
+    let taken = take_more lines i t less ∙ ap (λ (x : Bor Told). take i lines ++ x ∷ []) (sym is) in
+    pushed ∙ ap (λ (o : List ℕ). o ++ (line (string_bytes t.now.words) ++ string_bytes t.now.message)) before
+    ∙ sym (text_more (map text (take i lines)) (text t)) ∙ ap told_text (sym (map-append text (take i lines) (t ∷ [])) ∙ ap (map text) (sym taken))
 
 -- one line more
 pub told_added : (place : ℕ) (messages : Bool) (words : Line → List ℕ) (l : Line) (old new : List Told) (t : Told) → t.command ≡ place → string_bytes t.words ≡ words l
     → IsBehind (has_message messages l.standing) (string_bytes t.message) → new ≡ old ++ t ∷ [] → Adds (IsLineTold place messages words l) (map plain_told old) (map plain_told new)
 told_added place messages words l old new t at is behind pushed =
     let m = string_bytes t.message in
-    let same : plain_told t ≡ told_as place (words l) m = ap (λ (p : ℕ). told_as p (string_bytes t.words) m) at ∙ ap (λ (w : List ℕ). told_as place w m) is in
-    (told_as place (words l) m ∷ [], (m, behind, refl),
-      ap (map plain_told) pushed ∙ map-append plain_told old (t ∷ []) ∙ ap (λ (x : PlainTold). map plain_told old ++ x ∷ []) same)
+    let same : plain_told t ≡ told_as place (words l) m = ap (λ (p : ℕ). told_as p (string_bytes t.words) m) at ∙ ap (λ (w : List ℕ). told_as place w m) is in (
+      told_as place (words l) m ∷ [],
+      (m, behind, refl),
+      ap (map plain_told) pushed ∙ map-append plain_told old (t ∷ []) ∙ ap (λ (x : PlainTold). map plain_told old ++ x ∷ []) same,
+    )

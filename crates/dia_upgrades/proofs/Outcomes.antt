@@ -1,9 +1,11 @@
 -- How `breaking` ends.
-use Rattle.std.proofs.Common.{◌≡◌, ◌≢◌, ℕ, ◌+◌, ◌≤◌, ◌<◌, ◌==◌, Bool, true, false, List, [], ◌∷◌, length, map, Bor, Result, Ok, Err, Some, None, Option, refl, sym, ap, subst, ◌∙◌, arith}
+use Rattle.std.proofs.Common.{◌≡◌, ◌≢◌, ℕ, ◌==◌, true, false, List, [], ◌∷◌, length, map, Bor, Result, Ok, Err, Some, None, refl, sym, ap, subst, ◌∙◌, arith}
 use Rattle.std.specs.Prelude.{◌↔◌, Contains, IfErr, IfOk, string_bytes}
 use Rattle.std.specs.List.{AllByRecursion}
+use Rattle.std.specs.Str.{IsUtf8}
+use Rattle.std.proofs.lemmas.Bool.{eqb-true}
 use Rattle.std.proofs.lemmas.List.Elements.{All-contains, All-from_recursion}
-use Rattle.dia_book.specs.Dictionary.{Dictionary, PlainDefinition, IsDictionary, groups}
+use Rattle.dia_book.specs.Dictionary.{Dictionary, PlainDefinition, IsDictionary}
 use Rattle.dia_breaking_sites.specs.Selection.{AreValid}
 use Rattle.dia_breaking_sites.proofs.Members.{in_at, contains_in}
 use Rattle.dia_compat.specs.Closed.{NamesCommand}
@@ -20,7 +22,7 @@ use Rattle.dia_accepted.specs.declared.told.Told.{Told}
 use Rattle.dia_accepted.specs.declared.ListFault.{ListFault}
 use Rattle.dia_run.specs.declared.Refused.{Refused}
 use Rattle.dia_run.specs.declared.Refused.TheVariants as refusals
-use Rattle.dia_run.specs.Texts.{line}
+use Rattle.dia_run.specs.Texts.{line, IsDictionaryText}
 use Rattle.dia_run.specs.Outcome.{ended, no_first, no_second}
 use Rattle.dia_run.proofs.OneInput.{one_dictionary, dictionary_or_not}
 use Rattle.dia_upgrades.specs.declared.asked.Asked.{Asked}
@@ -30,9 +32,9 @@ use Rattle.dia_upgrades.specs.declared.reporting.Answered.{Answered}
 use Rattle.dia_upgrades.specs.declared.reporting.Found.{Found}
 use Rattle.dia_upgrades.specs.declared.reporting.Found.TheVariants as founds
 use Rattle.dia_upgrades.specs.declared.reporting.Judged.{Judged}
-use Rattle.dia_upgrades.specs.Asking.{names_of, AreCommands}
+use Rattle.dia_upgrades.specs.Asking.{names_of}
 use Rattle.dia_upgrades.specs.Lists.{IsListText, IsNoListText, list_line}
-use Rattle.dia_upgrades.specs.Outcome.{AreAllTold, AreRead, CanAsk, IsBreakingOutcome, IsAnyListed, IsListed, OfEach, TellsStale, no_command_line, no_commands_line, nothing_left, sides_in}
+use Rattle.dia_upgrades.specs.Outcome.{AreAllTold, AreRead, CanAsk, IsAcceptedWhole, IsBreakingOutcome, IsListed, OfEach, TellsStale, no_command_line, no_commands_line, nothing_left, sides_in}
 use Rattle.dia_upgrades.specs.Outcome.{nothing, nothing_else, lines, bad_list, no_commands, no_command}
 use Rattle.dia_upgrades.specs.Outcome.{AreRefused, bad_first, bad_second, bad_accepted, none_there, bad_name, IsSafeUpgrade, safe, accepted, IsUnsafeUpgrade}
 use Rattle.dia_upgrades.specs.Report.{Answers, HasReport, TellsRefusal}
@@ -68,7 +70,7 @@ module _ (asked : Asked) (input : Input) (a b : Dictionary) (list : List PlainEn
         let made = none is in
         let places = asked_places a (names_of asked) in
         nothing_else list (t ∷ told) is_list can all is (λ e. let z : t ∷ told ≡ [] = e in cc)
-        (of_each asked a _ sound (told_accepted a b asked.sends asked.unknown asked.messages list places (t ∷ told) all is)) made.1 made.0 stale
+        (of_each asked a (IsAcceptedWhole (sides_in asked a b) list) sound (told_accepted a b asked.sends asked.unknown asked.messages list places (t ∷ told) all is)) made.1 made.0 stale
     by_left told (t ∷ left) j all stale is none some =
         let never : left_of list told ≡ [] → ⊥ = λ e. (let z : t ∷ left ≡ [] = sym is ∙ e in cc) in
         let made = some never in lines list told is_list can all never made.1 made.0 stale
@@ -111,7 +113,7 @@ not_zero n e zero = let t : (n == 0) ≡ true = ap (λ (k : ℕ). k == 0) zero i
 
 pub none_left : (left : List (Bor Told)) (told : List PlainTold) → map (λ (t : Bor Told). plain_told t.now) left ≡ told → (length left == 0) ≡ true → told ≡ []
 none_left [] told is none = sym is
-none_left (t ∷ left) told is none = absurd (let e : false ≡ true = none in cc)
+none_left (t ∷ left) told is none = absurd (omega (arith, eqb-true (length (t ∷ left)) 0 none))
 
 pub some_left : (left : List (Bor Told)) (told : List PlainTold) → map (λ (t : Bor Told). plain_told t.now) left ≡ told → (length left == 0) ≡ false → told ≢ []
 some_left [] told is some = absurd (let e : true ≡ false = some in cc)
@@ -158,14 +160,14 @@ no_fault text other fault same none some = let e : None ≡ Some fault = sym non
 
 list_or_not : (input : Input) (list : List PlainEntry) (bad : BadList) → IsListText input list → IsNoListText input bad → ⊥
 list_or_not input list lists.TooLong (text, holds, utf8, none, is) over = held_or_over input max_list text holds over
-list_or_not input list (lists.NotText at) (text, holds, utf8, none, is) (other, held, not_utf8) = not_utf8 (subst _ (same_held input max_list text other holds held) utf8)
+list_or_not input list (lists.NotText at) (text, holds, utf8, none, is) (other, held, not_utf8) = not_utf8 (subst IsUtf8 (same_held input max_list text other holds held) utf8)
 list_or_not input list (lists.Syntax n) (text, holds, utf8, none, is) (other, held, also, fault) = no_fault text other _ (same_held input max_list text other holds held) none fault
 list_or_not input list (lists.Limit n) (text, holds, utf8, none, is) (other, held, also, fault) = no_fault text other _ (same_held input max_list text other holds held) none fault
 
 -- ---- how it ends
 
 module _ (asked : Asked) (inputs : Inputs) (text : List ℕ) (exit : Exit) where
-  read : (a b : Dictionary) (list : List PlainEntry) → _ → _ → IsListText inputs.table list → CanAsk asked a → AreRead asked inputs a b list
+  read : (a b : Dictionary) (list : List PlainEntry) → IsDictionaryText inputs.first a → IsDictionaryText inputs.second b → IsListText inputs.table list → CanAsk asked a → AreRead asked inputs a b list
   read a b list is_a is_b is_list can = record { first = is_a; second = is_b; list_is = is_list; can_ask = can }
 
   -- a yes says that nothing breaks, or nothing else

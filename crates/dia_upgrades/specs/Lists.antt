@@ -1,5 +1,5 @@
 -- The list of accepted lines, as an input.
-use Rattle.std.specs.Prelude.{◌≡◌, ◌≢◌, ℕ, List, ◌++◌, codes, Option, Some, None}
+use Rattle.std.specs.Prelude.{◌≡◌, ℕ, List, ◌++◌, codes, Some, None}
 use Rattle.std.specs.Str.{IsUtf8}
 use Rattle.dia_accepted.specs.Accepted.{PlainEntry, entries_of, list_fault, max_list}
 use Rattle.dia_accepted.specs.declared.ListFault.{ListFault}

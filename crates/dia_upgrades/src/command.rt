@@ -69,7 +69,13 @@ fn attempt(alloc: Global, asked: Asked<'_>, inputs: &Inputs) -> Result<Answered,
 {
     let first = read_dictionary(alloc, 1, &inputs.first)?;
     let second = read_dictionary(alloc, 2, &inputs.second)?;
-    let Judged { text, exit, found } = judged(alloc, asked, &inputs.table, &first.book, &second.book)?;
+    let Judged { text, exit, found } = judged(
+        alloc,
+        asked,
+        &inputs.table,
+        &first.book,
+        &second.book,
+    )?;
     let books = BothBooks { first, second };
     let report = Report::Read { books, found };
     Ok(Answered { text, exit, report })

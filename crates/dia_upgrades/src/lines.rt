@@ -85,7 +85,11 @@ fn push_line<A: Book, B: Book>(
     let mut words = String::new(alloc);
     upgrade.push_words(alloc, &mut words, breaks, line)?;
     let message = message_of(alloc, upgrade, breaks, line, messages)?;
-    told.push(Told { command, words, message })?;
+    told.push(Told {
+        command,
+        words,
+        message,
+    })?;
     Ok(())
 }
 

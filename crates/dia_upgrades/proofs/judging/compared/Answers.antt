@@ -1,10 +1,9 @@
 use Rattle.std.proofs.Common.{List, ap, map, refl, sym, ◌∙◌, Bor}
 use Rattle.dia_io.specs.declared.Exit.TheVariants.{No, Yes}
 use Rattle.dia_run.specs.Texts.{line}
-use Rattle.dia_accepted.specs.Accepted.{PlainTold, left_of, plain_entry, plain_told}
+use Rattle.dia_accepted.specs.Accepted.{PlainTold, plain_entry, plain_told}
 use Rattle.dia_accepted.specs.declared.told.Told.{Told}
 use Rattle.dia_upgrades.specs.Outcome.{nothing_left}
-use Rattle.dia_upgrades.specs.Told.{told_text}
 use Rattle.dia_upgrades.specs.declared.reporting.Found.TheVariants.{Listed}
 use Rattle.dia_upgrades.proofs.Outcomes.{ends_so, none_left, some_left, tells_stale}
 use Rattle.dia_upgrades.proofs.judging.compared.Goals as goal

@@ -6,6 +6,7 @@ use Rattle.dia_accepted.specs.declared.told.Told.{Told}
 use Rattle.dia_breaking.specs.Sides.{Sides, sides}
 use Rattle.dia_breaking.specs.Upgrades.{sides_of}
 use Rattle.dia_upgrades.specs.Asking.{names_of}
+use Rattle.dia_upgrades.specs.Places.{asked_places}
 use Rattle.dia_upgrades.specs.Told.{AreTold}
 use Rattle.dia_upgrades.proofs.AskedCommands.{asked_within}
 use Rattle.dia_upgrades.proofs.Outcomes.{by_lines, empty, no_items, not_zero, some_items, unnamed}
@@ -40,7 +41,7 @@ returns-in_ok-lines-in-Ok g c = λ input is_list.
     let by_places = subst (λ (places : List ℕ). AreTold (sides da db asked.sends asked.unknown) asked.messages places told) c.deref.ensures.value by_sides in
     let all = subst (λ (places : List ℕ). AreTold (sides da db asked.sends asked.unknown) asked.messages places told) same by_places in
     let slice = c.as_slice-told.result.now in
-    let here = subst (λ (ts : List Told). AreTold (sides da db asked.sends asked.unknown) asked.messages _ (map plain_told ts)) (sym c.as_slice-told.ensures.value) all in
+    let here = subst (λ (ts : List Told). AreTold (sides da db asked.sends asked.unknown) asked.messages (asked_places da (names_of asked)) (map plain_told ts)) (sym c.as_slice-told.ensures.value) all in
     let some = some_items da.commands (not_zero (length da.commands) (sym c.has_no_commands.ensures ∙ c.if-has_no_commands.false)) in
     by_lines asked input da db (map plain_entry c.args.list.now) is_list (g.met.A.Book.sound c.args.a.now) (record { some = some; known = known }) (map plain_told slice) c.compared.result here
     c.compared.ensures.stale c.compared.ensures.none c.compared.ensures.some

@@ -1,4 +1,4 @@
-use Rattle.std.proofs.Common.{arith, refl, ◌∙◌}
+use Rattle.std.proofs.Common.{[], arith}
 use Rattle.std.specs.Prelude.{codes}
 use Rattle.hex.specs.Hex.{IsBytes, encode_lower}
 use Rattle.dia_upgrades.proofs.LinesToTell.{line_added}
@@ -11,6 +11,6 @@ returns c =
     let spaces = rw c.new-text.ensures.bytes at c.in_ok-push_str.ensures.bytes in (
       bytes,
       fits,
-      line_added (codes "  ") (encode_lower bytes) _ _ _ _ spaces
+      line_added (codes "  ") (encode_lower bytes) [] _ _ _ spaces
           (rw (c.as_str.ensures.value, c.in_ok-digits.ensures) at c.in_ok-push_str-2.ensures.bytes) (rw (c.in_ok-push.ensures.ascii (omega arith)) at c.in_ok-push.ensures.bytes),
     )

@@ -1,4 +1,4 @@
-use Rattle.std.proofs.Common.{refl, ◌∙◌}
+use Rattle.std.proofs.Common.{refl}
 use Rattle.dia_breaking.specs.Words.{words_of}
 use Rattle.dia_breaking.specs.Upgrades.{other_length_of, sides_of}
 use Rattle.dia_upgrades.proofs.LinesToTell.{told_added}
