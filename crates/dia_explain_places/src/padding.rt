@@ -29,7 +29,11 @@ pub fn find_unpadded(level: &[u8]) -> Option<Unpadded> {
         if !may_follow(back(rest, padded), rest.len() >= padded) {
             let is_found = padded != length && may_follow(back(rest, length), true);
             let at = level.len().saturating_sub(rest.len());
-            return if is_found { Some(Unpadded { at, code, length }) } else { None };
+            return if is_found {
+                Some(Unpadded { at, code, length })
+            } else {
+                None
+            };
         }
         rest = back(rest, padded);
     }
