@@ -93,6 +93,7 @@ def nest(depth, inner):
 
 CUT = "hint: its end may be in the next packet, or the capture has cut the packet: docs/CAPTURES.md says how to take whole messages out\n"
 LENGTHS = "mend the sender; either this AVP's Length is wrong, or the padding or the Length of the AVP in front of it, or that of the group"
+ANSWER = "hint: {} at {} is for answers, and the R flag says that this is a request: if it is an answer, the sender has to clear R\n"
 OCTETS = "mend the sender, or declare OctetString, which accepts any data"
 
 # Body; byte; what is wrong; groups; the AVP at hand; place in D and what stands there; hint; options.
@@ -207,7 +208,7 @@ ANSWERS = [
 HEADERS = [
     (0xE0, 272, 4, 4, "a request has the E flag", "e0 R P E", None, "mend the sender: only an answer may have E, and only a request R"),
     (0x50, 272, 4, 4, "a message that is no request has the T flag", "50 P T", None, "mend the sender: only a request is sent again with T"),
-    (0xC0, 303, 4, 5, "the dictionary has no request with Command Code 303", "c0 R P", None, "add the definition, < Diameter Header: 303, REQ >"),
+    (0xC0, 303, 4, 5, "the dictionary has no request with Command Code 303", "c0 R P", None, "add the definition, < Diameter Header: 303, REQ, PXY >"),
     (0x60, 272, 4, 5, "the dictionary has no definition for answers with the E flag", "60 P E", None,
      "add one with the header < Diameter Header: code, ERR >; it serves the errors of all commands"),
     (0xC0, 272, 9, 8, "the dictionary has no request with Command Code 272 for application 9", "c0 R P", ("19:2", "CCR is for application 4"),
@@ -234,6 +235,26 @@ def checks():
         wanted = f"{spot(spelt, byte)}: byte {byte}: {what}\n  header: flags {told}, code {code}, application {application}\n"
         wanted += (part("d.txt", D, *place) if place else "") + f"hint: {hint}\n"
         yield "check d.txt m.hex", {"d.txt": D, "m.hex": digits(spelt)}, 1, wanted
+    # a message of another application
+    wanted = "m.hex:1:11: byte 5: the dictionary has no request with Command Code 316\n  header: flags c0 R P, code 316, application 16777251\n"
+    wanted += "hint: add the definition, < Diameter Header: 316, REQ, PXY >\n"
+    wanted += "hint: application 16777251 is S6a, and this dictionary has no command of it; s6a.txt has them, see docs/CAPTURES.md\n"
+    yield "check d.txt m.hex", {"d.txt": D, "m.hex": digits(message(BASE, 316, 0xC0, 16777251))}, 1, wanted
+    # answers with the R flag: their command is there, or isn't
+    spelt = message(BASE + avp(268, number(2001)))
+    wanted = note_of_fault(spelt, 68, "the dictionary has no AVP of code 268, and the M flag says that the receiver has to know it", "CCR",
+                           "68: code 268 (0000010c), flags 40 M, length 12 (00000c), data 000007d1", None,
+                           "declare it, as %avp NAME 268 OctetString any; or have the sender clear the M flag")
+    yield "check d.txt m.hex", {"d.txt": D, "m.hex": digits(spelt)}, 1, wanted + ANSWER.format("Result-Code", 68)
+    wanted = "m.hex:1:11: byte 5: the dictionary has no request with Command Code 303\n  header: flags 80 R, code 303, application 4\n"
+    wanted += "hint: add the definition, < Diameter Header: 303, REQ >\n"
+    yield "check d.txt m.hex", {"d.txt": D, "m.hex": digits(message(SID + avp(297), 303, 0x80))}, 1, wanted + ANSWER.format("Experimental-Result", 32)
+    # padding that is missing: what stands at 32 is the rest of an AVP that begins at 31
+    spelt = message(avp(263, b"a;1", pad=False) + HOST + TYPE + NUM + avp(9999, b"x", 0, pad=False))
+    wanted = note_of_fault(spelt, 32, "no AVP begins here: the AVP Length is 2913, and with 44 bytes left of CCR it may be at most 44", "CCR",
+                           f"32: code 67648 (00010840), flags 00, length 2913 (000b61), data {spelt[40:56].hex()}..", None,
+                           "Session-Id at 20 has the AVP Length 11, and what follows stands right behind it, without its padding: mend the sender")
+    yield "check d.txt m.hex", {"d.txt": D, "m.hex": digits(spelt)}, 1, wanted
     requests = D[: D.index("<CCA>")]
     wanted = "m.hex:1:11: byte 5: the dictionary has no answer with Command Code 272\n  header: flags 40 P, code 272, application 4\n"
     wanted += part("d.txt", requests, "19:2", "CCR has this code")

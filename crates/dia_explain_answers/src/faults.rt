@@ -3,7 +3,9 @@
 mod avp;
 mod avp_bytes;
 mod header;
+mod lengths;
 mod path;
+mod results;
 mod rules;
 mod showing;
 
@@ -19,9 +21,11 @@ use dia_check::{Fault, Reason, Refusal};
 use dia_explain_places::{NamedText, place_of_byte, push_place};
 use dia_wire::{COMMAND_ERROR, COMMAND_REQUEST, Header, read_header};
 use header::push_header_fault;
+use lengths::level_of;
 use path::{Step, Way, way_to};
+use results::{push_result, push_unlisted_result};
 use rules::{explain_rule, push_rule_fault};
-pub use showing::push_show;
+pub use showing::{push_show, push_unnamed};
 use std::alloc::{AllocError, Global};
 
 /// How many groups are told at each end of a long way.
@@ -75,10 +79,17 @@ fn push_fault<B: Book>(
     match fault.reason {
         Reason::Bits | Reason::Command | Reason::Application | Reason::Proxiable => {
             push_spot(out, message, fault.place as usize)?;
-            push_header_fault(alloc, out, side, &header, fault.reason)
+            push_header_fault(alloc, out, side, &header, fault.reason)?;
+            match fault.reason {
+                Reason::Command | Reason::Application => push_result(out, &header, message.bytes),
+                _ => Ok(()),
+            }
         }
         _ => match command_for(side.book, &header) {
-            Some(def) => push_in_body(alloc, out, side, message, asked, fault, def),
+            Some(def) => {
+                push_in_body(alloc, out, side, message, asked, fault, def)?;
+                push_unlisted_result(out, side.book, def, &header, message.bytes)
+            }
             None => Ok(()),
         },
     }
@@ -142,7 +153,10 @@ fn push_in_body<B: Book>(
         Reason::Missing | Reason::NotAllowed | Reason::TooMany => {
             explain_rule(alloc, out, side, fault, &way, own)
         }
-        _ => explain_avp(alloc, out, side, asked, fault, own),
+        _ => {
+            let level = level_of(message.bytes, way.groups(), way.end());
+            explain_avp(alloc, out, side, asked, fault, level, own)
+        }
     }
 }
 

@@ -5,6 +5,7 @@
 #![tactic(auto)]
 
 mod answers;
+mod applications;
 mod books;
 mod checking;
 mod comparing;
@@ -16,4 +17,5 @@ mod sides;
 
 pub use answers::push_answer;
 pub use checking::Asked;
+pub use faults::push_unnamed;
 pub use lines::{push_check_alone, push_refute_alone};

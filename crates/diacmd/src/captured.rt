@@ -1,9 +1,11 @@
 //! Commands that read their messages a piece at a time.
 
+use crate::front::Front;
 use crate::word_of;
 use dia_captures::{Lines, Tallied, check_lines, check_stream, refute_lines};
 use dia_cli::{Ending, Origin, Origins};
 use dia_explain_answers::{Asked, push_check_alone, push_refute_alone};
+use dia_explain_inputs::push_front;
 use dia_io::{Exit, FromReader, Inputs, ToWriter};
 use dia_lines::LinesFault;
 use dia_policy::{Levels, Unknown};
@@ -89,8 +91,8 @@ where
     R: AllocGlobal + Print + Eprint,
     D: Read + Drop,
 {
-    let mut feed = FromReader::new(reader);
     let alloc = rt.alloc();
+    let mut feed = Front::new(alloc, FromReader::new(reader));
     let Capture {
         lines,
         unknown,
@@ -106,6 +108,7 @@ where
         Ok(reported) => {
             if !quiet && reported.exit != Exit::Bad {
                 summarize(rt, &mut sink);
+                tell_front(rt, name, lines, &feed.kept);
             }
             Ok(reported)
         }
@@ -118,7 +121,7 @@ where
                 },
                 None => Ending::Device {
                     name,
-                    error: feed.failure(),
+                    error: feed.feed.failure(),
                 },
             };
             Err(ending)
@@ -145,6 +148,15 @@ fn advice(alloc: Global, capture: Capture, origins: &Origins<'_>) -> Result<Stri
         Lines::Placed => {}
     }
     Ok(out)
+}
+
+/// Tells what a text is whose front shows that it has no messages, or not one a line.
+fn tell_front<R: AllocGlobal + Eprint>(rt: &R, name: &str, lines: Lines, front: &[u8]) {
+    let mut out = String::new(rt.alloc());
+    let in_lines = lines != Lines::Placed;
+    if push_front(rt.alloc(), &mut out, name, front, in_lines).is_ok() {
+        let _ = eprint!(rt; "{out}");
+    }
 }
 
 /// Tells how many lines are as they should be, and what the others say. Where memory or the device fails, nothing is told.

@@ -5,11 +5,15 @@
 //! ends. They are functions over values, and so are those that decide the rest.
 #![tactic(auto)]
 
+mod advice;
 mod captured;
+mod front;
 mod notes;
 #[cfg(test)]
 mod tests;
+mod tips;
 
+use advice::{advised, is_unread, means_base};
 use captured::{Capture, captured};
 use dia_captures::Lines;
 use dia_cli::{
@@ -20,10 +24,13 @@ use dia_explain_places::{InputTexts, NamedText};
 use dia_io::Task;
 use dia_run::{Command, Exit, Inputs, Report, Reported, ToWriter, run_reporting};
 use dia_upgrades::{Asked, breaking};
-use notes::{explain, explain_upgrade};
+use notes::{explain, explain_upgrade, unnamed};
 use std::process::ExitCode;
 use std::rt::{Env, Files};
 use std::{env, io};
+
+/// The status where a device failed, as `finish` answers it.
+const FAILED: u8 = 3;
 
 fn main(rt: HostRuntime) -> ExitCode {
     let stderr = rt.stderr();
@@ -32,7 +39,15 @@ fn main(rt: HostRuntime) -> ExitCode {
     let status = match read_words(&rt) {
         Ok(words) => {
             let ended = perform(&rt, words.as_slice());
-            finish(rt.alloc(), ended, &mut out, &mut err)
+            if is_unread(&ended) {
+                return ExitCode::from(FAILED);
+            }
+            let means_base = means_base(&words, &ended);
+            let status = finish(rt.alloc(), ended, &mut out, &mut err);
+            if means_base {
+                let _ = eprint!(&rt; "hint: did you mean {BASE_DICTIONARY}?\n");
+            }
+            status
         }
         Err(ending) => finish(rt.alloc(), Err(ending), &mut out, &mut err),
     };
@@ -52,16 +67,23 @@ fn perform<'a, R>(rt: &R, words: &'a [String]) -> Result<Exit, Ending<'a>>
 where
     R: AllocGlobal + Files + Input + Print + Eprint,
 {
+    let request = match parse_words(rt.alloc(), words) {
+        Ok(request) => request,
+        Err(ending) => return Err(advised(rt.alloc(), words, ending)),
+    };
     let Request {
         task,
         origins,
         quiet,
-    } = parse_words(rt.alloc(), words)?;
+    } = request;
     let inputs = open_inputs(rt.alloc(), &OfProcess::new(rt), &origins)?;
     let reported = run_task(rt, &task, &inputs, &origins, quiet)?;
     if !quiet {
         let texts = texts_of(&origins, &inputs);
         note(rt, &texts, names_of(&task), &reported.report);
+        if let (Task::Whole(Command::Show), Origin::Base) = (&task, origins.first) {
+            note_unnamed(rt, &inputs);
+        }
     }
     Ok(reported.exit)
 }
@@ -166,6 +188,13 @@ fn note<R: AllocGlobal + Eprint>(
     report: &Report,
 ) {
     if let Ok(text) = explain(rt.alloc(), texts, names, report) {
+        let _ = eprint!(rt; "{text}");
+    }
+}
+
+/// Tells how AVPs are named that the base dictionary doesn't have. Where memory or the device fails, nothing is told.
+fn note_unnamed<R: AllocGlobal + Eprint>(rt: &R, inputs: &Inputs) {
+    if let Ok(text) = unnamed(rt.alloc(), inputs) {
         let _ = eprint!(rt; "{text}");
     }
 }

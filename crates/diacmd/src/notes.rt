@@ -1,13 +1,14 @@
 //! The note of a report: what is told on standard error of an input that is refused, and of an answer that isn't yes.
 
 use dia_compat::Answer;
-use dia_explain_answers::push_answer;
+use dia_explain_answers::{push_answer, push_unnamed};
 use dia_explain_inputs::{
-    NamedSource, push_length, push_no_pairs, push_refused, push_strangers, push_unknown_commands,
+    NamedSource, push_empty, push_length, push_no_pairs, push_refused, push_strangers,
+    push_unknown_commands,
 };
 use dia_explain_places::InputTexts;
 use dia_explain_upgrades::{push_bad_list, push_stale, push_without_commands};
-use dia_run::{BothBooks, Compared, Report};
+use dia_run::{BothBooks, Compared, Inputs, Report, read_message};
 use dia_upgrades::Found;
 use std::alloc::{AllocError, Global};
 
@@ -20,6 +21,10 @@ pub(crate) fn explain(
     report: &Report,
 ) -> Result<String, AllocError> {
     let mut out = String::new(alloc);
+    if !matches!(report, Report::Refused(_)) {
+        push_empty(&mut out, &texts.first)?;
+        push_empty(&mut out, &texts.second)?;
+    }
     push_answer(alloc, &mut out, texts, report)?;
     match report {
         Report::Refused(bad) => push_refused(alloc, &mut out, texts, bad)?,
@@ -44,8 +49,18 @@ pub(crate) fn explain_upgrade(
     match report {
         dia_upgrades::Report::Refused(bad) => push_refused(alloc, &mut out, texts, bad)?,
         dia_upgrades::Report::Read { books, found } => {
+            push_empty(&mut out, &texts.second)?;
             push_found(alloc, &mut out, texts, names, books, found)?;
         }
+    }
+    Ok(out)
+}
+
+/// What is told on standard error of a message that was shown by the base dictionary.
+pub(crate) fn unnamed(alloc: Global, inputs: &Inputs) -> Result<String, AllocError> {
+    let mut out = String::new(alloc);
+    if let Ok(message) = read_message(alloc, &inputs.message) {
+        push_unnamed(alloc, &mut out, &message)?;
     }
     Ok(out)
 }

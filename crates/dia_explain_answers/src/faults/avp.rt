@@ -2,13 +2,14 @@
 
 use crate::checking::Asked;
 use crate::faults::avp_bytes::{part, push_hex, value_of};
+use crate::faults::lengths::{LevelBytes, hint_bad_length, push_bad_length};
 use crate::faults::path::Way;
 use crate::rule_text::{format_word, m_word};
 use crate::sides::Side;
 use dia_book::{Book, Format, Key, MRule};
 use dia_check::{Fault, Levels, Reason, Subject, Unknown};
 use dia_data::push_hex_byte;
-use dia_wire::{AVP_HEAD_LENGTH, AVP_MANDATORY, AVP_VENDOR, VENDOR_AVP_HEAD_LENGTH, next_avp};
+use dia_wire::{AVP_MANDATORY, next_avp};
 use std::alloc::{AllocError, Global};
 
 /// Adds what is wrong. `own` are the bytes of the level from the fault on.
@@ -29,42 +30,6 @@ pub fn push_avp_fault<B: Book>(
         Reason::LeafLength => push_data_length(out, side, key, own),
         Reason::LeafValue => push_data_value(out, side, key, own),
         _ => push_depth(out, side, asked, key, way),
-    }
-}
-
-/// Adds why no AVP begins at the front of these bytes, which are left of a level.
-pub fn push_bad_length(out: &mut String, level: &str, own: &[u8]) -> Result<(), AllocError> {
-    let left = own.len();
-    if left < AVP_HEAD_LENGTH {
-        return write!(
-            out,
-            "no AVP begins here: {left} bytes are left of {level}, and an AVP has at least 8"
-        );
-    }
-    let length = value_of(part(own, 5, 8));
-    let head = head_of(own);
-    if (length as usize) < head {
-        return write!(
-            out,
-            "no AVP begins here: the AVP Length is {length}, and the head alone has {head} bytes"
-        );
-    }
-    let most = left / 4 * 4;
-    write!(
-        out,
-        "no AVP begins here: the AVP Length is {length}, and with {left} bytes left of {level} it may be at most {most}"
-    )?;
-    if (length as usize) <= left {
-        out.push_str(", since the padding to a multiple of four has to be there")?;
-    }
-    Ok(())
-}
-
-/// How many bytes an AVP has in front of its data.
-fn head_of(own: &[u8]) -> usize {
-    match own.get(4) {
-        Some(flags) if flags & AVP_VENDOR != 0 => VENDOR_AVP_HEAD_LENGTH,
-        _ => AVP_HEAD_LENGTH,
     }
 }
 
@@ -230,17 +195,18 @@ fn push_depth<B: Book>(
     }
 }
 
-/// Adds where the AVP is declared, and what to do.
+/// Adds where the AVP is declared, and what to do. `own` are the bytes of the level from the fault on.
 pub fn explain_avp<B: Book>(
     alloc: Global,
     out: &mut String,
     side: &Side<'_, B>,
     asked: &Asked,
     fault: &Fault,
+    level: LevelBytes<'_>,
     own: &[u8],
 ) -> Result<(), AllocError> {
     let Subject::Avp(key) = fault.subject else {
-        return hint_bad_length(out, own);
+        return hint_bad_length(out, side, level, own);
     };
     match fault.reason {
         Reason::Unknown => hint_unknown(alloc, out, side, asked, key),
@@ -353,18 +319,4 @@ fn same_code<B: Book>(book: &B, key: Key) -> Option<Key> {
         }
     }
     None
-}
-
-/// Adds what to do where no AVP begins.
-pub fn hint_bad_length(out: &mut String, own: &[u8]) -> Result<(), AllocError> {
-    let length = value_of(part(own, 5, 8)) as usize;
-    if own.len() >= AVP_HEAD_LENGTH && length >= head_of(own) && length <= own.len() {
-        return out.push_str(
-            "hint: the last AVP of a group is padded as well, and the group's AVP Length counts that padding: mend the sender\n",
-        );
-    }
-    out.push_str(
-        "hint: mend the sender; either this AVP's Length is wrong, \
-         or the padding or the Length of the AVP in front of it, or that of the group\n",
-    )
 }

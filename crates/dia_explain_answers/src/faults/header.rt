@@ -1,5 +1,6 @@
 //! What is told of a message whose header has a fault.
 
+use crate::applications::{Application, application_of};
 use crate::faults::avp_bytes::push_command_flags;
 use crate::faults::{class_of, command_for};
 use crate::sides::Side;
@@ -83,10 +84,36 @@ fn push_command<B: Book>(
         return push_other_class(alloc, out, side, other);
     }
     let req = if class == Class::Request { ", REQ" } else { "" };
+    let is_proxiable = header.flags & COMMAND_PROXIABLE != 0;
+    let pxy = if is_proxiable { ", PXY" } else { "" };
     write!(
         out,
-        "hint: add the definition, < Diameter Header: {code}{req} >\n"
-    )
+        "hint: add the definition, < Diameter Header: {code}{req}{pxy} >\n"
+    )?;
+    push_dictionary(out, side.book, header.app)
+}
+
+/// Adds which dictionary has the commands of an application that this one doesn't have.
+fn push_dictionary<B: Book>(out: &mut String, book: &B, app: u32) -> Result<(), AllocError> {
+    match application_of(app) {
+        Some(Application { name, file, .. }) if !has_application(book, app) => write!(
+            out,
+            "hint: application {app} is {name}, and this dictionary has no command of it; {file} has them, see docs/CAPTURES.md\n"
+        ),
+        _ => Ok(()),
+    }
+}
+
+/// Whether a dictionary has a command of this application. The base, 0, has commands without an Application-ID.
+fn has_application<B: Book>(book: &B, app: u32) -> bool {
+    for index in 0..book.commands() {
+        if let DefHead::Command { app: own, .. } = book.def(book.command_at(index)).head {
+            if own == Some(app) || (app == 0 && own.is_none()) {
+                return true;
+            }
+        }
+    }
+    false
 }
 
 /// Adds a command of the same code and the other class.
@@ -146,7 +173,8 @@ fn push_application<B: Book>(
     write!(
         out,
         "hint: add a definition for application {app}, or leave the Application-ID out of the header of one: it then serves all\n"
-    )
+    )?;
+    push_dictionary(out, side.book, app)
 }
 
 /// The application of a command, if it is of this code and class.

@@ -1,15 +1,17 @@
 //! What is told of a message whose listing ends at a place where no AVP begins.
 
+use crate::applications::{Application, application_of};
 use crate::books::group_of;
-use crate::faults::avp::{hint_bad_length, push_bad_length};
 use crate::faults::avp_bytes::push_avp;
+use crate::faults::lengths::{hint_bad_length, level_of, push_bad_length};
 use crate::faults::path::Step;
 use crate::faults::{Message, push_groups, push_spot};
 use crate::sides::{Side, sites_of};
 use dia_book::Book;
+use dia_dict::base_book;
 use dia_explain_places::InputTexts;
 use dia_run::CutListing;
-use dia_wire::{HEADER_LENGTH, key, next_avp};
+use dia_wire::{HEADER_LENGTH, key, next_avp, read_header};
 use std::alloc::{AllocError, Global};
 
 /// A level in which a group stands: what follows the group in it, and where the level ends.
@@ -28,6 +30,8 @@ struct Listing<'a, B: Book> {
     outer: Vec<Outer<'a>>,
     rest: &'a [u8],
     end: usize,
+    /// An AVP isn't in the dictionary.
+    has_unnamed: bool,
 }
 
 /// Adds why the listing of a message ends where it does.
@@ -58,7 +62,29 @@ fn push_end<B: Book>(
     write!(out, "  at {place}: ")?;
     push_avp(out, listing.rest)?;
     out.push('\n')?;
-    hint_bad_length(out, listing.rest)
+    let level = level_of(message.bytes, &listing.groups, listing.end);
+    hint_bad_length(out, side, level, listing.rest)
+}
+
+/// Adds how all AVPs of a message are named, where the base dictionary, by which it was listed, doesn't have each of them.
+pub fn push_unnamed(alloc: Global, out: &mut String, message: &[u8]) -> Result<(), AllocError> {
+    let Ok((header, _)) = read_header(message) else {
+        return Ok(());
+    };
+    let base = base_book(alloc)?;
+    if !listing_of(alloc, &base, message)?.has_unnamed {
+        return Ok(());
+    }
+    out.push_str("hint: ? is an AVP that the base dictionary doesn't have; --dict ")?;
+    match application_of(header.app) {
+        Some(Application { id, name, file }) => {
+            write!(
+                out,
+                "{file} names those of application {id} ({name}), see docs/CAPTURES.md\n"
+            )
+        }
+        None => out.push_str("D names those of the dictionary D\n"),
+    }
 }
 
 /// The listing of a message, up to its end or to the first place where no AVP begins.
@@ -73,6 +99,7 @@ fn listing_of<'a, B: Book>(
         outer: Vec::new(alloc),
         rest: bytes.get(HEADER_LENGTH..).unwrap_or(b"".as_slice()),
         end: bytes.len(),
+        has_unnamed: false,
     };
     for _ in bytes {
         if !listing.advance()? {
@@ -107,6 +134,9 @@ impl<B: Book> Listing<'_, B> {
             return Ok(self.leave());
         };
         let key = key(&avp);
+        if self.book.avp(key).is_none() {
+            self.has_unnamed = true;
+        }
         if group_of(self.book, key).is_none() {
             self.rest = behind;
             return Ok(true);

@@ -1,0 +1,52 @@
+//! What is told beside an ending, and in its place.
+
+use crate::tips::better_fault;
+use dia_cli::{BASE_DICTIONARY, Ending};
+use dia_explain_places::nearest_name;
+use dia_run::Exit;
+use std::alloc::Global;
+use std::io;
+
+/// An ending of words, told in better words where there are some.
+pub(crate) fn advised<'a>(alloc: Global, words: &[String], ending: Ending<'a>) -> Ending<'a> {
+    match ending {
+        Ending::Told(fault) => match better_fault(alloc, words, &fault) {
+            Some(better) => Ending::Told(better),
+            None => Ending::Told(fault),
+        },
+        other => other,
+    }
+}
+
+/// Whether a pipe that was written to is read by nobody any more.
+pub(crate) fn is_unread(ended: &Result<Exit, Ending<'_>>) -> bool {
+    match ended {
+        Err(
+            Ending::Device {
+                error: Some(error),
+                ..
+            },
+        ) => matches!(error.kind(), io::ErrorKind::BrokenPipe),
+        _ => false,
+    }
+}
+
+/// Whether a file isn't there whose name is nearly that of the base dictionary.
+pub(crate) fn means_base(words: &[String], ended: &Result<Exit, Ending<'_>>) -> bool {
+    match ended {
+        Err(
+            Ending::Device {
+                name,
+                error: Some(error),
+            },
+        ) if !is_quiet(words) => {
+            let is_missing = matches!(error.kind(), io::ErrorKind::NotFound);
+            is_missing && name.starts_with("@") && nearest_name(name, &[BASE_DICTIONARY]).is_some()
+        }
+        _ => false,
+    }
+}
+
+fn is_quiet(words: &[String]) -> bool {
+    words.iter().any(|word| word.as_str() == "--quiet")
+}

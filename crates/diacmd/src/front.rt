@@ -1,0 +1,51 @@
+//! A feed whose first bytes are kept.
+
+ghost use Rattle.std.specs.Prelude.{◌≡◌};
+
+use dia_io::{Failed, Feed};
+use std::alloc::Global;
+
+/// How many bytes are kept.
+const MOST: usize = 1024;
+
+/// Hands on what a feed gives, and keeps its first bytes.
+#[derive(Drop)]
+pub(crate) struct Front<F> {
+    pub feed: F,
+    pub kept: Vec<u8>,
+}
+
+impl<F: Feed> Front<F> {
+    /// Of a feed of which nothing was read.
+    pub(crate) fn new(alloc: Global, feed: F) -> Front<F>
+        ensures { result.feed ≡ feed }
+    {
+        Front {
+            feed,
+            kept: Vec::new(alloc),
+        }
+    }
+}
+
+/// Keeps bytes up to the limit. Where memory is refused, none of them.
+fn keep(kept: &mut Vec<u8>, bytes: &[u8]) {
+    let room = MOST.saturating_sub(kept.len());
+    let front = bytes.get(..room).unwrap_or(bytes);
+    let _ = kept.extend_from_slice(front);
+}
+
+impl<F: Feed> Feed for Front<F> {
+    ghost remaining = { λ front. F.remaining front.feed };
+
+    ghost has_failed = { λ front. F.has_failed front.feed };
+
+    fn get(&mut self, buffer: &mut [u8]) -> Result<usize, Failed> {
+        let count = self.feed.get(buffer)?;
+        keep(&mut self.kept, &buffer[..count]);
+        Ok(count)
+    }
+
+    fn failed(&self) -> bool {
+        self.feed.failed()
+    }
+}

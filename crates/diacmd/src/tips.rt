@@ -1,0 +1,79 @@
+//! Tips about words that clap refuses, where its own tip leads astray: `--dict` belongs to `show`, and the dictionaries of the
+//! other commands are words.
+
+use clap::error::ErrorKind;
+use std::alloc::{AllocError, Global};
+
+/// The commands that take their dictionaries as words, and their usage.
+static USAGES: [(&str, &str); 6] = [
+    ("check", "diacmd check [OPTIONS] <D> <MESSAGE>"),
+    ("render", "diacmd render [OPTIONS] <D>"),
+    ("compare", "diacmd compare [OPTIONS] <A> <B> <TABLE>"),
+    ("refute", "diacmd refute [OPTIONS] <A> <B> <MESSAGE>"),
+    ("propose", "diacmd propose [OPTIONS] <A> <B> <COMMAND>..."),
+    ("breaking", "diacmd breaking [OPTIONS] <A> <B> [COMMAND]..."),
+];
+
+const SHOW_USAGE: &str = "diacmd show [OPTIONS] <MESSAGE>";
+
+/// A fault in other words, of the same kind, where words give a dictionary in the way of another command. `None` too where memory
+/// is refused.
+pub(crate) fn better_fault(
+    alloc: Global,
+    words: &[String],
+    fault: &clap::Error,
+) -> Option<clap::Error> {
+    match fault.kind() {
+        ErrorKind::UnknownArgument => unexpected(alloc, words),
+        _ => None,
+    }
+}
+
+/// What is told of an argument that isn't expected.
+fn unexpected(alloc: Global, words: &[String]) -> Option<clap::Error> {
+    let command = words.get(1)?.as_str();
+    let rest = words.get(2..)?;
+    if command == "show" {
+        return shown(alloc, rest);
+    }
+    let usage = USAGES.iter().find(|row| row.0 == command)?;
+    if rest.iter().any(|word| is_dict(word.as_str())) {
+        worded(alloc, command, usage.1)
+    } else {
+        None
+    }
+}
+
+/// Whether a word is the option `--dict`.
+fn is_dict(word: &str) -> bool {
+    word == "--dict" || word.starts_with("--dict=")
+}
+
+/// What is told of `show D MESSAGE`.
+fn shown(alloc: Global, rest: &[String]) -> Option<clap::Error> {
+    if rest.iter().any(|word| word.as_str().starts_with("--")) {
+        return None;
+    }
+    let first = rest.first()?.as_str();
+    let second = rest.get(1)?.as_str();
+    let told = format!(in alloc;
+        "unexpected argument '{second}' found\n\n  tip: the dictionary of show is given by --dict, as in \
+         show --dict {first} {second}"
+    );
+    fault(alloc, told, SHOW_USAGE)
+}
+
+/// What is told of `--dict` for a command whose dictionaries are words.
+fn worded(alloc: Global, command: &str, usage: &str) -> Option<clap::Error> {
+    let told = format!(in alloc;
+        "unexpected argument '--dict' found\n\n  tip: only show has --dict, and {command} takes each dictionary as a word"
+    );
+    fault(alloc, told, usage)
+}
+
+/// The fault with this text, and a usage.
+fn fault(alloc: Global, told: Result<String, AllocError>, usage: &str) -> Option<clap::Error> {
+    let told = told.ok()?;
+    let mut line = clap::Command::new(alloc, "diacmd").override_usage(usage);
+    line.error(ErrorKind::UnknownArgument, &told).ok()
+}
