@@ -68,7 +68,8 @@ class Help:
 
 class Program:
     def __init__(self, program):
-        self.version = told_by(program, '--version').split('\n')[0]
+        # without the commit and the kit
+        self.version = ' '.join(told_by(program, '--version').split()[:2])
         self.help = Help(program)
         self.briefs = dict(self.help.rows['Commands'])
         self.commands = {name: Help(program, name) for name in self.briefs if name != 'help'}

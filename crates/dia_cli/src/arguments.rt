@@ -36,8 +36,12 @@ static POLICIES: [&str; 2] = ["kept", "refused"];
 /// The values of `--sends`, the senders.
 static SENDERS: [&str; 3] = ["any", "known", "listed"];
 
-/// Reads the words, the program's own name first.
-pub fn parse_words<'a, S: AsStr>(alloc: Global, words: &'a [S]) -> Result<Request<'a>, Ending<'a>>
+/// Reads the words, the program's own name first. For `--version` this version is told.
+pub fn parse_words<'a, S: AsStr>(
+    alloc: Global,
+    version: &'a str,
+    words: &'a [S],
+) -> Result<Request<'a>, Ending<'a>>
     ensures words { IfOk result (λ request. IsAskedBy (map S.text words.entry.now) request) }
     ensures once { IfOk result (λ request. reads_twice request.origins ≡ false) }
     ensures refused { IfErr result (IsRefused (map S.text words.entry.now)) }
@@ -45,16 +49,21 @@ pub fn parse_words<'a, S: AsStr>(alloc: Global, words: &'a [S]) -> Result<Reques
         → map S.text words.entry.now ≡ program ∷ form_name form ∷ words_of quiet form
         → is_plain_form form ≡ true → IsAccepted quiet form result }
 {
-    parsed(alloc, words)
+    parsed(alloc, version, words)
 }
 
 /// What clap makes of the words, and what that asks for.
-fn parsed<'a, S: AsStr>(alloc: Global, words: &'a [S]) -> Result<Request<'a>, Ending<'a>>
+fn parsed<'a, S: AsStr>(
+    alloc: Global,
+    version: &'a str,
+    words: &'a [S],
+) -> Result<Request<'a>, Ending<'a>>
     ensures words { IfOk result (λ request. IsAskedBy (map S.text words.entry.now) request) }
     ensures once { IfOk result (λ request. reads_twice request.origins ≡ false) }
     ensures refused { IfErr result (IsRefused (map S.text words.entry.now)) }
 {
     let values = Words {
+        version,
         policies: POLICIES.as_slice(),
         senders: SENDERS.as_slice(),
     };

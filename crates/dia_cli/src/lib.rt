@@ -1,12 +1,12 @@
 //! The command line of `diacmd` as functions over values: what its words ask for, where the inputs come from, and how the
 //! program ends.
 //!
-//! `parse_words` reads the words, the program's own name first. `open_inputs` reads what they name. `run` of dia_run does the
+//! `parse_words` reads the words, the program's own name first; `--version` is answered with the version that it is given. `open_inputs` reads what they name. `run` of dia_run does the
 //! rest:
 //!
 //! ```text
 //! let words = ["diacmd", "check", "@base", "/dev/null"];
-//! let request = parse_words(alloc, words.as_slice())?;
+//! let request = parse_words(alloc, "1.0.0", words.as_slice())?;
 //! let inputs = open_inputs(alloc, &OfProcess::new(&rt), &request.origins)?;
 //! let mut sink = ToWriter::new(Vec::new(alloc));
 //! let Task::Whole(command) = request.task else {

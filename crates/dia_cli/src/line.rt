@@ -12,9 +12,6 @@ use clap::builder::ValueParser;
 use clap::{Arg, ArgAction};
 use std::alloc::{AllocError, Global};
 
-/// The program's version.
-const VERSION: &str = "0.1.0";
-
 /// What the statuses of the process mean.
 const STATUSES: &str = "Status:
   0  done; for check, valid; for compare, yes; for refute, refutes; for breaking, nothing breaks
@@ -22,9 +19,10 @@ const STATUSES: &str = "Status:
   2  bad input, or a bad command line
   3  a file or a device failed, or memory was refused";
 
-/// The words that two options take.
+/// The words that two options take, and the version that is told.
 #[derive(Clone, Copy)]
 pub(crate) struct Words<'a> {
+    pub version: &'a str,
     /// Those of `--unknown`.
     pub policies: &'a [&'a str],
     /// Those of `--sends`.
@@ -42,7 +40,7 @@ pub(crate) fn command_line<'a>(
 {
     let mut line = clap::Command::new(alloc, "diacmd")
         .about("A workbench for Diameter (RFC 6733) dictionaries and messages")
-        .version(VERSION)
+        .version(words.version)
         .after_help(STATUSES)
         .subcommand_required(true);
     for row in rows {

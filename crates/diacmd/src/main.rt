@@ -6,6 +6,7 @@
 #![tactic(auto)]
 
 mod advice;
+mod built;
 mod captured;
 mod front;
 mod notes;
@@ -14,6 +15,7 @@ mod tests;
 mod tips;
 
 use advice::{advised, is_unread, means_base};
+use built::version;
 use captured::{Capture, captured};
 use dia_captures::Lines;
 use dia_cli::{
@@ -37,8 +39,8 @@ fn main(rt: HostRuntime) -> ExitCode {
     let mut out = ToWriter::new(io::writer(&rt));
     let mut err = ToWriter::new(io::writer(&stderr));
     let status = match read_words(&rt) {
-        Ok(words) => {
-            let ended = perform(&rt, words.as_slice());
+        Ok((version, words)) => {
+            let ended = perform(&rt, &version, words.as_slice());
             if is_unread(&ended) {
                 return ExitCode::from(FAILED);
             }
@@ -54,20 +56,20 @@ fn main(rt: HostRuntime) -> ExitCode {
     ExitCode::from(status)
 }
 
-/// The words of the process, its own name first.
-fn read_words<R: AllocGlobal + Env>(rt: &R) -> Result<Vec<String>, Ending<'static>> {
+/// The program's version, and the words of the process, its own name first.
+fn read_words<R: AllocGlobal + Env>(rt: &R) -> Result<(String, Vec<String>), Ending<'static>> {
     let words = env::args(rt)
         .map_err(Ending::of_words)?
         .collect(rt.alloc())?;
-    Ok(words)
+    Ok((version(rt.alloc())?, words))
 }
 
 /// Runs what the command line asks for, and explains how it ended.
-fn perform<'a, R>(rt: &R, words: &'a [String]) -> Result<Exit, Ending<'a>>
+fn perform<'a, R>(rt: &R, version: &'a str, words: &'a [String]) -> Result<Exit, Ending<'a>>
 where
     R: AllocGlobal + Files + Input + Print + Eprint,
 {
-    let request = match parse_words(rt.alloc(), words) {
+    let request = match parse_words(rt.alloc(), version, words) {
         Ok(request) => request,
         Err(ending) => return Err(advised(rt.alloc(), words, ending)),
     };

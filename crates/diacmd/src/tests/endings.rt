@@ -9,7 +9,7 @@ use std::test::Fail;
 
 /// How the program ends for words that ask for nothing to run.
 pub fn ending_of<'a>(alloc: Global, words: &'a [&'a str]) -> Result<Ending<'a>, Fail> {
-    match parse_words(alloc, words) {
+    match parse_words(alloc, "1.0.0", words) {
         Ok(_) => Err(Fail::from("the words are read")),
         Err(ending) => Ok(ending),
     }

@@ -9,7 +9,7 @@ use std::test::Fail;
 fn checks_a_message_without_bytes(rt: HostRuntime) -> Result<(), Fail> {
     let alloc = rt.alloc();
     let words = ["diacmd", "check", "@base", "/dev/null"];
-    let Ok(request) = parse_words(alloc, words.as_slice()) else {
+    let Ok(request) = parse_words(alloc, "1.0.0", words.as_slice()) else {
         return Err(Fail::from("the words aren't read"));
     };
     let Ok(inputs) = open_inputs(alloc, &OfProcess::new(&rt), &request.origins) else {

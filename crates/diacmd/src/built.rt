@@ -1,0 +1,21 @@
+//! What the program was built of.
+
+use std::alloc::{AllocError, Global};
+
+const VERSION: &str = "1.0.0";
+
+/// The commit, which `git archive` writes here.
+const COMMIT: &str = "$Format:%H$";
+
+/// The first line of the file KIT: the kit with which the gate last passed.
+const KIT: &str = "rattle-kit-13f logic dac8208d650f15bf";
+
+/// What `--version` tells: the version, the commit, if it is known, and the kit.
+pub(crate) fn version(alloc: Global) -> Result<String, AllocError> {
+    let commit = if COMMIT.starts_with("$") {
+        "unknown"
+    } else {
+        COMMIT
+    };
+    format!(in alloc; "{VERSION} (commit {commit}, {KIT})")
+}
