@@ -1,8 +1,8 @@
 //! The command line of `diacmd` as functions over values: what its words ask for, where the inputs come from, and how the
 //! program ends.
 //!
-//! `parse_words` reads the words, the program's own name first; `--version` is answered with the version that it is given. `open_inputs` reads what they name. `run` of dia_run does the
-//! rest:
+//! `parse_words` reads the words, the program's own name first, and tells the version that it is given for `--version`.
+//! `open_inputs` reads what the words name. `run` of dia_run does the rest:
 //!
 //! ```text
 //! let words = ["diacmd", "check", "@base", "/dev/null"];
