@@ -1,5 +1,5 @@
 -- What is told of an input that is refused, and what an outcome is made of.
-use Rattle.std.proofs.Common.{◌≡◌, ◌≢◌, ℕ, ◌≤◌, List, length, Result, Ok, Err, refl, sym, ap, subst, inl}
+use Rattle.std.proofs.Common.{◌≡◌, ◌≢◌, ◌↔◌, arith, ℕ, ◌≤◌, List, length, Result, Ok, Err, refl, sym, ap, subst, inl}
 use Rattle.std.specs.Prelude.{IfOk, IfErr, IsErr, string_bytes}
 use Rattle.dia_io.specs.declared.Exit.{Exit}
 use Rattle.dia_io.specs.declared.Exit.TheVariants as exits
@@ -7,16 +7,16 @@ use Rattle.dia_run.specs.declared.commands.Outcome.{Outcome}
 use Rattle.dia_run.specs.declared.inputs.Refused.{Refused}
 use Rattle.dia_run.specs.declared.inputs.Refused.TheVariants.{Bad, NoMemory}
 use Rattle.std.specs.Str.{IsUtf8}
-use Rattle.dia_ccf.specs.declared.CcfFault.{CcfFault}
-use Rattle.dia_ccf.specs.declared.CcfFault.TheVariants as ccf
-use Rattle.dia_ccf.specs.Faults.{IsFault}
+use Rattle.dia_ccf.specs.declared.Refused.{Refused as Unread}
+use Rattle.dia_ccf.specs.declared.Refused.TheVariants as unread
 use Rattle.dia_ccf.specs.Limits.{max_text}
+use Rattle.dia_ccf.specs.Refusals.{IsRefused}
 use Rattle.dia_io.specs.declared.Input.{Input}
 use Rattle.dia_io.specs.declared.Input.TheVariants.{Bytes, TooLong}
 use Rattle.dia_io.specs.Inputs.{Holds}
 use Rattle.dia_compat.specs.TableText.{max_table}
 use Rattle.dia_run.specs.Texts.{line, dictionary_line, fault_text, IsNoSourceText, fault, IsDictionaryText, IsNoDictionaryText, IsNoMessageText}
-use Rattle.dia_run.specs.Refusals.{TellsOf, bad_input_text}
+use Rattle.dia_run.specs.Refusals.{TellsOf, bad_input_text, refused_text}
 use Rattle.dia_run.specs.Pairs.{IsNoTableText, fault as table_fault, table_line, table_fault_text}
 use Rattle.dia_compat.specs.declared.TableFault.{TableFault}
 use Rattle.dia_compat.specs.declared.TableFault.TheVariants as tables
@@ -40,18 +40,23 @@ pub told_why : (P : List ℕ → Type 0) (number : ℕ) (why : List ℕ) (r : Re
 told_why P number why (Bad bad) h e = (why, h, e)
 told_why P number why NoMemory h e = tt
 
-pub told_fault : (input : Input) (text : List ℕ) (number : ℕ) (f : CcfFault) (r : Refused) → Holds input max_text text → IsUtf8 text → IsFault text f
-    → TellsOf (λ told. (f ≢ ccf.NoMemory) × (told ≡ dictionary_line number (fault_text f))) r → TellsOf (λ told. (w : List ℕ) × IsNoSourceText input w × (told ≡ dictionary_line number w)) r
-told_fault input text number f (Bad bad) holds utf8 is_fault (some, e) = (fault_text f, fault text f holds utf8 is_fault some refl, e)
-told_fault input text number f NoMemory holds utf8 is_fault e = tt
+-- why the grammar refuses a text that is within the limit
+pub told_text : (input : Input) (text : List ℕ) (number : ℕ) (why : Unread) (r : Refused) → Holds input max_text text → IsUtf8 text → length text ≤ max_text → IsRefused text why
+    → (r ≡ NoMemory ↔ why ≡ unread.NoMemory) → TellsOf (λ told. told ≡ dictionary_line number (refused_text why)) r
+    → TellsOf (λ told. (w : List ℕ) × IsNoSourceText input w × (told ≡ dictionary_line number w)) r
+told_text input text number unread.TooLong r holds utf8 short over memory e = absurd (omega (arith, short, over))
+told_text input text number unread.NoMemory (Bad bad) holds utf8 short refused memory e = let never = memory.1 refl in absurd cc
+told_text input text number unread.NoMemory NoMemory holds utf8 short refused memory e = tt
+told_text input text number (unread.At misfit) r holds utf8 short refused memory e =
+    told_why (IsNoSourceText input) number (fault_text misfit.fault) r (fault text misfit.fault holds utf8 refused.1.told refused.1.no_memory refl) e
 
 pub most_bytes : (input : Input) (text : List ℕ) → Holds input max_text text → length text ≤ max_text
 most_bytes (Bytes v) text h = h.1
 most_bytes TooLong text h = absurd h
 
--- a fault of a text within the limit, of the same text by another name
-pub is_fault_of : (read text : List ℕ) (f : CcfFault) → read ≡ text → length text ≤ max_text → (length read ≤ max_text → IsFault read f) → IsFault text f
-is_fault_of read text f same short h = subst (λ (t : List ℕ). (length t ≤ max_text → IsFault t f)) same h short
+-- a text that is refused, by another name
+pub is_refused_of : (read text : List ℕ) (why : Unread) → read ≡ text → IsRefused read why → IsRefused text why
+is_refused_of read text why same refused = subst (λ (t : List ℕ). IsRefused t why) same refused
 
 -- what was made is written: an outcome as it is, a refusal as its line
 pub outcome_is : {E : Type 0} (P : List ℕ → Exit → Type 0) (made : Result Outcome Refused) (r : Result Outcome E) → IfOk made (λ o. r ≡ Ok o)

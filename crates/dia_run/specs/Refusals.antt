@@ -1,5 +1,7 @@
 -- What is told of an input that is refused.
-use Rattle.std.specs.Prelude.{ℕ, List, ◌++◌, codes, string_bytes, ⊤}
+use Rattle.std.specs.Prelude.{ℕ, List, [], ◌++◌, codes, string_bytes, ⊤}
+use Rattle.dia_ccf.specs.declared.Refused.{Refused as NoText}
+use Rattle.dia_ccf.specs.declared.Refused.TheVariants as text
 use Rattle.dia_dict.specs.Resolution.{wrong}
 use Rattle.dia_wire.specs.declared.header.MessageFault.{MessageFault}
 use Rattle.dia_wire.specs.declared.header.MessageFault.TheVariants.{Short, Version, Length, Truncated, Trailing}
@@ -13,16 +15,20 @@ use Rattle.dia_run.specs.declared.inputs.bad_input.BadTable.{BadTable}
 use Rattle.dia_run.specs.declared.inputs.bad_input.BadTable.TheVariants as table
 use Rattle.dia_run.specs.declared.inputs.bad_input.BadMessage.{BadMessage}
 use Rattle.dia_run.specs.declared.inputs.bad_input.BadMessage.TheVariants as message
-use Rattle.dia_run.specs.Texts.{dictionary_line, fault_at, wrong_text}
+use Rattle.dia_run.specs.Texts.{dictionary_line, fault_at, fault_text, wrong_text}
 use Rattle.dia_run.specs.Pairs.{table_line}
 
 abbrev pub bad_dictionary_text : BadDictionary → List ℕ
 bad_dictionary_text dictionary.TooLong = codes "too long"
 bad_dictionary_text (dictionary.NotText place) = codes "not text"
-bad_dictionary_text (dictionary.Syntax n) = fault_at (codes "syntax") n
-bad_dictionary_text (dictionary.Number n) = fault_at (codes "number") n
-bad_dictionary_text (dictionary.Limit n) = fault_at (codes "limit") n
-bad_dictionary_text (dictionary.Wrong source kind name slot) = wrong_text (wrong kind (string_bytes name) (string_bytes slot))
+bad_dictionary_text (dictionary.NoSource misfit) = fault_text misfit.fault
+bad_dictionary_text (dictionary.Wrong found) = wrong_text (wrong found.kind (string_bytes found.name) (string_bytes found.slot))
+
+-- what is told of a text that the grammar refuses
+abbrev pub refused_text : NoText → List ℕ
+refused_text text.TooLong = codes "too long"
+refused_text text.NoMemory = []
+refused_text (text.At misfit) = fault_text misfit.fault
 
 abbrev pub bad_table_text : BadTable → List ℕ
 bad_table_text table.TooLong = codes "too long"

@@ -1,6 +1,9 @@
 -- What a report says of the inputs, and of what was written.
 use Rattle.std.specs.Prelude.{◌≡◌, ◌≢◌, ℕ, List, Result, Ok, Err, string_bytes, ⊤}
+use Rattle.dia_ccf.specs.declared.Refused.TheVariants.{At}
+use Rattle.dia_ccf.specs.Limits.{max_text}
 use Rattle.dia_ccf.specs.Plain.{plain_source}
+use Rattle.dia_ccf.specs.Refusals.{IsRefused}
 use Rattle.dia_check.specs.Faults.{IsAnswer as IsChecked}
 use Rattle.dia_compat.specs.TableText.{plain_table}
 use Rattle.dia_compat.specs.Closed.{IsTableAnswer as IsCompared}
@@ -8,6 +11,7 @@ use Rattle.dia_dict.specs.Dictionary.{Dictionary as AnyDictionary}
 use Rattle.dia_dict.specs.declared.IndexedBook.{IndexedBook}
 use Rattle.dia_io.specs.declared.Input.{Input}
 use Rattle.dia_io.specs.declared.Inputs.{Inputs}
+use Rattle.dia_io.specs.Inputs.{Holds}
 use Rattle.dia_io.specs.declared.Exit.{Exit}
 use Rattle.dia_io.specs.declared.Exit.TheVariants.{Yes, No, Bad}
 use Rattle.dia_run.specs.declared.reporting.Answered.{Answered}
@@ -18,7 +22,7 @@ use Rattle.dia_run.specs.declared.reporting.Report.TheVariants.{Done, Refused, N
 use Rattle.dia_run.specs.declared.inputs.Refused.{Refused as AnyRefusal}
 use Rattle.dia_run.specs.declared.inputs.Refused.TheVariants as refusal
 use Rattle.dia_run.specs.declared.inputs.bad_input.BadInput.TheVariants.{Dictionary}
-use Rattle.dia_run.specs.declared.inputs.bad_input.BadDictionary.TheVariants.{Wrong}
+use Rattle.dia_run.specs.declared.inputs.bad_input.BadDictionary.TheVariants.{NoSource, Wrong}
 use Rattle.dia_run.specs.Outcome.{Refuses}
 use Rattle.dia_run.specs.Pairs.{IsTableText, IsAnswerText}
 use Rattle.dia_run.specs.Refusals.{TellsOf, bad_input_text}
@@ -68,7 +72,8 @@ TellsRefusal (refusal.Bad bad) answered = (answered.report ≡ Refused bad)
     × Refuses (bad_input_text bad) (string_bytes answered.text) answered.exit
 TellsRefusal refusal.NoMemory answered = ⊥
 
--- of a dictionary whose definitions are wrong, the refusal has what its text says
-abbrev pub HasSource : Input → AnyRefusal → Type 0
-HasSource input (refusal.Bad (Dictionary number (Wrong source kind name slot))) = IsSourceText input (plain_source source.value)
-HasSource input refused = ⊤
+-- what is told of a dictionary was found in this input: where its text is refused, or what it says
+abbrev pub HasFinding : Input → AnyRefusal → Type 0
+HasFinding input (refusal.Bad (Dictionary number (NoSource misfit))) = (text : List ℕ) × Holds input max_text text × IsRefused text (At misfit)
+HasFinding input (refusal.Bad (Dictionary number (Wrong found))) = IsSourceText input (plain_source found.source.value)
+HasFinding input refused = ⊤

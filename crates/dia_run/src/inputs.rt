@@ -13,6 +13,7 @@ pub mod dictionary;
 pub mod message;
 pub mod pieces;
 pub mod table;
+pub mod wrong_source;
 
 /// Why an input can't be used.
 #[derive(Drop)]

@@ -33,6 +33,7 @@ pub use inputs::Refused;
 pub use inputs::bad_input::{BadDictionary, BadInput, BadMessage, BadTable};
 pub use inputs::dictionary::read_dictionary;
 pub use inputs::message::{is_white, read_message};
+pub use inputs::wrong_source::WrongSource;
 pub use reporting::{
     Answered, BothBooks, Compared, CutListing, Invalid, ReadBook, Report, Reported, Unrefuting,
 };

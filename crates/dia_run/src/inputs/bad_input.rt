@@ -4,8 +4,8 @@ ghost use Rattle.std.specs.Prelude.{◌≡◌};
 ghost use Rattle.dia_run.specs.Refusals.{message_fault_word};
 ghost use Rattle.dia_run.specs.Texts.{or_dash};
 
-use dia_ccf::Source;
-use dia_dict::DictKind;
+use crate::inputs::wrong_source::WrongSource;
+use dia_ccf::{CcfFault, Misfit};
 use dia_wire::MessageFault;
 use std::fmt;
 
@@ -24,25 +24,11 @@ pub enum BadDictionary {
     /// More bytes than the text of a dictionary may have.
     TooLong,
     /// Bytes that are no UTF-8, from this place on.
-    NotText {
-        at: usize,
-    },
-    Syntax {
-        line: u32,
-    },
-    Number {
-        line: u32,
-    },
-    Limit {
-        line: u32,
-    },
-    /// What the text says, and the first fault of its definitions. A name is empty where there is none.
-    Wrong {
-        source: Box<Source>,
-        kind: DictKind,
-        name: String,
-        slot: String,
-    },
+    NotText { at: usize },
+    /// The grammar doesn't derive the text: where, and what could stand there. Memory wasn't refused.
+    NoSource(Misfit),
+    /// What the text says is no dictionary.
+    Wrong(WrongSource),
 }
 
 /// Why a text is no table of pairs.
@@ -91,17 +77,16 @@ impl fmt::Display for BadDictionary {
         match self {
             BadDictionary::TooLong => write!(f, "too long"),
             BadDictionary::NotText { .. } => write!(f, "not text"),
-            BadDictionary::Syntax { line } => write!(f, "syntax at line {line}"),
-            BadDictionary::Number { line } => write!(f, "number at line {line}"),
-            BadDictionary::Limit { line } => write!(f, "limit at line {line}"),
-            BadDictionary::Wrong {
-                kind,
-                name,
-                slot,
-                ..
-            } => {
-                let name = or_dash(name.as_str());
-                let slot = or_dash(slot.as_str());
+            BadDictionary::NoSource(misfit) => match misfit.fault {
+                CcfFault::Syntax { line, .. } => write!(f, "syntax at line {line}"),
+                CcfFault::Number { line } => write!(f, "number at line {line}"),
+                CcfFault::Limit { line } => write!(f, "limit at line {line}"),
+                CcfFault::NoMemory => Ok(()),
+            },
+            BadDictionary::Wrong(wrong) => {
+                let kind = wrong.kind;
+                let name = or_dash(wrong.name.as_str());
+                let slot = or_dash(wrong.slot.as_str());
                 write!(f, "{kind} {name} {slot}")
             }
         }

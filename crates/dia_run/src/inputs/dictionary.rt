@@ -1,20 +1,24 @@
 //! A dictionary as text.
 
-ghost use Rattle.std.specs.Prelude.{◌≡◌, ◌≢◌, List, ℕ, IfOk, IfErr};
-ghost use Rattle.dia_dict.specs.Resolution.{wrong};
-ghost use Rattle.dia_io.specs.declared.Input.{Input as AnyInput};
+ghost use Rattle.std.specs.Prelude.{◌≡◌, ◌↔◌, List, ℕ, IfOk, IfErr, Some, string_bytes};
+ghost use Rattle.dia_ccf.specs.Limits.{max_text};
 ghost use Rattle.dia_ccf.specs.Plain.{plain_source};
+ghost use Rattle.dia_ccf.specs.Refusals.{IsRefused};
+ghost use Rattle.dia_dict.specs.Resolution.{wrong, first_wrong};
+ghost use Rattle.dia_io.specs.declared.Input.{Input as AnyInput};
+ghost use Rattle.dia_io.specs.Inputs.{Holds};
 ghost use Rattle.dia_dict.specs.Dictionary.{IsDictionary};
 ghost use Rattle.dia_run.specs.Texts.{IsSourceText, IsNoSourceText};
 ghost use Rattle.dia_run.specs.Texts.{IsDictionaryText, IsNoDictionaryText};
-ghost use Rattle.dia_run.specs.Texts.{dictionary_line, fault_text, wrong_text};
-ghost use Rattle.dia_run.specs.Refusals.{TellsOf, bad_dictionary_text};
-ghost use Rattle.dia_run.specs.Report.{HasSource};
+ghost use Rattle.dia_run.specs.Texts.{dictionary_line};
+ghost use Rattle.dia_run.specs.Refusals.{TellsOf, bad_dictionary_text, refused_text};
+ghost use Rattle.dia_run.specs.Report.{HasFinding};
 
 use crate::inputs::bad_input::{BadDictionary, BadInput};
+use crate::inputs::wrong_source::WrongSource;
 use crate::inputs::{Refused, bytes_within};
 use crate::reporting::ReadBook;
-use dia_ccf::{CcfFault, MAX_TEXT, Source, parse};
+use dia_ccf::{MAX_TEXT, Refused as Unread, Source, read};
 use dia_dict::{Book, DictFault, DictKind, IndexedBook, PlainBook, book_of};
 use dia_io::Input;
 use std::alloc::{AllocError, AllocFailed, Global};
@@ -24,7 +28,7 @@ pub fn read_source(alloc: Global, number: u8, input: &Input) -> Result<Source, R
     ensures source { IfOk result (λ source. IsSourceText input.now (plain_source source)) }
     ensures told { IfErr result (TellsOf (λ told. (why : List ℕ) × IsNoSourceText input.now why
         × (told ≡ dictionary_line number why))) }
-    ensures kept { IfErr result (HasSource input.now) }
+    ensures kept { IfErr result (HasFinding input.now) }
 {
     let Some(bytes) = bytes_within(input, MAX_TEXT) else {
         return Err(tell(number, BadDictionary::TooLong));
@@ -36,9 +40,9 @@ pub fn read_source(alloc: Global, number: u8, input: &Input) -> Result<Source, R
             return Err(tell(number, BadDictionary::NotText { at }));
         }
     };
-    match parse(alloc, text) {
+    match read(alloc, text) {
         Ok(source) => Ok(source),
-        Err(fault) => Err(tell_fault(number, fault)),
+        Err(refused) => Err(tell_text(number, refused)),
     }
 }
 
@@ -50,15 +54,15 @@ pub fn read_dictionary(alloc: Global, number: u8, input: &Input) -> Result<Box<R
         (λ read. IsDictionaryText input.now (⟦<IndexedBook as Book>⟧.meaning read.value.book)) }
     ensures told { IfErr result (TellsOf (λ told. (why : List ℕ) × IsNoDictionaryText input.now why
         × (told ≡ dictionary_line number why))) }
-    ensures kept { IfErr result (HasSource input.now) }
+    ensures kept { IfErr result (HasFinding input.now) }
 {
     let source = read_source(alloc, number, input)?;
     match book_of(alloc, &source) {
         Ok(book) => indexed(alloc, source, book),
         Err(DictFault::NoMemory) => Err(Refused::NoMemory),
         Err(DictFault::Stands { kind, name, slot }) => {
-            let why = wrong_of(alloc, source, kind, name.as_str(), slot.as_str())?;
-            Err(tell(number, why))
+            let found = boxed(alloc, source, kind, name, slot)?;
+            Err(tell(number, BadDictionary::Wrong(found)))
         }
     }
 }
@@ -92,38 +96,33 @@ fn tell(number: u8, why: BadDictionary) -> Refused
     Refused::Bad(BadInput::Dictionary { number, why })
 }
 
-/// The refusal of a text with this fault, or out of memory.
-fn tell_fault(number: u8, fault: CcfFault) -> Refused
-    ensures told { TellsOf (λ told. (fault ≢ CcfFault.NoMemory)
-        × (told ≡ dictionary_line number (fault_text fault))) result }
-    ensures memory { result ≡ Refused.NoMemory → fault ≡ CcfFault.NoMemory }
-    ensures kept { (input : AnyInput) → HasSource input result }
+/// The refusal of a text that the grammar refuses for this, or out of memory.
+fn tell_text(number: u8, why: Unread) -> Refused
+    ensures told { TellsOf (λ told. told ≡ dictionary_line number (refused_text why)) result }
+    ensures memory { result ≡ Refused.NoMemory ↔ why ≡ Unread.NoMemory }
+    ensures kept { (input : AnyInput) (text : List ℕ) → Holds input max_text text → IsRefused text why
+        → HasFinding input result }
 {
-    match fault {
-        CcfFault::Syntax { line, .. } => tell(number, BadDictionary::Syntax { line }),
-        CcfFault::Number { line } => tell(number, BadDictionary::Number { line }),
-        CcfFault::Limit { line } => tell(number, BadDictionary::Limit { line }),
-        CcfFault::NoMemory => Refused::NoMemory,
+    match why {
+        Unread::TooLong => tell(number, BadDictionary::TooLong),
+        Unread::At(misfit) => tell(number, BadDictionary::NoSource(misfit)),
+        Unread::NoMemory => Refused::NoMemory,
     }
 }
 
-/// Why the definitions of a source name no dictionary, with copies of the names.
-fn wrong_of(
+/// The source that names no dictionary, in a box, with the first of its faults.
+fn boxed(
     alloc: Global,
     source: Source,
     kind: DictKind,
-    name: &str,
-    slot: &str,
-) -> Result<BadDictionary, AllocError>
-    ensures text { IfOk result (λ why. bad_dictionary_text why
-        ≡ wrong_text (wrong kind name.now slot.now)) }
-    ensures kept { (input : AnyInput) (number : ℕ) → IsSourceText input (plain_source source)
-        → IfOk result (λ why. HasSource input (Refused.Bad (BadInput.Dictionary number why))) }
+    name: String,
+    slot: String,
+) -> Result<WrongSource, AllocError>
+    requires { first_wrong (plain_source source) ≡ Some (wrong kind (string_bytes name) (string_bytes slot)) }
+    ensures { IfOk result (λ found. found.source.value ≡ source) }
 {
-    let name = String::from_str(alloc, name)?;
-    let slot = String::from_str(alloc, slot)?;
     let source = Box::new(alloc, source)?;
-    Ok(BadDictionary::Wrong {
+    Ok(WrongSource {
         source,
         kind,
         name,
