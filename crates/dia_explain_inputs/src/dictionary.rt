@@ -9,7 +9,7 @@ mod scene;
 mod texts;
 
 use crate::kinds::{is_capture, push_capture};
-use dia_ccf::{MAX_TEXT, Refused, read};
+use dia_ccf::MAX_TEXT;
 use dia_explain_places::{NamedText, push_excerpt, push_place};
 use dia_run::BadDictionary;
 pub use empty::push_empty;
@@ -29,15 +29,20 @@ pub fn push_dictionary(
     if is_capture(text) {
         return push_capture(out, name, "the text of a dictionary", CAPTURED);
     }
+    let spelt = str::from_utf8(text).unwrap_or("");
     match why {
         BadDictionary::TooLong => push_too_long(out, name),
         BadDictionary::NotText { at } => push_not_text(alloc, out, name, text, *at),
-        BadDictionary::Wrong { source, .. } => {
-            push_meaning(alloc, out, name, str::from_utf8(text).unwrap_or(""), source)?;
+        BadDictionary::NoSource(misfit) => push_syntax(
+            alloc,
+            out,
+            name,
+            &Scene::new(spelt, misfit),
+        ),
+        BadDictionary::Wrong(wrong) => {
+            push_meaning(alloc, out, name, spelt, &wrong.source)?;
             Ok(())
         }
-        BadDictionary::Syntax { .. } | BadDictionary::Number { .. } | BadDictionary::Limit { .. } =>
-            push_token(alloc, out, name, text),
     }
 }
 
@@ -70,15 +75,4 @@ pub fn push_not_text(
     }
     out.push('\n')?;
     Ok(())
-}
-
-/// Adds the first token that the grammar doesn't allow.
-fn push_token(alloc: Global, out: &mut String, name: &str, text: &[u8]) -> Result<(), AllocError> {
-    let text = str::from_utf8(text).unwrap_or("");
-    match read(alloc, text) {
-        Ok(_) => Ok(()),
-        Err(Refused::NoMemory) => Err(AllocError),
-        Err(Refused::TooLong) => push_too_long(out, name),
-        Err(Refused::At(misfit)) => push_syntax(alloc, out, name, &Scene::new(text, &misfit)),
-    }
 }
