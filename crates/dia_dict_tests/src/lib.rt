@@ -1,5 +1,5 @@
-//! The tests of `dia_wire`, `dia_data`, `dia_breaking_data`, `dia_ccf` and `dia_dict`, by library: each goes through public calls
-//! alone. There is nothing but tests.
+//! The tests of `dia_wire`, `dia_data`, `dia_breaking_data`, `dia_ccf`, `dia_dict` and `dia_text`, by library: each goes through
+//! public calls alone. There is nothing but tests.
 #![tactic(auto)]
 
 #[cfg(test)]
@@ -10,6 +10,8 @@ mod data;
 mod dict;
 #[cfg(test)]
 mod refused;
+#[cfg(test)]
+mod text;
 #[cfg(test)]
 mod wire;
 #[cfg(test)]

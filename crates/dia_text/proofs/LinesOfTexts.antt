@@ -48,27 +48,27 @@ last_found found rest all =
     ∙ ap (λ (t : List (List ℕ)). map (λ (x : Bor (List ℕ)). x.now) found ++ t) (sym (slice_split_none (λ b. b == 10) rest.now (λ k d lt. not_ten _ (all k d lt))))
 
 pub blank_line : (d : Dictionary) (ls : List (List ℕ)) (i : ℕ) (l : List ℕ) → drop i ls ≡ l ∷ drop (i + 1) ls → header_of d l ≡ Ok None
-    → message_from d (i + 1) (drop i ls) ≡ message_from d (i + 1 + 1) (drop (i + 1) ls)
-blank_line d ls i l parts blank = ap (message_from d (i + 1)) parts ∙ rw blank refl
+    → message_from d i (drop i ls) ≡ message_from d (i + 1) (drop (i + 1) ls)
+blank_line d ls i l parts blank = ap (message_from d i) parts ∙ rw blank refl
 
 pub header_line : (d : Dictionary) (ls : List (List ℕ)) (i : ℕ) (l : List ℕ) (header : Header) → drop i ls ≡ l ∷ drop (i + 1) ls → header_of d l ≡ Ok (Some header)
-    → message_from d (i + 1) (drop i ls) ≡ body_from d header (i + 1 + 1) (drop (i + 1) ls) no_level
-header_line d ls i l header parts read = ap (message_from d (i + 1)) parts ∙ rw read refl
+    → message_from d i (drop i ls) ≡ body_from d header (i + 1) (drop (i + 1) ls) no_level
+header_line d ls i l header parts read = ap (message_from d i) parts ∙ rw read refl
 
 pub no_header_line : (d : Dictionary) (ls : List (List ℕ)) (i : ℕ) (l : List ℕ) (e : Misread) → drop i ls ≡ l ∷ drop (i + 1) ls → Fails e (header_of d l)
-    → Misses (placed e (i + 1)) (message_from d (i + 1) (drop i ls))
+    → Misses (placed e (i + 1)) (message_from d i (drop i ls))
 no_header_line d ls i l misread.NoMemory parts h = tt
-no_header_line d ls i l (misread.Fault kind) parts h = ap (message_from d (i + 1)) parts ∙ rw h refl
+no_header_line d ls i l (misread.Fault kind) parts h = ap (message_from d i) parts ∙ rw h refl
 
 pub next_line : (d : Dictionary) (header : Header) (ls : List (List ℕ)) (i : ℕ) (l : List ℕ) (level after : Level) → drop i ls ≡ l ∷ drop (i + 1) ls → (line_of d l >>= added level) ≡ Ok after
-    → body_from d header (i + 1) (drop i ls) level ≡ body_from d header (i + 1 + 1) (drop (i + 1) ls) after
-next_line d header ls i l level after parts read = ap (λ (xs : List (List ℕ)). body_from d header (i + 1) xs level) parts ∙ ap (λ r. step r (i + 1) (body_from d header (i + 1 + 1) (drop (i + 1) ls))) read
+    → body_from d header i (drop i ls) level ≡ body_from d header (i + 1) (drop (i + 1) ls) after
+next_line d header ls i l level after parts read = ap (λ (xs : List (List ℕ)). body_from d header i xs level) parts ∙ ap (λ r. step r (i + 1) (body_from d header (i + 1) (drop (i + 1) ls))) read
 
 pub bad_line : (d : Dictionary) (header : Header) (ls : List (List ℕ)) (i : ℕ) (l : List ℕ) (level : Level) (e : Misread) → drop i ls ≡ l ∷ drop (i + 1) ls → Fails e (line_of d l >>= added level)
-    → Misses (placed e (i + 1)) (body_from d header (i + 1) (drop i ls) level)
+    → Misses (placed e (i + 1)) (body_from d header i (drop i ls) level)
 bad_line d header ls i l level misread.NoMemory parts h = tt
 bad_line d header ls i l level (misread.Fault kind) parts h =
-    ap (λ (xs : List (List ℕ)). body_from d header (i + 1) xs level) parts ∙ ap (λ r. step r (i + 1) (body_from d header (i + 1 + 1) (drop (i + 1) ls))) h
+    ap (λ (xs : List (List ℕ)). body_from d header i xs level) parts ∙ ap (λ r. step r (i + 1) (body_from d header (i + 1) (drop (i + 1) ls))) h
 
-pub last_line : (d : Dictionary) (header : Header) (ls : List (List ℕ)) (i : ℕ) (level : Level) → length ls ≡ i → body_from d header (i + 1) (drop i ls) level ≡ finished header level.outer level.bytes (i + 1)
-last_line d header ls i level ends = ap (λ (xs : List (List ℕ)). body_from d header (i + 1) xs level) (drop_all i ls (omega (arith, ends)))
+pub last_line : (d : Dictionary) (header : Header) (ls : List (List ℕ)) (i : ℕ) (level : Level) → length ls ≡ i → body_from d header i (drop i ls) level ≡ finished header level.outer level.bytes i
+last_line d header ls i level ends = ap (λ (xs : List (List ℕ)). body_from d header i xs level) (drop_all i ls (omega (arith, ends)))

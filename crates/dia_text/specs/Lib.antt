@@ -1,5 +1,6 @@
 pub mod Words
 pub mod Numbers
+pub mod Faults
 pub mod Reading
 pub mod Fields
 pub mod Keys

@@ -38,22 +38,23 @@ step (Err kind) n more = Err (fault_at n kind)
 abbrev pub line_added : Dictionary → List ℕ → Level → Result Level Kind
 line_added d l level = line_of d l >>= added level
 
--- the lines behind the header; the first of them is line n
+-- the lines behind the first n, which end with the line of the header
 abbrev pub body_from : Dictionary → Header → ℕ → List (List ℕ) → Level → Result (List ℕ) Fault
 body_from d header n [] level = finished header level.outer level.bytes n
-body_from d header n (l ∷ ls) level = step (line_added d l level) n (body_from d header (n + 1) ls)
+body_from d header n (l ∷ ls) level = step (line_added d l level) (n + 1) (body_from d header (n + 1) ls)
 
 abbrev pub begin : Result (Option Header) Kind → ℕ → Result (List ℕ) Fault → (Header → Result (List ℕ) Fault) → Result (List ℕ) Fault
 begin (Ok None) n more body = more
 begin (Ok (Some header)) n more body = body header
 begin (Err kind) n more body = Err (fault_at n kind)
 
+-- the lines behind the first n, which are blank. A text that ends too early has its fault on its last line
 abbrev pub message_from : Dictionary → ℕ → List (List ℕ) → Result (List ℕ) Fault
 message_from d n [] = Err (fault_at n Syntax)
-message_from d n (l ∷ ls) = begin (header_of d l) n (message_from d (n + 1) ls) (λ header. body_from d header (n + 1) ls no_level)
+message_from d n (l ∷ ls) = begin (header_of d l) (n + 1) (message_from d (n + 1) ls) (λ header. body_from d header (n + 1) ls no_level)
 
 abbrev pub made : Dictionary → List ℕ → Result (List ℕ) Fault
-made d text = message_from d 1 (lines text)
+made d text = message_from d 0 (lines text)
 
 -- ---- what the program answers
 
@@ -72,5 +73,5 @@ IsMade (Err e) read = Misses e read
 
 -- the header, and how many lines were read up to it
 abbrev pub IsBegun : Dictionary → List (List ℕ) → Result (Header × ℕ) NotMade → Type 0
-IsBegun d ls (Ok found) = (message_from d 1 ls ≡ body_from d found.0 (found.1 + 1) (drop found.1 ls) no_level) × (found.1 ≤ length ls)
-IsBegun d ls (Err e) = Misses e (message_from d 1 ls)
+IsBegun d ls (Ok found) = (message_from d 0 ls ≡ body_from d found.0 found.1 (drop found.1 ls) no_level) × (found.1 ≤ length ls)
+IsBegun d ls (Err e) = Misses e (message_from d 0 ls)

@@ -1,6 +1,8 @@
 //! Why a text is no message.
 
 use std::alloc::{AllocError, AllocFailed};
+use std::fmt;
+use thiserror::Error;
 
 /// What is wrong with a line.
 #[derive(Clone, Copy, Debug, PartialEq, Eq)]
@@ -17,24 +19,48 @@ pub enum Kind {
     Limit,
 }
 
+/// Prints the kind's word, such as `syntax`.
+impl fmt::Display for Kind {
+    ghost use Rattle.std.specs.Prelude.{Some};
+    ghost use Rattle.dia_text.specs.Faults.{kind_word};
+
+    ghost output = { λ kind. Some (kind_word kind) };
+
+    fn fmt<W: fmt::Write>(&self, f: &mut fmt::Formatter<W>) -> fmt::Result {
+        f.write_str(match self {
+            Kind::Syntax => "syntax",
+            Kind::Name => "name",
+            Kind::Value => "value",
+            Kind::Braces => "braces",
+            Kind::Limit => "limit",
+        })
+    }
+}
+
 /// Why a line wasn't read.
-#[derive(Clone, Copy, Debug, PartialEq, Eq, Drop)]
+#[derive(Clone, Copy, Debug, PartialEq, Eq, Drop, Error)]
 pub enum Misread {
+    #[error("{0}")]
     Fault(Kind),
+    #[error("out of memory")]
     NoMemory,
 }
 
-/// The first line with which no message can go on, from 1, and what is wrong with it.
-#[derive(Clone, Copy, Debug, PartialEq, Eq)]
+/// The first line with which no message can go on, from 1, and what is wrong with it. Where the text ends too early, it is the
+/// last line. It prints as `syntax at line 3`.
+#[derive(Clone, Copy, Debug, PartialEq, Eq, Error)]
+#[error("{kind} at line {line}")]
 pub struct Fault {
     pub kind: Kind,
     pub line: usize,
 }
 
 /// Why no message was made.
-#[derive(Clone, Copy, Debug, PartialEq, Eq, Drop)]
+#[derive(Clone, Copy, Debug, PartialEq, Eq, Drop, Error)]
 pub enum NotMade {
+    #[error("{0}")]
     Fault(Fault),
+    #[error("out of memory")]
     NoMemory,
 }
 

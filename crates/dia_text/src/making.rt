@@ -1,5 +1,5 @@
 //! Texts, read: the message that a text writes.
-ghost use Rattle.std.specs.Prelude.{◌≡◌, ◌<◌, ◌≤◌, ◌+◌, ◌^◌, ◌++◌};
+ghost use Rattle.std.specs.Prelude.{◌≡◌, ◌<◌, ◌≤◌, ◌^◌, ◌++◌};
 ghost use Rattle.std.specs.Prelude.{◌≢◌, ◌∷◌, IfOk, OnOk, IfSome, All, length, drop, map};
 ghost use Rattle.dia_wire.specs.Written.{header_bytes};
 ghost use Rattle.dia_text.specs.Drafts.{Level, Stands, IsAdded};
@@ -61,7 +61,7 @@ fn header_from<B: Book>(book: &B, lines: &[&[u8]]) -> Result<(Header, usize), No
     }
     Err(NotMade::Fault(Fault {
         kind: Kind::Syntax,
-        line: lines.len() + 1,
+        line: lines.len(),
     }))
 }
 
@@ -84,7 +84,7 @@ fn body_of<B: Book>(
 ) -> Result<Vec<u8>, NotMade>
     requires within { at ≤ length lines.now }
     requires small { header.now.code < 2 ^ 24 }
-    ensures { IsMade result (body_from (B.meaning book.now) header.now (at + 1)
+    ensures { IsMade result (body_from (B.meaning book.now) header.now at
         (drop at (map (λ x. x.now) lines.now)) no_level) }
 {
     let mut out = Vec::new(alloc);
@@ -95,7 +95,7 @@ fn body_of<B: Book>(
             Err(misread) => return Err(placed(misread, index + 1)),
         }
     }
-    finish(alloc, header, &out, &groups, lines.len() + 1)
+    finish(alloc, header, &out, &groups, lines.len())
 }
 
 fn take_line<B: Book>(
