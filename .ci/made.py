@@ -148,7 +148,7 @@ def white_space(room):
     blanks = itertools.cycle(" \t\n\r\r")
     room.write("request.row", "".join(digit.upper() + next(blanks) for digit in REQUEST))
     unnamed = "header flags 80 code 280 app 0 hop 1 end 2 length 44\n20 0 264 - 40 11 ? x612e62\n32 0 296 - 40 9 ? x62"
-    room.check("show --dict empty.txt request.row", 0, unnamed)
+    room.check("show --dict empty.txt request.row", 0, unnamed, err="empty.txt: the dictionary is empty: it has no declaration and no definition")
 
 
 PARTS = (deep, two_faults, pieces, white_space)

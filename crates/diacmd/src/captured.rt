@@ -108,7 +108,9 @@ where
         Ok(reported) => {
             if !quiet && reported.exit != Exit::Bad {
                 summarize(rt, &mut sink);
-                tell_front(rt, name, lines, &feed.kept);
+                if feed.is_telling() {
+                    tell_front(rt, name, lines, &feed.kept);
+                }
             }
             Ok(reported)
         }

@@ -2,6 +2,7 @@
 
 ghost use Rattle.std.specs.Prelude.{◌≡◌};
 
+use dia_explain_places::is_white;
 use dia_io::{Failed, Feed};
 use std::alloc::Global;
 
@@ -24,6 +25,11 @@ impl<F: Feed> Front<F> {
             feed,
             kept: Vec::new(alloc),
         }
+    }
+
+    /// Whether what is kept shows how the text begins: it is all of the text, or more than blanks.
+    pub(crate) fn is_telling(&self) -> bool {
+        self.kept.len() < MOST || self.kept.iter().any(|byte| !is_white(*byte))
     }
 }
 

@@ -80,7 +80,7 @@ where
     } = request;
     let inputs = open_inputs(rt.alloc(), &OfProcess::new(rt), &origins)?;
     let reported = run_task(rt, &task, &inputs, &origins, quiet)?;
-    if !quiet {
+    if !quiet && !matches!(&task, Task::Breaking { .. }) {
         let texts = texts_of(&origins, &inputs);
         note(rt, &texts, names_of(&task), &reported.report);
         if let (Task::Whole(Command::Show), Origin::Base) = (&task, origins.first) {
