@@ -1,3 +1,4 @@
+mod Endings
 mod OneMessage
 mod LinesOfMessages
 mod RefusedRuns

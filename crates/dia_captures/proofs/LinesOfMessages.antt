@@ -1,5 +1,6 @@
 -- The lines of a text, each a message.
-use Rattle.std.proofs.Common.{◌≡◌, ◌≢◌, ℕ, List, [], Option, refl, sym, ap, ◌∙◌, inl, inr}
+use Rattle.std.proofs.Common.{◌≡◌, ◌≢◌, ℕ, List, [], ◌∷◌, Option, map, refl, sym, ap, ◌∙◌, inl, inr}
+use Rattle.std.specs.List.{flat_map}
 use Rattle.std.specs.Io.KnownBytes.{Appends}
 use Rattle.std.proofs.KnownBytes.{Appends-nil, Consumes-nil}
 use Rattle.dia_dict.specs.Dictionary.{Dictionary}
@@ -11,40 +12,59 @@ use Rattle.dia_io.specs.declared.Exit.{Exit}
 use Rattle.dia_io.specs.declared.Exit.TheVariants as exits
 use Rattle.dia_io.specs.declared.Command.TheVariants as command
 use Rattle.dia_io.specs.Writing.{AppendsFront}
-use Rattle.dia_lines.specs.declared.answered.Ended.{Ended}
-use Rattle.dia_lines.specs.Lines.{IsLineInput, IsAnswered, LineHasOneAnswer, ended_of}
+use Rattle.dia_lines.specs.Lines.{IsLineInput, LineHasOneAnswer}
 use Rattle.dia_lines.specs.Lines as lines
 use Rattle.dia_lines.specs.FeedToSink.{AllAnswered, FrontAnswered, LinesAnswered}
 use Rattle.dia_lines.proofs.OneAnswer.{text_once}
-use Rattle.dia_lines.proofs.OtherAnswers.{IsAnswered-map, FrontAnswered-map, LinesAnswered-map}
-use Rattle.dia_run.specs.declared.inputs.Refused.{Refused}
-use Rattle.dia_run.specs.declared.inputs.Refused.TheVariants.{Bad, NoMemory}
-use Rattle.dia_run.specs.Texts.{line, dictionary_line, IsDictionaryText}
-use Rattle.dia_run.specs.Refusals.{TellsOf, bad_input_text}
+use Rattle.dia_lines.proofs.OtherAnswers.{IsAnswered-map, FrontAnswered-map, LinesAnswered-map, same_text}
+use Rattle.dia_report.specs.declared.refusing.Refused.{Refused}
+use Rattle.dia_report.specs.declared.refusing.Refused.TheVariants.{Bad, NoMemory}
+use Rattle.dia_report.specs.Refusals.{dictionary_line}
+use Rattle.dia_run.specs.Texts.{line, IsDictionaryText}
+use Rattle.dia_report.specs.Refusals.{TellsOf, bad_input_text}
 use Rattle.dia_run.proofs.OneInput.{Same, refused_once, dictionary_or_not, one_reason_for_dictionary}
 use Rattle.dia_run.proofs.OneOutcome.{one_outcome}
-use Rattle.dia_captures.specs.Lines.{MessageCommand, OfLine, IsLinesOutcome, answered, refused, AreLinesAnswered, IsFrontPut, RefusesFirst, checks, refutations}
+use Rattle.dia_captures.specs.declared.ended.Ended.{Ended}
+use Rattle.dia_captures.specs.Ending.{ended_of}
+use Rattle.dia_captures.specs.Lines.{Answer, MessageCommand, OfLine, text_of, IsLinesOutcome, answered, refused, AreLinesAnswered, IsFrontPut, RefusesFirst, checks, refutations}
 use Rattle.dia_captures.proofs.OneMessage.{same_check, same_refute}
+
+-- the exits of verdicts are those of the answers
+pub same_exits : {V A : Type 0} (g : V → A) (h : A → Exit) (exit_of : V → Exit) → ((verdict : V) → exit_of verdict ≡ h (g verdict)) → (verdicts : List V)
+    → map exit_of verdicts ≡ map h (map g verdicts)
+same_exits g h exit_of same [] = refl
+same_exits g h exit_of same (v ∷ vs) = ap (λ (x : Exit). x ∷ map exit_of vs) (same v) ∙ ap (λ (xs : List Exit). h (g v) ∷ xs) (same_exits g h exit_of same vs)
 
 -- ---- lines that were answered
 
-module _ (command : MessageCommand) (inputs : Inputs) (P : Input → List ℕ → Exit → Type 0)
-    (f : (message : Input) (told : List ℕ) (exit : Exit) → P message told exit → OfLine command inputs message told exit) where
-  pub all_answered : (fed_old fed put_old put : Option (List ℕ)) (ended : Ended) (exit : Exit) → ((told : List ℕ) → ¬ command.refuses inputs told)
-      → exit ≡ command.exit_of ended → AllAnswered P fed_old fed put_old put ended → AreLinesAnswered command inputs fed_old fed put_old put exit
-  all_answered fed_old fed put_old put ended exit sound is h = record {
+module _ {V : Type 0} (command : MessageCommand) (inputs : Inputs) (P : Input → V → Type 0) (told : V → List ℕ) (exit_of : V → Exit)
+    (f : (message : Input) (verdict : V) → P message verdict → OfLine command inputs message (told verdict, exit_of verdict)) where
+  abbrev answer : V → Answer
+  answer verdict = (told verdict, exit_of verdict)
+
+  same : (verdict : V) → told verdict ≡ text_of (answer verdict)
+  same verdict = refl
+
+  pub all_answered : {W : Type 0} (saw : W → List V → Type 0) (fed_old fed put_old put : Option (List ℕ)) (w x : W)
+      → AllAnswered P told saw fed_old fed put_old put w x → (ended : Ended) (exit : Exit)
+      → ((told : List ℕ) → ¬ command.refuses inputs told) → exit ≡ command.exit_of ended → saw w []
+      → ((verdicts : List V) → saw x verdicts → ended ≡ ended_of (map exit_of verdicts)) → AreLinesAnswered command inputs fed_old fed put_old put exit
+  all_answered saw fed_old fed put_old put w x h ended exit sound is nothing counts = record {
     bytes = h.bytes;
-    text = h.text;
+    text = flat_map told h.verdicts;
     consumed = h.consumed;
-    outcome = answered h.exits sound (IsAnswered-map P (OfLine command inputs) f h.bytes h.text h.exits h.answered) (is ∙ ap command.exit_of h.ends);
+    outcome = answered (map answer h.verdicts) sound (IsAnswered-map P (OfLine command inputs) answer f h.bytes h.verdicts h.answered)
+        (same_text P (OfLine command inputs) answer f told text_of same h.verdicts)
+        (is ∙ ap command.exit_of (counts h.verdicts (h.seen [] nothing) ∙ ap ended_of (same_exits answer (λ (a : Answer). a.1) exit_of (λ verdict. refl) h.verdicts)));
     is_put = h.is_put;
   }
 
-  pub front_put : (fed_old fed put_old put : Option (List ℕ)) → FrontAnswered P fed_old fed put_old put → IsFrontPut command inputs fed_old fed put_old put
-  front_put fed_old fed put_old put h = inl (FrontAnswered-map P (OfLine command inputs) f fed_old fed put_old put h)
+  pub front_put : (fed_old fed put_old put : Option (List ℕ)) → FrontAnswered P told fed_old fed put_old put → IsFrontPut command inputs fed_old fed put_old put
+  front_put fed_old fed put_old put h = inl (FrontAnswered-map P (OfLine command inputs) answer f told text_of same fed_old fed put_old put h)
 
-  pub lines_answered : (fed_old fed put_old put : Option (List ℕ)) → LinesAnswered P fed_old fed put_old put → LinesAnswered (OfLine command inputs) fed_old fed put_old put
-  lines_answered fed_old fed put_old put h = LinesAnswered-map P (OfLine command inputs) f fed_old fed put_old put h
+  pub lines_answered : (fed_old fed put_old put : Option (List ℕ)) → LinesAnswered P told fed_old fed put_old put
+      → LinesAnswered (OfLine command inputs) text_of fed_old fed put_old put
+  lines_answered fed_old fed put_old put h = LinesAnswered-map P (OfLine command inputs) answer f told text_of same fed_old fed put_old put h
 
 -- ---- dictionaries that are refused
 
@@ -66,12 +86,11 @@ module _ (command : MessageCommand) (inputs : Inputs) where
   front_refused fed put_old put NoMemory some tells is_put = absurd (some refl)
 
   -- no memory for a dictionary
-  pub nothing_answered : (fed put : Option (List ℕ)) → LinesAnswered (OfLine command inputs) fed fed put put
+  pub nothing_answered : (fed put : Option (List ℕ)) → LinesAnswered (OfLine command inputs) text_of fed fed put put
   nothing_answered fed put = record {
     lines = [];
     rest = [];
-    text = [];
-    exits = [];
+    verdicts = [];
     consumed = Consumes-nil fed;
     answered = lines.none;
     is_put = Appends-nil put;
@@ -81,8 +100,7 @@ module _ (command : MessageCommand) (inputs : Inputs) where
   nothing_put fed put = inl (record {
     front = [];
     rest = [];
-    text = [];
-    exits = [];
+    verdicts = [];
     consumed = Consumes-nil fed;
     answered = inl lines.none;
     is_put = ([], [], refl, Appends-nil put);
@@ -93,22 +111,27 @@ module _ (command : MessageCommand) (inputs : Inputs) where
 module _ (command : MessageCommand) (inputs : Inputs) (one_line : LineHasOneAnswer (OfLine command inputs))
     (one_reason : (m n : List ℕ) → command.refuses inputs m → command.refuses inputs n → m ≡ n) where
   once : (bytes t u : List ℕ) (x y : Exit) → IsLinesOutcome command inputs bytes t x → IsLinesOutcome command inputs bytes u y → Same t u x y
-  once bytes t u x y (answered exits sound h is) (answered endings sound' k is') =
-      let same = text_once (OfLine command inputs) one_line bytes t u exits endings h k in
-      (same.0, is ∙ ap (λ (e : List Exit). command.exit_of (ended_of e)) same.1 ∙ sym is')
-  once bytes t u x y (answered exits sound h is) (refused told refuses is_u) = absurd (sound told refuses)
-  once bytes t u x y (refused told refuses is_t) (answered exits sound h is) = absurd (sound told refuses)
+  once bytes t u x y (answered answers sound h is_t is) (answered others sound' k is_u is') =
+      let same = text_once (OfLine command inputs) one_line bytes answers others h k in (
+        is_t ∙ ap (λ (a : List Answer). flat_map text_of a) same ∙ sym is_u,
+        is ∙ ap (λ (a : List Answer). command.exit_of (ended_of (map (λ (b : Answer). b.1) a))) same ∙ sym is',
+      )
+  once bytes t u x y (answered answers sound h is_t is) (refused told refuses is_u) = absurd (sound told refuses)
+  once bytes t u x y (refused told refuses is_t) (answered answers sound h is_u is) = absurd (sound told refuses)
   once bytes t u x y (refused told refuses is_t) (refused other refuses' is_u) = refused_once told other t u x y (one_reason told other refuses refuses') is_t is_u
 
+pub same_answer : (a b : Answer) → Same a.0 b.0 a.1 b.1 → a ≡ b
+same_answer (t, x) (u, y) (same_text, same_exit) = ap (λ (s : List ℕ). (s, x)) same_text ∙ ap (λ (e : Exit). (u, e)) same_exit
+
 pub one_check : (u : Unknown) (most : Levels) (inputs : Inputs) → LineHasOneAnswer (OfLine (checks u most) inputs)
-one_check policy most inputs bytes t u a b x y h k is is' =
-    one_outcome (command.Check policy most) (record { first = inputs.first; second = inputs.second; table = inputs.table; message = b }) t u x y
-    (same_check policy most inputs a b bytes t x h k is) is'
+one_check policy most inputs bytes a b t u h k is is' =
+    same_answer t u (one_outcome (command.Check policy most) (record { first = inputs.first; second = inputs.second; table = inputs.table; message = b }) t.0 u.0 t.1 u.1
+    (same_check policy most inputs a b bytes t h k is) is')
 
 pub one_refute : (u : Unknown) (most : Levels) (inputs : Inputs) → LineHasOneAnswer (OfLine (refutations u most) inputs)
-one_refute policy most inputs bytes t u a b x y h k is is' =
-    one_outcome (command.Refute policy most) (record { first = inputs.first; second = inputs.second; table = inputs.table; message = b }) t u x y
-    (same_refute policy most inputs a b bytes t x h k is) is'
+one_refute policy most inputs bytes a b t u h k is is' =
+    same_answer t u (one_outcome (command.Refute policy most) (record { first = inputs.first; second = inputs.second; table = inputs.table; message = b }) t.0 u.0 t.1 u.1
+    (same_refute policy most inputs a b bytes t h k is) is')
 
 pub one_first : (inputs : Inputs) (m n : List ℕ) → RefusesFirst inputs m → RefusesFirst inputs n → m ≡ n
 one_first inputs m n (why, none, is) (why', none', is') = is ∙ ap (dictionary_line 1) (one_reason_for_dictionary inputs.first why why' none none') ∙ sym is'

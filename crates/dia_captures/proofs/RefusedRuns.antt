@@ -12,15 +12,16 @@ use Rattle.dia_io.specs.Writing.{AppendsFront}
 use Rattle.dia_lines.specs.declared.fault.LinesFault.{LinesFault}
 use Rattle.dia_lines.specs.declared.fault.LinesFault.TheVariants as faults
 use Rattle.dia_lines.specs.FeedToSink.{LinesAnswered}
-use Rattle.dia_run.specs.declared.inputs.Refused.{Refused}
-use Rattle.dia_run.specs.declared.reporting.Answered.{Answered}
-use Rattle.dia_run.specs.declared.reporting.Reported.{Reported}
-use Rattle.dia_run.specs.declared.inputs.Refused.TheVariants.{Bad, NoMemory}
-use Rattle.dia_run.specs.Texts.{line, dictionary_line, IsDictionaryText, IsNoDictionaryText}
-use Rattle.dia_run.specs.Refusals.{TellsOf}
+use Rattle.dia_report.specs.declared.refusing.Refused.{Refused}
+use Rattle.dia_report.specs.declared.reporting.Answered.{Answered}
+use Rattle.dia_report.specs.declared.refusing.Refused.TheVariants.{Bad, NoMemory}
+use Rattle.dia_report.specs.Refusals.{dictionary_line}
+use Rattle.dia_run.specs.Texts.{line, IsDictionaryText, IsNoDictionaryText}
+use Rattle.dia_report.specs.Refusals.{TellsOf}
 use Rattle.dia_run.specs.Report.{TellsRefusal}
 use Rattle.dia_run.proofs.RefusedInputs.{TellsOf-map}
-use Rattle.dia_captures.specs.Lines.{MessageCommand, OfLine, AreLinesAnswered, IsFrontPut, RefusesFirst, refutations}
+use Rattle.dia_captures.specs.declared.runs.Captured.{Captured}
+use Rattle.dia_captures.specs.Lines.{MessageCommand, OfLine, text_of, AreLinesAnswered, IsFrontPut, RefusesFirst, refutations}
 use Rattle.dia_captures.proofs.LinesOfMessages.{all_refused, front_refused, nothing_answered, nothing_put}
 
 -- what holds of a refusal's text holds of the line that it is
@@ -50,15 +51,15 @@ second_tells u most inputs a r is_a h =
 
 module _ (command : MessageCommand) (inputs : Inputs) (fed old new : Option (List ℕ)) (why : Refused) where
   -- its line was put
-  pub refusal_answered : (r : Result Reported LinesFault) → TellsOf (command.refuses inputs) why → (why ≡ NoMemory → r ≡ Err faults.NoMemory)
-      → IfOk r (λ x. x.exit ≡ exits.Bad) → (IsOk r → TellsOf (λ told. Appends old new (line told)) why)
-      → IfOk r (λ x. AreLinesAnswered command inputs fed fed old new x.exit)
+  pub refusal_answered : (r : Result Captured LinesFault) → TellsOf (command.refuses inputs) why → (why ≡ NoMemory → r ≡ Err faults.NoMemory)
+      → IfOk r (λ x. x.reported.exit ≡ exits.Bad) → (IsOk r → TellsOf (λ told. Appends old new (line told)) why)
+      → IfOk r (λ x. AreLinesAnswered command inputs fed fed old new x.reported.exit)
   refusal_answered (Ok x) tells memory bad is_put =
-      all_refused command inputs fed old new why x.exit (λ none. let e : Ok x ≡ Err faults.NoMemory = memory none in cc) tells (is_put refl) bad
+      all_refused command inputs fed old new why x.reported.exit (λ none. let e : Ok x ≡ Err faults.NoMemory = memory none in cc) tells (is_put refl) bad
   refusal_answered (Err fault) tells memory bad is_put = tt
 
   -- a beginning of it was put, or nothing
-  pub refusal_front : (r : Result Reported LinesFault) → TellsOf (command.refuses inputs) why → (why ≡ NoMemory → r ≡ Err faults.NoMemory)
+  pub refusal_front : (r : Result Captured LinesFault) → TellsOf (command.refuses inputs) why → (why ≡ NoMemory → r ≡ Err faults.NoMemory)
       → (r ≡ Err faults.Device → TellsOf (λ told. AppendsFront old new (line told)) why) → (r ≡ Err faults.NoMemory → new ≡ old)
       → r ≢ Err faults.Endless → IsErr r → IsFrontPut command inputs fed fed old new
   refusal_front (Ok x) tells memory front nothing counted err = absurd (false≢true err)
@@ -69,6 +70,6 @@ module _ (command : MessageCommand) (inputs : Inputs) (fed old new : Option (Lis
   refusal_front (Err faults.Endless) tells memory front nothing counted err = absurd (counted refl)
 
 -- no memory for a dictionary
-pub refusal_nothing : (command : MessageCommand) (inputs : Inputs) (fed old new : Option (List ℕ)) → new ≡ old → LinesAnswered (OfLine command inputs) fed fed old new
+pub refusal_nothing : (command : MessageCommand) (inputs : Inputs) (fed old new : Option (List ℕ)) → new ≡ old → LinesAnswered (OfLine command inputs) text_of fed fed old new
 refusal_nothing command inputs fed old new same =
-    subst (λ (p : Option (List ℕ)). LinesAnswered (OfLine command inputs) fed fed old p) (sym same) (nothing_answered command inputs fed old)
+    subst (λ (p : Option (List ℕ)). LinesAnswered (OfLine command inputs) text_of fed fed old p) (sym same) (nothing_answered command inputs fed old)

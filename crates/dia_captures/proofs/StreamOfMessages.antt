@@ -1,6 +1,7 @@
 -- The messages of a stream.
-use Rattle.std.proofs.Common.{◌≡◌, ◌≢◌, ℕ, ◌++◌, List, [], Option, Result, Ok, Err, refl, sym, ap, subst, ◌∙◌, inl, inr}
+use Rattle.std.proofs.Common.{◌≡◌, ◌≢◌, ℕ, ◌++◌, List, [], Option, None, Some, map, Result, Ok, Err, refl, sym, ap, subst, ◌∙◌, inl, inr}
 use Rattle.std.specs.Prelude.{IfOk, IsErr, IsOk}
+use Rattle.std.specs.List.{flat_map}
 use Rattle.std.specs.Io.KnownBytes.{Appends}
 use Rattle.std.proofs.KnownBytes.{Appends-nil, Consumes-nil}
 use Rattle.std.proofs.lemmas.Bool.{false≢true}
@@ -11,50 +12,62 @@ use Rattle.dia_io.specs.declared.Inputs.{Inputs}
 use Rattle.dia_io.specs.declared.Exit.{Exit}
 use Rattle.dia_io.specs.declared.Exit.TheVariants as exits
 use Rattle.dia_io.specs.Writing.{AppendsFront}
-use Rattle.dia_lines.specs.declared.answered.Ended.{Ended}
 use Rattle.dia_lines.specs.declared.fault.LinesFault.{LinesFault}
 use Rattle.dia_lines.specs.declared.fault.LinesFault.TheVariants as faults
-use Rattle.dia_lines.specs.Lines.{ended_of}
-use Rattle.dia_streams.specs.Streams.{AllTold, BytesHaveOneText, SomeTold, WholeTold, IsFrontTold}
+use Rattle.dia_streams.specs.Streams.{AllTold, BytesHaveOneVerdict, SomeTold, WholeTold, IsFrontTold}
 use Rattle.dia_streams.proofs.OneStream.{stream_once}
 use Rattle.dia_streams.specs.Streams as streams
-use Rattle.dia_streams.proofs.OtherLines.{IsStreamTold-map, SomeTold-map, WholeTold-map}
-use Rattle.dia_run.specs.declared.inputs.Refused.{Refused}
-use Rattle.dia_run.specs.declared.reporting.Reported.{Reported}
-use Rattle.dia_run.specs.declared.inputs.Refused.TheVariants.{Bad, NoMemory}
+use Rattle.dia_streams.proofs.OtherLines.{IsStreamTold-map, SomeTold-map, WholeTold-map, at_place, same_lines}
+use Rattle.dia_report.specs.declared.refusing.Refused.{Refused}
+use Rattle.dia_captures.specs.declared.runs.Captured.{Captured}
+use Rattle.dia_report.specs.declared.refusing.Refused.TheVariants.{Bad, NoMemory}
 use Rattle.dia_run.specs.Texts.{line, IsDictionaryText}
-use Rattle.dia_run.specs.Refusals.{TellsOf, bad_input_text}
+use Rattle.dia_report.specs.Refusals.{TellsOf, bad_input_text}
 use Rattle.dia_run.specs.Outcome.{IsJudged}
-use Rattle.dia_captures.specs.Lines.{RefusesFirst, checks}
+use Rattle.dia_captures.specs.declared.ended.Ended.{Ended}
+use Rattle.dia_captures.specs.declared.verdicts.Checked.{Checked}
+use Rattle.dia_captures.specs.Ending.{ended_of}
+use Rattle.dia_captures.specs.Verdicts.{IsPieceChecked, checked_exit, checked_line, placed_line}
+use Rattle.dia_captures.specs.Lines.{Answer, RefusesFirst, checks}
 use Rattle.dia_run.proofs.OneInput.{Same, one_dictionary, refused_once}
 use Rattle.dia_run.proofs.OneOutcome.{judged_once}
-use Rattle.dia_captures.specs.Streams.{OfMessage, IsStreamAnswered, IsStreamFrontPut, IsStreamOutcome, told, refused}
-use Rattle.dia_captures.proofs.LinesOfMessages.{first_stands, one_first}
+use Rattle.dia_captures.specs.Streams.{OfMessage, placed, IsStreamAnswered, IsStreamFrontPut, IsStreamOutcome, told, refused}
+use Rattle.dia_captures.proofs.OneMessage.{of_piece}
+use Rattle.dia_captures.proofs.LinesOfMessages.{first_stands, one_first, same_answer, same_exits}
 
 module _ (u : Unknown) (most : Levels) (inputs : Inputs) where
   -- ---- a dictionary that was read
 
   module _ (d : Dictionary) (is_d : IsDictionaryText inputs.first d) (fed_old fed put_old put : Option (List ℕ)) where
-    under : (bytes text : List ℕ) (exit : Exit) → IsJudged u most d bytes text exit → OfMessage u most inputs bytes text exit
-    under bytes text exit h = (d, is_d, h)
+    abbrev answer : Checked → Answer
+    answer verdict = (checked_line d verdict, checked_exit verdict)
 
-    pub stream_answered : (ended : Ended) (exit : Exit) → exit ≡ (checks u most).exit_of ended → AllTold (IsJudged u most d) fed_old fed put_old put ended
+    same : (v : ℕ × Checked) → placed_line d v ≡ placed (at_place (IsPieceChecked u most d) (OfMessage u most inputs) answer (of_piece u most inputs d is_d) v)
+    same v = refl
+
+    pub stream_answered : {W : Type 0} (saw : W → List (ℕ × Checked) → Type 0) (w x : W)
+        → AllTold (IsPieceChecked u most d) (placed_line d) saw fed_old fed put_old put w x → (ended : Ended) (exit : Exit) → exit ≡ (checks u most).exit_of ended → saw w []
+        → ((verdicts : List (ℕ × Checked)) → saw x verdicts → ended ≡ ended_of (map (λ (v : ℕ × Checked). checked_exit v.1) verdicts))
         → IsStreamAnswered u most inputs fed_old fed put_old put exit
-    stream_answered ended exit is h = record {
+    stream_answered saw w x h ended exit is nothing counts = record {
       read = h.read;
-      text = h.text;
+      text = flat_map (placed_line d) h.verdicts;
       consumed = h.consumed;
-      outcome = λ rest gives. told h.exits (first_stands inputs d is_d)
-          (IsStreamTold-map (IsJudged u most d) (OfMessage u most inputs) under (h.read ++ rest) h.text h.exits (h.told rest gives))
-          (is ∙ ap (checks u most).exit_of h.ends);
+      outcome = λ rest gives. told (map (at_place (IsPieceChecked u most d) (OfMessage u most inputs) answer (of_piece u most inputs d is_d)) h.verdicts)
+          (first_stands inputs d is_d)
+          (IsStreamTold-map (IsPieceChecked u most d) (OfMessage u most inputs) answer (of_piece u most inputs d is_d) (h.read ++ rest) h.verdicts (h.told rest gives))
+          (same_lines (IsPieceChecked u most d) (OfMessage u most inputs) answer (of_piece u most inputs d is_d) (placed_line d) placed same h.verdicts)
+          (is ∙ ap (checks u most).exit_of (counts h.verdicts (h.seen [] nothing) ∙ ap ended_of
+          (same_exits (at_place (IsPieceChecked u most d) (OfMessage u most inputs) answer (of_piece u most inputs d is_d)) (λ (a : ℕ × Answer). a.1.1)
+          (λ (v : ℕ × Checked). checked_exit v.1) (λ v. refl) h.verdicts)));
       is_put = h.is_put;
     }
 
-    pub stream_front : SomeTold (IsJudged u most d) fed_old fed put_old put → IsStreamFrontPut u most inputs fed_old fed put_old put
-    stream_front h = inl (SomeTold-map (IsJudged u most d) (OfMessage u most inputs) under fed_old fed put_old put h)
+    pub stream_front : SomeTold (IsPieceChecked u most d) (placed_line d) fed_old fed put_old put → IsStreamFrontPut u most inputs fed_old fed put_old put
+    stream_front h = inl (SomeTold-map (IsPieceChecked u most d) (OfMessage u most inputs) answer (of_piece u most inputs d is_d) (placed_line d) placed same fed_old fed put_old put h)
 
-    pub stream_whole : WholeTold (IsJudged u most d) fed_old fed put_old put → WholeTold (OfMessage u most inputs) fed_old fed put_old put
-    stream_whole h = WholeTold-map (IsJudged u most d) (OfMessage u most inputs) under fed_old fed put_old put h
+    pub stream_whole : WholeTold (IsPieceChecked u most d) (placed_line d) fed_old fed put_old put → WholeTold (OfMessage u most inputs) placed fed_old fed put_old put
+    stream_whole h = WholeTold-map (IsPieceChecked u most d) (OfMessage u most inputs) answer (of_piece u most inputs d is_d) (placed_line d) placed same fed_old fed put_old put h
 
   -- ---- one that is refused
 
@@ -64,38 +77,37 @@ module _ (u : Unknown) (most : Levels) (inputs : Inputs) where
     left = [];
     whole = [];
     rest = [];
-    exits = [];
     parts = refl;
     spelled = tt;
     told = streams.none;
   }
 
   module _ (fed old new : Option (List ℕ)) where
-    nothing_told : WholeTold (OfMessage u most inputs) fed fed old old
+    nothing_told : WholeTold (OfMessage u most inputs) placed fed fed old old
     nothing_told = record {
       read = [];
-      text = [];
+      verdicts = [];
       consumed = Consumes-nil fed;
       told = no_text;
       is_put = Appends-nil old;
     }
 
-    pub stream_nothing : new ≡ old → WholeTold (OfMessage u most inputs) fed fed old new
-    stream_nothing same = subst (λ (p : Option (List ℕ)). WholeTold (OfMessage u most inputs) fed fed old p) (sym same) nothing_told
+    pub stream_nothing : new ≡ old → WholeTold (OfMessage u most inputs) placed fed fed old new
+    stream_nothing same = subst (λ (p : Option (List ℕ)). WholeTold (OfMessage u most inputs) placed fed fed old p) (sym same) nothing_told
 
-    nothing_in_front : SomeTold (OfMessage u most inputs) fed fed old old
+    nothing_in_front : SomeTold (OfMessage u most inputs) placed fed fed old old
     nothing_in_front = record {
       read = [];
-      text = [];
+      verdicts = [];
       consumed = Consumes-nil fed;
       told = inl no_text;
       is_put = ([], [], refl, Appends-nil old);
     }
 
     -- its line was put
-    pub stream_refused : (why : Refused) (r : Result Reported LinesFault) → TellsOf (RefusesFirst inputs) why → (why ≡ NoMemory → r ≡ Err faults.NoMemory)
-        → IfOk r (λ x. x.exit ≡ exits.Bad) → (IsOk r → TellsOf (λ text. Appends old new (line text)) why)
-        → IfOk r (λ x. IsStreamAnswered u most inputs fed fed old new x.exit)
+    pub stream_refused : (why : Refused) (r : Result Captured LinesFault) → TellsOf (RefusesFirst inputs) why → (why ≡ NoMemory → r ≡ Err faults.NoMemory)
+        → IfOk r (λ x. x.reported.exit ≡ exits.Bad) → (IsOk r → TellsOf (λ text. Appends old new (line text)) why)
+        → IfOk r (λ x. IsStreamAnswered u most inputs fed fed old new x.reported.exit)
     stream_refused (Bad bad) (Ok x) tells memory is_bad is_put = record {
       read = [];
       text = line (bad_input_text bad);
@@ -107,7 +119,7 @@ module _ (u : Unknown) (most : Levels) (inputs : Inputs) where
     stream_refused why (Err fault) tells memory is_bad is_put = tt
 
     -- a beginning of it was put, or nothing
-    pub stream_refused_front : (why : Refused) (r : Result Reported LinesFault) → TellsOf (RefusesFirst inputs) why → (why ≡ NoMemory → r ≡ Err faults.NoMemory)
+    pub stream_refused_front : (why : Refused) (r : Result Captured LinesFault) → TellsOf (RefusesFirst inputs) why → (why ≡ NoMemory → r ≡ Err faults.NoMemory)
         → (r ≡ Err faults.Device → TellsOf (λ text. AppendsFront old new (line text)) why) → (r ≡ Err faults.NoMemory → new ≡ old)
         → r ≢ Err faults.Endless → IsErr r → IsStreamFrontPut u most inputs fed fed old new
     stream_refused_front why (Ok x) tells memory front nothing counted err = absurd (false≢true err)
@@ -121,15 +133,18 @@ module _ (u : Unknown) (most : Levels) (inputs : Inputs) where
 -- ---- one text
 
 module _ (u : Unknown) (most : Levels) (inputs : Inputs) where
-  message_once : BytesHaveOneText (OfMessage u most inputs)
-  message_once bytes t o x y (d, is_d, judged) (e, is_e, judged') =
+  message_once : BytesHaveOneVerdict (OfMessage u most inputs)
+  message_once (Some bytes) t o (d, is_d, judged) (e, is_e, judged') =
       let same = one_dictionary inputs.first e d is_e is_d in
-      judged_once u most d bytes t o x y is_d.4 judged (subst (λ (b : Dictionary). IsJudged u most b bytes o y) same judged')
+      same_answer t o (judged_once u most d bytes t.0 o.0 t.1 o.1 is_d.4 judged (subst (λ (b : Dictionary). IsJudged u most b bytes o.0 o.1) same judged'))
+  message_once None t o (is_t, is_x) (is_o, is_y) = same_answer t o (is_t ∙ sym is_o, is_x ∙ sym is_y)
 
   pub stream_outcome_once : (stream t o : List ℕ) (x y : Exit) → IsStreamOutcome u most inputs stream t x → IsStreamOutcome u most inputs stream o y → Same t o x y
-  stream_outcome_once stream t o x y (told exits sound h is) (told endings sound' k is') =
-      let same = stream_once (OfMessage u most inputs) message_once stream t o exits endings h k in
-      (same.0, is ∙ ap (λ (e : List Exit). (checks u most).exit_of (ended_of e)) same.1 ∙ sym is')
-  stream_outcome_once stream t o x y (told exits sound h is) (refused why refuses is_o) = absurd (sound why refuses)
-  stream_outcome_once stream t o x y (refused why refuses is_t) (told exits sound h is) = absurd (sound why refuses)
+  stream_outcome_once stream t o x y (told answers sound h is_t is) (told others sound' k is_o is') =
+      let same = stream_once (OfMessage u most inputs) message_once stream answers others h k in (
+        is_t ∙ ap (λ (a : List (ℕ × Answer)). flat_map placed a) same ∙ sym is_o,
+        is ∙ ap (λ (a : List (ℕ × Answer)). (checks u most).exit_of (ended_of (map (λ (b : ℕ × Answer). b.1.1) a))) same ∙ sym is',
+      )
+  stream_outcome_once stream t o x y (told answers sound h is_t is) (refused why refuses is_o) = absurd (sound why refuses)
+  stream_outcome_once stream t o x y (refused why refuses is_t) (told answers sound h is_o is) = absurd (sound why refuses)
   stream_outcome_once stream t o x y (refused why refuses is_t) (refused other refuses' is_o) = refused_once why other t o x y (one_first inputs why other refuses refuses') is_t is_o

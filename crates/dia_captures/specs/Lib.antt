@@ -1,3 +1,4 @@
-pub mod OneMessage
+pub mod Ending
 pub mod Lines
 pub mod Streams
+pub mod Verdicts

@@ -1,5 +1,6 @@
 -- `check` and `refute` of a text that has a message a line.
-use Rattle.std.specs.Prelude.{◌≡◌, ℕ, ◌⊎◌, List, [], Option, if◌then◌else◌}
+use Rattle.std.specs.Prelude.{◌≡◌, ℕ, ◌⊎◌, List, [], Option, map, if◌then◌else◌}
+use Rattle.std.specs.List.{flat_map}
 use Rattle.std.specs.Io.KnownBytes.{Appends, Consumes}
 use Rattle.dia_dict.specs.Dictionary.{Dictionary}
 use Rattle.dia_policy.specs.declared.Unknown.{Unknown}
@@ -9,11 +10,13 @@ use Rattle.dia_io.specs.declared.Inputs.{Inputs}
 use Rattle.dia_io.specs.declared.Exit.{Exit}
 use Rattle.dia_io.specs.declared.Exit.TheVariants.{Yes, No}
 use Rattle.dia_io.specs.Writing.{AppendsFront}
-use Rattle.dia_lines.specs.declared.answered.Ended.{Ended}
-use Rattle.dia_lines.specs.Lines.{IsAnswered, ended_of}
+use Rattle.dia_lines.specs.Lines.{IsAnswered}
 use Rattle.dia_lines.specs.FeedToSink.{FrontAnswered}
-use Rattle.dia_run.specs.Texts.{line, dictionary_line, IsDictionaryText, IsNoDictionaryText}
+use Rattle.dia_report.specs.Refusals.{dictionary_line}
+use Rattle.dia_run.specs.Texts.{line, IsDictionaryText, IsNoDictionaryText}
 use Rattle.dia_run.specs.Outcome.{IsCheckOutcome, IsRefuteOutcome, Refuses}
+use Rattle.dia_captures.specs.declared.ended.Ended.{Ended}
+use Rattle.dia_captures.specs.Ending.{ended_of}
 
 -- a command of one message: what it writes for its inputs and how it ends, what is told of dictionaries that are refused, and how
 -- the program ends for many messages
@@ -47,17 +50,24 @@ refutations u most = record {
   exit_of = λ ended. if ended.some then Yes else No;
 }
 
--- what the command says of these inputs with the line as the message
-abbrev pub OfLine : MessageCommand → Inputs → Input → List ℕ → Exit → Type 0
-OfLine command inputs message text exit =
-    command.outcome (record { first = inputs.first; second = inputs.second; table = inputs.table; message = message }) text exit
+-- what a command writes for one message, and how it ends
+abbrev pub Answer : Type 0
+Answer = List ℕ × Exit
+
+abbrev pub text_of : Answer → List ℕ
+text_of answer = answer.0
+
+-- the command's answer to these inputs with the line as the message
+abbrev pub OfLine : MessageCommand → Inputs → Input → Answer → Type 0
+OfLine command inputs message answer =
+    command.outcome (record { first = inputs.first; second = inputs.second; table = inputs.table; message = message }) answer.0 answer.1
 
 -- the text for the lines of these bytes, and how the program ends: the text of each line in order, or one line of a dictionary
 -- that is refused
 pub data IsLinesOutcome (command : MessageCommand) (inputs : Inputs) (bytes text : List ℕ) (exit : Exit) : Type 0 where
-  answered : (exits : List Exit) → ((told : List ℕ) → ¬ command.refuses inputs told)
-      → IsAnswered (OfLine command inputs) bytes text exits → exit ≡ command.exit_of (ended_of exits)
-      → IsLinesOutcome command inputs bytes text exit
+  answered : (answers : List Answer) → ((told : List ℕ) → ¬ command.refuses inputs told)
+      → IsAnswered (OfLine command inputs) bytes answers → text ≡ flat_map text_of answers
+      → exit ≡ command.exit_of (ended_of (map (λ (a : Answer). a.1) answers)) → IsLinesOutcome command inputs bytes text exit
   refused : (told : List ℕ) → command.refuses inputs told → Refuses told text exit → IsLinesOutcome command inputs bytes text exit
 
 -- these bytes were read, and the text for their lines was put
@@ -70,5 +80,5 @@ pub record AreLinesAnswered (command : MessageCommand) (inputs : Inputs) (fed_ol
 
 -- a beginning of the text was put
 abbrev pub IsFrontPut : MessageCommand → Inputs → (fed_old fed put_old put : Option (List ℕ)) → Type 0
-IsFrontPut command inputs fed_old fed put_old put = FrontAnswered (OfLine command inputs) fed_old fed put_old put
+IsFrontPut command inputs fed_old fed put_old put = FrontAnswered (OfLine command inputs) text_of fed_old fed put_old put
     ⊎ ((told : List ℕ) × command.refuses inputs told × Consumes fed_old fed [] × AppendsFront put_old put (line told))

@@ -1,16 +1,18 @@
-//! What `check` and `refute` say of a line, and `check` of the bytes of a message.
+//! The verdicts of `check` and `refute` on a line, and of `check` on the bytes of a message.
 
-ghost use Rattle.dia_io.specs.declared.Exit.{Exit as AnyExit};
-ghost use Rattle.std.specs.Prelude.{IfOk, string_bytes};
-ghost use Rattle.dia_run.specs.Outcome.{Ends, IsRefutation};
-ghost use Rattle.dia_captures.specs.OneMessage.{IsMessageChecked};
+ghost use Rattle.std.specs.Prelude.{◌≡◌, IfOk, IsErr, List, ℕ};
+ghost use Rattle.dia_report.specs.Refusals.{TellsOf};
+ghost use Rattle.dia_run.specs.Texts.{IsNoMessageText};
+ghost use Rattle.dia_captures.specs.Verdicts.{IsLineChecked, IsTextRefused};
 
+use crate::verdicts::{Checked, Flaw, Refuted};
 use dia_check::{Levels, Unknown, check};
-use dia_compat::refutes;
 use dia_dict::Book;
-use dia_io::{Exit, Input};
+use dia_io::Input;
 use dia_lines::Judge;
-use dia_run::{Outcome, Refused, check_message, outcome_of, read_message, told, verdict};
+use dia_policy::MAX_MESSAGE_TEXT;
+use dia_report::Refused;
+use dia_run::check_message;
 use dia_streams::MessageJudge;
 use std::alloc::{AllocError, Global};
 
@@ -32,115 +34,110 @@ pub struct RefuteJudge<'a, A: Book, B: Book> {
 }
 
 impl<'a, B: Book> Judge for CheckJudge<'a, B> {
-    ghost use Rattle.dia_captures.specs.OneMessage.{IsMessageChecked};
+    ghost use Rattle.dia_captures.specs.Verdicts.{IsLineChecked, checked_line};
 
-    ghost says = { λ judge line told exit.
-        IsMessageChecked judge.unknown judge.levels (B.Book.meaning judge.book.now) line told exit };
+    type Verdict = Checked;
 
-    fn judge(&self, alloc: Global, line: &Input, text: &mut String) -> Result<Exit, AllocError> {
-        let outcome = check_text(alloc, self.book, self.unknown, self.levels, line)?;
-        text.push_str(outcome.text.as_str())?;
-        Ok(outcome.exit)
+    ghost says = { λ judge line verdict.
+        IsLineChecked judge.unknown judge.levels (B.Book.meaning judge.book.now) line verdict };
+
+    ghost told = { λ judge verdict. checked_line (B.Book.meaning judge.book.now) verdict };
+
+    fn judge(&self, alloc: Global, line: &Input, text: &mut String) -> Result<Checked, AllocError> {
+        let verdict = check_line(alloc, self.book, self.unknown, self.levels, line)?;
+        verdict.push(text, self.book)?;
+        Ok(verdict)
     }
 }
 
 impl<'a, A: Book, B: Book> Judge for RefuteJudge<'a, A, B> {
-    ghost use Rattle.dia_run.specs.Outcome.{IsRefutation};
+    ghost use Rattle.dia_captures.specs.Verdicts.{IsLineRefuted, refuted_line};
 
-    ghost says = { λ judge line told exit. IsRefutation judge.unknown judge.levels line
-        (A.Book.meaning judge.first.now) (B.Book.meaning judge.second.now) told exit };
+    type Verdict = Refuted;
 
-    fn judge(&self, alloc: Global, line: &Input, text: &mut String) -> Result<Exit, AllocError> {
-        let outcome = refute_text(
-            alloc,
-            self.first,
-            self.second,
-            self.unknown,
-            self.levels,
-            line,
-        )?;
-        text.push_str(outcome.text.as_str())?;
-        Ok(outcome.exit)
+    ghost says = { λ judge line verdict. IsLineRefuted judge.unknown judge.levels
+        (A.Book.meaning judge.first.now) (B.Book.meaning judge.second.now) line verdict };
+
+    ghost told = { λ _ verdict. refuted_line verdict };
+
+    fn judge(&self, alloc: Global, line: &Input, text: &mut String) -> Result<Refuted, AllocError> {
+        let first = check_line(alloc, self.first, self.unknown, self.levels, line)?;
+        let second = check_line(alloc, self.second, self.unknown, self.levels, line)?;
+        let verdict = Refuted { first, second };
+        text.push_str(verdict.line())?;
+        Ok(verdict)
     }
 }
 
 impl<'a, B: Book> MessageJudge for CheckJudge<'a, B> {
-    ghost use Rattle.dia_run.specs.Outcome.{IsJudged};
+    ghost use Rattle.dia_captures.specs.Verdicts.{IsPieceChecked, placed_line};
 
-    ghost says = { λ judge message told exit.
-        IsJudged judge.unknown judge.levels (B.Book.meaning judge.book.now) message told exit };
+    type Verdict = Checked;
 
-    fn judge(&self, alloc: Global, message: &[u8], text: &mut String) -> Result<Exit, AllocError> {
+    ghost says = { λ judge bytes verdict.
+        IsPieceChecked judge.unknown judge.levels (B.Book.meaning judge.book.now) bytes verdict };
+
+    ghost told = { λ judge verdict. placed_line (B.Book.meaning judge.book.now) verdict };
+
+    fn judge(
+        &self,
+        alloc: Global,
+        at: u64,
+        message: &[u8],
+        text: &mut String,
+    ) -> Result<Checked, AllocError> {
         let answer = check(alloc, self.book, self.unknown, self.levels, message);
-        let outcome = verdict(alloc, self.book, &answer)?;
-        text.push_str(outcome.text.as_str())?;
-        Ok(outcome.exit)
+        let verdict = Checked::of_answer(answer)?;
+        write!(text, "{at} ")?;
+        verdict.push(text, self.book)?;
+        Ok(verdict)
+    }
+
+    fn judge_no_digits(&self, at: u64, text: &mut String) -> Result<Checked, AllocError> {
+        let verdict = Checked::Wrong(Flaw::NotHexadecimal);
+        write!(text, "{at} ")?;
+        verdict.push(text, self.book)?;
+        Ok(verdict)
     }
 }
 
-/// What `check` says of the text of a message.
-fn check_text<B: Book>(
+/// The verdict on the text of a message.
+fn check_line<B: Book>(
     alloc: Global,
     book: &B,
     unknown: Unknown,
     levels: Levels,
     message: &Input,
-) -> Result<Outcome, AllocError>
-    ensures { IfOk result (λ outcome. IsMessageChecked unknown levels (B.meaning book.now)
-        message.now (string_bytes outcome.text) outcome.exit) }
+) -> Result<Checked, AllocError>
+    ensures { IfOk result (IsLineChecked unknown levels (B.meaning book.now) message.now) }
 {
-    outcome_of(alloc, checked(alloc, book, unknown, levels, message))
+    match check_message(alloc, book, unknown, levels, message) {
+        Ok(answer) => Checked::of_answer(answer),
+        Err(refused) => refused_as(refused, message),
+    }
 }
 
-fn checked<B: Book>(
-    alloc: Global,
-    book: &B,
-    unknown: Unknown,
-    levels: Levels,
-    message: &Input,
-) -> Result<Outcome, Refused>
-    ensures { Ends (IsMessageChecked unknown levels (B.meaning book.now) message.now) result }
+/// The verdict on a text that is refused.
+fn refused_as(refused: Refused, message: &Input) -> Result<Checked, AllocError>
+    ensures bad { TellsOf (λ told. IfOk result
+        (λ verdict. IsNoMessageText message.now told → IsTextRefused message.now verdict)) refused }
+    ensures memory { refused ≡ Refused.NoMemory → IsErr result }
 {
-    let answer = check_message(alloc, book, unknown, levels, message)?;
-    let outcome = verdict(alloc, book, &answer)?;
-    Ok(outcome)
+    match refused {
+        Refused::Bad(_bad) => Ok(refusal_of(message)),
+        Refused::NoMemory => Err(AllocError),
+    }
 }
 
-/// What `refute` says of the text of a message.
-fn refute_text<A: Book, B: Book>(
-    alloc: Global,
-    first: &A,
-    second: &B,
-    unknown: Unknown,
-    levels: Levels,
-    message: &Input,
-) -> Result<Outcome, AllocError>
-    ensures { IfOk result (λ outcome. IsRefutation unknown levels message.now
-        (A.meaning first.now) (B.meaning second.now) (string_bytes outcome.text) outcome.exit) }
+/// The verdict on a text that spells no message.
+fn refusal_of(message: &Input) -> Checked
+    ensures { (told : List ℕ) → IsNoMessageText message.now told → IsTextRefused message.now result }
 {
-    outcome_of(
-        alloc,
-        refuted(alloc, first, second, unknown, levels, message),
-    )
-}
+    match message {
+        Input::Bytes(bytes) if bytes.len() <= MAX_MESSAGE_TEXT => Checked::Wrong(
+            Flaw::NotHexadecimal,
+        ),
 
-fn refuted<A: Book, B: Book>(
-    alloc: Global,
-    first: &A,
-    second: &B,
-    unknown: Unknown,
-    levels: Levels,
-    message: &Input,
-) -> Result<Outcome, Refused>
-    ensures { Ends (IsRefutation unknown levels message.now
-        (A.meaning first.now) (B.meaning second.now)) result }
-{
-    let bytes = read_message(alloc, message)?;
-    if refutes(alloc, first, second, unknown, levels, bytes.as_slice())? {
-        let outcome = told(alloc, "refutes\n", Exit::Yes)?;
-        Ok(outcome)
-    } else {
-        let outcome = told(alloc, "does not refute\n", Exit::No)?;
-        Ok(outcome)
+        Input::Bytes(_) | Input::TooLong => Checked::Wrong(Flaw::TooLong),
     }
 }

@@ -1,4 +1,4 @@
-//! What the judges say is what the commands write.
+//! What is told of the verdicts is what the commands write.
 
 ghost use Rattle.std.specs.Prelude.{◌≡◌, List, ℕ};
 ghost use Rattle.dia_dict.specs.Dictionary.{Dictionary};
@@ -9,24 +9,27 @@ ghost use Rattle.dia_io.specs.declared.Inputs.{Inputs as AnyInputs};
 ghost use Rattle.dia_io.specs.declared.Exit.{Exit as AnyExit};
 ghost use Rattle.dia_lines.specs.Lines.{LineHasOneAnswer};
 ghost use Rattle.dia_run.specs.Texts.{IsDictionaryText};
-ghost use Rattle.dia_run.specs.Outcome.{IsRefutation};
-ghost use Rattle.dia_captures.specs.OneMessage.{IsMessageChecked};
+ghost use Rattle.dia_captures.specs.declared.verdicts.Checked.{Checked as AnyVerdict};
+ghost use Rattle.dia_captures.specs.declared.verdicts.Refuted.{Refuted as AnyVerdicts};
+ghost use Rattle.dia_captures.specs.Verdicts.{IsLineChecked, IsLineRefuted, checked_exit, checked_line};
+ghost use Rattle.dia_captures.specs.Verdicts.{refuted_exit, refuted_line};
 ghost use Rattle.dia_captures.specs.Lines.{OfLine, IsLinesOutcome, checks, refutations};
 ghost use Rattle.dia_captures.specs.Streams.{IsStreamOutcome};
 
-/// What a `CheckJudge` says of a line is what `check` writes for the dictionary's text, and the line as the message.
+/// What is told of a verdict on a line is what `check` writes for the dictionary's text, and the line as the message.
 pub fn check_of_line()
     ensures { (u : AnyPolicy) (most : AnyLevels) (inputs : AnyInputs) (d : Dictionary)
-        → IsDictionaryText inputs.first d → (line : AnyInput) (told : List ℕ) (exit : AnyExit)
-        → IsMessageChecked u most d line told exit → OfLine (checks u most) inputs line told exit }
+        → IsDictionaryText inputs.first d → (message : AnyInput) (verdict : AnyVerdict)
+        → IsLineChecked u most d message verdict
+        → OfLine (checks u most) inputs message (checked_line d verdict, checked_exit verdict) }
 {}
 
-/// What a `RefuteJudge` says of a line is what `refute` writes for the dictionaries' texts, and the line as the message.
+/// What is told of both verdicts on a line is what `refute` writes for the dictionaries' texts, and the line as the message.
 pub fn refute_of_line()
     ensures { (u : AnyPolicy) (most : AnyLevels) (inputs : AnyInputs) (a b : Dictionary)
         → IsDictionaryText inputs.first a → IsDictionaryText inputs.second b
-        → (line : AnyInput) (told : List ℕ) (exit : AnyExit) → IsRefutation u most line a b told exit
-        → OfLine (refutations u most) inputs line told exit }
+        → (message : AnyInput) (verdict : AnyVerdicts) → IsLineRefuted u most a b message verdict
+        → OfLine (refutations u most) inputs message (refuted_line verdict, refuted_exit verdict) }
 {}
 
 /// `check` writes one text for a line.

@@ -1,34 +1,47 @@
-//! What lines say, how often, and where first.
+//! The reasons why messages aren't valid, counted.
 
+use crate::verdicts::Flaw;
+use dia_check::Fault;
+use dia_dict::Book;
+use dia_run::{push_subject, reason_word};
 use std::alloc::{AllocError, Global};
 
-/// How many reasons are kept. The lines of others are counted together.
+/// How many reasons are kept. Those of others are counted together.
 const MOST_REASONS: usize = 100;
 
-/// What some lines say.
-#[derive(Drop)]
-struct Reason {
-    text: String,
-    seen: Seen,
-}
-
-/// How often lines were seen, and where the first was.
+/// How often something was met, and where first.
 #[derive(Clone, Copy, Debug)]
-struct Seen {
-    times: u64,
-    first: u64,
+pub struct Seen {
+    pub times: u64,
+    pub first: u64,
 }
 
-/// The reasons that lines tell.
+/// A flaw that was met, of which the place of a fault doesn't count.
+#[derive(Clone, Copy, Debug)]
+pub struct Met {
+    pub flaw: Flaw,
+    pub seen: Seen,
+}
+
+/// The reasons that were met.
 #[derive(Drop)]
 pub struct Reasons {
-    alloc: Global,
-    kept: Vec<Reason>,
-    /// The lines of the reasons that aren't kept.
-    others: Option<Seen>,
+    /// The first ones, in the order in which they were met.
+    pub kept: Vec<Met>,
+    /// All others.
+    pub others: Option<Seen>,
+    /// Memory was refused, and nothing was counted since.
+    pub lost: bool,
 }
 
 impl Seen {
+    fn once(place: u64) -> Seen {
+        Seen {
+            times: 1,
+            first: place,
+        }
+    }
+
     fn again(self) -> Seen {
         Seen {
             times: self.times.saturating_add(1),
@@ -37,76 +50,94 @@ impl Seen {
     }
 }
 
-impl Reason {
-    fn is(&self, front: &[u8], subject: &[u8]) -> bool {
-        let text = self.text.as_bytes();
-        text.len() == front.len() + subject.len()
-            && text.ends_with(subject)
-            && text.starts_with(front)
-    }
-}
-
 impl Reasons {
-    /// No line was seen yet.
+    /// No reason was met yet.
     pub fn new(alloc: Global) -> Reasons {
         Reasons {
-            alloc,
             kept: Vec::new(alloc),
             others: None,
+            lost: false,
         }
     }
 
-    /// Counts a line at this place, whose reason is told in two parts.
-    pub fn add(&mut self, front: &[u8], subject: &[u8], place: u64) -> Result<(), AllocError> {
-        let found = self
-            .kept
-            .iter()
-            .position(|reason| reason.is(front, subject));
+    /// Counts a flaw that was met at this place.
+    pub fn add(&mut self, flaw: &Flaw, place: u64) {
+        if self.lost {
+            return;
+        }
+        let flaw = without_place(flaw);
+        let found = self.kept.iter().position(|met| met.flaw == flaw);
         match found {
-            Some(at) => {
-                self.kept[at].seen = self.kept[at].seen.again();
-                Ok(())
-            }
-            None => self.add_new(front, subject, place),
+            Some(at) => self.kept[at].seen = self.kept[at].seen.again(),
+            None => self.add_new(&flaw, place),
         }
     }
 
-    fn add_new(&mut self, front: &[u8], subject: &[u8], place: u64) -> Result<(), AllocError> {
-        let once = Seen {
-            times: 1,
-            first: place,
-        };
-        match (str::from_utf8(front), str::from_utf8(subject)) {
-            (Ok(front), Ok(subject)) if self.kept.len() < MOST_REASONS => {
-                let text = format!(in self.alloc; "{front}{subject}")?;
-                self.kept.push(Reason { text, seen: once })?;
-            }
-            _ => {
-                self.others = Some(match self.others {
-                    Some(seen) => seen.again(),
-                    None => once,
-                });
-            }
+    /// Counts a flaw that isn't kept.
+    fn add_new(&mut self, flaw: &Flaw, place: u64) {
+        let seen = Seen::once(place);
+        if self.kept.len() < MOST_REASONS {
+            self.lost = self.kept.push(Met { flaw: *flaw, seen }).is_err();
+            return;
         }
-        Ok(())
+        self.others = Some(match self.others {
+            Some(earlier) => earlier.again(),
+            None => seen,
+        });
     }
 
-    /// Adds a line for each reason, the most frequent first. `place` says what the first line's place is.
-    pub fn write(&mut self, text: &mut String, place: &str) -> Result<(), AllocError> {
-        self.kept
-            .sort_by_key(|reason| u64::MAX - reason.seen.times)?;
-        for reason in &self.kept {
-            write_seen(text, reason.seen, reason.text.as_str(), place)?;
+    /// Adds a line for each reason, the most frequent first. `place` says what the places are.
+    pub fn write<B: Book>(
+        &mut self,
+        text: &mut String,
+        book: &B,
+        place: &str,
+    ) -> Result<(), AllocError> {
+        self.kept.sort_by_key(|met| u64::MAX - met.seen.times)?;
+        for met in &self.kept {
+            let times = met.seen.times;
+            write!(text, "{times} x ")?;
+            push_reason(text, book, &met.flaw)?;
+            push_first(text, met.seen.first, place)?;
         }
         match self.others {
-            Some(seen) => write_seen(text, seen, "other reasons", place),
+            Some(seen) => {
+                let times = seen.times;
+                write!(text, "{times} x other reasons")?;
+                push_first(text, seen.first, place)
+            }
             None => Ok(()),
         }
     }
 }
 
-fn write_seen(text: &mut String, seen: Seen, what: &str, place: &str) -> Result<(), AllocError> {
-    let times = seen.times;
-    let first = seen.first;
-    write!(text, "{times} x {what}, first {place} {first}\n")
+/// Adds where a reason was met first.
+fn push_first(text: &mut String, first: u64, place: &str) -> Result<(), AllocError> {
+    write!(text, ", first {place} {first}\n")
+}
+
+/// Adds what a flaw is, without the place of a fault.
+fn push_reason<B: Book>(text: &mut String, book: &B, flaw: &Flaw) -> Result<(), AllocError> {
+    match flaw {
+        Flaw::Fault(fault) => {
+            let code = fault.code;
+            let reason = reason_word(fault.reason);
+            write!(text, "fault {code} {reason} ")?;
+            push_subject(text, book, fault.subject)
+        }
+        _ => flaw.push(text, book),
+    }
+}
+
+/// A flaw as if it stood in front of the message.
+fn without_place(flaw: &Flaw) -> Flaw {
+    match flaw {
+        Flaw::Fault(fault) => Flaw::Fault(Fault {
+            place: 0,
+            code: fault.code,
+            reason: fault.reason,
+            subject: fault.subject,
+        }),
+        _ => *flaw,
+    }
 }

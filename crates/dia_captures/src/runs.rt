@@ -8,17 +8,28 @@ ghost use Rattle.dia_lines.specs.declared.fault.LinesFault.TheVariants.{NoMemory
 ghost use Rattle.dia_lines.specs.FeedToSink.{LinesAnswered, most_pieces};
 ghost use Rattle.dia_streams.specs.Streams.{WholeTold, most_places};
 ghost use Rattle.dia_run.specs.Texts.{line};
-ghost use Rattle.dia_run.specs.Refusals.{TellsOf};
-ghost use Rattle.dia_captures.specs.Lines.{AreLinesAnswered, IsFrontPut, OfLine, checks, refutations};
-ghost use Rattle.dia_captures.specs.Streams.{IsStreamAnswered, IsStreamFrontPut, OfMessage};
+ghost use Rattle.dia_report.specs.Refusals.{TellsOf};
+ghost use Rattle.dia_captures.specs.Lines.{AreLinesAnswered, IsFrontPut, OfLine, checks, refutations, text_of};
+ghost use Rattle.dia_captures.specs.Streams.{IsStreamAnswered, IsStreamFrontPut, OfMessage, placed};
 
 use crate::judges::{CheckJudge, RefuteJudge};
+use crate::tally::{Lines, Tally};
 use dia_check::{Levels, Unknown};
 use dia_io::{Exit, Feed, Inputs, Sink, put_all};
 use dia_lines::{LinesFault, answer_lines};
-use dia_run::{Answered, Refused, Report, Reported, answer_of, read_dictionary};
+use dia_report::{Answered, Refused, Report, Reported};
+use dia_run::{answer_of, read_dictionary};
 use dia_streams::answer_stream;
 use std::alloc::Global;
+
+/// How a command over many messages ended.
+#[derive(Drop)]
+pub struct Captured {
+    pub reported: Reported,
+    /// How many messages are valid, or refute, and the reasons why others aren't valid. None where a dictionary is refused, or
+    /// where memory was refused for it.
+    pub summary: Option<String>,
+}
 
 /// `check` of each line of a feed: yes where each is valid.
 pub fn check_lines<F: Feed, S: Sink>(
@@ -28,23 +39,23 @@ pub fn check_lines<F: Feed, S: Sink>(
     inputs: &Inputs,
     feed: &mut F,
     sink: &mut S,
-) -> Result<Reported, LinesFault>
+) -> Result<Captured, LinesFault>
     requires sound_feed { ¬ IsTrue (F.has_failed feed.old) }
     requires sound_sink { ¬ IsTrue (S.has_failed sink.old) }
-    ensures answered { IfOk result (λ reported. AreLinesAnswered (checks unknown levels) inputs.now
+    ensures answered { IfOk result (λ captured. AreLinesAnswered (checks unknown levels) inputs.now
         (F.remaining feed.old) (F.remaining feed.new) (S.written sink.old) (S.written sink.new)
-        reported.exit) }
+        captured.reported.exit) }
     ensures all { IfOk result
-        (λ reported. reported.exit ≢ Exit.Bad → IsAtEnd (F.remaining feed.new)) }
-    ensures unread { IfOk result (λ reported. reported.exit ≡ Exit.Bad → feed.new ≡ feed.old) }
+        (λ captured. captured.reported.exit ≢ Exit.Bad → IsAtEnd (F.remaining feed.new)) }
+    ensures unread { IfOk result (λ captured. captured.reported.exit ≡ Exit.Bad → feed.new ≡ feed.old) }
     ensures device { (result ≡ Err Device)
         ↔ (IsTrue (F.has_failed feed.new) ⊎ IsTrue (S.has_failed sink.new)) }
     ensures front { IsErr result → IsFrontPut (checks unknown levels) inputs.now
         (F.remaining feed.old) (F.remaining feed.new) (S.written sink.old) (S.written sink.new) }
     ensures no_memory { result ≡ Err NoMemory → LinesAnswered (OfLine (checks unknown levels) inputs.now)
-        (F.remaining feed.old) (F.remaining feed.new) (S.written sink.old) (S.written sink.new) }
+        text_of (F.remaining feed.old) (F.remaining feed.new) (S.written sink.old) (S.written sink.new) }
     ensures endless { result ≡ Err Endless → LinesAnswered (OfLine (checks unknown levels) inputs.now)
-        (F.remaining feed.old) (F.remaining feed.new) (S.written sink.old) (S.written sink.new) }
+        text_of (F.remaining feed.old) (F.remaining feed.new) (S.written sink.old) (S.written sink.new) }
     ensures pieces { result ≡ Err Endless
         → IfSome (F.remaining feed.old) (λ bytes. most_pieces ≤ length bytes) }
 {
@@ -57,8 +68,10 @@ pub fn check_lines<F: Feed, S: Sink>(
         unknown,
         levels,
     };
-    let checked = answer_lines(alloc, &judge, feed, sink)?;
-    Ok(ended(checked.each))
+    let mut tally = Tally::new(alloc);
+    answer_lines(alloc, &judge, &mut tally, feed, sink)?;
+    let each = tally.ended.each;
+    Ok(ended(each, tally.summary(alloc, judge.book, Lines::Checked)))
 }
 
 /// `refute` of each line of a feed: yes where one refutes.
@@ -69,25 +82,25 @@ pub fn refute_lines<F: Feed, S: Sink>(
     inputs: &Inputs,
     feed: &mut F,
     sink: &mut S,
-) -> Result<Reported, LinesFault>
+) -> Result<Captured, LinesFault>
     requires sound_feed { ¬ IsTrue (F.has_failed feed.old) }
     requires sound_sink { ¬ IsTrue (S.has_failed sink.old) }
-    ensures answered { IfOk result (λ reported. AreLinesAnswered (refutations unknown levels) inputs.now
+    ensures answered { IfOk result (λ captured. AreLinesAnswered (refutations unknown levels) inputs.now
         (F.remaining feed.old) (F.remaining feed.new) (S.written sink.old) (S.written sink.new)
-        reported.exit) }
+        captured.reported.exit) }
     ensures all { IfOk result
-        (λ reported. reported.exit ≢ Exit.Bad → IsAtEnd (F.remaining feed.new)) }
-    ensures unread { IfOk result (λ reported. reported.exit ≡ Exit.Bad → feed.new ≡ feed.old) }
+        (λ captured. captured.reported.exit ≢ Exit.Bad → IsAtEnd (F.remaining feed.new)) }
+    ensures unread { IfOk result (λ captured. captured.reported.exit ≡ Exit.Bad → feed.new ≡ feed.old) }
     ensures device { (result ≡ Err Device)
         ↔ (IsTrue (F.has_failed feed.new) ⊎ IsTrue (S.has_failed sink.new)) }
     ensures front { IsErr result → IsFrontPut (refutations unknown levels) inputs.now
         (F.remaining feed.old) (F.remaining feed.new) (S.written sink.old) (S.written sink.new) }
     ensures no_memory { result ≡ Err NoMemory
         → LinesAnswered (OfLine (refutations unknown levels) inputs.now)
-        (F.remaining feed.old) (F.remaining feed.new) (S.written sink.old) (S.written sink.new) }
+        text_of (F.remaining feed.old) (F.remaining feed.new) (S.written sink.old) (S.written sink.new) }
     ensures endless { result ≡ Err Endless
         → LinesAnswered (OfLine (refutations unknown levels) inputs.now)
-        (F.remaining feed.old) (F.remaining feed.new) (S.written sink.old) (S.written sink.new) }
+        text_of (F.remaining feed.old) (F.remaining feed.new) (S.written sink.old) (S.written sink.new) }
     ensures pieces { result ≡ Err Endless
         → IfSome (F.remaining feed.old) (λ bytes. most_pieces ≤ length bytes) }
 {
@@ -105,8 +118,10 @@ pub fn refute_lines<F: Feed, S: Sink>(
         unknown,
         levels,
     };
-    let refuted = answer_lines(alloc, &judge, feed, sink)?;
-    Ok(ended(refuted.some))
+    let mut tally = Tally::new(alloc);
+    answer_lines(alloc, &judge, &mut tally, feed, sink)?;
+    let some = tally.ended.some;
+    Ok(ended(some, tally.summary(alloc, judge.first, Lines::Refuted)))
 }
 
 /// `check` of each message of a stream: yes where each is valid.
@@ -117,21 +132,21 @@ pub fn check_stream<F: Feed, S: Sink>(
     inputs: &Inputs,
     feed: &mut F,
     sink: &mut S,
-) -> Result<Reported, LinesFault>
+) -> Result<Captured, LinesFault>
     requires sound_feed { ¬ IsTrue (F.has_failed feed.old) }
     requires sound_sink { ¬ IsTrue (S.has_failed sink.old) }
-    ensures answered { IfOk result (λ reported. IsStreamAnswered unknown levels inputs.now
+    ensures answered { IfOk result (λ captured. IsStreamAnswered unknown levels inputs.now
         (F.remaining feed.old) (F.remaining feed.new) (S.written sink.old) (S.written sink.new)
-        reported.exit) }
-    ensures unread { IfOk result (λ reported. reported.exit ≡ Exit.Bad → feed.new ≡ feed.old) }
+        captured.reported.exit) }
+    ensures unread { IfOk result (λ captured. captured.reported.exit ≡ Exit.Bad → feed.new ≡ feed.old) }
     ensures device { (result ≡ Err Device)
         ↔ (IsTrue (F.has_failed feed.new) ⊎ IsTrue (S.has_failed sink.new)) }
     ensures front { IsErr result → IsStreamFrontPut unknown levels inputs.now
         (F.remaining feed.old) (F.remaining feed.new) (S.written sink.old) (S.written sink.new) }
     ensures no_memory { result ≡ Err NoMemory → WholeTold (OfMessage unknown levels inputs.now)
-        (F.remaining feed.old) (F.remaining feed.new) (S.written sink.old) (S.written sink.new) }
+        placed (F.remaining feed.old) (F.remaining feed.new) (S.written sink.old) (S.written sink.new) }
     ensures endless { result ≡ Err Endless → WholeTold (OfMessage unknown levels inputs.now)
-        (F.remaining feed.old) (F.remaining feed.new) (S.written sink.old) (S.written sink.new) }
+        placed (F.remaining feed.old) (F.remaining feed.new) (S.written sink.old) (S.written sink.new) }
     ensures pieces { result ≡ Err Endless
         → IfSome (F.remaining feed.old) (λ bytes. most_places ≤ length bytes) }
 {
@@ -144,14 +159,16 @@ pub fn check_stream<F: Feed, S: Sink>(
         unknown,
         levels,
     };
-    let told = answer_stream(alloc, &judge, feed, sink)?;
-    Ok(ended(told.each))
+    let mut tally = Tally::new(alloc);
+    answer_stream(alloc, &judge, &mut tally, feed, sink)?;
+    let all = tally.ended.each;
+    Ok(ended(all, tally.summary(alloc, judge.book, Lines::Placed)))
 }
 
 /// Puts the line of a dictionary that is refused.
-fn refuse<S: Sink>(alloc: Global, refused: Refused, sink: &mut S) -> Result<Reported, LinesFault>
+fn refuse<S: Sink>(alloc: Global, refused: Refused, sink: &mut S) -> Result<Captured, LinesFault>
     requires { ¬ IsTrue (S.has_failed sink.old) }
-    ensures exit { IfOk result (λ reported. reported.exit ≡ Exit.Bad) }
+    ensures exit { IfOk result (λ captured. captured.reported.exit ≡ Exit.Bad) }
     ensures put { IsOk result
         → TellsOf (λ told. Appends (S.written sink.old) (S.written sink.new) (line told)) refused }
     ensures device { (result ≡ Err Device) ↔ IsTrue (S.has_failed sink.new) }
@@ -163,14 +180,20 @@ fn refuse<S: Sink>(alloc: Global, refused: Refused, sink: &mut S) -> Result<Repo
 {
     let Answered { text, exit, report } = answer_of(alloc, Err(refused))?;
     put_all(sink, text.as_bytes())?;
-    Ok(Reported { exit, report })
+    Ok(Captured {
+        reported: Reported { exit, report },
+        summary: None,
+    })
 }
 
 /// How a command ended whose messages were read: yes or no.
-fn ended(yes: bool) -> Reported
-    ensures { result.exit ≡ (if yes then Exit.Yes else Exit.No) }
+fn ended(yes: bool, summary: Option<String>) -> Captured
+    ensures { result.reported.exit ≡ (if yes then Exit.Yes else Exit.No) }
 {
     let exit = if yes { Exit::Yes } else { Exit::No };
     let report = Report::Done;
-    Reported { exit, report }
+    Captured {
+        reported: Reported { exit, report },
+        summary,
+    }
 }

@@ -1,17 +1,16 @@
 -- Lines that are answered as they are read.
-use Rattle.std.proofs.Common.{◌≡◌, ◌≢◌, ℕ, ◌<◌, ◌&&◌, ◌||◌, List, [], ◌∷◌, ◌++◌, Result, Ok, Err, Bool, false, suc, zero, ◌↔◌, length, refl, sym, ap, subst, ◌∙◌, append_assoc, inl, inr, arith}
+use Rattle.std.proofs.Common.{◌≡◌, ◌≢◌, ℕ, ◌<◌, List, [], ◌∷◌, ◌++◌, Result, Ok, Err, Bool, false, suc, zero, ◌↔◌, length, refl, sym, ap, subst, ◌∙◌, append_assoc, inl, inr, arith}
 use Rattle.std.specs.Prelude.{string_bytes, IsTrue, OnOk}
-use Rattle.std.specs.List.{list_all, list_any}
+use Rattle.std.specs.List.{flat_map}
+use Rattle.std.proofs.lemmas.Grind.{flat_map-append}
 use Rattle.std.proofs.lemmas.List.{append-nil}
+use Rattle.std.proofs.lemmas.List.Concat.{flat_map-cons}
 use Rattle.std.proofs.lemmas.List.Elements.{All-append, All-nil}
-use Rattle.std.proofs.lemmas.List.Folds.{list_all-append, list_any-append}
 use Rattle.dia_io.specs.declared.Input.{Input}
-use Rattle.dia_io.specs.declared.Exit.{Exit}
-use Rattle.dia_io.specs.declared.Exit.TheVariants.{Yes, No, Bad}
 use Rattle.dia_lines.specs.declared.answered.Answered.{Answered}
-use Rattle.dia_lines.specs.declared.answered.Ended.{Ended}
-use Rattle.dia_lines.specs.Lines.{AreAnswered, one_more, IsAnswered, IsLine, IsLineInput, ended_of, is_yes, line_feed}
-use Rattle.dia_lines.specs.UnderWay.{ended_with, IsUnderWay, Reads}
+use Rattle.dia_lines.specs.FeedToSink.{Sees}
+use Rattle.dia_lines.specs.Lines.{AreAnswered, one_more, IsAnswered, IsLine, IsLineInput, line_feed}
+use Rattle.dia_lines.specs.UnderWay.{Ends, IsUnderWay, Reads}
 
 pub on_ok_map : {E A B : Type 0} (r : Result (Unit {0}) E) → (A → B) → OnOk r A → OnOk r B
 on_ok_map (Ok u) f h = f h
@@ -28,99 +27,114 @@ pub next_line : (piece done rest line behind : List ℕ) → piece ≡ done ++ r
 next_line piece done rest line behind parts split = parts ∙ ap (λ (r : List ℕ). done ++ r) (split ∙ sym (append_assoc line (line_feed ∷ []) behind))
     ∙ sym (append_assoc done (line ++ line_feed ∷ []) behind)
 
-one_all : (exit : Exit) → list_all is_yes (exit ∷ []) ≡ is_yes exit
-one_all Yes = refl
-one_all No = refl
-one_all Bad = refl
+-- what is told of one verdict
+pub one_told : {V : Type 0} (told : V → List ℕ) (verdict : V) (old new : List ℕ) → new ≡ old ++ told verdict → new ≡ old ++ flat_map told (verdict ∷ [])
+one_told told verdict old new h = h ∙ ap (λ (t : List ℕ). old ++ t) (sym (flat_map-cons told verdict [] ∙ append-nil (told verdict)))
 
-one_any : (exit : Exit) → list_any is_yes (exit ∷ []) ≡ is_yes exit
-one_any Yes = refl
-one_any No = refl
-one_any Bad = refl
+-- what is told of verdicts, and then of more
+pub both_told : {V : Type 0} (told : V → List ℕ) (xs ys : List V) (a b c : List ℕ) → b ≡ a ++ flat_map told xs → c ≡ b ++ flat_map told ys
+    → c ≡ a ++ flat_map told (xs ++ ys)
+both_told told xs ys a b c h k = k ∙ ap (λ (t : List ℕ). t ++ flat_map told ys) h ∙ append_assoc a (flat_map told xs) (flat_map told ys)
+    ∙ ap (λ (t : List ℕ). a ++ t) (sym (flat_map-append told xs ys))
 
-pub ended_one_more : (exits : List Exit) (exit : Exit) → ended_with (ended_of exits) exit ≡ ended_of (exits ++ exit ∷ [])
-ended_one_more exits exit =
-    let each = list_all-append is_yes exits (exit ∷ []) ∙ ap (λ b. list_all is_yes exits && b) (one_all exit) in
-    let some = list_any-append is_yes exits (exit ∷ []) ∙ ap (λ b. list_any is_yes exits || b) (one_any exit) in
-    ap (λ b. record { each = b; some = list_any is_yes exits || is_yes exit }) (sym each)
-    ∙ ap (λ b. record { each = list_all is_yes (exits ++ exit ∷ []); some = b }) (sym some)
+pub Sees-nothing : {W V : Type 0} (saw : W → List V → Type 0) (now : W) → Sees saw now now []
+Sees-nothing saw now before h = subst (saw now) (sym (append-nil before)) h
 
-module _ (P : Input → List ℕ → Exit → Type 0) where
+pub Sees-both : {W V : Type 0} (saw : W → List V → Type 0) (a b c : W) (xs ys : List V) → Sees saw a b xs → Sees saw b c ys → Sees saw a c (xs ++ ys)
+Sees-both saw a b c xs ys h k before is = subst (saw c) (append_assoc before xs ys) (k (before ++ xs) (h before is))
+
+module _ {V : Type 0} (P : Input → V → Type 0) where
   -- the line under way ended, and was answered
-  pub line_ended : (old new : Answered) (line : Input) (bytes told : List ℕ) (exit : Exit) → IsLine bytes
+  line_ended : (old new : Answered) (line : Input) (bytes : List ℕ) (verdict : V) → IsLine bytes
       → ((all : List ℕ) → IsLineInput old.line all → IsLineInput line (all ++ bytes))
-      → P line told exit → IsLineInput new.line [] → new.ended ≡ ended_with old.ended exit
-      → (read text : List ℕ) → IsUnderWay P old read text → IsUnderWay P new (read ++ (bytes ++ line_feed ∷ [])) (text ++ told)
-  line_ended old new line bytes told exit is_line longer says whole ended read text u = record {
+      → P line verdict → IsLineInput new.line []
+      → (read : List ℕ) (verdicts : List V) → IsUnderWay P old read verdicts → IsUnderWay P new (read ++ (bytes ++ line_feed ∷ [])) (verdicts ++ verdict ∷ [])
+  line_ended old new line bytes verdict is_line longer says whole read verdicts u = record {
     lines = u.lines ++ ((u.rest ++ bytes) ++ line_feed ∷ []);
     rest = [];
-    exits = u.exits ++ exit ∷ [];
-    answered = one_more u.lines text u.exits (u.rest ++ bytes) told line exit u.answered (All-append (λ c. c ≢ line_feed) u.rest bytes u.is_line is_line)
-        (longer u.rest u.whole) says refl refl refl;
+    answered = one_more u.lines verdicts (u.rest ++ bytes) line verdict u.answered (All-append (λ c. c ≢ line_feed) u.rest bytes u.is_line is_line)
+        (longer u.rest u.whole) says refl refl;
     parts = ap (λ (r : List ℕ). r ++ (bytes ++ line_feed ∷ [])) u.parts ∙ append_assoc u.lines u.rest (bytes ++ line_feed ∷ [])
-        ∙ ap (λ (r : List ℕ). u.lines ++ r) (sym (append_assoc u.rest bytes (line_feed ∷ [])))
-        ∙ sym (append-nil (u.lines ++ ((u.rest ++ bytes) ++ line_feed ∷ [])));
+        ∙ ap (λ (r : List ℕ). u.lines ++ r) (sym (append_assoc u.rest bytes (line_feed ∷ []))) ∙ sym (append-nil (u.lines ++ ((u.rest ++ bytes) ++ line_feed ∷ [])));
     is_line = All-nil (λ c. c ≢ line_feed);
     whole = whole;
-    ended = ended ∙ ap (λ e. ended_with e exit) u.ended ∙ ended_one_more u.exits exit;
   }
 
-  pub Reads-nothing : (now : Answered) → Reads P now now [] []
-  Reads-nothing now = (
-    sym (append-nil (string_bytes now.text)),
-    λ read text u. subst (λ (r : List ℕ). IsUnderWay P now r (text ++ [])) (sym (append-nil read))
-        (subst (λ (t : List ℕ). IsUnderWay P now read t) (sym (append-nil text)) u),
-  )
-
-  pub Reads-both : (a b c : Answered) (x y t s : List ℕ) → Reads P a b x t → Reads P b c y s → Reads P a c (x ++ y) (t ++ s)
-  Reads-both a b c x y t s h k = (
-    k.0 ∙ ap (λ (r : List ℕ). r ++ s) h.0 ∙ append_assoc (string_bytes a.text) t s,
-    λ read text u. subst (λ (r : List ℕ). IsUnderWay P c r (text ++ (t ++ s))) (append_assoc read x y)
-        (subst (λ (r : List ℕ). IsUnderWay P c ((read ++ x) ++ y) r) (append_assoc text t s) (k.1 (read ++ x) (text ++ t) (h.1 read text u))),
-  )
-
-  -- the line under way became longer
-  pub Reads-rest : (old new : Answered) (bytes : List ℕ) → IsLine bytes
-      → ((all : List ℕ) → IsLineInput old.line all → IsLineInput new.line (all ++ bytes))
-      → string_bytes new.text ≡ string_bytes old.text → new.ended ≡ old.ended → Reads P old new bytes []
-  Reads-rest old new bytes is_line longer same_text same_ended = (
-    same_text ∙ sym (append-nil (string_bytes old.text)),
-    λ read text u. record {
-      lines = u.lines;
-      rest = u.rest ++ bytes;
-      exits = u.exits;
-      answered = subst (λ (t : List ℕ). AreAnswered P u.lines t u.exits) (sym (append-nil text)) u.answered;
-      parts = ap (λ (r : List ℕ). r ++ bytes) u.parts ∙ append_assoc u.lines u.rest bytes;
-      is_line = All-append (λ c. c ≢ line_feed) u.rest bytes u.is_line is_line;
-      whole = longer u.rest u.whole;
-      ended = same_ended ∙ u.ended;
-    },
-  )
+  -- there is no line behind the last line feed
+  none_under_way : (now : Answered) (read : List ℕ) (verdicts : List V) → (u : IsUnderWay P now read verdicts) → length u.rest ≡ 0 → IsAnswered P read (verdicts ++ [])
+  none_under_way now read verdicts u empty =
+      inl (subst (λ (r : List ℕ). AreAnswered P r (verdicts ++ [])) (sym (u.parts ∙ no_line u.lines u.rest empty))
+      (subst (AreAnswered P u.lines) (sym (append-nil verdicts)) u.answered))
+    where
+      no_line : (lines rest : List ℕ) → length rest ≡ 0 → lines ++ rest ≡ lines
+      no_line lines [] empty = append-nil lines
+      no_line lines (byte ∷ rest) empty = absurd (omega arith)
 
   -- the last line has no line feed
-  pub last_answered : (old : Answered) (ended : Ended) (told : List ℕ) (exit : Exit) → P old.line told exit → ended ≡ ended_with old.ended exit
-      → (read text : List ℕ) → (u : IsUnderWay P old read text) → 0 < length u.rest
-      → (exits : List Exit) × IsAnswered P read (text ++ told) exits × (ended ≡ ended_of exits)
-  last_answered old ended told exit says is_ended read text u some = (
-    u.exits ++ exit ∷ [],
-    inr (
-      record { front = u.lines; line = u.rest; parts = u.parts; some = some; is_line = u.is_line },
-      one_more u.lines text u.exits u.rest told old.line exit u.answered u.is_line u.whole says
-          (ap (λ (r : List ℕ). r ++ line_feed ∷ []) u.parts ∙ append_assoc u.lines u.rest (line_feed ∷ [])) refl refl,
-    ),
-    is_ended ∙ ap (λ e. ended_with e exit) u.ended ∙ ended_one_more u.exits exit,
+  last_answered : (old : Answered) (verdict : V) → P old.line verdict
+      → (read : List ℕ) (verdicts : List V) → (u : IsUnderWay P old read verdicts) → 0 < length u.rest → IsAnswered P read (verdicts ++ verdict ∷ [])
+  last_answered old verdict says read verdicts u some = inr (
+    record { front = u.lines; line = u.rest; parts = u.parts; some = some; is_line = u.is_line },
+    one_more u.lines verdicts u.rest old.line verdict u.answered u.is_line u.whole says
+        (ap (λ (r : List ℕ). r ++ line_feed ∷ []) u.parts ∙ append_assoc u.lines u.rest (line_feed ∷ [])) refl,
   )
 
-  no_line : (lines rest : List ℕ) → length rest ≡ 0 → lines ++ rest ≡ lines
-  no_line lines [] empty = append-nil lines
-  no_line lines (byte ∷ rest) empty = absurd (omega arith)
+  module _ {W : Type 0} (told : V → List ℕ) (saw : W → List V → Type 0) where
+    pub Reads-line : (old mid new : Answered) (w x : W) (bytes : List ℕ) (verdict : V) → IsLine bytes
+        → ((all : List ℕ) → IsLineInput old.line all → IsLineInput mid.line (all ++ bytes)) → string_bytes mid.text ≡ string_bytes old.text
+        → P mid.line verdict → string_bytes new.text ≡ string_bytes mid.text ++ told verdict → Sees saw w x (verdict ∷ []) → IsLineInput new.line []
+        → Reads P told saw old new w x (bytes ++ line_feed ∷ []) (verdict ∷ [])
+    Reads-line old mid new w x bytes verdict is_line longer same says text seen whole = record {
+      text = one_told told verdict (string_bytes old.text) (string_bytes new.text) (text ∙ ap (λ (t : List ℕ). t ++ told verdict) same);
+      seen = seen;
+      reads = line_ended old new mid.line bytes verdict is_line longer says whole;
+    }
 
-  -- there is no line behind the last line feed
-  pub none_under_way : (now : Answered) (read text : List ℕ) → (u : IsUnderWay P now read text) → length u.rest ≡ 0
-      → (exits : List Exit) × IsAnswered P read (text ++ []) exits × (now.ended ≡ ended_of exits)
-  none_under_way now read text u empty = (
-    u.exits,
-    inl (subst (λ (r : List ℕ). AreAnswered P r (text ++ []) u.exits) (sym (u.parts ∙ no_line u.lines u.rest empty))
-        (subst (λ (t : List ℕ). AreAnswered P u.lines t u.exits) (sym (append-nil text)) u.answered)),
-    u.ended,
-  )
+    pub Reads-nothing : (now : Answered) (w : W) → Reads P told saw now now w w [] []
+    Reads-nothing now w = record {
+      text = sym (append-nil (string_bytes now.text));
+      seen = Sees-nothing saw w;
+      reads = λ read verdicts u. subst (λ (r : List ℕ). IsUnderWay P now r (verdicts ++ [])) (sym (append-nil read))
+          (subst (IsUnderWay P now read) (sym (append-nil verdicts)) u);
+    }
+
+    pub Reads-both : (a b c : Answered) (w x y : W) (bytes more : List ℕ) (vs us : List V) → Reads P told saw a b w x bytes vs → Reads P told saw b c x y more us
+        → Reads P told saw a c w y (bytes ++ more) (vs ++ us)
+    Reads-both a b c w x y bytes more vs us h k = record {
+      text = both_told told vs us (string_bytes a.text) (string_bytes b.text) (string_bytes c.text) h.text k.text;
+      seen = Sees-both saw w x y vs us h.seen k.seen;
+      reads = λ read verdicts u. subst (λ (r : List ℕ). IsUnderWay P c r (verdicts ++ (vs ++ us))) (append_assoc read bytes more)
+          (subst (IsUnderWay P c ((read ++ bytes) ++ more)) (append_assoc verdicts vs us) (k.reads (read ++ bytes) (verdicts ++ vs) (h.reads read verdicts u)));
+    }
+
+    -- the line under way became longer
+    pub Reads-rest : (old new : Answered) (w : W) (bytes : List ℕ) → IsLine bytes
+        → ((all : List ℕ) → IsLineInput old.line all → IsLineInput new.line (all ++ bytes))
+        → string_bytes new.text ≡ string_bytes old.text → Reads P told saw old new w w bytes []
+    Reads-rest old new w bytes is_line longer same = record {
+      text = same ∙ sym (append-nil (string_bytes old.text));
+      seen = Sees-nothing saw w;
+      reads = λ read verdicts u. record {
+        lines = u.lines;
+        rest = u.rest ++ bytes;
+        answered = subst (AreAnswered P u.lines) (sym (append-nil verdicts)) u.answered;
+        parts = ap (λ (r : List ℕ). r ++ bytes) u.parts ∙ append_assoc u.lines u.rest bytes;
+        is_line = All-append (λ c. c ≢ line_feed) u.rest bytes u.is_line is_line;
+        whole = longer u.rest u.whole;
+      };
+    }
+
+    pub Ends-nothing : (now : Answered) (w : W) → ((all : List ℕ) → IsLineInput now.line all → length all ≡ 0) → Ends P told saw now now w w []
+    Ends-nothing now w empty = record {
+      text = sym (append-nil (string_bytes now.text));
+      seen = Sees-nothing saw w;
+      ends = λ read verdicts u. none_under_way now read verdicts u (empty u.rest u.whole);
+    }
+
+    pub Ends-line : (old new : Answered) (w x : W) (verdict : V) → ((all : List ℕ) → IsLineInput old.line all → 0 < length all)
+        → P old.line verdict → string_bytes new.text ≡ string_bytes old.text ++ told verdict → Sees saw w x (verdict ∷ []) → Ends P told saw old new w x (verdict ∷ [])
+    Ends-line old new w x verdict some says text seen = record {
+      text = one_told told verdict (string_bytes old.text) (string_bytes new.text) text;
+      seen = seen;
+      ends = λ read verdicts u. last_answered old verdict says read verdicts u (some u.rest u.whole);
+    }

@@ -1,10 +1,11 @@
--- Where each line has one answer, each text has one.
+-- Where each line has one verdict, each text has one list of them.
 use Rattle.std.proofs.Common.{◌≡◌, ◌≢◌, ℕ, ◌<◌, List, [], ◌∷◌, ◌++◌, length, refl, sym, ap, subst, ◌∙◌, append_assoc, inl, inr, arith}
 use Rattle.std.specs.Prelude.{⊤, ◌⊎◌}
+use Rattle.std.specs.List.{flat_map}
+use Rattle.std.proofs.lemmas.Grind.{flat_map-append}
 use Rattle.std.proofs.lemmas.List.{append-nil, append_cancel_right}
 use Rattle.std.proofs.lemmas.List.Elements.{All-head, All-tail}
 use Rattle.dia_io.specs.declared.Input.{Input}
-use Rattle.dia_io.specs.declared.Exit.{Exit}
 use Rattle.dia_lines.specs.FeedToSink.{FrontIsBeginning}
 use Rattle.dia_lines.specs.Lines.{AreAnswered, none, one_more, EndsInLine, IsAnswered, IsLine, IsLineInput, LineHasOneAnswer, TextHasOneAnswer, line_feed}
 
@@ -80,78 +81,74 @@ nothing_in_front : (front rest : List ℕ) → [] ≡ front ++ rest → front �
 nothing_in_front [] rest same = refl
 nothing_in_front (x ∷ front) rest same = absurd cc
 
-module _ (P : Input → List ℕ → Exit → Type 0) where
-  Ends-answered : (lines text : List ℕ) (exits : List Exit) → AreAnswered P lines text exits → Ends lines
-  Ends-answered _ _ _ none = tt
-  Ends-answered _ _ _ (one_more before text_before exits_before bytes told input exit h line is says lines texts exits) =
+module _ {V : Type 0} (P : Input → V → Type 0) (once : LineHasOneAnswer P) where
+  Ends-answered : (lines : List ℕ) (verdicts : List V) → AreAnswered P lines verdicts → Ends lines
+  Ends-answered _ _ none = tt
+  Ends-answered _ _ (one_more before verdicts_before bytes input verdict h line is says lines verdicts) =
       subst Ends (sym (lines ∙ sym (append_assoc before bytes (line_feed ∷ [])))) (Ends-line (before ++ bytes))
 
-  lines_once : LineHasOneAnswer P → (lines text other : List ℕ) (exits endings : List Exit) → AreAnswered P lines text exits → AreAnswered P lines other endings
-      → (text ≡ other) × (exits ≡ endings)
-  lines_once once _ _ _ _ _ none none = (refl, refl)
-  lines_once once _ _ _ _ _ none (one_more before text_before exits_before bytes told input exit h line is says lines texts ends) = absurd (no_lines before bytes lines)
-  lines_once once _ _ _ _ _ (one_more before text_before exits_before bytes told input exit h line is says lines texts ends) none = absurd (no_lines before bytes lines)
-  lines_once once _ _ _ _ _ (one_more before text_before exits_before bytes told input exit h line is says lines texts ends)
-      (one_more before' text_before' exits_before' bytes' told' input' exit' h' line' is' says' lines' texts' ends') =
+  lines_once : (lines : List ℕ) (verdicts others : List V) → AreAnswered P lines verdicts → AreAnswered P lines others → verdicts ≡ others
+  lines_once _ _ _ none none = refl
+  lines_once _ _ _ none (one_more before verdicts_before bytes input verdict h line is says lines verdicts) = absurd (no_lines before bytes lines)
+  lines_once _ _ _ (one_more before verdicts_before bytes input verdict h line is says lines verdicts) none = absurd (no_lines before bytes lines)
+  lines_once _ _ _ (one_more before verdicts_before bytes input verdict h line is says lines verdicts)
+      (one_more before' verdicts_before' bytes' input' verdict' h' line' is' says' lines' verdicts') =
       let same : before ++ bytes ≡ before' ++ bytes' = append_cancel_right (before ++ bytes) (before' ++ bytes') (line_feed ∷ [])
       (append_assoc before bytes (line_feed ∷ []) ∙ sym lines ∙ lines' ∙ sym (append_assoc before' bytes' (line_feed ∷ []))) in
-      let cut = one_cut before bytes before' bytes' (Ends-answered before text_before exits_before h) (Ends-answered before' text_before' exits_before' h') line line' same in
-      let fronts = lines_once once before text_before text_before' exits_before exits_before' h
-      (subst (λ (l : List ℕ). AreAnswered P l text_before' exits_before') (sym cut.0) h') in
-      let last = once bytes told told' input input' exit exit' is (subst (λ (l : List ℕ). IsLineInput input' l) (sym cut.1) is') says says' in (
-        texts ∙ ap (λ (t : List ℕ). t ++ told) fronts.0 ∙ ap (λ (t : List ℕ). text_before' ++ t) last.0 ∙ sym texts',
-        ends ∙ ap (λ (t : List Exit). t ++ exit ∷ []) fronts.1 ∙ ap (λ x. exits_before' ++ x ∷ []) last.1 ∙ sym ends',
-      )
+      let cut = one_cut before bytes before' bytes' (Ends-answered before verdicts_before h) (Ends-answered before' verdicts_before' h') line line' same in
+      let fronts = lines_once before verdicts_before verdicts_before' h (subst (λ (l : List ℕ). AreAnswered P l verdicts_before') (sym cut.0) h') in
+      let last = once bytes input input' verdict verdict' is (subst (λ (l : List ℕ). IsLineInput input' l) (sym cut.1) is') says says' in
+      verdicts ∙ ap (λ (t : List V). t ++ verdict ∷ []) fronts ∙ ap (λ v. verdicts_before' ++ v ∷ []) last ∙ sym verdicts'
 
-  not_both : (bytes text : List ℕ) (exits : List Exit) → AreAnswered P bytes text exits → EndsInLine bytes → ⊥
-  not_both bytes text exits h u = no_end_behind u.front u.line u.some u.is_line (subst Ends u.parts (Ends-answered bytes text exits h))
+  not_both : (bytes : List ℕ) (verdicts : List V) → AreAnswered P bytes verdicts → EndsInLine bytes → ⊥
+  not_both bytes verdicts h u = no_end_behind u.front u.line u.some u.is_line (subst Ends u.parts (Ends-answered bytes verdicts h))
 
-  pub text_once : LineHasOneAnswer P → TextHasOneAnswer P
-  text_once once bytes text other exits endings (inl h) (inl k) = lines_once once bytes text other exits endings h k
-  text_once once bytes text other exits endings (inl h) (inr k) = absurd (not_both bytes text exits h k.0)
-  text_once once bytes text other exits endings (inr h) (inl k) = absurd (not_both bytes other endings k h.0)
-  text_once once bytes text other exits endings (inr h) (inr k) = lines_once once (bytes ++ line_feed ∷ []) text other exits endings h.1 k.1
+  pub text_once : TextHasOneAnswer P
+  text_once bytes verdicts others (inl h) (inl k) = lines_once bytes verdicts others h k
+  text_once bytes verdicts others (inl h) (inr k) = absurd (not_both bytes verdicts h k.0)
+  text_once bytes verdicts others (inr h) (inl k) = absurd (not_both bytes others k h.0)
+  text_once bytes verdicts others (inr h) (inr k) = lines_once (bytes ++ line_feed ∷ []) verdicts others h.1 k.1
 
-  -- the text of whole lines at the front is a beginning of the text of all
-  lines_front : LineHasOneAnswer P → (lines whole : List ℕ) (all : List Exit) → AreAnswered P lines whole all
-      → (front rest text : List ℕ) (exits : List Exit) → AreAnswered P front text exits → lines ≡ front ++ rest → (more : List ℕ) × (whole ≡ text ++ more)
-  lines_front once _ _ _ none front rest text exits k parts =
-      let no_text = lines_once once [] text [] exits [] (subst (λ (l : List ℕ). AreAnswered P l text exits) (nothing_in_front front rest parts) k) none in
-      ([], sym no_text.0 ∙ sym (append-nil text))
-  lines_front once lines whole all (one_more before text_before exits_before bytes told input exit h line is says parts texts ends) front rest text exits k cut =
-      elim (front_or_all front rest before bytes (Ends-answered front text exits k) line (sym cut ∙ parts)) [
+  -- the verdicts on whole lines at the front are a beginning of all
+  lines_front : (lines : List ℕ) (all : List V) → AreAnswered P lines all
+      → (front rest : List ℕ) (verdicts : List V) → AreAnswered P front verdicts → lines ≡ front ++ rest → (more : List V) × (all ≡ verdicts ++ more)
+  lines_front _ _ none front rest verdicts k parts =
+      let no_verdicts = lines_once [] verdicts [] (subst (λ (l : List ℕ). AreAnswered P l verdicts) (nothing_in_front front rest parts) k) none in
+      ([], sym no_verdicts ∙ sym (append-nil verdicts))
+  lines_front lines all (one_more before verdicts_before bytes input verdict h line is says parts ends) front rest verdicts k cut =
+      elim (front_or_all front rest before bytes (Ends-answered front verdicts k) line (sym cut ∙ parts)) [
         | inl same ↦ (
           [],
-          (lines_once once lines whole text all exits
-              (one_more before text_before exits_before bytes told input exit h line is says parts texts ends)
-              (subst (λ (l : List ℕ). AreAnswered P l text exits) (same ∙ sym parts) k)).0 ∙ sym (append-nil text),
+          lines_once lines all verdicts
+              (one_more before verdicts_before bytes input verdict h line is says parts ends)
+              (subst (λ (l : List ℕ). AreAnswered P l verdicts) (same ∙ sym parts) k) ∙ sym (append-nil verdicts),
         )
         | inr part ↦ (
-          (lines_front once before text_before exits_before h front part.0 text exits k part.1).0 ++ told,
-          texts ∙ ap (λ (t : List ℕ). t ++ told) (lines_front once before text_before exits_before h front part.0 text exits k part.1).1
-              ∙ append_assoc text (lines_front once before text_before exits_before h front part.0 text exits k part.1).0 told,
+          (lines_front before verdicts_before h front part.0 verdicts k part.1).0 ++ verdict ∷ [],
+          ends ∙ ap (λ (t : List V). t ++ verdict ∷ []) (lines_front before verdicts_before h front part.0 verdicts k part.1).1
+              ∙ append_assoc verdicts (lines_front before verdicts_before h front part.0 verdicts k part.1).0 (verdict ∷ []),
         )
       ]
 
-  front_of_all : LineHasOneAnswer P → (front rest text whole : List ℕ) (exits all : List Exit) → AreAnswered P front text exits → IsAnswered P (front ++ rest) whole all
-      → (more : List ℕ) × (whole ≡ text ++ more)
-  front_of_all once front rest text whole exits all k (inl h) = lines_front once (front ++ rest) whole all h front rest text exits k refl
-  front_of_all once front rest text whole exits all k (inr h) =
-      lines_front once ((front ++ rest) ++ line_feed ∷ []) whole all h.1 front (rest ++ line_feed ∷ []) text exits k (append_assoc front rest (line_feed ∷ []))
+  front_of_all : (front rest : List ℕ) (verdicts all : List V) → AreAnswered P front verdicts → IsAnswered P (front ++ rest) all → (more : List V) × (all ≡ verdicts ++ more)
+  front_of_all front rest verdicts all k (inl h) = lines_front (front ++ rest) all h front rest verdicts k refl
+  front_of_all front rest verdicts all k (inr h) =
+      lines_front ((front ++ rest) ++ line_feed ∷ []) all h.1 front (rest ++ line_feed ∷ []) verdicts k (append_assoc front rest (line_feed ∷ []))
 
-  -- the text of the front, where the call failed
-  text_in_front : LineHasOneAnswer P → (bytes left front rest text whole : List ℕ) (exits all : List Exit) → bytes ≡ (front ++ rest) ++ left
-      → (AreAnswered P front text exits ⊎ ((left ≡ []) × (rest ≡ []) × IsAnswered P front text exits)) → IsAnswered P bytes whole all
-      → (more : List ℕ) × (whole ≡ text ++ more)
-  text_in_front once bytes left front rest text whole exits all parts (inl k) h =
-      front_of_all once front (rest ++ left) text whole exits all k
-      (subst (λ (l : List ℕ). IsAnswered P l whole all) (parts ∙ append_assoc front rest left) h)
-  text_in_front once bytes left front rest text whole exits all parts (inr k) h =
+  -- the verdicts on the front, where the call failed
+  verdicts_in_front : (bytes left front rest : List ℕ) (verdicts all : List V) → bytes ≡ (front ++ rest) ++ left
+      → (AreAnswered P front verdicts ⊎ ((left ≡ []) × (rest ≡ []) × IsAnswered P front verdicts)) → IsAnswered P bytes all
+      → (more : List V) × (all ≡ verdicts ++ more)
+  verdicts_in_front bytes left front rest verdicts all parts (inl k) h =
+      front_of_all front (rest ++ left) verdicts all k (subst (λ (l : List ℕ). IsAnswered P l all) (parts ∙ append_assoc front rest left) h)
+  verdicts_in_front bytes left front rest verdicts all parts (inr k) h =
       let same : bytes ≡ front = parts ∙ ap (λ (l : List ℕ). (front ++ rest) ++ l) k.0 ∙ append-nil (front ++ rest) ∙ ap (λ (l : List ℕ). front ++ l) k.1 ∙ append-nil front in
-      ([], (text_once once front whole text all exits (subst (λ (l : List ℕ). IsAnswered P l whole all) same h) k.2).0 ∙ sym (append-nil text))
+      ([], text_once front all verdicts (subst (λ (l : List ℕ). IsAnswered P l all) same h) k.2 ∙ sym (append-nil verdicts))
 
-  pub put_is_beginning : LineHasOneAnswer P → FrontIsBeginning P
-  put_is_beginning once bytes left before now whole exits a h =
+  pub put_is_beginning : (told : V → List ℕ) → FrontIsBeginning P told
+  put_is_beginning told bytes left before now all a h =
       let (put, unput, texts, is_put) = a.is_put in
-      let more = text_in_front once bytes left a.front a.rest a.text whole a.exits exits a.consumed a.answered h in
-      (put, unput ++ more.0, is_put, more.1 ∙ ap (λ (t : List ℕ). t ++ more.0) texts ∙ append_assoc put unput more.0)
+      let more = verdicts_in_front bytes left a.front a.rest a.verdicts all a.consumed a.answered h in
+      let whole : flat_map told all ≡ flat_map told a.verdicts ++ flat_map told more.0 =
+      ap (λ (vs : List V). flat_map told vs) more.1 ∙ flat_map-append told a.verdicts more.0 in
+      (put, unput ++ flat_map told more.0, is_put, whole ∙ ap (λ (t : List ℕ). t ++ flat_map told more.0) texts ∙ append_assoc put unput (flat_map told more.0))

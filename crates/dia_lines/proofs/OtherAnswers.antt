@@ -1,41 +1,51 @@
--- What answers lines may be told in other words.
-use Rattle.std.proofs.Common.{ℕ, List, Option, inl, inr}
+-- Verdicts on lines may be told in other words.
+use Rattle.std.proofs.Common.{◌≡◌, ℕ, List, [], ◌∷◌, ◌++◌, Option, refl, sym, ap, subst, ◌∙◌, inl, inr}
+use Rattle.std.specs.Prelude.{map}
+use Rattle.std.specs.List.{flat_map}
+use Rattle.std.specs.Io.KnownBytes.{Appends}
+use Rattle.std.proofs.lemmas.List.{map-append}
+use Rattle.std.proofs.lemmas.List.Concat.{flat_map-cons}
 use Rattle.dia_io.specs.declared.Input.{Input}
-use Rattle.dia_io.specs.declared.Exit.{Exit}
+use Rattle.dia_io.specs.Writing.{AppendsFront}
 use Rattle.dia_lines.specs.Lines.{AreAnswered, none, one_more, IsAnswered}
 use Rattle.dia_lines.specs.FeedToSink.{FrontAnswered, LinesAnswered}
 
-module _ (P Q : Input → List ℕ → Exit → Type 0) (f : (line : Input) (told : List ℕ) (exit : Exit) → P line told exit → Q line told exit) where
-  pub AreAnswered-map : (lines text : List ℕ) (exits : List Exit) → AreAnswered P lines text exits → AreAnswered Q lines text exits
-  AreAnswered-map _ _ _ none = none
-  AreAnswered-map _ _ _ (one_more before text_before exits_before bytes told input exit h line is says lines texts ends) =
-      one_more before text_before exits_before bytes told input exit (AreAnswered-map before text_before exits_before h) line is (f input told exit says) lines texts ends
+module _ {V A : Type 0} (P : Input → V → Type 0) (Q : Input → A → Type 0) (g : V → A) (f : (line : Input) (verdict : V) → P line verdict → Q line (g verdict)) where
+  pub AreAnswered-map : (lines : List ℕ) (verdicts : List V) → AreAnswered P lines verdicts → AreAnswered Q lines (map g verdicts)
+  AreAnswered-map _ _ none = none
+  AreAnswered-map _ _ (one_more before verdicts_before bytes input verdict h line is says lines verdicts) =
+      one_more before (map g verdicts_before) bytes input (g verdict) (AreAnswered-map before verdicts_before h) line is (f input verdict says) lines
+      (ap (λ (vs : List V). map g vs) verdicts ∙ map-append g verdicts_before (verdict ∷ []))
 
-  pub IsAnswered-map : (bytes text : List ℕ) (exits : List Exit) → IsAnswered P bytes text exits → IsAnswered Q bytes text exits
-  IsAnswered-map bytes text exits (inl h) = inl (AreAnswered-map bytes text exits h)
-  IsAnswered-map bytes text exits (inr h) = inr (h.0, AreAnswered-map _ text exits h.1)
+  pub IsAnswered-map : (bytes : List ℕ) (verdicts : List V) → IsAnswered P bytes verdicts → IsAnswered Q bytes (map g verdicts)
+  IsAnswered-map bytes verdicts (inl h) = inl (AreAnswered-map bytes verdicts h)
+  IsAnswered-map bytes verdicts (inr h) = inr (h.0, AreAnswered-map _ verdicts h.1)
 
-  pub LinesAnswered-map : (fed_old fed put_old put : Option (List ℕ)) → LinesAnswered P fed_old fed put_old put → LinesAnswered Q fed_old fed put_old put
-  LinesAnswered-map fed_old fed put_old put h = record {
-    lines = h.lines;
-    rest = h.rest;
-    text = h.text;
-    exits = h.exits;
-    consumed = h.consumed;
-    answered = AreAnswered-map h.lines h.text h.exits h.answered;
-    is_put = h.is_put;
-  }
+  module _ (told : V → List ℕ) (other : A → List ℕ) (same : (verdict : V) → told verdict ≡ other (g verdict)) where
+    pub same_text : (verdicts : List V) → flat_map told verdicts ≡ flat_map other (map g verdicts)
+    same_text [] = refl
+    same_text (v ∷ vs) = flat_map-cons told v vs ∙ ap (λ (t : List ℕ). t ++ flat_map told vs) (same v) ∙ ap (λ (t : List ℕ). other (g v) ++ t) (same_text vs)
+        ∙ sym (flat_map-cons other (g v) (map g vs))
 
-  pub FrontAnswered-map : (fed_old fed put_old put : Option (List ℕ)) → FrontAnswered P fed_old fed put_old put → FrontAnswered Q fed_old fed put_old put
-  FrontAnswered-map fed_old fed put_old put h = record {
-    front = h.front;
-    rest = h.rest;
-    text = h.text;
-    exits = h.exits;
-    consumed = h.consumed;
-    answered = elim h.answered [
-      | inl a ↦ inl (AreAnswered-map h.front h.text h.exits a)
-      | inr a ↦ inr (a.0, a.1, IsAnswered-map h.front h.text h.exits a.2)
-    ];
-    is_put = h.is_put;
-  }
+    pub LinesAnswered-map : (fed_old fed put_old put : Option (List ℕ)) → LinesAnswered P told fed_old fed put_old put → LinesAnswered Q other fed_old fed put_old put
+    LinesAnswered-map fed_old fed put_old put h = record {
+      lines = h.lines;
+      rest = h.rest;
+      verdicts = map g h.verdicts;
+      consumed = h.consumed;
+      answered = AreAnswered-map h.lines h.verdicts h.answered;
+      is_put = subst (Appends put_old put) (same_text h.verdicts) h.is_put;
+    }
+
+    pub FrontAnswered-map : (fed_old fed put_old put : Option (List ℕ)) → FrontAnswered P told fed_old fed put_old put → FrontAnswered Q other fed_old fed put_old put
+    FrontAnswered-map fed_old fed put_old put h = record {
+      front = h.front;
+      rest = h.rest;
+      verdicts = map g h.verdicts;
+      consumed = h.consumed;
+      answered = elim h.answered [
+        | inl a ↦ inl (AreAnswered-map h.front h.verdicts a)
+        | inr a ↦ inr (a.0, a.1, IsAnswered-map h.front h.verdicts a.2)
+      ];
+      is_put = subst (AppendsFront put_old put) (same_text h.verdicts) h.is_put;
+    }

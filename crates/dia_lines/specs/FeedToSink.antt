@@ -1,47 +1,48 @@
--- Lines that are answered from a feed into a sink.
+-- Lines that are answered from a feed into a sink. P says which verdict a line has, and told what is written for a verdict.
 use Rattle.std.specs.Prelude.{◌≡◌, ℕ, ◌⊎◌, List, [], ◌++◌, Option, Some}
+use Rattle.std.specs.List.{flat_map}
 use Rattle.std.specs.Io.KnownBytes.{Appends, Consumes, IsAtEnd}
 use Rattle.dia_io.specs.declared.Input.{Input}
-use Rattle.dia_io.specs.declared.Exit.{Exit}
 use Rattle.dia_io.specs.Writing.{AppendsFront}
-use Rattle.dia_lines.specs.declared.answered.Ended.{Ended}
-use Rattle.dia_lines.specs.Lines.{AreAnswered, IsAnswered, ended_of}
+use Rattle.dia_lines.specs.Lines.{AreAnswered, IsAnswered}
 
 -- how many pieces can be counted
 abbrev pub most_pieces : ℕ
 most_pieces = 18446744073709551615
 
+-- what watches saw these verdicts behind those before
+abbrev pub Sees : {W V : Type 0} → (W → List V → Type 0) → (old now : W) → List V → Type 0
+Sees {W} {V} saw old now verdicts = (before : List V) → saw old before → saw now (before ++ verdicts)
+
 -- all that the feed gave was answered
-pub record AllAnswered (P : Input → List ℕ → Exit → Type 0) (fed_old fed put_old put : Option (List ℕ)) (ended : Ended) : Type 0 where
+pub record AllAnswered {V W : Type 0} (P : Input → V → Type 0) (told : V → List ℕ) (saw : W → List V → Type 0)
+    (fed_old fed put_old put : Option (List ℕ)) (watch_old watch : W) : Type 0 where
   pub bytes : List ℕ
-  pub text : List ℕ
-  pub exits : List Exit
+  pub verdicts : List V
   pub consumed : Consumes fed_old fed bytes
-  pub answered : IsAnswered P bytes text exits
-  pub is_put : Appends put_old put text
-  pub ends : ended ≡ ended_of exits
+  pub answered : IsAnswered P bytes verdicts
+  pub is_put : Appends put_old put (flat_map told verdicts)
+  pub seen : Sees saw watch_old watch verdicts
 
 -- whole lines at the front of what was read were answered, and nothing else was put
-pub record LinesAnswered (P : Input → List ℕ → Exit → Type 0) (fed_old fed put_old put : Option (List ℕ)) : Type 0 where
+pub record LinesAnswered {V : Type 0} (P : Input → V → Type 0) (told : V → List ℕ) (fed_old fed put_old put : Option (List ℕ)) : Type 0 where
   pub lines : List ℕ
   pub rest : List ℕ
-  pub text : List ℕ
-  pub exits : List Exit
+  pub verdicts : List V
   pub consumed : Consumes fed_old fed (lines ++ rest)
-  pub answered : AreAnswered P lines text exits
-  pub is_put : Appends put_old put text
+  pub answered : AreAnswered P lines verdicts
+  pub is_put : Appends put_old put (flat_map told verdicts)
 
 -- what was put is a beginning of the answers: of whole lines at the front of what was read, or, at the end of the feed, of all lines
-pub record FrontAnswered (P : Input → List ℕ → Exit → Type 0) (fed_old fed put_old put : Option (List ℕ)) : Type 0 where
+pub record FrontAnswered {V : Type 0} (P : Input → V → Type 0) (told : V → List ℕ) (fed_old fed put_old put : Option (List ℕ)) : Type 0 where
   pub front : List ℕ
   pub rest : List ℕ
-  pub text : List ℕ
-  pub exits : List Exit
+  pub verdicts : List V
   pub consumed : Consumes fed_old fed (front ++ rest)
-  pub answered : AreAnswered P front text exits ⊎ (IsAtEnd fed × (rest ≡ []) × IsAnswered P front text exits)
-  pub is_put : AppendsFront put_old put text
+  pub answered : AreAnswered P front verdicts ⊎ (IsAtEnd fed × (rest ≡ []) × IsAnswered P front verdicts)
+  pub is_put : AppendsFront put_old put (flat_map told verdicts)
 
 -- what was put of the answers is a beginning of the whole text
-abbrev pub FrontIsBeginning : (Input → List ℕ → Exit → Type 0) → Type 0
-FrontIsBeginning P = (bytes left before now whole : List ℕ) (exits : List Exit) → FrontAnswered P (Some bytes) (Some left) (Some before) (Some now)
-    → IsAnswered P bytes whole exits → (put : List ℕ) × (rest : List ℕ) × (now ≡ before ++ put) × (whole ≡ put ++ rest)
+abbrev pub FrontIsBeginning : {V : Type 0} → (Input → V → Type 0) → (V → List ℕ) → Type 0
+FrontIsBeginning {V} P told = (bytes left before now : List ℕ) (verdicts : List V) → FrontAnswered P told (Some bytes) (Some left) (Some before) (Some now)
+    → IsAnswered P bytes verdicts → (put : List ℕ) × (rest : List ℕ) × (now ≡ before ++ put) × (flat_map told verdicts ≡ put ++ rest)

@@ -1,17 +1,27 @@
 ghost use Rattle.std.specs.Prelude.{◌≡◌, ◌++◌, List, ℕ, IfOk, string_bytes};
 ghost use Rattle.dia_io.specs.declared.Input.{Input as AnyInput};
-ghost use Rattle.dia_io.specs.declared.Exit.{Exit as AnyExit};
 
-use dia_io::{Exit, Input};
+use dia_io::Input;
 use std::alloc::{AllocError, Global};
 
-/// What answers lines.
+/// What judges lines.
 pub trait Judge {
-    // The text for a line, and how it ends.
-    ghost says: { Self → AnyInput → List ℕ → AnyExit → Type 0 };
+    /// What is found of a line.
+    type Verdict: Copy;
 
-    /// Adds the text for a line to another.
-    fn judge(&self, alloc: Global, line: &Input, text: &mut String) -> Result<Exit, AllocError>
-        ensures { IfOk result (λ exit. (told : List ℕ) × says self.now line.now told exit
-            × (string_bytes text.new ≡ string_bytes text.old ++ told)) };
+    // Whether a line has this verdict.
+    ghost says: { Self → AnyInput → Self.Verdict → Type 0 };
+
+    // The text for a verdict.
+    ghost told: { Self → Self.Verdict → List ℕ };
+
+    /// The verdict on a line. Its text is added to another.
+    fn judge(
+        &self,
+        alloc: Global,
+        line: &Input,
+        text: &mut String,
+    ) -> Result<Self::Verdict, AllocError>
+        ensures { IfOk result (λ verdict. says self.now line.now verdict
+            × (string_bytes text.new ≡ string_bytes text.old ++ told self.now verdict)) };
 }

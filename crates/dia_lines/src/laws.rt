@@ -5,12 +5,13 @@ ghost use Rattle.dia_lines.specs.Lines.{LineHasOneAnswer, TextHasOneAnswer};
 
 use crate::judge::Judge;
 
-/// Where each line has one answer, each text has one.
+/// Where each line has one verdict, each text has one list of them.
 pub fn text_has_one_answer<J: Judge>(judge: &J)
     ensures { LineHasOneAnswer (J.says judge.now) → TextHasOneAnswer (J.says judge.now) }
 {}
 
-/// Where each line has one answer, a call that fails has put a beginning of the text.
+/// Where each line has one verdict, a call that fails has put a beginning of the text.
 pub fn front_is_beginning<J: Judge>(judge: &J)
-    ensures { LineHasOneAnswer (J.says judge.now) → FrontIsBeginning (J.says judge.now) }
+    ensures { LineHasOneAnswer (J.says judge.now)
+        → FrontIsBeginning (J.says judge.now) (J.told judge.now) }
 {}

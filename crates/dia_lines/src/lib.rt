@@ -1,7 +1,7 @@
 //! The lines of a text, answered one by one as its pieces come, in the memory of one line.
 //!
-//! `answer_lines` reads a feed piece by piece, asks a [`Judge`] for the text of each line, and puts these texts into a sink as
-//! they come. It uses an [`Answered`], which is given the pieces by `read`, and `end` behind the last one.
+//! `answer_lines` reads a feed piece by piece, asks a [`Judge`] for the verdict on each line and its text, puts these texts into
+//! a sink as they come, and shows the verdicts to a [`Watch`].
 #![tactic(auto)]
 
 mod answered;
@@ -11,9 +11,10 @@ mod judge;
 mod laws;
 mod pending;
 mod splitting;
+mod watch;
 
-pub use answered::{Answered, Ended};
 pub use answering::answer_lines;
 pub use fault::LinesFault;
 pub use judge::Judge;
 pub use laws::{front_is_beginning, text_has_one_answer};
+pub use watch::Watch;

@@ -1,9 +1,8 @@
--- Where bytes are told with one text, a stream is.
-use Rattle.std.proofs.Common.{◌≡◌, ℕ, ◌+◌, ◌<◌, List, [], ◌∷◌, ◌++◌, length, take, refl, sym, ap, subst, ◌∙◌, append_assoc, inl, inr, arith}
+-- Where bytes have one verdict, a stream has one list of them.
+use Rattle.std.proofs.Common.{◌≡◌, ℕ, ◌+◌, ◌<◌, List, [], ◌∷◌, ◌++◌, length, take, Option, None, Some, refl, sym, ap, subst, ◌∙◌, append_assoc, inl, inr, arith}
 use Rattle.std.proofs.lemmas.List.{length-append}
 use Rattle.std.proofs.lemmas.Option.{same_Some}
-use Rattle.dia_io.specs.declared.Exit.{Exit}
-use Rattle.dia_streams.specs.Streams.{AreSpelled, AreTold, none, message, BeginsNoPair, IsEndTold, nothing, part, endless, no_digits, IsEndless, IsMessage, IsPair, IsPart, BytesHaveOneText, StreamHasOneText, placed}
+use Rattle.dia_streams.specs.Streams.{AreSpelled, AreTold, none, message, BeginsNoPair, IsEndTold, nothing, part, endless, no_digits, IsEndless, IsMessage, IsPair, IsPart, BytesHaveOneVerdict, StreamHasOneAnswer}
 use Rattle.dia_wire.specs.Wire.{BeginsMessage}
 use Rattle.dia_streams.proofs.Fronts.{message_long, message_on, one_length}
 
@@ -67,83 +66,81 @@ part_not_endless : (bytes : List ℕ) → IsPart bytes → IsEndless bytes → �
 part_not_endless bytes (inl few) (long, bad) = omega (arith, few, long)
 part_not_endless bytes (inr (n, m, less)) (long, bad) = bad n m
 
-module _ (P : List ℕ → List ℕ → Exit → Type 0) (once : BytesHaveOneText P) where
-  no_message_left : (at : ℕ) (bytes left text first more : List ℕ) (exits : List Exit) → IsEndTold P at bytes left text exits → IsMessage first → bytes ≡ first ++ more → ⊥
-  no_message_left at bytes left text first more exits (nothing empty no_left is_text is_exits) is parts =
+module _ {V : Type 0} (P : Option (List ℕ) → V → Type 0) (once : BytesHaveOneVerdict P) where
+  no_message_left : (at : ℕ) (bytes left first more : List ℕ) (verdicts : List (ℕ × V)) → IsEndTold P at bytes left verdicts → IsMessage first → bytes ≡ first ++ more → ⊥
+  no_message_left at bytes left first more verdicts (nothing empty no_left are) is parts =
       let size = ap length parts in let zero = ap length empty in let both = length-append first more in let long = message_long first (length first) is in
       omega (arith, size, zero, both, long)
-  no_message_left at bytes left text first more exits (part told exit some few no_left says is_text is_exits) is parts = part_no_message bytes first more few is parts
-  no_message_left at bytes left text first more exits (endless told exit bad says is_text is_exits) is parts =
+  no_message_left at bytes left first more verdicts (part verdict some few no_left says are) is parts = part_no_message bytes first more few is parts
+  no_message_left at bytes left first more verdicts (endless verdict bad says are) is parts =
       bad.1 (length first) (subst (λ (s : List ℕ). BeginsMessage s (length first)) (sym parts) (message_on first more (length first) is))
-  no_message_left at bytes left text first more exits (no_digits few some is_text is_exits) is parts = part_no_message bytes first more few is parts
+  no_message_left at bytes left first more verdicts (no_digits verdict few some says are) is parts = part_no_message bytes first more few is parts
 
-  same_line : (at : ℕ) (t t' told told' : List ℕ) (e e' : List Exit) (x x' : Exit) → (told ≡ told') × (x ≡ x') → t ≡ placed at told → t' ≡ placed at told'
-      → e ≡ x ∷ [] → e' ≡ x' ∷ [] → (t ≡ t') × (e ≡ e')
-  same_line at t t' told told' e e' x x' (same, same_exit) is_t is_t' is_e is_e' =
-      (is_t ∙ ap (λ (s : List ℕ). placed at s) same ∙ sym is_t', is_e ∙ ap (λ z. z ∷ []) same_exit ∙ sym is_e')
+  same_verdict : (at : ℕ) (verdict other : V) (verdicts others : List (ℕ × V)) → verdict ≡ other → verdicts ≡ (at, verdict) ∷ [] → others ≡ (at, other) ∷ []
+      → verdicts ≡ others
+  same_verdict at verdict other verdicts others same are are' = are ∙ ap (λ (v : V). (at, v) ∷ []) same ∙ sym are'
 
   none_and_some : (xs : List ℕ) → xs ≡ [] → 0 < length xs → ⊥
   none_and_some xs empty some = let zero = ap length empty in omega (arith, zero, some)
 
-  end_once : (at : ℕ) (bytes left t t' : List ℕ) (e e' : List Exit) → IsEndTold P at bytes left t e → IsEndTold P at bytes left t' e' → (t ≡ t') × (e ≡ e')
-  end_once at bytes left t t' e e' (nothing a b is_t is_e) (nothing a' b' is_t' is_e') = (is_t ∙ sym is_t', is_e ∙ sym is_e')
-  end_once at bytes left t t' e e' (nothing a b is_t is_e) (part told x some few no_left says is_t' is_e') = absurd (none_and_some bytes a some)
-  end_once at bytes left t t' e e' (nothing a b is_t is_e) (endless told x bad says is_t' is_e') = let long = bad.0 in absurd (none_and_some bytes a (omega (arith, long)))
-  end_once at bytes left t t' e e' (nothing a b is_t is_e) (no_digits few some is_t' is_e') = absurd (none_and_some left b some)
-  end_once at bytes left t t' e e' (part told x some few no_left says is_t is_e) (nothing a b is_t' is_e') = absurd (none_and_some bytes a some)
-  end_once at bytes left t t' e e' (part told x some few no_left says is_t is_e) (part told' x' some' few' no_left' says' is_t' is_e') =
-      same_line at t t' told told' e e' x x' (once bytes told told' x x' says says') is_t is_t' is_e is_e'
-  end_once at bytes left t t' e e' (part told x some few no_left says is_t is_e) (endless told' x' bad says' is_t' is_e') = absurd (part_not_endless bytes few bad)
-  end_once at bytes left t t' e e' (part told x some few no_left says is_t is_e) (no_digits few' some' is_t' is_e') = absurd (none_and_some left no_left some')
-  end_once at bytes left t t' e e' (endless told x bad says is_t is_e) (nothing a b is_t' is_e') = let long = bad.0 in absurd (none_and_some bytes a (omega (arith, long)))
-  end_once at bytes left t t' e e' (endless told x bad says is_t is_e) (part told' x' some few no_left says' is_t' is_e') = absurd (part_not_endless bytes few bad)
-  end_once at bytes left t t' e e' (endless told x bad says is_t is_e) (endless told' x' bad' says' is_t' is_e') =
-      same_line at t t' told told' e e' x x' (once (take 20 bytes) told told' x x' says says') is_t is_t' is_e is_e'
-  end_once at bytes left t t' e e' (endless told x bad says is_t is_e) (no_digits few some is_t' is_e') = absurd (part_not_endless bytes few bad)
-  end_once at bytes left t t' e e' (no_digits few some is_t is_e) (nothing a b is_t' is_e') = absurd (none_and_some left b some)
-  end_once at bytes left t t' e e' (no_digits few some is_t is_e) (part told' x' some' few' no_left' says' is_t' is_e') = absurd (none_and_some left no_left' some)
-  end_once at bytes left t t' e e' (no_digits few some is_t is_e) (endless told' x' bad says' is_t' is_e') = absurd (part_not_endless bytes few bad)
-  end_once at bytes left t t' e e' (no_digits few some is_t is_e) (no_digits few' some' is_t' is_e') = (is_t ∙ sym is_t', is_e ∙ sym is_e')
+  end_once : (at : ℕ) (bytes left : List ℕ) (vs us : List (ℕ × V)) → IsEndTold P at bytes left vs → IsEndTold P at bytes left us → vs ≡ us
+  end_once at bytes left vs us (nothing a b are) (nothing a' b' are') = are ∙ sym are'
+  end_once at bytes left vs us (nothing a b are) (part v some few no_left says are') = absurd (none_and_some bytes a some)
+  end_once at bytes left vs us (nothing a b are) (endless v bad says are') = let long = bad.0 in absurd (none_and_some bytes a (omega (arith, long)))
+  end_once at bytes left vs us (nothing a b are) (no_digits v few some says are') = absurd (none_and_some left b some)
+  end_once at bytes left vs us (part v some few no_left says are) (nothing a b are') = absurd (none_and_some bytes a some)
+  end_once at bytes left vs us (part v some few no_left says are) (part v' some' few' no_left' says' are') =
+      same_verdict at v v' vs us (once (Some bytes) v v' says says') are are'
+  end_once at bytes left vs us (part v some few no_left says are) (endless v' bad says' are') = absurd (part_not_endless bytes few bad)
+  end_once at bytes left vs us (part v some few no_left says are) (no_digits v' few' some' says' are') = absurd (none_and_some left no_left some')
+  end_once at bytes left vs us (endless v bad says are) (nothing a b are') = let long = bad.0 in absurd (none_and_some bytes a (omega (arith, long)))
+  end_once at bytes left vs us (endless v bad says are) (part v' some few no_left says' are') = absurd (part_not_endless bytes few bad)
+  end_once at bytes left vs us (endless v bad says are) (endless v' bad' says' are') =
+      same_verdict at v v' vs us (once (Some (take 20 bytes)) v v' says says') are are'
+  end_once at bytes left vs us (endless v bad says are) (no_digits v' few some says' are') = absurd (part_not_endless bytes few bad)
+  end_once at bytes left vs us (no_digits v few some says are) (nothing a b are') = absurd (none_and_some left b some)
+  end_once at bytes left vs us (no_digits v few some says are) (part v' some' few' no_left' says' are') = absurd (none_and_some left no_left' some)
+  end_once at bytes left vs us (no_digits v few some says are) (endless v' bad says' are') = absurd (part_not_endless bytes few bad)
+  end_once at bytes left vs us (no_digits v few some says are) (no_digits v' few' some' says' are') =
+      same_verdict at v v' vs us (once None v v' says says') are are'
 
-  messages_once : (at : ℕ) (whole rest lines last whole' rest' lines' last' left : List ℕ) (e l e' l' : List Exit)
-      → AreTold P at whole lines e → IsEndTold P (at + length whole) rest left last l → AreTold P at whole' lines' e' → IsEndTold P (at + length whole') rest' left last' l'
-      → whole ++ rest ≡ whole' ++ rest' → (lines ++ last ≡ lines' ++ last') × (e ++ l ≡ e' ++ l')
-  messages_once at _ rest _ last _ rest' _ last' left _ l _ l' none end none end' same =
-      end_once (at + 0) rest left last last' l l' end (subst (λ (b : List ℕ). IsEndTold P (at + 0) b left last' l') (sym same) end')
-  messages_once at _ rest _ last whole' rest' lines' last' left _ l e' l' none end (message first r t behind x others is says h bytes texts ends) end' same =
-      absurd (no_message_left (at + 0) rest left last first (r ++ rest') l end is (same ∙ ap (λ (b : List ℕ). b ++ rest') bytes ∙ append_assoc first r rest'))
-  messages_once at whole rest lines last _ rest' _ last' left e l _ l' (message first r t behind x others is says h bytes texts ends) end none end' same =
-      absurd (no_message_left (at + 0) rest' left last' first (r ++ rest) l' end' is (sym same ∙ ap (λ (b : List ℕ). b ++ rest) bytes ∙ append_assoc first r rest))
-  messages_once at whole rest lines last whole' rest' lines' last' left e l e' l' (message first r t behind x others is says h bytes texts ends) end
-      (message first' r' t' behind' x' others' is' says' h' bytes' texts' ends') end' same =
+  messages_once : (at : ℕ) (whole rest whole' rest' left : List ℕ) (vs last us last' : List (ℕ × V))
+      → AreTold P at whole vs → IsEndTold P (at + length whole) rest left last → AreTold P at whole' us → IsEndTold P (at + length whole') rest' left last'
+      → whole ++ rest ≡ whole' ++ rest' → vs ++ last ≡ us ++ last'
+  messages_once at _ rest _ rest' left _ last _ last' none end none end' same =
+      end_once (at + 0) rest left last last' end (subst (λ (b : List ℕ). IsEndTold P (at + 0) b left last') (sym same) end')
+  messages_once at _ rest whole' rest' left _ last us last' none end (message first r v others is says h bytes are) end' same =
+      absurd (no_message_left (at + 0) rest left first (r ++ rest') last end is (same ∙ ap (λ (b : List ℕ). b ++ rest') bytes ∙ append_assoc first r rest'))
+  messages_once at whole rest _ rest' left vs last _ last' (message first r v others is says h bytes are) end none end' same =
+      absurd (no_message_left (at + 0) rest' left first (r ++ rest) last' end' is (sym same ∙ ap (λ (b : List ℕ). b ++ rest) bytes ∙ append_assoc first r rest))
+  messages_once at whole rest whole' rest' left vs last us last' (message first r v others is says h bytes are) end
+      (message first' r' v' others' is' says' h' bytes' are') end' same =
       let parts : first ++ (r ++ rest) ≡ first' ++ (r' ++ rest') = sym (append_assoc first r rest) ∙ ap (λ (b : List ℕ). b ++ rest) (sym bytes) ∙ same
       ∙ ap (λ (b : List ℕ). b ++ rest') bytes' ∙ append_assoc first' r' rest' in
       let (same_first, same_rest) = one_message first first' (r ++ rest) (r' ++ rest') is is' parts in
-      let told = once first t t' x x' says (subst (λ (b : List ℕ). P b t' x') (sym same_first) says') in
+      let verdict = once (Some first) v v' says (subst (λ (b : List ℕ). P (Some b) v') (sym same_first) says') in
       let size = ap length bytes ∙ length-append first r in
       let size' = ap length bytes' ∙ length-append first' r' in
       let same_size = ap length same_first in
       let place : at + length whole ≡ (at + length first) + length r = omega (arith, size) in
       let place' : at + length whole' ≡ (at + length first) + length r' = omega (arith, size', same_size) in
-      let more = messages_once (at + length first) r rest behind last r' rest' behind' last' left others l others' l' h
-      (subst (λ (n : ℕ). IsEndTold P n rest left last l) place end)
-      (subst (λ (b : List ℕ). AreTold P (at + length b) r' behind' others') (sym same_first) h')
-      (subst (λ (n : ℕ). IsEndTold P n rest' left last' l') place' end') same_rest in (
-        ap (λ (s : List ℕ). s ++ last) texts ∙ append_assoc (placed at t) behind last ∙ ap (λ (s : List ℕ). placed at s ++ (behind ++ last)) told.0
-            ∙ ap (λ (s : List ℕ). placed at t' ++ s) more.0 ∙ sym (append_assoc (placed at t') behind' last') ∙ ap (λ (s : List ℕ). s ++ last') (sym texts'),
-        ap (λ (s : List Exit). s ++ l) ends ∙ ap (λ z. z ∷ (others ++ l)) told.1 ∙ ap (λ (s : List Exit). x' ∷ s) more.1 ∙ ap (λ (s : List Exit). s ++ l') (sym ends'),
-      )
+      let more = messages_once (at + length first) r rest r' rest' left others last others' last' h
+      (subst (λ (n : ℕ). IsEndTold P n rest left last) place end)
+      (subst (λ (b : List ℕ). AreTold P (at + length b) r' others') (sym same_first) h')
+      (subst (λ (n : ℕ). IsEndTold P n rest' left last') place' end') same_rest in
+      ap (λ (s : List (ℕ × V)). s ++ last) are ∙ ap (λ (z : V). (at, z) ∷ (others ++ last)) verdict ∙ ap (λ (s : List (ℕ × V)). (at, v') ∷ s) more
+      ∙ ap (λ (s : List (ℕ × V)). s ++ last') (sym are')
 
-  pub stream_once : StreamHasOneText P
-  stream_once stream text other exits endings a b =
+  pub stream_once : StreamHasOneAnswer P
+  stream_once stream verdicts others a b =
       let (same_bytes, same_left) = spelled_once a.spells.digits a.left a.bytes b.spells.digits b.left b.bytes a.spells.spelled b.spells.spelled a.spells.stops b.spells.stops
       (sym a.spells.parts ∙ b.spells.parts) in
-      let same = messages_once 0 a.whole a.rest a.lines a.last b.whole b.rest b.lines b.last a.left a.exits_whole a.exits_last b.exits_whole b.exits_last a.told
-      (subst (λ (n : ℕ). IsEndTold P n a.rest a.left a.last a.exits_last) (zero_add (length a.whole)) a.end_told) b.told
-      (subst (λ (n : ℕ). IsEndTold P n b.rest a.left b.last b.exits_last) (zero_add (length b.whole))
-      (subst (λ (l : List ℕ). IsEndTold P (length b.whole) b.rest l b.last b.exits_last) (sym same_left) b.end_told))
+      let same = messages_once 0 a.whole a.rest b.whole b.rest a.left a.earlier a.last b.earlier b.last a.told
+      (subst (λ (n : ℕ). IsEndTold P n a.rest a.left a.last) (zero_add (length a.whole)) a.end_told) b.told
+      (subst (λ (n : ℕ). IsEndTold P n b.rest a.left b.last) (zero_add (length b.whole))
+      (subst (λ (l : List ℕ). IsEndTold P (length b.whole) b.rest l b.last) (sym same_left) b.end_told))
       (sym a.parts ∙ same_bytes ∙ b.parts) in
-      (a.texts ∙ same.0 ∙ sym b.texts, a.exits_are ∙ same.1 ∙ sym b.exits_are)
+      a.are ∙ same ∙ sym b.are
     where
       zero_add : (n : ℕ) → n ≡ 0 + n
       zero_add n = omega arith

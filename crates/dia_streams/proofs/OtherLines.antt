@@ -1,67 +1,82 @@
--- What tells of messages may be told in other words.
-use Rattle.std.proofs.Common.{ℕ, ◌++◌, List, Option, inl, inr}
-use Rattle.dia_io.specs.declared.Exit.{Exit}
+-- Verdicts on messages may be told in other words.
+use Rattle.std.proofs.Common.{◌≡◌, ℕ, ◌∷◌, ◌++◌, List, [], Option, Some, None, refl, sym, ap, subst, ◌∙◌, inl, inr}
+use Rattle.std.specs.Prelude.{map}
+use Rattle.std.specs.List.{flat_map}
+use Rattle.std.specs.Io.KnownBytes.{Appends}
+use Rattle.std.proofs.lemmas.List.{map-append}
+use Rattle.std.proofs.lemmas.List.Concat.{flat_map-cons}
+use Rattle.dia_io.specs.Writing.{AppendsFront}
 use Rattle.dia_streams.specs.Streams.{AreTold, none, message, IsEndTold, nothing, part, endless, no_digits, IsStreamTold, IsFrontTold, WholeTold, SomeTold}
 
-module _ (P Q : List ℕ → List ℕ → Exit → Type 0) (f : (bytes told : List ℕ) (exit : Exit) → P bytes told exit → Q bytes told exit) where
-  AreTold-map : (at : ℕ) (bytes text : List ℕ) (exits : List Exit) → AreTold P at bytes text exits → AreTold Q at bytes text exits
-  AreTold-map at _ _ _ none = none
-  AreTold-map at _ _ _ (message first rest told behind exit others is says more bytes texts ends) =
-      message first rest told behind exit others is (f first told exit says) (AreTold-map _ rest behind others more) bytes texts ends
+module _ {V A : Type 0} (P : Option (List ℕ) → V → Type 0) (Q : Option (List ℕ) → A → Type 0) (g : V → A)
+    (f : (bytes : Option (List ℕ)) (verdict : V) → P bytes verdict → Q bytes (g verdict)) where
+  -- the same of a verdict with its place
+  abbrev pub at_place : ℕ × V → ℕ × A
+  at_place v = (v.0, g v.1)
 
-  IsEndTold-map : (at : ℕ) (bytes left text : List ℕ) (exits : List Exit) → IsEndTold P at bytes left text exits → IsEndTold Q at bytes left text exits
-  IsEndTold-map at bytes left text exits (nothing none_read none_left none_told none_ended) = nothing none_read none_left none_told none_ended
-  IsEndTold-map at bytes left text exits (part told exit some is_part none_left says texts ends) = part told exit some is_part none_left (f bytes told exit says) texts ends
-  IsEndTold-map at bytes left text exits (endless told exit is_endless says texts ends) = endless told exit is_endless (f _ told exit says) texts ends
-  IsEndTold-map at bytes left text exits (no_digits is_part some texts ends) = no_digits is_part some texts ends
+  AreTold-map : (at : ℕ) (bytes : List ℕ) (verdicts : List (ℕ × V)) → AreTold P at bytes verdicts → AreTold Q at bytes (map at_place verdicts)
+  AreTold-map at _ _ none = none
+  AreTold-map at _ _ (message first rest verdict others is says more bytes are) =
+      message first rest (g verdict) (map at_place others) is (f (Some first) verdict says) (AreTold-map _ rest others more) bytes (ap (λ (vs : List (ℕ × V)). map at_place vs) are)
 
-  pub IsStreamTold-map : (stream text : List ℕ) (exits : List Exit) → IsStreamTold P stream text exits → IsStreamTold Q stream text exits
-  IsStreamTold-map stream text exits h = record {
+  IsEndTold-map : (at : ℕ) (bytes left : List ℕ) (verdicts : List (ℕ × V)) → IsEndTold P at bytes left verdicts → IsEndTold Q at bytes left (map at_place verdicts)
+  IsEndTold-map at bytes left verdicts (nothing none_read none_left are) = nothing none_read none_left (ap (λ (vs : List (ℕ × V)). map at_place vs) are)
+  IsEndTold-map at bytes left verdicts (part verdict some is_part none_left says are) =
+      part (g verdict) some is_part none_left (f (Some bytes) verdict says) (ap (λ (vs : List (ℕ × V)). map at_place vs) are)
+  IsEndTold-map at bytes left verdicts (endless verdict is_endless says are) =
+      endless (g verdict) is_endless (f _ verdict says) (ap (λ (vs : List (ℕ × V)). map at_place vs) are)
+  IsEndTold-map at bytes left verdicts (no_digits verdict is_part some says are) =
+      no_digits (g verdict) is_part some (f None verdict says) (ap (λ (vs : List (ℕ × V)). map at_place vs) are)
+
+  pub IsStreamTold-map : (stream : List ℕ) (verdicts : List (ℕ × V)) → IsStreamTold P stream verdicts → IsStreamTold Q stream (map at_place verdicts)
+  IsStreamTold-map stream verdicts h = record {
     bytes = h.bytes;
     left = h.left;
     whole = h.whole;
     rest = h.rest;
-    lines = h.lines;
-    last = h.last;
-    exits_whole = h.exits_whole;
-    exits_last = h.exits_last;
+    earlier = map at_place h.earlier;
+    last = map at_place h.last;
     spells = h.spells;
     parts = h.parts;
-    told = AreTold-map 0 h.whole h.lines h.exits_whole h.told;
-    end_told = IsEndTold-map _ h.rest h.left h.last h.exits_last h.end_told;
-    texts = h.texts;
-    exits_are = h.exits_are;
+    told = AreTold-map 0 h.whole h.earlier h.told;
+    end_told = IsEndTold-map _ h.rest h.left h.last h.end_told;
+    are = ap (λ (vs : List (ℕ × V)). map at_place vs) h.are ∙ map-append at_place h.earlier h.last;
   }
 
-  IsFrontTold-map : (stream text : List ℕ) → IsFrontTold P stream text → IsFrontTold Q stream text
-  IsFrontTold-map stream text h = record {
+  IsFrontTold-map : (stream : List ℕ) (verdicts : List (ℕ × V)) → IsFrontTold P stream verdicts → IsFrontTold Q stream (map at_place verdicts)
+  IsFrontTold-map stream verdicts h = record {
     digits = h.digits;
     left = h.left;
     whole = h.whole;
     rest = h.rest;
-    exits = h.exits;
     parts = h.parts;
     spelled = h.spelled;
-    told = AreTold-map 0 h.whole text h.exits h.told;
+    told = AreTold-map 0 h.whole verdicts h.told;
   }
 
-  pub WholeTold-map : (fed_old fed put_old put : Option (List ℕ)) → WholeTold P fed_old fed put_old put → WholeTold Q fed_old fed put_old put
-  WholeTold-map fed_old fed put_old put h = record {
-    read = h.read;
-    text = h.text;
-    consumed = h.consumed;
-    told = IsFrontTold-map h.read h.text h.told;
-    is_put = h.is_put;
-  }
+  module _ (text : ℕ × V → List ℕ) (other : ℕ × A → List ℕ) (same : (v : ℕ × V) → text v ≡ other (at_place v)) where
+    pub same_lines : (verdicts : List (ℕ × V)) → flat_map text verdicts ≡ flat_map other (map at_place verdicts)
+    same_lines [] = refl
+    same_lines (v ∷ vs) = flat_map-cons text v vs ∙ ap (λ (t : List ℕ). t ++ flat_map text vs) (same v) ∙ ap (λ (t : List ℕ). other (at_place v) ++ t) (same_lines vs)
+        ∙ sym (flat_map-cons other (at_place v) (map at_place vs))
 
-  pub SomeTold-map : (fed_old fed put_old put : Option (List ℕ)) → SomeTold P fed_old fed put_old put → SomeTold Q fed_old fed put_old put
-  SomeTold-map fed_old fed put_old put h = record {
-    read = h.read;
-    text = h.text;
-    consumed = h.consumed;
-    told = elim h.told [
-      | inl front ↦ inl (IsFrontTold-map h.read h.text front)
-      | inr (exits, all) ↦ inr (exits, λ rest gives. IsStreamTold-map (h.read ++ rest) h.text exits (all rest gives))
-    ];
-    is_put = h.is_put;
-  }
+    pub WholeTold-map : (fed_old fed put_old put : Option (List ℕ)) → WholeTold P text fed_old fed put_old put → WholeTold Q other fed_old fed put_old put
+    WholeTold-map fed_old fed put_old put h = record {
+      read = h.read;
+      verdicts = map at_place h.verdicts;
+      consumed = h.consumed;
+      told = IsFrontTold-map h.read h.verdicts h.told;
+      is_put = subst (Appends put_old put) (same_lines h.verdicts) h.is_put;
+    }
+
+    pub SomeTold-map : (fed_old fed put_old put : Option (List ℕ)) → SomeTold P text fed_old fed put_old put → SomeTold Q other fed_old fed put_old put
+    SomeTold-map fed_old fed put_old put h = record {
+      read = h.read;
+      verdicts = map at_place h.verdicts;
+      consumed = h.consumed;
+      told = elim h.told [
+        | inl front ↦ inl (IsFrontTold-map h.read h.verdicts front)
+        | inr all ↦ inr (λ rest gives. IsStreamTold-map (h.read ++ rest) h.verdicts (all rest gives))
+      ];
+      is_put = subst (AppendsFront put_old put) (same_lines h.verdicts) h.is_put;
+    }

@@ -1,15 +1,12 @@
--- Messages that stand back to back, as hexadecimal text with white space anywhere, and what is told of them.
-use Rattle.std.specs.Prelude.{◌≡◌, ℕ, ◌+◌, ◌*◌, ◌<◌, ◌≤◌, ◌==◌, ◌||◌, ◌⊎◌, not, filter, ⊤, Bool, List, [], ◌∷◌, ◌++◌, Option, None, Some, length, take, codes}
-use Rattle.std.specs.Fmt.{decimal}
+-- Messages that stand back to back, as hexadecimal text with white space anywhere, and the verdicts on them.
+use Rattle.std.specs.Prelude.{◌≡◌, ℕ, ◌+◌, ◌*◌, ◌<◌, ◌≤◌, ◌⊎◌, ⊤, List, [], ◌∷◌, ◌++◌, Option, None, Some, length, take}
+use Rattle.std.specs.List.{flat_map}
 use Rattle.std.specs.Io.KnownBytes.{Appends, Consumes}
 pub use Rattle.dia_terms.specs.Texts.{is_white, digits_of}
 use Rattle.hex.specs.Hex.{hex_digit_value}
 use Rattle.dia_wire.specs.Wire.{BeginsMessage}
-use Rattle.dia_io.specs.declared.Exit.{Exit}
-use Rattle.dia_io.specs.declared.Exit.TheVariants.{Bad}
 use Rattle.dia_io.specs.Writing.{AppendsFront}
-use Rattle.dia_lines.specs.declared.answered.Ended.{Ended}
-use Rattle.dia_lines.specs.Lines.{ended_of}
+use Rattle.dia_lines.specs.FeedToSink.{Sees}
 
 -- ---- the bytes of a text
 
@@ -52,62 +49,49 @@ IsPart bytes = (length bytes < 20) ⊎ ((n : ℕ) × BeginsMessage bytes n × (l
 abbrev pub IsEndless : List ℕ → Type 0
 IsEndless bytes = (20 ≤ length bytes) × ((n : ℕ) → ¬ BeginsMessage bytes n)
 
--- ---- what is told. P says what is told of the bytes of one message, and how that ends
+-- ---- verdicts. P says which verdict the bytes of a message have, and what isn't hexadecimal, which has none. A verdict stands
+-- behind the place where its message begins
 
--- a line behind the place where its message begins
-abbrev pub placed : ℕ → List ℕ → List ℕ
-placed at told = decimal at ++ codes " " ++ told
+-- the verdicts on whole messages, the first of them at a place
+pub data AreTold {V : Type 0} (P : Option (List ℕ) → V → Type 0) : (at : ℕ) (bytes : List ℕ) → List (ℕ × V) → Type 0 where
+  none : {at : ℕ} → AreTold P at [] []
+  message : {at : ℕ} {bytes : List ℕ} {verdicts : List (ℕ × V)} (first rest : List ℕ) (verdict : V) (others : List (ℕ × V))
+      → IsMessage first → P (Some first) verdict → AreTold P (at + length first) rest others
+      → bytes ≡ first ++ rest → verdicts ≡ (at, verdict) ∷ others → AreTold P at bytes verdicts
 
--- what is told where the text isn't hexadecimal
-abbrev pub not_hexadecimal : List ℕ
-not_hexadecimal = codes "message: not hexadecimal\n"
+-- the verdict on what stands behind them, at a place: on a part of a message, on a bad header, or where digits are left that spell nothing
+pub data IsEndTold {V : Type 0} (P : Option (List ℕ) → V → Type 0) (at : ℕ) (bytes left : List ℕ) (verdicts : List (ℕ × V)) : Type 0 where
+  nothing : bytes ≡ [] → left ≡ [] → verdicts ≡ [] → IsEndTold P at bytes left verdicts
+  part : (verdict : V) → 0 < length bytes → IsPart bytes → left ≡ [] → P (Some bytes) verdict → verdicts ≡ (at, verdict) ∷ []
+      → IsEndTold P at bytes left verdicts
+  endless : (verdict : V) → IsEndless bytes → P (Some (take 20 bytes)) verdict → verdicts ≡ (at, verdict) ∷ [] → IsEndTold P at bytes left verdicts
+  no_digits : (verdict : V) → IsPart bytes → 0 < length left → P None verdict → verdicts ≡ (at, verdict) ∷ [] → IsEndTold P at bytes left verdicts
 
--- the lines of whole messages, the first of them at a place
-pub data AreTold (P : List ℕ → List ℕ → Exit → Type 0) : (at : ℕ) (bytes text : List ℕ) → List Exit → Type 0 where
-  none : {at : ℕ} → AreTold P at [] [] []
-  message : {at : ℕ} {bytes text : List ℕ} {exits : List Exit} (first rest told behind : List ℕ) (exit : Exit) (others : List Exit)
-      → IsMessage first → P first told exit → AreTold P (at + length first) rest behind others
-      → bytes ≡ first ++ rest → text ≡ placed at told ++ behind → exits ≡ exit ∷ others → AreTold P at bytes text exits
-
--- the line of what stands behind them, at a place: of a part of a message, of a bad header, or where digits are left that spell nothing
-pub data IsEndTold (P : List ℕ → List ℕ → Exit → Type 0) (at : ℕ) (bytes left text : List ℕ) (exits : List Exit) : Type 0 where
-  nothing : bytes ≡ [] → left ≡ [] → text ≡ [] → exits ≡ [] → IsEndTold P at bytes left text exits
-  part : (told : List ℕ) (exit : Exit) → 0 < length bytes → IsPart bytes → left ≡ [] → P bytes told exit
-      → text ≡ placed at told → exits ≡ exit ∷ [] → IsEndTold P at bytes left text exits
-  endless : (told : List ℕ) (exit : Exit) → IsEndless bytes → P (take 20 bytes) told exit
-      → text ≡ placed at told → exits ≡ exit ∷ [] → IsEndTold P at bytes left text exits
-  no_digits : IsPart bytes → 0 < length left
-      → text ≡ placed at not_hexadecimal → exits ≡ Bad ∷ [] → IsEndTold P at bytes left text exits
-
--- the lines of a whole stream
-pub record IsStreamTold (P : List ℕ → List ℕ → Exit → Type 0) (stream text : List ℕ) (exits : List Exit) : Type 0 where
+-- the verdicts on a whole stream
+pub record IsStreamTold {V : Type 0} (P : Option (List ℕ) → V → Type 0) (stream : List ℕ) (verdicts : List (ℕ × V)) : Type 0 where
   pub bytes : List ℕ
   pub left : List ℕ
   pub whole : List ℕ
   pub rest : List ℕ
-  pub lines : List ℕ
-  pub last : List ℕ
-  pub exits_whole : List Exit
-  pub exits_last : List Exit
+  pub earlier : List (ℕ × V)
+  pub last : List (ℕ × V)
   pub spells : Spells stream bytes left
   pub parts : bytes ≡ whole ++ rest
-  pub told : AreTold P 0 whole lines exits_whole
-  pub end_told : IsEndTold P (length whole) rest left last exits_last
-  pub texts : text ≡ lines ++ last
-  pub exits_are : exits ≡ exits_whole ++ exits_last
+  pub told : AreTold P 0 whole earlier
+  pub end_told : IsEndTold P (length whole) rest left last
+  pub are : verdicts ≡ earlier ++ last
 
--- the lines of whole messages at the front of a stream, of which more may come
-pub record IsFrontTold (P : List ℕ → List ℕ → Exit → Type 0) (stream text : List ℕ) : Type 0 where
+-- the verdicts on whole messages at the front of a stream, of which more may come
+pub record IsFrontTold {V : Type 0} (P : Option (List ℕ) → V → Type 0) (stream : List ℕ) (verdicts : List (ℕ × V)) : Type 0 where
   pub digits : List ℕ
   pub left : List ℕ
   pub whole : List ℕ
   pub rest : List ℕ
-  pub exits : List Exit
   pub parts : digits_of stream ≡ digits ++ left
   pub spelled : AreSpelled digits (whole ++ rest)
-  pub told : AreTold P 0 whole text exits
+  pub told : AreTold P 0 whole verdicts
 
--- ---- from a feed into a sink
+-- ---- from a feed into a sink. `text` has the line of a verdict
 
 -- places of messages are counted up to this number of bytes
 abbrev pub most_places : ℕ
@@ -119,37 +103,35 @@ StillGives None rest = rest ≡ []
 StillGives (Some all) rest = rest ≡ all
 
 -- the lines of all that the feed gives were put, though not all may have been read
-pub record AllTold (P : List ℕ → List ℕ → Exit → Type 0) (fed_old fed put_old put : Option (List ℕ)) (ended : Ended) : Type 0 where
+pub record AllTold {V W : Type 0} (P : Option (List ℕ) → V → Type 0) (text : ℕ × V → List ℕ) (saw : W → List (ℕ × V) → Type 0)
+    (fed_old fed put_old put : Option (List ℕ)) (watch_old watch : W) : Type 0 where
   pub read : List ℕ
-  pub text : List ℕ
-  pub exits : List Exit
+  pub verdicts : List (ℕ × V)
   pub consumed : Consumes fed_old fed read
-  pub told : (rest : List ℕ) → StillGives fed rest → IsStreamTold P (read ++ rest) text exits
-  pub is_put : Appends put_old put text
-  pub ends : ended ≡ ended_of exits
+  pub told : (rest : List ℕ) → StillGives fed rest → IsStreamTold P (read ++ rest) verdicts
+  pub is_put : Appends put_old put (flat_map text verdicts)
+  pub seen : Sees saw watch_old watch verdicts
 
 -- the lines of whole messages at the front of what was read were put, and nothing else
-pub record WholeTold (P : List ℕ → List ℕ → Exit → Type 0) (fed_old fed put_old put : Option (List ℕ)) : Type 0 where
+pub record WholeTold {V : Type 0} (P : Option (List ℕ) → V → Type 0) (text : ℕ × V → List ℕ) (fed_old fed put_old put : Option (List ℕ)) : Type 0 where
   pub read : List ℕ
-  pub text : List ℕ
+  pub verdicts : List (ℕ × V)
   pub consumed : Consumes fed_old fed read
-  pub told : IsFrontTold P read text
-  pub is_put : Appends put_old put text
+  pub told : IsFrontTold P read verdicts
+  pub is_put : Appends put_old put (flat_map text verdicts)
 
 -- what was put is a beginning of the lines: of whole messages at the front of what was read, or of all
-pub record SomeTold (P : List ℕ → List ℕ → Exit → Type 0) (fed_old fed put_old put : Option (List ℕ)) : Type 0 where
+pub record SomeTold {V : Type 0} (P : Option (List ℕ) → V → Type 0) (text : ℕ × V → List ℕ) (fed_old fed put_old put : Option (List ℕ)) : Type 0 where
   pub read : List ℕ
-  pub text : List ℕ
+  pub verdicts : List (ℕ × V)
   pub consumed : Consumes fed_old fed read
-  pub told : IsFrontTold P read text
-      ⊎ ((exits : List Exit) × ((rest : List ℕ) → StillGives fed rest → IsStreamTold P (read ++ rest) text exits))
-  pub is_put : AppendsFront put_old put text
+  pub told : IsFrontTold P read verdicts ⊎ ((rest : List ℕ) → StillGives fed rest → IsStreamTold P (read ++ rest) verdicts)
+  pub is_put : AppendsFront put_old put (flat_map text verdicts)
 
--- bytes are told with one text, and end in one way
-abbrev pub BytesHaveOneText : (List ℕ → List ℕ → Exit → Type 0) → Type 0
-BytesHaveOneText P = (bytes told other : List ℕ) (exit ending : Exit) → P bytes told exit → P bytes other ending → (told ≡ other) × (exit ≡ ending)
+-- bytes have one verdict
+abbrev pub BytesHaveOneVerdict : {V : Type 0} → (Option (List ℕ) → V → Type 0) → Type 0
+BytesHaveOneVerdict {V} P = (bytes : Option (List ℕ)) (verdict other : V) → P bytes verdict → P bytes other → verdict ≡ other
 
--- so is a stream
-abbrev pub StreamHasOneText : (List ℕ → List ℕ → Exit → Type 0) → Type 0
-StreamHasOneText P = (stream text other : List ℕ) (exits endings : List Exit) → IsStreamTold P stream text exits → IsStreamTold P stream other endings
-    → (text ≡ other) × (exits ≡ endings)
+-- a stream has one list of verdicts
+abbrev pub StreamHasOneAnswer : {V : Type 0} → (Option (List ℕ) → V → Type 0) → Type 0
+StreamHasOneAnswer {V} P = (stream : List ℕ) (verdicts others : List (ℕ × V)) → IsStreamTold P stream verdicts → IsStreamTold P stream others → verdicts ≡ others

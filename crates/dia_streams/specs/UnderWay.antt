@@ -1,14 +1,12 @@
 -- A stream of which a front was read.
 use Rattle.std.specs.Prelude.{◌≡◌, ℕ, ◌⊎◌, ◌<◌, ◌≤◌, Bool, true, false, List, [], ◌∷◌, ◌++◌, Option, None, Some, length, string_bytes}
+use Rattle.std.specs.List.{flat_map}
 use Rattle.std.specs.Io.KnownBytes.{Appends, Consumes}
 use Rattle.hex.specs.Hex.{hex_digit_value}
-use Rattle.dia_io.specs.declared.Exit.{Exit}
-use Rattle.dia_lines.specs.declared.answered.Ended.{Ended}
-use Rattle.dia_lines.specs.Lines.{ended_of}
-use Rattle.dia_lines.specs.UnderWay.{ended_with}
+use Rattle.dia_lines.specs.FeedToSink.{Sees}
 use Rattle.dia_streams.specs.declared.told.Told.{Told}
 use Rattle.dia_streams.specs.declared.streamed.Streamed.{Streamed}
-use Rattle.dia_streams.specs.Streams.{AreTold, IsEndless, IsPart, IsStreamTold, AreSpelled, BeginsNoPair, digits_of, placed}
+use Rattle.dia_streams.specs.Streams.{AreTold, IsEndless, IsPart, IsStreamTold, AreSpelled, BeginsNoPair, digits_of}
 
 -- ---- digits
 
@@ -44,71 +42,74 @@ pub record Takes (good : Bool) (half_old half : Option ℕ) (bytes_old bytes tex
   pub grows : bytes ≡ bytes_old ++ more
   pub taken : (read before : List ℕ) → AreDigits half_old read before → AreTaken good half (read ++ digits_of text) (before ++ more)
 
--- ---- lines
+-- ---- verdicts
 
--- the lines of these whole messages were told
-pub record HasTold (P : List ℕ → List ℕ → Exit → Type 0) (now : Told) (whole text : List ℕ) : Type 0 where
-  pub exits : List Exit
-  pub told : AreTold P 0 whole text exits
+-- these are the verdicts on whole messages that were told
+pub record HasTold {V : Type 0} (P : Option (List ℕ) → V → Type 0) (now : Told) (whole : List ℕ) (verdicts : List (ℕ × V)) : Type 0 where
+  pub told : AreTold P 0 whole verdicts
   pub at : now.at ≡ length whole
-  pub ended : now.ended ≡ ended_of exits
 
--- a line was added, of what begins at the place
-pub record Adds (old now : Told) (told : List ℕ) (exit : Exit) : Type 0 where
-  pub text : string_bytes now.text ≡ string_bytes old.text ++ placed old.at told
+-- a verdict was told and seen, on what begins at the place
+pub record Adds {V W : Type 0} (text : ℕ × V → List ℕ) (saw : W → List (ℕ × V) → Type 0) (old now : Told) (watch_old watch : W) (verdict : V) : Type 0 where
+  pub line : string_bytes now.text ≡ string_bytes old.text ++ text (old.at, verdict)
   pub at : now.at ≡ old.at
-  pub ended : now.ended ≡ ended_with old.ended exit
+  pub seen : Sees saw watch_old watch ((old.at, verdict) ∷ [])
 
 -- no whole message stands at the front
 abbrev pub BeginsNone : List ℕ → Type 0
 BeginsNone bytes = IsPart bytes ⊎ IsEndless bytes
 
 -- the whole messages at the front of the bytes were told
-pub record TellsWhole (P : List ℕ → List ℕ → Exit → Type 0) (old now : Told) (bytes rest : List ℕ) : Type 0 where
+pub record TellsWhole {V W : Type 0} (P : Option (List ℕ) → V → Type 0) (text : ℕ × V → List ℕ) (saw : W → List (ℕ × V) → Type 0)
+    (old now : Told) (watch_old watch : W) (bytes rest : List ℕ) : Type 0 where
   pub whole : List ℕ
-  pub lines : List ℕ
+  pub verdicts : List (ℕ × V)
   pub parts : bytes ≡ whole ++ rest
-  pub text : string_bytes now.text ≡ string_bytes old.text ++ lines
-  pub told : (before text : List ℕ) → HasTold P old before text → HasTold P now (before ++ whole) (text ++ lines)
+  pub lines : string_bytes now.text ≡ string_bytes old.text ++ flat_map text verdicts
+  pub seen : Sees saw watch_old watch verdicts
+  pub told : (before : List ℕ) (earlier : List (ℕ × V)) → HasTold P old before earlier → HasTold P now (before ++ whole) (earlier ++ verdicts)
 
 -- ---- streams
 
--- these characters were read: the whole messages that they spell were told, and a part of a message is left
-pub record IsUnderWay (P : List ℕ → List ℕ → Exit → Type 0) (now : Streamed) (read text : List ℕ) : Type 0 where
+-- these characters were read: the whole messages that they spell have these verdicts, and a part of a message is left
+pub record IsUnderWay {V : Type 0} (P : Option (List ℕ) → V → Type 0) (now : Streamed) (read : List ℕ) (verdicts : List (ℕ × V)) : Type 0 where
   pub whole : List ℕ
   pub digits : AreDigits now.digits.half (digits_of read) (whole ++ now.digits.bytes.items)
   pub is_part : IsPart now.digits.bytes.items
-  pub told : HasTold P now.told whole text
+  pub told : HasTold P now.told whole verdicts
 
 -- all was told, whatever follows
-pub record IsOver (P : List ℕ → List ℕ → Exit → Type 0) (ended : Ended) (read text : List ℕ) : Type 0 where
-  pub exits : List Exit
-  pub told : (rest : List ℕ) → IsStreamTold P (read ++ rest) text exits
-  pub ends : ended ≡ ended_of exits
+abbrev pub IsOver : {V : Type 0} → (Option (List ℕ) → V → Type 0) → List ℕ → List (ℕ × V) → Type 0
+IsOver P read verdicts = (rest : List ℕ) → IsStreamTold P (read ++ rest) verdicts
 
-abbrev pub Goes : (P : List ℕ → List ℕ → Exit → Type 0) → Bool → Streamed → (read text : List ℕ) → Type 0
-Goes P true now read text = IsUnderWay P now read text
-Goes P false now read text = IsOver P now.told.ended read text
+abbrev pub Goes : {V : Type 0} → (Option (List ℕ) → V → Type 0) → Bool → Streamed → List ℕ → List (ℕ × V) → Type 0
+Goes P true now read verdicts = IsUnderWay P now read verdicts
+Goes P false now read verdicts = IsOver P read verdicts
 
--- a piece was read, and these lines were added
-pub record Reads (P : List ℕ → List ℕ → Exit → Type 0) (goes_on : Bool) (old now : Streamed) (piece : List ℕ) : Type 0 where
-  pub lines : List ℕ
-  pub text : string_bytes now.told.text ≡ string_bytes old.told.text ++ lines
-  pub reads : (read text : List ℕ) → IsUnderWay P old read text → Goes P goes_on now (read ++ piece) (text ++ lines)
+-- a piece was read, and these verdicts were told and seen
+pub record Reads {V W : Type 0} (P : Option (List ℕ) → V → Type 0) (text : ℕ × V → List ℕ) (saw : W → List (ℕ × V) → Type 0)
+    (goes_on : Bool) (old now : Streamed) (watch_old watch : W) (piece : List ℕ) : Type 0 where
+  pub verdicts : List (ℕ × V)
+  pub lines : string_bytes now.told.text ≡ string_bytes old.told.text ++ flat_map text verdicts
+  pub seen : Sees saw watch_old watch verdicts
+  pub reads : (read : List ℕ) (earlier : List (ℕ × V)) → IsUnderWay P old read earlier → Goes P goes_on now (read ++ piece) (earlier ++ verdicts)
 
--- the end was read, and these lines were added
-pub record Ends (P : List ℕ → List ℕ → Exit → Type 0) (old now : Streamed) : Type 0 where
-  pub lines : List ℕ
-  pub text : string_bytes now.told.text ≡ string_bytes old.told.text ++ lines
-  pub ends : (read text : List ℕ) → IsUnderWay P old read text
-      → (exits : List Exit) × IsStreamTold P read (text ++ lines) exits × (now.told.ended ≡ ended_of exits)
+-- the end was read, and these verdicts were told and seen
+pub record Ends {V W : Type 0} (P : Option (List ℕ) → V → Type 0) (text : ℕ × V → List ℕ) (saw : W → List (ℕ × V) → Type 0)
+    (old now : Streamed) (watch_old watch : W) : Type 0 where
+  pub verdicts : List (ℕ × V)
+  pub lines : string_bytes now.told.text ≡ string_bytes old.told.text ++ flat_map text verdicts
+  pub seen : Sees saw watch_old watch verdicts
+  pub ends : (read : List ℕ) (earlier : List (ℕ × V)) → IsUnderWay P old read earlier → IsStreamTold P read (earlier ++ verdicts)
 
 -- so many pieces were read from the feed and told into the sink
-pub record AreRead (P : List ℕ → List ℕ → Exit → Type 0) (fed_old fed put_old put : Option (List ℕ)) (now : Streamed) (pieces : ℕ) : Type 0 where
+pub record AreRead {V W : Type 0} (P : Option (List ℕ) → V → Type 0) (text : ℕ × V → List ℕ) (saw : W → List (ℕ × V) → Type 0)
+    (fed_old fed put_old put : Option (List ℕ)) (watch_old watch : W) (now : Streamed) (pieces : ℕ) : Type 0 where
   pub read : List ℕ
-  pub text : List ℕ
+  pub verdicts : List (ℕ × V)
   pub consumed : Consumes fed_old fed read
-  pub under_way : IsUnderWay P now read text
-  pub is_put : Appends put_old put text
+  pub under_way : IsUnderWay P now read verdicts
+  pub is_put : Appends put_old put (flat_map text verdicts)
+  pub seen : Sees saw watch_old watch verdicts
   pub nothing : string_bytes now.told.text ≡ []
   pub counted : pieces ≤ length read

@@ -1,7 +1,8 @@
 //! Messages that stand back to back, as hexadecimal text, told one by one as the pieces of the text come.
 //!
-//! `answer_stream` reads a feed piece by piece, asks a [`MessageJudge`] for the line of each message, and puts these lines into a
-//! sink, each behind the place where its message begins. It takes the memory of one message.
+//! `answer_stream` reads a feed piece by piece, asks a [`MessageJudge`] for the verdict on each message and its line, puts these
+//! lines into a sink, and shows the verdicts to a `Watch`, each with the place where its message begins. It takes the memory of
+//! one message.
 #![tactic(auto)]
 
 mod digits;
@@ -13,5 +14,5 @@ mod streaming;
 mod told;
 
 pub use judge::MessageJudge;
-pub use laws::stream_has_one_text;
+pub use laws::stream_has_one_answer;
 pub use streaming::answer_stream;

@@ -4,7 +4,7 @@ use crate::digits::Digits;
 use crate::judge::MessageJudge;
 use crate::messages::bad_header;
 use crate::told::Told;
-use dia_lines::LinesFault;
+use dia_lines::{LinesFault, Watch};
 use std::alloc::{AllocError, Global};
 
 /// A stream of which a front was read.
@@ -18,7 +18,6 @@ pub struct Streamed {
 impl Streamed {
     ghost use Rattle.std.specs.Prelude.{◌≡◌, ◌≢◌, ◌≤◌, ◌++◌, List, ℕ, [], None, IfErr, IfOk, OnOk, length, string_bytes};
     ghost use Rattle.dia_lines.specs.declared.fault.LinesFault.TheVariants.{Device, Endless};
-    ghost use Rattle.dia_lines.specs.Lines.{ended_of};
     ghost use Rattle.dia_streams.specs.Streams.{most_places};
     ghost use Rattle.dia_streams.specs.UnderWay.{Ends, IsUnderWay, Reads};
 
@@ -28,7 +27,6 @@ impl Streamed {
         ensures bytes { result.digits.bytes.items ≡ [] }
         ensures at { result.told.at ≡ 0 }
         ensures text { string_bytes result.told.text ≡ [] }
-        ensures ended { result.told.ended ≡ ended_of [] }
     {
         Streamed {
             digits: Digits::new(alloc),
@@ -37,28 +35,29 @@ impl Streamed {
     }
 
     /// Tells the messages that end in the next piece. `false` where no message can be found behind them.
-    pub fn read<J: MessageJudge>(
+    pub fn read<J: MessageJudge, W: Watch<(u64, J::Verdict)>>(
         &mut self,
         alloc: Global,
         judge: &J,
+        watch: &mut W,
         piece: &[u8],
     ) -> Result<bool, LinesFault>
         ensures device { IfErr result (λ fault. fault ≢ Device) }
-        ensures endless { IfErr result (λ fault. fault ≡ Endless → (read text : List ℕ)
-            → IsUnderWay (J.says judge.now) self.old read text
+        ensures endless { IfErr result (λ fault. fault ≡ Endless → (read : List ℕ)
+            (verdicts : List (ℕ × J.Verdict)) → IsUnderWay (J.says judge.now) self.old read verdicts
             → most_places ≤ length (read ++ piece.now)) }
-        ensures reads { IfOk result (λ goes_on. Reads (J.says judge.now)
-            goes_on self.old self.new piece.now) }
+        ensures reads { IfOk result (λ goes_on. Reads (J.says judge.now) (J.told judge.now) W.saw
+            goes_on self.old self.new watch.old watch.new piece.now) }
     {
         let hexadecimal = self.digits.take(piece)?;
         let bytes = self.digits.bytes.as_slice();
-        let rest = self.told.tell_whole(alloc, judge, bytes)?;
+        let rest = self.told.tell_whole(alloc, judge, watch, bytes)?;
         if let Some(header) = bad_header(rest) {
-            self.told.tell(alloc, judge, header)?;
+            self.told.tell(alloc, judge, watch, header)?;
             return Ok(false);
         }
         if !hexadecimal {
-            self.told.tell_not_hexadecimal()?;
+            self.told.tell_no_digits(judge, watch)?;
             return Ok(false);
         }
         if rest.len() < bytes.len() {
@@ -68,17 +67,22 @@ impl Streamed {
     }
 
     /// Tells what is under way, where the text is at its end.
-    pub fn end<J: MessageJudge>(&mut self, alloc: Global, judge: &J) -> Result<(), AllocError>
-        ensures { OnOk result (Ends (J.says judge.now)
-            self.old self.new) }
+    pub fn end<J: MessageJudge, W: Watch<(u64, J::Verdict)>>(
+        &mut self,
+        alloc: Global,
+        judge: &J,
+        watch: &mut W,
+    ) -> Result<(), AllocError>
+        ensures { OnOk result (Ends (J.says judge.now) (J.told judge.now) W.saw
+            self.old self.new watch.old watch.new) }
     {
         let bytes = self.digits.bytes.as_slice();
         if self.digits.half.is_some() {
-            self.told.tell_not_hexadecimal()
+            self.told.tell_no_digits(judge, watch)
         } else if bytes.is_empty() {
             Ok(())
         } else {
-            self.told.tell(alloc, judge, bytes)
+            self.told.tell(alloc, judge, watch, bytes)
         }
     }
 }

@@ -11,32 +11,34 @@ ghost use Rattle.dia_streams.specs.UnderWay.{AreRead};
 use crate::judge::MessageJudge;
 use crate::streamed::Streamed;
 use dia_io::{Failed, Feed, Sink, put_all};
-use dia_lines::{Ended, LinesFault};
+use dia_lines::{LinesFault, Watch};
 use std::alloc::Global;
 
 /// How many bytes are asked for at a time.
 const PIECE: usize = 4096;
 
-/// Puts a line for each message of a stream into a sink, and answers how the messages ended.
+/// Puts a line for each message of a stream into a sink, and shows the verdicts with their places to a watch.
 ///
 /// The lines are put after each piece that was read. It takes the memory of one message, and of the lines of one piece.
-pub fn answer_stream<J: MessageJudge, F: Feed, S: Sink>(
+pub fn answer_stream<J: MessageJudge, W: Watch<(u64, J::Verdict)>, F: Feed, S: Sink>(
     alloc: Global,
     judge: &J,
+    watch: &mut W,
     feed: &mut F,
     sink: &mut S,
-) -> Result<Ended, LinesFault>
+) -> Result<(), LinesFault>
     requires sound_feed { ¬ IsTrue (F.has_failed feed.old) }
     requires sound_sink { ¬ IsTrue (S.has_failed sink.old) }
-    ensures told { IfOk result (AllTold (J.says judge.now)
-        (F.remaining feed.old) (F.remaining feed.new) (S.written sink.old) (S.written sink.new)) }
+    ensures told { OnOk result (AllTold (J.says judge.now) (J.told judge.now) W.saw
+        (F.remaining feed.old) (F.remaining feed.new) (S.written sink.old) (S.written sink.new)
+        watch.old watch.new) }
     ensures device { (result ≡ Err Device)
         ↔ (IsTrue (F.has_failed feed.new) ⊎ IsTrue (S.has_failed sink.new)) }
-    ensures front { IsErr result → SomeTold (J.says judge.now)
+    ensures front { IsErr result → SomeTold (J.says judge.now) (J.told judge.now)
         (F.remaining feed.old) (F.remaining feed.new) (S.written sink.old) (S.written sink.new) }
-    ensures no_memory { result ≡ Err NoMemory → WholeTold (J.says judge.now)
+    ensures no_memory { result ≡ Err NoMemory → WholeTold (J.says judge.now) (J.told judge.now)
         (F.remaining feed.old) (F.remaining feed.new) (S.written sink.old) (S.written sink.new) }
-    ensures endless { result ≡ Err Endless → WholeTold (J.says judge.now)
+    ensures endless { result ≡ Err Endless → WholeTold (J.says judge.now) (J.told judge.now)
         (F.remaining feed.old) (F.remaining feed.new) (S.written sink.old) (S.written sink.new) }
     ensures pieces { result ≡ Err Endless
         → IfSome (F.remaining feed.old) (λ bytes. most_places ≤ length bytes) }
@@ -45,8 +47,8 @@ pub fn answer_stream<J: MessageJudge, F: Feed, S: Sink>(
     let mut piece = [0u8; PIECE];
     let mut pieces_left = u64::MAX;
     while pieces_left > 0 {
-        if !answer_piece(alloc, judge, &mut streamed, feed, sink, &mut piece)? {
-            return Ok(streamed.told.ended);
+        if !answer_piece(alloc, judge, watch, &mut streamed, feed, sink, &mut piece)? {
+            return Ok(());
         }
         pieces_left -= 1;
     }
@@ -54,9 +56,10 @@ pub fn answer_stream<J: MessageJudge, F: Feed, S: Sink>(
 }
 
 /// Reads the next piece of a feed, and puts the lines of the messages that end in it. `false` behind the last one.
-fn answer_piece<J: MessageJudge, F: Feed, S: Sink>(
+fn answer_piece<J: MessageJudge, W: Watch<(u64, J::Verdict)>, F: Feed, S: Sink>(
     alloc: Global,
     judge: &J,
+    watch: &mut W,
     streamed: &mut Streamed,
     feed: &mut F,
     sink: &mut S,
@@ -64,31 +67,40 @@ fn answer_piece<J: MessageJudge, F: Feed, S: Sink>(
 ) -> Result<bool, LinesFault>
     requires sound_feed { ¬ IsTrue (F.has_failed feed.old) }
     requires sound_sink { ¬ IsTrue (S.has_failed sink.old) }
-    ensures more { (fed put : Option (List ℕ)) (n : ℕ) → result ≡ Ok true
-        → AreRead (J.says judge.now) fed (F.remaining feed.old) put (S.written sink.old) streamed.old n
-        → AreRead (J.says judge.now) fed (F.remaining feed.new) put (S.written sink.new) streamed.new (n + 1) }
-    ensures end { (fed put : Option (List ℕ)) (n : ℕ) → result ≡ Ok false
-        → AreRead (J.says judge.now) fed (F.remaining feed.old) put (S.written sink.old) streamed.old n
-        → AllTold (J.says judge.now) fed (F.remaining feed.new) put (S.written sink.new) streamed.new.told.ended }
+    ensures more { (fed put : Option (List ℕ)) (begun : W) (n : ℕ) → result ≡ Ok true
+        → AreRead (J.says judge.now) (J.told judge.now) W.saw fed (F.remaining feed.old)
+        put (S.written sink.old) begun watch.old streamed.old n
+        → AreRead (J.says judge.now) (J.told judge.now) W.saw fed (F.remaining feed.new)
+        put (S.written sink.new) begun watch.new streamed.new (n + 1) }
+    ensures end { (fed put : Option (List ℕ)) (begun : W) (n : ℕ) → result ≡ Ok false
+        → AreRead (J.says judge.now) (J.told judge.now) W.saw fed (F.remaining feed.old)
+        put (S.written sink.old) begun watch.old streamed.old n
+        → AllTold (J.says judge.now) (J.told judge.now) W.saw fed (F.remaining feed.new)
+        put (S.written sink.new) begun watch.new }
     ensures device { (result ≡ Err Device)
         ↔ (IsTrue (F.has_failed feed.new) ⊎ IsTrue (S.has_failed sink.new)) }
-    ensures front { (fed put : Option (List ℕ)) (n : ℕ) → IsErr result
-        → AreRead (J.says judge.now) fed (F.remaining feed.old) put (S.written sink.old) streamed.old n
-        → SomeTold (J.says judge.now) fed (F.remaining feed.new) put (S.written sink.new) }
-    ensures whole { (fed put : Option (List ℕ)) (n : ℕ) → (result ≡ Err NoMemory) ⊎ (result ≡ Err Endless)
-        → AreRead (J.says judge.now) fed (F.remaining feed.old) put (S.written sink.old) streamed.old n
-        → WholeTold (J.says judge.now) fed (F.remaining feed.new) put (S.written sink.new) }
-    ensures pieces { (fed put : Option (List ℕ)) (n : ℕ) → result ≡ Err Endless
-        → AreRead (J.says judge.now) fed (F.remaining feed.old) put (S.written sink.old) streamed.old n
+    ensures front { (fed put : Option (List ℕ)) (begun : W) (n : ℕ) → IsErr result
+        → AreRead (J.says judge.now) (J.told judge.now) W.saw fed (F.remaining feed.old)
+        put (S.written sink.old) begun watch.old streamed.old n
+        → SomeTold (J.says judge.now) (J.told judge.now) fed (F.remaining feed.new)
+        put (S.written sink.new) }
+    ensures whole { (fed put : Option (List ℕ)) (begun : W) (n : ℕ) → (result ≡ Err NoMemory) ⊎ (result ≡ Err Endless)
+        → AreRead (J.says judge.now) (J.told judge.now) W.saw fed (F.remaining feed.old)
+        put (S.written sink.old) begun watch.old streamed.old n
+        → WholeTold (J.says judge.now) (J.told judge.now) fed (F.remaining feed.new)
+        put (S.written sink.new) }
+    ensures pieces { (fed put : Option (List ℕ)) (begun : W) (n : ℕ) → result ≡ Err Endless
+        → AreRead (J.says judge.now) (J.told judge.now) W.saw fed (F.remaining feed.old)
+        put (S.written sink.old) begun watch.old streamed.old n
         → IfSome fed (λ bytes. most_places ≤ length bytes) }
 {
     let count = feed.get(piece)?;
     if count == 0 {
-        streamed.end(alloc, judge)?;
+        streamed.end(alloc, judge, watch)?;
         put_lines(streamed, sink)?;
         Ok(false)
     } else {
-        let goes_on = streamed.read(alloc, judge, &piece[..count])?;
+        let goes_on = streamed.read(alloc, judge, watch, &piece[..count])?;
         put_lines(streamed, sink)?;
         Ok(goes_on)
     }
@@ -104,7 +116,6 @@ fn put_lines<S: Sink>(streamed: &mut Streamed, sink: &mut S) -> Result<(), Faile
     ensures nothing { OnOk result (string_bytes streamed.new.told.text ≡ []) }
     ensures digits { streamed.new.digits ≡ streamed.old.digits }
     ensures at { streamed.new.told.at ≡ streamed.old.told.at }
-    ensures ended { streamed.new.told.ended ≡ streamed.old.told.ended }
 {
     put_all(sink, streamed.told.text.as_bytes())?;
     streamed.told.text.clear();

@@ -1,15 +1,11 @@
-//! The lines of a stream's messages.
+//! The messages of a stream that were told.
 
 ghost use Rattle.std.specs.Prelude.{◌≡◌};
 
 use crate::judge::MessageJudge;
 use crate::messages::first_message;
-use dia_io::Exit;
-use dia_lines::{Ended, LinesFault};
+use dia_lines::{LinesFault, Watch};
 use std::alloc::{AllocError, Global};
-
-/// What is told of a stream that isn't hexadecimal from a place on.
-const NOT_HEXADECIMAL: &str = "message: not hexadecimal\n";
 
 /// The lines of the messages that are whole.
 #[derive(Drop)]
@@ -18,90 +14,76 @@ pub struct Told {
     pub at: u64,
     /// The lines that weren't put yet.
     pub text: String,
-    pub ended: Ended,
 }
 
 impl Told {
-    ghost use Rattle.std.specs.Prelude.{◌≡◌, ◌≢◌, ◌≤◌, ◌+◌, ◌++◌, List, ℕ, [], Err, IfErr, IfOk, OnOk, codes, length, string_bytes};
-    ghost use Rattle.dia_io.specs.declared.Exit.{Exit as AnyExit};
-    ghost use Rattle.dia_io.specs.declared.Exit.TheVariants.{Bad};
-    ghost use Rattle.dia_lines.specs.Lines.{ended_of};
+    ghost use Rattle.std.specs.Prelude.{◌≡◌, ◌≢◌, ◌≤◌, ◌+◌, None, Some, [], Err, IfErr, IfOk, OnOk, length, string_bytes};
     ghost use Rattle.dia_lines.specs.declared.fault.LinesFault.TheVariants.{Device, Endless};
-    ghost use Rattle.dia_streams.specs.Streams.{most_places, not_hexadecimal, placed};
+    ghost use Rattle.dia_streams.specs.Streams.{most_places};
     ghost use Rattle.dia_streams.specs.UnderWay.{Adds, BeginsNone, TellsWhole};
 
     /// Nothing was told yet.
     pub fn new(alloc: Global) -> Told
         ensures at { result.at ≡ 0 }
         ensures text { string_bytes result.text ≡ [] }
-        ensures ended { result.ended ≡ ended_of [] }
     {
         Told {
             at: 0,
             text: String::new(alloc),
-            ended: Ended::none(),
         }
     }
 
     /// Tells the messages at the front of the bytes. Answers what is left of the bytes.
-    pub fn tell_whole<'b, J: MessageJudge>(
+    pub fn tell_whole<'b, J: MessageJudge, W: Watch<(u64, J::Verdict)>>(
         &mut self,
         alloc: Global,
         judge: &J,
+        watch: &mut W,
         bytes: &'b [u8],
     ) -> Result<&'b [u8], LinesFault>
         ensures device { IfErr result (λ fault. fault ≢ Device) }
         ensures endless { IfErr result (λ fault. fault ≡ Endless
             → most_places ≤ self.old.at + length bytes.entry.now) }
-        ensures told { IfOk result (λ rest. TellsWhole (J.says judge.now)
-            self.old self.new bytes.entry.now rest.now) }
+        ensures told { IfOk result (λ rest. TellsWhole (J.says judge.now) (J.told judge.now) W.saw
+            self.old self.new watch.old watch.new bytes.entry.now rest.now) }
         ensures none { IfOk result (λ rest. BeginsNone rest.now) }
     {
         let mut rest = bytes;
         while let Some((message, behind)) = first_message(rest) {
-            self.tell(alloc, judge, message)?;
+            self.tell(alloc, judge, watch, message)?;
             self.pass(message.len())?;
             rest = behind;
         }
         Ok(rest)
     }
 
-    /// Adds the line of these bytes: what `check` says of them.
-    pub fn tell<J: MessageJudge>(
+    /// Tells the verdict on these bytes.
+    pub fn tell<J: MessageJudge, W: Watch<(u64, J::Verdict)>>(
         &mut self,
         alloc: Global,
         judge: &J,
+        watch: &mut W,
         bytes: &[u8],
     ) -> Result<(), AllocError>
-        ensures { OnOk result ((told : List ℕ) × (exit : AnyExit)
-            × J.says judge.now bytes.now told exit
-            × Adds self.old self.new told exit) }
+        ensures { OnOk result ((verdict : J.Verdict) × J.says judge.now (Some bytes.now) verdict
+            × Adds (J.told judge.now) W.saw self.old self.new watch.old watch.new verdict) }
     {
-        self.begin_line()?;
-        let exit = judge.judge(alloc, bytes, &mut self.text)?;
-        self.ended = self.ended.and(exit);
+        let verdict = judge.judge(alloc, self.at, bytes, &mut self.text)?;
+        watch.see((self.at, verdict));
         Ok(())
     }
 
-    /// Adds the line of a text that isn't hexadecimal.
-    pub fn tell_not_hexadecimal(&mut self) -> Result<(), AllocError>
-        ensures { OnOk result (Adds self.old self.new not_hexadecimal Bad) }
+    /// Tells the verdict on a text that isn't hexadecimal.
+    pub fn tell_no_digits<J: MessageJudge, W: Watch<(u64, J::Verdict)>>(
+        &mut self,
+        judge: &J,
+        watch: &mut W,
+    ) -> Result<(), AllocError>
+        ensures { OnOk result ((verdict : J.Verdict) × J.says judge.now None verdict
+            × Adds (J.told judge.now) W.saw self.old self.new watch.old watch.new verdict) }
     {
-        self.begin_line()?;
-        self.text.push_str(NOT_HEXADECIMAL)?;
-        self.ended = self.ended.and(Exit::Bad);
-        Ok(())
-    }
-
-    /// Adds the place where the next message begins.
-    fn begin_line(&mut self) -> Result<(), AllocError>
-        ensures text { OnOk result
-            (string_bytes self.new.text ≡ string_bytes self.old.text ++ placed self.old.at []) }
-        ensures at { self.new.at ≡ self.old.at }
-        ensures ended { self.new.ended ≡ self.old.ended }
-    {
-        let at = self.at;
-        write!(self.text, "{at} ")?;
+        let verdict = judge.judge_no_digits(self.at, &mut self.text)?;
+        watch.see((self.at, verdict));
         Ok(())
     }
 
@@ -109,7 +91,6 @@ impl Told {
     fn pass(&mut self, length: usize) -> Result<(), LinesFault>
         ensures at { OnOk result (self.new.at ≡ self.old.at + length) }
         ensures text { self.new.text ≡ self.old.text }
-        ensures ended { self.new.ended ≡ self.old.ended }
         ensures err { IfErr result (λ fault. fault ≡ Endless) }
         ensures many { IfErr result (λ _. most_places ≤ self.old.at + length) }
     {

@@ -1,6 +1,7 @@
 use Rattle.std.proofs.Common.{◌≡◌, Err, refl, ap, rules}
 use Rattle.dia_lines.specs.declared.fault.LinesFault.TheVariants.{NoMemory, Endless}
 use Rattle.dia_captures.specs.Lines.{checks}
+use Rattle.dia_captures.specs.Verdicts.{checked_exit}
 use Rattle.dia_captures.proofs.OneMessage.{of_check}
 use Rattle.dia_captures.proofs.LinesOfMessages.{all_answered, front_put, lines_answered, first_stands}
 use Rattle.dia_captures.proofs.RefusedRuns.{refusal_answered, refusal_front, refusal_nothing}
@@ -20,22 +21,25 @@ pub returns-in-Err-clause-no_memory : goal.returns-in-Err-clause-no_memory
 returns-in-Err-clause-no_memory g c = λ is.
     refusal_nothing (checks c.args.unknown c.args.levels) c.args.inputs.now (g.F.Feed.remaining c.args.feed.now) (g.S.Sink.written c.args.sink.now) (g.S.Sink.written c.refuse.new.sink) (c.refuse.ensures.no_memory is)
 
-pub returns-in_err-checked-clause-front : goal.returns-in_err-checked-clause-front
-returns-in_err-checked-clause-front g c = λ _.
-    front_put (checks c.args.unknown c.args.levels) c.args.inputs.now _ (of_check c.args.unknown c.args.levels c.args.inputs.now _ (rw (← c.deref.ensures) at c.in-Ok.ensures.book)) _ _ _ _ (c.in_err-checked.ensures.front refl)
+pub returns-in_err-answer_lines-clause-front : goal.returns-in_err-answer_lines-clause-front
+returns-in_err-answer_lines-clause-front g c = λ _.
+    front_put (checks c.args.unknown c.args.levels) c.args.inputs.now _ _ checked_exit (of_check c.args.unknown c.args.levels c.args.inputs.now _ (rw (← c.deref.ensures) at c.in-Ok.ensures.book)) _ _ _ _ (c.in_err-answer_lines.ensures.front refl)
 
-pub returns-in_err-checked-clause-no_memory : goal.returns-in_err-checked-clause-no_memory
-returns-in_err-checked-clause-no_memory g c = λ e.
-    let same : c.from_residual.result ≡ Err c.in_err-checked.field-0.0 = search rules in
-    let is : c.in_err-checked.field-0.0 ≡ NoMemory = cc in
-    lines_answered (checks c.args.unknown c.args.levels) c.args.inputs.now _ (of_check c.args.unknown c.args.levels c.args.inputs.now _ (rw (← c.deref.ensures) at c.in-Ok.ensures.book)) _ _ _ _ (c.in_err-checked.ensures.no_memory (ap (λ f. Err f) is))
+pub returns-in_err-answer_lines-clause-no_memory : goal.returns-in_err-answer_lines-clause-no_memory
+returns-in_err-answer_lines-clause-no_memory g c = λ e.
+    let same : c.from_residual.result ≡ Err c.in_err-answer_lines.field-0.0 = search rules in
+    let is : c.in_err-answer_lines.field-0.0 ≡ NoMemory = cc in
+    lines_answered (checks c.args.unknown c.args.levels) c.args.inputs.now _ _ checked_exit (of_check c.args.unknown c.args.levels c.args.inputs.now _ (rw (← c.deref.ensures) at c.in-Ok.ensures.book)) _ _ _ _ (c.in_err-answer_lines.ensures.no_memory (ap (λ f. Err f) is))
 
-pub returns-in_err-checked-clause-endless : goal.returns-in_err-checked-clause-endless
-returns-in_err-checked-clause-endless g c = λ e.
-    let same : c.from_residual.result ≡ Err c.in_err-checked.field-0.0 = search rules in
-    let is : c.in_err-checked.field-0.0 ≡ Endless = cc in
-    lines_answered (checks c.args.unknown c.args.levels) c.args.inputs.now _ (of_check c.args.unknown c.args.levels c.args.inputs.now _ (rw (← c.deref.ensures) at c.in-Ok.ensures.book)) _ _ _ _ (c.in_err-checked.ensures.endless (ap (λ f. Err f) is))
+pub returns-in_err-answer_lines-clause-endless : goal.returns-in_err-answer_lines-clause-endless
+returns-in_err-answer_lines-clause-endless g c = λ e.
+    let same : c.from_residual.result ≡ Err c.in_err-answer_lines.field-0.0 = search rules in
+    let is : c.in_err-answer_lines.field-0.0 ≡ Endless = cc in
+    lines_answered (checks c.args.unknown c.args.levels) c.args.inputs.now _ _ checked_exit (of_check c.args.unknown c.args.levels c.args.inputs.now _ (rw (← c.deref.ensures) at c.in-Ok.ensures.book)) _ _ _ _ (c.in_err-answer_lines.ensures.endless (ap (λ f. Err f) is))
 
 pub returns-clause-answered : goal.returns-clause-answered
 returns-clause-answered g c =
-    all_answered (checks c.args.unknown c.args.levels) c.args.inputs.now _ (of_check c.args.unknown c.args.levels c.args.inputs.now _ (rw (← c.deref.ensures) at c.in-Ok.ensures.book)) _ _ _ _ c.in_ok-checked.checked c.ended.result.exit (first_stands c.args.inputs.now _ (rw (← c.deref.ensures) at c.in-Ok.ensures.book)) c.ended.ensures c.in_ok-checked.ensures.answered
+    all_answered (checks c.args.unknown c.args.levels) c.args.inputs.now _ _ checked_exit
+    (of_check c.args.unknown c.args.levels c.args.inputs.now _ (rw (← c.deref.ensures) at c.in-Ok.ensures.book)) _ _ _ _ _ c.new-tally.result c.answer_lines.new.watch c.in_ok-answer_lines.ensures.answered
+    c.answer_lines.new.watch.ended c.ended.result.reported.exit (first_stands c.args.inputs.now _ (rw (← c.deref.ensures) at c.in-Ok.ensures.book)) c.ended.ensures
+    c.new-tally.ensures.ended (λ verdicts counted. counted)

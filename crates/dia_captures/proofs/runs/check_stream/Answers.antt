@@ -16,22 +16,23 @@ returns-in-Err-clause-front g c =
 pub returns-in-Err-clause-no_memory : goal.returns-in-Err-clause-no_memory
 returns-in-Err-clause-no_memory g c = λ is. stream_nothing c.args.unknown c.args.levels c.args.inputs.now (g.F.Feed.remaining c.args.feed.now) (g.S.Sink.written c.args.sink.now) (g.S.Sink.written c.refuse.new.sink) (c.refuse.ensures.no_memory is)
 
-pub returns-in_err-told-clause-front : goal.returns-in_err-told-clause-front
-returns-in_err-told-clause-front g c = λ _.
-    stream_front c.args.unknown c.args.levels c.args.inputs.now _ (rw (← c.deref.ensures) at c.in-Ok.ensures.book) _ _ _ _ (c.in_err-told.ensures.front refl)
+pub returns-in_err-answer_stream-clause-front : goal.returns-in_err-answer_stream-clause-front
+returns-in_err-answer_stream-clause-front g c = λ _.
+    stream_front c.args.unknown c.args.levels c.args.inputs.now _ (rw (← c.deref.ensures) at c.in-Ok.ensures.book) _ _ _ _ (c.in_err-answer_stream.ensures.front refl)
 
-pub returns-in_err-told-clause-no_memory : goal.returns-in_err-told-clause-no_memory
-returns-in_err-told-clause-no_memory g c = λ e.
-    let same : c.from_residual.result ≡ Err c.in_err-told.field-0.0 = search rules in
-    let is : c.in_err-told.field-0.0 ≡ NoMemory = cc in
-    stream_whole c.args.unknown c.args.levels c.args.inputs.now _ (rw (← c.deref.ensures) at c.in-Ok.ensures.book) _ _ _ _ (c.in_err-told.ensures.no_memory (ap (λ f. Err f) is))
+pub returns-in_err-answer_stream-clause-no_memory : goal.returns-in_err-answer_stream-clause-no_memory
+returns-in_err-answer_stream-clause-no_memory g c = λ e.
+    let same : c.from_residual.result ≡ Err c.in_err-answer_stream.field-0.0 = search rules in
+    let is : c.in_err-answer_stream.field-0.0 ≡ NoMemory = cc in
+    stream_whole c.args.unknown c.args.levels c.args.inputs.now _ (rw (← c.deref.ensures) at c.in-Ok.ensures.book) _ _ _ _ (c.in_err-answer_stream.ensures.no_memory (ap (λ f. Err f) is))
 
-pub returns-in_err-told-clause-endless : goal.returns-in_err-told-clause-endless
-returns-in_err-told-clause-endless g c = λ e.
-    let same : c.from_residual.result ≡ Err c.in_err-told.field-0.0 = search rules in
-    let is : c.in_err-told.field-0.0 ≡ Endless = cc in
-    stream_whole c.args.unknown c.args.levels c.args.inputs.now _ (rw (← c.deref.ensures) at c.in-Ok.ensures.book) _ _ _ _ (c.in_err-told.ensures.endless (ap (λ f. Err f) is))
+pub returns-in_err-answer_stream-clause-endless : goal.returns-in_err-answer_stream-clause-endless
+returns-in_err-answer_stream-clause-endless g c = λ e.
+    let same : c.from_residual.result ≡ Err c.in_err-answer_stream.field-0.0 = search rules in
+    let is : c.in_err-answer_stream.field-0.0 ≡ Endless = cc in
+    stream_whole c.args.unknown c.args.levels c.args.inputs.now _ (rw (← c.deref.ensures) at c.in-Ok.ensures.book) _ _ _ _ (c.in_err-answer_stream.ensures.endless (ap (λ f. Err f) is))
 
 pub returns-clause-answered : goal.returns-clause-answered
 returns-clause-answered g c =
-    stream_answered c.args.unknown c.args.levels c.args.inputs.now _ (rw (← c.deref.ensures) at c.in-Ok.ensures.book) _ _ _ _ c.in_ok-told.told c.ended.result.exit c.ended.ensures c.in_ok-told.ensures.told
+    stream_answered c.args.unknown c.args.levels c.args.inputs.now _ (rw (← c.deref.ensures) at c.in-Ok.ensures.book) _ _ _ _ _ c.new-tally.result c.answer_stream.new.watch c.in_ok-answer_stream.ensures.told
+    c.answer_stream.new.watch.ended c.ended.result.reported.exit c.ended.ensures c.new-tally.ensures.ended (λ verdicts counted. counted)

@@ -1,6 +1,7 @@
 use Rattle.std.proofs.Common.{◌≡◌, Err, refl, ap, rules}
 use Rattle.dia_lines.specs.declared.fault.LinesFault.TheVariants.{NoMemory, Endless}
 use Rattle.dia_captures.specs.Lines.{refutations}
+use Rattle.dia_captures.specs.Verdicts.{refuted_exit}
 use Rattle.dia_captures.proofs.OneMessage.{of_refute}
 use Rattle.dia_captures.proofs.LinesOfMessages.{all_answered, front_put, lines_answered, both_stand}
 use Rattle.dia_captures.proofs.RefusedRuns.{first_tells, second_tells, refusal_answered, refusal_front, refusal_nothing}
@@ -34,27 +35,29 @@ pub returns-in-Err-read_dictionary-clause-no_memory : goal.returns-in-Err-read_d
 returns-in-Err-read_dictionary-clause-no_memory g c = λ is.
     refusal_nothing (refutations c.args.unknown c.args.levels) c.args.inputs.now (g.F.Feed.remaining c.args.feed.now) (g.S.Sink.written c.args.sink.now) (g.S.Sink.written c.refuse-in-Err-read_dictionary.new.sink) (c.refuse-in-Err-read_dictionary.ensures.no_memory is)
 
-pub returns-in_err-refuted-clause-front : goal.returns-in_err-refuted-clause-front
-returns-in_err-refuted-clause-front g c = λ _.
-    front_put (refutations c.args.unknown c.args.levels) c.args.inputs.now _
-    (of_refute c.args.unknown c.args.levels c.args.inputs.now _ _ (rw (← c.deref.ensures) at c.in-Ok.ensures.book) (rw (← c.deref-2.ensures) at c.in-Ok-read_dictionary.ensures.book)) _ _ _ _ (c.in_err-refuted.ensures.front refl)
+pub returns-in_err-answer_lines-clause-front : goal.returns-in_err-answer_lines-clause-front
+returns-in_err-answer_lines-clause-front g c = λ _.
+    front_put (refutations c.args.unknown c.args.levels) c.args.inputs.now _ _ refuted_exit
+    (of_refute c.args.unknown c.args.levels c.args.inputs.now _ _ (rw (← c.deref.ensures) at c.in-Ok.ensures.book) (rw (← c.deref-2.ensures) at c.in-Ok-read_dictionary.ensures.book)) _ _ _ _ (c.in_err-answer_lines.ensures.front refl)
 
-pub returns-in_err-refuted-clause-no_memory : goal.returns-in_err-refuted-clause-no_memory
-returns-in_err-refuted-clause-no_memory g c = λ e.
-    let same : c.from_residual.result ≡ Err c.in_err-refuted.field-0.0 = search rules in
-    let is : c.in_err-refuted.field-0.0 ≡ NoMemory = cc in
-    lines_answered (refutations c.args.unknown c.args.levels) c.args.inputs.now _
-    (of_refute c.args.unknown c.args.levels c.args.inputs.now _ _ (rw (← c.deref.ensures) at c.in-Ok.ensures.book) (rw (← c.deref-2.ensures) at c.in-Ok-read_dictionary.ensures.book)) _ _ _ _ (c.in_err-refuted.ensures.no_memory (ap (λ f. Err f) is))
+pub returns-in_err-answer_lines-clause-no_memory : goal.returns-in_err-answer_lines-clause-no_memory
+returns-in_err-answer_lines-clause-no_memory g c = λ e.
+    let same : c.from_residual.result ≡ Err c.in_err-answer_lines.field-0.0 = search rules in
+    let is : c.in_err-answer_lines.field-0.0 ≡ NoMemory = cc in
+    lines_answered (refutations c.args.unknown c.args.levels) c.args.inputs.now _ _ refuted_exit
+    (of_refute c.args.unknown c.args.levels c.args.inputs.now _ _ (rw (← c.deref.ensures) at c.in-Ok.ensures.book) (rw (← c.deref-2.ensures) at c.in-Ok-read_dictionary.ensures.book)) _ _ _ _ (c.in_err-answer_lines.ensures.no_memory (ap (λ f. Err f) is))
 
-pub returns-in_err-refuted-clause-endless : goal.returns-in_err-refuted-clause-endless
-returns-in_err-refuted-clause-endless g c = λ e.
-    let same : c.from_residual.result ≡ Err c.in_err-refuted.field-0.0 = search rules in
-    let is : c.in_err-refuted.field-0.0 ≡ Endless = cc in
-    lines_answered (refutations c.args.unknown c.args.levels) c.args.inputs.now _
-    (of_refute c.args.unknown c.args.levels c.args.inputs.now _ _ (rw (← c.deref.ensures) at c.in-Ok.ensures.book) (rw (← c.deref-2.ensures) at c.in-Ok-read_dictionary.ensures.book)) _ _ _ _ (c.in_err-refuted.ensures.endless (ap (λ f. Err f) is))
+pub returns-in_err-answer_lines-clause-endless : goal.returns-in_err-answer_lines-clause-endless
+returns-in_err-answer_lines-clause-endless g c = λ e.
+    let same : c.from_residual.result ≡ Err c.in_err-answer_lines.field-0.0 = search rules in
+    let is : c.in_err-answer_lines.field-0.0 ≡ Endless = cc in
+    lines_answered (refutations c.args.unknown c.args.levels) c.args.inputs.now _ _ refuted_exit
+    (of_refute c.args.unknown c.args.levels c.args.inputs.now _ _ (rw (← c.deref.ensures) at c.in-Ok.ensures.book) (rw (← c.deref-2.ensures) at c.in-Ok-read_dictionary.ensures.book)) _ _ _ _ (c.in_err-answer_lines.ensures.endless (ap (λ f. Err f) is))
 
 pub returns-clause-answered : goal.returns-clause-answered
 returns-clause-answered g c =
-    all_answered (refutations c.args.unknown c.args.levels) c.args.inputs.now _
-    (of_refute c.args.unknown c.args.levels c.args.inputs.now _ _ (rw (← c.deref.ensures) at c.in-Ok.ensures.book) (rw (← c.deref-2.ensures) at c.in-Ok-read_dictionary.ensures.book)) _ _ _ _ c.in_ok-refuted.refuted c.ended.result.exit
-    (both_stand c.args.unknown c.args.levels c.args.inputs.now _ _ (rw (← c.deref.ensures) at c.in-Ok.ensures.book) (rw (← c.deref-2.ensures) at c.in-Ok-read_dictionary.ensures.book)) c.ended.ensures c.in_ok-refuted.ensures.answered
+    all_answered (refutations c.args.unknown c.args.levels) c.args.inputs.now _ _ refuted_exit
+    (of_refute c.args.unknown c.args.levels c.args.inputs.now _ _ (rw (← c.deref.ensures) at c.in-Ok.ensures.book) (rw (← c.deref-2.ensures) at c.in-Ok-read_dictionary.ensures.book))
+    _ _ _ _ _ c.new-tally.result c.answer_lines.new.watch c.in_ok-answer_lines.ensures.answered c.answer_lines.new.watch.ended c.ended.result.reported.exit
+    (both_stand c.args.unknown c.args.levels c.args.inputs.now _ _ (rw (← c.deref.ensures) at c.in-Ok.ensures.book) (rw (← c.deref-2.ensures) at c.in-Ok-read_dictionary.ensures.book))
+    c.ended.ensures c.new-tally.ensures.ended (λ verdicts counted. counted)

@@ -1,5 +1,5 @@
-use Rattle.std.specs.Prelude.{string_bytes}
+use Rattle.dia_captures.proofs.OneMessage.{line_named}
 use Rattle.dia_captures.proofs.judges.CheckJudgeJudge.judge.Goals as goal
 
-pub returns : goal.returns
-returns g c = (string_bytes c.in_ok-outcome.outcome.text, c.in_ok-outcome.ensures, (rw c.as_str.ensures.value at c.in_ok-push_str.ensures.bytes))
+pub push-requires : goal.push-requires
+push-requires g c = line_named c.args.self.now.unknown c.args.self.now.levels _ c.args.line.now c.in_ok-verdict.verdict c.in_ok-verdict.ensures

@@ -1,11 +1,14 @@
-use Rattle.dia_lines.proofs.LinesUnderWay.{on_ok_map, line_ended}
+use Rattle.std.proofs.Common.{[], ◌∷◌, refl}
+use Rattle.dia_lines.proofs.LinesUnderWay.{on_ok_map, Reads-line}
 use Rattle.dia_lines.proofs.answered.Answered.read_line.Goals as goal
 
 pub returns : goal.returns
 returns g c = on_ok_map c.answer.result
     (λ h.
-    let (told, exit, says, texts, whole, ended) = h in
-    let line = line_ended (g.J.Judge.says c.args.judge.now) c.args.self.now c.answer.new.self c.extend.new.line c.args.bytes.now told exit c.requires
-    c.in_ok-extend.ensures says whole ended in
-    (told, (texts, line)))
+    let (verdict, says, text, seen, whole) = h in (
+      verdict ∷ [],
+      Reads-line (g.J.Judge.says c.args.judge.now) (g.J.Judge.told c.args.judge.now) g.W.Watch.saw c.args.self.now
+          (record { line = c.extend.new.line; text = c.args.self.now.text }) c.answer.new.self c.args.watch.now c.answer.new.watch c.args.bytes.now verdict c.requires
+          c.in_ok-extend.ensures refl says text seen whole,
+    ))
     c.answer.ensures

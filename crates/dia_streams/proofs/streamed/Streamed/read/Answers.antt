@@ -1,4 +1,4 @@
-use Rattle.std.proofs.Common.{◌≡◌, ℕ, ◌≤◌, Bool, List, ◌++◌, length, Err, refl, sym, ap, subst, arith, rules}
+use Rattle.std.proofs.Common.{◌≡◌, ℕ, ◌≤◌, Bool, List, ◌++◌, length, Some, Err, refl, sym, ap, subst, arith, rules}
 use Rattle.std.specs.Prelude.{IfErr}
 use Rattle.dia_lines.specs.declared.fault.LinesFault.TheVariants.{Endless}
 use Rattle.dia_streams.specs.UnderWay.{IsUnderWay, Takes, TellsWhole}
@@ -9,48 +9,57 @@ use Rattle.dia_streams.proofs.streamed.Streamed.read.Goals as goal
 pub returns-in-Some-clause-reads : goal.returns-in-Some-clause-reads
 returns-in-Some-clause-reads g c =
     let P = g.J.MessageJudge.says c.args.judge.now in
+    let T = g.J.MessageJudge.told c.args.judge.now in
+    let S = g.W.Watch.saw in
     let old = c.args.self.now in
     let all = c.take.new.self.bytes.items in
     let rest = c.in_ok-rest.rest.now in
-    let tells = subst (λ (b : List ℕ). TellsWhole P old.told c.tell_whole.new.self b rest) c.as_slice-bytes.ensures.value c.in_ok-rest.ensures.told in
-    let (told, exit, says, adds) = c.in_ok-tell.ensures in
-    Reads-endless P c.in_ok-hexadecimal.hexadecimal c.take.new.self.half all c.args.piece.now rest told exit old _ c.tell_whole.new.self
-    c.in_ok-hexadecimal.ensures tells c.in-Some.ensures.bad (subst (λ (b : List ℕ). P b told exit) c.in-Some.ensures.header says) adds
+    let tells = subst (λ (b : List ℕ). TellsWhole P T S old.told c.tell_whole.new.self c.args.watch.now c.tell_whole.new.watch b rest) c.as_slice-bytes.ensures.value c.in_ok-rest.ensures.told in
+    let (verdict, says, adds) = c.in_ok-tell.ensures in
+    Reads-endless P T S c.in_ok-hexadecimal.hexadecimal c.take.new.self.half all c.args.piece.now rest old c.tell_whole.new.self c.args.watch.now c.tell_whole.new.watch
+    c.in_ok-hexadecimal.ensures tells _ _ verdict c.in-Some.ensures.bad (subst (λ (b : List ℕ). P (Some b) verdict) c.in-Some.ensures.header says) adds
 
 pub returns-then-not-hexadecimal-clause-reads : goal.returns-then-not-hexadecimal-clause-reads
 returns-then-not-hexadecimal-clause-reads g c =
     let P = g.J.MessageJudge.says c.args.judge.now in
+    let T = g.J.MessageJudge.told c.args.judge.now in
+    let S = g.W.Watch.saw in
     let old = c.args.self.now in
     let all = c.take.new.self.bytes.items in
     let rest = c.in_ok-rest.rest.now in
-    let tells = subst (λ (b : List ℕ). TellsWhole P old.told c.tell_whole.new.self b rest) c.as_slice-bytes.ensures.value c.in_ok-rest.ensures.told in
+    let tells = subst (λ (b : List ℕ). TellsWhole P T S old.told c.tell_whole.new.self c.args.watch.now c.tell_whole.new.watch b rest) c.as_slice-bytes.ensures.value c.in_ok-rest.ensures.told in
     let takes = subst (λ (good : Bool). Takes good old.digits.half c.take.new.self.half old.digits.bytes.items all c.args.piece.now) c.if-not-hexadecimal.true
     c.in_ok-hexadecimal.ensures in
-    Reads-stopped P c.take.new.self.half all c.args.piece.now rest old _ c.tell_whole.new.self takes tells
-    (is_part rest c.in_ok-rest.ensures.none (c.in_default.ensures.none refl)) c.in_ok-tell_not_hexadecimal.ensures
+    let (verdict, says, adds) = c.in_ok-tell_no_digits.ensures in
+    Reads-stopped P T S c.take.new.self.half all c.args.piece.now rest old _ c.tell_whole.new.self c.args.watch.now c.tell_whole.new.watch _ verdict takes tells
+    (is_part rest c.in_ok-rest.ensures.none (c.in_default.ensures.none refl)) says adds
 
 pub returns-in_ok-self-clause-reads : goal.returns-in_ok-self-clause-reads
 returns-in_ok-self-clause-reads g c =
     let P = g.J.MessageJudge.says c.args.judge.now in
+    let T = g.J.MessageJudge.told c.args.judge.now in
+    let S = g.W.Watch.saw in
     let old = c.args.self.now in
     let all = c.take.new.self.bytes.items in
     let rest = c.in_ok-rest.rest.now in
-    let tells = subst (λ (b : List ℕ). TellsWhole P old.told c.tell_whole.new.self b rest) c.as_slice-bytes.ensures.value c.in_ok-rest.ensures.told in
+    let tells = subst (λ (b : List ℕ). TellsWhole P T S old.told c.tell_whole.new.self c.args.watch.now c.tell_whole.new.watch b rest) c.as_slice-bytes.ensures.value c.in_ok-rest.ensures.told in
     let takes = subst (λ (good : Bool). Takes good old.digits.half c.take.new.self.half old.digits.bytes.items all c.args.piece.now) c.if-not-hexadecimal.false
     c.in_ok-hexadecimal.ensures in
-    Reads-on P c.take.new.self.half all c.args.piece.now rest old _ c.tell_whole.new.self takes tells
+    Reads-on P T S c.take.new.self.half all c.args.piece.now rest old _ c.tell_whole.new.self c.args.watch.now c.tell_whole.new.watch takes tells
     (is_part rest c.in_ok-rest.ensures.none (c.in_default.ensures.none refl)) refl c.in_ok-self.ensures.items refl
 
 pub returns-else-rest-bytes-clause-reads : goal.returns-else-rest-bytes-clause-reads
 returns-else-rest-bytes-clause-reads g c =
     let P = g.J.MessageJudge.says c.args.judge.now in
+    let T = g.J.MessageJudge.told c.args.judge.now in
+    let S = g.W.Watch.saw in
     let old = c.args.self.now in
     let all = c.take.new.self.bytes.items in
     let rest = c.in_ok-rest.rest.now in
-    let tells = subst (λ (b : List ℕ). TellsWhole P old.told c.tell_whole.new.self b rest) c.as_slice-bytes.ensures.value c.in_ok-rest.ensures.told in
+    let tells = subst (λ (b : List ℕ). TellsWhole P T S old.told c.tell_whole.new.self c.args.watch.now c.tell_whole.new.watch b rest) c.as_slice-bytes.ensures.value c.in_ok-rest.ensures.told in
     let takes = subst (λ (good : Bool). Takes good old.digits.half c.take.new.self.half old.digits.bytes.items all c.args.piece.now) c.if-not-hexadecimal.false
     c.in_ok-hexadecimal.ensures in
-    Reads-on P c.take.new.self.half all c.args.piece.now rest old _ c.tell_whole.new.self takes tells
+    Reads-on P T S c.take.new.self.half all c.args.piece.now rest old _ c.tell_whole.new.self c.args.watch.now c.tell_whole.new.watch takes tells
     (is_part rest c.in_ok-rest.ensures.none (c.in_default.ensures.none refl)) refl
     (all_left all tells.whole rest tells.parts (let value = ap (λ (b : List ℕ). length b) c.as_slice-bytes.ensures.value in omega (arith, value, c.if-rest-bytes.false))) refl
 
@@ -61,6 +70,6 @@ returns-in_err-rest-clause-endless g c =
     let all = c.take.new.self.bytes.items in
     let long = ap (λ (b : List ℕ). length b) c.as_slice-bytes.ensures.value in
     let same : c.from_residual-in_err-rest.result ≡ Err c.in_err-rest.field-0.0 = search rules in
-    subst (λ r. IfErr r (λ fault. fault ≡ Endless → (read text : List ℕ) → IsUnderWay P old read text → most_places ≤ length (read ++ c.args.piece.now))) (sym same)
+    subst (λ r. IfErr r (λ fault. fault ≡ Endless → (read : List ℕ) (verdicts : List (ℕ × _)) → IsUnderWay P old read verdicts → most_places ≤ length (read ++ c.args.piece.now))) (sym same)
     (λ is. many_read P old c.in_ok-hexadecimal.hexadecimal c.take.new.self.half all c.args.piece.now most_places
     c.in_ok-hexadecimal.ensures (omega (arith, long, c.in_err-rest.ensures.endless is)))

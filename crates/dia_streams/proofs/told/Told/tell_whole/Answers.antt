@@ -7,22 +7,23 @@ use Rattle.dia_streams.proofs.StreamsUnderWay.{TellsWhole-nothing, TellsWhole-mo
 use Rattle.dia_streams.proofs.told.Told.tell_whole.Goals as goal
 
 pub loop-message-init : goal.loop-message-init
-loop-message-init g c = record { tells = TellsWhole-nothing (g.J.MessageJudge.says c.args.judge.now) c.args.self.now c.args.bytes.now; counts = refl }
+loop-message-init g c = record { tells = TellsWhole-nothing (g.J.MessageJudge.says c.args.judge.now) (g.J.MessageJudge.told c.args.judge.now) g.W.Watch.saw c.args.self.now c.args.watch.now c.args.bytes.now; counts = refl }
 
 pub loop-message-preserved : goal.loop-message-preserved
 loop-message-preserved g c =
-    let (told, exit, says, adds) = c.in_ok-tell.ensures in
+    let (verdict, says, adds) = c.in_ok-tell.ensures in
     let lengths = ap (λ (b : List ℕ). length b) c.in-Some.ensures.parts ∙ length-append c.in-Some.message.now c.in-Some.behind.now in
     record {
-      tells = TellsWhole-more (g.J.MessageJudge.says c.args.judge.now) c.args.self.now c.loop-message.self c.tell.new.self c.pass.new.self c.args.bytes.now
-          c.loop-message.rest.now c.in-Some.message.now c.in-Some.behind.now told exit c.loop-message.invariant.tells
-          c.in-Some.ensures.parts c.in-Some.ensures.message says adds c.in_ok-pass.ensures.at (ap string_bytes c.in_ok-pass.ensures.text) c.in_ok-pass.ensures.ended;
+      tells = TellsWhole-more (g.J.MessageJudge.says c.args.judge.now) (g.J.MessageJudge.told c.args.judge.now) g.W.Watch.saw c.args.self.now c.loop-message.self
+          c.tell.new.self c.pass.new.self c.args.watch.now c.loop-message.watch c.tell.new.watch c.args.bytes.now
+          c.loop-message.rest.now c.in-Some.message.now c.in-Some.behind.now verdict c.loop-message.invariant.tells
+          c.in-Some.ensures.parts c.in-Some.ensures.message says adds c.in_ok-pass.ensures.at (ap string_bytes c.in_ok-pass.ensures.text);
       counts = omega (arith, c.loop-message.invariant.counts, lengths, adds.at, c.in_ok-pass.ensures.at);
     }
 
 pub returns-in_err-pass-clause-endless : goal.returns-in_err-pass-clause-endless
 returns-in_err-pass-clause-endless g c =
-    let (told, exit, says, adds) = c.in_ok-tell.ensures in
+    let (verdict, says, adds) = c.in_ok-tell.ensures in
     let lengths = ap (λ (b : List ℕ). length b) c.in-Some.ensures.parts ∙ length-append c.in-Some.message.now c.in-Some.behind.now in
     let same : c.from_residual-in_err-pass.result ≡ Err c.in_err-pass.field-0.0 = search rules in
     subst (λ r. IfErr r (λ fault. fault ≡ Endless → most_places ≤ c.args.self.now.at + length c.args.bytes.now)) (sym same)

@@ -4,7 +4,7 @@ use Rattle.dia_streams.proofs.told.Told.tell_whole.Given as goal
 
 abbrev pub invariant-loop-message : goal.invariant-loop-message
 invariant-loop-message g l = record {
-  tells : TellsWhole (g.J.MessageJudge.says l.judge) l.initial.self l.self l.bytes l.rest;
+  tells : TellsWhole (g.J.MessageJudge.says l.judge) (g.J.MessageJudge.told l.judge) g.W.Watch.saw l.initial.self l.self l.initial.watch l.watch l.bytes l.rest;
   counts : l.self.at + length l.rest ≡ l.initial.self.at + length l.bytes;
 }
 
