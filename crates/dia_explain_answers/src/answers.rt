@@ -5,7 +5,7 @@ use crate::comparing::push_compare;
 use crate::faults::push_show;
 use crate::refuting::push_refute;
 use dia_explain_places::InputTexts;
-use dia_run::Report;
+use dia_report::Report;
 use std::alloc::{AllocError, Global};
 
 /// Adds the reason of an answer that isn't yes. Of inputs that are refused nothing is told here.
@@ -20,6 +20,6 @@ pub fn push_answer(
         Report::Invalid(found) => push_check(alloc, out, texts, found),
         Report::Unrefuting(found) => push_refute(alloc, out, texts, found),
         Report::Compared(found) => push_compare(alloc, out, texts, found),
-        Report::Done | Report::Refused(_) | Report::NoCommand(_) | Report::Listed(_) => Ok(()),
+        Report::Done | Report::Refused(_) | Report::NoCommand(_) => Ok(()),
     }
 }

@@ -4,7 +4,7 @@ use crate::faults::{Message, push_refusal};
 use crate::sides::{Side, sites_of};
 use dia_check::{Levels, Unknown};
 use dia_explain_places::InputTexts;
-use dia_run::Invalid;
+use dia_report::Invalid;
 use std::alloc::{AllocError, Global};
 
 /// How messages are checked.

@@ -14,7 +14,7 @@ use dia_book::Book;
 use dia_check::Unknown;
 use dia_compat::{Answer, Failing, PairKind, Test, failings};
 use dia_explain_places::{InputTexts, push_place};
-use dia_run::Compared;
+use dia_report::Compared;
 use heads::{
     Avps, push_formats, push_heads, push_keys, push_m_rules, push_not_beside, push_p_flags,
     push_unserved,

@@ -6,7 +6,7 @@ use crate::sides::{Side, sites_of};
 use dia_book::Book;
 use dia_check::{Refusal, Selected};
 use dia_explain_places::InputTexts;
-use dia_run::{BothBooks, Unrefuting};
+use dia_report::{BothBooks, Unrefuting};
 use dia_wire::read_header;
 use std::alloc::{AllocError, Global};
 

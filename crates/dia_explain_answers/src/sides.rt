@@ -3,7 +3,7 @@
 use dia_book::{Book, DefHead, Definition, Key};
 use dia_dict::IndexedBook;
 use dia_explain_places::{DefSite, NamedText, Sites, back, push_excerpt, push_place};
-use dia_run::ReadBook;
+use dia_report::ReadBook;
 use std::alloc::{AllocError, Global};
 
 /// A dictionary, the word that names its text, the text, and the places of its parts.

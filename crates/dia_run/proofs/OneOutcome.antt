@@ -18,7 +18,8 @@ use Rattle.dia_io.specs.declared.Command.{Command}
 use Rattle.dia_io.specs.declared.Command.TheVariants as command
 use Rattle.dia_io.specs.declared.Inputs.{Inputs}
 use Rattle.dia_io.specs.declared.Exit.{Exit}
-use Rattle.dia_run.specs.Texts.{line, dictionary_line}
+use Rattle.dia_report.specs.Refusals.{dictionary_line}
+use Rattle.dia_run.specs.Texts.{line}
 use Rattle.dia_run.specs.Verdict.{IsVerdict}
 use Rattle.dia_run.specs.Listing.{Level, IsListing, header_line}
 use Rattle.dia_run.specs.Outcome.{Refuses, IsMessageShown, listing, short, version, bad_length, truncated, trailing}

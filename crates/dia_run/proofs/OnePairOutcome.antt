@@ -23,9 +23,9 @@ use Rattle.std.specs.Str.Lines.{lines}
 use Rattle.dia_io.specs.declared.Input.{Input}
 use Rattle.dia_io.specs.declared.Inputs.{Inputs}
 use Rattle.dia_io.specs.declared.Exit.{Exit}
-use Rattle.dia_run.specs.Texts.{dictionary_line}
+use Rattle.dia_report.specs.Refusals.{dictionary_line, table_line}
 use Rattle.dia_compat.specs.TableText.{max_table}
-use Rattle.dia_run.specs.Pairs.{IsTableText, IsNoTableText, too_long, not_text, fault, table_line, table_fault_text, IsFailureText, failure_line, IsAnswerText}
+use Rattle.dia_run.specs.Pairs.{IsTableText, IsNoTableText, too_long, not_text, fault, table_fault_text, IsFailureText, failure_line, IsAnswerText}
 use Rattle.dia_run.specs.Outcome.{IsPairOutcome, ended, no_first, no_second, IsComparison, compared, no_table, IsCompareOutcome, IsRefutation, refutes, does_not, no_message, IsRefuteOutcome}
 use Rattle.dia_run.specs.Outcome.{IsProposed, proposed, no_command, no_command_line, IsProposeOutcome}
 use Rattle.dia_run.proofs.OneInput.{Same, refused_once, held_once, not_over, one_dictionary, dictionary_or_not, one_reason_for_dictionary, one_message, message_or_not, one_message_reason}

@@ -6,10 +6,10 @@ use Rattle.dia_wire.specs.declared.header.MessageFault.TheVariants as faults
 use Rattle.dia_wire.specs.Number.{number}
 use Rattle.dia_wire.specs.Wire.{BeginsMessage, IsHead, IsMessageLength}
 use Rattle.dia_dict.specs.Dictionary.{Dictionary}
-use Rattle.dia_run.specs.declared.inputs.Refused.{Refused}
-use Rattle.dia_run.specs.declared.inputs.Refused.TheVariants.{Bad}
-use Rattle.dia_run.specs.declared.inputs.bad_input.BadInput.TheVariants.{Message}
-use Rattle.dia_run.specs.declared.inputs.bad_input.BadMessage.TheVariants.{NoMessage}
+use Rattle.dia_report.specs.declared.refusing.Refused.{Refused}
+use Rattle.dia_report.specs.declared.refusing.Refused.TheVariants.{Bad}
+use Rattle.dia_report.specs.declared.bad_input.BadInput.TheVariants.{Message}
+use Rattle.dia_report.specs.declared.bad_input.BadMessage.TheVariants.{NoMessage}
 use Rattle.dia_io.specs.declared.Exit.{Exit}
 use Rattle.dia_run.specs.Listing.{header_line, AddsLevel}
 use Rattle.dia_run.specs.Outcome.{Ends, IsMessageShown, listing, short, version, bad_length, truncated, trailing, listing_exit}

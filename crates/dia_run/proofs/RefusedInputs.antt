@@ -4,8 +4,8 @@ use Rattle.std.specs.Prelude.{IfOk, IfErr, IsErr, string_bytes}
 use Rattle.dia_io.specs.declared.Exit.{Exit}
 use Rattle.dia_io.specs.declared.Exit.TheVariants as exits
 use Rattle.dia_run.specs.declared.commands.Outcome.{Outcome}
-use Rattle.dia_run.specs.declared.inputs.Refused.{Refused}
-use Rattle.dia_run.specs.declared.inputs.Refused.TheVariants.{Bad, NoMemory}
+use Rattle.dia_report.specs.declared.refusing.Refused.{Refused}
+use Rattle.dia_report.specs.declared.refusing.Refused.TheVariants.{Bad, NoMemory}
 use Rattle.std.specs.Str.{IsUtf8}
 use Rattle.dia_ccf.specs.declared.Refused.{Refused as Unread}
 use Rattle.dia_ccf.specs.declared.Refused.TheVariants as unread
@@ -15,9 +15,10 @@ use Rattle.dia_io.specs.declared.Input.{Input}
 use Rattle.dia_io.specs.declared.Input.TheVariants.{Bytes, TooLong}
 use Rattle.dia_io.specs.Inputs.{Holds}
 use Rattle.dia_compat.specs.TableText.{max_table}
-use Rattle.dia_run.specs.Texts.{line, dictionary_line, fault_text, IsNoSourceText, fault, IsDictionaryText, IsNoDictionaryText, IsNoMessageText}
-use Rattle.dia_run.specs.Refusals.{TellsOf, bad_input_text, refused_text}
-use Rattle.dia_run.specs.Pairs.{IsNoTableText, fault as table_fault, table_line, table_fault_text}
+use Rattle.dia_report.specs.Refusals.{dictionary_line, fault_text, TellsOf, bad_input_text, table_line}
+use Rattle.dia_run.specs.Texts.{line, IsNoSourceText, fault, IsDictionaryText, IsNoDictionaryText, IsNoMessageText}
+use Rattle.dia_run.specs.Texts.{refused_text}
+use Rattle.dia_run.specs.Pairs.{IsNoTableText, fault as table_fault, table_fault_text}
 use Rattle.dia_compat.specs.declared.TableFault.{TableFault}
 use Rattle.dia_compat.specs.declared.TableFault.TheVariants as tables
 use Rattle.dia_compat.specs.TableText.{IsTableFault}
@@ -26,7 +27,7 @@ use Rattle.dia_check.specs.declared.Unknown.{Unknown}
 use Rattle.dia_check.specs.declared.Levels.{Levels}
 use Rattle.dia_io.specs.declared.Inputs.{Inputs}
 use Rattle.dia_dict.specs.declared.IndexedBook.{IndexedBook}
-use Rattle.dia_run.specs.declared.reporting.Answered.{Answered}
+use Rattle.dia_report.specs.declared.reporting.Answered.{Answered}
 use Rattle.dia_run.specs.Report.{Answers, HasReport, TellsRefusal}
 use Rattle.dia_run.specs.Outcome.{Ends, IsRenderOutcome, no_source, IsMessageOutcome, no_dictionary, no_message, IsPairOutcome, ended, no_first, no_second, IsComparison, no_table, IsRefutation}
 

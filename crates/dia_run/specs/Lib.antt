@@ -1,5 +1,4 @@
 pub mod Texts
-pub mod Refusals
 pub mod Listing
 pub mod Verdict
 pub mod Pairs

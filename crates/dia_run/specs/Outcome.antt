@@ -19,16 +19,16 @@ use Rattle.dia_compat.specs.Closed.{IsTableAnswer as IsCompared}
 use Rattle.dia_compat.specs.Proposed.{IsProposal, IsFirstUnknown}
 use Rattle.dia_compat.specs.WrittenTable.{table_text}
 use Rattle.dia_run.specs.declared.commands.Outcome.{Outcome}
-use Rattle.dia_run.specs.declared.inputs.Refused.{Refused}
+use Rattle.dia_report.specs.declared.refusing.Refused.{Refused}
 use Rattle.dia_io.specs.declared.Command.{Command}
 use Rattle.dia_io.specs.declared.Command.TheVariants.{Show, Render, Check, Compare, Refute, Propose}
 use Rattle.dia_io.specs.declared.Input.{Input}
 use Rattle.dia_io.specs.declared.Inputs.{Inputs}
 use Rattle.dia_io.specs.declared.Exit.{Exit}
 use Rattle.dia_io.specs.declared.Exit.TheVariants.{Yes, No, Bad}
-use Rattle.dia_run.specs.Texts.{line, dictionary_line, IsSourceText, IsNoSourceText, IsDictionaryText, IsNoDictionaryText}
+use Rattle.dia_report.specs.Refusals.{dictionary_line, TellsOf}
+use Rattle.dia_run.specs.Texts.{line, IsSourceText, IsNoSourceText, IsDictionaryText, IsNoDictionaryText}
 use Rattle.dia_run.specs.Texts.{IsMessageText, IsNoMessageText}
-use Rattle.dia_run.specs.Refusals.{TellsOf}
 use Rattle.dia_run.specs.Verdict.{IsVerdict}
 use Rattle.dia_run.specs.Pairs.{IsTableText, IsNoTableText, IsAnswerText}
 use Rattle.dia_run.specs.Listing.{header_line, IsListing}

@@ -16,7 +16,8 @@ use Rattle.dia_io.specs.declared.Exit.{Exit}
 use Rattle.dia_io.specs.declared.Exit.TheVariants.{Yes, No}
 use Rattle.dia_io.specs.Inputs.{Holds, IsOver}
 use Rattle.dia_compat.specs.TableText.{max_table}
-use Rattle.dia_run.specs.Texts.{line, fault_at}
+use Rattle.dia_report.specs.Refusals.{fault_at, table_line}
+use Rattle.dia_run.specs.Texts.{line}
 
 -- ---- a table that is read
 
@@ -28,10 +29,6 @@ abbrev pub table_fault_text : TableFault → List ℕ
 table_fault_text (table.Syntax n) = fault_at (codes "syntax") n
 table_fault_text (table.Limit n) = fault_at (codes "limit") n
 table_fault_text table.NoMemory = []
-
--- what is told of a table
-abbrev pub table_line : List ℕ → List ℕ
-table_line why = codes "table: " ++ why
 
 -- the input is no table's text, and this is told
 pub data IsNoTableText (input : Input) (told : List ℕ) : Type 0 where

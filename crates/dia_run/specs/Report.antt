@@ -1,5 +1,5 @@
 -- What a report says of the inputs, and of what was written.
-use Rattle.std.specs.Prelude.{◌≡◌, ◌≢◌, ℕ, List, Result, Ok, Err, string_bytes, ⊤}
+use Rattle.std.specs.Prelude.{◌≡◌, ℕ, List, Result, Ok, Err, string_bytes, ⊤}
 use Rattle.dia_ccf.specs.declared.Refused.TheVariants.{At}
 use Rattle.dia_ccf.specs.Limits.{max_text}
 use Rattle.dia_ccf.specs.Plain.{plain_source}
@@ -14,18 +14,18 @@ use Rattle.dia_io.specs.declared.Inputs.{Inputs}
 use Rattle.dia_io.specs.Inputs.{Holds}
 use Rattle.dia_io.specs.declared.Exit.{Exit}
 use Rattle.dia_io.specs.declared.Exit.TheVariants.{Yes, No, Bad}
-use Rattle.dia_run.specs.declared.reporting.Answered.{Answered}
-use Rattle.dia_run.specs.declared.reporting.ReadBook.{ReadBook}
-use Rattle.dia_run.specs.declared.reporting.BothBooks.{BothBooks}
-use Rattle.dia_run.specs.declared.reporting.Report.{Report}
-use Rattle.dia_run.specs.declared.reporting.Report.TheVariants.{Done, Refused, NoCommand, Cut, Invalid, Unrefuting, Compared, Listed}
-use Rattle.dia_run.specs.declared.inputs.Refused.{Refused as AnyRefusal}
-use Rattle.dia_run.specs.declared.inputs.Refused.TheVariants as refusal
-use Rattle.dia_run.specs.declared.inputs.bad_input.BadInput.TheVariants.{Dictionary}
-use Rattle.dia_run.specs.declared.inputs.bad_input.BadDictionary.TheVariants.{NoSource, Wrong}
+use Rattle.dia_report.specs.declared.reporting.Answered.{Answered}
+use Rattle.dia_report.specs.declared.reporting.ReadBook.{ReadBook}
+use Rattle.dia_report.specs.declared.reporting.BothBooks.{BothBooks}
+use Rattle.dia_report.specs.declared.reporting.Report.{Report}
+use Rattle.dia_report.specs.declared.reporting.Report.TheVariants.{Done, Refused, NoCommand, Cut, Invalid, Unrefuting, Compared}
+use Rattle.dia_report.specs.declared.refusing.Refused.{Refused as AnyRefusal}
+use Rattle.dia_report.specs.declared.refusing.Refused.TheVariants as refusal
+use Rattle.dia_report.specs.declared.bad_input.BadInput.TheVariants.{Dictionary}
+use Rattle.dia_report.specs.declared.bad_input.BadDictionary.TheVariants.{NoSource, Wrong}
+use Rattle.dia_report.specs.Refusals.{TellsOf, bad_input_text}
 use Rattle.dia_run.specs.Outcome.{Refuses}
 use Rattle.dia_run.specs.Pairs.{IsTableText, IsAnswerText}
-use Rattle.dia_run.specs.Refusals.{TellsOf, bad_input_text}
 use Rattle.dia_run.specs.Texts.{line, IsSourceText, IsDictionaryText, IsMessageText}
 use Rattle.dia_run.specs.Verdict.{IsVerdict}
 
@@ -60,7 +60,6 @@ IsReport meaning inputs (Compared found) text exit =
     AreReadFrom meaning inputs found.books × IsTableText inputs.table (plain_table found.table)
     × IsCompared (meaning found.books.first.value.book) (meaning found.books.second.value.book) found.unknown (plain_table found.table) found.answer
     × IsAnswerText (plain_table found.table) found.answer text exit
-IsReport meaning inputs (Listed both) text exit = AreReadFrom meaning inputs both × (exit ≢ Bad)
 
 -- the report of what was answered
 abbrev pub HasReport : (IndexedBook → AnyDictionary) → Inputs → Answered → Type 0

@@ -1,11 +1,12 @@
 -- What the texts of the inputs say, and what is told of one that says nothing.
 use Rattle.std.specs.Prelude.{◌≡◌, ◌≢◌, ℕ, ◌⊎◌, not, List, [], ◌∷◌, ◌++◌, filter, None, Some, Ok, codes, IsOk}
 use Rattle.std.specs.Str.{IsUtf8}
-use Rattle.std.specs.Fmt.{decimal}
 pub use Rattle.dia_terms.specs.Texts.{digits_of}
 use Rattle.hex.specs.Hex.{decode_of}
 use Rattle.dia_ccf.specs.declared.CcfFault.{CcfFault}
 use Rattle.dia_ccf.specs.declared.CcfFault.TheVariants as ccf
+use Rattle.dia_ccf.specs.declared.Refused.{Refused as NoText}
+use Rattle.dia_ccf.specs.declared.Refused.TheVariants as unread
 use Rattle.dia_ccf.specs.Limits.{max_text}
 use Rattle.dia_ccf.specs.Plain.{PlainSource}
 use Rattle.dia_ccf.specs.Tokens.{tokens, is_white}
@@ -13,10 +14,10 @@ use Rattle.dia_ccf.specs.Grammar.{Derives}
 use Rattle.dia_ccf.specs.Faults.{IsFault}
 use Rattle.dia_dict.specs.Dictionary.{Dictionary, IsDictionary}
 use Rattle.dia_dict.specs.Resolution.{resolved, first_wrong, Wrong}
-use Rattle.dia_dict.specs.Words.{kind_word}
 use Rattle.dia_io.specs.declared.Input.{Input}
 use Rattle.dia_io.specs.Inputs.{Holds, IsOver}
 use Rattle.dia_policy.specs.Limits.{max_message_text}
+use Rattle.dia_report.specs.Refusals.{fault_text, wrong_text}
 
 -- a text and its line feed
 abbrev pub line : List ℕ → List ℕ
@@ -28,14 +29,11 @@ line text = text ++ 10 ∷ []
 abbrev pub IsSourceText : Input → PlainSource → Type 0
 IsSourceText input source = (text : List ℕ) × Holds input max_text text × IsUtf8 text × Derives (tokens text) source
 
-abbrev pub fault_at : List ℕ → ℕ → List ℕ
-fault_at what n = what ++ codes " at line " ++ decimal n
-
-abbrev pub fault_text : CcfFault → List ℕ
-fault_text (ccf.Syntax token n) = fault_at (codes "syntax") n
-fault_text (ccf.Number n) = fault_at (codes "number") n
-fault_text (ccf.Limit n) = fault_at (codes "limit") n
-fault_text ccf.NoMemory = []
+-- what is told of a text that the grammar refuses
+abbrev pub refused_text : NoText → List ℕ
+refused_text unread.TooLong = codes "too long"
+refused_text unread.NoMemory = []
+refused_text (unread.At misfit) = fault_text misfit.fault
 
 -- the input is no dictionary text, and this is why
 pub data IsNoSourceText (input : Input) (why : List ℕ) : Type 0 where
@@ -43,14 +41,6 @@ pub data IsNoSourceText (input : Input) (why : List ℕ) : Type 0 where
   not_text : (text : List ℕ) → Holds input max_text text → ¬ IsUtf8 text → why ≡ codes "not text" → IsNoSourceText input why
   fault : (text : List ℕ) (f : CcfFault) → Holds input max_text text → IsUtf8 text → IsFault text f → f ≢ ccf.NoMemory
       → why ≡ fault_text f → IsNoSourceText input why
-
--- a name, or a dash for none
-abbrev pub or_dash : List ℕ → List ℕ
-or_dash [] = codes "-"
-or_dash (c ∷ cs) = c ∷ cs
-
-abbrev pub wrong_text : Wrong → List ℕ
-wrong_text w = kind_word w.kind ++ codes " " ++ or_dash w.name ++ codes " " ++ or_dash w.slot
 
 -- the input is the text of a source that names this dictionary
 abbrev pub IsDictionaryText : Input → Dictionary → Type 0
@@ -61,10 +51,6 @@ IsDictionaryText input d = (source : PlainSource) × IsSourceText input source �
 abbrev pub IsNoDictionaryText : Input → List ℕ → Type 0
 IsNoDictionaryText input why = IsNoSourceText input why ⊎ ((source : PlainSource) × (wrong : Wrong) × IsSourceText input source
     × (first_wrong source ≡ Some wrong) × (why ≡ wrong_text wrong))
-
--- what is told of a dictionary by its number
-abbrev pub dictionary_line : ℕ → List ℕ → List ℕ
-dictionary_line number why = codes "dictionary " ++ decimal number ++ codes ": " ++ why
 
 -- ---- messages
 

@@ -4,12 +4,10 @@ ghost use Rattle.std.specs.Prelude.{◌≡◌, Ok, IfOk, IfErr, IsErr, string_by
 ghost use Rattle.dia_run.specs.Report.{TellsRefusal};
 ghost use Rattle.dia_io.specs.declared.Exit.TheVariants.{Bad};
 ghost use Rattle.dia_run.specs.Texts.{line};
-ghost use Rattle.dia_run.specs.Refusals.{TellsOf, bad_input_text};
+ghost use Rattle.dia_report.specs.Refusals.{TellsOf, bad_input_text};
 
-use crate::inputs::Refused;
-use crate::inputs::bad_input::BadInput;
-use crate::reporting::{Answered, Report};
 use dia_io::Exit;
+use dia_report::{Answered, BadInput, Refused, Report};
 use std::alloc::{AllocError, Global};
 
 pub mod check;

@@ -19,7 +19,6 @@
 
 mod commands;
 mod inputs;
-mod reporting;
 mod running;
 
 pub use commands::check::{check_message, is_endless, push_subject, reason_word, verdict};
@@ -29,12 +28,6 @@ pub use dia_io::{
     read_input,
 };
 pub use dia_policy::MAX_MESSAGE_TEXT;
-pub use inputs::Refused;
-pub use inputs::bad_input::{BadDictionary, BadInput, BadMessage, BadTable};
 pub use inputs::dictionary::read_dictionary;
 pub use inputs::message::{is_white, read_message};
-pub use inputs::wrong_source::WrongSource;
-pub use reporting::{
-    Answered, BothBooks, Compared, CutListing, Invalid, ReadBook, Report, Reported, Unrefuting,
-};
 pub use running::{answer, run, run_reporting};

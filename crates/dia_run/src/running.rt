@@ -16,10 +16,9 @@ use crate::commands::propose::propose;
 use crate::commands::refute::refute;
 use crate::commands::render::render;
 use crate::commands::show::show;
-use crate::inputs::Refused;
-use crate::reporting::{Answered, Reported};
 use dia_dict::{Book, IndexedBook};
 use dia_io::{Command, Exit, Inputs, RunFault, Sink, put_all};
+use dia_report::{Answered, Refused, Reported};
 use std::alloc::{AllocError, Global};
 
 /// Writes the text of a command for its inputs, and answers how it ended.

@@ -10,7 +10,7 @@ use crate::sides::{Side, sites_of};
 use dia_book::Book;
 use dia_dict::base_book;
 use dia_explain_places::InputTexts;
-use dia_run::CutListing;
+use dia_report::CutListing;
 use dia_wire::{HEADER_LENGTH, key, next_avp, read_header};
 use std::alloc::{AllocError, Global};
 

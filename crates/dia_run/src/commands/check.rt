@@ -13,13 +13,12 @@ mod feeding;
 
 pub use crate::commands::check::feeding::{check_message, is_endless};
 use crate::commands::{Outcome, told};
-use crate::inputs::Refused;
 use crate::inputs::dictionary::read_dictionary;
 use crate::inputs::message::read_message;
-use crate::reporting::{Answered, Invalid, Report};
 use dia_check::{Fault, Levels, Reason, Refusal, Selected, Subject, Unknown};
 use dia_dict::{Book, DefId, IndexedBook};
 use dia_io::{Exit, Inputs};
+use dia_report::{Answered, Invalid, Refused, Report};
 use std::alloc::{AllocError, Global};
 
 /// The verdict on the message, under the first dictionary.

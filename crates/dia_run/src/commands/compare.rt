@@ -7,14 +7,13 @@ ghost use Rattle.dia_run.specs.Pairs.{IsAnswerText, NamesPair, failure_line, tes
 ghost use Rattle.dia_run.specs.Report.{Answers, HasReport};
 
 use crate::commands::{Outcome, told};
-use crate::inputs::Refused;
 use crate::inputs::dictionary::read_dictionary;
 use crate::inputs::table::read_table;
-use crate::reporting::{Answered, BothBooks, Compared, Report};
 use dia_check::Unknown;
 use dia_compat::{Answer, PairKind, Table, Test, check_table};
 use dia_dict::{Book, IndexedBook};
 use dia_io::{Exit, Inputs};
+use dia_report::{Answered, BothBooks, Compared, Refused, Report};
 use std::alloc::{AllocError, Global};
 
 /// The answer for both dictionaries and the table.

@@ -7,13 +7,12 @@ ghost use Rattle.dia_run.specs.Outcome.{IsProposeOutcome, no_command_line};
 ghost use Rattle.dia_run.specs.Report.{Answers, HasReport};
 ghost use Rattle.dia_run.specs.Texts.{line};
 
-use crate::inputs::Refused;
 use crate::inputs::dictionary::read_dictionary;
-use crate::reporting::{Answered, BothBooks, Report};
 use dia_check::Unknown;
 use dia_compat::{ProposeFault, Table, render_table};
 use dia_dict::{Book, IndexedBook};
 use dia_io::{Exit, Inputs};
+use dia_report::{Answered, BothBooks, Refused, Report};
 use std::alloc::{AllocError, Global};
 
 /// The table for the named commands of the first dictionary.

@@ -7,13 +7,12 @@ ghost use Rattle.dia_run.specs.Outcome.{IsRefuteOutcome};
 ghost use Rattle.dia_run.specs.Report.{Answers, HasReport};
 
 use crate::commands::{Outcome, told};
-use crate::inputs::Refused;
 use crate::inputs::dictionary::read_dictionary;
 use crate::inputs::message::read_message;
-use crate::reporting::{Answered, BothBooks, Report, Unrefuting};
 use dia_check::{Levels, Refusal, Selected, Unknown, check};
 use dia_dict::{Book, IndexedBook};
 use dia_io::{Exit, Inputs};
+use dia_report::{Answered, BothBooks, Refused, Report, Unrefuting};
 use std::alloc::{AllocError, Global};
 
 /// Whether the message is valid under the first dictionary and not under the second.

@@ -4,11 +4,10 @@ ghost use Rattle.std.specs.Prelude.{IfOk};
 ghost use Rattle.dia_run.specs.Outcome.{IsRenderOutcome};
 ghost use Rattle.dia_run.specs.Report.{Answers, HasReport};
 
-use crate::inputs::Refused;
 use crate::inputs::dictionary::read_source;
-use crate::reporting::{Answered, Report};
 use dia_dict::{Book, IndexedBook};
 use dia_io::{Exit, Inputs};
+use dia_report::{Answered, Refused, Report};
 use std::alloc::Global;
 
 /// The canonical text of the first dictionary, which is read and not resolved.

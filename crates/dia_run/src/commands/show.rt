@@ -7,13 +7,12 @@ ghost use Rattle.dia_run.specs.Report.{Answers, HasReport};
 
 use crate::commands::Outcome;
 use crate::commands::show::listing::push_level;
-use crate::inputs::Refused;
 use crate::inputs::dictionary::read_dictionary;
 use crate::inputs::message::read_message;
-use crate::reporting::{Answered, CutListing, Report};
 use dia_data::push_hex_byte;
 use dia_dict::{Book, IndexedBook};
 use dia_io::{Exit, Inputs};
+use dia_report::{Answered, CutListing, Refused, Report};
 use dia_wire::{HEADER_LENGTH, Header, split_message};
 use std::alloc::{AllocError, Global};
 

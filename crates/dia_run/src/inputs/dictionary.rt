@@ -10,17 +10,15 @@ ghost use Rattle.dia_io.specs.Inputs.{Holds};
 ghost use Rattle.dia_dict.specs.Dictionary.{IsDictionary};
 ghost use Rattle.dia_run.specs.Texts.{IsSourceText, IsNoSourceText};
 ghost use Rattle.dia_run.specs.Texts.{IsDictionaryText, IsNoDictionaryText};
-ghost use Rattle.dia_run.specs.Texts.{dictionary_line};
-ghost use Rattle.dia_run.specs.Refusals.{TellsOf, bad_dictionary_text, refused_text};
+ghost use Rattle.dia_report.specs.Refusals.{dictionary_line, TellsOf, bad_dictionary_text};
+ghost use Rattle.dia_run.specs.Texts.{refused_text};
 ghost use Rattle.dia_run.specs.Report.{HasFinding};
 
-use crate::inputs::bad_input::{BadDictionary, BadInput};
-use crate::inputs::wrong_source::WrongSource;
-use crate::inputs::{Refused, bytes_within};
-use crate::reporting::ReadBook;
+use crate::inputs::bytes_within;
 use dia_ccf::{MAX_TEXT, Refused as Unread, Source, read};
 use dia_dict::{Book, DictFault, DictKind, IndexedBook, PlainBook, book_of};
 use dia_io::Input;
+use dia_report::{BadDictionary, BadInput, ReadBook, Refused, WrongSource};
 use std::alloc::{AllocError, AllocFailed, Global};
 
 /// The source that an input's text spells. `number` says which dictionary of the command it is, from 1.

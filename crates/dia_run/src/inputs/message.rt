@@ -6,12 +6,12 @@ ghost use Rattle.dia_ccf.specs.Tokens.{is_white};
 ghost use Rattle.dia_io.specs.Inputs.{Holds};
 ghost use Rattle.dia_policy.specs.Limits.{max_message_text};
 ghost use Rattle.dia_run.specs.Texts.{IsMessageText, IsNoMessageText, digits_of};
-ghost use Rattle.dia_run.specs.Refusals.{TellsOf};
+ghost use Rattle.dia_report.specs.Refusals.{TellsOf};
 
-use crate::inputs::bad_input::BadMessage;
-use crate::inputs::{Refused, bytes_within};
+use crate::inputs::bytes_within;
 use dia_io::Input;
 use dia_policy::MAX_MESSAGE_TEXT;
+use dia_report::{BadMessage, Refused};
 use hex::FromHexError;
 use std::alloc::{AllocError, Global};
 

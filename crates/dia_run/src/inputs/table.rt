@@ -2,13 +2,13 @@
 
 ghost use Rattle.std.specs.Prelude.{◌≡◌, ◌≢◌, IfOk, IfErr};
 ghost use Rattle.dia_compat.specs.TableText.{plain_table};
-ghost use Rattle.dia_run.specs.Pairs.{IsTableText, IsNoTableText, table_line, table_fault_text};
-ghost use Rattle.dia_run.specs.Refusals.{TellsOf, bad_table_text};
+ghost use Rattle.dia_report.specs.Refusals.{table_line, TellsOf, bad_table_text};
+ghost use Rattle.dia_run.specs.Pairs.{IsTableText, IsNoTableText, table_fault_text};
 
-use crate::inputs::bad_input::{BadInput, BadTable};
-use crate::inputs::{Refused, bytes_within};
+use crate::inputs::bytes_within;
 use dia_compat::{MAX_TABLE, Table, TableFault, parse_table};
 use dia_io::Input;
+use dia_report::{BadInput, BadTable, Refused};
 use std::alloc::Global;
 
 /// The table that an input's text spells.

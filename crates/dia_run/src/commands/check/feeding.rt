@@ -10,15 +10,15 @@ ghost use Rattle.dia_check.specs.Faults.{IsAnswer};
 ghost use Rattle.dia_check.specs.Streaming.{taken_of};
 ghost use Rattle.dia_check.specs.Streams.{StandsFor, IsSpent};
 ghost use Rattle.dia_run.specs.Texts.{IsMessageText, IsNoMessageText, SpellsFirst, digits_of};
-ghost use Rattle.dia_run.specs.Refusals.{TellsOf};
+ghost use Rattle.dia_report.specs.Refusals.{TellsOf};
 ghost use Rattle.dia_run.specs.FedTexts.{WasFed, IsEndless, IsNoHexadecimal};
 
-use crate::inputs::Refused;
 use crate::inputs::message::message_text;
 use crate::inputs::pieces::{MAX_PIECE, next_piece};
 use dia_check::{Fault, Levels, Reason, Refusal, Selected, Stream, StreamFault, Unknown};
 use dia_dict::Book;
 use dia_io::Input;
+use dia_report::Refused;
 use std::alloc::Global;
 
 /// How far a text was fed to a stream.

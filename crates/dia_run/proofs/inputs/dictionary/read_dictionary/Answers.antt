@@ -3,7 +3,8 @@ use Rattle.std.specs.Prelude.{string_bytes}
 use Rattle.std.proofs.lemmas.Result.{err_from_is_err_and}
 use Rattle.dia_ccf.specs.Plain.{plain_source}
 use Rattle.dia_dict.specs.Resolution.{wrong}
-use Rattle.dia_run.specs.Texts.{IsNoDictionaryText, wrong_text}
+use Rattle.dia_report.specs.Refusals.{wrong_text}
+use Rattle.dia_run.specs.Texts.{IsNoDictionaryText}
 use Rattle.dia_run.proofs.RefusedInputs.{told_of_source, told_why}
 use Rattle.dia_run.proofs.inputs.dictionary.read_dictionary.Goals as goal
 

@@ -1,10 +1,9 @@
 //! Inputs that are refused, and what is told of them.
 
 ghost use Rattle.std.specs.Prelude.{◌≡◌};
-ghost use Rattle.dia_run.specs.Refusals.{message_fault_word};
-ghost use Rattle.dia_run.specs.Texts.{or_dash};
+ghost use Rattle.dia_report.specs.Refusals.{message_fault_word, or_dash};
 
-use crate::inputs::wrong_source::WrongSource;
+use crate::wrong_source::WrongSource;
 use dia_ccf::{CcfFault, Misfit};
 use dia_wire::MessageFault;
 use std::fmt;
@@ -54,7 +53,7 @@ pub enum BadMessage {
 
 impl fmt::Display for BadInput {
     ghost use Rattle.std.specs.Prelude.{Some};
-    ghost use Rattle.dia_run.specs.Refusals.{bad_input_text};
+    ghost use Rattle.dia_report.specs.Refusals.{bad_input_text};
 
     ghost output = { λ bad. Some (bad_input_text bad) };
 
@@ -69,7 +68,7 @@ impl fmt::Display for BadInput {
 
 impl fmt::Display for BadDictionary {
     ghost use Rattle.std.specs.Prelude.{Some};
-    ghost use Rattle.dia_run.specs.Refusals.{bad_dictionary_text};
+    ghost use Rattle.dia_report.specs.Refusals.{bad_dictionary_text};
 
     ghost output = { λ why. Some (bad_dictionary_text why) };
 
@@ -95,7 +94,7 @@ impl fmt::Display for BadDictionary {
 
 impl fmt::Display for BadTable {
     ghost use Rattle.std.specs.Prelude.{Some};
-    ghost use Rattle.dia_run.specs.Refusals.{bad_table_text};
+    ghost use Rattle.dia_report.specs.Refusals.{bad_table_text};
 
     ghost output = { λ why. Some (bad_table_text why) };
 
@@ -111,7 +110,7 @@ impl fmt::Display for BadTable {
 
 impl fmt::Display for BadMessage {
     ghost use Rattle.std.specs.Prelude.{Some};
-    ghost use Rattle.dia_run.specs.Refusals.{bad_message_word};
+    ghost use Rattle.dia_report.specs.Refusals.{bad_message_word};
 
     ghost output = { λ why. Some (bad_message_word why) };
 

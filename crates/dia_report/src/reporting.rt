@@ -1,6 +1,6 @@
 //! What a command answers: its text, how it ends, and what it read and found.
 
-use crate::inputs::bad_input::BadInput;
+use crate::bad_input::BadInput;
 use dia_ccf::Source;
 use dia_check::{Levels, Refusal, Selected, Unknown};
 use dia_compat::{Answer, Table};
@@ -86,6 +86,4 @@ pub enum Report {
     Invalid(Invalid),
     Unrefuting(Unrefuting),
     Compared(Compared),
-    /// It was listed what breaks between two dictionaries.
-    Listed(BothBooks),
 }
