@@ -1,9 +1,8 @@
 //! Names of commands that the first dictionary doesn't have.
 
-use crate::vocabulary::{NamedSource, Vocabulary};
+use crate::names::{Named, NamedSource, Vocabulary};
+use crate::notes::Added;
 use std::alloc::{AllocError, Global};
-
-const ONE_COMMAND: &str = "a command is <NAME> ::= < Diameter Header: CODE, REQ > and its rules";
 
 /// The most commands of a dictionary that are listed.
 const MOST_LISTED: usize = 30;
@@ -18,71 +17,47 @@ pub fn push_unknown_commands(
     names: &[String],
     first: &NamedSource<'_>,
     second: &NamedSource<'_>,
-) -> Result<(), AllocError> {
-    let known = Vocabulary::of(alloc, first.source)?;
-    let missing = push_missing(alloc, out, names, first.name, &known)?;
+) -> Added {
+    let known = Vocabulary::of(alloc, first)?;
+    let missing = missing_of(alloc, names, &known)?;
     if missing.is_empty() {
         return Ok(());
     }
-    push_found_in_second(alloc, out, &missing, second)
+    push_missing(out, &missing, &known)?;
+    push_list(out, known.dictionary, known.commands())?;
+    push_found(alloc, out, &missing, second)
 }
 
-/// Adds that a dictionary has no commands, where it has none: then nothing breaks.
-pub fn push_no_commands(out: &mut String, dictionary: &NamedSource<'_>) -> Result<(), AllocError> {
-    let NamedSource { name, source } = *dictionary;
-    if !source.commands.is_empty() {
-        return Ok(());
-    }
-    write!(
-        out,
-        "{name}: the dictionary has no commands, so this answer says nothing\nhint: {ONE_COMMAND}\n"
-    )
-}
-
-/// Adds the names that no command has, and answers them.
-fn push_missing<'n>(
+/// The first of the names that no command has.
+fn missing_of<'n>(
     alloc: Global,
-    out: &mut String,
     names: &'n [String],
-    dictionary: &str,
     known: &Vocabulary<'_>,
 ) -> Result<Vec<&'n str>, AllocError> {
     let mut missing = Vec::new(alloc);
     for name in names {
-        if !known.commands.has(name) && missing.len() < MOST {
-            push_name(out, name, dictionary, known)?;
+        if missing.len() < MOST && !known.has(Named::Command, name) {
             missing.push(name.as_str())?;
         }
-    }
-    if !missing.is_empty() {
-        push_list(out, dictionary, &known.commands.list)?;
     }
     Ok(missing)
 }
 
-fn push_name(
-    out: &mut String,
-    name: &str,
-    dictionary: &str,
-    known: &Vocabulary<'_>,
-) -> Result<(), AllocError> {
-    write!(out, "{dictionary}: there is no command {name}\n")?;
-    if known.avps.has(name) {
-        return write!(
-            out,
-            "hint: {name} is an AVP there, and commands are asked for\n"
-        );
+fn push_missing(out: &mut String, missing: &[&str], known: &Vocabulary<'_>) -> Added {
+    let dictionary = known.dictionary;
+    let instead = "an AVP there, and commands are asked for";
+    for name in missing {
+        write!(out, "{dictionary}: there is no command {name}\n")?;
+        known.push_meant(out, Named::Command, name, instead)?;
     }
-    match known.nearest_command(name) {
-        Some(near) => write!(out, "hint: did you mean {near}?\n"),
-        None => Ok(()),
-    }
+    Ok(())
 }
 
 /// Adds the first commands, and how to list all.
-fn push_list(out: &mut String, dictionary: &str, commands: &[&str]) -> Result<(), AllocError> {
+fn push_list(out: &mut String, dictionary: &str, commands: &[&str]) -> Added {
     if commands.is_empty() {
-        return write!(out, "hint: {dictionary} has no commands; {ONE_COMMAND}\n");
+        let what = "a command is <NAME> ::= < Diameter Header: CODE, REQ > and its rules";
+        return write!(out, "hint: {dictionary} has no commands; {what}\n");
     }
     let mut between = "hint: its commands are ";
     let listed = commands.get(..MOST_LISTED).unwrap_or(commands);
@@ -98,21 +73,19 @@ fn push_list(out: &mut String, dictionary: &str, commands: &[&str]) -> Result<()
 }
 
 /// Adds the first of the missing names that the second dictionary has.
-fn push_found_in_second(
+fn push_found(
     alloc: Global,
     out: &mut String,
     missing: &[&str],
     second: &NamedSource<'_>,
-) -> Result<(), AllocError> {
-    let known = Vocabulary::of(alloc, second.source)?;
-    match missing.iter().find(|name| known.commands.has(name)) {
-        Some(name) => {
-            let dictionary = second.name;
-            write!(
-                out,
-                "hint: {dictionary} has a command {name}; the dictionary of the side that sends stands first\n"
-            )
-        }
+) -> Added {
+    let known = Vocabulary::of(alloc, second)?;
+    let dictionary = second.name;
+    match missing.iter().find(|name| known.has(Named::Command, name)) {
+        Some(name) => write!(
+            out,
+            "hint: {dictionary} has a command {name}; the dictionary of the side that sends stands first\n"
+        ),
         None => Ok(()),
     }
 }

@@ -1,22 +1,24 @@
-//! What is told of a dictionary that is refused.
+//! What is told of a dictionary that is refused, and of one that says nothing.
 
-mod empty;
+mod causes;
 mod expecting;
-mod hints;
+mod formats;
 mod meaning;
-mod parts;
 mod scene;
-mod texts;
 
-use crate::kinds::{is_capture, push_capture};
-use dia_ccf::MAX_TEXT;
-use dia_explain_places::{NamedText, push_excerpt, push_place};
-use dia_run::BadDictionary;
-pub use empty::push_empty;
+use crate::kinds::{RETURNS, is_capture, is_cut_by_comment};
+use crate::messages::push_capture;
+use crate::notes::{Added, push_hint, push_not_text, push_told};
+use causes::push_cause;
+use dia_ccf::{MAX_TEXT, next_lexeme};
+use dia_explain_places::NamedText;
+use dia_report::BadDictionary;
 use meaning::push_meaning;
 use scene::Scene;
-use std::alloc::{AllocError, Global};
-use texts::push_syntax;
+use std::alloc::Global;
+
+const CAPTURED: &str =
+    "the dictionary stands before the messages, and docs/CAPTURES.md says how to take these out of a capture";
 
 /// Adds the note of a dictionary that is refused for this.
 pub fn push_dictionary(
@@ -24,32 +26,23 @@ pub fn push_dictionary(
     out: &mut String,
     dictionary: &NamedText<'_>,
     why: &BadDictionary,
-) -> Result<(), AllocError> {
+) -> Added {
     let NamedText { name, text } = *dictionary;
     if is_capture(text) {
-        return push_capture(out, name, "the text of a dictionary", CAPTURED);
+        return push_capture(alloc, out, dictionary, "the text of a dictionary", CAPTURED);
     }
     let spelt = str::from_utf8(text).unwrap_or("");
     match why {
         BadDictionary::TooLong => push_too_long(out, name),
-        BadDictionary::NotText { at } => push_not_text(alloc, out, name, text, *at),
-        BadDictionary::NoSource(misfit) => push_syntax(
-            alloc,
-            out,
-            name,
-            &Scene::new(spelt, misfit),
-        ),
-        BadDictionary::Wrong(wrong) => {
-            push_meaning(alloc, out, name, spelt, &wrong.source)?;
-            Ok(())
+        BadDictionary::NotText { at } => push_not_text(out, dictionary, *at),
+        BadDictionary::NoSource(misfit) => {
+            push_syntax(out, dictionary, &Scene::new(spelt, misfit))
         }
+        BadDictionary::Wrong(wrong) => push_meaning(alloc, out, name, spelt, wrong),
     }
 }
 
-const CAPTURED: &str =
-    "the dictionary stands before the messages, and docs/CAPTURES.md says how to take these out of a capture";
-
-fn push_too_long(out: &mut String, name: &str) -> Result<(), AllocError> {
+fn push_too_long(out: &mut String, name: &str) -> Added {
     write!(
         out,
         "{name}: the text has more than {MAX_TEXT} bytes\n\
@@ -58,21 +51,39 @@ fn push_too_long(out: &mut String, name: &str) -> Result<(), AllocError> {
     )
 }
 
-/// Adds the note of a text that isn't UTF-8 from a place on.
-pub fn push_not_text(
-    alloc: Global,
-    out: &mut String,
-    name: &str,
-    bytes: &[u8],
-    at: usize,
-) -> Result<(), AllocError> {
-    push_place(out, name, bytes, at)?;
-    out.push_str("these bytes aren't UTF-8\n")?;
-    push_excerpt(alloc, out, bytes, at)?;
-    out.push_str("hint: save the file as UTF-8")?;
-    if bytes.contains(&0) {
-        out.push_str("; this one looks like UTF-16, or like no text at all")?;
+/// Adds the note of a text that the grammar doesn't derive: the token, what was expected, its line, and a hint.
+fn push_syntax(out: &mut String, dictionary: &NamedText<'_>, scene: &Scene<'_>) -> Added {
+    let mut told = String::new(*out.allocator());
+    scene.push_fault(&mut told)?;
+    push_told(out, dictionary, scene.misfit.at, told.as_str())?;
+    push_cause(out, scene)
+}
+
+/// Adds that a dictionary's text has neither declarations nor definitions, or that a comment takes its rest. Of an input that
+/// isn't there nothing is told.
+pub fn push_empty(out: &mut String, dictionary: &NamedText<'_>) -> Added {
+    let NamedText { name, text } = *dictionary;
+    if name.is_empty() {
+        return Ok(());
     }
-    out.push('\n')?;
+    let is_cut = is_cut_by_comment(text);
+    if is_empty(text) {
+        let told = "the dictionary is empty: it has no declaration and no definition";
+        write!(out, "{name}: {told}\n")?;
+    } else if is_cut {
+        let told = "what stands behind the first ; of the dictionary is a comment";
+        write!(out, "{name}: {told}\n")?;
+    }
+    if is_cut {
+        return push_hint(out, RETURNS);
+    }
     Ok(())
+}
+
+/// Whether a text has no token.
+fn is_empty(text: &[u8]) -> bool {
+    match str::from_utf8(text) {
+        Ok(text) => next_lexeme(text, 0).is_none(),
+        Err(_) => false,
+    }
 }

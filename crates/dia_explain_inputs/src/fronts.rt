@@ -1,9 +1,9 @@
 //! What is told of a text of many messages whose front shows that it is none.
 
-use crate::kinds::{is_capture, push_capture};
-use crate::messages::{CAPTURED, NUMBERED, hint_of_digit, is_binary, is_numbered, push_binary};
-use crate::padding::digit_of;
-use dia_explain_places::{back, is_white, push_excerpt, push_place};
+use crate::kinds::{first_line, is_capture};
+use crate::messages::{bytes_of, dump_of, first_bad, push_bad};
+use crate::notes::{Added, push_whole};
+use dia_explain_places::{NamedText, count_digits, is_white};
 use std::alloc::{AllocError, Global};
 
 /// How many bytes of a header tell the version and the Message Length.
@@ -16,55 +16,47 @@ pub fn push_front(
     name: &str,
     front: &[u8],
     in_lines: bool,
-) -> Result<(), AllocError> {
-    if front.iter().all(|byte| is_white(*byte)) && (front.is_empty() || !in_lines) {
-        return write!(
-            out,
-            "{name}: there is no message\nhint: docs/CAPTURES.md says what to look at where a capture gives none\n"
-        );
-    }
-    if is_capture(front) {
-        return push_capture(out, name, "the hexadecimal text of messages", CAPTURED);
-    }
+) -> Added {
+    let input = NamedText { name, text: front };
     let line = first_line(front);
-    match line
-        .iter()
-        .position(|byte| !byte.is_ascii_hexdigit() && !is_white(*byte))
-    {
-        Some(_) if is_binary(line) => push_binary(out, name, line),
-        Some(at) => {
-            push_place(out, name, front, at)?;
-            out.push_str("this is no hexadecimal digit\n")?;
-            push_excerpt(alloc, out, front, at)?;
-            let hint = hint_of_digit(front, at);
-            write!(out, "hint: {hint}\n")
-        }
-        None if is_numbered(front) => write!(out, "{name}: {NUMBERED}\n"),
-        None if in_lines && is_cut(line) && line.len() < front.len() => push_cut(out, name),
-        None => Ok(()),
+    if front.iter().all(|byte| is_white(*byte)) && (front.is_empty() || !in_lines) {
+        let hint = "docs/CAPTURES.md says what to look at where a capture gives none";
+        return push_whole(out, &input, "there is no message", hint);
     }
+    if let Some(at) = bad_in_front(front, line) {
+        return push_bad(alloc, out, &input, "the hexadecimal text of messages", at);
+    }
+    if let Some(hint) = dump_of(front) {
+        return write!(out, "{name}: {hint}\n");
+    }
+    if !in_lines || line.len() == front.len() || !is_cut(alloc, line)? {
+        return Ok(());
+    }
+    push_whole(
+        out,
+        &input,
+        "the first line ends in the middle of its message, and with --lines each message stands on one line",
+        "without --lines a message may have several lines, as `xxd -p` writes it; --stream takes many such messages",
+    )
 }
 
-fn first_line(front: &[u8]) -> &[u8] {
-    let length = front.iter().take_while(|byte| **byte != b'\n').count();
-    front.get(..length).unwrap_or(front)
+/// The place of the first byte of the first line that no message has. A file of packets has none.
+fn bad_in_front(front: &[u8], line: &[u8]) -> Option<usize> {
+    if is_capture(front) {
+        Some(0)
+    } else {
+        first_bad(line)
+    }
 }
 
 /// Whether a line of digits begins as a message does and ends in its middle.
-fn is_cut(line: &[u8]) -> bool {
-    let digits = line.iter().filter(|byte| !is_white(**byte)).count();
-    let mut length = 0usize;
-    let head = line.iter().filter(|byte| !is_white(**byte));
-    for digit in head.take(LENGTH_END * 2).skip(2) {
-        length = (length & 0xf_ffff) << 4 | usize::from(digit_of(*digit));
+fn is_cut(alloc: Global, line: &[u8]) -> Result<bool, AllocError> {
+    let head = bytes_of(alloc, line, LENGTH_END)?;
+    match head.as_slice() {
+        [1, a, b, c] => {
+            let length = u32::from_be_bytes([0, *a, *b, *c]) as usize;
+            Ok(count_digits(line) / 2 < length)
+        }
+        _ => Ok(false),
     }
-    line.starts_with(b"01") && digits >= LENGTH_END * 2 && digits / 2 < length
-}
-
-fn push_cut(out: &mut String, name: &str) -> Result<(), AllocError> {
-    write!(
-        out,
-        "{name}: the first line ends in the middle of its message, and with --lines each message stands on one line\n\
-         hint: without --lines a message may have several lines, as `xxd -p` writes it; --stream takes many such messages\n"
-    )
 }

@@ -1,36 +1,91 @@
-//! What a text is, by how it begins.
+//! What a text is, by what stands in it.
 
-use dia_explain_places::is_white;
-use std::alloc::AllocError;
+use crate::hints::{Sight, hint_of};
+use dia_explain_places::{back, is_white};
 
-/// Whether bytes begin as a file of packets does (pcap or pcapng).
+/// What to do about lines that end in CR alone.
+pub const RETURNS: &str = "the lines end in CR alone, and a comment ends at a line feed: \
+    `tr '\\r' '\\n'` writes line feeds";
+
+/// How files of packets begin (pcap or pcapng).
+static CAPTURES: [&[u8]; 5] = [
+    b"\xd4\xc3\xb2\xa1",
+    b"\xa1\xb2\xc3\xd4",
+    b"\x4d\x3c\xb2\xa1",
+    b"\xa1\xb2\x3c\x4d",
+    b"\x0a\x0d\x0d\x0a",
+];
+
 pub fn is_capture(bytes: &[u8]) -> bool {
-    bytes.starts_with(b"\xd4\xc3\xb2\xa1")
-        || bytes.starts_with(b"\xa1\xb2\xc3\xd4")
-        || bytes.starts_with(b"\x4d\x3c\xb2\xa1")
-        || bytes.starts_with(b"\xa1\xb2\x3c\x4d")
-        || bytes.starts_with(b"\x0a\x0d\x0d\x0a")
+    CAPTURES.iter().any(|front| bytes.starts_with(front))
 }
 
-/// Adds that an input is a file of packets, and what to do.
-pub fn push_capture(
-    out: &mut String,
-    name: &str,
-    wanted: &str,
-    hint: &str,
-) -> Result<(), AllocError> {
-    write!(
-        out,
-        "{name}: this is a capture file (pcap), and not {wanted}\nhint: {hint}\n"
-    )
+/// What is told of a whole text at the place of an input.
+pub fn hint_of_text(place: &str, text: &[u8]) -> Option<&'static str> {
+    let blanks = text.iter().take_while(|byte| is_white(**byte)).count();
+    let rest = back(text, blanks);
+    let none = b"".as_slice();
+    let sight = Sight {
+        kind: kind_of(rest),
+        word: none,
+        rest,
+        before: none,
+    };
+    hint_of(&[place], &sight)
+}
+
+/// What a text or a word is, as signs of hints name it.
+pub fn kind_of(text: &[u8]) -> &'static str {
+    if begins_pair(text) {
+        "a table"
+    } else if is_message(text) {
+        "a message"
+    } else if has_part(text, b"%avp") || has_part(text, b"::=") {
+        "a dictionary"
+    } else if is_base64(text) {
+        "base64"
+    } else {
+        ""
+    }
+}
+
+/// What a character is, by its first byte.
+pub fn kind_of_byte(character: &[u8]) -> &'static str {
+    match character.first() {
+        Some(0x80..) => "not ASCII",
+        _ => "",
+    }
+}
+
+/// Whether a line of a table stands at the front.
+fn begins_pair(text: &[u8]) -> bool {
+    let line = first_line(text);
+    (line.starts_with(b"command ") || line.starts_with(b"avp ")) && line.contains(&b'=')
 }
 
 /// Whether all of a text is hexadecimal, as that of a message: it begins with the version 1, or is long.
-pub fn is_message(text: &[u8]) -> bool {
-    (text.starts_with(b"01") || text.len() >= 16)
-        && text
-            .iter()
-            .all(|byte| byte.is_ascii_hexdigit() || is_white(*byte))
+fn is_message(text: &[u8]) -> bool {
+    let is_all = text
+        .iter()
+        .all(|byte| byte.is_ascii_hexdigit() || is_white(*byte));
+    is_all && (text.starts_with(b"01") || text.len() >= 16)
+}
+
+/// Whether all of a text has the letters of base64, and more of them than an eighth aren't hexadecimal.
+fn is_base64(text: &[u8]) -> bool {
+    let others = text.iter().filter(|byte| !byte.is_ascii_hexdigit()).count();
+    let is_all = text.iter().all(|byte| byte.is_ascii_alphanumeric() || b"+/=\r\n".contains(byte));
+    is_all && text.len() >= 16 && others > text.len() / 8
+}
+
+/// Whether a part stands in a text.
+pub fn has_part(text: &[u8], part: &[u8]) -> bool {
+    text.windows(part.len().max(1)).any(|front| front == part)
+}
+
+pub fn first_line(text: &[u8]) -> &[u8] {
+    let length = text.iter().take_while(|byte| **byte != b'\n').count();
+    text.get(..length).unwrap_or(text)
 }
 
 /// Whether the lines of a text end in CR alone, and a comment begins in it: all behind this is of the comment.

@@ -6,19 +6,20 @@
 mod commands;
 mod dictionary;
 mod fronts;
+mod hints;
 mod kinds;
 mod messages;
-mod padding;
+mod names;
+mod notes;
 mod refused;
 mod strangers;
 mod tables;
-mod vocabulary;
 
-pub use commands::{push_no_commands, push_unknown_commands};
+pub use commands::push_unknown_commands;
 pub use dictionary::push_empty;
 pub use fronts::push_front;
 pub use messages::push_length;
+pub use names::NamedSource;
 pub use refused::push_refused;
 pub use strangers::push_strangers;
 pub use tables::push_no_pairs;
-pub use vocabulary::NamedSource;

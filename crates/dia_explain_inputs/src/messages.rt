@@ -1,14 +1,22 @@
 //! What is told of a message that is refused.
 
-use crate::kinds::{is_capture, push_capture};
-use crate::padding::{digit_of, push_unpadded};
-use dia_explain_places::{
-    NamedText, back, count_digits, is_white, place_of_byte, push_excerpt, push_place,
-};
+use crate::hints::{Sight, hint_of};
+use crate::kinds::{first_line, hint_of_text, is_capture, kind_of_byte};
+use crate::notes::{Added, SAVE, push_hint, push_told, push_whole};
+use dia_explain_places::{NamedText, back, count_digits, find_unpadded, is_white, place_of_byte};
 use dia_policy::MAX_MESSAGE_TEXT;
-use dia_run::BadMessage;
+use dia_report::BadMessage;
 use dia_wire::{HEADER_LENGTH, HeadFault, read_header};
 use std::alloc::{AllocError, Global};
+
+const CAPTURED: &str = "docs/CAPTURES.md says how to take the messages out of a capture";
+
+/// What to do about a dump with offsets, and about one of `xxd`.
+const NUMBERED: &str = "the lines begin with offsets, as those of a dump do: \
+    `xxd -p FILE` writes one without, and so does wireshark's Copy as a Hex Stream";
+
+const DUMPED: &str =
+    "this is a dump with offsets: `xxd -p FILE` writes one without, and `xxd -r DUMP | xxd -p` turns this one";
 
 /// Adds the note of a message that is refused for this.
 pub fn push_message(
@@ -16,300 +24,242 @@ pub fn push_message(
     out: &mut String,
     message: &NamedText<'_>,
     why: &BadMessage,
-) -> Result<(), AllocError> {
-    let NamedText { name, text } = *message;
+) -> Added {
+    let name = message.name;
     match why {
-        BadMessage::TooLong => write!(
-            out,
-            "{name}: the text has more than {MAX_MESSAGE_TEXT} bytes\n"
-        ),
-        BadMessage::NotHexadecimal => push_no_digits(alloc, out, name, text),
+        BadMessage::TooLong => {
+            write!(
+                out,
+                "{name}: the text has more than {MAX_MESSAGE_TEXT} bytes\n"
+            )
+        }
+        BadMessage::NotHexadecimal => match first_bad(message.text) {
+            Some(at) => push_bad(alloc, out, message, "the hexadecimal text of a message", at),
+            None => push_odd(alloc, out, message),
+        },
         BadMessage::NoMessage(_) => push_length(alloc, out, message),
     }
 }
 
-/// Adds why a text isn't hexadecimal.
-fn push_no_digits(
-    alloc: Global,
-    out: &mut String,
-    name: &str,
-    text: &[u8],
-) -> Result<(), AllocError> {
-    if let Some(at) = first_bad(text) {
-        return push_no_digit(alloc, out, name, text, at);
-    }
-    let digits = count_digits(text);
-    write!(
-        out,
-        "{name}: the number of hexadecimal digits is odd, {digits}: one is missing or too many\n"
-    )?;
-    push_two_digits_hint(out, text)
-}
-
 /// The place of the first byte that is neither a digit nor white space.
-fn first_bad(text: &[u8]) -> Option<usize> {
+pub fn first_bad(text: &[u8]) -> Option<usize> {
     text.iter()
         .position(|byte| !byte.is_ascii_hexdigit() && !is_white(*byte))
 }
 
-fn push_no_digit(
+fn push_odd(alloc: Global, out: &mut String, message: &NamedText<'_>) -> Added {
+    let digits = count_digits(message.text);
+    let told = format!(in alloc;
+        "the number of hexadecimal digits is odd, {digits}: one is missing or too many"
+    )?;
+    let hint = dump_of(message.text).unwrap_or("each byte has two digits, also one below 16");
+    push_whole(out, message, told.as_str(), hint)
+}
+
+/// Adds what stands at a place for a digit, or what the text is.
+pub fn push_bad(
     alloc: Global,
     out: &mut String,
-    name: &str,
-    text: &[u8],
+    message: &NamedText<'_>,
+    wanted: &str,
     at: usize,
-) -> Result<(), AllocError> {
+) -> Added {
+    let text = message.text;
     if is_capture(text) {
-        return push_capture(out, name, "the hexadecimal text of a message", CAPTURED);
+        return push_capture(alloc, out, message, wanted, CAPTURED);
     }
-    if is_binary(text) {
-        return push_binary(out, name, text);
+    if is_binary(first_line(back(text, at))) {
+        return push_binary(alloc, out, message);
     }
-    push_place(out, name, text, at)?;
-    out.push_str("this is no hexadecimal digit\n")?;
-    push_excerpt(alloc, out, text, at)?;
-    let hint = hint_of_digit(text, at);
-    write!(out, "hint: {hint}\n")
+    push_told(out, message, at, "this is no hexadecimal digit")?;
+    match hint_at(text, at) {
+        Some(hint) => push_hint(out, hint),
+        None => Ok(()),
+    }
+}
+
+/// Adds that an input is a file of packets, and what to do.
+pub fn push_capture(
+    alloc: Global,
+    out: &mut String,
+    input: &NamedText<'_>,
+    wanted: &str,
+    hint: &str,
+) -> Added {
+    let told = format!(in alloc; "this is a capture file (pcap), and not {wanted}")?;
+    push_whole(out, input, told.as_str(), hint)
 }
 
 /// Whether bytes are no text: they have a control character that isn't white space, or aren't UTF-8.
-pub fn is_binary(text: &[u8]) -> bool {
+fn is_binary(text: &[u8]) -> bool {
     str::from_utf8(text).is_err()
         || text.iter().any(|byte| *byte < b' ' && !is_white(*byte) && *byte != b'\x0c')
 }
 
 /// Adds what bytes are that aren't text.
-pub fn push_binary(out: &mut String, name: &str, text: &[u8]) -> Result<(), AllocError> {
+fn push_binary(alloc: Global, out: &mut String, message: &NamedText<'_>) -> Added {
+    let NamedText { name, text } = *message;
     if text.starts_with(b"\xff\xfe") || text.starts_with(b"\xfe\xff") {
-        return write!(
-            out,
-            "{name}: the text is UTF-16\nhint: save the file as UTF-8\n"
-        );
+        return push_whole(out, message, "the text is UTF-16", SAVE);
     }
     if text.starts_with(b"\x1f\x8b") {
-        return write!(
+        return push_whole(
             out,
-            "{name}: the file is packed by gzip\nhint: `gunzip` unpacks it\n"
+            message,
+            "the file is packed by gzip",
+            "`gunzip` unpacks it",
         );
     }
-    let kind = if text.first() == Some(&1) {
-        "these are the bytes of a message"
+    let told = if text.first() == Some(&1) {
+        "these are the bytes of a message, and not hexadecimal text"
     } else {
-        "these are bytes"
+        "these are bytes, and not hexadecimal text"
     };
-    write!(
-        out,
-        "{name}: {kind}, and not hexadecimal text\n\
-         hint: write `xxd -p {name}` into a file: a message is its hexadecimal digits\n"
-    )
+    let hint = format!(in alloc;
+        "write `xxd -p {name}` into a file: a message is its hexadecimal digits"
+    )?;
+    push_whole(out, message, told, hint.as_str())
 }
 
 /// What to do about a character that is no digit.
-pub fn hint_of_digit(text: &[u8], at: usize) -> &'static str {
+fn hint_at(text: &[u8], at: usize) -> Option<&'static str> {
+    if let Some(hint) = dump_of(text) {
+        return Some(hint);
+    }
+    if let Some(hint) = hint_of_text("message", text) {
+        return Some(hint);
+    }
     let rest = back(text, at);
-    if rest.starts_with(b":") && has_offset(text, at) {
-        return "this is a dump with offsets: `xxd -p FILE` writes one without, and `xxd -r DUMP | xxd -p` turns this one";
-    }
-    if begins_with_offset(text) {
-        return NUMBERED;
-    }
-    match hint_of_text(text) {
-        Some(hint) => hint,
-        None => hint_of_sign(rest),
-    }
-}
-
-/// What a text is, if it is none of a message at all.
-fn hint_of_text(text: &[u8]) -> Option<&'static str> {
-    if text.starts_with(b"\xef\xbb\xbf") {
-        return Some("the text begins with a byte order mark: save it as UTF-8 without one");
-    }
-    if has_word(text, b"%avp") || has_word(text, b"::=") {
-        return Some("this looks like a dictionary: the dictionary stands before the message");
-    }
-    if text.starts_with(b"@base") {
-        return Some("a message stands here, and @base names a dictionary");
-    }
-    if text.starts_with(b"command ") || text.starts_with(b"avp ") {
-        return Some("this looks like a table of pairs, and a message is wanted here");
-    }
-    if text.starts_with(b"header flags ") {
-        return Some(
-            "this is what `show` wrote, and it isn't read back: keep the digits of the message",
-        );
-    }
-    if text.starts_with(b"<") || text.starts_with(b"{\"") || text.starts_with(b"[") {
-        return Some(
-            "this looks like XML or JSON: docs/CAPTURES.md says how to take the messages out of a capture",
-        );
-    }
-    if is_base64(text) {
-        return Some("this looks like base64: `base64 -d FILE | xxd -p` writes the digits");
-    }
-    None
-}
-
-/// Whether a word stands in a text.
-fn has_word(text: &[u8], word: &[u8]) -> bool {
-    text.windows(word.len().max(1)).any(|front| front == word)
-}
-
-fn hint_of_sign(rest: &[u8]) -> &'static str {
-    match rest.first() {
-        Some(b'x' | b'X' | b'\\') => "write the digits without 0x or \\x",
-        Some(b';' | b'#') => "the text of a message has no comments",
-        Some(b':' | b',' | b'-' | b'{' | b'[' | b'"' | b'\'') => {
-            "write the digits with nothing but white space between them"
-        }
-        Some(b'O' | b'o') => "this is the letter O: write the digit 0",
-        Some(b'l' | b'I') => "this is a letter: write the digit 1",
-        Some(0x80..) =>
-            "this character isn't ASCII: write the digits with nothing but spaces between them",
-        _ => "a message is its bytes as hexadecimal digits, as `xxd -p FILE` prints them",
-    }
-}
-
-/// Whether the first line of a text begins with the offset 0, and blanks behind it.
-fn begins_with_offset(text: &[u8]) -> bool {
-    let zeros = text.iter().take_while(|byte| **byte == b'0').count();
-    zeros >= 4 && back(text, zeros).starts_with(b"  ")
-}
-
-/// Whether all of a text has the letters of base64, and more of them than an eighth aren't hexadecimal.
-fn is_base64(text: &[u8]) -> bool {
-    let others = text.iter().filter(|byte| !byte.is_ascii_hexdigit()).count();
-    text.len() >= 16 && others > text.len() / 8 && text.iter().all(|byte| is_of_base64(*byte))
-}
-
-fn is_of_base64(byte: u8) -> bool {
-    byte.is_ascii_alphanumeric() || b"+/=\r\n".contains(&byte)
-}
-
-/// Whether a run of at least four digits begins a line and ends at the place.
-fn has_offset(text: &[u8], at: usize) -> bool {
-    let before = text.get(..at).unwrap_or(text);
-    let line = match before.iter().rposition(|byte| *byte == b'\n') {
-        Some(feed) => back(before, feed.saturating_add(1)),
-        None => before,
+    let word = rest.get(..1)?;
+    let sight = Sight {
+        kind: kind_of_byte(word),
+        word,
+        rest,
+        before: b"".as_slice(),
     };
-    line.len() >= 4 && line.iter().all(|byte| byte.is_ascii_hexdigit())
+    hint_of(&["digit"], &sight)
 }
 
-fn push_two_digits_hint(out: &mut String, text: &[u8]) -> Result<(), AllocError> {
-    if is_numbered(text) {
-        return write!(out, "hint: {NUMBERED}\n");
+/// What to do about a dump with offsets: the text begins with a small offset, and a colon or two spaces stand behind it, or its
+/// second line begins with an offset, too.
+pub fn dump_of(text: &[u8]) -> Option<&'static str> {
+    let digits = text
+        .iter()
+        .take_while(|byte| byte.is_ascii_hexdigit())
+        .count();
+    let rest = back(text, digits);
+    let second = back(rest, first_line(rest).len().saturating_add(1));
+    if digits < 4 || !text.starts_with(b"00") {
+        None
+    } else if rest.starts_with(b":") {
+        Some(DUMPED)
+    } else if rest.starts_with(b"  ") || rest.starts_with(b" ") && second.starts_with(b"00") {
+        Some(NUMBERED)
+    } else {
+        None
     }
-    out.push_str("hint: each byte has two digits, also one below 16\n")
-}
-
-pub const CAPTURED: &str = "docs/CAPTURES.md says how to take the messages out of a capture";
-
-pub const NUMBERED: &str = "the lines begin with offsets, as those of a dump do: \
-    `xxd -p FILE` writes one without, and so does wireshark's Copy as a Hex Stream";
-
-/// Whether the text begins as a dump whose first line has the offset 0 and whose second has 16.
-pub fn is_numbered(text: &[u8]) -> bool {
-    let line = text.iter().take_while(|byte| **byte != b'\n').count();
-    let second = back(text, line.saturating_add(1));
-    (text.starts_with(b"0000 ") && second.starts_with(b"0010"))
-        || (text.starts_with(b"00000000 ") && second.starts_with(b"00000010"))
-        || (text.starts_with(b"0000000 ") && second.starts_with(b"00000"))
 }
 
 /// Adds the note of a text whose bytes are no message, or are more or fewer than one.
-pub fn push_length(
-    alloc: Global,
-    out: &mut String,
-    message: &NamedText<'_>,
-) -> Result<(), AllocError> {
+pub fn push_length(alloc: Global, out: &mut String, message: &NamedText<'_>) -> Added {
     let NamedText { name, text } = *message;
-    let bytes = count_digits(text) / 2;
-    if is_numbered(text) {
-        return write!(
+    if let Some(hint) = dump_of(text) {
+        return push_whole(
             out,
-            "{name}: the first bytes are no header of a message\nhint: {NUMBERED}\n"
+            message,
+            "the first bytes are no header of a message",
+            hint,
         );
     }
-    let mut head = [0u8; 20];
-    read_digits(text, &mut head);
+    let bytes = count_digits(text) / 2;
+    if bytes < HEADER_LENGTH {
+        let told = "bytes; a message has at least 20, those of its header";
+        return write!(out, "{name}: {bytes} {told}\n");
+    }
+    let head = bytes_of(alloc, text, HEADER_LENGTH)?;
     match read_header(head.as_slice()) {
-        _ if bytes < HEADER_LENGTH => {
-            write!(
-                out,
-                "{name}: {bytes} bytes; a message has at least 20, those of its header\n"
-            )
-        }
-        Ok((_, length)) => push_more_or_less(alloc, out, name, text, length as usize),
-        Err(HeadFault::Length) => {
-            write!(
-                out,
-                "{name}: the Message Length, bytes 1 to 3, is under 20 or no multiple of four\n\
-                 hint: mend the sender: it counts the header, and the AVPs with their padding\n"
-            )?;
-            push_unpadded(alloc, out, text)
-        }
+        Ok((_, length)) => push_more_or_less(alloc, out, message, bytes, length as usize),
+        Err(HeadFault::Length) => push_odd_length(alloc, out, message),
         Err(_) => {
-            let version = head[0];
+            let version = head.first().copied().unwrap_or(0);
+            let hint =
+                "a message begins with 01 and its length; the headers of IP, TCP or SCTP before it have to be taken out";
             write!(
                 out,
                 "{name}: the first byte is {version}, and the version of Diameter is 1\n"
             )?;
-            out.push_str(
-                "hint: a message begins with 01 and its length; the headers of IP, TCP or SCTP before it have to be taken out\n",
-            )
+            push_hint(out, hint)
         }
     }
+}
+
+/// Adds that a Message Length is none, and the first AVP that seems to have no padding, if there is one.
+fn push_odd_length(alloc: Global, out: &mut String, message: &NamedText<'_>) -> Added {
+    let told = "the Message Length, bytes 1 to 3, is under 20 or no multiple of four";
+    let hint = "mend the sender: it counts the header, and the AVPs with their padding";
+    push_whole(out, message, told, hint)?;
+    let bytes = bytes_of(alloc, message.text, message.text.len())?;
+    let Some(unpadded) = find_unpadded(back(&bytes, HEADER_LENGTH)) else {
+        return Ok(());
+    };
+    let place = unpadded.at.saturating_add(HEADER_LENGTH);
+    let code = unpadded.code;
+    let length = unpadded.length;
+    write!(
+        out,
+        "hint: the AVP at {place}, of code {code}, has the AVP Length {length}, and what follows stands right behind it, without \
+         its padding\n"
+    )
 }
 
 /// Adds that bytes are missing, or the place of those that are too many.
 fn push_more_or_less(
     alloc: Global,
     out: &mut String,
-    name: &str,
-    text: &[u8],
+    message: &NamedText<'_>,
+    bytes: usize,
     length: usize,
-) -> Result<(), AllocError> {
-    let bytes = count_digits(text) / 2;
+) -> Added {
+    let text = message.text;
     if bytes < length {
-        return write!(
-            out,
-            "{name}: {bytes} bytes; the Message Length is {length}, so the message is cut off\n\
-             hint: its end may be in the next packet, or the capture has cut the packet: \
-             docs/CAPTURES.md says how to take whole messages out\n"
-        );
+        let told = format!(in alloc;
+            "{bytes} bytes; the Message Length is {length}, so the message is cut off"
+        )?;
+        let hint = "its end may be in the next packet, or the capture has cut the packet: \
+            docs/CAPTURES.md says how to take whole messages out";
+        return push_whole(out, message, told.as_str(), hint);
     }
     let Some(at) = place_of_byte(text, length) else {
         return Ok(());
     };
-    push_place(out, name, text, at)?;
-    write!(
-        out,
-        "the message ends before this place, after the {length} bytes of its Message Length; {bytes} bytes are here\n"
+    let told = format!(in alloc;
+        "the message ends before this place, after the {length} bytes of its Message Length; {bytes} bytes are here"
     )?;
-    push_excerpt(alloc, out, text, at)?;
-    if back(text, at).starts_with(b"01") {
-        return out.push_str(
-            "hint: a second message seems to begin here: give one message at a time\n",
-        );
-    }
-    out.push_str(
-        "hint: take out what stands behind the message, or mend its Message Length, bytes 1 to 3\n",
+    push_told(out, message, at, told.as_str())?;
+    push_hint(
+        out,
+        if back(text, at).starts_with(b"01") {
+            "a second message seems to begin here: give one message at a time"
+        } else {
+            "take out what stands behind the message, or mend its Message Length, bytes 1 to 3"
+        },
     )
 }
 
-/// Reads the first bytes that a text spells.
-fn read_digits(text: &[u8], head: &mut [u8; 20]) {
-    let mut seen = 0usize;
-    for byte in text {
-        if is_white(*byte) {
-            continue;
-        }
-        if let Some(slot) = head.get_mut(seen / 2) {
-            *slot = (*slot & 0x0f) << 4 | digit_of(*byte);
-        }
-        seen = seen.saturating_add(1);
-        if seen >= 40 {
-            return;
+/// The first bytes that the digits of a text spell, at most this many.
+pub fn bytes_of(alloc: Global, text: &[u8], most: usize) -> Result<Vec<u8>, AllocError> {
+    let mut bytes = Vec::new(alloc);
+    let mut high: Option<u8> = None;
+    let digits = text.iter().filter(|byte| !is_white(**byte));
+    for digit in digits.take(most.saturating_mul(2)) {
+        let value = (char::from(*digit).to_digit(16).unwrap_or(0) & 0x0f) as u8;
+        match high {
+            None => high = Some(value),
+            Some(first) => {
+                bytes.push((first & 0x0f) << 4 | value)?;
+                high = None;
+            }
         }
     }
+    Ok(bytes)
 }

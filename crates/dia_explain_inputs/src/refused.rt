@@ -2,10 +2,11 @@
 
 use crate::dictionary::push_dictionary;
 use crate::messages::push_message;
+use crate::notes::Added;
 use crate::tables::push_table;
 use dia_explain_places::InputTexts;
-use dia_run::BadInput;
-use std::alloc::{AllocError, Global};
+use dia_report::BadInput;
+use std::alloc::Global;
 
 /// Adds the note of an input that is refused.
 pub fn push_refused(
@@ -13,7 +14,7 @@ pub fn push_refused(
     out: &mut String,
     texts: &InputTexts<'_>,
     bad: &BadInput,
-) -> Result<(), AllocError> {
+) -> Added {
     match bad {
         BadInput::Dictionary { number: 1, why } => push_dictionary(alloc, out, &texts.first, why),
         BadInput::Dictionary { why, .. } => push_dictionary(alloc, out, &texts.second, why),

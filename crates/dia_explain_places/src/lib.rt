@@ -16,7 +16,7 @@ mod sites;
 pub use digits::{count_digits, place_of_byte};
 pub use input_texts::{InputTexts, NamedText};
 pub use lines::{PairWords, Word, start_of_line, words_of};
-pub use nearest::{distance, nearest_command, nearest_name};
+pub use nearest::{nearest_command, nearest_name};
 pub use padding::{Unpadded, find_unpadded};
 pub use place::{Place, back, place_of, push_excerpt, push_line_column, push_place, push_shown};
 pub use runs::{front_of_run, is_white};

@@ -50,7 +50,7 @@ fn capitals(name: &[u8]) -> usize {
 
 /// How many bytes of the longer name differ, between what both have at the beginning and what both have at the end. The case
 /// of letters doesn't count, unless all else is alike.
-pub fn distance(a: &[u8], b: &[u8]) -> usize {
+fn distance(a: &[u8], b: &[u8]) -> usize {
     let front = common_front(a, b);
     let a_rest = back(a, front);
     let b_rest = back(b, front);

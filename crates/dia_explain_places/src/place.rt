@@ -9,6 +9,7 @@ ghost use Rattle.dia_explain_places.specs.Places.{line_at, column_at, line_front
 ghost use Rattle.dia_explain_places.specs.Places.{characters, is_inner, shown_front};
 
 use std::alloc::{AllocError, Global};
+use std::fmt;
 
 /// How many bytes of a line are shown before the place, and how many from it on.
 const BEFORE: usize = 70;
@@ -20,6 +21,19 @@ const BEHIND: usize = 50;
 pub struct Place {
     pub line: usize,
     pub column: usize,
+}
+
+/// Prints a place as `LINE:COLUMN`.
+impl fmt::Display for Place {
+    ghost use Rattle.std.specs.Prelude.{Some, codes};
+    ghost use Rattle.std.specs.Fmt.{decimal};
+
+    ghost output = { λ place. Some (decimal place.line ++ codes ":" ++ decimal place.column) };
+
+    fn fmt<W: fmt::Write>(&self, f: &mut fmt::Formatter<W>) -> fmt::Result {
+        let Place { line, column } = self;
+        write!(f, "{line}:{column}")
+    }
 }
 
 /// The bytes before a place.

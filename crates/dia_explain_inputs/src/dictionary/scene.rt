@@ -1,56 +1,130 @@
 //! A text that is refused, and the tokens round the place where it is.
 
-use dia_ccf::{CcfFault, Kind, Lexeme, Misfit, Wanted, next_lexeme};
+use crate::dictionary::expecting::{number_at, place_of};
+use crate::dictionary::formats::push_formats;
+use crate::hints::Sight;
+use crate::kinds::kind_of_byte;
+use crate::notes::Added;
+use dia_ccf::{CcfFault, Kind, Lexeme, Misfit, next_lexeme};
+use dia_explain_places::{back, push_shown};
 
-/// A token with its bytes and its place.
-#[derive(Clone, Copy)]
-pub struct Token<'a> {
-    pub kind: Kind,
-    pub text: &'a [u8],
-    pub at: usize,
-}
+/// How many bytes of a token are told.
+const SHOWN: usize = 60;
 
-/// A text that is refused: the place, why, and what could stand there.
+/// A text that is refused.
 #[derive(Clone, Copy)]
 pub struct Scene<'a> {
     pub text: &'a [u8],
-    pub fault: CcfFault,
-    pub at: usize,
-    pub wanted: Wanted,
+    pub misfit: &'a Misfit,
+    /// What could stand at the place, as hints name it.
+    pub place: &'static str,
     /// The token at the place, or none at the end of the text.
-    pub token: Option<Token<'a>>,
+    pub token: Option<Lexeme>,
     /// The token before the place, and the one before that.
-    pub last: Option<Token<'a>>,
-    pub earlier: Option<Token<'a>>,
+    pub last: Option<Lexeme>,
+    pub earlier: Option<Lexeme>,
+}
+
+/// The token at a place, if it is one of the text.
+fn token_at(text: &str, at: Option<usize>) -> Option<Lexeme> {
+    next_lexeme(text, at?)
 }
 
 impl<'a> Scene<'a> {
-    pub fn new(text: &'a str, misfit: &Misfit) -> Self {
+    pub fn new(text: &'a str, misfit: &'a Misfit) -> Self {
+        let (place, _) = place_of(misfit.wanted);
         Scene {
             text: text.as_bytes(),
-            fault: misfit.fault,
-            at: misfit.at,
-            wanted: misfit.wanted,
+            misfit,
+            place,
             token: token_at(text, Some(misfit.at)),
             last: token_at(text, misfit.last),
             earlier: token_at(text, misfit.earlier),
         }
     }
-}
 
-impl Token<'_> {
-    /// The place behind the token.
-    pub fn end(&self) -> usize {
-        self.at.saturating_add(self.text.len())
+    /// The bytes of a token, none where there is no token.
+    pub fn word(&self, token: Option<Lexeme>) -> &'a [u8] {
+        let bytes = match token {
+            Some(token) => self.text.get(token.at..token.end),
+            None => None,
+        };
+        bytes.unwrap_or(b"".as_slice())
     }
-}
 
-/// The token at a place, if it is one of the text.
-fn token_at(text: &str, at: Option<usize>) -> Option<Token<'_>> {
-    let Lexeme { kind, at, end } = next_lexeme(text, at?)?;
-    Some(Token {
-        kind,
-        text: text.as_bytes().get(at..end)?,
-        at,
-    })
+    /// The token, as signs of hints speak of it.
+    pub fn sight(&self) -> Sight<'a> {
+        let word = self.word(self.token);
+        let kind = match self.token {
+            None => "the end",
+            Some(token) => match token.kind {
+                Kind::Name => "a name",
+                Kind::Number => "a number",
+                Kind::Sign => "a sign",
+                Kind::Other => kind_of_byte(word),
+            },
+        };
+        Sight {
+            kind,
+            word,
+            rest: back(self.text, self.misfit.at),
+            before: self.word(self.last),
+        }
+    }
+
+    /// Adds what is wrong.
+    pub fn push_fault(&self, out: &mut String) -> Added {
+        match self.misfit.fault {
+            CcfFault::Limit { .. } => out.push_str("the name has more than 128 bytes"),
+            CcfFault::Number { .. } => {
+                self.push_token(out)?;
+                out.push_str(" is out of range; expected ")?;
+                let (_, wanted) = place_of(self.misfit.wanted);
+                out.push_str(number_at(self.misfit.wanted).unwrap_or(wanted))
+            }
+            CcfFault::Syntax { .. } | CcfFault::NoMemory => {
+                let is_end = self.token.is_none();
+                out.push_str(if is_end {
+                    "the text ends here"
+                } else {
+                    "found "
+                })?;
+                self.push_token(out)?;
+                self.push_expected(out)
+            }
+        }
+    }
+
+    /// Adds the token in quotes, if there is one. Of a character that no text has all bytes are told.
+    fn push_token(&self, out: &mut String) -> Added {
+        let Sight { word, rest, .. } = self.sight();
+        if word.is_empty() {
+            return Ok(());
+        }
+        let length = match word {
+            [0xc0..=0xdf] => 2,
+            [0xe0..=0xef] => 3,
+            [0xf0..=0xff] => 4,
+            _ => word.len().min(SHOWN),
+        };
+        let alloc = *out.allocator();
+        out.push('"')?;
+        push_shown(alloc, out, rest.get(..length).unwrap_or(word))?;
+        out.push('"')
+    }
+
+    /// Adds what can stand at the place.
+    fn push_expected(&self, out: &mut String) -> Added {
+        let (_, wanted) = place_of(self.misfit.wanted);
+        write!(out, "; expected {wanted}")?;
+        if self.wants_format() {
+            push_formats(out)?;
+        }
+        Ok(())
+    }
+
+    /// Whether a data format can stand at the place.
+    pub fn wants_format(&self) -> bool {
+        self.place == "Format" || self.place == "VendorOrFormat"
+    }
 }

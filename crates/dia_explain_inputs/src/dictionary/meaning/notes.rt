@@ -1,23 +1,16 @@
 //! The faults as they are told: each undefined name once.
 
-use crate::dictionary::parts::Parts;
+use crate::notes::Added;
 use dia_dict::{DictKind, Finding, Part};
 use indexmap::IndexMap;
 use std::alloc::{AllocError, Global};
 
-/// A fault. Of the rules for an undefined name it is the first, `more` is how many more there are, and `next` the first of those.
+/// A fault. Of the rules for an undefined name it is the first, `more` is how many more there are, and the first of those is what
+/// it doesn't go with.
 #[derive(Clone, Copy)]
 pub struct Note<'a> {
     pub finding: Finding<'a>,
     pub more: usize,
-    pub next: Option<Part>,
-}
-
-impl Note<'_> {
-    /// The place that the fault is told at.
-    pub fn place(&self, parts: &Parts<'_>) -> Option<usize> {
-        parts.place(self.finding.part?)
-    }
 }
 
 /// The faults, of which those for one undefined name are one.
@@ -35,7 +28,7 @@ fn push_note<'a>(
     notes: &mut Vec<Note<'a>>,
     undefined: &mut IndexMap<&'a str, usize>,
     finding: Finding<'a>,
-) -> Result<(), AllocError> {
+) -> Added {
     if finding.told.kind == DictKind::UndefinedName {
         let name = finding.told.slot;
         if let Some(index) = undefined.get(&name) {
@@ -44,11 +37,7 @@ fn push_note<'a>(
         }
         undefined.insert(name, notes.len())?;
     }
-    notes.push(Note {
-        finding,
-        more: 0,
-        next: None,
-    })?;
+    notes.push(Note { finding, more: 0 })?;
     Ok(())
 }
 
@@ -56,7 +45,7 @@ fn push_note<'a>(
 fn count_use(notes: &mut Vec<Note<'_>>, index: usize, part: Option<Part>) {
     if let Some(note) = notes.get_mut(index) {
         if note.more == 0 {
-            note.next = part;
+            note.finding.other = part;
         }
         note.more = note.more.saturating_add(1);
     }

@@ -1,0 +1,101 @@
+//! What to do about a token that is refused, where the cause is a common one.
+
+use crate::dictionary::formats::format_meant;
+use crate::dictionary::scene::Scene;
+use crate::hints::hint_of;
+use crate::kinds::{RETURNS, first_line, hint_of_text, is_cut_by_comment};
+use crate::notes::{Added, push_hint};
+use dia_ccf::CcfFault;
+use dia_explain_places::place_of;
+
+const DICTIONARY: &str =
+    "a dictionary has lines %avp NAME CODE [vendor N] FORMAT RULE, and definitions <NAME> ::= < .. > \
+    with their rules: `diacmd render @base` prints one";
+
+/// Adds what to do about the token, if that is known.
+pub fn push_cause(out: &mut String, scene: &Scene<'_>) -> Added {
+    if let Some(hint) = hint_of_text("dictionary", scene.text) {
+        return push_hint(out, hint);
+    }
+    if let Some(format) = meant(scene) {
+        return write!(out, "hint: did you mean {format}?\n");
+    }
+    match hint_at(scene) {
+        Some(hint) => push_hint(out, hint),
+        None => push_last(out, scene),
+    }
+}
+
+/// The format that is meant, where one is wanted and another word stands.
+fn meant(scene: &Scene<'_>) -> Option<&'static str> {
+    if scene.wants_format() {
+        format_meant(scene.word(scene.token))
+    } else {
+        None
+    }
+}
+
+fn hint_at(scene: &Scene<'_>) -> Option<&'static str> {
+    if let CcfFault::Limit { .. } = scene.misfit.fault {
+        return Some("shorten the name");
+    }
+    if scene.token.is_none() && is_cut_by_comment(scene.text) {
+        return Some(RETURNS);
+    }
+    let places = [before(scene), scene.place, "Token", behind(scene)];
+    match hint_of(&places, &scene.sight()) {
+        None if scene.earlier.is_none() => Some(DICTIONARY),
+        found => found,
+    }
+}
+
+/// Which hints go before those of the place: a comment stands before it in a header, a longer word than %avp before a name where
+/// the code is wanted, or the words must and not.
+fn before(scene: &Scene<'_>) -> &'static str {
+    let (Some(earlier), Some(last)) = (scene.earlier, scene.last) else {
+        return "";
+    };
+    let between = scene.text.get(last.end..scene.misfit.at);
+    if scene.place.starts_with("Head") && between.unwrap_or(b"".as_slice()).contains(&b';') {
+        "Commented"
+    } else if scene.place == "Code" && earlier.end == last.at {
+        "Longer"
+    } else if scene.text.get(earlier.at..last.end) == Some(b"must not".as_slice()) {
+        "MustNot"
+    } else {
+        ""
+    }
+}
+
+/// Which hints go behind those of the place: what a text seems to be where a token stands behind a name that begins a definition.
+fn behind(scene: &Scene<'_>) -> &'static str {
+    let sight = scene.sight();
+    if scene.place != "Assign" {
+        ""
+    } else if sight.word == b"AVP".as_slice() || first_line(sight.rest).contains(&b'|') {
+        "Table"
+    } else if sight.before == b">".as_slice() || scene.earlier.is_none() {
+        ""
+    } else {
+        "Prose"
+    }
+}
+
+/// Adds where the last word stands that was taken, if it stands on another line: at the end of the text, and where the bracket
+/// behind a name is wanted.
+fn push_last(out: &mut String, scene: &Scene<'_>) -> Added {
+    let Some(last) = scene.last else {
+        return Ok(());
+    };
+    let place = place_of(scene.text, last.at);
+    if place.line == place_of(scene.text, scene.misfit.at).line {
+        return Ok(());
+    }
+    if scene.token.is_none() {
+        write!(out, "hint: its last word stands at {place}\n")
+    } else if scene.place == "Close" {
+        write!(out, "hint: the name before it stands at {place}\n")
+    } else {
+        Ok(())
+    }
+}

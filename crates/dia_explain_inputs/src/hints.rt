@@ -1,0 +1,213 @@
+//! What to do about what stands in the place of something else: a row for each hint.
+//!
+//! `PLACE: SIGN => HINT`: at this place the hint is told where the sign is seen. A row has several places with a space between
+//! them, and several signs with ` or `. The first row that fits is told.
+//!
+//! | Sign | Is seen where |
+//! |---|---|
+//! | `WORD` | this word stands, in either letter case, or something of this kind, as `a name` or `the end` |
+//! | `anything` | a word stands |
+//! | `after WORD` | this word stands before it |
+//! | `FRONT..` | the text goes on with this |
+//! | `..PART..` | the word has this in it |
+
+use crate::kinds::has_part;
+
+static HINTS: [&str; 118] = [
+    // whole texts
+    "dictionary message: \u{feff}.. => the text begins with a byte order mark: save it as UTF-8 without one",
+    "dictionary: <!doctype html.. or <!DOCTYPE html.. or <!DOCTYPE HTML.. or <html.. or <HTML.. => this is a web page: save it \
+     as text, and take the declarations and definitions from there",
+    "dictionary: {.. or [.. => this looks like JSON, or like a program: `diacmd render @base` prints what a dictionary looks \
+     like",
+    "dictionary: <?xml.. or <!.. or <dictionary.. or <base.. or <application.. or <vendor.. or <avp .. or <command .. or \
+     <define.. or <pdml.. => this looks like XML: dictionaries/from_wireshark.py makes a dictionary text of wireshark's \
+     dictionary.xml",
+    "dictionary: @base.. => @base names the built-in dictionary on the command line, and not in a text",
+    "dictionary: @.. => this looks like a .dia file: dictionaries/from_dia.py makes a dictionary text of it",
+    "dictionary: dictionary 1: .. => this isn't a dictionary, but what render wrote where it refused one: run it again, and \
+     read what it says",
+    "dictionary: a table => this looks like a table of pairs: the order of the words is A B TABLE",
+    "dictionary: a message => this looks like a message in hexadecimal: the dictionary stands before the message",
+    "message: a dictionary => this looks like a dictionary: the dictionary stands before the message",
+    "message: @base.. => a message stands here, and @base names a dictionary",
+    "message: a table => this looks like a table of pairs, and a message is wanted here",
+    "message: header flags .. => this is what `show` wrote, and it isn't read back: keep the digits of the message",
+    "message: <.. or {\".. or [.. => this looks like XML or JSON: docs/CAPTURES.md says how to take the messages out of a \
+     capture",
+    "message: base64 => this looks like base64: `base64 -d FILE | xxd -p` writes the digits",
+    // what stands for a digit of a message
+    "digit: x.. or X.. or \\.. => write the digits without 0x or \\x",
+    "digit: ;.. or #.. => the text of a message has no comments",
+    "digit: :.. or ,.. or -.. or {.. or [.. or \".. or '.. => write the digits with nothing but white space between them",
+    "digit: o => this is the letter O: write the digit 0",
+    "digit: l.. or I.. => this is a letter: write the digit 1",
+    "digit: not ASCII => this character isn't ASCII: write the digits with nothing but spaces between them",
+    "digit: anything => a message is its bytes as hexadecimal digits, as `xxd -p FILE` prints them",
+    // words of a table
+    "pair name sign behind: #.. or //.. => a comment begins with ;",
+    "pair: \u{feff}.. => the text begins with a byte order mark: save it as UTF-8 without one",
+    "pair: propose: or dictionary => this isn't a table, but what propose wrote where it was refused: run it again, and read \
+     what it says",
+    "pair: @base => a table stands here, and @base names a dictionary",
+    "pair: command or avp => command and avp are written in small letters",
+    "pair: commands or avps => a line has one pair: command A = B, or avp A = B",
+    "pair: %avp or <.. => this looks like a dictionary: the order of the words is A B TABLE",
+    "pair: %.. => command and avp stand without %",
+    "pair: ..,.. => spaces stand between the words, and no commas: a line is command A = B",
+    "pair: a message => this looks like a message in hexadecimal, and a table is wanted here",
+    "name: ..=.. => write a space on each side of =, as in command A = B",
+    "name: .._.. => a name has letters, digits and dashes: write - for _",
+    "name: ..,.. => a line has one pair",
+    "name: \".. or <.. => names stand without quotes and brackets",
+    "name: a number => a pair has the names of the two dictionaries, and no codes",
+    "name: anything or the end => a line is command A = B, or avp A = B",
+    "sign: the end => a line is command A = B, or avp A = B",
+    "sign: anything => the sign between two names is =, with a space on each side",
+    "behind: anything => a line has one pair",
+    // what goes before the hints on the token of a dictionary
+    "MustNot: anything or the end => the rule mustnot is one word",
+    "Longer: anything or the end => a declaration begins with %avp and a space, as in %avp Session-Id 263 UTF8String must",
+    "Commented: anything or the end => a ; begins a comment, up to the end of its line: commas stand in a header",
+    "HeadFlags HeadError HeadVendor HeadClose: {.. or [.. or <.. => a header ends with >, as < Diameter Header: 272, REQ >",
+    "HeadFlags HeadError HeadVendor HeadClose: vendor => a group has the number of its vendor in the header, as < AVP Header: \
+     1400 10415 >",
+    "HeadFlags HeadError HeadVendor HeadClose: REQ => REQ stands behind the Command Code, before PXY and the Application-ID",
+    "HeadFlags HeadError HeadVendor HeadClose: ERR => the answers with an error of all commands have one definition: < \
+     Diameter Header: code, ERR >",
+    // characters and runs that may stand in comments alone, wherever they stand
+    "Token: \u{a0}.. => this is a no-break space: write a space",
+    "Token: \u{ad}.. => this is a soft hyphen, which isn't always shown: take it out, or write -",
+    "Token: \u{200b}.. or \u{feff}.. => this is a character without width: take it out",
+    "Token: \u{2010}.. or \u{2011}.. or \u{2012}.. or \u{2013}.. or \u{2014}.. or \u{2015}.. or \u{2212}.. => this is a dash \
+     that isn't ASCII: write -",
+    "Token: \u{2018}.. or \u{2019}.. or \u{201a}.. or \u{201b}.. or \u{201c}.. or \u{201d}.. or \u{201e}.. or \u{201f}.. or \
+     \".. or '.. => names stand without quotes",
+    "Token: \u{2026}.. => these dots are one character: write two dots, as 0..3",
+    "Token: not ASCII => this character isn't ASCII, and such characters may stand in comments alone",
+    "Token: _.. => a name has letters, digits and dashes: write - for _",
+    "Token: \x0c.. => this is a form feed, as at the end of a page of an RFC: take out the page breaks with their headers and \
+     footers",
+    "Token: \0.. => this is a NUL character: if the file is UTF-16, save it as UTF-8, else take it out",
+    "Token: `.. => take out the lines with ```, and quotes around names",
+    "Token: &.. => this is text of a web page (&lt; is <): save the page as text, and take its parts from there",
+    "Token: @.. => a line with @ is one of a .dia file: dictionaries/from_dia.py makes a dictionary text of it",
+    "Token: #include.. => a text has no includes: `cat` makes one dictionary of several files",
+    "Token: #.. or //.. or /*.. => a comment begins with ;",
+    "Token: %AVP.. or %Avp.. => a declaration begins with %avp, in small letters",
+    "Token: % => the only word with % is %avp; `cat` makes one dictionary of several files",
+    // declarations
+    "Name Code VendorOrFormat Vendor Format MRule: , => the words of a declaration stand without commas",
+    "Name: a number => a declaration is %avp NAME CODE [vendor N] FORMAT RULE: the name stands before the code",
+    "Name: AVP => AVP in a rule is the wildcard, and no AVP may have this name",
+    "Code CommandCode GroupCode: 0x.. or 0X.. => codes are decimal",
+    "Code: AVP or Code => the code is its number alone, as in %avp Session-Id 263 UTF8String must",
+    "Code: vendor => the vendor stands behind the code, as %avp NAME CODE vendor 10415 FORMAT RULE",
+    "Code: a name => a name has no spaces: join its words by a dash; the code stands behind it",
+    "Code: . => a name has letters, digits and dashes",
+    "Vendor: a name => the vendor is told by its number, as vendor 10415 for 3GPP",
+    "VendorOrFormat: a number => write vendor before the number of the vendor",
+    "VendorOrFormat Vendor: ( => a vendor stands without brackets, as vendor 10415",
+    "VendorOrFormat Vendor: : or = or / => a vendor is written behind the code, as vendor 10415",
+    "VendorOrFormat: vendor => vendor is written in small letters",
+    "VendorOrFormat: must or mustnot or any => the data format stands before the rule of the M flag",
+    "MRule: must or mustnot or any => the rules of the M flag are written in small letters: must, mustnot, any",
+    "MRule: may or should => where an RFC says that M may or should be set, the rule is any",
+    "MRule: ( => a list of values stands behind the rule of an Enumerated AVP, as Enumerated any ( 0 1 )",
+    "MRule: a name => where an RFC's table has M under MUST, the rule is must; where it has it under MUST NOT, mustnot; else \
+     any",
+    "Name Code VendorOrFormat Vendor Format MRule: anything or the end => a declaration is %avp NAME CODE [vendor N] FORMAT \
+     RULE, as %avp Session-Id 263 UTF8String must",
+    "Values: a number or { or [ or : => a list of values stands in round brackets, as Enumerated any ( 0 1 4..7 )",
+    "Value: , => the values of a list stand without commas, as in ( 0 1 4..7 )",
+    "Value: ) => a list has one value at least: where there is none, leave out the brackets",
+    "Value High: a name or = or | or / => a list has the numbers of the values, without their names",
+    "High: a number => a range is LOW..HIGH",
+    "Value High: -.. => a list has values from 0 to 2147483647, and no negative ones: leave the list out, if the AVP has such \
+     a value",
+    "Value High: ..-.. => a range of values is written with two dots, as 0..3",
+    // definitions
+    "Item: ( => only an Enumerated AVP has a list of values, and it stands behind the rule of the M flag",
+    "Item: AVP => an AVP is declared as %avp NAME CODE [vendor N] FORMAT RULE, and a table of an RFC isn't read",
+    "Item: , => declarations and definitions stand without commas between them: take it out",
+    "Item: a number => this looks like the number of a line or of a section: take such numbers out, and put ; before prose",
+    "Assign: :=.. or ::.. or : =.. => the sign of a definition is ::=",
+    "Assign: after avp => a declaration begins with %avp",
+    "Beginning: anything => behind ::= stands a header: < Diameter Header: CODE, REQ > for a request, without REQ for an \
+     answer, or < AVP Header: CODE > for a group",
+    "CommandCode: a name => a command has its number in the header, as 272 for Credit-Control",
+    "GroupCode: a name => a group has the code of its AVP in the header, as 279 for Failed-AVP",
+    "HeadFlags: a name => a request has REQ, and an answer has no word for it; PXY is there where the P flag is set",
+    "HeadError: anything => the answers with an error of all commands have one definition: < Diameter Header: code, ERR >",
+    "HeadClose: a number or , => a command has one Application-ID, and a group one vendor: define the command once for each \
+     application",
+    "Late: anything or the end => a fixed rule < X > stands before all rules { X } and [ X ]",
+    "Rule: ( => a rule has no round brackets, and its counts stand before it, as 1*3 { X }",
+    "Rule: +.. => one or more of X is 1* { X }, and any number * [ X ]",
+    "Rule: ..-.. => the counts of a rule are LEAST*GREATEST, as 0*1 { X }",
+    "Star: anything => counts are LEAST*GREATEST: from 1 to 3 is 1*3, and just 2 is 2*2",
+    "Counted: the end => the counts of a rule stand before it, as * [ X ] or 1*3 { X }",
+    "Counted: anything => a rule is [LEAST]*[GREATEST] and then < X >, { X } or [ X ], as 1*3 { X }",
+    "Fixed: AVP => AVP in a rule is the wildcard, and can't be fixed: write { AVP } or [ AVP ]",
+    "Close: a name => a name has no spaces: join its words by a dash",
+    // what goes behind the hints on the token of a dictionary
+    "Assign Token: =.. => a definition is <NAME> ::= < Diameter Header: .. >, and its sign is ::=",
+    "Table: anything => this looks like prose or a table of an RFC: an AVP is declared as %avp NAME CODE [vendor N] FORMAT \
+     RULE",
+    "Token: |.. or /.. => a definition has no alternatives: make each an optional rule, as [ X ] [ Y ]",
+    "Prose: after RFC => this looks like a page header or footer of an RFC, or like prose: take it out, or put ; before it",
+    "Prose: a number => a declaration begins with %avp, and a definition with <NAME> ::=",
+    "Prose: anything => this looks like a page header or footer of an RFC, or like prose: take it out, or put ; before it",
+];
+
+/// What stands at a place of a text.
+#[derive(Clone, Copy)]
+pub struct Sight<'a> {
+    /// What it is, as signs name it.
+    pub kind: &'a str,
+    pub word: &'a [u8],
+    /// The text from the word on.
+    pub rest: &'a [u8],
+    /// The word before it.
+    pub before: &'a [u8],
+}
+
+/// The first hint for one of these places of which a sign is seen.
+pub fn hint_of(places: &[&str], sight: &Sight<'_>) -> Option<&'static str> {
+    for row in HINTS.iter().copied() {
+        let (named, rest) = row.split_once(": ")?;
+        let (signs, hint) = rest.split_once(" => ")?;
+        if is_named(places, named) && signs.split(" or ").any(|sign| is_seen(sign, sight)) {
+            return Some(hint);
+        }
+    }
+    None
+}
+
+fn is_named(places: &[&str], named: &str) -> bool {
+    named.split(' ').any(|place| places.contains(&place))
+}
+
+fn is_seen(sign: &str, sight: &Sight<'_>) -> bool {
+    if let Some(word) = sign.strip_prefix("after ") {
+        return sight.before.eq_ignore_ascii_case(word.as_bytes());
+    }
+    match sign.strip_suffix("..") {
+        Some(front) => is_front(front, sight),
+        None => is_word(sign, sight),
+    }
+}
+
+fn is_front(front: &str, sight: &Sight<'_>) -> bool {
+    match front.strip_prefix("..") {
+        Some(part) => has_part(sight.word, part.as_bytes()),
+        None => sight.rest.starts_with(front.as_bytes()),
+    }
+}
+
+fn is_word(sign: &str, sight: &Sight<'_>) -> bool {
+    if sign == "anything" {
+        return !sight.word.is_empty();
+    }
+    sign == sight.kind || sight.word.eq_ignore_ascii_case(sign.as_bytes())
+}

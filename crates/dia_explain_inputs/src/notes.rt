@@ -1,0 +1,40 @@
+//! What all notes are made of.
+
+use dia_explain_places::{NamedText, push_excerpt, push_place};
+use std::alloc::AllocError;
+
+/// What adding to a note answers.
+pub type Added = Result<(), AllocError>;
+
+/// What to do about a text that isn't UTF-8.
+pub const SAVE: &str = "save the file as UTF-8";
+
+/// Adds what to do.
+pub fn push_hint(out: &mut String, hint: &str) -> Added {
+    write!(out, "hint: {hint}\n")
+}
+
+/// Adds what is told of a whole input, and what to do.
+pub fn push_whole(out: &mut String, input: &NamedText<'_>, told: &str, hint: &str) -> Added {
+    let name = input.name;
+    write!(out, "{name}: {told}\nhint: {hint}\n")
+}
+
+/// Adds what is told of a place, and the line of the place.
+pub fn push_told(out: &mut String, input: &NamedText<'_>, at: usize, told: &str) -> Added {
+    push_place(out, input.name, input.text, at)?;
+    write!(out, "{told}\n")?;
+    let alloc = *out.allocator();
+    push_excerpt(alloc, out, input.text, at)
+}
+
+/// Adds the note of a text that isn't UTF-8 from a place on.
+pub fn push_not_text(out: &mut String, input: &NamedText<'_>, at: usize) -> Added {
+    push_told(out, input, at, "these bytes aren't UTF-8")?;
+    let more = if input.text.contains(&0) {
+        "; this one looks like UTF-16, or like no text at all"
+    } else {
+        ""
+    };
+    write!(out, "hint: {SAVE}{more}\n")
+}
