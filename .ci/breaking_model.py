@@ -259,7 +259,8 @@ class Model:
         rule = a.rule(key)
         if rule:
             return rule.sent()
-        return counts(0, a.wildcard().high) if key in self.strangers(a) else "0"
+        is_sent = key in self.strangers(a) and self.cost[key] < math.inf
+        return counts(0, a.wildcard().high) if is_sent else "0"
 
     def own_lines(self, key):
         """Of each way in which an AVP of the key breaks by itself: reason, detail, and what the AVP takes. And whether it is undecided."""
@@ -387,11 +388,14 @@ class Model:
         """Of each header that tells of others: the path, the reason where no definition is selected, else the definition."""
         mine, others = ([d for d in one.commands if d.selector == command.selector] for one in (self.a, self.b))
         own = next((d for d in others if d.app is None), None)
+        named = {d.app for d in mine}
         if command.app is not None:
             b = next((d for d in others if d.app == command.app), own)
             yield command.name, self.refusal(others, command.app) if b is None else None, b
+            new = [d for d in others if d.app not in named]
+            if b is None and len(new) == 1:
+                yield f"{command.name}[application {new[0].app}]", None, new[0]
             return
-        named = {d.app for d in mine}
         free = next(n for n in itertools.count() if n not in named and all(d.app != n for d in others))
         yield command.name, self.refusal(others, free) if own is None else None, own
         for d in others:

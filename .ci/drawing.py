@@ -16,6 +16,12 @@ DATA = {
 COUNTS = [("", ""), ("", ""), ("1", ""), ("", "2"), ("2", ""), ("1", "3"), ("0", "1"), ("2", "2")]
 
 
+APPLICATIONS = [
+    [("T", "")], [("T", "")], [("T", ", 5")], [("T", ", 6")], [("T", ""), ("T5", ", 5")], [("T", ", 5"), ("T6", ", 6")], [("T", ", 6"), ("T7", ", 7")],
+]
+"""The commands of a dictionary, each with the application that it names."""
+
+
 def rules(draw, keys):
     parts = []
     chosen = draw.sample(keys, draw.randint(0, min(3, len(keys))))
@@ -44,7 +50,7 @@ def dictionary(draw):
     for key in groups:
         text.append(f"<K{key}> ::= < AVP Header: {9000 + key} > {rules(draw, known + groups)}")
     flags = draw.choice([", REQ", ", REQ", ", REQ, PXY"])
-    for name, app in draw.choice([[("T", "")], [("T", "")], [("T", ", 5")], [("T", ""), ("T5", ", 5")]]):
+    for name, app in draw.choice(APPLICATIONS):
         text.append(f"<{name}> ::= < Diameter Header: 302{flags}{app} > {rules(draw, known + groups)}")
     return "\n".join(text) + "\n"
 

@@ -62,7 +62,7 @@ module _ (da db : Dictionary) (c : ℕ) (x : PlainDefinition) (at : slice_get (d
 
   abbrev site_at : Place → ℕ → Bool → Option SiteOf
   site_at place way false = None
-  site_at (places.Command app is_told proxiable) way true = command_site app
+  site_at (places.Command sent app is_told proxiable) way true = command_site app
   site_at (places.Group key outer) way true = group_site key way
 
   abbrev site_of : Site → Option SiteOf
@@ -75,7 +75,7 @@ module _ (da db : Dictionary) (c : ℕ) (x : PlainDefinition) (at : slice_get (d
   at_site place way false y z e read = absurd (let f : false ≡ true = e in cc)
   at_site (places.Group key outer) way true y z e (in_a, in_b) =
       ap (option_and_then (λ (a : PlainDefinition). option_map (between a (max_body - way)) (group_of db key))) in_a ∙ ap (option_map (between y (max_body - way))) in_b
-  at_site (places.Command app is_told proxiable) way true y z e (at_y, (head, n, is_head, select, is)) =
+  at_site (places.Command sent app is_told proxiable) way true y z e (at_y, (head, n, is_head, select, is)) =
       let same : x ≡ y = same_Some x y (sym at ∙ at_y) in
       let own : head_in x.head ≡ Some head = subst (λ (w : PlainDefinition). head_in w.head ≡ Some head) (sym same) is_head in
       let here : command_site app ≡ Some (between x max_body z) =
@@ -97,27 +97,27 @@ module _ (da db : Dictionary) (c : ℕ) (x : PlainDefinition) (at : slice_get (d
   by_group key outer way site (Some a) None in_a in_b e = absurd (none-some site e)
   by_group key outer way site (Some a) (Some b) in_a in_b e = record { a = a; b_side = b; is_read = refl; read = (in_a, in_b); is = same_Some _ site e }
 
-  by_number : (app way : ℕ) (is_told proxiable : Bool) (site : SiteOf) (head : Head) (n : ℕ) (q : Option PlainDefinition) → head_in x.head ≡ Some head → selected db head.code head.class app ≡ Some n
-      → slice_get (definitions db) n ≡ q → option_map (between x max_body) q ≡ Some site → Read (places.Command app is_told proxiable) way true site
-  by_number app way is_told proxiable site head n None is_head select is e = absurd (none-some site e)
-  by_number app way is_told proxiable site head n (Some y) is_head select is e =
+  by_number : (sent app way : ℕ) (is_told proxiable : Bool) (site : SiteOf) (head : Head) (n : ℕ) (q : Option PlainDefinition) → head_in x.head ≡ Some head → selected db head.code head.class app ≡ Some n
+      → slice_get (definitions db) n ≡ q → option_map (between x max_body) q ≡ Some site → Read (places.Command sent app is_told proxiable) way true site
+  by_number sent app way is_told proxiable site head n None is_head select is e = absurd (none-some site e)
+  by_number sent app way is_told proxiable site head n (Some y) is_head select is e =
       record { a = x; b_side = y; is_read = refl; read = (at, (head, n, is_head, select, is)); is = same_Some _ site e }
 
-  by_head : (app way : ℕ) (is_told proxiable : Bool) (site : SiteOf) (head : Head) (o : Option ℕ) → head_in x.head ≡ Some head → selected db head.code head.class app ≡ o
-      → option_and_then (λ (n : ℕ). option_map (between x max_body) (slice_get (definitions db) n)) o ≡ Some site → Read (places.Command app is_told proxiable) way true site
-  by_head app way is_told proxiable site head None is_head select e = absurd (none-some site e)
-  by_head app way is_told proxiable site head (Some n) is_head select e = by_number app way is_told proxiable site head n (slice_get (definitions db) n) is_head select refl e
+  by_head : (sent app way : ℕ) (is_told proxiable : Bool) (site : SiteOf) (head : Head) (o : Option ℕ) → head_in x.head ≡ Some head → selected db head.code head.class app ≡ o
+      → option_and_then (λ (n : ℕ). option_map (between x max_body) (slice_get (definitions db) n)) o ≡ Some site → Read (places.Command sent app is_told proxiable) way true site
+  by_head sent app way is_told proxiable site head None is_head select e = absurd (none-some site e)
+  by_head sent app way is_told proxiable site head (Some n) is_head select e = by_number sent app way is_told proxiable site head n (slice_get (definitions db) n) is_head select refl e
 
-  by_command : (app way : ℕ) (is_told proxiable : Bool) (site : SiteOf) (o : Option Head) → head_in x.head ≡ o
+  by_command : (sent app way : ℕ) (is_told proxiable : Bool) (site : SiteOf) (o : Option Head) → head_in x.head ≡ o
       → option_and_then (λ (head : Head). option_and_then (λ (n : ℕ). option_map (between x max_body) (slice_get (definitions db) n)) (selected db head.code head.class app)) o ≡ Some site
-      → Read (places.Command app is_told proxiable) way true site
-  by_command app way is_told proxiable site None is_head e = absurd (none-some site e)
-  by_command app way is_told proxiable site (Some head) is_head e = by_head app way is_told proxiable site head (selected db head.code head.class app) is_head refl e
+      → Read (places.Command sent app is_told proxiable) way true site
+  by_command sent app way is_told proxiable site None is_head e = absurd (none-some site e)
+  by_command sent app way is_told proxiable site (Some head) is_head e = by_head sent app way is_told proxiable site head (selected db head.code head.class app) is_head refl e
 
   read_of : (place : Place) (way : ℕ) (b : Bool) (site : SiteOf) → site_at place way b ≡ Some site → Read place way b site
   read_of place way false site e = absurd (none-some site e)
   read_of (places.Group key outer) way true site e = by_group key outer way site (group_of da key) (group_of db key) refl refl e
-  read_of (places.Command app is_told proxiable) way true site e = by_command app way is_told proxiable site (head_in x.head) refl e
+  read_of (places.Command sent app is_told proxiable) way true site e = by_command sent app way is_told proxiable site (head_in x.head) refl e
 
   has : (told : List Site) (own : Site) (site : SiteOf) → Contains told own → site_of own ≡ Some site → HasSite (sites_of told) site.a site.b site.room
   has told own site inside is =
@@ -127,7 +127,7 @@ module _ (da db : Dictionary) (c : ℕ) (x : PlainDefinition) (at : slice_get (d
 
   way_at : (place : Place) (way : ℕ) (b : Bool) (group : Way) (y z : PlainDefinition) → way_to place way b ≡ Some group → group_of da group.key ≡ Some y → group_of db group.key ≡ Some z
       → site_at place way b ≡ Some (between y (max_body - group.way) z)
-  way_at (places.Command app is_told proxiable) way b group y z e in_a in_b = absurd (none-some group e)
+  way_at (places.Command sent app is_told proxiable) way b group y z e in_a in_b = absurd (none-some group e)
   way_at (places.Group key outer) way false group y z e in_a in_b = absurd (none-some group e)
   way_at (places.Group key outer) way true group y z e in_a in_b =
       subst (λ (g : Way). group_of da g.key ≡ Some y → group_of db g.key ≡ Some z → group_site key way ≡ Some (between y (max_body - g.way) z)) (same_Some _ group e)
@@ -142,15 +142,15 @@ module _ (da db : Dictionary) (c : ℕ) (x : PlainDefinition) (at : slice_get (d
   command_at : (place : Place) (way : ℕ) (b : Bool) (app number : ℕ) (head : Head) (other : PlainDefinition) → head_in x.head ≡ Some head → b ≡ true → IsCommandPlace app place
       → selected db head.code head.class app ≡ Some number → slice_get (definitions db) number ≡ Some other → site_at place way b ≡ Some (between x max_body other)
   command_at (places.Group key outer) way b app number head other is_head read here select is = absurd here
-  command_at (places.Command own is_told proxiable) way b app number head other is_head read here select is =
-      at_site (places.Command own is_told proxiable) way b x other read (read_at da db c x head (places.Command own is_told proxiable) app number other at is_head here select is)
+  command_at (places.Command sent own is_told proxiable) way b app number head other is_head read here select is =
+      at_site (places.Command sent own is_told proxiable) way b x other read (read_at da db c x head (places.Command sent own is_told proxiable) app number other at is_head here select is)
 
   holds_read : (told : List Site) (head : Head) → head_in x.head ≡ Some head → HoldsRead db (sites_of told) told head x
   holds_read told head is_head app number other (site, inside, read, here) select is =
       has told site (between x max_body other) inside (command_at site.place site.way site.is_read app number head other is_head read here select is)
 
   command_room : (place : Place) (way app : ℕ) → IsCommandPlace app place → room_at place way ≡ max_body
-  command_room (places.Command own is_told proxiable) way app here = refl
+  command_room (places.Command sent own is_told proxiable) way app here = refl
   command_room (places.Group key outer) way app here = absurd here
 
   -- ---- safe
@@ -252,13 +252,13 @@ closed_at da db who u f groups own lines told c number site key outer is tells c
 
 pub closed_command_at : (da db : Dictionary) (who : Sends) (u : Unknown) (f : Key → ℕ) (groups : List Way) (own : List Key) (lines : List Line) (told : List LevelLine) (c number : ℕ) (site : Site)
     (head : Head)
-    (app : ℕ) (is_told proxiable : Bool) (x : PlainDefinition) → slice_get (definitions da) c ≡ Some x → head_in x.head ≡ Some head → site.place ≡ places.Command app is_told proxiable
+    (sent app : ℕ) (is_told proxiable : Bool) (x : PlainDefinition) → slice_get (definitions da) c ≡ Some x → head_in x.head ≡ Some head → site.place ≡ places.Command sent app is_told proxiable
     → All (IsToldAt lines number) told → IsClosedCommand (ground (sides da db who u) f groups own) told c head app → IsClosedAt (ground (sides da db who u) f groups own) lines c number site
-closed_command_at da db who u f groups own lines told c number site head app is_told proxiable x at is_head is tells closed y z is_read read =
+closed_command_at da db who u f groups own lines told c number site head sent app is_told proxiable x at is_head is tells closed y z is_read read =
     subst (λ (place : Place). IsReadBy da db c place y z → (told : List LevelLine) × All (IsToldAt lines number) told × IsClosedWith (ground (sides da db who u) f groups own) told (room_at place site.way) y z)
     (sym is) by read
   where
-    by : IsReadBy da db c (places.Command app is_told proxiable) y z → (told : List LevelLine) × All (IsToldAt lines number) told × IsClosedWith (ground (sides da db who u) f groups own) told max_body y z
+    by : IsReadBy da db c (places.Command sent app is_told proxiable) y z → (told : List LevelLine) × All (IsToldAt lines number) told × IsClosedWith (ground (sides da db who u) f groups own) told max_body y z
     by (at_y, (own_head, n, its, select, at_z)) =
         let same : x ≡ y = same_Some x y (sym at ∙ at_y) in
         let heads : own_head ≡ head = same_Some own_head head (sym its ∙ ap (λ (w : PlainDefinition). head_in w.head) (sym same) ∙ is_head) in

@@ -1,7 +1,8 @@
 -- What two checks of a message show.
-use Rattle.std.proofs.Common.{◌≡◌, ℕ, suc, ◌<◌, Bool, true, false, not, List, [], ◌∷◌, get_or, subst}
+use Rattle.std.proofs.Common.{◌≡◌, ℕ, suc, ◌<◌, Bool, true, false, not, List, [], ◌∷◌, length, get_or, subst}
 use Rattle.std.specs.Prelude.{◌↔◌, IsTrue}
-use Rattle.dia_book.specs.Dictionary.{Dictionary}
+use Rattle.std.proofs.lemmas.Option.{slice_get_within}
+use Rattle.dia_book.specs.Dictionary.{Dictionary, definitions}
 use Rattle.dia_policy.specs.declared.Unknown.{Unknown}
 use Rattle.dia_policy.specs.declared.Levels.TheVariants as levels
 use Rattle.dia_policy.specs.declared.Sends.{Sends}
@@ -32,11 +33,15 @@ refused da db who u bytes c false are own same valid iff h =
 
 -- ---- a command that a table lists, where it shows inclusion
 
-valid_of : (da db : Dictionary) (who : Sends) (u : Unknown) (bytes : List ℕ) (c : ℕ) → IsConfirmed (sides da db who u) bytes c
+pub valid_of : (da db : Dictionary) (who : Sends) (u : Unknown) (bytes : List ℕ) (c : ℕ) → IsConfirmed (sides da db who u) bytes c
     → IsValidOf da (own_policy who) levels.Any bytes c × (¬ IsValid db u levels.Any bytes)
 valid_of da db Any u bytes c h = (sent_valid da Any bytes c h.0, h.1)
 valid_of da db Known u bytes c h = (sent_valid da Known bytes c h.0, h.1)
 valid_of da db Listed u bytes c h = h
+
+-- the command is one of the sender's
+pub command_within : (da db : Dictionary) (who : Sends) (u : Unknown) (bytes : List ℕ) (c : ℕ) → IsConfirmed (sides da db who u) bytes c → c < length (definitions da)
+command_within da db who u bytes c h = let v = valid_of da db who u bytes c h in slice_get_within (definitions da) c v.0.command v.0.is_command
 
 pub none_breaks : (da db : Dictionary) (who : Sends) (table : PlainTable) (c : ℕ) (bytes : List ℕ) → IsIncluded da db (own_policy who) table → ListsCommand da table c
     → ¬ IsConfirmed (sides da db who (own_policy who)) bytes c

@@ -25,6 +25,7 @@ use Rattle.dia_breaking.specs.declared.line.Line.{Line}
 use Rattle.dia_breaking.specs.declared.own_breaks.OwnBreaks.{OwnBreaks}
 use Rattle.dia_breaking.specs.declared.own_lines.Kind.{Kind}
 use Rattle.dia_breaking.specs.declared.own_lines.Kind.TheVariants as kinds
+use Rattle.dia_breaking.specs.declared.readings.Reading.{Reading}
 use Rattle.dia_breaking.specs.Listing.{Told, command_levels, flag_causes, group_levels, head_cause, header_causes, header_line, header_lines, level_lines, new_line, refusal, subject, tells, unchecked, with_room}
 use Rattle.dia_breaking.specs.Orders.{IsInOrderOf, joined, of_each}
 use Rattle.dia_breaking.specs.OwnBreaks.{HaveDataBreaks, IsOwnBreaks, TellData, TellsData}
@@ -87,8 +88,8 @@ module _ (db : Dictionary) (head : Head) where
   header_other None = one_other (refusal db head) (refusal_other (has_command db head.code head.class))
   header_other (Some other) = All-append IsOther (flag_causes head other false) (flag_causes head other true) (flag_other false _) (flag_other true _)
 
-  header_plain : (base site app : ℕ) → All IsPlain (header_lines db head base site app)
-  header_plain base site app = All-map IsPlain (header_line base site) (header_causes db head app) (header_other (other_head db head app))
+  header_plain : (base site : ℕ) (reading : Reading) → All IsPlain (header_lines db head base site reading)
+  header_plain base site reading = All-map IsPlain (header_line base site) (header_causes db head reading.read_as) (header_other (other_head db head reading.read_as))
 
 room_plain : (told : Told) → IsPlain told → (b : Bool) → IfSome (if b then Some told else None) IsPlain
 room_plain told own true = own
@@ -104,12 +105,12 @@ group_plain count groups i step = by (slice_get groups step.place)
     by None = All-nil IsPlain
     by (Some lines) = levels_plain (min (count + i) 18446744073709551615) step.way lines
 
-pub found_plain : (db : Dictionary) (head : Head) (base : ℕ) (apps : List ℕ) (levels groups : List (List LevelLine)) (count : ℕ) (steps : List Step)
-    → All IsPlain (of_each (header_lines db head base) apps ++ of_each command_levels levels ++ of_each (group_levels count groups) steps)
-found_plain db head base apps levels groups count steps =
-    All-append IsPlain (of_each (header_lines db head base) apps ++ of_each command_levels levels) (of_each (group_levels count groups) steps)
-    (All-append IsPlain (of_each (header_lines db head base) apps) (of_each command_levels levels)
-    (all_each IsPlain (header_lines db head base) (header_plain db head base) apps)
+pub found_plain : (db : Dictionary) (head : Head) (base : ℕ) (readings : List Reading) (levels groups : List (List LevelLine)) (count : ℕ) (steps : List Step)
+    → All IsPlain (of_each (header_lines db head base) readings ++ of_each command_levels levels ++ of_each (group_levels count groups) steps)
+found_plain db head base readings levels groups count steps =
+    All-append IsPlain (of_each (header_lines db head base) readings ++ of_each command_levels levels) (of_each (group_levels count groups) steps)
+    (All-append IsPlain (of_each (header_lines db head base) readings) (of_each command_levels levels)
+    (all_each IsPlain (header_lines db head base) (header_plain db head base) readings)
     (all_each IsPlain command_levels (λ site lines. levels_plain site 0 lines) levels))
     (all_each IsPlain (group_levels count groups) (group_plain count groups) steps)
 

@@ -26,6 +26,8 @@ pub mod OpenCommands
 pub mod ToldHeaders
 pub mod Certified
 pub mod TooLong
+mod MendedHeaders
+mod MendedLines
 mod MendedMessages
 pub mod FreeOfLines
 mod Paths

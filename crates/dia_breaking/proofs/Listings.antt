@@ -9,11 +9,11 @@ use Rattle.dia_breaking.specs.Orders.{IsInOrderOf}
 use Rattle.dia_breaking.specs.Sites.{command_sites, group_sites}
 
 pub listing_of : (db : Dictionary) (basis : Basis) (first : Option ℕ) (number count : ℕ) (sites : List Site) (steps : List Step) (reached : List (Option Reach)) (all : List Site) (told : List Told)
-    → first ≡ start_of db basis → number ≡ unwrap_or first 0 → count ≡ length basis.apps → sites ≡ command_sites db basis.head basis.apps → IsWalkFrom (is_some first) basis.graph steps reached
+    → first ≡ start_of db basis → number ≡ unwrap_or first 0 → count ≡ length basis.readings → sites ≡ command_sites db basis.head basis.readings → IsWalkFrom (is_some first) basis.graph steps reached
     → all ≡ sites ++ group_sites basis.own number count steps → IsInOrderOf (λ (line : Told). line.site) (lines_of db basis (numbers number count) steps reached) told → IsListing db basis all told
 listing_of db basis first number count sites steps reached all told first_is number_is count_is sites_are walk all_is order =
     let at = unwrap_or (start_of db basis) 0 in
-    let own = command_sites db basis.head basis.apps in
+    let own = command_sites db basis.head basis.readings in
     let is : number ≡ at = number_is ∙ ap (λ (o : Option ℕ). unwrap_or o 0) first_is in
     record {
       steps = steps;

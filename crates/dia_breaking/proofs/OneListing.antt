@@ -21,9 +21,9 @@ one_listing db basis sites others told lines first second =
     let at = unwrap_or (start_of db basis) 0 in
     let same = one_from (is_some (start_of db basis)) basis.graph first.steps second.steps first.reached second.reached first.is_walk second.is_walk in
     let number = λ (line : Told). line.site in (
-      first.sites_are ∙ ap (sites_of db basis at (length basis.apps)) same.0 ∙ sym second.sites_are,
-      one_in_order number (lines_of db basis (numbers at (length basis.apps)) second.steps second.reached) told lines
-          (subst (λ (ways : List (Option Reach)). IsInOrderOf number (lines_of db basis (numbers at (length basis.apps)) second.steps ways) told) same.1
-          (subst (λ (steps : List Step). IsInOrderOf number (lines_of db basis (numbers at (length basis.apps)) steps first.reached) told) same.0 first.lines_are))
+      first.sites_are ∙ ap (sites_of db basis at (length basis.readings)) same.0 ∙ sym second.sites_are,
+      one_in_order number (lines_of db basis (numbers at (length basis.readings)) second.steps second.reached) told lines
+          (subst (λ (ways : List (Option Reach)). IsInOrderOf number (lines_of db basis (numbers at (length basis.readings)) second.steps ways) told) same.1
+          (subst (λ (steps : List Step). IsInOrderOf number (lines_of db basis (numbers at (length basis.readings)) steps first.reached) told) same.0 first.lines_are))
           second.lines_are,
     )

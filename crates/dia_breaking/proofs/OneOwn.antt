@@ -198,15 +198,15 @@ pub listing_by : (db : Dictionary) (basis : Basis) (others : List OwnBreaks) (si
     → IsListing db (record basis { own = others }) sites told
 listing_by db basis others sites told are is =
     let first = unwrap_or (start_of db basis) 0 in
-    let count = length basis.apps in
+    let count = length basis.readings in
     let next : Basis = record basis { own = others } in
     let groups = same_sites basis.own others are first count is.steps in
-    let sites_same : sites_of db basis first count is.steps ≡ sites_of db next first count is.steps = ap (λ (more : List Site). command_sites db basis.head basis.apps ++ more) groups in
+    let sites_same : sites_of db basis first count is.steps ≡ sites_of db next first count is.steps = ap (λ (more : List Site). command_sites db basis.head basis.readings ++ more) groups in
     let unknown = same_lines basis.own others are first count kinds.Unknown is.reached in
     let m_bits = same_lines basis.own others are first count kinds.MBit is.reached in
     let formats = same_lines basis.own others are first count kinds.Data is.reached in
     let lines_same : lines_of db basis (numbers first count) is.steps is.reached ≡ lines_of db next (numbers first count) is.steps is.reached =
-    λ j. of_each (header_lines db basis.head basis.base) basis.apps ++ of_each command_levels basis.levels ++ of_each (group_levels count basis.groups) is.steps
+    λ j. of_each (header_lines db basis.head basis.base) basis.readings ++ of_each command_levels basis.levels ++ of_each (group_levels count basis.groups) is.steps
     ++ unknown j ++ m_bits j ++ formats j in
     record {
       steps = is.steps;

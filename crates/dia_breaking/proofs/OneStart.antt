@@ -21,6 +21,7 @@ use Rattle.dia_breaking.specs.declared.exits.Inner.{Inner}
 use Rattle.dia_breaking.specs.declared.exits.Outlook.{Outlook}
 use Rattle.dia_breaking.specs.declared.heads.Head.{Head}
 use Rattle.dia_breaking.specs.declared.keys.Telling.{Telling}
+use Rattle.dia_breaking.specs.declared.readings.Reading.{Reading}
 use Rattle.dia_breaking.specs.declared.start.Start.{Start}
 use Rattle.dia_breaking.specs.Exits.{AreExits, IsInnerOrNone, IsOutlook, exit_by}
 use Rattle.dia_breaking.specs.Headers.{AreApps, apps_of, row_app, both_apps}
@@ -29,6 +30,7 @@ use Rattle.dia_breaking.specs.LevelCosts.{cost_of, with_listed}
 use Rattle.dia_breaking.specs.Listing.{lines_in}
 use Rattle.dia_breaking.specs.Nodes.{exits_in, level_in, node_in}
 use Rattle.dia_breaking.specs.Outlooks.{group_rules}
+use Rattle.dia_breaking.specs.Readings.{AreReadings, as_sent, reading_behind}
 use Rattle.dia_breaking.specs.TheLines.{AreLinesOf, AreIfRoom, AreLevels, AreLinesBetween, HasLevelLines, IsCommandLevel, IsStartOf}
 use Rattle.dia_breaking.specs.ToldApps.{AreToldApps, IsLeastUnnamed, selects}
 use Rattle.dia_breaking.proofs.OneSolution.{first_key, one_list_of_apps, rest_keys}
@@ -110,11 +112,13 @@ module _ (da : Dictionary) (c : ℕ) (head : Head) (apps : List ℕ) where
       (subst (λ (named : List ℕ). AreToldBy named (apps_of y head.code head.class)) p are)
 
 module _ (da db : Dictionary) (x y first second : Apps) (a : AreApps da x) (b : AreApps db y) (a_too : AreApps da first) (b_too : AreApps db second) (c : ℕ) (head : Head) where
-  one_room : (has_room : Bool) (apps others : List ℕ) → AreIfRoom has_room (AreToldApps da (both_apps x y) c head) apps → AreIfRoom has_room (AreToldApps da (both_apps first second) c head) others → apps ≡ others
-  one_room true apps others is are =
-      one_list_of_apps da x y c head apps others is
-      (told_by da c head others first second x y (same_apps da first x a_too a head.code head.class) (same_apps db second y b_too b head.code head.class) are)
-  one_room false apps others is are = is ∙ sym are
+  one_room : (has_room : Bool) (readings others : List Reading) → AreIfRoom has_room (AreReadings da db (both_apps x y) c head) readings
+      → AreIfRoom has_room (AreReadings da db (both_apps first second) c head) others → readings ≡ others
+  one_room true readings others (apps, told, is) (more, told_too, are) =
+      let same : apps ≡ more = one_list_of_apps da x y c head apps more told
+      (told_by da c head more first second x y (same_apps da first x a_too a head.code head.class) (same_apps db second y b_too b head.code head.class) told_too) in
+      is ∙ ap (λ (apps : List ℕ). map as_sent apps ++ option_to_list (reading_behind da db head)) same ∙ sym are
+  one_room false readings others is are = is ∙ sym are
 
 -- ---- the levels of a command
 
@@ -125,17 +129,17 @@ module _ (da db : Dictionary) (k : Costs) where
   one_between true (Some a) None x y is are = is ∙ sym are
   one_between true (Some a) (Some b) x y is are = lines_one k.listed k.other k.others (rules_in da a) (rules_in db b) x y is are
 
-  one_level : (head : Head) (app : ℕ) (x y : List LevelLine) → IsCommandLevel da db k head app x → IsCommandLevel da db k head app y → x ≡ y
-  one_level head app x y is are = one_between _ _ _ x y is are
+  one_level : (head : Head) (reading : Reading) (x y : List LevelLine) → IsCommandLevel da db k head reading x → IsCommandLevel da db k head reading y → x ≡ y
+  one_level head reading x y is are = one_between _ _ _ x y is are
 
-  one_levels : (head : Head) (apps : List ℕ) (xs ys : List (List LevelLine)) → AreLevels (IsCommandLevel da db k head) apps xs
-      → AreLevels (IsCommandLevel da db k head) apps ys → xs ≡ ys
+  one_levels : (head : Head) (readings : List Reading) (xs ys : List (List LevelLine)) → AreLevels (IsCommandLevel da db k head) readings xs
+      → AreLevels (IsCommandLevel da db k head) readings ys → xs ≡ ys
   one_levels head [] xs ys is are = is ∙ sym are
-  one_levels head (app ∷ apps) [] ys is are = absurd is
-  one_levels head (app ∷ apps) (x ∷ xs) [] is are = absurd are
-  one_levels head (app ∷ apps) (x ∷ xs) (y ∷ ys) is are =
-      let first = one_level head app x y is.0 are.0 in
-      let rest = one_levels head apps xs ys is.1 are.1 in
+  one_levels head (reading ∷ readings) [] ys is are = absurd is
+  one_levels head (reading ∷ readings) (x ∷ xs) [] is are = absurd are
+  one_levels head (reading ∷ readings) (x ∷ xs) (y ∷ ys) is are =
+      let first = one_level head reading x y is.0 are.0 in
+      let rest = one_levels head readings xs ys is.1 are.1 in
       λ i. first i ∷ rest i
 
 -- ---- the start
@@ -148,7 +152,7 @@ pub record AreSame (s r : Start) : Type 0 where
   pub head : s.head ≡ r.head
   pub base : s.base ≡ r.base
   pub exits : plain_exits s.exits ≡ plain_exits r.exits
-  pub apps : s.apps.items ≡ r.apps.items
+  pub readings : s.readings.items ≡ r.readings.items
   pub levels : levels_in s ≡ levels_in r
 
 module _ (da db : Dictionary) (k : Costs) (t next : Telling) (places : (key : Key) → get same_key t.places key ≡ get same_key next.places key) (c : ℕ) where
@@ -156,16 +160,16 @@ module _ (da db : Dictionary) (k : Costs) (t next : Telling) (places : (key : Ke
   one_start s r head is are =
       let both = one_exits k t next places (rules_in da c) is.exits are.exits is.are_exits are.are_exits in
       let base : s.base ≡ r.base = is.base_is ∙ both.0 ∙ sym are.base_is in
-      let by_base = subst (λ (n : ℕ). AreIfRoom (nat_le n max_body) (AreToldApps da are.both c r.head) r.apps.items) (sym base) are.apps_are in
-      let by_head = subst (λ (h : Head). AreIfRoom (nat_le s.base max_body) (AreToldApps da are.both c h) r.apps.items) (sym head) by_base in
-      let apps = one_room da db is.both.first is.both.second are.both.first are.both.second is.are_first is.are_second are.are_first are.are_second c s.head
-      (nat_le s.base max_body) s.apps.items r.apps.items is.apps_are by_head in
-      let of_head = subst (λ (h : Head). AreLevels (IsCommandLevel da db k h) r.apps.items (levels_in r)) (sym head) are.levels_are in
-      let of_apps = subst (λ (all : List ℕ). AreLevels (IsCommandLevel da db k s.head) all (levels_in r)) (sym apps) of_head in
+      let by_base = subst (λ (n : ℕ). AreIfRoom (nat_le n max_body) (AreReadings da db are.both c r.head) r.readings.items) (sym base) are.readings_are in
+      let by_head = subst (λ (h : Head). AreIfRoom (nat_le s.base max_body) (AreReadings da db are.both c h) r.readings.items) (sym head) by_base in
+      let readings = one_room da db is.both.first is.both.second are.both.first are.both.second is.are_first is.are_second are.are_first are.are_second c s.head
+      (nat_le s.base max_body) s.readings.items r.readings.items is.readings_are by_head in
+      let of_head = subst (λ (h : Head). AreLevels (IsCommandLevel da db k h) r.readings.items (levels_in r)) (sym head) are.levels_are in
+      let of_readings = subst (λ (all : List Reading). AreLevels (IsCommandLevel da db k s.head) all (levels_in r)) (sym readings) of_head in
       record {
         head = head;
         base = base;
         exits = is.exits_are ∙ both.1 ∙ sym are.exits_are;
-        apps = apps;
-        levels = one_levels da db k s.head s.apps.items (levels_in s) (levels_in r) is.levels_are of_apps;
+        readings = readings;
+        levels = one_levels da db k s.head s.readings.items (levels_in s) (levels_in r) is.levels_are of_readings;
       }

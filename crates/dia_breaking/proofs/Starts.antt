@@ -11,45 +11,46 @@ use Rattle.dia_breaking.specs.declared.apps.BothApps.{BothApps}
 use Rattle.dia_breaking.specs.declared.exits.Exits.{Exits}
 use Rattle.dia_breaking.specs.declared.heads.Head.{Head}
 use Rattle.dia_breaking.specs.declared.keys.Telling.{Telling}
+use Rattle.dia_breaking.specs.declared.readings.Reading.{Reading}
 use Rattle.dia_breaking.specs.declared.start.Start.{Start}
 use Rattle.dia_breaking.specs.Exits.{AreExits}
 use Rattle.dia_breaking.specs.Headers.{AreApps}
 use Rattle.dia_breaking.specs.Lengths.{Costs}
 use Rattle.dia_breaking.specs.Nodes.{exits_in}
+use Rattle.dia_breaking.specs.Readings.{AreReadings}
 use Rattle.dia_breaking.specs.TheLines.{AreIfRoom, AreLevels, IsCommandLevel, IsStartOf}
-use Rattle.dia_breaking.specs.ToldApps.{AreToldApps}
 use Rattle.dia_breaking.proofs.Lists.{one_more}
 
--- ---- applications
+-- ---- readings
 
-pub with_room : (AreApps : List ℕ → Type 0) (apps : List ℕ) (room : Bool) → room ≡ true → AreApps apps → AreIfRoom room AreApps apps
-with_room AreApps apps true e told = told
-with_room AreApps apps false e told = absurd (true≢false (sym e))
+pub with_room : (Are : List Reading → Type 0) (readings : List Reading) (room : Bool) → room ≡ true → Are readings → AreIfRoom room Are readings
+with_room Are readings true e told = told
+with_room Are readings false e told = absurd (true≢false (sym e))
 
--- ---- how levels break in messages of an application
+-- ---- how levels break for a reading
 
 module _ (da db : Dictionary) (k : Costs) where
-  module _ (head : Head) (app : ℕ) (lines : List LevelLine) (own : IsCommandLevel da db k head app lines) where
-    added_level : (apps : List ℕ) (levels : List (List LevelLine)) → AreLevels (IsCommandLevel da db k head) apps levels
-        → AreLevels (IsCommandLevel da db k head) (apps ++ app ∷ []) (levels ++ lines ∷ [])
-    added_level [] levels are = subst (λ (ls : List (List LevelLine)). AreLevels (IsCommandLevel da db k head) (app ∷ []) (ls ++ lines ∷ [])) (sym are) (own, refl)
-    added_level (x ∷ apps) [] are = absurd are
-    added_level (x ∷ apps) (l ∷ levels) are = (are.0, added_level apps levels are.1)
+  module _ (head : Head) (reading : Reading) (lines : List LevelLine) (own : IsCommandLevel da db k head reading lines) where
+    added_level : (readings : List Reading) (levels : List (List LevelLine)) → AreLevels (IsCommandLevel da db k head) readings levels
+        → AreLevels (IsCommandLevel da db k head) (readings ++ reading ∷ []) (levels ++ lines ∷ [])
+    added_level [] levels are = subst (λ (ls : List (List LevelLine)). AreLevels (IsCommandLevel da db k head) (reading ∷ []) (ls ++ lines ∷ [])) (sym are) (own, refl)
+    added_level (x ∷ readings) [] are = absurd are
+    added_level (x ∷ readings) (l ∷ levels) are = (are.0, added_level readings levels are.1)
 
-    pub one_level_more : {V : Type 0} (apps : List ℕ) (i : ℕ) (old new : List V) (level : V) (items : V → List LevelLine) → slice_get apps i ≡ Some app → new ≡ old ++ level ∷ [] → items level ≡ lines
-        → AreLevels (IsCommandLevel da db k head) (take i apps) (map items old) → AreLevels (IsCommandLevel da db k head) (take (i + 1) apps) (map items new)
-    one_level_more apps i old new level items at is same are =
-        subst (λ (xs : List ℕ). AreLevels (IsCommandLevel da db k head) xs (map items new)) (sym (one_more apps i app at))
-        (subst (λ (ls : List (List LevelLine)). AreLevels (IsCommandLevel da db k head) (take i apps ++ app ∷ []) ls)
-        (sym (ap (map items) is ∙ map_push items old level ∙ ap (λ (ls : List LevelLine). map items old ++ ls ∷ []) same)) (added_level (take i apps) (map items old) are))
+    pub one_level_more : {V : Type 0} (readings : List Reading) (i : ℕ) (old new : List V) (level : V) (items : V → List LevelLine) → slice_get readings i ≡ Some reading → new ≡ old ++ level ∷ [] → items level ≡ lines
+        → AreLevels (IsCommandLevel da db k head) (take i readings) (map items old) → AreLevels (IsCommandLevel da db k head) (take (i + 1) readings) (map items new)
+    one_level_more readings i old new level items at is same are =
+        subst (λ (xs : List Reading). AreLevels (IsCommandLevel da db k head) xs (map items new)) (sym (one_more readings i reading at))
+        (subst (λ (ls : List (List LevelLine)). AreLevels (IsCommandLevel da db k head) (take i readings ++ reading ∷ []) ls)
+        (sym (ap (map items) is ∙ map_push items old level ∙ ap (λ (ls : List LevelLine). map items old ++ ls ∷ []) same)) (added_level (take i readings) (map items old) are))
 
 -- ---- the start
 
 module _ (da db : Dictionary) (telling : Telling) (k : Costs) (c : ℕ) (start : Start) (both : BothApps) (exits : Exits) where
   pub start_found : AreApps da both.first → AreApps db both.second → AreExits telling k (rules_in da c) exits → start.base ≡ exits.base → plain_exits start.exits ≡ exits_in exits
-      → AreIfRoom (nat_le exits.base max_body) (AreToldApps da both c start.head) start.apps.items
-      → AreLevels (IsCommandLevel da db k start.head) start.apps.items (map (λ lines. lines.items) start.levels.items) → IsStartOf da db telling k c start
-  start_found in_a in_b are_exits base_is exits_are apps levels = record {
+      → AreIfRoom (nat_le exits.base max_body) (AreReadings da db both c start.head) start.readings.items
+      → AreLevels (IsCommandLevel da db k start.head) start.readings.items (map (λ lines. lines.items) start.levels.items) → IsStartOf da db telling k c start
+  start_found in_a in_b are_exits base_is exits_are readings levels = record {
     both = both;
     exits = exits;
     are_first = in_a;
@@ -57,6 +58,6 @@ module _ (da db : Dictionary) (telling : Telling) (k : Costs) (c : ℕ) (start :
     are_exits = are_exits;
     base_is = base_is;
     exits_are = exits_are;
-    apps_are = subst (λ (n : ℕ). AreIfRoom (nat_le n max_body) (AreToldApps da both c start.head) start.apps.items) (sym base_is) apps;
+    readings_are = subst (λ (n : ℕ). AreIfRoom (nat_le n max_body) (AreReadings da db both c start.head) start.readings.items) (sym base_is) readings;
     levels_are = levels;
   }

@@ -88,7 +88,7 @@ module _ (da db : Dictionary) (who : Sends) (u : Unknown) (c : ℕ) where
   same_basis s r own xs ys same both = λ i. record {
     head = same.head i;
     base = same.base i;
-    apps = same.apps i;
+    readings = same.readings i;
     levels = same.levels i;
     graph = record { nodes = both.0 i; start = same.exits i; room = max_body };
     own = own;

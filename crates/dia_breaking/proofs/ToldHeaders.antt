@@ -53,7 +53,7 @@ head_allows (Group key) head flags is allowed = absurd allowed
 head_allows (Command code class app p) head flags is allowed = subst (λ (q : Pxy). PHolds q flags) (ap (λ (h : Head). h.p) (same_Some _ head is)) allowed
 head_allows (Error p) head flags is allowed = subst (λ (q : Pxy). PHolds q flags) (ap (λ (h : Head). h.p) (same_Some _ head is)) allowed
 
-allows_head : (h : DefHead) (head : Head) (flags : ℕ) → head_in h ≡ Some head → PHolds head.p flags → AllowsP h flags
+pub allows_head : (h : DefHead) (head : Head) (flags : ℕ) → head_in h ≡ Some head → PHolds head.p flags → AllowsP h flags
 allows_head (Group key) head flags is holds = absurd (none-some head is)
 allows_head (Command code class app p) head flags is holds = subst (λ (q : Pxy). PHolds q flags) (sym (ap (λ (h : Head). h.p) (same_Some _ head is))) holds
 allows_head (Error p) head flags is holds = subst (λ (q : Pxy). PHolds q flags) (sym (ap (λ (h : Head). h.p) (same_Some _ head is))) holds
@@ -70,7 +70,7 @@ pub read_at : (da db : Dictionary) (c : ℕ) (x : PlainDefinition) (head : Head)
     → head_in x.head ≡ Some head
     → IsCommandPlace app place → selected db head.code head.class app ≡ Some number → slice_get (definitions db) number ≡ Some other → IsReadBy da db c place x other
 read_at da db c x head (places.Group key outer) app number other at is_head here select is = absurd here
-read_at da db c x head (places.Command own is_told proxiable) app number other at is_head here select is =
+read_at da db c x head (places.Command sent own is_told proxiable) app number other at is_head here select is =
     (at, (head, number, is_head, subst (λ (a : ℕ). selected db head.code head.class a ≡ Some number) (sym here) select, is))
 
 module _ (da db : Dictionary) (sound : IsDictionary da) (sites : List SiteOf) (told : List Site) (lines : List Line) (c : ℕ) (x : PlainDefinition) (at : slice_get (definitions da) c ≡ Some x)

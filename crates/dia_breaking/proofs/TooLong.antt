@@ -55,7 +55,7 @@ head_says h n b s are =
     let first = all_parts IsByte (1 ∷ s.len) (h.flags ∷ s.code) second.0 in
     subst (λ (k : ℕ). k < three_bytes) s.length_field.value (below_three_bytes s.len s.length_field.width first.0.1)
 
-head_takes : (h : Header) (n : ℕ) (b : List ℕ) → IsHead h n b → length b ≡ 20
+pub head_takes : (h : Header) (n : ℕ) (b : List ℕ) → IsHead h n b → length b ≡ 20
 head_takes h n b s =
     let front = 1 ∷ s.len in
     let middle = h.flags ∷ s.code in

@@ -30,7 +30,7 @@ IsToldAt lines number told = (line : Line) × Contains lines line × (line.site 
 
 -- the way to a site of a group, where B's side reads a level there
 abbrev pub way_to : Place → ℕ → Bool → Option Way
-way_to (places.Command app is_told proxiable) way is_read = None
+way_to (places.Command app read_as is_told proxiable) way is_read = None
 way_to (places.Group key outer) way is_read = if is_read then Some (record { key = key; way = way }) else None
 
 abbrev pub ways_of : List Site → List Way
@@ -38,7 +38,7 @@ ways_of sites = filter_map (λ site. way_to site.place site.way site.is_read) si
 
 -- the room of a level at a place
 abbrev pub room_at : Place → ℕ → ℕ
-room_at (places.Command app is_told proxiable) way = max_body
+room_at (places.Command app read_as is_told proxiable) way = max_body
 room_at (places.Group key outer) way = max_body - way
 
 -- on this ground, and by these lines of levels, the site of two definitions is closed, with this room, by all sites that groups have

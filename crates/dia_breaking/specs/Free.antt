@@ -33,7 +33,7 @@ IsSelectedFor db h app y = (head : Head) × (number : ℕ) × (head_in h ≡ Som
 
 -- the level at the place is read by these definitions, in messages of the command c
 abbrev pub IsReadBy : Dictionary → Dictionary → ℕ → Place → PlainDefinition → PlainDefinition → Type 0
-IsReadBy da db c (places.Command app is_told proxiable) x y = (slice_get (definitions da) c ≡ Some x) × IsSelectedFor db x.head app y
+IsReadBy da db c (places.Command app read_as is_told proxiable) x y = (slice_get (definitions da) c ≡ Some x) × IsSelectedFor db x.head read_as y
 IsReadBy da db c (places.Group key outer) x y = (group_of da key ≡ Some x) × (group_of db key ≡ Some y)
 
 -- the line stands at a site whose level is read so

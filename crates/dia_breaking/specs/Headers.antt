@@ -62,9 +62,9 @@ HasHead d c head = (x : PlainDefinition) × (slice_get (definitions d) c ≡ Som
 abbrev pub TellsRefusal : List Line → Type 0
 TellsRefusal lines = (line : Line) × Contains lines line × ((line.cause ≡ causes.Command) ⊎ (line.cause ≡ causes.Application))
 
--- the place is the command's own level, in messages of this application
+-- the place is the command's own level, and B's definition for this application reads it
 abbrev pub IsCommandPlace : ℕ → Place → Type 0
-IsCommandPlace app (places.Command own is_told proxiable) = own ≡ app
+IsCommandPlace app (places.Command own read_as is_told proxiable) = read_as ≡ app
 IsCommandPlace app (places.Group key outer) = ⊥
 
 -- at such a place B's side reads a level

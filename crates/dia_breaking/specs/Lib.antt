@@ -17,6 +17,7 @@ pub mod Orders
 pub mod Outlooks
 pub mod OwnBreaks
 pub mod OwnKeys
+pub mod Readings
 pub mod Sender
 pub mod SentKeys
 pub mod Sides

@@ -25,6 +25,7 @@ use Rattle.dia_breaking.specs.declared.line.Line.{Line}
 use Rattle.dia_breaking.specs.declared.line.Site.{Site}
 use Rattle.dia_breaking.specs.declared.line.Standing.TheVariants.{Unchecked}
 use Rattle.dia_breaking.specs.declared.own_breaks.OwnBreaks.{OwnBreaks}
+use Rattle.dia_breaking.specs.declared.readings.Reading.{Reading}
 use Rattle.dia_breaking.specs.declared.own_lines.Kind.{Kind}
 use Rattle.dia_breaking.specs.declared.sites.Numbers.{Numbers}
 use Rattle.dia_breaking.specs.declared.own_lines.Kind.TheVariants as kinds
@@ -88,9 +89,9 @@ header_causes db head app = option_map_or (λ other. flag_causes head other fals
 abbrev pub header_line : ℕ → ℕ → Cause → Told
 header_line base site cause = record { site = site; cause = cause; length = base }
 
--- in messages of an application
-abbrev pub header_lines : Dictionary → Head → ℕ → ℕ → ℕ → List Told
-header_lines db head base site app = map (header_line base site) (header_causes db head app)
+-- for a reading
+abbrev pub header_lines : Dictionary → Head → ℕ → ℕ → Reading → List Told
+header_lines db head base site reading = map (header_line base site) (header_causes db head reading.read_as)
 
 -- ---- levels
 
@@ -150,24 +151,23 @@ own_lines kind first count own reached = of_each (reached_line kind first count 
 
 -- ---- all
 
--- what the sites and the lines are made of: the head of the command, the length of a least level of it, the applications for which it is
--- looked at, and for each how its levels break B's rules; where levels lead; and the AVPs of which there is something to tell, with how the
--- levels of each break B's rules
+-- what the sites and the lines are made of: the head of the command, the length of a least level of it, its readings, and for each how its
+-- levels break B's rules; where levels lead; and the AVPs of which there is something to tell, with how the levels of each break B's rules
 pub record Basis : Type 0 where
   pub head : Head
   pub base : ℕ
-  pub apps : List ℕ
+  pub readings : List Reading
   pub levels : List (List LevelLine)
   pub graph : Graph
   pub own : List OwnBreaks
   pub groups : List (List LevelLine)
 
 abbrev pub start_of : Dictionary → Basis → Option ℕ
-start_of db basis = first_read (command_sites db basis.head basis.apps)
+start_of db basis = first_read (command_sites db basis.head basis.readings)
 
 -- where `first` is the number of the site at which a walk starts, and `count` sites are the command's
 abbrev pub sites_of : Dictionary → Basis → ℕ → ℕ → List Step → List Site
-sites_of db basis first count steps = command_sites db basis.head basis.apps ++ group_sites basis.own first count steps
+sites_of db basis first count steps = command_sites db basis.head basis.readings ++ group_sites basis.own first count steps
 
 -- in the order in which the lines of one site stand
 abbrev pub numbers : ℕ → ℕ → Numbers
@@ -175,7 +175,7 @@ numbers first count = record { first = first; count = count }
 
 abbrev pub lines_of : Dictionary → Basis → Numbers → List Step → List (Option Reach) → List Told
 lines_of db basis n steps reached =
-    of_each (header_lines db basis.head basis.base) basis.apps ++ of_each command_levels basis.levels ++ of_each (group_levels n.count basis.groups) steps
+    of_each (header_lines db basis.head basis.base) basis.readings ++ of_each command_levels basis.levels ++ of_each (group_levels n.count basis.groups) steps
     ++ own_lines kinds.Unknown n.first n.count basis.own reached ++ own_lines kinds.MBit n.first n.count basis.own reached ++ own_lines kinds.Data n.first n.count basis.own reached
 
 -- what is told stands in the order of the sites
@@ -192,8 +192,8 @@ pub record IsListing (db : Dictionary) (basis : Basis) (sites : List Site) (told
   pub steps : List Step
   pub reached : List (Option Reach)
   pub is_walk : IsWalkFrom (is_some (start_of db basis)) basis.graph steps reached
-  pub sites_are : sites ≡ sites_of db basis (unwrap_or (start_of db basis) 0) (length basis.apps) steps
-  pub lines_are : AreInOrder (lines_of db basis (numbers (unwrap_or (start_of db basis) 0) (length basis.apps)) steps reached) told
+  pub sites_are : sites ≡ sites_of db basis (unwrap_or (start_of db basis) 0) (length basis.readings) steps
+  pub lines_are : AreInOrder (lines_of db basis (numbers (unwrap_or (start_of db basis) 0) (length basis.readings)) steps reached) told
 
 -- from one basis there is one list of sites, and one of lines
 abbrev pub ListingsAreOne : Type 0
@@ -209,7 +209,7 @@ abbrev pub basis_of : Start → List OwnBreaks → List Outlook → Basis
 basis_of start own outlooks = record {
   head = start.head;
   base = start.base;
-  apps = start.apps.items;
+  readings = start.readings.items;
   levels = map (λ lines. lines.items) start.levels.items;
   graph = record { nodes = map node_in outlooks; start = plain_exits start.exits; room = max_body };
   own = own;

@@ -1,20 +1,25 @@
 -- Messages whose headers are mended: their P flag and their application are such as a definition of the receiver's takes.
-use Rattle.std.specs.Prelude.{◌≡◌, ◌≢◌, ◌↔◌, ℕ, Bool, true, List, Contains}
+use Rattle.std.specs.Prelude.{◌≡◌, ◌≢◌, ◌↔◌, ℕ, Bool, true, false, List, All, Some, slice_get, Contains}
 use Rattle.std.specs.Int.{IsBitSet}
 use Rattle.dia_wire.specs.declared.Header.{Header}
 use Rattle.dia_wire.specs.Wire.{IsMessage}
 use Rattle.dia_book.specs.Dictionary.{Dictionary, PlainDefinition}
 use Rattle.dia_policy.specs.declared.Levels.TheVariants as levels
-use Rattle.dia_check.specs.Valid.{AllowsP, IsValid}
-use Rattle.dia_breaking_sites.specs.Sent.{IsSent}
+use Rattle.dia_check.specs.Valid.{AllowsP, IsValid, IsValidOf}
+use Rattle.dia_breaking_sites.specs.Sent.{IsSent, own_policy}
 use Rattle.dia_breaking_sites.specs.Sites.{AreAsked}
 use Rattle.dia_breaking_sites.specs.Selection.{IsSelected}
+use Rattle.dia_breaking.specs.declared.line.Cause.{Cause}
 use Rattle.dia_breaking.specs.declared.line.Cause.TheVariants as causes
 use Rattle.dia_breaking.specs.declared.line.Line.{Line}
+use Rattle.dia_breaking.specs.declared.line.Place.{Place}
 use Rattle.dia_breaking.specs.declared.line.Site.{Site}
+use Rattle.dia_breaking.specs.declared.line.Standing.TheVariants.{Confirmed}
+use Rattle.dia_breaking.specs.Confirmed.{IsConfirmed}
 use Rattle.dia_breaking.specs.Free.{IsFreeLevel, IsReadBy}
 use Rattle.dia_breaking.specs.Headers.{IsCommandPlace}
 use Rattle.dia_breaking.specs.Sides.{Sides, Answer}
+use Rattle.dia_breaking.specs.Words.{path_to}
 
 -- the number of the P flag among the bits of the Command Flags
 abbrev pub p_bit : ℕ
@@ -33,7 +38,7 @@ pub record IsMendedFor (db : Dictionary) (other : PlainDefinition) (old new : He
 abbrev pub IsAllTold : List Line → Type 0
 IsAllTold lines = (line : Line) → Contains lines line → line.cause ≢ causes.Unproved
 
--- the level of the command at this site is read by these definitions, in messages of this application
+-- the level of the command at this site is read by these definitions, the second for this application
 pub record IsLevelAt (s : Sides) (sites : List Site) (c app : ℕ) (site : Site) (command other : PlainDefinition) : Type 0 where
   pub inside : Contains sites site
   pub is_read : site.is_read ≡ true
@@ -51,3 +56,41 @@ AreValidOnceMended s answer = IsAllTold answer.lines → (bytes mended : List �
 -- no message of the command is sent
 abbrev pub IsUnsent : Sides → ℕ → Type 0
 IsUnsent s c = (bytes : List ℕ) → ¬ IsSent s.sender s.sends bytes c
+
+-- ---- messages of lines
+
+-- the new header is the old one, mended for the definition of B that reads the level of the command c at this place
+pub record IsMendedAt (s : Sides) (c : ℕ) (place : Place) (old new : Header) : Type 0 where
+  pub command : PlainDefinition
+  pub other : PlainDefinition
+  pub at : IsCommandPlace new.app place
+  pub read : IsReadBy s.sender s.receiver c place command other
+  pub mends : IsMendedFor s.receiver other old new
+
+-- the message is valid for the sender, as one of the command c, and isn't valid for the receiver once its header is mended for the place
+pub record BreaksOnceMended (s : Sides) (c : ℕ) (place : Place) (bytes : List ℕ) : Type 0 where
+  pub sent : IsValidOf s.sender (own_policy s.sends) levels.Any bytes c
+  pub header : Header
+  pub mended : List ℕ
+  pub is_mended : IsMendedAt s c place sent.header header
+  pub message : IsMessage header sent.avps mended
+  pub breaks : ¬ IsValid s.receiver s.unknown levels.Any mended
+
+-- the line tells of the header
+abbrev pub is_of_header : Cause → Bool
+is_of_header causes.Command = true
+is_of_header causes.Application = true
+is_of_header (causes.Proxiable set) = true
+is_of_header cause = false
+
+-- unless the line is of the header, the message breaks once its header is mended for the place of the command with which the line's path begins
+abbrev pub BreaksBehind : Sides → ℕ → List Site → Line → List ℕ → Type 0
+BreaksBehind s c sites line bytes = is_of_header line.cause ≡ false → (site : Site) × (slice_get (path_to sites line.site) 0 ≡ Some site) × BreaksOnceMended s c site.place bytes
+
+-- the line has a message that breaks, and breaks so
+abbrev pub HasMessage : Sides → ℕ → List Site → Line → Type 0
+HasMessage s c sites line = (bytes : List ℕ) × IsConfirmed s bytes c × BreaksBehind s c sites line bytes
+
+-- so has each line that is told as confirmed
+abbrev pub EachHasMessage : Sides → ℕ → List Site → List Line → Type 0
+EachHasMessage s c sites lines = All (λ line. line.standing ≡ Confirmed → HasMessage s c sites line) lines

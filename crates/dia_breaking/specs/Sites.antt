@@ -1,5 +1,5 @@
--- The sites of a command: its own level, for each application for which it is looked at, and then the groups that a walk reaches.
-use Rattle.std.specs.Prelude.{ℕ, ◌+◌, ◌-◌, ◌==◌, min, if◌then◌else◌, Bool, true, false, not, ◌&&◌, ◌||◌, is_none, is_some, List, map, Option, option_and_then, slice_get, position}
+-- The sites of a command: its own level, for each of its readings, and then the groups that a walk reaches.
+use Rattle.std.specs.Prelude.{ℕ, ◌+◌, ◌-◌, ◌==◌, nat_eq, min, if◌then◌else◌, Bool, true, false, not, ◌&&◌, ◌||◌, is_none, is_some, List, map, Option, option_and_then, slice_get, position}
 use Rattle.std.specs.List.{filter_map}
 use Rattle.std.specs.Option.{option_map, option_map_or}
 use Rattle.dia_wire.specs.declared.Key.{Key}
@@ -9,6 +9,7 @@ use Rattle.dia_breaking.specs.declared.heads.Head.{Head}
 use Rattle.dia_breaking.specs.declared.line.Place.TheVariants as places
 use Rattle.dia_breaking.specs.declared.line.Site.{Site}
 use Rattle.dia_breaking.specs.declared.own_breaks.OwnBreaks.{OwnBreaks}
+use Rattle.dia_breaking.specs.declared.readings.Reading.{Reading}
 use Rattle.dia_breaking.specs.Headers.{allows}
 use Rattle.dia_breaking.specs.Words.{head_at}
 
@@ -22,22 +23,27 @@ abbrev pub both_allow : Head → Head → Bool → Bool
 both_allow head other set = allows head.p set && allows other.p set
 
 -- B selects no definition
-abbrev pub refused_site : Head → ℕ → Site
-refused_site head app = record { place = places.Command app false (not (allows head.p false)); way = 0; is_read = false }
+abbrev pub refused_site : Head → Reading → Site
+refused_site head reading = record { place = places.Command reading.app reading.read_as false (not (allows head.p false)); way = 0; is_read = false }
 
--- B selects a definition with this head. P is set where it can't be clear; where no P flag is allowed by both, it is one that A allows
-abbrev pub read_site : Head → ℕ → Head → Site
-read_site head app other = record {
-  place = places.Command app (is_none head.app && is_some other.app) (not (both_allow head other false) && (both_allow head other true || not (allows head.p false)));
-  way = 0;
-  is_read = true;
-}
+-- B's definition is for another application than that of the messages, or for one alone where A's is for more
+abbrev pub tells_app : Head → Reading → Head → Bool
+tells_app head reading other = not (nat_eq reading.app reading.read_as) || (is_none head.app && is_some other.app)
 
-abbrev pub command_site : Dictionary → Head → ℕ → Site
-command_site db head app = option_map_or (read_site head app) (other_head db head app) (refused_site head app)
+-- P is set where it can't be clear; where no P flag is allowed by both, it is one that A allows
+abbrev pub sets_p : Head → Head → Bool
+sets_p head other = not (both_allow head other false) && (both_allow head other true || not (allows head.p false))
 
-abbrev pub command_sites : Dictionary → Head → List ℕ → List Site
-command_sites db head apps = map (command_site db head) apps
+-- B selects a definition with this head
+abbrev pub read_site : Head → Reading → Head → Site
+read_site head reading other =
+    record { place = places.Command reading.app reading.read_as (tells_app head reading other) (sets_p head other); way = 0; is_read = true }
+
+abbrev pub command_site : Dictionary → Head → Reading → Site
+command_site db head reading = option_map_or (read_site head reading) (other_head db head reading.read_as) (refused_site head reading)
+
+abbrev pub command_sites : Dictionary → Head → List Reading → List Site
+command_sites db head readings = map (command_site db head) readings
 
 -- the first site at which B's side reads a level
 abbrev pub first_read : List Site → Option ℕ

@@ -18,6 +18,7 @@ use Rattle.dia_breaking.specs.declared.line.Breaks.{Breaks}
 use Rattle.dia_breaking.specs.declared.line.Line.{Line}
 use Rattle.dia_breaking.specs.declared.line.Site.{Site}
 use Rattle.dia_breaking.specs.declared.own_breaks.OwnBreaks.{OwnBreaks}
+use Rattle.dia_breaking.specs.declared.readings.Reading.{Reading}
 use Rattle.dia_breaking.specs.declared.start.Start.{Start}
 use Rattle.dia_breaking.specs.Exits.{AreExits, AreOutlooks}
 use Rattle.dia_breaking.specs.Headers.{AreApps, HasHead}
@@ -26,10 +27,10 @@ use Rattle.dia_breaking.specs.Listing.{Told, IsListing, basis_of, not_shown, tel
 use Rattle.dia_breaking.specs.Nodes.{exits_in}
 use Rattle.dia_breaking.specs.Outlooks.{HaveGroupLines, group_rules}
 use Rattle.dia_breaking.specs.OwnBreaks.{AreOwnBreaks}
+use Rattle.dia_breaking.specs.Readings.{AreReadings}
 use Rattle.dia_breaking.specs.Sides.{Sides, Answer}
 use Rattle.dia_breaking.specs.Sites.{command_site, first_read}
 use Rattle.dia_breaking.specs.Telling.{IsExactTelling, IsTelling}
-use Rattle.dia_breaking.specs.ToldApps.{AreToldApps}
 
 -- ---- what is the same for all commands
 
@@ -80,28 +81,29 @@ pub record AreKnown (s : Sides) (f : Facts) : Type 0 where
 
 -- ---- the level of a command
 
--- how it breaks B's rules, where B's side reads a level of it or not, and A and B have these definitions for the application: where no level
--- is read, and where A or B has no definition, nothing is told; else what breaks in the levels of the two
+-- how it breaks B's rules, where B's side reads a level of it or not, and A and B have these definitions for it: where no level is read, and
+-- where A or B has no definition, nothing is told; else what breaks in the levels of the two
 abbrev pub AreLinesBetween : Dictionary → Dictionary → Costs → Bool → Option ℕ → Option ℕ → List LevelLine → Type 0
 AreLinesBetween da db k false a b lines = lines ≡ []
 AreLinesBetween da db k true a b lines = MatchOption a (lines ≡ []) (λ a. MatchOption b (lines ≡ []) (λ b. AreLinesOf k (rules_in da a) (rules_in db b) lines))
 
--- in messages of an application
-abbrev pub IsCommandLevel : Dictionary → Dictionary → Costs → Head → ℕ → List LevelLine → Type 0
-IsCommandLevel da db k head app lines = AreLinesBetween da db k (command_site db head app).is_read (selected da head.code head.class app) (selected db head.code head.class app) lines
+-- for a reading
+abbrev pub IsCommandLevel : Dictionary → Dictionary → Costs → Head → Reading → List LevelLine → Type 0
+IsCommandLevel da db k head reading lines =
+    AreLinesBetween da db k (command_site db head reading).is_read (selected da head.code head.class reading.app) (selected db head.code head.class reading.read_as) lines
 
--- of each application, where this says what its level is
-abbrev pub AreLevels : (ℕ → List LevelLine → Type 0) → List ℕ → List (List LevelLine) → Type 0
+-- for each reading, where this says what its level is
+abbrev pub AreLevels : (Reading → List LevelLine → Type 0) → List Reading → List (List LevelLine) → Type 0
 AreLevels IsLevel [] levels = levels ≡ []
-AreLevels IsLevel (app ∷ apps) [] = ⊥
-AreLevels IsLevel (app ∷ apps) (lines ∷ rest) = IsLevel app lines × AreLevels IsLevel apps rest
+AreLevels IsLevel (reading ∷ readings) [] = ⊥
+AreLevels IsLevel (reading ∷ readings) (lines ∷ rest) = IsLevel reading lines × AreLevels IsLevel readings rest
 
--- the applications for which a command is looked at, if a message has room for its least level
-abbrev pub AreIfRoom : Bool → (List ℕ → Type 0) → List ℕ → Type 0
-AreIfRoom true AreApps apps = AreApps apps
-AreIfRoom false AreApps apps = apps ≡ []
+-- the readings of a command, if a message has room for its least level
+abbrev pub AreIfRoom : Bool → (List Reading → Type 0) → List Reading → Type 0
+AreIfRoom true Are readings = Are readings
+AreIfRoom false Are readings = readings ≡ []
 
--- where the level of the command c leads, in which applications, and how it breaks B's rules
+-- where the level of the command c leads, how it is read, and how it breaks B's rules
 pub record IsStartOf (da db : Dictionary) (telling : Telling) (k : Costs) (c : ℕ) (start : Start) : Type 0 where
   pub both : BothApps
   pub exits : Exits
@@ -110,8 +112,8 @@ pub record IsStartOf (da db : Dictionary) (telling : Telling) (k : Costs) (c : �
   pub are_exits : AreExits telling k (rules_in da c) exits
   pub base_is : start.base ≡ exits.base
   pub exits_are : plain_exits start.exits ≡ exits_in exits
-  pub apps_are : AreIfRoom (nat_le start.base max_body) (AreToldApps da both c start.head) start.apps.items
-  pub levels_are : AreLevels (IsCommandLevel da db k start.head) start.apps.items (map (λ lines. lines.items) start.levels.items)
+  pub readings_are : AreIfRoom (nat_le start.base max_body) (AreReadings da db both c start.head) start.readings.items
+  pub levels_are : AreLevels (IsCommandLevel da db k start.head) start.readings.items (map (λ lines. lines.items) start.levels.items)
 
 -- ---- the lines
 

@@ -60,7 +60,7 @@ definition_name d def = option_map_or (λ x. x.name) (slice_get (definitions d) 
 
 -- the site whose level the level at the place stands in; none for the level of a command
 abbrev pub outer_of : Place → Option ℕ
-outer_of (places.Command app is_told proxiable) = None
+outer_of (places.Command app read_as is_told proxiable) = None
 outer_of (places.Group key outer) = Some outer
 
 abbrev pub with_outer : (ℕ → List Site) → Site → List Site
@@ -79,7 +79,7 @@ application_text true app = codes "[application " ++ decimal app ++ codes "]"
 application_text false app = []
 
 abbrev pub place_text : Sides → ℕ → Place → List ℕ
-place_text s c (places.Command app is_told proxiable) = definition_name s.sender c ++ application_text is_told app
+place_text s c (places.Command app read_as is_told proxiable) = definition_name s.sender c ++ application_text is_told read_as
 place_text s c (places.Group key outer) = codes "/" ++ avp_name s key
 
 abbrev pub path_text : Sides → ℕ → List Site → List ℕ
@@ -125,7 +125,7 @@ bounds_text bounds = decimal bounds.min ++ max_text bounds.min bounds.max
 
 -- the rules of A by which the level at a place is read, in messages of the command c
 abbrev pub sent_rules : Dictionary → ℕ → Place → List DRule
-sent_rules da c (places.Command app is_told proxiable) = rules_in da c
+sent_rules da c (places.Command app read_as is_told proxiable) = rules_in da c
 sent_rules da c (places.Group key outer) = group_rules da key
 
 abbrev pub head_at : Dictionary → ℕ → Option Head
@@ -133,8 +133,8 @@ head_at d def = option_and_then (λ x. head_in x.head) (slice_get (definitions d
 
 -- and those of B
 abbrev pub accepted_rules : Sides → ℕ → Place → List DRule
-accepted_rules s c (places.Command app is_told proxiable) =
-    option_map_or (rules_in s.receiver) (option_and_then (λ head. selected s.receiver head.code head.class app) (head_at s.sender c)) []
+accepted_rules s c (places.Command app read_as is_told proxiable) =
+    option_map_or (rules_in s.receiver) (option_and_then (λ head. selected s.receiver head.code head.class read_as) (head_at s.sender c)) []
 accepted_rules s c (places.Group key outer) = group_rules s.receiver key
 
 -- of these counts, and of the AVP that stands before
@@ -227,7 +227,7 @@ abbrev pub format_text : Sides → Key → List ℕ
 format_text s key = codes "format " ++ avp_name s key ++ codes ": " ++ format_detail (format_in s.sender key) (format_in s.receiver key)
 
 abbrev pub refused_application : Place → List ℕ
-refused_application (places.Command app is_told proxiable) = codes "application " ++ decimal app ++ codes ": not accepted"
+refused_application (places.Command app read_as is_told proxiable) = codes "application " ++ decimal app ++ codes ": not accepted"
 refused_application (places.Group key outer) = []
 
 -- where a line stands: the command, its sites, and the number of one

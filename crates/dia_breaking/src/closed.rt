@@ -150,14 +150,14 @@ fn is_site_closed<A: Book, B: Book>(
 {
     let told = level_lines_at(alloc, &found.lines, number)?;
     match site.place {
-        Place::Command { app, .. } => {
-            is_command_closed(alloc, closing, found.command, head, app, &told)
+        Place::Command { read_as, .. } => {
+            is_command_closed(alloc, closing, found.command, head, read_as, &told)
         }
         Place::Group { key, .. } => Ok(is_group_closed(closing, key, site.way, &told)),
     }
 }
 
-/// Whether the command's own level is closed in messages of an application.
+/// Whether the command's own level is closed where B's definition for an application reads it.
 fn is_command_closed<A: Book, B: Book>(
     alloc: Global,
     closing: &Closing<'_, '_, A, B>,

@@ -7,38 +7,37 @@ ghost use Rattle.dia_breaking.specs.Confirmed.{EachConfirmedBreaks, HaveStanding
 ghost use Rattle.dia_breaking.specs.Confirmed.{IsStandingOf, has_no_message, is_checked, left_behind};
 ghost use Rattle.dia_breaking.specs.Confirmed.{most_checked_together};
 ghost use Rattle.dia_breaking.specs.Listing.{unchecked};
+ghost use Rattle.dia_breaking.specs.Mended.{BreaksBehind, EachHasMessage, HasMessage};
 ghost use Rattle.dia_breaking.specs.TheLines.{HaveSameSites};
 ghost use Rattle.dia_breaking.specs.Upgrades.{sides_of};
 
-use crate::heads::{allows, head_of};
-use crate::line::{Breaks, Cause, Line, Place, Site, Standing};
+use crate::line::{Breaks, Cause, Line, Standing};
 use crate::upgrade::Upgrade;
 use dia_book::{Book, DefId};
 use dia_check::{Levels, Refusal, check};
 use dia_policy::{Sends, Unknown};
-use dia_wire::COMMAND_PROXIABLE;
 use std::alloc::{AllocError, Global};
 
 /// The most bytes of a message that is checked.
 const MOST_CHECKED: u64 = 1 << 20;
-
-/// The place of the Command Flags in a message.
-const COMMAND_FLAGS: usize = 4;
 
 /// The most bytes of all messages of a command that are checked.
 const MOST_CHECKED_TOGETHER: u64 = 1 << 24;
 
 impl<'a, A: Book, B: Book> Upgrade<'a, A, B> {
     /// The message of a line, where checks under both dictionaries show that it is valid under A, as one of the command, and not
-    /// under B; behind the header also not with a P flag that B's definition takes. For `Listed` it is checked only that A knows
-    /// its AVPs, and not that its rules list them. The error comes only where memory was refused.
+    /// under B; for a line that isn't of the header also not with its header mended for B's definition. For `Listed` it is checked
+    /// only that A knows its AVPs, and not that its rules list them. The error comes only where memory was refused.
     pub fn confirmed_message(
         &self,
         alloc: Global,
         breaks: &Breaks,
         line: &Line,
     ) -> Result<Option<Vec<u8>>, AllocError>
-        ensures { IfOk result (λ found. IfSome found (λ bytes. IsConfirmed (sides_of self.now) bytes.items breaks.now.command)) }
+        ensures confirmed { IfOk result
+            (λ found. IfSome found (λ bytes. IsConfirmed (sides_of self.now) bytes.items breaks.now.command)) }
+        ensures mended { IfOk result (λ found. IfSome found (λ bytes. BreaksBehind (sides_of self.now)
+            breaks.now.command breaks.now.sites.items line.now bytes.items)) }
     {
         let bytes = self.message(alloc, breaks, line)?;
         let confirmed = self.is_confirmed(alloc, breaks.command, &bytes)?;
@@ -46,42 +45,6 @@ impl<'a, A: Book, B: Book> Upgrade<'a, A, B> {
             Ok(Some(bytes))
         } else {
             Ok(None)
-        }
-    }
-
-    /// Whether B's side refuses the message of a line also where its P flag is mended, unless the line is of the header.
-    fn breaks_mended(
-        &self,
-        alloc: Global,
-        breaks: &Breaks,
-        line: &Line,
-        bytes: &[u8],
-    ) -> Result<bool, AllocError> {
-        if is_of_header(&line.cause) {
-            return Ok(true);
-        }
-        let path = breaks.path(alloc, line.site)?;
-        match self.mended_flag(breaks, path.first()) {
-            Some(set) => {
-                let mended = with_flag(alloc, bytes, set)?;
-                Ok(!is_valid(alloc, self.b, self.unknown, &mended)?)
-            }
-            None => Ok(true),
-        }
-    }
-
-    /// The P flag that B's definition takes at a site of the command, where messages of the site have the other one.
-    fn mended_flag(&self, breaks: &Breaks, site: Option<&Site>) -> Option<bool> {
-        let place = site?.place;
-        let Place::Command { proxiable, .. } = place else {
-            return None;
-        };
-        let def = self.definition_of_b(breaks.code, breaks.class, place)?;
-        let head = head_of(self.b, def)?;
-        if allows(head.p, proxiable) {
-            None
-        } else {
-            Some(!proxiable)
         }
     }
 
@@ -104,6 +67,8 @@ impl<'a, A: Book, B: Book> Upgrade<'a, A, B> {
         ensures same { IfOk result (HaveSameSites breaks) }
         ensures kept { IfOk result (λ told. map unchecked told.lines.items ≡ map unchecked breaks.lines.items) }
         ensures each { IfOk result (λ told. EachConfirmedBreaks (sides_of self.now) breaks.command told.lines.items) }
+        ensures each_mended { IfOk result
+            (λ told. EachHasMessage (sides_of self.now) breaks.command breaks.sites.items told.lines.items) }
         ensures standings { IfOk result (λ told. HaveStandings most_checked_together told.lines.items) }
     {
         let mut lines = Vec::new(alloc);
@@ -126,6 +91,8 @@ impl<'a, A: Book, B: Book> Upgrade<'a, A, B> {
     ) -> Result<Standing, AllocError>
         ensures confirmed { IfOk result (λ standing. standing ≡ Standing.Confirmed
             → (bytes : List ℕ) × IsConfirmed (sides_of self.now) bytes breaks.now.command) }
+        ensures mended { IfOk result (λ standing. standing ≡ Standing.Confirmed
+            → HasMessage (sides_of self.now) breaks.now.command breaks.now.sites.items line.now) }
         ensures standing { IfOk result (IsStandingOf left line.now) }
     {
         if has_no_message(&line.cause) {
@@ -139,28 +106,6 @@ impl<'a, A: Book, B: Book> Upgrade<'a, A, B> {
             None => Ok(Standing::Undecided),
         }
     }
-}
-
-/// Whether the line tells of the header.
-fn is_of_header(cause: &Cause) -> bool {
-    matches!(
-        cause,
-        Cause::Command | Cause::Application | Cause::Proxiable { .. }
-    )
-}
-
-/// The message with this P flag.
-fn with_flag(alloc: Global, bytes: &[u8], set: bool) -> Result<Vec<u8>, AllocError> {
-    let mut mended = Vec::new(alloc);
-    mended.extend_from_slice(bytes)?;
-    if let Some(flags) = mended.get_mut(COMMAND_FLAGS) {
-        *flags = if set {
-            *flags | COMMAND_PROXIABLE
-        } else {
-            *flags & !COMMAND_PROXIABLE
-        };
-    }
-    Ok(mended)
 }
 
 /// Whether no message is known that breaks as the line tells.
@@ -226,7 +171,7 @@ fn is_message_of<B: Book>(
 }
 
 /// Whether the bytes are a valid message.
-fn is_valid<B: Book>(
+pub(crate) fn is_valid<B: Book>(
     alloc: Global,
     book: &B,
     unknown: Unknown,

@@ -8,21 +8,22 @@ ghost use Rattle.dia_breaking.specs.Orders.{of_each};
 use crate::heads::{Head, allows};
 use crate::line::{Cause, Line};
 use crate::lines::push_line;
+use crate::readings::Reading;
 use crate::sites::other_head;
 use crate::start::Start;
 use dia_book::Book;
 use std::alloc::AllocError;
 
-/// Adds what breaks in the headers of messages, by their applications.
+/// Adds what breaks in the headers of messages, for each reading.
 pub(crate) fn push_header_lines<B: Book>(
     b: &B,
     start: &Start,
     lines: &mut Vec<Line>,
 ) -> Result<(), AllocError>
     ensures { OnOk result (AddsTold lines.old.items lines.new.items
-        (of_each (header_lines (B.meaning b.now) start.now.head start.now.base) start.now.apps.items)) }
+        (of_each (header_lines (B.meaning b.now) start.now.head start.now.base) start.now.readings.items)) }
 {
-    for site in 0..start.apps.len() {
+    for site in 0..start.readings.len() {
         push_header_at(b, start, site, lines)?;
     }
     Ok(())
@@ -35,26 +36,26 @@ fn push_header_at<B: Book>(
     lines: &mut Vec<Line>,
 ) -> Result<(), AllocError>
     ensures { OnOk result (AddsTold lines.old.items lines.new.items (option_map_or
-        (header_lines (B.meaning b.now) start.now.head start.now.base site) (slice_get start.now.apps.items site) [])) }
+        (header_lines (B.meaning b.now) start.now.head start.now.base site) (slice_get start.now.readings.items site) [])) }
 {
-    match start.apps.get(site) {
-        Some(app) => push_header(b, &start.head, start.base, site, *app, lines),
+    match start.readings.get(site) {
+        Some(reading) => push_header(b, &start.head, start.base, site, reading, lines),
         None => Ok(()),
     }
 }
 
-/// Adds what breaks in the header of messages of an application.
+/// Adds what breaks in the header of messages, for a reading.
 fn push_header<B: Book>(
     b: &B,
     head: &Head,
     base: u64,
     site: usize,
-    app: u32,
+    reading: &Reading,
     lines: &mut Vec<Line>,
 ) -> Result<(), AllocError>
-    ensures { OnOk result (AddsTold lines.old.items lines.new.items (header_lines (B.meaning b.now) head.now base site app)) }
+    ensures { OnOk result (AddsTold lines.old.items lines.new.items (header_lines (B.meaning b.now) head.now base site reading.now)) }
 {
-    match other_head(b, head, app) {
+    match other_head(b, head, reading.read_as) {
         Some(other) => {
             push_flag(lines, head, &other, base, site, false)?;
             push_flag(lines, head, &other, base, site, true)

@@ -111,12 +111,12 @@ fn is_met_at<B: Book>(b: &B, head: &Head, found: &Breaks, number: usize, app: u3
     }
 }
 
-/// Whether the place is the command's own level, in messages of this application.
+/// Whether the place is the command's own level, and B's definition for this application reads it.
 fn is_command_place(place: Place, app: u32) -> bool
     ensures { IsTrue result → IsCommandPlace app place }
 {
     match place {
-        Place::Command { app: own, .. } => own == app,
+        Place::Command { read_as, .. } => read_as == app,
         Place::Group { .. } => false,
     }
 }

@@ -150,7 +150,7 @@ impl<'a, A: Book, B: Book> Upgrade<'a, A, B> {
             ≡ accepted_rules (sides_of self.now) command place }
     {
         match place {
-            Place::Command { app, .. } => self.selected_for(command, app),
+            Place::Command { read_as, .. } => self.selected_for(command, read_as),
             Place::Group { key, .. } => group_of(self.b, key),
         }
     }

@@ -14,7 +14,11 @@ pub enum Place {
     /// The level of the command itself, in messages of this application.
     Command {
         app: u32,
-        /// Whether B's definition is for this application alone, and A's for more.
+        /// The application of B's definition: that of the messages; or, where B refuses that one, the one other that B alone
+        /// names.
+        read_as: u32,
+        /// Whether the path tells the application of B's definition: it is another one than that of the messages, or B's
+        /// definition is for one application alone, and A's for more.
         is_told: bool,
         /// Whether P is set.
         proxiable: bool,

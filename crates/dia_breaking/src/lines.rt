@@ -8,7 +8,7 @@ ghost use Rattle.dia_breaking.specs.Headers.{HasHead};
 ghost use Rattle.dia_breaking.specs.Listing.{AddsTold, IsListing, IsWalkFrom};
 ghost use Rattle.dia_breaking.specs.Listing.{command_levels, group_levels, level_lines};
 ghost use Rattle.dia_breaking.specs.Listing.{AreInOrder, lines_in, new_line, subject, tells, with_room};
-ghost use Rattle.dia_breaking.specs.Mended.{AreValidOnceMended};
+ghost use Rattle.dia_breaking.specs.Mended.{AreValidOnceMended, EachHasMessage};
 ghost use Rattle.dia_breaking.specs.Orders.{IsInOrderOf, of_each};
 ghost use Rattle.dia_breaking.specs.OwnBreaks.{TellData};
 ghost use Rattle.dia_breaking.specs.Sides.{answer_of};
@@ -21,6 +21,7 @@ use crate::header_lines::push_header_lines;
 use crate::heads::Head;
 use crate::line::{Breaks, Cause, Line, Site, Standing};
 use crate::own_lines::Kind;
+use crate::readings::Reading;
 use crate::sites::{Numbers, command_sites, first_read, push_group_sites};
 use crate::start::Start;
 use crate::upgrade::Upgrade;
@@ -44,6 +45,8 @@ impl<'a, A: Book, B: Book> Upgrade<'a, A, B> {
         ensures free { IfOk result (λ breaks. ∥ AreValidWhereFree (sides_of self.now) (answer_of breaks) ∥₁) }
         ensures mended { IfOk result (λ breaks. ∥ AreValidOnceMended (sides_of self.now) (answer_of breaks) ∥₁) }
         ensures each { IfOk result (λ breaks. EachConfirmedBreaks (sides_of self.now) command breaks.lines.items) }
+        ensures each_mended { IfOk result
+            (λ breaks. EachHasMessage (sides_of self.now) command breaks.sites.items breaks.lines.items) }
         ensures standings { IfOk result (λ breaks. HaveStandings most_checked_together breaks.lines.items) }
         ensures formats { IfOk result (λ breaks. ∥ TellData (sides_of self.now) breaks.lines.items ∥₁) }
         ensures lines { IfOk result (λ breaks. AreLinesOrUnproved (sides_of self.now) (answer_of breaks)) }
@@ -77,11 +80,11 @@ impl<'a, A: Book, B: Book> Upgrade<'a, A, B> {
             (basis_for self.now start.now) breaks.sites.items) breaks.sites.items breaks.lines.items) }
         ensures formats { IfOk result (λ breaks. ∥ TellData (sides_of self.now) breaks.lines.items ∥₁) }
     {
-        let sites = command_sites(alloc, self.b, &start.head, &start.apps)?;
+        let sites = command_sites(alloc, self.b, &start.head, &start.readings)?;
         let first = first_read(&sites);
         let numbers = Numbers {
             first: first.unwrap_or(0),
-            count: count_of(&start.apps),
+            count: count_of(&start.readings),
         };
         match self.walk_from(alloc, start, first.is_some())? {
             Some(walk) => {
@@ -221,11 +224,11 @@ impl<'a, A: Book, B: Book> Upgrade<'a, A, B> {
     }
 }
 
-/// The number of the applications.
-fn count_of(apps: &[u32]) -> usize
-    ensures { result ≡ length apps.now }
+/// The number of the readings.
+fn count_of(readings: &[Reading]) -> usize
+    ensures { result ≡ length readings.now }
 {
-    apps.len()
+    readings.len()
 }
 
 /// The single line that says that it isn't shown that nothing breaks.

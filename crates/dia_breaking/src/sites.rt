@@ -1,12 +1,13 @@
-//! The sites of a command: its own level for each application for which it is looked at, and the groups that a walk reaches.
+//! The sites of a command: its own level for each of its readings, and the groups that a walk reaches.
 ghost use Rattle.std.specs.Prelude.{◌≡◌, ◌++◌, ◌∷◌, [], IfOk, OnOk};
-ghost use Rattle.dia_breaking.specs.Sites.{both_allow, command_site, command_sites, first_read};
-ghost use Rattle.dia_breaking.specs.Sites.{group_site, group_sites, other_head, read_site, refused_site, site_number};
+ghost use Rattle.dia_breaking.specs.Sites.{both_allow, command_site, command_sites, first_read, group_site, group_sites};
+ghost use Rattle.dia_breaking.specs.Sites.{other_head, read_site, refused_site, sets_p, site_number, tells_app};
 
 use crate::books::command_of;
 use crate::heads::{Head, allows, head_of};
 use crate::line::{Place, Site};
 use crate::own_breaks::OwnBreaks;
+use crate::readings::Reading;
 use dia_book::{Book, Key};
 use dia_breaking_ways::Step;
 use std::alloc::{AllocError, Global};
@@ -26,23 +27,24 @@ fn both_allow(head: &Head, other: &Head, set: bool) -> bool
     allows(head.p, set) && allows(other.p, set)
 }
 
-/// The site of the command's own level in messages of an application.
-pub(crate) fn command_site<B: Book>(b: &B, head: &Head, app: u32) -> Site
-    ensures { result ≡ command_site (B.meaning b.now) head.now app }
+/// The site of the command's own level for a reading.
+pub(crate) fn command_site<B: Book>(b: &B, head: &Head, reading: &Reading) -> Site
+    ensures { result ≡ command_site (B.meaning b.now) head.now reading.now }
 {
-    match other_head(b, head, app) {
-        Some(other) => read_site(head, app, &other),
-        None => refused_site(head, app),
+    match other_head(b, head, reading.read_as) {
+        Some(other) => read_site(head, reading, &other),
+        None => refused_site(head, reading),
     }
 }
 
 /// The site where B selects no definition.
-fn refused_site(head: &Head, app: u32) -> Site
-    ensures { result ≡ refused_site head.now app }
+fn refused_site(head: &Head, reading: &Reading) -> Site
+    ensures { result ≡ refused_site head.now reading.now }
 {
     Site {
         place: Place::Command {
-            app,
+            app: reading.app,
+            read_as: reading.read_as,
             is_told: false,
             proxiable: !allows(head.p, false),
         },
@@ -53,35 +55,50 @@ fn refused_site(head: &Head, app: u32) -> Site
 
 /// The site where B selects a definition with the head `other`. B's side reads its level whatever its P flag: where no P flag
 /// is allowed by both, it is one that A allows.
-fn read_site(head: &Head, app: u32, other: &Head) -> Site
-    ensures { result ≡ read_site head.now app other.now }
+fn read_site(head: &Head, reading: &Reading, other: &Head) -> Site
+    ensures { result ≡ read_site head.now reading.now other.now }
 {
-    let clear = both_allow(head, other, false);
-    let set = both_allow(head, other, true);
-    let must_set = set || !allows(head.p, false);
     Site {
         place: Place::Command {
-            app,
-            is_told: head.app.is_none() && other.app.is_some(),
-            proxiable: !clear && must_set,
+            app: reading.app,
+            read_as: reading.read_as,
+            is_told: tells_app(head, reading, other),
+            proxiable: sets_p(head, other),
         },
         way: 0,
         is_read: true,
     }
 }
 
-/// One site for each application.
+/// Whether B's definition is for another application than that of the messages, or for one alone where A's is for more.
+fn tells_app(head: &Head, reading: &Reading, other: &Head) -> bool
+    ensures { result ≡ tells_app head.now reading.now other.now }
+{
+    reading.app != reading.read_as || (head.app.is_none() && other.app.is_some())
+}
+
+/// Whether P is set: where it can't be clear, or where both allow neither, and A doesn't allow it clear.
+fn sets_p(head: &Head, other: &Head) -> bool
+    ensures { result ≡ sets_p head.now other.now }
+{
+    let clear = both_allow(head, other, false);
+    let set = both_allow(head, other, true);
+    let must_set = set || !allows(head.p, false);
+    !clear && must_set
+}
+
+/// One site for each reading.
 pub(crate) fn command_sites<B: Book>(
     alloc: Global,
     b: &B,
     head: &Head,
-    apps: &[u32],
+    readings: &[Reading],
 ) -> Result<Vec<Site>, AllocError>
-    ensures { IfOk result (λ sites. sites.items ≡ command_sites (B.meaning b.now) head.now apps.now) }
+    ensures { IfOk result (λ sites. sites.items ≡ command_sites (B.meaning b.now) head.now readings.now) }
 {
     let mut sites = Vec::new(alloc);
-    for app in apps {
-        sites.push(command_site(b, head, *app))?;
+    for reading in readings {
+        sites.push(command_site(b, head, reading))?;
     }
     Ok(sites)
 }

@@ -8,10 +8,11 @@ ghost use Rattle.dia_breaking.specs.Confirmed.{EachConfirmedBreaks, HaveStanding
 ghost use Rattle.dia_breaking.specs.Free.{AllAreValid, AreValidWhereFree};
 ghost use Rattle.dia_breaking.specs.Headers.{AreApps};
 ghost use Rattle.dia_breaking.specs.LevelCosts.{PicksShortest};
-ghost use Rattle.dia_breaking.specs.Mended.{AreValidOnceMended};
+ghost use Rattle.dia_breaking.specs.Mended.{AreValidOnceMended, EachHasMessage};
 ghost use Rattle.dia_breaking.specs.Nodes.{node_in};
 ghost use Rattle.dia_breaking.specs.OwnBreaks.{TellData};
 ghost use Rattle.dia_breaking.specs.Outlooks.{HasGroupLines, HasLinesFor};
+ghost use Rattle.dia_breaking.specs.Readings.{AreOtherApps};
 ghost use Rattle.dia_breaking.specs.Sender.{costs_of, sender_in};
 ghost use Rattle.dia_breaking.specs.Sides.{answer_of, sides};
 ghost use Rattle.dia_breaking.specs.TheLines.{AreKnown, AreLinesOf, AreLinesOrUnproved, IsOfHead, facts_by};
@@ -26,6 +27,7 @@ use crate::lengths::Lengths;
 use crate::line::{Breaks, Place};
 use crate::nodes::nodes_of;
 use crate::own_breaks::{OwnBreaks, own_breaks};
+use crate::readings::OtherApps;
 use dia_book::{Book, Class, DefId, Key};
 use dia_breaking_levels::{Line as LevelLine, level_lines};
 use dia_breaking_ways::Node;
@@ -41,6 +43,7 @@ pub struct Upgrade<'a, A: Book, B: Book> {
     pub(crate) unknown: Unknown,
     pub(crate) telling: Box<Telling>,
     pub(crate) apps: Box<BothApps>,
+    pub(crate) new_apps: Box<OtherApps>,
     /// The AVPs of which there is something to tell, in the order of `Telling::own`.
     pub(crate) outlooks: Vec<Outlook>,
     /// The same AVPs as the nodes of a walk.
@@ -53,6 +56,7 @@ pub struct Upgrade<'a, A: Book, B: Book> {
         (facts_by lengths.entries.items lengths.others.items telling.value outlooks.items own.items) ∥₁ },
     ghost first_apps: { AreApps (sender_in lengths) apps.value.first } by { Prim.hlevel props },
     ghost second_apps: { AreApps (B.meaning b.now) apps.value.second } by { Prim.hlevel props },
+    ghost others: { AreOtherApps (sender_in lengths) (B.meaning b.now) new_apps.value } by { Prim.hlevel props },
 }
 
 impl<'a, A: Book, B: Book> Upgrade<'a, A, B> {
@@ -77,6 +81,8 @@ impl<'a, A: Book, B: Book> Upgrade<'a, A, B> {
         let telling = Box::new(alloc, Telling::new(alloc, book, b, lengths.sends, unknown)?)?;
         let named = BothApps::new(alloc, book, b)?;
         let apps = Box::new(alloc, named)?;
+        let others = OtherApps::new(alloc, book, b)?;
+        let new_apps = Box::new(alloc, others)?;
         let outlooks = outlooks(alloc, b, &telling, &lengths)?;
         let nodes = nodes_of(alloc, &outlooks)?;
         let own = own_breaks(alloc, b, &telling.own, &lengths, unknown)?;
@@ -86,6 +92,7 @@ impl<'a, A: Book, B: Book> Upgrade<'a, A, B> {
             unknown,
             telling,
             apps,
+            new_apps,
             outlooks,
             nodes,
             own,
@@ -124,14 +131,16 @@ impl<'a, A: Book, B: Book> Upgrade<'a, A, B> {
     /// policy have. Behind it a line may be `Unproved`; where no shortest ways were found, that line stands alone. Which data
     /// break a format is no part of that list. The standings are told line by line: a line without message is undecided; the
     /// message of another is checked, unless it is too long, or too long beside those that were checked before it. A line that
-    /// is confirmed has a message that is valid under A, as one of the command, and not under B (`IsConfirmed`). The error comes
-    /// only where memory was refused.
+    /// is confirmed has a message that is valid under A, as one of the command, and not under B (`IsConfirmed`), and, unless the
+    /// line is of the header, not once its header is mended, too (`HasMessage`). The error comes only where memory was refused.
     pub fn breaks(&self, alloc: Global, command: DefId) -> Result<Breaks, AllocError>
         requires { command < length (definitions (sides_of self.now).sender) }
         ensures free { IfOk result (λ breaks. ∥ AreValidWhereFree (sides_of self.now) (answer_of breaks) ∥₁) }
         ensures mended { IfOk result (λ breaks. ∥ AreValidOnceMended (sides_of self.now) (answer_of breaks) ∥₁) }
         ensures all { IfOk result (λ breaks. breaks.lines.items ≡ [] → ∥ AllAreValid (sides_of self.now) command ∥₁) }
         ensures each { IfOk result (λ breaks. EachConfirmedBreaks (sides_of self.now) command breaks.lines.items) }
+        ensures each_mended { IfOk result
+            (λ breaks. EachHasMessage (sides_of self.now) command breaks.sites.items breaks.lines.items) }
         ensures standings { IfOk result (λ breaks. HaveStandings most_checked_together breaks.lines.items) }
         ensures formats { IfOk result (λ breaks. ∥ TellData (sides_of self.now) breaks.lines.items ∥₁) }
         ensures command { IfOk result (λ breaks. breaks.command ≡ command) }
@@ -171,7 +180,7 @@ impl<'a, A: Book, B: Book> Upgrade<'a, A, B> {
         ensures { IfSome result (λ def. def < length (definitions (sides_of self.now).receiver)) }
     {
         match place {
-            Place::Command { app, .. } => command_of(self.b, code, class, app),
+            Place::Command { read_as, .. } => command_of(self.b, code, class, read_as),
             Place::Group { key, .. } => group_of(self.b, key),
         }
     }

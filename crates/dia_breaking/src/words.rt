@@ -64,9 +64,13 @@ impl<'a, A: Book, B: Book> Upgrade<'a, A, B> {
         ensures { OnOk result (Writes out.old out.new (place_text (sides_of self.now) command place)) }
     {
         match place {
-            Place::Command { app, is_told, .. } => {
+            Place::Command {
+                read_as,
+                is_told,
+                ..
+            } => {
                 out.push_str(command_name(self.lengths.book, command))?;
-                push_application(out, is_told, app)
+                push_application(out, is_told, read_as)
             }
             Place::Group { key, .. } => {
                 out.push_str("/")?;

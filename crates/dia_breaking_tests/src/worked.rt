@@ -88,6 +88,19 @@ any | $X <T> ::= < Diameter Header: 302, REQ, PXY > { X } | $X $T { X } => T: pr
 any | $X <T> ::= < Diameter Header: 302, REQ, PXY > [ X ] | $X $T { X } => T: proxiable -: P set sent\n  01000014 c000012e000000000000000000000000\nT: missing X: 0..1 sent, 1 accepted\n  01000014 c000012e000000000000000000000000\n
 any | $X <G> ::= < AVP Header: 9100 > [ X ] <T> ::= < Diameter Header: 302, REQ, PXY > [ G ] | $X <G> ::= < AVP Header: 9100 > { X } $T [ G ] => T: proxiable -: P set sent\n  01000014 c000012e000000000000000000000000\nT/G: missing X: 0..1 sent, 1 accepted\n  0100001c c000012e000000000000000000000000 0000238c00000008\n
 
+# Another application: the levels are compared with those of the one that B alone names, if there is one alone.
+let T5 = <T> ::= < Diameter Header: 302, REQ, 5 >
+let T6 = <T> ::= < Diameter Header: 302, REQ, 6 >
+let U6 = <U> ::= < Diameter Header: 302, REQ, 6 >
+let U7 = <U> ::= < Diameter Header: 302, REQ, 7 >
+let H5 = 8000012e000000050000000000000000
+let P5 = c000012e000000050000000000000000
+any | $X $T5 [ X ] | $X $T6 { X } => T: application 5: not accepted\n  01000014 $H5\nT[application 6]: missing X: 0..1 sent, 1 accepted\n  01000014 $H5\n
+any | $X <T> ::= < Diameter Header: 302, REQ, PXY, 5 > [ X ] | $X $T6 { X } => T: application 5: not accepted\n  01000014 $P5\nT[application 6]: proxiable -: P set sent\n  01000014 $P5\nT[application 6]: missing X: 0..1 sent, 1 accepted\n  01000014 $P5\n
+any | $X <G> ::= < AVP Header: 9100 > [ X ] $T5 [ G ] | $X <G> ::= < AVP Header: 9100 > { X } $T6 [ G ] => T: application 5: not accepted\n  01000014 $H5\nT[application 6]/G: missing X: 0..1 sent, 1 accepted\n  0100001c $H5 0000238c00000008\n
+any | $X $T5 [ X ] | $X $T6 { X } $U7 { X } => T: application 5: not accepted\n  01000014 $H5\n
+any | $X $T5 [ X ] $U6 { X } | $X $T6 { X } => T: application 5: not accepted\n  01000014 $H5\n
+
 # Groups in themselves, and groups that no message can hold.
 any | $S2 | $S2 => nothing breaks\n
 any | <P> ::= < AVP Header: 9100 > { Q } <Q> ::= < AVP Header: 9101 > { P } $X $T [ P ] { X } | <P> ::= < AVP Header: 9100 > <Q> ::= < AVP Header: 9101 > $X $T { X } => nothing breaks\n

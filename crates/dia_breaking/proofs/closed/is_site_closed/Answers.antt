@@ -24,7 +24,7 @@ returns-in-Command g c =
     when_ok _ _ c.is_command_closed.result
     (λ b shown yes. ∥∥₁_map (shown yes) (λ closed.
     closed_command_at s.sender s.receiver s.sends s.unknown at.length at.groups at.own found.lines.items c.deref-in-Command.result.now
-    found.command c.args.number c.args.site.now c.args.head.now c.in-Command.app c.in-Command.is_told c.in-Command.proxiable c.requires.0 c.requires.1 c.requires.2 c.in-Command.is told closed))
+    found.command c.args.number c.args.site.now c.args.head.now c.in-Command.app c.in-Command.read_as c.in-Command.is_told c.in-Command.proxiable c.requires.0 c.requires.1 c.requires.2 c.in-Command.is told closed))
     c.is_command_closed.ensures
 
 pub returns : goal.returns

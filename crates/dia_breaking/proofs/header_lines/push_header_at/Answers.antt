@@ -6,4 +6,4 @@ use Rattle.dia_breaking.proofs.header_lines.push_header_at.Goals as goal
 pub returns-in-None : goal.returns-in-None
 returns-in-None g c =
     let start = c.args.start.now in
-    adds_past (header_lines (g.B.Book.meaning c.args.b.now) start.head start.base c.args.site) start.apps.items c.args.site c.args.lines.now.items (omega (arith, c.in-None.ensures.lookup))
+    adds_past (header_lines (g.B.Book.meaning c.args.b.now) start.head start.base c.args.site) start.readings.items c.args.site c.args.lines.now.items (omega (arith, c.in-None.ensures.lookup))

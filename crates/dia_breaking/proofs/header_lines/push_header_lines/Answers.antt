@@ -11,10 +11,10 @@ loop-site-init g c = adds_none c.args.lines.now.items
 pub loop-site-preserved : goal.loop-site-preserved
 loop-site-preserved g c =
     let start = c.args.start.now in
-    adds_part (λ k. option_map_or (header_lines (g.B.Book.meaning c.args.b.now) start.head start.base k) (slice_get start.apps.items k) []) c.loop-site.site _ _ _
+    adds_part (λ k. option_map_or (header_lines (g.B.Book.meaning c.args.b.now) start.head start.base k) (slice_get start.readings.items k) []) c.loop-site.site _ _ _
     c.loop-site.invariant c.in_ok-push_header_at.ensures
 
 pub returns : goal.returns
 returns g c =
     let start = c.args.start.now in
-    adds_each (header_lines (g.B.Book.meaning c.args.b.now) start.head start.base) start.apps.items c.loop-site.site _ _ (omega arith) c.loop-site.invariant
+    adds_each (header_lines (g.B.Book.meaning c.args.b.now) start.head start.base) start.readings.items c.loop-site.site _ _ (omega arith) c.loop-site.invariant

@@ -7,4 +7,4 @@ use Rattle.dia_breaking.proofs.header_lines.push_header_lines.Given as goal
 
 abbrev pub invariant-loop-site : goal.invariant-loop-site
 invariant-loop-site g l =
-    AddsTold l.initial.lines.items l.lines.items (joined (λ k. option_map_or (header_lines (g.B.Book.meaning l.b) l.start.head l.start.base k) (slice_get l.start.apps.items k) []) l.site)
+    AddsTold l.initial.lines.items l.lines.items (joined (λ k. option_map_or (header_lines (g.B.Book.meaning l.b) l.start.head l.start.base k) (slice_get l.start.readings.items k) []) l.site)

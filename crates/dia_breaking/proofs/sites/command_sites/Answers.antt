@@ -4,7 +4,7 @@ use Rattle.dia_breaking.specs.declared.line.Site.{Site}
 use Rattle.dia_breaking.specs.Sites.{command_site}
 use Rattle.dia_breaking.proofs.sites.command_sites.Goals as goal
 
-pub loop-app-preserved : goal.loop-app-preserved
-loop-app-preserved g c =
-    c.in_ok-push.ensures.items ∙ ap₂ (λ (xs : List Site) (x : Site). xs ++ x ∷ []) c.loop-app.invariant c.command_site.ensures
-    ∙ sym (map_more (command_site (g.B.Book.meaning c.args.b.now) c.args.head.now) c.args.apps.now c.loop-app.app-index _ (omega arith))
+pub loop-reading-preserved : goal.loop-reading-preserved
+loop-reading-preserved g c =
+    c.in_ok-push.ensures.items ∙ ap₂ (λ (xs : List Site) (x : Site). xs ++ x ∷ []) c.loop-reading.invariant c.command_site.ensures
+    ∙ sym (map_more (command_site (g.B.Book.meaning c.args.b.now) c.args.head.now) c.args.readings.now c.loop-reading.reading-index _ (omega arith))

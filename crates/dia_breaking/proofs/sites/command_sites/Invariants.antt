@@ -2,5 +2,5 @@ use Rattle.std.proofs.Common.{◌≡◌, map, take}
 use Rattle.dia_breaking.specs.Sites.{command_site}
 use Rattle.dia_breaking.proofs.sites.command_sites.Given as goal
 
-abbrev pub invariant-loop-app : goal.invariant-loop-app
-invariant-loop-app g l = l.sites.items ≡ map (command_site (g.B.Book.meaning l.b) l.head) (take l.app-index l.apps)
+abbrev pub invariant-loop-reading : goal.invariant-loop-reading
+invariant-loop-reading g l = l.sites.items ≡ map (command_site (g.B.Book.meaning l.b) l.head) (take l.reading-index l.readings)

@@ -4,7 +4,7 @@ use Rattle.dia_breaking.specs.TheLines.{AreLevels, IsCommandLevel}
 use Rattle.dia_breaking.specs.Upgrades.{sides_of}
 use Rattle.dia_breaking.proofs.start.levels_of.Given as goal
 
-abbrev pub invariant-loop-app : goal.invariant-loop-app
-invariant-loop-app g l =
+abbrev pub invariant-loop-reading : goal.invariant-loop-reading
+invariant-loop-reading g l =
     let s = sides_of l.upgrade in
-    AreLevels (IsCommandLevel s.sender s.receiver (costs_of l.upgrade.lengths) l.head) (take l.app-index l.apps) (map (λ lines. lines.items) l.levels.items)
+    AreLevels (IsCommandLevel s.sender s.receiver (costs_of l.upgrade.lengths) l.head) (take l.reading-index l.readings) (map (λ lines. lines.items) l.levels.items)

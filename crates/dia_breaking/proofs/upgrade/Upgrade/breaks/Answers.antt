@@ -7,6 +7,7 @@ use Rattle.dia_breaking.specs.Confirmed.{HaveStandings, IsConfirmed, most_checke
 use Rattle.dia_breaking.specs.declared.heads.Head.{Head}
 use Rattle.dia_breaking.specs.Free.{AllAreValid}
 use Rattle.dia_breaking.specs.Headers.{head_in}
+use Rattle.dia_breaking.specs.Mended.{HasMessage}
 use Rattle.dia_breaking.specs.OwnBreaks.{TellsData}
 use Rattle.dia_breaking.specs.TheLines.{IsOfHead}
 use Rattle.dia_breaking.specs.Upgrades.{sides_of}
@@ -64,6 +65,7 @@ returns-in-None g c =
       free = ∣ all_valid da s.receiver s.sends s.unknown _ _ c.args.command valid ∣₁;
       all = λ none. ∣ valid ∣₁;
       each = none_of (λ (line : Line). line.standing ≡ Confirmed → (bytes : List ℕ) × IsConfirmed s bytes c.args.command) c.new-lines.result.items c.new-lines.ensures.items;
+      each_mended = none_of (λ (line : Line). line.standing ≡ Confirmed → HasMessage s c.args.command c.new.result.items line) c.new-lines.result.items c.new-lines.ensures.items;
       standings = subst (HaveStandings most_checked_together) (sym c.new-lines.ensures.items) tt;
       formats = ∣ none_of (λ (line : Line). TellsData s line.cause) c.new-lines.result.items c.new-lines.ensures.items ∣₁;
       command = refl;

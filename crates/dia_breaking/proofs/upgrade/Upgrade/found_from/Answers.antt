@@ -31,7 +31,7 @@ returns-in_ok-found-in-Some-clause-listing g c =
     let found = c.in_ok-found-in-Some.found in
     let walked = subst (λ begins. IfSome c.in_ok-walk.field-0 (λ (w : Walk). IsWalkFrom begins basis.graph w.steps.items w.reached.items)) c.is_some.ensures c.in_ok-walk.ensures.walk in
     let here = subst (λ found. IfSome found (λ (w : Walk). IsWalkFrom (is_some first) basis.graph w.steps.items w.reached.items)) c.in-Some.is walked in
-    let sites = c.in_ok-sites.ensures ∙ ap (λ apps. command_sites db start.head apps) c.deref.ensures.value in
+    let sites = c.in_ok-sites.ensures ∙ ap (λ readings. command_sites db start.head readings) c.deref.ensures.value in
     let listing = listing_of db basis first c.unwrap_or.result c.count_of.result c.in_ok-sites.sites.items walk.steps.items walk.reached.items found.sites.items (map tells found.lines.items)
     (c.first_read-first.ensures ∙ ap first_read (c.deref-2.ensures.value ∙ sites)) c.unwrap_or.ensures (c.count_of.ensures ∙ ap length c.deref-3.ensures.value) sites here
     c.in_ok-found-in-Some.ensures.sites c.in_ok-found-in-Some.ensures.lines in

@@ -24,7 +24,7 @@ returns g c =
     let steps = c.args.walk.now.steps.items in
     let reached = c.args.walk.now.reached.items in
     let all = lines_of s.receiver basis numbers steps reached in
-    let told = of_each (header_lines s.receiver basis.head basis.base) basis.apps ++ of_each command_levels basis.levels ++ of_each (group_levels count basis.groups) steps in
+    let told = of_each (header_lines s.receiver basis.head basis.base) basis.readings ++ of_each command_levels basis.levels ++ of_each (group_levels count basis.groups) steps in
     let levels = c.in_ok-push_group_levels.ensures
     ∙ ap (λ (own : List Step). map tells c.push_command_levels.new.lines.items ++ of_each (group_levels count (map lines_in up.outlooks.items)) own) c.deref.ensures.value in
     let unknown = c.in_ok-push_own_lines.ensures.told
@@ -36,7 +36,7 @@ returns g c =
     let before = adds_both _ _ _ _ _ (adds_both _ _ _ _ _ c.in_ok-push_header_lines.ensures c.in_ok-push_command_levels.ensures) levels in
     let adds = adds_both _ _ _ _ _ (adds_both _ _ _ _ _ (adds_both _ _ _ _ _ before unknown) m_bit) content in
     let plain = plain_lines s.sender s.receiver s.sends s.unknown c.push_group_levels.new.lines.items told (before ∙ ap (λ (lines : List Line). map tells lines ++ told) c.new-lines.ensures.items)
-    (found_plain s.receiver basis.head basis.base basis.apps basis.levels basis.groups count steps) in
+    (found_plain s.receiver basis.head basis.base basis.readings basis.levels basis.groups count steps) in
     record {
       order = subst (λ told. IsInOrderOf (λ (line : Told). line.site) told (map tells c.sort_by_site.new.lines.items))
           (adds ∙ ap (λ (lines : List Line). map tells lines ++ all) c.new-lines.ensures.items)

@@ -3,7 +3,7 @@ use Rattle.std.proofs.Math.Logic.{∥∥₁_map}
 use Rattle.dia_breaking.specs.Confirmed.{EachConfirmedBreaks}
 use Rattle.dia_breaking.specs.Free.{AreValidWhereFree}
 use Rattle.dia_breaking.specs.declared.line.Site.{Site}
-use Rattle.dia_breaking.specs.Mended.{AreValidOnceMended}
+use Rattle.dia_breaking.specs.Mended.{AreValidOnceMended, EachHasMessage}
 use Rattle.dia_breaking.specs.Sides.{answer}
 use Rattle.dia_breaking.specs.TheLines.{AreLinesOrUnproved, AreTheLines}
 use Rattle.dia_breaking.specs.Upgrades.{sides_of}
@@ -41,6 +41,10 @@ returns g c =
           (lines_kept (λ lines. ∥ AreTheLines s found.command found.sites.items lines ∥₁) found.sites.items found.lines.items told.lines.items kept c.in_ok-found.ensures.lines)))
           c.with_standings.ensures.same c.with_standings.ensures.kept;
       each = when_ok _ _ c.with_standings.result (λ told h. subst (λ (number : ℕ). EachConfirmedBreaks s number told.lines.items) own h) c.with_standings.ensures.each;
+      each_mended = when_two _ _ _ c.with_standings.result
+          (λ told same has. subst (λ (at : List Site). EachHasMessage s c.args.command at told.lines.items) (sym same.3)
+          (subst (λ (number : ℕ). EachHasMessage s number found.sites.items told.lines.items) own has))
+          c.with_standings.ensures.same c.with_standings.ensures.each_mended;
       standings = c.with_standings.ensures.standings;
       formats = when_ok _ _ c.with_standings.result
           (λ told kept. ∥∥₁_map c.in_ok-found.ensures.formats (data_kept s.sender s.receiver s.sends s.unknown found.lines.items told.lines.items kept)) c.with_standings.ensures.kept;

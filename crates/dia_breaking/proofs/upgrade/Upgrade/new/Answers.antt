@@ -6,6 +6,7 @@ use Rattle.dia_breaking.specs.Exits.{AreOutlooks}
 use Rattle.dia_breaking.specs.Headers.{AreApps}
 use Rattle.dia_breaking.specs.Nodes.{node_in}
 use Rattle.dia_breaking.specs.OwnBreaks.{AreOwnBreaks}
+use Rattle.dia_breaking.specs.Readings.{AreOtherApps}
 use Rattle.dia_breaking.specs.Sender.{costs_of, sender_in}
 use Rattle.dia_breaking.specs.Sides.{sides}
 use Rattle.dia_breaking.specs.Telling.{IsExactTelling, IsTelling}
@@ -37,6 +38,7 @@ invariant_of-result g c =
       } ∣₁;
       first_apps = subst (λ both. AreApps s.sender both.first) (sym c.in_ok-apps.ensures.ok) c.in_ok-named.ensures.first;
       second_apps = subst (λ both. AreApps db both.second) (sym c.in_ok-apps.ensures.ok) c.in_ok-named.ensures.second;
+      others = subst (AreOtherApps s.sender db) (sym c.in_ok-new_apps.ensures.ok) c.in_ok-others.ensures;
     }
 
 pub outlooks-requires : goal.outlooks-requires

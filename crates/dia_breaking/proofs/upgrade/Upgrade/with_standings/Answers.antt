@@ -2,6 +2,7 @@ use Rattle.std.proofs.Common.{◌≡◌, ℕ, List, refl, length, get_or, map, s
 use Rattle.std.proofs.lemmas.List.{take_all}
 use Rattle.dia_breaking.specs.Confirmed.{HaveStandings, IsConfirmed, IsStandingOf, left_behind, most_checked_together}
 use Rattle.dia_breaking.specs.Listing.{unchecked}
+use Rattle.dia_breaking.specs.Mended.{HasMessage}
 use Rattle.dia_breaking.specs.declared.line.Line.{Line}
 use Rattle.dia_breaking.specs.declared.line.Standing.TheVariants.{Confirmed}
 use Rattle.dia_breaking.specs.Upgrades.{sides_of}
@@ -17,6 +18,7 @@ loop-line-init g c =
       kept = ap (map unchecked) none;
       each = none_of (λ (line : Line). line.standing ≡ Confirmed
           → (bytes : List ℕ) × IsConfirmed (sides_of up) bytes c.args.breaks.command) c.new-lines.result.items none;
+      each_mended = none_of (λ (line : Line). line.standing ≡ Confirmed → HasMessage (sides_of up) c.args.breaks.command c.args.breaks.sites.items line) c.new-lines.result.items none;
       standings = subst (HaveStandings most_checked_together) (sym none) tt;
       left = ap (left_after most_checked_together) (sym none);
     }
@@ -34,6 +36,8 @@ loop-line-preserved g c =
       each = all_more (λ (line : Line). line.standing ≡ Confirmed
           → (bytes : List ℕ) × IsConfirmed (sides_of up) bytes c.args.breaks.command) old _ _ is c.loop-line.invariant.each
           c.in_ok-standing.ensures.confirmed;
+      each_mended = all_more (λ (line : Line). line.standing ≡ Confirmed → HasMessage (sides_of up) c.args.breaks.command c.args.breaks.sites.items line) old _ _ is
+          c.loop-line.invariant.each_mended c.in_ok-standing.ensures.mended;
       standings = subst (HaveStandings most_checked_together) (sym is) (standings_more most_checked_together old told c.loop-line.invariant.standings
           (subst (λ left. IsStandingOf left told told.standing) c.loop-line.invariant.left (so_told c.loop-line.left line told.standing c.in_ok-standing.ensures.standing)));
       left = c.left_behind-left.ensures ∙ ap (λ left. left_behind left line) c.loop-line.invariant.left
@@ -45,6 +49,9 @@ returns-clause-kept g c = c.loop-line.invariant.kept ∙ ap (map unchecked) (tak
 
 pub returns-clause-each : goal.returns-clause-each
 returns-clause-each g c = c.loop-line.invariant.each
+
+pub returns-clause-each_mended : goal.returns-clause-each_mended
+returns-clause-each_mended g c = c.loop-line.invariant.each_mended
 
 pub returns-clause-standings : goal.returns-clause-standings
 returns-clause-standings g c = c.loop-line.invariant.standings

@@ -1,0 +1,21 @@
+use Rattle.std.proofs.Common.{◌≡◌, Some, refl, sym}
+use Rattle.std.specs.Prelude.{slice_get}
+use Rattle.dia_book.specs.Dictionary.{PlainDefinition, definitions}
+use Rattle.dia_rules.proofs.Members.{there_is, at_some}
+use Rattle.dia_breaking.specs.Headers.{head_in}
+use Rattle.dia_breaking.specs.Upgrades.{sides_of}
+use Rattle.dia_breaking.proofs.MendedLines.{mended_at}
+use Rattle.dia_breaking.proofs.upgrade.Upgrade.mended_header.Goals as goal
+
+pub returns-then-selects : goal.returns-then-selects
+returns-then-selects g c =
+    let s = sides_of c.args.self.now in
+    let def = c.in_ok-def.def in
+    let x = there_is (definitions s.sender) c.args.command c.requires in
+    let y = there_is (definitions s.receiver) def c.in_ok-def.ensures.within in
+    mended_at s.sender s.receiver s.sends s.unknown c.args.command c.args.place c.in-Command.app c.in-Command.read_as def c.in-Command.is_told c.in-Command.proxiable x.0 y.0
+    c.in_ok-own.own c.in_ok-other.other c.args.header.now _ c.in-Command.is x.1
+    (sym (at_some (λ (d : PlainDefinition). Some c.in_ok-own.own ≡ head_in d.head) (slice_get (definitions s.sender) c.args.command) x.0 c.in_ok-own.ensures x.1))
+    (sym c.in_ok-def.ensures.selected) y.1
+    (sym (at_some (λ (d : PlainDefinition). Some c.in_ok-other.other ≡ head_in d.head) (slice_get (definitions s.receiver) def) y.0 c.in_ok-other.ensures y.1))
+    refl refl c.mended_flags.ensures.others refl refl (c.selects.ensures c.if-selects.true) c.mended_flags.ensures.holds

@@ -1,0 +1,162 @@
+//! Messages whose headers are mended: their P flag and their application are such as a definition of B takes.
+ghost use Rattle.std.specs.Prelude.{◌≡◌, ◌≢◌, ◌≤◌, ◌<◌, ◌↔◌, ℕ, IfOk, IfSome, IsTrue, List, Some, length, slice_get};
+ghost use Rattle.std.specs.Int.{IsBitSet};
+ghost use Rattle.dia_wire.specs.declared.Header.{Header as AnyHeader};
+ghost use Rattle.dia_wire.specs.Wire.{IsMessage, PlainAvp};
+ghost use Rattle.dia_book.specs.Dictionary.{definitions, selected};
+ghost use Rattle.dia_check.specs.Valid.{PHolds, class_of};
+ghost use Rattle.dia_breaking.specs.Confirmed.{IsConfirmed};
+ghost use Rattle.dia_breaking.specs.Mended.{BreaksBehind, BreaksOnceMended, IsMendedAt, is_of_header, p_bit};
+ghost use Rattle.dia_breaking.specs.Upgrades.{sides_of};
+
+use crate::books::command_of;
+use crate::confirm::is_valid;
+use crate::heads::{allows, head_of};
+use crate::line::{Breaks, Cause, Line, Place, Site};
+use crate::upgrade::Upgrade;
+use dia_book::{Book, Class, DefId, Pxy};
+use dia_wire::{COMMAND_ERROR, COMMAND_PROXIABLE, COMMAND_REQUEST, Header, split_message};
+use std::alloc::{AllocError, Global};
+
+impl<'a, A: Book, B: Book> Upgrade<'a, A, B> {
+    /// Whether the message of a line, which B's side refuses, is refused once its header is mended, too. A line of the header
+    /// needs no such message.
+    pub(crate) fn breaks_mended(
+        &self,
+        alloc: Global,
+        breaks: &Breaks,
+        line: &Line,
+        bytes: &[u8],
+    ) -> Result<bool, AllocError>
+        requires { IsConfirmed (sides_of self.now) bytes.now breaks.now.command }
+        ensures { IfOk result (λ yes. IsTrue yes → BreaksBehind (sides_of self.now) breaks.now.command
+            breaks.now.sites.items line.now bytes.now) }
+    {
+        if is_of_header(&line.cause) {
+            return Ok(true);
+        }
+        let path = breaks.path(alloc, line.site)?;
+        match first_of(&path) {
+            Some(site) => self.breaks_at(alloc, breaks.command, site.place, bytes),
+            None => Ok(false),
+        }
+    }
+
+    /// Whether it is refused once its header is mended for B's definition at a place of the command.
+    fn breaks_at(
+        &self,
+        alloc: Global,
+        command: DefId,
+        place: Place,
+        bytes: &[u8],
+    ) -> Result<bool, AllocError>
+        requires { IsConfirmed (sides_of self.now) bytes.now command }
+        ensures { IfOk result (λ yes. IsTrue yes → BreaksOnceMended (sides_of self.now) command place bytes.now) }
+    {
+        let Ok((header, _)) = split_message(bytes) else {
+            return Ok(false);
+        };
+        let Some(mended) = self.mended_header(command, place, &header) else {
+            return Ok(false);
+        };
+        if mended == header {
+            return Ok(true);
+        }
+        let message = with_header(alloc, bytes, &mended)?;
+        Ok(!is_valid(alloc, self.b, self.unknown, &message)?)
+    }
+
+    /// The header with a P flag and an application that B's definition at a place of the command takes; none, where B selects
+    /// another definition for it.
+    fn mended_header(&self, command: DefId, place: Place, header: &Header) -> Option<Header>
+        requires { command < length (definitions (sides_of self.now).sender) }
+        ensures { IfSome result (IsMendedAt (sides_of self.now) command place header.now) }
+    {
+        let Place::Command { read_as, .. } = place else {
+            return None;
+        };
+        let own = head_of(self.lengths.book, command)?;
+        let def = command_of(self.b, own.code, own.class, read_as)?;
+        let other = head_of(self.b, def)?;
+        let mended = Header {
+            flags: mended_flags(other.p, header),
+            app: read_as,
+            ..*header
+        };
+        if selects(self.b, &mended, def) {
+            Some(mended)
+        } else {
+            None
+        }
+    }
+}
+
+/// Whether the dictionary selects the definition for the header.
+fn selects<B: Book>(b: &B, header: &Header, def: DefId) -> bool
+    ensures { IsTrue result
+        → selected (B.meaning b.now) header.now.code (class_of header.now.flags) header.now.app ≡ Some def }
+{
+    match command_of(b, header.code, class_of(header.flags), header.app) {
+        Some(found) => found == def,
+        None => false,
+    }
+}
+
+/// The class of a message with these Command Flags.
+fn class_of(flags: u8) -> Class
+    ensures { result ≡ class_of flags }
+{
+    if flags & COMMAND_REQUEST == 0 {
+        if flags & COMMAND_ERROR == 0 {
+            Class::Answer
+        } else {
+            Class::Error
+        }
+    } else {
+        Class::Request
+    }
+}
+
+/// The Command Flags, with the other P flag where the rule forbids theirs.
+fn mended_flags(p: Pxy, header: &Header) -> u8
+    ensures holds { PHolds p result }
+    ensures others { (bit : ℕ) → bit ≢ p_bit → IsBitSet result bit ↔ IsBitSet header.now.flags bit }
+{
+    if allows(p, header.is_proxiable()) {
+        header.flags
+    } else {
+        header.flags ^ COMMAND_PROXIABLE
+    }
+}
+
+fn first_of(path: &[Site]) -> Option<Site>
+    ensures { result ≡ slice_get path.now 0 }
+{
+    path.first().copied()
+}
+
+/// The message with the Command Flags and the application of this header.
+fn with_header(alloc: Global, bytes: &[u8], header: &Header) -> Result<Vec<u8>, AllocError>
+    requires { 20 ≤ length bytes.now }
+    ensures { IfOk result (λ mended. (old : AnyHeader) (avps : List PlainAvp) → IsMessage old avps bytes.now
+        → header.now.code ≡ old.code → header.now.hop ≡ old.hop → header.now.e2e ≡ old.e2e
+        → IsMessage header.now avps mended.items) }
+{
+    let mut mended = Vec::new(alloc);
+    mended.extend_from_slice(&bytes[..4])?;
+    mended.push(header.flags)?;
+    mended.extend_from_slice(&bytes[5..8])?;
+    mended.extend_from_slice(&header.app.to_be_bytes())?;
+    mended.extend_from_slice(&bytes[12..])?;
+    Ok(mended)
+}
+
+/// Whether the line tells of the header.
+fn is_of_header(cause: &Cause) -> bool
+    ensures { result ≡ is_of_header cause.now }
+{
+    matches!(
+        cause,
+        Cause::Command | Cause::Application | Cause::Proxiable { .. }
+    )
+}
