@@ -23,7 +23,7 @@ _diacmd() {
             compare:-*) words='--quiet --unknown -h --help' ;;
             refute:-*) words='--quiet --unknown --levels --lines -h --help' ;;
             propose:-*) words='--quiet --unknown -h --help' ;;
-            breaking:-*) words='--quiet --unknown --sends --messages --accepted -h --help' ;;
+            breaking:-*) words='--quiet --unknown --sends --messages --once --accepted -h --help' ;;
         esac ;;
     esac
     if [ -n "$words" ]; then

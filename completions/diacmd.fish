@@ -50,6 +50,7 @@ complete -c diacmd -n '__fish_seen_subcommand_from breaking' -l quiet -d 'Prints
 complete -c diacmd -n '__fish_seen_subcommand_from breaking' -l unknown -x -a 'kept refused' -d 'Whether an AVP that isn\'t in the dictionary, with its M flag clear, is kept or refused'
 complete -c diacmd -n '__fish_seen_subcommand_from breaking' -l sends -x -a 'any known listed' -d 'Which AVPs the side of A sends: any that A allows, those that A knows, or those that a rule names'
 complete -c diacmd -n '__fish_seen_subcommand_from breaking' -l messages -d 'Prints behind each line a message that shows it, as hexadecimal text'
+complete -c diacmd -n '__fish_seen_subcommand_from breaking' -l once -d 'Prints one line a cause, with the number of commands that have it, and the first place'
 complete -c diacmd -n '__fish_seen_subcommand_from breaking' -l accepted -x -d 'Lines that are known, as this command prints them, which aren\'t printed: a file, @none, or - for standard input'
 complete -c diacmd -n '__fish_seen_subcommand_from breaking' -s h -l help -d 'Print help'
 complete -c diacmd -n '__fish_seen_subcommand_from help' -a 'show check render compare refute propose breaking help'

@@ -6,7 +6,7 @@ use Rattle.std.proofs.lemmas.List.{append-nil}
 use Rattle.dia_accepted.specs.declared.list.ListFault.{ListFault}
 use Rattle.dia_accepted.specs.declared.list.ListFault.TheVariants.{Syntax, Limit}
 use Rattle.dia_accepted.specs.Accepted.{PlainEntry, entries_by, entries_from, fault_from, line_fault, max_lines}
-use Rattle.dia_accepted.specs.Words.{has_form, is_skipped}
+use Rattle.dia_accepted.specs.Words.{has_form, has_once_form, is_skipped}
 
 pub line_at : (ts : List (List ℕ)) (i : ℕ) (words : List ℕ) → i < length ts → words ≡ get_or ts i words → slice_get ts i ≡ Some words
 line_at [] i words within is = absurd (omega arith)
@@ -65,7 +65,7 @@ first_fault n (t ∷ ts) (suc k) words fault at none here =
 within_limit : (n : ℕ) (words : List ℕ) → line_fault n words ≡ None → n ≤ max_lines
 within_limit n words none = by (nat_lt max_lines n) refl none
   where
-    by : (b : Bool) → nat_lt max_lines n ≡ b → cond b (Some (Limit n)) (cond (is_skipped words || has_form words) None (Some (Syntax n))) ≡ None → n ≤ max_lines
+    by : (b : Bool) → nat_lt max_lines n ≡ b → cond b (Some (Limit n)) (cond (is_skipped words || (has_form words || has_once_form words)) None (Some (Syntax n))) ≡ None → n ≤ max_lines
     by true e f = absurd (let z : Some (Limit n) ≡ None = f in cc)
     by false e f = grind arith
 

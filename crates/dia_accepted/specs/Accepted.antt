@@ -8,7 +8,7 @@ use Rattle.dia_accepted.specs.declared.list.Entry.{Entry}
 use Rattle.dia_accepted.specs.declared.list.ListFault.{ListFault}
 use Rattle.dia_accepted.specs.declared.list.ListFault.TheVariants.{Syntax, Limit}
 use Rattle.dia_accepted.specs.declared.told.Told.{Told}
-use Rattle.dia_accepted.specs.Words.{anywhere, counted, has_form, is_skipped}
+use Rattle.dia_accepted.specs.Words.{anywhere, counted, entry_words, has_form, has_once_form, is_skipped}
 
 -- ---- the text of the list
 
@@ -26,7 +26,7 @@ pub record PlainEntry : Type 0 where
   pub counted : List ℕ
 
 abbrev pub entry : ℕ → List ℕ → PlainEntry
-entry n words = record { line = n; counted = counted words }
+entry n words = record { line = n; counted = counted (entry_words words) }
 
 -- that of the line of this number, if it counts: it isn't empty, and doesn't begin with `#`
 abbrev pub entries_by : ℕ → List ℕ → List PlainEntry
@@ -39,7 +39,7 @@ entries_from n (words ∷ rest) = entries_by n words ++ entries_from (n + 1) res
 
 -- what is wrong with the line of this number
 abbrev pub line_fault : ℕ → List ℕ → Option ListFault
-line_fault n words = if nat_lt max_lines n then Some (Limit n) else (if is_skipped words || has_form words then None else Some (Syntax n))
+line_fault n words = if nat_lt max_lines n then Some (Limit n) else (if is_skipped words || (has_form words || has_once_form words) then None else Some (Syntax n))
 
 -- the first fault of lines that are numbered from n on
 abbrev pub fault_from : ℕ → List (List ℕ) → Option ListFault

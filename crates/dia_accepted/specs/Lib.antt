@@ -1,3 +1,4 @@
 pub mod Accepted
+pub mod Causes
 pub mod Sets
 pub mod Words

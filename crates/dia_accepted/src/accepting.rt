@@ -45,7 +45,11 @@ pub fn stale(alloc: Global, list: &[Entry], told: &[Told]) -> Result<Vec<u32>, A
 }
 
 /// Adds an item, unless it is known.
-fn push_unless<T: Drop>(items: &mut Vec<T>, item: T, known: bool) -> Result<(), AllocError>
+pub(crate) fn push_unless<T: Drop>(
+    items: &mut Vec<T>,
+    item: T,
+    known: bool,
+) -> Result<(), AllocError>
     ensures { OnOk result (items.new.items ≡ items.old.items ++ (if known then [] else item ∷ [])) }
 {
     if !known {

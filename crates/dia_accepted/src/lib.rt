@@ -1,12 +1,14 @@
 //! Lists of accepted lines: which lines of an answer of `breaking` are known already, and which lines of the list are of no use
-//! any more.
+//! any more. And the causes of lines, each told once.
 #![tactic(auto)]
 
 mod accepting;
+mod counting;
 mod list;
 mod told;
 mod words;
 
 pub use accepting::{left, stale};
+pub use counting::once;
 pub use list::{Entry, ListFault, MAX_LINES, MAX_LIST, read_list};
 pub use told::Told;

@@ -3,7 +3,7 @@ ghost use Rattle.std.specs.Prelude.{◌≡◌, ◌++◌, ◌∷◌, [], Err, IfE
 ghost use Rattle.std.specs.Prelude.{◌≢◌};
 ghost use Rattle.dia_accepted.specs.Accepted.{entries_by, entries_of, entry, line_fault, list_fault, plain_entry};
 
-use crate::words::{counted, has_form, is_skipped};
+use crate::words::{counted_of_entry, has_form, has_once_form, is_skipped};
 use std::alloc::{AllocError, Global};
 
 /// The most bytes of a list's text (our profile).
@@ -24,7 +24,7 @@ pub struct Entry {
 /// Why a text is no list. Lines count from 1.
 #[derive(Clone, Copy, Debug, PartialEq, Eq)]
 pub enum ListFault {
-    /// The line counts, and isn't `PATH: REASON SUBJECT: DETAIL`.
+    /// The line counts, and is none that `breaking` writes.
     Syntax { line: u32 },
     /// The line is one more than [`MAX_LINES`].
     Limit { line: u32 },
@@ -43,7 +43,7 @@ impl From<AllocError> for ListFault {
     }
 }
 
-/// Reads the text of a list (our profile): lines as `breaking` writes them. Empty lines don't count, nor those that begin with
+/// Reads the text of a list (our profile): lines as `breaking` writes them, with `--once` or without it. Empty lines don't count, nor those that begin with
 /// `#`. A line ends with a line feed, with or without a carriage return before it; the last line needs none. The fault is that
 /// of the first line that has one. `NoMemory` comes only where memory was refused.
 pub fn read_list(alloc: Global, text: &str) -> Result<Vec<Entry>, ListFault>
@@ -86,7 +86,7 @@ fn line_fault(line: u32, words: &[u8]) -> Option<ListFault>
 {
     if line > MAX_LINES {
         Some(ListFault::Limit { line })
-    } else if is_skipped(words) || has_form(words) {
+    } else if is_skipped(words) || has_form(words) || has_once_form(words) {
         None
     } else {
         Some(ListFault::Syntax { line })
@@ -102,7 +102,7 @@ fn push_entry(
     ensures { OnOk result (map plain_entry list.new.items ≡ map plain_entry list.old.items
         ++ entry line words.now ∷ []) }
 {
-    let counted = counted(alloc, words)?;
+    let counted = counted_of_entry(alloc, words)?;
     list.push(Entry { line, counted })?;
     Ok(())
 }

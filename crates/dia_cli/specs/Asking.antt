@@ -66,7 +66,9 @@ has_proposed rows = has_policy rows && (has_pair rows && is_some (all_of (codes 
 
 abbrev pub has_listed : List Row → Bool
 has_listed rows = has_policy rows && (has_pair rows
-    && ((is_sender (first_of (codes "sends") rows) && is_flag (first_of (codes "messages") rows)) && has_word (codes "accepted") rows))
+    && (is_sender (first_of (codes "sends") rows)
+    && ((is_flag (first_of (codes "messages") rows) && is_flag (first_of (codes "once") rows))
+    && has_word (codes "accepted") rows)))
 
 -- the arguments that the subcommand of this name has
 abbrev pub has_arguments : Text → List Row → Bool

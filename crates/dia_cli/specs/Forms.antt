@@ -24,7 +24,7 @@ pub data Manner : Type 0 where
   in_stream : Manner
 
 -- a command with its options and the words of its inputs. `--levels`, `--dict` and `--accepted` are their words; `refute` and `breaking` have
--- `--lines` and `--messages`, or not
+-- `--lines`, `--messages` and `--once`, or not
 pub data Form : Type 0 where
   show : Option Text → Text → Form
   check : Manner → Unknown → Option Text → Text → Text → Form
@@ -32,7 +32,7 @@ pub data Form : Type 0 where
   compare : Unknown → Text → Text → Text → Form
   refute : Bool → Unknown → Option Text → Text → Text → Text → Form
   propose : Unknown → Text → Text → Text → List Text → Form
-  breaking : Sends → Unknown → Bool → Option Text → Text → Text → List Text → Form
+  breaking : Sends → Unknown → Bool → Bool → Option Text → Text → Text → List Text → Form
 
 abbrev pub form_name : Form → Text
 form_name (show dictionary message) = codes "show"
@@ -41,7 +41,7 @@ form_name (render dictionary) = codes "render"
 form_name (compare unknown first second table) = codes "compare"
 form_name (refute many unknown levels first second message) = codes "refute"
 form_name (propose unknown first second name names) = codes "propose"
-form_name (breaking sends unknown messages accepted first second names) = codes "breaking"
+form_name (breaking sends unknown messages once accepted first second names) = codes "breaking"
 
 -- a word of an option is left out where it says what holds without it
 abbrev pub policy_given : Unknown → Option Text
@@ -73,9 +73,9 @@ form_options (compare unknown first second table) = unknown_slot unknown ∷ []
 form_options (refute many unknown levels first second message) =
     unknown_slot unknown ∷ flag (codes "lines") many ∷ number (codes "levels") levels ∷ []
 form_options (propose unknown first second name names) = unknown_slot unknown ∷ []
-form_options (breaking sends unknown messages accepted first second names) =
+form_options (breaking sends unknown messages once accepted first second names) =
     unknown_slot unknown ∷ choice (codes "sends") (sender_given sends) ∷ flag (codes "messages") messages
-    ∷ text (codes "accepted") accepted ∷ []
+    ∷ flag (codes "once") once ∷ text (codes "accepted") accepted ∷ []
 
 abbrev pub pair_slots : Text → Text → Slot → List Slot
 pair_slots first second third = word (codes "A") first ∷ word (codes "B") second ∷ third ∷ []
@@ -87,7 +87,7 @@ form_inputs (render dictionary) = word (codes "D") dictionary ∷ []
 form_inputs (compare unknown first second table) = pair_slots first second (word (codes "TABLE") table)
 form_inputs (refute many unknown levels first second message) = pair_slots first second (word (codes "MESSAGE") message)
 form_inputs (propose unknown first second name names) = pair_slots first second (words (codes "COMMAND") (name ∷ names))
-form_inputs (breaking sends unknown messages accepted first second names) = pair_slots first second (words (codes "COMMAND") names)
+form_inputs (breaking sends unknown messages once accepted first second names) = pair_slots first second (words (codes "COMMAND") names)
 
 -- the words behind the command's name, with `--quiet` or without it
 abbrev pub words_of : Bool → Form → List Text
@@ -113,8 +113,8 @@ IsTaskOfForm (refute true unknown levels first second messages) (RefuteLines pol
     (policy ≡ unknown) × IsLimitOf levels limit
 IsTaskOfForm (propose unknown first second name names) (Whole (command.Propose policy commands)) =
     (policy ≡ unknown) × (map string_bytes commands.items ≡ name ∷ names)
-IsTaskOfForm (breaking sends unknown messages accepted first second names) (Breaking sender policy shown commands) =
-    (sender ≡ sends) × (policy ≡ unknown) × (shown ≡ messages) × (map string_bytes commands.items ≡ names)
+IsTaskOfForm (breaking sends unknown messages once accepted first second names) (Breaking sender policy shown counted commands) =
+    (sender ≡ sends) × (policy ≡ unknown) × (shown ≡ messages) × (counted ≡ once) × (map string_bytes commands.items ≡ names)
 IsTaskOfForm form task = ⊥
 
 -- the words of its inputs
@@ -129,7 +129,7 @@ form_words (compare unknown first second table) = record (pair_texts first secon
 form_words (refute false unknown levels first second message) = record (pair_texts first second) { message = Some message }
 form_words (refute true unknown levels first second messages) = record (pair_texts first second) { messages = Some messages }
 form_words (propose unknown first second name names) = pair_texts first second
-form_words (breaking sends unknown messages accepted first second names) =
+form_words (breaking sends unknown messages once accepted first second names) =
     record (pair_texts first second) { table = Some (unwrap_or accepted (codes "@none")) }
 
 -- the request is the form's, and its inputs come from where the words say

@@ -77,9 +77,10 @@ IsTaskOf (RefuteLines unknown levels) found = IsRefute true unknown levels found
 IsTaskOf (Whole (command.Propose unknown names)) found =
     (found.0 ≡ codes "propose") × IsPolicy unknown found.1
     × (all_of (codes "COMMAND") found.1 ≡ Some (map string_bytes names.items))
-IsTaskOf (Breaking sends unknown messages names) found =
+IsTaskOf (Breaking sends unknown messages once names) found =
     (found.0 ≡ codes "breaking") × IsPolicy unknown found.1
     × (first_of (codes "sends") found.1 ≡ Some (sends_word sends)) × IsFlag (codes "messages") messages found.1
+    × IsFlag (codes "once") once found.1
     × (unwrap_or (all_of (codes "COMMAND") found.1) [] ≡ map string_bytes names.items)
 
 -- the arguments that take the words of a task's inputs
@@ -96,7 +97,7 @@ arguments_of (Whole (command.Refute unknown levels)) =
 arguments_of (RefuteLines unknown levels) =
     record (pair_texts (codes "A") (codes "B")) { messages = Some (codes "MESSAGE") }
 arguments_of (Whole (command.Propose unknown names)) = pair_texts (codes "A") (codes "B")
-arguments_of (Breaking sends unknown messages names) =
+arguments_of (Breaking sends unknown messages once names) =
     record (pair_texts (codes "A") (codes "B")) { table = Some (codes "accepted") }
 
 -- the task was found, and its inputs come from where the words of its arguments say

@@ -326,7 +326,8 @@ fn breaking_of<'a>(alloc: Global, found: &ArgMatches<'a>) -> Result<Asked<'a>, U
 {
     let unknown = unknown_of(found).ok_or(Unasked::Nothing)?;
     let origins = pair_of(found).ok_or(Unasked::Nothing)?;
-    let (sends, messages) = shown_of(found).ok_or(Unasked::Nothing)?;
+    let sends = sender_of(found).ok_or(Unasked::Nothing)?;
+    let (messages, once) = shown_of(found).ok_or(Unasked::Nothing)?;
     let table = table_of(found, "accepted").ok_or(Unasked::Nothing)?;
     let names = names_of(alloc, found)?;
     Ok(Asked {
@@ -334,23 +335,34 @@ fn breaking_of<'a>(alloc: Global, found: &ArgMatches<'a>) -> Result<Asked<'a>, U
             sends,
             unknown,
             messages,
+            once,
             names,
         },
         origins: Origins { table, ..origins },
     })
 }
 
-/// The sender, and whether messages are asked for.
-fn shown_of(found: &ArgMatches<'_>) -> Option<(Sends, bool)>
-    ensures sends { IfSome result (λ made.
-        first_of (codes "sends") (rows_of (found_of found.now)) ≡ Some (sends_word made.0)) }
-    ensures messages { IfSome result
-        (λ made. IsFlag (codes "messages") made.1 (rows_of (found_of found.now))) }
-    ensures none { result ≡ None → (is_sender (first_of (codes "sends") (rows_of (found_of found.now)))
-        && is_flag (first_of (codes "messages") (rows_of (found_of found.now)))) ≡ false }
+/// The sender.
+fn sender_of(found: &ArgMatches<'_>) -> Option<Sends>
+    ensures sends { IfSome result (λ sends.
+        first_of (codes "sends") (rows_of (found_of found.now)) ≡ Some (sends_word sends)) }
+    ensures none { result ≡ None → is_sender (first_of (codes "sends") (rows_of (found_of found.now))) ≡ false }
 {
-    let sends = sends_of(word_of(found, "sends")?)?;
-    Some((sends, flag_of(found, "messages")?))
+    sends_of(word_of(found, "sends")?)
+}
+
+/// Whether messages are asked for, and whether lines of one cause are one line.
+fn shown_of(found: &ArgMatches<'_>) -> Option<(bool, bool)>
+    ensures messages { IfSome result
+        (λ made. IsFlag (codes "messages") made.0 (rows_of (found_of found.now))) }
+    ensures once { IfSome result
+        (λ made. IsFlag (codes "once") made.1 (rows_of (found_of found.now))) }
+    ensures none { result ≡ None → (is_flag (first_of (codes "messages") (rows_of (found_of found.now)))
+        && is_flag (first_of (codes "once") (rows_of (found_of found.now)))) ≡ false }
+{
+    let messages = flag_of(found, "messages")?;
+    let once = flag_of(found, "once")?;
+    Some((messages, once))
 }
 
 /// The policy for AVPs that the dictionary doesn't know.

@@ -208,6 +208,11 @@ pub(crate) static ROWS: [CommandRow<'static>; 7] = [
                 help: "Prints behind each line a message that shows it, as hexadecimal text",
             },
             OptionRow {
+                id: "once",
+                value: Value::Nothing,
+                help: "Prints one line a cause, with the number of commands that have it, and the first place",
+            },
+            OptionRow {
                 id: "accepted",
                 value: Value::Word {
                     name: "FILE",

@@ -12,6 +12,8 @@ pub enum Task {
         unknown: Unknown,
         /// Whether each line is followed by a message that shows it.
         messages: bool,
+        /// Whether lines of one cause are one line.
+        once: bool,
         names: Vec<String>,
     },
     /// Tells of each line, a message, whether it is valid.

@@ -25,13 +25,11 @@ text_more (y ∷ xs) x =
     ap (λ (t : List ℕ). (line y.words ++ y.message) ++ t) (text_more xs x) ∙ sym (append_assoc (line y.words ++ y.message) (told_text xs) (line x.words ++ x.message))
 
 -- the text of lines, one line more
-pub text_next : (lines : List (Bor Told)) (i : ℕ) (t : Bor Told) (old new : List ℕ) → i < length lines → t ≡ get_or lines i t
-    → new ≡ old ++ (line (string_bytes t.now.words) ++ string_bytes t.now.message)
-    → old ≡ told_text (map (λ (x : Bor Told). plain_told x.now) (take i lines)) → new ≡ told_text (map (λ (x : Bor Told). plain_told x.now) (take (i + 1) lines))
-text_next lines i t old new less is pushed before =
-    let text = λ (x : Bor Told). plain_told x.now in
-    let taken = take_more lines i t less ∙ ap (λ (x : Bor Told). take i lines ++ x ∷ []) (sym is) in
-    pushed ∙ ap (λ (o : List ℕ). o ++ (line (string_bytes t.now.words) ++ string_bytes t.now.message)) before
+pub text_next : {X : Type 0} (text : X → PlainTold) (lines : List X) (i : ℕ) (t : X) (old new : List ℕ) → i < length lines → t ≡ get_or lines i t
+    → new ≡ old ++ (line (text t).words ++ (text t).message) → old ≡ told_text (map text (take i lines)) → new ≡ told_text (map text (take (i + 1) lines))
+text_next {X} text lines i t old new less is pushed before =
+    let taken = take_more lines i t less ∙ ap (λ (x : X). take i lines ++ x ∷ []) (sym is) in
+    pushed ∙ ap (λ (o : List ℕ). o ++ (line (text t).words ++ (text t).message)) before
     ∙ sym (text_more (map text (take i lines)) (text t)) ∙ ap told_text (sym (map-append text (take i lines) (t ∷ [])) ∙ ap (map text) (sym taken))
 
 -- one line more

@@ -1,9 +1,11 @@
 -- How `breaking` ends.
-use Rattle.std.proofs.Common.{◌≡◌, ◌≢◌, ℕ, ◌==◌, true, false, List, [], ◌∷◌, length, map, Bor, Result, Ok, Err, Some, None, refl, sym, ap, subst, ◌∙◌, arith}
-use Rattle.std.specs.Prelude.{◌↔◌, Contains, IfErr, IfOk, string_bytes}
+use Rattle.std.proofs.Common.{◌≡◌, ◌≢◌, ℕ, ◌==◌, Bool, true, false, cond, List, [], ◌∷◌, length, map, Bor, Result, Ok, Err, Some, None, refl, sym, ap, subst, ◌∙◌, arith}
+use Rattle.std.specs.Prelude.{◌↔◌, Contains, IfErr, IfOk, IfSome, Option, string_bytes}
+use Rattle.std.specs.Global.{Vec}
 use Rattle.std.specs.List.{AllByRecursion}
 use Rattle.std.specs.Str.{IsUtf8}
 use Rattle.std.proofs.lemmas.Bool.{eqb-true}
+use Rattle.std.proofs.lemmas.List.{length-map}
 use Rattle.std.proofs.lemmas.List.Elements.{All-contains, All-from_recursion}
 use Rattle.dia_book.specs.Dictionary.{Dictionary, PlainDefinition, IsDictionary}
 use Rattle.dia_breaking_sites.specs.Selection.{AreValid}
@@ -17,11 +19,12 @@ use Rattle.dia_io.specs.declared.Inputs.{Inputs}
 use Rattle.dia_io.specs.declared.Exit.{Exit}
 use Rattle.dia_io.specs.declared.Exit.TheVariants.{Yes, No, Bad}
 use Rattle.dia_io.specs.Inputs.{Holds, IsOver}
-use Rattle.dia_accepted.specs.Accepted.{PlainEntry, PlainTold, left_of, list_fault, max_list, plain_told}
+use Rattle.dia_accepted.specs.Accepted.{PlainEntry, PlainTold, left_of, list_fault, max_list, plain_told, stale_lines}
+use Rattle.dia_accepted.specs.Causes.{once_of}
 use Rattle.dia_accepted.specs.declared.told.Told.{Told}
 use Rattle.dia_accepted.specs.declared.ListFault.{ListFault}
-use Rattle.dia_run.specs.declared.Refused.{Refused}
-use Rattle.dia_run.specs.declared.Refused.TheVariants as refusals
+use Rattle.dia_report.specs.declared.refusing.Refused.{Refused}
+use Rattle.dia_report.specs.declared.refusing.Refused.TheVariants as refusals
 use Rattle.dia_run.specs.Texts.{line, IsDictionaryText}
 use Rattle.dia_run.specs.Outcome.{ended, no_first, no_second}
 use Rattle.dia_run.proofs.OneInput.{one_dictionary, dictionary_or_not}
@@ -34,7 +37,7 @@ use Rattle.dia_upgrades.specs.declared.reporting.Found.TheVariants as founds
 use Rattle.dia_upgrades.specs.declared.reporting.Judged.{Judged}
 use Rattle.dia_upgrades.specs.Asking.{names_of}
 use Rattle.dia_upgrades.specs.Lists.{IsListText, IsNoListText, list_line}
-use Rattle.dia_upgrades.specs.Outcome.{AreAllTold, AreRead, CanAsk, IsAcceptedWhole, IsBreakingOutcome, IsListed, OfEach, TellsStale, no_command_line, no_commands_line, nothing_left, sides_in}
+use Rattle.dia_upgrades.specs.Outcome.{AreAllTold, AreLeft, AreRead, CanAsk, HasLines, IsAcceptedWhole, IsBreakingOutcome, IsListed, OfEach, TellsFound, no_command_line, no_commands_line, nothing_left, shown, sides_in}
 use Rattle.dia_upgrades.specs.Outcome.{nothing, nothing_else, lines, bad_list, no_commands, no_command}
 use Rattle.dia_upgrades.specs.Outcome.{AreRefused, bad_first, bad_second, bad_accepted, none_there, bad_name, IsSafeUpgrade, safe, accepted, IsUnsafeUpgrade}
 use Rattle.dia_upgrades.specs.Report.{Answers, HasReport, TellsRefusal}
@@ -59,9 +62,9 @@ of_each asked a P sound all = λ number command at is_asked.
 
 module _ (asked : Asked) (input : Input) (a b : Dictionary) (list : List PlainEntry) (is_list : IsListText input list) where
   module _ (sound : IsDictionary a) (can : CanAsk asked a) where
-    by_left : (told left : List PlainTold) (j : Judged) → AreAllTold asked a b told → TellsStale list told j.found → left_of list told ≡ left
+    by_left : (told left : List PlainTold) (j : Judged) → AreAllTold asked a b told → TellsFound list told j.found → left_of list told ≡ left
         → (left_of list told ≡ [] → (j.exit ≡ Yes) × (string_bytes j.text ≡ line (nothing_left told)))
-        → ((left_of list told ≡ [] → ⊥) → (j.exit ≡ No) × (string_bytes j.text ≡ told_text (left_of list told))) → IsListed asked input a b (string_bytes j.text) j.exit j.found
+        → ((left_of list told ≡ [] → ⊥) → (j.exit ≡ No) × (string_bytes j.text ≡ told_text (shown asked.once (left_of list told)))) → IsListed asked input a b (string_bytes j.text) j.exit j.found
     by_left [] [] j all stale is none some =
         let made = none is in
         nothing list is_list can all (of_each asked a (λ number. ∥ AreValid a b asked.sends asked.unknown number ∥₁) sound (told_valid a b asked.sends asked.unknown asked.messages (asked_places a (names_of asked)) [] all refl))
@@ -75,9 +78,9 @@ module _ (asked : Asked) (input : Input) (a b : Dictionary) (list : List PlainEn
         let never : left_of list told ≡ [] → ⊥ = λ e. (let z : t ∷ left ≡ [] = sym is ∙ e in cc) in
         let made = some never in lines list told is_list can all never made.1 made.0 stale
 
-    pub by_lines : {E : Type 0} (told : List PlainTold) (r : Result Judged E) → AreAllTold asked a b told → IfOk r (λ j. TellsStale list told j.found)
+    pub by_lines : {E : Type 0} (told : List PlainTold) (r : Result Judged E) → AreAllTold asked a b told → IfOk r (λ j. TellsFound list told j.found)
         → (left_of list told ≡ [] → IfOk r (λ j. (j.exit ≡ Yes) × (string_bytes j.text ≡ line (nothing_left told))))
-        → ((left_of list told ≡ [] → ⊥) → IfOk r (λ j. (j.exit ≡ No) × (string_bytes j.text ≡ told_text (left_of list told)))) → IsJudged asked input a b r
+        → ((left_of list told ≡ [] → ⊥) → IfOk r (λ j. (j.exit ≡ No) × (string_bytes j.text ≡ told_text (shown asked.once (left_of list told))))) → IsJudged asked input a b r
     by_lines told (Err e) all stale none some = tt
     by_lines told (Ok j) all stale none some = by_left told (left_of list told) j all stale refl none some
 
@@ -119,15 +122,52 @@ pub some_left : (left : List (Bor Told)) (told : List PlainTold) → map (λ (t 
 some_left [] told is some = absurd (let e : true ≡ false = some in cc)
 some_left (t ∷ left) told is some = λ none. (let e : plain_told t.now ∷ map (λ (x : Bor Told). plain_told x.now) left ≡ [] = is ∙ none in cc)
 
-pub tells_stale : {E : Type 0} (list : List PlainEntry) (told : List PlainTold) (is : Found) (r : Result Judged E) → IfOk r (λ j. j.found ≡ is) → TellsStale list told is
-    → IfOk r (λ j. TellsStale list told j.found)
-tells_stale list told is (Err e) same stale = tt
-tells_stale list told is (Ok j) same stale = subst (TellsStale list told) (sym same) stale
+pub tells_found : {E : Type 0} (list : List PlainEntry) (told : List PlainTold) (is : Found) (r : Result Judged E) → IfOk r (λ j. j.found ≡ is) → TellsFound list told is
+    → IfOk r (λ j. TellsFound list told j.found)
+tells_found list told is (Err e) same stale = tt
+tells_found list told is (Ok j) same stale = subst (TellsFound list told) (sym same) stale
+
+pub made_found : (list : List PlainEntry) (told : List PlainTold) (stale : Vec ℕ) (count : ℕ) (causes : Vec Told) (left : List (Bor Told)) → stale.items ≡ stale_lines list told
+    → map (λ (t : Bor Told). plain_told t.now) left ≡ left_of list told → count ≡ length left → map plain_told causes.items ≡ once_of (map (λ (t : Bor Told). plain_told t.now) left)
+    → TellsFound list told (founds.Listed stale count causes)
+made_found list told stale count causes left stale_are is lines_are causes_are = record {
+  stale = stale;
+  lines = count;
+  causes = causes;
+  is_listed = refl;
+  stale_are = stale_are;
+  lines_are = lines_are ∙ sym (length-map left (λ (t : Bor Told). plain_told t.now)) ∙ ap length is;
+  causes_are = causes_are ∙ ap once_of is;
+}
+
+-- the text of what is shown
+pub shown_text : (is_once : Bool) (text : List ℕ) (causes left one other : List PlainTold) → text ≡ told_text (cond is_once causes left) → causes ≡ once_of one → left ≡ other → one ≡ other
+    → text ≡ told_text (shown is_once other)
+shown_text is_once text causes left one other is counted shown_are same = is ∙ (λ i. told_text (cond is_once ((counted ∙ ap once_of same) i) (shown_are i)))
 
 pub ends_so : {E : Type 0} (exit : Exit) (text : List ℕ) (r : Result Judged E) → IfOk r (λ j. j.exit ≡ exit) → IfOk r (λ j. string_bytes j.text ≡ text)
     → IfOk r (λ j. (j.exit ≡ exit) × (string_bytes j.text ≡ text))
 ends_so exit text (Err e) is says = tt
 ends_so exit text (Ok j) is says = (is, says)
+
+-- ---- how much is left
+
+module _ (asked : Asked) (input : Input) (a b : Dictionary) (text : List ℕ) (exit : Exit) (is : Found) (stale : Vec ℕ) (n : ℕ) (causes : Vec Told) where
+  same_lines : (list : List PlainEntry) (told : List PlainTold) → is ≡ founds.Listed stale n causes → TellsFound list told is → n ≡ length (left_of list told)
+  same_lines list told e f = (let z : founds.Listed stale n causes ≡ founds.Listed f.stale f.lines f.causes = sym e ∙ f.is_listed in let same : n ≡ f.lines = cc in same ∙ f.lines_are)
+
+  pub lines_are_left : IsListed asked input a b text exit is → is ≡ founds.Listed stale n causes → AreLeft asked input a b n
+  lines_are_left (nothing list is_list can told breaks is_text is_exit f) e = (list, [], is_list, told, same_lines list [] e f)
+  lines_are_left (nothing_else list told is_list can all left some breaks is_text is_exit f) e = (list, told, is_list, all, same_lines list told e f)
+  lines_are_left (lines list told is_list can all left is_text is_exit f) e = (list, told, is_list, all, same_lines list told e f)
+  lines_are_left (bad_list bad none refuses what) e = absurd (let z : founds.NoList bad ≡ founds.Listed stale n causes = sym what ∙ e in cc)
+  lines_are_left (no_commands list is_list none refuses what) e = absurd (let z : founds.NoCommands ≡ founds.Listed stale n causes = sym what ∙ e in cc)
+  lines_are_left (no_command list name is_list some first refuses what) e = absurd (let z : founds.NoCommand ≡ founds.Listed stale n causes = sym what ∙ e in cc)
+
+pub left_in : (asked : Asked) (input : Input) (a b : Dictionary) (j : Judged) (r : Option ℕ) → IsListed asked input a b (string_bytes j.text) j.exit j.found
+    → IfSome r (HasLines j.found) → IfSome r (AreLeft asked input a b)
+left_in asked input a b j None listed counted = tt
+left_in asked input a b j (Some n) listed (stale, causes, e) = lines_are_left asked input a b (string_bytes j.text) j.exit j.found stale n causes listed e
 
 -- ---- what is answered
 

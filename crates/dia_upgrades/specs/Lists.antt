@@ -6,7 +6,7 @@ use Rattle.dia_accepted.specs.declared.ListFault.{ListFault}
 use Rattle.dia_accepted.specs.declared.ListFault.TheVariants as faults
 use Rattle.dia_io.specs.declared.Input.{Input}
 use Rattle.dia_io.specs.Inputs.{Holds, IsOver}
-use Rattle.dia_run.specs.Texts.{fault_at}
+use Rattle.dia_report.specs.Refusals.{fault_at}
 use Rattle.dia_upgrades.specs.declared.list.BadList.{BadList}
 use Rattle.dia_upgrades.specs.declared.list.BadList.TheVariants.{TooLong, NotText, Syntax, Limit}
 

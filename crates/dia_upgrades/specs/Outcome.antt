@@ -1,5 +1,5 @@
 -- What `breaking` writes for its inputs, and how it ends.
-use Rattle.std.specs.Prelude.{◌≡◌, ◌≢◌, ℕ, true, List, [], ◌∷◌, ◌++◌, Some, Contains, slice_get, codes}
+use Rattle.std.specs.Prelude.{◌≡◌, ◌≢◌, ℕ, Bool, true, if◌then◌else◌, List, [], ◌∷◌, ◌++◌, Some, Contains, length, map, slice_get, codes}
 use Rattle.std.specs.Global.{Vec}
 use Rattle.std.specs.List.{AllByRecursion, list_any}
 use Rattle.dia_book.specs.Dictionary.{Dictionary, PlainDefinition, definitions}
@@ -12,7 +12,9 @@ use Rattle.dia_io.specs.declared.Exit.{Exit}
 use Rattle.dia_io.specs.declared.Exit.TheVariants.{Yes, No}
 use Rattle.dia_run.specs.Texts.{line, IsDictionaryText, IsNoDictionaryText}
 use Rattle.dia_run.specs.Outcome.{IsPairOutcome, Refuses}
-use Rattle.dia_accepted.specs.Accepted.{PlainEntry, PlainTold, accepts, left_of, stale_lines}
+use Rattle.dia_accepted.specs.Accepted.{PlainEntry, PlainTold, accepts, left_of, plain_told, stale_lines}
+use Rattle.dia_accepted.specs.Causes.{once_of}
+use Rattle.dia_accepted.specs.declared.Told.{Told}
 use Rattle.dia_breaking.specs.declared.line.Line.{Line}
 use Rattle.dia_breaking.specs.declared.line.Site.{Site}
 use Rattle.dia_breaking.specs.Free.{AreValidWhereFree}
@@ -85,19 +87,29 @@ pub record CanAsk (asked : Asked) (a : Dictionary) : Type 0 where
   pub some : a.commands ≢ []
   pub known : AreCommands a (names_of asked)
 
--- what was found tells which lines of the list accept none of these
-abbrev pub TellsStale : List PlainEntry → List PlainTold → Found → Type 0
-TellsStale list told is = (stale : Vec ℕ) × (is ≡ found.Listed stale) × (stale.items ≡ stale_lines list told)
+-- what is written of the lines that are left: these lines, or with `--once` one for each cause
+abbrev pub shown : Bool → List PlainTold → List PlainTold
+shown is_once left = if is_once then once_of left else left
+
+-- what was found tells which lines of the list accept none of these, how many of these are left, and their causes
+pub record TellsFound (list : List PlainEntry) (told : List PlainTold) (is : Found) : Type 0 where
+  pub stale : Vec ℕ
+  pub lines : ℕ
+  pub causes : Vec Told
+  pub is_listed : is ≡ found.Listed stale lines causes
+  pub stale_are : stale.items ≡ stale_lines list told
+  pub lines_are : lines ≡ length (left_of list told)
+  pub causes_are : map plain_told causes.items ≡ once_of (left_of list told)
 
 -- `breaking` of two dictionaries and a list: what is written, how it ends, and what was found
 pub data IsListed (asked : Asked) (input : Input) (a b : Dictionary) (text : List ℕ) (exit : Exit) (is : Found) : Type 0 where
   nothing : (list : List PlainEntry) → IsListText input list → CanAsk asked a → AreAllTold asked a b [] → NothingBreaks asked a b
-      → text ≡ line nothing_breaks → exit ≡ Yes → TellsStale list [] is → IsListed asked input a b text exit is
+      → text ≡ line nothing_breaks → exit ≡ Yes → TellsFound list [] is → IsListed asked input a b text exit is
   nothing_else : (list : List PlainEntry) (told : List PlainTold) → IsListText input list → CanAsk asked a → AreAllTold asked a b told
       → left_of list told ≡ [] → told ≢ [] → NothingElseBreaks asked list a b → text ≡ line nothing_else_breaks → exit ≡ Yes
-      → TellsStale list told is → IsListed asked input a b text exit is
+      → TellsFound list told is → IsListed asked input a b text exit is
   lines : (list : List PlainEntry) (told : List PlainTold) → IsListText input list → CanAsk asked a → AreAllTold asked a b told
-      → left_of list told ≢ [] → text ≡ told_text (left_of list told) → exit ≡ No → TellsStale list told is
+      → left_of list told ≢ [] → text ≡ told_text (shown asked.once (left_of list told)) → exit ≡ No → TellsFound list told is
       → IsListed asked input a b text exit is
   bad_list : (bad : BadList) → IsNoListText input bad → Refuses (list_line bad) text exit → is ≡ found.NoList bad → IsListed asked input a b text exit is
   no_commands : (list : List PlainEntry) → IsListText input list → a.commands ≡ [] → Refuses no_commands_line text exit → is ≡ found.NoCommands
@@ -108,6 +120,15 @@ pub data IsListed (asked : Asked) (input : Input) (a b : Dictionary) (text : Lis
 -- the same, whatever was found
 abbrev pub IsAnyListed : Asked → Input → Dictionary → Dictionary → List ℕ → Exit → Type 0
 IsAnyListed asked input a b text exit = (is : Found) × IsListed asked input a b text exit is
+
+-- what was found has so many lines
+abbrev pub HasLines : Found → ℕ → Type 0
+HasLines is n = (stale : Vec ℕ) × (causes : Vec Told) × (is ≡ found.Listed stale n causes)
+
+-- so many lines are told that the list doesn't accept
+abbrev pub AreLeft : Asked → Input → Dictionary → Dictionary → ℕ → Type 0
+AreLeft asked input a b n =
+    (list : List PlainEntry) × (told : List PlainTold) × IsListText input list × AreAllTold asked a b told × (n ≡ length (left_of list told))
 
 -- `breaking` of the inputs
 abbrev pub IsBreakingOutcome : Asked → Inputs → List ℕ → Exit → Type 0
@@ -122,10 +143,10 @@ pub record AreRead (asked : Asked) (inputs : Inputs) (a b : Dictionary) (list : 
   pub list_is : IsListText inputs.table list
   pub can_ask : CanAsk asked a
 
--- what a no says: this is the text of the lines that the list doesn't accept, and there is one
+-- what a no says: this is the text of the lines that the list doesn't accept, or of their causes, and there is one
 abbrev pub IsUnsafeUpgrade : Asked → Inputs → List ℕ → Type 0
 IsUnsafeUpgrade asked inputs text = (a : Dictionary) × (b : Dictionary) × (list : List PlainEntry) × (told : List PlainTold) × AreRead asked inputs a b list
-    × AreAllTold asked a b told × (left_of list told ≢ []) × (text ≡ told_text (left_of list told))
+    × AreAllTold asked a b told × (left_of list told ≢ []) × (text ≡ told_text (shown asked.once (left_of list told)))
 
 -- what a yes says: nothing breaks, or nothing but what the list accepts; and what is written says which
 pub data IsSafeUpgrade (asked : Asked) (inputs : Inputs) (text : List ℕ) : Type 0 where

@@ -5,10 +5,10 @@ use Rattle.dia_dict.specs.declared.IndexedBook.{IndexedBook}
 use Rattle.dia_io.specs.declared.Inputs.{Inputs}
 use Rattle.dia_io.specs.declared.Exit.{Exit}
 use Rattle.dia_io.specs.declared.Exit.TheVariants.{Bad}
-use Rattle.dia_run.specs.declared.Refused.{Refused as AnyRefusal}
-use Rattle.dia_run.specs.declared.Refused.TheVariants as refusal
+use Rattle.dia_report.specs.declared.refusing.Refused.{Refused as AnyRefusal}
+use Rattle.dia_report.specs.declared.refusing.Refused.TheVariants as refusal
 use Rattle.dia_run.specs.Outcome.{Refuses}
-use Rattle.dia_run.specs.Refusals.{TellsOf, bad_input_text}
+use Rattle.dia_report.specs.Refusals.{TellsOf, bad_input_text}
 use Rattle.dia_run.specs.Report.{AreReadFrom}
 use Rattle.dia_run.specs.Texts.{line}
 use Rattle.dia_upgrades.specs.declared.asked.Asked.{Asked}

@@ -11,6 +11,8 @@ pub struct Asked<'a> {
     pub unknown: Unknown,
     /// Whether each line is followed by its message.
     pub messages: bool,
+    /// Whether lines of one cause are one line.
+    pub once: bool,
     /// The commands of the first dictionary that are listed: all where none is named.
     pub names: &'a [String],
 }

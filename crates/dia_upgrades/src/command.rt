@@ -4,7 +4,7 @@ ghost use Rattle.std.specs.Prelude.{◌≡◌, ◌↔◌, ℕ, List, IfErr, IfOk
 ghost use Rattle.std.specs.Io.KnownBytes.{Appends};
 ghost use Rattle.dia_io.specs.declared.Exit.{Exit as AnyExit};
 ghost use Rattle.dia_io.specs.Writing.{AppendsFront};
-ghost use Rattle.dia_run.specs.Refusals.{bad_input_text};
+ghost use Rattle.dia_report.specs.Refusals.{bad_input_text};
 ghost use Rattle.dia_run.specs.Texts.{line};
 ghost use Rattle.dia_upgrades.specs.Outcome.{AreRefused, IsBreakingOutcome, IsSafeUpgrade, IsUnsafeUpgrade};
 ghost use Rattle.dia_upgrades.specs.Report.{Answers, HasReport, IsReport, TellsRefusal};
@@ -14,12 +14,14 @@ use crate::judging::judged;
 use crate::reporting::{Answered, Judged, Report, Reported};
 use dia_dict::{Book, IndexedBook};
 use dia_io::{Exit, Inputs, RunFault, Sink, put_all};
-use dia_run::{BadInput, BothBooks, Refused, read_dictionary};
+use dia_report::{BadInput, BothBooks, Refused};
+use dia_run::read_dictionary;
 use std::alloc::{AllocError, Global};
 
 /// Writes a line for each way in which messages that the side of the first dictionary sends break under the second, but for
-/// those that the list of accepted lines, the table's input, accepts; or `nothing breaks`, or `nothing else breaks` where the list
-/// accepts all that breaks. Answers how it ended, and a report, which has the lines of the list that accept nothing.
+/// those that the list of accepted lines, the table's input, accepts; with `once` a line for each of their causes. Or writes
+/// `nothing breaks`, or `nothing else breaks` where the list accepts all that breaks. Answers how it ended, and a report, which
+/// has how many lines and causes there are, and the lines of the list that accept nothing.
 ///
 /// The text is made first, and then written in whatever pieces the sink takes.
 pub fn breaking<S: Sink>(

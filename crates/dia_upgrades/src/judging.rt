@@ -1,11 +1,11 @@
 //! What is written of two dictionaries that were read, and how it ends.
 
-ghost use Rattle.std.specs.Prelude.{◌≡◌, ◌++◌, ◌==◌, [], IfOk, OnOk, length, map, string_bytes};
+ghost use Rattle.std.specs.Prelude.{◌≡◌, ◌++◌, ◌==◌, [], IfOk, OnOk, if◌then◌else◌, length, map, string_bytes};
 ghost use Rattle.dia_io.specs.declared.Input.{Input as AnyInput};
 ghost use Rattle.dia_run.specs.Texts.{line};
 ghost use Rattle.dia_accepted.specs.Accepted.{left_of, plain_entry, plain_told};
 ghost use Rattle.dia_upgrades.specs.Lists.{IsListText, list_line};
-ghost use Rattle.dia_upgrades.specs.Outcome.{IsListed, TellsStale, no_command_line, no_commands_line, nothing_left};
+ghost use Rattle.dia_upgrades.specs.Outcome.{IsListed, TellsFound, no_command_line, no_commands_line, nothing_left, shown};
 ghost use Rattle.dia_upgrades.specs.Told.{told_text};
 
 use crate::asked::Asked;
@@ -13,7 +13,7 @@ use crate::lines::lines_of;
 use crate::list::{BadList, read_accepted};
 use crate::naming::named;
 use crate::reporting::{Found, Judged};
-use dia_accepted::{Entry, Told, left, stale};
+use dia_accepted::{Entry, Told, left, once, stale};
 use dia_breaking::Upgrade;
 use dia_dict::Book;
 use dia_io::{Exit, Input};
@@ -61,7 +61,7 @@ fn listed<A: Book, B: Book>(
             let upgrade = Upgrade::new(alloc, a, b, asked.sends, asked.unknown)?;
             let lines = lines_of(alloc, &upgrade, &commands, asked.messages)?;
             let told = lines.as_slice();
-            compared(alloc, list, told)
+            compared(alloc, asked.once, list, told)
         }
         Err(name) => no_command(alloc, name),
     }
@@ -73,22 +73,35 @@ fn has_no_commands<A: Book>(a: &A) -> bool
     a.commands() == 0
 }
 
-/// What is written of lines, and which lines of the list accept none of them.
-fn compared(alloc: Global, list: &[Entry], lines: &[Told]) -> Result<Judged, AllocError>
-    ensures stale { IfOk result (λ judged. TellsStale (map plain_entry list.now) (map plain_told lines.now) judged.found) }
+/// What is written of lines, how much is left of them, and which lines of the list accept none of them.
+fn compared(
+    alloc: Global,
+    is_once: bool,
+    list: &[Entry],
+    lines: &[Told],
+) -> Result<Judged, AllocError>
+    ensures found { IfOk result (λ judged. TellsFound (map plain_entry list.now) (map plain_told lines.now) judged.found) }
     ensures none { left_of (map plain_entry list.now) (map plain_told lines.now) ≡ [] → IfOk result (λ judged.
         (judged.exit ≡ Exit.Yes) × (string_bytes judged.text ≡ line (nothing_left (map plain_told lines.now)))) }
     ensures some { ¬ (left_of (map plain_entry list.now) (map plain_told lines.now) ≡ []) → IfOk result (λ judged.
-        (judged.exit ≡ Exit.No) × (string_bytes judged.text ≡ told_text (left_of (map plain_entry list.now) (map plain_told lines.now)))) }
+        (judged.exit ≡ Exit.No) × (string_bytes judged.text
+        ≡ told_text (shown is_once (left_of (map plain_entry list.now) (map plain_told lines.now))))) }
 {
     let left = left(alloc, list, lines)?;
     let rest = left.as_slice();
+    let causes = once(alloc, rest)?;
+    let text = text_shown(alloc, is_once, rest, causes.as_slice())?;
     let stale = stale(alloc, list, lines)?;
-    let found = Found::Listed { stale };
+    let found = Found::Listed {
+        stale,
+        lines: rest.len(),
+        causes,
+    };
     if rest.is_empty() {
         return nothing_told(alloc, lines, found);
     }
-    lines_told(alloc, rest, found)
+    let exit = Exit::No;
+    Ok(Judged { text, exit, found })
 }
 
 /// What is written where no line is left of these.
@@ -102,17 +115,6 @@ fn nothing_told(alloc: Global, lines: &[Told], found: Found) -> Result<Judged, A
     Ok(Judged { text, exit, found })
 }
 
-/// What is written of the lines that are left.
-fn lines_told(alloc: Global, lines: &[&Told], found: Found) -> Result<Judged, AllocError>
-    ensures text { IfOk result (λ judged. string_bytes judged.text ≡ told_text (map (λ t. plain_told t.now) lines.now)) }
-    ensures exit { IfOk result (λ judged. judged.exit ≡ Exit.No) }
-    ensures found { IfOk result (λ judged. judged.found ≡ found) }
-{
-    let text = text_of(alloc, lines)?;
-    let exit = Exit::No;
-    Ok(Judged { text, exit, found })
-}
-
 fn nothing_left(lines: &[Told]) -> &'static str
     ensures { result.now ≡ line (nothing_left (map plain_told lines.now)) }
 {
@@ -123,9 +125,37 @@ fn nothing_left(lines: &[Told]) -> &'static str
     }
 }
 
+/// The text of these lines, or of their causes.
+fn text_shown(
+    alloc: Global,
+    is_once: bool,
+    lines: &[&Told],
+    causes: &[Told],
+) -> Result<String, AllocError>
+    ensures { IfOk result (λ text. string_bytes text ≡ told_text
+        (if is_once then map plain_told causes.now else map (λ t. plain_told t.now) lines.now)) }
+{
+    if is_once {
+        text_of_causes(alloc, causes)
+    } else {
+        text_of(alloc, lines)
+    }
+}
+
 /// The text of lines, each with its message behind it, if it has one.
 fn text_of(alloc: Global, lines: &[&Told]) -> Result<String, AllocError>
     ensures { IfOk result (λ text. string_bytes text ≡ told_text (map (λ t. plain_told t.now) lines.now)) }
+{
+    let mut text = String::new(alloc);
+    for told in lines {
+        push_line(&mut text, told)?;
+    }
+    Ok(text)
+}
+
+/// The text of a line for each cause.
+fn text_of_causes(alloc: Global, lines: &[Told]) -> Result<String, AllocError>
+    ensures { IfOk result (λ text. string_bytes text ≡ told_text (map plain_told lines.now)) }
 {
     let mut text = String::new(alloc);
     for told in lines {

@@ -3,6 +3,7 @@
 
 mod asked;
 mod command;
+mod counting;
 mod judging;
 mod lines;
 mod list;
@@ -11,6 +12,7 @@ mod reporting;
 
 pub use asked::Asked;
 pub use command::breaking;
-pub use dia_accepted::{MAX_LINES, MAX_LIST};
+pub use counting::lines_left;
+pub use dia_accepted::{MAX_LINES, MAX_LIST, Told};
 pub use list::BadList;
 pub use reporting::{Found, Report, Reported};

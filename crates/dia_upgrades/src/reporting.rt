@@ -1,14 +1,22 @@
 //! What is answered: its text, how it ends, and what was read and found.
 
 use crate::list::BadList;
+use dia_accepted::Told;
 use dia_io::Exit;
-use dia_run::{BadInput, BothBooks};
+use dia_report::{BadInput, BothBooks};
 
 /// What was found of two dictionaries and a list of accepted lines.
 #[derive(Debug, Drop)]
 pub enum Found {
-    /// What breaks was listed. These lines of the list of accepted ones, by their numbers from 1, accept nothing of it.
-    Listed { stale: Vec<u32> },
+    /// What breaks was listed.
+    Listed {
+        /// The lines of the list of accepted ones that accept nothing of it, by their numbers from 1.
+        stale: Vec<u32>,
+        /// How many lines the list leaves.
+        lines: usize,
+        /// A line for each cause of these.
+        causes: Vec<Told>,
+    },
     /// The text of the list is refused.
     NoList(BadList),
     /// The first dictionary has no commands.

@@ -2,14 +2,14 @@
 
 use crate::front::Front;
 use crate::word_of;
-use dia_captures::{Lines, Tallied, check_lines, check_stream, refute_lines};
+use dia_captures::{Lines, check_lines, check_stream, refute_lines};
 use dia_cli::{Ending, Origin, Origins};
 use dia_explain_answers::{Asked, push_check_alone, push_refute_alone};
 use dia_explain_inputs::push_front;
 use dia_io::{Exit, FromReader, Inputs, ToWriter};
 use dia_lines::LinesFault;
 use dia_policy::{Levels, Unknown};
-use dia_run::Reported;
+use dia_report::Reported;
 use std::alloc::{AllocError, Global};
 use std::io::Read;
 use std::rt::Files;
@@ -98,16 +98,16 @@ where
         unknown,
         levels,
     } = capture;
-    let mut sink = Tallied::new(alloc, lines, ToWriter::new(io::writer(rt)));
+    let mut sink = ToWriter::new(io::writer(rt));
     let ended = match lines {
         Lines::Checked => check_lines(alloc, unknown, levels, inputs, &mut feed, &mut sink),
         Lines::Refuted => refute_lines(alloc, unknown, levels, inputs, &mut feed, &mut sink),
         Lines::Placed => check_stream(alloc, unknown, levels, inputs, &mut feed, &mut sink),
     };
     match ended {
-        Ok(reported) => {
+        Ok(dia_captures::Captured { reported, summary }) => {
             if !quiet && reported.exit != Exit::Bad {
-                summarize(rt, &mut sink);
+                summarize(rt, summary);
                 if feed.is_telling() {
                     tell_front(rt, name, lines, &feed.kept);
                 }
@@ -116,7 +116,7 @@ where
         }
         Err(LinesFault::NoMemory) => Err(Ending::NoMemory),
         Err(LinesFault::Device | LinesFault::Endless) => {
-            let ending = match sink.sink.failure() {
+            let ending = match sink.failure() {
                 Some(error) => Ending::Device {
                     name: OUTPUT,
                     error: Some(error),
@@ -161,9 +161,9 @@ fn tell_front<R: AllocGlobal + Eprint>(rt: &R, name: &str, lines: Lines, front: 
     }
 }
 
-/// Tells how many lines are as they should be, and what the others say. Where memory or the device fails, nothing is told.
-fn summarize<R: Eprint, S>(rt: &R, lines: &mut Tallied<S>) {
-    if let Some(text) = lines.tally.summary() {
+/// Tells how many lines are as they should be, and what the others say. Where the device fails, nothing is told.
+fn summarize<R: Eprint>(rt: &R, summary: Option<String>) {
+    if let Some(text) = summary {
         let _ = eprint!(rt; "{text}");
     }
 }

@@ -24,7 +24,8 @@ use dia_cli::{
 };
 use dia_explain_places::{InputTexts, NamedText};
 use dia_io::Task;
-use dia_run::{Command, Exit, Inputs, Report, Reported, ToWriter, run_reporting};
+use dia_report::{Report, Reported};
+use dia_run::{Command, Exit, Inputs, ToWriter, run_reporting};
 use dia_upgrades::{Asked, breaking};
 use notes::{explain, explain_upgrade, unnamed};
 use std::process::ExitCode;
@@ -107,12 +108,14 @@ where
             sends,
             unknown,
             messages,
+            once,
             names,
         } => {
             let asked = Asked {
                 sends: *sends,
                 unknown: *unknown,
                 messages: *messages,
+                once: *once,
                 names: names.as_slice(),
             };
             list(rt, asked, inputs, origins, quiet)
@@ -160,7 +163,7 @@ where
         Ok(listed) => {
             if !quiet {
                 let texts = texts_of(origins, inputs);
-                note_upgrade(rt, &texts, asked.names, &listed.report);
+                note_upgrade(rt, &texts, asked, inputs, &listed.report);
             }
             let exit = listed.exit;
             let report = Report::Done;
@@ -174,10 +177,11 @@ where
 fn note_upgrade<R: AllocGlobal + Eprint>(
     rt: &R,
     texts: &InputTexts<'_>,
-    names: &[String],
+    asked: Asked<'_>,
+    inputs: &Inputs,
     report: &dia_upgrades::Report,
 ) {
-    if let Ok(text) = explain_upgrade(rt.alloc(), texts, names, report) {
+    if let Ok(text) = explain_upgrade(rt.alloc(), texts, asked, inputs, report) {
         let _ = eprint!(rt; "{text}");
     }
 }

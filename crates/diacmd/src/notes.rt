@@ -7,10 +7,21 @@ use dia_explain_inputs::{
     push_unknown_commands,
 };
 use dia_explain_places::InputTexts;
-use dia_explain_upgrades::{push_bad_list, push_stale, push_without_commands};
-use dia_run::{BothBooks, Compared, Inputs, Report, read_message};
-use dia_upgrades::Found;
+use dia_explain_upgrades::{
+    Side, push_bad_list, push_namesakes, push_narrower, push_stale, push_tally,
+    push_without_commands,
+};
+use dia_policy::Sends;
+use dia_report::{BothBooks, Compared, Report};
+use dia_run::{Inputs, read_message};
+use dia_upgrades::{Asked, Found, Told, lines_left};
 use std::alloc::{AllocError, Global};
+
+/// Up to this product of commands and AVPs it is counted what breaks where less is sent, which takes as long as the answer.
+const MOST_COUNTED: usize = 1_000_000;
+
+/// The senders that send less than others, in the order in which they are told.
+static SENDERS: [Sends; 2] = [Sends::Listed, Sends::Known];
 
 /// What is told on standard error of a report. `names` are those of the commands that were asked for. It is empty where there
 /// is nothing to tell.
@@ -33,7 +44,7 @@ pub(crate) fn explain(
             push_length(alloc, &mut out, &texts.message)?;
         }
         Report::Compared(found) => push_table(alloc, &mut out, texts, found)?,
-        Report::Done | Report::Cut(_) | Report::Listed(_) => {}
+        Report::Done | Report::Cut(_) => {}
     }
     Ok(out)
 }
@@ -42,7 +53,8 @@ pub(crate) fn explain(
 pub(crate) fn explain_upgrade(
     alloc: Global,
     texts: &InputTexts<'_>,
-    names: &[String],
+    asked: Asked<'_>,
+    inputs: &Inputs,
     report: &dia_upgrades::Report,
 ) -> Result<String, AllocError> {
     let mut out = String::new(alloc);
@@ -50,7 +62,7 @@ pub(crate) fn explain_upgrade(
         dia_upgrades::Report::Refused(bad) => push_refused(alloc, &mut out, texts, bad)?,
         dia_upgrades::Report::Read { books, found } => {
             push_empty(&mut out, &texts.second)?;
-            push_found(alloc, &mut out, texts, names, books, found)?;
+            push_found(alloc, &mut out, texts, asked, inputs, books, found)?;
         }
     }
     Ok(out)
@@ -70,16 +82,107 @@ fn push_found(
     alloc: Global,
     out: &mut String,
     texts: &InputTexts<'_>,
-    names: &[String],
+    asked: Asked<'_>,
+    inputs: &Inputs,
     books: &BothBooks,
     found: &Found,
 ) -> Result<(), AllocError> {
     match found {
-        Found::Listed { stale } => push_stale(alloc, out, &texts.table, stale),
+        Found::Listed {
+            stale,
+            lines,
+            causes,
+        } => {
+            let (first, second) = (texts.first.name, texts.second.name);
+            push_tally(out, first, second, *lines, causes.len())?;
+            if *lines > 0 {
+                push_less(alloc, out, asked, inputs, books)?;
+                push_twins(alloc, out, texts, books, causes)?;
+            }
+            push_stale(alloc, out, &texts.table, stale)
+        }
         Found::NoList(bad) => push_bad_list(alloc, out, &texts.table, bad),
         Found::NoCommands => push_without_commands(out, &texts.first, &books.first.source),
-        Found::NoCommand => push_missing(alloc, out, texts, names, books),
+        Found::NoCommand => push_missing(alloc, out, texts, asked.names, books),
     }
+}
+
+/// Adds how much breaks where the first side sends less, if that isn't too long to count.
+fn push_less(
+    alloc: Global,
+    out: &mut String,
+    asked: Asked<'_>,
+    inputs: &Inputs,
+    books: &BothBooks,
+) -> Result<(), AllocError> {
+    if is_long(asked, books) {
+        return Ok(());
+    }
+    for sends in SENDERS.as_slice() {
+        if sends_less(*sends, asked.sends) {
+            push_left(alloc, out, *sends, asked, inputs, books)?;
+        }
+    }
+    Ok(())
+}
+
+/// Adds how many lines are left where the first side sends this.
+fn push_left(
+    alloc: Global,
+    out: &mut String,
+    sends: Sends,
+    asked: Asked<'_>,
+    inputs: &Inputs,
+    books: &BothBooks,
+) -> Result<(), AllocError> {
+    let messages = false;
+    let asked = Asked {
+        sends,
+        messages,
+        ..asked
+    };
+    match lines_left(alloc, asked, &inputs.table, books)? {
+        Some(lines) => push_narrower(out, sends, lines),
+        None => Ok(()),
+    }
+}
+
+fn sends_less(sends: Sends, than: Sends) -> bool {
+    match than {
+        Sends::Any => !matches!(sends, Sends::Any),
+        Sends::Known => matches!(sends, Sends::Listed),
+        Sends::Listed => false,
+    }
+}
+
+fn is_long(asked: Asked<'_>, books: &BothBooks) -> bool {
+    let source = &books.first.source;
+    let commands = if asked.names.is_empty() {
+        source.commands.len()
+    } else {
+        asked.names.len()
+    };
+    let avps = source.avps.len().saturating_add(source.groups.len());
+    commands.saturating_mul(avps) > MOST_COUNTED
+}
+
+/// Adds the names of AVPs that are others in the second dictionary.
+fn push_twins(
+    alloc: Global,
+    out: &mut String,
+    texts: &InputTexts<'_>,
+    books: &BothBooks,
+    causes: &[Told],
+) -> Result<(), AllocError> {
+    let first = Side {
+        name: texts.first.name,
+        source: &books.first.source,
+    };
+    let second = Side {
+        name: texts.second.name,
+        source: &books.second.source,
+    };
+    push_namesakes(alloc, out, first, second, causes)
 }
 
 /// Adds the names that no command of the first dictionary has.

@@ -123,9 +123,10 @@ form_is_asked quiet (refute many unknown levels first second third) rows plain s
     (also (pair_passes first second rows says.1.0.1 says.1.0.2) (also (has_flag _ many says.1.1) (has_some _ third says.1.3))))
 form_is_asked quiet (propose unknown first second name names) rows plain says =
     also (has_flag _ quiet says.0) (also (has_policy _ unknown says.1.0.0) (also (pair_passes first second rows says.1.0.1 says.1.0.2) (has_some _ (name ∷ names) says.1.1)))
-form_is_asked quiet (breaking sends unknown messages accepted first second names) rows plain says =
+form_is_asked quiet (breaking sends unknown messages once accepted first second names) rows plain says =
     also (has_flag _ quiet says.0) (also (has_policy _ unknown says.1.0.0) (also (pair_passes first second rows says.1.0.1 says.1.0.2)
-    (also (also (has_sender _ sends says.1.1) (has_flag _ messages says.1.2)) (has_some _ (unwrap_or accepted (codes "@none")) says.1.4))))
+    (also (has_sender _ sends says.1.1)
+    (also (also (has_flag _ messages says.1.2) (has_flag _ once says.1.5)) (has_some _ (unwrap_or accepted (codes "@none")) says.1.4)))))
 
 -- `--lines` and `--stream` stand together in no form
 pub form_reads_one_way : (quiet : Bool) (form : Form) (rows : List Row) → Says quiet form rows → (form_name form ≡ codes "check") × HasLinesAndStream rows → ⊥
@@ -146,7 +147,7 @@ task_name (Whole (command.Compare unknown)) = codes "compare"
 task_name (Whole (command.Refute unknown levels)) = codes "refute"
 task_name (RefuteLines unknown levels) = codes "refute"
 task_name (Whole (command.Propose unknown names)) = codes "propose"
-task_name (Breaking sends unknown messages names) = codes "breaking"
+task_name (Breaking sends unknown messages once names) = codes "breaking"
 
 name_found : (task : Task) (found : Text × List Row) → IsTaskOf task found → found.0 ≡ task_name task
 name_found (Whole command.Show) found is = is
@@ -158,7 +159,7 @@ name_found (Whole (command.Compare unknown)) found is = is.0
 name_found (Whole (command.Refute unknown levels)) found is = is.0
 name_found (RefuteLines unknown levels) found is = is.0
 name_found (Whole (command.Propose unknown names)) found is = is.0
-name_found (Breaking sends unknown messages names) found is = is.0
+name_found (Breaking sends unknown messages once names) found is = is.0
 
 other_flag : {X : Type 0} (word : Option Text) (x y : Bool) → word ≡ Some (flag_word x) → word ≡ Some (flag_word y) → x ≢ y → X
 other_flag word x y one two differ = absurd (differ (same_flag word x y one two))
@@ -258,11 +259,11 @@ asked_is (refute false unknown levels first second third) rows (RefuteLines poli
 asked_is (refute true unknown levels first second third) rows (Whole (command.Refute policy limit)) origins says is found = other_flag _ false true is.1 says.1 not_true
 asked_is (propose unknown first second name names) rows (Whole (command.Propose policy commands)) origins says is found =
     ((same_policy _ _ _ is.1 says.0.0, sym (same_value _ _ _ says.1 is.2)), pair_named origins rows first second says.0.1 says.0.2 found)
-asked_is (breaking sends unknown messages accepted first second names) rows (Breaking sender policy shown commands) origins says is found = (
-  (same_sender _ _ _ is.2 says.1, same_policy _ _ _ is.1 says.0.0, same_flag _ _ _ is.3 says.2, same_names _ _ names says.3 is.4),
+asked_is (breaking sends unknown messages once accepted first second names) rows (Breaking sender policy shown counted commands) origins says is found = (
+  (same_sender _ _ _ is.2 says.1, same_policy _ _ _ is.1 says.0.0, same_flag _ _ _ is.3 says.2, same_flag _ _ _ is.4 says.5, same_names _ _ names says.3 is.5),
   table_named origins rows first second says.0.1 says.0.2 (codes "accepted") (unwrap_or accepted (codes "@none")) says.4 found,
 )
-asked_is (breaking sends unknown messages accepted first second names) rows (Whole command.Show) origins says is found = unlike (codes "breaking") (codes "show") refl is
+asked_is (breaking sends unknown messages once accepted first second names) rows (Whole command.Show) origins says is found = unlike (codes "breaking") (codes "show") refl is
 asked_is form rows task origins says is found = unlike (form_name form) (task_name task) refl (name_found task (form_name form, rows) is)
 
 pub request_is : (quiet : Bool) (form : Form) (rows : List Row) (request : Request) → Says quiet form rows → IsRequestOf request (form_name form, rows)

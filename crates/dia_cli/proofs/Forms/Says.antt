@@ -40,9 +40,10 @@ SaysForm (refute many unknown levels first second message) rows =
     SaysPair unknown first second rows × (first_of (codes "lines") rows ≡ Some (flag_word many)) × (first_of (codes "levels") rows ≡ levels)
     × (first_of (codes "MESSAGE") rows ≡ Some message)
 SaysForm (propose unknown first second name names) rows = SaysPair unknown first second rows × (all_of (codes "COMMAND") rows ≡ Some (name ∷ names))
-SaysForm (breaking sends unknown messages accepted first second names) rows =
+SaysForm (breaking sends unknown messages once accepted first second names) rows =
     SaysPair unknown first second rows × (first_of (codes "sends") rows ≡ Some (sends_word sends)) × (first_of (codes "messages") rows ≡ Some (flag_word messages))
     × (all_of (codes "COMMAND") rows ≡ some_names names) × (first_of (codes "accepted") rows ≡ Some (unwrap_or accepted (codes "@none")))
+    × (first_of (codes "once") rows ≡ Some (flag_word once))
 
 abbrev pub Says : Bool → Form → List Row → Type 0
 Says quiet form rows = (first_of (codes "quiet") rows ≡ Some (flag_word quiet)) × SaysForm form rows
@@ -122,7 +123,7 @@ module _ (policies senders : Bor (List (Bor Text))) (quiet : Bool) (rows : List 
   )
   form_says (propose unknown one two name names) first all =
       (first (codes "quiet") ∙ flag_found quiet, ((first (codes "unknown") ∙ policy_found unknown, first (codes "A"), first (codes "B")), all (codes "COMMAND")))
-  form_says (breaking sends unknown messages accepted one two names) first all = (
+  form_says (breaking sends unknown messages once accepted one two names) first all = (
     first (codes "quiet") ∙ flag_found quiet,
     (
       (first (codes "unknown") ∙ policy_found unknown, first (codes "A"), first (codes "B")),
@@ -130,6 +131,7 @@ module _ (policies senders : Bor (List (Bor Text))) (quiet : Bool) (rows : List 
       first (codes "messages") ∙ flag_found messages,
       all (codes "COMMAND") ∙ names_found names,
       first (codes "accepted") ∙ text_found accepted (codes "@none"),
+      first (codes "once") ∙ flag_found once,
     ),
   )
 

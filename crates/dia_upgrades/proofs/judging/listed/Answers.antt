@@ -44,7 +44,7 @@ returns-in_ok-lines-in-Ok g c = λ input is_list.
     let here = subst (λ (ts : List Told). AreTold (sides da db asked.sends asked.unknown) asked.messages (asked_places da (names_of asked)) (map plain_told ts)) (sym c.as_slice-told.ensures.value) all in
     let some = some_items da.commands (not_zero (length da.commands) (sym c.has_no_commands.ensures ∙ c.if-has_no_commands.false)) in
     by_lines asked input da db (map plain_entry c.args.list.now) is_list (g.met.A.Book.sound c.args.a.now) (record { some = some; known = known }) (map plain_told slice) c.compared.result here
-    c.compared.ensures.stale c.compared.ensures.none c.compared.ensures.some
+    c.compared.ensures.found c.compared.ensures.none c.compared.ensures.some
 
 pub returns-in-Err : goal.returns-in-Err
 returns-in-Err g c = λ input is_list.
