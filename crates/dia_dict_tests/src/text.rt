@@ -1,7 +1,9 @@
-//! Messages made of texts. The bytes were worked out by hand from RFC 6733 sections 3 and 4.1.
+//! Messages made of texts, and texts of messages. The bytes were worked out by hand from RFC 6733 sections 3 and 4.1.
 //!
 //! ```text
 //! TEXT => the message in hexadecimal, or the first fault
+//! TEXT => a line for each message, or the first fault (in `many`)
+//! MESSAGE => the text, or why there is none (in `texts`)
 //! ```
 //!
 //! The dictionary is `DICTIONARY`.
@@ -9,15 +11,17 @@
 mod avps;
 mod groups;
 mod headers;
+mod many;
 mod memory;
 mod refusals;
+mod texts;
 mod values;
 
 use crate::words::same;
 use dia_ccf::parse;
 use dia_dict::{PlainBook, resolve};
 use dia_rows::{Names, Row, without_blanks};
-use dia_text::make;
+use dia_text::{as_text, make, make_all};
 use std::alloc::{AllocError, Global};
 use std::process::Abort;
 
@@ -68,12 +72,27 @@ const TEXTS: [&str; 5] = [
     refusals::ROWS,
 ];
 
+/// A call that a row is about.
+#[derive(Clone, Copy)]
+enum Call {
+    Make,
+    MakeAll,
+    AsText,
+}
+
 #[test]
 fn texts_make_messages(rt: HostRuntime) {
     let book = book_of(&rt);
     for text in TEXTS.iter() {
-        makes_all(&rt, &book, text);
+        holds_all(&rt, &book, text, Call::Make);
     }
+    holds_all(&rt, &book, many::ROWS, Call::MakeAll);
+}
+
+#[test]
+fn messages_are_written_as_texts(rt: HostRuntime) {
+    let book = book_of(&rt);
+    holds_all(&rt, &book, texts::ROWS, Call::AsText);
 }
 
 /// The book of `DICTIONARY`.
@@ -84,24 +103,46 @@ fn book_of(rt: &(impl AllocGlobal + Abort)) -> Box<PlainBook> {
 }
 
 /// Checks each row of a text.
-fn makes_all(rt: &(impl AllocGlobal + Abort), book: &PlainBook, text: &str) {
+fn holds_all(rt: &(impl AllocGlobal + Abort), book: &PlainBook, text: &str, call: Call) {
     let mut names = Names::new(rt.alloc());
     names.learn_all(HEADER).expect(rt, HEADER);
     for line in text.lines() {
         if let Some(row) = names.row(line).expect(rt, line) {
-            makes(rt, book, &names, &row);
+            match call {
+                Call::AsText => writes(rt, book, &names, &row),
+                _ => makes(rt, book, &names, &row, call),
+            }
         }
     }
 }
 
-/// Checks a row.
-fn makes(rt: &(impl AllocGlobal + Abort), book: &PlainBook, names: &Names, row: &Row<'_>) {
+/// Checks a row of a text that makes messages.
+fn makes(
+    rt: &(impl AllocGlobal + Abort),
+    book: &PlainBook,
+    names: &Names,
+    row: &Row<'_>,
+    call: Call,
+) {
     let text = names.text(row.call).expect(rt, row.line);
     let wanted = names.text(row.wanted).expect(rt, row.line);
-    let found = words_of(rt.alloc(), book, text.as_slice()).expect(rt, "memory");
+    let found = match call {
+        Call::MakeAll => lines_of(rt.alloc(), book, text.as_slice()).expect(rt, "memory"),
+        _ => words_of(rt.alloc(), book, text.as_slice()).expect(rt, "memory"),
+    };
     let found = without_blanks(rt.alloc(), found.as_bytes()).expect(rt, "memory");
     let wanted = without_blanks(rt.alloc(), wanted.as_slice()).expect(rt, "memory");
     same(rt, found.as_slice(), wanted.as_slice(), row.line);
+}
+
+/// Checks a row of a text that is written.
+fn writes(rt: &(impl AllocGlobal + Abort), book: &PlainBook, names: &Names, row: &Row<'_>) {
+    let digits = names.text(row.call).expect(rt, row.line);
+    let digits = without_blanks(rt.alloc(), digits.as_slice()).expect(rt, "memory");
+    let wanted = names.text(row.wanted).expect(rt, row.line);
+    let message = hex::decode(rt.alloc(), digits.as_slice()).expect(rt, row.line);
+    let found = text_of(rt.alloc(), book, message.as_slice()).expect(rt, "memory");
+    same(rt, found.as_bytes(), wanted.as_slice(), row.line);
 }
 
 /// The message of a text in hexadecimal, or the words of its fault.
@@ -109,5 +150,21 @@ fn words_of(alloc: Global, book: &PlainBook, text: &[u8]) -> Result<String, Allo
     match make(alloc, book, text) {
         Ok(message) => hex::encode(alloc, message),
         Err(fault) => fault.to_string(alloc),
+    }
+}
+
+/// The lines of the messages of a text, or the words of its fault.
+fn lines_of(alloc: Global, book: &PlainBook, text: &[u8]) -> Result<String, AllocError> {
+    match make_all(alloc, book, text) {
+        Ok(lines) => Ok(lines),
+        Err(fault) => fault.to_string(alloc),
+    }
+}
+
+/// The text of a message, or why there is none.
+fn text_of(alloc: Global, book: &PlainBook, message: &[u8]) -> Result<String, AllocError> {
+    match as_text(alloc, book, message) {
+        Ok(text) => Ok(text),
+        Err(why) => why.to_string(alloc),
     }
 }

@@ -3,3 +3,16 @@ pub mod Letters
 pub mod Found
 pub mod Drafting
 pub mod LinesOfTexts
+pub mod Bytes
+pub mod HexBack
+pub mod WordsBack
+pub mod FieldsBack
+pub mod ValuesBack
+pub mod KeysBack
+pub mod HeadersBack
+pub mod LinesBack
+pub mod TextsBack
+pub mod LevelTexts
+pub mod Pushed
+pub mod NoTexts
+pub mod Parts

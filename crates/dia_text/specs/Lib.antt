@@ -8,3 +8,5 @@ pub mod Values
 pub mod Lines
 pub mod Drafts
 pub mod Made
+pub mod LineTexts
+pub mod TextOf

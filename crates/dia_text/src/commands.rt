@@ -47,7 +47,7 @@ fn command_named<'a, B: Book>(book: &'a B, word: &[u8]) -> Option<&'a Definition
     None
 }
 
-fn start_of(head: &DefHead) -> Option<Start>
+pub(crate) fn start_of(head: &DefHead) -> Option<Start>
     ensures value { result ≡ start_of head.now }
     ensures small { IfSome result (λ start. start.code < 2 ^ 24) }
 {
@@ -66,7 +66,7 @@ fn start_of(head: &DefHead) -> Option<Start>
     }
 }
 
-fn class_flags(class: Class) -> u8
+pub(crate) fn class_flags(class: Class) -> u8
     ensures value { result ≡ class_flags class }
     ensures small { result ≤ 128 }
 {

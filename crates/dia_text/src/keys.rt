@@ -34,7 +34,7 @@ pub(crate) fn code_of<B: Book>(book: &B, word: &[u8]) -> Result<AvpCode, Misread
     }
 }
 
-fn numbered(word: &[u8]) -> Option<AvpCode>
+pub(crate) fn numbered(word: &[u8]) -> Option<AvpCode>
     ensures { result ≡ numbered word.now }
 {
     match number32(word) {
@@ -91,7 +91,7 @@ fn key_named<B: Book>(book: &B, word: &[u8]) -> Option<Key>
     None
 }
 
-fn entry<B: Book>(book: &B, code: &AvpCode) -> Option<Entry>
+pub(crate) fn entry<B: Book>(book: &B, code: &AvpCode) -> Option<Entry>
     ensures entry { option_and_then (slice_get (B.meaning book.now).entries) result
         ≡ entry_at (B.meaning book.now) code.now }
     ensures known { IfSome result (λ entry. entry < length (B.meaning book.now).entries) }

@@ -19,20 +19,27 @@
 //! be valid.
 #![tactic(auto)]
 
+mod avp_lines;
 mod commands;
 mod draft;
 mod fault;
 mod fields;
+mod header_lines;
 mod keys;
 mod line;
 mod lines;
 mod making;
+mod many;
 mod numbers;
+mod pushing;
 mod values;
 mod words;
+mod writing;
 
 pub use fault::{Fault, Kind, Misread, NotMade};
 pub use keys::AvpCode;
 pub use line::{Head, Line};
 pub use lines::{header_of, line_of};
 pub use making::make;
+pub use many::make_all;
+pub use writing::{NotWritten, as_text};

@@ -1,10 +1,10 @@
 //! Texts, read: the message that a text writes.
 ghost use Rattle.std.specs.Prelude.{◌≡◌, ◌<◌, ◌≤◌, ◌^◌, ◌++◌};
-ghost use Rattle.std.specs.Prelude.{◌≢◌, ◌∷◌, IfOk, OnOk, IfSome, All, length, drop, map};
+ghost use Rattle.std.specs.Prelude.{◌≢◌, ◌∷◌, IfOk, IfErr, OnOk, IfSome, All, length, drop, map};
 ghost use Rattle.dia_wire.specs.Written.{header_bytes};
 ghost use Rattle.dia_text.specs.Drafts.{Level, Stands, IsAdded};
 ghost use Rattle.dia_text.specs.Made.{lines, made, body_from, no_level, finished};
-ghost use Rattle.dia_text.specs.Made.{line_added, placed, IsMade, IsBegun};
+ghost use Rattle.dia_text.specs.Made.{line_added, placed, IsMade, IsBegun, IsWithin, message_from};
 
 use crate::draft::{Opened, add, push_u24, push_u32};
 use crate::fault::{Fault, Kind, Misread, NotMade};
@@ -19,11 +19,23 @@ pub fn make<B: Book>(alloc: Global, book: &B, text: &[u8]) -> Result<Vec<u8>, No
     ensures { IsMade result (made (B.meaning book.now) text.now) }
 {
     let lines = lines_of(alloc, text)?;
-    let (header, at) = header_from(book, &lines)?;
-    body_of(alloc, book, &header, &lines, at)
+    make_lines(alloc, book, &lines)
 }
 
-fn lines_of(alloc: Global, text: &[u8]) -> Result<Vec<&[u8]>, AllocError>
+/// The message that these lines write.
+pub(crate) fn make_lines<B: Book>(
+    alloc: Global,
+    book: &B,
+    lines: &[&[u8]],
+) -> Result<Vec<u8>, NotMade>
+    ensures made { IsMade result (message_from (B.meaning book.now) 0 (map (λ x. x.now) lines.now)) }
+    ensures line { IfErr result (IsWithin (length lines.now)) }
+{
+    let (header, at) = header_from(book, lines)?;
+    body_of(alloc, book, &header, lines, at)
+}
+
+pub(crate) fn lines_of(alloc: Global, text: &[u8]) -> Result<Vec<&[u8]>, AllocError>
     ensures { IfOk result (λ v. map (λ x. x.now) v.items ≡ lines text.entry.now) }
 {
     let mut found = Vec::new(alloc);
@@ -51,6 +63,7 @@ fn split_line(text: &[u8]) -> Option<(&[u8], &[u8])>
 fn header_from<B: Book>(book: &B, lines: &[&[u8]]) -> Result<(Header, usize), NotMade>
     ensures begun { IsBegun (B.meaning book.now) (map (λ x. x.now) lines.now) result }
     ensures small { IfOk result (λ found. found.0.code < 2 ^ 24) }
+    ensures line { IfErr result (IsWithin (length lines.now)) }
 {
     for index in 0..lines.len() {
         match header_of(book, lines[index]) {
@@ -66,7 +79,8 @@ fn header_from<B: Book>(book: &B, lines: &[&[u8]]) -> Result<(Header, usize), No
 }
 
 fn placed(misread: Misread, line: usize) -> NotMade
-    ensures { result ≡ placed misread line }
+    ensures value { result ≡ placed misread line }
+    ensures line { IsWithin line result }
 {
     match misread {
         Misread::NoMemory => NotMade::NoMemory,
@@ -84,8 +98,9 @@ fn body_of<B: Book>(
 ) -> Result<Vec<u8>, NotMade>
     requires within { at ≤ length lines.now }
     requires small { header.now.code < 2 ^ 24 }
-    ensures { IsMade result (body_from (B.meaning book.now) header.now at
+    ensures made { IsMade result (body_from (B.meaning book.now) header.now at
         (drop at (map (λ x. x.now) lines.now)) no_level) }
+    ensures line { IfErr result (IsWithin (length lines.now)) }
 {
     let mut out = Vec::new(alloc);
     let mut groups = Vec::new(alloc);
@@ -123,8 +138,9 @@ fn finish(
     line: usize,
 ) -> Result<Vec<u8>, NotMade>
     requires { header.now.code < 2 ^ 24 }
-    ensures { (level : Level) → Stands level.outer level.bytes body.now.items groups.now.items
+    ensures made { (level : Level) → Stands level.outer level.bytes body.now.items groups.now.items
         → IsMade result (finished header.now level.outer level.bytes line) }
+    ensures line { IfErr result (IsWithin line) }
 {
     if !groups.is_empty() {
         return Err(NotMade::Fault(Fault {

@@ -1,7 +1,7 @@
 //! A text where memory runs out somewhere: the call answers that, or what it answers with ample memory.
 
 use dia_dict::{PlainBook, base_book};
-use dia_text::{NotMade, make};
+use dia_text::{NotMade, NotWritten, as_text, make};
 use std::process::Abort;
 
 /// A request with a group of the base dictionary.
@@ -18,16 +18,32 @@ const WANTED: [u8; 40] = [
 ];
 
 #[test]
-fn a_message_is_made_or_memory_is_refused(rt: HostRuntime) {
+fn a_message_is_made_and_written_or_memory_is_refused(rt: HostRuntime) {
     if let Ok(book) = base_book(rt.alloc()) {
         makes(&rt, &book);
+        writes(&rt, &book);
     }
 }
+
+/// The text that is written of it.
+const WRITTEN: &str = "DWR hop 1 end 2
+Failed-AVP {
+Vendor-Id 7
+}
+";
 
 /// Checks that the message is made, or that memory is refused.
 fn makes(rt: &(impl AllocGlobal + Abort), book: &PlainBook) {
     match make(rt.alloc(), book, TEXT) {
         Ok(message) => assert!(rt; message.as_slice() == WANTED.as_slice()),
         Err(fault) => assert!(rt; fault == NotMade::NoMemory),
+    }
+}
+
+/// Checks that the text is written, or that memory is refused.
+fn writes(rt: &(impl AllocGlobal + Abort), book: &PlainBook) {
+    match as_text(rt.alloc(), book, &WANTED) {
+        Ok(text) => assert!(rt; text.as_str() == WRITTEN),
+        Err(fault) => assert!(rt; fault == NotWritten::NoMemory),
     }
 }

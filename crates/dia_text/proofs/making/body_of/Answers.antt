@@ -1,16 +1,17 @@
-use Rattle.std.proofs.Common.{◌+◌, ◌∙◌, List, ℕ, Result, refl, sym, subst}
+use Rattle.std.proofs.Common.{arith, ◌+◌, ◌∙◌, List, ℕ, Result, refl, sym, subst}
 use Rattle.dia_text.specs.declared.fault.Fault.{Fault}
 use Rattle.dia_text.specs.Made.{placed, Misses, no_level}
+use Rattle.dia_text.proofs.Parts.{within_more}
 use Rattle.dia_text.proofs.LinesOfTexts.{front, next_line, bad_line}
 use Rattle.dia_text.proofs.making.body_of.Goals as goal
 
 pub loop-index-init : goal.loop-index-init
 loop-index-init g c = (no_level, (c.new-out.ensures.items, c.new-groups.ensures.items), refl)
 
-pub returns-in-Err : goal.returns-in-Err
-returns-in-Err g c =
+pub returns-in-Err-clause-made : goal.returns-in-Err-clause-made
+returns-in-Err-clause-made g c =
     let inv = c.loop-index.invariant in
-    rw c.placed.ensures (subst (λ (read : Result (List ℕ) Fault). Misses (placed c.in-Err.misread (c.loop-index.index + 1)) read) inv.2
+    rw c.placed.ensures.value (subst (λ (read : Result (List ℕ) Fault). Misses (placed c.in-Err.misread (c.loop-index.index + 1)) read) inv.2
     (bad_line _ _ _ c.loop-index.index _ inv.0 _ (front c.args.lines.now c.loop-index.index _ c.loop-index-test.true) (c.in-Err.ensures inv.0 inv.1)))
 
 pub loop-index-preserved : goal.loop-index-preserved
@@ -18,3 +19,6 @@ loop-index-preserved g c =
     let inv = c.loop-index.invariant in
     let a = c.in-Ok.ensures inv.0 inv.1 in
     (a.0, a.2, sym (next_line _ _ _ c.loop-index.index _ inv.0 a.0 (front c.args.lines.now c.loop-index.index _ c.loop-index-test.true) a.1) ∙ inv.2)
+
+pub returns-in-Err-clause-line : goal.returns-in-Err-clause-line
+returns-in-Err-clause-line g c = within_more (c.loop-index.index + 1) _ _ (omega (arith, c.loop-index-test.true)) c.placed.ensures.line

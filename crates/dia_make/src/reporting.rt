@@ -1,0 +1,55 @@
+//! What the command answers.
+
+use dia_io::Exit;
+use dia_report::BadInput;
+use dia_text::Fault;
+use std::fmt;
+
+/// Why a text makes no messages.
+#[derive(Clone, Copy)]
+pub enum BadText {
+    /// More bytes than the text may have.
+    TooLong,
+    /// The first line that no message goes on with.
+    Fault(Fault),
+}
+
+/// What the command found in its inputs.
+#[derive(Drop)]
+pub enum Report {
+    /// There is nothing to explain.
+    Done,
+    /// The dictionary is refused.
+    Refused(BadInput),
+    /// The text is refused.
+    Text(BadText),
+}
+
+/// How the command ended that has written its text, and its report.
+#[derive(Drop)]
+pub struct Reported {
+    pub exit: Exit,
+    pub report: Report,
+}
+
+/// What is written, how the command ends, and its report.
+#[derive(Drop)]
+pub(crate) struct Answered {
+    pub text: String,
+    pub exit: Exit,
+    pub report: Report,
+}
+
+impl fmt::Display for BadText {
+    ghost use Rattle.std.specs.Prelude.{Some};
+    ghost use Rattle.dia_make.specs.Outcome.{bad_text_words};
+
+    ghost output = { λ bad. Some (bad_text_words bad) };
+
+    fn fmt<W: fmt::Write>(&self, f: &mut fmt::Formatter<W>) -> fmt::Result {
+        match self {
+            BadText::TooLong => write!(f, "too long"),
+            BadText::Fault(Fault { kind, line }) => write!(f, "{kind} at line {line}"),
+        }
+    }
+}

@@ -1,0 +1,182 @@
+-- The lines of AVPs, read back: what each adds.
+use Rattle.std.proofs.Common.{◌≡◌, ℕ, ◌+◌, ◌-◌, ◌%◌, ◌^◌, ◌<◌, ◌==◌, Bool, true, false, if◌then◌else◌, List, [], ◌∷◌, ◌++◌, length, drop, take, Option, Some, None, unwrap_or, Result, Ok, codes, refl, sym, ap, subst, ◌∙◌, arith}
+use Rattle.std.proofs.lemmas.Bool.{lt-ltb, ne_eqb}
+use Rattle.std.proofs.lemmas.List.{length-drop}
+use Rattle.dia_terms.specs.Names.{same_bytes}
+use Rattle.dia_wire.specs.Wire.{PlainAvp, Spells, head_length, avp_length}
+use Rattle.dia_wire.specs.Written.{padding}
+use Rattle.dia_book.specs.Dictionary.{Dictionary, IsDictionary}
+use Rattle.dia_book.proofs.LookUpsByName.{same_bytes-true}
+use Rattle.dia_text.specs.declared.fault.Kind.{Kind}
+use Rattle.dia_text.specs.declared.keys.AvpCode.{AvpCode}
+use Rattle.dia_text.specs.declared.line.Head.{Head}
+use Rattle.dia_text.specs.Words.{first_word, behind_word}
+use Rattle.dia_text.specs.Reading.{◌>>=◌}
+use Rattle.dia_text.specs.Fields.{flags_field, length_field, padding_field}
+use Rattle.dia_text.specs.Keys.{code_of, default_flags, format_at}
+use Rattle.dia_text.specs.Values.{value_of}
+use Rattle.dia_text.specs.Lines.{PlainLine, Blank, Leaf, Open, Close, avp_letters, head_at, leaf_at, open_at, close_at, avp_at, line_of}
+use Rattle.dia_text.specs.Drafts.{Frame, Level, added, closed, avp_of, length_of, end_bytes, front_bytes}
+use Rattle.dia_text.specs.Made.{line_added}
+use Rattle.dia_text.specs.LineTexts.{spaced, avp_word, code_at, avp_flags, value_word, pad_words, leaf_line, open_line, close_line}
+use Rattle.dia_text.specs.TextOf.{behind_data}
+use Rattle.dia_text.proofs.Bytes.{HasParts, plain_head}
+use Rattle.dia_text.proofs.WordsBack.{IsWord, AreWords, HasNoFeed, first_is, behind_is, next_is, behind_next, no_feed_line}
+use Rattle.dia_text.proofs.FieldsBack.{keyword, flags_back, length_not_there, padding_back, said_pad, flags_are_words, pad_are_words}
+use Rattle.dia_text.proofs.ValuesBack.{ReadsBack, value_back}
+use Rattle.dia_text.proofs.KeysBack.{NamesAvp, word_names}
+
+-- ---- what a line says
+
+head_read : (d : Dictionary) (text t1 t2 : List ℕ) (code : AvpCode) (flags : ℕ) → code_of d (first_word text) ≡ Ok code → behind_word text ≡ t1
+    → flags_field avp_letters (Some (default_flags d code)) t1 ≡ Ok (flags, t2) → length_field t2 ≡ Ok (None, t2) → head_at d text ≡ Ok (record { code = code; flags = flags; said_length = None }, t2)
+unfolding head_at
+head_read d text t1 t2 code flags a b c e = rw (a, b, c, e) refl
+
+leaf_read : (d : Dictionary) (head : Head) (text t1 bytes : List ℕ) (pad : Option (List ℕ)) → value_of (format_at d head.code) (first_word text) ≡ Ok bytes → behind_word text ≡ t1
+    → padding_field t1 ≡ Ok (pad, []) → leaf_at d head text ≡ Ok (Leaf head bytes pad)
+unfolding leaf_at
+leaf_read d head text t1 bytes pad a b c = rw (a, b, c) refl
+
+opens : (head : Head) → open_at head [] ≡ Ok (Open head)
+unfolding open_at
+opens head = refl
+
+avp_is_leaf : (d : Dictionary) (text t : List ℕ) (head : Head) (l : PlainLine) → head_at d text ≡ Ok (head, t) → same_bytes (first_word t) (codes "{") ≡ false → leaf_at d head t ≡ Ok l → avp_at d text ≡ Ok l
+unfolding avp_at
+avp_is_leaf d text t head l a other b = rw (a, other, b) refl
+
+avp_is_open : (d : Dictionary) (text t : List ℕ) (head : Head) → head_at d text ≡ Ok (head, t) → same_bytes (first_word t) (codes "{") ≡ true → behind_word t ≡ [] → avp_at d text ≡ Ok (Open head)
+unfolding avp_at
+avp_is_open d text t head a same b = rw (a, same, b, opens head) refl
+
+line_is_avp : (d : Dictionary) (text : List ℕ) (l : PlainLine) → 0 < length (first_word text) → same_bytes (first_word text) (codes "}") ≡ false → avp_at d text ≡ Ok l → line_of d text ≡ Ok l
+unfolding line_of
+line_is_avp d text l some other is =
+    let no_blank : (length (first_word text) == 0) ≡ false = ne_eqb (length (first_word text)) 0 (λ e. omega (arith, e, some)) in
+    rw (no_blank, other, is) refl
+
+pub closes : (d : Dictionary) → line_of d close_line ≡ Ok (Close None)
+unfolding line_of close_at padding_field
+closes d = refl
+
+pub blank : (d : Dictionary) → line_of d [] ≡ Ok Blank
+unfolding line_of
+blank d = refl
+
+-- ---- the lines that are written
+
+-- the head of a line, and the words behind it
+head_back : (d : Dictionary) (v : PlainAvp) (front : List ℕ) (ws : List (List ℕ)) → HasParts v front → NamesAvp d (code_at v) (avp_word d (code_at v))
+    → same_bytes (first_word (spaced ws)) (codes "flags") ≡ false → same_bytes (first_word (spaced ws)) (codes "length") ≡ false
+    → head_at d (avp_word d (code_at v) ++ spaced (avp_flags d v ++ ws)) ≡ Ok (plain_head v, spaced ws)
+head_back d v front ws p names no_flags no_length =
+    let w = avp_word d (code_at v) in
+    let first = first_is w (avp_flags d v ++ ws) names.begins.word in
+    head_read d (w ++ spaced (avp_flags d v ++ ws)) (spaced (avp_flags d v ++ ws)) (spaced ws) (code_at v) v.flags (ap (code_of d) first ∙ names.reads)
+    (behind_is w (avp_flags d v ++ ws) names.begins.word) (flags_back avp_letters (Some (default_flags d (code_at v))) v.flags ws p.flags no_flags) (length_not_there (spaced ws) no_length)
+
+-- a line that is read so
+pub record IsLineOf (d : Dictionary) (l : PlainLine) (line : List ℕ) : Type 0 where
+  pub reads : line_of d line ≡ Ok l
+  pub feeds : HasNoFeed line
+
+pub leaf_back : (d : Dictionary) (v : PlainAvp) (front : List ℕ) → IsDictionary d → HasParts v front
+    → IsLineOf d (Leaf (plain_head v) v.bytes (said_pad (avp_length v) (behind_data v front))) (leaf_line d v (behind_data v front))
+leaf_back d v front sound p =
+    let names = word_names d (code_at v) sound p.code p.vendor in
+    let value = value_back (format_at d (code_at v)) v.bytes p.bytes in
+    let w = avp_word d (code_at v) in
+    let pads = pad_words (avp_length v) (behind_data v front) in
+    let ws : List (List ℕ) = value_word (format_at d (code_at v)) v.bytes ∷ pads in
+    let line = leaf_line d v (behind_data v front) in
+    let next = next_is (value_word (format_at d (code_at v)) v.bytes) pads value.word in
+    let head = head_back d v front ws p names (ap (λ (t : List ℕ). same_bytes t (codes "flags")) next ∙ value.flags) (ap (λ (t : List ℕ). same_bytes t (codes "length")) next ∙ value.len) in
+    let leaf = leaf_read d (plain_head v) (spaced ws) (spaced pads) v.bytes (said_pad (avp_length v) (behind_data v front)) (ap (value_of (format_at d (code_at v))) next ∙ value.reads)
+    (behind_next (value_word (format_at d (code_at v)) v.bytes) pads value.word) (padding_back (avp_length v) (behind_data v front) p.behind) in
+    let first = first_is w (avp_flags d v ++ ws) names.begins.word in
+    let some = names.begins.word.some in
+    record {
+      reads = line_is_avp d line _ (omega (arith, ap length first, some)) (ap (λ (t : List ℕ). same_bytes t (codes "}")) first ∙ names.begins.brace)
+          (avp_is_leaf d line (spaced ws) (plain_head v) _ head (ap (λ (t : List ℕ). same_bytes t (codes "{")) next ∙ value.brace) leaf);
+      feeds = no_feed_line w (avp_flags d v ++ ws) names.begins.word
+          (flags_are_words (Some (default_flags d (code_at v))) v.flags ws (value.word, pad_are_words (avp_length v) (behind_data v front)));
+    }
+
+pub open_back : (d : Dictionary) (v : PlainAvp) (front : List ℕ) → IsDictionary d → HasParts v front → IsLineOf d (Open (plain_head v)) (open_line d v)
+open_back d v front sound p =
+    let names = word_names d (code_at v) sound p.code p.vendor in
+    let w = avp_word d (code_at v) in
+    let brace = keyword (codes "{") (omega arith) refl in
+    let ws : List (List ℕ) = codes "{" ∷ [] in
+    let line = open_line d v in
+    let next = next_is (codes "{") [] brace in
+    let head = head_back d v front ws p names (ap (λ (t : List ℕ). same_bytes t (codes "flags")) next) (ap (λ (t : List ℕ). same_bytes t (codes "length")) next) in
+    let first = first_is w (avp_flags d v ++ ws) names.begins.word in
+    let some = names.begins.word.some in
+    record {
+      reads = line_is_avp d line _ (omega (arith, ap length first, some)) (ap (λ (t : List ℕ). same_bytes t (codes "}")) first ∙ names.begins.brace)
+          (avp_is_open d line (spaced ws) (plain_head v) head (ap (λ (t : List ℕ). same_bytes t (codes "{")) next) (behind_next (codes "{") [] brace));
+      feeds = no_feed_line w (avp_flags d v ++ ws) names.begins.word (flags_are_words (Some (default_flags d (code_at v))) v.flags ws (brace, tt));
+    }
+
+-- ---- what they add
+
+avp_with : (v : PlainAvp) (front : List ℕ) (pad : Option (List ℕ)) → HasParts v front → unwrap_or pad (padding (avp_length v)) ≡ behind_data v front → avp_of (plain_head v) v.bytes pad ≡ Ok front
+unfolding avp_of
+avp_with v front pad p ends =
+    rw (lt-ltb (avp_length v) (2 ^ 24) p.len, ends) (ap Ok (sym p.is))
+
+said_ends : (len : ℕ) (pad : List ℕ) → unwrap_or (said_pad len pad) (padding len) ≡ pad
+said_ends len pad = by (same_bytes pad (padding len)) refl
+  where
+    by : (b : Bool) → same_bytes pad (padding len) ≡ b → unwrap_or (if b then None else Some pad) (padding len) ≡ pad
+    by true e = sym (same_bytes-true pad (padding len) e)
+    by false e = refl
+
+bound : {A B : Type 0} (r : Result A Kind) (x : A) (f : A → Result B Kind) (y : Result B Kind) → r ≡ Ok x → f x ≡ y → (r >>= f) ≡ y
+bound {A} r x f y is after = ap (λ (q : Result A Kind). q >>= f) is ∙ after
+
+pub leaf_added : (d : Dictionary) (v : PlainAvp) (front : List ℕ) (at : Level) → IsDictionary d → HasParts v front
+    → line_added d (leaf_line d v (behind_data v front)) at ≡ Ok (record { outer = at.outer; bytes = at.bytes ++ front })
+leaf_added d v front at sound p =
+    bound (line_of d (leaf_line d v (behind_data v front))) (Leaf (plain_head v) v.bytes (said_pad (avp_length v) (behind_data v front))) (added at) (Ok (record { outer = at.outer; bytes = at.bytes ++ front }))
+    (leaf_back d v front sound p).reads
+    (bound (avp_of (plain_head v) v.bytes (said_pad (avp_length v) (behind_data v front))) front (λ avp. Ok (record { outer = at.outer; bytes = at.bytes ++ avp })) (Ok (record { outer = at.outer; bytes = at.bytes ++ front }))
+    (avp_with v front (said_pad (avp_length v) (behind_data v front)) p (said_ends (avp_length v) (behind_data v front))) refl)
+
+-- a group that is opened
+abbrev pub framed : PlainAvp → Level → Level
+framed v at = record { outer = record { before = at.bytes; head = plain_head v } ∷ at.outer; bytes = [] }
+
+pub open_added : (d : Dictionary) (v : PlainAvp) (front : List ℕ) (at : Level) → IsDictionary d → HasParts v front → line_added d (open_line d v) at ≡ Ok (framed v at)
+open_added d v front at sound p = bound (line_of d (open_line d v)) (Open (plain_head v)) (added at) (Ok (framed v at)) (open_back d v front sound p).reads refl
+
+pub close_added : (d : Dictionary) (v : PlainAvp) (front : List ℕ) (at : Level) → HasParts v front → padding (avp_length v) ≡ behind_data v front
+    → line_added d close_line (record { outer = record { before = at.bytes; head = plain_head v } ∷ at.outer; bytes = v.bytes }) ≡ Ok (record { outer = at.outer; bytes = at.bytes ++ front })
+close_added d v front at p ends =
+    let inside : Level = record { outer = record { before = at.bytes; head = plain_head v } ∷ at.outer; bytes = v.bytes } in
+    bound (line_of d close_line) (Close None) (added inside) (Ok (record { outer = at.outer; bytes = at.bytes ++ front })) (closes d)
+    (bound (avp_of (plain_head v) v.bytes None) front (λ avp. Ok (record { outer = at.outer; bytes = at.bytes ++ avp })) (Ok (record { outer = at.outer; bytes = at.bytes ++ front }))
+    (avp_with v front None p ends) refl)
+
+pub blank_added : (d : Dictionary) (at : Level) → line_added d [] at ≡ Ok at
+blank_added d at = bound (line_of d []) Blank (added at) (Ok at) (blank d) refl
+
+-- ---- a group whose data ends at a multiple of four has no padding
+
+head_aligned : (o : Option ℕ) → head_length o % 4 ≡ 0
+head_aligned None = refl
+head_aligned (Some n) = refl
+
+no_bytes : (bytes : List ℕ) → length bytes ≡ 0 → bytes ≡ []
+no_bytes [] h = refl
+no_bytes (b ∷ bytes) h = absurd (omega (arith, h))
+
+pub group_ends : (v : PlainAvp) (front : List ℕ) → Spells v front → HasParts v front → length v.bytes % 4 ≡ 0 → padding (avp_length v) ≡ behind_data v front
+group_ends v front s p even =
+    let long : avp_length v % 4 ≡ 0 = omega (arith, even, head_aligned v.vendor) in
+    let whole = s.aligned in
+    let short = p.short in
+    let none : length (behind_data v front) ≡ 0 = omega (arith, length-drop (avp_length v) front, long, whole, short) in
+    ap (λ (n : ℕ). take ((4 - n) % 4) (0 ∷ 0 ∷ 0 ∷ [])) long ∙ sym (no_bytes (behind_data v front) none)

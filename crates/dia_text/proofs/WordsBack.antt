@@ -1,0 +1,131 @@
+-- The words of a line that is written, read back one after the other; and the lines of a text.
+use Rattle.std.proofs.Common.{◌≡◌, ℕ, suc, ◌+◌, ◌/◌, ◌%◌, ◌^◌, ◌<◌, ◌≤◌, ◌==◌, nat_le, Bool, true, false, cond, List, [], ◌∷◌, ◌++◌, length, drop, take_while, flat_map, codes, refl, sym, ap, ◌∙◌, append_assoc, arith}
+use Rattle.std.specs.List.{AllByRecursion, list_all, prefix_len}
+use Rattle.std.specs.Char.{is_ascii_digit}
+use Rattle.std.specs.Fmt.{decimal}
+use Rattle.std.proofs.lemmas.Bool.{and_parts, and_from, le-leb}
+use Rattle.std.proofs.lemmas.Bool.Decides.{nat_tests}
+use Rattle.std.proofs.lemmas.Fmt.{digits_decimal, decimal_nonempty}
+use Rattle.std.proofs.lemmas.List.{take_at, drop_at}
+use Rattle.std.proofs.lemmas.List.Elements.{All-from_recursion}
+use Rattle.std.proofs.lemmas.List.Splits.{slice_split_at}
+use Rattle.dia_data.specs.Shown.{hex_digit, hex_byte, hexadecimal}
+use Rattle.dia_text.specs.Words.{is_blank, is_word_byte, unblanked, first_word, behind_word}
+use Rattle.dia_text.specs.Made.{lines}
+use Rattle.dia_text.specs.LineTexts.{spaced}
+use Rattle.dia_text.specs.TextOf.{fed}
+use Rattle.dia_text.proofs.NumbersOfWords.{digits_model}
+
+-- a byte above `#`
+abbrev pub is_sign : ℕ → Bool
+is_sign c = nat_le 36 c
+
+pub record IsWord (w : List ℕ) : Type 0 where
+  pub some : 0 < length w
+  pub signs : list_all is_sign w ≡ true
+
+abbrev pub AreWords : List (List ℕ) → Type 0
+AreWords ws = AllByRecursion IsWord ws
+
+-- ---- words
+
+sign_in_word : (c : ℕ) → is_sign c ≡ true → is_word_byte c ≡ true
+sign_in_word c sign = grind (arith, nat_tests)
+
+sign_is_no_blank : (c : ℕ) → is_sign c ≡ true → is_blank c ≡ false
+sign_is_no_blank c sign = grind (arith, nat_tests)
+
+digit_is_sign : (c : ℕ) → is_ascii_digit c ≡ true → is_sign c ≡ true
+digit_is_sign c digit = grind (arith, nat_tests)
+
+digits_are_signs : (ds : List ℕ) → list_all is_ascii_digit ds ≡ true → list_all is_sign ds ≡ true
+digits_are_signs [] all = refl
+digits_are_signs (c ∷ ds) all =
+    let parts = and_parts (is_ascii_digit c) (list_all is_ascii_digit ds) all in
+    and_from _ _ (digit_is_sign c parts.0) (digits_are_signs ds parts.1)
+
+pub signs_append : (a b : List ℕ) → list_all is_sign a ≡ true → list_all is_sign b ≡ true → list_all is_sign (a ++ b) ≡ true
+signs_append [] b h k = k
+signs_append (c ∷ a) b h k =
+    let parts = and_parts (is_sign c) (list_all is_sign a) h in
+    and_from _ _ parts.0 (signs_append a b parts.1 k)
+
+pub decimal_word : (n : ℕ) → n < 2 ^ 64 → IsWord (decimal n)
+decimal_word n fits = record { some = decimal_nonempty n fits; signs = digits_are_signs (decimal n) (digits_decimal digits_model n fits) }
+
+digit_sign : (n : ℕ) → is_sign (hex_digit n) ≡ true
+digit_sign n = grind (arith, nat_tests)
+
+hex_signs : (bytes : List ℕ) → list_all is_sign (flat_map hex_byte bytes) ≡ true
+hex_signs [] = refl
+hex_signs (b ∷ bytes) = and_from _ _ (digit_sign (b / 16)) (and_from _ _ (digit_sign (b % 16)) (hex_signs bytes))
+
+pub hexadecimal_word : (bytes : List ℕ) → IsWord (hexadecimal bytes)
+hexadecimal_word bytes = record { some = omega arith; signs = hex_signs bytes }
+
+pub hex_byte_word : (b : ℕ) → IsWord (hex_byte b)
+hex_byte_word b = record { some = omega arith; signs = and_from _ _ (digit_sign (b / 16)) (and_from _ _ (digit_sign (b % 16)) refl) }
+
+-- ---- reading
+
+blank_first : (text : List ℕ) → unblanked (32 ∷ text) ≡ unblanked text
+blank_first text = let more : 1 + prefix_len is_blank text ≡ suc (prefix_len is_blank text) = omega arith in ap (λ (n : ℕ). drop n (32 ∷ text)) more
+
+unblanked_word : (w rest : List ℕ) → IsWord w → unblanked (w ++ rest) ≡ w ++ rest
+unblanked_word [] rest h = absurd (let some = h.some in omega (arith, some))
+unblanked_word (c ∷ w) rest h =
+    let other : is_blank c ≡ false = sign_is_no_blank c (and_parts (is_sign c) (list_all is_sign w) h.signs).0 in
+    ap (λ (b : Bool). drop (cond b (1 + prefix_len is_blank (w ++ rest)) 0) (c ∷ (w ++ rest))) other
+
+word_length : (w : List ℕ) (ws : List (List ℕ)) → list_all is_sign w ≡ true → prefix_len is_word_byte (w ++ spaced ws) ≡ length w
+word_length [] [] all = refl
+word_length [] (x ∷ ws) all = refl
+word_length (c ∷ w) ws all =
+    let parts = and_parts (is_sign c) (list_all is_sign w) all in
+    let here = sign_in_word c parts.0 in
+    let rest = word_length w ws parts.1 in
+    rw (here, rest) (omega arith)
+
+pub first_is : (w : List ℕ) (ws : List (List ℕ)) → IsWord w → first_word (w ++ spaced ws) ≡ w
+first_is w ws h = ap (take_while is_word_byte) (unblanked_word w (spaced ws) h) ∙ take_at w (spaced ws) _ (sym (word_length w ws h.signs))
+
+pub behind_is : (w : List ℕ) (ws : List (List ℕ)) → IsWord w → behind_word (w ++ spaced ws) ≡ spaced ws
+behind_is w ws h =
+    ap (λ (t : List ℕ). drop (prefix_len is_word_byte t) t) (unblanked_word w (spaced ws) h) ∙ drop_at w (spaced ws) _ (sym (word_length w ws h.signs))
+
+pub next_is : (w : List ℕ) (ws : List (List ℕ)) → IsWord w → first_word (spaced (w ∷ ws)) ≡ w
+next_is w ws h = ap (take_while is_word_byte) (blank_first (w ++ spaced ws)) ∙ first_is w ws h
+
+pub behind_next : (w : List ℕ) (ws : List (List ℕ)) → IsWord w → behind_word (spaced (w ∷ ws)) ≡ spaced ws
+behind_next w ws h = ap (λ (t : List ℕ). drop (prefix_len is_word_byte t) t) (blank_first (w ++ spaced ws)) ∙ behind_is w ws h
+
+-- ---- lines
+
+abbrev pub HasNoFeed : List ℕ → Type 0
+HasNoFeed line = AllByRecursion (λ (c : ℕ). (c == 10) ≡ false) line
+
+sign_is_no_feed : (c : ℕ) → is_sign c ≡ true → (c == 10) ≡ false
+sign_is_no_feed c sign = grind (arith, nat_tests)
+
+no_feed_word : (w : List ℕ) → list_all is_sign w ≡ true → HasNoFeed w
+no_feed_word [] all = tt
+no_feed_word (c ∷ w) all =
+    let parts = and_parts (is_sign c) (list_all is_sign w) all in
+    (sign_is_no_feed c parts.0, no_feed_word w parts.1)
+
+no_feed_both : (a b : List ℕ) → HasNoFeed a → HasNoFeed b → HasNoFeed (a ++ b)
+no_feed_both [] b h k = k
+no_feed_both (c ∷ a) b (first, h) k = (first, no_feed_both a b h k)
+
+no_feed_spaced : (ws : List (List ℕ)) → AreWords ws → HasNoFeed (spaced ws)
+no_feed_spaced [] all = tt
+no_feed_spaced (w ∷ ws) (h, all) = (refl, no_feed_both w (spaced ws) (no_feed_word w h.signs) (no_feed_spaced ws all))
+
+pub no_feed_line : (w : List ℕ) (ws : List (List ℕ)) → IsWord w → AreWords ws → HasNoFeed (w ++ spaced ws)
+no_feed_line w ws h all = no_feed_both w (spaced ws) (no_feed_word w h.signs) (no_feed_spaced ws all)
+
+pub lines_back : (ls : List (List ℕ)) → AllByRecursion HasNoFeed ls → lines (flat_map fed ls) ≡ ls ++ ([] ∷ [])
+lines_back [] all = refl
+lines_back (l ∷ ls) (h, all) =
+    ap lines (append_assoc l (10 ∷ []) (flat_map fed ls)) ∙ slice_split_at (λ (b : ℕ). b == 10) l 10 (flat_map fed ls) (All-from_recursion (λ (c : ℕ). (c == 10) ≡ false) l h) refl
+    ∙ ap (λ (ts : List (List ℕ)). l ∷ ts) (lines_back ls all)
