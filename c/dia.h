@@ -16,7 +16,7 @@
  *    allocator, and align to 16.
  *
  * HANDLES
- *  A handle is a struct of the caller's. DIA_DICT_INIT and DIA_TEXT_INIT, which are zero bytes, make a closed one. An open one
+ *  A handle is a struct of the caller's. Its DIA_.._INIT, which is zero bytes, makes a closed one. An open one
  *  holds a pointer to what the library owns, and is closed once; closing a closed handle does nothing. Its fields are the
  *  library's. It may be moved as bytes, and then only one of the copies is used.
  *
@@ -102,6 +102,41 @@ dia_status dia_dict_share(dia_dict *dict, dia_dict *other);
 
 /* Closes the handle. Takes no memory. */
 void dia_dict_close(dia_dict *dict);
+
+/* ---- all that is wrong with a dictionary's text ---- */
+
+typedef struct dia_faults {
+    void *dia_private;
+    uint32_t dia_state;
+} dia_faults;
+#define DIA_FAULTS_INIT { NULL, 0 }
+
+typedef struct dia_fault {
+    size_t at;          /* its place in bytes from the first of the text; 0 where has_place is 0 */
+    size_t name_count;  /* how many bytes `name` has, 0 where there is none; no zero is behind them */
+    size_t slot_count;  /* and `slot` */
+    uint32_t kind;      /* a kind of dia_problem */
+    uint32_t token;     /* from 1, of DIA_SYNTAX; else 0 */
+    uint32_t has_place; /* 1; 0 where the text has the fault as a whole */
+    uint8_t name[DIA_MAX_NAME]; /* the definition or the AVP that has the fault */
+    uint8_t slot[DIA_MAX_NAME]; /* the AVP of the rule that has it, or AVP for the wildcard */
+} dia_fault;
+
+/* Opens a closed handle with all faults of a dictionary's text, in the order of docs/FAULTS.md: *count of them, 0 where the text
+ * is a dictionary. A text that the grammar does not derive has one fault. */
+dia_status dia_faults_open(const uint8_t *text, size_t text_len, dia_faults *faults, size_t *count);
+
+/* Tells a fault by its index, from 0. DIA_NONE: there are no more. Takes no memory. */
+dia_status dia_faults_get(dia_faults *faults, size_t index, dia_fault *fault);
+
+/* Closes the handle. Takes no memory. */
+void dia_faults_close(dia_faults *faults);
+
+/* The line and the column, both from 1, of a place in bytes of a text. A column is a character of UTF-8. A place behind the
+ * text counts as its end. Takes no memory, and time that grows with `at`. */
+void dia_line_column(const uint8_t *text, size_t text_len, size_t at, size_t *line, size_t *column);
+
+/* ---- names ---- */
 
 /* The name of the command of a verdict of this dictionary, and the name of an AVP (vendor 0: none). *count bytes are written,
  * with no zero behind them. DIA_NONE: there is no such command or AVP. DIA_NO_ROOM: the name has *count bytes, at most

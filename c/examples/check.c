@@ -28,6 +28,22 @@ static size_t read_message(const char *path) {
     return len;
 }
 
+/* Tells all that is wrong with the dictionary's text. */
+static void print_faults(const char *path, size_t len) {
+    dia_faults faults = DIA_FAULTS_INIT;
+    dia_fault fault;
+    size_t count, line, column;
+    if (dia_faults_open(text, len, &faults, &count) != DIA_OK) {
+        return;
+    }
+    for (size_t i = 0; i < count && dia_faults_get(&faults, i, &fault) == DIA_OK; i++) {
+        dia_line_column(text, len, fault.at, &line, &column);
+        fprintf(stderr, "%s:%zu:%zu: kind %u %.*s %.*s\n", path, line, column, (unsigned)fault.kind, (int)fault.name_count,
+                (const char *)fault.name, (int)fault.slot_count, (const char *)fault.slot);
+    }
+    dia_faults_close(&faults);
+}
+
 static void print_valid(dia_dict *dict, const dia_verdict *v) {
     uint8_t name[DIA_MAX_NAME];
     size_t count;
@@ -41,12 +57,14 @@ int main(int argc, char **argv) {
     dia_problem problem;
     dia_verdict v;
     dia_status status;
+    size_t len;
     if (argc != 3 || dia_abi_version() != DIA_ABI_VERSION) {
         return 2;
     }
-    status = dia_dict_open(text, read_text(argv[1]), &dict, &problem);
+    len = read_text(argv[1]);
+    status = dia_dict_open(text, len, &dict, &problem);
     if (status == DIA_REFUSED) {
-        fprintf(stderr, "%s: kind %u, line %u\n", argv[1], (unsigned)problem.kind, (unsigned)problem.line);
+        print_faults(argv[1], len);
     }
     if (status != DIA_OK) {
         return 2;

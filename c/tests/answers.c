@@ -43,6 +43,72 @@ static void texts_are_refused(void) {
     EXPECT(problem.kind == DIA_LIMIT && problem.line == 1 && problem.token == 0);
 }
 
+typedef struct {
+    uint32_t kind;
+    size_t line, column;
+    const char *name, *slot;
+} wanted_fault;
+
+/* Whether the faults of a text are these, in this order. */
+static void has_faults(const char *text, const wanted_fault *wanted, size_t wanted_count) {
+    dia_faults faults = DIA_FAULTS_INIT;
+    dia_fault f;
+    size_t len = strlen(text), count = 99, line, column;
+    EXPECT(dia_faults_open((const uint8_t *)text, len, &faults, &count) == DIA_OK && count == wanted_count);
+    for (size_t i = 0; i < wanted_count; i++) {
+        EXPECT(dia_faults_get(&faults, i, &f) == DIA_OK && f.kind == wanted[i].kind && f.has_place == 1);
+        EXPECT(is_name(f.name, f.name_count, wanted[i].name) && is_name(f.slot, f.slot_count, wanted[i].slot));
+        dia_line_column((const uint8_t *)text, len, f.at, &line, &column);
+        EXPECT(line == wanted[i].line && column == wanted[i].column);
+    }
+    f.kind = 99;
+    EXPECT(dia_faults_get(&faults, wanted_count, &f) == DIA_NONE && f.kind == 99);
+    EXPECT(dia_faults_get(&faults, SIZE_MAX, &f) == DIA_NONE);
+    dia_faults_close(&faults);
+}
+
+static void all_faults_are_told(void) {
+    static const char text[] = "%avp A 1 Time any\n%avp A 2 Time any\n%avp B 2 Grouped any\n%avp C 1 Time any\n"
+                               "<G> ::= < AVP Header: 5 > { X } ; \xc3\xa4 \xc3\xb6\n  1*0 [ AVP ]\n";
+    static const wanted_fault wanted[] = {
+        {DIA_DUPLICATE_NAME, 2, 6, "A", ""}, {DIA_NO_GROUP_FORMAT, 3, 6, "B", ""}, {DIA_DUPLICATE_KEY, 4, 6, "C", ""},
+        {DIA_UNDEFINED_NAME, 5, 29, "G", "X"}, {DIA_MIN_OVER_MAX, 6, 9, "G", "AVP"}, {DIA_OPTIONAL_MIN, 6, 9, "G", "AVP"},
+    };
+    static const wanted_fault syntax[] = {{DIA_SYNTAX, 1, 23, "", ""}};
+    static const wanted_fault not_text[] = {{DIA_NOT_TEXT, 2, 3, "", ""}};
+    dia_faults faults = DIA_FAULTS_INIT;
+    dia_fault f;
+    size_t count = 99;
+    has_faults(text, wanted, sizeof wanted / sizeof *wanted);
+    has_faults(one_avp, NULL, 0);
+    has_faults("", NULL, 0);
+    has_faults("%avp A 1 Time any ; \xc3\xa4\n]", (const wanted_fault[]){{DIA_SYNTAX, 2, 1, "", ""}}, 1);
+    has_faults(";\xc3\xa4\xc3\xb6 %\n<T> ::= < Diameter X", (const wanted_fault[]){{DIA_SYNTAX, 2, 20, "", ""}}, 1);
+    has_faults("%avp A 1 OctetString  ]", syntax, 1);
+    has_faults("\n;\xc3\xa4\xff", (const wanted_fault[]){{DIA_NOT_TEXT, 2, 3, "", ""}}, 1);
+    has_faults("\n; \xff", not_text, 1);
+    has_faults("%avp A 4294967296 Time any", (const wanted_fault[]){{DIA_NUMBER, 1, 8, "", ""}}, 1);
+    EXPECT(dia_faults_get(&faults, 0, &f) == DIA_IS_CLOSED);
+    memset(bytes, ' ', sizeof bytes);
+    EXPECT(dia_faults_open(bytes, sizeof bytes, &faults, &count) == DIA_OK && count == 1);
+    EXPECT(dia_faults_get(&faults, 0, &f) == DIA_OK && f.kind == DIA_LIMIT && f.has_place == 0 && f.at == 0);
+    EXPECT(dia_faults_open(bytes, 0, &faults, &count) == DIA_IS_OPEN && count == 1);
+    dia_faults_close(&faults);
+    dia_faults_close(&faults);
+}
+
+static void places_are_told(void) {
+    static const uint8_t text[] = "a\xc3\xa4z\r\n\nb";
+    static const size_t wanted[][2] = {{1, 1}, {1, 2}, {1, 3}, {1, 3}, {1, 4}, {1, 5}, {2, 1}, {3, 1}, {3, 2}, {3, 2}};
+    size_t line, column;
+    for (size_t at = 0; at < sizeof wanted / sizeof *wanted; at++) {
+        dia_line_column(text, sizeof text - 1, at, &line, &column);
+        EXPECT(line == wanted[at][0] && column == wanted[at][1]);
+    }
+    dia_line_column(text, sizeof text - 1, SIZE_MAX, &line, &column);
+    EXPECT(line == 3 && column == 2);
+}
+
 static void handles_are_open_or_closed(void) {
     dia_dict dict = DIA_DICT_INIT, other = DIA_DICT_INIT;
     dia_text text = DIA_TEXT_INIT;
@@ -193,6 +259,8 @@ static void texts_are_read_in_pieces(void) {
 int main(void) {
     EXPECT(dia_abi_version() == DIA_ABI_VERSION);
     texts_are_refused();
+    all_faults_are_told();
+    places_are_told();
     handles_are_open_or_closed();
     a_share_outlives_its_dictionary();
     messages_are_checked();

@@ -16,6 +16,20 @@ AT(dia_problem, kind, 0);
 AT(dia_problem, line, 4);
 AT(dia_problem, token, 8);
 
+_Static_assert(sizeof(dia_faults) == 16, "dia_faults");
+AT(dia_faults, dia_private, 0);
+AT(dia_faults, dia_state, 8);
+
+_Static_assert(sizeof(dia_fault) == 296, "dia_fault");
+AT(dia_fault, at, 0);
+AT(dia_fault, name_count, 8);
+AT(dia_fault, slot_count, 16);
+AT(dia_fault, kind, 24);
+AT(dia_fault, token, 28);
+AT(dia_fault, has_place, 32);
+AT(dia_fault, name, 36);
+AT(dia_fault, slot, 164);
+
 _Static_assert(sizeof(dia_verdict) == 32, "dia_verdict");
 AT(dia_verdict, outcome, 0);
 AT(dia_verdict, command, 4);

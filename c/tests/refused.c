@@ -44,10 +44,14 @@ void rattle_dealloc(void *memory) {
 
 static dia_dict dict, other;
 static dia_text text;
+static dia_faults faults;
 static dia_problem problem;
 static dia_verdict verdict;
 static const char source[] = "%avp A 1 OctetString any\n%avp B 2 Grouped any\nB ::= < AVP Header: 2 > { A }\n"
                              "C ::= < Diameter Header: 1000, REQ > { A } *[ B ]\n";
+
+/* A name that is declared twice, and a rule that names nothing. */
+static const char wrong[] = "%avp A 1 Time any\n%avp A 2 Time any\nB ::= < AVP Header: 2 > { X }\n";
 
 static dia_status opens(void) {
     return open_text(source, &dict, &problem);
@@ -69,8 +73,17 @@ static dia_status renders(void) {
     return dia_render((const uint8_t *)source, strlen(source), &text, &problem);
 }
 
+static dia_status finds_faults(void) {
+    size_t count;
+    return dia_faults_open((const uint8_t *)wrong, strlen(wrong), &faults, &count);
+}
+
 static void close_dict(void) {
     dia_dict_close(&dict);
+}
+
+static void close_faults(void) {
+    dia_faults_close(&faults);
 }
 
 static void close_nothing(void) {
@@ -82,6 +95,7 @@ static void refuse_each(const char *name, dia_status (*call)(void), void (*undo)
     long refused = 0, without = 0, had = blocks;
     dia_dict dict_before = dict, other_before = other;
     dia_text text_before = text;
+    dia_faults faults_before = faults;
     for (;;) {
         until = refused + without + 1;
         verdict = untouched;
@@ -100,7 +114,7 @@ static void refuse_each(const char *name, dia_status (*call)(void), void (*undo)
         EXPECT(status == DIA_NO_MEMORY);
         EXPECT(blocks == had);
         EXPECT(dict.dia_state == dict_before.dia_state && other.dia_state == other_before.dia_state);
-        EXPECT(text.dia_state == text_before.dia_state);
+        EXPECT(text.dia_state == text_before.dia_state && faults.dia_state == faults_before.dia_state);
         EXPECT(memcmp(&verdict, &untouched, sizeof verdict) == 0);
     }
     until = 0;
@@ -111,7 +125,9 @@ static void refuse_each(const char *name, dia_status (*call)(void), void (*undo)
 static void take_no_memory(void) {
     uint8_t name[DIA_MAX_NAME];
     size_t count;
+    size_t column;
     uint32_t length;
+    dia_fault fault;
     long before = asked;
     EXPECT(dia_abi_version() == DIA_ABI_VERSION);
     EXPECT(dia_avp_name(&dict, 264, 0, name, sizeof name, &count) == DIA_OK);
@@ -122,6 +138,10 @@ static void take_no_memory(void) {
     dia_dict_close(&dict);
     dia_dict_close(&other);
     dia_text_close(&text);
+    EXPECT(dia_faults_get(&faults, 1, &fault) == DIA_OK && fault.kind == DIA_UNDEFINED_NAME);
+    dia_line_column((const uint8_t *)wrong, sizeof wrong - 1, fault.at, &count, &column);
+    EXPECT(count == 3 && column == 27);
+    dia_faults_close(&faults);
     EXPECT(asked == before);
 }
 
@@ -133,6 +153,7 @@ int main(void) {
     refuse_each("share", shares, close_nothing, 1);
     refuse_each("check", checks, close_nothing, 1);
     refuse_each("render", renders, close_nothing, 2);
+    refuse_each("faults_open", finds_faults, close_faults, 4);
     take_no_memory();
     EXPECT(blocks == 0);
     return tell_counts();

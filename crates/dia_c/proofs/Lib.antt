@@ -1,2 +1,4 @@
+pub mod AllFound
 pub mod AsBox
+pub mod Places
 pub mod Told

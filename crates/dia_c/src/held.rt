@@ -1,5 +1,6 @@
 //! What a handle may hold.
 
+use crate::findings::TextFault;
 use dia_dict::IndexedBook;
 use std::sync::Arc;
 
@@ -9,4 +10,6 @@ pub enum Held {
     /// An owner of a dictionary, which other handles may have too.
     Dict(Arc<IndexedBook>),
     Text(String),
+    /// The faults of a dictionary's text.
+    Faults(Vec<TextFault>),
 }

@@ -6,12 +6,16 @@ ghost use Rattle.std.specs.Prelude.{◌≡◌};
 
 mod checks;
 mod dictionaries;
+mod fault_lists;
+mod findings;
 mod handle;
 mod held;
+mod layout;
 mod names;
 mod opening;
 mod status;
 mod texts;
+mod told_fault;
 mod verdict;
 
 pub use checks::{dia_check, dia_message_length};
@@ -19,9 +23,11 @@ pub use dictionaries::{
     dia_avp_name, dia_command_name, dia_dict_close, dia_dict_open, dia_dict_open_base,
     dia_dict_share,
 };
-pub use handle::{DictHandle, TextHandle};
+pub use fault_lists::{dia_faults_close, dia_faults_get, dia_faults_open, dia_line_column};
+pub use handle::{DictHandle, FaultsHandle, TextHandle};
 pub use opening::Problem;
 pub use texts::{dia_render, dia_text_close, dia_text_length, dia_text_read};
+pub use told_fault::ToldFault;
 pub use verdict::Verdict;
 
 /// The version of this interface, which a program compares with `DIA_ABI_VERSION` of its header.
@@ -40,6 +46,8 @@ fn sent<T: Send>(x: T) -> T {
 }
 
 /// C may give a handle to another thread: this asks for the proofs.
-pub fn crossed(handles: (DictHandle, TextHandle)) -> (DictHandle, TextHandle) {
+pub fn crossed(
+    handles: (DictHandle, TextHandle, FaultsHandle),
+) -> (DictHandle, TextHandle, FaultsHandle) {
     sent(handles)
 }

@@ -91,6 +91,19 @@ fn problem_of(fault: CcfFault) -> Refused
     }
 }
 
+/// The kind and the token that are told of a fault of a text.
+pub fn misfit_numbers(fault: CcfFault) -> (u32, u32)
+    ensures kind { result.0 ≡ (problem_of fault).kind }
+    ensures token { result.1 ≡ (problem_of fault).token }
+{
+    match fault {
+        CcfFault::Syntax { token, .. } => (1, token),
+        CcfFault::Number { .. } => (2, 0),
+        CcfFault::Limit { .. } => (3, 0),
+        CcfFault::NoMemory => (0, 0),
+    }
+}
+
 /// The dictionary that a source names.
 fn named(alloc: Global, source: Source) -> Result<Box<Held>, Refused>
     ensures text { IfOk result (λ held. (first_wrong (plain_source source) ≡ None)
@@ -143,7 +156,7 @@ fn boxed(alloc: Global, held: Held) -> Result<Box<Held>, Refused>
 }
 
 /// The number of a kind.
-fn kind_number(kind: DictKind) -> u32
+pub fn kind_number(kind: DictKind) -> u32
     ensures { result ≡ number_of kind }
 {
     match kind {

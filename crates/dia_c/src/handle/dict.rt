@@ -54,5 +54,6 @@ pub fn owner_in(held: &Held) -> &Arc<IndexedBook>
     match held {
         Held::Dict(owner) => owner,
         Held::Text(_) => unreachable!(),
+        Held::Faults(_) => unreachable!(),
     }
 }

@@ -52,5 +52,6 @@ pub fn words_in(held: &Held) -> &String
     match held {
         Held::Text(text) => text,
         Held::Dict(_) => unreachable!(),
+        Held::Faults(_) => unreachable!(),
     }
 }
