@@ -5,8 +5,8 @@ use Rattle.std.specs.Str.Parse.{IsNumeral, digits_value, without_leading_plus}
 use Rattle.clap.specs.Walk.{Row, Text, all_of, first_of, texts}
 use Rattle.clap.specs.Simple.{App, subcommand_of}
 use Rattle.dia_io.specs.declared.Command.TheVariants as command
-use Rattle.dia_io.specs.declared.Task.{Task}
-use Rattle.dia_io.specs.declared.Task.TheVariants.{Whole, Breaking, CheckLines, RefuteLines, CheckStream}
+use Rattle.dia_cli.specs.declared.task.Task.{Task}
+use Rattle.dia_cli.specs.declared.task.Task.TheVariants.{Whole, Breaking, CheckLines, RefuteLines, CheckStream}
 use Rattle.dia_policy.specs.declared.Levels.{Levels}
 use Rattle.dia_policy.specs.declared.Levels.TheVariants.{Any, AtMost}
 use Rattle.dia_policy.specs.declared.Sends.{Sends}

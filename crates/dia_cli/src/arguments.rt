@@ -19,13 +19,14 @@ use crate::line::{Words, command_line};
 use crate::origin::Origins;
 use crate::request::Request;
 use crate::rows::ROWS;
+use crate::task::Task;
 use crate::values::{
     copies_of, dictionary_of, flag_of, limit_of, message_of, messages_of, names_of, policy_of,
     sends_of, table_of, word_of, words_of,
 };
 use clap::ArgMatches;
 use clap::error::ErrorKind;
-use dia_io::{Command, Task};
+use dia_io::Command;
 use dia_policy::{Levels, Sends, Unknown};
 use std::alloc::{AllocError, Global};
 use std::convert::AsStr;

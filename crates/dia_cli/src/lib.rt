@@ -28,6 +28,7 @@ mod opener;
 mod origin;
 mod request;
 mod rows;
+mod task;
 mod values;
 
 pub use arguments::parse_words;
@@ -36,3 +37,4 @@ pub use opened_inputs::open_inputs;
 pub use opener::{OfProcess, Opener};
 pub use origin::{BASE_DICTIONARY, Origin, Origins, STANDARD_INPUT};
 pub use request::Request;
+pub use task::Task;

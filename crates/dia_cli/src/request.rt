@@ -1,7 +1,7 @@
 //! What the words of the command line ask for.
 
 use crate::origin::Origins;
-use dia_io::Task;
+use crate::task::Task;
 
 /// What the program is to do, and where its inputs come from.
 #[derive(Debug, PartialEq, Eq, Drop)]

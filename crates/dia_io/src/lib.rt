@@ -15,12 +15,10 @@ mod command;
 mod devices;
 mod reading;
 mod streams;
-mod task;
 mod writing;
 
 pub use command::{Command, Exit, Input, Inputs, RunFault};
 pub use devices::{FromReader, ToWriter};
 pub use reading::{InputFault, read_input};
 pub use streams::{Failed, Feed, Sink};
-pub use task::Task;
 pub use writing::put_all;

@@ -19,11 +19,10 @@ use built::version;
 use captured::{Capture, captured};
 use dia_captures::Lines;
 use dia_cli::{
-    BASE_DICTIONARY, Ending, OfProcess, Origin, Origins, Request, STANDARD_INPUT, finish,
+    BASE_DICTIONARY, Ending, OfProcess, Origin, Origins, Request, STANDARD_INPUT, Task, finish,
     open_inputs, parse_words,
 };
 use dia_explain_places::{InputTexts, NamedText};
-use dia_io::Task;
 use dia_report::{Report, Reported};
 use dia_run::{Command, Exit, Inputs, ToWriter, run_reporting};
 use dia_upgrades::{Asked, breaking};

@@ -1,7 +1,6 @@
 //! The example of dia_cli's docs.
 
-use dia_cli::{OfProcess, Request, open_inputs, parse_words};
-use dia_io::Task;
+use dia_cli::{OfProcess, Request, Task, open_inputs, parse_words};
 use dia_run::{Exit, ToWriter, run};
 use std::rt::Files;
 use std::test::Fail;

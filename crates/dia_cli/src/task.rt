@@ -1,4 +1,4 @@
-use crate::command::Command;
+use dia_io::Command;
 use dia_policy::{Levels, Sends, Unknown};
 
 /// What the command line asks the program to do.
