@@ -1,5 +1,6 @@
-ghost use Rattle.std.specs.Prelude.{◌≡◌};
+ghost use Rattle.std.specs.Prelude.{◌≡◌, IfSome, IsNone};
 ghost use Rattle.dia_io.specs.Exit.{status_of};
+ghost use Rattle.dia_io.specs.Inputs.{Holds, IsOver};
 
 use crate::streams::Failed;
 use dia_policy::{Levels, Unknown};
@@ -41,6 +42,19 @@ pub enum Input {
     Bytes(Vec<u8>),
     /// More bytes than the text may have.
     TooLong,
+}
+
+impl Input {
+    /// The bytes, if there are at most so many.
+    pub fn within(&self, limit: usize) -> Option<&[u8]>
+        ensures some { IfSome result (λ bytes. Holds self.entry.now limit bytes.now) }
+        ensures none { IsNone result → IsOver self.entry.now limit }
+    {
+        match self {
+            Input::Bytes(bytes) if bytes.len() <= limit => Some(bytes.as_slice()),
+            Input::Bytes(_) | Input::TooLong => None,
+        }
+    }
 }
 
 /// The texts of a command. One that the command doesn't use isn't looked at.

@@ -1,10 +1,8 @@
 //! The command, from its inputs to what is written.
 
-ghost use Rattle.std.specs.Prelude.{◌≡◌, ◌↔◌, ℕ, List, IfOk, IfSome, IsNone, Err, IsTrue, string_bytes};
+ghost use Rattle.std.specs.Prelude.{◌≡◌, ◌↔◌, ℕ, List, IfOk, Err, IsTrue, string_bytes};
 ghost use Rattle.std.specs.Io.KnownBytes.{Appends};
-ghost use Rattle.dia_policy.specs.Limits.{max_message_text};
 ghost use Rattle.dia_io.specs.declared.Exit.{Exit as AnyExit};
-ghost use Rattle.dia_io.specs.Inputs.{Holds, IsOver};
 ghost use Rattle.dia_io.specs.Writing.{AppendsFront};
 ghost use Rattle.dia_report.specs.Refusals.{bad_input_text};
 ghost use Rattle.dia_run.specs.Texts.{line, IsDictionaryText};
@@ -12,7 +10,7 @@ ghost use Rattle.dia_make.specs.Outcome.{IsMakeOutcome, text_line};
 
 use crate::reporting::{Answered, BadText, Report, Reported};
 use dia_dict::Book;
-use dia_io::{Exit, Input, Inputs, RunFault, Sink, put_all};
+use dia_io::{Exit, Inputs, RunFault, Sink, put_all};
 use dia_policy::MAX_MESSAGE_TEXT;
 use dia_report::{BadInput, Refused};
 use dia_run::read_dictionary;
@@ -56,7 +54,7 @@ fn answer_for<B: Book>(alloc: Global, book: &B, inputs: &Inputs) -> Result<Answe
         (λ answered. IsDictionaryText inputs.now.first (B.meaning book.now)
         → IsMakeOutcome inputs.now (string_bytes answered.text) answered.exit) }
 {
-    let Some(bytes) = bytes_within(&inputs.message) else {
+    let Some(bytes) = inputs.message.within(MAX_MESSAGE_TEXT) else {
         return tell(alloc, BadText::TooLong);
     };
     match make_all(alloc, book, bytes) {
@@ -67,17 +65,6 @@ fn answer_for<B: Book>(alloc: Global, book: &B, inputs: &Inputs) -> Result<Answe
         }),
         Err(NotMade::Fault(fault)) => tell(alloc, BadText::Fault(fault)),
         Err(NotMade::NoMemory) => Err(AllocError),
-    }
-}
-
-/// The bytes of an input that is within the limit.
-fn bytes_within(input: &Input) -> Option<&[u8]>
-    ensures some { IfSome result (λ bytes. Holds input.entry.now max_message_text bytes.now) }
-    ensures none { IsNone result → IsOver input.entry.now max_message_text }
-{
-    match input {
-        Input::Bytes(bytes) if bytes.len() <= MAX_MESSAGE_TEXT => Some(bytes.as_slice()),
-        Input::Bytes(_) | Input::TooLong => None,
     }
 }
 

@@ -1,8 +1,7 @@
 //! The list of accepted lines, as an input.
 
-ghost use Rattle.std.specs.Prelude.{◌≡◌, IfErr, IfOk, IfSome, IsNone, map};
-ghost use Rattle.dia_io.specs.Inputs.{Holds, IsOver};
-ghost use Rattle.dia_accepted.specs.Accepted.{max_list, plain_entry};
+ghost use Rattle.std.specs.Prelude.{IfErr, IfOk, map};
+ghost use Rattle.dia_accepted.specs.Accepted.{plain_entry};
 ghost use Rattle.dia_upgrades.specs.Lists.{IsListText, IsNoListText};
 
 use dia_accepted::{Entry, ListFault, MAX_LIST, read_list};
@@ -45,7 +44,7 @@ pub(crate) fn read_accepted(
     ensures list { IfOk result (λ read. IfOk read (λ list. IsListText input.now (map plain_entry list.items))) }
     ensures bad { IfOk result (λ read. IfErr read (IsNoListText input.now)) }
 {
-    let Some(bytes) = bytes_within(input) else {
+    let Some(bytes) = input.within(MAX_LIST) else {
         return Ok(Err(BadList::TooLong));
     };
     let text = match str::from_utf8(bytes) {
@@ -60,16 +59,5 @@ pub(crate) fn read_accepted(
         Err(ListFault::Syntax { line }) => Ok(Err(BadList::Syntax { line })),
         Err(ListFault::Limit { line }) => Ok(Err(BadList::Limit { line })),
         Err(ListFault::NoMemory) => Err(AllocError),
-    }
-}
-
-/// The bytes of an input that is within the limit.
-fn bytes_within(input: &Input) -> Option<&[u8]>
-    ensures some { IfSome result (λ bytes. Holds input.entry.now max_list bytes.now) }
-    ensures none { IsNone result → IsOver input.entry.now max_list }
-{
-    match input {
-        Input::Bytes(bytes) if bytes.len() <= MAX_LIST => Some(bytes.as_slice()),
-        Input::Bytes(_) | Input::TooLong => None,
     }
 }

@@ -14,7 +14,6 @@ ghost use Rattle.dia_report.specs.Refusals.{dictionary_line, TellsOf, bad_dictio
 ghost use Rattle.dia_run.specs.Texts.{refused_text};
 ghost use Rattle.dia_run.specs.Report.{HasFinding};
 
-use crate::inputs::bytes_within;
 use dia_ccf::{MAX_TEXT, Refused as Unread, Source, read};
 use dia_dict::{Book, DictFault, DictKind, IndexedBook, PlainBook, book_of};
 use dia_io::Input;
@@ -28,7 +27,7 @@ pub fn read_source(alloc: Global, number: u8, input: &Input) -> Result<Source, R
         × (told ≡ dictionary_line number why))) }
     ensures kept { IfErr result (HasFinding input.now) }
 {
-    let Some(bytes) = bytes_within(input, MAX_TEXT) else {
+    let Some(bytes) = input.within(MAX_TEXT) else {
         return Err(tell(number, BadDictionary::TooLong));
     };
     let text = match str::from_utf8(bytes) {

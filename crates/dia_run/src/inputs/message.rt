@@ -8,7 +8,6 @@ ghost use Rattle.dia_policy.specs.Limits.{max_message_text};
 ghost use Rattle.dia_run.specs.Texts.{IsMessageText, IsNoMessageText, digits_of};
 ghost use Rattle.dia_report.specs.Refusals.{TellsOf};
 
-use crate::inputs::bytes_within;
 use dia_io::Input;
 use dia_policy::MAX_MESSAGE_TEXT;
 use dia_report::{BadMessage, Refused};
@@ -21,7 +20,7 @@ pub fn message_text(input: &Input) -> Result<&[u8], Refused>
     ensures told { IfErr result (TellsOf (IsNoMessageText input.entry.now)) }
     ensures bad { IfErr result (λ refused. refused ≢ Refused.NoMemory) }
 {
-    let Some(text) = bytes_within(input, MAX_MESSAGE_TEXT) else {
+    let Some(text) = input.within(MAX_MESSAGE_TEXT) else {
         return Err(Refused::from(BadMessage::TooLong));
     };
     Ok(text)

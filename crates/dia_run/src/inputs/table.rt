@@ -5,7 +5,6 @@ ghost use Rattle.dia_compat.specs.TableText.{plain_table};
 ghost use Rattle.dia_report.specs.Refusals.{table_line, TellsOf, bad_table_text};
 ghost use Rattle.dia_run.specs.Pairs.{IsTableText, IsNoTableText, table_fault_text};
 
-use crate::inputs::bytes_within;
 use dia_compat::{MAX_TABLE, Table, TableFault, parse_table};
 use dia_io::Input;
 use dia_report::{BadInput, BadTable, Refused};
@@ -16,7 +15,7 @@ pub fn read_table(alloc: Global, input: &Input) -> Result<Table, Refused>
     ensures table { IfOk result (λ table. IsTableText input.now (plain_table table)) }
     ensures told { IfErr result (TellsOf (IsNoTableText input.now)) }
 {
-    let Some(bytes) = bytes_within(input, MAX_TABLE) else {
+    let Some(bytes) = input.within(MAX_TABLE) else {
         return Err(tell(BadTable::TooLong));
     };
     let text = match str::from_utf8(bytes) {
