@@ -1,5 +1,9 @@
+mod Counting
 mod Endings
-mod OneMessage
 mod LinesOfMessages
+mod OneMessage
+mod ReasonsCounted
 mod RefusedRuns
 mod StreamOfMessages
+mod Summed
+mod Tallies

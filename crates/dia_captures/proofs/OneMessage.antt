@@ -1,7 +1,7 @@
 -- What is found of one message, and what the commands write for it.
 use Rattle.std.proofs.Common.{◌≡◌, ◌≢◌, ℕ, ◌<◌, ◌&&◌, not, Bool, true, false, List, ◌++◌, length, Option, None, Some, Result, Ok, Err, refl, sym, ap, subst, ◌∙◌, codes, arith, inl, inr}
-use Rattle.std.specs.Prelude.{IfOk, IsErr, slice_get, if◌then◌else◌}
-use Rattle.std.proofs.lemmas.Bool.{false≢true}
+use Rattle.std.specs.Prelude.{IfOk, IfSome, slice_get, take, if◌then◌else◌}
+use Rattle.hex.specs.Hex.{decode_of}
 use Rattle.std.proofs.lemmas.Option.{same_Some}
 use Rattle.dia_dict.specs.Dictionary.{Dictionary, IsDictionary, PlainDefinition, definitions}
 use Rattle.dia_policy.specs.declared.Unknown.{Unknown}
@@ -18,16 +18,19 @@ use Rattle.dia_io.specs.declared.Input.TheVariants.{Bytes, TooLong}
 use Rattle.dia_io.specs.declared.Inputs.{Inputs}
 use Rattle.dia_io.specs.declared.Exit.{Exit}
 use Rattle.dia_io.specs.declared.Exit.TheVariants.{Yes, No, Bad}
+use Rattle.dia_io.specs.Inputs.{Holds}
 use Rattle.dia_lines.specs.Lines.{IsLineInput}
-use Rattle.dia_run.specs.Texts.{IsMessageText, IsNoMessageText, too_long, not_hexadecimal, IsDictionaryText, line}
+use Rattle.dia_run.specs.Texts.{IsMessageText, IsNoMessageText, digits_of, too_long, not_hexadecimal, IsDictionaryText, line}
 use Rattle.dia_report.specs.declared.refusing.Refused.{Refused}
 use Rattle.dia_report.specs.declared.refusing.Refused.TheVariants as kinds
 use Rattle.dia_report.specs.Refusals.{TellsOf}
 use Rattle.dia_run.specs.Outcome.{IsJudged, ended, no_dictionary, no_message, no_first, no_second, IsRefutation, refutes, does_not}
 use Rattle.dia_run.proofs.FedTexts.{names_command}
+use Rattle.dia_run.proofs.HexTexts.{decoded}
 use Rattle.dia_run.proofs.OneInput.{message_or_not, one_message}
 use Rattle.dia_captures.specs.declared.verdicts.Checked.{Checked}
 use Rattle.dia_captures.specs.declared.verdicts.Checked.TheVariants.{Valid, Wrong}
+use Rattle.dia_captures.specs.declared.verdicts.Flaw.{Flaw}
 use Rattle.dia_captures.specs.declared.verdicts.Flaw.TheVariants as flaw
 use Rattle.dia_captures.specs.declared.verdicts.Refuted.{Refuted}
 use Rattle.dia_captures.specs.Verdicts.{answer_of, name_of, checked_exit, checked_line, is_valid, refuted_exit, refuted_line, unless_refused}
@@ -108,14 +111,19 @@ refused_text message (Wrong flaw.Trailing) h = absurd h
 refused_text message (Wrong flaw.TooLong) over = (codes "message: too long", too_long over refl)
 refused_text message (Wrong flaw.NotHexadecimal) (text, held, none) = (codes "message: not hexadecimal", not_hexadecimal text held none refl)
 
--- a text that is refused has a verdict, unless memory was refused
-pub refused_is : {E : Type 0} (message : Input) (refused : Refused) (r : Result Checked E)
-    → TellsOf (λ told. IfOk r (λ verdict. IsNoMessageText message told → IsTextRefused message verdict)) refused → (refused ≡ kinds.NoMemory → IsErr r)
-    → TellsOf (IsNoMessageText message) refused → IfOk r (IsTextRefused message)
-refused_is message (kinds.Bad bad) (Ok verdict) tells memory none = tells none
-refused_is message (kinds.Bad bad) (Err e) tells memory none = tt
-refused_is message kinds.NoMemory (Ok verdict) tells memory none = absurd (false≢true (memory refl))
-refused_is message kinds.NoMemory (Err e) tells memory none = tt
+-- what is wrong with a text that is refused
+pub refused_flaw : (message : Input) (refused : Refused) (f : Flaw) → TellsOf (λ told. IsNoMessageText message told → IsTextRefused message (Wrong f)) refused
+    → ¬ (refused ≡ kinds.NoMemory) → TellsOf (IsNoMessageText message) refused → IsTextRefused message (Wrong f)
+refused_flaw message (kinds.Bad bad) f tells memory none = tells none
+refused_flaw message kinds.NoMemory f tells memory none = absurd (memory refl)
+
+-- a text that is digits, but for white space at its end
+pub digits_spelled : {E : Type 0} (r : Result (Option ℕ) E) (line : Input) (text digits items : List ℕ) → Holds line max_message_text text
+    → digits_of digits ≡ digits_of text → IfOk r (λ spelled. IfSome spelled (λ count. decode_of digits ≡ Ok (take count items)))
+    → IfOk r (λ spelled. IfSome spelled (λ count. IsMessageText line (take count items)))
+digits_spelled (Ok None) line text digits items held same h = tt
+digits_spelled (Ok (Some count)) line text digits items held same h = (text, held, sym (ap decode_of same) ∙ decoded digits (take count items) h)
+digits_spelled (Err e) line text digits items held same h = tt
 
 -- what is told of a line is what `check` writes for it
 pub of_check : (u : Unknown) (most : Levels) (inputs : Inputs) (d : Dictionary) → IsDictionaryText inputs.first d → (message : Input) (verdict : Checked)

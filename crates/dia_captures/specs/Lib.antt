@@ -1,4 +1,6 @@
+pub mod Counts
 pub mod Ending
 pub mod Lines
 pub mod Streams
+pub mod Summaries
 pub mod Verdicts

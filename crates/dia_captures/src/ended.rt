@@ -40,7 +40,8 @@ impl Ended {
     }
 }
 
-fn is_yes(exit: Exit) -> bool
+/// Whether a message that ended so is as it should be.
+pub fn is_yes(exit: Exit) -> bool
     ensures { result ≡ is_yes exit }
 {
     matches!(exit, Exit::Yes)

@@ -1,18 +1,14 @@
 //! The verdicts of `check` and `refute` on a line, and of `check` on the bytes of a message.
 
-ghost use Rattle.std.specs.Prelude.{◌≡◌, IfOk, IsErr, List, ℕ};
-ghost use Rattle.dia_report.specs.Refusals.{TellsOf};
-ghost use Rattle.dia_run.specs.Texts.{IsNoMessageText};
-ghost use Rattle.dia_captures.specs.Verdicts.{IsLineChecked, IsTextRefused};
+ghost use Rattle.std.specs.Prelude.{IfOk};
+ghost use Rattle.dia_captures.specs.Verdicts.{IsLineChecked, IsLineRefuted, IsMessageChecked};
 
+use crate::spelling::spell_line;
 use crate::verdicts::{Checked, Flaw, Refuted};
 use dia_check::{Levels, Unknown, check};
 use dia_dict::Book;
 use dia_io::Input;
 use dia_lines::Judge;
-use dia_policy::MAX_MESSAGE_TEXT;
-use dia_report::Refused;
-use dia_run::check_message;
 use dia_streams::MessageJudge;
 use std::alloc::{AllocError, Global};
 
@@ -43,8 +39,14 @@ impl<'a, B: Book> Judge for CheckJudge<'a, B> {
 
     ghost told = { λ judge verdict. checked_line (B.Book.meaning judge.book.now) verdict };
 
-    fn judge(&self, alloc: Global, line: &Input, text: &mut String) -> Result<Checked, AllocError> {
-        let verdict = check_line(alloc, self.book, self.unknown, self.levels, line)?;
+    fn judge(
+        &self,
+        alloc: Global,
+        line: &Input,
+        space: &mut Vec<u8>,
+        text: &mut String,
+    ) -> Result<Checked, AllocError> {
+        let verdict = check_line(alloc, self.book, self.unknown, self.levels, line, space)?;
         verdict.push(text, self.book)?;
         Ok(verdict)
     }
@@ -60,12 +62,46 @@ impl<'a, A: Book, B: Book> Judge for RefuteJudge<'a, A, B> {
 
     ghost told = { λ _ verdict. refuted_line verdict };
 
-    fn judge(&self, alloc: Global, line: &Input, text: &mut String) -> Result<Refuted, AllocError> {
-        let first = check_line(alloc, self.first, self.unknown, self.levels, line)?;
-        let second = check_line(alloc, self.second, self.unknown, self.levels, line)?;
-        let verdict = Refuted { first, second };
+    fn judge(
+        &self,
+        alloc: Global,
+        line: &Input,
+        space: &mut Vec<u8>,
+        text: &mut String,
+    ) -> Result<Refuted, AllocError> {
+        let verdict = self.refute_line(alloc, line, space)?;
         text.push_str(verdict.line())?;
         Ok(verdict)
+    }
+}
+
+impl<'a, A: Book, B: Book> RefuteJudge<'a, A, B> {
+    ghost use Rattle.std.specs.Prelude.{IfOk};
+    ghost use Rattle.dia_captures.specs.Verdicts.{IsLineRefuted};
+
+    /// Both verdicts on the text of a message, which is decoded once.
+    fn refute_line(
+        &self,
+        alloc: Global,
+        line: &Input,
+        space: &mut Vec<u8>,
+    ) -> Result<Refuted, AllocError>
+        ensures { IfOk result (IsLineRefuted self.now.unknown self.now.levels
+            (A.meaning self.now.first.now) (B.meaning self.now.second.now) line.now) }
+    {
+        let spelled = spell_line(alloc, line, space)?;
+        match spelled {
+            Ok(count) => {
+                let bytes = &space[..count];
+                let first = check_bytes(alloc, self.first, self.unknown, self.levels, bytes)?;
+                let second = check_bytes(alloc, self.second, self.unknown, self.levels, bytes)?;
+                Ok(Refuted { first, second })
+            }
+            Err(flaw) => Ok(Refuted {
+                first: Checked::Wrong(flaw),
+                second: Checked::Wrong(flaw),
+            }),
+        }
     }
 }
 
@@ -86,8 +122,7 @@ impl<'a, B: Book> MessageJudge for CheckJudge<'a, B> {
         message: &[u8],
         text: &mut String,
     ) -> Result<Checked, AllocError> {
-        let answer = check(alloc, self.book, self.unknown, self.levels, message);
-        let verdict = Checked::of_answer(answer)?;
+        let verdict = check_bytes(alloc, self.book, self.unknown, self.levels, message)?;
         write!(text, "{at} ")?;
         verdict.push(text, self.book)?;
         Ok(verdict)
@@ -107,37 +142,27 @@ fn check_line<B: Book>(
     book: &B,
     unknown: Unknown,
     levels: Levels,
-    message: &Input,
+    line: &Input,
+    space: &mut Vec<u8>,
 ) -> Result<Checked, AllocError>
-    ensures { IfOk result (IsLineChecked unknown levels (B.meaning book.now) message.now) }
+    ensures { IfOk result (IsLineChecked unknown levels (B.meaning book.now) line.now) }
 {
-    match check_message(alloc, book, unknown, levels, message) {
-        Ok(answer) => Checked::of_answer(answer),
-        Err(refused) => refused_as(refused, message),
+    let spelled = spell_line(alloc, line, space)?;
+    match spelled {
+        Ok(count) => check_bytes(alloc, book, unknown, levels, &space[..count]),
+        Err(flaw) => Ok(Checked::Wrong(flaw)),
     }
 }
 
-/// The verdict on a text that is refused.
-fn refused_as(refused: Refused, message: &Input) -> Result<Checked, AllocError>
-    ensures bad { TellsOf (λ told. IfOk result
-        (λ verdict. IsNoMessageText message.now told → IsTextRefused message.now verdict)) refused }
-    ensures memory { refused ≡ Refused.NoMemory → IsErr result }
+/// The verdict on the bytes of a message.
+fn check_bytes<B: Book>(
+    alloc: Global,
+    book: &B,
+    unknown: Unknown,
+    levels: Levels,
+    bytes: &[u8],
+) -> Result<Checked, AllocError>
+    ensures { IfOk result (IsMessageChecked unknown levels (B.meaning book.now) bytes.now) }
 {
-    match refused {
-        Refused::Bad(_bad) => Ok(refusal_of(message)),
-        Refused::NoMemory => Err(AllocError),
-    }
-}
-
-/// The verdict on a text that spells no message.
-fn refusal_of(message: &Input) -> Checked
-    ensures { (told : List ℕ) → IsNoMessageText message.now told → IsTextRefused message.now result }
-{
-    match message {
-        Input::Bytes(bytes) if bytes.len() <= MAX_MESSAGE_TEXT => Checked::Wrong(
-            Flaw::NotHexadecimal,
-        ),
-
-        Input::Bytes(_) | Input::TooLong => Checked::Wrong(Flaw::TooLong),
-    }
+    Checked::of_answer(check(alloc, book, unknown, levels, bytes))
 }

@@ -10,6 +10,8 @@ mod judges;
 mod laws;
 mod reasons;
 mod runs;
+mod spelling;
+mod summaries;
 mod tally;
 mod verdicts;
 
@@ -19,5 +21,6 @@ pub use laws::{
     one_refute_of_lines, refute_of_line,
 };
 pub use runs::{Captured, check_lines, check_stream, refute_lines};
-pub use tally::{Lines, Tally};
+pub use summaries::Lines;
+pub use tally::Tally;
 pub use verdicts::{Checked, Flaw, Refuted};

@@ -1,12 +1,13 @@
 //! The reasons why messages aren't valid, counted.
 
-use crate::verdicts::Flaw;
-use dia_check::Fault;
-use dia_dict::Book;
-use dia_run::{push_subject, reason_word};
-use std::alloc::{AllocError, Global};
+ghost use Rattle.std.specs.Prelude.{◌≡◌, map, Some};
+ghost use Rattle.std.specs.List.{list_any};
+ghost use Rattle.dia_captures.specs.Counts.{again_if, is_same, seen_more};
 
-/// How many reasons are kept. Those of others are counted together.
+use crate::verdicts::Flaw;
+use std::alloc::Global;
+
+/// How many reasons are told by themselves. All others are counted together.
 const MOST_REASONS: usize = 100;
 
 /// How often something was met, and where first.
@@ -35,14 +36,21 @@ pub struct Reasons {
 }
 
 impl Seen {
-    fn once(place: u64) -> Seen {
+    ghost use Rattle.std.specs.Prelude.{◌≡◌};
+    ghost use Rattle.dia_captures.specs.Counts.{again, once};
+
+    fn once(place: u64) -> Seen
+        ensures { result ≡ once place }
+    {
         Seen {
             times: 1,
             first: place,
         }
     }
 
-    fn again(self) -> Seen {
+    fn again(self) -> Seen
+        ensures { result ≡ again self }
+    {
         Seen {
             times: self.times.saturating_add(1),
             first: self.first,
@@ -50,9 +58,35 @@ impl Seen {
     }
 }
 
+impl Met {
+    ghost use Rattle.std.specs.Prelude.{◌≡◌};
+    ghost use Rattle.dia_captures.specs.Counts.{again_if};
+
+    /// It was met once more, if it is this reason.
+    fn again_if(self, reason: &Flaw) -> Met
+        ensures { result ≡ again_if reason.now self }
+    {
+        if is_same(&self.flaw, reason) {
+            Met {
+                flaw: self.flaw,
+                seen: self.seen.again(),
+            }
+        } else {
+            self
+        }
+    }
+}
+
 impl Reasons {
+    ghost use Rattle.std.specs.Prelude.{◌≡◌, ◌≢◌, ◌++◌, ◌∷◌, List, [], ℕ, Option, false};
+    ghost use Rattle.std.specs.List.{list_any};
+    ghost use Rattle.dia_captures.specs.declared.verdicts.Flaw.{Flaw as AnyFlaw};
+    ghost use Rattle.dia_captures.specs.Counts.{AreCounted, is_same, mets_at};
+
     /// No reason was met yet.
-    pub fn new(alloc: Global) -> Reasons {
+    pub fn new(alloc: Global) -> Reasons
+        ensures { AreCounted result [] }
+    {
         Reasons {
             kept: Vec::new(alloc),
             others: None,
@@ -60,84 +94,73 @@ impl Reasons {
         }
     }
 
-    /// Counts a flaw that was met at this place.
-    pub fn add(&mut self, flaw: &Flaw, place: u64) {
+    /// Counts what is wrong with the message at this place.
+    pub fn see(&mut self, place: u64, flaw: Option<Flaw>)
+        ensures { (mets : List (ℕ × AnyFlaw)) → AreCounted self.old mets
+            → AreCounted self.new (mets ++ mets_at place flaw) }
+    {
+        if let Some(flaw) = flaw {
+            self.add(place, &flaw.reason());
+        }
+    }
+
+    /// Counts a reason that was met at this place.
+    fn add(&mut self, place: u64, reason: &Flaw)
+        ensures { (mets : List (ℕ × AnyFlaw)) → AreCounted self.old mets
+            → AreCounted self.new (mets ++ (place, reason.now) ∷ []) }
+    {
         if self.lost {
             return;
         }
-        let flaw = without_place(flaw);
-        let found = self.kept.iter().position(|met| met.flaw == flaw);
-        match found {
-            Some(at) => self.kept[at].seen = self.kept[at].seen.again(),
-            None => self.add_new(&flaw, place),
+        if !count_again(&mut self.kept, reason) {
+            self.add_new(place, reason);
         }
     }
 
-    /// Counts a flaw that isn't kept.
-    fn add_new(&mut self, flaw: &Flaw, place: u64) {
-        let seen = Seen::once(place);
+    /// Counts a reason that isn't kept.
+    fn add_new(&mut self, place: u64, reason: &Flaw)
+        ensures { (mets : List (ℕ × AnyFlaw)) → self.old.lost ≡ false → AreCounted self.old mets
+            → list_any (λ met. is_same met.flaw reason.now) self.old.kept.items ≡ false
+            → AreCounted self.new (mets ++ (place, reason.now) ∷ []) }
+    {
         if self.kept.len() < MOST_REASONS {
-            self.lost = self.kept.push(Met { flaw: *flaw, seen }).is_err();
-            return;
-        }
-        self.others = Some(match self.others {
-            Some(earlier) => earlier.again(),
-            None => seen,
-        });
-    }
-
-    /// Adds a line for each reason, the most frequent first. `place` says what the places are.
-    pub fn write<B: Book>(
-        &mut self,
-        text: &mut String,
-        book: &B,
-        place: &str,
-    ) -> Result<(), AllocError> {
-        self.kept.sort_by_key(|met| u64::MAX - met.seen.times)?;
-        for met in &self.kept {
-            let times = met.seen.times;
-            write!(text, "{times} x ")?;
-            push_reason(text, book, &met.flaw)?;
-            push_first(text, met.seen.first, place)?;
-        }
-        match self.others {
-            Some(seen) => {
-                let times = seen.times;
-                write!(text, "{times} x other reasons")?;
-                push_first(text, seen.first, place)
-            }
-            None => Ok(()),
+            let met = Met {
+                flaw: *reason,
+                seen: Seen::once(place),
+            };
+            self.lost = self.kept.push(met).is_err();
+        } else {
+            self.others = Some(more(self.others, place));
         }
     }
 }
 
-/// Adds where a reason was met first.
-fn push_first(text: &mut String, first: u64, place: &str) -> Result<(), AllocError> {
-    write!(text, ", first {place} {first}\n")
+/// Counts a reason among those that are kept. `false` where it is none of them.
+fn count_again(kept: &mut Vec<Met>, reason: &Flaw) -> bool
+    ensures found { result ≡ list_any (λ met. is_same met.flaw reason.now) kept.old.items }
+    ensures kept { kept.new.items ≡ map (again_if reason.now) kept.old.items }
+{
+    let mut found = false;
+    for i in 0..kept.len() {
+        let met = kept[i];
+        found |= is_same(&met.flaw, reason);
+        kept[i] = met.again_if(reason);
+    }
+    found
 }
 
-/// Adds what a flaw is, without the place of a fault.
-fn push_reason<B: Book>(text: &mut String, book: &B, flaw: &Flaw) -> Result<(), AllocError> {
-    match flaw {
-        Flaw::Fault(fault) => {
-            let code = fault.code;
-            let reason = reason_word(fault.reason);
-            write!(text, "fault {code} {reason} ")?;
-            push_subject(text, book, fault.subject)
-        }
-        _ => flaw.push(text, book),
+/// It was met once more, at this place.
+fn more(earlier: Option<Seen>, place: u64) -> Seen
+    ensures { Some result ≡ seen_more place earlier }
+{
+    match earlier {
+        Some(seen) => seen.again(),
+        None => Seen::once(place),
     }
 }
 
-/// A flaw as if it stood in front of the message.
-fn without_place(flaw: &Flaw) -> Flaw {
-    match flaw {
-        Flaw::Fault(fault) => Flaw::Fault(Fault {
-            place: 0,
-            code: fault.code,
-            reason: fault.reason,
-            subject: fault.subject,
-        }),
-        _ => *flaw,
-    }
+fn is_same(a: &Flaw, b: &Flaw) -> bool
+    ensures { result ≡ is_same a.now b.now }
+{
+    *a == *b
 }

@@ -1,7 +1,7 @@
 //! The commands over the texts of their dictionaries.
 
 ghost use Rattle.std.specs.Prelude.{◌≡◌, ◌≢◌, ◌↔◌, ◌≤◌, ◌⊎◌, if◌then◌else◌, length};
-ghost use Rattle.std.specs.Prelude.{Ok, Err, IfOk, IfSome, IsErr, IsOk, IsTrue};
+ghost use Rattle.std.specs.Prelude.{Ok, Err, IfOk, IfSome, IsErr, IsOk, IsTrue, None, string_bytes};
 ghost use Rattle.std.specs.Io.KnownBytes.{Appends, IsAtEnd};
 ghost use Rattle.dia_io.specs.Writing.{AppendsFront};
 ghost use Rattle.dia_lines.specs.declared.fault.LinesFault.TheVariants.{NoMemory, Device, Endless};
@@ -11,9 +11,11 @@ ghost use Rattle.dia_run.specs.Texts.{line};
 ghost use Rattle.dia_report.specs.Refusals.{TellsOf};
 ghost use Rattle.dia_captures.specs.Lines.{AreLinesAnswered, IsFrontPut, OfLine, checks, refutations, text_of};
 ghost use Rattle.dia_captures.specs.Streams.{IsStreamAnswered, IsStreamFrontPut, OfMessage, placed};
+ghost use Rattle.dia_captures.specs.Summaries.{IsCheckSummary, IsRefuteSummary, IsStreamSummary};
 
 use crate::judges::{CheckJudge, RefuteJudge};
-use crate::tally::{Lines, Tally};
+use crate::summaries::Lines;
+use crate::tally::Tally;
 use dia_check::{Levels, Unknown};
 use dia_io::{Exit, Feed, Inputs, Sink, put_all};
 use dia_lines::{LinesFault, answer_lines};
@@ -48,6 +50,11 @@ pub fn check_lines<F: Feed, S: Sink>(
     ensures all { IfOk result
         (λ captured. captured.reported.exit ≢ Exit.Bad → IsAtEnd (F.remaining feed.new)) }
     ensures unread { IfOk result (λ captured. captured.reported.exit ≡ Exit.Bad → feed.new ≡ feed.old) }
+    ensures summary { IfOk result (λ captured. IfSome captured.summary
+        (λ text. IsCheckSummary unknown levels inputs.now (F.remaining feed.old) (F.remaining feed.new)
+        (S.written sink.old) (S.written sink.new) (string_bytes text))) }
+    ensures no_summary { IfOk result
+        (λ captured. captured.reported.exit ≡ Exit.Bad → captured.summary ≡ None) }
     ensures device { (result ≡ Err Device)
         ↔ (IsTrue (F.has_failed feed.new) ⊎ IsTrue (S.has_failed sink.new)) }
     ensures front { IsErr result → IsFrontPut (checks unknown levels) inputs.now
@@ -91,6 +98,11 @@ pub fn refute_lines<F: Feed, S: Sink>(
     ensures all { IfOk result
         (λ captured. captured.reported.exit ≢ Exit.Bad → IsAtEnd (F.remaining feed.new)) }
     ensures unread { IfOk result (λ captured. captured.reported.exit ≡ Exit.Bad → feed.new ≡ feed.old) }
+    ensures summary { IfOk result (λ captured. IfSome captured.summary
+        (λ text. IsRefuteSummary unknown levels inputs.now (F.remaining feed.old) (F.remaining feed.new)
+        (S.written sink.old) (S.written sink.new) (string_bytes text))) }
+    ensures no_summary { IfOk result
+        (λ captured. captured.reported.exit ≡ Exit.Bad → captured.summary ≡ None) }
     ensures device { (result ≡ Err Device)
         ↔ (IsTrue (F.has_failed feed.new) ⊎ IsTrue (S.has_failed sink.new)) }
     ensures front { IsErr result → IsFrontPut (refutations unknown levels) inputs.now
@@ -139,6 +151,11 @@ pub fn check_stream<F: Feed, S: Sink>(
         (F.remaining feed.old) (F.remaining feed.new) (S.written sink.old) (S.written sink.new)
         captured.reported.exit) }
     ensures unread { IfOk result (λ captured. captured.reported.exit ≡ Exit.Bad → feed.new ≡ feed.old) }
+    ensures summary { IfOk result (λ captured. IfSome captured.summary
+        (λ text. IsStreamSummary unknown levels inputs.now (F.remaining feed.old) (F.remaining feed.new)
+        (S.written sink.old) (S.written sink.new) (string_bytes text))) }
+    ensures no_summary { IfOk result
+        (λ captured. captured.reported.exit ≡ Exit.Bad → captured.summary ≡ None) }
     ensures device { (result ≡ Err Device)
         ↔ (IsTrue (F.has_failed feed.new) ⊎ IsTrue (S.has_failed sink.new)) }
     ensures front { IsErr result → IsStreamFrontPut unknown levels inputs.now
@@ -169,6 +186,7 @@ pub fn check_stream<F: Feed, S: Sink>(
 fn refuse<S: Sink>(alloc: Global, refused: Refused, sink: &mut S) -> Result<Captured, LinesFault>
     requires { ¬ IsTrue (S.has_failed sink.old) }
     ensures exit { IfOk result (λ captured. captured.reported.exit ≡ Exit.Bad) }
+    ensures summary { IfOk result (λ captured. captured.summary ≡ None) }
     ensures put { IsOk result
         → TellsOf (λ told. Appends (S.written sink.old) (S.written sink.new) (line told)) refused }
     ensures device { (result ≡ Err Device) ↔ IsTrue (S.has_failed sink.new) }
@@ -188,7 +206,8 @@ fn refuse<S: Sink>(alloc: Global, refused: Refused, sink: &mut S) -> Result<Capt
 
 /// How a command ended whose messages were read: yes or no.
 fn ended(yes: bool, summary: Option<String>) -> Captured
-    ensures { result.reported.exit ≡ (if yes then Exit.Yes else Exit.No) }
+    ensures exit { result.reported.exit ≡ (if yes then Exit.Yes else Exit.No) }
+    ensures summary { result.summary ≡ summary }
 {
     let exit = if yes { Exit::Yes } else { Exit::No };
     let report = Report::Done;

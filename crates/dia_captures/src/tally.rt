@@ -1,41 +1,35 @@
 //! The verdicts of a run, counted.
 
-use crate::ended::Ended;
+ghost use Rattle.std.specs.Prelude.{◌≡◌, ◌+◌, if◌then◌else◌};
+ghost use Rattle.dia_captures.specs.Counts.{counted};
+
+use crate::ended::{Ended, is_yes};
 use crate::reasons::Reasons;
+use crate::summaries::{Lines, push_first_line, push_mets, push_others, put_in_order};
 use crate::verdicts::{Checked, Flaw, Refuted};
 use dia_dict::Book;
 use dia_io::Exit;
 use dia_lines::Watch;
 use std::alloc::{AllocError, Global};
 
-/// Which messages are judged, and how.
-#[derive(Clone, Copy, Debug, PartialEq, Eq)]
-pub enum Lines {
-    /// By `check`, one in each line.
-    Checked,
-    /// By `refute`, one in each line.
-    Refuted,
-    /// By `check`, back to back.
-    Placed,
-}
-
 /// The verdicts that were seen, counted.
 #[derive(Drop)]
 pub struct Tally {
     pub ended: Ended,
-    all: u64,
+    pub all: u64,
     /// How many are valid, or refute.
-    yes: u64,
-    reasons: Reasons,
+    pub yes: u64,
+    pub reasons: Reasons,
 }
 
 impl Tally {
-    ghost use Rattle.std.specs.Prelude.{◌≡◌, []};
-    ghost use Rattle.dia_captures.specs.Ending.{ended_of, ended_with};
+    ghost use Rattle.std.specs.Prelude.{◌≡◌, ◌+◌, ◌++◌, ◌∷◌, List, [], IfOk, IfSome, length, string_bytes, false, unwrap_or};
+    ghost use Rattle.dia_captures.specs.Counts.{HasCounted, Item, counted};
+    ghost use Rattle.dia_captures.specs.Summaries.{IsSummary};
 
     /// No verdict was seen yet.
     pub fn new(alloc: Global) -> Tally
-        ensures ended { result.ended ≡ ended_of [] }
+        ensures { HasCounted result [] }
     {
         Tally {
             ended: Ended::none(),
@@ -47,21 +41,21 @@ impl Tally {
 
     /// Counts a message that ended so, and what is wrong with it. It has this place, or else its number.
     fn count(&mut self, place: Option<u64>, exit: Exit, flaw: Option<Flaw>)
-        ensures { self.new.ended ≡ ended_with self.old.ended exit }
+        ensures { (items : List Item) → HasCounted self.old items → HasCounted self.new
+            (items ++ (record { at = unwrap_or place (counted (length items + 1)); exit = exit; flaw = flaw }) ∷ []) }
     {
         self.ended = self.ended.and(exit);
         self.all = self.all.saturating_add(1);
-        if exit == Exit::Yes {
-            self.yes = self.yes.saturating_add(1);
-        }
-        if let Some(flaw) = flaw {
-            self.reasons.add(&flaw, place.unwrap_or(self.all));
-        }
+        self.yes = more_if(self.yes, is_yes(exit));
+        self.reasons.see(place.unwrap_or(self.all), flaw);
     }
 
     /// How many of how many messages are valid, or refute, and a line for each reason, the most frequent first. `None` where
     /// memory was refused.
-    pub fn summary<B: Book>(mut self, alloc: Global, book: &B, lines: Lines) -> Option<String> {
+    pub fn summary<B: Book>(self, alloc: Global, book: &B, lines: Lines) -> Option<String>
+        ensures { (items : List Item) → HasCounted self items
+            → IfSome result (λ text. IsSummary (B.meaning book.now) lines items (string_bytes text)) }
+    {
         if self.reasons.lost {
             return None;
         }
@@ -69,77 +63,61 @@ impl Tally {
     }
 
     fn write_summary<B: Book>(
-        &mut self,
+        mut self,
         alloc: Global,
         book: &B,
         lines: Lines,
-    ) -> Result<String, AllocError> {
-        let (what, place) = match lines {
-            Lines::Checked => ("lines valid", "in line"),
-            Lines::Refuted => ("lines refute", "in line"),
-            Lines::Placed => ("messages valid", "at byte"),
-        };
-        let yes = self.yes;
-        let all = self.all;
-        let mut text = format!(in alloc; "{yes} of {all} {what}\n")?;
-        self.reasons.write(&mut text, book, place)?;
+    ) -> Result<String, AllocError>
+        ensures { (items : List Item) → HasCounted self items → self.reasons.lost ≡ false
+            → IfOk result (λ text. IsSummary (B.meaning book.now) lines items (string_bytes text)) }
+    {
+        let mut text = String::new(alloc);
+        push_first_line(&mut text, lines, self.yes, self.all)?;
+        put_in_order(&mut self.reasons.kept)?;
+        push_mets(&mut text, book, lines, self.reasons.kept.as_slice())?;
+        push_others(&mut text, lines, self.reasons.others)?;
         Ok(text)
     }
 }
 
 impl Watch<Checked> for Tally {
-    ghost use Rattle.std.specs.Prelude.{◌≡◌, map};
-    ghost use Rattle.dia_captures.specs.Ending.{ended_of};
-    ghost use Rattle.dia_captures.specs.Verdicts.{checked_exit};
+    ghost use Rattle.dia_captures.specs.Counts.{HasCounted, checked_items};
 
-    ghost saw = { λ tally verdicts. tally.ended ≡ ended_of (map checked_exit verdicts) };
+    ghost saw = { λ tally verdicts. HasCounted tally (checked_items verdicts) };
 
     fn see(&mut self, verdict: Checked) {
-        let exit = verdict.exit();
-        self.count(None, exit, flaw_of(&verdict));
+        self.count(None, verdict.exit(), verdict.flaw());
     }
 }
 
 impl Watch<Refuted> for Tally {
-    ghost use Rattle.std.specs.Prelude.{◌≡◌, map};
-    ghost use Rattle.dia_captures.specs.Ending.{ended_of};
-    ghost use Rattle.dia_captures.specs.Verdicts.{refuted_exit};
+    ghost use Rattle.dia_captures.specs.Counts.{HasCounted, refuted_items};
 
-    ghost saw = { λ tally verdicts. tally.ended ≡ ended_of (map refuted_exit verdicts) };
+    ghost saw = { λ tally verdicts. HasCounted tally (refuted_items verdicts) };
 
     fn see(&mut self, verdict: Refuted) {
-        let exit = verdict.exit();
-        self.count(None, exit, refusal_of(&verdict));
+        self.count(None, verdict.exit(), verdict.flaw());
     }
 }
 
 impl Watch<(u64, Checked)> for Tally {
-    ghost use Rattle.std.specs.Prelude.{◌≡◌, map};
-    ghost use Rattle.dia_captures.specs.Ending.{ended_of};
-    ghost use Rattle.dia_captures.specs.Verdicts.{checked_exit};
+    ghost use Rattle.dia_captures.specs.Counts.{HasCounted, placed_items};
 
-    ghost saw = { λ tally verdicts. tally.ended ≡ ended_of (map (λ verdict. checked_exit verdict.1) verdicts) };
+    ghost saw = { λ tally verdicts. HasCounted tally (placed_items verdicts) };
 
     fn see(&mut self, verdict: (u64, Checked)) {
         let (at, verdict) = verdict;
-        let exit = verdict.exit();
-        self.count(Some(at), exit, flaw_of(&verdict));
+        self.count(Some(at), verdict.exit(), verdict.flaw());
     }
 }
 
-/// What is wrong with a message that isn't valid.
-fn flaw_of(verdict: &Checked) -> Option<Flaw> {
-    match verdict {
-        Checked::Valid(_) => None,
-        Checked::Wrong(flaw) => Some(*flaw),
-    }
-}
-
-/// What is wrong with a text that spells no message.
-fn refusal_of(verdict: &Refuted) -> Option<Flaw> {
-    match &verdict.first {
-        Checked::Wrong(Flaw::TooLong) => Some(Flaw::TooLong),
-        Checked::Wrong(Flaw::NotHexadecimal) => Some(Flaw::NotHexadecimal),
-        _ => None,
+/// A count of what includes one more, or doesn't.
+fn more_if(count: u64, counts: bool) -> u64
+    ensures { result ≡ (if counts then counted (count + 1) else count) }
+{
+    if counts {
+        count.saturating_add(1)
+    } else {
+        count
     }
 }

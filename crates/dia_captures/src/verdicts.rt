@@ -1,6 +1,7 @@
 //! What `check` and `refute` find of a message, and what is told of it.
 
 ghost use Rattle.std.specs.Prelude.{◌≡◌, ◌≢◌, ◌++◌, Err, Some, IfOk, OnOk, string_bytes};
+ghost use Rattle.dia_captures.specs.Counts.{checked_flaw, reason_of, refuted_flaw};
 ghost use Rattle.dia_captures.specs.Verdicts.{IsNamed, answer_of, checked_exit, checked_line, flaw_exit, flaw_text};
 ghost use Rattle.dia_captures.specs.Verdicts.{is_valid, refuted_exit, refuted_line, refutes};
 
@@ -86,6 +87,16 @@ impl Checked {
         }
     }
 
+    /// What is wrong with the message, or with its text.
+    pub fn flaw(&self) -> Option<Flaw>
+        ensures { result ≡ checked_flaw self.now }
+    {
+        match self {
+            Checked::Valid(_) => None,
+            Checked::Wrong(flaw) => Some(*flaw),
+        }
+    }
+
     fn is_valid(&self) -> bool
         ensures { result ≡ is_valid self.now }
     {
@@ -104,6 +115,24 @@ impl Flaw {
             Flaw::Trailing => Exit::No,
             Flaw::TooLong => Exit::Bad,
             Flaw::NotHexadecimal => Exit::Bad,
+        }
+    }
+
+    /// The same flaw at the front of its message: flaws that differ in their place alone are one reason.
+    pub fn reason(&self) -> Flaw
+        ensures { result ≡ reason_of self.now }
+    {
+        match self {
+            Flaw::Fault(fault) => Flaw::Fault(Fault {
+                place: 0,
+                code: fault.code,
+                reason: fault.reason,
+                subject: fault.subject,
+            }),
+            Flaw::Truncated => Flaw::Truncated,
+            Flaw::Trailing => Flaw::Trailing,
+            Flaw::TooLong => Flaw::TooLong,
+            Flaw::NotHexadecimal => Flaw::NotHexadecimal,
         }
     }
 
@@ -139,6 +168,17 @@ impl Refuted {
             Checked::Wrong(Flaw::TooLong) => Exit::Bad,
             Checked::Wrong(Flaw::NotHexadecimal) => Exit::Bad,
             _ => answer,
+        }
+    }
+
+    /// What is wrong with a text that spells no message.
+    pub fn flaw(&self) -> Option<Flaw>
+        ensures { result ≡ refuted_flaw self.now }
+    {
+        match &self.first {
+            Checked::Wrong(Flaw::TooLong) => Some(Flaw::TooLong),
+            Checked::Wrong(Flaw::NotHexadecimal) => Some(Flaw::NotHexadecimal),
+            _ => None,
         }
     }
 

@@ -1,6 +1,7 @@
 //! What runs put, and their summaries.
 
 use crate::runs::{Run, runs};
+use std::alloc::{AllocError, Global};
 
 /// Two valid requests, one without its Origin-Realm, one that is cut, an empty line, one with a byte behind it, a text that isn't
 /// hexadecimal, and one with an AVP that isn't known.
@@ -71,4 +72,55 @@ fn counts_the_messages_of_a_stream(rt: HostRuntime) {
     let summary = "1 of 4 messages valid\n2 x fault 5005 missing Origin-Host, first at byte 44\n\
         1 x message: not hexadecimal, first at byte 84\n";
     runs(&rt, Run::CheckStream, STREAM, put, summary);
+}
+
+/// A run over requests that have an unknown AVP each.
+#[derive(Drop)]
+struct Many {
+    text: String,
+    put: String,
+    summary: String,
+}
+
+/// 103 reasons, each once, and then the first one again: the first 100 are told by themselves.
+fn unknown_avps(alloc: Global) -> Result<Many, AllocError> {
+    let mut text = String::new(alloc);
+    let mut put = String::new(alloc);
+    for code in 1_000_001u32..1_000_104 {
+        push_unknown(&mut text, &mut put, code)?;
+    }
+    push_unknown(&mut text, &mut put, 1_000_001)?;
+    let mut summary = String::new(alloc);
+    summary.push_str("0 of 104 lines valid\n2 x fault 5001 unknown 1000001:0, first in line 1\n")?;
+    for line in 2u32..101 {
+        let code = 1_000_000 + line;
+        write!(
+            summary,
+            "1 x fault 5001 unknown {code}:0, first in line {line}\n"
+        )?;
+    }
+    summary.push_str("3 x other reasons, first in line 101\n")?;
+    Ok(Many { text, put, summary })
+}
+
+/// Adds a request with an AVP of this code alone, and its verdict.
+fn push_unknown(text: &mut String, put: &mut String, code: u32) -> Result<(), AllocError> {
+    write!(
+        text,
+        "0100001c80000118000000000000000100000002{code:08x}00000008\n"
+    )?;
+    write!(put, "fault 5001 at 20 unknown {code}:0\n")
+}
+
+#[test]
+fn counts_other_reasons_together(rt: HostRuntime) {
+    let many = unknown_avps(rt.alloc()).expect(&rt, "memory");
+    let Many { text, put, summary } = many;
+    runs(
+        &rt,
+        Run::CheckLines,
+        text.as_str(),
+        put.as_str(),
+        summary.as_str(),
+    );
 }

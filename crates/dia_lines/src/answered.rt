@@ -12,6 +12,8 @@ use std::alloc::{AllocError, Global};
 pub struct Answered {
     /// The line that isn't at its end yet.
     pub line: Input,
+    /// Memory for the judge.
+    pub space: Vec<u8>,
     /// The answers that weren't put yet.
     pub text: String,
 }
@@ -29,6 +31,7 @@ impl Answered {
     {
         Answered {
             line: Input::Bytes(Vec::new(alloc)),
+            space: Vec::new(alloc),
             text: String::new(alloc),
         }
     }
@@ -98,7 +101,7 @@ impl Answered {
             × Sees W.saw watch.old watch.new (verdict ∷ [])
             × IsLineInput self.new.line []) }
     {
-        let verdict = judge.judge(alloc, &self.line, &mut self.text)?;
+        let verdict = judge.judge(alloc, &self.line, &mut self.space, &mut self.text)?;
         watch.see(verdict);
         clear(alloc, &mut self.line);
         Ok(())

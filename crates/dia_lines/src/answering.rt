@@ -1,7 +1,7 @@
 //! Lines that are answered from a feed into a sink.
 
 ghost use Rattle.std.specs.Prelude.{◌≡◌, ◌↔◌, ◌≤◌, ◌⊎◌, ◌+◌, List, ℕ, Option, length};
-ghost use Rattle.std.specs.Prelude.{Ok, Err, IfOk, IfSome, IsErr, IsTrue, OnOk, true, false, ◌≢◌, [], string_bytes};
+ghost use Rattle.std.specs.Prelude.{Ok, Err, IfSome, IsErr, IsTrue, OnOk, true, false, ◌≢◌, [], string_bytes};
 ghost use Rattle.std.specs.Io.KnownBytes.{Appends, IsAtEnd};
 ghost use Rattle.dia_io.specs.Writing.{AppendsFront};
 ghost use Rattle.dia_lines.specs.declared.fault.LinesFault.TheVariants.{NoMemory, Device, Endless};

@@ -15,11 +15,13 @@ pub trait Judge {
     // The text for a verdict.
     ghost told: { Self → Self.Verdict → List ℕ };
 
-    /// The verdict on a line. Its text is added to another.
+    /// The verdict on a line. Its text is added to another. What the space holds means nothing: it is memory that is kept from
+    /// line to line.
     fn judge(
         &self,
         alloc: Global,
         line: &Input,
+        space: &mut Vec<u8>,
         text: &mut String,
     ) -> Result<Self::Verdict, AllocError>
         ensures { IfOk result (λ verdict. says self.now line.now verdict

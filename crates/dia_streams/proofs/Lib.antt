@@ -1,4 +1,5 @@
 pub mod DigitsTaken
+pub mod PairsDecoded
 pub mod Fronts
 pub mod StreamsUnderWay
 pub mod StreamToSink

@@ -1,5 +1,5 @@
 -- A stream of which a front was read.
-use Rattle.std.specs.Prelude.{◌≡◌, ℕ, ◌⊎◌, ◌<◌, ◌≤◌, Bool, true, false, List, [], ◌∷◌, ◌++◌, Option, None, Some, length, string_bytes}
+use Rattle.std.specs.Prelude.{◌≡◌, ℕ, ◌⊎◌, ◌<◌, ◌≤◌, Bool, true, false, List, [], ◌∷◌, ◌++◌, Option, None, Some, unwrap_or, length, string_bytes}
 use Rattle.std.specs.List.{flat_map}
 use Rattle.std.specs.Io.KnownBytes.{Appends, Consumes}
 use Rattle.hex.specs.Hex.{hex_digit_value}
@@ -9,6 +9,10 @@ use Rattle.dia_streams.specs.declared.streamed.Streamed.{Streamed}
 use Rattle.dia_streams.specs.Streams.{AreTold, IsEndless, IsPart, IsStreamTold, AreSpelled, BeginsNoPair, digits_of}
 
 -- ---- digits
+
+-- the value of a digit; 255 of another character
+abbrev pub value_or_none : ℕ → ℕ
+value_or_none c = unwrap_or (hex_digit_value c) 255
 
 -- the value of a digit whose pair isn't whole, and that digit
 abbrev pub IsHalf : Option ℕ → List ℕ → Type 0

@@ -2,17 +2,19 @@
 //!
 //! `answer_stream` reads a feed piece by piece, asks a [`MessageJudge`] for the verdict on each message and its line, puts these
 //! lines into a sink, and shows the verdicts to a `Watch`, each with the place where its message begins. It takes the memory of
-//! one message.
+//! one message. `decode_digits` decodes a text that is all there.
 #![tactic(auto)]
 
 mod digits;
 mod judge;
 mod laws;
 mod messages;
+mod pairs;
 mod streamed;
 mod streaming;
 mod told;
 
 pub use judge::MessageJudge;
 pub use laws::stream_has_one_answer;
+pub use pairs::decode_digits;
 pub use streaming::answer_stream;

@@ -1,10 +1,5 @@
-use Rattle.std.proofs.Common.{ℕ, ap, ◌∙◌}
-use Rattle.dia_captures.specs.declared.verdicts.Checked.{Checked}
-use Rattle.dia_captures.specs.Ending.{ended_with}
-use Rattle.dia_captures.specs.Verdicts.{checked_exit}
-use Rattle.dia_captures.proofs.Endings.{ended_one_verdict_more}
+use Rattle.dia_captures.proofs.Tallies.{placed_seen}
 use Rattle.dia_captures.proofs.tally.TallyWatchTuple2U64Checked.see.Goals as goal
 
 pub returns : goal.returns
-returns c = λ before h.
-    ended_one_verdict_more (λ (v : ℕ × Checked). checked_exit v.1) c.args.self.now.ended _ before c.args.verdict h (c.count.ensures ∙ ap (ended_with c.args.self.now.ended) c.exit-exit.ensures)
+returns c = λ before h. placed_seen c.args.self.now c.count.new.self before c.args.verdict c.exit.result c.flaw.result c.exit.ensures c.flaw.ensures c.count.ensures h

@@ -26,7 +26,7 @@ loop-line-preserved g c =
 pub returns : goal.returns
 returns g c =
     let (done, told, parts, reads) = c.loop-line.invariant.reads in
-    let new : Answered = record { line = c.extend.new.line; text = c.loop-line.self.text } in
+    let new : Answered = record { line = c.extend.new.line; space = c.loop-line.self.space; text = c.loop-line.self.text } in
     let P = g.J.Judge.says c.args.judge.now in
     let T = g.J.Judge.told c.args.judge.now in
     on_ok_map c.extend.result

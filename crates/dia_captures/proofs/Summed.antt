@@ -1,0 +1,104 @@
+-- The summary of a run is that of the verdicts that were shown.
+use Rattle.std.proofs.Common.{◌≡◌, ℕ, List, [], ◌++◌, Bool, false, Option, None, Some, Result, Ok, Err, sym, ap, ap₂, subst, ◌∙◌}
+use Rattle.std.specs.Prelude.{IfOk, IfSome}
+use Rattle.std.specs.List.{flat_map}
+use Rattle.dia_dict.specs.Dictionary.{Dictionary}
+use Rattle.dia_policy.specs.declared.Unknown.{Unknown}
+use Rattle.dia_policy.specs.declared.Levels.{Levels}
+use Rattle.dia_io.specs.declared.Input.{Input}
+use Rattle.dia_io.specs.declared.Inputs.{Inputs}
+use Rattle.dia_lines.specs.FeedToSink.{AllAnswered}
+use Rattle.dia_streams.specs.Streams.{AllTold}
+use Rattle.dia_run.specs.Texts.{IsDictionaryText}
+use Rattle.dia_captures.specs.declared.verdicts.Checked.{Checked}
+use Rattle.dia_captures.specs.declared.verdicts.Refuted.{Refuted}
+use Rattle.dia_captures.specs.declared.summaries.Lines.{Lines}
+use Rattle.dia_captures.specs.declared.summaries.Lines.TheVariants as lines
+use Rattle.dia_captures.specs.declared.reasons.Met.{Met}
+use Rattle.dia_captures.specs.declared.tally.Tally.{Tally}
+use Rattle.dia_captures.specs.Counts.{HasCounted, Item, checked_items, placed_items, refuted_items}
+use Rattle.dia_captures.specs.Summaries.{AreInOrder, AreLinesSummed, IsCheckSummary, IsRefuteSummary, IsStreamSummary, IsSummary, first_line, met_line, others_line}
+use Rattle.dia_captures.specs.Verdicts.{IsLineChecked, IsLineRefuted, IsPieceChecked, checked_line, placed_line, refuted_line}
+
+-- ---- none
+
+pub unsummed : {C E T : Type 0} (sum : C → Option T) (r : Result C E) (P : T → Type 0) → IfOk r (λ x. sum x ≡ None) → IfOk r (λ x. IfSome (sum x) P)
+unsummed sum (Ok x) P none = subst (λ s. IfSome s P) (sym none) tt
+unsummed sum (Err e) P none = tt
+
+-- ---- one
+
+module _ {T : Type 0} (text_of : T → List ℕ) (fed_old fed put_old put : Option (List ℕ)) where
+  lines_summed : {V W : Type 0} (P : Input → V → Type 0) (told : V → List ℕ) (items_of : List V → List Item) (d : Dictionary) (l : Lines) (saw : W → List V → Type 0) (w x : W)
+      → AllAnswered P told saw fed_old fed put_old put w x → saw w [] → (sum : Option T)
+      → ((verdicts : List V) → saw x verdicts → IfSome sum (λ text. IsSummary d l (items_of verdicts) (text_of text)))
+      → IfSome sum (λ text. AreLinesSummed P told items_of d l fed_old fed put_old put (text_of text))
+  lines_summed P told items_of d l saw w x h nothing None is = tt
+  lines_summed P told items_of d l saw w x h nothing (Some text) is = record {
+    bytes = h.bytes;
+    verdicts = h.verdicts;
+    consumed = h.consumed;
+    answered = h.answered;
+    is_put = h.is_put;
+    summary = is h.verdicts (h.seen [] nothing);
+  }
+
+  with_first : (P Q : T → Type 0) (sum : Option T) → ((text : T) → P text → Q text) → IfSome sum P → IfSome sum Q
+  with_first P Q None f h = tt
+  with_first P Q (Some text) f h = f text h
+
+  module _ (u : Unknown) (most : Levels) (inputs : Inputs) (a : Dictionary) (is_a : IsDictionaryText inputs.first a) where
+    pub check_summed : {W : Type 0} (saw : W → List Checked → Type 0) (w x : W)
+        → AllAnswered (IsLineChecked u most a) (checked_line a) saw fed_old fed put_old put w x → saw w [] → (sum now : Option T) → now ≡ sum
+        → ((verdicts : List Checked) → saw x verdicts → IfSome sum (λ text. IsSummary a lines.Checked (checked_items verdicts) (text_of text)))
+        → IfSome now (λ text. IsCheckSummary u most inputs fed_old fed put_old put (text_of text))
+    check_summed saw w x h nothing sum now same is =
+        subst (λ (s : Option T). IfSome s (λ text. IsCheckSummary u most inputs fed_old fed put_old put (text_of text))) (sym same)
+        (with_first (λ text. AreLinesSummed (IsLineChecked u most a) (checked_line a) checked_items a lines.Checked fed_old fed put_old put (text_of text))
+        (λ text. IsCheckSummary u most inputs fed_old fed put_old put (text_of text)) sum (λ text s. (a, is_a, s))
+        (lines_summed (IsLineChecked u most a) (checked_line a) checked_items a lines.Checked saw w x h nothing sum is))
+
+    pub refute_summed : (b : Dictionary) → IsDictionaryText inputs.second b → {W : Type 0} (saw : W → List Refuted → Type 0) (w x : W)
+        → AllAnswered (IsLineRefuted u most a b) refuted_line saw fed_old fed put_old put w x → saw w [] → (sum now : Option T) → now ≡ sum
+        → ((verdicts : List Refuted) → saw x verdicts → IfSome sum (λ text. IsSummary a lines.Refuted (refuted_items verdicts) (text_of text)))
+        → IfSome now (λ text. IsRefuteSummary u most inputs fed_old fed put_old put (text_of text))
+    refute_summed b is_b saw w x h nothing sum now same is =
+        subst (λ (s : Option T). IfSome s (λ text. IsRefuteSummary u most inputs fed_old fed put_old put (text_of text))) (sym same)
+        (with_first (λ text. AreLinesSummed (IsLineRefuted u most a b) refuted_line refuted_items a lines.Refuted fed_old fed put_old put (text_of text))
+        (λ text. IsRefuteSummary u most inputs fed_old fed put_old put (text_of text)) sum (λ text s. (a, b, is_a, is_b, s))
+        (lines_summed (IsLineRefuted u most a b) refuted_line refuted_items a lines.Refuted saw w x h nothing sum is))
+
+    pub stream_summed : {W : Type 0} (saw : W → List (ℕ × Checked) → Type 0) (w x : W)
+        → AllTold (IsPieceChecked u most a) (placed_line a) saw fed_old fed put_old put w x → saw w [] → (sum now : Option T) → now ≡ sum
+        → ((verdicts : List (ℕ × Checked)) → saw x verdicts → IfSome sum (λ text. IsSummary a lines.Placed (placed_items verdicts) (text_of text)))
+        → IfSome now (λ text. IsStreamSummary u most inputs fed_old fed put_old put (text_of text))
+    stream_summed saw w x h nothing sum now same is =
+        subst (λ (s : Option T). IfSome s (λ text. IsStreamSummary u most inputs fed_old fed put_old put (text_of text))) (sym same) (by sum is)
+      where
+        by : (s : Option T) → ((verdicts : List (ℕ × Checked)) → saw x verdicts → IfSome s (λ text. IsSummary a lines.Placed (placed_items verdicts) (text_of text)))
+            → IfSome s (λ text. IsStreamSummary u most inputs fed_old fed put_old put (text_of text))
+        by None sums = tt
+        by (Some text) sums = record {
+          d = a;
+          read = h.read;
+          verdicts = h.verdicts;
+          is_first = is_a;
+          consumed = h.consumed;
+          told = h.told;
+          is_put = h.is_put;
+          summary = sums h.verdicts (h.seen [] nothing);
+        }
+
+-- ---- its text
+
+pub summary_of : (d : Dictionary) (l : Lines) (tally : Tally) (items : List Item) (told : List Met) (a b c : List ℕ) → HasCounted tally items → tally.reasons.lost ≡ false
+    → AreInOrder tally.reasons.kept.items told → a ≡ first_line l tally.yes tally.all → b ≡ a ++ flat_map (met_line d l) told
+    → c ≡ b ++ others_line l tally.reasons.others → IsSummary d l items c
+summary_of d l tally items told a b c h live order is_a is_b is_c =
+    let (kept, others) = h.reasons live in record {
+      told = told;
+      in_order = subst (λ (ms : List Met). AreInOrder ms told) kept order;
+      is = is_c ∙ ap₂ (λ (t o : List ℕ). t ++ o)
+          (is_b ∙ ap (λ (t : List ℕ). t ++ flat_map (met_line d l) told) (is_a ∙ ap₂ (λ (those all : ℕ). first_line l those all) h.yes h.all))
+          (ap (others_line l) others);
+    }
