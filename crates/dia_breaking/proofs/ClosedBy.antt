@@ -56,7 +56,7 @@ either true m n e = refl
 either false m n e = e
 
 -- what is sent stands as the rules say
-stand_placed : (who : Sends) (rules : List DRule) (keys : List Key) → StandAsSent who rules keys → Placed rules keys
+pub stand_placed : (who : Sends) (rules : List DRule) (keys : List Key) → StandAsSent who rules keys → Placed rules keys
 stand_placed Any rules keys h = h
 stand_placed Known rules keys h = h
 stand_placed Listed rules keys h = h.0

@@ -56,7 +56,7 @@ module _ (f : Key → ℕ) where
 
 -- ---- keys
 
-key_contained : (avps : List PlainAvp) (v : PlainAvp) → Contains avps v → Contains (map key_of avps) (key_of v)
+pub key_contained : (avps : List PlainAvp) (v : PlainAvp) → Contains avps v → Contains (map key_of avps) (key_of v)
 key_contained avps v is = contains_in (map key_of avps) (key_of v) (in_map key_of avps v (in_contains avps v is))
 
 -- ---- sites
@@ -67,14 +67,14 @@ module _ (da db : Dictionary) (who : Sends) (u : Unknown) (f : Key → ℕ) (flo
       no_shorter da who f floors v (data_bytes avps level.bytes v level.spelled level.are_bytes i) (level.sent.0, in_all (IsSentWithin da who level.sent.0) avps v level.sent.1 i)
 
   -- the keys of a level
-  sent_keys : (rules : List DRule) (room : ℕ) (avps : List PlainAvp) → IsLevelOf da who rules room avps → IsSentKeys who f rules room (map key_of avps)
+  pub sent_keys : (rules : List DRule) (room : ℕ) (avps : List PlainAvp) → IsLevelOf da who rules room avps → IsSentKeys who f rules room (map key_of avps)
   sent_keys rules room avps level = (
     level.stand,
     let within = all_within f avps (long_in rules room avps level) in let kept = keeps da who rules room avps level in omega (arith, within, kept),
   )
 
   -- a group of a level leaves this much to the other AVPs
-  group_within : (rules : List DRule) (room : ℕ) (avps : List PlainAvp) (v : PlainAvp) → IsLevelOf da who rules room avps → Contains avps v
+  pub group_within : (rules : List DRule) (room : ℕ) (avps : List PlainAvp) (v : PlainAvp) → IsLevelOf da who rules room avps → Contains avps v
       → length v.bytes + shortest_head (key_of v) + total f (map key_of avps) ≤ room + f (key_of v)
   group_within rules room avps v level is =
       omega (arith, data_within v, beside_within f avps v (long_in rules room avps level) (in_contains avps v is), keeps da who rules room avps level)

@@ -129,6 +129,7 @@ module _ (da db : Dictionary) (who : Sends) (u : Unknown) where
   plain (causes.Level line) other = tt
   plain (causes.Unknown key m) other = tt
   plain (causes.MBit key m) other = tt
+  plain (causes.Meaning key) other = tt
   plain causes.Unproved other = tt
 
   -- where nothing is told of data
@@ -161,6 +162,13 @@ module _ (da db : Dictionary) (who : Sends) (u : Unknown) where
   head_tells kinds.MBit key (head_breaks.MBit m) = tt
   head_tells kinds.Data key (head_breaks.Unknown m) = tt
   head_tells kinds.Data key (head_breaks.MBit m) = tt
+  head_tells kinds.Meaning key (head_breaks.Unknown m) = tt
+  head_tells kinds.Meaning key (head_breaks.MBit m) = tt
+
+  -- that data are read as another format tells nothing of data that break
+  pub meaning_tells : (key : Key) (found : Option (Cause × ℕ)) → IfSome found (λ (pair : Cause × ℕ). pair.0 ≡ causes.Meaning key) → IfSome found (λ (pair : Cause × ℕ). TellsData (sides da db who u) pair.0)
+  meaning_tells key None is = tt
+  meaning_tells key (Some pair) is = subst (TellsData (sides da db who u)) (sym is) tt
 
   pub with_size : (o : Option Cause) (size : ℕ) → IfSome o (TellsData (sides da db who u)) → IfSome (option_map (λ (cause : Cause). (cause, size)) o) (λ (pair : Cause × ℕ). TellsData (sides da db who u) pair.0)
   with_size None size own = tt

@@ -11,8 +11,9 @@ use Rattle.dia_breaking.specs.declared.line.Line.{Line}
 use Rattle.dia_breaking.specs.declared.line.Site.{Site}
 use Rattle.dia_breaking.specs.declared.start.Start.{Start}
 use Rattle.dia_breaking.specs.Headers.{HasHead, head_in}
-use Rattle.dia_breaking.specs.Listing.{Told, IsListing, basis_of, new_line, tells, unchecked}
-use Rattle.dia_breaking.specs.TheLines.{Facts, AreAllOrUnproved, exact, added, alone, AreKnown, AreLinesOrUnproved, AreTheLines, IsStartOf, costs_in}
+use Rattle.dia_breaking.specs.Listing.{Told, Listed, AreMeanings, IsListing, IsListingOf, basis_of, lines_of, meanings_of, new_line, tells, unchecked}
+use Rattle.dia_breaking.specs.TheLines.{Facts, AreAllOrUnproved, exact, added, alone, AreKnown, AreLinesOrUnproved, AreListedFor, IsStartOf, costs_in}
+use Rattle.dia_breaking.specs.TheMeanings.{AreAllMeanings, complete, unshown, AreMeaningsOrUnproved}
 use Rattle.dia_breaking.specs.Words.{head_at}
 use Rattle.dia_breaking.specs.Sides.{Sides, answer}
 use Rattle.dia_breaking.proofs.ToldLists.{tells_kept}
@@ -43,12 +44,23 @@ lines_kept IsAll sites old new same (added told all is) = added told all (tells_
 lines_kept IsAll sites old new same (alone read is) = alone read (tells_kept new old same ∙ is)
 
 module _ (s : Sides) (c : ℕ) (made : Facts) (start : Start) (head : Head) (sites : List Site) (shown : ∥ AreKnown s made ∥₁) (same : start.head ≡ head) where
-  the_lines : (told : List Told) → IsStartOf s.sender s.receiver made.telling (costs_in s made) c start → HasHead s.sender c head → IsListing s.receiver (basis_of start made.own made.outlooks) sites told
-      → ∥ AreTheLines s c sites told ∥₁
-  the_lines told is_start (x, at, is) listing = ∥∥₁_map shown (λ known. record { made = made; start = start; facts = known.facts; head_is = (x, at, is ∙ ap Some (sym same)); is_start = is_start; is_listing = listing })
+  the_listed : (listed : Listed) (told : List Told) → IsStartOf s.sender s.receiver made.telling (costs_in s made) c start → HasHead s.sender c head
+      → IsListingOf listed s.receiver (basis_of start made.own made.outlooks) sites told → ∥ AreListedFor listed s c sites told ∥₁
+  the_listed listed told is_start (x, at, is) listing = ∥∥₁_map shown (λ known. record { made = made; start = start; facts = known.facts; head_is = (x, at, is ∙ ap Some (sym same)); is_start = is_start; is_listing = listing })
 
   pub lines_found : (lines : List Line) → IsStartOf s.sender s.receiver made.telling (costs_in s made) c start → HasHead s.sender c head
       → AreAllOrUnproved (IsListing s.receiver (basis_of start made.own made.outlooks) sites) sites lines → AreLinesOrUnproved s (answer c sites lines)
-  lines_found lines begins in_a (exact all) = exact (the_lines (map tells lines) begins in_a all)
-  lines_found lines begins in_a (added told all is) = added told (the_lines told begins in_a all) is
+  lines_found lines begins in_a (exact all) = exact (the_listed lines_of (map tells lines) begins in_a all)
+  lines_found lines begins in_a (added told all is) = added told (the_listed lines_of told begins in_a all) is
   lines_found lines begins in_a (alone read is) = alone read is
+
+  pub meanings_found : (lines meanings : List Line) → IsStartOf s.sender s.receiver made.telling (costs_in s made) c start → HasHead s.sender c head
+      → AreAllMeanings (AreMeanings s.receiver (basis_of start made.own made.outlooks) sites) lines meanings → AreMeaningsOrUnproved s (answer c sites lines) meanings
+  meanings_found lines meanings begins in_a (complete all) = complete (the_listed meanings_of (map tells meanings) begins in_a all)
+  meanings_found lines meanings begins in_a (unshown is none) = unshown is none
+
+-- meanings stay so, where only what is known of lines changes
+pub meanings_kept : (AreAll : List Told → Type 0) (old new meanings others : List Line) → map unchecked new ≡ map unchecked old → others ≡ meanings → AreAllMeanings AreAll old meanings
+    → AreAllMeanings AreAll new others
+meanings_kept AreAll old new meanings others same is (complete all) = complete (subst (λ (xs : List Line). AreAll (map tells xs)) (sym is) all)
+meanings_kept AreAll old new meanings others same is (unshown shown none) = unshown (tells_kept new old same ∙ shown) (is ∙ none)

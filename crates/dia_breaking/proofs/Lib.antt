@@ -6,6 +6,7 @@ mod FormatData
 pub mod SentKeys
 pub mod Tellings
 mod OwnBreaks
+pub mod OtherReadings
 pub mod OneSolution
 mod OrderedKeys
 mod Starts
@@ -40,5 +41,8 @@ pub mod Listings
 pub mod OneOwn
 pub mod OneStart
 pub mod TheOneList
+pub mod Reached
+pub mod ReadLevels
+pub mod AllMeanings
 mod GapsInRanges
 mod LackingNumbers

@@ -1,6 +1,6 @@
 -- What is listed of AVPs that break by themselves is one.
 use Rattle.std.proofs.Common.{◌≡◌, ℕ, zero, suc, ◌+◌, ◌-◌, Bool, true, false, List, [], ◌∷◌, map, length, Option, Some, None, refl, sym, ap, subst, ◌∙◌, arith}
-use Rattle.std.specs.Prelude.{◌++◌, All, IsSome, is_some, slice_get, option_and_then, option_to_list, unwrap_or, ⊤}
+use Rattle.std.specs.Prelude.{◌++◌, All, IsSome, IsTrue, ◌↔◌, is_some, slice_get, option_and_then, option_to_list, unwrap_or, ⊤}
 use Rattle.std.specs.List.{filter_map}
 use Rattle.std.specs.Option.{option_map, option_map_or}
 use Rattle.std.proofs.lemmas.Bool.{both_ways}
@@ -28,13 +28,15 @@ use Rattle.dia_breaking.specs.declared.line.Site.{Site}
 use Rattle.dia_breaking.specs.declared.own_breaks.OwnBreaks.{OwnBreaks}
 use Rattle.dia_breaking.specs.declared.own_lines.Kind.{Kind}
 use Rattle.dia_breaking.specs.declared.own_lines.Kind.TheVariants as kinds
-use Rattle.dia_breaking.specs.Listing.{Told, Basis, IsListing, start_of, sites_of, lines_of, own_cause, own_line, own_lines, data_length, head_cause, reach_at, reached_line, with_room, numbers}
+use Rattle.dia_breaking.specs.declared.sites.Numbers.{Numbers}
+use Rattle.dia_breaking.specs.Listing.{Told, Basis, Listed, IsListingOf, start_of, sites_of, lines_of, meanings_of, own_cause, own_line, own_lines, data_length, head_cause, reach_at, reached_line, with_room, numbers}
 use Rattle.dia_breaking.specs.Listing.{header_lines, command_levels, group_levels}
+use Rattle.dia_breaking.specs.Meanings.{IsReadAsOther}
 use Rattle.dia_breaking.specs.Orders.{IsInOrderOf, joined, of_each}
 use Rattle.dia_breaking.specs.OwnBreaks.{IsOwnBreaks}
 use Rattle.dia_breaking.specs.Sites.{command_sites, group_site, group_sites, site_number}
 use Rattle.dia_breaking.specs.Sides.{sides}
-use Rattle.dia_breaking.proofs.OneSolution.{first_key, rest_keys}
+use Rattle.dia_breaking.proofs.OneSolution.{first_key, one_truth, rest_keys}
 use Rattle.dia_breaking.proofs.OwnBreaks.{no_head, silent_by_taken, taken_by_silent}
 
 -- ---- what AVPs of one key break
@@ -82,12 +84,12 @@ module _ (da db : Dictionary) (who : Sends) (u : Unknown) (key : Key) where
   no_length own size LeastLevel silent = absurd silent
   no_length own size Undecided silent = absurd silent
 
-  module _ (least size : ℕ) (b d : AvpBreaks) where
+  module _ (least size : ℕ) (b d : AvpBreaks) (reads : Bool) where
     abbrev one : OwnBreaks
-    one = record { key = key; least = least; breaks = b }
+    one = record { key = key; least = least; breaks = b; is_other = reads }
 
     abbrev other : OwnBreaks
-    other = record { key = key; least = least; breaks = d }
+    other = record { key = key; least = least; breaks = d; is_other = reads }
 
     one_length : (x y : DataBreak) → IsDataBreak da db who u key x → IsTaken x → IsDataBreak da db who u key y → IsTaken y → data_length one size x ≡ data_length other size y
     one_length Fits y first taken second too = sym (no_length other size y (silent_too Fits y first taken second tt))
@@ -111,6 +113,7 @@ module _ (da db : Dictionary) (who : Sends) (u : Unknown) (key : Key) where
 
     one_cause : (kind : Kind) → b.head ≡ d.head → data_length one size b.data ≡ data_length other size d.data → own_cause kind one size ≡ own_cause kind other size
     one_cause kinds.Data heads lengths = ap (λ (o : Option ℕ). option_map (λ (n : ℕ). (causes.Format key None, n)) o) lengths
+    one_cause kinds.Meaning heads lengths = refl
     one_cause kinds.Unknown heads lengths = ap (λ (o : Option HeadBreak). option_map (λ (cause : Cause). (cause, size)) (option_and_then (head_cause kinds.Unknown key) o)) heads
     one_cause kinds.MBit heads lengths = ap (λ (o : Option HeadBreak). option_map (λ (cause : Cause). (cause, size)) (option_and_then (head_cause kinds.MBit key) o)) heads
 
@@ -132,14 +135,15 @@ module _ (da db : Dictionary) (who : Sends) (u : Unknown) (floor : Key → ℕ) 
   alike : (one other : OwnBreaks) → IsOwnBreaks (sides da db who u) floor one → IsOwnBreaks (sides da db who u) floor other → one.key ≡ other.key → Alike one other
   alike one other is are same =
       let least : other.least ≡ one.least = are.least ∙ ap floor (sym same) ∙ sym is.least in
-      let at : OwnBreaks = record { key = one.key; least = one.least; breaks = other.breaks } in
-      let path : other ≡ at = λ i. record { key = sym same i; least = least i; breaks = other.breaks } in
+      let reads : other.is_other ≡ one.is_other = one_truth other.is_other one.is_other are.other (subst (λ (key : Key). IsTrue one.is_other ↔ IsReadAsOther (sides da db who u) key) same is.other) in
+      let at : OwnBreaks = record { key = one.key; least = one.least; breaks = other.breaks; is_other = one.is_other } in
+      let path : other ≡ at = λ i. record { key = sym same i; least = least i; breaks = other.breaks; is_other = reads i } in
       let moved : IsOwnBreaks (sides da db who u) floor at = subst (λ (own : OwnBreaks). IsOwnBreaks (sides da db who u) floor own) path are in
       let heads = one_head da db who u one.key one.breaks.head other.breaks.head is.head moved.head in (
         same,
         λ kind size.
-            one_cause da db who u one.key one.least size one.breaks other.breaks kind heads
-            (one_length da db who u one.key one.least size one.breaks other.breaks one.breaks.data other.breaks.data is.content is.taken moved.content moved.taken)
+            one_cause da db who u one.key one.least size one.breaks other.breaks one.is_other kind heads
+            (one_length da db who u one.key one.least size one.breaks other.breaks one.is_other one.breaks.data other.breaks.data is.content is.taken moved.content moved.taken)
             ∙ ap (λ (own : OwnBreaks). own_cause kind own size) (sym path),
       )
 
@@ -194,24 +198,34 @@ module _ (own others : List OwnBreaks) (are : AreAlike own others) (first count 
 
 -- ---- listings by such lists
 
-pub listing_by : (db : Dictionary) (basis : Basis) (others : List OwnBreaks) (sites : List Site) (told : List Told) → AreAlike basis.own others → IsListing db basis sites told
-    → IsListing db (record basis { own = others }) sites told
-listing_by db basis others sites told are is =
+-- what is listed is the same with such a list
+abbrev pub IsListedAlike : Listed → Type 0
+IsListedAlike listed = (db : Dictionary) (basis : Basis) (others : List OwnBreaks) → AreAlike basis.own others → (n : Numbers) (steps : List Step) (reached : List (Option Reach))
+    → listed db basis n steps reached ≡ listed db (record basis { own = others }) n steps reached
+
+pub lines_alike : IsListedAlike lines_of
+lines_alike db basis others are n steps reached =
+    let unknown = same_lines basis.own others are n.first n.count kinds.Unknown reached in
+    let m_bits = same_lines basis.own others are n.first n.count kinds.MBit reached in
+    let formats = same_lines basis.own others are n.first n.count kinds.Data reached in
+    λ j. of_each (header_lines db basis.head basis.base) basis.readings ++ of_each command_levels basis.levels ++ of_each (group_levels n.count basis.groups) steps
+    ++ unknown j ++ m_bits j ++ formats j
+
+pub meanings_alike : IsListedAlike meanings_of
+meanings_alike db basis others are n steps reached = same_lines basis.own others are n.first n.count kinds.Meaning reached
+
+pub listing_by : (listed : Listed) → IsListedAlike listed → (db : Dictionary) (basis : Basis) (others : List OwnBreaks) (sites : List Site) (told : List Told) → AreAlike basis.own others
+    → IsListingOf listed db basis sites told → IsListingOf listed db (record basis { own = others }) sites told
+listing_by listed listed_alike db basis others sites told are is =
     let first = unwrap_or (start_of db basis) 0 in
     let count = length basis.readings in
     let next : Basis = record basis { own = others } in
     let groups = same_sites basis.own others are first count is.steps in
     let sites_same : sites_of db basis first count is.steps ≡ sites_of db next first count is.steps = ap (λ (more : List Site). command_sites db basis.head basis.readings ++ more) groups in
-    let unknown = same_lines basis.own others are first count kinds.Unknown is.reached in
-    let m_bits = same_lines basis.own others are first count kinds.MBit is.reached in
-    let formats = same_lines basis.own others are first count kinds.Data is.reached in
-    let lines_same : lines_of db basis (numbers first count) is.steps is.reached ≡ lines_of db next (numbers first count) is.steps is.reached =
-    λ j. of_each (header_lines db basis.head basis.base) basis.readings ++ of_each command_levels basis.levels ++ of_each (group_levels count basis.groups) is.steps
-    ++ unknown j ++ m_bits j ++ formats j in
     record {
       steps = is.steps;
       reached = is.reached;
       is_walk = is.is_walk;
       sites_are = is.sites_are ∙ sites_same;
-      lines_are = subst (λ (all : List Told). IsInOrderOf (λ (line : Told). line.site) all told) lines_same is.lines_are;
+      lines_are = subst (λ (all : List Told). IsInOrderOf (λ (line : Told). line.site) all told) (listed_alike db basis others are (numbers first count) is.steps is.reached) is.lines_are;
     }

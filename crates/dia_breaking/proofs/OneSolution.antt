@@ -1,6 +1,6 @@
 -- What is told of two dictionaries is one: keys, applications and orders.
 use Rattle.std.proofs.Common.{◌≡◌, ℕ, ◌<◌, Bool, true, false, List, [], ◌∷◌, ◌++◌, map, filter, Option, Some, None, refl, sym, ap, subst, ◌∙◌, arith, inl, inr}
-use Rattle.std.specs.Prelude.{◌↔◌, ◌⊎◌, All, MatchOption, option_to_list, position}
+use Rattle.std.specs.Prelude.{◌↔◌, ◌⊎◌, IsTrue, All, MatchOption, option_to_list, position}
 use Rattle.std.specs.HashMap.{get}
 use Rattle.std.proofs.lemmas.Bool.{cases_order}
 use Rattle.std.proofs.lemmas.List.Elements.{All-head, All-tail}
@@ -43,6 +43,13 @@ alike false false first second = refl
 alike true false first second = first.1 (second.0 refl)
 alike false true first second = sym (second.1 (first.0 refl))
 
+-- and two that are true alike
+pub one_truth : {P : Type 0} (b c : Bool) → IsTrue b ↔ P → IsTrue c ↔ P → b ≡ c
+one_truth true true first second = refl
+one_truth false false first second = refl
+one_truth true false first second = sym (second.1 (first.0 refl))
+one_truth false true first second = first.1 (second.0 refl)
+
 abbrev pub first_key : List Key → Key → Key
 first_key [] key = key
 first_key (k ∷ ks) key = k
@@ -54,10 +61,11 @@ rest_keys (k ∷ ks) = ks
 module _ (da db : Dictionary) (who : Sends) (u : Unknown) where
   pub one_own : (own other : Own) → IsExactlyOwn (sides da db who u) own → IsExactlyOwn (sides da db who u) other → own.key ≡ other.key → own ≡ other
   one_own own other is are same =
-      let moved = subst (λ (k : Key). IsExactlyOwn (sides da db who u) (record { key = k; is_group = own.is_group; breaks = own.breaks })) same is in
+      let moved = subst (λ (k : Key). IsExactlyOwn (sides da db who u) (record { key = k; is_group = own.is_group; breaks = own.breaks; is_other = own.is_other })) same is in
       let group : own.is_group ≡ other.is_group = moved.group ∙ sym are.group in
       let breaks : own.breaks ≡ other.breaks = alike own.breaks other.breaks moved.silent are.silent in
-      λ i. record { key = same i; is_group = group i; breaks = breaks i }
+      let reads : own.is_other ≡ other.is_other = one_truth own.is_other other.is_other moved.other are.other in
+      λ i. record { key = same i; is_group = group i; breaks = breaks i; is_other = reads i }
 
   one_list : (all others : List Own) → map (λ (own : Own). own.key) all ≡ map (λ (own : Own). own.key) others → All (IsExactlyOwn (sides da db who u)) all → All (IsExactlyOwn (sides da db who u)) others
       → all ≡ others

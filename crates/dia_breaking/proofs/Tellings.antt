@@ -81,20 +81,21 @@ silent_of da db who u key breaks is_head alone silent = (subst (λ (o : Option H
 no_groups : (da db : Dictionary) (key : Key) (b : Bool) → b ≡ (is_some (group_of da key) && is_some (group_of db key)) → b ≡ false → ¬ AreGroups da db key
 no_groups da db key b is none both = both_ways b none (is ∙ and_from (is_some (group_of da key)) (is_some (group_of db key)) both.0 both.1)
 
+first_of : (b c d : Bool) → ((b || c) || d) ≡ false → b ≡ false
+first_of false c d h = refl
+first_of true c d h = absurd (let bad : true ≡ false = h in cc)
+
+second_of : (b c d : Bool) → ((b || c) || d) ≡ false → c ≡ false
+second_of false false d h = refl
+second_of false true d h = absurd (let bad : true ≡ false = h in cc)
+second_of true c d h = absurd (let bad : true ≡ false = h in cc)
+
 -- what is found says that there is nothing to tell
 nothing_told : (da db : Dictionary) (who : Sends) (u : Unknown) (key : Key) (own : Own) → IsToldOf (sides da db who u) key own → is_news own ≡ false → IsUntold da db who u key
 nothing_told da db who u key own is none = (
-  (is.silent (left_of own.breaks own.is_group none)).1,
-  no_groups da db key own.is_group is.group (right_of own.breaks own.is_group none),
+  (is.silent (first_of own.breaks own.is_group own.is_other none)).1,
+  no_groups da db key own.is_group is.group (second_of own.breaks own.is_group own.is_other none),
 )
-  where
-    left_of : (b c : Bool) → (b || c) ≡ false → b ≡ false
-    left_of false c h = refl
-    left_of true c h = absurd (let bad : true ≡ false = h in cc)
-
-    right_of : (b c : Bool) → (b || c) ≡ false → c ≡ false
-    right_of false c h = h
-    right_of true c h = absurd (let bad : true ≡ false = h in cc)
 
 -- ---- one key after the other
 
@@ -183,11 +184,7 @@ module _ (da db : Dictionary) (who : Sends) (u : Unknown) where
         of_own o i same false silent = accepted (subst (λ (k : Key). AcceptsFlags da db who u k) same ((told.each o i).silent silent).0)
 
         by : (p : Option ℕ) → get same_key telling.places own ≡ p → IsSettled key
-        by None e = let (o, of_key, none) = told.rest own is e in accepted (of_key.silent (left_of o.breaks o.is_group none)).0
-          where
-            left_of : (b c : Bool) → (b || c) ≡ false → b ≡ false
-            left_of false c h = refl
-            left_of true c h = absurd (let bad : true ≡ false = h in cc)
+        by None e = let (o, of_key, none) = told.rest own is e in accepted (of_key.silent (first_of o.breaks o.is_group o.is_other none)).0
         by (Some place) e = let (o, at, same) = told.placed own place e in of_own o (contains_in telling.own.items o (in_at telling.own.items place o at)) same o.breaks refl
 
     not_known : (who' : Sends) → who' ≡ who → (key : Key) → entry_of da key ≡ None → get same_key telling.places key ≡ None → IsSettled key

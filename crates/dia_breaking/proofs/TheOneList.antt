@@ -19,14 +19,14 @@ use Rattle.dia_breaking.specs.declared.start.Start.{Start}
 use Rattle.dia_breaking.specs.Exits.{AreOutlooks}
 use Rattle.dia_breaking.specs.Headers.{HasHead, head_in}
 use Rattle.dia_breaking.specs.Lengths.{AreEntryLengths, AreExactlyOthers, listed_length, other_length, costs, costs_by}
-use Rattle.dia_breaking.specs.Listing.{Told, Basis, IsListing, basis_of, lines_in}
+use Rattle.dia_breaking.specs.Listing.{Told, Basis, Listed, IsListingOf, basis_of, lines_in}
 use Rattle.dia_breaking.specs.Nodes.{node_in}
 use Rattle.dia_breaking.specs.OwnBreaks.{AreOwnBreaks}
 use Rattle.dia_breaking.specs.Telling.{IsExactTelling}
-use Rattle.dia_breaking.specs.TheLines.{AreTheLines, HasLevelLines, IsStartOf}
+use Rattle.dia_breaking.specs.TheLines.{AreListedFor, HasLevelLines, IsStartOf}
 use Rattle.dia_breaking.specs.Sides.{sides}
 use Rattle.dia_breaking.proofs.OneListing.{one_listing}
-use Rattle.dia_breaking.proofs.OneOwn.{all_alike, listing_by}
+use Rattle.dia_breaking.proofs.OneOwn.{IsListedAlike, all_alike, listing_by}
 use Rattle.dia_breaking.proofs.OneSolution.{one_list_of_others, one_telling}
 use Rattle.dia_breaking.proofs.OneStart.{AreSame, one_list_of_outlooks, one_start}
 
@@ -50,7 +50,7 @@ one_list_of_lengths d least xs ys is are =
 
 -- ---- all that the lines are made of, with these lengths and these keys
 
-record IsMadeOf (da db : Dictionary) (who : Sends) (u : Unknown) (c : ℕ) (sites : List Site) (told : List Told) (lengths : List ℕ) (others : List Key) : Type 0 where
+record IsMadeOf (listed : Listed) (da db : Dictionary) (who : Sends) (u : Unknown) (c : ℕ) (sites : List Site) (told : List Told) (lengths : List ℕ) (others : List Key) : Type 0 where
   pub telling : Telling
   pub outlooks : List Outlook
   pub own : List OwnBreaks
@@ -61,11 +61,11 @@ record IsMadeOf (da db : Dictionary) (who : Sends) (u : Unknown) (c : ℕ) (site
   pub are_own : AreOwnBreaks (sides da db who u) (listed_length da who lengths) telling.own.items own
   pub head_is : HasHead da c start.head
   pub is_start : IsStartOf da db telling (costs_by da who lengths others) c start
-  pub is_listing : IsListing db (basis_of start own outlooks) sites told
+  pub is_listing : IsListingOf listed db (basis_of start own outlooks) sites told
 
-made_of : (da db : Dictionary) (who : Sends) (u : Unknown) (c : ℕ) (sites : List Site) (told : List Told) (all : AreTheLines (sides da db who u) c sites told)
-    → IsMadeOf da db who u c sites told all.made.lengths all.made.others
-made_of da db who u c sites told all = record {
+made_of : (listed : Listed) (da db : Dictionary) (who : Sends) (u : Unknown) (c : ℕ) (sites : List Site) (told : List Told) (all : AreListedFor listed (sides da db who u) c sites told)
+    → IsMadeOf listed da db who u c sites told all.made.lengths all.made.others
+made_of listed da db who u c sites told all = record {
   telling = all.made.telling;
   outlooks = all.made.outlooks;
   own = all.made.own;
@@ -82,7 +82,7 @@ made_of da db who u c sites told all = record {
 one_head : (da : Dictionary) (c : ℕ) (x y : Head) → HasHead da c x → HasHead da c y → x ≡ y
 one_head da c x y (d, at, is) (e, here, are) = same_Some x y (sym is ∙ ap (λ (z : PlainDefinition). head_in z.head) (same_Some d e (sym at ∙ here)) ∙ are)
 
-module _ (da db : Dictionary) (who : Sends) (u : Unknown) (c : ℕ) where
+module _ (listed : Listed) (listed_alike : IsListedAlike listed) (da db : Dictionary) (who : Sends) (u : Unknown) (c : ℕ) where
   same_basis : (s r : Start) (own : List OwnBreaks) (xs ys : List Outlook) → AreSame s r
       → (map node_in xs ≡ map node_in ys) × (map lines_in xs ≡ map lines_in ys) → basis_of s own xs ≡ basis_of r own ys
   same_basis s r own xs ys same both = λ i. record {
@@ -96,29 +96,29 @@ module _ (da db : Dictionary) (who : Sends) (u : Unknown) (c : ℕ) where
   }
 
   module _ (lengths : List ℕ) (others : List Key) (sites more : List Site) (told lines : List Told) where
-    one_making : IsMadeOf da db who u c sites told lengths others → IsMadeOf da db who u c more lines lengths others → (sites ≡ more) × (told ≡ lines)
+    one_making : IsMadeOf listed da db who u c sites told lengths others → IsMadeOf listed da db who u c more lines lengths others → (sites ≡ more) × (told ≡ lines)
     one_making is are =
-        let listed = listed_length da who lengths in
+        let floor = listed_length da who lengths in
         let other = other_length da who lengths in
         let telling = one_telling da db who u is.telling are.telling is.is_telling are.is_telling in
         let keys = ap (λ (all : List Own). map (λ (own : Own). own.key) all) telling.0 in
-        let outlooks = one_list_of_outlooks (costs listed other others) is.telling are.telling telling.1 da db is.outlooks are.outlooks
+        let outlooks = one_list_of_outlooks (costs floor other others) is.telling are.telling telling.1 da db is.outlooks are.outlooks
         (is.are_outlooks.0 ∙ keys ∙ sym are.are_outlooks.0) is.are_outlooks.1 are.are_outlooks.1 is.have_lines are.have_lines in
-        let own = all_alike da db who u listed are.own is.own (are.are_own.keys ∙ sym keys ∙ sym is.are_own.keys) are.are_own.each is.are_own.each in
+        let own = all_alike da db who u floor are.own is.own (are.are_own.keys ∙ sym keys ∙ sym is.are_own.keys) are.are_own.each is.are_own.each in
         let head = one_head da c is.start.head are.start.head is.head_is are.head_is in
         let start = one_start da db (costs_by da who lengths others) is.telling are.telling telling.1 c is.start are.start head is.is_start are.is_start in
         let basis = same_basis is.start are.start is.own is.outlooks are.outlooks start outlooks in
-        let by_own = listing_by db (basis_of are.start are.own are.outlooks) is.own more lines own are.is_listing in
-        let moved = subst (λ (basis : Basis). IsListing db basis more lines) (sym basis) by_own in
-        one_listing db (basis_of is.start is.own is.outlooks) sites more told lines is.is_listing moved
+        let by_own = listing_by listed listed_alike db (basis_of are.start are.own are.outlooks) is.own more lines own are.is_listing in
+        let moved = subst (λ (basis : Basis). IsListingOf listed db basis more lines) (sym basis) by_own in
+        one_listing listed db (basis_of is.start is.own is.outlooks) sites more told lines is.is_listing moved
 
-  pub one_list_of_lines : (sites more : List Site) (told lines : List Told) → AreTheLines (sides da db who u) c sites told → AreTheLines (sides da db who u) c more lines → (sites ≡ more) × (told ≡ lines)
-  one_list_of_lines sites more told lines is are =
+  pub one_list_of : (sites more : List Site) (told lines : List Told) → AreListedFor listed (sides da db who u) c sites told → AreListedFor listed (sides da db who u) c more lines → (sites ≡ more) × (told ≡ lines)
+  one_list_of sites more told lines is are =
       let least = lengths_are_one da who are.facts.least is.facts.least are.facts.are_least is.facts.are_least in
       let by_least = subst (λ (least : List ℕ). AreEntryLengths da least are.made.lengths) least are.facts.are_lengths in
       let lengths : are.made.lengths ≡ is.made.lengths = one_list_of_lengths da is.facts.least are.made.lengths is.made.lengths by_least is.facts.are_lengths in
       let by_lengths = subst (λ (all : List ℕ). AreExactlyOthers da db who all are.made.others) lengths are.facts.are_others in
       let keys : are.made.others ≡ is.made.others = one_list_of_others da db who is.made.lengths are.made.others is.made.others by_lengths is.facts.are_others in
-      let made = subst (λ (all : List ℕ). IsMadeOf da db who u c more lines all are.made.others) lengths (made_of da db who u c more lines are) in
-      let moved = subst (λ (all : List Key). IsMadeOf da db who u c more lines is.made.lengths all) keys made in
-      one_making is.made.lengths is.made.others sites more told lines (made_of da db who u c sites told is) moved
+      let made = subst (λ (all : List ℕ). IsMadeOf listed da db who u c more lines all are.made.others) lengths (made_of listed da db who u c more lines are) in
+      let moved = subst (λ (all : List Key). IsMadeOf listed da db who u c more lines is.made.lengths all) keys made in
+      one_making is.made.lengths is.made.others sites more told lines (made_of listed da db who u c sites told is) moved

@@ -11,6 +11,7 @@ pub mod Headers
 pub mod Lengths
 pub mod LevelCosts
 pub mod Listing
+pub mod Meanings
 pub mod Mended
 pub mod Nodes
 pub mod Orders
@@ -24,6 +25,7 @@ pub mod Sides
 pub mod Sites
 pub mod Telling
 pub mod TheLines
+pub mod TheMeanings
 pub mod ToldApps
 pub mod Upgrades
 pub mod Words

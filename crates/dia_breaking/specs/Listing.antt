@@ -129,9 +129,10 @@ data_length own size (Data found) = Some (with_data own size found)
 data_length own size LeastLevel = Some size
 data_length own size Undecided = Some size
 
--- what of this kind breaks, and what a message takes
+-- what there is to tell of this kind, and what a message takes
 abbrev pub own_cause : Kind → OwnBreaks → ℕ → Option (Cause × ℕ)
 own_cause kinds.Data own size = option_map (λ n. (causes.Format own.key None, n)) (data_length own size own.breaks.data)
+own_cause kinds.Meaning own size = if own.is_other then Some (causes.Meaning own.key, size) else None
 own_cause kind own size = option_map (λ cause. (cause, size)) (option_and_then (head_cause kind own.key) own.breaks.head)
 
 abbrev pub own_line : Kind → ℕ → ℕ → OwnBreaks → Reach → Option Told
@@ -178,6 +179,14 @@ lines_of db basis n steps reached =
     of_each (header_lines db basis.head basis.base) basis.readings ++ of_each command_levels basis.levels ++ of_each (group_levels n.count basis.groups) steps
     ++ own_lines kinds.Unknown n.first n.count basis.own reached ++ own_lines kinds.MBit n.first n.count basis.own reached ++ own_lines kinds.Data n.first n.count basis.own reached
 
+-- what is read as another format. That breaks nothing
+abbrev pub meanings_of : Dictionary → Basis → Numbers → List Step → List (Option Reach) → List Told
+meanings_of db basis n steps reached = own_lines kinds.Meaning n.first n.count basis.own reached
+
+-- what is told of a basis, by a walk
+abbrev pub Listed : Type 0
+Listed = Dictionary → Basis → Numbers → List Step → List (Option Reach) → List Told
+
 -- what is told stands in the order of the sites
 abbrev pub AreInOrder : List Told → List Told → Type 0
 AreInOrder all told = IsInOrderOf (λ (line : Told). line.site) all told
@@ -187,13 +196,19 @@ abbrev pub IsWalkFrom : Bool → Graph → List Step → List (Option Reach) →
 IsWalkFrom true graph steps reached = IsWalk graph steps reached
 IsWalkFrom false graph steps reached = (steps ≡ []) × (reached ≡ [])
 
--- the sites and the lines by a walk, in the order of the sites
-pub record IsListing (db : Dictionary) (basis : Basis) (sites : List Site) (told : List Told) : Type 0 where
+-- the sites and what is told of them by a walk, in the order of the sites
+pub record IsListingOf (listed : Listed) (db : Dictionary) (basis : Basis) (sites : List Site) (told : List Told) : Type 0 where
   pub steps : List Step
   pub reached : List (Option Reach)
   pub is_walk : IsWalkFrom (is_some (start_of db basis)) basis.graph steps reached
   pub sites_are : sites ≡ sites_of db basis (unwrap_or (start_of db basis) 0) (length basis.readings) steps
-  pub lines_are : AreInOrder (lines_of db basis (numbers (unwrap_or (start_of db basis) 0) (length basis.readings)) steps reached) told
+  pub lines_are : AreInOrder (listed db basis (numbers (unwrap_or (start_of db basis) 0) (length basis.readings)) steps reached) told
+
+abbrev pub IsListing : Dictionary → Basis → List Site → List Told → Type 0
+IsListing db basis sites told = IsListingOf lines_of db basis sites told
+
+abbrev pub AreMeanings : Dictionary → Basis → List Site → List Told → Type 0
+AreMeanings db basis sites told = IsListingOf meanings_of db basis sites told
 
 -- from one basis there is one list of sites, and one of lines
 abbrev pub ListingsAreOne : Type 0

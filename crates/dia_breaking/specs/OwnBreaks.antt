@@ -1,5 +1,5 @@
 -- What AVPs break by themselves.
-use Rattle.std.specs.Prelude.{◌≡◌, ◌⊎◌, ⊤, ℕ, List, map, All, Option, Some, None, IfSome, IsSome}
+use Rattle.std.specs.Prelude.{◌≡◌, ◌⊎◌, ⊤, ℕ, List, map, All, Option, Some, None, IfSome, IsSome, IsTrue, ◌↔◌}
 use Rattle.dia_wire.specs.declared.Key.{Key}
 use Rattle.dia_breaking_avps.specs.Breaks.{IsDataBreak, IsHeadBreak}
 use Rattle.dia_breaking_avps.specs.Sent.{TakesAnyData, group_of}
@@ -9,14 +9,17 @@ use Rattle.dia_breaking.specs.declared.line.Cause.{Cause}
 use Rattle.dia_breaking.specs.declared.line.Cause.TheVariants as causes
 use Rattle.dia_breaking.specs.declared.line.Line.{Line}
 use Rattle.dia_breaking.specs.declared.own_breaks.OwnBreaks.{OwnBreaks}
+use Rattle.dia_breaking.specs.Meanings.{IsReadAsOther}
 use Rattle.dia_breaking.specs.Sides.{Sides}
 
--- AVPs of the key break so, and have this length at least, where a rule lists them; where A sees levels in them and the data fit, B takes any data
+-- AVPs of the key break so, and have this length at least, where a rule lists them; where A sees levels in them and the data fit, B takes any data;
+-- and it is known whether they are read as another format
 pub record IsOwnBreaks (s : Sides) (length : Key → ℕ) (own : OwnBreaks) : Type 0 where
   pub least : own.least ≡ length own.key
   pub head : IsHeadBreak s.sender s.receiver s.sends s.unknown own.key own.breaks.head
   pub content : IsDataBreak s.sender s.receiver s.sends s.unknown own.key own.breaks.data
   pub taken : IsSome (group_of s.sender own.key) → own.breaks.data ≡ Fits → TakesAnyData s.receiver own.key
+  pub other : IsTrue own.is_other ↔ IsReadAsOther s own.key
 
 -- so do those of which there is something to tell
 pub record AreOwnBreaks (s : Sides) (length : Key → ℕ) (told : List Own) (own : List OwnBreaks) : Type 0 where

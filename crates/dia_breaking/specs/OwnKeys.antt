@@ -4,7 +4,7 @@ use Rattle.std.specs.List.{filter_map, list_any}
 use Rattle.dia_wire.specs.declared.Key.{Key}
 use Rattle.dia_book.specs.Keys.{same_key}
 use Rattle.dia_breaking.specs.declared.line.Cause.{Cause}
-use Rattle.dia_breaking.specs.declared.line.Cause.TheVariants.{Command, Application, Proxiable, Level, Unknown, MBit, Format, LevelAsLeaf, Unproved}
+use Rattle.dia_breaking.specs.declared.line.Cause.TheVariants.{Command, Application, Proxiable, Level, Unknown, MBit, Format, LevelAsLeaf, Meaning, Unproved}
 use Rattle.dia_breaking.specs.declared.line.Line.{Line}
 
 -- the key of the AVP, where the cause is of an AVP by itself
@@ -17,6 +17,7 @@ own_key (Unknown key m) = Some key
 own_key (MBit key m) = Some key
 own_key (Format key found) = Some key
 own_key (LevelAsLeaf key) = Some key
+own_key (Meaning key) = None
 own_key Unproved = None
 
 abbrev pub own_keys : List Line → List Key

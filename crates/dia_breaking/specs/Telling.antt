@@ -1,5 +1,6 @@
--- The keys of which there is something to tell: AVPs that break by themselves, or in which both dictionaries see a level.
-use Rattle.std.specs.Prelude.{◌≡◌, ◌⊎◌, ℕ, Bool, true, false, ◌&&◌, ◌||◌, if◌then◌else◌, List, [], ◌∷◌, ◌++◌, length, Option, Some, None, option_and_then, is_some, IsSome, slice_get, Contains, All, map, filter, position, ◌↔◌}
+-- The keys of which there is something to tell: AVPs that break by themselves, in which both dictionaries see a level, or that are read as another
+-- format.
+use Rattle.std.specs.Prelude.{◌≡◌, ◌⊎◌, ℕ, Bool, true, false, ◌&&◌, ◌||◌, if◌then◌else◌, List, [], ◌∷◌, ◌++◌, length, Option, Some, None, option_and_then, is_some, IsSome, slice_get, Contains, All, map, filter, position, IsTrue, ◌↔◌}
 use Rattle.std.specs.HashMap.{get}
 use Rattle.dia_wire.specs.declared.Key.{Key}
 use Rattle.dia_book.specs.Keys.{same_key}
@@ -11,6 +12,7 @@ use Rattle.dia_breaking_avps.specs.Breaks.{AcceptsFlags}
 use Rattle.dia_breaking_avps.specs.Laws.{FitKeyAlone}
 use Rattle.dia_breaking.specs.declared.keys.Own.{Own}
 use Rattle.dia_breaking.specs.declared.keys.Telling.{Telling}
+use Rattle.dia_breaking.specs.Meanings.{IsReadAsOther}
 use Rattle.dia_breaking.specs.SentKeys.{AreSentInOrder, IsStrange}
 use Rattle.dia_breaking.specs.Sides.{Sides}
 
@@ -36,9 +38,9 @@ pub record IsToldOf (s : Sides) (key : Key) (own : Own) : Type 0 where
 abbrev pub told : Telling → Key → Option Own
 told telling key = option_and_then (slice_get telling.own.items) (get same_key telling.places key)
 
--- there is something to tell: it breaks by itself, or has a level of both
+-- there is something to tell: it breaks by itself, has a level of both, or is read as another format
 abbrev pub is_news : Own → Bool
-is_news own = own.breaks || own.is_group
+is_news own = (own.breaks || own.is_group) || own.is_other
 
 -- one more is told, if there is something to tell
 pub record Adds (own : Own) (old new : Telling) : Type 0 where
@@ -72,6 +74,7 @@ BreaksNothing da db who u key = AcceptsFlags da db who u key × (AreGroups da db
 pub record IsExactlyOwn (s : Sides) (own : Own) : Type 0 where
   pub group : own.is_group ≡ (is_some (group_of s.sender own.key) && is_some (group_of s.receiver own.key))
   pub silent : (own.breaks ≡ false) ↔ BreaksNothing s.sender s.receiver s.sends s.unknown own.key
+  pub other : IsTrue own.is_other ↔ IsReadAsOther s own.key
 
 -- what there is to tell of each of these keys, in their order
 abbrev pub AreOwnOf : Sides → List Key → List Own → Type 0

@@ -23,7 +23,7 @@ use Rattle.dia_breaking.specs.declared.start.Start.{Start}
 use Rattle.dia_breaking.specs.Exits.{AreExits, AreOutlooks}
 use Rattle.dia_breaking.specs.Headers.{AreApps, HasHead}
 use Rattle.dia_breaking.specs.Lengths.{Costs, costs_by, AreEntryLengths, AreExactlyOthers}
-use Rattle.dia_breaking.specs.Listing.{Told, IsListing, basis_of, not_shown, tells}
+use Rattle.dia_breaking.specs.Listing.{Told, Listed, IsListingOf, basis_of, lines_of, not_shown, tells}
 use Rattle.dia_breaking.specs.Nodes.{exits_in}
 use Rattle.dia_breaking.specs.Outlooks.{HaveGroupLines, group_rules}
 use Rattle.dia_breaking.specs.OwnBreaks.{AreOwnBreaks}
@@ -117,22 +117,26 @@ pub record IsStartOf (da db : Dictionary) (telling : Telling) (k : Costs) (c : �
 
 -- ---- the lines
 
--- these are the sites and the lines of the command c
-pub record AreTheLines (s : Sides) (c : ℕ) (sites : List Site) (told : List Told) : Type 0 where
+-- these are the sites of the command c, and what is told of them
+pub record AreListedFor (listed : Listed) (s : Sides) (c : ℕ) (sites : List Site) (told : List Told) : Type 0 where
   pub made : Facts
   pub start : Start
   pub facts : AreFacts s made
   pub head_is : HasHead s.sender c start.head
   pub is_start : IsStartOf s.sender s.receiver made.telling (costs_in s made) c start
-  pub is_listing : IsListing s.receiver (basis_of start made.own made.outlooks) sites told
+  pub is_listing : IsListingOf listed s.receiver (basis_of start made.own made.outlooks) sites told
+
+-- these are the sites and the lines of the command c
+abbrev pub AreTheLines : Sides → ℕ → List Site → List Told → Type 0
+AreTheLines s c sites told = AreListedFor lines_of s c sites told
 
 -- the answer is of a command with this head
 abbrev pub IsOfHead : Breaks → Head → Type 0
 IsOfHead breaks head = (breaks.code ≡ head.code) × (breaks.class ≡ head.class)
 
--- two answers are of one command, and have the same sites
+-- two answers are of one command, and have the same sites and the same meanings
 abbrev pub HaveSameSites : Breaks → Breaks → Type 0
-HaveSameSites old new = (new.command ≡ old.command) × (new.code ≡ old.code) × (new.class ≡ old.class) × (new.sites.items ≡ old.sites.items)
+HaveSameSites old new = (new.command ≡ old.command) × (new.code ≡ old.code) × (new.class ≡ old.class) × (new.sites.items ≡ old.sites.items) × (new.meanings.items ≡ old.meanings.items)
 
 -- what lines tell is all, or all but for the last line, which tells that it isn't shown that nothing else breaks; or that line stands
 -- alone, where B's side reads a level of the command

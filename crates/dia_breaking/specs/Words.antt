@@ -209,6 +209,10 @@ abbrev pub format_detail : Option PlainFormat → Option PlainFormat → List �
 format_detail sent accepted =
     option_map_or (λ numbers. ranges_text numbers ++ codes "sent, not in the list") (lacking_of (ranges_at sent) (ranges_at accepted)) (formats_text sent accepted)
 
+-- what is sent, and as what it is read
+abbrev pub readings_text : Option PlainFormat → Option PlainFormat → List ℕ
+readings_text sent read = option_map_or whole_format sent (codes "any data") ++ codes " sent, " ++ option_map_or whole_format read (codes "nothing") ++ codes " read"
+
 -- ---- lines
 
 abbrev pub flag_word : Bool → List ℕ
@@ -225,6 +229,9 @@ m_bit_text s key m = codes "m-bit " ++ avp_name s key ++ codes ": M " ++ flag_wo
 
 abbrev pub format_text : Sides → Key → List ℕ
 format_text s key = codes "format " ++ avp_name s key ++ codes ": " ++ format_detail (format_in s.sender key) (format_in s.receiver key)
+
+abbrev pub meaning_text : Sides → Key → List ℕ
+meaning_text s key = codes "meaning " ++ avp_name s key ++ codes ": " ++ readings_text (format_in s.sender key) (format_in s.receiver key)
 
 abbrev pub refused_application : Place → List ℕ
 refused_application (places.Command app read_as is_told proxiable) = codes "application " ++ decimal app ++ codes ": not accepted"
@@ -249,6 +256,7 @@ cause_text s other at (causes.Unknown key m) = codes "unknown " ++ avp_name s ke
 cause_text s other at (causes.MBit key m) = m_bit_text s key m
 cause_text s other at (causes.Format key found) = format_text s key
 cause_text s other at (causes.LevelAsLeaf key) = avp_name s key ++ codes ": " ++ formats_text (format_in s.sender key) (format_in s.receiver key)
+cause_text s other at (causes.Meaning key) = meaning_text s key
 cause_text s other at causes.Unproved = codes "-: nothing more found, not proved"
 
 abbrev pub standing_text : Standing → List ℕ

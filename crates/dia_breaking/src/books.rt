@@ -7,6 +7,7 @@ ghost use Rattle.dia_data.specs.Plain.{plain_format};
 ghost use Rattle.dia_check.specs.Valid.{is_listed};
 ghost use Rattle.dia_rules.specs.Rules.{rule_of, rules_in, wildcard_of};
 ghost use Rattle.dia_breaking_avps.specs.Sent.{group_of};
+ghost use Rattle.dia_breaking.specs.Meanings.{m_rule_in};
 ghost use Rattle.dia_breaking.specs.Words.{format_in, name_in};
 
 use dia_book::{Book, Class, DRule, DefId, Format, Key, MRule, Slot};
@@ -44,7 +45,9 @@ pub(crate) fn format_of<B: Book>(book: &B, key: Key) -> Option<&Format>
     Some(book.format(entry))
 }
 
-pub(crate) fn m_rule_of<B: Book>(book: &B, key: Key) -> Option<MRule> {
+pub(crate) fn m_rule_of<B: Book>(book: &B, key: Key) -> Option<MRule>
+    ensures { result ≡ m_rule_in (B.meaning book.now) key }
+{
     let entry = book.avp(key)?;
     Some(book.rule(entry))
 }

@@ -52,8 +52,8 @@ impl<'a, A: Book, B: Book> Upgrade<'a, A, B> {
         Ok(found)
     }
 
-    /// Whether it is shown that each message of a command with this head that is free of the lines is valid under B, also once its
-    /// header is mended, by the sites that a walk has found. The error comes only where memory was refused.
+    /// Whether it is shown that each message of a command with this head that is free of the lines is valid under B, also once
+    /// its header is mended, by the sites that a walk has found. The error comes only where memory was refused.
     fn is_certified(&self, alloc: Global, head: &Head, found: &Breaks) -> Result<bool, AllocError>
         requires { HasHead (sides_of self.now).sender found.now.command head.now }
         ensures free { IfOk result (λ yes. IsTrue yes → ∥ AreValidWhereFree (sides_of self.now) (answer_of found.now) ∥₁) }

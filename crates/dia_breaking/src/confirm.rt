@@ -26,8 +26,8 @@ const MOST_CHECKED_TOGETHER: u64 = 1 << 24;
 
 impl<'a, A: Book, B: Book> Upgrade<'a, A, B> {
     /// The message of a line, where checks under both dictionaries show that it is valid under A, as one of the command, and not
-    /// under B; for a line that isn't of the header also not with its header mended for B's definition. For `Listed` it is checked
-    /// only that A knows its AVPs, and not that its rules list them. The error comes only where memory was refused.
+    /// under B; for a line that isn't of the header also not with its header mended for B's definition. For `Listed` it is
+    /// checked only that A knows its AVPs, and not that its rules list them. The error comes only where memory was refused.
     pub fn confirmed_message(
         &self,
         alloc: Global,

@@ -4,7 +4,8 @@ ghost use Rattle.std.specs.Option.{option_map, option_map_or};
 ghost use Rattle.dia_data.specs.Plain.{plain_format};
 ghost use Rattle.dia_breaking.specs.Runs.{lacking_of};
 ghost use Rattle.dia_breaking.specs.Words.{format_detail, format_word, formats_text, plain_of};
-ghost use Rattle.dia_breaking.specs.Words.{range_text, ranges_at, ranges_text, whole_format, Writes};
+ghost use Rattle.dia_breaking.specs.Words.{range_text, ranges_at, ranges_text, readings_text};
+ghost use Rattle.dia_breaking.specs.Words.{whole_format, Writes};
 
 use crate::number_lists::{lacking, numbers_of};
 use dia_book::Format;
@@ -79,6 +80,20 @@ pub(crate) fn push_formats(
     out.push_str(" sent, ")?;
     push_format_or(out, accepted, "nothing")?;
     out.push_str(" accepted")
+}
+
+/// Adds what is sent, and as what it is read.
+pub(crate) fn push_readings(
+    out: &mut String,
+    sent: Option<&Format>,
+    read: Option<&Format>,
+) -> Result<(), AllocError>
+    ensures { OnOk result (Writes out.old out.new (readings_text (plain_of sent.entry) (plain_of read.entry))) }
+{
+    push_format_or(out, sent, "any data")?;
+    out.push_str(" sent, ")?;
+    push_format_or(out, read, "nothing")?;
+    out.push_str(" read")
 }
 
 /// Adds a format, or this word where there is none.

@@ -53,7 +53,8 @@ fn push_header<B: Book>(
     reading: &Reading,
     lines: &mut Vec<Line>,
 ) -> Result<(), AllocError>
-    ensures { OnOk result (AddsTold lines.old.items lines.new.items (header_lines (B.meaning b.now) head.now base site reading.now)) }
+    ensures { OnOk result (AddsTold lines.old.items lines.new.items
+        (header_lines (B.meaning b.now) head.now base site reading.now)) }
 {
     match other_head(b, head, reading.read_as) {
         Some(other) => {

@@ -1,5 +1,6 @@
 //! The keys of the AVPs that A's side may send: all that A knows, also those of which no message can hold an AVP. There is
-//! something to tell of AVPs that break by themselves, or in which both dictionaries see a level.
+//! something to tell of AVPs that break by themselves, in which both dictionaries see a level, or that are read as another
+//! format.
 ghost use Rattle.std.specs.Prelude.{◌≡◌, ◌≤◌, ◌<◌, ◌&&◌, ◌⊎◌, ℕ, false, [], None, Contains};
 ghost use Rattle.std.specs.Prelude.{◌++◌, ◌∷◌, ◌↔◌, IfOk, OnOk, filter, is_some};
 ghost use Rattle.std.specs.HashMap.{get};
@@ -15,6 +16,7 @@ ghost use Rattle.dia_breaking.specs.Telling.{IsToldOf, told};
 
 use crate::books::group_of;
 use crate::lengths::{keys_of, stranger};
+use crate::meanings::is_read_as_other;
 use dia_book::{Book, Key};
 use dia_breaking_avps::{AvpBreaks, DataBreak, avp_breaks};
 use dia_policy::{Sends, Unknown};
@@ -29,6 +31,8 @@ pub(crate) struct Own {
     pub is_group: bool,
     /// Whether it breaks by itself.
     pub breaks: bool,
+    /// Whether B's side accepts all of its data, and reads them as another format.
+    pub is_other: bool,
 }
 
 /// What there is to tell of a key.
@@ -37,10 +41,12 @@ fn own_of<A: Book, B: Book>(a: &A, b: &B, key: Key, sends: Sends, unknown: Unkno
     ensures exact { IsExactlyOwn (sides (A.meaning a.now) (B.meaning b.now) sends unknown) result }
 {
     let breaks = avp_breaks(a, b, key, sends, unknown);
+    let is_other = is_read_as_other(a, b, key, sends, unknown, &breaks);
     Own {
         key,
         is_group: are_groups(a, b, key),
         breaks: breaks_alone(breaks),
+        is_other,
     }
 }
 
@@ -219,7 +225,7 @@ impl Telling {
     fn add(&mut self, own: Own) -> Result<(), AllocError>
         ensures { OnOk result (Adds own self.old self.new) }
     {
-        if own.breaks || own.is_group {
+        if own.breaks || own.is_group || own.is_other {
             let place = self.own.len();
             self.places.insert(own.key, place)?;
             self.own.push(own)?;

@@ -3,6 +3,7 @@ ghost use Rattle.dia_breaking.specs.Closed.{ClosedSitesAreSafe};
 ghost use Rattle.dia_breaking.specs.Confirmed.{IncludedBreakNothing, IncludedHaveNoLines};
 ghost use Rattle.dia_breaking.specs.Listing.{ListingsAreOne};
 ghost use Rattle.dia_breaking.specs.TheLines.{TheLinesAreOne};
+ghost use Rattle.dia_breaking.specs.TheMeanings.{TheMeaningsAreOne};
 
 /// At a site that is closed, by lengths that no AVP is below, nothing breaks in levels that are free of what is told there.
 pub fn closed_sites_are_safe()
@@ -24,4 +25,10 @@ pub fn listings_are_one()
 /// Two dictionaries have one list of sites and one of lines for a command, by what is sent and by the receiver's policy.
 pub fn the_lines_are_one()
     ensures { TheLinesAreOne }
+{}
+
+/// Two dictionaries have one list of AVPs that are read as another format for a command, by what is sent and by the receiver's
+/// policy.
+pub fn the_meanings_are_one()
+    ensures { TheMeaningsAreOne }
 {}

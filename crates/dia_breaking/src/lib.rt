@@ -22,6 +22,7 @@ mod level_words;
 mod levels;
 mod line;
 mod lines;
+mod meanings;
 mod mending;
 mod message;
 mod nodes;
@@ -39,6 +40,7 @@ mod words;
 pub use dia_policy::{Sends, Unknown};
 pub use laws::{
     closed_sites_are_safe, included_commands_break_nothing, listings_are_one, the_lines_are_one,
+    the_meanings_are_one,
 };
 pub use line::{Breaks, Cause, Line, Place, Site, Standing};
 pub use upgrade::Upgrade;

@@ -59,6 +59,8 @@ pub enum Cause {
     /// B reads the AVPs as leaves. Whether it accepts all data isn't known: it accepts those of a shortest AVP, or these are too
     /// long to be tried.
     LevelAsLeaf { key: Key },
+    /// Nothing breaks: B accepts all data of the AVP, and reads them as another format than A's.
+    Meaning { key: Key },
     /// It isn't shown that nothing breaks but what the lines before this one tell.
     Unproved,
 }
@@ -77,6 +79,7 @@ impl Cause {
             | Cause::Application
             | Cause::Proxiable { .. }
             | Cause::Level(_)
+            | Cause::Meaning { .. }
             | Cause::Unproved => None,
         }
     }
@@ -94,7 +97,7 @@ pub enum Standing {
     Undecided,
 }
 
-/// A way to break the messages of a command.
+/// A way to break the messages of a command, or an AVP that is read as another format.
 #[derive(Clone, Copy, Debug)]
 pub struct Line {
     /// The place of its site among those of the command.
@@ -115,6 +118,9 @@ pub struct Breaks {
     pub class: Class,
     pub sites: Vec<Site>,
     pub lines: Vec<Line>,
+    /// The AVPs that break nothing and are read as another format: a line of `Cause::Meaning` for each key, in the order of the
+    /// sites. Their messages aren't checked.
+    pub meanings: Vec<Line>,
 }
 
 impl Breaks {

@@ -5,15 +5,17 @@ ghost use Rattle.std.specs.Option.{option_map_or};
 ghost use Rattle.dia_breaking.specs.Confirmed.{EachConfirmedBreaks, HaveStandings, most_checked_together};
 ghost use Rattle.dia_breaking.specs.Free.{AreValidWhereFree};
 ghost use Rattle.dia_breaking.specs.Headers.{HasHead};
-ghost use Rattle.dia_breaking.specs.Listing.{AddsTold, IsListing, IsWalkFrom};
+ghost use Rattle.dia_breaking.specs.Listing.{AddsTold, AreMeanings, IsListing, IsWalkFrom};
 ghost use Rattle.dia_breaking.specs.Listing.{command_levels, group_levels, level_lines};
-ghost use Rattle.dia_breaking.specs.Listing.{AreInOrder, lines_in, new_line, subject, tells, with_room};
-ghost use Rattle.dia_breaking.specs.Mended.{AreValidOnceMended, EachHasMessage};
+ghost use Rattle.dia_breaking.specs.Listing.{AreInOrder, lines_in, new_line, own_lines, subject};
+ghost use Rattle.dia_breaking.specs.Listing.{tells, with_room};
+ghost use Rattle.dia_breaking.specs.Mended.{AreValidOnceMended, EachHasMessage, IsAllTold};
 ghost use Rattle.dia_breaking.specs.Orders.{IsInOrderOf, of_each};
 ghost use Rattle.dia_breaking.specs.OwnBreaks.{TellData};
 ghost use Rattle.dia_breaking.specs.Sides.{answer_of};
 ghost use Rattle.dia_breaking.specs.Sites.{group_sites};
 ghost use Rattle.dia_breaking.specs.TheLines.{AreAllOrUnproved, AreLinesOrUnproved, IsOfHead};
+ghost use Rattle.dia_breaking.specs.TheMeanings.{AreAllMeanings, AreMeaningsOrUnproved, AreMeant, HoldsOfLevels};
 ghost use Rattle.dia_breaking.specs.Upgrades.{basis_for, lines_for, sides_of};
 ghost use Rattle.dia_breaking.specs.declared.line.Line.{Line as AnyLine};
 
@@ -50,6 +52,10 @@ impl<'a, A: Book, B: Book> Upgrade<'a, A, B> {
         ensures standings { IfOk result (λ breaks. HaveStandings most_checked_together breaks.lines.items) }
         ensures formats { IfOk result (λ breaks. ∥ TellData (sides_of self.now) breaks.lines.items ∥₁) }
         ensures lines { IfOk result (λ breaks. AreLinesOrUnproved (sides_of self.now) (answer_of breaks)) }
+        ensures meanings { IfOk result
+            (λ breaks. AreMeaningsOrUnproved (sides_of self.now) (answer_of breaks) breaks.meanings.items) }
+        ensures all_meanings { IfOk result (λ breaks. IsAllTold breaks.lines.items
+            → ∥ HoldsOfLevels (sides_of self.now) (answer_of breaks) (AreMeant (sides_of self.now) breaks.meanings.items) ∥₁) }
     {
         let found = self.found(alloc, command, head)?;
         self.with_standings(alloc, found)
@@ -63,6 +69,10 @@ impl<'a, A: Book, B: Book> Upgrade<'a, A, B> {
         ensures free { IfOk result (λ breaks. ∥ AreValidWhereFree (sides_of self.now) (answer_of breaks) ∥₁) }
         ensures mended { IfOk result (λ breaks. ∥ AreValidOnceMended (sides_of self.now) (answer_of breaks) ∥₁) }
         ensures lines { IfOk result (λ breaks. AreLinesOrUnproved (sides_of self.now) (answer_of breaks)) }
+        ensures meanings { IfOk result
+            (λ breaks. AreMeaningsOrUnproved (sides_of self.now) (answer_of breaks) breaks.meanings.items) }
+        ensures all_meanings { IfOk result (λ breaks. IsAllTold breaks.lines.items
+            → ∥ HoldsOfLevels (sides_of self.now) (answer_of breaks) (AreMeant (sides_of self.now) breaks.meanings.items) ∥₁) }
         ensures formats { IfOk result (λ breaks. ∥ TellData (sides_of self.now) breaks.lines.items ∥₁) }
     {
         let start = Start::of(alloc, self, command, head)?;
@@ -78,6 +88,8 @@ impl<'a, A: Book, B: Book> Upgrade<'a, A, B> {
         ensures mended { IfOk result (λ breaks. ∥ AreValidOnceMended (sides_of self.now) (answer_of breaks) ∥₁) }
         ensures listing { IfOk result (λ breaks. AreAllOrUnproved (IsListing (sides_of self.now).receiver
             (basis_for self.now start.now) breaks.sites.items) breaks.sites.items breaks.lines.items) }
+        ensures meanings { IfOk result (λ breaks. AreAllMeanings (AreMeanings (sides_of self.now).receiver
+            (basis_for self.now start.now) breaks.sites.items) breaks.lines.items breaks.meanings.items) }
         ensures formats { IfOk result (λ breaks. ∥ TellData (sides_of self.now) breaks.lines.items ∥₁) }
     {
         let sites = command_sites(alloc, self.b, &start.head, &start.readings)?;
@@ -97,6 +109,7 @@ impl<'a, A: Book, B: Book> Upgrade<'a, A, B> {
                 class: start.head.class,
                 sites,
                 lines: unproved(alloc)?,
+                meanings: Vec::new(alloc),
             }),
         }
     }
@@ -117,16 +130,21 @@ impl<'a, A: Book, B: Book> Upgrade<'a, A, B> {
             ≡ sites.items ++ group_sites self.now.own.items numbers.first numbers.count walk.now.steps.items) }
         ensures lines { IfOk result
             (λ breaks. AreInOrder (lines_for self.now start.now numbers walk.now) (map tells breaks.lines.items)) }
+        ensures meanings { IfOk result (λ breaks. AreInOrder
+            (own_lines Kind.Meaning numbers.first numbers.count self.now.own.items walk.now.reached.items)
+            (map tells breaks.meanings.items)) }
         ensures formats { IfOk result (λ breaks. ∥ TellData (sides_of self.now) breaks.lines.items ∥₁) }
     {
         push_group_sites(&mut sites, &self.own, numbers, &walk.steps)?;
         let lines = self.lines_by(alloc, start, numbers, walk)?;
+        let meanings = self.meanings_by(alloc, numbers, walk)?;
         Ok(Breaks {
             command,
             code: start.head.code,
             class: start.head.class,
             sites,
             lines,
+            meanings,
         })
     }
 
@@ -171,6 +189,23 @@ impl<'a, A: Book, B: Book> Upgrade<'a, A, B> {
         self.push_own_lines(alloc, Kind::Data, numbers, &walk.reached, &mut lines)?;
         sort_by_site(&mut lines)?;
         Ok(lines)
+    }
+
+    /// The AVPs that a walk reaches and that are read as another format, in the order of their sites.
+    fn meanings_by(
+        &self,
+        alloc: Global,
+        numbers: Numbers,
+        walk: &Walk,
+    ) -> Result<Vec<Line>, AllocError>
+        ensures { IfOk result (λ told. AreInOrder
+            (own_lines Kind.Meaning numbers.first numbers.count self.now.own.items walk.now.reached.items)
+            (map tells told.items)) }
+    {
+        let mut meanings = Vec::new(alloc);
+        self.push_own_lines(alloc, Kind::Meaning, numbers, &walk.reached, &mut meanings)?;
+        sort_by_site(&mut meanings)?;
+        Ok(meanings)
     }
 
     /// Adds how levels of groups break B's rules, by the steps that lead to them.

@@ -32,6 +32,8 @@ enum Shown {
     Data { key: Key, data: Witness },
     /// A least one.
     Least { key: Key },
+    /// A least one, with an M flag that both rules allow.
+    Read { key: Key },
 }
 
 impl Shown {
@@ -45,6 +47,7 @@ impl Shown {
             } => Shown::Data { key, data },
             Cause::Format { key, data: None } => Shown::Least { key },
             Cause::LevelAsLeaf { key } => Shown::Least { key },
+            Cause::Meaning { key } => Shown::Read { key },
             Cause::Command => Shown::Level,
             Cause::Application => Shown::Level,
             Cause::Proxiable { .. } => Shown::Level,
@@ -59,13 +62,15 @@ impl Shown {
             Shown::Flag { key, .. } => Some(key),
             Shown::Data { key, .. } => Some(key),
             Shown::Least { key } => Some(key),
+            Shown::Read { key } => Some(key),
         }
     }
 }
 
 impl<'a, A: Book, B: Book> Upgrade<'a, A, B> {
-    /// A message for a line of a command: the levels around the line, from the command inwards, with least AVPs beside them. That
-    /// it breaks so, and that none that does is shorter, isn't proved. The error comes only where memory was refused.
+    /// A message for a line of a command, or for one of its meanings: the levels around the line, from the command inwards, with
+    /// least AVPs beside them. That it breaks so, and that none that does is shorter, isn't proved; nor that a meaning's breaks
+    /// nothing. The error comes only where memory was refused.
     pub fn message(
         &self,
         alloc: Global,
@@ -205,12 +210,8 @@ impl<'a, A: Book, B: Book> Upgrade<'a, A, B> {
         match *shown {
             Shown::Level => Ok(()),
             Shown::Least { key } => push_least(out, self.lengths.book, &self.lengths.least, key),
-            Shown::Flag { key, m } => {
-                let place = out.len();
-                push_least(out, self.lengths.book, &self.lengths.least, key)?;
-                set_m(out, place, m);
-                Ok(())
-            }
+            Shown::Flag { key, m } => self.push_with_m(out, key, m),
+            Shown::Read { key } => self.push_with_m(out, key, self.wants_m(key)),
             Shown::Data { key, data } => {
                 let bytes = data.as_slice();
                 self.push_group_head(out, key, bytes.len() as u64)?;
@@ -218,6 +219,14 @@ impl<'a, A: Book, B: Book> Upgrade<'a, A, B> {
                 push_padding(out, bytes.len())
             }
         }
+    }
+
+    /// Writes a least AVP with this M flag.
+    fn push_with_m(&self, out: &mut Vec<u8>, key: Key, m: bool) -> Result<(), AllocError> {
+        let place = out.len();
+        push_least(out, self.lengths.book, &self.lengths.least, key)?;
+        set_m(out, place, m);
+        Ok(())
     }
 
     /// Writes the head of an AVP with so many bytes of data. M is as both rules want it, where they can be met together.

@@ -6,6 +6,7 @@ ghost use Rattle.dia_breaking.specs.Sides.{sides};
 
 use crate::keys::Own;
 use crate::lengths::Lengths;
+use crate::meanings::is_read_as_other;
 use dia_book::{Book, Key};
 use dia_breaking_avps::{AvpBreaks, avp_breaks};
 use dia_breaking_levels::Costs;
@@ -20,6 +21,8 @@ pub(crate) struct OwnBreaks {
     pub least: u64,
     /// How it breaks by itself.
     pub breaks: AvpBreaks,
+    /// Whether B's side accepts all of its data, and reads them as another format.
+    pub is_other: bool,
 }
 
 /// How each of these AVPs breaks by itself, in the order of the AVPs.
@@ -50,9 +53,12 @@ fn breaks_of<A: Book, B: Book>(
     ensures breaks { IsOwnBreaks
         (sides (sender_in lengths.now) (B.meaning b.now) lengths.now.sends unknown) (costs_of lengths.now).listed result }
 {
+    let breaks = avp_breaks(lengths.book, b, key, lengths.sends, unknown);
+    let is_other = is_read_as_other(lengths.book, b, key, lengths.sends, unknown, &breaks);
     OwnBreaks {
         key,
         least: lengths.listed(key),
-        breaks: avp_breaks(lengths.book, b, key, lengths.sends, unknown),
+        breaks,
+        is_other,
     }
 }

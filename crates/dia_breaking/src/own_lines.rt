@@ -1,5 +1,5 @@
 //! The lines of AVPs that break by themselves.
-ghost use Rattle.std.specs.Prelude.{◌≡◌, ◌⊎◌, [], None, IfOk, OnOk, option_to_list, slice_get};
+ghost use Rattle.std.specs.Prelude.{◌≡◌, ◌⊎◌, [], None, IfOk, IfSome, OnOk, option_to_list, slice_get};
 ghost use Rattle.std.specs.Option.{option_map, option_map_or};
 ghost use Rattle.dia_breaking.specs.Listing.{AddsTold, head_cause, own_cause, own_line};
 ghost use Rattle.dia_breaking.specs.Listing.{own_lines, reach_at, reached_line, subject, subject_with, with_data};
@@ -24,7 +24,7 @@ use std::alloc::{AllocError, Global};
 /// The most bytes of a group whose data are tried where it is read as a leaf.
 const MOST_TRIED: u64 = 65_536;
 
-/// What breaks of an AVP by itself. The lines of a site stand in this order.
+/// What is told of an AVP by itself. The lines of a site stand in this order.
 #[derive(Clone, Copy, Debug)]
 pub(crate) enum Kind {
     /// B doesn't know it.
@@ -33,6 +33,8 @@ pub(crate) enum Kind {
     MBit,
     /// Its data.
     Data,
+    /// Nothing: its data are read as another format.
+    Meaning,
 }
 
 impl<'a, A: Book, B: Book> Upgrade<'a, A, B> {
@@ -113,6 +115,7 @@ impl<'a, A: Book, B: Book> Upgrade<'a, A, B> {
     {
         match kind {
             Kind::Data => self.data_cause(alloc, own, length),
+            Kind::Meaning => Ok(meaning_cause(own, length)),
             Kind::Unknown | Kind::MBit => match own.breaks.head {
                 Some(found) => Ok(head_cause(kind, own.key, found).map(|cause| (cause, length))),
                 None => Ok(None),
@@ -167,6 +170,18 @@ impl<'a, A: Book, B: Book> Upgrade<'a, A, B> {
         } else {
             Ok(Cause::LevelAsLeaf { key })
         }
+    }
+}
+
+/// That the data are read as another format, in a message with a least AVP.
+fn meaning_cause(own: &OwnBreaks, length: u64) -> Option<(Cause, u64)>
+    ensures told { option_map subject_with result ≡ own_cause Kind.Meaning own.now length }
+    ensures none { IfSome result (λ found. found.0 ≡ Cause.Meaning own.now.key) }
+{
+    if own.is_other {
+        Some((Cause::Meaning { key: own.key }, length))
+    } else {
+        None
     }
 }
 

@@ -8,7 +8,7 @@ ghost use Rattle.dia_breaking.specs.Confirmed.{EachConfirmedBreaks, HaveStanding
 ghost use Rattle.dia_breaking.specs.Free.{AllAreValid, AreValidWhereFree};
 ghost use Rattle.dia_breaking.specs.Headers.{AreApps};
 ghost use Rattle.dia_breaking.specs.LevelCosts.{PicksShortest};
-ghost use Rattle.dia_breaking.specs.Mended.{AreValidOnceMended, EachHasMessage};
+ghost use Rattle.dia_breaking.specs.Mended.{AreValidOnceMended, EachHasMessage, IsAllTold};
 ghost use Rattle.dia_breaking.specs.Nodes.{node_in};
 ghost use Rattle.dia_breaking.specs.OwnBreaks.{TellData};
 ghost use Rattle.dia_breaking.specs.Outlooks.{HasGroupLines, HasLinesFor};
@@ -16,6 +16,7 @@ ghost use Rattle.dia_breaking.specs.Readings.{AreOtherApps};
 ghost use Rattle.dia_breaking.specs.Sender.{costs_of, sender_in};
 ghost use Rattle.dia_breaking.specs.Sides.{answer_of, sides};
 ghost use Rattle.dia_breaking.specs.TheLines.{AreKnown, AreLinesOf, AreLinesOrUnproved, IsOfHead, facts_by};
+ghost use Rattle.dia_breaking.specs.TheMeanings.{AreMeaningsOrUnproved, AreMeant, HoldsOfLevels, IsReadAsSent};
 ghost use Rattle.dia_breaking.specs.Words.{head_at};
 
 use crate::apps::BothApps;
@@ -132,7 +133,12 @@ impl<'a, A: Book, B: Book> Upgrade<'a, A, B> {
     /// break a format is no part of that list. The standings are told line by line: a line without message is undecided; the
     /// message of another is checked, unless it is too long, or too long beside those that were checked before it. A line that
     /// is confirmed has a message that is valid under A, as one of the command, and not under B (`IsConfirmed`), and, unless the
-    /// line is of the header, not once its header is mended, too (`HasMessage`). The error comes only where memory was refused.
+    /// line is of the header, not once its header is mended, too (`HasMessage`).
+    ///
+    /// The meanings are the one list of AVPs that B's side reads as another format, though it accepts all of their data
+    /// (`AreTheMeanings`). Each key stands once, at the site to which the shortest way leads. They are no lines, and break
+    /// nothing. Where no line is `Unproved`, they are all: the other AVPs of a level that both sides read are read as they are
+    /// sent. The error comes only where memory was refused.
     pub fn breaks(&self, alloc: Global, command: DefId) -> Result<Breaks, AllocError>
         requires { command < length (definitions (sides_of self.now).sender) }
         ensures free { IfOk result (λ breaks. ∥ AreValidWhereFree (sides_of self.now) (answer_of breaks) ∥₁) }
@@ -146,20 +152,28 @@ impl<'a, A: Book, B: Book> Upgrade<'a, A, B> {
         ensures command { IfOk result (λ breaks. breaks.command ≡ command) }
         ensures head { IfSome (head_at (sides_of self.now).sender command) (λ own. IfOk result (λ breaks. IsOfHead breaks own)) }
         ensures none { head_at (sides_of self.now).sender command ≡ None
-            → IfOk result (λ breaks. (breaks.sites.items ≡ []) × (breaks.lines.items ≡ [])) }
+            → IfOk result (λ breaks. (breaks.sites.items ≡ []) × (breaks.lines.items ≡ []) × (breaks.meanings.items ≡ [])) }
         ensures lines { IfOk result (λ breaks. IsSome (head_at (sides_of self.now).sender command)
             → AreLinesOrUnproved (sides_of self.now) (answer_of breaks)) }
+        ensures meanings { IfOk result (λ breaks. IsSome (head_at (sides_of self.now).sender command)
+            → AreMeaningsOrUnproved (sides_of self.now) (answer_of breaks) breaks.meanings.items) }
+        ensures all_meanings { IfOk result (λ breaks. IsAllTold breaks.lines.items
+            → ∥ HoldsOfLevels (sides_of self.now) (answer_of breaks) (AreMeant (sides_of self.now) breaks.meanings.items) ∥₁) }
+        ensures no_meanings { IfOk result (λ breaks. IsAllTold breaks.lines.items → breaks.meanings.items ≡ []
+            → ∥ HoldsOfLevels (sides_of self.now) (answer_of breaks) (IsReadAsSent (sides_of self.now)) ∥₁) }
     {
         match head_of(self.lengths.book, command) {
             Some(head) => self.lines_of(alloc, command, &head),
             None => {
                 let lines = Vec::new(alloc);
+                let meanings = Vec::new(alloc);
                 Ok(Breaks {
                     command,
                     code: 0,
                     class: Class::Answer,
                     sites: Vec::new(alloc),
                     lines,
+                    meanings,
                 })
             }
         }

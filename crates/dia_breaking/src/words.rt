@@ -4,13 +4,13 @@ ghost use Rattle.std.specs.Option.{option_map_or};
 ghost use Rattle.dia_book.specs.Dictionary.{definitions};
 ghost use Rattle.dia_breaking.specs.Upgrades.{other_length_of, sides_of};
 ghost use Rattle.dia_breaking.specs.Words.{application_text, avp_name, cause_text, definition_name};
-ghost use Rattle.dia_breaking.specs.Words.{flag_word, format_in, format_text, formats_text, m_bit_text};
+ghost use Rattle.dia_breaking.specs.Words.{flag_word, format_in, format_text, formats_text, m_bit_text, meaning_text};
 ghost use Rattle.dia_breaking.specs.Words.{is_command, path_text, path_to, place_text, spot};
 ghost use Rattle.dia_breaking.specs.Words.{refused_application, standing_text, subject_name};
 ghost use Rattle.dia_breaking.specs.Words.{Writes, unknown_detail, words_of};
 
 use crate::books::{format_of, name_of};
-use crate::format_words::{push_format_detail, push_formats};
+use crate::format_words::{push_format_detail, push_formats, push_readings};
 use crate::line::{Breaks, Cause, Line, Place, Site, Standing};
 use crate::upgrade::Upgrade;
 use dia_book::{Book, DefId, Key};
@@ -133,6 +133,7 @@ impl<'a, A: Book, B: Book> Upgrade<'a, A, B> {
             Cause::MBit { key, m } => self.push_m_bit(out, key, m),
             Cause::Format { key, .. } => self.push_format(alloc, out, key),
             Cause::LevelAsLeaf { key } => self.push_level_as_leaf(out, key),
+            Cause::Meaning { key } => self.push_meaning(out, key),
             Cause::Unproved => out.push_str("-: nothing more found, not proved"),
         }
     }
@@ -164,6 +165,19 @@ impl<'a, A: Book, B: Book> Upgrade<'a, A, B> {
         out.push_str(": ")?;
         push_format_detail(
             alloc,
+            out,
+            format_of(self.lengths.book, key),
+            format_of(self.b, key),
+        )
+    }
+
+    fn push_meaning(&self, out: &mut String, key: Key) -> Result<(), AllocError>
+        ensures { OnOk result (Writes out.old out.new (meaning_text (sides_of self.now) key)) }
+    {
+        out.push_str("meaning ")?;
+        self.push_name(out, key)?;
+        out.push_str(": ")?;
+        push_readings(
             out,
             format_of(self.lengths.book, key),
             format_of(self.b, key),

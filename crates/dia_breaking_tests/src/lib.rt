@@ -1,5 +1,5 @@
-//! The tests of what breaks between two dictionaries, by public calls alone: `worked` of dia_breaking, `formats` and `flags` of
-//! dia_breaking_avps, and `ways` of dia_breaking_ways. There is nothing but tests.
+//! The tests of what breaks between two dictionaries, by public calls alone: `worked` and `meanings` of dia_breaking, `formats`
+//! and `flags` of dia_breaking_avps, and `ways` of dia_breaking_ways. There is nothing but tests.
 #![tactic(auto)]
 
 #[cfg(test)]
@@ -8,6 +8,8 @@ mod books;
 mod flags;
 #[cfg(test)]
 mod formats;
+#[cfg(test)]
+mod meanings;
 #[cfg(test)]
 mod ways;
 #[cfg(test)]

@@ -128,29 +128,65 @@ any | %avp X 9002 Enumerated any ( 0..127 ) $T { X } | $TEXT $T { X } => nothing
 /// Bytes of the longest message that is made, without its header.
 const LONGEST: u64 = 1_000;
 
+/// Which lines of an answer are told.
+#[derive(Clone, Copy)]
+pub enum Asked {
+    Breaks,
+    Meanings,
+}
+
+impl Asked {
+    fn lines(self, breaks: &Breaks) -> &[Line] {
+        match self {
+            Asked::Breaks => breaks.lines.as_slice(),
+            Asked::Meanings => breaks.meanings.as_slice(),
+        }
+    }
+
+    /// What is told where there are none.
+    fn none(self) -> &'static str {
+        match self {
+            Asked::Breaks => "nothing breaks\n",
+            Asked::Meanings => "no other meaning\n",
+        }
+    }
+}
+
 /// What the side of A sends, and what is told then, for the dictionaries of a row.
 #[derive(Clone, Copy)]
 struct Task<'a> {
+    asked: Asked,
     sends: Sends,
     wanted: &'a str,
     row: &'a Row<'a>,
 }
 
 /// Checks each row of a text.
-fn check_rows(rt: &(impl AllocGlobal + Abort), names: &mut Names, text: &str) -> Result<(), Fail> {
+pub fn check_rows(
+    rt: &(impl AllocGlobal + Abort),
+    names: &mut Names,
+    asked: Asked,
+    text: &str,
+) -> Result<(), Fail> {
     for line in text.lines() {
         if let Some(row) = names.row(line)? {
-            check_row(rt, names, &row)?;
+            check_row(rt, names, asked, &row)?;
         }
     }
     Ok(())
 }
 
 /// Checks a row.
-fn check_row(rt: &(impl AllocGlobal + Abort), names: &Names, row: &Row<'_>) -> Result<(), Fail> {
+fn check_row(
+    rt: &(impl AllocGlobal + Abort),
+    names: &Names,
+    asked: Asked,
+    row: &Row<'_>,
+) -> Result<(), Fail> {
     let wanted = wanted_of(rt.alloc(), names, row.wanted)?;
     let sends = sends_of(field(row.call, 0))?;
     let task = Task {
+        asked,
         sends,
         wanted: wanted.as_str(),
         row,
@@ -191,24 +227,25 @@ fn check_pair<A: Book, B: Book>(
     task: Task<'_>,
 ) -> Result<(), Fail> {
     let upgrade = Upgrade::new(rt.alloc(), a, b, task.sends, Unknown::Kept)?;
-    let found = lines_of(rt.alloc(), &upgrade)?;
+    let found = lines_of(rt.alloc(), &upgrade, task.asked)?;
     same(rt, found.as_str(), task.wanted, task.row.line);
     Ok(())
 }
 
-/// The lines of all commands, or that nothing breaks.
+/// The lines of all commands, or that there are none.
 fn lines_of<A: Book, B: Book>(
     alloc: Global,
     upgrade: &Upgrade<'_, A, B>,
+    asked: Asked,
 ) -> Result<String, AllocError> {
     let mut text = String::new(alloc);
     let a = upgrade.sender();
     for place in 0..a.commands() {
         let breaks = upgrade.breaks(alloc, a.command_at(place))?;
-        push_lines(alloc, &mut text, upgrade, &breaks)?;
+        push_lines(alloc, &mut text, upgrade, asked, &breaks)?;
     }
     if text.is_empty() {
-        text.push_str("nothing breaks\n")?;
+        text.push_str(asked.none())?;
     }
     Ok(text)
 }
@@ -218,9 +255,10 @@ fn push_lines<A: Book, B: Book>(
     alloc: Global,
     text: &mut String,
     upgrade: &Upgrade<'_, A, B>,
+    asked: Asked,
     breaks: &Breaks,
 ) -> Result<(), AllocError> {
-    for line in &breaks.lines {
+    for line in asked.lines(breaks) {
         upgrade.push_words(alloc, text, breaks, line)?;
         text.push_str("\n  ")?;
         push_message(alloc, text, upgrade, breaks, line)?;
@@ -272,5 +310,5 @@ fn push_without_blanks(text: &mut String, message: &str) -> Result<(), AllocErro
 #[test]
 fn tells_what_breaks(rt: HostRuntime) -> Result<(), Fail> {
     let mut names = Names::new(rt.alloc());
-    check_rows(&rt, &mut names, ROWS)
+    check_rows(&rt, &mut names, Asked::Breaks, ROWS)
 }

@@ -22,7 +22,7 @@ loop-own-preserved g c =
           c.loop-own.invariant.1 c.in_ok-inner.ensures.lines,
       one_outlook_more da db telling k i _ _ c.loop-own.outlooks.items _ c.in_ok-push.ensures.items
           (ap (λ (xs : List Own). slice_get xs i) (sym c.deref-own-items.ensures.value)
-          ∙ slice_get-get_or c.deref-own-items.result.now i (record { key = record { code = 0; vendor = 0 }; is_group = false; breaks = false }) (omega arith)) refl c.loop-own.invariant.2
+          ∙ slice_get-get_or c.deref-own-items.result.now i (record { key = record { code = 0; vendor = 0 }; is_group = false; breaks = false; is_other = false }) (omega arith)) refl c.loop-own.invariant.2
           (record { other_is = c.other.ensures; inner_is = c.in_ok-inner.ensures.exact }),
     )
 

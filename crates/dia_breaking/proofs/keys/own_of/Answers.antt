@@ -21,4 +21,5 @@ returns-clause-exact g c =
           exactly_silent (g.A.Book.meaning c.args.a.now)
           (g.B.Book.meaning c.args.b.now) c.args.sends c.args.unknown c.args.key breaks.result _ breaks.ensures.head breaks.ensures.content breaks.ensures.levels
           c.breaks_alone.ensures.0 c.breaks_alone.ensures.1;
+      other = c.is_read_as_other-is_other.ensures;
     }

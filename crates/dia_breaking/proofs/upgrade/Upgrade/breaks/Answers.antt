@@ -14,6 +14,7 @@ use Rattle.dia_breaking.specs.Upgrades.{sides_of}
 use Rattle.dia_breaking.specs.declared.line.Line.{Line}
 use Rattle.dia_breaking.specs.declared.line.Standing.TheVariants.{Confirmed}
 use Rattle.dia_breaking.specs.Words.{head_at}
+use Rattle.dia_breaking.proofs.AllMeanings.{none_meant}
 use Rattle.dia_breaking.proofs.FoundLines.{head_there, none_there}
 use Rattle.dia_breaking.proofs.FreeOfLines.{all_valid, nothing_told, unsent_mended, unsent_valid}
 use Rattle.dia_breaking.proofs.Lists.{none_of, when_ok, when_two}
@@ -38,6 +39,15 @@ returns-in-Some-clause-all g c =
 
 pub returns-in-Some-clause-lines : goal.returns-in-Some-clause-lines
 returns-in-Some-clause-lines g c = when_ok _ _ c.lines_of.result (λ told lines some. lines) c.lines_of.ensures.lines
+
+pub returns-in-Some-clause-meanings : goal.returns-in-Some-clause-meanings
+returns-in-Some-clause-meanings g c = when_ok _ _ c.lines_of.result (λ told meanings some. meanings) c.lines_of.ensures.meanings
+
+pub returns-in-Some-clause-no_meanings : goal.returns-in-Some-clause-no_meanings
+returns-in-Some-clause-no_meanings g c =
+    let s = sides_of c.args.self.now in
+    when_ok _ _ c.lines_of.result (λ told all shown none. ∥∥₁_map (all shown)
+    (none_meant s.sender s.receiver s.sends s.unknown told.command told.sites.items told.lines.items told.meanings.items none)) c.lines_of.ensures.all_meanings
 
 pub returns-in-Some-clause-head : goal.returns-in-Some-clause-head
 returns-in-Some-clause-head g c =
@@ -70,6 +80,9 @@ returns-in-None g c =
       formats = ∣ none_of (λ (line : Line). TellsData s line.cause) c.new-lines.result.items c.new-lines.ensures.items ∣₁;
       command = refl;
       head = none_there _ (head_at da c.args.command) none;
-      none = λ none. (c.new.ensures.items, c.new-lines.ensures.items);
+      none = λ none. (c.new.ensures.items, c.new-lines.ensures.items, c.new-meanings.ensures.items);
       lines = λ some. absurd (true≢false (sym some ∙ ap (λ (o : Option Head). is_some o) none));
+      meanings = λ some. absurd (true≢false (sym some ∙ ap (λ (o : Option Head). is_some o) none));
+      all_meanings = λ shown. ∣ (λ bytes sent. absurd (unsent bytes sent)) ∣₁;
+      no_meanings = λ shown empty. ∣ (λ bytes sent. absurd (unsent bytes sent)) ∣₁;
     }

@@ -1,14 +1,16 @@
-use Rattle.std.proofs.Common.{[], map, is_some, sym, refl, ap, subst, inr, ◌∙◌}
+use Rattle.std.proofs.Common.{List, [], map, is_some, sym, refl, ap, subst, inr, ◌∙◌}
 use Rattle.std.specs.Prelude.{Contains, IfSome, length}
 use Rattle.std.proofs.Math.Logic.{∥∥₁_map}
 use Rattle.std.proofs.lemmas.List.Elements.{All-nil, Contains-push}
 use Rattle.dia_breaking_ways.specs.declared.graph.Walk.{Walk}
 use Rattle.dia_breaking.specs.declared.line.Cause.TheVariants as causes
 use Rattle.dia_breaking.specs.declared.line.Line.{Line}
+use Rattle.dia_breaking.specs.declared.line.Site.{Site}
 use Rattle.dia_breaking.specs.Headers.{HasHead}
-use Rattle.dia_breaking.specs.Listing.{IsListing, IsWalkFrom, new_line, tells}
+use Rattle.dia_breaking.specs.Listing.{AreMeanings, IsListing, IsWalkFrom, lines_of, meanings_of, new_line, tells}
 use Rattle.dia_breaking.specs.OwnBreaks.{TellsData}
 use Rattle.dia_breaking.specs.Sites.{command_sites, first_read}
+use Rattle.dia_breaking.specs.TheMeanings.{complete, unshown}
 use Rattle.dia_breaking.specs.Upgrades.{basis_for, sides_of}
 use Rattle.dia_breaking.proofs.FormatData.{data_more}
 use Rattle.dia_breaking.proofs.FoundLines.{with_unproved}
@@ -32,11 +34,34 @@ returns-in_ok-found-in-Some-clause-listing g c =
     let walked = subst (λ begins. IfSome c.in_ok-walk.field-0 (λ (w : Walk). IsWalkFrom begins basis.graph w.steps.items w.reached.items)) c.is_some.ensures c.in_ok-walk.ensures.walk in
     let here = subst (λ found. IfSome found (λ (w : Walk). IsWalkFrom (is_some first) basis.graph w.steps.items w.reached.items)) c.in-Some.is walked in
     let sites = c.in_ok-sites.ensures ∙ ap (λ readings. command_sites db start.head readings) c.deref.ensures.value in
-    let listing = listing_of db basis first c.unwrap_or.result c.count_of.result c.in_ok-sites.sites.items walk.steps.items walk.reached.items found.sites.items (map tells found.lines.items)
+    let listing = listing_of lines_of db basis first c.unwrap_or.result c.count_of.result c.in_ok-sites.sites.items walk.steps.items walk.reached.items found.sites.items (map tells found.lines.items)
     (c.first_read-first.ensures ∙ ap first_read (c.deref-2.ensures.value ∙ sites)) c.unwrap_or.ensures (c.count_of.ensures ∙ ap length c.deref-3.ensures.value) sites here
     c.in_ok-found-in-Some.ensures.sites c.in_ok-found-in-Some.ensures.lines in
     when_two _ _ _ c.unless_certified.result (λ breaks same kept. with_unproved (IsListing db basis) found.sites.items breaks.sites.items found.lines.items breaks.lines.items same.3 kept listing)
     c.unless_certified.ensures.same c.unless_certified.ensures.kept
+
+pub returns-in_ok-found-in-Some-clause-meanings : goal.returns-in_ok-found-in-Some-clause-meanings
+returns-in_ok-found-in-Some-clause-meanings g c =
+    let up = c.args.self.now in
+    let db = (sides_of up).receiver in
+    let start = c.args.start.now in
+    let basis = basis_for up start in
+    let walk = c.in-Some.walk in
+    let first = c.first_read-first.result in
+    let found = c.in_ok-found-in-Some.found in
+    let walked = subst (λ begins. IfSome c.in_ok-walk.field-0 (λ (w : Walk). IsWalkFrom begins basis.graph w.steps.items w.reached.items)) c.is_some.ensures c.in_ok-walk.ensures.walk in
+    let here = subst (λ found. IfSome found (λ (w : Walk). IsWalkFrom (is_some first) basis.graph w.steps.items w.reached.items)) c.in-Some.is walked in
+    let sites = c.in_ok-sites.ensures ∙ ap (λ readings. command_sites db start.head readings) c.deref.ensures.value in
+    let listing = listing_of meanings_of db basis first c.unwrap_or.result c.count_of.result c.in_ok-sites.sites.items walk.steps.items walk.reached.items found.sites.items (map tells found.meanings.items)
+    (c.first_read-first.ensures ∙ ap first_read (c.deref-2.ensures.value ∙ sites)) c.unwrap_or.ensures (c.count_of.ensures ∙ ap length c.deref-3.ensures.value) sites here
+    c.in_ok-found-in-Some.ensures.sites c.in_ok-found-in-Some.ensures.meanings in
+    when_ok _ _ c.unless_certified.result
+    (λ breaks same. complete (subst (λ (at : List Site). AreMeanings db basis at (map tells breaks.meanings.items)) (sym same.3)
+    (subst (λ (lines : List Line). AreMeanings db basis found.sites.items (map tells lines)) (sym same.4) listing)))
+    c.unless_certified.ensures.same
+
+pub returns-in_ok-unproved-in-None-clause-meanings : goal.returns-in_ok-unproved-in-None-clause-meanings
+returns-in_ok-unproved-in-None-clause-meanings g c = unshown (ap (map tells) c.in_ok-unproved-in-None.ensures) c.new.ensures.items
 
 pub returns-in_ok-unproved-in-None-clause-free : goal.returns-in_ok-unproved-in-None-clause-free
 returns-in_ok-unproved-in-None-clause-free g c =

@@ -2,13 +2,16 @@ use Rattle.std.proofs.Common.{ℕ, List, subst, sym, ◌∙◌}
 use Rattle.std.proofs.Math.Logic.{∥∥₁_map}
 use Rattle.dia_breaking.specs.Confirmed.{EachConfirmedBreaks}
 use Rattle.dia_breaking.specs.Free.{AreValidWhereFree}
+use Rattle.dia_breaking.specs.declared.line.Line.{Line}
 use Rattle.dia_breaking.specs.declared.line.Site.{Site}
 use Rattle.dia_breaking.specs.Mended.{AreValidOnceMended, EachHasMessage}
-use Rattle.dia_breaking.specs.Sides.{answer}
+use Rattle.dia_breaking.specs.Sides.{answer, answer_of}
 use Rattle.dia_breaking.specs.TheLines.{AreLinesOrUnproved, AreTheLines}
+use Rattle.dia_breaking.specs.TheMeanings.{AreMeaningsOrUnproved, AreMeant, AreTheMeanings, HoldsOfLevels}
 use Rattle.dia_breaking.specs.Upgrades.{sides_of}
+use Rattle.dia_breaking.proofs.AllMeanings.{all_told}
 use Rattle.dia_breaking.proofs.FormatData.{data_kept}
-use Rattle.dia_breaking.proofs.FoundLines.{lines_kept}
+use Rattle.dia_breaking.proofs.FoundLines.{lines_kept, meanings_kept}
 use Rattle.dia_breaking.proofs.FreeOfLines.{still_mended, still_valid}
 use Rattle.dia_breaking.proofs.Lists.{when_ok, when_two}
 use Rattle.dia_breaking.proofs.ToldLists.{told_kept}
@@ -39,6 +42,18 @@ returns g c =
           (λ told same kept. subst (λ (at : List Site). AreLinesOrUnproved s (answer told.command at told.lines.items)) (sym same.3)
           (subst (λ (number : ℕ). AreLinesOrUnproved s (answer number found.sites.items told.lines.items)) (sym same.0)
           (lines_kept (λ lines. ∥ AreTheLines s found.command found.sites.items lines ∥₁) found.sites.items found.lines.items told.lines.items kept c.in_ok-found.ensures.lines)))
+          c.with_standings.ensures.same c.with_standings.ensures.kept;
+      meanings = when_two _ _ _ c.with_standings.result
+          (λ told same kept. subst (λ (at : List Site). AreMeaningsOrUnproved s (answer told.command at told.lines.items) told.meanings.items) (sym same.3)
+          (subst (λ (number : ℕ). AreMeaningsOrUnproved s (answer number found.sites.items told.lines.items) told.meanings.items) (sym same.0)
+          (meanings_kept (λ all. ∥ AreTheMeanings s found.command found.sites.items all ∥₁) found.lines.items told.lines.items found.meanings.items told.meanings.items kept same.4
+          c.in_ok-found.ensures.meanings)))
+          c.with_standings.ensures.same c.with_standings.ensures.kept;
+      all_meanings = when_two _ _ _ c.with_standings.result
+          (λ told same kept shown. ∥∥₁_map (c.in_ok-found.ensures.all_meanings (all_told told.lines.items found.lines.items kept shown)) (λ meant.
+          subst (λ (meanings : List Line). HoldsOfLevels s (answer_of told) (AreMeant s meanings)) (sym same.4)
+          (subst (λ (at : List Site). HoldsOfLevels s (answer told.command at told.lines.items) (AreMeant s found.meanings.items)) (sym same.3)
+          (subst (λ (number : ℕ). HoldsOfLevels s (answer number found.sites.items told.lines.items) (AreMeant s found.meanings.items)) (sym same.0) meant))))
           c.with_standings.ensures.same c.with_standings.ensures.kept;
       each = when_ok _ _ c.with_standings.result (λ told h. subst (λ (number : ℕ). EachConfirmedBreaks s number told.lines.items) own h) c.with_standings.ensures.each;
       each_mended = when_two _ _ _ c.with_standings.result

@@ -57,4 +57,4 @@ pub returns-clause-standings : goal.returns-clause-standings
 returns-clause-standings g c = c.loop-line.invariant.standings
 
 pub returns-clause-same : goal.returns-clause-same
-returns-clause-same g c = (refl, refl, refl, refl)
+returns-clause-same g c = (refl, refl, refl, refl, refl)

@@ -1,0 +1,267 @@
+-- The meanings that are found are all.
+use Rattle.std.proofs.Common.{◌≡◌, ℕ, zero, suc, ◌-◌, ◌<◌, ◌≤◌, Bool, true, false, List, [], ◌∷◌, ◌++◌, length, map, Option, Some, None, refl, sym, ap, subst, ◌∙◌, arith, inl, inr}
+use Rattle.std.specs.Prelude.{◌⊎◌, ◌==◌, nat_le, is_some, IsSome, Contains, filter, position, slice_get, option_and_then, option_to_list, unwrap_or, if◌then◌else◌}
+use Rattle.std.specs.Option.{option_map, option_map_or}
+use Rattle.std.proofs.lemmas.Bool.{both_ways, cases_order, eq-eqb, le-leb}
+use Rattle.std.proofs.lemmas.Option.{none-some, same_Some, slice_get_within}
+use Rattle.dia_wire.specs.declared.Key.{Key}
+use Rattle.dia_wire.specs.Wire.{PlainAvp, key_of}
+use Rattle.dia_data.specs.Plain.{PlainFormat}
+use Rattle.dia_book.specs.declared.DRule.{DRule}
+use Rattle.dia_book.specs.Dictionary.{Dictionary, DictEntry, PlainDefinition, IsDictionary, definitions, entry_of}
+use Rattle.dia_book.proofs.Members.{at_filter_map, at_map, into_map, position-is_some}
+use Rattle.dia_policy.specs.declared.Unknown.{Unknown}
+use Rattle.dia_policy.specs.declared.Sends.{Sends}
+use Rattle.dia_check.specs.Valid.{known}
+use Rattle.dia_rules.specs.Rules.{rules_in}
+use Rattle.dia_rules.proofs.Members.{IsIn, all_of, at_in, contains_in, in_append, in_at, in_contains, in_filter, in_left, in_right, into_filter}
+use Rattle.dia_breaking_sites.specs.Sent.{IsSent}
+use Rattle.dia_breaking_sites.specs.Selection.{max_body}
+use Rattle.dia_breaking_shortest.specs.Floors.{AreFloors, total}
+use Rattle.dia_breaking_ways.specs.Walks.{IsWalk, plain_exits}
+use Rattle.dia_breaking_ways.specs.declared.graph.Step.{Step}
+use Rattle.dia_breaking_ways.specs.declared.graph.Reach.{Reach}
+use Rattle.dia_breaking.specs.declared.exits.Outlook.{Outlook}
+use Rattle.dia_breaking.specs.declared.keys.Own.{Own}
+use Rattle.dia_breaking.specs.declared.keys.Telling.{Telling}
+use Rattle.dia_breaking.specs.declared.line.Cause.{Cause}
+use Rattle.dia_breaking.specs.declared.line.Cause.TheVariants as causes
+use Rattle.dia_breaking.specs.declared.line.Line.{Line}
+use Rattle.dia_breaking.specs.declared.line.Site.{Site}
+use Rattle.dia_breaking.specs.declared.own_breaks.OwnBreaks.{OwnBreaks}
+use Rattle.dia_breaking.specs.declared.own_lines.Kind.TheVariants as kinds
+use Rattle.dia_breaking.specs.declared.start.Start.{Start}
+use Rattle.dia_breaking.specs.Exits.{AreExits, AreOutlooks}
+use Rattle.dia_breaking.specs.Headers.{IsCommandPlace}
+use Rattle.dia_breaking.specs.Lengths.{costs_by}
+use Rattle.dia_breaking.specs.LevelCosts.{PicksShortest}
+use Rattle.dia_breaking.specs.Listing.{Told, Basis, AreMeanings, IsWalkFrom, not_shown, unchecked, basis_of, own_cause, own_line, own_lines, reach_at, reached_line, sites_of, start_of, subject, tells, with_room}
+use Rattle.dia_breaking.specs.Confirmed.{told_of}
+use Rattle.dia_breaking.specs.Meanings.{IsReadAsOther}
+use Rattle.dia_breaking.specs.Mended.{IsAllTold}
+use Rattle.dia_breaking.specs.Orders.{IsInOrderOf, joined, of_each}
+use Rattle.dia_breaking.specs.OwnBreaks.{AreOwnBreaks, IsOwnBreaks}
+use Rattle.dia_breaking.specs.Sites.{command_sites, group_site, group_sites, site_number}
+use Rattle.dia_breaking.specs.Telling.{IsExactTelling}
+use Rattle.dia_breaking.specs.TheLines.{AreFacts, Facts, IsStartOf, costs_in}
+use Rattle.dia_breaking.specs.TheMeanings.{AreAllMeanings, complete, unshown, AreMeant, HoldsOfLevels, IsMeant, IsReadAsSent}
+use Rattle.dia_breaking.specs.Words.{format_in}
+use Rattle.dia_breaking.specs.Sides.{sides, answer}
+use Rattle.dia_breaking.proofs.ClosedSites.{sent_keys}
+use Rattle.dia_breaking.proofs.Lists.{contains_at, same_image}
+use Rattle.dia_breaking.proofs.ReadLevels.{AtLevel, each_level, way_of}
+use Rattle.dia_breaking.proofs.Reached.{Kept, listed, other_kept}
+use Rattle.dia_breaking.proofs.Shortest.{first_is_shortest}
+use Rattle.dia_breaking.proofs.ToldLists.{told_kept}
+use Rattle.dia_breaking.proofs.TooLong.{body_bytes, body_within}
+
+-- ---- lists
+
+in_part : {Y : Type 0} (part : ℕ → List Y) (y : Y) (n i : ℕ) → i < n → IsIn y (part i) → IsIn y (joined part n)
+in_part part y zero i lt h = absurd (omega (arith, lt))
+in_part part y (suc n) i lt h = by (cases_order i n) (in_part part y n i)
+  where
+    by : (i ≡ n) ⊎ ((i < n) ⊎ (n < i)) → (i < n → IsIn y (part i) → IsIn y (joined part n)) → IsIn y (joined part n ++ part n)
+    by (inl e) more = in_right (joined part n) (part n) y (subst (λ (m : ℕ). IsIn y (part m)) e h)
+    by (inr (inl less)) more = in_left (joined part n) (part n) y (more less h)
+    by (inr (inr past)) more = absurd (omega (arith, past, lt))
+
+in_each : {X Y : Type 0} (f : ℕ → X → List Y) (xs : List X) (i : ℕ) (x : X) (y : Y) → slice_get xs i ≡ Some x → IsIn y (f i x) → IsIn y (of_each f xs)
+in_each {X} f xs i x y at h =
+    in_part (λ i. option_map_or (f i) (slice_get xs i) []) y (length xs) i (slice_get_within xs i x at) (subst (λ (o : Option X). IsIn y (option_map_or (f i) o [])) (sym at) h)
+
+in_sorted : {X : Type 0} (number : X → ℕ) (all sorted : List X) (x : X) → IsInOrderOf number all sorted → IsIn x all → IsIn x sorted
+in_sorted {X} number all sorted x order i =
+    let p : X → Bool = λ y. number y == number x in
+    let kept = into_filter p all x i (eq-eqb (number x) (number x) refl) in
+    (in_filter p sorted x (subst (λ (xs : List X). IsIn x xs) (sym (order.each (number x))) kept)).0
+
+-- ---- what lines tell
+
+same_cause : (key : Key) (cause : Cause) → subject cause ≡ causes.Meaning key → cause ≡ causes.Meaning key
+same_cause key (causes.Format own found) e = absurd (let bad : causes.Format own None ≡ causes.Meaning key = e in cc)
+same_cause key (causes.LevelAsLeaf own) e = absurd (let bad : causes.Format own None ≡ causes.Meaning key = e in cc)
+same_cause key causes.Command e = e
+same_cause key causes.Application e = e
+same_cause key (causes.Proxiable set) e = e
+same_cause key (causes.Level line) e = e
+same_cause key (causes.Unknown own m) e = e
+same_cause key (causes.MBit own m) e = e
+same_cause key (causes.Meaning own) e = e
+same_cause key causes.Unproved e = e
+
+meant_by : (meanings : List Line) (key : Key) (told : Told) → IsIn told (map tells meanings) → told.cause ≡ causes.Meaning key → IsMeant meanings key
+meant_by meanings key told i is =
+    let a = at_in (map tells meanings) told i in
+    let (line, at, same) = at_map tells meanings a.place told a.at in
+    (line, contains_at meanings a.place line at, same_cause key line.cause (ap (λ (t : Told). t.cause) same ∙ is))
+
+with_enough : (site size : ℕ) (cause : Cause) → size ≤ max_body → with_room site size cause ≡ Some (record { site = site; cause = cause; length = size })
+with_enough site size cause le = ap (λ (b : Bool). if b then Some (record { site = site; cause = cause; length = size }) else None) (le-leb size max_body le)
+
+module _ (da db : Dictionary) (who : Sends) (u : Unknown) (lengths : List ℕ) (others : List Key) (telling : Telling) (outlooks : List Outlook) (tells_all : IsExactTelling (sides da db who u) telling)
+    (are : AreOutlooks da db telling (costs_by da who lengths others) outlooks) (owns : List OwnBreaks)
+    (are_own : AreOwnBreaks (sides da db who u) (listed da db who u lengths others telling outlooks tells_all are) telling.own.items owns) (first count : ℕ) (reached : List (Option Reach))
+    (told : List Told) (order : IsInOrderOf (λ (line : Told). line.site) (own_lines kinds.Meaning first count owns reached) told) where
+  -- what is reached of an AVP that is read as another format is told
+  meaning_told : (key : Key) (p : Kept da db who u lengths others telling outlooks tells_all are key) → IsReadAsOther (sides da db who u) key → (reach : Reach)
+      → slice_get reached p.place ≡ Some (Some reach) → reach.length ≤ max_body → (line : Told) × IsIn line told × (line.cause ≡ causes.Meaning key)
+  meaning_told key p is reach at room =
+      let (one, here, same) = at_map (λ (one : OwnBreaks). one.key) owns p.place p.own.key (subst (λ (xs : List Key). slice_get xs p.place ≡ Some p.own.key) (sym are_own.keys)
+      (own_key_at p.place p.own p.is_own)) in
+      let its : one.key ≡ key = same ∙ p.own_key in
+      let own = all_of (IsOwnBreaks (sides da db who u) (listed da db who u lengths others telling outlooks tells_all are)) owns one are_own.each (in_at owns p.place one here) in
+      let reads = own.other.1 (subst (λ (q : Key). IsReadAsOther (sides da db who u) q) (sym its) is) in
+      let site : ℕ = site_number first count reach.level in
+      let line : Told = record { site = site; cause = causes.Meaning one.key; length = reach.length } in
+      let cause : own_cause kinds.Meaning one reach.length ≡ Some (causes.Meaning one.key, reach.length) =
+      ap (λ (b : Bool). if b then Some (causes.Meaning one.key, reach.length) else None) reads in
+      let made : own_line kinds.Meaning first count one reach ≡ Some line =
+      ap (λ (o : Option (Cause × ℕ)). option_and_then (λ (found : Cause × ℕ). with_room site found.1 found.0) o) cause ∙ with_enough site reach.length (causes.Meaning one.key) room in
+      let there : reach_at reached p.place ≡ Some reach = ap (λ (o : Option (Option Reach)). option_and_then (λ (r : Option Reach). r) o) at in
+      let part : reached_line kinds.Meaning first count reached p.place one ≡ line ∷ [] =
+      ap (λ (o : Option Reach). option_to_list (option_and_then (own_line kinds.Meaning first count one) o)) there ∙ ap (λ (o : Option Told). option_to_list o) made in
+      let inside = in_each (reached_line kinds.Meaning first count reached) owns p.place one line here (subst (λ (xs : List Told). IsIn line xs) (sym part) (inl refl)) in
+      (line, in_sorted (λ (line : Told). line.site) (own_lines kinds.Meaning first count owns reached) told line order inside, ap (λ (q : Key). causes.Meaning q) its)
+    where
+      own_key_at : (place : ℕ) (own : Own) → slice_get telling.own.items place ≡ Some own → slice_get (map (λ (own : Own). own.key) telling.own.items) place ≡ Some own.key
+      own_key_at place own at = into_map (λ (own : Own). own.key) telling.own.items place own at
+
+-- ---- the walk begins
+
+module _ (db : Dictionary) (basis : Basis) (at count : ℕ) (steps : List Step) where
+  no_group_here : (app : ℕ) (site : Site) → IsCommandPlace app site.place → IsIn site (group_sites basis.own at count steps) → ⊥
+  no_group_here app site is i =
+      let a = at_in (group_sites basis.own at count steps) site i in
+      let (j, step, here, e) = at_filter_map (λ (step : Step). option_map (λ (one : OwnBreaks). group_site at count step one.key) (slice_get basis.own step.place)) steps a.place site a.at in
+      by step (slice_get basis.own step.place) e
+    where
+      by : (step : Step) (o : Option OwnBreaks) → option_map (λ (one : OwnBreaks). group_site at count step one.key) o ≡ Some site → ⊥
+      by step None e = none-some site e
+      by step (Some one) e = subst (λ (s : Site). IsCommandPlace app s.place) (sym (same_Some (group_site at count step one.key) site e)) is
+
+  begins : (app : ℕ) (sites : List Site) (site : Site) → sites ≡ sites_of db basis at count steps → Contains sites site → site.is_read ≡ true → IsCommandPlace app site.place
+      → is_some (start_of db basis) ≡ true
+  begins app sites site are inside read is =
+      by (in_append own (group_sites basis.own at count steps) site (subst (λ (xs : List Site). IsIn site xs) are (in_contains sites site inside)))
+    where
+      own : List Site
+      own = command_sites db basis.head basis.readings
+
+      by : IsIn site own ⊎ IsIn site (group_sites basis.own at count steps) → is_some (start_of db basis) ≡ true
+      by (inl i) = let a = at_in own site i in position-is_some (λ (s : Site). s.is_read) own a.place site a.at read
+      by (inr i) = absurd (no_group_here app site is i)
+
+-- ---- all
+
+module _ (da db : Dictionary) (who : Sends) (u : Unknown) (made : Facts) (start : Start) (c : ℕ) (sites : List Site) (lines meanings : List Line) (sa : IsDictionary da) (sb : IsDictionary db)
+    (facts : AreFacts (sides da db who u) made) (floors : AreFloors da who (costs_in (sides da db who u) made).listed)
+    (is_start : IsStartOf da db made.telling (costs_in (sides da db who u) made) c start) (listing : AreMeanings db (basis_of start made.own made.outlooks) sites (map tells meanings)) where
+  abbrev basis : Basis
+  basis = basis_of start made.own made.outlooks
+
+  shortest : PicksShortest da db (costs_in (sides da db who u) made)
+  shortest = first_is_shortest da db who made.lengths made.others sa sb facts.are_others
+
+  known_here : (key : Key) → IsReadAsOther (sides da db who u) key → IsSome (entry_of da key)
+  known_here key is = by (entry_of da key) refl
+    where
+      by : (o : Option ℕ) → entry_of da key ≡ o → IsSome (entry_of da key)
+      by None e = absurd (none-some is.leaves.sent
+          (sym (ap (λ (o : Option ℕ). option_map (λ (x : DictEntry). x.format) (option_and_then (λ i. slice_get da.entries i) o)) e) ∙ is.leaves.sent_is))
+      by (Some i) e = ap (λ (o : Option ℕ). is_some o) e
+
+  pub all_meant : HoldsOfLevels (sides da db who u) (answer c sites lines) (AreMeant (sides da db who u) meanings)
+  all_meant bytes sent app site other level a b inner lies =
+      each_level da db who u made.lengths made.others made.telling made.outlooks facts.is_telling facts.are_outlooks sa shortest floors (plain_exits start.exits) listing.steps listing.reached walk
+      (AreMeant (sides da db who u) meanings) meant a b inner sent.command other sent.avps lies first_level
+    where
+      from : ℕ
+      from = unwrap_or (start_of db basis) 0
+
+      walk : IsWalk basis.graph listing.steps listing.reached
+      walk = subst (λ (b : Bool). IsWalkFrom b basis.graph listing.steps listing.reached)
+          (begins db basis from (length basis.readings) listing.steps app sites site listing.sites_are level.inside level.is_read level.place) listing.is_walk
+
+      meant : (x y : PlainDefinition) (avps : List PlainAvp)
+          → AtLevel da db who u made.lengths made.others made.telling made.outlooks facts.is_telling facts.are_outlooks sa shortest floors (plain_exits start.exits) listing.steps listing.reached x avps
+          → AreMeant (sides da db who u) meanings x y avps
+      meant x y avps l v comes is =
+          let key = key_of v in
+          let p = other_kept da db who u made.lengths made.others made.telling made.outlooks facts.is_telling facts.are_outlooks key (known_here key is) is in
+          let w = way_of da db who u made.lengths made.others made.telling made.outlooks facts.is_telling facts.are_outlooks sa shortest floors (plain_exits start.exits) listing.steps listing.reached walk
+          x avps l v comes p in
+          let le = w.2 in
+          let keep = sent_keys da db who u (costs_in (sides da db who u) made).listed floors x.rules (max_body - l.stage.way) avps l.level in
+          let room = keep.1 in
+          let fits = l.within in
+          let t = meaning_told da db who u made.lengths made.others made.telling made.outlooks facts.is_telling facts.are_outlooks made.own facts.are_own from (length basis.readings) listing.reached
+          (map tells meanings) listing.lines_are key p is w.0 w.1 (omega (arith, le, room, fits)) in
+          meant_by meanings key t.0 t.1 t.2
+
+      rules : rules_in da c ≡ sent.command.rules
+      rules = ap (λ (o : Option PlainDefinition). option_map_or (λ (y : PlainDefinition). y.rules) o []) sent.is_command
+
+      first_level : AtLevel da db who u made.lengths made.others made.telling made.outlooks facts.is_telling facts.are_outlooks sa shortest floors (plain_exits start.exits) listing.steps listing.reached
+          sent.command sent.avps
+      first_level = record {
+        number = 0;
+        def = c;
+        stage = record { way = 0; exits = plain_exits start.exits };
+        exits = is_start.exits;
+        is_stage = refl;
+        stage_exits = is_start.exits_are;
+        at_def = sent.is_command;
+        are_exits = subst (λ (rs : List DRule). AreExits made.telling (costs_in (sides da db who u) made) rs is_start.exits) rules is_start.are_exits;
+        within = omega arith;
+        level = record {
+          bytes = sent.message.body;
+          are_bytes = body_bytes sent.header sent.avps bytes sent.message sent.are_bytes;
+          spelled = sent.message.is_body;
+          has_room = let fits = body_within sent.header sent.avps bytes sent.message sent.are_bytes in omega (arith, fits);
+          stand = sent.stand;
+          sent = sent.sent;
+        };
+      }
+
+-- ---- what is told stays so
+
+same_unproved : (cause : Cause) → subject cause ≡ causes.Unproved → cause ≡ causes.Unproved
+same_unproved (causes.Format own found) e = absurd (let bad : causes.Format own None ≡ causes.Unproved = e in cc)
+same_unproved (causes.LevelAsLeaf own) e = absurd (let bad : causes.Format own None ≡ causes.Unproved = e in cc)
+same_unproved causes.Command e = e
+same_unproved causes.Application e = e
+same_unproved (causes.Proxiable set) e = e
+same_unproved (causes.Level line) e = e
+same_unproved (causes.Unknown own m) e = e
+same_unproved (causes.MBit own m) e = e
+same_unproved (causes.Meaning own) e = e
+same_unproved causes.Unproved e = e
+
+-- where a single line tells that nothing is shown, it isn't all told
+not_all_told : (lines : List Line) → map tells lines ≡ not_shown ∷ [] → IsAllTold lines → ⊥
+not_all_told lines is told =
+    let (line, at, same) = at_map tells lines 0 not_shown (ap (λ (xs : List Told). slice_get xs 0) is) in
+    told line (contains_at lines 0 line at) (same_unproved line.cause (ap (λ (t : Told). t.cause) same))
+
+pub all_told : (new old : List Line) → map unchecked new ≡ map unchecked old → IsAllTold new → IsAllTold old
+all_told new old same told line inside is =
+    let (other, there, alike) = same_image told_of old new line (sym (told_kept new old same)) inside in
+    told other there (ap (λ (p : ℕ × Cause). p.1) alike ∙ is)
+
+pub meant_found : (da db : Dictionary) (who : Sends) (u : Unknown) (made : Facts) (start : Start) (c : ℕ) (sites : List Site) (lines meanings : List Line) → IsDictionary da → IsDictionary db
+    → AreFacts (sides da db who u) made → AreFloors da who (costs_in (sides da db who u) made).listed → IsStartOf da db made.telling (costs_in (sides da db who u) made) c start
+    → AreAllMeanings (AreMeanings db (basis_of start made.own made.outlooks) sites) lines meanings → IsAllTold lines
+    → HoldsOfLevels (sides da db who u) (answer c sites lines) (AreMeant (sides da db who u) meanings)
+meant_found da db who u made start c sites lines meanings sa sb facts floors is_start (complete listing) told = all_meant da db who u made start c sites lines meanings sa sb facts floors is_start listing
+meant_found da db who u made start c sites lines meanings sa sb facts floors is_start (unshown is none) told = absurd (not_all_told lines is told)
+
+-- where none is told, none is read so
+pub none_meant : (da db : Dictionary) (who : Sends) (u : Unknown) (c : ℕ) (sites : List Site) (lines meanings : List Line) → meanings ≡ []
+    → HoldsOfLevels (sides da db who u) (answer c sites lines) (AreMeant (sides da db who u) meanings) → HoldsOfLevels (sides da db who u) (answer c sites lines) (IsReadAsSent (sides da db who u))
+none_meant da db who u c sites lines meanings none all bytes sent app site other level a b inner lies v comes is =
+    let (line, inside, cause) = all bytes sent app site other level a b inner lies v comes is in
+    no_member line (subst (λ (xs : List Line). IsIn line xs) none (in_contains meanings line inside))
+  where
+    no_member : (line : Line) → IsIn line [] → ⊥
+    no_member line i = i

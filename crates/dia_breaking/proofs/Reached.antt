@@ -1,0 +1,196 @@
+-- What there is to tell of a key has its place, and each level in which an AVP of the key stands leads to it.
+use Rattle.std.proofs.Common.{◌≡◌, ℕ, ◌+◌, ◌≤◌, Bool, true, false, List, [], map, Option, Some, None, refl, sym, ap, subst, ◌∙◌, arith}
+use Rattle.std.specs.Prelude.{◌&&◌, ◌||◌, is_some, IsSome, Contains, filter, position, slice_get, option_and_then}
+use Rattle.std.specs.HashMap.{get}
+use Rattle.std.specs.List.{filter_map}
+use Rattle.std.specs.Option.{option_map, option_map_or}
+use Rattle.std.proofs.lemmas.Bool.{and_from, both_ways}
+use Rattle.std.proofs.lemmas.Option.{none-some, same_Some}
+use Rattle.dia_wire.specs.declared.Key.{Key}
+use Rattle.dia_book.specs.Keys.{same_key}
+use Rattle.dia_book.specs.declared.DRule.{DRule}
+use Rattle.dia_book.specs.Dictionary.{Dictionary, PlainDefinition, AreRules, IsDictionary, definitions, entry_of, lists_key}
+use Rattle.dia_book.proofs.Members.{at_Contains, at_filter_map, at_map, into_map, position-is_some}
+use Rattle.dia_book.proofs.SameKeys.{same_key-equal, same_key-refl, same_key-true}
+use Rattle.dia_policy.specs.declared.Unknown.{Unknown}
+use Rattle.dia_policy.specs.declared.Sends.{Sends}
+use Rattle.dia_check.proofs.OneKeyMore.{at_position}
+use Rattle.dia_check.specs.Valid.{is_listed}
+use Rattle.dia_rules.specs.Rules.{rules_in}
+use Rattle.dia_rules.proofs.Members.{IsIn, all_of, any_in, at_in, contains_in, in_any, in_at, in_contains, in_filter, in_filter_map, into_filter, some_of}
+use Rattle.dia_breaking_sites.specs.Sent.{StandAsSent}
+use Rattle.dia_breaking_sites.specs.Selection.{max_body}
+use Rattle.dia_breaking_avps.specs.Sent.{group_of}
+use Rattle.dia_breaking_shortest.specs.Floors.{total}
+use Rattle.dia_breaking_ways.specs.Walks.{Leads, By_rule, By_wildcard, IsUnlisted}
+use Rattle.dia_breaking.specs.declared.exits.Exits.{Exits}
+use Rattle.dia_breaking.specs.declared.exits.Outlook.{Outlook}
+use Rattle.dia_breaking.specs.declared.keys.Own.{Own}
+use Rattle.dia_breaking.specs.declared.keys.Telling.{Telling}
+use Rattle.dia_breaking.specs.declared.levels.LevelCost.{LevelCost}
+use Rattle.dia_breaking.specs.Exits.{AreExits, AreOutlooks, IsOutlook, exit_by}
+use Rattle.dia_breaking.specs.Lengths.{Costs, costs_by, listed_length, other_length}
+use Rattle.dia_breaking.specs.LevelCosts.{IsCostOf, PicksShortest, cost_of, with_listed}
+use Rattle.dia_breaking.specs.Meanings.{IsReadAsOther}
+use Rattle.dia_breaking.specs.Nodes.{exits_in, node_in}
+use Rattle.dia_breaking.specs.Telling.{AreGroups, IsExactlyOwn, IsExactTelling, is_news}
+use Rattle.dia_breaking.specs.Sides.{sides}
+use Rattle.dia_breaking.proofs.ClosedBy.{stand_placed, stand_price}
+use Rattle.dia_breaking.proofs.LevelCosts.{cost_of as is_cost, one_is_shortest}
+use Rattle.dia_breaking.proofs.Lists.{all_in, contains_at}
+use Rattle.dia_breaking.proofs.SentKeys.{sent_of}
+use Rattle.dia_breaking.proofs.Shortest.{lists_some}
+
+by_group : (b c d : Bool) → c ≡ true → ((b || c) || d) ≡ true
+by_group true c d e = refl
+by_group false true d e = refl
+by_group false false d e = absurd (both_ways false refl e)
+
+by_other : (b c d : Bool) → d ≡ true → ((b || c) || d) ≡ true
+by_other true c d e = refl
+by_other false true d e = refl
+by_other false false d e = e
+
+module _ (da db : Dictionary) (who : Sends) (u : Unknown) (lengths : List ℕ) (others : List Key) (telling : Telling) (outlooks : List Outlook) (tells : IsExactTelling (sides da db who u) telling)
+    (are : AreOutlooks da db telling (costs_by da who lengths others) outlooks) where
+  abbrev pub listed : Key → ℕ
+  listed = listed_length da who lengths
+
+  abbrev pub other : Key → ℕ
+  other = other_length da who lengths
+
+  abbrev pub k : Costs
+  k = costs_by da who lengths others
+
+  abbrev pub cost : List DRule → LevelCost
+  cost rules = cost_of listed other others rules
+
+  -- ---- places
+
+  -- what is kept of a key
+  pub record Kept (key : Key) : Type 0 where
+    pub place : ℕ
+    pub own : Own
+    pub outlook : Outlook
+    pub is_place : get same_key telling.places key ≡ Some place
+    pub is_own : slice_get telling.own.items place ≡ Some own
+    pub own_key : own.key ≡ key
+    pub is_outlook : slice_get outlooks place ≡ Some outlook
+    pub outlook_key : outlook.key ≡ key
+    pub has : IsOutlook da db telling k outlook
+
+  key_at : (place : ℕ) (q : Key) (own : Own) → get same_key telling.places q ≡ Some place → slice_get telling.own.items place ≡ Some own → own.key ≡ q
+  key_at place q own at is =
+      let (x, here, same) = at_position (λ (o : Own). same_key o.key q) telling.own.items place (sym (tells.places q) ∙ at) in
+      let one : x ≡ own = same_Some x own (sym here ∙ is) in
+      ap (λ (o : Own). o.key) (sym one) ∙ same_key-true x.key q same
+
+  -- what is told has its place
+  placed : (key : Key) (x : Own) → IsIn x telling.own.items → x.key ≡ key → Kept key
+  placed key x inside same =
+      let has_key : Own → Bool = λ o. same_key o.key key in
+      let a = at_in telling.own.items x inside in
+      let (place, e) = some_of (position has_key telling.own.items) (position-is_some has_key telling.own.items a.place x a.at (same_key-equal x.key key same)) in
+      let (own, here, t) = at_position has_key telling.own.items place e in
+      let own_key : own.key ≡ key = same_key-true own.key key t in
+      let o = at_map (λ (outlook : Outlook). outlook.key) outlooks place own.key
+      (subst (λ (xs : List Key). slice_get xs place ≡ Some own.key) (sym are.0) (into_map (λ (own : Own). own.key) telling.own.items place own here)) in
+      record {
+        place = place;
+        own = own;
+        outlook = o.0;
+        is_place = tells.places key ∙ e;
+        is_own = here;
+        own_key = own_key;
+        is_outlook = o.1;
+        outlook_key = o.2 ∙ own_key;
+        has = all_in (IsOutlook da db telling k) outlooks o.0 are.1 (contains_at outlooks place o.0 o.1);
+      }
+
+  -- each key that A knows and of which there is something to tell is kept
+  kept : (key : Key) → IsSome (entry_of da key) → ((own : Own) → IsExactlyOwn (sides da db who u) own → own.key ≡ key → is_news own ≡ true) → Kept key
+  kept key known news =
+      let a = at_Contains tells.keys key ((sent_of da db who tells.keys tells.sent).own key known) in
+      let (x, at, same) = at_map (λ (own : Own). own.key) tells.all a.place key (subst (λ (xs : List Key). slice_get xs a.place ≡ Some key) (sym tells.each.0) a.at) in
+      let inside = in_at tells.all a.place x at in
+      let exact = all_of (IsExactlyOwn (sides da db who u)) tells.all x tells.each.1 inside in
+      placed key x (subst (λ (xs : List Own). IsIn x xs) (sym tells.told_are) (into_filter is_news tells.all x inside (news x exact same))) same
+
+  pub other_kept : (key : Key) → IsSome (entry_of da key) → IsReadAsOther (sides da db who u) key → Kept key
+  other_kept key known is = kept key known (λ own exact same.
+      by_other own.breaks own.is_group own.is_other (exact.other.1 (subst (λ (q : Key). IsReadAsOther (sides da db who u) q) (sym same) is)))
+
+  pub group_kept : (key : Key) → IsSome (entry_of da key) → AreGroups da db key → Kept key
+  group_kept key known both = kept key known (λ own exact same.
+      let here : AreGroups da db own.key = subst (λ (q : Key). AreGroups da db q) (sym same) both in
+      by_group own.breaks own.is_group own.is_other (exact.group ∙ and_from (is_some (group_of da own.key)) (is_some (group_of db own.key)) here.0 here.1))
+
+  -- ---- where levels lead
+
+  exit_key : (c : LevelCost) (rule : DRule) (place n : ℕ) → exit_by telling listed c rule ≡ Some (place, n) → (q : Key) × (rule.key ≡ Some q) × (get same_key telling.places q ≡ Some place)
+  exit_key c rule place n e = by rule.key refl e
+    where
+      by_place : (q : Key) → rule.key ≡ Some q → (o : Option ℕ) → get same_key telling.places q ≡ o → option_map {U = ℕ × ℕ} (λ (m : ℕ). (m, with_listed c rule (listed q))) o ≡ Some (place, n)
+          → (q : Key) × (rule.key ≡ Some q) × (get same_key telling.places q ≡ Some place)
+      by_place q is None at e = absurd (none-some (place, n) e)
+      by_place q is (Some m) at e = (q, is, at ∙ ap (λ (p : ℕ × ℕ). Some p.0) (same_Some (m, with_listed c rule (listed q)) (place, n) e))
+
+      by : (o : Option Key) → rule.key ≡ o
+          → option_and_then (λ (q : Key). option_map {U = ℕ × ℕ} (λ (m : ℕ). (m, with_listed c rule (listed q))) (get same_key telling.places q)) o ≡ Some (place, n)
+          → (q : Key) × (rule.key ≡ Some q) × (get same_key telling.places q ≡ Some place)
+      by None is e = absurd (none-some (place, n) e)
+      by (Some q) is e = by_place q is (get same_key telling.places q) refl e
+
+  -- by a cost of levels that is no more than they take
+  module _ (rules : List DRule) (exits : Exits) (c : LevelCost) (listed_are : exits.listed.items ≡ filter_map (exit_by telling listed c) rules) (beside_is : exits.beside ≡ c.beside)
+      (costs : IsCostOf listed other rules c) (keys : List Key) (stand : StandAsSent who rules keys) (room : total listed keys ≤ max_body) (key : Key) (comes : Contains keys key) (p : Kept key) where
+    abbrev Led : Type 0
+    Led = (inner : ℕ) × Leads (map node_in outlooks) (exits_in exits) p.place inner × (inner ≤ total listed keys)
+
+    by_rule : is_listed rules key ≡ true → Led
+    by_rule e =
+        let (rule, i, l) = any_in (lists_key key) rules e in
+        let is : rule.key ≡ Some key = lists_some key rule l in
+        let exit : exit_by telling listed c rule ≡ Some (p.place, with_listed c rule (listed key)) =
+        ap (λ (o : Option Key). option_and_then (λ (q : Key). option_map {U = ℕ × ℕ} (λ (m : ℕ). (m, with_listed c rule (listed q))) (get same_key telling.places q)) o) is
+        ∙ ap (λ (o : Option ℕ). option_map {U = ℕ × ℕ} (λ (m : ℕ). (m, with_listed c rule (listed key))) o) p.is_place in
+        let inside = in_filter_map (exit_by telling listed c) rules rule (p.place, with_listed c rule (listed key)) i exit in
+        let lists : Contains exits.listed.items (p.place, with_listed c rule (listed key)) =
+        contains_in exits.listed.items (p.place, with_listed c rule (listed key)) (subst (λ (xs : List (ℕ × ℕ)). IsIn (p.place, with_listed c rule (listed key)) xs) (sym listed_are) inside) in
+        let least = costs.listed_within key rule (contains_in rules rule i, is) keys (stand_placed who rules keys stand) comes in
+        let alike = stand_price da who lengths rules keys stand in
+        (with_listed c rule (listed key), By_rule lists, omega (arith, least, alike))
+
+    unlisted : is_listed rules key ≡ false → IsUnlisted exits.listed.items p.place
+    unlisted e n inside =
+        let a = at_Contains exits.listed.items (p.place, n) inside in
+        let (j, rule, at, is) = at_filter_map (exit_by telling listed c) rules a.place (p.place, n) (subst (λ (xs : List (ℕ × ℕ)). slice_get xs a.place ≡ Some (p.place, n)) listed_are a.at) in
+        let (q, is_q, at_q) = exit_key c rule p.place n is in
+        let alike : q ≡ key = sym (key_at p.place q p.own at_q p.is_own) ∙ p.own_key in
+        let lists : lists_key key rule ≡ true = ap (λ (o : Option Key). option_map_or (same_key key) o false) (is_q ∙ ap (λ (q : Key). Some q) alike) ∙ same_key-refl key in
+        both_ways (is_listed rules key) e (in_any (lists_key key) rules rule (in_at rules j rule at) lists)
+
+    by_wildcard : is_listed rules key ≡ false → Led
+    by_wildcard e =
+        let least = costs.others_within key e keys (stand_placed who rules keys stand) comes in
+        let alike = stand_price da who lengths rules keys stand in
+        let is_other : p.outlook.other ≡ other key = p.has.other_is ∙ ap other p.outlook_key in (
+          exits.beside + p.outlook.other,
+          By_wildcard (node_in p.outlook) (into_map node_in outlooks p.place p.outlook p.is_outlook) (unlisted e) refl,
+          omega (arith, least, alike, beside_is, is_other, room),
+        )
+
+    pub led : Led
+    led = by (is_listed rules key) refl
+      where
+        by : (b : Bool) → is_listed rules key ≡ b → Led
+        by true e = by_rule e
+        by false e = by_wildcard e
+
+  pub costs_at : IsDictionary da → PicksShortest da db k → (def : ℕ) (x : PlainDefinition) → slice_get (definitions da) def ≡ Some x → IsCostOf listed other x.rules (cost x.rules)
+  costs_at sa shortest def x at =
+      let rules : rules_in da def ≡ x.rules = ap (λ (o : Option PlainDefinition). option_map_or (λ (y : PlainDefinition). y.rules) o []) at in
+      subst (λ (rs : List DRule). IsCostOf listed other rs (cost rs)) rules
+      (is_cost listed other others (rules_in da def) (cost (rules_in da def))
+      (subst AreRules (sym rules) (all_in (λ (def : PlainDefinition). AreRules def.rules) (definitions da) x sa.rules (contains_at (definitions da) def x at)))
+      (one_is_shortest other others (rules_in da def) db (shortest def)) refl refl)

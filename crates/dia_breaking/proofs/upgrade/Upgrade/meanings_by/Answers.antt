@@ -1,0 +1,20 @@
+use Rattle.std.proofs.Common.{List, Option, ◌++◌, map, refl, ap, subst, ◌∙◌}
+use Rattle.dia_breaking_ways.specs.declared.graph.Reach.{Reach}
+use Rattle.dia_breaking.specs.declared.line.Line.{Line}
+use Rattle.dia_breaking.specs.declared.line.Cause.TheVariants as causes
+use Rattle.dia_breaking.specs.declared.own_lines.Kind.TheVariants as kinds
+use Rattle.dia_breaking.specs.Listing.{Told, tells, new_line, own_lines}
+use Rattle.dia_breaking.specs.Orders.{IsInOrderOf}
+use Rattle.dia_breaking.proofs.InOrder.{image_in_order}
+use Rattle.dia_breaking.proofs.upgrade.Upgrade.meanings_by.Goals as goal
+
+pub returns : goal.returns
+returns g c =
+    let own = c.args.self.now.own.items in
+    let numbers = c.args.numbers in
+    let all = own_lines kinds.Meaning numbers.first numbers.count own c.args.walk.now.reached.items in
+    let adds = c.in_ok-push_own_lines.ensures.told
+    ∙ ap (λ (ways : List (Option Reach)). map tells c.new-meanings.result.items ++ own_lines kinds.Meaning numbers.first numbers.count own ways) c.deref.ensures.value in
+    subst (λ told. IsInOrderOf (λ (line : Told). line.site) told (map tells c.sort_by_site.new.lines.items))
+    (adds ∙ ap (λ (lines : List Line). map tells lines ++ all) c.new-meanings.ensures.items)
+    (image_in_order tells (λ (line : Line). line.site) (λ (line : Told). line.site) (λ x. refl) (new_line 0 causes.Unproved 0) _ _ c.in_ok-sort_by_site.ensures)
