@@ -13,6 +13,8 @@ LONGEST = 16777212
 """The most bytes of a message."""
 OUTSIDE = 0
 """Stands for every key that neither dictionary knows."""
+BELOW = [("DiameterIdentity", "UTF8String"), ("DiameterURI", "UTF8String"), ("Enumerated", "Integer32")]
+"""Formats whose values are those of another."""
 ANY_DATA = ("OctetString", "IPFilterRule", "QoSFilterRule")
 SIZES = {"Integer32": 4, "Unsigned32": 4, "Float32": 4, "Time": 4, "Enumerated": 4, "Integer64": 8, "Unsigned64": 8, "Float64": 8}
 SHORTEST = {"Address": 2, "DiameterIdentity": 1, "DiameterURI": 7, "UTF8String": 0, **{name: 0 for name in ANY_DATA}, **SIZES}
@@ -283,6 +285,16 @@ class Model:
             found.append(("undecided" if self.is_undecided(mine, other) else "format", detail, length))
         return found
 
+    def meaning(self, key):
+        """Of an AVP whose data B accepts, and reads as another format: both formats."""
+        mine, other = self.a.entries.get(key), self.b.entries.get(key)
+        if not mine or not other or mine.group or other.group or {mine.m, other.m} == {"must", "mustnot"}:
+            return None
+        f, g = mine.format, other.format
+        if f == g or g == "OctetString" or (f, g) in BELOW or self.breaking_data(mine, other) is not None:
+            return None
+        return f"{whole(f, mine.listed)} sent, {whole(g, other.listed)} read"
+
     def is_undecided(self, mine, other):
         """The least level of a group is data of B's leaf: an AVP's first two bytes are 0 here, and its data are ASCII."""
         if not mine or not mine.group:
@@ -335,7 +347,8 @@ class Model:
     # ---- sites
 
     def lines(self, command):
-        """The lines of a command: the key of each is path, reason and subject; its value the detail and the message's length."""
+        """The lines of a command, those of meanings too: the key of each is path, reason and subject; its value the detail and the
+        message's length."""
         found = {}
         starts = []
         for path, app, b in self.selected(command):
@@ -363,6 +376,8 @@ class Model:
                     continue
                 for reason, detail, length in self.own_lines(key):
                     self.add(best, (None, reason, key), path, detail, 20 + way + level + length)
+                if self.meaning(key):
+                    self.add(best, (None, "meaning", key), path, self.meaning(key), 20 + way + level + self.cost[key])
                 groups = [d.entries[key].group for d in (self.a, self.b) if key in d.entries]
                 if len(groups) == 2 and all(groups):
                     heapq.heappush(queue, (way + level + head(key), next(order), f"{path}/{self.name(key)}", *groups))

@@ -13,6 +13,11 @@ DATA = {
     "Enumerated": ["00000001", "00000005", "00000009"], "IPFilterRule": ["", "7065726d6974"],
 }
 """Data of each format. Those of Enumerated are of a list mostly."""
+SAME_BYTES = [
+    ["Unsigned32", "Integer32", "Float32", "Time", "Enumerated"], ["Integer64", "Unsigned64", "Float64"],
+    ["OctetString", "UTF8String", "IPFilterRule", "QoSFilterRule"], ["DiameterURI", "DiameterIdentity", "Address"],
+]
+"""Formats of which each has data of another in its row."""
 COUNTS = [("", ""), ("", ""), ("1", ""), ("", "2"), ("2", ""), ("1", "3"), ("0", "1"), ("2", "2")]
 
 
@@ -63,6 +68,17 @@ def variant(draw, text):
         same = [line for line in other if line.split()[:2] == lines[at].split()[:2] or line.split(">")[0] == lines[at].split(">")[0]]
         if same:
             lines[at] = draw.choice(same)
+    return "\n".join(lines) + "\n"
+
+
+def renamed(draw, text):
+    """The dictionary with another format for some leaves, most of whose data stay valid."""
+    lines = text.splitlines()
+    for at, line in enumerate(lines):
+        words = line.split()
+        row = next((row for row in SAME_BYTES if words[0] == "%avp" and words[3] in row), None)
+        if row and draw.random() < 0.5:
+            lines[at] = " ".join(words[:3] + [draw.choice(row)] + words[4:5])
     return "\n".join(lines) + "\n"
 
 

@@ -1,5 +1,5 @@
 -- Sets of texts, and what a look-up in them tells.
-use Rattle.std.proofs.Common.{◌≡◌, ℕ, ◌+◌, ◌<◌, Bool, true, false, cond, List, [], ◌∷◌, ◌++◌, map, take, get_or, length, string_bytes, Bor, refl, sym, ap, subst, ◌∙◌}
+use Rattle.std.proofs.Common.{◌≡◌, ℕ, ◌+◌, ◌<◌, Bool, true, false, cond, List, [], ◌∷◌, ◌++◌, map, take, get_or, length, string_bytes, Bor, refl, sym, ap, subst, ◌∙◌, append_assoc}
 use Rattle.std.specs.Global.{Vec}
 use Rattle.std.specs.Prelude.{◌||◌, filter, not}
 use Rattle.std.specs.List.{list_any}
@@ -13,7 +13,7 @@ use Rattle.indexmap.specs.IndexSet.{insert_key}
 use Rattle.dia_accepted.specs.declared.list.Entry.{Entry}
 use Rattle.dia_accepted.specs.declared.told.Told.{Told}
 use Rattle.dia_accepted.specs.Accepted.{PlainEntry, PlainTold, accepts, is_accepted, is_stale, left_of, plain_entry, plain_told, stale_lines}
-use Rattle.dia_accepted.specs.Sets.{bytes_of, entry_texts, has, told_texts}
+use Rattle.dia_accepted.specs.Sets.{HasTexts, bytes_of, entry_texts, has, told_texts}
 use Rattle.dia_accepted.specs.Words.{anywhere, counted}
 
 -- ---- tests
@@ -46,10 +46,6 @@ regrouped false b c = refl
 abbrev pub same_vec : Vec ℕ → Vec ℕ → Bool
 same_vec a b = bytes_eq (bytes_of a) (bytes_of b)
 
--- what a set has is what these texts have
-abbrev pub HasTexts : List (Vec ℕ) → List (List ℕ) → Type 0
-HasTexts keys texts = (x : List ℕ) → has keys x ≡ list_any (bytes_eq x) texts
-
 -- where a key is in a set already, it adds nothing
 found : (x k : List ℕ) (ks : List (Vec ℕ)) → has ks k ≡ true → bytes_eq x k ≡ true → has ks x ≡ true
 found x k ks inside same = subst (λ (t : List ℕ). has ks t ≡ true) (sym ((bytes_eq-Decides x k).0 same)) inside
@@ -78,8 +74,9 @@ entry_more list i e less =
     let text = λ (x : Entry). x.counted.items in
     ap (map text) (take_more list i e less) ∙ map-append text (take i list) (get_or list i e ∷ [])
 
-texts_of : Told → List (List ℕ)
-texts_of t = counted (string_bytes t.words) ∷ anywhere (string_bytes t.words) ∷ []
+texts_append : (xs ys : List Told) → told_texts (xs ++ ys) ≡ told_texts xs ++ told_texts ys
+texts_append [] ys = refl
+texts_append (x ∷ xs) ys = ap (λ (ts : List (List ℕ)). counted (string_bytes x.words) ∷ anywhere (string_bytes x.words) ∷ ts) (texts_append xs ys)
 
 told_append : (xs : List Told) (t : Told) → told_texts (xs ++ t ∷ []) ≡ (told_texts xs ++ counted (string_bytes t.words) ∷ []) ++ anywhere (string_bytes t.words) ∷ []
 told_append [] t = refl
@@ -89,6 +86,16 @@ told_append (x ∷ xs) t =
 pub told_more : (told : List Told) (i : ℕ) (t : Told) → i < length told
     → told_texts (take (i + 1) told) ≡ (told_texts (take i told) ++ counted (string_bytes (get_or told i t).words) ∷ []) ++ anywhere (string_bytes (get_or told i t).words) ∷ []
 told_more told i t less = ap told_texts (take_more told i t less) ∙ told_append (take i told) (get_or told i t)
+
+-- the same behind texts that were there before
+pub told_behind : (before : List (List ℕ)) (told : List Told) (i : ℕ) (t : Told) → i < length told
+    → before ++ told_texts (take (i + 1) told)
+    ≡ ((before ++ told_texts (take i told)) ++ counted (string_bytes (get_or told i t).words) ∷ []) ++ anywhere (string_bytes (get_or told i t).words) ∷ []
+told_behind before told i t less =
+    let own = counted (string_bytes (get_or told i t).words) ∷ [] in
+    let any = anywhere (string_bytes (get_or told i t).words) ∷ [] in
+    ap (λ (ts : List (List ℕ)). before ++ ts) (told_more told i t less) ∙ sym (append_assoc before (told_texts (take i told) ++ own) any)
+    ∙ ap (λ (ts : List (List ℕ)). ts ++ any) (sym (append_assoc before (told_texts (take i told)) own))
 
 -- ---- what look-ups tell
 
@@ -117,9 +124,17 @@ any_told e (t ∷ told) =
     ∙ ap (λ (r : Bool). (bytes_eq a e.counted || r) || list_any (bytes_eq e.counted) (told_texts told)) (same_either_way e.counted b)
     ∙ ap (λ (r : Bool). (bytes_eq a e.counted || bytes_eq b e.counted) || r) (any_told e told)
 
--- a line of the list is stale where the texts of the answer don't have its own
-pub stale_by : (keys : List (Vec ℕ)) (told : List Told) (e : Entry) → HasTexts keys (told_texts told) → not (has keys e.counted.items) ≡ is_stale (map plain_told told) (plain_entry e)
-stale_by keys told e holds = ap not (holds e.counted.items ∙ any_told (plain_entry e) told)
+-- a line of the list is stale where the texts of the lines don't have its own
+pub stale_by : (keys : List (Vec ℕ)) (told others : List Told) (e : Entry) → HasTexts keys (told_texts told ++ told_texts others)
+    → not (has keys e.counted.items) ≡ is_stale (map plain_told told ++ map plain_told others) (plain_entry e)
+stale_by keys told others e holds =
+    let all : told_texts told ++ told_texts others ≡ told_texts (told ++ others) = sym (texts_append told others) in
+    ap not (holds e.counted.items ∙ ap (list_any (bytes_eq e.counted.items)) all ∙ any_told (plain_entry e) (told ++ others))
+    ∙ ap (λ (ts : List PlainTold). is_stale ts (plain_entry e)) (map-append plain_told told others)
+
+-- nothing was in the set before
+pub no_texts : HasTexts [] []
+no_texts x = refl
 
 -- ---- one more
 

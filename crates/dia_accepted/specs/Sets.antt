@@ -1,5 +1,5 @@
 -- Sets of texts, and maps that count them.
-use Rattle.std.specs.Prelude.{ℕ, Bool, List, [], ◌∷◌, map, string_bytes, unwrap_or}
+use Rattle.std.specs.Prelude.{◌≡◌, ℕ, Bool, List, [], ◌∷◌, map, string_bytes, unwrap_or}
 use Rattle.std.specs.Borrow.{Bor}
 use Rattle.std.specs.List.{flat_map, list_any}
 use Rattle.std.specs.Map.{lookup}
@@ -15,6 +15,10 @@ bytes_of v = v.items
 -- the text is one of the keys
 abbrev pub has : List (Vec ℕ) → List ℕ → Bool
 has keys text = list_any (λ key. bytes_eq text (bytes_of key)) keys
+
+-- what a set has is what these texts have
+abbrev pub HasTexts : List (Vec ℕ) → List (List ℕ) → Type 0
+HasTexts keys texts = (x : List ℕ) → has keys x ≡ list_any (bytes_eq x) texts
 
 -- what counts of the lines of a list
 abbrev pub entry_texts : List Entry → List (List ℕ)

@@ -3,7 +3,7 @@ ghost use Rattle.std.specs.Prelude.{◌≡◌, ◌++◌, ◌∷◌, ◌||◌, []
 ghost use Rattle.std.specs.List.{list_any};
 ghost use Rattle.std.specs.Str.{bytes_eq};
 ghost use Rattle.dia_accepted.specs.Accepted.{left_of, plain_entry, plain_told, stale_lines};
-ghost use Rattle.dia_accepted.specs.Sets.{entry_texts, has, told_texts};
+ghost use Rattle.dia_accepted.specs.Sets.{HasTexts, entry_texts, has, told_texts};
 ghost use Rattle.dia_accepted.specs.Words.{anywhere, counted};
 
 use crate::list::Entry;
@@ -30,12 +30,19 @@ pub fn left<'t>(
     Ok(left)
 }
 
-/// The numbers of the lines of a list that accept nothing of an answer, in their order.
-pub fn stale(alloc: Global, list: &[Entry], told: &[Told]) -> Result<Vec<u32>, AllocError>
+/// The numbers of the lines of a list that accept none of these lines, neither of the first nor of the second, in their order.
+pub fn stale(
+    alloc: Global,
+    list: &[Entry],
+    told: &[Told],
+    others: &[Told],
+) -> Result<Vec<u32>, AllocError>
     ensures { IfOk result (λ stale. stale.items
-        ≡ stale_lines (map plain_entry list.now) (map plain_told told.now)) }
+        ≡ stale_lines (map plain_entry list.now) (map plain_told told.now ++ map plain_told others.now)) }
 {
-    let texts = texts_of_answer(alloc, told)?;
+    let mut texts = IndexSet::new(alloc);
+    add_texts(alloc, &mut texts, told)?;
+    add_texts(alloc, &mut texts, others)?;
     let mut stale = Vec::new(alloc);
     for entry in list {
         let known = texts.contains(entry.counted.as_slice());
@@ -60,7 +67,7 @@ pub(crate) fn push_unless<T: Drop>(
 
 /// What counts of the lines of a list.
 fn texts_of_list(alloc: Global, list: &[Entry]) -> Result<IndexSet<Vec<u8>>, AllocError>
-    ensures { IfOk result (λ texts. (x : List ℕ) → has texts.keys x ≡ list_any (bytes_eq x) (entry_texts list.now)) }
+    ensures { IfOk result (λ texts. HasTexts texts.keys (entry_texts list.now)) }
 {
     let mut texts = IndexSet::new(alloc);
     for entry in list {
@@ -70,17 +77,17 @@ fn texts_of_list(alloc: Global, list: &[Entry]) -> Result<IndexSet<Vec<u8>>, All
     Ok(texts)
 }
 
-/// What counts of the lines of an answer, with their paths and with `*`.
-fn texts_of_answer(alloc: Global, told: &[Told]) -> Result<IndexSet<Vec<u8>>, AllocError>
-    ensures { IfOk result (λ texts. (x : List ℕ) → has texts.keys x ≡ list_any (bytes_eq x) (told_texts told.now)) }
+/// Adds what counts of lines of an answer, with their paths and with `*`.
+fn add_texts(alloc: Global, texts: &mut IndexSet<Vec<u8>>, told: &[Told]) -> Result<(), AllocError>
+    ensures { OnOk result ((before : List (List ℕ)) → HasTexts texts.old.keys before
+        → HasTexts texts.new.keys (before ++ told_texts told.now)) }
 {
-    let mut texts = IndexSet::new(alloc);
     for line in told {
         let words = line.words.as_bytes();
         texts.insert(counted(alloc, words)?)?;
         texts.insert(anywhere(alloc, words)?)?;
     }
-    Ok(texts)
+    Ok(())
 }
 
 /// Whether the list with these texts accepts a line.

@@ -24,7 +24,7 @@ pub struct Entry {
 /// Why a text is no list. Lines count from 1.
 #[derive(Clone, Copy, Debug, PartialEq, Eq)]
 pub enum ListFault {
-    /// The line counts, and is none that `breaking` writes.
+    /// The line has neither form of the lines that `breaking` writes.
     Syntax { line: u32 },
     /// The line is one more than [`MAX_LINES`].
     Limit { line: u32 },
@@ -43,9 +43,10 @@ impl From<AllocError> for ListFault {
     }
 }
 
-/// Reads the text of a list (our profile): lines as `breaking` writes them, with `--once` or without it. Empty lines don't count, nor those that begin with
-/// `#`. A line ends with a line feed, with or without a carriage return before it; the last line needs none. The fault is that
-/// of the first line that has one. `NoMemory` comes only where memory was refused.
+/// Reads the text of a list (our profile). A line has one of the two forms that `breaking` writes: that of an answer, or that
+/// of an answer with `--once`. Empty lines are skipped, and so are those that begin with `#`. A line ends with a line feed, or
+/// with a carriage return and a line feed; the last line may do without. The fault is that of the first line that has one.
+/// `NoMemory` comes only where memory was refused.
 pub fn read_list(alloc: Global, text: &str) -> Result<Vec<Entry>, ListFault>
     ensures entries { IfOk result (λ list. map plain_entry list.items ≡ entries_of text.now) }
     ensures form { IfOk result (λ list. list_fault text.now ≡ None) }

@@ -27,7 +27,8 @@ pub fn push_bad_list(
             let at = start_of_line(text, line);
             push_place(out, name, text, at)?;
             out.push_str(
-                "this is no line of an answer of breaking, which is PATH: REASON SUBJECT: DETAIL\n",
+                "this is no line of an answer of breaking: PATH: REASON SUBJECT: DETAIL, or with --once \
+                 REASON SUBJECT: DETAIL, in N commands, first in PATH\n",
             )?;
             push_excerpt(alloc, out, text, at)?;
             write!(out, "hint: {}\n", hint_of(text))

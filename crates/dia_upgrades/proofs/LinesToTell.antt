@@ -1,5 +1,5 @@
 -- Lines that are added one behind another, and their texts.
-use Rattle.std.proofs.Common.{◌≡◌, ℕ, ◌+◌, ◌<◌, Bool, Bor, List, [], ◌∷◌, ◌++◌, get_or, length, map, take, refl, sym, ap, ◌∙◌, append_assoc, string_bytes}
+use Rattle.std.proofs.Common.{◌≡◌, ℕ, ◌+◌, ◌<◌, Bool, List, [], ◌∷◌, ◌++◌, get_or, length, map, take, refl, sym, ap, ◌∙◌, append_assoc, string_bytes}
 use Rattle.std.proofs.lemmas.List.{append-nil, map-append, take_more}
 use Rattle.dia_accepted.specs.Accepted.{PlainTold, plain_told}
 use Rattle.dia_accepted.specs.declared.Told.{Told}

@@ -3,12 +3,16 @@ use Rattle.std.proofs.Common.{◌≡◌, ℕ, ◌+◌, ◌<◌, List, [], ◌∷
 use Rattle.std.specs.Prelude.{OnOk}
 use Rattle.std.specs.List.{AllByRecursion}
 use Rattle.std.proofs.lemmas.List.{append-nil, take_more}
-use Rattle.dia_upgrades.specs.Places.{Adds}
-use Rattle.dia_upgrades.specs.Told.{AreParts}
+use Rattle.dia_upgrades.specs.Places.{Adds, AddsBoth}
+use Rattle.dia_upgrades.specs.Told.{AreBothParts, AreParts}
 
 pub on_ok : {X E : Type 0} (P Q : Type 0) (r : Result X E) → (P → Q) → OnOk r P → OnOk r Q
 on_ok P Q (Ok x) f p = f p
 on_ok P Q (Err e) f p = tt
+
+pub split : {Y : Type 0} (P : Y → Type 0) (front rest : List Y) → AllByRecursion P (front ++ rest) → AllByRecursion P front × AllByRecursion P rest
+split P [] rest all = (tt, all)
+split P (y ∷ front) rest (here, all) = let both = split P front rest all in ((here, both.0), both.1)
 
 module _ {X Y : Type 0} (is : X → List Y → Type 0) where
   one_behind : (xs : List X) (x : X) (old more : List Y) → AreParts is xs old → is x more → AreParts is (xs ++ x ∷ []) (old ++ more)
@@ -32,8 +36,43 @@ module _ {X Y : Type 0} (is : X → List Y → Type 0) where
       → AllByRecursion Q xs
   of_parts P Q each [] ys none all = tt
   of_parts P Q each (x ∷ xs) ys (front, rest, is_x, are, e) all =
-      let both = split front rest (subst (AllByRecursion P) e all) in (each x front is_x both.0, of_parts P Q each xs rest are both.1)
-    where
-      split : (front rest : List Y) → AllByRecursion P (front ++ rest) → AllByRecursion P front × AllByRecursion P rest
-      split [] rest all = (tt, all)
-      split (y ∷ front) rest (here, all) = let both = split front rest all in ((here, both.0), both.1)
+      let both = split P front rest (subst (AllByRecursion P) e all) in (each x front is_x both.0, of_parts P Q each xs rest are both.1)
+
+-- ---- two lists
+
+module _ {X Y : Type 0} (is : X → List Y → List Y → Type 0) where
+  both_behind : (xs : List X) (x : X) (old other more others : List Y) → AreBothParts is xs old other → is x more others → AreBothParts is (xs ++ x ∷ []) (old ++ more) (other ++ others)
+  both_behind [] x old other more others (none, no_other) is_x = (
+    more,
+    others,
+    [],
+    [],
+    is_x,
+    (refl, refl),
+    ap (λ (o : List Y). o ++ more) none ∙ sym (append-nil more),
+    ap (λ (o : List Y). o ++ others) no_other ∙ sym (append-nil others),
+  )
+  both_behind (y ∷ xs) x old other more others (front, first, rest, last, is_y, are, e, f) is_x = (
+    front,
+    first,
+    rest ++ more,
+    last ++ others,
+    is_y,
+    both_behind xs x rest last more others are is_x,
+    ap (λ (o : List Y). o ++ more) e ∙ append_assoc front rest more,
+    ap (λ (o : List Y). o ++ others) f ∙ append_assoc first last others,
+  )
+
+  pub both_more : (xs : List X) (i : ℕ) (d : X) (old other new changed : List Y) → i < length xs → AreBothParts is (take i xs) old other → AddsBoth (is (get_or xs i d)) old other new changed
+      → AreBothParts is (take (i + 1) xs) new changed
+  both_more xs i d old other new changed less are (more, others, is_x, e, f) =
+      let all = subst (λ (ys : List X). AreBothParts is ys (old ++ more) (other ++ others)) (sym (take_more xs i d less)) (both_behind (take i xs) (get_or xs i d) old other more others are is_x) in
+      let first = subst (λ (o : List Y). AreBothParts is (take (i + 1) xs) o (other ++ others)) (sym e) all in
+      subst (AreBothParts is (take (i + 1) xs) new) (sym f) first
+
+  -- what holds of all members of the first holds of those of each of its parts
+  pub of_both_parts : (P : Y → Type 0) (Q : X → Type 0) → ((x : X) (ys zs : List Y) → is x ys zs → AllByRecursion P ys → Q x) → (xs : List X) (ys zs : List Y) → AreBothParts is xs ys zs
+      → AllByRecursion P ys → AllByRecursion Q xs
+  of_both_parts P Q each [] ys zs none all = tt
+  of_both_parts P Q each (x ∷ xs) ys zs (front, other, rest, others, is_x, are, e, f) all =
+      let both = split P front rest (subst (AllByRecursion P) e all) in (each x front other is_x both.0, of_both_parts P Q each xs rest others are both.1)

@@ -1,5 +1,5 @@
 -- What `breaking` writes for its inputs, and how it ends.
-use Rattle.std.specs.Prelude.{◌≡◌, ◌≢◌, ℕ, Bool, true, if◌then◌else◌, List, [], ◌∷◌, ◌++◌, Some, Contains, length, map, slice_get, codes}
+use Rattle.std.specs.Prelude.{◌≡◌, ◌≢◌, ⊤, ℕ, Bool, true, if◌then◌else◌, List, [], ◌∷◌, ◌++◌, Some, Contains, length, map, slice_get, codes}
 use Rattle.std.specs.Global.{Vec}
 use Rattle.std.specs.List.{AllByRecursion, list_any}
 use Rattle.dia_book.specs.Dictionary.{Dictionary, PlainDefinition, definitions}
@@ -9,7 +9,7 @@ use Rattle.dia_compat.specs.Proposed.{IsFirstUnknown}
 use Rattle.dia_io.specs.declared.Input.{Input}
 use Rattle.dia_io.specs.declared.Inputs.{Inputs}
 use Rattle.dia_io.specs.declared.Exit.{Exit}
-use Rattle.dia_io.specs.declared.Exit.TheVariants.{Yes, No}
+use Rattle.dia_io.specs.declared.Exit.TheVariants.{Yes, No, Bad}
 use Rattle.dia_run.specs.Texts.{line, IsDictionaryText, IsNoDictionaryText}
 use Rattle.dia_run.specs.Outcome.{IsPairOutcome, Refuses}
 use Rattle.dia_accepted.specs.Accepted.{PlainEntry, PlainTold, accepts, left_of, plain_told, stale_lines}
@@ -18,8 +18,10 @@ use Rattle.dia_accepted.specs.declared.Told.{Told}
 use Rattle.dia_breaking.specs.declared.line.Line.{Line}
 use Rattle.dia_breaking.specs.declared.line.Site.{Site}
 use Rattle.dia_breaking.specs.Free.{AreValidWhereFree}
+use Rattle.dia_breaking.specs.Mended.{IsAllTold}
 use Rattle.dia_breaking.specs.Sides.{Sides, answer, sides}
 use Rattle.dia_breaking.specs.TheLines.{AreLinesOrUnproved}
+use Rattle.dia_breaking.specs.TheMeanings.{AreMeaningsOrUnproved, AreMeant, AreTheMeanings, HoldsOfLevels, IsReadAsSent}
 use Rattle.dia_upgrades.specs.declared.asked.Asked.{Asked}
 use Rattle.dia_upgrades.specs.declared.list.BadList.{BadList}
 use Rattle.dia_upgrades.specs.declared.reporting.Found.{Found}
@@ -35,32 +37,51 @@ use Rattle.dia_upgrades.specs.Told.{AreShortest, AreTold, told_text, words_at}
 abbrev pub OfEach : Asked → Dictionary → (ℕ → Type 0) → Type 0
 OfEach asked a P = (number : ℕ) (command : PlainDefinition) → slice_get (definitions a) number ≡ Some command → IsAskedFor a (names_of asked) command → P number
 
+-- the command c has no meanings: in each message of it that A's side sends, B's side reads no AVP of a level as another format
+pub record IsReadAlike (s : Sides) (c : ℕ) : Type 0 where
+  pub sites : List Site
+  pub no_meanings : ∥ AreTheMeanings s c sites [] ∥₁
+  pub as_sent : ∥ HoldsOfLevels s (answer c sites []) (IsReadAsSent s) ∥₁
+
 -- each message of it that A's side sends is valid under B
 abbrev pub NothingBreaks : Asked → Dictionary → Dictionary → Type 0
 NothingBreaks asked a b = OfEach asked a (λ number. ∥ AreValid a b asked.sends asked.unknown number ∥₁)
 
+-- with `--meaning`: it has no AVP that B's side reads as another format
+abbrev pub NothingDiffers : Asked → Dictionary → Dictionary → Type 0
+NothingDiffers asked a b = asked.meaning ≡ true → OfEach asked a (IsReadAlike (sides a b asked.sends asked.unknown))
+
 abbrev pub sides_in : Asked → Dictionary → Dictionary → Sides
 sides_in asked a b = sides a b asked.sends asked.unknown
 
--- the list accepts each line of the command c, and each message that A's side sends and that is free of these lines is valid under B
-pub record IsAcceptedWhole (s : Sides) (list : List PlainEntry) (c : ℕ) : Type 0 where
+-- the list accepts the line
+abbrev pub IsAcceptedBy : List PlainEntry → (Line → List ℕ) → Line → Type 0
+IsAcceptedBy list words line = list_any (accepts (words line)) list ≡ true
+
+-- the list accepts each line of the command c, and each message that A's side sends and that is free of these lines is valid under B;
+-- with `--meaning` it accepts each meaning, too, and these are all
+pub record IsAcceptedWhole (s : Sides) (meaning : Bool) (list : List PlainEntry) (c : ℕ) : Type 0 where
   pub lengths : List ℕ
   pub sites : List Site
   pub lines : List Line
+  pub meanings : List Line
   pub are_shortest : AreShortest s.sender s.sends lengths
   pub are_lines : AreLinesOrUnproved s (answer c sites lines)
-  pub accepted : AllByRecursion (λ line. list_any (accepts (words_at s lengths c sites line)) list ≡ true) lines
+  pub are_meanings : AreMeaningsOrUnproved s (answer c sites lines) meanings
+  pub accepted : AllByRecursion (IsAcceptedBy list (words_at s lengths c sites)) lines
+  pub meanings_accepted : meaning ≡ true → AllByRecursion (IsAcceptedBy list (words_at s lengths c sites)) meanings
   pub free : ∥ AreValidWhereFree s (answer c sites lines) ∥₁
+  pub all_meant : IsAllTold lines → ∥ HoldsOfLevels s (answer c sites lines) (AreMeant s meanings) ∥₁
 
 -- so it is of each command
 abbrev pub NothingElseBreaks : Asked → List PlainEntry → Dictionary → Dictionary → Type 0
-NothingElseBreaks asked list a b = OfEach asked a (IsAcceptedWhole (sides_in asked a b) list)
+NothingElseBreaks asked list a b = OfEach asked a (IsAcceptedWhole (sides_in asked a b) asked.meaning list)
 
 -- ---- what is told
 
--- these are the lines of the commands that are asked for
-abbrev pub AreAllTold : Asked → Dictionary → Dictionary → List PlainTold → Type 0
-AreAllTold asked a b told = AreTold (sides_in asked a b) asked.messages (asked_places a (names_of asked)) told
+-- these are the lines of the commands that are asked for, and these the ones of meanings that aren't
+abbrev pub AreAllTold : Asked → Dictionary → Dictionary → List PlainTold → List PlainTold → Type 0
+AreAllTold asked a b told apart = AreTold (sides_in asked a b) asked.messages asked.meaning (asked_places a (names_of asked)) told apart
 
 abbrev pub nothing_breaks : List ℕ
 nothing_breaks = codes "nothing breaks"
@@ -69,10 +90,17 @@ nothing_breaks = codes "nothing breaks"
 abbrev pub nothing_else_breaks : List ℕ
 nothing_else_breaks = codes "nothing else breaks"
 
+-- with `--meaning`
+abbrev pub nothing_differs : List ℕ
+nothing_differs = codes "nothing differs"
+
+abbrev pub nothing_else_differs : List ℕ
+nothing_else_differs = codes "nothing else differs"
+
 -- where none of these lines is left
-abbrev pub nothing_left : List PlainTold → List ℕ
-nothing_left [] = nothing_breaks
-nothing_left (told ∷ more) = nothing_else_breaks
+abbrev pub nothing_left : Bool → List PlainTold → List ℕ
+nothing_left meaning [] = if meaning then nothing_differs else nothing_breaks
+nothing_left meaning (told ∷ more) = if meaning then nothing_else_differs else nothing_else_breaks
 
 -- what is told of a dictionary without commands
 abbrev pub no_commands_line : List ℕ
@@ -91,26 +119,34 @@ pub record CanAsk (asked : Asked) (a : Dictionary) : Type 0 where
 abbrev pub shown : Bool → List PlainTold → List PlainTold
 shown is_once left = if is_once then once_of left else left
 
--- what was found tells which lines of the list accept none of these, how many of these are left, and their causes
-pub record TellsFound (list : List PlainEntry) (told : List PlainTold) (is : Found) : Type 0 where
+-- what was found tells which lines of the list accept none of these, how many of the first are left and their causes, and the causes of
+-- the meanings that aren't asked for and that the list doesn't accept
+pub record TellsFound (list : List PlainEntry) (told apart : List PlainTold) (is : Found) : Type 0 where
   pub stale : Vec ℕ
   pub lines : ℕ
   pub causes : Vec Told
-  pub is_listed : is ≡ found.Listed stale lines causes
-  pub stale_are : stale.items ≡ stale_lines list told
+  pub meanings : Vec Told
+  pub is_listed : is ≡ found.Listed stale lines causes meanings
+  pub stale_are : stale.items ≡ stale_lines list (told ++ apart)
   pub lines_are : lines ≡ length (left_of list told)
   pub causes_are : map plain_told causes.items ≡ once_of (left_of list told)
+  pub meanings_are : map plain_told meanings.items ≡ once_of (left_of list apart)
+
+-- the inputs can be asked for, and the list and the lines are these
+pub record IsAnswerable (asked : Asked) (input : Input) (a b : Dictionary) (list : List PlainEntry) (told apart : List PlainTold) (is : Found) : Type 0 where
+  pub list_is : IsListText input list
+  pub can_ask : CanAsk asked a
+  pub all_told : AreAllTold asked a b told apart
+  pub tells : TellsFound list told apart is
 
 -- `breaking` of two dictionaries and a list: what is written, how it ends, and what was found
 pub data IsListed (asked : Asked) (input : Input) (a b : Dictionary) (text : List ℕ) (exit : Exit) (is : Found) : Type 0 where
-  nothing : (list : List PlainEntry) → IsListText input list → CanAsk asked a → AreAllTold asked a b [] → NothingBreaks asked a b
-      → text ≡ line nothing_breaks → exit ≡ Yes → TellsFound list [] is → IsListed asked input a b text exit is
-  nothing_else : (list : List PlainEntry) (told : List PlainTold) → IsListText input list → CanAsk asked a → AreAllTold asked a b told
-      → left_of list told ≡ [] → told ≢ [] → NothingElseBreaks asked list a b → text ≡ line nothing_else_breaks → exit ≡ Yes
-      → TellsFound list told is → IsListed asked input a b text exit is
-  lines : (list : List PlainEntry) (told : List PlainTold) → IsListText input list → CanAsk asked a → AreAllTold asked a b told
-      → left_of list told ≢ [] → text ≡ told_text (shown asked.once (left_of list told)) → exit ≡ No → TellsFound list told is
-      → IsListed asked input a b text exit is
+  nothing : (list : List PlainEntry) (apart : List PlainTold) → IsAnswerable asked input a b list [] apart is → NothingBreaks asked a b → NothingDiffers asked a b
+      → text ≡ line (nothing_left asked.meaning []) → exit ≡ Yes → IsListed asked input a b text exit is
+  nothing_else : (list : List PlainEntry) (told apart : List PlainTold) → IsAnswerable asked input a b list told apart is → left_of list told ≡ [] → told ≢ []
+      → NothingElseBreaks asked list a b → text ≡ line (nothing_left asked.meaning told) → exit ≡ Yes → IsListed asked input a b text exit is
+  lines : (list : List PlainEntry) (told apart : List PlainTold) → IsAnswerable asked input a b list told apart is → left_of list told ≢ []
+      → text ≡ told_text (shown asked.once (left_of list told)) → exit ≡ No → IsListed asked input a b text exit is
   bad_list : (bad : BadList) → IsNoListText input bad → Refuses (list_line bad) text exit → is ≡ found.NoList bad → IsListed asked input a b text exit is
   no_commands : (list : List PlainEntry) → IsListText input list → a.commands ≡ [] → Refuses no_commands_line text exit → is ≡ found.NoCommands
       → IsListed asked input a b text exit is
@@ -123,12 +159,23 @@ IsAnyListed asked input a b text exit = (is : Found) × IsListed asked input a b
 
 -- what was found has so many lines
 abbrev pub HasLines : Found → ℕ → Type 0
-HasLines is n = (stale : Vec ℕ) × (causes : Vec Told) × (is ≡ found.Listed stale n causes)
+HasLines is n = (stale : Vec ℕ) × (causes : Vec Told) × (meanings : Vec Told) × (is ≡ found.Listed stale n causes meanings)
+
+-- what was found has no lines
+abbrev pub HasNoLines : Found → Type 0
+HasNoLines (found.Listed stale n causes meanings) = ⊥
+HasNoLines (found.NoList bad) = ⊤
+HasNoLines found.NoCommands = ⊤
+HasNoLines found.NoCommand = ⊤
 
 -- so many lines are told that the list doesn't accept
 abbrev pub AreLeft : Asked → Input → Dictionary → Dictionary → ℕ → Type 0
-AreLeft asked input a b n =
-    (list : List PlainEntry) × (told : List PlainTold) × IsListText input list × AreAllTold asked a b told × (n ≡ length (left_of list told))
+AreLeft asked input a b n = (list : List PlainEntry) × (told : List PlainTold) × (apart : List PlainTold) × IsListText input list × AreAllTold asked a b told apart
+    × (n ≡ length (left_of list told))
+
+-- the list is refused, or the commands can't be asked for: so it ends
+abbrev pub CannotAnswer : Asked → Input → Dictionary → Dictionary → Type 0
+CannotAnswer asked input a b = (text : List ℕ) × (is : Found) × IsListed asked input a b text Bad is
 
 -- `breaking` of the inputs
 abbrev pub IsBreakingOutcome : Asked → Inputs → List ℕ → Exit → Type 0
@@ -145,15 +192,16 @@ pub record AreRead (asked : Asked) (inputs : Inputs) (a b : Dictionary) (list : 
 
 -- what a no says: this is the text of the lines that the list doesn't accept, or of their causes, and there is one
 abbrev pub IsUnsafeUpgrade : Asked → Inputs → List ℕ → Type 0
-IsUnsafeUpgrade asked inputs text = (a : Dictionary) × (b : Dictionary) × (list : List PlainEntry) × (told : List PlainTold) × AreRead asked inputs a b list
-    × AreAllTold asked a b told × (left_of list told ≢ []) × (text ≡ told_text (shown asked.once (left_of list told)))
+IsUnsafeUpgrade asked inputs text = (a : Dictionary) × (b : Dictionary) × (list : List PlainEntry) × (told : List PlainTold) × (apart : List PlainTold) × AreRead asked inputs a b list
+    × AreAllTold asked a b told apart × (left_of list told ≢ []) × (text ≡ told_text (shown asked.once (left_of list told)))
 
--- what a yes says: nothing breaks, or nothing but what the list accepts; and what is written says which
+-- what a yes says: nothing breaks, or nothing but what the list accepts; with `--meaning` nothing is read as another format, either, or
+-- nothing but what the list accepts; and what is written says which
 pub data IsSafeUpgrade (asked : Asked) (inputs : Inputs) (text : List ℕ) : Type 0 where
-  safe : (a b : Dictionary) (list : List PlainEntry) → AreRead asked inputs a b list → NothingBreaks asked a b → text ≡ line nothing_breaks
-      → IsSafeUpgrade asked inputs text
+  safe : (a b : Dictionary) (list : List PlainEntry) → AreRead asked inputs a b list → NothingBreaks asked a b → NothingDiffers asked a b
+      → text ≡ line (if asked.meaning then nothing_differs else nothing_breaks) → IsSafeUpgrade asked inputs text
   accepted : (a b : Dictionary) (list : List PlainEntry) → AreRead asked inputs a b list → NothingElseBreaks asked list a b
-      → text ≡ line nothing_else_breaks → IsSafeUpgrade asked inputs text
+      → text ≡ line (if asked.meaning then nothing_else_differs else nothing_else_breaks) → IsSafeUpgrade asked inputs text
 
 -- the inputs are refused: one is no dictionary's text, or no list's; or the first has no commands, or none of a name that is given
 pub data AreRefused (asked : Asked) (inputs : Inputs) : Type 0 where

@@ -21,3 +21,7 @@ AreAllValid a b sends unknown places = All (λ place. ∥ AreValid a b sends unk
 -- such a list was added
 abbrev pub Adds : {Y : Type 0} → (List Y → Type 0) → List Y → List Y → Type 0
 Adds {Y} is old new = (more : List Y) × is more × (new ≡ old ++ more)
+
+-- so it was to two lists
+abbrev pub AddsBoth : {Y : Type 0} → (List Y → List Y → Type 0) → List Y → List Y → List Y → List Y → Type 0
+AddsBoth {Y} are old other new changed = (more : List Y) × (others : List Y) × are more others × (new ≡ old ++ more) × (changed ≡ other ++ others)

@@ -1,11 +1,13 @@
 -- What is told of the commands that are asked for: the lines of each, in their order.
-use Rattle.std.specs.Prelude.{◌≡◌, ℕ, ◌+◌, Bool, true, false, List, [], ◌∷◌, ◌++◌, length, codes}
+use Rattle.std.specs.Prelude.{◌≡◌, ℕ, ◌+◌, Bool, true, false, if◌then◌else◌, List, [], ◌∷◌, ◌++◌, length, codes}
 use Rattle.std.specs.List.{flat_map}
 use Rattle.hex.specs.Hex.{IsBytes, encode_lower}
 use Rattle.dia_accepted.specs.Accepted.{PlainTold}
 use Rattle.dia_policy.specs.declared.sends.Sends.{Sends}
 use Rattle.dia_book.specs.Dictionary.{Dictionary, groups}
 use Rattle.dia_breaking_shortest.specs.Exact.{AreExact}
+use Rattle.dia_breaking.specs.declared.line.Cause.{Cause}
+use Rattle.dia_breaking.specs.declared.line.Cause.TheVariants as causes
 use Rattle.dia_breaking.specs.declared.line.Line.{Line}
 use Rattle.dia_breaking.specs.declared.line.Site.{Site}
 use Rattle.dia_breaking.specs.declared.line.Standing.{Standing}
@@ -13,8 +15,11 @@ use Rattle.dia_breaking.specs.declared.line.Standing.TheVariants.{Confirmed, Unc
 use Rattle.dia_breaking.specs.Confirmed.{EachConfirmedBreaks, HaveStandings, most_checked_together}
 use Rattle.dia_breaking.specs.Free.{AreValidWhereFree}
 use Rattle.dia_breaking.specs.Lengths.{AreEntryLengths, other_length}
+use Rattle.dia_breaking.specs.Orders.{IsInOrderOf}
+use Rattle.dia_breaking.specs.Mended.{IsAllTold}
 use Rattle.dia_breaking.specs.OwnBreaks.{TellData}
 use Rattle.dia_breaking.specs.TheLines.{AreLinesOrUnproved}
+use Rattle.dia_breaking.specs.TheMeanings.{AreMeaningsOrUnproved, AreMeant, HoldsOfLevels, IsReadAsSent}
 use Rattle.dia_breaking.specs.Words.{words_of}
 use Rattle.dia_breaking.specs.Sides.{Sides, answer}
 use Rattle.dia_run.specs.Texts.{line}
@@ -23,6 +28,12 @@ use Rattle.dia_run.specs.Texts.{line}
 abbrev pub AreParts : {X Y : Type 0} → (X → List Y → Type 0) → List X → List Y → Type 0
 AreParts is [] ys = ys ≡ []
 AreParts {X} {Y} is (x ∷ xs) ys = (front : List Y) × (rest : List Y) × is x front × AreParts is xs rest × (ys ≡ front ++ rest)
+
+-- so are two lists, the parts of the one beside those of the other
+abbrev pub AreBothParts : {X Y : Type 0} → (X → List Y → List Y → Type 0) → List X → List Y → List Y → Type 0
+AreBothParts is [] ys zs = (ys ≡ []) × (zs ≡ [])
+AreBothParts {X} {Y} is (x ∷ xs) ys zs = (front : List Y) × (other : List Y) × (rest : List Y) × (others : List Y) × is x front other × AreBothParts is xs rest others
+    × (ys ≡ front ++ rest) × (zs ≡ other ++ others)
 
 -- ---- a line
 
@@ -66,23 +77,49 @@ words_at s lengths c sites line = words_of s (other_length s.sender s.sends leng
 abbrev pub AreShortest : Dictionary → Sends → List ℕ → Type 0
 AreShortest a who lengths = ∥ ((least : List ℕ) × AreExact a who least × AreEntryLengths a least lengths) ∥₁
 
+-- where a line stands among those of its command: at its site, but for the one that tells that not all is shown, which stands last
+abbrev pub place_with : ℕ → Cause → ℕ
+place_with site causes.Unproved = 18446744073709551615
+place_with site cause = site
+
+abbrev pub place_of : Line → ℕ
+place_of line = place_with line.site line.cause
+
+-- the lines that are shown: those of what breaks; with `--meaning` also those of meanings, which stand behind the others of their site
+abbrev pub AreShown : Bool → List Line → List Line → List Line → Type 0
+AreShown true lines meanings shown = IsInOrderOf place_of (lines ++ meanings) shown
+AreShown false lines meanings shown = shown ≡ lines
+
+-- the meanings that aren't shown
+abbrev pub apart_of : Bool → List Line → List Line
+apart_of meaning meanings = if meaning then [] else meanings
+
 -- these are told of the command at this place: the lines that its dictionaries have, unless one tells that not all is shown. A message
 -- that A's side sends, and that breaks in none of their ways, is valid under B. A line that is confirmed has a message that breaks; which
--- messages are checked follows from the lines' causes and lengths; and a line about a format has data that B refuses, if it names some
-pub record IsToldOf (s : Sides) (messages : Bool) (lengths : List ℕ) (place : ℕ) (told : List PlainTold) : Type 0 where
+-- messages are checked follows from the lines' causes and lengths; and a line about a format has data that B refuses, if it names some.
+-- The meanings are those that its dictionaries have; unless a line tells that not all is shown, they are all AVPs that B reads as another
+-- format. Those that aren't shown are told apart
+pub record IsToldOf (s : Sides) (messages meaning : Bool) (lengths : List ℕ) (place : ℕ) (told apart : List PlainTold) : Type 0 where
   pub sites : List Site
   pub lines : List Line
+  pub meanings : List Line
+  pub shown : List Line
   pub are_lines : AreLinesOrUnproved s (answer (number_at s.sender place) sites lines)
   pub free : ∥ AreValidWhereFree s (answer (number_at s.sender place) sites lines) ∥₁
   pub confirmed : EachConfirmedBreaks s (number_at s.sender place) lines
   pub standings : HaveStandings most_checked_together lines
   pub formats : ∥ TellData s lines ∥₁
-  pub told_are : AreParts (IsLineTold place messages (words_at s lengths (number_at s.sender place) sites)) lines told
+  pub are_meanings : AreMeaningsOrUnproved s (answer (number_at s.sender place) sites lines) meanings
+  pub all_meant : IsAllTold lines → ∥ HoldsOfLevels s (answer (number_at s.sender place) sites lines) (AreMeant s meanings) ∥₁
+  pub read_alike : IsAllTold lines → meanings ≡ [] → ∥ HoldsOfLevels s (answer (number_at s.sender place) sites lines) (IsReadAsSent s) ∥₁
+  pub are_shown : AreShown meaning lines meanings shown
+  pub told_are : AreParts (IsLineTold place messages (words_at s lengths (number_at s.sender place) sites)) shown told
+  pub apart_are : AreParts (IsLineTold place false (words_at s lengths (number_at s.sender place) sites)) (apart_of meaning meanings) apart
 
 -- ---- all of them
 
--- these are told of A's commands at these places
-pub record AreTold (s : Sides) (messages : Bool) (places : List ℕ) (told : List PlainTold) : Type 0 where
+-- these are told of A's commands at these places, and these apart
+pub record AreTold (s : Sides) (messages meaning : Bool) (places : List ℕ) (told apart : List PlainTold) : Type 0 where
   pub lengths : List ℕ
   pub are_shortest : AreShortest s.sender s.sends lengths
-  pub each : AreParts (IsToldOf s messages lengths) places told
+  pub each : AreBothParts (IsToldOf s messages meaning lengths) places told apart

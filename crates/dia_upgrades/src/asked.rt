@@ -13,6 +13,8 @@ pub struct Asked<'a> {
     pub messages: bool,
     /// Whether lines of one cause are one line.
     pub once: bool,
+    /// Whether AVPs that are read as another format are lines, too.
+    pub meaning: bool,
     /// The commands of the first dictionary that are listed: all where none is named.
     pub names: &'a [String],
 }

@@ -18,10 +18,13 @@ use dia_report::{BadInput, BothBooks, Refused};
 use dia_run::read_dictionary;
 use std::alloc::{AllocError, Global};
 
-/// Writes a line for each way in which messages that the side of the first dictionary sends break under the second, but for
-/// those that the list of accepted lines, the table's input, accepts; with `once` a line for each of their causes. Or writes
-/// `nothing breaks`, or `nothing else breaks` where the list accepts all that breaks. Answers how it ended, and a report, which
-/// has how many lines and causes there are, and the lines of the list that accept nothing.
+/// Writes a line for each way in which messages break: those that the side of the first dictionary sends, and the side of the
+/// second reads. With `meaning` AVPs that are read as another format have lines, too. Lines that the list of accepted ones, the
+/// table's input, accepts aren't written. With `once` there is a line for each cause of the others.
+///
+/// Without any line it writes `nothing breaks`, and where the list accepts each, `nothing else breaks`; with `meaning` it is
+/// `nothing differs` and `nothing else differs`. It answers how it ended, and a report: how many lines and causes there are,
+/// which lines of the list accept nothing, and, without `meaning`, the AVPs that are read as another format.
 ///
 /// The text is made first, and then written in whatever pieces the sink takes.
 pub fn breaking<S: Sink>(
@@ -35,7 +38,8 @@ pub fn breaking<S: Sink>(
         (λ reported. (text : List ℕ) × IsBreakingOutcome asked.entry inputs.now text reported.exit
         × IsReport ⟦<IndexedBook as Book>⟧.meaning asked.entry inputs.now reported.report text reported.exit
         × Appends (S.written sink.old) (S.written sink.new) text) }
-    // Where it answers yes, nothing breaks, or nothing but what the list accepts, and it has said which.
+    // Where it answers yes, nothing breaks, or nothing but what the list accepts, and it has said which; with `meaning` nothing
+    // is read as another format, either, but for what the list accepts.
     ensures yes { IfOk result (λ reported. reported.exit ≡ Exit.Yes → (told : List ℕ) × IsSafeUpgrade asked.entry inputs.now told
         × Appends (S.written sink.old) (S.written sink.new) told) }
     // Where it answers no, it has written the lines that the list doesn't accept, and at least one.

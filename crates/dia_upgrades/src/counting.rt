@@ -1,7 +1,7 @@
 //! How much breaks, over dictionaries that were read.
 
-ghost use Rattle.std.specs.Prelude.{IfOk, IfSome};
-ghost use Rattle.dia_upgrades.specs.Outcome.{AreLeft, HasLines};
+ghost use Rattle.std.specs.Prelude.{◌≡◌, ◌↔◌, IfOk, IfSome, IsNone, None};
+ghost use Rattle.dia_upgrades.specs.Outcome.{AreLeft, CannotAnswer, HasLines, HasNoLines};
 
 use crate::asked::Asked;
 use crate::judging::judged;
@@ -11,27 +11,33 @@ use dia_io::Input;
 use dia_report::BothBooks;
 use std::alloc::{AllocError, Global};
 
-/// How many lines an answer has over these dictionaries that the list in this input doesn't accept. Nothing is answered where the
-/// list or the names are refused.
+/// How many lines an answer has over these dictionaries that the list in this input doesn't accept. There is none exactly where
+/// the answer is a refusal: of the list, of a dictionary without commands, or of a name.
 pub fn lines_left(
     alloc: Global,
     asked: Asked<'_>,
     input: &Input,
     books: &BothBooks,
 ) -> Result<Option<usize>, AllocError>
-    ensures { IfOk result (λ left. IfSome left (AreLeft asked.entry input.now
+    ensures some { IfOk result (λ left. IfSome left (AreLeft asked.entry input.now
         (⟦<IndexedBook as Book>⟧.meaning books.now.first.value.book)
         (⟦<IndexedBook as Book>⟧.meaning books.now.second.value.book))) }
+    ensures none { IfOk result (λ left. (left ≡ None) ↔ CannotAnswer asked.entry input.now
+        (⟦<IndexedBook as Book>⟧.meaning books.now.first.value.book)
+        (⟦<IndexedBook as Book>⟧.meaning books.now.second.value.book)) }
 {
     let judged = judged(alloc, asked, input, &books.first.book, &books.second.book)?;
     Ok(count_of(&judged.found))
 }
 
 fn count_of(found: &Found) -> Option<usize>
-    ensures { IfSome result (HasLines found.now) }
+    ensures some { IfSome result (HasLines found.now) }
+    ensures none { IsNone result → HasNoLines found.now }
 {
     match found {
         Found::Listed { lines, .. } => Some(*lines),
-        Found::NoList(_) | Found::NoCommands | Found::NoCommand => None,
+        Found::NoList(_) => None,
+        Found::NoCommands => None,
+        Found::NoCommand => None,
     }
 }

@@ -4,12 +4,13 @@ ghost use Rattle.std.specs.Prelude.{◌≡◌, ◌++◌, ◌==◌, [], IfOk, OnO
 ghost use Rattle.dia_io.specs.declared.Input.{Input as AnyInput};
 ghost use Rattle.dia_run.specs.Texts.{line};
 ghost use Rattle.dia_accepted.specs.Accepted.{left_of, plain_entry, plain_told};
+ghost use Rattle.dia_accepted.specs.Causes.{once_of};
 ghost use Rattle.dia_upgrades.specs.Lists.{IsListText, list_line};
 ghost use Rattle.dia_upgrades.specs.Outcome.{IsListed, TellsFound, no_command_line, no_commands_line, nothing_left, shown};
 ghost use Rattle.dia_upgrades.specs.Told.{told_text};
 
 use crate::asked::Asked;
-use crate::lines::lines_of;
+use crate::lines::{Lines, lines_of};
 use crate::list::{BadList, read_accepted};
 use crate::naming::named;
 use crate::reporting::{Found, Judged};
@@ -59,9 +60,8 @@ fn listed<A: Book, B: Book>(
     match named(alloc, a, asked.names)? {
         Ok(commands) => {
             let upgrade = Upgrade::new(alloc, a, b, asked.sends, asked.unknown)?;
-            let lines = lines_of(alloc, &upgrade, &commands, asked.messages)?;
-            let told = lines.as_slice();
-            compared(alloc, asked.once, list, told)
+            let lines = lines_of(alloc, &upgrade, &commands, asked)?;
+            compared(alloc, asked, list, &lines)
         }
         Err(name) => no_command(alloc, name),
     }
@@ -76,52 +76,74 @@ fn has_no_commands<A: Book>(a: &A) -> bool
 /// What is written of lines, how much is left of them, and which lines of the list accept none of them.
 fn compared(
     alloc: Global,
-    is_once: bool,
+    asked: Asked<'_>,
     list: &[Entry],
-    lines: &[Told],
+    lines: &Lines,
 ) -> Result<Judged, AllocError>
-    ensures found { IfOk result (λ judged. TellsFound (map plain_entry list.now) (map plain_told lines.now) judged.found) }
-    ensures none { left_of (map plain_entry list.now) (map plain_told lines.now) ≡ [] → IfOk result (λ judged.
-        (judged.exit ≡ Exit.Yes) × (string_bytes judged.text ≡ line (nothing_left (map plain_told lines.now)))) }
-    ensures some { ¬ (left_of (map plain_entry list.now) (map plain_told lines.now) ≡ []) → IfOk result (λ judged.
-        (judged.exit ≡ Exit.No) × (string_bytes judged.text
-        ≡ told_text (shown is_once (left_of (map plain_entry list.now) (map plain_told lines.now))))) }
+    ensures found { IfOk result (λ judged. TellsFound (map plain_entry list.now)
+        (map plain_told lines.now.told.items) (map plain_told lines.now.apart.items) judged.found) }
+    ensures none { left_of (map plain_entry list.now) (map plain_told lines.now.told.items) ≡ []
+        → IfOk result (λ judged. (judged.exit ≡ Exit.Yes)
+        × (string_bytes judged.text ≡ line (nothing_left asked.entry.meaning (map plain_told lines.now.told.items)))) }
+    ensures some { ¬ (left_of (map plain_entry list.now) (map plain_told lines.now.told.items) ≡ [])
+        → IfOk result (λ judged. (judged.exit ≡ Exit.No) × (string_bytes judged.text
+        ≡ told_text (shown asked.entry.once (left_of (map plain_entry list.now) (map plain_told lines.now.told.items))))) }
 {
-    let left = left(alloc, list, lines)?;
+    let told = lines.told.as_slice();
+    let apart = lines.apart.as_slice();
+    let left = left(alloc, list, told)?;
     let rest = left.as_slice();
     let causes = once(alloc, rest)?;
-    let text = text_shown(alloc, is_once, rest, causes.as_slice())?;
-    let stale = stale(alloc, list, lines)?;
+    let text = text_shown(alloc, asked.once, rest, causes.as_slice())?;
+    let meanings = causes_left(alloc, list, apart)?;
+    let stale = stale(alloc, list, told, apart)?;
     let found = Found::Listed {
         stale,
         lines: rest.len(),
         causes,
+        meanings,
     };
     if rest.is_empty() {
-        return nothing_told(alloc, lines, found);
+        return nothing_told(alloc, asked.meaning, told, found);
     }
     let exit = Exit::No;
     Ok(Judged { text, exit, found })
 }
 
+/// A line for each cause of the lines that the list doesn't accept.
+fn causes_left(alloc: Global, list: &[Entry], lines: &[Told]) -> Result<Vec<Told>, AllocError>
+    ensures { IfOk result (λ causes. map plain_told causes.items
+        ≡ once_of (left_of (map plain_entry list.now) (map plain_told lines.now))) }
+{
+    let left = left(alloc, list, lines)?;
+    once(alloc, left.as_slice())
+}
+
 /// What is written where no line is left of these.
-fn nothing_told(alloc: Global, lines: &[Told], found: Found) -> Result<Judged, AllocError>
-    ensures text { IfOk result (λ judged. string_bytes judged.text ≡ line (nothing_left (map plain_told lines.now))) }
+fn nothing_told(
+    alloc: Global,
+    meaning: bool,
+    lines: &[Told],
+    found: Found,
+) -> Result<Judged, AllocError>
+    ensures text { IfOk result (λ judged. string_bytes judged.text
+        ≡ line (nothing_left meaning (map plain_told lines.now))) }
     ensures exit { IfOk result (λ judged. judged.exit ≡ Exit.Yes) }
     ensures found { IfOk result (λ judged. judged.found ≡ found) }
 {
-    let text = String::from_str(alloc, nothing_left(lines))?;
+    let text = String::from_str(alloc, nothing_left(lines, meaning))?;
     let exit = Exit::Yes;
     Ok(Judged { text, exit, found })
 }
 
-fn nothing_left(lines: &[Told]) -> &'static str
-    ensures { result.now ≡ line (nothing_left (map plain_told lines.now)) }
+fn nothing_left(lines: &[Told], meaning: bool) -> &'static str
+    ensures { result.now ≡ line (nothing_left meaning (map plain_told lines.now)) }
 {
-    if lines.is_empty() {
-        "nothing breaks\n"
-    } else {
-        "nothing else breaks\n"
+    match (lines.is_empty(), meaning) {
+        (true, false) => "nothing breaks\n",
+        (true, true) => "nothing differs\n",
+        (false, false) => "nothing else breaks\n",
+        (false, true) => "nothing else differs\n",
     }
 }
 

@@ -1,50 +1,132 @@
 //! The lines of the commands.
 
-ghost use Rattle.std.specs.Prelude.{◌≡◌, ◌<◌, All, IfOk, OnOk, length, map, string_bytes};
+ghost use Rattle.std.specs.Prelude.{◌≡◌, ◌<◌, ◌++◌, All, IfOk, OnOk, length, map, string_bytes};
+ghost use Rattle.dia_breaking.specs.Orders.{IsInOrderOf};
 ghost use Rattle.dia_breaking.specs.Upgrades.{facts_of, other_length_of, sides_of};
 ghost use Rattle.dia_breaking.specs.Words.{words_of};
 ghost use Rattle.dia_accepted.specs.Accepted.{plain_told};
-ghost use Rattle.dia_upgrades.specs.Places.{Adds};
-ghost use Rattle.dia_upgrades.specs.Told.{AreParts, AreTold, IsBehind, IsLineTold, IsMessageLine, IsToldOf};
-ghost use Rattle.dia_upgrades.specs.Told.{has_message};
+ghost use Rattle.dia_upgrades.specs.Places.{Adds, AddsBoth};
+ghost use Rattle.dia_upgrades.specs.Told.{AreParts, AreShown, AreTold, IsBehind, IsLineTold, IsMessageLine, IsToldOf};
+ghost use Rattle.dia_upgrades.specs.Told.{apart_of, has_message, place_of};
 
+use crate::asked::Asked;
 use dia_accepted::Told;
-use dia_breaking::{Breaks, Line, Standing, Upgrade};
+use dia_breaking::{Breaks, Cause, Line, Standing, Upgrade};
 use dia_dict::Book;
 use std::alloc::{AllocError, Global};
+
+/// The lines of the commands that are asked for.
+#[derive(Drop)]
+pub(crate) struct Lines {
+    /// Those of the answer.
+    pub told: Vec<Told>,
+    /// Those of meanings that aren't asked for, without messages.
+    pub apart: Vec<Told>,
+}
 
 /// The lines of the commands at these places of A's commands.
 pub(crate) fn lines_of<A: Book, B: Book>(
     alloc: Global,
     upgrade: &Upgrade<'_, A, B>,
     places: &[usize],
-    messages: bool,
-) -> Result<Vec<Told>, AllocError>
+    asked: Asked<'_>,
+) -> Result<Lines, AllocError>
     requires { All (λ place. place < length (sides_of upgrade.now).sender.commands) places.now }
-    ensures { IfOk result (λ told. AreTold (sides_of upgrade.now) messages places.now (map plain_told told.items)) }
+    ensures { IfOk result (λ lines. AreTold (sides_of upgrade.now) asked.entry.messages asked.entry.meaning places.now
+        (map plain_told lines.told.items) (map plain_told lines.apart.items)) }
 {
-    let mut told = Vec::new(alloc);
+    let told = Vec::new(alloc);
+    let apart = Vec::new(alloc);
+    let mut lines = Lines { told, apart };
     for place in places {
-        push_command(alloc, &mut told, upgrade, *place, messages)?;
+        push_command(alloc, &mut lines, upgrade, *place, asked)?;
     }
-    Ok(told)
+    Ok(lines)
 }
 
 /// Adds the lines of a command of A, by its place among the commands.
 fn push_command<A: Book, B: Book>(
     alloc: Global,
-    told: &mut Vec<Told>,
+    lines: &mut Lines,
     upgrade: &Upgrade<'_, A, B>,
     place: usize,
-    messages: bool,
+    asked: Asked<'_>,
 ) -> Result<(), AllocError>
     requires { place < length (sides_of upgrade.now).sender.commands }
-    ensures { OnOk result (Adds (IsToldOf (sides_of upgrade.now) messages (facts_of upgrade.now).lengths place)
-        (map plain_told told.old.items) (map plain_told told.new.items)) }
+    ensures { OnOk result (AddsBoth
+        (IsToldOf (sides_of upgrade.now) asked.entry.messages asked.entry.meaning (facts_of upgrade.now).lengths place)
+        (map plain_told lines.old.told.items) (map plain_told lines.old.apart.items)
+        (map plain_told lines.new.told.items) (map plain_told lines.new.apart.items)) }
 {
     let command = upgrade.sender().command_at(place);
     let breaks = upgrade.breaks(alloc, command)?;
-    push_lines(alloc, told, upgrade, &breaks, place, messages)
+    let shown = shown_of(alloc, &breaks, asked.meaning)?;
+    let rows = shown.as_slice();
+    let apart = apart_of(breaks.meanings.as_slice(), asked.meaning);
+    let messages = asked.messages;
+    push_lines(
+        alloc,
+        &mut lines.told,
+        upgrade,
+        &breaks,
+        rows,
+        place,
+        messages,
+    )?;
+    push_lines(
+        alloc,
+        &mut lines.apart,
+        upgrade,
+        &breaks,
+        apart,
+        place,
+        false,
+    )?;
+    Ok(())
+}
+
+/// The lines of a command that are shown: those of its meanings stand behind the others of their site.
+fn shown_of(alloc: Global, breaks: &Breaks, meaning: bool) -> Result<Vec<Line>, AllocError>
+    ensures { IfOk result (λ shown. AreShown meaning breaks.now.lines.items breaks.now.meanings.items shown.items) }
+{
+    let mut shown = Vec::from_slice(alloc, &breaks.lines)?;
+    if meaning {
+        shown.extend_from_slice(&breaks.meanings)?;
+        sort_by_place(&mut shown)?;
+    }
+    Ok(shown)
+}
+
+fn sort_by_place(lines: &mut Vec<Line>) -> Result<(), AllocError>
+    ensures { OnOk result (IsInOrderOf place_of lines.old.items lines.new.items) }
+{
+    lines.sort_by_key(|line| place_of(line))?;
+    Ok(())
+}
+
+/// Where a line stands: at its site, or, where it tells that not all is shown, last.
+fn place_of(line: &Line) -> usize
+    ensures { result ≡ place_of line.now }
+{
+    match line.cause {
+        Cause::Unproved => usize::MAX,
+        Cause::Command
+        | Cause::Application
+        | Cause::Proxiable { .. }
+        | Cause::Level(_)
+        | Cause::Unknown { .. }
+        | Cause::MBit { .. }
+        | Cause::Format { .. }
+        | Cause::LevelAsLeaf { .. }
+        | Cause::Meaning { .. } => line.site,
+    }
+}
+
+/// The meanings that aren't shown.
+fn apart_of(meanings: &[Line], meaning: bool) -> &[Line]
+    ensures { result.now ≡ apart_of meaning meanings.now }
+{
+    if meaning { &[] } else { meanings }
 }
 
 /// Adds these lines.
@@ -53,15 +135,16 @@ fn push_lines<A: Book, B: Book>(
     told: &mut Vec<Told>,
     upgrade: &Upgrade<'_, A, B>,
     breaks: &Breaks,
+    lines: &[Line],
     place: usize,
     messages: bool,
 ) -> Result<(), AllocError>
     ensures { OnOk result (Adds (AreParts (IsLineTold place messages
         (words_of (sides_of upgrade.now) (other_length_of upgrade.now)
-        breaks.now.command breaks.now.sites.items)) breaks.now.lines.items)
+        breaks.now.command breaks.now.sites.items)) lines.now)
         (map plain_told told.old.items) (map plain_told told.new.items)) }
 {
-    for line in &breaks.lines {
+    for line in lines {
         push_line(alloc, told, upgrade, breaks, line, place, messages)?;
     }
     Ok(())

@@ -16,6 +16,9 @@ pub enum Found {
         lines: usize,
         /// A line for each cause of these.
         causes: Vec<Told>,
+        /// Where meanings aren't asked for: a line for each AVP that the second side reads as another format, but for those
+        /// that the list accepts.
+        meanings: Vec<Told>,
     },
     /// The text of the list is refused.
     NoList(BadList),

@@ -1,7 +1,7 @@
 use Rattle.std.proofs.Common.{ap, subst, sym, take, ◌∙◌}
 use Rattle.dia_accepted.specs.declared.list.Entry.{Entry}
-use Rattle.dia_accepted.specs.Sets.{entry_texts}
-use Rattle.dia_accepted.proofs.Sets.{HasTexts, entry_more, set_more}
+use Rattle.dia_accepted.specs.Sets.{HasTexts, entry_texts}
+use Rattle.dia_accepted.proofs.Sets.{entry_more, set_more}
 use Rattle.dia_accepted.proofs.accepting.texts_of_list.Goals as goal
 
 pub loop-entry-preserved : goal.loop-entry-preserved

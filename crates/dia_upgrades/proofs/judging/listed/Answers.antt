@@ -2,11 +2,9 @@ use Rattle.std.proofs.Common.{◌≡◌, ◌<◌, List, length, map, subst, sym,
 use Rattle.std.specs.Prelude.{All}
 use Rattle.std.proofs.lemmas.Bool.{eqb-true}
 use Rattle.dia_accepted.specs.Accepted.{plain_entry, plain_told}
-use Rattle.dia_accepted.specs.declared.told.Told.{Told}
 use Rattle.dia_breaking.specs.Sides.{Sides, sides}
 use Rattle.dia_breaking.specs.Upgrades.{sides_of}
 use Rattle.dia_upgrades.specs.Asking.{names_of}
-use Rattle.dia_upgrades.specs.Places.{asked_places}
 use Rattle.dia_upgrades.specs.Told.{AreTold}
 use Rattle.dia_upgrades.proofs.AskedCommands.{asked_within}
 use Rattle.dia_upgrades.proofs.Outcomes.{by_lines, empty, no_items, not_zero, some_items, unnamed}
@@ -31,19 +29,18 @@ returns-in_ok-lines-in-Ok g c = λ input is_list.
     let da = g.A.Book.meaning c.args.a.now in
     let db = g.B.Book.meaning c.args.b.now in
     let asked = c.args.asked in
-    let told = map plain_told c.in_ok-lines-in-Ok.lines.items in
+    let told = map plain_told c.in_ok-lines-in-Ok.lines.told.items in
+    let apart = map plain_told c.in_ok-lines-in-Ok.lines.apart.items in
     let known = rw c.in-Ok.is at c.in_ok-commands.ensures.known in
     let same = rw c.in-Ok.is at c.in_ok-commands.ensures.exact in
     let made = c.in_ok-upgrade-in-Ok.ensures in
     let between : sides_of c.in_ok-upgrade-in-Ok.upgrade ≡ sides da db asked.sends asked.unknown =
     λ i. sides (g.A.Book.meaning (made.sender i)) (g.B.Book.meaning (made.receiver i)) (made.sends i) (made.unknown i) in
-    let by_sides = subst (λ (s : Sides). AreTold s asked.messages c.deref.result.now told) between c.in_ok-lines-in-Ok.ensures in
-    let by_places = subst (λ (places : List ℕ). AreTold (sides da db asked.sends asked.unknown) asked.messages places told) c.deref.ensures.value by_sides in
-    let all = subst (λ (places : List ℕ). AreTold (sides da db asked.sends asked.unknown) asked.messages places told) same by_places in
-    let slice = c.as_slice-told.result.now in
-    let here = subst (λ (ts : List Told). AreTold (sides da db asked.sends asked.unknown) asked.messages (asked_places da (names_of asked)) (map plain_told ts)) (sym c.as_slice-told.ensures.value) all in
+    let by_sides = subst (λ (s : Sides). AreTold s asked.messages asked.meaning c.deref.result.now told apart) between c.in_ok-lines-in-Ok.ensures in
+    let by_places = subst (λ (places : List ℕ). AreTold (sides da db asked.sends asked.unknown) asked.messages asked.meaning places told apart) c.deref.ensures.value by_sides in
+    let all = subst (λ (places : List ℕ). AreTold (sides da db asked.sends asked.unknown) asked.messages asked.meaning places told apart) same by_places in
     let some = some_items da.commands (not_zero (length da.commands) (sym c.has_no_commands.ensures ∙ c.if-has_no_commands.false)) in
-    by_lines asked input da db (map plain_entry c.args.list.now) is_list (g.met.A.Book.sound c.args.a.now) (record { some = some; known = known }) (map plain_told slice) c.compared.result here
+    by_lines asked input da db (map plain_entry c.args.list.now) is_list (g.met.A.Book.sound c.args.a.now) (record { some = some; known = known }) apart told c.compared.result all
     c.compared.ensures.found c.compared.ensures.none c.compared.ensures.some
 
 pub returns-in-Err : goal.returns-in-Err

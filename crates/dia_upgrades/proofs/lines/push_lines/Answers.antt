@@ -1,4 +1,4 @@
-use Rattle.std.proofs.Common.{◌≤◌, [], List, length, map, refl, subst, sym}
+use Rattle.std.proofs.Common.{[], List, map, refl, subst, sym}
 use Rattle.std.proofs.lemmas.List.{append-nil, take_all}
 use Rattle.dia_accepted.specs.Accepted.{plain_told}
 use Rattle.dia_breaking.specs.Words.{words_of}
@@ -18,12 +18,12 @@ loop-line-preserved g c =
     let breaks = c.args.breaks.now in
     let words = words_of (sides_of up) (other_length_of up) breaks.command breaks.sites.items in
     let line = c.line-item.result in
-    let items = c.deref-line-items.result.now in
+    let items = c.args.lines.now in
     let is = IsLineTold c.args.place c.args.messages words in
     let old = map plain_told c.loop-line.told.items in
     let new = map plain_told c.push_line.new.told.items in
     let more = subst (λ (x : Line). Adds (is x) old new) c.line-item.is c.in_ok-push_line.ensures in
-    adds_more is breaks.lines.items items c.loop-line.line-index line (map plain_told c.args.told.now.items) old new c.deref-line-items.ensures.value c.loop-line-test.true c.loop-line.invariant more
+    adds_more is items items c.loop-line.line-index line (map plain_told c.args.told.now.items) old new refl c.loop-line-test.true c.loop-line.invariant more
 
 pub returns : goal.returns
 returns g c =
@@ -31,6 +31,5 @@ returns g c =
     let breaks = c.args.breaks.now in
     let words = words_of (sides_of up) (other_length_of up) breaks.command breaks.sites.items in
     let told = c.loop-line.invariant in
-    let end = subst (λ (lines : List Line). length lines ≤ c.loop-line.line-index) c.deref-line-items.ensures.value c.loop-line-test.false in
-    let all = take_all c.loop-line.line-index breaks.lines.items end in
+    let all = take_all c.loop-line.line-index c.args.lines.now c.loop-line-test.false in
     (told.0, subst (λ (lines : List Line). AreParts (IsLineTold c.args.place c.args.messages words) lines told.0) all told.1, told.2)
