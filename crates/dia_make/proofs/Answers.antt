@@ -1,5 +1,5 @@
 -- What is answered, from its parts.
-use Rattle.std.proofs.Common.{◌≡◌, ℕ, List, Result, Ok, Err, ap, ◌∙◌}
+use Rattle.std.proofs.Common.{◌≡◌, ℕ, List, Result, Ok, Err, sym, ap, subst, ◌∙◌}
 use Rattle.std.specs.Prelude.{IfOk, string_bytes}
 use Rattle.dia_policy.specs.Limits.{max_message_text}
 use Rattle.dia_io.specs.declared.Exit.TheVariants as exits
@@ -14,7 +14,11 @@ use Rattle.dia_run.specs.Texts.{line, IsDictionaryText, IsNoDictionaryText}
 use Rattle.dia_text.specs.declared.Fault.{Fault}
 use Rattle.dia_text.specs.Made.{made_lines}
 use Rattle.dia_make.specs.declared.reporting.Answered.{Answered}
+use Rattle.dia_make.specs.declared.reporting.BadText.{BadText}
 use Rattle.dia_make.specs.declared.reporting.BadText.TheVariants as bad
+use Rattle.dia_make.specs.declared.reporting.Report.{Report}
+use Rattle.dia_make.specs.declared.reporting.Report.TheVariants as reports
+use Rattle.dia_make.specs.Reports.{IsTold, HasReport}
 use Rattle.dia_make.specs.Outcome.{IsMakeOutcome, fault, too_long, no_dictionary, text_line}
 
 pub refused : {E : Type 0} (inputs : Inputs) (why : BadInput) (r : Result Answered E) → TellsOf (λ told. (w : List ℕ) × IsNoDictionaryText inputs.first w × (told ≡ dictionary_line 1 w)) (Bad why)
@@ -40,3 +44,18 @@ at_fault inputs d bytes f (Err e) holds is text exit = tt
 pub for_this : {E : Type 0} (inputs : Inputs) (d : Dictionary) (r : Result Answered E) → IsDictionaryText inputs.first d → IfOk r (IsFor inputs d) → IfOk r (λ a. IsMakeOutcome inputs (string_bytes a.text) a.exit)
 for_this inputs d (Ok a) is_d h = h is_d
 for_this inputs d (Err e) is_d h = tt
+
+-- ---- reports
+
+with_report : (a : Answered) (report : Report) → a.report ≡ report → IsTold report (string_bytes a.text) a.exit → HasReport a
+with_report a report is told = subst (λ (r : Report). IsTold r (string_bytes a.text) a.exit) (sym is) told
+
+pub told_refused : {E : Type 0} (why : BadInput) (r : Result Answered E) → IfOk r (λ a. string_bytes a.text ≡ line (bad_input_text why)) → IfOk r (λ a. a.exit ≡ exits.Bad)
+    → IfOk r (λ a. a.report ≡ reports.Refused why) → IfOk r HasReport
+told_refused why (Ok a) text exit report = with_report a (reports.Refused why) report (text, exit)
+told_refused why (Err e) text exit report = tt
+
+pub told_text : {E : Type 0} (why : BadText) (r : Result Answered E) → IfOk r (λ a. string_bytes a.text ≡ line (text_line why)) → IfOk r (λ a. a.exit ≡ exits.Bad)
+    → IfOk r (λ a. a.report ≡ reports.Text why) → IfOk r HasReport
+told_text why (Ok a) text exit report = with_report a (reports.Text why) report (text, exit)
+told_text why (Err e) text exit report = tt

@@ -1,1 +1,3 @@
 pub mod Answers
+pub mod ReadsBack
+pub mod Shown

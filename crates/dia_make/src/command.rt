@@ -4,15 +4,16 @@ ghost use Rattle.std.specs.Prelude.{◌≡◌, ◌↔◌, ℕ, List, IfOk, Err, 
 ghost use Rattle.std.specs.Io.KnownBytes.{Appends};
 ghost use Rattle.dia_io.specs.declared.Exit.{Exit as AnyExit};
 ghost use Rattle.dia_io.specs.Writing.{AppendsFront};
-ghost use Rattle.dia_report.specs.Refusals.{bad_input_text};
 ghost use Rattle.dia_run.specs.Texts.{line, IsDictionaryText};
 ghost use Rattle.dia_make.specs.Outcome.{IsMakeOutcome, text_line};
+ghost use Rattle.dia_make.specs.Reports.{IsTold, HasReport};
 
+use crate::refusing::refuse;
 use crate::reporting::{Answered, BadText, Report, Reported};
 use dia_dict::Book;
 use dia_io::{Exit, Inputs, RunFault, Sink, put_all};
 use dia_policy::MAX_MESSAGE_TEXT;
-use dia_report::{BadInput, Refused};
+use dia_report::Refused;
 use dia_run::read_dictionary;
 use dia_text::{NotMade, make_all};
 use std::alloc::{AllocError, Global};
@@ -24,6 +25,7 @@ use std::alloc::{AllocError, Global};
 pub fn make<S: Sink>(alloc: Global, inputs: &Inputs, sink: &mut S) -> Result<Reported, RunFault>
     requires { ¬ IsTrue (S.has_failed sink.old) }
     ensures text { IfOk result (λ reported. (text : List ℕ) × IsMakeOutcome inputs.now text reported.exit
+        × IsTold reported.report text reported.exit
         × Appends (S.written sink.old) (S.written sink.new) text) }
     ensures device { (result ≡ Err RunFault.Device) ↔ IsTrue (S.has_failed sink.new) }
     ensures front { result ≡ Err RunFault.Device
@@ -38,8 +40,9 @@ pub fn make<S: Sink>(alloc: Global, inputs: &Inputs, sink: &mut S) -> Result<Rep
 
 /// The text for the inputs, how it ends, and what was found.
 fn answer(alloc: Global, inputs: &Inputs) -> Result<Answered, AllocError>
-    ensures { IfOk result
+    ensures outcome { IfOk result
         (λ answered. IsMakeOutcome inputs.now (string_bytes answered.text) answered.exit) }
+    ensures report { IfOk result HasReport }
 {
     match read_dictionary(alloc, 1, &inputs.first) {
         Ok(first) => answer_for(alloc, &first.book, inputs),
@@ -50,9 +53,10 @@ fn answer(alloc: Global, inputs: &Inputs) -> Result<Answered, AllocError>
 
 /// The answer with this dictionary.
 fn answer_for<B: Book>(alloc: Global, book: &B, inputs: &Inputs) -> Result<Answered, AllocError>
-    ensures { IfOk result
+    ensures outcome { IfOk result
         (λ answered. IsDictionaryText inputs.now.first (B.meaning book.now)
         → IsMakeOutcome inputs.now (string_bytes answered.text) answered.exit) }
+    ensures report { IfOk result HasReport }
 {
     let Some(bytes) = inputs.message.within(MAX_MESSAGE_TEXT) else {
         return tell(alloc, BadText::TooLong);
@@ -72,20 +76,10 @@ fn answer_for<B: Book>(alloc: Global, book: &B, inputs: &Inputs) -> Result<Answe
 fn tell(alloc: Global, bad: BadText) -> Result<Answered, AllocError>
     ensures text { IfOk result (λ answered. string_bytes answered.text ≡ line (text_line bad)) }
     ensures exit { IfOk result (λ answered. answered.exit ≡ Exit.Bad) }
+    ensures report { IfOk result (λ answered. answered.report ≡ Report.Text bad) }
 {
     let text = format!(in alloc; "text: {bad}\n")?;
     let exit = Exit::Bad;
     let report = Report::Text(bad);
-    Ok(Answered { text, exit, report })
-}
-
-/// The answer of a dictionary that is refused.
-fn refuse(alloc: Global, bad: BadInput) -> Result<Answered, AllocError>
-    ensures text { IfOk result (λ answered. string_bytes answered.text ≡ line (bad_input_text bad)) }
-    ensures exit { IfOk result (λ answered. answered.exit ≡ Exit.Bad) }
-{
-    let text = format!(in alloc; "{bad}\n")?;
-    let exit = Exit::Bad;
-    let report = Report::Refused(bad);
     Ok(Answered { text, exit, report })
 }

@@ -1,4 +1,4 @@
-//! What the command answers.
+//! What a command answers.
 
 use dia_io::Exit;
 use dia_report::BadInput;
@@ -14,25 +14,27 @@ pub enum BadText {
     Fault(Fault),
 }
 
-/// What the command found in its inputs.
+/// What a command found in its inputs.
 #[derive(Drop)]
 pub enum Report {
     /// There is nothing to explain.
     Done,
-    /// The dictionary is refused.
+    /// The dictionary or the message is refused.
     Refused(BadInput),
     /// The text is refused.
     Text(BadText),
+    /// At this byte of the message, outside groups, no AVP begins.
+    Cut { place: usize },
 }
 
-/// How the command ended that has written its text, and its report.
+/// How a command ended that has written its text, and its report.
 #[derive(Drop)]
 pub struct Reported {
     pub exit: Exit,
     pub report: Report,
 }
 
-/// What is written, how the command ends, and its report.
+/// What is written, how a command ends, and its report.
 #[derive(Drop)]
 pub(crate) struct Answered {
     pub text: String,

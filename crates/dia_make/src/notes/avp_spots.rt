@@ -1,0 +1,206 @@
+//! The first word of an AVP's line, or of the end of a group, that can't stand there.
+
+use crate::notes::spots::{Meant, Spot};
+use crate::notes::tests_of_words::{
+    are_flags, is_bytes, is_number, is_signed, is_uneven, number_of,
+};
+use crate::notes::words::{Word, Words};
+use dia_dict::{Book, Format, Key};
+
+/// The first length that no AVP can have.
+const TOO_LONG: usize = 1 << 24;
+
+/// What a line wants that writes bytes.
+const BYTES: &str = "`x` and pairs of hexadecimal digits";
+
+/// The word, if the line is at fault by itself.
+pub fn avp_spot<'a, B: Book>(book: &B, words: Words<'a>) -> Option<Spot<'a>> {
+    let mut rest = words;
+    let first = rest.next();
+    if first.text.is_empty() {
+        return None;
+    }
+    if first.text == b"}".as_slice() {
+        return end_spot(rest);
+    }
+    let Some(key) = key_of(book, first.text) else {
+        let wanted = "the name or the number of an AVP, or `}`";
+        return Some(Spot::new(first, wanted).meaning(Meant::Avp));
+    };
+    if let Some(spot) = head_spot(&mut rest) {
+        return Some(spot);
+    }
+    if rest.take(b"{") {
+        return last_spot(rest);
+    }
+    match value_spot(format_of(book, key), rest.next()) {
+        Some(spot) => Some(spot),
+        None => end_spot(rest),
+    }
+}
+
+/// The word of flags or of a length, if it is at fault.
+fn head_spot<'a>(words: &mut Words<'a>) -> Option<Spot<'a>> {
+    if words.take(b"flags") {
+        let flags = words.next();
+        if !are_flags(flags.text, b"VMP") {
+            return Some(Spot::new(
+                flags,
+                "a dash, two hexadecimal digits, or letters of V, M and P in this order",
+            ));
+        }
+    }
+    if words.take(b"length") {
+        let length = words.next();
+        if !is_number(length.text, 1 << 24) {
+            return Some(Spot::new(length, "an AVP Length, at most 16777215"));
+        }
+    }
+    None
+}
+
+/// The word behind a value or a brace, if one is at fault.
+fn end_spot(words: Words<'_>) -> Option<Spot<'_>> {
+    let mut rest = words;
+    if rest.take(b"pad") {
+        let bytes = rest.next();
+        if !is_bytes(bytes.text) {
+            return Some(bytes_spot(bytes, BYTES));
+        }
+    }
+    last_spot(rest)
+}
+
+fn last_spot(words: Words<'_>) -> Option<Spot<'_>> {
+    let more = words.peek();
+    if more.text.is_empty() {
+        None
+    } else {
+        Some(Spot::new(more, "the end of the line"))
+    }
+}
+
+/// A word in place of bytes.
+fn bytes_spot<'a>(word: Word<'a>, wanted: &'static str) -> Spot<'a> {
+    let spot = Spot::new(word, wanted);
+    if is_uneven(word.text) {
+        spot.meaning(Meant::Pairs)
+    } else {
+        spot
+    }
+}
+
+/// A value that its format can't have.
+fn value_spot<'a>(format: Option<&Format>, word: Word<'a>) -> Option<Spot<'a>> {
+    if word.text.is_empty() {
+        return Some(Spot::new(word, "a value, or `{` for the members of a group"));
+    }
+    if is_bytes(word.text) || is_number_of(format, word.text) {
+        return None;
+    }
+    let spot = bytes_spot(word, wanted_of(format));
+    if has_text(format) && word.text.first() != Some(&b'x') {
+        Some(spot.meaning(Meant::Text))
+    } else {
+        Some(spot)
+    }
+}
+
+/// Whether a word is a number of the format.
+fn is_number_of(format: Option<&Format>, word: &[u8]) -> bool {
+    match format {
+        Some(Format::Unsigned32 | Format::Time) => is_number(word, 1 << 32),
+        Some(Format::Integer32 | Format::Enumerated(_)) => is_signed(word, 1 << 31),
+        Some(Format::Unsigned64) => number_of(word).is_some(),
+        Some(Format::Integer64) => is_signed(word, 1 << 63),
+        _ => false,
+    }
+}
+
+fn wanted_of(format: Option<&Format>) -> &'static str {
+    match format {
+        Some(Format::Unsigned32 | Format::Time) => {
+            "a number, at most 4294967295; or `x` and pairs of hexadecimal digits"
+        }
+        Some(Format::Integer32 | Format::Enumerated(_)) => {
+            "a number, from -2147483648 to 2147483647; or `x` and pairs of hexadecimal digits"
+        }
+        Some(Format::Unsigned64) => {
+            "a number below 2^64; or `x` and pairs of hexadecimal digits"
+        }
+        Some(Format::Integer64) => {
+            "a number of 64 bits with its sign; or `x` and pairs of hexadecimal digits"
+        }
+        Some(Format::Grouped) => "`{`, or `x` and pairs of hexadecimal digits",
+        Some(_) => "`x` and pairs of hexadecimal digits",
+        None => "`x` and pairs of hexadecimal digits, as the dictionary doesn't know the AVP",
+    }
+}
+
+/// Whether data of the format is text.
+fn has_text(format: Option<&Format>) -> bool {
+    matches!(
+        format,
+        Some(
+            Format::OctetString
+                | Format::Utf8String
+                | Format::DiameterIdentity
+                | Format::DiameterUri
+                | Format::IpFilterRule
+                | Format::QosFilterRule
+        )
+    )
+}
+
+/// The key of an AVP's word, if it is a number or a name of the dictionary.
+fn key_of<B: Book>(book: &B, word: &[u8]) -> Option<Key> {
+    match numbered(word) {
+        Some(key) => Some(key),
+        None => named(book, word),
+    }
+}
+
+/// `CODE`, or `CODE/VENDOR`.
+fn numbered(word: &[u8]) -> Option<Key> {
+    let at = word.iter().take_while(|byte| **byte != b'/').count();
+    let code = number32(word.get(..at)?)?;
+    let vendor = match word.get(at..)? {
+        [_, behind @ ..] => number32(behind)?,
+        [] => 0,
+    };
+    Some(Key { code, vendor })
+}
+
+fn number32(word: &[u8]) -> Option<u32> {
+    u32::try_from(number_of(word)?).ok()
+}
+
+fn named<B: Book>(book: &B, word: &[u8]) -> Option<Key> {
+    for index in 0..book.entries() {
+        let entry = book.entry_at(index);
+        if book.entry_name(entry).as_bytes() == word {
+            return Some(book.entry_key(entry));
+        }
+    }
+    None
+}
+
+fn format_of<B: Book>(book: &B, key: Key) -> Option<&Format> {
+    match book.avp(key) {
+        Some(entry) => Some(book.format(entry)),
+        None => None,
+    }
+}
+
+/// The value of a line that writes more data than an AVP can have.
+pub fn is_too_long(words: Words<'_>) -> Option<Word<'_>> {
+    let mut rest = words;
+    let _ = rest.next();
+    let _ = head_spot(&mut rest);
+    let value = rest.next();
+    if value.text.len() / 2 >= TOO_LONG - 12 {
+        Some(value)
+    } else {
+        None
+    }
+}

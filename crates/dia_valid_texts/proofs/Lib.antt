@@ -1,0 +1,5 @@
+pub mod Fields
+pub mod Drawn
+pub mod Fitting
+pub mod Named
+pub mod ValidTexts

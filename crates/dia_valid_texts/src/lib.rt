@@ -1,0 +1,7 @@
+//! Laws of texts that keep to a dictionary: they make valid messages, and the names of commands stand for flags that these may
+//! have.
+#![tactic(auto)]
+
+mod law;
+
+pub use law::{named_headers_have_their_flags, valid_texts_make_valid_messages};
