@@ -6,8 +6,8 @@ _diacmd() {
     [ "$before" = = ] && before=${COMP_WORDS[COMP_CWORD - 2]}
     [ "$word" = = ] && word=
     case $COMP_CWORD:$command:$before in
-        1:*) words='show check render compare refute propose breaking help -h --help -V --version' ;;
-        *:help:*) words='show check render compare refute propose breaking help' ;;
+        1:*) words='show make check render compare refute propose breaking help -h --help -V --version' ;;
+        *:help:*) words='show make check render compare refute propose breaking help' ;;
         *:check:--unknown) words='kept refused' ;;
         *:check:--levels) return ;;
         *:compare:--unknown) words='kept refused' ;;
@@ -17,13 +17,14 @@ _diacmd() {
         *:breaking:--unknown) words='kept refused' ;;
         *:breaking:--sends) words='any known listed' ;;
         *) case $command:$word in
-            show:-*) words='--quiet --dict -h --help' ;;
+            show:-*) words='--quiet --dict --as-text -h --help' ;;
+            make:-*) words='--quiet --dict -h --help' ;;
             check:-*) words='--quiet --unknown --levels --lines --stream -h --help' ;;
             render:-*) words='--quiet -h --help' ;;
             compare:-*) words='--quiet --unknown -h --help' ;;
             refute:-*) words='--quiet --unknown --levels --lines -h --help' ;;
             propose:-*) words='--quiet --unknown -h --help' ;;
-            breaking:-*) words='--quiet --unknown --sends --messages --once --accepted -h --help' ;;
+            breaking:-*) words='--quiet --unknown --sends --messages --once --meaning --accepted -h --help' ;;
         esac ;;
     esac
     if [ -n "$words" ]; then

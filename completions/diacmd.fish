@@ -2,6 +2,7 @@
 
 complete -c diacmd -f
 complete -c diacmd -n __fish_use_subcommand -a show -d 'Prints a message: its header, and a line for each AVP'
+complete -c diacmd -n __fish_use_subcommand -a make -d 'Prints the messages that a text writes, a line of hexadecimal text each'
 complete -c diacmd -n __fish_use_subcommand -a check -d 'Tells whether a message is valid for a dictionary, or its first fault'
 complete -c diacmd -n __fish_use_subcommand -a render -d 'Prints the canonical text of a dictionary'
 complete -c diacmd -n __fish_use_subcommand -a compare -d 'Tells whether a table of pairs shows that what is valid for A is valid for B'
@@ -14,7 +15,12 @@ complete -c diacmd -n __fish_use_subcommand -s V -l version -d 'Print version'
 complete -c diacmd -n '__fish_seen_subcommand_from show' -F
 complete -c diacmd -n '__fish_seen_subcommand_from show' -l quiet -d 'Prints no notes on standard error'
 complete -c diacmd -n '__fish_seen_subcommand_from show' -l dict -r -F -d 'The dictionary that names the AVPs: a file, @base, or - for standard input'
+complete -c diacmd -n '__fish_seen_subcommand_from show' -l as-text -d 'Prints the message as a text that make reads'
 complete -c diacmd -n '__fish_seen_subcommand_from show' -s h -l help -d 'Print help'
+complete -c diacmd -n '__fish_seen_subcommand_from make' -F
+complete -c diacmd -n '__fish_seen_subcommand_from make' -l quiet -d 'Prints no notes on standard error'
+complete -c diacmd -n '__fish_seen_subcommand_from make' -l dict -r -F -d 'The dictionary that names the AVPs: a file, @base, or - for standard input'
+complete -c diacmd -n '__fish_seen_subcommand_from make' -s h -l help -d 'Print help'
 complete -c diacmd -n '__fish_seen_subcommand_from check' -F
 complete -c diacmd -n '__fish_seen_subcommand_from check' -a @base -d 'The built-in base dictionary'
 complete -c diacmd -n '__fish_seen_subcommand_from check' -l quiet -d 'Prints no notes on standard error'
@@ -51,6 +57,7 @@ complete -c diacmd -n '__fish_seen_subcommand_from breaking' -l unknown -x -a 'k
 complete -c diacmd -n '__fish_seen_subcommand_from breaking' -l sends -x -a 'any known listed' -d 'Which AVPs the side of A sends: any that A allows, those that A knows, or those that a rule names'
 complete -c diacmd -n '__fish_seen_subcommand_from breaking' -l messages -d 'Prints behind each line a message that shows it, as hexadecimal text'
 complete -c diacmd -n '__fish_seen_subcommand_from breaking' -l once -d 'Prints one line a cause, with the number of commands that have it, and the first place'
+complete -c diacmd -n '__fish_seen_subcommand_from breaking' -l meaning -d 'Prints too which AVPs are read as another format'
 complete -c diacmd -n '__fish_seen_subcommand_from breaking' -l accepted -x -d 'Lines that are known, as this command prints them, which aren\'t printed: a file, @none, or - for standard input'
 complete -c diacmd -n '__fish_seen_subcommand_from breaking' -s h -l help -d 'Print help'
-complete -c diacmd -n '__fish_seen_subcommand_from help' -a 'show check render compare refute propose breaking help'
+complete -c diacmd -n '__fish_seen_subcommand_from help' -a 'show make check render compare refute propose breaking help'

@@ -48,7 +48,10 @@ abbrev pub has_judged : List Row → Bool
 has_judged rows = is_judged rows && has_word (codes "D") rows
 
 abbrev pub has_shown : List Row → Bool
-has_shown rows = has_word (codes "dict") rows && has_word (codes "MESSAGE") rows
+has_shown rows = has_word (codes "dict") rows && (has_word (codes "MESSAGE") rows && is_flag (first_of (codes "as-text") rows))
+
+abbrev pub has_made : List Row → Bool
+has_made rows = has_word (codes "dict") rows && has_word (codes "TEXT") rows
 
 abbrev pub has_checked : List Row → Bool
 has_checked rows = is_flag (first_of (codes "lines") rows) && (is_flag (first_of (codes "stream") rows)
@@ -64,23 +67,27 @@ has_refuted rows = is_judged rows && (has_pair rows
 abbrev pub has_proposed : List Row → Bool
 has_proposed rows = has_policy rows && (has_pair rows && is_some (all_of (codes "COMMAND") rows))
 
+-- `--messages`, `--once` and `--meaning`, given or not
+abbrev pub has_flags : List Row → Bool
+has_flags rows = is_flag (first_of (codes "messages") rows)
+    && (is_flag (first_of (codes "once") rows) && is_flag (first_of (codes "meaning") rows))
+
 abbrev pub has_listed : List Row → Bool
 has_listed rows = has_policy rows && (has_pair rows
-    && (is_sender (first_of (codes "sends") rows)
-    && ((is_flag (first_of (codes "messages") rows) && is_flag (first_of (codes "once") rows))
-    && has_word (codes "accepted") rows)))
+    && (is_sender (first_of (codes "sends") rows) && (has_flags rows && has_word (codes "accepted") rows)))
 
 -- the arguments that the subcommand of this name has
 abbrev pub has_arguments : Text → List Row → Bool
 has_arguments name rows =
     if bytes_eq name (codes "show") then has_shown rows
+    else (if bytes_eq name (codes "make") then has_made rows
     else (if bytes_eq name (codes "check") then has_checked rows
     else (if bytes_eq name (codes "render") then has_word (codes "D") rows
     else (if bytes_eq name (codes "compare") then has_compared rows
     else (if bytes_eq name (codes "refute") then has_refuted rows
     else (if bytes_eq name (codes "propose") then has_proposed rows
     else (if bytes_eq name (codes "breaking") then has_listed rows
-    else false))))))
+    else false)))))))
 
 -- what was found is a subcommand with its arguments
 abbrev pub is_asked : Option (Text × List Row) → Bool

@@ -4,7 +4,7 @@ use Rattle.std.specs.List.{list_all}
 use Rattle.clap.specs.Walk.{Text}
 use Rattle.dia_io.specs.declared.Command.TheVariants as command
 use Rattle.dia_cli.specs.declared.task.Task.{Task}
-use Rattle.dia_cli.specs.declared.task.Task.TheVariants.{Whole, Breaking, CheckLines, RefuteLines, CheckStream}
+use Rattle.dia_cli.specs.declared.task.Task.TheVariants.{Whole, Make, ShowText, Breaking, CheckLines, RefuteLines, CheckStream}
 use Rattle.dia_policy.specs.declared.Sends.{Sends}
 use Rattle.dia_policy.specs.declared.Sends.TheVariants.{Any, Known, Listed}
 use Rattle.dia_policy.specs.declared.Unknown.{Unknown}
@@ -23,25 +23,27 @@ pub data Manner : Type 0 where
   in_lines : Manner
   in_stream : Manner
 
--- a command with its options and the words of its inputs. `--levels`, `--dict` and `--accepted` are their words; `refute` and `breaking` have
--- `--lines`, `--messages` and `--once`, or not
+-- a command with its options and the words of its inputs. `--levels`, `--dict` and `--accepted` are their words; `show` has `--as-text`,
+-- `refute` has `--lines`, and `breaking` has `--messages`, `--once` and `--meaning`, or not
 pub data Form : Type 0 where
-  show : Option Text → Text → Form
+  show : Bool → Option Text → Text → Form
+  make : Option Text → Text → Form
   check : Manner → Unknown → Option Text → Text → Text → Form
   render : Text → Form
   compare : Unknown → Text → Text → Text → Form
   refute : Bool → Unknown → Option Text → Text → Text → Text → Form
   propose : Unknown → Text → Text → Text → List Text → Form
-  breaking : Sends → Unknown → Bool → Bool → Option Text → Text → Text → List Text → Form
+  breaking : Sends → Unknown → Bool → Bool → Bool → Option Text → Text → Text → List Text → Form
 
 abbrev pub form_name : Form → Text
-form_name (show dictionary message) = codes "show"
+form_name (show as_text dictionary message) = codes "show"
+form_name (make dictionary written) = codes "make"
 form_name (check manner unknown levels dictionary message) = codes "check"
 form_name (render dictionary) = codes "render"
 form_name (compare unknown first second table) = codes "compare"
 form_name (refute many unknown levels first second message) = codes "refute"
 form_name (propose unknown first second name names) = codes "propose"
-form_name (breaking sends unknown messages once accepted first second names) = codes "breaking"
+form_name (breaking sends unknown messages once meaning accepted first second names) = codes "breaking"
 
 -- a word of an option is left out where it says what holds without it
 abbrev pub policy_given : Unknown → Option Text
@@ -65,7 +67,8 @@ abbrev pub unknown_slot : Unknown → Slot
 unknown_slot unknown = choice (codes "unknown") (policy_given unknown)
 
 abbrev pub form_options : Form → List Slot
-form_options (show dictionary message) = text (codes "dict") dictionary ∷ []
+form_options (show as_text dictionary message) = text (codes "dict") dictionary ∷ flag (codes "as-text") as_text ∷ []
+form_options (make dictionary written) = text (codes "dict") dictionary ∷ []
 form_options (check manner unknown levels dictionary message) =
     unknown_slot unknown ∷ flag (codes "lines") (is_lines manner) ∷ flag (codes "stream") (is_stream manner) ∷ number (codes "levels") levels ∷ []
 form_options (render dictionary) = []
@@ -73,21 +76,22 @@ form_options (compare unknown first second table) = unknown_slot unknown ∷ []
 form_options (refute many unknown levels first second message) =
     unknown_slot unknown ∷ flag (codes "lines") many ∷ number (codes "levels") levels ∷ []
 form_options (propose unknown first second name names) = unknown_slot unknown ∷ []
-form_options (breaking sends unknown messages once accepted first second names) =
+form_options (breaking sends unknown messages once meaning accepted first second names) =
     unknown_slot unknown ∷ choice (codes "sends") (sender_given sends) ∷ flag (codes "messages") messages
-    ∷ flag (codes "once") once ∷ text (codes "accepted") accepted ∷ []
+    ∷ flag (codes "once") once ∷ flag (codes "meaning") meaning ∷ text (codes "accepted") accepted ∷ []
 
 abbrev pub pair_slots : Text → Text → Slot → List Slot
 pair_slots first second third = word (codes "A") first ∷ word (codes "B") second ∷ third ∷ []
 
 abbrev pub form_inputs : Form → List Slot
-form_inputs (show dictionary message) = word (codes "MESSAGE") message ∷ []
+form_inputs (show as_text dictionary message) = word (codes "MESSAGE") message ∷ []
+form_inputs (make dictionary written) = word (codes "TEXT") written ∷ []
 form_inputs (check manner unknown levels dictionary message) = word (codes "D") dictionary ∷ word (codes "MESSAGE") message ∷ []
 form_inputs (render dictionary) = word (codes "D") dictionary ∷ []
 form_inputs (compare unknown first second table) = pair_slots first second (word (codes "TABLE") table)
 form_inputs (refute many unknown levels first second message) = pair_slots first second (word (codes "MESSAGE") message)
 form_inputs (propose unknown first second name names) = pair_slots first second (words (codes "COMMAND") (name ∷ names))
-form_inputs (breaking sends unknown messages once accepted first second names) = pair_slots first second (words (codes "COMMAND") names)
+form_inputs (breaking sends unknown messages once meaning accepted first second names) = pair_slots first second (words (codes "COMMAND") names)
 
 -- the words behind the command's name, with `--quiet` or without it
 abbrev pub words_of : Bool → Form → List Text
@@ -98,7 +102,9 @@ is_plain_form form = list_all is_plain_slot (form_options form ++ form_inputs fo
 
 -- the task is the form's
 abbrev pub IsTaskOfForm : Form → Task → Type 0
-IsTaskOfForm (show dictionary message) (Whole command.Show) = ⊤
+IsTaskOfForm (show false dictionary message) (Whole command.Show) = ⊤
+IsTaskOfForm (show true dictionary message) ShowText = ⊤
+IsTaskOfForm (make dictionary written) Make = ⊤
 IsTaskOfForm (check alone unknown levels dictionary message) (Whole (command.Check policy limit)) =
     (policy ≡ unknown) × IsLimitOf levels limit
 IsTaskOfForm (check in_lines unknown levels dictionary messages) (CheckLines policy limit) =
@@ -113,14 +119,15 @@ IsTaskOfForm (refute true unknown levels first second messages) (RefuteLines pol
     (policy ≡ unknown) × IsLimitOf levels limit
 IsTaskOfForm (propose unknown first second name names) (Whole (command.Propose policy commands)) =
     (policy ≡ unknown) × (map string_bytes commands.items ≡ name ∷ names)
-IsTaskOfForm (breaking sends unknown messages once accepted first second names) (Breaking sender policy shown counted commands) =
-    (sender ≡ sends) × (policy ≡ unknown) × (shown ≡ messages) × (counted ≡ once) × (map string_bytes commands.items ≡ names)
+IsTaskOfForm (breaking sends unknown messages once meaning accepted first second names) (Breaking sender policy shown counted meant commands) =
+    (sender ≡ sends) × (policy ≡ unknown) × (shown ≡ messages) × (counted ≡ once) × (meant ≡ meaning) × (map string_bytes commands.items ≡ names)
 IsTaskOfForm form task = ⊥
 
 -- the words of its inputs
 abbrev pub form_words : Form → InputTexts
-form_words (show dictionary message) =
+form_words (show as_text dictionary message) =
     record (one_text (unwrap_or dictionary (codes "@base"))) { message = Some message }
+form_words (make dictionary written) = record (one_text (unwrap_or dictionary (codes "@base"))) { message = Some written }
 form_words (check alone unknown levels dictionary message) = record (one_text dictionary) { message = Some message }
 form_words (check in_lines unknown levels dictionary messages) = record (one_text dictionary) { messages = Some messages }
 form_words (check in_stream unknown levels dictionary bytes) = record (one_text dictionary) { messages = Some bytes }
@@ -129,7 +136,7 @@ form_words (compare unknown first second table) = record (pair_texts first secon
 form_words (refute false unknown levels first second message) = record (pair_texts first second) { message = Some message }
 form_words (refute true unknown levels first second messages) = record (pair_texts first second) { messages = Some messages }
 form_words (propose unknown first second name names) = pair_texts first second
-form_words (breaking sends unknown messages once accepted first second names) =
+form_words (breaking sends unknown messages once meaning accepted first second names) =
     record (pair_texts first second) { table = Some (unwrap_or accepted (codes "@none")) }
 
 -- the request is the form's, and its inputs come from where the words say

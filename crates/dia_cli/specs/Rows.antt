@@ -55,12 +55,18 @@ unknown_option = option (codes "unknown") policy
 abbrev pub levels_option : OptionRow
 levels_option = option (codes "levels") a_number
 
+abbrev pub dict_option : OptionRow
+dict_option = option (codes "dict") (any_word (codes "@base"))
+
 abbrev pub show_row : CommandRow
 show_row = record {
   name = codes "show";
-  options = quiet_option ∷ option (codes "dict") (any_word (codes "@base")) ∷ [];
+  options = quiet_option ∷ dict_option ∷ option (codes "as-text") no_value ∷ [];
   inputs = input (codes "MESSAGE") one ∷ [];
 }
+
+abbrev pub make_row : CommandRow
+make_row = record { name = codes "make"; options = quiet_option ∷ dict_option ∷ []; inputs = input (codes "TEXT") one ∷ [] }
 
 abbrev pub check_row : CommandRow
 check_row = record {
@@ -97,12 +103,12 @@ abbrev pub breaking_row : CommandRow
 breaking_row = record {
   name = codes "breaking";
   options = quiet_option ∷ unknown_option ∷ option (codes "sends") sender ∷ option (codes "messages") no_value ∷ option (codes "once") no_value
-      ∷ option (codes "accepted") (any_word (codes "@none")) ∷ [];
+      ∷ option (codes "meaning") no_value ∷ option (codes "accepted") (any_word (codes "@none")) ∷ [];
   inputs = input (codes "A") one ∷ input (codes "B") one ∷ input (codes "COMMAND") any ∷ [];
 }
 
 abbrev pub command_rows : List CommandRow
-command_rows = show_row ∷ check_row ∷ render_row ∷ compare_row ∷ refute_row ∷ propose_row ∷ breaking_row ∷ []
+command_rows = show_row ∷ make_row ∷ check_row ∷ render_row ∷ compare_row ∷ refute_row ∷ propose_row ∷ breaking_row ∷ []
 
 -- ---- what clap is told of a row
 

@@ -6,7 +6,7 @@ use Rattle.clap.specs.Walk.{Row, Text, all_of, first_of, texts}
 use Rattle.clap.specs.Simple.{App, subcommand_of}
 use Rattle.dia_io.specs.declared.Command.TheVariants as command
 use Rattle.dia_cli.specs.declared.task.Task.{Task}
-use Rattle.dia_cli.specs.declared.task.Task.TheVariants.{Whole, Breaking, CheckLines, RefuteLines, CheckStream}
+use Rattle.dia_cli.specs.declared.task.Task.TheVariants.{Whole, Make, ShowText, Breaking, CheckLines, RefuteLines, CheckStream}
 use Rattle.dia_policy.specs.declared.Levels.{Levels}
 use Rattle.dia_policy.specs.declared.Levels.TheVariants.{Any, AtMost}
 use Rattle.dia_policy.specs.declared.Sends.{Sends}
@@ -64,9 +64,15 @@ abbrev pub IsRefute : Bool → Unknown → Levels → Text × List Row → Type 
 IsRefute lines unknown levels found =
     (found.0 ≡ codes "refute") × IsFlag (codes "lines") lines found.1 × AreJudged unknown levels found.1
 
+-- `show` with `--as-text`, or without it
+abbrev pub IsShow : Bool → Text × List Row → Type 0
+IsShow as_text found = (found.0 ≡ codes "show") × IsFlag (codes "as-text") as_text found.1
+
 -- the task that was found: the name of its command, the first values of its options, and all names of commands
 abbrev pub IsTaskOf : Task → Text × List Row → Type 0
-IsTaskOf (Whole command.Show) found = found.0 ≡ codes "show"
+IsTaskOf (Whole command.Show) found = IsShow false found
+IsTaskOf ShowText found = IsShow true found
+IsTaskOf Make found = found.0 ≡ codes "make"
 IsTaskOf (Whole command.Render) found = found.0 ≡ codes "render"
 IsTaskOf (Whole (command.Check unknown levels)) found = IsCheck false false unknown levels found
 IsTaskOf (CheckLines unknown levels) found = IsCheck true false unknown levels found
@@ -77,15 +83,17 @@ IsTaskOf (RefuteLines unknown levels) found = IsRefute true unknown levels found
 IsTaskOf (Whole (command.Propose unknown names)) found =
     (found.0 ≡ codes "propose") × IsPolicy unknown found.1
     × (all_of (codes "COMMAND") found.1 ≡ Some (map string_bytes names.items))
-IsTaskOf (Breaking sends unknown messages once names) found =
+IsTaskOf (Breaking sends unknown messages once meaning names) found =
     (found.0 ≡ codes "breaking") × IsPolicy unknown found.1
     × (first_of (codes "sends") found.1 ≡ Some (sends_word sends)) × IsFlag (codes "messages") messages found.1
-    × IsFlag (codes "once") once found.1
+    × IsFlag (codes "once") once found.1 × IsFlag (codes "meaning") meaning found.1
     × (unwrap_or (all_of (codes "COMMAND") found.1) [] ≡ map string_bytes names.items)
 
 -- the arguments that take the words of a task's inputs
 abbrev pub arguments_of : Task → InputTexts
 arguments_of (Whole command.Show) = record (one_text (codes "dict")) { message = Some (codes "MESSAGE") }
+arguments_of ShowText = record (one_text (codes "dict")) { message = Some (codes "MESSAGE") }
+arguments_of Make = record (one_text (codes "dict")) { message = Some (codes "TEXT") }
 arguments_of (Whole command.Render) = one_text (codes "D")
 arguments_of (Whole (command.Check unknown levels)) = record (one_text (codes "D")) { message = Some (codes "MESSAGE") }
 arguments_of (CheckLines unknown levels) = record (one_text (codes "D")) { messages = Some (codes "MESSAGE") }
@@ -97,7 +105,7 @@ arguments_of (Whole (command.Refute unknown levels)) =
 arguments_of (RefuteLines unknown levels) =
     record (pair_texts (codes "A") (codes "B")) { messages = Some (codes "MESSAGE") }
 arguments_of (Whole (command.Propose unknown names)) = pair_texts (codes "A") (codes "B")
-arguments_of (Breaking sends unknown messages once names) =
+arguments_of (Breaking sends unknown messages once meaning names) =
     record (pair_texts (codes "A") (codes "B")) { table = Some (codes "accepted") }
 
 -- the task was found, and its inputs come from where the words of its arguments say

@@ -1,17 +1,17 @@
 //! The words of the command line.
 
 ghost use Rattle.std.specs.Prelude.{◌≡◌, IfOk, IfSome, IsSomeAnd, Some, codes};
-ghost use Rattle.std.specs.Prelude.{◌&&◌, [], ◌∷◌, true, Bool, ℕ, IfErr, List, None, Option, false, map, option_map, string_bytes, unwrap_or};
+ghost use Rattle.std.specs.Prelude.{[], ◌∷◌, true, Bool, ℕ, IfErr, List, None, Option, false, map, option_map, string_bytes, unwrap_or};
 ghost use Rattle.clap.specs.Walk.{Row, Text, texts};
 ghost use Rattle.clap.specs.Words.{all_of, found_of, first_of, rows_of, subcommand_rows_of};
 ghost use Rattle.dia_cli.specs.Asking.{HasLinesAndStream, IsRefused, IsUnasked, IsUnrun, IsWanting, has_judged, has_pair};
-ghost use Rattle.dia_cli.specs.Asking.{has_refuted, has_shown, has_compared, has_word, is_asked, is_flag, is_judged};
+ghost use Rattle.dia_cli.specs.Asking.{has_compared, has_made, has_refuted, has_shown, has_word, is_asked, is_judged};
 ghost use Rattle.dia_cli.specs.Asking.{is_policy, is_sender};
 ghost use Rattle.dia_cli.specs.Forms.{Form, IsAccepted, form_name, is_plain_form, words_of};
 ghost use Rattle.dia_cli.specs.Origins.{reads_twice};
 ghost use Rattle.dia_cli.specs.InputWords.{AreFound, one_text, pair_texts};
 ghost use Rattle.dia_cli.specs.Request.{read_once};
-ghost use Rattle.dia_cli.specs.Words.{IsAsked, IsAskedBy, IsFlag, IsPolicy, IsRequestOf};
+ghost use Rattle.dia_cli.specs.Words.{IsAsked, IsAskedBy, IsPolicy, IsRequestOf};
 ghost use Rattle.dia_cli.specs.Words.{AreJudged, sends_word};
 
 use crate::ending::Ending;
@@ -19,6 +19,7 @@ use crate::line::{Words, command_line};
 use crate::origin::Origins;
 use crate::request::Request;
 use crate::rows::ROWS;
+use crate::shown::{Shown, shown_of};
 use crate::task::Task;
 use crate::values::{
     copies_of, dictionary_of, flag_of, limit_of, message_of, messages_of, names_of, policy_of,
@@ -170,6 +171,7 @@ fn task_of<'a>(alloc: Global, name: &str, found: &ArgMatches<'a>) -> Result<Aske
 {
     match name {
         "show" => show_of(found).ok_or(Unasked::Nothing),
+        "make" => make_of(found).ok_or(Unasked::Nothing),
         "check" => check_of(found),
         "render" => render_of(found).ok_or(Unasked::Nothing),
         "compare" => compare_of(found).ok_or(Unasked::Nothing),
@@ -187,9 +189,28 @@ fn show_of<'a>(found: &ArgMatches<'a>) -> Option<Asked<'a>>
     ensures none { result ≡ None → has_shown (rows_of (found_of found.now)) ≡ false }
 {
     let origins = Origins::of_one(dictionary_of(found, "dict")?);
-    let message = message_of(found)?;
+    let message = message_of(found, "MESSAGE")?;
+    let task = if flag_of(found, "as-text")? {
+        Task::ShowText
+    } else {
+        Task::Whole(Command::Show)
+    };
     Some(Asked {
-        task: Task::Whole(Command::Show),
+        task,
+        origins: Origins { message, ..origins },
+    })
+}
+
+/// `make` with the arguments that were found. Its text is the message's input.
+fn make_of<'a>(found: &ArgMatches<'a>) -> Option<Asked<'a>>
+    ensures made { IfSome result
+        (λ made. IsAsked made.task made.origins (codes "make", rows_of (found_of found.now))) }
+    ensures none { result ≡ None → has_made (rows_of (found_of found.now)) ≡ false }
+{
+    let origins = Origins::of_one(dictionary_of(found, "dict")?);
+    let message = message_of(found, "TEXT")?;
+    Some(Asked {
+        task: Task::Make,
         origins: Origins { message, ..origins },
     })
 }
@@ -203,7 +224,7 @@ fn check_of<'a>(found: &ArgMatches<'a>) -> Result<Asked<'a>, Unasked>
     let lines = flag_of(found, "lines").ok_or(Unasked::Nothing)?;
     let stream = flag_of(found, "stream").ok_or(Unasked::Nothing)?;
     let (unknown, levels, origins) = checked_of(found).ok_or(Unasked::Nothing)?;
-    let message = message_of(found).ok_or(Unasked::Nothing)?;
+    let message = message_of(found, "MESSAGE").ok_or(Unasked::Nothing)?;
     let messages = messages_of(found).ok_or(Unasked::Nothing)?;
     match (lines, stream) {
         (false, false) => Ok(Asked {
@@ -295,7 +316,7 @@ fn refute_of<'a>(found: &ArgMatches<'a>) -> Option<Asked<'a>>
             },
         })
     } else {
-        let message = message_of(found)?;
+        let message = message_of(found, "MESSAGE")?;
         Some(Asked {
             task: Task::Whole(Command::Refute { unknown, levels }),
             origins: Origins { message, ..origins },
@@ -328,7 +349,11 @@ fn breaking_of<'a>(alloc: Global, found: &ArgMatches<'a>) -> Result<Asked<'a>, U
     let unknown = unknown_of(found).ok_or(Unasked::Nothing)?;
     let origins = pair_of(found).ok_or(Unasked::Nothing)?;
     let sends = sender_of(found).ok_or(Unasked::Nothing)?;
-    let (messages, once) = shown_of(found).ok_or(Unasked::Nothing)?;
+    let Shown {
+        messages,
+        once,
+        meaning,
+    } = shown_of(found).ok_or(Unasked::Nothing)?;
     let table = table_of(found, "accepted").ok_or(Unasked::Nothing)?;
     let names = names_of(alloc, found)?;
     Ok(Asked {
@@ -337,6 +362,7 @@ fn breaking_of<'a>(alloc: Global, found: &ArgMatches<'a>) -> Result<Asked<'a>, U
             unknown,
             messages,
             once,
+            meaning,
             names,
         },
         origins: Origins { table, ..origins },
@@ -350,20 +376,6 @@ fn sender_of(found: &ArgMatches<'_>) -> Option<Sends>
     ensures none { result ≡ None → is_sender (first_of (codes "sends") (rows_of (found_of found.now))) ≡ false }
 {
     sends_of(word_of(found, "sends")?)
-}
-
-/// Whether messages are asked for, and whether lines of one cause are one line.
-fn shown_of(found: &ArgMatches<'_>) -> Option<(bool, bool)>
-    ensures messages { IfSome result
-        (λ made. IsFlag (codes "messages") made.0 (rows_of (found_of found.now))) }
-    ensures once { IfSome result
-        (λ made. IsFlag (codes "once") made.1 (rows_of (found_of found.now))) }
-    ensures none { result ≡ None → (is_flag (first_of (codes "messages") (rows_of (found_of found.now)))
-        && is_flag (first_of (codes "once") (rows_of (found_of found.now)))) ≡ false }
-{
-    let messages = flag_of(found, "messages")?;
-    let once = flag_of(found, "once")?;
-    Some((messages, once))
 }
 
 /// The policy for AVPs that the dictionary doesn't know.

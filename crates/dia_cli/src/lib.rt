@@ -28,6 +28,7 @@ mod opener;
 mod origin;
 mod request;
 mod rows;
+mod shown;
 mod task;
 mod values;
 

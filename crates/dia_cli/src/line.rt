@@ -14,18 +14,18 @@ use std::alloc::{AllocError, Global};
 
 /// What the statuses of the process mean.
 const STATUSES: &str = "Status:
-  0  done; for check, valid; for compare, yes; for refute, refutes; for breaking, nothing breaks
+  0  done; for make, the messages made; for check, valid; for compare, yes; for refute, refutes; for breaking, nothing breaks
   1  for check, not valid; for compare, no; for refute, does not refute; for breaking, something breaks; for show, a bad AVP length
   2  bad input, or a bad command line
   3  a file or a device failed, or memory was refused";
 
-/// The words that two options take, and the version that is told.
+/// The words that options take, and the version that is told.
 #[derive(Clone, Copy)]
 pub(crate) struct Words<'a> {
     pub version: &'a str,
-    /// Those of `--unknown`.
+    /// The values of `--unknown`: the names of policies for unknown AVPs.
     pub policies: &'a [&'a str],
-    /// Those of `--sends`.
+    /// The values of `--sends`: the names of senders.
     pub senders: &'a [&'a str],
 }
 

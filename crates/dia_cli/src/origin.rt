@@ -51,7 +51,7 @@ impl<'a> Origin<'a> {
         }
     }
 
-    /// The origin of a message that this word names.
+    /// The origin of a message, or of a text of messages, that this word names.
     pub fn of_message(word: &'a str) -> Origin<'a>
         ensures { result ≡ message_origin word.entry }
     {

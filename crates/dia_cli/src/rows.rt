@@ -68,6 +68,15 @@ const LEVELS: OptionRow<'static> = OptionRow {
     help: "How many levels of Grouped AVPs may stand in one another; without it, any number",
 };
 
+const DICT: OptionRow<'static> = OptionRow {
+    id: "dict",
+    value: Value::Word {
+        name: "D",
+        default: BASE_DICTIONARY,
+    },
+    help: "The dictionary that names the AVPs: a file, @base, or - for standard input",
+};
+
 const D: InputRow<'static> = InputRow {
     id: "D",
     count: Count::One,
@@ -86,25 +95,33 @@ const B: InputRow<'static> = InputRow {
     help: "The second dictionary text: a file, @base, or - for standard input",
 };
 
-pub(crate) static ROWS: [CommandRow<'static>; 7] = [
+pub(crate) static ROWS: [CommandRow<'static>; 8] = [
     CommandRow {
         name: "show",
         about: "Prints a message: its header, and a line for each AVP",
         options: &[
             QUIET,
+            DICT,
             OptionRow {
-                id: "dict",
-                value: Value::Word {
-                    name: "D",
-                    default: BASE_DICTIONARY,
-                },
-                help: "The dictionary that names the AVPs: a file, @base, or - for standard input",
+                id: "as-text",
+                value: Value::Nothing,
+                help: "Prints the message as a text that make reads",
             },
         ],
         inputs: &[InputRow {
             id: "MESSAGE",
             count: Count::One,
             help: "A file of hexadecimal text, white space ignored; - for standard input",
+        }],
+    },
+    CommandRow {
+        name: "make",
+        about: "Prints the messages that a text writes, a line of hexadecimal text each",
+        options: &[QUIET, DICT],
+        inputs: &[InputRow {
+            id: "TEXT",
+            count: Count::One,
+            help: "A file of messages as show --as-text prints them; - for standard input",
         }],
     },
     CommandRow {
@@ -211,6 +228,11 @@ pub(crate) static ROWS: [CommandRow<'static>; 7] = [
                 id: "once",
                 value: Value::Nothing,
                 help: "Prints one line a cause, with the number of commands that have it, and the first place",
+            },
+            OptionRow {
+                id: "meaning",
+                value: Value::Nothing,
+                help: "Prints too which AVPs are read as another format",
             },
             OptionRow {
                 id: "accepted",

@@ -6,6 +6,10 @@ use dia_policy::{Levels, Sends, Unknown};
 pub enum Task {
     /// A command whose inputs are read whole.
     Whole(Command),
+    /// Prints the messages that a text writes.
+    Make,
+    /// Prints the text that `Make` reads as the message.
+    ShowText,
     /// Prints each way in which messages that A's side sends break under B, for these commands of A, or for all.
     Breaking {
         sends: Sends,
@@ -14,6 +18,8 @@ pub enum Task {
         messages: bool,
         /// Whether lines of one cause are one line.
         once: bool,
+        /// Whether AVPs that are read as another format are printed too.
+        meaning: bool,
         names: Vec<String>,
     },
     /// Tells of each line, a message, whether it is valid.

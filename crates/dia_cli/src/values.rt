@@ -32,13 +32,13 @@ pub(crate) fn table_of<'a>(found: &ArgMatches<'a>, id: &str) -> Option<Origin<'a
     Some(Origin::of_table(word_of(found, id)?))
 }
 
-/// The origin of the message.
-pub(crate) fn message_of<'a>(found: &ArgMatches<'a>) -> Option<Origin<'a>>
+/// The origin of the message, or of the text of messages, that this argument names.
+pub(crate) fn message_of<'a>(found: &ArgMatches<'a>, id: &str) -> Option<Origin<'a>>
     ensures found { IfSome result (λ origin.
-        IsFound message_origin (Some (codes "MESSAGE")) origin (rows_of (found_of found.now))) }
-    ensures none { result ≡ None → has_word (codes "MESSAGE") (rows_of (found_of found.now)) ≡ false }
+        IsFound message_origin (Some id.now) origin (rows_of (found_of found.now))) }
+    ensures none { result ≡ None → has_word id.now (rows_of (found_of found.now)) ≡ false }
 {
-    Some(Origin::of_message(word_of(found, "MESSAGE")?))
+    Some(Origin::of_message(word_of(found, id)?))
 }
 
 /// The origin of messages that are read a piece at a time.

@@ -12,6 +12,7 @@ mod front;
 mod notes;
 #[cfg(test)]
 mod tests;
+mod text;
 mod tips;
 
 use advice::{advised, is_unread, means_base};
@@ -30,6 +31,7 @@ use notes::{explain, explain_upgrade, unnamed};
 use std::process::ExitCode;
 use std::rt::{Env, Files};
 use std::{env, io};
+use text::{made, shown};
 
 /// The status where a device failed, as `finish` answers it.
 const FAILED: u8 = 3;
@@ -103,11 +105,14 @@ where
 {
     match task {
         Task::Whole(command) => answer(rt, command, inputs),
+        Task::Make => made(rt, inputs, origins.message, quiet),
+        Task::ShowText => shown(rt, inputs, origins.message, quiet),
         Task::Breaking {
             sends,
             unknown,
             messages,
             once,
+            meaning,
             names,
         } => {
             let asked = Asked {
@@ -115,6 +120,7 @@ where
                 unknown: *unknown,
                 messages: *messages,
                 once: *once,
+                meaning: *meaning,
                 names: names.as_slice(),
             };
             list(rt, asked, inputs, origins, quiet)

@@ -8,8 +8,8 @@ use dia_explain_inputs::{
 };
 use dia_explain_places::InputTexts;
 use dia_explain_upgrades::{
-    Side, push_bad_list, push_namesakes, push_narrower, push_stale, push_tally,
-    push_without_commands,
+    Side, push_bad_list, push_meanings, push_namesakes, push_narrower, push_stale, push_tally,
+    push_unchosen, push_without_commands,
 };
 use dia_policy::Sends;
 use dia_report::{BothBooks, Compared, Report};
@@ -92,13 +92,15 @@ fn push_found(
             stale,
             lines,
             causes,
+            meanings,
         } => {
             let (first, second) = (texts.first.name, texts.second.name);
             push_tally(out, first, second, *lines, causes.len())?;
             if *lines > 0 {
                 push_less(alloc, out, asked, inputs, books)?;
-                push_twins(alloc, out, texts, books, causes)?;
             }
+            push_meanings(out, meanings)?;
+            push_causes(alloc, out, texts, asked.names, books, causes)?;
             push_stale(alloc, out, &texts.table, stale)
         }
         Found::NoList(bad) => push_bad_list(alloc, out, &texts.table, bad),
@@ -166,11 +168,12 @@ fn is_long(asked: Asked<'_>, books: &BothBooks) -> bool {
     commands.saturating_mul(avps) > MOST_COUNTED
 }
 
-/// Adds the names of AVPs that are others in the second dictionary.
-fn push_twins(
+/// Adds the application behind whose line nothing is compared, and the names of AVPs that are others in the second dictionary.
+fn push_causes(
     alloc: Global,
     out: &mut String,
     texts: &InputTexts<'_>,
+    names: &[String],
     books: &BothBooks,
     causes: &[Told],
 ) -> Result<(), AllocError> {
@@ -182,6 +185,7 @@ fn push_twins(
         name: texts.second.name,
         source: &books.second.source,
     };
+    push_unchosen(alloc, out, first, second, names, causes)?;
     push_namesakes(alloc, out, first, second, causes)
 }
 

@@ -1,5 +1,5 @@
-//! Tips about words that clap refuses, where its own tip leads astray: `--dict` belongs to `show`, and the dictionaries of the
-//! other commands are words.
+//! Tips about words that clap refuses, where its own tip leads astray: `--dict` belongs to `show` and `make`, and the
+//! dictionaries of the other commands are words.
 
 use clap::error::ErrorKind;
 use std::alloc::{AllocError, Global};
@@ -14,7 +14,11 @@ static USAGES: [(&str, &str); 6] = [
     ("breaking", "diacmd breaking [OPTIONS] <A> <B> [COMMAND]..."),
 ];
 
-const SHOW_USAGE: &str = "diacmd show [OPTIONS] <MESSAGE>";
+/// The commands whose dictionary is given by `--dict`, and their usage.
+static DICT_USAGES: [(&str, &str); 2] = [
+    ("show", "diacmd show [OPTIONS] <MESSAGE>"),
+    ("make", "diacmd make [OPTIONS] <TEXT>"),
+];
 
 /// A fault in other words, of the same kind, where words give a dictionary in the way of another command. `None` too where memory
 /// is refused.
@@ -33,8 +37,8 @@ pub(crate) fn better_fault(
 fn unexpected(alloc: Global, words: &[String]) -> Option<clap::Error> {
     let command = words.get(1)?.as_str();
     let rest = words.get(2..)?;
-    if command == "show" {
-        return shown(alloc, rest);
+    if let Some(usage) = DICT_USAGES.iter().find(|row| row.0 == command) {
+        return given(alloc, command, usage.1, rest);
     }
     let usage = USAGES.iter().find(|row| row.0 == command)?;
     if rest.iter().any(|word| is_dict(word.as_str())) {
@@ -49,24 +53,25 @@ fn is_dict(word: &str) -> bool {
     word == "--dict" || word.starts_with("--dict=")
 }
 
-/// What is told of `show D MESSAGE`.
-fn shown(alloc: Global, rest: &[String]) -> Option<clap::Error> {
+/// What is told of `show D MESSAGE`, and of `make D TEXT`.
+fn given(alloc: Global, command: &str, usage: &str, rest: &[String]) -> Option<clap::Error> {
     if rest.iter().any(|word| word.as_str().starts_with("--")) {
         return None;
     }
     let first = rest.first()?.as_str();
     let second = rest.get(1)?.as_str();
     let told = format!(in alloc;
-        "unexpected argument '{second}' found\n\n  tip: the dictionary of show is given by --dict, as in \
-         show --dict {first} {second}"
+        "unexpected argument '{second}' found\n\n  tip: the dictionary of {command} is given by --dict, as in \
+         {command} --dict {first} {second}"
     );
-    fault(alloc, told, SHOW_USAGE)
+    fault(alloc, told, usage)
 }
 
 /// What is told of `--dict` for a command whose dictionaries are words.
 fn worded(alloc: Global, command: &str, usage: &str) -> Option<clap::Error> {
     let told = format!(in alloc;
-        "unexpected argument '--dict' found\n\n  tip: only show has --dict, and {command} takes each dictionary as a word"
+        "unexpected argument '--dict' found\n\n  tip: only show and make have --dict, and \
+         {command} takes each dictionary as a word"
     );
     fault(alloc, told, usage)
 }

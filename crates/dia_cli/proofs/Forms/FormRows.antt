@@ -13,8 +13,8 @@ use Rattle.dia_policy.specs.declared.Sends.{Sends}
 use Rattle.dia_policy.specs.declared.Sends.TheVariants.{Any, Known, Listed}
 use Rattle.dia_policy.specs.declared.Unknown.{Unknown}
 use Rattle.dia_policy.specs.declared.Unknown.TheVariants.{Kept, Refused}
-use Rattle.dia_cli.specs.Forms.{Form, breaking, check, compare, form_inputs, form_name, form_options, is_plain_form, policy_given, propose, refute, render, sender_given, show, words_of}
-use Rattle.dia_cli.specs.Rows.{CommandRow, breaking_row, check_row, compare_row, input_rule, propose_row, refute_row, render_row, row_shape, show_row}
+use Rattle.dia_cli.specs.Forms.{Form, breaking, check, compare, form_inputs, form_name, form_options, is_plain_form, make, policy_given, propose, refute, render, sender_given, show, words_of}
+use Rattle.dia_cli.specs.Rows.{CommandRow, breaking_row, check_row, compare_row, input_rule, make_row, propose_row, refute_row, render_row, row_shape, show_row}
 use Rattle.dia_cli.specs.Slots.{Slot, flag}
 use Rattle.dia_cli.specs.Words.{line_shape, policy_word, sends_word}
 use Rattle.dia_cli.proofs.Forms.Ends.{Finds, HasFineDefaults, IsRow, lacks, row_taken}
@@ -24,13 +24,14 @@ use Rattle.dia_cli.proofs.Forms.Walked.{IsTaken, Names_at, leaf_of}
 use Rattle.dia_cli.proofs.Forms.Walks.{FitInputs, Passes, are_apart, behind}
 
 abbrev pub form_row : Form → CommandRow
-form_row (show dictionary message) = show_row
+form_row (show as_text dictionary message) = show_row
+form_row (make dictionary written) = make_row
 form_row (check manner unknown levels dictionary message) = check_row
 form_row (render dictionary) = render_row
 form_row (compare unknown first second table) = compare_row
 form_row (refute many unknown levels first second message) = refute_row
 form_row (propose unknown first second name names) = propose_row
-form_row (breaking sends unknown messages once accepted first second names) = breaking_row
+form_row (breaking sends unknown messages once meaning accepted first second names) = breaking_row
 
 -- the options with `--quiet` or without it
 abbrev pub all_options : Bool → Form → List Slot
@@ -76,8 +77,10 @@ module _ (policies senders : Bor (List (Bor Text))) (two : texts policies.now �
   }
 
   form_fits : (quiet : Bool) (form : Form) → IsRow (shape policies senders (form_row form)) (all_options quiet form) (form_inputs form)
-  form_fits quiet (show dictionary message) =
-      row_fits show_row _ _ refl (refl, tt, (refl, tt, tt)) (record { by_index = refl; by_id = refl; next = refl }, tt) refl refl refl refl
+  form_fits quiet (show as_text dictionary message) =
+      row_fits show_row _ _ refl (refl, tt, (refl, tt, (refl, tt, tt))) (record { by_index = refl; by_id = refl; next = refl }, tt) refl refl refl refl
+  form_fits quiet (make dictionary written) =
+      row_fits make_row _ _ refl (refl, tt, (refl, tt, tt)) (record { by_index = refl; by_id = refl; next = refl }, tt) refl refl refl refl
   form_fits quiet (check manner unknown levels dictionary message) =
       row_fits check_row _ _ refl (refl, tt, (refl, policy_passes unknown, (refl, tt, (refl, tt, (refl, tt, tt)))))
       (record { by_index = refl; by_id = refl; next = refl }, (record { by_index = refl; by_id = refl; next = refl }, tt)) refl refl refl refl
@@ -94,29 +97,31 @@ module _ (policies senders : Bor (List (Bor Text))) (two : texts policies.now �
       row_fits propose_row _ _ refl (refl, tt, (refl, policy_passes unknown, tt))
       (record { by_index = refl; by_id = refl; next = refl }, (record { by_index = refl; by_id = refl; next = refl }, (true, record { by_index = refl; by_id = refl; next = refl })))
       refl refl refl refl
-  form_fits quiet (breaking sends unknown messages once accepted first second names) =
-      row_fits breaking_row _ _ refl (refl, tt, (refl, policy_passes unknown, (refl, sender_passes sends, (refl, tt, (refl, tt, (refl, tt, tt))))))
+  form_fits quiet (breaking sends unknown messages once meaning accepted first second names) =
+      row_fits breaking_row _ _ refl (refl, tt, (refl, policy_passes unknown, (refl, sender_passes sends, (refl, tt, (refl, tt, (refl, tt, (refl, tt, tt)))))))
       (record { by_index = refl; by_id = refl; next = refl }, (record { by_index = refl; by_id = refl; next = refl }, (false, record { by_index = refl; by_id = refl; next = refl })))
       refl refl refl refl
 
   form_named : (form : Form) → Names_at (built (line_shape policies senders)) (form_name form) (shape policies senders (form_row form))
   unfolding clap_on_literals
-  form_named (show dictionary message) = record { stops = refl; fine = refl; finds = refl; rest = refl }
+  form_named (show as_text dictionary message) = record { stops = refl; fine = refl; finds = refl; rest = refl }
+  form_named (make dictionary written) = record { stops = refl; fine = refl; finds = refl; rest = refl }
   form_named (check manner unknown levels dictionary message) = record { stops = refl; fine = refl; finds = refl; rest = refl }
   form_named (render dictionary) = record { stops = refl; fine = refl; finds = refl; rest = refl }
   form_named (compare unknown first second table) = record { stops = refl; fine = refl; finds = refl; rest = refl }
   form_named (refute many unknown levels first second message) = record { stops = refl; fine = refl; finds = refl; rest = refl }
   form_named (propose unknown first second name names) = record { stops = refl; fine = refl; finds = refl; rest = refl }
-  form_named (breaking sends unknown messages once accepted first second names) = record { stops = refl; fine = refl; finds = refl; rest = refl }
+  form_named (breaking sends unknown messages once meaning accepted first second names) = record { stops = refl; fine = refl; finds = refl; rest = refl }
 
   shape_name : (form : Form) → (shape policies senders (form_row form)).name ≡ form_name form
-  shape_name (show dictionary message) = refl
+  shape_name (show as_text dictionary message) = refl
+  shape_name (make dictionary written) = refl
   shape_name (check manner unknown levels dictionary message) = refl
   shape_name (render dictionary) = refl
   shape_name (compare unknown first second table) = refl
   shape_name (refute many unknown levels first second message) = refl
   shape_name (propose unknown first second name names) = refl
-  shape_name (breaking sends unknown messages once accepted first second names) = refl
+  shape_name (breaking sends unknown messages once meaning accepted first second names) = refl
 
   -- the words of a form are taken
   pub form_taken : (program : Text) (quiet : Bool) (form : Form) → is_plain_form form ≡ true

@@ -10,14 +10,14 @@ use Rattle.clap.specs.Walk.{Row, Text, first_of}
 use Rattle.clap.proofs.WalkLemmas.{both}
 use Rattle.dia_io.specs.declared.Command.TheVariants as command
 use Rattle.dia_cli.specs.declared.task.Task.{Task}
-use Rattle.dia_cli.specs.declared.task.Task.TheVariants.{Whole, Breaking, CheckLines, RefuteLines, CheckStream}
+use Rattle.dia_cli.specs.declared.task.Task.TheVariants.{Whole, Make, ShowText, Breaking, CheckLines, RefuteLines, CheckStream}
 use Rattle.dia_policy.specs.declared.Levels.{Levels}
 use Rattle.dia_policy.specs.declared.Sends.{Sends}
 use Rattle.dia_policy.specs.declared.Sends.TheVariants.{Any, Known, Listed}
 use Rattle.dia_policy.specs.declared.Unknown.{Unknown}
 use Rattle.dia_policy.specs.declared.Unknown.TheVariants.{Kept, Refused}
 use Rattle.dia_cli.specs.Asking.{HasLinesAndStream, has_pair, is_asked, is_flag, is_limit, is_policy, is_sender}
-use Rattle.dia_cli.specs.Forms.{Form, IsOfForm, IsTaskOfForm, alone, breaking, check, compare, form_inputs, form_name, form_words, in_lines, in_stream, is_lines, is_plain_form, is_stream, propose, refute, render, show}
+use Rattle.dia_cli.specs.Forms.{Form, IsOfForm, IsTaskOfForm, alone, breaking, check, compare, form_inputs, form_name, form_words, in_lines, in_stream, is_lines, is_plain_form, is_stream, make, propose, refute, render, show}
 use Rattle.dia_cli.specs.Slots.{Slot, is_plain, is_plain_slot, number}
 use Rattle.dia_cli.specs.InputWords.{AreFound, AreNamed, IsFound, IsNamed, one_text, pair_texts}
 use Rattle.dia_cli.specs.Words.{IsLimitOf, IsRequestOf, IsTaskOf, arguments_of, flag_word, policy_word, sends_word}
@@ -108,8 +108,10 @@ pair_passes : (first second : Text) (rows : List Row) → first_of (codes "A") r
 pair_passes first second rows one two = also (has_some _ first one) (has_some _ second two)
 
 pub form_is_asked : (quiet : Bool) (form : Form) (rows : List Row) → is_plain_form form ≡ true → Says quiet form rows → is_asked (Some (form_name form, rows)) ≡ true
-form_is_asked quiet (show dictionary message) rows plain says =
-    also (has_flag _ quiet says.0) (also (has_some _ (unwrap_or dictionary (codes "@base")) says.1.0) (has_some _ message says.1.1))
+form_is_asked quiet (show as_text dictionary message) rows plain says =
+    also (has_flag _ quiet says.0) (also (has_some _ (unwrap_or dictionary (codes "@base")) says.1.0) (also (has_some _ message says.1.1) (has_flag _ as_text says.1.2)))
+form_is_asked quiet (make dictionary written) rows plain says =
+    also (has_flag _ quiet says.0) (also (has_some _ (unwrap_or dictionary (codes "@base")) says.1.0) (has_some _ written says.1.1))
 form_is_asked quiet (check manner unknown levels first second) rows plain says =
     also (has_flag _ quiet says.0) (also (has_flag _ (is_lines manner) says.1.0) (also (has_flag _ (is_stream manner) says.1.1)
     (also (also (also (has_policy _ unknown says.1.2) (has_limit _ levels says.1.3 (number_passes levels (form_inputs (check manner unknown levels first second)) plain)))
@@ -123,10 +125,10 @@ form_is_asked quiet (refute many unknown levels first second third) rows plain s
     (also (pair_passes first second rows says.1.0.1 says.1.0.2) (also (has_flag _ many says.1.1) (has_some _ third says.1.3))))
 form_is_asked quiet (propose unknown first second name names) rows plain says =
     also (has_flag _ quiet says.0) (also (has_policy _ unknown says.1.0.0) (also (pair_passes first second rows says.1.0.1 says.1.0.2) (has_some _ (name ∷ names) says.1.1)))
-form_is_asked quiet (breaking sends unknown messages once accepted first second names) rows plain says =
+form_is_asked quiet (breaking sends unknown messages once meaning accepted first second names) rows plain says =
     also (has_flag _ quiet says.0) (also (has_policy _ unknown says.1.0.0) (also (pair_passes first second rows says.1.0.1 says.1.0.2)
     (also (has_sender _ sends says.1.1)
-    (also (also (has_flag _ messages says.1.2) (has_flag _ once says.1.5)) (has_some _ (unwrap_or accepted (codes "@none")) says.1.4)))))
+    (also (also (has_flag _ messages says.1.2) (also (has_flag _ once says.1.5) (has_flag _ meaning says.1.6))) (has_some _ (unwrap_or accepted (codes "@none")) says.1.4)))))
 
 -- `--lines` and `--stream` stand together in no form
 pub form_reads_one_way : (quiet : Bool) (form : Form) (rows : List Row) → Says quiet form rows → (form_name form ≡ codes "check") × HasLinesAndStream rows → ⊥
@@ -139,6 +141,8 @@ form_reads_one_way quiet form rows says bad = unlike (form_name form) (codes "ch
 
 abbrev task_name : Task → Text
 task_name (Whole command.Show) = codes "show"
+task_name ShowText = codes "show"
+task_name Make = codes "make"
 task_name (Whole command.Render) = codes "render"
 task_name (Whole (command.Check unknown levels)) = codes "check"
 task_name (CheckLines unknown levels) = codes "check"
@@ -147,10 +151,12 @@ task_name (Whole (command.Compare unknown)) = codes "compare"
 task_name (Whole (command.Refute unknown levels)) = codes "refute"
 task_name (RefuteLines unknown levels) = codes "refute"
 task_name (Whole (command.Propose unknown names)) = codes "propose"
-task_name (Breaking sends unknown messages once names) = codes "breaking"
+task_name (Breaking sends unknown messages once meaning names) = codes "breaking"
 
 name_found : (task : Task) (found : Text × List Row) → IsTaskOf task found → found.0 ≡ task_name task
-name_found (Whole command.Show) found is = is
+name_found (Whole command.Show) found is = is.0
+name_found ShowText found is = is.0
+name_found Make found is = is
 name_found (Whole command.Render) found is = is
 name_found (Whole (command.Check unknown levels)) found is = is.0
 name_found (CheckLines unknown levels) found is = is.0
@@ -159,7 +165,7 @@ name_found (Whole (command.Compare unknown)) found is = is.0
 name_found (Whole (command.Refute unknown levels)) found is = is.0
 name_found (RefuteLines unknown levels) found is = is.0
 name_found (Whole (command.Propose unknown names)) found is = is.0
-name_found (Breaking sends unknown messages once names) found is = is.0
+name_found (Breaking sends unknown messages once meaning names) found is = is.0
 
 other_flag : {X : Type 0} (word : Option Text) (x y : Bool) → word ≡ Some (flag_word x) → word ≡ Some (flag_word y) → x ≢ y → X
 other_flag word x y one two differ = absurd (differ (same_flag word x y one two))
@@ -184,10 +190,10 @@ module _ (origins : Origins) (rows : List Row) where
   one_named : (id dictionary : Text) → first_of id rows ≡ Some dictionary → AreFound (one_text id) origins rows → AreNamed (one_text dictionary) origins
   one_named id dictionary says found = (named _ id dictionary origins.first rows says found.0, found.1, found.2, found.3, found.4)
 
-  message_named : (id dictionary message : Text) → first_of id rows ≡ Some dictionary → first_of (codes "MESSAGE") rows ≡ Some message
-      → AreFound (record (one_text id) { message = Some (codes "MESSAGE") }) origins rows → AreNamed (record (one_text dictionary) { message = Some message }) origins
-  message_named id dictionary message says text found =
-      (named _ id dictionary origins.first rows says found.0, found.1, found.2, named _ (codes "MESSAGE") message origins.message rows text found.3, found.4)
+  message_named : (id dictionary input message : Text) → first_of id rows ≡ Some dictionary → first_of input rows ≡ Some message
+      → AreFound (record (one_text id) { message = Some input }) origins rows → AreNamed (record (one_text dictionary) { message = Some message }) origins
+  message_named id dictionary input message says text found =
+      (named _ id dictionary origins.first rows says found.0, found.1, found.2, named _ input message origins.message rows text found.3, found.4)
 
   messages_named : (id dictionary messages : Text) → first_of id rows ≡ Some dictionary → first_of (codes "MESSAGE") rows ≡ Some messages
       → AreFound (record (one_text id) { messages = Some (codes "MESSAGE") }) origins rows → AreNamed (record (one_text dictionary) { messages = Some messages }) origins
@@ -234,11 +240,17 @@ module _ (origins : Origins) (rows : List Row) where
 
 asked_is : (form : Form) (rows : List Row) (task : Task) (origins : Origins) → SaysForm form rows → IsTaskOf task (form_name form, rows) → AreFound (arguments_of task) origins rows
     → IsAskedOf form task origins
-asked_is (show dictionary message) rows (Whole command.Show) origins says is found =
-    (tt, message_named origins rows (codes "dict") (unwrap_or dictionary (codes "@base")) message says.0 says.1 found)
+asked_is (show false dictionary message) rows (Whole command.Show) origins says is found =
+    (tt, message_named origins rows (codes "dict") (unwrap_or dictionary (codes "@base")) (codes "MESSAGE") message says.0 says.1 found)
+asked_is (show true dictionary message) rows ShowText origins says is found =
+    (tt, message_named origins rows (codes "dict") (unwrap_or dictionary (codes "@base")) (codes "MESSAGE") message says.0 says.1 found)
+asked_is (show false dictionary message) rows ShowText origins says is found = other_flag _ true false is.1 says.2 not_false
+asked_is (show true dictionary message) rows (Whole command.Show) origins says is found = other_flag _ false true is.1 says.2 not_true
+asked_is (make dictionary written) rows Make origins says is found =
+    (tt, message_named origins rows (codes "dict") (unwrap_or dictionary (codes "@base")) (codes "TEXT") written says.0 says.1 found)
 asked_is (render dictionary) rows (Whole command.Render) origins says is found = (tt, one_named origins rows (codes "D") dictionary says found)
 asked_is (check alone unknown levels first second) rows (Whole (command.Check policy limit)) origins says is found =
-    ((same_policy _ _ _ is.3.0 says.2, same_limit _ _ limit says.3 is.3.1), message_named origins rows (codes "D") first second says.4 says.5 found)
+    ((same_policy _ _ _ is.3.0 says.2, same_limit _ _ limit says.3 is.3.1), message_named origins rows (codes "D") first (codes "MESSAGE") second says.4 says.5 found)
 asked_is (check in_lines unknown levels first second) rows (CheckLines policy limit) origins says is found =
     ((same_policy _ _ _ is.3.0 says.2, same_limit _ _ limit says.3 is.3.1), messages_named origins rows (codes "D") first second says.4 says.5 found)
 asked_is (check in_stream unknown levels first second) rows (CheckStream policy limit) origins says is found =
@@ -259,11 +271,19 @@ asked_is (refute false unknown levels first second third) rows (RefuteLines poli
 asked_is (refute true unknown levels first second third) rows (Whole (command.Refute policy limit)) origins says is found = other_flag _ false true is.1 says.1 not_true
 asked_is (propose unknown first second name names) rows (Whole (command.Propose policy commands)) origins says is found =
     ((same_policy _ _ _ is.1 says.0.0, sym (same_value _ _ _ says.1 is.2)), pair_named origins rows first second says.0.1 says.0.2 found)
-asked_is (breaking sends unknown messages once accepted first second names) rows (Breaking sender policy shown counted commands) origins says is found = (
-  (same_sender _ _ _ is.2 says.1, same_policy _ _ _ is.1 says.0.0, same_flag _ _ _ is.3 says.2, same_flag _ _ _ is.4 says.5, same_names _ _ names says.3 is.5),
+asked_is (breaking sends unknown messages once meaning accepted first second names) rows (Breaking sender policy shown counted meant commands) origins says is found = (
+  (
+    same_sender _ _ _ is.2 says.1,
+    same_policy _ _ _ is.1 says.0.0,
+    same_flag _ _ _ is.3 says.2,
+    same_flag _ _ _ is.4 says.5,
+    same_flag _ _ _ is.5 says.6,
+    same_names _ _ names says.3 is.6,
+  ),
   table_named origins rows first second says.0.1 says.0.2 (codes "accepted") (unwrap_or accepted (codes "@none")) says.4 found,
 )
-asked_is (breaking sends unknown messages once accepted first second names) rows (Whole command.Show) origins says is found = unlike (codes "breaking") (codes "show") refl is
+asked_is (breaking sends unknown messages once meaning accepted first second names) rows (Whole command.Show) origins says is found = unlike (codes "breaking") (codes "show") refl is.0
+asked_is (make dictionary written) rows (Whole command.Show) origins says is found = unlike (codes "make") (codes "show") refl is.0
 asked_is form rows task origins says is found = unlike (form_name form) (task_name task) refl (name_found task (form_name form, rows) is)
 
 pub request_is : (quiet : Bool) (form : Form) (rows : List Row) (request : Request) → Says quiet form rows → IsRequestOf request (form_name form, rows)

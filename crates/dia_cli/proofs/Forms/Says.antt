@@ -9,7 +9,7 @@ use Rattle.dia_policy.specs.declared.Sends.{Sends}
 use Rattle.dia_policy.specs.declared.Sends.TheVariants.{Any, Known, Listed}
 use Rattle.dia_policy.specs.declared.Unknown.{Unknown}
 use Rattle.dia_policy.specs.declared.Unknown.TheVariants.{Kept, Refused}
-use Rattle.dia_cli.specs.Forms.{Form, breaking, check, compare, form_inputs, is_lines, is_stream, policy_given, propose, refute, render, sender_given, show}
+use Rattle.dia_cli.specs.Forms.{Form, breaking, check, compare, form_inputs, is_lines, is_stream, make, policy_given, propose, refute, render, sender_given, show}
 use Rattle.dia_cli.specs.Slots.{Slot}
 use Rattle.dia_cli.specs.Words.{flag_word, policy_word, sends_word}
 use Rattle.dia_cli.proofs.Forms.Ends.{Finds}
@@ -29,7 +29,10 @@ SaysPair unknown first second rows = (first_of (codes "unknown") rows ≡ Some (
 
 -- what is found of the options and inputs of a form
 abbrev pub SaysForm : Form → List Row → Type 0
-SaysForm (show dictionary message) rows = (first_of (codes "dict") rows ≡ Some (unwrap_or dictionary (codes "@base"))) × (first_of (codes "MESSAGE") rows ≡ Some message)
+SaysForm (show as_text dictionary message) rows =
+    (first_of (codes "dict") rows ≡ Some (unwrap_or dictionary (codes "@base"))) × (first_of (codes "MESSAGE") rows ≡ Some message)
+    × (first_of (codes "as-text") rows ≡ Some (flag_word as_text))
+SaysForm (make dictionary written) rows = (first_of (codes "dict") rows ≡ Some (unwrap_or dictionary (codes "@base"))) × (first_of (codes "TEXT") rows ≡ Some written)
 SaysForm (check manner unknown levels dictionary message) rows =
     (first_of (codes "lines") rows ≡ Some (flag_word (is_lines manner))) × (first_of (codes "stream") rows ≡ Some (flag_word (is_stream manner)))
     × (first_of (codes "unknown") rows ≡ Some (policy_word unknown)) × (first_of (codes "levels") rows ≡ levels)
@@ -40,10 +43,10 @@ SaysForm (refute many unknown levels first second message) rows =
     SaysPair unknown first second rows × (first_of (codes "lines") rows ≡ Some (flag_word many)) × (first_of (codes "levels") rows ≡ levels)
     × (first_of (codes "MESSAGE") rows ≡ Some message)
 SaysForm (propose unknown first second name names) rows = SaysPair unknown first second rows × (all_of (codes "COMMAND") rows ≡ Some (name ∷ names))
-SaysForm (breaking sends unknown messages once accepted first second names) rows =
+SaysForm (breaking sends unknown messages once meaning accepted first second names) rows =
     SaysPair unknown first second rows × (first_of (codes "sends") rows ≡ Some (sends_word sends)) × (first_of (codes "messages") rows ≡ Some (flag_word messages))
     × (all_of (codes "COMMAND") rows ≡ some_names names) × (first_of (codes "accepted") rows ≡ Some (unwrap_or accepted (codes "@none")))
-    × (first_of (codes "once") rows ≡ Some (flag_word once))
+    × (first_of (codes "once") rows ≡ Some (flag_word once)) × (first_of (codes "meaning") rows ≡ Some (flag_word meaning))
 
 abbrev pub Says : Bool → Form → List Row → Type 0
 Says quiet form rows = (first_of (codes "quiet") rows ≡ Some (flag_word quiet)) × SaysForm form rows
@@ -96,8 +99,12 @@ module _ (policies senders : Bor (List (Bor Text))) (quiet : Bool) (rows : List 
       → ((id : Text) → all_of id rows ≡ option_map (λ (f : Found). f.0) (or_found (values_from CommandLine (values_of id (behind (all_options quiet form ++ form_inputs form) [])))
       (default_found id (shape policies senders (form_row form)).rules)))
       → Says quiet form rows
-  form_says (show dictionary message) first all =
-      (first (codes "quiet") ∙ flag_found quiet, (first (codes "dict") ∙ text_found dictionary (codes "@base"), first (codes "MESSAGE")))
+  form_says (show as_text dictionary message) first all = (
+    first (codes "quiet") ∙ flag_found quiet,
+    (first (codes "dict") ∙ text_found dictionary (codes "@base"), first (codes "MESSAGE"), first (codes "as-text") ∙ flag_found as_text),
+  )
+  form_says (make dictionary written) first all =
+      (first (codes "quiet") ∙ flag_found quiet, (first (codes "dict") ∙ text_found dictionary (codes "@base"), first (codes "TEXT")))
   form_says (check manner unknown levels dictionary message) first all = (
     first (codes "quiet") ∙ flag_found quiet,
     (
@@ -123,7 +130,7 @@ module _ (policies senders : Bor (List (Bor Text))) (quiet : Bool) (rows : List 
   )
   form_says (propose unknown one two name names) first all =
       (first (codes "quiet") ∙ flag_found quiet, ((first (codes "unknown") ∙ policy_found unknown, first (codes "A"), first (codes "B")), all (codes "COMMAND")))
-  form_says (breaking sends unknown messages once accepted one two names) first all = (
+  form_says (breaking sends unknown messages once meaning accepted one two names) first all = (
     first (codes "quiet") ∙ flag_found quiet,
     (
       (first (codes "unknown") ∙ policy_found unknown, first (codes "A"), first (codes "B")),
@@ -132,6 +139,7 @@ module _ (policies senders : Bor (List (Bor Text))) (quiet : Bool) (rows : List 
       all (codes "COMMAND") ∙ names_found names,
       first (codes "accepted") ∙ text_found accepted (codes "@none"),
       first (codes "once") ∙ flag_found once,
+      first (codes "meaning") ∙ flag_found meaning,
     ),
   )
 

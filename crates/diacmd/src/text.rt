@@ -1,0 +1,81 @@
+//! Commands on messages as text: `make`, and `show --as-text`.
+
+use crate::word_of;
+use dia_cli::{Ending, Origin};
+use dia_make::{make, note, show_text};
+use dia_report::{Report, Reported};
+use dia_run::{Inputs, RunFault, ToWriter};
+use std::io;
+
+/// Writes the messages that a text makes, and explains why it makes none, unless it is to be quiet.
+pub(crate) fn made<'a, R>(
+    rt: &R,
+    inputs: &Inputs,
+    text: Origin<'a>,
+    quiet: bool,
+) -> Result<Reported, Ending<'a>>
+where
+    R: AllocGlobal + Print + Eprint,
+{
+    let mut sink = ToWriter::new(io::writer(rt));
+    let ended = make(rt.alloc(), inputs, &mut sink);
+    let made = answered(ended, sink.failure())?;
+    Ok(explained(rt, made, inputs, text, quiet))
+}
+
+/// Writes the text of a message, and explains why it has none, unless it is to be quiet.
+pub(crate) fn shown<'a, R>(
+    rt: &R,
+    inputs: &Inputs,
+    message: Origin<'a>,
+    quiet: bool,
+) -> Result<Reported, Ending<'a>>
+where
+    R: AllocGlobal + Print + Eprint,
+{
+    let mut sink = ToWriter::new(io::writer(rt));
+    let ended = show_text(rt.alloc(), inputs, &mut sink);
+    let shown = answered(ended, sink.failure())?;
+    Ok(explained(rt, shown, inputs, message, quiet))
+}
+
+/// How a command ended that wrote to standard output. `error` is what the system said of that.
+fn answered<'a>(
+    ended: Result<dia_make::Reported, RunFault>,
+    error: Option<io::Error>,
+) -> Result<dia_make::Reported, Ending<'a>> {
+    match ended {
+        Ok(reported) => Ok(reported),
+        Err(fault) => Err(Ending::of_run(fault, "standard output", error)),
+    }
+}
+
+/// How a command ended, whose text or message is explained here. What it says of a dictionary, or of hexadecimal digits, is
+/// left to be explained with that of other commands.
+fn explained<R: AllocGlobal + Eprint>(
+    rt: &R,
+    made: dia_make::Reported,
+    inputs: &Inputs,
+    message: Origin<'_>,
+    quiet: bool,
+) -> Reported {
+    let dia_make::Reported { exit, report } = made;
+    if !quiet {
+        tell(rt, word_of(message), inputs, &report);
+    }
+    let report = match report {
+        dia_make::Report::Refused(bad) => Report::Refused(bad),
+        dia_make::Report::Done | dia_make::Report::Text(_) | dia_make::Report::Cut { .. } => {
+            Report::Done
+        }
+    };
+    Reported { exit, report }
+}
+
+/// Tells on standard error why a text makes no message, or a message has no text. Where memory or the device fails, nothing is
+/// told.
+fn tell<R: AllocGlobal + Eprint>(rt: &R, name: &str, inputs: &Inputs, report: &dia_make::Report) {
+    if let Ok(text) = note(rt.alloc(), name, inputs, report) {
+        let _ = eprint!(rt; "{text}");
+    }
+}
