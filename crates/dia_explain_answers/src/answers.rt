@@ -4,9 +4,10 @@ use crate::checking::push_check;
 use crate::comparing::push_compare;
 use crate::faults::push_show;
 use crate::refuting::push_refute;
+use crate::texts::Added;
 use dia_explain_places::InputTexts;
 use dia_report::Report;
-use std::alloc::{AllocError, Global};
+use std::alloc::Global;
 
 /// Adds the reason of an answer that isn't yes. Of inputs that are refused nothing is told here.
 pub fn push_answer(
@@ -14,7 +15,7 @@ pub fn push_answer(
     out: &mut String,
     texts: &InputTexts<'_>,
     report: &Report,
-) -> Result<(), AllocError> {
+) -> Added {
     match report {
         Report::Cut(listing) => push_show(alloc, out, texts, listing),
         Report::Invalid(found) => push_check(alloc, out, texts, found),

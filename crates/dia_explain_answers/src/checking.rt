@@ -2,10 +2,11 @@
 
 use crate::faults::{Message, push_refusal};
 use crate::sides::{Side, sites_of};
+use crate::texts::Added;
 use dia_check::{Levels, Unknown};
 use dia_explain_places::InputTexts;
 use dia_report::Invalid;
-use std::alloc::{AllocError, Global};
+use std::alloc::Global;
 
 /// How messages are checked.
 #[derive(Clone, Copy)]
@@ -21,19 +22,19 @@ impl Asked {
 }
 
 /// Adds the options that aren't the default.
-pub fn push_options(out: &mut String, asked: &Asked) -> Result<(), AllocError> {
-    push_policy(out, asked.unknown)?;
+pub fn push_options(out: &mut String, asked: &Asked) -> Added {
+    out.push_str(policy_words(asked.unknown))?;
     match asked.levels {
         Levels::AtMost(most) => write!(out, " --levels {most}"),
         Levels::Any => Ok(()),
     }
 }
 
-/// Adds the option for a policy that isn't the default.
-pub fn push_policy(out: &mut String, unknown: Unknown) -> Result<(), AllocError> {
+/// The option for a policy that isn't the default.
+pub fn policy_words(unknown: Unknown) -> &'static str {
     match unknown {
-        Unknown::Kept => Ok(()),
-        Unknown::Refused => out.push_str(" --unknown refused"),
+        Unknown::Kept => "",
+        Unknown::Refused => " --unknown refused",
     }
 }
 
@@ -43,10 +44,10 @@ pub fn push_check(
     out: &mut String,
     texts: &InputTexts<'_>,
     found: &Invalid,
-) -> Result<(), AllocError> {
+) -> Added {
     let sites = sites_of(alloc, &texts.first, &found.first)?;
     let side = Side::of(&texts.first, &found.first, &sites);
     let message = Message::of(&texts.message, &found.message);
     let asked = Asked::new(found.unknown, found.levels);
-    push_refusal(alloc, out, &side, &message, &asked, &found.refusal)
+    push_refusal(out, &side, &message, &asked, &found.refusal)
 }

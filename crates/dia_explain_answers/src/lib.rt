@@ -14,6 +14,7 @@ mod lines;
 mod refuting;
 mod rule_text;
 mod sides;
+mod texts;
 
 pub use answers::push_answer;
 pub use checking::Asked;

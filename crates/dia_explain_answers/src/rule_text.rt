@@ -1,84 +1,59 @@
-//! Rules, counts, formats and M rules as a dictionary's text has them.
+//! Rules, counts, keys, formats and M rules as a dictionary's text has them.
 
 use crate::sides::Side;
-use dia_book::{Book, DRule, Format, MRule, RuleKind};
-use std::alloc::AllocError;
+use crate::texts::Added;
+use dia_book::{DRule, Format, Key, MRule, RuleKind};
 
 /// Adds a rule as a text has it, with a qualifier where its counts aren't those of its brackets.
-pub fn push_rule<B: Book>(
-    out: &mut String,
-    side: &Side<'_, B>,
-    rule: &DRule,
-) -> Result<(), AllocError> {
-    push_qualifier(out, rule)?;
-    let (open, close) = brackets(rule.kind);
+pub fn push_rule(out: &mut String, side: &Side<'_>, rule: &DRule) -> Added {
+    let (open, close, plain, starred) = brackets(rule.kind);
+    push_qualifier(out, rule, plain, starred)?;
     out.push_str(open)?;
     push_slot(out, side, rule)?;
     out.push_str(close)
 }
 
 /// Adds `{ X } for < X >`: what to write for a fixed rule so that its AVPs may stand anywhere.
-pub fn push_loose<B: Book>(
-    out: &mut String,
-    side: &Side<'_, B>,
-    rule: &DRule,
-) -> Result<(), AllocError> {
-    let loose = DRule {
-        kind: RuleKind::Required,
-        ..*rule
-    };
-    push_rule(out, side, &loose)?;
+pub fn push_loose(out: &mut String, side: &Side<'_>, rule: &DRule) -> Added {
+    let kind = RuleKind::Required;
+    push_rule(out, side, &DRule { kind, ..*rule })?;
     out.push_str(" for ")?;
     push_rule(out, side, rule)
 }
 
 /// Adds what a rule is for.
-pub fn push_slot<B: Book>(
-    out: &mut String,
-    side: &Side<'_, B>,
-    rule: &DRule,
-) -> Result<(), AllocError> {
+pub fn push_slot(out: &mut String, side: &Side<'_>, rule: &DRule) -> Added {
     match rule.key {
         Some(key) => side.push_name(out, key),
         None => out.push_str("AVP"),
     }
 }
 
-fn brackets(kind: RuleKind) -> (&'static str, &'static str) {
+/// The brackets of a rule, and their least counts: without a qualifier, and with one that has none before the star.
+fn brackets(kind: RuleKind) -> (&'static str, &'static str, u32, u32) {
     match kind {
-        RuleKind::Fixed => ("< ", " >"),
-        RuleKind::Required => ("{ ", " }"),
-        RuleKind::Optional => ("[ ", " ]"),
+        RuleKind::Fixed => ("< ", " >", 1, 0),
+        RuleKind::Required => ("{ ", " }", 1, 1),
+        RuleKind::Optional => ("[ ", " ]", 0, 0),
     }
 }
 
-/// The least count of brackets without a qualifier, and with one that has none before the star.
-fn least_of(kind: RuleKind) -> (u32, u32) {
-    match kind {
-        RuleKind::Fixed => (1, 0),
-        RuleKind::Required => (1, 1),
-        RuleKind::Optional => (0, 0),
-    }
-}
-
-fn push_qualifier(out: &mut String, rule: &DRule) -> Result<(), AllocError> {
-    let (plain, starred) = least_of(rule.kind);
-    let min = rule.min;
-    if min == plain && rule.max == Some(1) {
+fn push_qualifier(out: &mut String, rule: &DRule, plain: u32, starred: u32) -> Added {
+    let DRule { min, max, .. } = *rule;
+    if min == plain && max == Some(1) {
         return Ok(());
     }
     if min != starred {
         write!(out, "{min}")?;
     }
-    out.push('*')?;
-    if let Some(max) = rule.max {
-        write!(out, "{max}")?;
+    match max {
+        Some(max) => write!(out, "*{max} "),
+        None => out.push_str("* "),
     }
-    out.push(' ')
 }
 
 /// Adds counts: `3`, `0..1` or `1..*`.
-pub fn push_counts(out: &mut String, min: u32, max: Option<u32>) -> Result<(), AllocError> {
+fn push_counts(out: &mut String, min: u32, max: Option<u32>) -> Added {
     match max {
         Some(max) if max == min => write!(out, "{min}"),
         Some(max) => write!(out, "{min}..{max}"),
@@ -86,20 +61,18 @@ pub fn push_counts(out: &mut String, min: u32, max: Option<u32>) -> Result<(), A
     }
 }
 
-/// Adds counts of what a rule is for: `0..* of X`.
-pub fn push_counted<B: Book>(
-    out: &mut String,
-    side: &Side<'_, B>,
-    rule: &DRule,
-) -> Result<(), AllocError> {
+/// Adds counts of what a rule is for, and the rule: `0..* of X, by * [ X ]`.
+pub fn push_counted(out: &mut String, side: &Side<'_>, rule: &DRule) -> Added {
     push_counts(out, rule.min, rule.max)?;
     match rule.key {
-        Some(key) => {
+        Some(_) => {
             out.push_str(" of ")?;
-            side.push_name(out, key)
+            push_slot(out, side, rule)?;
         }
-        None => out.push_str(" of what no rule names"),
+        None => out.push_str(" of what no rule names")?,
     }
+    out.push_str(", by ")?;
+    push_rule(out, side, rule)
 }
 
 /// A rule with the counts of two.
@@ -118,6 +91,30 @@ pub fn widened(rule: &DRule, other: &DRule) -> DRule {
         min,
         max,
         ..*other
+    }
+}
+
+/// Adds a code, and behind it the vendor, where there is one. `between` is the word between the two.
+pub fn push_key(out: &mut String, key: Key, between: &str) -> Added {
+    let Key { code, vendor } = key;
+    if vendor == 0 {
+        write!(out, "{code}")
+    } else {
+        write!(out, "{code}{between}{vendor}")
+    }
+}
+
+pub fn push_code(out: &mut String, key: Key) -> Added {
+    let code = key.code;
+    write!(out, "{code}")
+}
+
+/// Adds `no vendor` or `vendor N`.
+pub fn push_vendor(out: &mut String, vendor: u32) -> Added {
+    if vendor == 0 {
+        out.push_str("no vendor")
+    } else {
+        write!(out, "vendor {vendor}")
     }
 }
 

@@ -1,15 +1,17 @@
 //! Dictionaries with the texts that they were read from, and where the parts of these stand.
 
-use dia_book::{Book, DefHead, Definition, Key};
+use crate::books::avp_of;
+use crate::texts::{Added, Scene, push_start, push_text};
+use dia_book::{DefHead, Definition, Key};
 use dia_dict::IndexedBook;
-use dia_explain_places::{DefSite, NamedText, Sites, back, push_excerpt, push_place};
+use dia_explain_places::{DefSite, NamedText, Sites, back, push_excerpt};
 use dia_report::ReadBook;
 use std::alloc::{AllocError, Global};
 
 /// A dictionary, the word that names its text, the text, and the places of its parts.
-#[derive(Drop)]
-pub struct Side<'a, B: Book> {
-    pub book: &'a B,
+#[derive(Clone, Copy)]
+pub struct Side<'a> {
+    pub book: &'a IndexedBook,
     pub name: &'a str,
     pub text: &'a [u8],
     pub sites: &'a Sites,
@@ -25,7 +27,7 @@ pub fn sites_of(
     dia_explain_places::sites_of(alloc, text, &read.source)
 }
 
-impl<'a> Side<'a, IndexedBook> {
+impl<'a> Side<'a> {
     /// A dictionary that was read from a text.
     pub fn of(dictionary: &NamedText<'a>, read: &'a ReadBook, sites: &'a Sites) -> Self {
         Side {
@@ -35,38 +37,28 @@ impl<'a> Side<'a, IndexedBook> {
             sites,
         }
     }
-}
 
-impl<B: Book> Side<'_, B> {
-    /// Begins a line about a part of the text.
-    pub fn begin(&self, out: &mut String, at: Option<usize>) -> Result<(), AllocError> {
-        match at {
-            Some(at) => push_place(out, self.name, self.text, at),
-            None => {
-                let name = self.name;
-                write!(out, "{name}: ")
-            }
-        }
-    }
-
-    /// Ends a line about a part of the text, and shows the text there.
-    pub fn end(
+    /// Adds a line about a part of the text, or about the dictionary, and shows the text there.
+    pub fn push_part<S: Scene>(
         &self,
-        alloc: Global,
         out: &mut String,
         at: Option<usize>,
-    ) -> Result<(), AllocError> {
+        scene: &S,
+        told: &str,
+    ) -> Added {
+        push_start(out, self.name, self.text, at)?;
+        push_text(out, scene, told)?;
         out.push('\n')?;
         match at {
-            Some(at) => push_excerpt(alloc, out, self.text, at),
+            Some(at) => push_excerpt(*out.allocator(), out, self.text, at),
             None => Ok(()),
         }
     }
 
     /// Adds the name of an AVP, or its code and vendor where the dictionary doesn't know it.
-    pub fn push_name(&self, out: &mut String, key: Key) -> Result<(), AllocError> {
-        match self.book.avp(key) {
-            Some(entry) => out.push_str(self.book.entry_name(entry)),
+    pub fn push_name(&self, out: &mut String, key: Key) -> Added {
+        match avp_of(self.book, key) {
+            Some(known) => out.push_str(known.name),
             None => write!(out, "{key}"),
         }
     }
@@ -85,18 +77,11 @@ impl<B: Book> Side<'_, B> {
 
     /// The place of the name in the declaration of an AVP, or in its definition where it has no declaration.
     pub fn avp_at(&self, name: &str) -> Option<usize> {
-        match self.declaration_at(name) {
+        let mut declarations = self.sites.decls.iter().copied();
+        match declarations.find(|at| names_at(self.text, *at, name)) {
             Some(at) => Some(at),
             None => Some(self.named_site(name, true)?.at),
         }
-    }
-
-    fn declaration_at(&self, name: &str) -> Option<usize> {
-        self.sites
-            .decls
-            .iter()
-            .copied()
-            .find(|at| names_at(self.text, *at, name))
     }
 
     fn site_of(&self, def: &Definition) -> Option<DefSite> {

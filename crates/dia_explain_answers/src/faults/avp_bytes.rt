@@ -1,75 +1,69 @@
 //! The bytes of an AVP and of a header, by their fields (RFC 6733 sections 3 and 4.1).
 
+use crate::texts::Added;
 use dia_data::push_hex_byte;
 use dia_wire::{
-    AVP_MANDATORY, AVP_PROTECTED, AVP_VENDOR, COMMAND_ERROR, COMMAND_PROXIABLE, COMMAND_REQUEST,
-    COMMAND_RETRANSMITTED,
+    AVP_HEAD_LENGTH, AVP_MANDATORY, AVP_PROTECTED, AVP_VENDOR, COMMAND_ERROR, COMMAND_PROXIABLE,
+    COMMAND_REQUEST, COMMAND_RETRANSMITTED, Header, VENDOR_AVP_HEAD_LENGTH,
 };
-use std::alloc::AllocError;
 
 /// How many bytes of data are shown.
 const SHOWN: usize = 16;
 
+static AVP_FLAGS: [(u8, &str); 3] = [
+    (AVP_VENDOR, " V"),
+    (AVP_MANDATORY, " M"),
+    (AVP_PROTECTED, " P"),
+];
+
+static COMMAND_FLAGS: [(u8, &str); 4] = [
+    (COMMAND_REQUEST, " R"),
+    (COMMAND_PROXIABLE, " P"),
+    (COMMAND_ERROR, " E"),
+    (COMMAND_RETRANSMITTED, " T"),
+];
+
 /// Adds the fields of the AVP at the front of some bytes, as far as they are there: in decimal, and in hexadecimal.
-pub fn push_avp(out: &mut String, bytes: &[u8]) -> Result<(), AllocError> {
+pub fn push_avp(out: &mut String, bytes: &[u8]) -> Added {
     let Some(flags) = bytes.get(4) else {
         out.push_str("bytes ")?;
         return push_hex(out, bytes);
     };
-    push_number(out, "code", part(bytes, 0, 4))?;
+    push_field(out, "code ", part(bytes, 0, 4))?;
     out.push_str(", ")?;
-    push_avp_flags(out, *flags)?;
-    out.push_str(", ")?;
-    push_number(out, "length", part(bytes, 5, 8))?;
-    if flags & AVP_VENDOR == 0 {
-        return push_data(out, bytes, 8);
+    push_flags(out, *flags, &AVP_FLAGS)?;
+    push_field(out, ", length ", part(bytes, 5, 8))?;
+    let head = head_of(bytes);
+    if head == VENDOR_AVP_HEAD_LENGTH {
+        push_field(out, ", vendor ", part(bytes, 8, 12))?;
     }
-    out.push_str(", ")?;
-    push_number(out, "vendor", part(bytes, 8, 12))?;
-    push_data(out, bytes, 12)
+    push_data(out, part(bytes, head, length_of(bytes)))
 }
 
-/// Adds the data of an AVP. `head` is the length of its head.
-fn push_data(out: &mut String, bytes: &[u8], head: usize) -> Result<(), AllocError> {
-    let length = value_of(part(bytes, 5, 8)) as usize;
-    let all = part(bytes, head, length);
-    if all.is_empty() {
+fn push_data(out: &mut String, bytes: &[u8]) -> Added {
+    if bytes.is_empty() {
         return Ok(());
     }
     out.push_str(", data ")?;
-    push_hex(out, part(all, 0, SHOWN))?;
-    if all.len() > SHOWN {
+    push_hex(out, part(bytes, 0, SHOWN))?;
+    if bytes.len() > SHOWN {
         out.push_str("..")?;
     }
     Ok(())
 }
 
-/// Adds a field of the header: its Command Flags, its Command Code, or its Application-ID.
-pub fn push_command_flags(out: &mut String, flags: u8) -> Result<(), AllocError> {
-    out.push_str("flags ")?;
-    push_hex_byte(out, flags)?;
-    let names = [
-        (COMMAND_REQUEST, " R"),
-        (COMMAND_PROXIABLE, " P"),
-        (COMMAND_ERROR, " E"),
-        (COMMAND_RETRANSMITTED, " T"),
-    ];
-    push_set(out, flags, &names)
+/// Adds the fields of a header by which its command is found.
+pub fn push_header(out: &mut String, header: &Header) -> Added {
+    let Header { code, app, .. } = *header;
+    out.push_str("\n  header: ")?;
+    push_flags(out, header.flags, &COMMAND_FLAGS)?;
+    write!(out, ", code {code}, application {app}\n")
 }
 
-fn push_avp_flags(out: &mut String, flags: u8) -> Result<(), AllocError> {
+/// Adds flags, with the names of those that are set.
+fn push_flags(out: &mut String, flags: u8, names: &[(u8, &'static str)]) -> Added {
     out.push_str("flags ")?;
     push_hex_byte(out, flags)?;
-    let names = [
-        (AVP_VENDOR, " V"),
-        (AVP_MANDATORY, " M"),
-        (AVP_PROTECTED, " P"),
-    ];
-    push_set(out, flags, &names)
-}
-
-/// Adds the names of the flags that are set.
-fn push_set(out: &mut String, flags: u8, names: &[(u8, &'static str)]) -> Result<(), AllocError> {
     for (bit, name) in names {
         if flags & *bit != 0 {
             out.push_str(name)?;
@@ -78,16 +72,16 @@ fn push_set(out: &mut String, flags: u8, names: &[(u8, &'static str)]) -> Result
     Ok(())
 }
 
-/// Adds a number by its name, and its bytes.
-fn push_number(out: &mut String, name: &str, bytes: &[u8]) -> Result<(), AllocError> {
+/// Adds a number behind its name, and its bytes.
+fn push_field(out: &mut String, name: &str, bytes: &[u8]) -> Added {
     let value = value_of(bytes);
-    write!(out, "{name} {value} (")?;
+    write!(out, "{name}{value} (")?;
     push_hex(out, bytes)?;
     out.push(')')
 }
 
 /// Adds bytes as hexadecimal digits.
-pub fn push_hex(out: &mut String, bytes: &[u8]) -> Result<(), AllocError> {
+pub fn push_hex(out: &mut String, bytes: &[u8]) -> Added {
     for byte in bytes {
         push_hex_byte(out, *byte)?;
     }
@@ -95,12 +89,42 @@ pub fn push_hex(out: &mut String, bytes: &[u8]) -> Result<(), AllocError> {
 }
 
 /// The number that at most 4 bytes spell in network byte order.
-pub fn value_of(bytes: &[u8]) -> u32 {
+fn value_of(bytes: &[u8]) -> u32 {
     let mut value = 0u32;
     for byte in bytes.iter().take(4) {
         value = (value & 0x00ff_ffff) << 8 | u32::from(*byte);
     }
     value
+}
+
+/// The AVP Length of the AVP at the front of some bytes.
+pub fn length_of(own: &[u8]) -> usize {
+    value_of(part(own, 5, 8)) as usize
+}
+
+/// The Vendor-ID of the AVP at the front of some bytes, or 0.
+pub fn vendor_of(own: &[u8]) -> u32 {
+    if head_of(own) == VENDOR_AVP_HEAD_LENGTH {
+        value_of(part(own, 8, 12))
+    } else {
+        0
+    }
+}
+
+/// How many bytes the AVP at the front of some bytes has before its data.
+pub fn head_of(own: &[u8]) -> usize {
+    match own.get(4) {
+        Some(flags) if flags & AVP_VENDOR != 0 => VENDOR_AVP_HEAD_LENGTH,
+        _ => AVP_HEAD_LENGTH,
+    }
+}
+
+/// Whether the M flag of the AVP at the front of some bytes is set.
+pub fn is_mandatory(own: &[u8]) -> bool {
+    match own.get(4) {
+        Some(flags) => flags & AVP_MANDATORY != 0,
+        None => false,
+    }
 }
 
 /// The bytes from one place up to another, as far as they are there.

@@ -1,234 +1,178 @@
 //! What is told of a message whose header has a fault.
 
 use crate::applications::{Application, application_of};
-use crate::faults::avp_bytes::push_command_flags;
-use crate::faults::{class_of, command_for};
+use crate::books::{Level, Wanted, class_of, command_at, definition, find_command, name_of};
+use crate::faults::avp_bytes::push_header;
 use crate::sides::Side;
+use crate::texts::{Added, Scene, push_hint, push_number, push_text};
 use dia_book::{Book, Class, DefHead, Definition};
 use dia_check::Reason;
-use dia_wire::{COMMAND_PROXIABLE, Header};
-use std::alloc::{AllocError, Global};
+use dia_wire::Header;
 
 /// How many applications are told.
 const TOLD: usize = 5;
 
-/// Adds what is wrong with a header, the bytes at hand, where the dictionary says otherwise, and what to do.
-pub fn push_header_fault<B: Book>(
-    alloc: Global,
+/// A header, and a command that its texts speak of.
+#[derive(Clone, Copy)]
+struct InHeader<'a> {
+    side: Side<'a>,
+    header: Header,
+    command: Option<&'a Definition>,
+}
+
+/// Adds what is wrong with a header, its fields, where the dictionary says otherwise, and what to do.
+pub fn push_header_fault(
     out: &mut String,
-    side: &Side<'_, B>,
+    side: &Side<'_>,
     header: &Header,
     reason: Reason,
-) -> Result<(), AllocError> {
-    match reason {
-        Reason::Bits => push_bits(out, header),
-        Reason::Command => push_command(alloc, out, side, header),
-        Reason::Application => push_application(alloc, out, side, header),
-        _ => push_proxiable(alloc, out, side, header),
-    }
-}
-
-/// Adds the fields of a header by which its command is found.
-fn push_header(out: &mut String, header: &Header) -> Result<(), AllocError> {
-    let Header {
-        code,
-        app,
-        flags,
-        ..
-    } = *header;
-    out.push_str("\n  header: ")?;
-    push_command_flags(out, flags)?;
-    write!(out, ", code {code}, application {app}\n")
-}
-
-fn push_bits(out: &mut String, header: &Header) -> Result<(), AllocError> {
-    if class_of(header.flags) == Class::Request {
-        out.push_str("a request has the E flag")?;
-        push_header(out, header)?;
-        out.push_str("hint: mend the sender: only an answer may have E, and only a request R\n")
-    } else {
-        out.push_str("a message that is no request has the T flag")?;
-        push_header(out, header)?;
-        out.push_str("hint: mend the sender: only a request is sent again with T\n")
-    }
-}
-
-/// The word of the messages of a class.
-fn class_word(class: Class) -> &'static str {
-    match class {
-        Class::Request => "request",
-        Class::Answer => "answer",
-        Class::Error => "answer with the E flag",
-    }
-}
-
-fn push_command<B: Book>(
-    alloc: Global,
-    out: &mut String,
-    side: &Side<'_, B>,
-    header: &Header,
-) -> Result<(), AllocError> {
-    let class = class_of(header.flags);
-    let word = class_word(class);
-    let code = header.code;
-    if class == Class::Error {
-        out.push_str("the dictionary has no definition for answers with the E flag")?;
-        push_header(out, header)?;
-        return out.push_str(
-            "hint: add one with the header < Diameter Header: code, ERR >; it serves the errors of all commands\n",
-        );
-    }
-    write!(out, "the dictionary has no {word} with Command Code {code}")?;
-    push_header(out, header)?;
-    if let Some(other) = of_code(side.book, code) {
-        return push_other_class(alloc, out, side, other);
-    }
-    let req = if class == Class::Request { ", REQ" } else { "" };
-    let is_proxiable = header.flags & COMMAND_PROXIABLE != 0;
-    let pxy = if is_proxiable { ", PXY" } else { "" };
-    write!(
-        out,
-        "hint: add the definition, < Diameter Header: {code}{req}{pxy} >\n"
-    )?;
-    push_dictionary(out, side.book, header.app)
-}
-
-/// Adds which dictionary has the commands of an application that this one doesn't have.
-fn push_dictionary<B: Book>(out: &mut String, book: &B, app: u32) -> Result<(), AllocError> {
-    match application_of(app) {
-        Some(Application { name, file, .. }) if !has_application(book, app) => write!(
-            out,
-            "hint: application {app} is {name}, and this dictionary has no command of it; {file} has them, see docs/CAPTURES.md\n"
-        ),
-        _ => Ok(()),
-    }
-}
-
-/// Whether a dictionary has a command of this application. The base, 0, has commands without an Application-ID.
-fn has_application<B: Book>(book: &B, app: u32) -> bool {
-    for index in 0..book.commands() {
-        if let DefHead::Command { app: own, .. } = book.def(book.command_at(index)).head {
-            if own == Some(app) || (app == 0 && own.is_none()) {
-                return true;
-            }
-        }
-    }
-    false
-}
-
-/// Adds a command of the same code and the other class.
-fn push_other_class<B: Book>(
-    alloc: Global,
-    out: &mut String,
-    side: &Side<'_, B>,
-    other: &Definition,
-) -> Result<(), AllocError> {
-    let name = other.name.as_str();
-    let at = side.definition_at(other);
-    side.begin(out, at)?;
-    write!(out, "{name} has this code")?;
-    side.end(alloc, out, at)?;
-    out.push_str(
-        "hint: a definition with REQ serves requests alone, and one without answers alone: add the other one\n",
-    )
-}
-
-/// A command of this code.
-fn of_code<B: Book>(book: &B, code: u32) -> Option<&Definition> {
-    for index in 0..book.commands() {
-        let command = book.def(book.command_at(index));
-        if let DefHead::Command { code: own, .. } = command.head {
-            if own == code {
-                return Some(command);
-            }
-        }
-    }
-    None
-}
-
-fn push_application<B: Book>(
-    alloc: Global,
-    out: &mut String,
-    side: &Side<'_, B>,
-    header: &Header,
-) -> Result<(), AllocError> {
-    let class = class_of(header.flags);
-    let word = class_word(class);
-    let Header { code, app, .. } = *header;
-    write!(
-        out,
-        "the dictionary has no {word} with Command Code {code} for application {app}"
-    )?;
-    push_header(out, header)?;
-    let mut told = 0usize;
-    for index in 0..side.book.commands() {
-        let command = side.book.def(side.book.command_at(index));
-        if let Some(other) = app_of(command, code, class) {
-            if told < TOLD {
-                push_app(alloc, out, side, command, other)?;
-            }
-            told = told.saturating_add(1);
-        }
-    }
-    write!(
-        out,
-        "hint: add a definition for application {app}, or leave the Application-ID out of the header of one: it then serves all\n"
-    )?;
-    push_dictionary(out, side.book, app)
-}
-
-/// The application of a command, if it is of this code and class.
-fn app_of(command: &Definition, code: u32, class: Class) -> Option<u32> {
-    match command.head {
-        DefHead::Command {
-            code: own_code,
-            class: own_class,
-            app,
-            ..
-        } if own_code == code && own_class == class => app,
-        _ => None,
-    }
-}
-
-fn push_app<B: Book>(
-    alloc: Global,
-    out: &mut String,
-    side: &Side<'_, B>,
-    command: &Definition,
-    app: u32,
-) -> Result<(), AllocError> {
-    let name = command.name.as_str();
-    let at = side.definition_at(command);
-    side.begin(out, at)?;
-    write!(out, "{name} is for application {app}")?;
-    side.end(alloc, out, at)
-}
-
-fn push_proxiable<B: Book>(
-    alloc: Global,
-    out: &mut String,
-    side: &Side<'_, B>,
-    header: &Header,
-) -> Result<(), AllocError> {
-    let Some(def) = command_for(side.book, header) else {
-        return Ok(());
+) -> Added {
+    let command = match reason {
+        Reason::Command => find_command(side.book, Wanted::Code(header.code)),
+        _ => definition(side.book, Level::body(header)),
     };
-    let command = side.book.def(def);
-    let name = command.name.as_str();
-    let is_set = header.flags & COMMAND_PROXIABLE != 0;
-    let (state, fault, mend) = if is_set {
-        ("set", "has no PXY", "add PXY to the header")
-    } else {
-        ("clear", "has PXY", "take PXY out of the header")
+    let scene = InHeader {
+        side: *side,
+        header: *header,
+        command,
     };
-    write!(
-        out,
-        "the P flag is {state}, and the header of {name} {fault}"
-    )?;
+    let (fault, hint) = scene.texts_of(reason);
+    push_text(out, &scene, fault)?;
     push_header(out, header)?;
-    let at = side.definition_at(command);
-    side.begin(out, at)?;
-    write!(out, "{name} is defined here")?;
-    side.end(alloc, out, at)?;
-    write!(out, "hint: {mend}, or mend the sender\n")
+    scene.push_commands(out, reason)?;
+    push_hint(out, &scene, hint)?;
+    scene.push_dictionary(out, reason)
+}
+
+impl InHeader<'_> {
+    fn class(&self) -> Class {
+        class_of(&self.header)
+    }
+
+    /// What is wrong, and what to do.
+    fn texts_of(&self, reason: Reason) -> (&'static str, &'static str) {
+        match (reason, self.class(), self.command) {
+            (Reason::Bits, Class::Request, _) => (
+                "a request has the E flag",
+                "mend the sender: only an answer may have E, and only a request R",
+            ),
+            (Reason::Bits, _, _) => (
+                "a message that is no request has the T flag",
+                "mend the sender: only a request is sent again with T",
+            ),
+            (Reason::Command, Class::Error, _) => (
+                "the dictionary has no definition for answers with the E flag",
+                "add one with the header < Diameter Header: code, ERR >; it serves the errors of all commands",
+            ),
+            (Reason::Command, _, Some(_)) => (
+                "the dictionary has no {class} with Command Code {code}",
+                "a definition with REQ serves requests alone, and one without answers alone: add the other one",
+            ),
+            (Reason::Command, _, None) => (
+                "the dictionary has no {class} with Command Code {code}",
+                "add the definition, < Diameter Header: {code}{req}{pxy} >",
+            ),
+            (Reason::Application, _, _) => (
+                "the dictionary has no {class} with Command Code {code} for application {app}",
+                "add a definition for application {app}, or leave the Application-ID out of the header of one: \
+                 it then serves all",
+            ),
+            _ if self.header.is_proxiable() => (
+                "the P flag is set, and the header of {name} has no PXY",
+                "add PXY to the header, or mend the sender",
+            ),
+            _ => (
+                "the P flag is clear, and the header of {name} has PXY",
+                "take PXY out of the header, or mend the sender",
+            ),
+        }
+    }
+
+    /// Adds where the dictionary says otherwise.
+    fn push_commands(&self, out: &mut String, reason: Reason) -> Added {
+        match (reason, self.command) {
+            (Reason::Command, Some(command)) if self.class() != Class::Error => {
+                self.push_command(out, command, "{name} has this code")
+            }
+            (Reason::Proxiable, Some(command)) => {
+                self.push_command(out, command, "{name} is defined here")
+            }
+            (Reason::Application, _) => self.push_applications(out),
+            _ => Ok(()),
+        }
+    }
+
+    fn push_command(&self, out: &mut String, command: &Definition, told: &str) -> Added {
+        self.side
+            .push_part(out, self.side.definition_at(command), self, told)
+    }
+
+    /// Adds the first commands of the code and the class of the header, with their applications.
+    fn push_applications(&self, out: &mut String) -> Added {
+        let mut told = 0usize;
+        for place in 0..self.side.book.commands() {
+            let command = command_at(self.side.book, place);
+            let scene = InHeader { command, ..*self };
+            match command {
+                Some(command) if told < TOLD && scene.application().is_some() => {
+                    scene.push_command(out, command, "{name} is for application {theirs}")?;
+                    told = told.saturating_add(1);
+                }
+                _ => {}
+            }
+        }
+        Ok(())
+    }
+
+    /// The application of the command, where it is of the header's code and class.
+    fn application(&self) -> Option<u32> {
+        match self.command?.head {
+            DefHead::Command {
+                code,
+                class,
+                app,
+                ..
+            } if code == self.header.code && class == self.class() => { app }
+            _ => None,
+        }
+    }
+
+    /// Adds which dictionary has the commands of an application of which this one has none.
+    fn push_dictionary(&self, out: &mut String, reason: Reason) -> Added {
+        let is_missing = match reason {
+            Reason::Command => self.command.is_none() && self.class() != Class::Error,
+            _ => reason == Reason::Application,
+        };
+        let app = self.header.app;
+        let own = find_command(self.side.book, Wanted::Application(app));
+        match application_of(app) {
+            Some(Application { id, name, file }) if is_missing && own.is_none() => {
+                write!(
+                    out,
+                    "hint: application {id} is {name}, and this dictionary has no command of it; {file} has them, \
+                     see docs/CAPTURES.md\n"
+                )
+            }
+            _ => Ok(()),
+        }
+    }
+}
+
+impl Scene for InHeader<'_> {
+    fn push_word(&self, out: &mut String, word: &str) -> Added {
+        let header = &self.header;
+        match word {
+            "class" => out.push_str(match self.class() {
+                Class::Request => "request",
+                Class::Answer => "answer",
+                Class::Error => "answer with the E flag",
+            }),
+            "code" => push_number(out, header.code as usize),
+            "app" => push_number(out, header.app as usize),
+            "req" => out.push_str(if header.is_request() { ", REQ" } else { "" }),
+            "pxy" => out.push_str(if header.is_proxiable() { ", PXY" } else { "" }),
+            "theirs" => push_number(out, self.application().unwrap_or(0) as usize),
+            _ => out.push_str(name_of(self.command)),
+        }
+    }
 }

@@ -1,111 +1,75 @@
 //! What is told of a place where no AVP begins.
 
-use crate::faults::avp_bytes::{part, value_of};
-use crate::faults::path::Step;
-use crate::sides::Side;
-use dia_book::{Book, Key};
+use crate::faults::avp_bytes::{head_of, length_of, part, vendor_of};
+use crate::faults::in_body::InBody;
+use crate::texts::{Added, push_number};
+use dia_book::Key;
 use dia_explain_places::{Unpadded, find_unpadded};
-use dia_wire::{AVP_HEAD_LENGTH, AVP_VENDOR, HEADER_LENGTH, VENDOR_AVP_HEAD_LENGTH};
-use std::alloc::AllocError;
+use dia_wire::AVP_HEAD_LENGTH;
 
-/// A level of a message: its bytes, and where they begin.
-#[derive(Clone, Copy)]
-pub struct LevelBytes<'a> {
-    bytes: &'a [u8],
-    at: usize,
-}
-
-/// The level inside these groups of a message, which ends at a place.
-pub fn level_of<'a>(message: &'a [u8], groups: &[Step], end: usize) -> LevelBytes<'a> {
-    let at = match groups.last() {
-        Some(group) => group
-            .place
-            .saturating_add(head_of(part(message, group.place, end))),
-        None => HEADER_LENGTH,
-    };
-    LevelBytes {
-        bytes: part(message, at, end),
-        at,
-    }
-}
-
-/// Adds why no AVP begins at the front of these bytes, which are left of a level.
-pub fn push_bad_length(out: &mut String, level: &str, own: &[u8]) -> Result<(), AllocError> {
-    let left = own.len();
-    if left < AVP_HEAD_LENGTH {
-        return write!(
-            out,
-            "no AVP begins here: {left} bytes are left of {level}, and an AVP has at least 8"
-        );
-    }
-    let length = value_of(part(own, 5, 8));
-    let head = head_of(own);
-    if (length as usize) < head {
-        return write!(
-            out,
-            "no AVP begins here: the AVP Length is {length}, and the head alone has {head} bytes"
-        );
-    }
-    let most = left / 4 * 4;
-    write!(
-        out,
-        "no AVP begins here: the AVP Length is {length}, and with {left} bytes left of {level} it may be at most {most}"
-    )?;
-    if (length as usize) <= left {
-        out.push_str(", since the padding to a multiple of four has to be there")?;
-    }
-    Ok(())
-}
-
-/// How many bytes an AVP has in front of its data.
-fn head_of(own: &[u8]) -> usize {
-    match own.get(4) {
-        Some(flags) if flags & AVP_VENDOR != 0 => VENDOR_AVP_HEAD_LENGTH,
-        _ => AVP_HEAD_LENGTH,
-    }
-}
-
-/// Adds what to do where no AVP begins. `own` are the bytes that are left of the level.
-pub fn hint_bad_length<B: Book>(
-    out: &mut String,
-    side: &Side<'_, B>,
-    level: LevelBytes<'_>,
-    own: &[u8],
-) -> Result<(), AllocError> {
-    let length = value_of(part(own, 5, 8)) as usize;
-    if own.len() >= AVP_HEAD_LENGTH && length >= head_of(own) && length <= own.len() {
-        return out.push_str(
-            "hint: the last AVP of a group is padded as well, and the group's AVP Length counts that padding: mend the sender\n",
-        );
-    }
-    match find_unpadded(level.bytes) {
-        Some(found) => push_unpadded(out, side, level, found),
-        None => out.push_str(
-            "hint: mend the sender; either this AVP's Length is wrong, \
-             or the padding or the Length of the AVP in front of it, or that of the group\n",
-        ),
-    }
-}
-
-/// Adds which AVP in front of the place has no padding.
-fn push_unpadded<B: Book>(
-    out: &mut String,
-    side: &Side<'_, B>,
-    level: LevelBytes<'_>,
-    found: Unpadded,
-) -> Result<(), AllocError> {
-    let Unpadded { at, code, length } = found;
-    let own = part(level.bytes, at, level.bytes.len());
-    let vendor = if head_of(own) == VENDOR_AVP_HEAD_LENGTH {
-        value_of(part(own, 8, 12))
+/// What is wrong, and what to do.
+pub fn texts_of_length(scene: &InBody<'_>) -> (&'static str, &'static str) {
+    let own = scene.own();
+    let length = length_of(own);
+    if own.len() < AVP_HEAD_LENGTH {
+        (
+            "no AVP begins here: {left} bytes are left of {level}, and an AVP has at least 8",
+            hint_of_length(scene),
+        )
+    } else if length < head_of(own) {
+        (
+            "no AVP begins here: the AVP Length is {length}, and the head alone has {head} bytes",
+            hint_of_length(scene),
+        )
+    } else if length > own.len() {
+        (
+            "no AVP begins here: the AVP Length is {length}, and with {left} bytes left of {level} it may be at most {most}",
+            hint_of_length(scene),
+        )
     } else {
-        0
-    };
-    out.push_str("hint: ")?;
-    side.push_name(out, Key { code, vendor })?;
-    let place = level.at.saturating_add(at);
-    write!(
-        out,
-        " at {place} has the AVP Length {length}, and what follows stands right behind it, without its padding: mend the sender\n"
-    )
+        (
+            "no AVP begins here: the AVP Length is {length}, and with {left} bytes left of {level} it may be at most {most}, \
+             since the padding to a multiple of four has to be there",
+            "the last AVP of a group is padded as well, and the group's AVP Length counts that padding: mend the sender",
+        )
+    }
+}
+
+fn hint_of_length(scene: &InBody<'_>) -> &'static str {
+    match find_unpadded(scene.bytes().1) {
+        Some(_) => {
+            "{unpadded} has the AVP Length {unpadded-length}, and what follows stands right behind it, without its padding: \
+             mend the sender"
+        }
+        None => {
+            "mend the sender; either this AVP's Length is wrong, \
+             or the padding or the Length of the AVP in front of it, or that of the group"
+        }
+    }
+}
+
+/// Adds what a word about the lengths of AVPs stands for.
+pub fn push_length_word(out: &mut String, scene: &InBody<'_>, word: &str) -> Added {
+    let own = scene.own();
+    match word {
+        "left" => push_number(out, own.len()),
+        "most" => push_number(out, own.len() / 4 * 4),
+        "length" => push_number(out, length_of(own)),
+        "head" => push_number(out, head_of(own)),
+        _ => match find_unpadded(scene.bytes().1) {
+            Some(found) if word == "unpadded-length" => push_number(out, found.length),
+            Some(found) => push_unpadded(out, scene, &found),
+            None => Ok(()),
+        },
+    }
+}
+
+/// Adds an AVP without padding, and its place.
+fn push_unpadded(out: &mut String, scene: &InBody<'_>, found: &Unpadded) -> Added {
+    let Unpadded { at, code, .. } = *found;
+    let (begin, bytes) = scene.bytes();
+    let vendor = vendor_of(part(bytes, at, bytes.len()));
+    let place = begin.saturating_add(at);
+    scene.side.push_name(out, Key { code, vendor })?;
+    write!(out, " at {place}")
 }

@@ -1,0 +1,155 @@
+//! A fault in the body of a message.
+
+use crate::books::{Known, Level, avp_of, name_of};
+use crate::checking::Asked;
+use crate::faults::Message;
+use crate::faults::avp::{push_avp_word, shown_avp, texts_of_avp};
+use crate::faults::avp_bytes::{part, push_avp};
+use crate::faults::lengths::texts_of_length;
+use crate::faults::level::Counting;
+use crate::faults::rules::texts_of_rule;
+use crate::faults::walk::Group;
+use crate::sides::Side;
+use crate::texts::{Added, Scene, push_hint, push_number, push_text};
+use dia_book::Key;
+use dia_check::{Fault, Levels, Reason, Subject};
+
+/// How many groups are told at each end of a long way.
+const TOLD: usize = 4;
+
+/// A fault in the body of a message.
+#[derive(Clone, Copy)]
+pub struct InBody<'a> {
+    pub side: Side<'a>,
+    pub message: Message<'a>,
+    pub asked: Asked,
+    pub fault: Fault,
+    pub body: Level,
+    /// The name of what the outermost group stands in.
+    pub outermost: &'a str,
+    /// The groups around the level of the fault, the outermost first.
+    pub groups: &'a [Group],
+    /// The rule of that level that counts the AVP of the fault.
+    pub counting: Option<Counting>,
+}
+
+impl<'a> InBody<'a> {
+    pub fn key(&self) -> Option<Key> {
+        match self.fault.subject {
+            Subject::Avp(key) => Some(key),
+            Subject::Wildcard | Subject::Nothing => None,
+        }
+    }
+
+    /// The AVP of the fault, where the dictionary has it.
+    pub fn avp(&self) -> Option<Known<'a>> {
+        avp_of(self.side.book, self.key()?)
+    }
+
+    /// Adds what is wrong, where in the message and in the dictionary, and what to do.
+    pub fn push(&self, out: &mut String) -> Added {
+        let (fault, hint) = match self.fault.reason {
+            Reason::AvpLength => texts_of_length(self),
+            _ if self.is_of_rule() => texts_of_rule(self),
+            _ => texts_of_avp(self),
+        };
+        self.message.push_spot(out, self.place())?;
+        push_text(out, self, fault)?;
+        self.push_groups(out)?;
+        self.push_bytes(out)?;
+        self.push_declared(out)?;
+        push_hint(out, self, hint)
+    }
+
+    /// Whether a rule of the level is broken.
+    fn is_of_rule(&self) -> bool {
+        matches!(
+            self.fault.reason,
+            Reason::Missing | Reason::NotAllowed | Reason::TooMany
+        )
+    }
+
+    /// Adds the groups with their places: of many the first and the last.
+    fn push_groups(&self, out: &mut String) -> Added {
+        let outermost = self.outermost;
+        write!(out, "\n  in {outermost}")?;
+        let many = self.groups.len();
+        let between = many.saturating_sub(TOLD).saturating_sub(TOLD);
+        for (index, group) in self.groups.iter().enumerate() {
+            if between < 2 || index < TOLD || index.saturating_add(TOLD) >= many {
+                push_group(out, &self.side, group)?;
+            } else if index == TOLD {
+                write!(out, ", .. {between} groups ..")?;
+            }
+        }
+        out.push('\n')
+    }
+
+    /// Adds the bytes of the AVP at the place, or of the group that ends there.
+    fn push_bytes(&self, out: &mut String) -> Added {
+        let end = self.end();
+        let begin = match self.groups.last() {
+            Some(group) if self.place() >= end => group.place,
+            _ => self.place(),
+        };
+        if begin >= end {
+            return Ok(());
+        }
+        write!(out, "  at {begin}: ")?;
+        push_avp(out, part(self.message.bytes, begin, end))?;
+        out.push('\n')
+    }
+
+    /// Adds where the rule, the definition or the AVP is declared that the fault is about.
+    fn push_declared(&self, out: &mut String) -> Added {
+        let side = &self.side;
+        match (self.def(), self.counting, shown_avp(self)) {
+            (Some(def), Some(counting), _) if self.is_of_rule() => {
+                let at = side.rule_at(def, counting.place);
+                side.push_part(out, at, self, "the rule is {rule}")
+            }
+            (Some(def), None, _) if self.is_of_rule() => {
+                let at = side.definition_at(def);
+                side.push_part(out, at, self, "{level} is defined here")
+            }
+            (_, _, Some(avp)) => {
+                side.push_part(out, side.avp_at(avp.name), &avp, "{name} is declared here")
+            }
+            _ => Ok(()),
+        }
+    }
+
+    /// The name of the level.
+    fn name(&self) -> &'a str {
+        if self.groups.is_empty() {
+            self.outermost
+        } else {
+            name_of(self.def())
+        }
+    }
+}
+
+fn push_group(out: &mut String, side: &Side<'_>, group: &Group) -> Added {
+    let place = group.place;
+    out.push_str(", ")?;
+    side.push_name(out, group.key)?;
+    write!(out, " at {place}")
+}
+
+impl Scene for InBody<'_> {
+    fn push_word(&self, out: &mut String, word: &str) -> Added {
+        match word {
+            "level" => out.push_str(self.name()),
+            "subject" => match self.key() {
+                Some(key) => self.side.push_name(out, key),
+                None => out.push_str("AVP"),
+            },
+            "depth" => push_number(out, self.groups.len()),
+            "levels" => match self.asked.levels {
+                Levels::AtMost(most) => push_number(out, most as usize),
+                Levels::Any => Ok(()),
+            },
+            _ => push_avp_word(out, self, word),
+        }
+    }
+}

@@ -1,0 +1,134 @@
+//! The level of a fault, and the rule that counts its AVP there.
+
+use crate::books::{Level, definition, slot};
+use crate::faults::avp_bytes::{head_of, part};
+use crate::faults::in_body::InBody;
+use dia_book::{DRule, Definition, Key, Slot};
+use dia_check::{Reason, Subject};
+use dia_dict::IndexedBook;
+use dia_wire::{Avps, HEADER_LENGTH, key, next_avp};
+
+/// A rule that counts the AVP of a fault: its place in the definition, the rule, and how many AVPs in front of the fault it
+/// counts.
+#[derive(Clone, Copy)]
+pub struct Counting {
+    pub place: usize,
+    pub rule: DRule,
+    pub found: u32,
+}
+
+impl<'a> InBody<'a> {
+    pub fn place(&self) -> usize {
+        self.fault.place as usize
+    }
+
+    /// The level, and where it begins and ends in the message.
+    fn level(&self) -> (Level, usize, usize) {
+        match self.groups.last() {
+            Some(group) => {
+                let head = head_of(part(self.message.bytes, group.place, group.end));
+                let begin = group.place.saturating_add(head);
+                (Level::Group(group.key), begin, group.end)
+            }
+            None => (self.body, HEADER_LENGTH, self.message.bytes.len()),
+        }
+    }
+
+    pub fn end(&self) -> usize {
+        self.level().2
+    }
+
+    /// Where the level begins in the message, and its bytes.
+    pub fn bytes(&self) -> (usize, &'a [u8]) {
+        let (_, begin, end) = self.level();
+        (begin, part(self.message.bytes, begin, end))
+    }
+
+    /// The bytes of the level from the fault on.
+    pub fn own(&self) -> &'a [u8] {
+        part(self.message.bytes, self.place(), self.end())
+    }
+
+    /// What the level is made of.
+    pub fn def(&self) -> Option<&'a Definition> {
+        definition(self.side.book, self.level().0)
+    }
+
+    /// This fault, inside those of the open groups that are around its level: that goes on behind the place, or it ends there and
+    /// lacks the AVP of the fault.
+    pub fn in_level(&self) -> Self {
+        let mut fault = *self;
+        for _ in self.groups {
+            fault.counting = fault.rule();
+            if fault.place() < fault.end() || fault.lacks() {
+                return fault;
+            }
+            let outer = fault.groups.len().saturating_sub(1);
+            fault.groups = fault.groups.get(..outer).unwrap_or(fault.groups);
+        }
+        fault.counting = fault.rule();
+        fault
+    }
+
+    /// The rule that counts the AVP of the fault in the level. An AVP that no rule names goes by the wildcard's.
+    fn rule(&self) -> Option<Counting> {
+        let (level, begin, _) = self.level();
+        let own = match self.key() {
+            Some(key) => slot(self.side.book, level, key),
+            None => Slot::Unlisted,
+        };
+        let rules = self.def()?.rules.as_slice();
+        let place = place_of(rules, own)?;
+        let before = part(self.message.bytes, begin, self.place());
+        Some(Counting {
+            place,
+            rule: *rules.get(place)?,
+            found: count(self.side.book, level, own, before),
+        })
+    }
+
+    /// Whether the level has fewer AVPs than the rule for the AVP of the fault wants.
+    fn lacks(&self) -> bool {
+        match self.counting {
+            Some(Counting { rule, found, .. }) if self.fault.reason == Reason::Missing => {
+                found < rule.min && rule.key.is_none() == (self.fault.subject == Subject::Wildcard)
+            }
+            _ => false,
+        }
+    }
+}
+
+fn place_of(rules: &[DRule], slot: Slot) -> Option<usize> {
+    match slot {
+        Slot::Fixed(place) | Slot::Loose(place) => Some(place),
+        Slot::Unlisted => rules.iter().position(|rule| rule.key.is_none()),
+    }
+}
+
+/// How many of some AVPs of a level belong to a slot.
+fn count(book: &IndexedBook, level: Level, own: Slot, avps: &[u8]) -> u32 {
+    let mut found = 0u32;
+    for avp in Avps::new(avps) {
+        match avp {
+            Ok(avp) if slot(book, level, key(&avp)) == own => found = found.saturating_add(1),
+            _ => {}
+        }
+    }
+    found
+}
+
+/// How many bytes stand in front of the first AVP with one of these keys, and its key.
+pub fn find_key(avps: &[u8], keys: &[Key]) -> Option<(usize, Key)> {
+    let mut rest = avps;
+    for _ in avps {
+        let Ok(Some((avp, next))) = next_avp(rest) else {
+            return None;
+        };
+        let found = key(&avp);
+        if keys.contains(&found) {
+            return Some((avps.len().saturating_sub(rest.len()), found));
+        }
+        rest = next;
+    }
+    None
+}

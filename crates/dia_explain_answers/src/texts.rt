@@ -1,0 +1,46 @@
+//! Texts with words in braces, which stand for values of what the text is about.
+
+use dia_explain_places::push_place;
+use std::alloc::AllocError;
+
+/// What adding to a note answers.
+pub type Added = Result<(), AllocError>;
+
+/// What a text is about.
+pub trait Scene {
+    /// Adds what a word stands for.
+    fn push_word(&self, out: &mut String, word: &str) -> Added;
+}
+
+/// Adds a text, with the values of its words.
+pub fn push_text<S: Scene>(out: &mut String, scene: &S, text: &str) -> Added {
+    for piece in text.split('{') {
+        match piece.split_once('}') {
+            Some((word, rest)) => {
+                scene.push_word(out, word)?;
+                out.push_str(rest)?;
+            }
+            None => out.push_str(piece)?,
+        }
+    }
+    Ok(())
+}
+
+/// Adds what to do.
+pub fn push_hint<S: Scene>(out: &mut String, scene: &S, text: &str) -> Added {
+    out.push_str("hint: ")?;
+    push_text(out, scene, text)?;
+    out.push('\n')
+}
+
+/// Begins a line about a place of a text, or about the text.
+pub fn push_start(out: &mut String, name: &str, text: &[u8], at: Option<usize>) -> Added {
+    match at {
+        Some(at) => push_place(out, name, text, at),
+        None => write!(out, "{name}: "),
+    }
+}
+
+pub fn push_number(out: &mut String, number: usize) -> Added {
+    write!(out, "{number}")
+}
