@@ -1,4 +1,4 @@
-/* libdia: dictionaries of Diameter (RFC 6733) and checks of messages against them, proved.
+/* libdia: dictionaries of Diameter (RFC 6733), checks of messages against them, and connections, proved.
  *
  * docs/LIBRARY.md shows how a program begins. What each function answers is proved of the code behind it: the comments say it
  * in words, the clauses of crates/dia_c/src say it exactly.
@@ -49,7 +49,8 @@ enum {
     DIA_NO_ROOM = 4,     /* there is less room than *count bytes */
     DIA_IS_OPEN = 5,     /* the handle to be opened is open already */
     DIA_IS_CLOSED = 6,   /* the handle to be used is closed */
-    DIA_BAD_ARGUMENT = 7 /* a number among the arguments has no meaning */
+    DIA_BAD_ARGUMENT = 7, /* a number among the arguments has no meaning */
+    DIA_OUTPUTS_LEFT = 8 /* outputs of the last event are left to be taken */
 };
 
 #define DIA_MAX_NAME 128u     /* the most bytes of a name */
@@ -225,6 +226,123 @@ dia_status dia_text_length(dia_text *text, size_t *length);
 
 /* Closes the handle. Takes no memory. */
 void dia_text_close(dia_text *text);
+
+/* ---- two dictionaries ---- */
+
+/* Compares two dictionaries by the text of a table of pairs (docs/FORMATS.md), and opens the closed handle `line` with the line
+ * that `diacmd compare` writes. *holds is 1 where it is `yes`: each message that is valid under `a`, of a command that the table
+ * lists, is then valid under `b`, as a message of a command beside it. Else *holds is 0, and the line names the first pair that
+ * fails, and its test. `unknown` is that of dia_check. One dictionary takes two handles (dia_dict_share).
+ * DIA_REFUSED: the text is no table. *problem says why, and is written on no other status: DIA_NOT_TEXT; DIA_SYNTAX, of the
+ * line; or DIA_LIMIT, of the line, or of line 0 where the text is too long. Its token is 0.
+ * DIA_BAD_ARGUMENT: `unknown` is neither of its two values. */
+dia_status dia_compare(dia_dict *a, dia_dict *b, uint32_t unknown, const uint8_t *table, size_t table_len, dia_text *line,
+                       uint32_t *holds, dia_problem *problem);
+
+/* ---- one end of a connection (RFC 6733 section 5; docs/CONNECTION.md) ---- */
+
+/* An end has no socket and no clock. The program tells what happens, and does what the end then wants done. */
+typedef struct dia_peer {
+    void *dia_private;
+    uint32_t dia_state;
+} dia_peer;
+#define DIA_PEER_INIT { NULL, 0 }
+
+/* The end that opened the transport connection, and the one that accepted it. */
+enum { DIA_INITIATOR = 0, DIA_RESPONDER = 1 };
+
+/* An IP address, in network byte order. */
+typedef struct dia_ip {
+    uint32_t is_v6;    /* 0: IPv4, the first four bytes; else IPv6 */
+    uint8_t bytes[16];
+} dia_ip;
+
+/* An application that an end advertises. */
+typedef struct dia_app {
+    uint32_t is_acct;    /* 0: Auth-Application-Id; else Acct-Application-Id */
+    uint32_t id;         /* the Application-ID, not that of relays */
+    uint32_t has_vendor; /* 0: it stands alone; else in a Vendor-Specific-Application-Id */
+    uint32_t vendor;     /* whose Vendor-Id this is */
+} dia_app;
+
+typedef struct dia_numbers {
+    uint32_t vendor;       /* Vendor-Id */
+    uint32_t has_state_id; /* 0: Origin-State-Id is not sent */
+    uint32_t state_id;
+    uint32_t hop;          /* the Hop-by-Hop Identifier of the first request */
+    uint32_t e2e;          /* the End-to-End Identifier of the first request */
+} dia_numbers;
+
+/* Why a configuration is refused. A name that is not UTF-8 is told before all else; then the first in this order. */
+enum {
+    DIA_BAD_HOST = 1,       /* Origin-Host has 1 to 255 bytes, each from '!' to '~' */
+    DIA_BAD_REALM = 2,      /* and Origin-Realm */
+    DIA_BAD_PRODUCT = 3,    /* Product-Name has at most 255 bytes of UTF-8 */
+    DIA_BAD_ADDRESS = 4,    /* there are 1 to 64 addresses */
+    DIA_BAD_APPLICATION = 5 /* there are 1 to 1,024 applications, each kind and number once */
+};
+
+/* Opens a closed handle with an end that is idle.
+ * DIA_REFUSED: *fault is DIA_BAD_..; it is written on no other status. DIA_BAD_ARGUMENT: `role` is neither of its two values. */
+dia_status dia_peer_open(uint32_t role, const uint8_t *host, size_t host_len, const uint8_t *realm, size_t realm_len,
+                         const uint8_t *product, size_t product_len, const dia_ip *addresses, size_t address_count,
+                         const dia_app *apps, size_t app_count, const dia_numbers *numbers, dia_peer *peer, uint32_t *fault);
+
+enum {
+    DIA_START = 0, /* the transport connection is there */
+    DIA_BYTES = 1, /* one whole message came */
+    DIA_TICK = 2,  /* a time has passed without an answer, or without any message */
+    DIA_STOP = 3,  /* the connection is to be given up */
+    DIA_LOST = 4   /* the transport connection is gone */
+};
+
+/* Why a connection is given up: the values of Disconnect-Cause (RFC 6733 section 5.4.3). */
+enum { DIA_CAUSE_REBOOTING = 0, DIA_CAUSE_BUSY = 1, DIA_CAUSE_DO_NOT_WANT = 2 };
+
+/* Tells what happened. `bytes` are read of DIA_BYTES alone, and `cause` of DIA_STOP alone.
+ * DIA_OUTPUTS_LEFT: first take the outputs of the last event. DIA_BAD_ARGUMENT: there is no such event, or no such cause. */
+dia_status dia_peer_event(dia_peer *peer, uint32_t event, const uint8_t *bytes, size_t bytes_len, uint32_t cause);
+
+enum {
+    DIA_SEND = 0, /* send the bytes, which are one message, valid under the base dictionary */
+    DIA_CLOSE = 1 /* close the transport connection, behind what was sent */
+};
+
+/* Why an end closes the connection. */
+enum {
+    DIA_WHY_INVALID = 0,      /* what came is no message, or no valid one of the commands of connections */
+    DIA_WHY_NO_COMMON = 1,    /* the two ends have no application in common */
+    DIA_WHY_REFUSED = 2,      /* the CEA has another Result-Code, or is an error message */
+    DIA_WHY_WATCHDOG = 3,     /* a DWR was not answered in time */
+    DIA_WHY_TIMEOUT = 4,      /* the peer did not answer in time */
+    DIA_WHY_PEER_STOPPED = 5, /* a DPR came */
+    DIA_WHY_STOPPED = 6       /* this end was stopped */
+};
+
+/* Takes the next thing that is to be done, in order. DIA_SEND: *count bytes are written, and *why is 0. DIA_CLOSE: *why is
+ * DIA_WHY_.., and *count is 0. DIA_NONE: nothing is left. DIA_NO_ROOM: the message has *count bytes, and is still the next.
+ * Takes no memory. */
+dia_status dia_peer_output(dia_peer *peer, uint32_t *output, uint8_t *out, size_t out_len, size_t *count, uint32_t *why);
+
+enum {
+    DIA_STATE_IDLE = 0,
+    DIA_STATE_WAIT_CEA = 1, /* a CER was sent */
+    DIA_STATE_WAIT_CER = 2,
+    DIA_STATE_OPEN = 3,
+    DIA_STATE_WAIT_DPA = 4, /* a DPR was sent */
+    DIA_STATE_CLOSED = 5    /* for good */
+};
+
+/* Where the connection stands. Takes no memory. */
+dia_status dia_peer_state(dia_peer *peer, uint32_t *state);
+
+/* Tells an application that both ends advertise by its index, from 0, the Auth ones first and then by number: *app with
+ * has_vendor 0. There is none before the connection is open, and they stay from then on. DIA_NONE: there are no more.
+ * Takes no memory. */
+dia_status dia_peer_common(dia_peer *peer, size_t index, dia_app *app);
+
+/* Closes the handle, and tells the other end nothing. Takes no memory. */
+void dia_peer_close(dia_peer *peer);
 
 #ifdef __cplusplus
 }

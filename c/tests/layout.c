@@ -39,3 +39,24 @@ AT(dia_verdict, reason, 16);
 AT(dia_verdict, subject, 20);
 AT(dia_verdict, avp_code, 24);
 AT(dia_verdict, avp_vendor, 28);
+
+_Static_assert(sizeof(dia_peer) == 16, "dia_peer");
+AT(dia_peer, dia_private, 0);
+AT(dia_peer, dia_state, 8);
+
+_Static_assert(sizeof(dia_ip) == 20, "dia_ip");
+AT(dia_ip, is_v6, 0);
+AT(dia_ip, bytes, 4);
+
+_Static_assert(sizeof(dia_app) == 16, "dia_app");
+AT(dia_app, is_acct, 0);
+AT(dia_app, id, 4);
+AT(dia_app, has_vendor, 8);
+AT(dia_app, vendor, 12);
+
+_Static_assert(sizeof(dia_numbers) == 20, "dia_numbers");
+AT(dia_numbers, vendor, 0);
+AT(dia_numbers, has_state_id, 4);
+AT(dia_numbers, state_id, 8);
+AT(dia_numbers, hop, 12);
+AT(dia_numbers, e2e, 16);

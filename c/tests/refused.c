@@ -43,12 +43,15 @@ void rattle_dealloc(void *memory) {
 }
 
 static dia_dict dict, other;
-static dia_text text;
+static dia_text text, line;
 static dia_faults faults;
+static dia_peer peer;
 static dia_problem problem;
 static dia_verdict verdict;
 static const char source[] = "%avp A 1 OctetString any\n%avp B 2 Grouped any\nB ::= < AVP Header: 2 > { A }\n"
                              "C ::= < Diameter Header: 1000, REQ > { A } *[ B ]\n";
+
+static const char table[] = "avp Origin-Host = Origin-Host\n";
 
 /* A name that is declared twice, and a rule that names nothing. */
 static const char wrong[] = "%avp A 1 Time any\n%avp A 2 Time any\nB ::= < AVP Header: 2 > { X }\n";
@@ -73,17 +76,44 @@ static dia_status renders(void) {
     return dia_render((const uint8_t *)source, strlen(source), &text, &problem);
 }
 
+static dia_status compares(void) {
+    uint32_t holds;
+    return dia_compare(&dict, &other, DIA_KEPT, (const uint8_t *)table, strlen(table), &line, &holds, &problem);
+}
+
 static dia_status finds_faults(void) {
     size_t count;
     return dia_faults_open((const uint8_t *)wrong, strlen(wrong), &faults, &count);
+}
+
+static dia_status opens_peer(void) {
+    const dia_ip address = {0, {127, 0, 0, 1}};
+    const dia_app app = {0, 4, 0, 0};
+    const dia_numbers numbers = {0, 0, 0, 1, 1};
+    const uint8_t *name = (const uint8_t *)"a.b";
+    uint32_t fault;
+    return dia_peer_open(DIA_INITIATOR, name, 3, name, 3, name, 3, &address, 1, &app, 1, &numbers, &peer, &fault);
+}
+
+/* A CER is to be sent. */
+static dia_status starts(void) {
+    return dia_peer_event(&peer, DIA_START, watchdog, 0, 0);
 }
 
 static void close_dict(void) {
     dia_dict_close(&dict);
 }
 
+static void close_line(void) {
+    dia_text_close(&line);
+}
+
 static void close_faults(void) {
     dia_faults_close(&faults);
+}
+
+static void close_peer(void) {
+    dia_peer_close(&peer);
 }
 
 static void close_nothing(void) {
@@ -94,8 +124,9 @@ static void refuse_each(const char *name, dia_status (*call)(void), void (*undo)
     static const dia_verdict untouched = {9, 9, 9, 9, 9, 9, 9, 9};
     long refused = 0, without = 0, had = blocks;
     dia_dict dict_before = dict, other_before = other;
-    dia_text text_before = text;
+    dia_text text_before = text, line_before = line;
     dia_faults faults_before = faults;
+    dia_peer peer_before = peer;
     for (;;) {
         until = refused + without + 1;
         verdict = untouched;
@@ -115,6 +146,7 @@ static void refuse_each(const char *name, dia_status (*call)(void), void (*undo)
         EXPECT(blocks == had);
         EXPECT(dict.dia_state == dict_before.dia_state && other.dia_state == other_before.dia_state);
         EXPECT(text.dia_state == text_before.dia_state && faults.dia_state == faults_before.dia_state);
+        EXPECT(line.dia_state == line_before.dia_state && peer.dia_state == peer_before.dia_state);
         EXPECT(memcmp(&verdict, &untouched, sizeof verdict) == 0);
     }
     until = 0;
@@ -126,7 +158,7 @@ static void take_no_memory(void) {
     uint8_t name[DIA_MAX_NAME];
     size_t count;
     size_t column;
-    uint32_t length;
+    uint32_t length, state, output, why;
     dia_fault fault;
     long before = asked;
     EXPECT(dia_abi_version() == DIA_ABI_VERSION);
@@ -138,10 +170,15 @@ static void take_no_memory(void) {
     dia_dict_close(&dict);
     dia_dict_close(&other);
     dia_text_close(&text);
+    dia_text_close(&line);
     EXPECT(dia_faults_get(&faults, 1, &fault) == DIA_OK && fault.kind == DIA_UNDEFINED_NAME);
     dia_line_column((const uint8_t *)wrong, sizeof wrong - 1, fault.at, &count, &column);
     EXPECT(count == 3 && column == 27);
     dia_faults_close(&faults);
+    EXPECT(dia_peer_state(&peer, &state) == DIA_OK && state == DIA_STATE_WAIT_CEA);
+    EXPECT(dia_peer_output(&peer, &output, name, sizeof name, &count, &why) == DIA_OK && output == DIA_SEND);
+    EXPECT(dia_peer_output(&peer, &output, name, sizeof name, &count, &why) == DIA_NONE);
+    dia_peer_close(&peer);
     EXPECT(asked == before);
 }
 
@@ -152,8 +189,11 @@ int main(void) {
     refuse_each("open_base", opens_base, close_dict, 100);
     refuse_each("share", shares, close_nothing, 1);
     refuse_each("check", checks, close_nothing, 1);
+    refuse_each("compare", compares, close_line, 3);
     refuse_each("render", renders, close_nothing, 2);
     refuse_each("faults_open", finds_faults, close_faults, 4);
+    refuse_each("peer_open", opens_peer, close_peer, 100);
+    refuse_each("peer_event", starts, close_nothing, 2);
     take_no_memory();
     EXPECT(blocks == 0);
     return tell_counts();

@@ -1,4 +1,9 @@
 pub mod AllFound
 pub mod AsBox
+pub mod ComparedHandles
+pub mod Next
+pub mod PeerCalls
+pub mod NoTables
 pub mod Places
 pub mod Told
+pub mod YesLines

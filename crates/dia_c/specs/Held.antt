@@ -1,10 +1,12 @@
 -- What handles hold.
-use Rattle.std.specs.Prelude.{ℕ, List, Option, None, Some, ⊤, map, string_bytes}
+use Rattle.std.specs.Prelude.{◌≡◌, ℕ, List, Option, None, Some, ⊤, map, string_bytes}
 use Rattle.dia_book.specs.Dictionary.{Dictionary}
 use Rattle.dia_dict.specs.contracts.indexed_book.IndexedBookBook.TheImpl.{ghosts}
 use Rattle.dia_c.specs.declared.held.Held.{Held}
-use Rattle.dia_c.specs.declared.held.Held.TheVariants.{Dict, Text, Faults}
+use Rattle.dia_c.specs.declared.held.Held.TheVariants.{Dict, Text, Faults, Peer}
 use Rattle.dia_c.specs.PlainFaults.{PlainFault, plain_fault}
+use Rattle.dia_c.specs.PeerSteps.{PlainEnd, IsTaken, plain_end}
+use Rattle.dia_peer.specs.Outputs.{PlainOutput}
 
 -- nothing but a dictionary
 abbrev pub MayBeDict : Option Held → Type 0
@@ -12,6 +14,7 @@ MayBeDict None = ⊤
 MayBeDict (Some (Dict owner)) = ⊤
 MayBeDict (Some (Text text)) = ⊥
 MayBeDict (Some (Faults faults)) = ⊥
+MayBeDict (Some (Peer peer)) = ⊥
 
 -- nothing but a text
 abbrev pub MayBeText : Option Held → Type 0
@@ -19,6 +22,7 @@ MayBeText None = ⊤
 MayBeText (Some (Dict owner)) = ⊥
 MayBeText (Some (Text text)) = ⊤
 MayBeText (Some (Faults faults)) = ⊥
+MayBeText (Some (Peer peer)) = ⊥
 
 -- nothing but a list of faults
 abbrev pub MayBeFaults : Option Held → Type 0
@@ -26,6 +30,15 @@ MayBeFaults None = ⊤
 MayBeFaults (Some (Dict owner)) = ⊥
 MayBeFaults (Some (Text text)) = ⊥
 MayBeFaults (Some (Faults faults)) = ⊤
+MayBeFaults (Some (Peer peer)) = ⊥
+
+-- nothing but an end of a connection
+abbrev pub MayBePeer : Option Held → Type 0
+MayBePeer None = ⊤
+MayBePeer (Some (Dict owner)) = ⊥
+MayBePeer (Some (Text text)) = ⊥
+MayBePeer (Some (Faults faults)) = ⊥
+MayBePeer (Some (Peer peer)) = ⊤
 
 -- the dictionary that is held
 abbrev pub dict_in : Option Held → Option Dictionary
@@ -33,6 +46,7 @@ dict_in None = None
 dict_in (Some (Dict owner)) = Some (ghosts.meaning owner.value)
 dict_in (Some (Text text)) = None
 dict_in (Some (Faults faults)) = None
+dict_in (Some (Peer peer)) = None
 
 -- the bytes of the text that is held
 abbrev pub text_in : Option Held → Option (List ℕ)
@@ -40,6 +54,7 @@ text_in None = None
 text_in (Some (Dict owner)) = None
 text_in (Some (Text text)) = Some (string_bytes text)
 text_in (Some (Faults faults)) = None
+text_in (Some (Peer peer)) = None
 
 -- the faults that are held
 abbrev pub faults_in : Option Held → Option (List PlainFault)
@@ -47,3 +62,16 @@ faults_in None = None
 faults_in (Some (Dict owner)) = None
 faults_in (Some (Text text)) = None
 faults_in (Some (Faults faults)) = Some (map plain_fault faults.items)
+faults_in (Some (Peer peer)) = None
+
+-- the end of a connection that is held
+abbrev pub peer_in : Option Held → Option PlainEnd
+peer_in None = None
+peer_in (Some (Dict owner)) = None
+peer_in (Some (Text text)) = None
+peer_in (Some (Faults faults)) = None
+peer_in (Some (Peer peer)) = Some (plain_end peer.value)
+
+-- the next output of the end was taken
+pub data Takes (old new : Option PlainEnd) (output : PlainOutput) : Type 0 where
+  taken : (before after : PlainEnd) → old ≡ Some before → new ≡ Some after → IsTaken before after output → Takes old new output

@@ -1,7 +1,10 @@
 pub mod AllFaults
+pub mod Comparisons
 pub mod Handles
 pub mod Held
 pub mod Names
 pub mod Openings
+pub mod PeerSteps
+pub mod Peers
 pub mod PlainFaults
 pub mod Verdicts

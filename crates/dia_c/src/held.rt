@@ -1,6 +1,7 @@
 //! What a handle may hold.
 
 use crate::findings::TextFault;
+use crate::peer::Peer;
 use dia_dict::IndexedBook;
 use std::sync::Arc;
 
@@ -12,4 +13,6 @@ pub enum Held {
     Text(String),
     /// The faults of a dictionary's text.
     Faults(Vec<TextFault>),
+    /// One end of a connection.
+    Peer(Box<Peer>),
 }

@@ -1,7 +1,8 @@
 //! The sizes that `c/tests/layout.c` has, too.
 
-use crate::handle::{DictHandle, FaultsHandle, TextHandle};
+use crate::handle::{DictHandle, FaultsHandle, PeerHandle, TextHandle};
 use crate::opening::Problem;
+use crate::peer_config::{PeerAddress, PeerApp, PeerNumbers};
 use crate::told_fault::ToldFault;
 use crate::verdict::Verdict;
 
@@ -11,8 +12,16 @@ const _: () = prove!(size_of::<TextHandle>() == 16);
 
 const _: () = prove!(size_of::<FaultsHandle>() == 16);
 
+const _: () = prove!(size_of::<PeerHandle>() == 16);
+
 const _: () = prove!(size_of::<Problem>() == 12);
 
 const _: () = prove!(size_of::<ToldFault>() == 296);
 
 const _: () = prove!(size_of::<Verdict>() == 32);
+
+const _: () = prove!(size_of::<PeerAddress>() == 20);
+
+const _: () = prove!(size_of::<PeerApp>() == 16);
+
+const _: () = prove!(size_of::<PeerNumbers>() == 20);

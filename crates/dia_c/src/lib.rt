@@ -5,6 +5,8 @@
 ghost use Rattle.std.specs.Prelude.{◌≡◌};
 
 mod checks;
+mod comparison;
+mod comparisons;
 mod dictionaries;
 mod fault_lists;
 mod findings;
@@ -13,19 +15,28 @@ mod held;
 mod layout;
 mod names;
 mod opening;
+mod peer;
+mod peer_config;
+mod peer_numbers;
+mod peers;
 mod status;
 mod texts;
 mod told_fault;
 mod verdict;
 
 pub use checks::{dia_check, dia_message_length};
+pub use comparisons::dia_compare;
 pub use dictionaries::{
     dia_avp_name, dia_command_name, dia_dict_close, dia_dict_open, dia_dict_open_base,
     dia_dict_share,
 };
 pub use fault_lists::{dia_faults_close, dia_faults_get, dia_faults_open, dia_line_column};
-pub use handle::{DictHandle, FaultsHandle, TextHandle};
+pub use handle::{DictHandle, FaultsHandle, PeerHandle, TextHandle};
 pub use opening::Problem;
+pub use peer_config::{PeerAddress, PeerApp, PeerNumbers};
+pub use peers::{
+    dia_peer_close, dia_peer_common, dia_peer_event, dia_peer_open, dia_peer_output, dia_peer_state,
+};
 pub use texts::{dia_render, dia_text_close, dia_text_length, dia_text_read};
 pub use told_fault::ToldFault;
 pub use verdict::Verdict;
@@ -47,7 +58,7 @@ fn sent<T: Send>(x: T) -> T {
 
 /// C may give a handle to another thread: this asks for the proofs.
 pub fn crossed(
-    handles: (DictHandle, TextHandle, FaultsHandle),
-) -> (DictHandle, TextHandle, FaultsHandle) {
+    handles: (DictHandle, TextHandle, FaultsHandle, PeerHandle),
+) -> (DictHandle, TextHandle, FaultsHandle, PeerHandle) {
     sent(handles)
 }

@@ -1,6 +1,6 @@
 //! Names of commands and AVPs.
 
-ghost use Rattle.std.specs.Prelude.{◌⊎◌, None, ◌≡◌, ◌≤◌, ◌<◌, ◌-◌, IfSome, length, take, drop, min};
+ghost use Rattle.std.specs.Prelude.{◌⊎◌, None, ◌≡◌, ◌≤◌, ◌<◌, ◌-◌, IfSome, IsTrue, length, take, drop, min};
 ghost use Rattle.dia_book.specs.Dictionary.{definitions, entry_of, groups};
 ghost use Rattle.dia_c.specs.Names.{IsCommandName, IsAvpName};
 
@@ -42,13 +42,25 @@ pub fn copied(name: &str, out: &mut [u8], count: &mut usize) -> u32
     ensures room { result ≡ NO_ROOM → length out.new < length name.now }
     ensures ends { (result ≡ DONE) ⊎ (result ≡ NO_ROOM) }
 {
-    let bytes = name.as_bytes();
-    *count = bytes.len();
+    *count = name.len();
+    if copied_whole(name.as_bytes(), out) {
+        DONE
+    } else {
+        NO_ROOM
+    }
+}
+
+/// Copies bytes out where there is room for all of them, and answers whether there is.
+pub fn copied_whole(bytes: &[u8], out: &mut [u8]) -> bool
+    ensures kept { length out.new ≡ length out.old }
+    ensures done { IsTrue result → (length bytes.now ≤ length out.new) × (take (length bytes.now) out.new ≡ bytes.now) }
+    ensures room { ¬ IsTrue result → length out.new < length bytes.now }
+{
     if bytes.len() > out.len() {
-        return NO_ROOM;
+        return false;
     }
     out[..bytes.len()].copy_from_slice(bytes);
-    DONE
+    true
 }
 
 /// Copies the bytes from a place on, as many as there is room for. Answers how many.

@@ -28,7 +28,7 @@ pub struct Problem {
 }
 
 /// The text is not UTF-8.
-const NOT_TEXT: Problem = Problem {
+pub const NOT_TEXT: Problem = Problem {
     kind: 0,
     line: 0,
     token: 0,
@@ -145,7 +145,8 @@ fn indexed(alloc: Global, book: PlainBook) -> Result<Box<Held>, Refused>
     }
 }
 
-fn boxed(alloc: Global, held: Held) -> Result<Box<Held>, Refused>
+/// What a handle is to hold, in a box.
+pub fn boxed(alloc: Global, held: Held) -> Result<Box<Held>, Refused>
     ensures value { IfOk result (λ boxed. boxed.value ≡ held) }
     ensures no_memory { IfErr result (λ refused. refused ≡ Refused.NoMemory) }
 {

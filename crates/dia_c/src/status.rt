@@ -23,3 +23,6 @@ pub const IS_CLOSED: u32 = 6;
 
 /// A number among the arguments has no meaning.
 pub const BAD_ARGUMENT: u32 = 7;
+
+/// Outputs of the last event are left to be taken.
+pub const OUTPUTS_LEFT: u32 = 8;

@@ -55,5 +55,6 @@ pub fn owner_in(held: &Held) -> &Arc<IndexedBook>
         Held::Dict(owner) => owner,
         Held::Text(_) => unreachable!(),
         Held::Faults(_) => unreachable!(),
+        Held::Peer(_) => unreachable!(),
     }
 }

@@ -54,5 +54,6 @@ pub fn faults_in(held: &Held) -> &Vec<TextFault>
         Held::Faults(faults) => faults,
         Held::Dict(_) => unreachable!(),
         Held::Text(_) => unreachable!(),
+        Held::Peer(_) => unreachable!(),
     }
 }

@@ -53,5 +53,6 @@ pub fn words_in(held: &Held) -> &String
         Held::Text(text) => text,
         Held::Dict(_) => unreachable!(),
         Held::Faults(_) => unreachable!(),
+        Held::Peer(_) => unreachable!(),
     }
 }

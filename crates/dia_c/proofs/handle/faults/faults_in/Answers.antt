@@ -9,3 +9,6 @@ unreachable-requires c = ∥∥₁_elim c.requires (λ a b. absurd a) (λ may. s
 
 pub unreachable-requires-in-Text : goal.unreachable-requires-in-Text
 unreachable-requires-in-Text c = ∥∥₁_elim c.requires (λ a b. absurd a) (λ may. subst (λ (h : Held). MayBeFaults (Some h)) c.in-Text.is may)
+
+pub unreachable-requires-in-Peer : goal.unreachable-requires-in-Peer
+unreachable-requires-in-Peer c = ∥∥₁_elim c.requires (λ a b. absurd a) (λ may. subst (λ (h : Held). MayBeFaults (Some h)) c.in-Peer.is may)

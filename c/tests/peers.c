@@ -1,0 +1,217 @@
+/* Connections. The messages are worked out by hand from RFC 6733 sections 3, 4 and 5.3 to 5.5. */
+#include "tests.h"
+
+/* The initiator `a.b`: Origin-Host, Origin-Realm. */
+#define OH "\x00\x00\x01\x08\x40\x00\x00\x0b" "a.b\x00"
+#define OR "\x00\x00\x01\x28\x40\x00\x00\x09" "b\x00\x00\x00"
+/* Host-IP-Address, Vendor-Id, Product-Name. */
+#define IP "\x00\x00\x01\x01\x40\x00\x00\x0e\x00\x01\x7f\x00\x00\x01\x00\x00"
+#define VENDOR "\x00\x00\x01\x0a\x40\x00\x00\x0c\x00\x00\x00\x00"
+#define PRODUCT "\x00\x00\x01\x0d\x00\x00\x00\x09" "p\x00\x00\x00"
+/* Auth-Application-Id 1 and 4, Acct-Application-Id 3. */
+#define AUTH1 "\x00\x00\x01\x02\x40\x00\x00\x0c\x00\x00\x00\x01"
+#define AUTH4 "\x00\x00\x01\x02\x40\x00\x00\x0c\x00\x00\x00\x04"
+#define ACCT3 "\x00\x00\x01\x03\x40\x00\x00\x0c\x00\x00\x00\x03"
+/* The responder `c.d`. */
+#define OH2 "\x00\x00\x01\x08\x40\x00\x00\x0b" "c.d\x00"
+#define OR2 "\x00\x00\x01\x28\x40\x00\x00\x09" "d\x00\x00\x00"
+#define IP2 "\x00\x00\x01\x01\x40\x00\x00\x0e\x00\x01\x7f\x00\x00\x02\x00\x00"
+#define PRODUCT2 "\x00\x00\x01\x0d\x00\x00\x00\x09" "q\x00\x00\x00"
+/* Result-Code 2001, Disconnect-Cause 1. */
+#define SUCCESS "\x00\x00\x01\x0c\x40\x00\x00\x0c\x00\x00\x07\xd1"
+#define BUSY "\x00\x00\x01\x11\x40\x00\x00\x0c\x00\x00\x00\x01"
+/* What follows the command code in a header: the application 0, and identifiers. */
+#define IDS(hop, end) "\x00\x00\x00\x00" "\x00\x00\x00" hop "\x00\x00\x00" end
+
+static const char cer[] = "\x01\x00\x00\x6c\x80\x00\x01\x01" IDS("\x01", "\x01") OH OR IP VENDOR PRODUCT AUTH1 AUTH4;
+static const char cea[] = "\x01\x00\x00\x78\x00\x00\x01\x01" IDS("\x01", "\x01") SUCCESS OH2 OR2 IP2 VENDOR PRODUCT2 AUTH4 ACCT3;
+static const char dwr[] = "\x01\x00\x00\x2c\x80\x00\x01\x18" IDS("\x01", "\x02") OH OR;
+static const char dwa[] = "\x01\x00\x00\x38\x00\x00\x01\x18" IDS("\x01", "\x02") SUCCESS OH2 OR2;
+static const char own_dwr[] = "\x01\x00\x00\x2c\x80\x00\x01\x18" IDS("\x01", "\x01") OH2 OR2;
+static const char dpr[] = "\x01\x00\x00\x38\x80\x00\x01\x1a" IDS("\x02", "\x02") OH OR BUSY;
+static const char dpa[] = "\x01\x00\x00\x38\x00\x00\x01\x1a" IDS("\x02", "\x02") SUCCESS OH2 OR2;
+
+#define LENGTH(text) (sizeof(text) - 1)
+
+static uint8_t out[256];
+
+/* Opens an end with this host, the realm `d`, and Auth 4. */
+static dia_status open_host(dia_peer *peer, uint32_t role, const char *host, size_t len, uint32_t *fault) {
+    const dia_ip address = {0, {127, 0, 0, 2}};
+    const dia_app app = {0, 4, 0, 0};
+    const dia_numbers numbers = {0, 0, 0, 1, 1};
+    return dia_peer_open(role, (const uint8_t *)host, len, (const uint8_t *)"d", 1, (const uint8_t *)"q", 1, &address, 1, &app, 1,
+                         &numbers, peer, fault);
+}
+
+static dia_status tell(dia_peer *peer, const char *message, size_t len) {
+    return dia_peer_event(peer, DIA_BYTES, (const uint8_t *)message, len, 99);
+}
+
+/* Whether the next output is this message. */
+static int sends(dia_peer *peer, const char *message, size_t len) {
+    uint32_t output = 99, why = 99;
+    size_t count = 99;
+    return dia_peer_output(peer, &output, out, sizeof out, &count, &why) == DIA_OK && output == DIA_SEND && why == 0
+        && count == len && memcmp(out, message, len) == 0;
+}
+
+static int closes(dia_peer *peer, uint32_t reason) {
+    uint32_t output = 99, why = 99;
+    size_t count = 99;
+    return dia_peer_output(peer, &output, out, sizeof out, &count, &why) == DIA_OK && output == DIA_CLOSE && why == reason
+        && count == 0;
+}
+
+/* Whether nothing is left to be done, and the connection stands here. */
+static int rests(dia_peer *peer, uint32_t wanted) {
+    uint32_t output = 99, why = 99, state = 99;
+    size_t count = 99;
+    return dia_peer_output(peer, &output, out, sizeof out, &count, &why) == DIA_NONE && output == 99 && why == 99 && count == 99
+        && dia_peer_state(peer, &state) == DIA_OK && state == wanted;
+}
+
+static dia_status open_initiator(dia_peer *peer) {
+    const dia_ip address = {0, {127, 0, 0, 1, 9}};
+    const dia_app apps[] = {{0, 1, 0, 0}, {0, 4, 0, 0}};
+    const dia_numbers numbers = {0, 0, 99, 1, 1};
+    uint32_t fault;
+    return dia_peer_open(DIA_INITIATOR, (const uint8_t *)"a.b", 3, (const uint8_t *)"b", 1, (const uint8_t *)"p", 1, &address, 1,
+                         apps, 2, &numbers, peer, &fault);
+}
+
+static dia_status open_responder(dia_peer *peer) {
+    const dia_ip address = {0, {127, 0, 0, 2}};
+    const dia_app apps[] = {{0, 4, 0, 0}, {1, 3, 0, 0}};
+    const dia_numbers numbers = {0, 0, 0, 1, 1};
+    uint32_t fault;
+    return dia_peer_open(DIA_RESPONDER, (const uint8_t *)"c.d", 3, (const uint8_t *)"d", 1, (const uint8_t *)"q", 1, &address, 1,
+                         apps, 2, &numbers, peer, &fault);
+}
+
+/* Whether both ends have Auth 4 in common, and nothing else. */
+static int has_auth4(dia_peer *peer) {
+    dia_app app = {99, 99, 99, 99};
+    return dia_peer_common(peer, 0, &app) == DIA_OK && app.is_acct == 0 && app.id == 4 && app.has_vendor == 0 && app.vendor == 0
+        && dia_peer_common(peer, 1, &app) == DIA_NONE && dia_peer_common(peer, SIZE_MAX, &app) == DIA_NONE;
+}
+
+static void two_ends_open_watch_and_close(void) {
+    dia_peer a = DIA_PEER_INIT, b = DIA_PEER_INIT;
+    dia_app app;
+    EXPECT(open_initiator(&a) == DIA_OK && rests(&a, DIA_STATE_IDLE));
+    EXPECT(open_responder(&b) == DIA_OK && rests(&b, DIA_STATE_IDLE));
+    EXPECT(dia_peer_event(&b, DIA_START, out, 0, 0) == DIA_OK && rests(&b, DIA_STATE_WAIT_CER));
+    EXPECT(dia_peer_event(&a, DIA_START, out, 0, 0) == DIA_OK);
+    EXPECT(sends(&a, cer, LENGTH(cer)) && rests(&a, DIA_STATE_WAIT_CEA));
+    EXPECT(tell(&b, cer, LENGTH(cer)) == DIA_OK && sends(&b, cea, LENGTH(cea)) && rests(&b, DIA_STATE_OPEN));
+    EXPECT(tell(&b, cer, LENGTH(cer)) == DIA_OK && sends(&b, cea, LENGTH(cea)) && rests(&b, DIA_STATE_OPEN));
+    EXPECT(dia_peer_common(&a, 0, &app) == DIA_NONE && has_auth4(&b));
+    EXPECT(tell(&a, cea, LENGTH(cea)) == DIA_OK && rests(&a, DIA_STATE_OPEN) && has_auth4(&a));
+    EXPECT(tell(&b, dwr, LENGTH(dwr)) == DIA_OK && sends(&b, dwa, LENGTH(dwa)) && rests(&b, DIA_STATE_OPEN));
+    EXPECT(dia_peer_event(&a, DIA_STOP, out, 0, DIA_CAUSE_BUSY) == DIA_OK);
+    EXPECT(sends(&a, dpr, LENGTH(dpr)) && rests(&a, DIA_STATE_WAIT_DPA));
+    EXPECT(tell(&b, dpr, LENGTH(dpr)) == DIA_OK && sends(&b, dpa, LENGTH(dpa)));
+    EXPECT(closes(&b, DIA_WHY_PEER_STOPPED) && rests(&b, DIA_STATE_CLOSED));
+    EXPECT(tell(&a, dpa, LENGTH(dpa)) == DIA_OK && closes(&a, DIA_WHY_STOPPED) && rests(&a, DIA_STATE_CLOSED));
+    EXPECT(tell(&a, dpa, LENGTH(dpa)) == DIA_OK && rests(&a, DIA_STATE_CLOSED) && has_auth4(&a));
+    dia_peer_close(&a);
+    dia_peer_close(&b);
+}
+
+static void a_watchdog_without_an_answer_closes(void) {
+    dia_peer b = DIA_PEER_INIT;
+    EXPECT(open_responder(&b) == DIA_OK && dia_peer_event(&b, DIA_START, out, 0, 0) == DIA_OK);
+    EXPECT(tell(&b, cer, LENGTH(cer)) == DIA_OK && sends(&b, cea, LENGTH(cea)));
+    EXPECT(dia_peer_event(&b, DIA_TICK, out, 0, 0) == DIA_OK && sends(&b, own_dwr, LENGTH(own_dwr)));
+    EXPECT(dia_peer_event(&b, DIA_TICK, out, 0, 0) == DIA_OK);
+    EXPECT(closes(&b, DIA_WHY_WATCHDOG) && rests(&b, DIA_STATE_CLOSED));
+    dia_peer_close(&b);
+    EXPECT(open_responder(&b) == DIA_OK && dia_peer_event(&b, DIA_START, out, 0, 0) == DIA_OK);
+    EXPECT(tell(&b, "x", 1) == DIA_OK && closes(&b, DIA_WHY_INVALID) && rests(&b, DIA_STATE_CLOSED));
+    dia_peer_close(&b);
+    EXPECT(open_responder(&b) == DIA_OK && dia_peer_event(&b, DIA_START, out, 0, 0) == DIA_OK);
+    EXPECT(dia_peer_event(&b, DIA_LOST, out, 0, 0) == DIA_OK && rests(&b, DIA_STATE_CLOSED));
+    dia_peer_close(&b);
+}
+
+/* Outputs are taken one by one, and none is lost. */
+static void outputs_are_taken_in_order(void) {
+    dia_peer a = DIA_PEER_INIT;
+    dia_app app = {99, 99, 99, 99};
+    uint32_t output = 99, why = 99;
+    size_t count = 99;
+    EXPECT(dia_peer_common(&a, 0, &app) == DIA_IS_CLOSED && app.id == 99);
+    EXPECT(dia_peer_event(&a, DIA_START, out, 0, 0) == DIA_IS_CLOSED);
+    EXPECT(dia_peer_output(&a, &output, out, sizeof out, &count, &why) == DIA_IS_CLOSED && count == 99);
+    EXPECT(dia_peer_state(&a, &output) == DIA_IS_CLOSED && output == 99);
+    dia_peer_close(&a);
+    EXPECT(open_initiator(&a) == DIA_OK && open_initiator(&a) == DIA_IS_OPEN);
+    EXPECT(dia_peer_event(&a, 5, out, 0, 0) == DIA_BAD_ARGUMENT && dia_peer_event(&a, DIA_STOP, out, 0, 3) == DIA_BAD_ARGUMENT);
+    EXPECT(dia_peer_event(&a, DIA_START, out, 0, 0) == DIA_OK);
+    EXPECT(dia_peer_event(&a, DIA_TICK, out, 0, 0) == DIA_OUTPUTS_LEFT);
+    EXPECT(dia_peer_output(&a, &output, out, LENGTH(cer) - 1, &count, &why) == DIA_NO_ROOM);
+    EXPECT(count == LENGTH(cer) && output == 99 && why == 99);
+    EXPECT(sends(&a, cer, LENGTH(cer)) && rests(&a, DIA_STATE_WAIT_CEA));
+    EXPECT(dia_peer_event(&a, DIA_TICK, out, 0, 0) == DIA_OK && closes(&a, DIA_WHY_TIMEOUT) && rests(&a, DIA_STATE_CLOSED));
+    dia_peer_close(&a);
+    dia_peer_close(&a);
+}
+
+static void configurations_are_refused(void) {
+    static char long_name[256];
+    const dia_ip address = {7, {0}};
+    const dia_app app = {1, 3, 1, 10415}, relay = {0, UINT32_MAX, 0, 0}, twice[] = {{0, 4, 0, 0}, {0, 4, 1, 10415}};
+    const dia_numbers numbers = {10415, 1, 7, 1, 1};
+    const uint8_t *name = (const uint8_t *)"x";
+    dia_peer p = DIA_PEER_INIT;
+    uint32_t fault = 99;
+    memset(long_name, 'x', sizeof long_name);
+    EXPECT(open_host(&p, 2, "x", 1, &fault) == DIA_BAD_ARGUMENT && fault == 99);
+    EXPECT(open_host(&p, DIA_RESPONDER, "", 0, &fault) == DIA_REFUSED && fault == DIA_BAD_HOST);
+    EXPECT(open_host(&p, DIA_RESPONDER, "a b", 3, &fault) == DIA_REFUSED && fault == DIA_BAD_HOST);
+    EXPECT(open_host(&p, DIA_RESPONDER, "\xff", 1, &fault) == DIA_REFUSED && fault == DIA_BAD_HOST);
+    EXPECT(open_host(&p, DIA_RESPONDER, long_name, 256, &fault) == DIA_REFUSED && fault == DIA_BAD_HOST);
+    EXPECT(open_host(&p, DIA_RESPONDER, long_name, 255, &fault) == DIA_OK);
+    dia_peer_close(&p);
+#define OPEN(realm, realm_len, product, product_len, ips, ip_count, apps, app_count)                                         \
+    dia_peer_open(DIA_RESPONDER, name, 1, (const uint8_t *)(realm), realm_len, (const uint8_t *)(product), product_len, ips, \
+                  ip_count, apps, app_count, &numbers, &p, &fault)
+    EXPECT(OPEN("", 0, "q", 1, &address, 1, &app, 1) == DIA_REFUSED && fault == DIA_BAD_REALM);
+    EXPECT(OPEN("\xff", 1, "q", 1, &address, 1, &app, 1) == DIA_REFUSED && fault == DIA_BAD_REALM);
+    EXPECT(OPEN("d", 1, "\xff", 1, &address, 1, &app, 1) == DIA_REFUSED && fault == DIA_BAD_PRODUCT);
+    EXPECT(OPEN("d", 1, long_name, 256, &address, 1, &app, 1) == DIA_REFUSED && fault == DIA_BAD_PRODUCT);
+    EXPECT(OPEN("d", 1, "q", 1, &address, 0, &app, 1) == DIA_REFUSED && fault == DIA_BAD_ADDRESS);
+    EXPECT(OPEN("d", 1, "q", 1, &address, 1, &app, 0) == DIA_REFUSED && fault == DIA_BAD_APPLICATION);
+    EXPECT(OPEN("d", 1, "q", 1, &address, 1, &relay, 1) == DIA_REFUSED && fault == DIA_BAD_APPLICATION);
+    EXPECT(OPEN("d", 1, "q", 1, &address, 1, twice, 2) == DIA_REFUSED && fault == DIA_BAD_APPLICATION);
+    EXPECT(p.dia_private == NULL && p.dia_state == 0);
+    EXPECT(OPEN("d", 1, "", 0, &address, 1, &app, 1) == DIA_OK && rests(&p, DIA_STATE_IDLE));
+    dia_peer_close(&p);
+}
+
+/* An IPv6 address, an application of a vendor, and Origin-State-Id (RFC 6733 sections 5.3.5, 6.11 and 8.16). */
+static void a_configuration_is_told(void) {
+    static const char wanted[] = "\x01\x00\x00\x8c\x80\x00\x01\x01" IDS("\x01", "\x02") OH OR
+        "\x00\x00\x01\x01\x40\x00\x00\x1a\x00\x02\x20\x01\x0d\xb8\x00\x00\x00\x00\x00\x00\x00\x00\x00\x00\x00\x01\x00\x00"
+        "\x00\x00\x01\x0a\x40\x00\x00\x0c\x00\x00\x28\xaf" PRODUCT "\x00\x00\x01\x16\x40\x00\x00\x0c\x00\x00\x00\x07"
+        "\x00\x00\x01\x04\x40\x00\x00\x20\x00\x00\x01\x0a\x40\x00\x00\x0c\x00\x00\x28\xaf" ACCT3;
+    const dia_ip address = {1, {0x20, 0x01, 0x0d, 0xb8, 0, 0, 0, 0, 0, 0, 0, 0, 0, 0, 0, 1}};
+    const dia_app app = {1, 3, 1, 10415};
+    const dia_numbers numbers = {10415, 1, 7, 1, 2};
+    dia_peer p = DIA_PEER_INIT;
+    uint32_t fault;
+    EXPECT(dia_peer_open(DIA_INITIATOR, (const uint8_t *)"a.b", 3, (const uint8_t *)"b", 1, (const uint8_t *)"p", 1, &address, 1,
+                         &app, 1, &numbers, &p, &fault) == DIA_OK);
+    EXPECT(dia_peer_event(&p, DIA_START, out, 0, 0) == DIA_OK && sends(&p, wanted, LENGTH(wanted)));
+    dia_peer_close(&p);
+}
+
+int main(void) {
+    two_ends_open_watch_and_close();
+    a_watchdog_without_an_answer_closes();
+    outputs_are_taken_in_order();
+    configurations_are_refused();
+    a_configuration_is_told();
+    return tell_counts();
+}

@@ -1,0 +1,14 @@
+use Rattle.std.proofs.Common.{Some, subst}
+use Rattle.std.proofs.Math.Logic.{∥∥₁_elim}
+use Rattle.dia_c.specs.declared.held.Held.{Held}
+use Rattle.dia_c.specs.Held.{MayBePeer}
+use Rattle.dia_c.proofs.handle.end.peer_in.Goals as goal
+
+pub unreachable-requires : goal.unreachable-requires
+unreachable-requires c = ∥∥₁_elim c.requires (λ a b. absurd a) (λ may. subst (λ (h : Held). MayBePeer (Some h)) c.in-Dict.is may)
+
+pub unreachable-requires-in-Text : goal.unreachable-requires-in-Text
+unreachable-requires-in-Text c = ∥∥₁_elim c.requires (λ a b. absurd a) (λ may. subst (λ (h : Held). MayBePeer (Some h)) c.in-Text.is may)
+
+pub unreachable-requires-in-Faults : goal.unreachable-requires-in-Faults
+unreachable-requires-in-Faults c = ∥∥₁_elim c.requires (λ a b. absurd a) (λ may. subst (λ (h : Held). MayBePeer (Some h)) c.in-Faults.is may)
