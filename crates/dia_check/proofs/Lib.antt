@@ -31,3 +31,4 @@ pub mod StreamBodies
 pub mod StreamStages
 pub mod LevelsAtPlaces
 pub mod StreamLevels
+pub mod Pauses

@@ -15,3 +15,4 @@ pub mod Steps
 pub mod Streaming
 pub mod Stages
 pub mod Streams
+pub mod Pauses

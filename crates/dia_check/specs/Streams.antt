@@ -7,6 +7,10 @@ use Rattle.dia_policy.specs.declared.Levels.{Levels}
 use Rattle.dia_check.specs.declared.stream.Stream.{Stream}
 use Rattle.dia_check.specs.Streaming.{HasTaken, IsSpentStage, OpensLevel, taken_of}
 
+-- the dictionary that a stream checks by
+abbrev pub dictionary_of : {B : Type 0} {ghosts : Ghosts B} → (B → Dictionary) → Stream B ghosts → Dictionary
+dictionary_of meaning s = meaning s.basis.book.now
+
 -- the stream has taken these bytes, and checks them against this dictionary
 pub record StandsFor {B : Type 0} {ghosts : Ghosts B} (meaning : B → Dictionary) (s : Stream B ghosts) (d : Dictionary) (u : Unknown) (most : Levels) (bytes : List ℕ) : Type 0 where
   pub book : meaning s.basis.book.now ≡ d

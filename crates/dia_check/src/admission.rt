@@ -48,7 +48,8 @@ pub(crate) fn check_avp<B: Book>(
 }
 
 /// What is missing at the end of the innermost level.
-#[inline(always)]
+// apart, the ends of levels leave the loop over AVPs its registers
+#[inline(never)]
 pub(crate) fn missing_at_end<B: Book>(book: &B, open_levels: &OpenLevels) -> Option<Wrong>
     requires { ∥ AreSomeOpen (B.meaning book.now) open_levels.now ∥₁ }
     ensures { IsEndChecked (B.meaning book.now) open_levels.now result }

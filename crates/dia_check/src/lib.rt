@@ -15,4 +15,4 @@ mod telling;
 pub use checking::{check, one_answer, validity};
 pub use dia_policy::{Levels, Unknown};
 pub use fault::{Fault, Reason, Refusal, Selected, Subject};
-pub use stream::{Progress, Stream, StreamFault};
+pub use stream::{Paused, Progress, Stream, StreamFault};

@@ -17,7 +17,7 @@ ghost use Rattle.dia_check.specs.OpenLevels.{IsMetAtEnd, IsMissingAtEnd, SoFar};
 ghost use Rattle.dia_check.specs.OpenLevels.{begun, and_key, HasRoom, AreOpen};
 
 use self::tally::{Met, lay_out, read, told_at, write};
-use self::unmet::{first_unmet, missing};
+use self::unmet::{first_unmet, missing, unmet_among};
 use crate::fault::{Reason, Subject};
 use dia_book::{DRule, DefId, Shape, Slot};
 use dia_wire::Key;
@@ -28,6 +28,10 @@ const LAID_OUT_OF_BODY: usize = 1024;
 
 /// How many rules of a group do. Groups in one another take 8 bytes for each.
 const LAID_OUT_OF_GROUP: usize = 8;
+
+/// How many more rules the first list of tallies has room for than the body's, so that the groups of most messages take no
+/// memory for theirs.
+const ROOM_FOR_GROUPS: usize = 64;
 
 /// An open level.
 #[derive(Clone, Copy)]
@@ -145,7 +149,7 @@ impl OpenLevels {
             → slice_get defs def ≡ Some definition → definition.rules ≡ rules.now
             → IfOk result (λ levels. AreOpen defs levels [] (begun rules.now end)) }
     {
-        let mut tallies = Vec::with_capacity(alloc, rules.len())?;
+        let mut tallies = Vec::with_capacity(alloc, rules.len() + ROOM_FOR_GROUPS)?;
         lay_out(&mut tallies, rules.len().min(LAID_OUT_OF_BODY));
         Ok(OpenLevels {
             innermost: OpenLevel::new(def, end, 0),
@@ -174,7 +178,7 @@ impl OpenLevels {
     }
 
     /// Ends the innermost level. Answers whether it lay in another, which is the innermost then.
-    #[inline(always)]
+    #[inline(never)]
     pub(crate) fn close(&mut self) -> bool
         requires { ∥ ((defs : List PlainDefinition) × (outer : List SoFar) × (level : SoFar)
             × AreOpen defs self.old outer level) ∥₁ }
@@ -265,7 +269,7 @@ impl OpenLevels {
             (IsMissingAtEnd rules.now level.keys) }
     {
         let tally = &self.tallies[self.innermost.base..];
-        let place = first_unmet(rules, shape, tally, 0, rules.len())?;
+        let place = unmet_among(rules, shape, tally, 0, rules.len())?;
         Some(missing(rules[place]))
     }
 

@@ -12,6 +12,7 @@ ghost use Rattle.dia_check.specs.Streaming.{Takes, taken_of, wanted};
 mod front;
 mod leaf;
 mod parts;
+mod paused;
 mod stages;
 
 use crate::basis::Basis;
@@ -21,6 +22,7 @@ use crate::stream::stages::{Stage, read_front, read_stage};
 use dia_book::Book;
 use dia_policy::{Levels, Unknown};
 use dia_wire::HEADER_LENGTH;
+pub use paused::Paused;
 use std::alloc::Global;
 use thiserror::Error;
 
@@ -58,7 +60,7 @@ pub enum StreamFault {
 }
 
 impl<'a, B: Book> Stream<'a, B> {
-    ghost use Rattle.dia_check.specs.Streams.{StandsFor, HasTakenMore, OpensLevelIn, IsSpent};
+    ghost use Rattle.dia_check.specs.Streams.{StandsFor, HasTakenMore, OpensLevelIn, IsSpent, dictionary_of};
 
     /// A stream of which nothing was read yet. Takes no memory.
     pub fn new(alloc: Global, book: &'a B, unknown: Unknown, levels: Levels) -> Self
@@ -89,6 +91,7 @@ impl<'a, B: Book> Stream<'a, B> {
             → Takes bytes piece.now progress
             × StandsFor B.meaning self.new d u most (bytes ++ take progress.taken piece.now)) }
         ensures within { IfOk result (λ progress. progress.taken ≤ length piece.now) }
+        ensures dictionary { dictionary_of B.meaning self.new ≡ dictionary_of B.meaning self.old }
         ensures goes_on { OnOk result (¬ IsSpent self.new) }
         // Memory is taken only for a level that begins in the piece, of a message with a good header.
         ensures no_memory { result ≡ Err StreamFault.NoMemory
@@ -119,6 +122,7 @@ impl<'a, B: Book> Stream<'a, B> {
     fn take_header(&mut self, piece: &[u8]) -> Result<usize, StreamFault>
         requires { ¬ IsSpent self.old }
         ensures within { IfOk result (λ count. count ≤ length piece.now) }
+        ensures basis { self.new.basis ≡ self.old.basis }
         ensures taken { IfOk result
             (λ count. HasTakenMore B.meaning self.old (take count piece.now) self.new) }
         ensures all { IfOk result (λ count. self.new.taken < 20 → count ≡ length piece.now) }
@@ -147,6 +151,7 @@ impl<'a, B: Book> Stream<'a, B> {
         requires header { 20 ≤ self.old.taken }
         requires not_spent { ¬ IsSpent self.old }
         ensures within { IfOk result (λ count. count ≤ length piece.now) }
+        ensures basis { self.new.basis ≡ self.old.basis }
         ensures taken { IfOk result
             (λ count. HasTakenMore B.meaning self.old (take count piece.now) self.new) }
         ensures all { IfOk result

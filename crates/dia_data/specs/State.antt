@@ -3,6 +3,7 @@ use Rattle.std.specs.Prelude.{◌≡◌, ◌≢◌, ℕ, ◌<◌, ◌↔◌, ◌
 use Rattle.std.specs.Str.{IsUtf8, StartsWithNoChar}
 use Rattle.dia_data.specs.Plain.{PlainFormat, plain_format, Utf8String, DiameterIdentity, DiameterUri}
 use Rattle.dia_data.specs.declared.leaf_state.LeafState.{LeafState}
+use Rattle.dia_data.specs.declared.leaf_state.SeenData.{SeenData}
 use Rattle.dia_data.specs.declared.leaf_state.Seen.{Seen}
 use Rattle.dia_data.specs.declared.leaf_state.Seen.TheVariants.{Nothing, Graphic, Characters}
 use Rattle.dia_data.specs.declared.seen_text.Text.{Text}
@@ -32,5 +33,10 @@ IsSeen (Characters text) kind bytes = (kind ≡ Utf8String) × IsSeenOfText text
 -- the state has been fed these bytes, in whatever pieces
 pub record StandsForData (state : LeafState) (kind : PlainFormat) (bytes : List ℕ) : Type 0 where
   pub format : plain_format state.format.now ≡ kind
+  pub front : front_bytes state.front ≡ take front_length bytes
+  pub seen : IsSeen state.seen kind bytes
+
+-- this has been seen of data of a format
+pub record HasSeenData (state : SeenData) (kind : PlainFormat) (bytes : List ℕ) : Type 0 where
   pub front : front_bytes state.front ≡ take front_length bytes
   pub seen : IsSeen state.seen kind bytes

@@ -1,5 +1,5 @@
 //! Data that comes in pieces.
-ghost use Rattle.std.specs.Prelude.{[], ◌++◌, List, ℕ};
+ghost use Rattle.std.specs.Prelude.{◌≡◌, [], ◌++◌, List, ℕ};
 
 use crate::accept::{Leaf, accepts, by_value, is_graphic};
 use crate::format::Format;
@@ -31,10 +31,17 @@ pub struct LeafState<'a> {
     seen: Seen,
 }
 
+/// What has been seen of data, apart from its format.
+#[derive(Clone, Copy, Debug)]
+pub struct SeenData {
+    front: Front<FRONT_LENGTH>,
+    seen: Seen,
+}
+
 impl<'a> LeafState<'a> {
     ghost use Rattle.dia_data.specs.Leaf.{IsLeafAnswer};
     ghost use Rattle.dia_data.specs.Plain.{PlainFormat, plain_format};
-    ghost use Rattle.dia_data.specs.State.{StandsForData};
+    ghost use Rattle.dia_data.specs.State.{HasSeenData, StandsForData};
 
     /// Before any data of the format.
     pub fn start(format: &'a Format) -> Self
@@ -75,6 +82,29 @@ impl<'a> LeafState<'a> {
             Seen::Nothing => by_front,
             Seen::Graphic(graphic) => { if graphic { by_front } else { Leaf::BadValue } }
             Seen::Characters(text) => by_value(text.is_whole()),
+        }
+    }
+
+    /// What has been seen of the data, apart from their format.
+    pub fn seen(self) -> SeenData
+        ensures seen { (kind : PlainFormat) (bytes : List ℕ) → StandsForData self.entry kind bytes
+            → HasSeenData result kind bytes }
+    {
+        SeenData {
+            front: self.front,
+            seen: self.seen,
+        }
+    }
+
+    /// The state of data of a format of which this has been seen.
+    pub fn of(format: &'a Format, seen: SeenData) -> Self
+        ensures stands { (kind : PlainFormat) (bytes : List ℕ) → HasSeenData seen kind bytes
+            → plain_format format.now ≡ kind → StandsForData result kind bytes }
+    {
+        LeafState {
+            format,
+            front: seen.front,
+            seen: seen.seen,
         }
     }
 }

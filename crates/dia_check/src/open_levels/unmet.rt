@@ -43,14 +43,32 @@ pub(super) fn first_unmet(
     if to <= from || to <= shape.first_wanted(rules, from) {
         None
     } else {
-        unmet_among(rules, shape, tally, from, to)
+        unmet_apart(rules, shape, tally, from, to)
     }
+}
+
+/// So it is, out of the loop over AVPs, which seldom asks for it.
+#[inline(never)]
+fn unmet_apart(
+    rules: &[DRule],
+    shape: &Shape,
+    tally: &[Met],
+    from: usize,
+    to: usize,
+) -> Option<usize>
+    requires shape { IsShape rules.now shape.now }
+    requires rising { AreRising 0 tally.now }
+    requires within { (from ≤ length rules.now) × (to ≤ length rules.now) }
+    ensures { MatchOption result (AreMet rules.now tally.now from to)
+        (λ i. IsFirstUnmet rules.now tally.now from to i) }
+{
+    unmet_among(rules, shape, tally, from, to)
 }
 
 /// So it is, also where no rule with a least count stands between the places. It takes as many steps as rules stand there
 /// that were met, and one more, and what `from_rule` takes.
-#[inline(never)]
-fn unmet_among(
+#[inline(always)]
+pub(super) fn unmet_among(
     rules: &[DRule],
     shape: &Shape,
     tally: &[Met],

@@ -28,8 +28,8 @@ offset_bounds-deref-self c =
     let inside : c.args.self.now.innermost.base ≤ length c.deref.result.now = let same = ap length c.deref.ensures.value in omega (arith, low, same) in
     search rules
 
-pub first_unmet-requires-clause-rising : goal.first_unmet-requires-clause-rising
-first_unmet-requires-clause-rising c = ∥∥₁_elim c.requires.open (rising_prop 0 _) (λ x. let (defs, outer, level, now, same) = x in
+pub unmet_among-requires-clause-rising : goal.unmet_among-requires-clause-rising
+unmet_among-requires-clause-rising c = ∥∥₁_elim c.requires.open (rising_prop 0 _) (λ x. let (defs, outer, level, now, same) = x in
     (own_counted defs c.args.self.now outer level c.args.rules.now _ now same (own_slice c.args.self.now c.deref.result.now c.deref.ensures.value)).rising)
 
 pub returns-in_err-place : goal.returns-in_err-place

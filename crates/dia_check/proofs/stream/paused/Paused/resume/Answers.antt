@@ -1,0 +1,19 @@
+use Rattle.std.proofs.Common.{subst}
+use Rattle.std.proofs.Math.Logic.{∥∥₁_map}
+use Rattle.dia_check.specs.Pauses.{IsResumeOf}
+use Rattle.dia_check.proofs.Pauses.{stage_goes, taken_goes}
+use Rattle.dia_check.proofs.stream.paused.Paused.resume.Goals as goal
+
+pub invariant_of-result : goal.invariant_of-result
+invariant_of-result g c = record {
+  holds = ∥∥₁_map c.requires.fits (λ x. stage_goes _ _ _ _ _ x.before c.args.self.stage c.resume_stage.result x.is_pause c.resume_stage.ensures x.is_stage);
+}
+
+pub returns-clause-stands : goal.returns-clause-stands
+returns-clause-stands g c d u most bytes paused same = record {
+  book = same;
+  unknown = paused.unknown;
+  levels = paused.levels;
+  taken = taken_goes d u most c.args.self.taken c.args.self.wanted bytes paused.before c.args.self.stage c.resume_stage.result paused.is_pause
+      (subst (λ e. IsResumeOf e c.args.self.stage c.resume_stage.result) same c.resume_stage.ensures) paused.taken;
+}
