@@ -1,5 +1,6 @@
 pub mod DigitsTaken
 pub mod PairsDecoded
+pub mod PairsTaken
 pub mod Fronts
 pub mod StreamsUnderWay
 pub mod StreamToSink

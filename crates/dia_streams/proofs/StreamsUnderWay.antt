@@ -1,14 +1,13 @@
 -- A stream that is told as it is read.
 use Rattle.std.proofs.Common.{◌≡◌, ◌≢◌, ℕ, ◌+◌, ◌<◌, Bool, true, false, not, cond, List, [], ◌∷◌, ◌++◌, length, take, Option, None, Some, refl, sym, ap, subst, ◌∙◌, append_assoc, arith, inl, inr, ◌≤◌}
 use Rattle.std.specs.Prelude.{string_bytes, ◌==◌, is_some}
-use Rattle.std.specs.List.{flat_map}
 use Rattle.std.proofs.lemmas.Bool.{eqb-true}
 use Rattle.std.proofs.lemmas.List.{append-nil, length-append, take-append-le}
 use Rattle.dia_lines.proofs.LinesUnderWay.{Sees-both, Sees-nothing, both_told, one_told}
 use Rattle.dia_streams.specs.declared.told.Told.{Told}
 use Rattle.dia_streams.specs.declared.streamed.Streamed.{Streamed}
 use Rattle.dia_streams.specs.Streams.{AreSpelled, AreTold, none, message, IsEndTold, nothing, part, endless, no_digits, IsEndless, IsMessage, IsPart, IsStreamTold, Spells, digits_of, is_white}
-use Rattle.dia_streams.specs.UnderWay.{AreDigits, AreTaken, Takes, HasTold, Adds, TellsWhole, BeginsNone, IsUnderWay, IsOver, Reads, Ends}
+use Rattle.dia_streams.specs.UnderWay.{AreDigits, AreTaken, Takes, HasTold, Adds, TellsWhole, BeginsNone, IsUnderWay, Reads, Ends}
 use Rattle.dia_streams.proofs.DigitsTaken.{digits_both, spelled_both, spelled_front, stops_half}
 use Rattle.dia_streams.proofs.Fronts.{endless_on}
 

@@ -4,6 +4,8 @@ ghost use Rattle.std.specs.Prelude.{◌≡◌, [], ℕ, None, Some};
 ghost use Rattle.hex.specs.Hex.{hex_digit_value};
 ghost use Rattle.dia_streams.specs.Streams.{is_white};
 
+use crate::pairs::decode_digits;
+use memchr::memchr;
 use std::alloc::{AllocError, Global};
 
 /// Digits that come in pieces, with white space anywhere between them.
@@ -13,10 +15,12 @@ pub struct Digits {
     pub half: Option<u8>,
     /// The bytes of the pairs.
     pub bytes: Vec<u8>,
+    /// Room for the bytes of a line.
+    space: Vec<u8>,
 }
 
 impl Digits {
-    ghost use Rattle.std.specs.Prelude.{◌≡◌, ◌++◌, ◌∷◌, List, ℕ, [], None, Some, IfOk, OnOk};
+    ghost use Rattle.std.specs.Prelude.{◌≡◌, ◌≤◌, ◌++◌, ◌∷◌, List, ℕ, [], None, Some, IfOk, OnOk, length};
     ghost use Rattle.hex.specs.Hex.{hex_digit_value};
     ghost use Rattle.dia_streams.specs.UnderWay.{AreDigits, Takes};
 
@@ -28,11 +32,73 @@ impl Digits {
         Digits {
             half: None,
             bytes: Vec::new(alloc),
+            space: Vec::new(alloc),
         }
     }
 
     /// Takes the digits of a text, up to a character that is neither a digit nor white space. `false` where there is one.
-    pub fn take(&mut self, text: &[u8]) -> Result<bool, AllocError>
+    ///
+    /// The digits of a line are decoded together, where no white space stands among them.
+    pub fn take(&mut self, alloc: Global, text: &[u8]) -> Result<bool, AllocError>
+        ensures { IfOk result (λ good. Takes good self.old.half self.new.half
+            self.old.bytes.items self.new.bytes.items text.now) }
+    {
+        let mut rest = text;
+        while let Some(at) = memchr(b'\n', rest) {
+            if !self.take_line(alloc, &rest[..at])? {
+                return Ok(false);
+            }
+            if !self.take_one(rest[at])? {
+                return Ok(false);
+            }
+            rest = rest.split_at(at + 1).1;
+        }
+        self.take_line(alloc, rest)
+    }
+
+    /// Takes a line: the other digit of a pair whose first one came, then whole pairs, and what is left.
+    fn take_line(&mut self, alloc: Global, line: &[u8]) -> Result<bool, AllocError>
+        ensures { IfOk result (λ good. Takes good self.old.half self.new.half
+            self.old.bytes.items self.new.bytes.items line.now) }
+    {
+        let (first, behind) = line.split_at(self.lacking(line));
+        if !self.take_each(first)? {
+            return Ok(false);
+        }
+        let (pairs, last) = behind.split_at(behind.len() / 2 * 2);
+        if !self.take_pairs(alloc, pairs)? {
+            return Ok(false);
+        }
+        self.take_each(last)
+    }
+
+    /// How many characters of a line belong to a pair whose first digit came before it, if no white space is among them.
+    fn lacking(&self, line: &[u8]) -> usize
+        ensures { result ≤ length line.now }
+    {
+        if self.half.is_some() && !line.is_empty() {
+            1
+        } else {
+            0
+        }
+    }
+
+    /// Takes digits that are likely to be pairs.
+    fn take_pairs(&mut self, alloc: Global, text: &[u8]) -> Result<bool, AllocError>
+        ensures { IfOk result (λ good. Takes good self.old.half self.new.half
+            self.old.bytes.items self.new.bytes.items text.now) }
+    {
+        if self.half.is_none() {
+            if let Some(count) = decode_digits(alloc, text, &mut self.space)? {
+                self.bytes.extend_from_slice(&self.space[..count])?;
+                return Ok(true);
+            }
+        }
+        self.take_each(text)
+    }
+
+    /// Takes character by character.
+    fn take_each(&mut self, text: &[u8]) -> Result<bool, AllocError>
         ensures { IfOk result (λ good. Takes good self.old.half self.new.half
             self.old.bytes.items self.new.bytes.items text.now) }
     {

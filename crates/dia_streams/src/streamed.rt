@@ -49,7 +49,7 @@ impl Streamed {
         ensures reads { IfOk result (λ goes_on. Reads (J.says judge.now) (J.told judge.now) W.saw
             goes_on self.old self.new watch.old watch.new piece.now) }
     {
-        let hexadecimal = self.digits.take(piece)?;
+        let hexadecimal = self.digits.take(alloc, piece)?;
         let bytes = self.digits.bytes.as_slice();
         let rest = self.told.tell_whole(alloc, judge, watch, bytes)?;
         if let Some(header) = bad_header(rest) {

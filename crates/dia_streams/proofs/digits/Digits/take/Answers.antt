@@ -1,40 +1,62 @@
-use Rattle.std.proofs.Common.{◌+◌, take, drop, true, false, Bool, ◌∷◌, [], get_or, sym, subst}
-use Rattle.std.proofs.lemmas.List.{take_more, take_all, take-append-drop}
+use Rattle.std.proofs.Common.{Bool, true, false, ◌<◌, ◌+◌, ℕ, ◌++◌, ◌∷◌, [], List, length, take, drop, get_or, ◌∙◌, ap, subst, arith}
 use Rattle.dia_streams.specs.UnderWay.{Takes}
-use Rattle.dia_streams.proofs.DigitsTaken.{Takes-nothing, Takes-both, Takes-stopped}
+use Rattle.dia_streams.proofs.DigitsTaken.{Takes-both}
+use Rattle.dia_streams.proofs.PairsTaken.{Takes-lines, if_ok_map, next_line, stopped_within}
 use Rattle.dia_streams.proofs.digits.Digits.take.Goals as goal
-
-pub loop-byte-init : goal.loop-byte-init
-loop-byte-init c = record { takes = Takes-nothing c.args.self.now.half c.args.self.now.bytes.items }
-
-pub loop-byte-preserved : goal.loop-byte-preserved
-loop-byte-preserved c =
-    let i = c.loop-byte.byte-index in
-    let text = c.args.text.now in
-    let old = c.args.self.now in
-    let now = c.loop-byte.self in
-    let new = c.take_one.new.self in
-    let one = subst (λ (good : Bool). Takes good now.half new.half now.bytes.items new.bytes.items (get_or text i 0 ∷ [])) c.if-not-branch.false c.in_ok-take_one.ensures in
-    record {
-      takes = subst (Takes true old.half new.half old.bytes.items new.bytes.items) (sym (take_more text i 0 c.loop-byte-test.true))
-          (Takes-both true old.half now.half new.half old.bytes.items now.bytes.items new.bytes.items (take i text) (get_or text i 0 ∷ []) c.loop-byte.invariant.takes one);
-    }
 
 pub returns-then-not-branch : goal.returns-then-not-branch
 returns-then-not-branch c =
-    let i = c.loop-byte.byte-index in
-    let text = c.args.text.now in
     let old = c.args.self.now in
-    let now = c.loop-byte.self in
+    let now = c.loop-at.self in
+    let new = c.take_line.new.self in
+    let rest = c.loop-at.rest.now in
+    let at = c.in-Some.at in
+    let (front, parts, takes) = c.loop-at.invariant in
+    let stopped = subst (λ (good : Bool). Takes good now.half new.half now.bytes.items new.bytes.items (take at rest)) c.if-not-branch.true c.in_ok-take_line.ensures in
+    stopped_within old.half new.half new.half old.bytes.items new.bytes.items (front ++ take at rest) (drop at rest) c.args.text.now
+    (next_line front rest c.args.text.now at parts)
+    (Takes-both false old.half now.half new.half old.bytes.items now.bytes.items new.bytes.items front (take at rest) takes stopped)
+
+pub returns-then-not-branch-2 : goal.returns-then-not-branch-2
+returns-then-not-branch-2 c =
+    let old = c.args.self.now in
+    let now = c.loop-at.self in
+    let one = c.take_line.new.self in
     let new = c.take_one.new.self in
-    let one = subst (λ (good : Bool). Takes good now.half new.half now.bytes.items new.bytes.items (get_or text i 0 ∷ [])) c.if-not-branch.true c.in_ok-take_one.ensures in
-    let all = subst (Takes false old.half new.half old.bytes.items new.bytes.items) (sym (take_more text i 0 c.loop-byte-test.true))
-    (Takes-both false old.half now.half new.half old.bytes.items now.bytes.items new.bytes.items (take i text) (get_or text i 0 ∷ []) c.loop-byte.invariant.takes one) in
-    subst (Takes false old.half new.half old.bytes.items new.bytes.items) (take-append-drop (i + 1) text)
-    (Takes-stopped old.half new.half new.half old.bytes.items new.bytes.items (take (i + 1) text) (drop (i + 1) text) all)
+    let rest = c.loop-at.rest.now in
+    let at = c.in-Some.at in
+    let (front, parts, takes) = c.loop-at.invariant in
+    let less : at < length rest = let found = c.in-Some.ensures in omega (arith, found.0.high) in
+    let line = subst (λ (good : Bool). Takes good now.half one.half now.bytes.items one.bytes.items (take at rest)) c.if-not-branch.false c.in_ok-take_line.ensures in
+    let last = subst (λ (good : Bool). Takes good one.half new.half one.bytes.items new.bytes.items (get_or rest at 0 ∷ [])) c.if-not-branch-2.true c.in_ok-take_one.ensures in
+    stopped_within old.half new.half new.half old.bytes.items new.bytes.items (front ++ take (at + 1) rest) (drop (at + 1) rest) c.args.text.now
+    (next_line front rest c.args.text.now (at + 1) parts)
+    (Takes-lines false old.half now.half one.half new.half old.bytes.items now.bytes.items one.bytes.items new.bytes.items front rest at less takes line last)
+
+pub loop-at-preserved : goal.loop-at-preserved
+loop-at-preserved c =
+    let old = c.args.self.now in
+    let now = c.loop-at.self in
+    let one = c.take_line.new.self in
+    let new = c.take_one.new.self in
+    let rest = c.loop-at.rest.now in
+    let at = c.in-Some.at in
+    let (front, parts, takes) = c.loop-at.invariant in
+    let less : at < length rest = let found = c.in-Some.ensures in omega (arith, found.0.high) in
+    let line = subst (λ (good : Bool). Takes good now.half one.half now.bytes.items one.bytes.items (take at rest)) c.if-not-branch.false c.in_ok-take_line.ensures in
+    let last = subst (λ (good : Bool). Takes good one.half new.half one.bytes.items new.bytes.items (get_or rest at 0 ∷ [])) c.if-not-branch-2.false c.in_ok-take_one.ensures in (
+      front ++ take (at + 1) rest,
+      ap (λ (r : List ℕ). (front ++ take (at + 1) rest) ++ r) c.split_at.ensures.back ∙ next_line front rest c.args.text.now (at + 1) parts,
+      Takes-lines true old.half now.half one.half new.half old.bytes.items now.bytes.items one.bytes.items new.bytes.items front rest at less takes line last,
+    )
 
 pub returns : goal.returns
 returns c =
     let old = c.args.self.now in
-    let now = c.loop-byte.self in
-    subst (Takes true old.half now.half old.bytes.items now.bytes.items) (take_all c.loop-byte.byte-index c.args.text.now c.loop-byte-test.false) c.loop-byte.invariant.takes
+    let now = c.loop-at.self in
+    let new = c.take_line-2.new.self in
+    let (front, parts, takes) = c.loop-at.invariant in
+    if_ok_map c.take_line-2.result
+    (λ good taken. subst (Takes good old.half new.half old.bytes.items new.bytes.items) parts
+    (Takes-both good old.half now.half new.half old.bytes.items now.bytes.items new.bytes.items front c.loop-at.rest.now takes taken))
+    c.take_line-2.ensures

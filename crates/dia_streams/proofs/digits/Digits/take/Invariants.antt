@@ -1,8 +1,10 @@
-use Rattle.std.proofs.Common.{take, true}
+use Rattle.std.proofs.Common.{◌≡◌, List, ◌++◌, ℕ, length, true}
 use Rattle.dia_streams.specs.UnderWay.{Takes}
 use Rattle.dia_streams.proofs.digits.Digits.take.Given as goal
 
-abbrev pub invariant-loop-byte : goal.invariant-loop-byte
-invariant-loop-byte l = record {
-  takes : Takes true l.initial.self.half l.self.half l.initial.self.bytes.items l.self.bytes.items (take l.byte-index l.text);
-}
+abbrev pub invariant-loop-at : goal.invariant-loop-at
+invariant-loop-at l =
+    (front : List ℕ) × (front ++ l.rest ≡ l.text) × Takes true l.initial.self.half l.self.half l.initial.self.bytes.items l.self.bytes.items front
+
+abbrev pub decreases-loop-at : goal.decreases-loop-at
+decreases-loop-at l = length l.rest
