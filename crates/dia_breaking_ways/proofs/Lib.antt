@@ -5,3 +5,5 @@ pub mod WildLevels
 pub mod ReachedPlaces
 pub mod AllReached
 pub mod WalkSteps
+pub mod PairOrders
+pub mod Rounds

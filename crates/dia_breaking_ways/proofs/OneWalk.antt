@@ -57,7 +57,7 @@ one_step g R s t a b e =
     a.is_step ∙ (same_steps s.place t.place a.level b.level a.reach b.reach e (same_level g s.place t.place a.level b.level e a.is_level b.is_level)
     (same_way R s.place t.place a.reach b.reach e a.is_reach b.is_reach) ∙ sym b.is_step)
 
-not_before_itself : (s t : Step) → s ≡ t → IsBefore s t → ⊥
+pub not_before_itself : (s t : Step) → s ≡ t → IsBefore s t → ⊥
 not_before_itself s t e (inl h) = let f : s.way ≡ t.way = ap (λ (x : Step). x.way) e in omega arith
 not_before_itself s t e (inr h) = let f : s.place ≡ t.place = ap (λ (x : Step). x.place) e in omega arith
 
@@ -160,7 +160,7 @@ not_after_both s t (inl h) (inr k) = omega arith
 not_after_both s t (inr h) (inl k) = omega arith
 not_after_both s t (inr h) (inr k) = omega arith
 
-same_reach : (x y : Reach) → IsNoLater x y.level y.length → IsNoLater y x.level x.length → x ≡ y
+pub same_reach : (x y : Reach) → IsNoLater x y.level y.length → IsNoLater y x.level x.length → x ≡ y
 same_reach x y (inl h) (inl k) = absurd (omega arith)
 same_reach x y (inl h) (inr k) = absurd (omega arith)
 same_reach x y (inr h) (inl k) = absurd (omega arith)
@@ -187,7 +187,7 @@ same_next g S T R W w v i h s e =
     let place : s.place ≡ n.step.place = not_after_both s n.step k n.not_after in
     n.is_next ∙ ap (λ (x : Step). Some x) (sym (same_step g R W s n.step place (later g S T R W w v i h s e) (later g T S W R v w i back n.step n.is_next)))
 
-same_at : (S T : List Step) (i : ℕ) → ((s : Step) → slice_get S i ≡ Some s → slice_get T i ≡ Some s) → ((s : Step) → slice_get T i ≡ Some s → slice_get S i ≡ Some s)
+pub same_at : (S T : List Step) (i : ℕ) → ((s : Step) → slice_get S i ≡ Some s → slice_get T i ≡ Some s) → ((s : Step) → slice_get T i ≡ Some s → slice_get S i ≡ Some s)
     → (o : Option Step) → slice_get S i ≡ o → slice_get S i ≡ slice_get T i
 same_at S T i f b (Some s) e = e ∙ sym (f s e)
 same_at S T i f b None e = same_none S T i e b (slice_get T i) refl

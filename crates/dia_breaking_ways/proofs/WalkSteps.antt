@@ -1,82 +1,78 @@
 -- The steps of a walk.
-use Rattle.std.proofs.Common.{◌≡◌, ℕ, zero, suc, ◌+◌, ◌≤◌, Bool, true, List, length, Option, Some, None, refl, sym, ap, ◌∙◌, arith, inl, inr}
-use Rattle.std.specs.Prelude.{slice_get, Contains, option_and_then}
-use Rattle.std.proofs.Math.ListN.{set}
-use Rattle.std.proofs.lemmas.Bool.{cases_lt, cases_eq}
-use Rattle.std.proofs.lemmas.Option.{slice_get_within, slice_get_past}
+use Rattle.std.proofs.Common.{◌≡◌, ℕ, ◌+◌, ◌<◌, ◌≤◌, List, [], ◌∷◌, ◌++◌, length, Option, Some, sym, ap, subst, ◌∙◌, arith, inl, inr}
+use Rattle.std.specs.Prelude.{◌⊎◌, slice_get, Contains}
+use Rattle.std.specs.List.Sorted.{IsPermutation}
+use Rattle.std.proofs.lemmas.List.Sorted.{Contains-permutation, IsPermutation-sym}
+use Rattle.std.proofs.lemmas.List.Elements.{Contains-append_left, Contains-push}
+use Rattle.std.proofs.lemmas.Bool.{cases_lt}
+use Rattle.std.proofs.lemmas.Option.{slice_get_within}
 use Rattle.dia_breaking_ways.specs.declared.graph.Reach.{Reach}
 use Rattle.dia_breaking_ways.specs.declared.graph.Step.{Step}
-use Rattle.dia_breaking_ways.specs.Walks.{Graph, PlainLevel, Stage, IsReached, IsShortest, IsWalk, step_to, stage_at, stage_of, level_of}
+use Rattle.dia_breaking_ways.specs.Walks.{Graph, PlainLevel, IsStep, step_to, level_of}
 use Rattle.dia_breaking_ways.specs.Openings.{IsOrdered}
-use Rattle.dia_breaking_ways.specs.Reached.{AreShortest}
-use Rattle.dia_breaking_ways.specs.Steps.{AreFilled, step_key, HasPlace, AreMarked, AreComplete}
-use Rattle.dia_breaking_ways.proofs.OneWalk.{same_way, same_level, same_steps}
-use Rattle.dia_breaking_ways.proofs.BestWays.{get_set_other}
-use Rattle.dia_breaking_ways.proofs.ListedPlaces.{contains_at}
-use Rattle.dia_breaking_ways.proofs.AllReached.{get_some}
+use Rattle.dia_breaking_ways.specs.Rounds.{AreStepsBy}
+use Rattle.dia_breaking_ways.specs.Steps.{AreStepsTo, HasNoStep, step_key}
+use Rattle.dia_breaking_ways.proofs.OneWalk.{at_contains, same_way, same_level, same_steps}
+use Rattle.dia_breaking_ways.proofs.ListedPlaces.{contains_at, get_push_cases}
 
--- ---- marks
+-- ---- steps by their places
 
-more_steps : (steps : List Step) (n place : ℕ) → HasPlace steps n place → HasPlace steps (n + 1) place
-more_steps steps n place h = record { at = h.at; step = h.step; below = let b = h.below in omega arith; is_at = h.is_at; is_place = h.is_place }
+-- the next place has no step
+pub steps_past : (g : Graph) (reached : List (Option Reach)) (n : ℕ) (steps : List Step) → AreStepsTo g reached n steps → HasNoStep g reached n → AreStepsTo g reached (n + 1) steps
+steps_past g reached n steps are none = record {
+  rising = are.rising;
+  below = λ i s at. let b = are.below i s at in omega (arith, b);
+  each = are.each;
+  all = λ place level reach below is at. by place level reach below is at (cases_lt place n);
+}
+  where
+    by : (place : ℕ) (level : PlainLevel) (reach : Reach) → place < n + 1 → level_of g place ≡ Some level → slice_get reached place ≡ Some (Some reach) → (place < n) ⊎ (n ≤ place)
+        → Contains steps (step_to place level reach)
+    by place level reach below is at (inl less) = are.all place level reach less is at
+    by place level reach below is at (inr more) =
+        let here : place ≡ n = omega (arith, below, more) in
+        absurd (none level reach (sym (ap (level_of g) here) ∙ is) (sym (ap (slice_get reached) here) ∙ at))
 
-pub marked_past : (steps : List Step) (n : ℕ) (marks : List Bool) → AreMarked steps n marks → AreMarked steps (n + 1) marks
-marked_past steps n marks h = λ place e. more_steps steps n place (h place e)
+-- it has one
+pub steps_more : (g : Graph) (reached : List (Option Reach)) (n : ℕ) (steps : List Step) (step : Step) → AreStepsTo g reached n steps → step.place ≡ n → IsStep g reached step
+    → AreStepsTo g reached (n + 1) (steps ++ step ∷ [])
+steps_more g reached n steps step are here own = record {
+  rising = λ i j s t less at_i at_j. rise i j s t less (get_push_cases steps step i s at_i) (get_push_cases steps step j t at_j);
+  below = λ i s at. under i s (get_push_cases steps step i s at);
+  each = λ i s at. each i s (get_push_cases steps step i s at);
+  all = λ place level reach below is at. by place level reach below is at (cases_lt place n);
+}
+  where
+    rise : (i j : ℕ) (s t : Step) → i < j → (slice_get steps i ≡ Some s) ⊎ ((i ≡ length steps) × (step ≡ s)) → (slice_get steps j ≡ Some t) ⊎ ((j ≡ length steps) × (step ≡ t)) → s.place < t.place
+    rise i j s t less (inl a) (inl b) = are.rising i j s t less a b
+    rise i j s t less (inl a) (inr b) = let low = are.below i s a in let same = ap (λ (x : Step). x.place) b.1 in omega (arith, low, same, here)
+    rise i j s t less (inr a) (inl b) = absurd (let inside = slice_get_within steps j t b in omega (arith, inside, a.0, less))
+    rise i j s t less (inr a) (inr b) = absurd (omega (arith, a.0, b.0, less))
 
-pub marked_more : (steps : List Step) (n : ℕ) (marks : List Bool) (step : Step) → AreMarked steps n marks → slice_get steps n ≡ Some step → AreMarked steps (n + 1) (set marks step.place true)
-marked_more steps n marks step h at = λ place e. elim (cases_eq place step.place) [
-  | inl same ↦ record { at = n; step = step; below = omega arith; is_at = at; is_place = sym same }
-  | inr other ↦ more_steps steps n place (h place (sym (get_set_other marks step.place place true other) ∙ e))
-]
+    under : (i : ℕ) (s : Step) → (slice_get steps i ≡ Some s) ⊎ ((i ≡ length steps) × (step ≡ s)) → s.place < n + 1
+    under i s (inl a) = let b = are.below i s a in omega (arith, b)
+    under i s (inr a) = let same = ap (λ (x : Step). x.place) a.1 in omega (arith, same, here)
 
--- ---- a walk
+    each : (i : ℕ) (s : Step) → (slice_get steps i ≡ Some s) ⊎ ((i ≡ length steps) × (step ≡ s)) → IsStep g reached s
+    each i s (inl a) = are.each i s a
+    each i s (inr a) = subst (IsStep g reached) a.1 own
 
-same_stage : (g : Graph) (s t : Step) → s.place ≡ t.place → s.way ≡ t.way → stage_of g s.place s.way ≡ stage_of g t.place t.way
-same_stage g s t p w = ap (λ (x : ℕ). stage_of g x s.way) p ∙ ap (λ (x : ℕ). stage_of g t.place x) w
+    by : (place : ℕ) (level : PlainLevel) (reach : Reach) → place < n + 1 → level_of g place ≡ Some level → slice_get reached place ≡ Some (Some reach) → (place < n) ⊎ (n ≤ place)
+        → Contains (steps ++ step ∷ []) (step_to place level reach)
+    by place level reach below is at (inl less) = Contains-append_left steps (step ∷ []) (step_to place level reach) (are.all place level reach less is at)
+    by place level reach below is at (inr more) =
+        let same_place : step.place ≡ place = omega (arith, here, below, more) in
+        let same : step ≡ step_to place level reach = own.is_step ∙ same_steps step.place place own.level level own.reach reach same_place
+        (same_level g step.place place own.level level same_place own.is_level is) (same_way reached step.place place own.reach reach same_place own.is_reach at) in
+        subst (Contains (steps ++ step ∷ [])) same (Contains-push steps step)
 
-same_stages : (g : Graph) (reached : List (Option Reach)) (rough steps : List Step) → AreFilled g reached rough (length rough) steps → (number : ℕ) → stage_at g rough number ≡ stage_at g steps number
-same_stages g reached rough steps h zero = refl
-same_stages g reached rough steps h (suc i) =
-    let f : Option Step → Option Stage = λ (o : Option Step). option_and_then (λ (s : Step). stage_of g s.place s.way) o in
-    elim (cases_lt i (length steps)) [
-      | inl below ↦
-          let s = get_some steps i below in
-          let o = h.each i s.0 s.1 in
-          ap f o.1 ∙ (sym (same_stage g s.0 o.0 o.2.same_place o.2.same_way) ∙ sym (ap f s.1))
-      | inr past ↦
-          let far : length rough ≤ i = let a = h.all in omega arith in
-          ap f (slice_get_past rough i far) ∙ sym (ap f (slice_get_past steps i past))
-    ]
-
-reached_in : (g : Graph) (rough steps : List Step) → ((number : ℕ) → stage_at g rough number ≡ stage_at g steps number) → (p number total : ℕ) → IsReached g rough p number total
-    → IsReached g steps p number total
-reached_in g rough steps same p number total r = record { stage = r.stage; inner = r.inner; is_stage = sym (same number) ∙ r.is_stage; leads = r.leads; is_total = r.is_total; has_room = r.has_room }
-
-shortest_in : (g : Graph) (rough steps : List Step) → ((number : ℕ) → stage_at g rough number ≡ stage_at g steps number) → (p : ℕ) (way : Option Reach) → IsShortest g rough p way
-    → IsShortest g steps p way
-shortest_in g rough steps same p None h = λ number total r. h number total (reached_in g steps rough (λ n. sym (same n)) p number total r)
-shortest_in g rough steps same p (Some x) h =
-    (reached_in g rough steps same p x.level x.length h.0, (λ number total r. h.1 number total (reached_in g steps rough (λ n. sym (same n)) p number total r)))
-
-has_step : (g : Graph) (reached : List (Option Reach)) (rough steps : List Step) → AreFilled g reached rough (length rough) steps → (place : ℕ) (level : PlainLevel) (reach : Reach)
-    → level_of g place ≡ Some level
-    → slice_get reached place ≡ Some (Some reach) → HasPlace steps (length steps) place → Contains steps (step_to place level reach)
-has_step g reached rough steps h place level reach e f has =
-    let s = (h.each has.at has.step has.is_at).2.is_step in
-    let same : has.step ≡ step_to place level reach = s.is_step ∙ same_steps has.step.place place s.level level s.reach reach has.is_place
-    (same_level g has.step.place place s.level level has.is_place s.is_level e) (same_way reached has.step.place place s.reach reach has.is_place s.is_reach f) in
-    contains_at steps has.at (step_to place level reach) (has.is_at ∙ ap (λ (x : Step). Some x) same)
-
-pub walk_by : (g : Graph) (reached : List (Option Reach)) (rough steps : List Step) → AreShortest g rough reached → AreFilled g reached rough (length rough) steps
-    → IsOrdered step_key steps (length steps)
-    → AreComplete g reached steps → IsWalk g steps reached
-walk_by g reached rough steps short h up all =
-    let same = same_stages g reached rough steps h in
-    record {
-      each = short.each;
-      shortest = λ p way e. shortest_in g rough steps same p way (short.shortest p way e);
-      to_reached = λ i step e. (h.each i step e).2.is_step;
-      to_all = λ p level reach e f. has_step g reached rough steps h p level reach e f (all p level reach e f);
-      ordered = λ i j s t less e f. up i j s t less (slice_get_within steps j t f) e f;
-      outer_first = λ i step e. (h.each i step e).2.outer_first;
-    }
+-- the same steps in another order
+pub steps_moved : (g : Graph) (reached : List (Option Reach)) (xs ys : List Step) → AreStepsTo g reached (length reached) xs → IsPermutation xs ys → IsOrdered step_key ys (length ys)
+    → AreStepsBy g reached ys
+steps_moved g reached xs ys are moved up = record {
+  each = λ i step at.
+      let p = at_contains xs step (Contains-permutation ys xs step (IsPermutation-sym xs ys moved) (contains_at ys i step at)) in
+      are.each p.0 step p.1;
+  all = λ place level reach is at. Contains-permutation xs ys (step_to place level reach) moved (are.all place level reach (slice_get_within reached place (Some reach) at) is at);
+  ordered = λ i j s t less at_i at_j. up i j s t less (slice_get_within ys j t at_j) at_i at_j;
+}

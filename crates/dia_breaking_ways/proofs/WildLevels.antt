@@ -1,14 +1,15 @@
 -- The levels that let AVPs in through their wildcards.
-use Rattle.std.proofs.Common.{◌≡◌, ℕ, ◌+◌, ◌≤◌, Bool, true, false, List, [], ◌∷◌, ◌++◌, Some, None, sym, ap, subst, ◌∙◌, arith, inl, inr}
-use Rattle.std.specs.Prelude.{not, slice_get, Contains, MatchBool}
+use Rattle.std.proofs.Common.{◌≡◌, ℕ, ◌+◌, ◌<◌, ◌≤◌, length, Bool, true, false, List, [], ◌∷◌, ◌++◌, Some, None, sym, ap, subst, ◌∙◌, arith, inl, inr}
+use Rattle.std.specs.Prelude.{◌⊎◌, not, slice_get, Contains, MatchBool}
 use Rattle.std.specs.List.Sorted.{IsPermutation}
 use Rattle.std.proofs.lemmas.List.Sorted.{Contains-permutation, IsPermutation-sym}
 use Rattle.std.proofs.lemmas.List.Elements.{Contains-append_left, Contains-push, Contains-push_cases}
 use Rattle.std.proofs.lemmas.Bool.{cases_lt}
-use Rattle.std.proofs.lemmas.Option.{none-some, same_Some}
+use Rattle.std.proofs.lemmas.Option.{none-some, same_Some, slice_get_within}
 use Rattle.dia_breaking_ways.specs.declared.stages.Stage.{Stage as OwnStage}
 use Rattle.dia_breaking_ways.specs.declared.openings.Opening.{Opening}
-use Rattle.dia_breaking_ways.specs.Openings.{AreOpenings, opening_of, IsOpenTo, IsShutTo}
+use Rattle.dia_breaking_ways.specs.Openings.{AreNumbered, AreOpenings, opening_of, IsOpenTo, IsShutTo}
+use Rattle.dia_breaking_ways.proofs.ListedPlaces.{get_push_cases}
 
 -- ---- the openings of levels
 
@@ -63,3 +64,24 @@ is_open_by stages place level own false get h = record { own = own; is_own = get
 
 pub is_shut_past : (stages : List OwnStage) (place level : ℕ) → slice_get stages level ≡ None → IsShutTo stages place level
 is_shut_past stages place level none = λ o e. absurd (none-some o (sym none ∙ e))
+
+-- ---- openings by their levels
+
+pub numbered_past : (n : ℕ) (openings : List Opening) → AreNumbered n openings → AreNumbered (n + 1) openings
+numbered_past n openings are = record { rising = are.rising; below = λ i x at. let b = are.below i x at in omega (arith, b) }
+
+pub numbered_more : (n : ℕ) (openings : List Opening) (opening : Opening) → AreNumbered n openings → opening.level ≡ n → AreNumbered (n + 1) (openings ++ opening ∷ [])
+numbered_more n openings opening are here = record {
+  rising = λ i j x y less at_i at_j. rise i j x y less (get_push_cases openings opening i x at_i) (get_push_cases openings opening j y at_j);
+  below = λ i x at. under i x (get_push_cases openings opening i x at);
+}
+  where
+    rise : (i j : ℕ) (x y : Opening) → i < j → (slice_get openings i ≡ Some x) ⊎ ((i ≡ length openings) × (opening ≡ x)) → (slice_get openings j ≡ Some y) ⊎ ((j ≡ length openings) × (opening ≡ y)) → x.level < y.level
+    rise i j x y less (inl a) (inl b) = are.rising i j x y less a b
+    rise i j x y less (inl a) (inr b) = let low = are.below i x a in let same = ap (λ (o : Opening). o.level) b.1 in omega (arith, low, same, here)
+    rise i j x y less (inr a) (inl b) = absurd (let inside = slice_get_within openings j y b in omega (arith, inside, a.0, less))
+    rise i j x y less (inr a) (inr b) = absurd (omega (arith, a.0, b.0, less))
+
+    under : (i : ℕ) (x : Opening) → (slice_get openings i ≡ Some x) ⊎ ((i ≡ length openings) × (opening ≡ x)) → x.level < n + 1
+    under i x (inl a) = let b = are.below i x a in omega (arith, b)
+    under i x (inr a) = let same = ap (λ (o : Opening). o.level) a.1 in omega (arith, same, here)

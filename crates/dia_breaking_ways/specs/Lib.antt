@@ -4,3 +4,4 @@ pub mod Stages
 pub mod Openings
 pub mod Reached
 pub mod Steps
+pub mod Rounds

@@ -73,6 +73,15 @@ pub data Leads (nodes : List PlainNode) (exits : PlainExits) (place : ℕ) (leng
   By_wildcard : (node : PlainNode) (is_node : slice_get nodes place ≡ Some node) (unlisted : IsUnlisted exits.listed place) (is_length : length ≡ exits.beside + node.other)
       → Leads nodes exits place length
 
+-- where the start leads, or a level of the graph
+abbrev pub HasExits : Graph → PlainExits → Type 0
+HasExits graph exits = (exits ≡ graph.start) ⊎ ((place : ℕ) × (level : PlainLevel) × (level_of graph place ≡ Some level) × (exits ≡ level.exits))
+
+-- a level with an AVP is longer than the level in the AVP
+abbrev pub AreLevelsShorter : Graph → Type 0
+AreLevelsShorter graph = (exits : PlainExits) (place length : ℕ) (level : PlainLevel) → HasExits graph exits → Leads graph.nodes exits place length → level_of graph place ≡ Some level
+    → level.least < length
+
 -- in the level with a number stands an AVP of the place, in a message of a length
 pub record IsReached (graph : Graph) (steps : List Step) (place number total : ℕ) : Type 0 where
   pub stage : Stage

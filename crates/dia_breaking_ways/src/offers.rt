@@ -28,7 +28,7 @@ fn is_earlier(known: Option<Reach>, reach: Reach) -> bool
     }
 }
 
-/// Takes a way to an AVP, if there is none that is no later.
+/// Keeps a way to an AVP, unless one that is no later is kept.
 pub(crate) fn offer(best: &mut Vec<Option<Reach>>, place: usize, reach: Reach)
     ensures { IsOffered best.old.items best.new.items place reach }
 {

@@ -1,7 +1,7 @@
 //! The levels that let AVPs in through their wildcards, in the order of their lengths.
-ghost use Rattle.std.specs.Prelude.{◌↔◌, IfOk, MatchBool, IsTrue, length};
-ghost use Rattle.dia_breaking_ways.specs.Openings.{AreRising, AreOpenings, IsOrdered, IsOpenTo, IsShutTo, IsFirstOpen};
-ghost use Rattle.dia_breaking_ways.specs.Openings.{IsLess, opening_key};
+ghost use Rattle.std.specs.Prelude.{IfOk, MatchBool, length};
+ghost use Rattle.dia_breaking_ways.specs.Openings.{AreRising, AreNumbered, AreOpenings, IsOrdered, IsOpenTo, IsShutTo};
+ghost use Rattle.dia_breaking_ways.specs.Openings.{IsFirstOpen, opening_key};
 
 use crate::offers::within;
 use crate::stages::Stage;
@@ -15,16 +15,10 @@ pub(crate) struct Opening {
     pub level: usize,
 }
 
-/// Whether a number and a place come before others.
-pub(crate) fn is_less(a: u64, i: usize, b: u64, j: usize) -> bool
-    ensures { IsTrue result ↔ IsLess (a, i) (b, j) }
-{
-    a < b || (a == b && i < j)
-}
-
 /// The levels that let AVPs in through their wildcards.
 fn unordered(alloc: Global, room: u64, stages: &[Stage<'_>]) -> Result<Vec<Opening>, AllocError>
-    ensures { IfOk result (λ openings. AreOpenings room stages.now (length stages.now) openings.items) }
+    ensures rising { IfOk result (λ openings. AreNumbered (length stages.now) openings.items) }
+    ensures openings { IfOk result (λ openings. AreOpenings room stages.now (length stages.now) openings.items) }
 {
     let mut openings = Vec::new(alloc);
     for level in 0..stages.len() {
@@ -42,25 +36,12 @@ pub(crate) fn openings(
     room: u64,
     stages: &[Stage<'_>],
 ) -> Result<Vec<Opening>, AllocError>
-    ensures { IfOk result (λ openings. AreOpenings room stages.now (length stages.now) openings.items) }
+    ensures ordered { IfOk result (λ openings. IsOrdered opening_key openings.items (length openings.items)) }
+    ensures openings { IfOk result (λ openings. AreOpenings room stages.now (length stages.now) openings.items) }
 {
     let mut openings = unordered(alloc, room, stages)?;
     openings.sort_by_key(|opening| (opening.length, opening.level))?;
     Ok(openings)
-}
-
-/// Whether they are in order.
-pub(crate) fn are_ordered(openings: &[Opening]) -> bool
-    ensures { IsTrue result → IsOrdered opening_key openings.now (length openings.now) }
-{
-    for i in 1..openings.len() {
-        let before = openings[i - 1];
-        let next = openings[i];
-        if !is_less(before.length, before.level, next.length, next.level) {
-            return false;
-        }
-    }
-    true
 }
 
 /// Whether no rule of the level lists the place.

@@ -1,12 +1,12 @@
 //! The shortest way to each AVP, through levels that are known.
-ghost use Rattle.std.specs.Prelude.{IfOk, IfSome, length};
-ghost use Rattle.dia_breaking_ways.specs.Stages.{graph_in};
+ghost use Rattle.std.specs.Prelude.{IfOk, IfSome, IsSome, length};
+ghost use Rattle.dia_breaking_ways.specs.Stages.{HaveLevels, graph_in};
 ghost use Rattle.dia_breaking_ways.specs.Openings.{AreRising};
 ghost use Rattle.dia_breaking_ways.specs.Reached.{AreNone, AreListed, AreOthers, AreShortest};
 
 use crate::graph::{Node, Reach, Step, Ways};
 use crate::offers::{offer, offer_listed, within};
-use crate::openings::{Opening, are_ordered, first_open, openings};
+use crate::openings::{Opening, first_open, openings};
 use crate::stages::{Stage, stages};
 use std::alloc::{AllocError, Global};
 
@@ -60,16 +60,14 @@ pub(crate) fn shortest_ways(
     ways: Ways<'_>,
     steps: &[Step],
 ) -> Result<Option<Vec<Option<Reach>>>, AllocError>
-    ensures { IfOk result (λ found. IfSome found (λ best.
+    ensures ways { IfOk result (λ found. IfSome found (λ best.
         AreShortest (graph_in ways.entry) steps.now best.items)) }
+    ensures found { HaveLevels (graph_in ways.entry) steps.now → IfOk result (λ found. IsSome found) }
 {
     let Some(stages) = stages(alloc, ways, steps)? else {
         return Ok(None);
     };
     let openings = openings(alloc, ways.room, &stages)?;
-    if !are_ordered(&openings) {
-        return Ok(None);
-    }
     let mut best = no_ways(alloc, ways.nodes)?;
     reach_listed(ways.room, &stages, &mut best);
     reach_others(ways, &stages, &openings, &mut best);

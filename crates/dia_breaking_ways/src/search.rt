@@ -1,9 +1,9 @@
 //! A search for the levels that messages have room for, those with the shortest way first.
-//! It promises nothing: what it finds is looked through afterwards.
+//! It promises nothing: rounds go on from what it finds until nothing changes.
 use crate::graph::{Exits, Level, Step, Ways};
 use std::alloc::{AllocError, Global};
 use std::cmp::Reverse;
-use std::collections::{BinaryHeap, HashSet};
+use std::collections::{BinaryHeap, HashMap, HashSet};
 use std::mem;
 
 /// What a search comes to next. A level is named by the place of its group, or `None` for the start.
@@ -19,9 +19,9 @@ enum Event {
 #[derive(Drop)]
 struct Search<'a> {
     ways: Ways<'a>,
-    /// The length of the shortest way that is known to each AVP.
-    lengths: Vec<Option<u64>>,
-    /// The levels that were come to, with their ways. Their `outer` says nothing.
+    /// The length of the shortest way that is known to each AVP, and the group in whose level the AVP stands then.
+    nearest: Vec<Option<(u64, Option<usize>)>>,
+    /// The levels that were come to, with their ways. Their `outer` says nothing yet.
     steps: Vec<Step>,
     entered: HashSet<usize>,
     /// The places of the AVPs that no wildcard has let in yet.
@@ -31,26 +31,24 @@ struct Search<'a> {
     waiting: BinaryHeap<Reverse<(u64, usize)>>,
 }
 
-/// The levels that messages have room for, in the order of their ways, and with one way in the order of their places. What
-/// `outer` of a step holds is of no meaning.
+/// The levels that messages have room for, in the order of their ways, and with one way in the order of their places.
 pub(crate) fn search_levels(alloc: Global, ways: Ways<'_>) -> Result<Vec<Step>, AllocError> {
     let mut search = Search::new(alloc, ways)?;
     search.go_through(0, None)?;
     search.finish(alloc)?;
-    let mut steps = search.steps;
-    steps.sort_by_key(|step| (step.way, step.place))?;
-    Ok(steps)
+    search.steps.sort_by_key(|step| (step.way, step.place))?;
+    search.numbered(alloc)
 }
 
 impl<'a> Search<'a> {
     fn new(alloc: Global, ways: Ways<'a>) -> Result<Self, AllocError> {
-        let mut lengths = Vec::new(alloc);
+        let mut nearest = Vec::new(alloc);
         for _ in ways.nodes {
-            lengths.push(None)?;
+            nearest.push(None)?;
         }
         Ok(Search {
             ways,
-            lengths,
+            nearest,
             steps: Vec::new(alloc),
             entered: HashSet::new(alloc),
             rest: (0..ways.nodes.len()).collect(alloc)?,
@@ -72,6 +70,27 @@ impl<'a> Search<'a> {
             }
         }
         Ok(())
+    }
+
+    /// The steps, each with the number of the level round its own.
+    fn numbered(&self, alloc: Global) -> Result<Vec<Step>, AllocError> {
+        let mut numbers = HashMap::new(alloc);
+        let mut steps = Vec::new(alloc);
+        for (number, step) in self.steps.iter().enumerate() {
+            numbers.insert(step.place, number.saturating_add(1))?;
+        }
+        for step in &self.steps {
+            let outer = self.outer_of(step.place, &numbers);
+            steps.push(Step { outer, ..*step })?;
+        }
+        Ok(steps)
+    }
+
+    fn outer_of(&self, place: usize, numbers: &HashMap<usize, usize>) -> usize {
+        match self.nearest.get(place) {
+            Some(Some((_, Some(group)))) => numbers.get(group).copied().unwrap_or(0),
+            _ => 0,
+        }
     }
 
     /// Lets an event come at a length, if a message has room for it.
@@ -102,7 +121,7 @@ impl<'a> Search<'a> {
             return Ok(());
         };
         for (place, length) in &exits.listed {
-            self.come_to(*place, way.saturating_add(*length))?;
+            self.come_to(*place, way.saturating_add(*length), group)?;
         }
         self.expect(way.saturating_add(exits.beside), Event::Open(group))
     }
@@ -119,9 +138,14 @@ impl<'a> Search<'a> {
         nodes.get(place)?.level.as_ref()
     }
 
-    /// Comes to an AVP, if a message has room for it there, and leads into its group.
-    fn come_to(&mut self, place: usize, length: u64) -> Result<(), AllocError> {
-        if self.ways.room < length || !self.is_nearer(place, length) {
+    /// Comes to an AVP in the level of a group, if a message has room for it there, and leads into its own level.
+    fn come_to(
+        &mut self,
+        place: usize,
+        length: u64,
+        group: Option<usize>,
+    ) -> Result<(), AllocError> {
+        if self.ways.room < length || !self.is_nearer(place, length, group) {
             return Ok(());
         }
         match self.level_of(place) {
@@ -131,16 +155,16 @@ impl<'a> Search<'a> {
     }
 
     /// Whether a way to the AVP is shorter than what was known. It is then known.
-    fn is_nearer(&mut self, place: usize, length: u64) -> bool {
-        let Some(known) = self.lengths.get_mut(place) else {
+    fn is_nearer(&mut self, place: usize, length: u64, group: Option<usize>) -> bool {
+        let Some(known) = self.nearest.get_mut(place) else {
             return false;
         };
         let is_nearer = match *known {
-            Some(other) => length < other,
+            Some((other, _)) => length < other,
             None => true,
         };
         if is_nearer {
-            *known = Some(length);
+            *known = Some((length, group));
         }
         is_nearer
     }
@@ -156,7 +180,7 @@ impl<'a> Search<'a> {
             if listed.contains(place) {
                 self.rest.push(*place)?;
             } else {
-                self.come_to_other(*place, length)?;
+                self.come_to_other(*place, length, group)?;
             }
         }
         Ok(())
@@ -174,10 +198,15 @@ impl<'a> Search<'a> {
     }
 
     /// Comes to an AVP that a wildcard lets in.
-    fn come_to_other(&mut self, place: usize, beside: u64) -> Result<(), AllocError> {
+    fn come_to_other(
+        &mut self,
+        place: usize,
+        beside: u64,
+        group: Option<usize>,
+    ) -> Result<(), AllocError> {
         let nodes = self.ways.nodes;
         match nodes.get(place) {
-            Some(node) => self.come_to(place, beside.saturating_add(node.other)),
+            Some(node) => self.come_to(place, beside.saturating_add(node.other), group),
             None => Ok(()),
         }
     }

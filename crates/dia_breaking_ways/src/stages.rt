@@ -1,8 +1,8 @@
 //! The levels of a message, by their numbers.
-ghost use Rattle.std.specs.Prelude.{IfOk, IfSome, MatchBool, Contains, length};
+ghost use Rattle.std.specs.Prelude.{◌≡◌, IfOk, IfSome, IsSome, None, MatchBool, Contains, length};
 ghost use Rattle.std.specs.List.Sorted.{IsNonDecreasing};
-ghost use Rattle.dia_breaking_ways.specs.Walks.{stage_of, plain_exits};
-ghost use Rattle.dia_breaking_ways.specs.Stages.{graph_in, HasPlaces, IsStage, AreStages};
+ghost use Rattle.dia_breaking_ways.specs.Walks.{level_of, plain_exits, stage_of};
+ghost use Rattle.dia_breaking_ways.specs.Stages.{graph_in, HasPlaces, HaveLevels, IsStage, AreStages};
 
 use crate::graph::{Exits, Step, Ways};
 use std::alloc::{AllocError, Global};
@@ -48,8 +48,9 @@ impl<'a> Stage<'a> {
 
 /// The level of a step's group, at the end of its way.
 fn stage_of<'a>(alloc: Global, ways: Ways<'a>, step: Step) -> Result<Option<Stage<'a>>, AllocError>
-    ensures { IfOk result (λ found. IfSome found (λ stage.
+    ensures stage { IfOk result (λ found. IfSome found (λ stage.
         IsStage (stage_of (graph_in ways.entry) step.place step.way) stage)) }
+    ensures found { IfOk result (λ found. found ≡ None → level_of (graph_in ways.entry) step.place ≡ None) }
 {
     let Some(node) = ways.nodes.get(step.place) else {
         return Ok(None);
@@ -66,8 +67,9 @@ pub(crate) fn stages<'a>(
     ways: Ways<'a>,
     steps: &[Step],
 ) -> Result<Option<Vec<Stage<'a>>>, AllocError>
-    ensures { IfOk result (λ found. IfSome found (λ stages.
+    ensures stages { IfOk result (λ found. IfSome found (λ stages.
         AreStages (graph_in ways.entry) steps.now (length steps.now) stages.items)) }
+    ensures found { HaveLevels (graph_in ways.entry) steps.now → IfOk result (λ found. IsSome found) }
 {
     let mut stages = Vec::new(alloc);
     stages.push(Stage::new(alloc, 0, ways.start)?)?;
