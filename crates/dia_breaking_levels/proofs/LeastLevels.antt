@@ -1,6 +1,6 @@
 -- The plan of a level is placed, and no keys that are placed cost less.
 use Rattle.std.proofs.Common.{◌≡◌, ◌≢◌, ℕ, zero, suc, ◌+◌, ◌<◌, ◌≤◌, Bool, true, false, cond, List, [], ◌∷◌, ◌++◌, length, filter, Option, Some, None, refl, sym, ap, subst, ◌∙◌, append_assoc, arith, inl, inr}
-use Rattle.std.specs.Prelude.{◌⊎◌, not, max, min, ◌&&◌, ◌||◌, IsTrue, IsSome, IfSome, is_some, count_by, if◌then◌else◌, Contains, ⊤}
+use Rattle.std.specs.Prelude.{◌⊎◌, not, ◌&&◌, ◌||◌, IsTrue, IsSome, IfSome, is_some, count_by, if◌then◌else◌, Contains, ⊤}
 use Rattle.std.specs.Option.{option_map_or}
 use Rattle.std.specs.List.{list_all, list_any}
 use Rattle.std.proofs.lemmas.Bool.{false_from_ne_true}

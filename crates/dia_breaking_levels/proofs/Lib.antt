@@ -24,3 +24,7 @@ pub mod AloneBounds
 pub mod Places
 pub mod LeastNodes
 pub mod OfferedKeys
+pub mod PartsOfLevels
+pub mod CutsOfSteps
+pub mod Demands
+pub mod OneLineLevel

@@ -119,7 +119,7 @@ cut c wanted sum (s ∷ steps) rises = by (nat_le wanted s.count) refl (cut s.le
     by true e ih = cut_here c wanted sum s steps rises (leb-true wanted s.count e)
     by false e ih = let less = leb-false wanted s.count e in cut_later c wanted sum s steps rises (omega (arith, less)) ih
 
-rises_from : (c : ℕ) (steps : List Step) → ((i : ℕ) (d : Step) → i < length steps → c ≤ (slice_index_or steps i d).length) → IsNonDecreasingBy (λ (s : Step). s.length) steps → Rises c steps
+pub rises_from : (c : ℕ) (steps : List Step) → ((i : ℕ) (d : Step) → i < length steps → c ≤ (slice_index_or steps i d).length) → IsNonDecreasingBy (λ (s : Step). s.length) steps → Rises c steps
 rises_from c [] low up = tt
 rises_from c (s ∷ steps) low up = (
   low 0 s (omega arith),

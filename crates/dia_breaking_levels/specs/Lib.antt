@@ -1,4 +1,6 @@
+pub mod Chosen
 pub mod CountsAndRanks
+pub mod Cuts
 pub mod Breaches
 pub mod LeastLevels
 pub mod Orders

@@ -1,11 +1,11 @@
 //! The least level of a definition of A that is read by one of B, and the shortest AVPs that its wildcard lets in.
-ghost use Rattle.std.specs.Prelude.{◌≡◌, ◌==◌, min, find, option_and_then, None};
+ghost use Rattle.std.specs.Prelude.{◌≡◌, ◌==◌, min, nat_lt, if◌then◌else◌, find, option_and_then, None};
 ghost use Rattle.std.specs.Option.{option_map_or};
 ghost use Rattle.dia_check.specs.Valid.{has_wildcard};
 ghost use Rattle.dia_rules.specs.Rules.{rules_in, wildcard_of};
 ghost use Rattle.dia_breaking_levels.specs.Strangers.{needs};
 ghost use Rattle.dia_breaking_levels.specs.LevelTests.{inner_length, cheapest, outer_length};
-ghost use Rattle.dia_breaking_levels.specs.LevelTests.{is_outside, base_length, needed_up};
+ghost use Rattle.dia_breaking_levels.specs.LevelTests.{is_outside, base_length, needed_up, too_long};
 
 use crate::costs::Costs;
 use crate::lengths::{TOO_LONG, capped, many};
@@ -58,7 +58,7 @@ pub(crate) fn floor_of<A: Book, B: Book, C: Costs>(
     ensures lets_in { result.lets_in ≡ has_wildcard (rules_in (B.meaning b.now.book.now) b.now.def) }
 {
     let inner = cheapest(a, b.list(), costs, None);
-    let first = first_key(a, b.list(), costs, inner);
+    let first = first_key(a, b.list(), costs, None, inner);
     let outer = outer_length(a, b, costs);
     Floor {
         base: base_length(costs, inner.min(outer), a.list()),
@@ -72,18 +72,19 @@ pub(crate) fn floor_of<A: Book, B: Book, C: Costs>(
     }
 }
 
-/// The key of the first rule whose AVP has this length by the wildcard of `a`.
+/// The key of the first rule whose AVP has this length by the wildcard of `a`, and isn't left out.
 fn first_key<A: Book, C: Costs>(
     a: &Rules<'_, A>,
     rules: &[DRule],
     costs: &C,
+    except: Option<Key>,
     length: u64,
 ) -> Option<Key>
     ensures { result ≡ option_and_then (λ r. r.key) (find (λ r. inner_length
-        (C.other_length costs.now) (rules_in (A.meaning a.now.book.now) a.now.def) None r == length)
+        (C.other_length costs.now) (rules_in (A.meaning a.now.book.now) a.now.def) except r == length)
         rules.now) }
 {
-    match first_rule(a, rules, costs, length) {
+    match first_rule(a, rules, costs, except, length) {
         Some(rule) => rule.key,
         None => None,
     }
@@ -93,36 +94,34 @@ fn first_rule<A: Book, C: Costs>(
     a: &Rules<'_, A>,
     rules: &[DRule],
     costs: &C,
+    except: Option<Key>,
     length: u64,
 ) -> Option<DRule>
     ensures { result ≡ find (λ r. inner_length
-        (C.other_length costs.now) (rules_in (A.meaning a.now.book.now) a.now.def) None r == length)
+        (C.other_length costs.now) (rules_in (A.meaning a.now.book.now) a.now.def) except r == length)
         rules.now }
 {
     rules
         .iter()
         .copied()
-        .find(|rule| inner_length(a, costs, None, rule) == length)
+        .find(|rule| inner_length(a, costs, except, rule) == length)
 }
 
-/// The key of the first rule whose AVP has this length by the wildcard of `a`, and isn't left out.
+/// The same, where a message has room for such an AVP.
 pub(crate) fn inner_key<A: Book, C: Costs>(
     a: &Rules<'_, A>,
     rules: &[DRule],
     costs: &C,
     except: Option<Key>,
     length: u64,
-) -> Option<Key> {
-    if length >= TOO_LONG {
-        return None;
-    }
-    match rules
-        .iter()
-        .copied()
-        .find(|rule| inner_length(a, costs, except, rule) == length)
-    {
-        Some(rule) => rule.key,
-        None => None,
+) -> Option<Key>
+    ensures { result ≡ (if nat_lt length too_long then option_and_then (λ r. r.key) (find (λ r. inner_length
+        (C.other_length costs.now) (rules_in (A.meaning a.now.book.now) a.now.def) except r == length) rules.now) else None) }
+{
+    if length < TOO_LONG {
+        first_key(a, rules, costs, except, length)
+    } else {
+        None
     }
 }
 

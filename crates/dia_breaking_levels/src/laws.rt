@@ -1,6 +1,7 @@
 //! What holds of the levels of definitions: by it a level is looked at as counts of keys and one order.
 ghost use Rattle.dia_breaking_levels.specs.Laws.{DefinitionsAreSound, PlacedIsInPlace, PlacedOrBreach};
 ghost use Rattle.dia_breaking_levels.specs.Laws.{BreachIsUnplaced, PlanIsPlaced, PlanIsLeast, OnceIsLeast};
+ghost use Rattle.dia_breaking_levels.specs.Chosen.{LineLevelsAreOne};
 ghost use Rattle.dia_breaking_levels.specs.Laws.{LinesAreOne};
 
 /// The rules of a dictionary's definitions are as the other laws want them.
@@ -33,4 +34,9 @@ pub fn once_is_least()
 /// The lines of two definitions are one list: their order, their lengths, and which key each is told with.
 pub fn lines_are_one()
     ensures { LinesAreOne }
+{}
+
+/// The level that is written for a line is one: which AVPs it has, and their order.
+pub fn line_levels_are_one()
+    ensures { LineLevelsAreOne }
 {}

@@ -1,8 +1,9 @@
 //! Least levels, AVP by AVP.
-ghost use Rattle.std.specs.Prelude.{◌≡◌, ◌<◌, length, not, find};
+ghost use Rattle.std.specs.Prelude.{◌≡◌, ◌<◌, IfOk, length, not, find};
 ghost use Rattle.dia_book.specs.Dictionary.{definitions};
 ghost use Rattle.dia_check.specs.Valid.{is_listed};
 ghost use Rattle.dia_rules.specs.Rules.{rules_in};
+ghost use Rattle.dia_breaking_levels.specs.Chosen.{IsLineLevel, least_parts, parts_with, reads_between};
 ghost use Rattle.dia_breaking_levels.specs.LevelTests.{price, least_filler, least_length, length_once};
 ghost use Rattle.dia_breaking_levels.specs.Levels.{OtherIsShortest, IsWithinAll, IsWithinAllWith};
 
@@ -29,6 +30,10 @@ pub fn line_level<A: Book, B: Book, C: Costs>(
 ) -> Result<Vec<Part>, AllocError>
     requires first { a_def < length (definitions (A.meaning a.now)) }
     requires second { b_def < length (definitions (B.meaning b.now)) }
+    ensures { IfOk result (λ parts. IsLineLevel
+        (reads_between (rules_in (A.meaning a.now) a_def) (rules_in (B.meaning b.now) b_def)
+        (C.listed_length costs.now) (C.other_length costs.now) (C.other_keys costs.now))
+        line.now parts.items) }
 {
     let a = Rules {
         book: a,
@@ -40,7 +45,7 @@ pub fn line_level<A: Book, B: Book, C: Costs>(
     };
     let floor = floor_of(&a, &b, costs);
     let demand = demand_of_line(alloc, &a, &b, costs, &floor, line)?;
-    level_parts(alloc, a.list(), &demand)
+    level_parts(alloc, &a, &demand)
 }
 
 /// The key of a shortest AVP by the wildcard.
@@ -127,13 +132,15 @@ pub fn level_least<A: Book, C: Costs>(
     costs: &C,
 ) -> Result<Vec<Part>, AllocError>
     requires { a_def < length (definitions (A.meaning a.now)) }
+    ensures { IfOk result (λ parts. parts.items
+        ≡ least_parts (C.other_keys costs.now) (rules_in (A.meaning a.now) a_def)) }
 {
     let a = Rules {
         book: a,
         def: a_def,
     };
     let demand = demand_of(alloc, None, None, filler_key(&a, costs));
-    level_parts(alloc, a.list(), &demand)
+    level_parts(alloc, &a, &demand)
 }
 
 /// The AVPs of a least level of a definition in which the key stands once or more, in their order.
@@ -145,6 +152,8 @@ pub fn level_with<A: Book, C: Costs>(
     key: Key,
 ) -> Result<Vec<Part>, AllocError>
     requires { a_def < length (definitions (A.meaning a.now)) }
+    ensures { IfOk result (λ parts. parts.items
+        ≡ parts_with (C.other_keys costs.now) (rules_in (A.meaning a.now) a_def) key) }
 {
     let a = Rules {
         book: a,
@@ -152,5 +161,5 @@ pub fn level_with<A: Book, C: Costs>(
     };
     let first = Some(Wanted { key, count: 1 });
     let demand = demand_of(alloc, first, None, filler_key(&a, costs));
-    level_parts(alloc, a.list(), &demand)
+    level_parts(alloc, &a, &demand)
 }

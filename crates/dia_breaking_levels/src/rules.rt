@@ -86,7 +86,7 @@ impl<'a, B: Book> Rules<'a, B> {
     }
 }
 
-fn rule_at(rules: &[DRule], index: usize) -> Option<DRule>
+pub(crate) fn rule_at(rules: &[DRule], index: usize) -> Option<DRule>
     ensures { result ≡ slice_get rules.now index }
 {
     rules.get(index).copied()

@@ -1,13 +1,17 @@
 pub mod AboveLengths
 pub mod AttainedLengths
+pub mod BytesInParts
 pub mod BytesOfAvps
 pub mod ExactLengths
 pub mod FloorsOfAvps
 pub mod FloorsOfLengths
+pub mod LeafData
 pub mod LeafLengths
 pub mod LessLengths
 pub mod LessLevels
+pub mod MandatoryFlags
 pub mod OneSolution
 pub mod ShortestAvps
 pub mod ShortestLevels
 pub mod Strangers
+pub mod WaitingAvps

@@ -1,6 +1,7 @@
 //! The least lengths of the AVPs that a side sends, as a least fixed point.
 ghost use Rattle.std.specs.Prelude.{◌≡◌, ◌<◌, ℕ, nat_lt, false, length, IfSome, IfOk};
 ghost use Rattle.std.specs.Prelude.{slice_get, slice_set, if◌then◌else◌};
+ghost use Rattle.dia_breaking_shortest.specs.Kept.{AreData, AreDataOf};
 ghost use Rattle.dia_breaking_shortest.specs.Lengths.{IsLeafLength, entry_length};
 ghost use Rattle.dia_breaking_shortest.specs.Exact.{AreExact, AreSpellable};
 ghost use Rattle.dia_breaking_shortest.specs.Floors.{AreFloors, IsSpellable};
@@ -13,7 +14,7 @@ use crate::lookup::Least;
 use crate::order::{Ranked, group_of};
 use crate::search::search;
 use dia_book::{Book, Entry, Key};
-use dia_breaking_data::shortest;
+use dia_breaking_data::{Witness, shortest};
 use dia_breaking_levels::TOO_LONG;
 use dia_policy::Sends;
 use std::alloc::{AllocError, Global};
@@ -32,11 +33,31 @@ pub fn least_lengths<B: Book>(alloc: Global, book: &B, sends: Sends) -> Result<L
     ensures exact { IfOk result (λ least. AreExact (B.meaning book.now) sends
         least.lengths.items) }
     ensures spelled { IfOk result (λ least. AreSpellable (B.meaning book.now)) }
+    ensures leaf_data { IfOk result (λ least. AreData (B.meaning book.now) least.leaf_data.items) }
 {
     let least = leaves(alloc, book, sends)?;
     let least = search(alloc, book, least)?;
     let least = settled(alloc, book, least)?;
-    Ok(least)
+    let leaf_data = all_data(alloc, book)?;
+    Ok(Least { leaf_data, ..least })
+}
+
+/// Shortest data of each entry as a leaf, where there are any.
+fn all_data<B: Book>(alloc: Global, book: &B) -> Result<Vec<Option<Witness>>, AllocError>
+    ensures { IfOk result (λ all. AreData (B.meaning book.now) all.items) }
+{
+    let mut found = Vec::new(alloc);
+    for index in 0..book.entries() {
+        found.push(leaf_data(book, book.entry_at(index)))?;
+    }
+    Ok(found)
+}
+
+fn leaf_data<B: Book>(book: &B, entry: Entry) -> Option<Witness>
+    requires { entry < length (B.meaning book.now).entries }
+    ensures { IfSome (slice_get (B.meaning book.now).entries entry) (λ e. AreDataOf e result) }
+{
+    shortest(book.format(entry))
 }
 
 /// The lengths that no group's least level makes less.
@@ -72,6 +93,7 @@ fn leaves<B: Book>(alloc: Global, book: &B, sends: Sends) -> Result<Least, Alloc
         unknown: unknown_key(book),
         lengths,
         fillers,
+        leaf_data: Vec::new(alloc),
     })
 }
 

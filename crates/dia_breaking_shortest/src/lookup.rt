@@ -4,6 +4,7 @@ ghost use Rattle.std.specs.Option.{option_map_or};
 ghost use Rattle.dia_book.specs.Dictionary.{definitions};
 ghost use Rattle.dia_rules.specs.Rules.{rules_in};
 ghost use Rattle.dia_breaking_levels.specs.LevelTests.{base_length};
+ghost use Rattle.dia_breaking_shortest.specs.Kept.{kept_at};
 ghost use Rattle.dia_breaking_shortest.specs.Lengths.{IsOrder, entry_length, filler_of, filler_length};
 ghost use Rattle.dia_breaking_shortest.specs.Lengths.{group_length};
 ghost use Rattle.dia_breaking_shortest.specs.Lengths.{length_of, rank, unknown_length};
@@ -11,6 +12,7 @@ ghost use Rattle.dia_breaking_shortest.specs.Lengths.{length_of, rank, unknown_l
 use crate::lengths::{capped, many, padded, shortest_head};
 use crate::order::{Ranked, first_unlisted, rules_of};
 use dia_book::{Book, DRule, DefId, Entry, Key};
+use dia_breaking_data::Witness;
 use dia_breaking_levels::TOO_LONG;
 use dia_policy::Sends;
 use std::alloc::{AllocError, Global};
@@ -25,6 +27,8 @@ pub struct Least {
     pub lengths: Vec<u64>,
     /// For each group the key that its wildcard's least count is met with.
     pub fillers: Vec<Option<Key>>,
+    /// For each leaf shortest data of its format, if it has any.
+    pub leaf_data: Vec<Option<Witness>>,
 }
 
 impl Least {
@@ -39,9 +43,21 @@ impl Least {
     }
 
     /// The key that the wildcard's least count of a group is met with.
-    pub(crate) fn filler_at(&self, entry: Entry) -> Option<Key> {
+    pub(crate) fn filler_at(&self, entry: Entry) -> Option<Key>
+        ensures { result ≡ kept_at self.now.fillers.items entry }
+    {
         match self.fillers.get(entry.index()) {
             Some(filler) => *filler,
+            None => None,
+        }
+    }
+
+    /// The data that are kept for a leaf.
+    pub(crate) fn data_at(&self, entry: Entry) -> Option<Witness>
+        ensures { result ≡ kept_at self.now.leaf_data.items entry }
+    {
+        match self.leaf_data.get(entry.index()) {
+            Some(found) => *found,
             None => None,
         }
     }

@@ -29,7 +29,7 @@ returns-clause-kept g c =
     let done : c.loop-index.index ≡ length d.entries = omega (arith, c.loop-index-test.false, c.entries-index-end.ensures.count, c.loop-index.auto.index-end) in
     let size = c.loop-index.invariant.0 in
     let fillers = c.loop-index.invariant.1 in
-    leaves_kept d (record { sends = c.args.sends; unknown = c.unknown_key.result; lengths = c.loop-index.lengths; fillers = c.loop-index.fillers })
+    leaves_kept d (record { sends = c.args.sends; unknown = c.unknown_key.result; lengths = c.loop-index.lengths; fillers = c.loop-index.fillers; leaf_data = c.new.result })
     (g.met.B.Book.sound c.args.book.now) (omega (arith, size, done)) (omega (arith, fillers, done)) c.unknown_key.ensures
     (λ e entry within at. c.loop-index.invariant.2 e entry (omega (arith, within, done)) at)
 
