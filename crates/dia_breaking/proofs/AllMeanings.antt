@@ -1,23 +1,20 @@
 -- The meanings that are found are all.
-use Rattle.std.proofs.Common.{◌≡◌, ℕ, zero, suc, ◌-◌, ◌<◌, ◌≤◌, Bool, true, false, List, [], ◌∷◌, ◌++◌, length, map, Option, Some, None, refl, sym, ap, subst, ◌∙◌, arith, inl, inr}
-use Rattle.std.specs.Prelude.{◌⊎◌, ◌==◌, nat_le, is_some, IsSome, Contains, filter, position, slice_get, option_and_then, option_to_list, unwrap_or, if◌then◌else◌}
+use Rattle.std.proofs.Common.{◌≡◌, ℕ, zero, suc, ◌-◌, ◌<◌, ◌≤◌, Bool, true, List, [], ◌∷◌, ◌++◌, length, map, Option, Some, None, refl, sym, ap, subst, ◌∙◌, arith, inl, inr}
+use Rattle.std.specs.Prelude.{◌⊎◌, ◌==◌, is_some, IsSome, Contains, slice_get, option_and_then, option_to_list, unwrap_or, if◌then◌else◌}
 use Rattle.std.specs.Option.{option_map, option_map_or}
-use Rattle.std.proofs.lemmas.Bool.{both_ways, cases_order, eq-eqb, le-leb}
+use Rattle.std.proofs.lemmas.Bool.{cases_order, eq-eqb, le-leb}
 use Rattle.std.proofs.lemmas.Option.{none-some, same_Some, slice_get_within}
 use Rattle.dia_wire.specs.declared.Key.{Key}
 use Rattle.dia_wire.specs.Wire.{PlainAvp, key_of}
-use Rattle.dia_data.specs.Plain.{PlainFormat}
 use Rattle.dia_book.specs.declared.DRule.{DRule}
-use Rattle.dia_book.specs.Dictionary.{Dictionary, DictEntry, PlainDefinition, IsDictionary, definitions, entry_of}
+use Rattle.dia_book.specs.Dictionary.{Dictionary, DictEntry, PlainDefinition, IsDictionary, entry_of}
 use Rattle.dia_book.proofs.Members.{at_filter_map, at_map, into_map, position-is_some}
 use Rattle.dia_policy.specs.declared.Unknown.{Unknown}
 use Rattle.dia_policy.specs.declared.Sends.{Sends}
-use Rattle.dia_check.specs.Valid.{known}
 use Rattle.dia_rules.specs.Rules.{rules_in}
-use Rattle.dia_rules.proofs.Members.{IsIn, all_of, at_in, contains_in, in_append, in_at, in_contains, in_filter, in_left, in_right, into_filter}
-use Rattle.dia_breaking_sites.specs.Sent.{IsSent}
+use Rattle.dia_rules.proofs.Members.{IsIn, all_of, at_in, in_append, in_at, in_contains, in_filter, in_left, in_right, into_filter}
 use Rattle.dia_breaking_sites.specs.Selection.{max_body}
-use Rattle.dia_breaking_shortest.specs.Floors.{AreFloors, total}
+use Rattle.dia_breaking_shortest.specs.Floors.{AreFloors}
 use Rattle.dia_breaking_ways.specs.Walks.{IsWalk, plain_exits}
 use Rattle.dia_breaking_ways.specs.declared.graph.Step.{Step}
 use Rattle.dia_breaking_ways.specs.declared.graph.Reach.{Reach}
@@ -35,24 +32,20 @@ use Rattle.dia_breaking.specs.Exits.{AreExits, AreOutlooks}
 use Rattle.dia_breaking.specs.Headers.{IsCommandPlace}
 use Rattle.dia_breaking.specs.Lengths.{costs_by}
 use Rattle.dia_breaking.specs.LevelCosts.{PicksShortest}
-use Rattle.dia_breaking.specs.Listing.{Told, Basis, AreMeanings, IsWalkFrom, not_shown, unchecked, basis_of, own_cause, own_line, own_lines, reach_at, reached_line, sites_of, start_of, subject, tells, with_room}
-use Rattle.dia_breaking.specs.Confirmed.{told_of}
+use Rattle.dia_breaking.specs.Listing.{Told, Basis, AreMeanings, IsWalkFrom, basis_of, own_cause, own_line, own_lines, reach_at, reached_line, sites_of, start_of, subject, tells, with_room}
 use Rattle.dia_breaking.specs.Meanings.{IsReadAsOther}
-use Rattle.dia_breaking.specs.Mended.{IsAllTold}
 use Rattle.dia_breaking.specs.Orders.{IsInOrderOf, joined, of_each}
 use Rattle.dia_breaking.specs.OwnBreaks.{AreOwnBreaks, IsOwnBreaks}
 use Rattle.dia_breaking.specs.Sites.{command_sites, group_site, group_sites, site_number}
 use Rattle.dia_breaking.specs.Telling.{IsExactTelling}
 use Rattle.dia_breaking.specs.TheLines.{AreFacts, Facts, IsStartOf, costs_in}
-use Rattle.dia_breaking.specs.TheMeanings.{AreAllMeanings, complete, unshown, AreMeant, HoldsOfLevels, IsMeant, IsReadAsSent}
-use Rattle.dia_breaking.specs.Words.{format_in}
+use Rattle.dia_breaking.specs.TheMeanings.{AreMeant, HoldsOfLevels, IsMeant, IsReadAsSent}
 use Rattle.dia_breaking.specs.Sides.{sides, answer}
 use Rattle.dia_breaking.proofs.ClosedSites.{sent_keys}
-use Rattle.dia_breaking.proofs.Lists.{contains_at, same_image}
+use Rattle.dia_breaking.proofs.Lists.{contains_at}
 use Rattle.dia_breaking.proofs.ReadLevels.{AtLevel, each_level, way_of}
 use Rattle.dia_breaking.proofs.Reached.{Kept, listed, other_kept}
 use Rattle.dia_breaking.proofs.Shortest.{first_is_shortest}
-use Rattle.dia_breaking.proofs.ToldLists.{told_kept}
 use Rattle.dia_breaking.proofs.TooLong.{body_bytes, body_within}
 
 -- ---- lists
@@ -223,38 +216,6 @@ module _ (da db : Dictionary) (who : Sends) (u : Unknown) (made : Facts) (start 
           sent = sent.sent;
         };
       }
-
--- ---- what is told stays so
-
-same_unproved : (cause : Cause) → subject cause ≡ causes.Unproved → cause ≡ causes.Unproved
-same_unproved (causes.Format own found) e = absurd (let bad : causes.Format own None ≡ causes.Unproved = e in cc)
-same_unproved (causes.LevelAsLeaf own) e = absurd (let bad : causes.Format own None ≡ causes.Unproved = e in cc)
-same_unproved causes.Command e = e
-same_unproved causes.Application e = e
-same_unproved (causes.Proxiable set) e = e
-same_unproved (causes.Level line) e = e
-same_unproved (causes.Unknown own m) e = e
-same_unproved (causes.MBit own m) e = e
-same_unproved (causes.Meaning own) e = e
-same_unproved causes.Unproved e = e
-
--- where a single line tells that nothing is shown, it isn't all told
-not_all_told : (lines : List Line) → map tells lines ≡ not_shown ∷ [] → IsAllTold lines → ⊥
-not_all_told lines is told =
-    let (line, at, same) = at_map tells lines 0 not_shown (ap (λ (xs : List Told). slice_get xs 0) is) in
-    told line (contains_at lines 0 line at) (same_unproved line.cause (ap (λ (t : Told). t.cause) same))
-
-pub all_told : (new old : List Line) → map unchecked new ≡ map unchecked old → IsAllTold new → IsAllTold old
-all_told new old same told line inside is =
-    let (other, there, alike) = same_image told_of old new line (sym (told_kept new old same)) inside in
-    told other there (ap (λ (p : ℕ × Cause). p.1) alike ∙ is)
-
-pub meant_found : (da db : Dictionary) (who : Sends) (u : Unknown) (made : Facts) (start : Start) (c : ℕ) (sites : List Site) (lines meanings : List Line) → IsDictionary da → IsDictionary db
-    → AreFacts (sides da db who u) made → AreFloors da who (costs_in (sides da db who u) made).listed → IsStartOf da db made.telling (costs_in (sides da db who u) made) c start
-    → AreAllMeanings (AreMeanings db (basis_of start made.own made.outlooks) sites) lines meanings → IsAllTold lines
-    → HoldsOfLevels (sides da db who u) (answer c sites lines) (AreMeant (sides da db who u) meanings)
-meant_found da db who u made start c sites lines meanings sa sb facts floors is_start (complete listing) told = all_meant da db who u made start c sites lines meanings sa sb facts floors is_start listing
-meant_found da db who u made start c sites lines meanings sa sb facts floors is_start (unshown is none) told = absurd (not_all_told lines is told)
 
 -- where none is told, none is read so
 pub none_meant : (da db : Dictionary) (who : Sends) (u : Unknown) (c : ℕ) (sites : List Site) (lines meanings : List Line) → meanings ≡ []

@@ -12,8 +12,8 @@ use Rattle.dia_breaking.specs.declared.line.Site.{Site}
 use Rattle.dia_breaking.specs.declared.start.Start.{Start}
 use Rattle.dia_breaking.specs.Headers.{HasHead, head_in}
 use Rattle.dia_breaking.specs.Listing.{Told, Listed, AreMeanings, IsListing, IsListingOf, basis_of, lines_of, meanings_of, new_line, tells, unchecked}
-use Rattle.dia_breaking.specs.TheLines.{Facts, AreAllOrUnproved, exact, added, alone, AreKnown, AreLinesOrUnproved, AreListedFor, IsStartOf, costs_in}
-use Rattle.dia_breaking.specs.TheMeanings.{AreAllMeanings, complete, unshown, AreMeaningsOrUnproved}
+use Rattle.dia_breaking.specs.TheLines.{Facts, AreAllOrUnproved, exact, added, AreKnown, AreLinesOrUnproved, AreListedFor, IsStartOf, costs_in}
+use Rattle.dia_breaking.specs.TheMeanings.{AreMeaningsOf}
 use Rattle.dia_breaking.specs.Words.{head_at}
 use Rattle.dia_breaking.specs.Sides.{Sides, answer}
 use Rattle.dia_breaking.proofs.ToldLists.{tells_kept}
@@ -30,18 +30,16 @@ none_there {X} P o none = subst (λ (r : Option X). IfSome r P) (sym none) tt
 
 -- with a line more, where something isn't shown
 pub with_unproved : (IsAll : List Site → List Told → Type 0) (sites more : List Site) (found lines : List Line) → more ≡ sites → (lines ≡ found) ⊎ (lines ≡ found ++ new_line 0 causes.Unproved 0 ∷ [])
-    → IsAll sites (map tells found) → AreAllOrUnproved (IsAll more) more lines
+    → IsAll sites (map tells found) → AreAllOrUnproved (IsAll more) lines
 with_unproved IsAll sites more found lines at (inl same) all =
     exact (subst (λ (s : List Site). IsAll s (map tells lines)) (sym at) (subst (λ (ls : List Line). IsAll sites (map tells ls)) (sym same) all))
 with_unproved IsAll sites more found lines at (inr adds) all =
     added (map tells found) (subst (λ (s : List Site). IsAll s (map tells found)) (sym at) all) (ap (map tells) adds ∙ map-append tells found (new_line 0 causes.Unproved 0 ∷ []))
 
 -- they stay so, where only what is known of lines changes
-pub lines_kept : (IsAll : List Told → Type 0) (sites : List Site) (old new : List Line) → map unchecked new ≡ map unchecked old
-    → AreAllOrUnproved IsAll sites old → AreAllOrUnproved IsAll sites new
-lines_kept IsAll sites old new same (exact all) = exact (subst IsAll (sym (tells_kept new old same)) all)
-lines_kept IsAll sites old new same (added told all is) = added told all (tells_kept new old same ∙ is)
-lines_kept IsAll sites old new same (alone read is) = alone read (tells_kept new old same ∙ is)
+pub lines_kept : (IsAll : List Told → Type 0) (old new : List Line) → map unchecked new ≡ map unchecked old → AreAllOrUnproved IsAll old → AreAllOrUnproved IsAll new
+lines_kept IsAll old new same (exact all) = exact (subst IsAll (sym (tells_kept new old same)) all)
+lines_kept IsAll old new same (added told all is) = added told all (tells_kept new old same ∙ is)
 
 module _ (s : Sides) (c : ℕ) (made : Facts) (start : Start) (head : Head) (sites : List Site) (shown : ∥ AreKnown s made ∥₁) (same : start.head ≡ head) where
   the_listed : (listed : Listed) (told : List Told) → IsStartOf s.sender s.receiver made.telling (costs_in s made) c start → HasHead s.sender c head
@@ -49,18 +47,10 @@ module _ (s : Sides) (c : ℕ) (made : Facts) (start : Start) (head : Head) (sit
   the_listed listed told is_start (x, at, is) listing = ∥∥₁_map shown (λ known. record { made = made; start = start; facts = known.facts; head_is = (x, at, is ∙ ap Some (sym same)); is_start = is_start; is_listing = listing })
 
   pub lines_found : (lines : List Line) → IsStartOf s.sender s.receiver made.telling (costs_in s made) c start → HasHead s.sender c head
-      → AreAllOrUnproved (IsListing s.receiver (basis_of start made.own made.outlooks) sites) sites lines → AreLinesOrUnproved s (answer c sites lines)
+      → AreAllOrUnproved (IsListing s.receiver (basis_of start made.own made.outlooks) sites) lines → AreLinesOrUnproved s (answer c sites lines)
   lines_found lines begins in_a (exact all) = exact (the_listed lines_of (map tells lines) begins in_a all)
   lines_found lines begins in_a (added told all is) = added told (the_listed lines_of told begins in_a all) is
-  lines_found lines begins in_a (alone read is) = alone read is
 
   pub meanings_found : (lines meanings : List Line) → IsStartOf s.sender s.receiver made.telling (costs_in s made) c start → HasHead s.sender c head
-      → AreAllMeanings (AreMeanings s.receiver (basis_of start made.own made.outlooks) sites) lines meanings → AreMeaningsOrUnproved s (answer c sites lines) meanings
-  meanings_found lines meanings begins in_a (complete all) = complete (the_listed meanings_of (map tells meanings) begins in_a all)
-  meanings_found lines meanings begins in_a (unshown is none) = unshown is none
-
--- meanings stay so, where only what is known of lines changes
-pub meanings_kept : (AreAll : List Told → Type 0) (old new meanings others : List Line) → map unchecked new ≡ map unchecked old → others ≡ meanings → AreAllMeanings AreAll old meanings
-    → AreAllMeanings AreAll new others
-meanings_kept AreAll old new meanings others same is (complete all) = complete (subst (λ (xs : List Line). AreAll (map tells xs)) (sym is) all)
-meanings_kept AreAll old new meanings others same is (unshown shown none) = unshown (tells_kept new old same ∙ shown) (is ∙ none)
+      → AreMeanings s.receiver (basis_of start made.own made.outlooks) sites (map tells meanings) → AreMeaningsOf s (answer c sites lines) meanings
+  meanings_found lines meanings begins in_a all = the_listed meanings_of (map tells meanings) begins in_a all

@@ -1,11 +1,11 @@
 -- Ranges that are in order and apart are the runs of their numbers.
 use Rattle.std.proofs.Common.{◌≡◌, ℕ, zero, suc, ◌+◌, ◌-◌, ◌<◌, ◌≤◌, Bool, true, false, List, [], ◌∷◌, ◌++◌, length, get_or, Option, Some, None, refl, sym, ap, ◌∙◌, subst, inl, inr, arith}
-use Rattle.std.specs.Prelude.{◌&&◌, ◌||◌, ◌==◌, not, nat_lt, nat_le, if◌then◌else◌, MatchOption, ⊤, ◌⊎◌}
+use Rattle.std.specs.Prelude.{◌&&◌, ◌||◌, ◌==◌, not, nat_lt, if◌then◌else◌, MatchOption, ⊤, ◌⊎◌}
 use Rattle.std.specs.Borrow.{Bor}
 use Rattle.std.specs.List.{AllByRecursion}
 use Rattle.std.specs.Option.{option_map}
 use Rattle.std.proofs.Math.Dec.{ltb, leb}
-use Rattle.std.proofs.lemmas.Bool.{cases_lt, cases_order, cases_Bool, or_cases, and_parts, and_from, or_left, or_right, not-true, lt-ltb, ltb-true, ltb-false, leb-true, leb-false, le-leb, lt-leb, eq-eqb, ne_eqb}
+use Rattle.std.proofs.lemmas.Bool.{cases_lt, cases_order, cases_Bool, or_cases, and_parts, and_from, or_left, or_right, not-true, lt-ltb, ltb-true, leb-true, le-leb, lt-leb, eq-eqb, ne_eqb}
 use Rattle.std.proofs.lemmas.List.Folds.{list_any-append}
 use Rattle.dia_data.specs.Ranges.{AreApart, IsSetOf, covers}
 use Rattle.dia_breaking.specs.Gaps.{all_gaps, front, gaps}

@@ -2,6 +2,7 @@ pub mod InRange
 pub mod Shortest
 pub mod Confirmed
 mod Standings
+mod Unchecked
 mod FormatData
 pub mod SentKeys
 pub mod Tellings
@@ -44,5 +45,6 @@ pub mod TheOneList
 pub mod Reached
 pub mod ReadLevels
 pub mod AllMeanings
+mod WalkGraphs
 mod GapsInRanges
 mod LackingNumbers

@@ -1,8 +1,8 @@
--- The sites from the command's to one of them, taken from the last site to the first.
-use Rattle.std.proofs.Common.{◌≡◌, ℕ, zero, suc, ◌≤◌, List, [], ◌∷◌, ◌++◌, reverse, Option, Some, None, refl, sym, ap, ◌∙◌, append_assoc, arith}
-use Rattle.std.specs.Prelude.{slice_get, if◌then◌else◌}
+-- The sites from the command's to one of them, taken from that one outwards.
+use Rattle.std.proofs.Common.{◌≡◌, ℕ, zero, suc, ◌<◌, ◌≤◌, Bool, true, false, List, [], ◌∷◌, ◌++◌, reverse, Option, Some, None, refl, sym, ap, subst, ◌∙◌, append_assoc, arith}
+use Rattle.std.specs.Prelude.{slice_get, ◌==◌, if◌then◌else◌, unwrap_or}
 use Rattle.std.specs.Option.{option_map_or}
-use Rattle.std.proofs.lemmas.Bool.{eq-eqb, ne_eqb}
+use Rattle.std.proofs.lemmas.Bool.{eq-eqb, eqb-true, ne_eqb}
 use Rattle.std.proofs.lemmas.List.{reverse-append}
 use Rattle.dia_breaking.specs.declared.line.Site.{Site}
 use Rattle.dia_breaking.specs.Words.{outer_of, with_outer, path_below}
@@ -20,44 +20,35 @@ none_below : (sites : List Site) (most n : ℕ) → most ≤ n → path_below si
 none_below sites zero n le = refl
 none_below sites (suc most) n le = past sites most n (λ e. omega (arith, e)) ∙ none_below sites most n (omega arith)
 
--- the site is not the wanted one
-passes : (sites : List Site) (m most wanted : ℕ) (path all : List Site) → most ≡ suc m → (m ≡ wanted → ⊥) → path_below sites most wanted ++ path ≡ all
-    → path_below sites m wanted ++ path ≡ all
-passes sites m most wanted path all is other now =
-    ap (λ front. front ++ path) (sym (past sites m wanted (λ e. other (sym e))) ∙ ap (λ n. path_below sites n wanted) (sym is)) ∙ now
+-- a site below is the last of its path
+last_of : (sites : List Site) (most n : ℕ) (s : Site) → n < most → slice_get sites n ≡ Some s → path_below sites most n ≡ with_outer (path_below sites n) s
+last_of sites zero n s less at = absurd (omega (arith, less))
+last_of sites (suc most) n s less at = by (n == most) refl (λ below. last_of sites most n s below at)
+  where
+    by : (b : Bool) → (n == most) ≡ b → (n < most → path_below sites most n ≡ with_outer (path_below sites n) s) → path_below sites (suc most) n ≡ with_outer (path_below sites n) s
+    by true e rest =
+        let same : n ≡ most = eqb-true n most e in
+        ap (path_below sites (suc most)) same ∙ here sites most s (subst (λ (k : ℕ). slice_get sites k ≡ Some s) same at) ∙ ap (λ (k : ℕ). with_outer (path_below sites k) s) (sym same)
+    by false e rest =
+        let other : n ≡ most → ⊥ = λ same. absurd (let z : true ≡ false = sym (eq-eqb n most same) ∙ e in cc) in
+        past sites most n other ∙ rest (omega (arith, less, other))
 
--- it is: then its outer site is wanted, if it has one
-comes : (sites : List Site) (m most wanted : ℕ) (s : Site) (path all : List Site) → most ≡ suc m → m ≡ wanted → slice_get sites m ≡ Some s
-    → path_below sites most wanted ++ reverse path ≡ all → option_map_or (path_below sites m) (outer_of s.place) [] ++ reverse (path ++ s ∷ []) ≡ all
-comes sites m most wanted s path all is same at now =
-    let before = option_map_or (path_below sites m) (outer_of s.place) [] in
-    ap (λ back. before ++ back) (reverse-append path (s ∷ []))
+-- what stands before it, where `o` is its outer site
+before_it : (sites : List Site) (n : ℕ) (o : Option ℕ) → path_below sites n (unwrap_or o n) ≡ option_map_or (path_below sites n) o []
+before_it sites n None = none_below sites n n (omega arith)
+before_it sites n (Some outer) = refl
+
+-- a step of the walk
+pub steps_out : (sites : List Site) (below wanted next : ℕ) (s : Site) (path more all : List Site) → wanted < below → slice_get sites wanted ≡ Some s
+    → next ≡ unwrap_or (outer_of s.place) wanted → more ≡ path ++ s ∷ [] → path_below sites below wanted ++ reverse path ≡ all → path_below sites wanted next ++ reverse more ≡ all
+steps_out sites below wanted next s path more all less at next_is more_is was =
+    let before = option_map_or (path_below sites wanted) (outer_of s.place) [] in
+    ap (λ front. front ++ reverse more) (ap (path_below sites wanted) next_is ∙ before_it sites wanted (outer_of s.place))
+    ∙ ap (λ back. before ++ back) (ap reverse more_is ∙ reverse-append path (s ∷ []))
     ∙ sym (append_assoc before (s ∷ []) (reverse path))
-    ∙ ap (λ front. front ++ reverse path) (sym (here sites m s at) ∙ ap (λ n. path_below sites (suc m) n) same ∙ ap (λ n. path_below sites n wanted) (sym is))
-    ∙ now
+    ∙ ap (λ front. front ++ reverse path) (sym (last_of sites below wanted s less at))
+    ∙ was
 
--- it has none
-begins : (sites : List Site) (m wanted : ℕ) (s : Site) (path all : List Site) → m ≡ wanted → outer_of s.place ≡ None
-    → option_map_or (path_below sites m) (outer_of s.place) [] ++ reverse path ≡ all → path_below sites m wanted ++ reverse path ≡ all
-begins sites m wanted s path all same none now =
-    ap (λ front. front ++ reverse path) (none_below sites m wanted (omega (arith, same)) ∙ ap (λ (o : Option ℕ). option_map_or (path_below sites m) o []) (sym none)) ∙ now
-
-goes_on : (sites : List Site) (m outer : ℕ) (s : Site) (path all : List Site) → outer_of s.place ≡ Some outer
-    → option_map_or (path_below sites m) (outer_of s.place) [] ++ reverse path ≡ all → path_below sites m outer ++ reverse path ≡ all
-goes_on sites m outer s path all some now = ap (λ front. front ++ reverse path) (ap (λ (o : Option ℕ). option_map_or (path_below sites m) o []) (sym some)) ∙ now
-
--- a step of the walk, from `most` to `next`
-pub after_group : (sites : List Site) (next n most wanted now outer : ℕ) (s : Site) (path more all : List Site) → next ≡ n → most ≡ suc n → n ≡ wanted → slice_get sites n ≡ Some s
-    → outer_of s.place ≡ Some outer → now ≡ outer → more ≡ path ++ s ∷ [] → path_below sites most wanted ++ reverse path ≡ all → path_below sites next now ++ reverse more ≡ all
-after_group sites next n most wanted now outer s path more all next_is most_is here_is at out now_is more_is was =
-    rw (next_is, now_is, more_is) (goes_on sites n outer s (path ++ s ∷ []) all out (comes sites n most wanted s path all most_is here_is at was))
-
-pub after_command : (sites : List Site) (next n most wanted now : ℕ) (s : Site) (path more all : List Site) → next ≡ n → most ≡ suc n → n ≡ wanted → slice_get sites n ≡ Some s
-    → outer_of s.place ≡ None → now ≡ wanted → more ≡ path ++ s ∷ [] → path_below sites most wanted ++ reverse path ≡ all → path_below sites next now ++ reverse more ≡ all
-after_command sites next n most wanted now s path more all next_is most_is here_is at out now_is more_is was =
-    rw (next_is, now_is, more_is) (begins sites n wanted s (path ++ s ∷ []) all here_is out (comes sites n most wanted s path all most_is here_is at was))
-
-pub after_other : (sites : List Site) (next n most wanted now : ℕ) (path more all : List Site) → next ≡ n → most ≡ suc n → (n ≡ wanted → ⊥)
-    → now ≡ wanted → more ≡ path → path_below sites most wanted ++ reverse path ≡ all → path_below sites next now ++ reverse more ≡ all
-after_other sites next n most wanted now path more all next_is most_is other now_is more_is was =
-    rw (next_is, now_is, more_is) (passes sites n most wanted (reverse path) all most_is other was)
+-- its end
+pub steps_end : (sites : List Site) (below wanted : ℕ) (path all : List Site) → below ≤ wanted → path_below sites below wanted ++ reverse path ≡ all → reverse path ≡ all
+steps_end sites below wanted path all le was = ap (λ front. front ++ reverse path) (sym (none_below sites below wanted le)) ∙ was

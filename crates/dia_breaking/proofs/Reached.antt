@@ -1,6 +1,6 @@
 -- What there is to tell of a key has its place, and each level in which an AVP of the key stands leads to it.
 use Rattle.std.proofs.Common.{◌≡◌, ℕ, ◌+◌, ◌≤◌, Bool, true, false, List, [], map, Option, Some, None, refl, sym, ap, subst, ◌∙◌, arith}
-use Rattle.std.specs.Prelude.{◌&&◌, ◌||◌, is_some, IsSome, Contains, filter, position, slice_get, option_and_then}
+use Rattle.std.specs.Prelude.{◌||◌, is_some, IsSome, Contains, position, slice_get, option_and_then}
 use Rattle.std.specs.HashMap.{get}
 use Rattle.std.specs.List.{filter_map}
 use Rattle.std.specs.Option.{option_map, option_map_or}
@@ -17,7 +17,7 @@ use Rattle.dia_policy.specs.declared.Sends.{Sends}
 use Rattle.dia_check.proofs.OneKeyMore.{at_position}
 use Rattle.dia_check.specs.Valid.{is_listed}
 use Rattle.dia_rules.specs.Rules.{rules_in}
-use Rattle.dia_rules.proofs.Members.{IsIn, all_of, any_in, at_in, contains_in, in_any, in_at, in_contains, in_filter, in_filter_map, into_filter, some_of}
+use Rattle.dia_rules.proofs.Members.{IsIn, all_of, any_in, at_in, contains_in, in_any, in_at, in_filter_map, into_filter, some_of}
 use Rattle.dia_breaking_sites.specs.Sent.{StandAsSent}
 use Rattle.dia_breaking_sites.specs.Selection.{max_body}
 use Rattle.dia_breaking_avps.specs.Sent.{group_of}
@@ -28,7 +28,7 @@ use Rattle.dia_breaking.specs.declared.exits.Outlook.{Outlook}
 use Rattle.dia_breaking.specs.declared.keys.Own.{Own}
 use Rattle.dia_breaking.specs.declared.keys.Telling.{Telling}
 use Rattle.dia_breaking.specs.declared.levels.LevelCost.{LevelCost}
-use Rattle.dia_breaking.specs.Exits.{AreExits, AreOutlooks, IsOutlook, exit_by}
+use Rattle.dia_breaking.specs.Exits.{AreOutlooks, IsOutlook, exit_by}
 use Rattle.dia_breaking.specs.Lengths.{Costs, costs_by, listed_length, other_length}
 use Rattle.dia_breaking.specs.LevelCosts.{IsCostOf, PicksShortest, cost_of, with_listed}
 use Rattle.dia_breaking.specs.Meanings.{IsReadAsOther}
@@ -79,7 +79,7 @@ module _ (da db : Dictionary) (who : Sends) (u : Unknown) (lengths : List ℕ) (
     pub outlook_key : outlook.key ≡ key
     pub has : IsOutlook da db telling k outlook
 
-  key_at : (place : ℕ) (q : Key) (own : Own) → get same_key telling.places q ≡ Some place → slice_get telling.own.items place ≡ Some own → own.key ≡ q
+  pub key_at : (place : ℕ) (q : Key) (own : Own) → get same_key telling.places q ≡ Some place → slice_get telling.own.items place ≡ Some own → own.key ≡ q
   key_at place q own at is =
       let (x, here, same) = at_position (λ (o : Own). same_key o.key q) telling.own.items place (sym (tells.places q) ∙ at) in
       let one : x ≡ own = same_Some x own (sym here ∙ is) in

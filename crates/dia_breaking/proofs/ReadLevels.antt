@@ -1,6 +1,6 @@
 -- In messages that are sent each level that both sides read is reached, and so are its AVPs.
 use Rattle.std.proofs.Common.{◌≡◌, ℕ, zero, suc, ◌+◌, ◌-◌, ◌<◌, ◌≤◌, List, [], ◌∷◌, ◌++◌, length, map, Option, Some, None, refl, sym, ap, subst, ◌∙◌, arith, inl, inr}
-use Rattle.std.specs.Prelude.{◌⊎◌, is_some, IsSome, MatchOption, Contains, slice_get, option_and_then}
+use Rattle.std.specs.Prelude.{is_some, IsSome, MatchOption, Contains, slice_get, option_and_then}
 use Rattle.std.specs.List.{AllByRecursion}
 use Rattle.std.specs.Option.{option_map, option_map_or}
 use Rattle.std.proofs.lemmas.Option.{none-some, slice_get_within}

@@ -56,21 +56,21 @@ unlisted d def key sound none = by (slice_get (definitions d) def) refl
 -- ---- lengths
 
 module _ (d : Dictionary) (lengths : List ℕ) where
-  of_entry_least : (e : ℕ) → 8 ≤ length_of_entry lengths e
+  pub of_entry_least : (e : ℕ) → 8 ≤ length_of_entry lengths e
   of_entry_least e = by (slice_get lengths e)
     where
       by : (o : Option ℕ) → 8 ≤ option_map_or (λ n. min (max n 8) too_long) o too_long
       by None = omega arith
       by (Some n) = omega arith
 
-  of_entry_most : (e : ℕ) → length_of_entry lengths e ≤ too_long
+  pub of_entry_most : (e : ℕ) → length_of_entry lengths e ≤ too_long
   of_entry_most e = by (slice_get lengths e)
     where
       by : (o : Option ℕ) → option_map_or (λ n. min (max n 8) too_long) o too_long ≤ too_long
       by None = omega arith
       by (Some n) = omega arith
 
-  head_least : (key : Key) → 8 ≤ shortest_head key
+  pub head_least : (key : Key) → 8 ≤ shortest_head key
   head_least key = by key.vendor
     where
       by : (n : ℕ) → 8 ≤ shortest_head (record { code = key.code; vendor = n })

@@ -2,12 +2,7 @@
 use Rattle.std.proofs.Common.{◌≡◌, ℕ, List, [], ◌∷◌, ◌++◌, refl}
 use Rattle.dia_breaking.specs.declared.line.Line.{Line}
 use Rattle.dia_breaking.specs.declared.line.Standing.{Standing}
-use Rattle.dia_breaking.specs.Confirmed.{HaveStandings, IsStandingOf, left_behind}
-
--- what is left behind all of these
-abbrev pub left_after : ℕ → List Line → ℕ
-left_after left [] = left
-left_after left (line ∷ lines) = left_after (left_behind left line) lines
+use Rattle.dia_breaking.specs.Confirmed.{HaveStandings, IsStandingOf, left_after, left_behind}
 
 pub left_more : (left : ℕ) (lines : List Line) (line : Line) → left_after left (lines ++ line ∷ []) ≡ left_behind (left_after left lines) line
 left_more left [] line = refl

@@ -42,9 +42,9 @@ NoneConfirmed lines = All (λ line. ¬ (line.standing ≡ Confirmed)) lines
 abbrev pub most_checked : ℕ
 most_checked = 1048576
 
--- the most bytes of all messages of a command that are checked
+-- the most bytes of all messages of all commands that are checked
 abbrev pub most_checked_together : ℕ
-most_checked_together = 16777216
+most_checked_together = 67108864
 
 -- no message is known that breaks so
 abbrev pub has_no_message : Cause → Bool
@@ -59,6 +59,11 @@ is_checked left line = not (has_no_message line.cause) && (nat_le line.length mo
 -- what is left for the lines behind
 abbrev pub left_behind : ℕ → Line → ℕ
 left_behind left line = if is_checked left line then left - line.length else left
+
+-- what is left behind all of these
+abbrev pub left_after : ℕ → List Line → ℕ
+left_after left [] = left
+left_after left (line ∷ lines) = left_after (left_behind left line) lines
 
 -- a line without message is undecided; one whose message is checked has been; and one whose message is too long hasn't
 pub record IsStandingOf (left : ℕ) (line : Line) (standing : Standing) : Type 0 where

@@ -1,5 +1,5 @@
 -- The lines of a command, by what they tell.
-use Rattle.std.specs.Prelude.{◌≡◌, ℕ, ◌+◌, ◌-◌, min, nat_le, Bool, true, false, not, ◌&&◌, if◌then◌else◌, List, [], ◌∷◌, ◌++◌, length, map, Option, Some, None, option_and_then, is_some, option_to_list, slice_get, unwrap_or}
+use Rattle.std.specs.Prelude.{◌≡◌, ℕ, ◌+◌, ◌-◌, min, nat_le, Bool, true, false, not, ◌&&◌, if◌then◌else◌, List, [], ◌∷◌, ◌++◌, length, map, All, Option, Some, None, option_and_then, is_some, option_to_list, slice_get, unwrap_or}
 use Rattle.std.specs.List.{filter_map}
 use Rattle.std.specs.Option.{option_map, option_map_or}
 use Rattle.dia_wire.specs.declared.Key.{Key}
@@ -67,6 +67,14 @@ new_line site cause size = record { site = site; cause = cause; length = size; s
 -- the same line, of which nothing is known
 abbrev pub unchecked : Line → Line
 unchecked line = record line { standing = Unchecked }
+
+-- nothing is known of these lines
+abbrev pub AreUnchecked : List Line → Type 0
+AreUnchecked lines = All (λ line. line.standing ≡ Unchecked) lines
+
+-- where nothing is known of the old ones, it isn't of the new ones
+abbrev pub KeepsUnchecked : List Line → List Line → Type 0
+KeepsUnchecked old new = AreUnchecked old → AreUnchecked new
 
 -- that it isn't shown that nothing else breaks
 abbrev pub not_shown : Told

@@ -1,5 +1,5 @@
 -- The one list of lines that a command has.
-use Rattle.std.specs.Prelude.{◌≡◌, ℕ, ◌<◌, nat_le, Bool, true, false, List, [], ◌∷◌, ◌++◌, length, map, Option, MatchOption, All, IfSome, IsSome}
+use Rattle.std.specs.Prelude.{◌≡◌, ℕ, ◌<◌, nat_le, Bool, true, false, List, [], ◌∷◌, ◌++◌, length, map, Option, MatchOption, All, IfSome}
 use Rattle.dia_wire.specs.declared.Key.{Key}
 use Rattle.dia_book.specs.declared.DRule.{DRule}
 use Rattle.dia_book.specs.Dictionary.{Dictionary, definitions, selected}
@@ -29,7 +29,7 @@ use Rattle.dia_breaking.specs.Outlooks.{HaveGroupLines, group_rules}
 use Rattle.dia_breaking.specs.OwnBreaks.{AreOwnBreaks}
 use Rattle.dia_breaking.specs.Readings.{AreReadings}
 use Rattle.dia_breaking.specs.Sides.{Sides, Answer}
-use Rattle.dia_breaking.specs.Sites.{command_site, first_read}
+use Rattle.dia_breaking.specs.Sites.{command_site}
 use Rattle.dia_breaking.specs.Telling.{IsExactTelling, IsTelling}
 
 -- ---- what is the same for all commands
@@ -138,16 +138,14 @@ IsOfHead breaks head = (breaks.code ≡ head.code) × (breaks.class ≡ head.cla
 abbrev pub HaveSameSites : Breaks → Breaks → Type 0
 HaveSameSites old new = (new.command ≡ old.command) × (new.code ≡ old.code) × (new.class ≡ old.class) × (new.sites.items ≡ old.sites.items) × (new.meanings.items ≡ old.meanings.items)
 
--- what lines tell is all, or all but for the last line, which tells that it isn't shown that nothing else breaks; or that line stands
--- alone, where B's side reads a level of the command
-pub data AreAllOrUnproved (IsAll : List Told → Type 0) (sites : List Site) (lines : List Line) : Type 0 where
-  exact : IsAll (map tells lines) → AreAllOrUnproved IsAll sites lines
-  added : (told : List Told) → IsAll told → map tells lines ≡ told ++ not_shown ∷ [] → AreAllOrUnproved IsAll sites lines
-  alone : IsSome (first_read sites) → map tells lines ≡ not_shown ∷ [] → AreAllOrUnproved IsAll sites lines
+-- what lines tell is all, or all but for the last line, which tells that it isn't shown that nothing else breaks
+pub data AreAllOrUnproved (IsAll : List Told → Type 0) (lines : List Line) : Type 0 where
+  exact : IsAll (map tells lines) → AreAllOrUnproved IsAll lines
+  added : (told : List Told) → IsAll told → map tells lines ≡ told ++ not_shown ∷ [] → AreAllOrUnproved IsAll lines
 
 -- so they are of the lines of the command c
 abbrev pub AreLinesOrUnproved : Sides → Answer → Type 0
-AreLinesOrUnproved s answer = AreAllOrUnproved (λ told. ∥ AreTheLines s answer.command answer.sites told ∥₁) answer.sites answer.lines
+AreLinesOrUnproved s answer = AreAllOrUnproved (λ told. ∥ AreTheLines s answer.command answer.sites told ∥₁) answer.lines
 
 -- ---- there is one
 

@@ -1,5 +1,5 @@
 -- The AVPs of a command's messages that break nothing by their data and are read as another format.
-use Rattle.std.specs.Prelude.{◌≡◌, ℕ, ◌<◌, List, [], ◌∷◌, length, map, Contains}
+use Rattle.std.specs.Prelude.{◌≡◌, ℕ, ◌<◌, List, length, map, Contains}
 use Rattle.dia_wire.specs.declared.Key.{Key}
 use Rattle.dia_wire.specs.Wire.{PlainAvp, key_of}
 use Rattle.dia_book.specs.Dictionary.{PlainDefinition, definitions}
@@ -8,7 +8,7 @@ use Rattle.dia_breaking_sites.specs.Sites.{AboutLevels, AreAsked}
 use Rattle.dia_breaking.specs.declared.line.Cause.TheVariants as causes
 use Rattle.dia_breaking.specs.declared.line.Line.{Line}
 use Rattle.dia_breaking.specs.declared.line.Site.{Site}
-use Rattle.dia_breaking.specs.Listing.{Told, meanings_of, not_shown, tells}
+use Rattle.dia_breaking.specs.Listing.{Told, meanings_of, tells}
 use Rattle.dia_breaking.specs.Meanings.{IsReadAsOther}
 use Rattle.dia_breaking.specs.Mended.{IsLevelAt}
 use Rattle.dia_breaking.specs.Sides.{Sides, Answer}
@@ -19,14 +19,9 @@ use Rattle.dia_breaking.specs.TheLines.{AreListedFor}
 abbrev pub AreTheMeanings : Sides → ℕ → List Site → List Told → Type 0
 AreTheMeanings s c sites told = AreListedFor meanings_of s c sites told
 
--- these tell all; or they are none, where a single line tells that nothing is shown
-pub data AreAllMeanings (AreAll : List Told → Type 0) (lines meanings : List Line) : Type 0 where
-  complete : AreAll (map tells meanings) → AreAllMeanings AreAll lines meanings
-  unshown : map tells lines ≡ not_shown ∷ [] → meanings ≡ [] → AreAllMeanings AreAll lines meanings
-
--- so they are of the command c
-abbrev pub AreMeaningsOrUnproved : Sides → Answer → List Line → Type 0
-AreMeaningsOrUnproved s answer meanings = AreAllMeanings (λ told. ∥ AreTheMeanings s answer.command answer.sites told ∥₁) answer.lines meanings
+-- these lines tell them, with the sites of the answer
+abbrev pub AreMeaningsOf : Sides → Answer → List Line → Type 0
+AreMeaningsOf s answer meanings = ∥ AreTheMeanings s answer.command answer.sites (map tells meanings) ∥₁
 
 -- ---- they are all
 

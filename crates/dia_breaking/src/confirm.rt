@@ -4,8 +4,7 @@ ghost use Rattle.dia_policy.specs.declared.Levels.TheVariants.{Any};
 ghost use Rattle.dia_check.specs.Valid.{IsValid, IsValidOf};
 ghost use Rattle.dia_breaking_sites.specs.Sent.{own_policy};
 ghost use Rattle.dia_breaking.specs.Confirmed.{EachConfirmedBreaks, HaveStandings, IsConfirmed};
-ghost use Rattle.dia_breaking.specs.Confirmed.{IsStandingOf, has_no_message, is_checked, left_behind};
-ghost use Rattle.dia_breaking.specs.Confirmed.{most_checked_together};
+ghost use Rattle.dia_breaking.specs.Confirmed.{IsStandingOf, has_no_message, is_checked, left_after, left_behind};
 ghost use Rattle.dia_breaking.specs.Listing.{unchecked};
 ghost use Rattle.dia_breaking.specs.Mended.{BreaksBehind, EachHasMessage, HasMessage};
 ghost use Rattle.dia_breaking.specs.TheLines.{HaveSameSites};
@@ -21,8 +20,8 @@ use std::alloc::{AllocError, Global};
 /// The most bytes of a message that is checked.
 const MOST_CHECKED: u64 = 1 << 20;
 
-/// The most bytes of all messages of a command that are checked.
-const MOST_CHECKED_TOGETHER: u64 = 1 << 24;
+/// The most bytes of all messages of all commands that are checked (our profile).
+pub const MOST_CHECKED_TOGETHER: u64 = 1 << 26;
 
 impl<'a, A: Book, B: Book> Upgrade<'a, A, B> {
     /// The message of a line, where checks under both dictionaries show that it is valid under A, as one of the command, and not
@@ -62,21 +61,27 @@ impl<'a, A: Book, B: Book> Upgrade<'a, A, B> {
         Ok(sent && !accepted)
     }
 
-    /// The lines with what is known of each. Where the lines stand, and what they tell, doesn't change.
-    pub(crate) fn with_standings(&self, alloc: Global, breaks: Breaks) -> Result<Breaks, AllocError>
+    /// The lines with what is known of each. Where the lines stand, and what they tell, doesn't change. `left` is how many bytes
+    /// may be checked, and then how many of them weren't.
+    pub(crate) fn with_standings(
+        &self,
+        alloc: Global,
+        breaks: Breaks,
+        left: &mut u64,
+    ) -> Result<Breaks, AllocError>
         ensures same { IfOk result (HaveSameSites breaks) }
         ensures kept { IfOk result (λ told. map unchecked told.lines.items ≡ map unchecked breaks.lines.items) }
         ensures each { IfOk result (λ told. EachConfirmedBreaks (sides_of self.now) breaks.command told.lines.items) }
         ensures each_mended { IfOk result
             (λ told. EachHasMessage (sides_of self.now) breaks.command breaks.sites.items told.lines.items) }
-        ensures standings { IfOk result (λ told. HaveStandings most_checked_together told.lines.items) }
+        ensures standings { IfOk result (λ told. HaveStandings left.old told.lines.items) }
+        ensures left { IfOk result (λ told. left.new ≡ left_after left.old told.lines.items) }
     {
         let mut lines = Vec::new(alloc);
-        let mut left = MOST_CHECKED_TOGETHER;
         for line in &breaks.lines {
-            let standing = self.standing(alloc, &breaks, line, left)?;
+            let standing = self.standing(alloc, &breaks, line, *left)?;
             lines.push(Line { standing, ..*line })?;
-            left = left_behind(line, left);
+            *left = left_behind(line, *left);
         }
         Ok(Breaks { lines, ..breaks })
     }

@@ -37,6 +37,7 @@ mod upgrade;
 mod ways;
 mod words;
 
+pub use confirm::MOST_CHECKED_TOGETHER;
 pub use dia_policy::{Sends, Unknown};
 pub use laws::{
     closed_sites_are_safe, included_commands_break_nothing, listings_are_one, the_lines_are_one,

@@ -1,7 +1,7 @@
 //! The lines of a command, and the sites at which they stand.
 ghost use Rattle.std.specs.Prelude.{◌≡◌, IfOk};
 ghost use Rattle.dia_breaking.specs.OwnKeys.{own_key};
-ghost use Rattle.dia_breaking.specs.Words.{path_to};
+ghost use Rattle.dia_breaking.specs.Words.{outer_of, path_to};
 
 use dia_book::{Class, DefId, Key};
 use dia_breaking_data::Witness;
@@ -28,6 +28,18 @@ pub enum Place {
         key: Key,
         outer: usize,
     },
+}
+
+impl Place {
+    /// The site whose level the level at the place stands in. That of a command stands in none.
+    fn outer(&self) -> Option<usize>
+        ensures { result ≡ outer_of self.now }
+    {
+        match self {
+            Place::Command { .. } => None,
+            Place::Group { outer, .. } => Some(*outer),
+        }
+    }
 }
 
 /// A place, and what a message with a level there takes at least around that level, without the message's header.
@@ -91,7 +103,7 @@ pub enum Standing {
     /// Its message was checked: it is valid under A, and B's side refuses it. For `Sends::Listed` it isn't checked that A's rules
     /// list each of its AVPs.
     Confirmed,
-    /// Its message is too long to be checked beside the others.
+    /// Its message wasn't checked: it is too long to be checked beside the others, or it is that of a meaning.
     Unchecked,
     /// It has no message, or its message was checked and doesn't break.
     Undecided,
@@ -124,23 +136,18 @@ pub struct Breaks {
 }
 
 impl Breaks {
-    /// The sites from the command's to one of them.
+    /// The sites from the command's to one of them. An outer site has a lower number.
     pub(crate) fn path(&self, alloc: Global, site: usize) -> Result<Vec<Site>, AllocError>
         ensures { IfOk result (λ path. path.items ≡ path_to self.now.sites.items site) }
     {
         let mut path = Vec::new(alloc);
         let mut wanted = site;
-        let count = self.sites.len();
-        for passed in 0..count {
-            let number = count - 1 - passed;
-            if number == wanted {
-                let site = self.sites[number];
-                path.push(site)?;
-                match site.place {
-                    Place::Group { outer, .. } => wanted = outer,
-                    Place::Command { .. } => {}
-                }
-            }
+        let mut below = self.sites.len();
+        while wanted < below {
+            let site = self.sites[wanted];
+            path.push(site)?;
+            below = wanted;
+            wanted = site.place.outer().unwrap_or(below);
         }
         path.reverse();
         Ok(path)

@@ -1,21 +1,22 @@
 //! The lines of a command.
-ghost use Rattle.std.specs.Prelude.{◌≡◌, ◌⊎◌, ◌++◌, ◌∷◌, [], true, IfOk, IfSome, None, OnOk, length};
+ghost use Rattle.std.specs.Prelude.{◌≡◌, ◌⊎◌, ◌++◌, ◌∷◌, [], ℕ, IfOk, OnOk, length};
 ghost use Rattle.std.specs.Prelude.{map, option_to_list, slice_get};
 ghost use Rattle.std.specs.Option.{option_map_or};
-ghost use Rattle.dia_breaking.specs.Confirmed.{EachConfirmedBreaks, HaveStandings, most_checked_together};
+ghost use Rattle.dia_breaking.specs.Confirmed.{EachConfirmedBreaks, HaveStandings, left_after};
 ghost use Rattle.dia_breaking.specs.Free.{AreValidWhereFree};
 ghost use Rattle.dia_breaking.specs.Headers.{HasHead};
 ghost use Rattle.dia_breaking.specs.Listing.{AddsTold, AreMeanings, IsListing, IsWalkFrom};
 ghost use Rattle.dia_breaking.specs.Listing.{command_levels, group_levels, level_lines};
-ghost use Rattle.dia_breaking.specs.Listing.{AreInOrder, lines_in, new_line, own_lines, subject};
+ghost use Rattle.dia_breaking.specs.Listing.{AreInOrder, AreUnchecked, lines_in, new_line, own_lines, subject};
 ghost use Rattle.dia_breaking.specs.Listing.{tells, with_room};
-ghost use Rattle.dia_breaking.specs.Mended.{AreValidOnceMended, EachHasMessage, IsAllTold};
+ghost use Rattle.dia_breaking.specs.Mended.{AreValidOnceMended, EachHasMessage};
 ghost use Rattle.dia_breaking.specs.Orders.{IsInOrderOf, of_each};
 ghost use Rattle.dia_breaking.specs.OwnBreaks.{TellData};
 ghost use Rattle.dia_breaking.specs.Sides.{answer_of};
 ghost use Rattle.dia_breaking.specs.Sites.{group_sites};
-ghost use Rattle.dia_breaking.specs.TheLines.{AreAllOrUnproved, AreLinesOrUnproved, IsOfHead};
-ghost use Rattle.dia_breaking.specs.TheMeanings.{AreAllMeanings, AreMeaningsOrUnproved, AreMeant, HoldsOfLevels};
+ghost use Rattle.dia_breaking.specs.TheLines.{AreAllOrUnproved, AreLinesOrUnproved, IsOfHead, IsStartOf};
+ghost use Rattle.dia_breaking.specs.Sender.{costs_of};
+ghost use Rattle.dia_breaking.specs.TheMeanings.{AreMeaningsOf, AreMeant, HoldsOfLevels};
 ghost use Rattle.dia_breaking.specs.Upgrades.{basis_for, lines_for, sides_of};
 ghost use Rattle.dia_breaking.specs.declared.line.Line.{Line as AnyLine};
 
@@ -35,11 +36,13 @@ use std::alloc::{AllocError, Global};
 
 impl<'a, A: Book, B: Book> Upgrade<'a, A, B> {
     /// The lines of a command with this head. Each message of it that A's side sends, and that is free of them, is valid under B.
+    /// `left` is how many bytes may be checked, and then how many of them weren't.
     pub(crate) fn lines_of(
         &self,
         alloc: Global,
         command: DefId,
         head: &Head,
+        left: &mut u64,
     ) -> Result<Breaks, AllocError>
         requires { HasHead (sides_of self.now).sender command head.now }
         ensures command { IfOk result (λ breaks. breaks.command ≡ command) }
@@ -49,16 +52,18 @@ impl<'a, A: Book, B: Book> Upgrade<'a, A, B> {
         ensures each { IfOk result (λ breaks. EachConfirmedBreaks (sides_of self.now) command breaks.lines.items) }
         ensures each_mended { IfOk result
             (λ breaks. EachHasMessage (sides_of self.now) command breaks.sites.items breaks.lines.items) }
-        ensures standings { IfOk result (λ breaks. HaveStandings most_checked_together breaks.lines.items) }
+        ensures standings { IfOk result (λ breaks. HaveStandings left.old breaks.lines.items) }
+        ensures left { IfOk result (λ breaks. left.new ≡ left_after left.old breaks.lines.items) }
         ensures formats { IfOk result (λ breaks. ∥ TellData (sides_of self.now) breaks.lines.items ∥₁) }
         ensures lines { IfOk result (λ breaks. AreLinesOrUnproved (sides_of self.now) (answer_of breaks)) }
         ensures meanings { IfOk result
-            (λ breaks. AreMeaningsOrUnproved (sides_of self.now) (answer_of breaks) breaks.meanings.items) }
-        ensures all_meanings { IfOk result (λ breaks. IsAllTold breaks.lines.items
-            → ∥ HoldsOfLevels (sides_of self.now) (answer_of breaks) (AreMeant (sides_of self.now) breaks.meanings.items) ∥₁) }
+            (λ breaks. AreMeaningsOf (sides_of self.now) (answer_of breaks) breaks.meanings.items) }
+        ensures all_meanings { IfOk result (λ breaks.
+            ∥ HoldsOfLevels (sides_of self.now) (answer_of breaks) (AreMeant (sides_of self.now) breaks.meanings.items) ∥₁) }
+        ensures unchecked { IfOk result (λ breaks. AreUnchecked breaks.meanings.items) }
     {
         let found = self.found(alloc, command, head)?;
-        self.with_standings(alloc, found)
+        self.with_standings(alloc, found, left)
     }
 
     /// The lines that a walk over the sites finds.
@@ -70,9 +75,10 @@ impl<'a, A: Book, B: Book> Upgrade<'a, A, B> {
         ensures mended { IfOk result (λ breaks. ∥ AreValidOnceMended (sides_of self.now) (answer_of breaks) ∥₁) }
         ensures lines { IfOk result (λ breaks. AreLinesOrUnproved (sides_of self.now) (answer_of breaks)) }
         ensures meanings { IfOk result
-            (λ breaks. AreMeaningsOrUnproved (sides_of self.now) (answer_of breaks) breaks.meanings.items) }
-        ensures all_meanings { IfOk result (λ breaks. IsAllTold breaks.lines.items
-            → ∥ HoldsOfLevels (sides_of self.now) (answer_of breaks) (AreMeant (sides_of self.now) breaks.meanings.items) ∥₁) }
+            (λ breaks. AreMeaningsOf (sides_of self.now) (answer_of breaks) breaks.meanings.items) }
+        ensures all_meanings { IfOk result (λ breaks.
+            ∥ HoldsOfLevels (sides_of self.now) (answer_of breaks) (AreMeant (sides_of self.now) breaks.meanings.items) ∥₁) }
+        ensures unchecked { IfOk result (λ breaks. AreUnchecked breaks.meanings.items) }
         ensures formats { IfOk result (λ breaks. ∥ TellData (sides_of self.now) breaks.lines.items ∥₁) }
     {
         let start = Start::of(alloc, self, command, head)?;
@@ -81,15 +87,18 @@ impl<'a, A: Book, B: Book> Upgrade<'a, A, B> {
 
     /// The lines that a walk from this start finds.
     fn found_from(&self, alloc: Global, command: DefId, start: &Start) -> Result<Breaks, AllocError>
-        requires { HasHead (sides_of self.now).sender command start.now.head }
+        requires head { HasHead (sides_of self.now).sender command start.now.head }
+        requires start { IsStartOf (sides_of self.now).sender (sides_of self.now).receiver self.now.telling.value
+            (costs_of self.now.lengths) command start.now }
         ensures command { IfOk result (λ breaks. breaks.command ≡ command) }
         ensures head { IfOk result (λ breaks. IsOfHead breaks start.now.head) }
         ensures free { IfOk result (λ breaks. ∥ AreValidWhereFree (sides_of self.now) (answer_of breaks) ∥₁) }
         ensures mended { IfOk result (λ breaks. ∥ AreValidOnceMended (sides_of self.now) (answer_of breaks) ∥₁) }
         ensures listing { IfOk result (λ breaks. AreAllOrUnproved (IsListing (sides_of self.now).receiver
-            (basis_for self.now start.now) breaks.sites.items) breaks.sites.items breaks.lines.items) }
-        ensures meanings { IfOk result (λ breaks. AreAllMeanings (AreMeanings (sides_of self.now).receiver
-            (basis_for self.now start.now) breaks.sites.items) breaks.lines.items breaks.meanings.items) }
+            (basis_for self.now start.now) breaks.sites.items) breaks.lines.items) }
+        ensures meanings { IfOk result (λ breaks. AreMeanings (sides_of self.now).receiver
+            (basis_for self.now start.now) breaks.sites.items (map tells breaks.meanings.items)) }
+        ensures unchecked { IfOk result (λ breaks. AreUnchecked breaks.meanings.items) }
         ensures formats { IfOk result (λ breaks. ∥ TellData (sides_of self.now) breaks.lines.items ∥₁) }
     {
         let sites = command_sites(alloc, self.b, &start.head, &start.readings)?;
@@ -98,20 +107,9 @@ impl<'a, A: Book, B: Book> Upgrade<'a, A, B> {
             first: first.unwrap_or(0),
             count: count_of(&start.readings),
         };
-        match self.walk_from(alloc, start, first.is_some())? {
-            Some(walk) => {
-                let found = self.found_by(alloc, command, start, sites, numbers, &walk)?;
-                self.unless_certified(alloc, &start.head, found)
-            }
-            None => Ok(Breaks {
-                command,
-                code: start.head.code,
-                class: start.head.class,
-                sites,
-                lines: unproved(alloc)?,
-                meanings: Vec::new(alloc),
-            }),
-        }
+        let walk = self.walk_from(alloc, start, first.is_some())?;
+        let found = self.found_by(alloc, command, start, sites, numbers, &walk)?;
+        self.unless_certified(alloc, &start.head, found)
     }
 
     /// The sites and the lines that a walk finds. `sites` are those of the command's own level.
@@ -133,6 +131,7 @@ impl<'a, A: Book, B: Book> Upgrade<'a, A, B> {
         ensures meanings { IfOk result (λ breaks. AreInOrder
             (own_lines Kind.Meaning numbers.first numbers.count self.now.own.items walk.now.reached.items)
             (map tells breaks.meanings.items)) }
+        ensures unchecked { IfOk result (λ breaks. AreUnchecked breaks.meanings.items) }
         ensures formats { IfOk result (λ breaks. ∥ TellData (sides_of self.now) breaks.lines.items ∥₁) }
     {
         push_group_sites(&mut sites, &self.own, numbers, &walk.steps)?;
@@ -149,23 +148,21 @@ impl<'a, A: Book, B: Book> Upgrade<'a, A, B> {
     }
 
     /// The shortest ways from the level of the command, if B's side reads it.
-    fn walk_from(
-        &self,
-        alloc: Global,
-        start: &Start,
-        is_read: bool,
-    ) -> Result<Option<Walk>, AllocError>
-        ensures walk { IfOk result (λ found. IfSome found (λ walk.
-            IsWalkFrom is_read (basis_for self.now start.now).graph walk.steps.items walk.reached.items)) }
-        ensures none { IfOk result (λ found. found ≡ None → is_read ≡ true) }
+    fn walk_from(&self, alloc: Global, start: &Start, is_read: bool) -> Result<Walk, AllocError>
+        requires { (command : ℕ) × IsStartOf (sides_of self.now).sender (sides_of self.now).receiver
+            self.now.telling.value (costs_of self.now.lengths) command start.now }
+        ensures { IfOk result
+            (λ walk. IsWalkFrom is_read (basis_for self.now start.now).graph walk.steps.items walk.reached.items) }
     {
-        if is_read {
-            walk(alloc, &self.nodes, &start.exits, ROOM)
-        } else {
-            Ok(Some(Walk {
+        if !is_read {
+            return Ok(Walk {
                 steps: Vec::new(alloc),
                 reached: Vec::new(alloc),
-            }))
+            });
+        }
+        match walk(alloc, &self.nodes, &start.exits, ROOM)? {
+            Some(walk) => Ok(walk),
+            None => unreachable!(),
         }
     }
 
@@ -198,9 +195,10 @@ impl<'a, A: Book, B: Book> Upgrade<'a, A, B> {
         numbers: Numbers,
         walk: &Walk,
     ) -> Result<Vec<Line>, AllocError>
-        ensures { IfOk result (λ told. AreInOrder
+        ensures told { IfOk result (λ told. AreInOrder
             (own_lines Kind.Meaning numbers.first numbers.count self.now.own.items walk.now.reached.items)
             (map tells told.items)) }
+        ensures unchecked { IfOk result (λ told. AreUnchecked told.items) }
     {
         let mut meanings = Vec::new(alloc);
         self.push_own_lines(alloc, Kind::Meaning, numbers, &walk.reached, &mut meanings)?;
@@ -264,15 +262,6 @@ fn count_of(readings: &[Reading]) -> usize
     ensures { result ≡ length readings.now }
 {
     readings.len()
-}
-
-/// The single line that says that it isn't shown that nothing breaks.
-fn unproved(alloc: Global) -> Result<Vec<Line>, AllocError>
-    ensures { IfOk result (λ lines. lines.items ≡ new_line 0 Cause.Unproved 0 ∷ []) }
-{
-    let mut lines = Vec::new(alloc);
-    push_line(&mut lines, 0, Cause::Unproved, 0)?;
-    Ok(lines)
 }
 
 /// Puts lines in the order of their sites. The lines of one site stay in their order.

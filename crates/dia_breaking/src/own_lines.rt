@@ -1,7 +1,7 @@
 //! The lines of AVPs that break by themselves.
 ghost use Rattle.std.specs.Prelude.{◌≡◌, ◌⊎◌, [], None, IfOk, IfSome, OnOk, option_to_list, slice_get};
 ghost use Rattle.std.specs.Option.{option_map, option_map_or};
-ghost use Rattle.dia_breaking.specs.Listing.{AddsTold, head_cause, own_cause, own_line};
+ghost use Rattle.dia_breaking.specs.Listing.{AddsTold, KeepsUnchecked, head_cause, own_cause, own_line};
 ghost use Rattle.dia_breaking.specs.Listing.{own_lines, reach_at, reached_line, subject, subject_with, with_data};
 ghost use Rattle.dia_breaking.specs.OwnBreaks.{HasDataBreak, KeepsData, TellsIfBreaks};
 ghost use Rattle.dia_breaking.specs.Upgrades.{KeepsIfKnown, sides_of};
@@ -50,6 +50,7 @@ impl<'a, A: Book, B: Book> Upgrade<'a, A, B> {
         ensures told { OnOk result (AddsTold lines.old.items lines.new.items
             (own_lines kind numbers.first numbers.count self.now.own.items reached.now)) }
         ensures formats { OnOk result (KeepsIfKnown self.now lines.old.items lines.new.items) }
+        ensures unchecked { OnOk result (KeepsUnchecked lines.old.items lines.new.items) }
     {
         for place in 0..self.own.len() {
             self.push_own_at(alloc, kind, numbers, reached, place, lines)?;
@@ -69,6 +70,7 @@ impl<'a, A: Book, B: Book> Upgrade<'a, A, B> {
         ensures told { OnOk result (AddsTold lines.old.items lines.new.items (option_map_or
             (reached_line kind numbers.first numbers.count reached.now place) (slice_get self.now.own.items place) [])) }
         ensures formats { OnOk result (KeepsIfKnown self.now lines.old.items lines.new.items) }
+        ensures unchecked { OnOk result (KeepsUnchecked lines.old.items lines.new.items) }
     {
         match self.own.get(place) {
             Some(own) => match reach_at(reached, place) {
@@ -93,6 +95,7 @@ impl<'a, A: Book, B: Book> Upgrade<'a, A, B> {
             (option_to_list (own_line kind numbers.first numbers.count own.now reach.now))) }
         ensures formats { OnOk result
             (HasDataBreak (sides_of self.now) own.now → KeepsData (sides_of self.now) lines.old.items lines.new.items) }
+        ensures unchecked { OnOk result (KeepsUnchecked lines.old.items lines.new.items) }
     {
         match self.own_cause(alloc, kind, own, reach.length)? {
             Some((cause, length)) => {
@@ -176,7 +179,7 @@ impl<'a, A: Book, B: Book> Upgrade<'a, A, B> {
 /// That the data are read as another format, in a message with a least AVP.
 fn meaning_cause(own: &OwnBreaks, length: u64) -> Option<(Cause, u64)>
     ensures told { option_map subject_with result ≡ own_cause Kind.Meaning own.now length }
-    ensures none { IfSome result (λ found. found.0 ≡ Cause.Meaning own.now.key) }
+    ensures cause { IfSome result (λ found. found.0 ≡ Cause.Meaning own.now.key) }
 {
     if own.is_other {
         Some((Cause::Meaning { key: own.key }, length))

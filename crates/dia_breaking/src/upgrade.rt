@@ -4,11 +4,12 @@ ghost use Rattle.std.proofs.Props.{props};
 ghost use Rattle.dia_book.specs.Dictionary.{definitions};
 ghost use Rattle.dia_rules.specs.Rules.{rules_in};
 ghost use Rattle.dia_breaking_ways.specs.Walks.{plain_node};
-ghost use Rattle.dia_breaking.specs.Confirmed.{EachConfirmedBreaks, HaveStandings, most_checked_together};
+ghost use Rattle.dia_breaking.specs.Confirmed.{EachConfirmedBreaks, HaveStandings, left_after};
 ghost use Rattle.dia_breaking.specs.Free.{AllAreValid, AreValidWhereFree};
 ghost use Rattle.dia_breaking.specs.Headers.{AreApps};
 ghost use Rattle.dia_breaking.specs.LevelCosts.{PicksShortest};
-ghost use Rattle.dia_breaking.specs.Mended.{AreValidOnceMended, EachHasMessage, IsAllTold};
+ghost use Rattle.dia_breaking.specs.Listing.{AreUnchecked};
+ghost use Rattle.dia_breaking.specs.Mended.{AreValidOnceMended, EachHasMessage};
 ghost use Rattle.dia_breaking.specs.Nodes.{node_in};
 ghost use Rattle.dia_breaking.specs.OwnBreaks.{TellData};
 ghost use Rattle.dia_breaking.specs.Outlooks.{HasGroupLines, HasLinesFor};
@@ -16,7 +17,7 @@ ghost use Rattle.dia_breaking.specs.Readings.{AreOtherApps};
 ghost use Rattle.dia_breaking.specs.Sender.{costs_of, sender_in};
 ghost use Rattle.dia_breaking.specs.Sides.{answer_of, sides};
 ghost use Rattle.dia_breaking.specs.TheLines.{AreKnown, AreLinesOf, AreLinesOrUnproved, IsOfHead, facts_by};
-ghost use Rattle.dia_breaking.specs.TheMeanings.{AreMeaningsOrUnproved, AreMeant, HoldsOfLevels, IsReadAsSent};
+ghost use Rattle.dia_breaking.specs.TheMeanings.{AreMeaningsOf, AreMeant, HoldsOfLevels, IsReadAsSent};
 ghost use Rattle.dia_breaking.specs.Words.{head_at};
 
 use crate::apps::BothApps;
@@ -129,17 +130,25 @@ impl<'a, A: Book, B: Book> Upgrade<'a, A, B> {
     /// its P flag and its application are such as B's definition takes.
     ///
     /// The sites, and the places, causes and lengths of the lines, are the one list that the dictionaries, the sender and the
-    /// policy have. Behind it a line may be `Unproved`; where no shortest ways were found, that line stands alone. Which data
-    /// break a format is no part of that list. The standings are told line by line: a line without message is undecided; the
-    /// message of another is checked, unless it is too long, or too long beside those that were checked before it. A line that
-    /// is confirmed has a message that is valid under A, as one of the command, and not under B (`IsConfirmed`), and, unless the
-    /// line is of the header, not once its header is mended, too (`HasMessage`).
+    /// policy have. Behind it a line may be `Unproved`. Which data break a format is no part of that list.
+    ///
+    /// The standings are told line by line. A line without message is undecided; the message of another is checked, unless it
+    /// has more than 2^20 bytes, or more than are left. `left` is how many bytes may be checked, and then how many of them
+    /// weren't. A caller that goes over many commands begins with [`MOST_CHECKED_TOGETHER`](crate::MOST_CHECKED_TOGETHER), so
+    /// that the time for checks is bounded. A line that is confirmed has a message that is valid under A, as one of the command,
+    /// and not under B (`IsConfirmed`), and, unless the line is of the header, not once its header is mended, too
+    /// (`HasMessage`).
     ///
     /// The meanings are the one list of AVPs that B's side reads as another format, though it accepts all of their data
     /// (`AreTheMeanings`). Each key stands once, at the site to which the shortest way leads. They are no lines, and break
-    /// nothing. Where no line is `Unproved`, they are all: the other AVPs of a level that both sides read are read as they are
-    /// sent. The error comes only where memory was refused.
-    pub fn breaks(&self, alloc: Global, command: DefId) -> Result<Breaks, AllocError>
+    /// nothing; their messages aren't checked. They are all: each AVP of a level that both sides read, and that B's side reads as
+    /// another format, is among them. The error comes only where memory was refused.
+    pub fn breaks(
+        &self,
+        alloc: Global,
+        command: DefId,
+        left: &mut u64,
+    ) -> Result<Breaks, AllocError>
         requires { command < length (definitions (sides_of self.now).sender) }
         ensures free { IfOk result (λ breaks. ∥ AreValidWhereFree (sides_of self.now) (answer_of breaks) ∥₁) }
         ensures mended { IfOk result (λ breaks. ∥ AreValidOnceMended (sides_of self.now) (answer_of breaks) ∥₁) }
@@ -147,7 +156,8 @@ impl<'a, A: Book, B: Book> Upgrade<'a, A, B> {
         ensures each { IfOk result (λ breaks. EachConfirmedBreaks (sides_of self.now) command breaks.lines.items) }
         ensures each_mended { IfOk result
             (λ breaks. EachHasMessage (sides_of self.now) command breaks.sites.items breaks.lines.items) }
-        ensures standings { IfOk result (λ breaks. HaveStandings most_checked_together breaks.lines.items) }
+        ensures standings { IfOk result (λ breaks. HaveStandings left.old breaks.lines.items) }
+        ensures left { IfOk result (λ breaks. left.new ≡ left_after left.old breaks.lines.items) }
         ensures formats { IfOk result (λ breaks. ∥ TellData (sides_of self.now) breaks.lines.items ∥₁) }
         ensures command { IfOk result (λ breaks. breaks.command ≡ command) }
         ensures head { IfSome (head_at (sides_of self.now).sender command) (λ own. IfOk result (λ breaks. IsOfHead breaks own)) }
@@ -156,14 +166,15 @@ impl<'a, A: Book, B: Book> Upgrade<'a, A, B> {
         ensures lines { IfOk result (λ breaks. IsSome (head_at (sides_of self.now).sender command)
             → AreLinesOrUnproved (sides_of self.now) (answer_of breaks)) }
         ensures meanings { IfOk result (λ breaks. IsSome (head_at (sides_of self.now).sender command)
-            → AreMeaningsOrUnproved (sides_of self.now) (answer_of breaks) breaks.meanings.items) }
-        ensures all_meanings { IfOk result (λ breaks. IsAllTold breaks.lines.items
-            → ∥ HoldsOfLevels (sides_of self.now) (answer_of breaks) (AreMeant (sides_of self.now) breaks.meanings.items) ∥₁) }
-        ensures no_meanings { IfOk result (λ breaks. IsAllTold breaks.lines.items → breaks.meanings.items ≡ []
+            → AreMeaningsOf (sides_of self.now) (answer_of breaks) breaks.meanings.items) }
+        ensures all_meanings { IfOk result (λ breaks.
+            ∥ HoldsOfLevels (sides_of self.now) (answer_of breaks) (AreMeant (sides_of self.now) breaks.meanings.items) ∥₁) }
+        ensures unchecked { IfOk result (λ breaks. AreUnchecked breaks.meanings.items) }
+        ensures no_meanings { IfOk result (λ breaks. breaks.meanings.items ≡ []
             → ∥ HoldsOfLevels (sides_of self.now) (answer_of breaks) (IsReadAsSent (sides_of self.now)) ∥₁) }
     {
         match head_of(self.lengths.book, command) {
-            Some(head) => self.lines_of(alloc, command, &head),
+            Some(head) => self.lines_of(alloc, command, &head, left),
             None => {
                 let lines = Vec::new(alloc);
                 let meanings = Vec::new(alloc);

@@ -10,7 +10,7 @@
 //! one isn't made, but told by its length. Each row is asked of each pair of books.
 
 use crate::books::{indexed_of, plain_of, same, sends_of};
-use dia_breaking::{Breaks, Line, Sends, Unknown, Upgrade};
+use dia_breaking::{Breaks, Line, MOST_CHECKED_TOGETHER, Sends, Unknown, Upgrade};
 use dia_dict::Book;
 use dia_rows::{Names, Row, field};
 use dia_wire::HEADER_LENGTH;
@@ -240,8 +240,9 @@ fn lines_of<A: Book, B: Book>(
 ) -> Result<String, AllocError> {
     let mut text = String::new(alloc);
     let a = upgrade.sender();
+    let mut left = MOST_CHECKED_TOGETHER;
     for place in 0..a.commands() {
-        let breaks = upgrade.breaks(alloc, a.command_at(place))?;
+        let breaks = upgrade.breaks(alloc, a.command_at(place), &mut left)?;
         push_lines(alloc, &mut text, upgrade, asked, &breaks)?;
     }
     if text.is_empty() {

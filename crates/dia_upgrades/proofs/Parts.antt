@@ -40,39 +40,43 @@ module _ {X Y : Type 0} (is : X → List Y → Type 0) where
 
 -- ---- two lists
 
-module _ {X Y : Type 0} (is : X → List Y → List Y → Type 0) where
-  both_behind : (xs : List X) (x : X) (old other more others : List Y) → AreBothParts is xs old other → is x more others → AreBothParts is (xs ++ x ∷ []) (old ++ more) (other ++ others)
-  both_behind [] x old other more others (none, no_other) is_x = (
+module _ {X Y : Type 0} (is : X → ℕ → ℕ → List Y → List Y → Type 0) where
+  both_behind : (xs : List X) (x : X) (budget next behind : ℕ) (old other more others : List Y) → AreBothParts is xs budget next old other → is x next behind more others
+      → AreBothParts is (xs ++ x ∷ []) budget behind (old ++ more) (other ++ others)
+  both_behind [] x budget next behind old other more others (same, none, no_other) is_x = (
+    behind,
     more,
     others,
     [],
     [],
-    is_x,
-    (refl, refl),
+    subst (λ (n : ℕ). is x n behind more others) same is_x,
+    (refl, refl, refl),
     ap (λ (o : List Y). o ++ more) none ∙ sym (append-nil more),
     ap (λ (o : List Y). o ++ others) no_other ∙ sym (append-nil others),
   )
-  both_behind (y ∷ xs) x old other more others (front, first, rest, last, is_y, are, e, f) is_x = (
+  both_behind (y ∷ xs) x budget next behind old other more others (then, front, first, rest, last, is_y, are, e, f) is_x = (
+    then,
     front,
     first,
     rest ++ more,
     last ++ others,
     is_y,
-    both_behind xs x rest last more others are is_x,
+    both_behind xs x then next behind rest last more others are is_x,
     ap (λ (o : List Y). o ++ more) e ∙ append_assoc front rest more,
     ap (λ (o : List Y). o ++ others) f ∙ append_assoc first last others,
   )
 
-  pub both_more : (xs : List X) (i : ℕ) (d : X) (old other new changed : List Y) → i < length xs → AreBothParts is (take i xs) old other → AddsBoth (is (get_or xs i d)) old other new changed
-      → AreBothParts is (take (i + 1) xs) new changed
-  both_more xs i d old other new changed less are (more, others, is_x, e, f) =
-      let all = subst (λ (ys : List X). AreBothParts is ys (old ++ more) (other ++ others)) (sym (take_more xs i d less)) (both_behind (take i xs) (get_or xs i d) old other more others are is_x) in
-      let first = subst (λ (o : List Y). AreBothParts is (take (i + 1) xs) o (other ++ others)) (sym e) all in
-      subst (AreBothParts is (take (i + 1) xs) new) (sym f) first
+  pub both_more : (xs : List X) (i : ℕ) (d : X) (budget next behind : ℕ) (old other new changed : List Y) → i < length xs → AreBothParts is (take i xs) budget next old other
+      → AddsBoth (is (get_or xs i d) next behind) old other new changed → AreBothParts is (take (i + 1) xs) budget behind new changed
+  both_more xs i d budget next behind old other new changed less are (more, others, is_x, e, f) =
+      let all = subst (λ (ys : List X). AreBothParts is ys budget behind (old ++ more) (other ++ others)) (sym (take_more xs i d less))
+      (both_behind (take i xs) (get_or xs i d) budget next behind old other more others are is_x) in
+      let first = subst (λ (o : List Y). AreBothParts is (take (i + 1) xs) budget behind o (other ++ others)) (sym e) all in
+      subst (AreBothParts is (take (i + 1) xs) budget behind new) (sym f) first
 
   -- what holds of all members of the first holds of those of each of its parts
-  pub of_both_parts : (P : Y → Type 0) (Q : X → Type 0) → ((x : X) (ys zs : List Y) → is x ys zs → AllByRecursion P ys → Q x) → (xs : List X) (ys zs : List Y) → AreBothParts is xs ys zs
-      → AllByRecursion P ys → AllByRecursion Q xs
-  of_both_parts P Q each [] ys zs none all = tt
-  of_both_parts P Q each (x ∷ xs) ys zs (front, other, rest, others, is_x, are, e, f) all =
-      let both = split P front rest (subst (AllByRecursion P) e all) in (each x front other is_x both.0, of_both_parts P Q each xs rest others are both.1)
+  pub of_both_parts : (P : Y → Type 0) (Q : X → Type 0) → ((x : X) (budget behind : ℕ) (ys zs : List Y) → is x budget behind ys zs → AllByRecursion P ys → Q x) → (xs : List X) (budget behind : ℕ)
+      (ys zs : List Y) → AreBothParts is xs budget behind ys zs → AllByRecursion P ys → AllByRecursion Q xs
+  of_both_parts P Q each [] budget behind ys zs none all = tt
+  of_both_parts P Q each (x ∷ xs) budget behind ys zs (next, front, other, rest, others, is_x, are, e, f) all =
+      let both = split P front rest (subst (AllByRecursion P) e all) in (each x budget next front other is_x both.0, of_both_parts P Q each xs next behind rest others are both.1)

@@ -1,6 +1,6 @@
 -- What lines tell of the commands.
-use Rattle.std.proofs.Common.{◌≡◌, ℕ, Bool, true, false, cond, get_or, length, map, List, [], ◌∷◌, ◌++◌, refl, sym, ap, subst, ◌∙◌, arith}
-use Rattle.std.specs.Prelude.{◌==◌, All, not, slice_get, Contains}
+use Rattle.std.proofs.Common.{◌≡◌, ℕ, Bool, true, false, cond, get_or, map, List, [], ◌∷◌, ◌++◌, refl, sym, ap, subst, ◌∙◌}
+use Rattle.std.specs.Prelude.{◌==◌, All, not, slice_get}
 use Rattle.std.specs.List.{AllByRecursion}
 use Rattle.std.proofs.Math.Logic.{∥∥₁_map}
 use Rattle.std.proofs.lemmas.Bool.{eq-eqb}
@@ -15,11 +15,11 @@ use Rattle.dia_breaking_sites.specs.Selection.{AreValid}
 use Rattle.dia_breaking.specs.declared.line.Line.{Line}
 use Rattle.dia_breaking.proofs.FreeOfLines.{nothing_told}
 use Rattle.dia_breaking.proofs.Lists.{all_in, contains_at}
-use Rattle.dia_breaking.specs.Listing.{Told, not_shown, tells}
-use Rattle.dia_breaking.specs.Mended.{IsAllTold}
+use Rattle.dia_breaking.specs.Confirmed.{most_checked_together}
+use Rattle.dia_breaking.specs.Listing.{tells}
 use Rattle.dia_breaking.specs.Orders.{IsInOrderOf}
 use Rattle.dia_breaking.specs.Sides.{Sides, sides}
-use Rattle.dia_breaking.specs.TheMeanings.{AreAllMeanings, AreTheMeanings, complete, unshown}
+use Rattle.dia_breaking.specs.TheMeanings.{AreTheMeanings}
 use Rattle.dia_upgrades.specs.Outcome.{IsAcceptedBy, IsAcceptedWhole, IsReadAlike}
 use Rattle.dia_upgrades.specs.Told.{AreShown, AreTold, IsLineTold, IsToldOf, number_at, place_of, words_at}
 use Rattle.dia_upgrades.proofs.Parts.{of_both_parts, of_parts, split}
@@ -36,9 +36,6 @@ all_accepted list (t ∷ told) none =
         → AllByRecursion (λ x. is_accepted list x ≡ true) (t ∷ told)
     by true e rest more = (e, more rest)
     by false e rest more = absurd (let z : t ∷ left_of list told ≡ [] = rest in cc)
-
-no_member : (lines : List Line) (line : Line) → lines ≡ [] → Contains lines line → ⊥
-no_member lines line none (i, within, is) = absurd (let e : length lines ≡ 0 = ap length none in omega (arith, within, e))
 
 no_members : {X : Type 0} (xs : List X) → AllByRecursion (λ x. ⊥) xs → xs ≡ []
 no_members [] none = refl
@@ -62,23 +59,14 @@ shown_all P true lines meanings shown is all =
     let before = all_before P place_of (lines ++ meanings) shown is (All-from_recursion P shown all) in
     let both = split P lines meanings (recursion_from_All P (lines ++ meanings) before) in (both.0, λ e. both.1)
 
--- where nothing breaks and there is no meaning, the meanings are none
-none_read : (P : List Told → Type 0) (lines meanings : List Line) → AreAllMeanings P lines meanings → lines ≡ [] → meanings ≡ [] → P []
-none_read P lines meanings (complete all) no_lines none = subst (λ (ms : List Line). P (map tells ms)) none all
-none_read P lines meanings (unshown alone empty) no_lines none = absurd (let z : [] ≡ not_shown ∷ [] = sym (ap (map tells) no_lines) ∙ alone in cc)
-
--- where there is no line, all is told
-all_told : (lines : List Line) → lines ≡ [] → IsAllTold lines
-all_told lines none line inside = λ e. no_member lines line none inside
-
 module _ (a b : Dictionary) (who : Sends) (u : Unknown) (messages meaning : Bool) where
   abbrev s : Sides
   s = sides a b who u
 
   -- of a command of which nothing is told no line is shown
-  none_shown : (lengths : List ℕ) (place : ℕ) (told apart : List PlainTold) (is : IsToldOf s messages meaning lengths place told apart) → AllByRecursion (λ t. ⊥) told
+  none_shown : (lengths : List ℕ) (place budget behind : ℕ) (told apart : List PlainTold) (is : IsToldOf s messages meaning lengths place budget behind told apart) → AllByRecursion (λ t. ⊥) told
       → AllByRecursion (λ x. ⊥) is.lines × (meaning ≡ true → AllByRecursion (λ x. ⊥) is.meanings)
-  none_shown lengths place told apart is none =
+  none_shown lengths place budget behind told apart is none =
       let words = words_at s lengths (number_at a place) is.sites in
       let line_never = λ (x : Line) (ys : List PlainTold) (made : IsLineTold place messages words x ys) (all : AllByRecursion (λ (t : PlainTold). ⊥) ys).
       (subst (AllByRecursion (λ (t : PlainTold). ⊥)) made.2 all).0 in
@@ -86,47 +74,49 @@ module _ (a b : Dictionary) (who : Sends) (u : Unknown) (messages meaning : Bool
       shown_all (λ x. ⊥) meaning is.lines is.meanings is.shown is.are_shown never
 
   -- each message that A's side sends is valid under B
-  command_valid : (lengths : List ℕ) (place : ℕ) (told apart : List PlainTold) → IsToldOf s messages meaning lengths place told apart → AllByRecursion (λ t. ⊥) told
+  command_valid : (lengths : List ℕ) (place budget behind : ℕ) (told apart : List PlainTold) → IsToldOf s messages meaning lengths place budget behind told apart → AllByRecursion (λ t. ⊥) told
       → ∥ AreValid a b who u (number_at a place) ∥₁
-  command_valid lengths place told apart is none =
-      let never = (none_shown lengths place told apart is none).0 in
+  command_valid lengths place budget behind told apart is none =
+      let never = (none_shown lengths place budget behind told apart is none).0 in
       ∥∥₁_map is.free (λ valid. nothing_told a b who u is.sites is.lines (number_at a place) valid (no_members is.lines never))
 
   -- and with `--meaning` no AVP is read as another format
-  command_alike : meaning ≡ true → (lengths : List ℕ) (place : ℕ) (told apart : List PlainTold) → IsToldOf s messages meaning lengths place told apart → AllByRecursion (λ t. ⊥) told
-      → IsReadAlike s (number_at a place)
-  command_alike wanted lengths place told apart is none =
-      let never = none_shown lengths place told apart is none in
-      let no_lines = no_members is.lines never.0 in
+  command_alike : meaning ≡ true → (lengths : List ℕ) (place budget behind : ℕ) (told apart : List PlainTold) → IsToldOf s messages meaning lengths place budget behind told apart
+      → AllByRecursion (λ t. ⊥) told → IsReadAlike s (number_at a place)
+  command_alike wanted lengths place budget behind told apart is none =
+      let never = none_shown lengths place budget behind told apart is none in
       let no_meanings = no_members is.meanings (never.1 wanted) in
       record {
         sites = is.sites;
-        no_meanings = none_read (λ (ts : List Told). ∥ AreTheMeanings s (number_at a place) is.sites ts ∥₁) is.lines is.meanings is.are_meanings no_lines no_meanings;
-        as_sent = is.read_alike (all_told is.lines no_lines) no_meanings;
+        no_meanings = subst (λ (meanings : List Line). ∥ AreTheMeanings s (number_at a place) is.sites (map tells meanings) ∥₁) no_meanings is.are_meanings;
+        as_sent = is.read_alike no_meanings;
       }
 
   pub told_valid : (places : List ℕ) (told apart : List PlainTold) → AreTold s messages meaning places told apart → told ≡ []
       → AllByRecursion (λ place. ∥ AreValid a b who u (number_at a place) ∥₁) places
   told_valid places told apart is none =
-      of_both_parts (IsToldOf s messages meaning is.lengths) (λ t. ⊥) (λ place. ∥ AreValid a b who u (number_at a place) ∥₁) (command_valid is.lengths) places told apart is.each
+      of_both_parts (IsToldOf s messages meaning is.lengths) (λ t. ⊥) (λ place. ∥ AreValid a b who u (number_at a place) ∥₁) (command_valid is.lengths)
+      places most_checked_together is.behind told apart is.each
       (subst (AllByRecursion (λ (t : PlainTold). ⊥)) (sym none) tt)
 
   pub told_alike : (places : List ℕ) (told apart : List PlainTold) → AreTold s messages meaning places told apart → told ≡ [] → meaning ≡ true
       → AllByRecursion (λ place. IsReadAlike s (number_at a place)) places
   told_alike places told apart is none wanted =
-      of_both_parts (IsToldOf s messages meaning is.lengths) (λ t. ⊥) (λ place. IsReadAlike s (number_at a place)) (command_alike wanted is.lengths) places told apart is.each
+      of_both_parts (IsToldOf s messages meaning is.lengths) (λ t. ⊥) (λ place. IsReadAlike s (number_at a place)) (command_alike wanted is.lengths)
+      places most_checked_together is.behind told apart is.each
       (subst (AllByRecursion (λ (t : PlainTold). ⊥)) (sym none) tt)
 
   -- a command all of whose lines are accepted
   pub told_accepted : (list : List PlainEntry) (places : List ℕ) (told apart : List PlainTold) → AreTold s messages meaning places told apart → left_of list told ≡ []
       → AllByRecursion (λ place. IsAcceptedWhole s meaning list (number_at a place)) places
   told_accepted list places told apart is none =
-      of_both_parts (IsToldOf s messages meaning is.lengths) (λ t. is_accepted list t ≡ true) (λ place. IsAcceptedWhole s meaning list (number_at a place)) each places told apart is.each
+      of_both_parts (IsToldOf s messages meaning is.lengths) (λ t. is_accepted list t ≡ true) (λ place. IsAcceptedWhole s meaning list (number_at a place)) each
+      places most_checked_together is.behind told apart is.each
       (all_accepted list told none)
     where
-      each : (place : ℕ) (told apart : List PlainTold) → IsToldOf s messages meaning is.lengths place told apart → AllByRecursion (λ t. is_accepted list t ≡ true) told
+      each : (place budget behind : ℕ) (told apart : List PlainTold) → IsToldOf s messages meaning is.lengths place budget behind told apart → AllByRecursion (λ t. is_accepted list t ≡ true) told
           → IsAcceptedWhole s meaning list (number_at a place)
-      each place told apart made all =
+      each place budget behind told apart made all =
           let words = words_at s is.lengths (number_at a place) made.sites in
           let line_accepted = λ (x : Line) (ys : List PlainTold) (l : IsLineTold place messages words x ys) (accepted : AllByRecursion (λ (t : PlainTold). is_accepted list t ≡ true) ys).
           (subst (AllByRecursion (λ (t : PlainTold). is_accepted list t ≡ true)) l.2 accepted).0 in

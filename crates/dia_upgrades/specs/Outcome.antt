@@ -18,10 +18,9 @@ use Rattle.dia_accepted.specs.declared.Told.{Told}
 use Rattle.dia_breaking.specs.declared.line.Line.{Line}
 use Rattle.dia_breaking.specs.declared.line.Site.{Site}
 use Rattle.dia_breaking.specs.Free.{AreValidWhereFree}
-use Rattle.dia_breaking.specs.Mended.{IsAllTold}
 use Rattle.dia_breaking.specs.Sides.{Sides, answer, sides}
 use Rattle.dia_breaking.specs.TheLines.{AreLinesOrUnproved}
-use Rattle.dia_breaking.specs.TheMeanings.{AreMeaningsOrUnproved, AreMeant, AreTheMeanings, HoldsOfLevels, IsReadAsSent}
+use Rattle.dia_breaking.specs.TheMeanings.{AreMeaningsOf, AreMeant, AreTheMeanings, HoldsOfLevels, IsReadAsSent}
 use Rattle.dia_upgrades.specs.declared.asked.Asked.{Asked}
 use Rattle.dia_upgrades.specs.declared.list.BadList.{BadList}
 use Rattle.dia_upgrades.specs.declared.reporting.Found.{Found}
@@ -67,11 +66,11 @@ pub record IsAcceptedWhole (s : Sides) (meaning : Bool) (list : List PlainEntry)
   pub meanings : List Line
   pub are_shortest : AreShortest s.sender s.sends lengths
   pub are_lines : AreLinesOrUnproved s (answer c sites lines)
-  pub are_meanings : AreMeaningsOrUnproved s (answer c sites lines) meanings
+  pub are_meanings : AreMeaningsOf s (answer c sites lines) meanings
   pub accepted : AllByRecursion (IsAcceptedBy list (words_at s lengths c sites)) lines
   pub meanings_accepted : meaning ≡ true → AllByRecursion (IsAcceptedBy list (words_at s lengths c sites)) meanings
   pub free : ∥ AreValidWhereFree s (answer c sites lines) ∥₁
-  pub all_meant : IsAllTold lines → ∥ HoldsOfLevels s (answer c sites lines) (AreMeant s meanings) ∥₁
+  pub all_meant : ∥ HoldsOfLevels s (answer c sites lines) (AreMeant s meanings) ∥₁
 
 -- so it is of each command
 abbrev pub NothingElseBreaks : Asked → List PlainEntry → Dictionary → Dictionary → Type 0

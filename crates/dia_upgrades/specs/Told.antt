@@ -12,14 +12,14 @@ use Rattle.dia_breaking.specs.declared.line.Line.{Line}
 use Rattle.dia_breaking.specs.declared.line.Site.{Site}
 use Rattle.dia_breaking.specs.declared.line.Standing.{Standing}
 use Rattle.dia_breaking.specs.declared.line.Standing.TheVariants.{Confirmed, Unchecked, Undecided}
-use Rattle.dia_breaking.specs.Confirmed.{EachConfirmedBreaks, HaveStandings, most_checked_together}
+use Rattle.dia_breaking.specs.Confirmed.{EachConfirmedBreaks, HaveStandings, left_after, most_checked_together}
 use Rattle.dia_breaking.specs.Free.{AreValidWhereFree}
 use Rattle.dia_breaking.specs.Lengths.{AreEntryLengths, other_length}
+use Rattle.dia_breaking.specs.Listing.{AreUnchecked}
 use Rattle.dia_breaking.specs.Orders.{IsInOrderOf}
-use Rattle.dia_breaking.specs.Mended.{IsAllTold}
 use Rattle.dia_breaking.specs.OwnBreaks.{TellData}
 use Rattle.dia_breaking.specs.TheLines.{AreLinesOrUnproved}
-use Rattle.dia_breaking.specs.TheMeanings.{AreMeaningsOrUnproved, AreMeant, HoldsOfLevels, IsReadAsSent}
+use Rattle.dia_breaking.specs.TheMeanings.{AreMeaningsOf, AreMeant, HoldsOfLevels, IsReadAsSent}
 use Rattle.dia_breaking.specs.Words.{words_of}
 use Rattle.dia_breaking.specs.Sides.{Sides, answer}
 use Rattle.dia_run.specs.Texts.{line}
@@ -29,11 +29,11 @@ abbrev pub AreParts : {X Y : Type 0} → (X → List Y → Type 0) → List X �
 AreParts is [] ys = ys ≡ []
 AreParts {X} {Y} is (x ∷ xs) ys = (front : List Y) × (rest : List Y) × is x front × AreParts is xs rest × (ys ≡ front ++ rest)
 
--- so are two lists, the parts of the one beside those of the other
-abbrev pub AreBothParts : {X Y : Type 0} → (X → List Y → List Y → Type 0) → List X → List Y → List Y → Type 0
-AreBothParts is [] ys zs = (ys ≡ []) × (zs ≡ [])
-AreBothParts {X} {Y} is (x ∷ xs) ys zs = (front : List Y) × (other : List Y) × (rest : List Y) × (others : List Y) × is x front other × AreBothParts is xs rest others
-    × (ys ≡ front ++ rest) × (zs ≡ other ++ others)
+-- so are two lists, the parts of the one beside those of the other. Of a budget each part uses some, and leaves the rest for the next
+abbrev pub AreBothParts : {X Y : Type 0} → (X → ℕ → ℕ → List Y → List Y → Type 0) → List X → ℕ → ℕ → List Y → List Y → Type 0
+AreBothParts is [] budget behind ys zs = (behind ≡ budget) × (ys ≡ []) × (zs ≡ [])
+AreBothParts {X} {Y} is (x ∷ xs) budget behind ys zs = (next : ℕ) × (front : List Y) × (other : List Y) × (rest : List Y) × (others : List Y) × is x budget next front other
+    × AreBothParts is xs next behind rest others × (ys ≡ front ++ rest) × (zs ≡ other ++ others)
 
 -- ---- a line
 
@@ -96,10 +96,11 @@ apart_of meaning meanings = if meaning then [] else meanings
 
 -- these are told of the command at this place: the lines that its dictionaries have, unless one tells that not all is shown. A message
 -- that A's side sends, and that breaks in none of their ways, is valid under B. A line that is confirmed has a message that breaks; which
--- messages are checked follows from the lines' causes and lengths; and a line about a format has data that B refuses, if it names some.
--- The meanings are those that its dictionaries have; unless a line tells that not all is shown, they are all AVPs that B reads as another
+-- messages are checked follows from the lines' causes and lengths, and from how many bytes may be checked, of which some are left behind; and
+-- a line about a format has data that B refuses, if it names some.
+-- The meanings are those that its dictionaries have, and none of their messages is checked; they are all AVPs that B reads as another
 -- format. Those that aren't shown are told apart
-pub record IsToldOf (s : Sides) (messages meaning : Bool) (lengths : List ℕ) (place : ℕ) (told apart : List PlainTold) : Type 0 where
+pub record IsToldOf (s : Sides) (messages meaning : Bool) (lengths : List ℕ) (place budget behind : ℕ) (told apart : List PlainTold) : Type 0 where
   pub sites : List Site
   pub lines : List Line
   pub meanings : List Line
@@ -107,19 +108,22 @@ pub record IsToldOf (s : Sides) (messages meaning : Bool) (lengths : List ℕ) (
   pub are_lines : AreLinesOrUnproved s (answer (number_at s.sender place) sites lines)
   pub free : ∥ AreValidWhereFree s (answer (number_at s.sender place) sites lines) ∥₁
   pub confirmed : EachConfirmedBreaks s (number_at s.sender place) lines
-  pub standings : HaveStandings most_checked_together lines
+  pub standings : HaveStandings budget lines
+  pub behind_is : behind ≡ left_after budget lines
   pub formats : ∥ TellData s lines ∥₁
-  pub are_meanings : AreMeaningsOrUnproved s (answer (number_at s.sender place) sites lines) meanings
-  pub all_meant : IsAllTold lines → ∥ HoldsOfLevels s (answer (number_at s.sender place) sites lines) (AreMeant s meanings) ∥₁
-  pub read_alike : IsAllTold lines → meanings ≡ [] → ∥ HoldsOfLevels s (answer (number_at s.sender place) sites lines) (IsReadAsSent s) ∥₁
+  pub are_meanings : AreMeaningsOf s (answer (number_at s.sender place) sites lines) meanings
+  pub unchecked : AreUnchecked meanings
+  pub all_meant : ∥ HoldsOfLevels s (answer (number_at s.sender place) sites lines) (AreMeant s meanings) ∥₁
+  pub read_alike : meanings ≡ [] → ∥ HoldsOfLevels s (answer (number_at s.sender place) sites lines) (IsReadAsSent s) ∥₁
   pub are_shown : AreShown meaning lines meanings shown
   pub told_are : AreParts (IsLineTold place messages (words_at s lengths (number_at s.sender place) sites)) shown told
   pub apart_are : AreParts (IsLineTold place false (words_at s lengths (number_at s.sender place) sites)) (apart_of meaning meanings) apart
 
 -- ---- all of them
 
--- these are told of A's commands at these places, and these apart
+-- these are told of A's commands at these places, and these apart, where so many bytes may be checked for all of them
 pub record AreTold (s : Sides) (messages meaning : Bool) (places : List ℕ) (told apart : List PlainTold) : Type 0 where
   pub lengths : List ℕ
+  pub behind : ℕ
   pub are_shortest : AreShortest s.sender s.sends lengths
-  pub each : AreBothParts (IsToldOf s messages meaning lengths) places told apart
+  pub each : AreBothParts (IsToldOf s messages meaning lengths) places most_checked_together behind told apart

@@ -1,6 +1,6 @@
 //! The lines of the commands.
 
-ghost use Rattle.std.specs.Prelude.{◌≡◌, ◌<◌, ◌++◌, All, IfOk, OnOk, length, map, string_bytes};
+ghost use Rattle.std.specs.Prelude.{◌≡◌, ◌<◌, All, IfOk, OnOk, length, map, string_bytes};
 ghost use Rattle.dia_breaking.specs.Orders.{IsInOrderOf};
 ghost use Rattle.dia_breaking.specs.Upgrades.{facts_of, other_length_of, sides_of};
 ghost use Rattle.dia_breaking.specs.Words.{words_of};
@@ -11,17 +11,19 @@ ghost use Rattle.dia_upgrades.specs.Told.{apart_of, has_message, place_of};
 
 use crate::asked::Asked;
 use dia_accepted::Told;
-use dia_breaking::{Breaks, Cause, Line, Standing, Upgrade};
+use dia_breaking::{Breaks, Cause, Line, MOST_CHECKED_TOGETHER, Standing, Upgrade};
 use dia_dict::Book;
 use std::alloc::{AllocError, Global};
 
 /// The lines of the commands that are asked for.
 #[derive(Drop)]
 pub(crate) struct Lines {
-    /// Those of the answer.
+    /// The lines that are written.
     pub told: Vec<Told>,
-    /// Those of meanings that aren't asked for, without messages.
+    /// The meanings that are found and not asked for; they have no messages.
     pub apart: Vec<Told>,
+    /// How many bytes of messages may still be checked.
+    pub budget: u64,
 }
 
 /// The lines of the commands at these places of A's commands.
@@ -37,7 +39,12 @@ pub(crate) fn lines_of<A: Book, B: Book>(
 {
     let told = Vec::new(alloc);
     let apart = Vec::new(alloc);
-    let mut lines = Lines { told, apart };
+    let budget = MOST_CHECKED_TOGETHER;
+    let mut lines = Lines {
+        told,
+        apart,
+        budget,
+    };
     for place in places {
         push_command(alloc, &mut lines, upgrade, *place, asked)?;
     }
@@ -54,12 +61,13 @@ fn push_command<A: Book, B: Book>(
 ) -> Result<(), AllocError>
     requires { place < length (sides_of upgrade.now).sender.commands }
     ensures { OnOk result (AddsBoth
-        (IsToldOf (sides_of upgrade.now) asked.entry.messages asked.entry.meaning (facts_of upgrade.now).lengths place)
+        (IsToldOf (sides_of upgrade.now) asked.entry.messages asked.entry.meaning (facts_of upgrade.now).lengths place
+        lines.old.budget lines.new.budget)
         (map plain_told lines.old.told.items) (map plain_told lines.old.apart.items)
         (map plain_told lines.new.told.items) (map plain_told lines.new.apart.items)) }
 {
     let command = upgrade.sender().command_at(place);
-    let breaks = upgrade.breaks(alloc, command)?;
+    let breaks = upgrade.breaks(alloc, command, &mut lines.budget)?;
     let shown = shown_of(alloc, &breaks, asked.meaning)?;
     let rows = shown.as_slice();
     let apart = apart_of(breaks.meanings.as_slice(), asked.meaning);

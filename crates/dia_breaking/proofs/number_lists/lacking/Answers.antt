@@ -1,7 +1,6 @@
-use Rattle.std.proofs.Common.{inl, inr}
 use Rattle.dia_data.specs.Plain.{plain_format}
 use Rattle.dia_breaking.specs.Runs.{ranges_in}
-use Rattle.dia_breaking.proofs.LackingNumbers.{lacking_is, none_lacking}
+use Rattle.dia_breaking.proofs.LackingNumbers.{lacking_is}
 use Rattle.dia_breaking.proofs.number_lists.lacking.Goals as goal
 
 pub returns : goal.returns

@@ -5,10 +5,9 @@ use Rattle.dia_breaking.specs.Words.{head_at, words_of}
 use Rattle.dia_breaking.specs.Upgrades.{other_length_of, sender_of, sides_of}
 use Rattle.dia_breaking.specs.Confirmed.{EachConfirmedBreaks}
 use Rattle.dia_breaking.specs.Free.{AreValidWhereFree}
-use Rattle.dia_breaking.specs.Mended.{IsAllTold}
 use Rattle.dia_breaking.specs.Sides.{answer}
 use Rattle.dia_breaking.specs.TheLines.{AreLinesOrUnproved}
-use Rattle.dia_breaking.specs.TheMeanings.{AreMeaningsOrUnproved, AreMeant, HoldsOfLevels, IsReadAsSent}
+use Rattle.dia_breaking.specs.TheMeanings.{AreMeaningsOf, AreMeant, HoldsOfLevels, IsReadAsSent}
 use Rattle.dia_breaking.specs.declared.line.Line.{Line}
 use Rattle.dia_upgrades.specs.Told.{AreParts, IsLineTold, apart_of, number_at}
 use Rattle.dia_upgrades.proofs.CommandHeads.{head_stands}
@@ -45,10 +44,12 @@ returns g c =
         free = subst (λ (n : ℕ). ∥ AreValidWhereFree s (answer n breaks.sites.items breaks.lines.items) ∥₁) same found.free;
         confirmed = subst (λ (n : ℕ). EachConfirmedBreaks s n breaks.lines.items) number found.each;
         standings = found.standings;
+        behind_is = found.left;
         formats = found.formats;
-        are_meanings = subst (λ (n : ℕ). AreMeaningsOrUnproved s (answer n breaks.sites.items breaks.lines.items) breaks.meanings.items) same (found.meanings some);
-        all_meant = subst (λ (n : ℕ). IsAllTold breaks.lines.items → ∥ HoldsOfLevels s (answer n breaks.sites.items breaks.lines.items) (AreMeant s breaks.meanings.items) ∥₁) same found.all_meanings;
-        read_alike = subst (λ (n : ℕ). IsAllTold breaks.lines.items → breaks.meanings.items ≡ [] → ∥ HoldsOfLevels s (answer n breaks.sites.items breaks.lines.items) (IsReadAsSent s) ∥₁) same found.no_meanings;
+        are_meanings = subst (λ (n : ℕ). AreMeaningsOf s (answer n breaks.sites.items breaks.lines.items) breaks.meanings.items) same (found.meanings some);
+        unchecked = found.unchecked;
+        all_meant = subst (λ (n : ℕ). ∥ HoldsOfLevels s (answer n breaks.sites.items breaks.lines.items) (AreMeant s breaks.meanings.items) ∥₁) same found.all_meanings;
+        read_alike = subst (λ (n : ℕ). breaks.meanings.items ≡ [] → ∥ HoldsOfLevels s (answer n breaks.sites.items breaks.lines.items) (IsReadAsSent s) ∥₁) same found.no_meanings;
         are_shown = c.in_ok-shown.ensures;
         told_are = subst (λ (n : ℕ). AreParts (is n messages) shown first.0) same rows;
         apart_are = subst (λ (n : ℕ). AreParts (is n false) (apart_of meaning breaks.meanings.items) second.0) same apart;

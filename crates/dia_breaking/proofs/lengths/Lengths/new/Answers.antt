@@ -1,4 +1,3 @@
-use Rattle.std.proofs.Common.{◌∙◌}
 use Rattle.dia_breaking.proofs.KeptFloors.{floors_kept}
 use Rattle.dia_breaking.proofs.lengths.Lengths.new.Goals as goal
 

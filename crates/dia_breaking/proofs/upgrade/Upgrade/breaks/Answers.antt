@@ -3,7 +3,7 @@ use Rattle.std.specs.Prelude.{IfOk, IfSome, slice_get}
 use Rattle.std.proofs.Math.Logic.{∥∥₁_map}
 use Rattle.dia_book.specs.Dictionary.{definitions, PlainDefinition}
 use Rattle.dia_rules.proofs.Members.{there_is, at_some}
-use Rattle.dia_breaking.specs.Confirmed.{HaveStandings, IsConfirmed, most_checked_together}
+use Rattle.dia_breaking.specs.Confirmed.{HaveStandings, IsConfirmed, left_after}
 use Rattle.dia_breaking.specs.declared.heads.Head.{Head}
 use Rattle.dia_breaking.specs.Free.{AllAreValid}
 use Rattle.dia_breaking.specs.Headers.{head_in}
@@ -12,7 +12,7 @@ use Rattle.dia_breaking.specs.OwnBreaks.{TellsData}
 use Rattle.dia_breaking.specs.TheLines.{IsOfHead}
 use Rattle.dia_breaking.specs.Upgrades.{sides_of}
 use Rattle.dia_breaking.specs.declared.line.Line.{Line}
-use Rattle.dia_breaking.specs.declared.line.Standing.TheVariants.{Confirmed}
+use Rattle.dia_breaking.specs.declared.line.Standing.TheVariants.{Confirmed, Unchecked}
 use Rattle.dia_breaking.specs.Words.{head_at}
 use Rattle.dia_breaking.proofs.AllMeanings.{none_meant}
 use Rattle.dia_breaking.proofs.FoundLines.{head_there, none_there}
@@ -46,7 +46,7 @@ returns-in-Some-clause-meanings g c = when_ok _ _ c.lines_of.result (λ told mea
 pub returns-in-Some-clause-no_meanings : goal.returns-in-Some-clause-no_meanings
 returns-in-Some-clause-no_meanings g c =
     let s = sides_of c.args.self.now in
-    when_ok _ _ c.lines_of.result (λ told all shown none. ∥∥₁_map (all shown)
+    when_ok _ _ c.lines_of.result (λ told all none. ∥∥₁_map all
     (none_meant s.sender s.receiver s.sends s.unknown told.command told.sites.items told.lines.items told.meanings.items none)) c.lines_of.ensures.all_meanings
 
 pub returns-in-Some-clause-head : goal.returns-in-Some-clause-head
@@ -76,13 +76,15 @@ returns-in-None g c =
       all = λ none. ∣ valid ∣₁;
       each = none_of (λ (line : Line). line.standing ≡ Confirmed → (bytes : List ℕ) × IsConfirmed s bytes c.args.command) c.new-lines.result.items c.new-lines.ensures.items;
       each_mended = none_of (λ (line : Line). line.standing ≡ Confirmed → HasMessage s c.args.command c.new.result.items line) c.new-lines.result.items c.new-lines.ensures.items;
-      standings = subst (HaveStandings most_checked_together) (sym c.new-lines.ensures.items) tt;
+      standings = subst (HaveStandings c.args.left.now) (sym c.new-lines.ensures.items) tt;
+      left = ap (left_after c.args.left.now) (sym c.new-lines.ensures.items);
       formats = ∣ none_of (λ (line : Line). TellsData s line.cause) c.new-lines.result.items c.new-lines.ensures.items ∣₁;
       command = refl;
       head = none_there _ (head_at da c.args.command) none;
       none = λ none. (c.new.ensures.items, c.new-lines.ensures.items, c.new-meanings.ensures.items);
       lines = λ some. absurd (true≢false (sym some ∙ ap (λ (o : Option Head). is_some o) none));
       meanings = λ some. absurd (true≢false (sym some ∙ ap (λ (o : Option Head). is_some o) none));
-      all_meanings = λ shown. ∣ (λ bytes sent. absurd (unsent bytes sent)) ∣₁;
-      no_meanings = λ shown empty. ∣ (λ bytes sent. absurd (unsent bytes sent)) ∣₁;
+      unchecked = none_of (λ (line : Line). line.standing ≡ Unchecked) c.new-meanings.result.items c.new-meanings.ensures.items;
+      all_meanings = ∣ (λ bytes sent. absurd (unsent bytes sent)) ∣₁;
+      no_meanings = λ empty. ∣ (λ bytes sent. absurd (unsent bytes sent)) ∣₁;
     }

@@ -4,16 +4,19 @@ use Rattle.std.proofs.Math.Logic.{∥∥₁_map₂}
 use Rattle.dia_breaking.specs.Headers.{HasHead}
 use Rattle.dia_breaking.specs.Sides.{answer}
 use Rattle.dia_breaking.specs.TheLines.{AreLinesOrUnproved, IsOfHead}
-use Rattle.dia_breaking.specs.TheMeanings.{AreMeaningsOrUnproved, AreMeant, HoldsOfLevels}
+use Rattle.dia_breaking.specs.TheMeanings.{AreMeaningsOf, AreMeant, HoldsOfLevels}
 use Rattle.dia_breaking.specs.Upgrades.{facts_of, sides_of}
 use Rattle.dia_breaking.specs.declared.heads.Head.{Head}
-use Rattle.dia_breaking.proofs.AllMeanings.{meant_found}
+use Rattle.dia_breaking.proofs.AllMeanings.{all_meant}
 use Rattle.dia_breaking.proofs.FoundLines.{lines_found, meanings_found}
 use Rattle.dia_breaking.proofs.Lists.{when_two}
 use Rattle.dia_breaking.proofs.upgrade.Upgrade.found.Goals as goal
 
-pub found_from-requires : goal.found_from-requires
-found_from-requires g c = subst (λ (head : Head). HasHead (sides_of c.args.self.now).sender c.args.command head) (sym c.in_ok-start.ensures.head) c.requires
+pub found_from-requires-clause-head : goal.found_from-requires-clause-head
+found_from-requires-clause-head g c = subst (λ (head : Head). HasHead (sides_of c.args.self.now).sender c.args.command head) (sym c.in_ok-start.ensures.head) c.requires
+
+pub found_from-requires-clause-start : goal.found_from-requires-clause-start
+found_from-requires-clause-start g c = c.in_ok-start.ensures.start
 
 pub returns-clause-head : goal.returns-clause-head
 returns-clause-head g c = subst (λ (head : Head). IfOk c.found_from.result (λ breaks. IsOfHead breaks head)) c.in_ok-start.ensures.head c.found_from.ensures.head
@@ -33,15 +36,15 @@ returns-clause-meanings g c =
     when_two _ _ _ c.found_from.result (λ breaks own found.
     let here = meanings_found (sides_of up) c.args.command (facts_of up) c.in_ok-start.start c.args.head.now breaks.sites.items up.known c.in_ok-start.ensures.head
     breaks.lines.items breaks.meanings.items c.in_ok-start.ensures.start c.requires found in
-    subst (λ number. AreMeaningsOrUnproved (sides_of up) (answer number breaks.sites.items breaks.lines.items) breaks.meanings.items) (sym own) here)
+    subst (λ number. AreMeaningsOf (sides_of up) (answer number breaks.sites.items breaks.lines.items) breaks.meanings.items) (sym own) here)
     c.found_from.ensures.command c.found_from.ensures.meanings
 
 pub returns-clause-all_meanings : goal.returns-clause-all_meanings
 returns-clause-all_meanings g c =
     let up = c.args.self.now in
     let s = sides_of up in
-    when_two _ _ _ c.found_from.result (λ breaks own found told. ∥∥₁_map₂ up.known up.lengths.floors (λ known floors.
-    let here = meant_found s.sender s.receiver s.sends s.unknown (facts_of up) c.in_ok-start.start c.args.command breaks.sites.items breaks.lines.items breaks.meanings.items
-    (g.met.A.Book.sound up.lengths.book.now) (g.met.B.Book.sound up.b.now) known.facts floors c.in_ok-start.ensures.start found told in
+    when_two _ _ _ c.found_from.result (λ breaks own found. ∥∥₁_map₂ up.known up.lengths.floors (λ known floors.
+    let here = all_meant s.sender s.receiver s.sends s.unknown (facts_of up) c.in_ok-start.start c.args.command breaks.sites.items breaks.lines.items breaks.meanings.items
+    (g.met.A.Book.sound up.lengths.book.now) (g.met.B.Book.sound up.b.now) known.facts floors c.in_ok-start.ensures.start found in
     subst (λ number. HoldsOfLevels s (answer number breaks.sites.items breaks.lines.items) (AreMeant s breaks.meanings.items)) (sym own) here))
     c.found_from.ensures.command c.found_from.ensures.meanings

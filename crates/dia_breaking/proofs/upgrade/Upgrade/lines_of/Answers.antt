@@ -1,17 +1,18 @@
-use Rattle.std.proofs.Common.{ℕ, List, subst, sym, ◌∙◌}
+use Rattle.std.proofs.Common.{ℕ, List, map, subst, sym, ◌∙◌}
 use Rattle.std.proofs.Math.Logic.{∥∥₁_map}
 use Rattle.dia_breaking.specs.Confirmed.{EachConfirmedBreaks}
 use Rattle.dia_breaking.specs.Free.{AreValidWhereFree}
 use Rattle.dia_breaking.specs.declared.line.Line.{Line}
 use Rattle.dia_breaking.specs.declared.line.Site.{Site}
+use Rattle.dia_breaking.specs.Listing.{AreUnchecked}
 use Rattle.dia_breaking.specs.Mended.{AreValidOnceMended, EachHasMessage}
+use Rattle.dia_breaking.specs.Listing.{tells}
 use Rattle.dia_breaking.specs.Sides.{answer, answer_of}
 use Rattle.dia_breaking.specs.TheLines.{AreLinesOrUnproved, AreTheLines}
-use Rattle.dia_breaking.specs.TheMeanings.{AreMeaningsOrUnproved, AreMeant, AreTheMeanings, HoldsOfLevels}
+use Rattle.dia_breaking.specs.TheMeanings.{AreMeaningsOf, AreMeant, AreTheMeanings, HoldsOfLevels}
 use Rattle.dia_breaking.specs.Upgrades.{sides_of}
-use Rattle.dia_breaking.proofs.AllMeanings.{all_told}
 use Rattle.dia_breaking.proofs.FormatData.{data_kept}
-use Rattle.dia_breaking.proofs.FoundLines.{lines_kept, meanings_kept}
+use Rattle.dia_breaking.proofs.FoundLines.{lines_kept}
 use Rattle.dia_breaking.proofs.FreeOfLines.{still_mended, still_valid}
 use Rattle.dia_breaking.proofs.Lists.{when_ok, when_two}
 use Rattle.dia_breaking.proofs.ToldLists.{told_kept}
@@ -41,16 +42,15 @@ returns g c =
       lines = when_two _ _ _ c.with_standings.result
           (λ told same kept. subst (λ (at : List Site). AreLinesOrUnproved s (answer told.command at told.lines.items)) (sym same.3)
           (subst (λ (number : ℕ). AreLinesOrUnproved s (answer number found.sites.items told.lines.items)) (sym same.0)
-          (lines_kept (λ lines. ∥ AreTheLines s found.command found.sites.items lines ∥₁) found.sites.items found.lines.items told.lines.items kept c.in_ok-found.ensures.lines)))
+          (lines_kept (λ lines. ∥ AreTheLines s found.command found.sites.items lines ∥₁) found.lines.items told.lines.items kept c.in_ok-found.ensures.lines)))
           c.with_standings.ensures.same c.with_standings.ensures.kept;
       meanings = when_two _ _ _ c.with_standings.result
-          (λ told same kept. subst (λ (at : List Site). AreMeaningsOrUnproved s (answer told.command at told.lines.items) told.meanings.items) (sym same.3)
-          (subst (λ (number : ℕ). AreMeaningsOrUnproved s (answer number found.sites.items told.lines.items) told.meanings.items) (sym same.0)
-          (meanings_kept (λ all. ∥ AreTheMeanings s found.command found.sites.items all ∥₁) found.lines.items told.lines.items found.meanings.items told.meanings.items kept same.4
-          c.in_ok-found.ensures.meanings)))
+          (λ told same kept. subst (λ (at : List Site). AreMeaningsOf s (answer told.command at told.lines.items) told.meanings.items) (sym same.3)
+          (subst (λ (number : ℕ). AreMeaningsOf s (answer number found.sites.items told.lines.items) told.meanings.items) (sym same.0)
+          (subst (λ (meanings : List Line). ∥ AreTheMeanings s found.command found.sites.items (map tells meanings) ∥₁) (sym same.4) c.in_ok-found.ensures.meanings)))
           c.with_standings.ensures.same c.with_standings.ensures.kept;
       all_meanings = when_two _ _ _ c.with_standings.result
-          (λ told same kept shown. ∥∥₁_map (c.in_ok-found.ensures.all_meanings (all_told told.lines.items found.lines.items kept shown)) (λ meant.
+          (λ told same kept. ∥∥₁_map c.in_ok-found.ensures.all_meanings (λ meant.
           subst (λ (meanings : List Line). HoldsOfLevels s (answer_of told) (AreMeant s meanings)) (sym same.4)
           (subst (λ (at : List Site). HoldsOfLevels s (answer told.command at told.lines.items) (AreMeant s found.meanings.items)) (sym same.3)
           (subst (λ (number : ℕ). HoldsOfLevels s (answer number found.sites.items told.lines.items) (AreMeant s found.meanings.items)) (sym same.0) meant))))
@@ -61,6 +61,8 @@ returns g c =
           (subst (λ (number : ℕ). EachHasMessage s number found.sites.items told.lines.items) own has))
           c.with_standings.ensures.same c.with_standings.ensures.each_mended;
       standings = c.with_standings.ensures.standings;
+      left = c.with_standings.ensures.left;
+      unchecked = when_ok _ _ c.with_standings.result (λ told same. subst AreUnchecked (sym same.4) c.in_ok-found.ensures.unchecked) c.with_standings.ensures.same;
       formats = when_ok _ _ c.with_standings.result
           (λ told kept. ∥∥₁_map c.in_ok-found.ensures.formats (data_kept s.sender s.receiver s.sends s.unknown found.lines.items told.lines.items kept)) c.with_standings.ensures.kept;
     }

@@ -1,13 +1,13 @@
 use Rattle.std.proofs.Common.{◌≡◌, ℕ, List, refl, length, get_or, map, sym, ap, subst, ◌∙◌, arith}
 use Rattle.std.proofs.lemmas.List.{take_all}
-use Rattle.dia_breaking.specs.Confirmed.{HaveStandings, IsConfirmed, IsStandingOf, left_behind, most_checked_together}
+use Rattle.dia_breaking.specs.Confirmed.{HaveStandings, IsConfirmed, IsStandingOf, left_after, left_behind}
 use Rattle.dia_breaking.specs.Listing.{unchecked}
 use Rattle.dia_breaking.specs.Mended.{HasMessage}
 use Rattle.dia_breaking.specs.declared.line.Line.{Line}
 use Rattle.dia_breaking.specs.declared.line.Standing.TheVariants.{Confirmed}
 use Rattle.dia_breaking.specs.Upgrades.{sides_of}
 use Rattle.dia_breaking.proofs.Lists.{all_more, image_more, none_of}
-use Rattle.dia_breaking.proofs.Standings.{left_after, left_more, so_told, standings_more}
+use Rattle.dia_breaking.proofs.Standings.{left_more, so_told, standings_more}
 use Rattle.dia_breaking.proofs.upgrade.Upgrade.with_standings.Goals as goal
 
 pub loop-line-init : goal.loop-line-init
@@ -19,8 +19,8 @@ loop-line-init g c =
       each = none_of (λ (line : Line). line.standing ≡ Confirmed
           → (bytes : List ℕ) × IsConfirmed (sides_of up) bytes c.args.breaks.command) c.new-lines.result.items none;
       each_mended = none_of (λ (line : Line). line.standing ≡ Confirmed → HasMessage (sides_of up) c.args.breaks.command c.args.breaks.sites.items line) c.new-lines.result.items none;
-      standings = subst (HaveStandings most_checked_together) (sym none) tt;
-      left = ap (left_after most_checked_together) (sym none);
+      standings = subst (HaveStandings c.args.left.now) (sym none) tt;
+      left = ap (left_after c.args.left.now) (sym none);
     }
 
 pub loop-line-preserved : goal.loop-line-preserved
@@ -38,10 +38,10 @@ loop-line-preserved g c =
           c.in_ok-standing.ensures.confirmed;
       each_mended = all_more (λ (line : Line). line.standing ≡ Confirmed → HasMessage (sides_of up) c.args.breaks.command c.args.breaks.sites.items line) old _ _ is
           c.loop-line.invariant.each_mended c.in_ok-standing.ensures.mended;
-      standings = subst (HaveStandings most_checked_together) (sym is) (standings_more most_checked_together old told c.loop-line.invariant.standings
+      standings = subst (HaveStandings c.args.left.now) (sym is) (standings_more c.args.left.now old told c.loop-line.invariant.standings
           (subst (λ left. IsStandingOf left told told.standing) c.loop-line.invariant.left (so_told c.loop-line.left line told.standing c.in_ok-standing.ensures.standing)));
-      left = c.left_behind-left.ensures ∙ ap (λ left. left_behind left line) c.loop-line.invariant.left
-          ∙ sym (left_more most_checked_together old told) ∙ ap (left_after most_checked_together) (sym is);
+      left = c.left_behind.ensures ∙ ap (λ left. left_behind left line) c.loop-line.invariant.left
+          ∙ sym (left_more c.args.left.now old told) ∙ ap (left_after c.args.left.now) (sym is);
     }
 
 pub returns-clause-kept : goal.returns-clause-kept
@@ -55,6 +55,9 @@ returns-clause-each_mended g c = c.loop-line.invariant.each_mended
 
 pub returns-clause-standings : goal.returns-clause-standings
 returns-clause-standings g c = c.loop-line.invariant.standings
+
+pub returns-clause-left : goal.returns-clause-left
+returns-clause-left g c = c.loop-line.invariant.left
 
 pub returns-clause-same : goal.returns-clause-same
 returns-clause-same g c = (refl, refl, refl, refl, refl)

@@ -1,9 +1,8 @@
 use Rattle.std.proofs.Common.{◌≡◌, map, take}
-use Rattle.dia_breaking.specs.Confirmed.{EachConfirmedBreaks, HaveStandings, most_checked_together}
+use Rattle.dia_breaking.specs.Confirmed.{EachConfirmedBreaks, HaveStandings, left_after}
 use Rattle.dia_breaking.specs.Listing.{unchecked}
 use Rattle.dia_breaking.specs.Mended.{EachHasMessage}
 use Rattle.dia_breaking.specs.Upgrades.{sides_of}
-use Rattle.dia_breaking.proofs.Standings.{left_after}
 use Rattle.dia_breaking.proofs.upgrade.Upgrade.with_standings.Given as goal
 
 abbrev pub invariant-loop-line : goal.invariant-loop-line
@@ -11,6 +10,6 @@ invariant-loop-line g l = record {
   kept : map unchecked l.lines.items ≡ map unchecked (take l.line-index l.fn.breaks.lines.items);
   each : EachConfirmedBreaks (sides_of l.self) l.fn.breaks.command l.lines.items;
   each_mended : EachHasMessage (sides_of l.self) l.fn.breaks.command l.fn.breaks.sites.items l.lines.items;
-  standings : HaveStandings most_checked_together l.lines.items;
-  left : l.left ≡ left_after most_checked_together l.lines.items;
+  standings : HaveStandings l.fn.left l.lines.items;
+  left : l.left ≡ left_after l.fn.left l.lines.items;
 }
