@@ -28,10 +28,13 @@ use std::process::Abort;
 const DICTIONARY: &str = "
 %avp Framed-IP-Address 8 OctetString must
 %avp Event-Timestamp 55 Time must
+%avp Host-IP-Address 257 Address must
 %avp Session-Id 263 UTF8String must
 %avp Origin-Host 264 DiameterIdentity must
+%avp Redirect-Host 292 DiameterURI must
 %avp CC-Request-Number 415 Unsigned32 must
 %avp CC-Request-Type 416 Enumerated must ( 1..4 )
+%avp Filter-Rule 400 IPFilterRule must
 %avp CC-Total-Octets 421 Unsigned64 must
 %avp Exponent 429 Integer32 must
 %avp Subscription-Id-Data 444 UTF8String must

@@ -64,10 +64,10 @@ full_both (l ∷ a) b (first, h) k = (first, full_both a b h k)
 
 level_full : (d : Dictionary) (level : List ℕ) (ls : List (List ℕ)) → IsDictionary d → IsLevelText d level ls → AreBytes level → AllByRecursion IsFull ls
 level_full d level ls sound (end none no_lines) bytes = subst (AllByRecursion IsFull) (sym no_lines) tt
-level_full d level ls sound (leaf v front rest more s parts no_group text is_lines) bytes =
+level_full d level ls sound (leaf v front rest word more s parts no_group is_word text is_lines) bytes =
     let (here, there) = bytes_split front rest (subst AreBytes parts bytes) in
-    let back = leaf_back d v front sound (parts_of v front s here) in
-    subst (AllByRecursion IsFull) (sym is_lines) ((back.feeds, line_some d (leaf_line d v (behind_data v front)) _ back.reads refl), level_full d rest more sound text there)
+    let back = leaf_back d v front word sound (parts_of v front s here) is_word in
+    subst (AllByRecursion IsFull) (sym is_lines) ((back.feeds, line_some d (leaf_line d v word (behind_data v front)) _ back.reads refl), level_full d rest more sound text there)
 level_full d level ls sound (group v front rest members more s parts is_group inner text is_lines) bytes =
     let (here, there) = bytes_split front rest (subst AreBytes parts bytes) in
     let p = parts_of v front s here in

@@ -1,13 +1,12 @@
 -- What `show --as-text` answers, from its parts.
-use Rattle.std.proofs.Common.{◌≡◌, ℕ, ◌-◌, ◌<◌, ◌≤◌, List, [], ◌∷◌, ◌++◌, length, drop, Result, Ok, Err, refl, sym, ap, subst, ◌∙◌, append_assoc, append-nil, arith}
+use Rattle.std.proofs.Common.{◌≡◌, ℕ, List, [], ◌∷◌, ◌++◌, length, drop, Result, Ok, Err, refl, sym, ap, subst, ◌∙◌, append_assoc, append-nil, arith}
 use Rattle.std.specs.Prelude.{IfOk, string_bytes}
-use Rattle.std.proofs.lemmas.List.{length-append, length-drop}
 use Rattle.dia_policy.specs.Limits.{max_message_text}
 use Rattle.dia_io.specs.declared.Exit.{Exit}
 use Rattle.dia_io.specs.declared.Exit.TheVariants as exits
 use Rattle.dia_io.specs.declared.Inputs.{Inputs}
 use Rattle.dia_io.specs.Inputs.{Holds}
-use Rattle.dia_wire.specs.Wire.{PlainAvp, Spells, SpellsAll, BeginsWith, BeginsWithNone}
+use Rattle.dia_wire.specs.Wire.{PlainAvp, Spells, SpellsAll, BeginsWith}
 use Rattle.dia_dict.specs.Dictionary.{Dictionary}
 use Rattle.dia_text.specs.Made.{digits_line}
 use Rattle.dia_text.specs.TextOf.{AreAvps, HasNoText}
@@ -20,10 +19,8 @@ use Rattle.dia_run.specs.Listing.{bad_length_line}
 use Rattle.dia_run.specs.Outcome.{ended, no_dictionary, no_message}
 use Rattle.dia_run.specs.Texts.{line, IsDictionaryText, IsNoDictionaryText, IsMessageText, IsNoMessageText}
 use Rattle.dia_make.specs.declared.reporting.Answered.{Answered}
-use Rattle.dia_make.specs.declared.reporting.Report.{Report}
 use Rattle.dia_make.specs.declared.reporting.Report.TheVariants as reports
 use Rattle.dia_make.specs.Outcome.{IsMakeOutcome, made}
-use Rattle.dia_make.specs.Reports.{IsTold, HasReport}
 use Rattle.dia_make.specs.Shown.{IsCutAt, IsTextShown, written, cut, bad_message, IsShowTextOutcome, Gives}
 
 -- ---- where a message ends
@@ -53,17 +50,6 @@ pub read_all : (message rest : List ℕ) → HasNoText Avps message → IsReadTo
 read_all message [] no_text r none = no_text.1 (subst AreAvps (sym (r.parts ∙ append-nil r.front)) r.is_front)
 read_all message (b ∷ rest) no_text r none = omega (arith, none)
 
-pub cut_at : (message rest : List ℕ) → 20 ≤ length message → IsReadTo (drop 20 message) rest → 0 < length rest → BeginsWithNone rest → IsCutAt message (length message - length rest)
-cut_at message rest long r some none = record {
-  front = r.front;
-  rest = rest;
-  parts = r.parts;
-  is_front = r.is_front;
-  some = some;
-  no_avp = none;
-  is_place = omega (arith, ap length r.parts, length-append r.front rest, length-drop 20 message, long);
-}
-
 -- ---- what is answered
 
 pub gives_refused : (inputs : Inputs) (why : Refused) → TellsOf (λ told. (w : List ℕ) × IsNoDictionaryText inputs.first w × (told ≡ dictionary_line 1 w)) why → Gives (IsShowTextOutcome inputs) (Err why)
@@ -90,9 +76,6 @@ refused_ends P why (Err e) h text exit = tt
 pub cut_ends : (d : Dictionary) (message : List ℕ) (a : Answered) → HasNoText Avps message → (place : ℕ) × IsCutAt message place × (string_bytes a.text ≡ bad_length_line place) × (a.report ≡ reports.Cut place) → a.exit ≡ exits.No
     → IsTextShown d message (string_bytes a.text) a.exit
 cut_ends d message a no_text (place, is_cut, is, report) exit = cut place no_text.0 is_cut is exit
-
-pub told_cut : (message : List ℕ) (a : Answered) → (place : ℕ) × IsCutAt message place × (string_bytes a.text ≡ bad_length_line place) × (a.report ≡ reports.Cut place) → a.exit ≡ exits.No → HasReport a
-told_cut message a (place, is_cut, is, report) exit = subst (λ (r : Report). IsTold r (string_bytes a.text) a.exit) (sym report) (is, exit)
 
 -- ---- the law of the way back
 

@@ -8,8 +8,6 @@ mod notes;
 mod refusing;
 mod reporting;
 mod showing;
-#[cfg(test)]
-mod tests;
 
 pub use command::make;
 pub use notes::note;

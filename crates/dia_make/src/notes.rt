@@ -2,7 +2,7 @@
 
 use crate::notes::spots::{Meant, Spot, spot_of};
 use crate::reporting::{BadText, Report};
-use dia_data::push_hex_byte;
+use dia_data::{Format, push_value};
 use dia_dict::Book;
 use dia_explain_places::{nearest_command, nearest_name, push_excerpt, push_place, push_shown};
 use dia_io::Inputs;
@@ -110,9 +110,13 @@ fn push_meant<B: Book>(alloc: Global, out: &mut String, book: &B, spot: &Spot<'_
             out,
             nearest_name(&name_of(alloc, spot)?, &avps_of(alloc, book)?),
         ),
-        Meant::Text => push_digits(out, spot.word.text),
+        Meant::Text => push_quoted(out, spot.word.text),
         Meant::Pairs => out.push_str(
             "hint: a byte is two hexadecimal digits: behind x their number is even\n",
+        ),
+        Meant::Closed => out.push_str("hint: the closing quote is missing on this line\n"),
+        Meant::Escaped => out.push_str(
+            "hint: behind a backslash stand x and two hexadecimal digits: \\x5c is the backslash itself, \\x22 the quote\n",
         ),
         Meant::Nothing => Ok(()),
     }
@@ -125,14 +129,12 @@ fn push_near(out: &mut String, near: Option<&str>) -> Added {
     }
 }
 
-/// Adds how a word is written as the data of an AVP.
-fn push_digits(out: &mut String, word: &[u8]) -> Added {
-    out.push_str("hint: text is written by its bytes; of this word they are x")?;
-    for byte in front(word) {
-        push_hex_byte(out, *byte)?;
-    }
-    if word.len() > SHOWN {
-        out.push_str("..")?;
+/// Adds how a word is written as a text.
+fn push_quoted(out: &mut String, word: &[u8]) -> Added {
+    out.push_str("hint: a text stands in double quotes")?;
+    if word.len() <= SHOWN {
+        out.push_str(", as ")?;
+        push_value(out, &Format::Utf8String, word)?;
     }
     out.push('\n')
 }

@@ -16,7 +16,7 @@ use Rattle.dia_text.specs.LineTexts.{spaced, flags_words, app_words, pad_words}
 use Rattle.dia_text.proofs.NumbersOfWords.{digits_model}
 use Rattle.dia_text.proofs.Bytes.{AreBytes}
 use Rattle.dia_text.proofs.HexBack.{hex_byte_back, bytes_back}
-use Rattle.dia_text.proofs.WordsBack.{is_sign, IsWord, AreWords, next_is, behind_next, decimal_word, hex_byte_word, hexadecimal_word}
+use Rattle.dia_text.proofs.WordsBack.{is_sign, IsWord, AreWords, HaveNoFeeds, no_feed_words, next_is, behind_next, decimal_word, hex_byte_word, hexadecimal_word}
 
 pub keyword : (w : List ℕ) → 0 < length w → list_all is_sign w ≡ true → IsWord w
 keyword w some signs = record { some = some; signs = signs }
@@ -132,6 +132,13 @@ flags_are_words default flags ws all = by (option_eq nat_eq default (Some flags)
     by : (b : Bool) → AreWords ((if b then [] else (codes "flags" ∷ hex_byte flags ∷ [])) ++ ws)
     by true = all
     by false = (keyword (codes "flags") (omega arith) refl, (hex_byte_word flags, all))
+
+pub flags_have_no_feeds : (default : Option ℕ) (flags : ℕ) → HaveNoFeeds (flags_words default flags)
+flags_have_no_feeds default flags = by (option_eq nat_eq default (Some flags))
+  where
+    by : (b : Bool) → HaveNoFeeds (if b then [] else (codes "flags" ∷ hex_byte flags ∷ []))
+    by true = tt
+    by false = no_feed_words (codes "flags" ∷ hex_byte flags ∷ []) (keyword (codes "flags") (omega arith) refl, (hex_byte_word flags, tt))
 
 pub app_are_words : (default : Option ℕ) (n : ℕ) (ws : List (List ℕ)) → n < 2 ^ 32 → AreWords ws → AreWords (app_words default n ++ ws)
 app_are_words default n ws small all = by (option_eq nat_eq default (Some n))

@@ -19,7 +19,7 @@ use Rattle.dia_text.specs.Keys.{class_flags, p_flag, start_of, command_named, st
 use Rattle.dia_text.specs.Lines.{header_letters, no_more, start_at, header_at, header_of}
 use Rattle.dia_text.specs.LineTexts.{spaced, flags_words, app_words, identifier_words, field_words, code_start, code_header, named_header, header_text, header_line, class_bits, serves, names_header}
 use Rattle.dia_text.proofs.Bytes.{HasFields}
-use Rattle.dia_text.proofs.WordsBack.{IsWord, AreWords, HasNoFeed, first_is, behind_is, next_is, behind_next, no_feed_line, decimal_word}
+use Rattle.dia_text.proofs.WordsBack.{IsWord, AreWords, HasNoFeed, first_is, behind_is, next_is, behind_next, no_feed_words, no_feed_line, decimal_word}
 use Rattle.dia_text.proofs.FieldsBack.{keyword, number_back, flags_back, app_back, number_written, flags_are_words, app_are_words}
 use Rattle.dia_text.proofs.KeysBack.{BeginsLine, name_begins, member_has, found_by_name}
 
@@ -93,7 +93,7 @@ by_code d h n b f =
     (next_is (decimal h.code) (field_words h (code_start h)) number) (behind_next (decimal h.code) (field_words h (code_start h)) number) (number_back (2 ^ 24) h.code f.code fits) in
     record {
       reads = line_is_header d (code_header h) h (omega (arith, ap length first)) (fields_back d h (code_start h) n b (code_header h) f refl start);
-      feeds = no_feed_line (codes "code") ws word (number, field_are_words h (code_start h) n b f);
+      feeds = no_feed_line (codes "code") ws word (no_feed_words ws (number, field_are_words h (code_start h) n b f));
     }
 
 served_code : (h : Header) (head : DefHead) (s : Start) → serves h head ≡ true → start_of head ≡ Some s → s.code ≡ h.code
@@ -130,7 +130,7 @@ by_name d h n b c s sound f found is =
     let some = begins.word.some in
     record {
       reads = line_is_header d line h (omega (arith, ap length first, some)) (fields_back d h s n b line f (served_code h c.head s tests.0 is) start);
-      feeds = no_feed_line c.name ws begins.word (field_are_words h s n b f);
+      feeds = no_feed_line c.name ws begins.word (no_feed_words ws (field_are_words h s n b f));
     }
 
 pub header_back : (d : Dictionary) (h : Header) (n : ℕ) (b : List ℕ) → IsDictionary d → HasFields h n b → IsHeaderLine d h (header_line d h)

@@ -104,15 +104,15 @@ line_more lines l before now new so_far is_new = is_new ∙ ap (λ (t : List ℕ
 
 pub leaf_written : (d : Dictionary) (whole before now new : List ℕ) (rs : List (Bor (List ℕ))) (rest next pad : List ℕ) (v : PlainAvp) → IsUnderWay d whole before now rs rest → BeginsWith v rest next
     → BehindData v rest next pad → AddsAvp d v pad now new false → IsUnderWay d whole before new rs next
-leaf_written d whole before now new rs rest next pad v u (front, s, parts) is_pad (not_opened, is_new) =
-    let line = leaf_line d v (behind_data v front) in
-    let added : new ≡ now ++ fed line = is_new ∙ ap (λ (t : List ℕ). now ++ fed (leaf_line d v t)) (is_pad front s parts) in
+leaf_written d whole before now new rs rest next pad v u (front, s, parts) is_pad (not_opened, (word, is_word, is_new)) =
+    let line = leaf_line d v word (behind_data v front) in
+    let added : new ≡ now ++ fed line = is_new ∙ ap (λ (t : List ℕ). now ++ fed (leaf_line d v word t)) (is_pad front s parts) in
     record {
       lines = u.lines ++ (line ∷ []);
       text = line_more u.lines line before now new u.text added;
       reads = λ h. let both = u.reads h in (avps_behind v rest front next s parts both.0, both.1);
       goes_on = λ more h. subst (IsLevelText d whole) (sym (append_assoc u.lines (line ∷ []) more))
-          (u.goes_on (line ∷ more) (Owes-front d rs rest next line more (λ t k. leaf v front next t s parts not_opened k refl) h));
+          (u.goes_on (line ∷ more) (Owes-front d rs rest next line more (λ t k. leaf v front next word t s parts not_opened is_word k refl) h));
     }
 
 pub group_entered : (d : Dictionary) (whole before now new : List ℕ) (rs : List (Bor (List ℕ))) (rest pad inner : List ℕ) (next : Bor (List ℕ)) (v : PlainAvp) → IsUnderWay d whole before now rs rest

@@ -3,10 +3,15 @@ pub mod Letters
 pub mod Found
 pub mod Drafting
 pub mod LinesOfTexts
+pub mod PartsOfTexts
+pub mod SetsOfNames
 pub mod Bytes
 pub mod HexBack
 pub mod WordsBack
 pub mod FieldsBack
+pub mod ValueWords
+pub mod QuotedBack
+pub mod AddressesBack
 pub mod ValuesBack
 pub mod KeysBack
 pub mod HeadersBack
@@ -14,5 +19,6 @@ pub mod LinesBack
 pub mod TextsBack
 pub mod LevelTexts
 pub mod Pushed
+pub mod ShownWords
 pub mod NoTexts
 pub mod Parts

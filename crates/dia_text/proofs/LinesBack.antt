@@ -14,16 +14,16 @@ use Rattle.dia_text.specs.Words.{first_word, behind_word}
 use Rattle.dia_text.specs.Reading.{◌>>=◌}
 use Rattle.dia_text.specs.Fields.{flags_field, length_field, padding_field}
 use Rattle.dia_text.specs.Keys.{code_of, default_flags, format_at}
-use Rattle.dia_text.specs.Values.{value_of}
+use Rattle.dia_text.specs.Values.{value_at}
 use Rattle.dia_text.specs.Lines.{PlainLine, Blank, Leaf, Open, Close, avp_letters, head_at, leaf_at, open_at, close_at, avp_at, line_of}
 use Rattle.dia_text.specs.Drafts.{Frame, Level, added, closed, avp_of, length_of, end_bytes, front_bytes}
 use Rattle.dia_text.specs.Made.{line_added}
-use Rattle.dia_text.specs.LineTexts.{spaced, avp_word, code_at, avp_flags, value_word, pad_words, leaf_line, open_line, close_line}
+use Rattle.dia_text.specs.LineTexts.{spaced, avp_word, code_at, avp_flags, IsWordOf, pad_words, leaf_line, open_line, close_line}
 use Rattle.dia_text.specs.TextOf.{behind_data}
 use Rattle.dia_text.proofs.Bytes.{HasParts, plain_head}
-use Rattle.dia_text.proofs.WordsBack.{IsWord, AreWords, HasNoFeed, first_is, behind_is, next_is, behind_next, no_feed_line}
-use Rattle.dia_text.proofs.FieldsBack.{keyword, flags_back, length_not_there, padding_back, said_pad, flags_are_words, pad_are_words}
-use Rattle.dia_text.proofs.ValuesBack.{ReadsBack, value_back}
+use Rattle.dia_text.proofs.WordsBack.{IsWord, AreWords, HasNoFeed, first_is, behind_is, next_is, behind_next, no_feed_words, no_feeds_both, no_feed_line}
+use Rattle.dia_text.proofs.FieldsBack.{keyword, flags_back, length_not_there, padding_back, said_pad, flags_are_words, flags_have_no_feeds, pad_are_words}
+use Rattle.dia_text.proofs.ValuesBack.{value_back}
 use Rattle.dia_text.proofs.KeysBack.{NamesAvp, word_names}
 
 -- ---- what a line says
@@ -33,10 +33,10 @@ head_read : (d : Dictionary) (text t1 t2 : List ℕ) (code : AvpCode) (flags : �
 unfolding head_at
 head_read d text t1 t2 code flags a b c e = rw (a, b, c, e) refl
 
-leaf_read : (d : Dictionary) (head : Head) (text t1 bytes : List ℕ) (pad : Option (List ℕ)) → value_of (format_at d head.code) (first_word text) ≡ Ok bytes → behind_word text ≡ t1
+leaf_read : (d : Dictionary) (head : Head) (text t1 bytes : List ℕ) (pad : Option (List ℕ)) → value_at (format_at d head.code) text ≡ Ok (bytes, t1)
     → padding_field t1 ≡ Ok (pad, []) → leaf_at d head text ≡ Ok (Leaf head bytes pad)
 unfolding leaf_at
-leaf_read d head text t1 bytes pad a b c = rw (a, b, c) refl
+leaf_read d head text t1 bytes pad a b = rw (a, b) refl
 
 opens : (head : Head) → open_at head [] ≡ Ok (Open head)
 unfolding open_at
@@ -81,26 +81,26 @@ pub record IsLineOf (d : Dictionary) (l : PlainLine) (line : List ℕ) : Type 0 
   pub reads : line_of d line ≡ Ok l
   pub feeds : HasNoFeed line
 
-pub leaf_back : (d : Dictionary) (v : PlainAvp) (front : List ℕ) → IsDictionary d → HasParts v front
-    → IsLineOf d (Leaf (plain_head v) v.bytes (said_pad (avp_length v) (behind_data v front))) (leaf_line d v (behind_data v front))
-leaf_back d v front sound p =
+pub leaf_back : (d : Dictionary) (v : PlainAvp) (front word : List ℕ) → IsDictionary d → HasParts v front → IsWordOf d v word
+    → IsLineOf d (Leaf (plain_head v) v.bytes (said_pad (avp_length v) (behind_data v front))) (leaf_line d v word (behind_data v front))
+leaf_back d v front word sound p is_word =
     let names = word_names d (code_at v) sound p.code p.vendor in
-    let value = value_back (format_at d (code_at v)) v.bytes p.bytes in
+    let value = value_back (format_at d (code_at v)) v.bytes word p.bytes is_word in
     let w = avp_word d (code_at v) in
     let pads = pad_words (avp_length v) (behind_data v front) in
-    let ws : List (List ℕ) = value_word (format_at d (code_at v)) v.bytes ∷ pads in
-    let line = leaf_line d v (behind_data v front) in
-    let next = next_is (value_word (format_at d (code_at v)) v.bytes) pads value.word in
-    let head = head_back d v front ws p names (ap (λ (t : List ℕ). same_bytes t (codes "flags")) next ∙ value.flags) (ap (λ (t : List ℕ). same_bytes t (codes "length")) next ∙ value.len) in
-    let leaf = leaf_read d (plain_head v) (spaced ws) (spaced pads) v.bytes (said_pad (avp_length v) (behind_data v front)) (ap (value_of (format_at d (code_at v))) next ∙ value.reads)
-    (behind_next (value_word (format_at d (code_at v)) v.bytes) pads value.word) (padding_back (avp_length v) (behind_data v front) p.behind) in
+    let ws : List (List ℕ) = word ∷ pads in
+    let line = leaf_line d v word (behind_data v front) in
+    let head = head_back d v front ws p names (value.flags pads) (value.len pads) in
+    let leaf = leaf_read d (plain_head v) (spaced ws) (spaced pads) v.bytes (said_pad (avp_length v) (behind_data v front)) (value.reads pads)
+    (padding_back (avp_length v) (behind_data v front) p.behind) in
     let first = first_is w (avp_flags d v ++ ws) names.begins.word in
     let some = names.begins.word.some in
     record {
       reads = line_is_avp d line _ (omega (arith, ap length first, some)) (ap (λ (t : List ℕ). same_bytes t (codes "}")) first ∙ names.begins.brace)
-          (avp_is_leaf d line (spaced ws) (plain_head v) _ head (ap (λ (t : List ℕ). same_bytes t (codes "{")) next ∙ value.brace) leaf);
+          (avp_is_leaf d line (spaced ws) (plain_head v) _ head (value.brace pads) leaf);
       feeds = no_feed_line w (avp_flags d v ++ ws) names.begins.word
-          (flags_are_words (Some (default_flags d (code_at v))) v.flags ws (value.word, pad_are_words (avp_length v) (behind_data v front)));
+          (no_feeds_both (avp_flags d v) ws (flags_have_no_feeds (Some (default_flags d (code_at v))) v.flags)
+          (value.feeds, no_feed_words pads (pad_are_words (avp_length v) (behind_data v front))));
     }
 
 pub open_back : (d : Dictionary) (v : PlainAvp) (front : List ℕ) → IsDictionary d → HasParts v front → IsLineOf d (Open (plain_head v)) (open_line d v)
@@ -117,7 +117,7 @@ open_back d v front sound p =
     record {
       reads = line_is_avp d line _ (omega (arith, ap length first, some)) (ap (λ (t : List ℕ). same_bytes t (codes "}")) first ∙ names.begins.brace)
           (avp_is_open d line (spaced ws) (plain_head v) head (ap (λ (t : List ℕ). same_bytes t (codes "{")) next) (behind_next (codes "{") [] brace));
-      feeds = no_feed_line w (avp_flags d v ++ ws) names.begins.word (flags_are_words (Some (default_flags d (code_at v))) v.flags ws (brace, tt));
+      feeds = no_feed_line w (avp_flags d v ++ ws) names.begins.word (no_feed_words (avp_flags d v ++ ws) (flags_are_words (Some (default_flags d (code_at v))) v.flags ws (brace, tt)));
     }
 
 -- ---- what they add
@@ -137,11 +137,11 @@ said_ends len pad = by (same_bytes pad (padding len)) refl
 bound : {A B : Type 0} (r : Result A Kind) (x : A) (f : A → Result B Kind) (y : Result B Kind) → r ≡ Ok x → f x ≡ y → (r >>= f) ≡ y
 bound {A} r x f y is after = ap (λ (q : Result A Kind). q >>= f) is ∙ after
 
-pub leaf_added : (d : Dictionary) (v : PlainAvp) (front : List ℕ) (at : Level) → IsDictionary d → HasParts v front
-    → line_added d (leaf_line d v (behind_data v front)) at ≡ Ok (record { outer = at.outer; bytes = at.bytes ++ front })
-leaf_added d v front at sound p =
-    bound (line_of d (leaf_line d v (behind_data v front))) (Leaf (plain_head v) v.bytes (said_pad (avp_length v) (behind_data v front))) (added at) (Ok (record { outer = at.outer; bytes = at.bytes ++ front }))
-    (leaf_back d v front sound p).reads
+pub leaf_added : (d : Dictionary) (v : PlainAvp) (front word : List ℕ) (at : Level) → IsDictionary d → HasParts v front → IsWordOf d v word
+    → line_added d (leaf_line d v word (behind_data v front)) at ≡ Ok (record { outer = at.outer; bytes = at.bytes ++ front })
+leaf_added d v front word at sound p is_word =
+    bound (line_of d (leaf_line d v word (behind_data v front))) (Leaf (plain_head v) v.bytes (said_pad (avp_length v) (behind_data v front))) (added at) (Ok (record { outer = at.outer; bytes = at.bytes ++ front }))
+    (leaf_back d v front word sound p is_word).reads
     (bound (avp_of (plain_head v) v.bytes (said_pad (avp_length v) (behind_data v front))) front (λ avp. Ok (record { outer = at.outer; bytes = at.bytes ++ avp })) (Ok (record { outer = at.outer; bytes = at.bytes ++ front }))
     (avp_with v front (said_pad (avp_length v) (behind_data v front)) p (said_ends (avp_length v) (behind_data v front))) refl)
 

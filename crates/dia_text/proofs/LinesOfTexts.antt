@@ -1,9 +1,6 @@
 -- The lines of a text, one after the other.
-use Rattle.std.proofs.Common.{◌≡◌, ℕ, add-one, ◌+◌, ◌<◌, ◌≤◌, List, [], ◌∷◌, ◌++◌, length, map, get_or, drop, drop-cons, append_assoc, false, All, Bor, Some, None, Result, Ok, refl, sym, ap, ◌∙◌, arith}
-use Rattle.std.proofs.lemmas.List.{drop_all, length-map, map-append, get_or-map}
-use Rattle.std.specs.Prelude.{◌==◌, ◌≢◌}
-use Rattle.std.proofs.lemmas.Bool.Decides.{nat_tests}
-use Rattle.std.proofs.lemmas.List.Splits.{slice_split_at, slice_split_none}
+use Rattle.std.proofs.Common.{◌≡◌, ℕ, add-one, ◌+◌, ◌<◌, ◌≤◌, List, ◌∷◌, length, map, get_or, drop, drop-cons, Bor, Some, None, Result, Ok, refl, sym, ap, ◌∙◌, arith}
+use Rattle.std.proofs.lemmas.List.{drop_all, length-map, get_or-map}
 use Rattle.dia_wire.specs.declared.Header.{Header}
 use Rattle.dia_book.specs.Dictionary.{Dictionary}
 use Rattle.dia_text.specs.declared.fault.Kind.{Kind}
@@ -12,7 +9,7 @@ use Rattle.dia_text.specs.declared.fault.Misread.TheVariants as misread
 use Rattle.dia_text.specs.Reading.{◌>>=◌, Fails}
 use Rattle.dia_text.specs.Lines.{line_of, header_of}
 use Rattle.dia_text.specs.Drafts.{Level, added}
-use Rattle.dia_text.specs.Made.{message_from, body_from, no_level, placed, Misses, step, finished, lines}
+use Rattle.dia_text.specs.Made.{message_from, body_from, no_level, placed, Misses, step, finished}
 
 pub bind_fails : {A B : Type 0} (e : Misread) (r : Result A Kind) (f : A → Result B Kind) → Fails e r → Fails e (r >>= f)
 bind_fails misread.NoMemory r f h = tt
@@ -29,23 +26,6 @@ front ls i d lt =
 
 pub within : (ls : List (Bor (List ℕ))) (i : ℕ) → i < length ls → i + 1 ≤ length (map (λ (x : Bor (List ℕ)). x.now) ls)
 within ls i lt = omega (arith, length-map ls (λ (x : Bor (List ℕ)). x.now))
-
-not_ten : (c : ℕ) → ¬ (c ≡ 10) → (c == 10) ≡ false
-not_ten c h = grind (arith, nat_tests)
-
-pub more_lines : (found : List (Bor (List ℕ))) (line : Bor (List ℕ)) (rest behind : List ℕ) → rest ≡ line.now ++ 10 ∷ behind → All (λ c. c ≢ 10) line.now
-    → map (λ (x : Bor (List ℕ)). x.now) (found ++ line ∷ []) ++ lines behind ≡ map (λ (x : Bor (List ℕ)). x.now) found ++ lines rest
-more_lines found line rest behind is all =
-    ap (λ (t : List (List ℕ)). t ++ lines behind) (map-append (λ (x : Bor (List ℕ)). x.now) found (line ∷ []))
-    ∙ append_assoc (map (λ (x : Bor (List ℕ)). x.now) found) (line.now ∷ []) (lines behind)
-    ∙ ap (λ (t : List (List ℕ)). map (λ (x : Bor (List ℕ)). x.now) found ++ t)
-    (sym (ap lines is ∙ slice_split_at (λ b. b == 10) line.now 10 behind (λ k d lt. not_ten _ (all k d lt)) refl))
-
-pub last_found : (found : List (Bor (List ℕ))) (rest : Bor (List ℕ)) → All (λ c. c ≢ 10) rest.now
-    → map (λ (x : Bor (List ℕ)). x.now) (found ++ rest ∷ []) ≡ map (λ (x : Bor (List ℕ)). x.now) found ++ lines rest.now
-last_found found rest all =
-    map-append (λ (x : Bor (List ℕ)). x.now) found (rest ∷ [])
-    ∙ ap (λ (t : List (List ℕ)). map (λ (x : Bor (List ℕ)). x.now) found ++ t) (sym (slice_split_none (λ b. b == 10) rest.now (λ k d lt. not_ten _ (all k d lt))))
 
 pub blank_line : (d : Dictionary) (ls : List (List ℕ)) (i : ℕ) (l : List ℕ) → drop i ls ≡ l ∷ drop (i + 1) ls → header_of d l ≡ Ok None
     → message_from d i (drop i ls) ≡ message_from d (i + 1) (drop (i + 1) ls)

@@ -35,14 +35,14 @@ both_aligned level front rest parts a b = omega (arith, ap length parts, length-
 
 pub level_aligned : (d : Dictionary) (level : List ℕ) (ls : List (List ℕ)) → IsLevelText d level ls → length level % 4 ≡ 0
 level_aligned d level ls (end none no_lines) = omega (arith, ap length none)
-level_aligned d level ls (leaf v front rest more s parts no_group text is_lines) = both_aligned level front rest parts s.aligned (level_aligned d rest more text)
+level_aligned d level ls (leaf v front rest word more s parts no_group is_word text is_lines) = both_aligned level front rest parts s.aligned (level_aligned d rest more text)
 level_aligned d level ls (group v front rest members more s parts is_group inner text is_lines) = both_aligned level front rest parts s.aligned (level_aligned d rest more text)
 
 level_feeds : (d : Dictionary) (level : List ℕ) (ls : List (List ℕ)) → IsDictionary d → IsLevelText d level ls → AreBytes level → AllByRecursion HasNoFeed ls
 level_feeds d level ls sound (end none no_lines) bytes = subst (AllByRecursion HasNoFeed) (sym no_lines) tt
-level_feeds d level ls sound (leaf v front rest more s parts no_group text is_lines) bytes =
+level_feeds d level ls sound (leaf v front rest word more s parts no_group is_word text is_lines) bytes =
     let (here, there) = bytes_split front rest (subst AreBytes parts bytes) in
-    subst (AllByRecursion HasNoFeed) (sym is_lines) ((leaf_back d v front sound (parts_of v front s here)).feeds, level_feeds d rest more sound text there)
+    subst (AllByRecursion HasNoFeed) (sym is_lines) ((leaf_back d v front word sound (parts_of v front s here) is_word).feeds, level_feeds d rest more sound text there)
 level_feeds d level ls sound (group v front rest members more s parts is_group inner text is_lines) bytes =
     let (here, there) = bytes_split front rest (subst AreBytes parts bytes) in
     let p = parts_of v front s here in
@@ -58,11 +58,11 @@ level_back : (d : Dictionary) (h : Header) (level : List ℕ) (ls : List (List �
 level_back d h level ls sound (end none no_lines) bytes n at after =
     ap (λ (xs : List (List ℕ)). body_from d h n (xs ++ after) at) no_lines
     ∙ same_place d h n (n + length ls) after at.outer at.bytes (at.bytes ++ level) (omega (arith, ap length no_lines)) (sym (append-nil at.bytes) ∙ ap (λ (t : List ℕ). at.bytes ++ t) (sym none))
-level_back d h level ls sound (leaf v front rest more s parts no_group text is_lines) bytes n at after =
+level_back d h level ls sound (leaf v front rest word more s parts no_group is_word text is_lines) bytes n at after =
     let (here, there) = bytes_split front rest (subst AreBytes parts bytes) in
     let next : Level = record { outer = at.outer; bytes = at.bytes ++ front } in
     ap (λ (xs : List (List ℕ)). body_from d h n (xs ++ after) at) is_lines
-    ∙ line_step d h n (leaf_line d v (behind_data v front)) (more ++ after) at next (leaf_added d v front at sound (parts_of v front s here))
+    ∙ line_step d h n (leaf_line d v word (behind_data v front)) (more ++ after) at next (leaf_added d v front word at sound (parts_of v front s here) is_word)
     ∙ level_back d h rest more sound text there (n + 1) next after
     ∙ same_place d h (n + 1 + length more) (n + length ls) after at.outer ((at.bytes ++ front) ++ rest) (at.bytes ++ level) (omega (arith, ap length is_lines))
     (append_assoc at.bytes front rest ∙ ap (λ (t : List ℕ). at.bytes ++ t) (sym parts))

@@ -68,10 +68,10 @@ hex_byte_word b = record { some = omega arith; signs = and_from _ _ (digit_sign 
 
 -- ---- reading
 
-blank_first : (text : List ℕ) → unblanked (32 ∷ text) ≡ unblanked text
+pub blank_first : (text : List ℕ) → unblanked (32 ∷ text) ≡ unblanked text
 blank_first text = let more : 1 + prefix_len is_blank text ≡ suc (prefix_len is_blank text) = omega arith in ap (λ (n : ℕ). drop n (32 ∷ text)) more
 
-unblanked_word : (w rest : List ℕ) → IsWord w → unblanked (w ++ rest) ≡ w ++ rest
+pub unblanked_word : (w rest : List ℕ) → IsWord w → unblanked (w ++ rest) ≡ w ++ rest
 unblanked_word [] rest h = absurd (let some = h.some in omega (arith, some))
 unblanked_word (c ∷ w) rest h =
     let other : is_blank c ≡ false = sign_is_no_blank c (and_parts (is_sign c) (list_all is_sign w) h.signs).0 in
@@ -107,21 +107,32 @@ HasNoFeed line = AllByRecursion (λ (c : ℕ). (c == 10) ≡ false) line
 sign_is_no_feed : (c : ℕ) → is_sign c ≡ true → (c == 10) ≡ false
 sign_is_no_feed c sign = grind (arith, nat_tests)
 
-no_feed_word : (w : List ℕ) → list_all is_sign w ≡ true → HasNoFeed w
+pub no_feed_word : (w : List ℕ) → list_all is_sign w ≡ true → HasNoFeed w
 no_feed_word [] all = tt
 no_feed_word (c ∷ w) all =
     let parts = and_parts (is_sign c) (list_all is_sign w) all in
     (sign_is_no_feed c parts.0, no_feed_word w parts.1)
 
-no_feed_both : (a b : List ℕ) → HasNoFeed a → HasNoFeed b → HasNoFeed (a ++ b)
+pub no_feed_both : (a b : List ℕ) → HasNoFeed a → HasNoFeed b → HasNoFeed (a ++ b)
 no_feed_both [] b h k = k
 no_feed_both (c ∷ a) b (first, h) k = (first, no_feed_both a b h k)
 
-no_feed_spaced : (ws : List (List ℕ)) → AreWords ws → HasNoFeed (spaced ws)
-no_feed_spaced [] all = tt
-no_feed_spaced (w ∷ ws) (h, all) = (refl, no_feed_both w (spaced ws) (no_feed_word w h.signs) (no_feed_spaced ws all))
+abbrev pub HaveNoFeeds : List (List ℕ) → Type 0
+HaveNoFeeds ws = AllByRecursion HasNoFeed ws
 
-pub no_feed_line : (w : List ℕ) (ws : List (List ℕ)) → IsWord w → AreWords ws → HasNoFeed (w ++ spaced ws)
+pub no_feed_words : (ws : List (List ℕ)) → AreWords ws → HaveNoFeeds ws
+no_feed_words [] all = tt
+no_feed_words (w ∷ ws) (h, all) = (no_feed_word w h.signs, no_feed_words ws all)
+
+pub no_feeds_both : (vs ws : List (List ℕ)) → HaveNoFeeds vs → HaveNoFeeds ws → HaveNoFeeds (vs ++ ws)
+no_feeds_both [] ws h k = k
+no_feeds_both (v ∷ vs) ws (first, h) k = (first, no_feeds_both vs ws h k)
+
+no_feed_spaced : (ws : List (List ℕ)) → HaveNoFeeds ws → HasNoFeed (spaced ws)
+no_feed_spaced [] all = tt
+no_feed_spaced (w ∷ ws) (h, all) = (refl, no_feed_both w (spaced ws) h (no_feed_spaced ws all))
+
+pub no_feed_line : (w : List ℕ) (ws : List (List ℕ)) → IsWord w → HaveNoFeeds ws → HasNoFeed (w ++ spaced ws)
 no_feed_line w ws h all = no_feed_both w (spaced ws) (no_feed_word w h.signs) (no_feed_spaced ws all)
 
 pub lines_back : (ls : List (List ℕ)) → AllByRecursion HasNoFeed ls → lines (flat_map fed ls) ≡ ls ++ ([] ∷ [])

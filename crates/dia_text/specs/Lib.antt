@@ -5,6 +5,7 @@ pub mod Reading
 pub mod Fields
 pub mod Keys
 pub mod Values
+pub mod ValueParts
 pub mod Lines
 pub mod Drafts
 pub mod Made

@@ -1,15 +1,15 @@
 -- The lines with which a message is written: the words of each. What the dictionary says of an AVP or a command is left out.
-use Rattle.std.specs.Prelude.{ℕ, ◌+◌, ◌-◌, ◌*◌, ◌/◌, ◌%◌, ◌^◌, ◌==◌, ◌&&◌, nat_eq, nat_lt, Bool, true, false, not, if◌then◌else◌, List, [], ◌∷◌, ◌++◌, length, Option, Some, None, is_none, codes}
+use Rattle.std.specs.Prelude.{◌≡◌, ◌⊎◌, ℕ, ◌+◌, ◌*◌, ◌/◌, ◌%◌, ◌==◌, ◌&&◌, nat_eq, Bool, true, false, not, if◌then◌else◌, List, [], ◌∷◌, ◌++◌, Option, Some, None, is_none, codes}
 use Rattle.std.specs.Option.{option_eq, option_map_or}
 use Rattle.std.specs.List.{find}
 use Rattle.std.specs.Fmt.{decimal}
 use Rattle.dia_terms.specs.Names.{same_bytes}
-use Rattle.dia_terms.specs.Number.{number}
 use Rattle.dia_wire.specs.declared.Header.{Header}
 use Rattle.dia_wire.specs.Wire.{PlainAvp, avp_length}
 use Rattle.dia_wire.specs.Written.{padding}
-use Rattle.dia_data.specs.Plain.{PlainFormat, Integer32, Integer64, Unsigned32, Unsigned64, Time, Enumerated}
-use Rattle.dia_data.specs.Shown.{hex_byte, hexadecimal}
+use Rattle.dia_data.specs.Plain.{PlainFormat}
+use Rattle.dia_data.specs.Leaf.{IsLeaf}
+use Rattle.dia_data.specs.Shown.{hex_byte, hexadecimal, value_text}
 use Rattle.dia_book.specs.declared.DefHead.{DefHead}
 use Rattle.dia_book.specs.declared.DefHead.TheVariants.{Group, Command, Error}
 use Rattle.dia_book.specs.Dictionary.{Dictionary, DictEntry, PlainDefinition}
@@ -47,23 +47,10 @@ name_or_code c (Some e) = if has_name c e then e.name else code_text c
 abbrev pub avp_word : Dictionary → AvpCode → List ℕ
 avp_word d c = name_or_code c (entry_at d c)
 
--- a number in two's complement: half of all numbers stand for those below zero
-abbrev pub signed_text : ℕ → ℕ → List ℕ
-signed_text half n = if nat_lt n half then decimal n else 45 ∷ decimal ((half + half) - n)
-
--- a number of that many bytes
-abbrev pub number_word : ℕ → (ℕ → List ℕ) → List ℕ → List ℕ
-number_word width text bytes = if length bytes == width then text (number bytes) else hexadecimal bytes
-
--- a number in decimal, for the formats that are numbers, or else `x` and hexadecimal digits
-abbrev pub value_word : Option PlainFormat → List ℕ → List ℕ
-value_word (Some Unsigned32) bytes = number_word 4 decimal bytes
-value_word (Some Time) bytes = number_word 4 decimal bytes
-value_word (Some Integer32) bytes = number_word 4 (signed_text (2 ^ 31)) bytes
-value_word (Some (Enumerated ranges)) bytes = number_word 4 (signed_text (2 ^ 31)) bytes
-value_word (Some Unsigned64) bytes = number_word 8 decimal bytes
-value_word (Some Integer64) bytes = number_word 8 (signed_text (2 ^ 63)) bytes
-value_word format bytes = hexadecimal bytes
+-- data as `show` prints it: by its format, where that accepts it, or else as hexadecimal digits
+abbrev pub IsValueWord : Option PlainFormat → List ℕ → List ℕ → Type 0
+IsValueWord None bytes word = word ≡ hexadecimal bytes
+IsValueWord (Some format) bytes word = (IsLeaf format bytes × (word ≡ value_text format bytes)) ⊎ ((¬ IsLeaf format bytes) × (word ≡ hexadecimal bytes))
 
 -- what stands behind an AVP of this length, unless it is zero bytes up to a multiple of four
 abbrev pub pad_words : ℕ → List ℕ → List (List ℕ)
@@ -75,9 +62,13 @@ code_at v = record { code = v.code; vendor = v.vendor }
 abbrev pub avp_flags : Dictionary → PlainAvp → List (List ℕ)
 avp_flags d v = flags_words (Some (default_flags d (code_at v))) v.flags
 
--- an AVP, and the bytes behind its data
-abbrev pub leaf_line : Dictionary → PlainAvp → List ℕ → List ℕ
-leaf_line d v pad = avp_word d (code_at v) ++ spaced (avp_flags d v ++ (value_word (format_at d (code_at v)) v.bytes ∷ pad_words (avp_length v) pad))
+-- the word of an AVP's data
+abbrev pub IsWordOf : Dictionary → PlainAvp → List ℕ → Type 0
+IsWordOf d v word = IsValueWord (format_at d (code_at v)) v.bytes word
+
+-- an AVP, with the word of its data and the bytes behind that
+abbrev pub leaf_line : Dictionary → PlainAvp → List ℕ → List ℕ → List ℕ
+leaf_line d v word pad = avp_word d (code_at v) ++ spaced (avp_flags d v ++ (word ∷ pad_words (avp_length v) pad))
 
 -- a group, in front of the lines of its members
 abbrev pub open_line : Dictionary → PlainAvp → List ℕ

@@ -15,7 +15,7 @@ use Rattle.dia_text.specs.Numbers.{number_below}
 use Rattle.dia_text.specs.Reading.{◌>>=◌, some_or}
 use Rattle.dia_text.specs.Fields.{number_field, flags_field, length_field, padding_field}
 use Rattle.dia_text.specs.Keys.{code_of, default_flags, format_at, start_named}
-use Rattle.dia_text.specs.Values.{value_of}
+use Rattle.dia_text.specs.Values.{value_at}
 
 -- the letters of flags, in their order (RFC 6733 sections 3 and 4.1)
 abbrev pub avp_letters : List (ℕ × ℕ)
@@ -55,10 +55,10 @@ head_at d text = do
 -- a value, and its padding if it is written
 unfoldable pub leaf_at : Dictionary → Head → List ℕ → Result PlainLine Kind
 leaf_at d head text = do
-  bytes ← value_of (format_at d head.code) (first_word text)
-  padding ← padding_field (behind_word text)
+  value ← value_at (format_at d head.code) text
+  padding ← padding_field value.1
   end ← no_more padding.1
-  Ok (Leaf head bytes padding.0)
+  Ok (Leaf head value.0 padding.0)
 
 unfoldable pub open_at : Head → List ℕ → Result PlainLine Kind
 open_at head text = do

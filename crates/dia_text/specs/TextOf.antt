@@ -1,5 +1,5 @@
 -- The text of a message: a line of its header, a line of each AVP, and between braces those of a group's members.
-use Rattle.std.specs.Prelude.{◌≡◌, ◌≢◌, ℕ, ◌<◌, ◌≤◌, Bool, true, false, List, [], ◌∷◌, ◌++◌, length, take, drop, slice_index, Some, ⊤}
+use Rattle.std.specs.Prelude.{◌≡◌, ◌≢◌, ℕ, ◌<◌, ◌≤◌, Bool, true, false, List, [], ◌∷◌, ◌++◌, length, take, drop, slice_index, Option, Some, ⊤}
 use Rattle.std.specs.List.{flat_map}
 use Rattle.dia_wire.specs.declared.Header.{Header}
 use Rattle.dia_wire.specs.Lengths.{header_length}
@@ -7,12 +7,12 @@ use Rattle.dia_wire.specs.declared.MessageFault.{MessageFault}
 use Rattle.dia_wire.specs.declared.MessageFault.TheVariants as fault
 use Rattle.dia_wire.specs.Number.{number}
 use Rattle.dia_wire.specs.Wire.{PlainAvp, avp_length, Spells, SpellsAll, IsHead, IsMessageLength, BeginsMessage}
-use Rattle.dia_data.specs.Plain.{Grouped}
+use Rattle.dia_data.specs.Plain.{PlainFormat, Grouped}
 use Rattle.dia_book.specs.Dictionary.{Dictionary}
 use Rattle.dia_text.specs.declared.writing.NotWritten.{NotWritten}
 use Rattle.dia_text.specs.declared.writing.NotWritten.TheVariants.{Message, Avps, NoMemory}
 use Rattle.dia_text.specs.Keys.{format_at}
-use Rattle.dia_text.specs.LineTexts.{code_at, leaf_line, open_line, close_line, header_line}
+use Rattle.dia_text.specs.LineTexts.{code_at, IsValueWord, IsWordOf, leaf_line, open_line, close_line, header_line}
 
 -- the bytes are AVPs, one after the other, to their end
 abbrev pub AreAvps : List ℕ → Type 0
@@ -29,9 +29,9 @@ behind_data v front = drop (avp_length v) front
 -- the lines of a level of AVPs
 pub data IsLevelText (d : Dictionary) : List ℕ → List (List ℕ) → Type 0 where
   end : {level : List ℕ} {lines : List (List ℕ)} → level ≡ [] → lines ≡ [] → IsLevelText d level lines
-  leaf : {level : List ℕ} {lines : List (List ℕ)} (v : PlainAvp) (front rest : List ℕ) (more : List (List ℕ))
-      → Spells v front → level ≡ front ++ rest → ¬ IsOpened d v
-      → IsLevelText d rest more → lines ≡ leaf_line d v (behind_data v front) ∷ more → IsLevelText d level lines
+  leaf : {level : List ℕ} {lines : List (List ℕ)} (v : PlainAvp) (front rest word : List ℕ) (more : List (List ℕ))
+      → Spells v front → level ≡ front ++ rest → ¬ IsOpened d v → IsWordOf d v word
+      → IsLevelText d rest more → lines ≡ leaf_line d v word (behind_data v front) ∷ more → IsLevelText d level lines
   group : {level : List ℕ} {lines : List (List ℕ)} (v : PlainAvp) (front rest : List ℕ) (members more : List (List ℕ))
       → Spells v front → level ≡ front ++ rest → IsOpened d v
       → IsLevelText d v.bytes members → IsLevelText d rest more
@@ -68,10 +68,18 @@ HasNoText NoMemory bytes = ⊤
 abbrev pub BehindData : PlainAvp → List ℕ → List ℕ → List ℕ → Type 0
 BehindData v level rest pad = (front : List ℕ) → Spells v front → level ≡ front ++ rest → pad ≡ behind_data v front
 
+-- the word of data was added
+abbrev pub AddsValueWord : Option PlainFormat → List ℕ → List ℕ → List ℕ → Type 0
+AddsValueWord format bytes old new = (word : List ℕ) × IsValueWord format bytes word × (new ≡ old ++ word)
+
+-- the line of an AVP with its data was added
+abbrev pub AddsLeaf : Dictionary → PlainAvp → List ℕ → List ℕ → List ℕ → Type 0
+AddsLeaf d v pad old new = (word : List ℕ) × IsWordOf d v word × (new ≡ old ++ fed (leaf_line d v word pad))
+
 -- the line of an AVP was added, and it says whether it opens a group
 abbrev pub AddsAvp : Dictionary → PlainAvp → List ℕ → List ℕ → List ℕ → Bool → Type 0
 AddsAvp d v pad old new true = IsOpened d v × (new ≡ old ++ fed (open_line d v))
-AddsAvp d v pad old new false = ¬ IsOpened d v × (new ≡ old ++ fed (leaf_line d v pad))
+AddsAvp d v pad old new false = ¬ IsOpened d v × AddsLeaf d v pad old new
 
 -- the lines of a level were added
 abbrev pub AddsLevel : Dictionary → List ℕ → List ℕ → List ℕ → Type 0

@@ -1,29 +1,128 @@
 -- The data that a value writes, by the format of its AVP.
-use Rattle.std.specs.Prelude.{ℕ, ◌^◌, ◌==◌, if◌then◌else◌, List, [], ◌∷◌, Option, Some, Result, Err}
+use Rattle.std.specs.Prelude.{ℕ, ◌+◌, ◌^◌, ◌==◌, ◌&&◌, Bool, true, false, not, if◌then◌else◌, List, [], ◌∷◌, ◌++◌, length, take, drop, Option, Some, None, option_and_then, Result, Ok, Err, codes}
 use Rattle.std.specs.Option.{option_map}
+use Rattle.std.specs.List.{prefix_len, slice_split}
 use Rattle.byteorder.specs.Endian.{big_bytes}
-use Rattle.dia_data.specs.Plain.{PlainFormat, Integer32, Integer64, Unsigned32, Unsigned64, Time, Enumerated}
+use Rattle.hex.specs.Hex.{decode_sized}
+use Rattle.hex.specs.declared.error.FromHexError.{FromHexError}
+use Rattle.dia_terms.specs.Names.{same_bytes}
+use Rattle.dia_data.specs.Plain.{PlainFormat, OctetString, Integer32, Integer64, Unsigned32, Unsigned64, Time, Enumerated}
+use Rattle.dia_data.specs.Plain.{Address, Utf8String, DiameterIdentity, DiameterUri, IpFilterRule, QosFilterRule}
 use Rattle.dia_text.specs.declared.fault.Kind.{Kind}
 use Rattle.dia_text.specs.declared.fault.Kind.TheVariants.{Syntax, Value}
-use Rattle.dia_text.specs.Numbers.{number_of, number_below, signed_below}
-use Rattle.dia_text.specs.Reading.{some_or}
-use Rattle.dia_text.specs.Fields.{bytes_of}
+use Rattle.dia_text.specs.Words.{unblanked, first_word, behind_word}
+use Rattle.dia_text.specs.Numbers.{number_of, number_below, signed_below, hex_byte_of}
+use Rattle.dia_text.specs.Reading.{◌>>=◌, some_or}
+use Rattle.dia_text.specs.Fields.{behind_letter, bytes_of}
+
+-- the bytes of all parts, if each has some
+abbrev pub each : (List ℕ → Option (List ℕ)) → List (List ℕ) → Option (List ℕ)
+each bytes [] = Some []
+each bytes (p ∷ ps) = option_and_then (λ front. option_map (λ rest. front ++ rest) (each bytes ps)) (bytes p)
+
+-- ---- numbers
 
 -- a number in that many bytes
 abbrev pub number_bytes : ℕ → Option ℕ → Result (List ℕ) Kind
 number_bytes width o = some_or (option_map (big_bytes width) o) Value
 
--- numbers in decimal, for the formats that are numbers
-abbrev pub number_value : Option PlainFormat → List ℕ → Result (List ℕ) Kind
-number_value (Some Unsigned32) word = number_bytes 4 (number_below (2 ^ 32) word)
-number_value (Some Time) word = number_bytes 4 (number_below (2 ^ 32) word)
-number_value (Some Integer32) word = number_bytes 4 (signed_below (2 ^ 31) word)
-number_value (Some (Enumerated ranges)) word = number_bytes 4 (signed_below (2 ^ 31) word)
-number_value (Some Unsigned64) word = number_bytes 8 (number_of word)
-number_value (Some Integer64) word = number_bytes 8 (signed_below (2 ^ 63) word)
-number_value format word = Err Value
+-- ---- addresses (RFC 6733 section 4.3.1)
 
--- `x` and hexadecimal digits for any AVP, or a number
+-- a number below 256
+abbrev pub decimal_byte : List ℕ → Option (List ℕ)
+decimal_byte part = option_map (λ n. n ∷ []) (number_below 256 part)
+
+abbrev pub if_decoded : Result (List ℕ) FromHexError → Option (List ℕ)
+if_decoded (Ok bytes) = Some bytes
+if_decoded (Err e) = None
+
+-- four hexadecimal digits
+abbrev pub byte_pair : List ℕ → Option (List ℕ)
+byte_pair part = if_decoded (decode_sized part 2)
+
+abbrev pub in_family : ℕ → Option (List ℕ) → Option (List ℕ)
+in_family family address = option_map (λ bytes. 0 ∷ family ∷ bytes) address
+
+-- four numbers with dots between them (IPv4), or eight groups of four hexadecimal digits with colons (IPv6)
+abbrev pub address_of : List ℕ → Option (List ℕ)
+address_of word =
+    let numbers = slice_split (λ c. c == 46) word in
+    let groups = slice_split (λ c. c == 58) word in
+    if length numbers == 4 then in_family 1 (each decimal_byte numbers)
+    else if length groups == 8 then in_family 2 (each byte_pair groups)
+    else None
+
+-- the number of a family, and the bytes of an address in it
+unfoldable pub family_at : List ℕ → Result (List ℕ × List ℕ) Kind
+family_at text = do
+  family ← number_bytes 2 (number_below (2 ^ 16) (first_word text))
+  address ← bytes_of (first_word (behind_word text))
+  Ok (family ++ address, behind_word (behind_word text))
+
+-- ---- texts
+
+-- what stands between a backslash and the next one: `x` and two digits for a byte, and bytes that stand for themselves
+abbrev pub escaped : List ℕ → Option (List ℕ)
+escaped text = option_and_then (λ rest. option_map (λ byte. byte ∷ drop 2 rest) (hex_byte_of (take 2 rest))) (behind_letter 120 text)
+
+-- the parts between backslashes: in the first one each byte stands for itself
+abbrev pub unescaped : List (List ℕ) → Option (List ℕ)
+unescaped [] = Some []
+unescaped (p ∷ ps) = option_map (λ rest. p ++ rest) (each escaped ps)
+
+abbrev pub is_no_quote : ℕ → Bool
+is_no_quote c = not (c == 34)
+
+-- the bytes up to the closing quote, and what follows it
+abbrev pub text_at : List ℕ → Option (List ℕ × List ℕ)
+text_at text =
+    let at = prefix_len is_no_quote text in
+    if at == length text then None
+    else option_map (λ bytes. (bytes, drop (at + 1) text)) (unescaped (slice_split (λ c. c == 92) (take at text)))
+
+-- ---- values
+
+-- formats of texts, and of bytes that may be text
+abbrev pub may_be_text : Option PlainFormat → Bool
+may_be_text (Some OctetString) = true
+may_be_text (Some Utf8String) = true
+may_be_text (Some DiameterIdentity) = true
+may_be_text (Some DiameterUri) = true
+may_be_text (Some IpFilterRule) = true
+may_be_text (Some QosFilterRule) = true
+may_be_text format = false
+
+abbrev pub is_address : Option PlainFormat → Bool
+is_address (Some Address) = true
+is_address format = false
+
+-- a number in decimal, or an address
+abbrev pub formatted : Option PlainFormat → List ℕ → Result (List ℕ) Kind
+formatted (Some Unsigned32) word = number_bytes 4 (number_below (2 ^ 32) word)
+formatted (Some Time) word = number_bytes 4 (number_below (2 ^ 32) word)
+formatted (Some Integer32) word = number_bytes 4 (signed_below (2 ^ 31) word)
+formatted (Some (Enumerated ranges)) word = number_bytes 4 (signed_below (2 ^ 31) word)
+formatted (Some Unsigned64) word = number_bytes 8 (number_of word)
+formatted (Some Integer64) word = number_bytes 8 (signed_below (2 ^ 63) word)
+formatted (Some Address) word = some_or (address_of word) Value
+formatted format word = Err Value
+
+-- `x` and hexadecimal digits for any AVP, or what the format has
 abbrev pub value_of : Option PlainFormat → List ℕ → Result (List ℕ) Kind
 value_of format [] = Err Syntax
-value_of format (c ∷ cs) = if c == 120 then bytes_of (c ∷ cs) else number_value format (c ∷ cs)
+value_of format (c ∷ cs) = if c == 120 then bytes_of (c ∷ cs) else formatted format (c ∷ cs)
+
+-- a value of words, and what follows it
+unfoldable pub words_at : Option PlainFormat → List ℕ → Result (List ℕ × List ℕ) Kind
+words_at format text =
+    if is_address format && same_bytes (first_word text) (codes "family") then family_at (behind_word text)
+    else (value_of format (first_word text) >>= λ bytes. Ok (bytes, behind_word text))
+
+-- a value of words, or of what stands behind an opening quote
+abbrev pub value_or_text : Option PlainFormat → List ℕ → Option (List ℕ) → Result (List ℕ × List ℕ) Kind
+value_or_text format text None = words_at format text
+value_or_text format text (Some rest) = if may_be_text format then some_or (text_at rest) Value else Err Value
+
+-- a value, and what follows it
+unfoldable pub value_at : Option PlainFormat → List ℕ → Result (List ℕ × List ℕ) Kind
+value_at format text = value_or_text format text (behind_letter 34 (unblanked text))

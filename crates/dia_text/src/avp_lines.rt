@@ -4,8 +4,8 @@ ghost use Rattle.std.specs.Option.{option_eq};
 ghost use Rattle.dia_wire.specs.Wire.{plain_avp};
 ghost use Rattle.dia_text.specs.Keys.{numbered, default_flags};
 ghost use Rattle.dia_text.specs.LineTexts.{spaced, flags_words, code_at, code_text, avp_word};
-ghost use Rattle.dia_text.specs.LineTexts.{open_line, leaf_line};
-ghost use Rattle.dia_text.specs.TextOf.{fed};
+ghost use Rattle.dia_text.specs.LineTexts.{open_line};
+ghost use Rattle.dia_text.specs.TextOf.{fed, AddsLeaf};
 
 use crate::keys::{AvpCode, default_flags, entry, format_at, numbered};
 use crate::pushing::{push_flags, push_pad, push_value_word};
@@ -39,8 +39,8 @@ pub(crate) fn push_leaf<B: Book>(
     pad: &[u8],
 ) -> Result<(), AllocError>
     requires { code.now ≡ code_at (plain_avp avp.now) }
-    ensures { OnOk result (string_bytes text.new ≡ string_bytes text.old
-        ++ fed (leaf_line (B.meaning book.now) (plain_avp avp.now) pad.now)) }
+    ensures { OnOk result (AddsLeaf (B.meaning book.now) (plain_avp avp.now) pad.now
+        (string_bytes text.old) (string_bytes text.new)) }
 {
     push_head(text, book, code, avp.flags)?;
     text.push_str(" ")?;

@@ -7,7 +7,8 @@ ghost use Rattle.dia_text.specs.Keys.{start_of, start_named, command_named};
 ghost use Rattle.dia_text.specs.Keys.{class_flags, p_flag};
 
 use crate::fault::{Kind, Misread};
-use dia_book::{Book, Class, DefHead, Definition};
+use crate::names::NamedBook;
+use dia_book::{Book, Class, DefHead};
 use dia_terms::Pxy;
 use dia_wire::{COMMAND_ERROR, COMMAND_PROXIABLE, COMMAND_REQUEST};
 
@@ -21,30 +22,17 @@ pub struct Start {
 }
 
 /// The command that the dictionary has by this name.
-pub(crate) fn start_named<B: Book>(book: &B, word: &[u8]) -> Result<Start, Misread>
-    ensures value { Gives (λ start. start) result (start_named (B.meaning book.now) word.now) }
+pub(crate) fn start_named<B: Book>(named: &NamedBook<'_, B>, word: &[u8]) -> Result<Start, Misread>
+    ensures value { Gives (λ start. start) result (start_named named.now word.now) }
     ensures small { IfOk result (λ start. start.code < 2 ^ 24) }
 {
-    let Some(definition) = command_named(book, word) else {
+    let Some(definition) = named.command(word) else {
         return Err(Misread::Fault(Kind::Name));
     };
     match start_of(&definition.head) {
         Some(start) => Ok(start),
         None => Err(Misread::Fault(Kind::Name)),
     }
-}
-
-fn command_named<'a, B: Book>(book: &'a B, word: &[u8]) -> Option<&'a Definition>
-    ensures { option_map (λ definition. plain_definition definition.now) result
-        ≡ command_named (B.meaning book.now) word.now }
-{
-    for index in 0..book.commands() {
-        let definition = book.def(book.command_at(index));
-        if definition.name.as_bytes() == word {
-            return Some(definition);
-        }
-    }
-    None
 }
 
 pub(crate) fn start_of(head: &DefHead) -> Option<Start>

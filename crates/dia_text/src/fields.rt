@@ -197,7 +197,8 @@ fn letters_value(letters: &[(u8, u8)], word: &[u8]) -> Option<u32>
     if rest.is_empty() { Some(total) } else { None }
 }
 
-fn behind_letter(letter: u8, word: &[u8]) -> Option<&[u8]>
+/// What follows a byte at the front.
+pub(crate) fn behind_letter(letter: u8, word: &[u8]) -> Option<&[u8]>
     ensures { option_copied result ≡ behind_letter letter word.entry.now }
 {
     match word {

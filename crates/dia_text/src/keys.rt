@@ -2,14 +2,15 @@
 ghost use Rattle.std.specs.Prelude.{◌≡◌, ◌<◌, ◌≤◌, ◌^◌, length};
 ghost use Rattle.std.specs.Prelude.{option_and_then, slice_get, IfSome};
 ghost use Rattle.std.specs.Option.{option_map};
-ghost use Rattle.std.specs.List.{prefix_len, find};
+ghost use Rattle.std.specs.List.{prefix_len};
 ghost use Rattle.dia_data.specs.Plain.{plain_format};
 ghost use Rattle.dia_text.specs.Reading.{Gives};
 ghost use Rattle.dia_text.specs.Keys.{numbered, vendor_code, is_no_slash};
-ghost use Rattle.dia_text.specs.Keys.{code_of_key, entry_named, code_of};
+ghost use Rattle.dia_text.specs.Keys.{code_of_key, code_of};
 ghost use Rattle.dia_text.specs.Keys.{entry_at, format_at, m_flag, default_flags};
 
 use crate::fault::{Kind, Misread};
+use crate::names::NamedBook;
 use crate::numbers::number32;
 use dia_book::{Book, Entry, Format, Key, MRule};
 use dia_wire::{AVP_MANDATORY, AVP_VENDOR};
@@ -22,13 +23,13 @@ pub struct AvpCode {
 }
 
 /// The AVP of a word: `CODE` or `CODE/VENDOR`, or else a name of the dictionary.
-pub(crate) fn code_of<B: Book>(book: &B, word: &[u8]) -> Result<AvpCode, Misread>
-    ensures { Gives (λ code. code) result (code_of (B.meaning book.now) word.now) }
+pub(crate) fn code_of<B: Book>(named: &NamedBook<'_, B>, word: &[u8]) -> Result<AvpCode, Misread>
+    ensures { Gives (λ code. code) result (code_of named.now word.now) }
 {
     if let Some(code) = numbered(word) {
         return Ok(code);
     }
-    match key_named(book, word) {
+    match named.key(word) {
         Some(key) => Ok(code_of_key(&key)),
         None => Err(Misread::Fault(Kind::Name)),
     }
@@ -76,19 +77,6 @@ fn code_of_key(key: &Key) -> AvpCode
             Some(key.vendor)
         },
     }
-}
-
-/// The key of the AVP that the dictionary has by this name.
-fn key_named<B: Book>(book: &B, word: &[u8]) -> Option<Key>
-    ensures { result ≡ option_map (λ e. e.key) (entry_named (B.meaning book.now) word.now) }
-{
-    for index in 0..book.entries() {
-        let entry = book.entry_at(index);
-        if book.entry_name(entry).as_bytes() == word {
-            return Some(book.entry_key(entry));
-        }
-    }
-    None
 }
 
 pub(crate) fn entry<B: Book>(book: &B, code: &AvpCode) -> Option<Entry>

@@ -9,14 +9,16 @@
 //! code 272 flags RP app 4 hop 1 end 2
 //! 264 flags M x612e62
 //! Auth-Application-Id 4
+//! Session-Id "gw.a;1"
+//! Host-IP-Address 10.0.0.1
 //! 9002/32473 flags VM length 20 x00000001 pad xff
 //! Subscription-Id {
 //! } pad x00
 //! # a comment
 //! ```
 //!
-//! A value is `x` and hexadecimal digits, or a decimal number where the dictionary's format is a number. What is made needn't
-//! be valid.
+//! A value is `x` and hexadecimal digits, or what the dictionary's format has: a decimal number, a text in quotes or an
+//! address. What is made needn't be valid.
 #![tactic(auto)]
 
 mod avp_lines;
@@ -30,8 +32,11 @@ mod line;
 mod lines;
 mod making;
 mod many;
+mod names;
 mod numbers;
 mod pushing;
+mod splitting;
+mod value_parts;
 mod values;
 mod words;
 mod writing;
@@ -42,4 +47,5 @@ pub use line::{Head, Line};
 pub use lines::{header_of, line_of};
 pub use making::make;
 pub use many::make_all;
+pub use names::NamedBook;
 pub use writing::{NotWritten, as_text};

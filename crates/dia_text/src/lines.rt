@@ -11,8 +11,9 @@ use crate::fault::{Kind, Misread};
 use crate::fields::{flags_field, length_field, number_field, padding_field};
 use crate::keys::{code_of, default_flags, format_at};
 use crate::line::{Head, Line};
+use crate::names::NamedBook;
 use crate::numbers::number_below;
-use crate::values::value_of;
+use crate::values::value_at;
 use crate::words::next_word;
 use dia_book::Book;
 use dia_wire::Header;
@@ -26,8 +27,12 @@ const HEADER_LETTERS: [(u8, u8); 4] = [(b'R', 0x80), (b'P', 0x40), (b'E', 0x20),
 
 /// What a line behind the header says.
 #[tactic(auto, unfolding(crate::specs::Lines::line_of))]
-pub fn line_of<B: Book>(alloc: Global, book: &B, text: &[u8]) -> Result<Line, Misread>
-    ensures { Gives plain_line result (line_of (B.meaning book.now) text.now) }
+pub fn line_of<B: Book>(
+    alloc: Global,
+    named: &NamedBook<'_, B>,
+    text: &[u8],
+) -> Result<Line, Misread>
+    ensures { Gives plain_line result (line_of named.now text.now) }
 {
     let (word, rest) = next_word(text);
     if word.is_empty() {
@@ -35,30 +40,33 @@ pub fn line_of<B: Book>(alloc: Global, book: &B, text: &[u8]) -> Result<Line, Mi
     } else if word == b"}".as_slice() {
         close_at(alloc, rest)
     } else {
-        avp_at(alloc, book, text)
+        avp_at(alloc, named, text)
     }
 }
 
 #[tactic(auto, unfolding(crate::specs::Lines::avp_at))]
-fn avp_at<B: Book>(alloc: Global, book: &B, text: &[u8]) -> Result<Line, Misread>
-    ensures { Gives plain_line result (avp_at (B.meaning book.now) text.now) }
+fn avp_at<B: Book>(alloc: Global, named: &NamedBook<'_, B>, text: &[u8]) -> Result<Line, Misread>
+    ensures { Gives plain_line result (avp_at named.now text.now) }
 {
-    let (head, text) = head_at(book, text)?;
+    let (head, text) = head_at(named, text)?;
     let (word, rest) = next_word(text);
     if word == b"{".as_slice() {
         open_at(&head, rest)
     } else {
-        leaf_at(alloc, book, &head, text)
+        leaf_at(alloc, named, &head, text)
     }
 }
 
 #[tactic(auto, unfolding(crate::specs::Lines::head_at))]
-fn head_at<'a, B: Book>(book: &B, text: &'a [u8]) -> Result<(Head, &'a [u8]), Misread>
-    ensures { Gives (λ x. (x.0, x.1.now)) result (head_at (B.meaning book.now) text.entry.now) }
+fn head_at<'a, B: Book>(
+    named: &NamedBook<'_, B>,
+    text: &'a [u8],
+) -> Result<(Head, &'a [u8]), Misread>
+    ensures { Gives (λ x. (x.0, x.1.now)) result (head_at named.now text.entry.now) }
 {
     let (word, rest) = next_word(text);
-    let code = code_of(book, word)?;
-    let default = default_flags(book, &code);
+    let code = code_of(named, word)?;
+    let default = default_flags(named.book(), &code);
     let (flags, rest) = flags_field(&AVP_LETTERS, Some(default), rest)?;
     let (said_length, rest) = length_field(rest)?;
     Ok((
@@ -72,11 +80,16 @@ fn head_at<'a, B: Book>(book: &B, text: &'a [u8]) -> Result<(Head, &'a [u8]), Mi
 }
 
 #[tactic(auto, unfolding(crate::specs::Lines::leaf_at))]
-fn leaf_at<B: Book>(alloc: Global, book: &B, head: &Head, text: &[u8]) -> Result<Line, Misread>
-    ensures { Gives plain_line result (leaf_at (B.meaning book.now) head.now text.now) }
+fn leaf_at<B: Book>(
+    alloc: Global,
+    named: &NamedBook<'_, B>,
+    head: &Head,
+    text: &[u8],
+) -> Result<Line, Misread>
+    ensures { Gives plain_line result (leaf_at named.now head.now text.now) }
 {
-    let (word, rest) = next_word(text);
-    let bytes = value_of(alloc, format_at(book, &head.code), word)?;
+    let format = format_at(named.book(), &head.code);
+    let (bytes, rest) = value_at(alloc, format, text)?;
     let (padding, rest) = padding_field(alloc, rest)?;
     no_more(rest)?;
     Ok(Line::Leaf(*head, bytes, padding))
@@ -112,24 +125,24 @@ fn no_more(text: &[u8]) -> Result<(), Misread>
 
 /// The header that a line writes, or none where it is blank.
 #[tactic(auto, unfolding(crate::specs::Lines::header_of))]
-pub fn header_of<B: Book>(book: &B, text: &[u8]) -> Result<Option<Header>, Misread>
-    ensures value { Gives (λ header. header) result (header_of (B.meaning book.now) text.now) }
+pub fn header_of<B: Book>(named: &NamedBook<'_, B>, text: &[u8]) -> Result<Option<Header>, Misread>
+    ensures value { Gives (λ header. header) result (header_of named.now text.now) }
     ensures small { IfOk result (λ header. IfSome header (λ h. h.code < 2 ^ 24)) }
 {
     let (word, _) = next_word(text);
     if word.is_empty() {
         return Ok(None);
     }
-    let header = header_at(book, text)?;
+    let header = header_at(named, text)?;
     Ok(Some(header))
 }
 
 #[tactic(auto, unfolding(crate::specs::Lines::header_at))]
-fn header_at<B: Book>(book: &B, text: &[u8]) -> Result<Header, Misread>
-    ensures value { Gives (λ header. header) result (header_at (B.meaning book.now) text.now) }
+fn header_at<B: Book>(named: &NamedBook<'_, B>, text: &[u8]) -> Result<Header, Misread>
+    ensures value { Gives (λ header. header) result (header_at named.now text.now) }
     ensures small { IfOk result (λ header. header.code < 2 ^ 24) }
 {
-    let (start, rest) = start_at(book, text)?;
+    let (start, rest) = start_at(named, text)?;
     let (flags, rest) = flags_field(&HEADER_LETTERS, start.flags, rest)?;
     let (app, rest) = number_field(b"app", start.app, rest)?;
     let (hop, rest) = number_field(b"hop", None, rest)?;
@@ -145,9 +158,12 @@ fn header_at<B: Book>(book: &B, text: &[u8]) -> Result<Header, Misread>
 }
 
 #[tactic(auto, unfolding(crate::specs::Lines::start_at))]
-fn start_at<'a, B: Book>(book: &B, text: &'a [u8]) -> Result<(Start, &'a [u8]), Misread>
+fn start_at<'a, B: Book>(
+    named: &NamedBook<'_, B>,
+    text: &'a [u8],
+) -> Result<(Start, &'a [u8]), Misread>
     ensures value { Gives (λ x. (x.0, x.1.now)) result
-        (start_at (B.meaning book.now) text.entry.now) }
+        (start_at named.now text.entry.now) }
     ensures small { IfOk result (λ x. x.0.code < 2 ^ 24) }
 {
     let (word, rest) = next_word(text);
@@ -161,7 +177,7 @@ fn start_at<'a, B: Book>(book: &B, text: &'a [u8]) -> Result<(Start, &'a [u8]), 
         };
         Ok((start, rest))
     } else {
-        let start = start_named(book, word)?;
+        let start = start_named(named, word)?;
         Ok((start, rest))
     }
 }

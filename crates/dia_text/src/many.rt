@@ -10,6 +10,7 @@ ghost use Rattle.dia_text.specs.Made.{IsWithin, behind_lines, told_behind, messa
 
 use crate::fault::{Fault, Kind, NotMade};
 use crate::making::{lines_of, make_lines};
+use crate::names::NamedBook;
 use crate::words::next_word;
 use dia_book::Book;
 use dia_data::push_hex_byte;
@@ -27,40 +28,45 @@ pub fn make_all<B: Book>(alloc: Global, book: &B, text: &[u8]) -> Result<String,
             line: lines.len(),
         }));
     }
-    parts_made(alloc, book, &lines)
+    let named = NamedBook::new(alloc, book)?;
+    parts_made(alloc, &named, &lines)
 }
 
 /// The lines of the messages of these lines.
-fn parts_made<B: Book>(alloc: Global, book: &B, lines: &[&[u8]]) -> Result<String, NotMade>
-    ensures { IsMadeText result (parts_text (B.meaning book.now) 0
+fn parts_made<B: Book>(
+    alloc: Global,
+    named: &NamedBook<'_, B>,
+    lines: &[&[u8]],
+) -> Result<String, NotMade>
+    ensures { IsMadeText result (parts_text named.now 0
         (slice_split is_empty (map (λ x. x.now) lines.now))) }
 {
     let mut out = String::new(alloc);
     let mut start = 0;
     for index in 0..lines.len() {
         if has_nothing(lines[index]) {
-            push_part(alloc, book, &mut out, &lines[start..index], start)?;
+            push_part(alloc, named, &mut out, &lines[start..index], start)?;
             start = index + 1;
         }
     }
-    push_part(alloc, book, &mut out, &lines[start..], start)?;
+    push_part(alloc, named, &mut out, &lines[start..], start)?;
     Ok(out)
 }
 
 /// Adds the line of the message of these lines, if they have a word. They are behind `at` lines of the text.
 fn push_part<B: Book>(
     alloc: Global,
-    book: &B,
+    named: &NamedBook<'_, B>,
     out: &mut String,
     lines: &[&[u8]],
     at: usize,
 ) -> Result<(), NotMade>
     requires { at < 2 ^ 63 }
-    ensures { IsPartAdded (part_text (B.meaning book.now) at (map (λ x. x.now) lines.now)) result
+    ensures { IsPartAdded (part_text named.now at (map (λ x. x.now) lines.now)) result
         (string_bytes out.old) (string_bytes out.new) }
 {
     if has_word(lines) {
-        push_message(alloc, book, out, lines, at)
+        push_message(alloc, named, out, lines, at)
     } else {
         Ok(())
     }
@@ -69,17 +75,17 @@ fn push_part<B: Book>(
 /// Adds the line of the message of these lines.
 fn push_message<B: Book>(
     alloc: Global,
-    book: &B,
+    named: &NamedBook<'_, B>,
     out: &mut String,
     lines: &[&[u8]],
     at: usize,
 ) -> Result<(), NotMade>
     requires { at < 2 ^ 63 }
     ensures { IsPartAdded
-        (told_behind at (message_from (B.meaning book.now) 0 (map (λ x. x.now) lines.now))) result
+        (told_behind at (message_from named.now 0 (map (λ x. x.now) lines.now))) result
         (string_bytes out.old) (string_bytes out.new) }
 {
-    match make_lines(alloc, book, lines) {
+    match make_lines(alloc, named, lines) {
         Ok(message) => {
             push_digits(out, &message)?;
             Ok(())

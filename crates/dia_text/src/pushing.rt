@@ -1,19 +1,15 @@
 //! The words of lines that are written.
-ghost use Rattle.std.specs.Prelude.{◌≡◌, ◌<◌, ◌≤◌, ◌+◌, ◌^◌, ◌++◌, ◌∷◌, nat_eq, length};
-ghost use Rattle.std.specs.Prelude.{OnOk, Some, IfSome, IsSome, ◌↔◌, string_bytes, []};
+ghost use Rattle.std.specs.Prelude.{◌≡◌, ◌++◌, ◌∷◌, nat_eq, OnOk, Some, string_bytes, []};
 ghost use Rattle.std.specs.Option.{option_eq, option_map};
 ghost use Rattle.std.specs.Fmt.{decimal};
 ghost use Rattle.dia_terms.specs.Names.{same_bytes};
-ghost use Rattle.dia_terms.specs.Number.{number};
 ghost use Rattle.dia_wire.specs.Written.{padding};
 ghost use Rattle.dia_data.specs.Plain.{plain_format};
 ghost use Rattle.dia_data.specs.Shown.{hexadecimal};
 ghost use Rattle.dia_text.specs.LineTexts.{spaced, flags_words, app_words, pad_words};
-ghost use Rattle.dia_text.specs.LineTexts.{number_word, signed_text, value_word};
+ghost use Rattle.dia_text.specs.TextOf.{AddsValueWord};
 
-use byteorder::{BigEndian, ByteOrder};
-use dia_data::{Format, push_decimal, push_hex_byte, push_value};
-use dia_wire::number32;
+use dia_data::{Format, Leaf, accepts, push_decimal, push_hex_byte, push_value};
 use std::alloc::AllocError;
 
 /// Adds flags, unless they are those that go without saying.
@@ -102,108 +98,27 @@ pub(crate) fn push_value_word(
     format: Option<&Format>,
     bytes: &[u8],
 ) -> Result<(), AllocError>
-    ensures { OnOk result (string_bytes text.new ≡ string_bytes text.old
-        ++ value_word (option_map (λ format. plain_format format.now) format.entry) bytes.now) }
+    ensures { OnOk result (AddsValueWord
+        (option_map (λ format. plain_format format.now) format.entry) bytes.now
+        (string_bytes text.old) (string_bytes text.new)) }
 {
     match format {
-        Some(Format::Unsigned32 | Format::Time) => push_unsigned32(text, bytes),
-        Some(Format::Integer32 | Format::Enumerated(_)) => push_integer32(text, bytes),
-        Some(Format::Unsigned64) => push_unsigned64(text, bytes),
-        Some(Format::Integer64) => push_integer64(text, bytes),
-        _ => push_hexadecimal(text, bytes),
+        Some(format) => push_known(text, format, bytes),
+        None => push_hexadecimal(text, bytes),
     }
 }
 
-fn push_unsigned32(text: &mut String, bytes: &[u8]) -> Result<(), AllocError>
-    ensures { OnOk result (string_bytes text.new
-        ≡ string_bytes text.old ++ number_word 4 decimal bytes.now) }
+/// Adds the data of an AVP of this format as `show` prints it.
+fn push_known(text: &mut String, format: &Format, bytes: &[u8]) -> Result<(), AllocError>
+    ensures { OnOk result (AddsValueWord (Some (plain_format format.now)) bytes.now
+        (string_bytes text.old) (string_bytes text.new)) }
 {
-    match number32(bytes) {
-        Some(number) => {
-            push_decimal(text, u64::from(number))?;
-            Ok(())
-        }
-        None => {
-            push_hexadecimal(text, bytes)?;
-            Ok(())
-        }
-    }
-}
-
-fn push_integer32(text: &mut String, bytes: &[u8]) -> Result<(), AllocError>
-    ensures { OnOk result (string_bytes text.new
-        ≡ string_bytes text.old ++ number_word 4 (signed_text (2 ^ 31)) bytes.now) }
-{
-    match number32(bytes) {
-        Some(number) => {
-            push_signed(text, 1 << 31, u64::from(number))?;
-            Ok(())
-        }
-        None => {
-            push_hexadecimal(text, bytes)?;
-            Ok(())
-        }
-    }
-}
-
-fn push_unsigned64(text: &mut String, bytes: &[u8]) -> Result<(), AllocError>
-    ensures { OnOk result (string_bytes text.new
-        ≡ string_bytes text.old ++ number_word 8 decimal bytes.now) }
-{
-    match number64(bytes) {
-        Some(number) => {
-            push_decimal(text, number)?;
-            Ok(())
-        }
-        None => {
-            push_hexadecimal(text, bytes)?;
-            Ok(())
-        }
-    }
-}
-
-fn push_integer64(text: &mut String, bytes: &[u8]) -> Result<(), AllocError>
-    ensures { OnOk result (string_bytes text.new
-        ≡ string_bytes text.old ++ number_word 8 (signed_text (2 ^ 63)) bytes.now) }
-{
-    match number64(bytes) {
-        Some(number) => {
-            push_signed(text, 1 << 63, number)?;
-            Ok(())
-        }
-        None => {
-            push_hexadecimal(text, bytes)?;
-            Ok(())
-        }
-    }
-}
-
-/// The number that exactly eight bytes are.
-fn number64(bytes: &[u8]) -> Option<u64>
-    ensures some { IsSome result ↔ (length bytes.now ≡ 8) }
-    ensures value { IfSome result (λ n. n ≡ number bytes.now) }
-{
-    if bytes.len() == 8 {
-        Some(BigEndian::read_u64(bytes))
+    if accepts(format, bytes) == Leaf::Fine {
+        push_value(text, format, bytes)
     } else {
-        None
+        push_hexadecimal(text, bytes)?;
+        Ok(())
     }
-}
-
-/// Adds a number in two's complement: `half` of all numbers stand for those below zero.
-fn push_signed(text: &mut String, half: u64, number: u64) -> Result<(), AllocError>
-    requires half { half ≤ 2 ^ 63 }
-    requires small { number < half + half }
-    ensures { OnOk result (string_bytes text.new
-        ≡ string_bytes text.old ++ signed_text half number) }
-{
-    if number < half {
-        push_decimal(text, number)?;
-        return Ok(());
-    }
-    text.push_str("-")?;
-    push_decimal(text, half - (number - half))?;
-    Ok(())
 }
 
 fn push_hexadecimal(text: &mut String, bytes: &[u8]) -> Result<(), AllocError>

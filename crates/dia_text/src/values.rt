@@ -1,44 +1,200 @@
 //! The data that a value writes.
-ghost use Rattle.std.specs.Prelude.{◌≡◌, ◌<◌, ◌^◌, IfSome};
+ghost use Rattle.std.specs.Prelude.{◌≡◌, ◌<◌, ◌≤◌, ◌^◌, IfSome, length, map, option_copied};
 ghost use Rattle.std.specs.Option.{option_map};
+ghost use Rattle.std.specs.List.{prefix_len};
 ghost use Rattle.dia_data.specs.Plain.{plain_format};
-ghost use Rattle.dia_text.specs.Reading.{Gives};
-ghost use Rattle.dia_text.specs.Values.{value_of, number_value, number_bytes};
+ghost use Rattle.dia_text.specs.declared.fault.Kind.TheVariants.{Value};
+ghost use Rattle.dia_text.specs.Words.{unblanked};
+ghost use Rattle.dia_text.specs.Fields.{behind_letter};
+ghost use Rattle.dia_text.specs.Reading.{Gives, some_or};
+ghost use Rattle.dia_text.specs.Values.{value_at, words_at, text_at, family_at, value_of, formatted};
+ghost use Rattle.dia_text.specs.Values.{number_bytes, address_of, in_family, each, unescaped};
+ghost use Rattle.dia_text.specs.Values.{may_be_text, is_address, is_no_quote};
+ghost use Rattle.dia_text.specs.ValueParts.{part_bytes};
 
 use crate::fault::{Kind, Misread};
-use crate::fields::bytes_of;
+use crate::fields::{behind_letter, bytes_of};
 use crate::numbers::{number_below, number_of, signed_below};
+use crate::splitting::split;
+use crate::value_parts::{Part, push_parts};
+use crate::words::{next_word, without_blanks};
 use byteorder::{BigEndian, ByteOrder};
 use dia_data::Format;
 use std::alloc::Global;
 
-/// The data that a word writes for an AVP of this format, or for one that the dictionary doesn't know.
-pub(crate) fn value_of(
+/// The data that a value writes for an AVP of this format, or for one that the dictionary doesn't know; and what follows it.
+#[tactic(auto, unfolding(crate::specs::Values::value_at))]
+pub(crate) fn value_at<'a>(
     alloc: Global,
     format: Option<&Format>,
-    word: &[u8],
-) -> Result<Vec<u8>, Misread>
+    text: &'a [u8],
+) -> Result<(Vec<u8>, &'a [u8]), Misread>
+    ensures { Gives (λ x. (x.0.items, x.1.now)) result
+        (value_at (option_map (λ format. plain_format format.now) format.entry) text.entry.now) }
+{
+    match behind_quote(text) {
+        None => words_at(alloc, format, text),
+        Some(rest) if may_be_text(format) => text_at(alloc, rest),
+        Some(_) => Err(Misread::Fault(Kind::Value)),
+    }
+}
+
+/// What follows the opening quote of a text.
+fn behind_quote(text: &[u8]) -> Option<&[u8]>
+    ensures { option_copied result ≡ behind_letter 34 (unblanked text.entry.now) }
+{
+    behind_letter(b'"', without_blanks(text))
+}
+
+fn may_be_text(format: Option<&Format>) -> bool
+    ensures { result
+        ≡ may_be_text (option_map (λ format. plain_format format.now) format.entry) }
+{
+    matches!(
+        format,
+        Some(
+            Format::OctetString
+                | Format::Utf8String
+                | Format::DiameterIdentity
+                | Format::DiameterUri
+                | Format::IpFilterRule
+                | Format::QosFilterRule
+        )
+    )
+}
+
+/// The bytes of a text behind its opening quote, and what follows its closing quote.
+fn text_at(alloc: Global, text: &[u8]) -> Result<(Vec<u8>, &[u8]), Misread>
+    ensures { Gives (λ x. (x.0.items, x.1.now)) result (some_or (text_at text.entry.now) Value) }
+{
+    let at = quote_place(text);
+    if at == text.len() {
+        return Err(Misread::Fault(Kind::Value));
+    }
+    let parts = split(alloc, b'\\', &text[..at])?;
+    let bytes = unescaped(alloc, &parts)?;
+    Ok((bytes, &text[at + 1..]))
+}
+
+fn quote_place(text: &[u8]) -> usize
+    ensures at { result ≡ prefix_len is_no_quote text.now }
+    ensures within { result ≤ length text.now }
+{
+    text.iter().take_while(|b| **b != b'"').count()
+}
+
+/// The bytes of parts between backslashes.
+fn unescaped(alloc: Global, parts: &[&[u8]]) -> Result<Vec<u8>, Misread>
+    ensures { Gives (λ bytes. bytes.items) result
+        (some_or (unescaped (map (λ x. x.now) parts.now)) Value) }
+{
+    let [first, rest @ ..] = parts else {
+        return Ok(Vec::new(alloc));
+    };
+    let mut bytes = Vec::from_slice(alloc, first)?;
+    push_parts(&mut bytes, Part::Escaped, rest)?;
+    Ok(bytes)
+}
+
+/// The data of a value of words, and what follows it.
+#[tactic(auto, unfolding(crate::specs::Values::words_at))]
+fn words_at<'a>(
+    alloc: Global,
+    format: Option<&Format>,
+    text: &'a [u8],
+) -> Result<(Vec<u8>, &'a [u8]), Misread>
+    ensures { Gives (λ x. (x.0.items, x.1.now)) result
+        (words_at (option_map (λ format. plain_format format.now) format.entry) text.entry.now) }
+{
+    let (word, rest) = next_word(text);
+    if is_address(format) && word == b"family".as_slice() {
+        return family_at(alloc, rest);
+    }
+    let bytes = value_of(alloc, format, word)?;
+    Ok((bytes, rest))
+}
+
+fn is_address(format: Option<&Format>) -> bool
+    ensures { result
+        ≡ is_address (option_map (λ format. plain_format format.now) format.entry) }
+{
+    matches!(format, Some(Format::Address))
+}
+
+/// The data of an address behind the word `family`, and what follows it.
+#[tactic(auto, unfolding(crate::specs::Values::family_at))]
+fn family_at(alloc: Global, text: &[u8]) -> Result<(Vec<u8>, &[u8]), Misread>
+    ensures { Gives (λ x. (x.0.items, x.1.now)) result (family_at text.entry.now) }
+{
+    let (word, rest) = next_word(text);
+    let mut bytes = two(alloc, number_below(1 << 16, word))?;
+    let (word, rest) = next_word(rest);
+    let address = bytes_of(alloc, word)?;
+    bytes.extend_from_slice(&address)?;
+    Ok((bytes, rest))
+}
+
+/// The data that a word writes for an AVP of this format, or for one that the dictionary doesn't know.
+fn value_of(alloc: Global, format: Option<&Format>, word: &[u8]) -> Result<Vec<u8>, Misread>
     ensures { Gives (λ bytes. bytes.items) result
         (value_of (option_map (λ format. plain_format format.now) format.entry) word.now) }
 {
     match word {
         [] => Err(Misread::Fault(Kind::Syntax)),
         [b'x', ..] => bytes_of(alloc, word),
-        _ => number_value(alloc, format, word),
+        _ => formatted(alloc, format, word),
     }
 }
 
-fn number_value(alloc: Global, format: Option<&Format>, word: &[u8]) -> Result<Vec<u8>, Misread>
+fn formatted(alloc: Global, format: Option<&Format>, word: &[u8]) -> Result<Vec<u8>, Misread>
     ensures { Gives (λ bytes. bytes.items) result
-        (number_value (option_map (λ format. plain_format format.now) format.entry) word.now) }
+        (formatted (option_map (λ format. plain_format format.now) format.entry) word.now) }
 {
     match format {
         Some(Format::Unsigned32 | Format::Time) => four(alloc, number_below(1 << 32, word)),
         Some(Format::Integer32 | Format::Enumerated(_)) => four(alloc, signed_below(1 << 31, word)),
         Some(Format::Unsigned64) => eight(alloc, number_of(word)),
         Some(Format::Integer64) => eight(alloc, signed_below(1 << 63, word)),
+        Some(Format::Address) => address_of(alloc, word),
         _ => Err(Misread::Fault(Kind::Value)),
     }
+}
+
+/// The data of an IPv4 or an IPv6 address.
+fn address_of(alloc: Global, word: &[u8]) -> Result<Vec<u8>, Misread>
+    ensures { Gives (λ bytes. bytes.items) result (some_or (address_of word.now) Value) }
+{
+    let numbers = split(alloc, b'.', word)?;
+    if numbers.len() == 4 {
+        return in_family(alloc, 1, Part::Decimal, &numbers);
+    }
+    let groups = split(alloc, b':', word)?;
+    if groups.len() == 8 {
+        return in_family(alloc, 2, Part::Pair, &groups);
+    }
+    Err(Misread::Fault(Kind::Value))
+}
+
+/// The data of an address of these parts.
+fn in_family(alloc: Global, family: u8, part: Part, texts: &[&[u8]]) -> Result<Vec<u8>, Misread>
+    ensures { Gives (λ bytes. bytes.items) result
+        (some_or (in_family family (each (part_bytes part) (map (λ x. x.now) texts.now))) Value) }
+{
+    let mut bytes = Vec::from_slice(alloc, &[0, family])?;
+    push_parts(&mut bytes, part, texts)?;
+    Ok(bytes)
+}
+
+fn two(alloc: Global, number: Option<u64>) -> Result<Vec<u8>, Misread>
+    requires { IfSome number (λ n. n < 2 ^ 16) }
+    ensures { Gives (λ bytes. bytes.items) result (number_bytes 2 number) }
+{
+    let Some(number) = number else {
+        return Err(Misread::Fault(Kind::Value));
+    };
+    let mut bytes = [0; 2];
+    BigEndian::write_u16(&mut bytes, number as u16);
+    Ok(Vec::from_slice(alloc, &bytes)?)
 }
 
 fn four(alloc: Global, number: Option<u64>) -> Result<Vec<u8>, Misread>

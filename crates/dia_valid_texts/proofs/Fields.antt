@@ -20,7 +20,7 @@ use Rattle.dia_text.specs.Numbers.{number_of, number_below, within}
 use Rattle.dia_text.specs.Reading.{◌>>=◌, some_or}
 use Rattle.dia_text.specs.Fields.{number_field, flags_field, length_field, padding_field}
 use Rattle.dia_text.specs.Keys.{is_no_slash, with_vendor, vendor_code, numbered, code_of_key, entry_named, code_of, default_flags, format_at, class_flags, p_flag, start_of, command_named, start_named}
-use Rattle.dia_text.specs.Values.{value_of}
+use Rattle.dia_text.specs.Values.{value_at}
 use Rattle.dia_text.specs.Lines.{avp_letters, header_letters, no_more, PlainLine, Blank, Leaf, Open, Close, head_at, leaf_at, open_at, close_at, avp_at, line_of, start_at, header_at, header_of}
 use Rattle.dia_valid_texts.specs.ValidTexts.{KeyFits, AppFits, NumbersFit}
 
@@ -131,8 +131,8 @@ LineFits (Close pad) = ⊤
 leaf_fits : (d : Dictionary) (head : Head) (text : List ℕ) → CodeFits head.code → IfOk (leaf_at d head text) LineFits
 unfolding leaf_at
 leaf_fits d head text h =
-    reads (λ _. ⊤) LineFits (value_of (format_at d head.code) (first_word text)) _ (any (value_of (format_at d head.code) (first_word text)))
-    (λ bytes u. reads (λ _. ⊤) LineFits (padding_field (behind_word text)) _ (any (padding_field (behind_word text)))
+    reads (λ _. ⊤) LineFits (value_at (format_at d head.code) text) _ (any (value_at (format_at d head.code) text))
+    (λ value u. reads (λ _. ⊤) LineFits (padding_field value.1) _ (any (padding_field value.1))
     (λ pad v. reads (λ _. ⊤) LineFits (no_more pad.1) _ (any (no_more pad.1)) (λ e w. h)))
 
 open_fits : (head : Head) (text : List ℕ) → CodeFits head.code → IfOk (open_at head text) LineFits

@@ -7,6 +7,8 @@ let TIME = 01000020 $B 00000037 4000000c
 let I32 = 01000020 $B 000001ad 4000000c
 let U64 = 01000024 $B 000001a5 40000010
 let I64 = 01000024 $B 000001bf 40000010
+let V4 = 01000024 $B 00000101 4000000e
+let V6 = 01000030 $B 00000101 4000001a
 
 $H\nCC-Request-Number 0 => $U32 00000000
 $H\nCC-Request-Number 258 => $U32 00000102
@@ -46,6 +48,68 @@ $H\nCC-Request-Number x0102 => 01000020 $B 0000019f 4000000a 0102 0000
 $H\nCC-Request-Number x00000102 => $U32 00000102
 $H\nRatio 1 => value at line 2
 $H\nSession-Id 1 => value at line 2
+
+# Texts in quotes: bytes that stand for themselves, blanks and `#` too, and `\x` with two digits. What the format accepts
+# isn't asked: an identity has no blanks, and 0xff is no UTF-8.
+$H\nSession-Id \x22gw.a;1;12\x22 => 01000028 $B 00000107 40000011 67772e613b313b3132 000000
+$H\nSession-Id \x22\x22 => 0100001c $B 00000107 40000008
+$H\nSession-Id \x22a # b\x22 # c => 01000024 $B 00000107 4000000d 61202320 62 000000
+$H\nSession-Id \x22 \t\x22 => 01000020 $B 00000107 4000000a 2009 0000
+$H\nSession-Id \x22\xc3\xa9\x22 => 01000020 $B 00000107 4000000a c3a9 0000
+$H\nSession-Id \x22\x5cxc3\x5cxA9\x22 => 01000020 $B 00000107 4000000a c3a9 0000
+$H\nSession-Id \x22a\x5cx22b\x5cx5c\x22 => 01000020 $B 00000107 4000000c 6122625c
+$H\nSession-Id \x22\x5cx00\x5cxff1\x22 => 01000020 $B 00000107 4000000b 00ff31 00
+$H\nOrigin-Host \x22gw a\x22 => 01000020 $B 00000108 4000000c 67772061
+$H\nRedirect-Host flags - length 9 \x22a\x22 pad x010000 => 01000020 $B 00000124 00000009 61 01 0000
+$H\nFilter-Rule \x22permit\x22 => 01000024 $B 00000190 4000000e 7065726d6974 0000
+$H\nFramed-IP-Address \x22abcd\x22 => 01000020 $B 00000008 4000000c 61626364
+$H\nSession-Id \x22a => value at line 2
+$H\nSession-Id \x22 => value at line 2
+$H\nSession-Id a\x22 => value at line 2
+$H\nSession-Id \x22a\x22b\x22 => syntax at line 2
+$H\nSession-Id \x22a\x22 \x22b\x22 => syntax at line 2
+$H\nSession-Id \x22\x5c\x22 => value at line 2
+$H\nSession-Id \x22\x5c\x5c\x22 => value at line 2
+$H\nSession-Id \x22\x5cn\x22 => value at line 2
+$H\nSession-Id \x22\x5cx4\x22 => value at line 2
+$H\nSession-Id \x22\x5cx4g\x22 => value at line 2
+$H\nSession-Id \x22\x5cX41\x22 => value at line 2
+$H\nSession-Id \x22\x5cx4\x5cx41\x22 => value at line 2
+$H\nCC-Request-Number \x221\x22 => value at line 2
+$H\nHost-IP-Address \x2210.0.0.1\x22 => value at line 2
+$H\nRatio \x22abcd\x22 => value at line 2
+$H\nNest \x22\x22 => value at line 2
+$H\n9999 \x22a\x22 => value at line 2
+
+# Addresses, by RFC 6733 section 4.3.1 two bytes of family in front of them.
+$H\nHost-IP-Address 10.0.0.1 => $V4 0001 0a000001 0000
+$H\nHost-IP-Address 255.254.000.01 => $V4 0001 fffe0001 0000
+$H\nHost-IP-Address 2001:0db8:0000:0000:0000:0000:00aF:0001 => $V6 0002 20010db80000000000000000 00af0001 0000
+$H\nHost-IP-Address family 8 x3439 => 01000020 $B 00000101 4000000c 0008 3439
+$H\nHost-IP-Address family 65535 x => 01000020 $B 00000101 4000000a ffff 0000
+$H\nHost-IP-Address family 1 x0a pad x01 => 01000020 $B 00000101 4000000b 0001 0a 01
+$H\nHost-IP-Address x0a => 01000020 $B 00000101 40000009 0a 000000
+$H\nHost-IP-Address 10.0.0 => value at line 2
+$H\nHost-IP-Address 10.0.0.1.2 => value at line 2
+$H\nHost-IP-Address 10.0.0.256 => value at line 2
+$H\nHost-IP-Address 10.0.0. => value at line 2
+$H\nHost-IP-Address 10.0.0.a => value at line 2
+$H\nHost-IP-Address 10.0.0.-1 => value at line 2
+$H\nHost-IP-Address 1 => value at line 2
+$H\nHost-IP-Address 2001:db8::1 => value at line 2
+$H\nHost-IP-Address 2001:0db8:0000:0000:0000:0000:00af => value at line 2
+$H\nHost-IP-Address 2001:0db8:0000:0000:0000:0000:00af:001 => value at line 2
+$H\nHost-IP-Address 2001:0db8:0000:0000:0000:0000:00af:001g => value at line 2
+$H\nHost-IP-Address family => value at line 2
+$H\nHost-IP-Address family 8 => syntax at line 2
+$H\nHost-IP-Address family 65536 x => value at line 2
+$H\nHost-IP-Address family 8 10.0.0.1 => value at line 2
+$H\nHost-IP-Address family 8 x00 x00 => syntax at line 2
+$H\nSession-Id family 8 x00 => value at line 2
+$H\nFramed-IP-Address 10.0.0.1 => value at line 2
+$H\n9999 10.0.0.1 => value at line 2
+
+# Digits for any AVP, also of a format that has a text.
 $H\n9999 1 => value at line 2
 $H\n9999/1 1 => value at line 2
 $H\n264 x0 => value at line 2

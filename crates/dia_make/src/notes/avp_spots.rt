@@ -2,7 +2,8 @@
 
 use crate::notes::spots::{Meant, Spot};
 use crate::notes::tests_of_words::{
-    are_flags, is_bytes, is_number, is_signed, is_uneven, number_of,
+    are_flags, inside_quotes, is_address, is_bytes, is_number, is_signed, is_text, is_uneven,
+    number_of,
 };
 use crate::notes::words::{Word, Words};
 use dia_dict::{Book, Format, Key};
@@ -33,7 +34,7 @@ pub fn avp_spot<'a, B: Book>(book: &B, words: Words<'a>) -> Option<Spot<'a>> {
     if rest.take(b"{") {
         return last_spot(rest);
     }
-    match value_spot(format_of(book, key), rest.next()) {
+    match value_spot(format_of(book, key), &mut rest) {
         Some(spot) => Some(spot),
         None => end_spot(rest),
     }
@@ -91,29 +92,55 @@ fn bytes_spot<'a>(word: Word<'a>, wanted: &'static str) -> Spot<'a> {
 }
 
 /// A value that its format can't have.
-fn value_spot<'a>(format: Option<&Format>, word: Word<'a>) -> Option<Spot<'a>> {
+fn value_spot<'a>(format: Option<&Format>, words: &mut Words<'a>) -> Option<Spot<'a>> {
+    if matches!(format, Some(Format::Address)) && words.take(b"family") {
+        return family_spot(words);
+    }
+    let word = words.next();
     if word.text.is_empty() {
         return Some(Spot::new(word, "a value, or `{` for the members of a group"));
     }
-    if is_bytes(word.text) || is_number_of(format, word.text) {
+    if is_bytes(word.text) || is_value_of(format, word.text) {
         return None;
     }
-    let spot = bytes_spot(word, wanted_of(format));
-    if has_text(format) && word.text.first() != Some(&b'x') {
-        Some(spot.meaning(Meant::Text))
-    } else {
-        Some(spot)
+    Some(Spot::new(word, wanted_of(format)).meaning(meant_of(format, word.text)))
+}
+
+/// What may be meant by a value that its format can't have.
+fn meant_of(format: Option<&Format>, word: &[u8]) -> Meant {
+    match word {
+        _ if is_uneven(word) => Meant::Pairs,
+        _ if !has_text(format) => Meant::Nothing,
+        [b'x', ..] => Meant::Nothing,
+        [b'"', ..] if inside_quotes(word).is_none() => Meant::Closed,
+        [b'"', ..] => Meant::Escaped,
+        _ => Meant::Text,
     }
 }
 
-/// Whether a word is a number of the format.
-fn is_number_of(format: Option<&Format>, word: &[u8]) -> bool {
+/// The words of an address behind `family`, if one is at fault.
+fn family_spot<'a>(words: &mut Words<'a>) -> Option<Spot<'a>> {
+    let family = words.next();
+    if !is_number(family.text, 1 << 16) {
+        return Some(Spot::new(family, "the number of an address family, at most 65535"));
+    }
+    let bytes = words.next();
+    if is_bytes(bytes.text) {
+        None
+    } else {
+        Some(bytes_spot(bytes, BYTES))
+    }
+}
+
+/// Whether a word is a number, an address or a text of the format.
+fn is_value_of(format: Option<&Format>, word: &[u8]) -> bool {
     match format {
         Some(Format::Unsigned32 | Format::Time) => is_number(word, 1 << 32),
         Some(Format::Integer32 | Format::Enumerated(_)) => is_signed(word, 1 << 31),
         Some(Format::Unsigned64) => number_of(word).is_some(),
         Some(Format::Integer64) => is_signed(word, 1 << 63),
-        _ => false,
+        Some(Format::Address) => is_address(word),
+        _ => has_text(format) && is_text(word),
     }
 }
 
@@ -132,12 +159,17 @@ fn wanted_of(format: Option<&Format>) -> &'static str {
             "a number of 64 bits with its sign; or `x` and pairs of hexadecimal digits"
         }
         Some(Format::Grouped) => "`{`, or `x` and pairs of hexadecimal digits",
-        Some(_) => "`x` and pairs of hexadecimal digits",
+        Some(Format::Address) => {
+            "an address such as 10.0.0.1 or 2001:0db8:0000:0000:0000:0000:0000:0001, `family` with its number and `x` and pairs \
+             of hexadecimal digits, or these bytes alone"
+        }
+        Some(Format::Float32 | Format::Float64) => BYTES,
+        Some(_) => "a text in double quotes, or `x` and pairs of hexadecimal digits",
         None => "`x` and pairs of hexadecimal digits, as the dictionary doesn't know the AVP",
     }
 }
 
-/// Whether data of the format is text.
+/// Whether a text may be written for data of the format.
 fn has_text(format: Option<&Format>) -> bool {
     matches!(
         format,
@@ -198,9 +230,20 @@ pub fn is_too_long(words: Words<'_>) -> Option<Word<'_>> {
     let _ = rest.next();
     let _ = head_spot(&mut rest);
     let value = rest.next();
-    if value.text.len() / 2 >= TOO_LONG - 12 {
+    if data_length(value.text) >= TOO_LONG - 12 {
         Some(value)
     } else {
         None
+    }
+}
+
+/// How many bytes a value writes, if it is bytes or a text.
+fn data_length(value: &[u8]) -> usize {
+    match value {
+        [b'"', ..] => {
+            let escaped = value.iter().filter(|byte| **byte == b'\\').count();
+            value.len().saturating_sub(escaped.saturating_mul(3))
+        }
+        _ => value.len() / 2,
     }
 }

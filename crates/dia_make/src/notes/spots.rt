@@ -23,8 +23,12 @@ pub enum Meant {
     Command,
     /// An AVP of the dictionary.
     Avp,
-    /// Text that isn't written by its bytes.
+    /// A text without its quotes.
     Text,
+    /// A text that has no closing quote.
+    Closed,
+    /// A text in which a backslash has no two digits.
+    Escaped,
     /// Digits, of which one has no second.
     Pairs,
 }

@@ -49,6 +49,43 @@ fn are_digits(word: &[u8]) -> bool {
     word.iter().all(|byte| byte.is_ascii_hexdigit())
 }
 
+/// A text in quotes, in which `x` and two hexadecimal digits stand behind each backslash.
+pub fn is_text(word: &[u8]) -> bool {
+    let Some(inside) = inside_quotes(word) else {
+        return false;
+    };
+    let mut parts = inside.split(|byte| *byte == b'\\');
+    let _ = parts.next();
+    parts.all(is_escaped)
+}
+
+/// What stands between the quotes of a text.
+pub fn inside_quotes(word: &[u8]) -> Option<&[u8]> {
+    let behind = word.strip_prefix(b"\"")?;
+    behind.strip_suffix(b"\"")
+}
+
+fn is_escaped(part: &[u8]) -> bool {
+    match part {
+        [b'x', high, low, ..] => high.is_ascii_hexdigit() && low.is_ascii_hexdigit(),
+        _ => false,
+    }
+}
+
+/// Four numbers with dots between them, or eight groups of four hexadecimal digits with colons.
+pub fn is_address(word: &[u8]) -> bool {
+    if word.split(|byte| *byte == b'.').count() == 4 {
+        return word
+            .split(|byte| *byte == b'.')
+            .all(|part| is_number(part, 256));
+    }
+    word.split(|byte| *byte == b':').count() == 8 && word.split(|byte| *byte == b':').all(is_group)
+}
+
+fn is_group(part: &[u8]) -> bool {
+    part.len() == 4 && are_digits(part)
+}
+
 /// A dash, two hexadecimal digits, or some of these letters in their order.
 pub fn are_flags(word: &[u8], letters: &[u8]) -> bool {
     word == b"-".as_slice() || (word.len() == 2 && are_digits(word)) || are_letters(word, letters)

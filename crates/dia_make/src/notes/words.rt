@@ -31,11 +31,14 @@ impl<'a> Words<'a> {
         self.rest
     }
 
-    /// The next word, past which it goes.
+    /// The next word, past which it goes. A text in quotes is one word, also where its closing quote is missing.
     pub fn next(&mut self) -> Word<'a> {
         let blanks = self.rest.iter().take_while(|byte| is_blank(**byte)).count();
         self.pass(blanks);
-        let length = self.rest.iter().take_while(|byte| is_inner(**byte)).count();
+        let length = match self.rest {
+            [b'"', behind @ ..] => quoted_length(behind),
+            _ => self.rest.iter().take_while(|byte| is_inner(**byte)).count(),
+        };
         let text = self.rest.get(..length).unwrap_or(self.rest);
         let at = self.at;
         self.pass(length);
@@ -61,6 +64,13 @@ impl<'a> Words<'a> {
         self.rest = self.rest.get(count..).unwrap_or(b"".as_slice());
         self.at = self.at.saturating_add(count);
     }
+}
+
+/// How long a text in quotes is, of which this is behind its opening quote.
+fn quoted_length(behind: &[u8]) -> usize {
+    let inside = behind.iter().take_while(|byte| **byte != b'"').count();
+    let quotes = if inside < behind.len() { 2 } else { 1 };
+    inside.saturating_add(quotes)
 }
 
 fn is_blank(byte: u8) -> bool {

@@ -6,5 +6,5 @@ use Rattle.dia_text.proofs.making.body_of.Given as goal
 abbrev pub invariant-loop-index : goal.invariant-loop-index
 invariant-loop-index g l =
     (level : Level) × Stands level.outer level.bytes l.out.items l.groups.items
-    × (body_from (g.B.Book.meaning l.book) l.header l.index (drop l.index (map (λ (x : Bor (List ℕ)). x.now) l.lines)) level
-    ≡ body_from (g.B.Book.meaning l.book) l.header l.fn.at (drop l.fn.at (map (λ (x : Bor (List ℕ)). x.now) l.lines)) no_level)
+    × (body_from l.named l.header l.index (drop l.index (map (λ (x : Bor (List ℕ)). x.now) l.lines)) level
+    ≡ body_from l.named l.header l.fn.at (drop l.fn.at (map (λ (x : Bor (List ℕ)). x.now) l.lines)) no_level)

@@ -3,4 +3,4 @@ use Rattle.dia_text.proofs.Parts.{IsReadTo}
 use Rattle.dia_text.proofs.many.parts_made.Given as goal
 
 abbrev pub invariant-loop-index : goal.invariant-loop-index
-invariant-loop-index g l = IsReadTo (g.B.Book.meaning l.book) l.lines l.start l.index (string_bytes l.out)
+invariant-loop-index g l = IsReadTo l.named l.lines l.start l.index (string_bytes l.out)

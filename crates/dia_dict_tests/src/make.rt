@@ -1,14 +1,14 @@
-//! What the commands write and what is told of it, over the base dictionary. The message was worked out by hand from RFC 6733
+//! What `make` and `show --as-text` write and what is told of it, over the base dictionary. The message was worked out by hand from RFC 6733
 //! sections 3, 4.1 and 5.5.1.
 
-use crate::{Report, Reported, make, note, show_text};
 use dia_dict::base_text;
 use dia_io::{Exit, Input, Inputs, ToWriter};
+use dia_make::{Report, Reported, make, note, show_text};
 use std::alloc::{AllocError, Global};
 use std::process::Abort;
 use std::test::Fail;
 
-const TEXT: &str = "DWR hop 1 end 2\nOrigin-Host x612e62\nOrigin-Realm x62\n";
+const TEXT: &str = "DWR hop 1 end 2\nOrigin-Host \"a.b\"\nOrigin-Realm \"b\"\n";
 
 const MESSAGE: &str =
     "0100002c80000118000000000000000100000002000001084000000b612e6200000001284000000962000000\n";
@@ -82,5 +82,15 @@ fn tells_the_word_that_is_wrong(rt: HostRuntime) {
         &rt,
         "DWR hop 1",
         "m.txt:1:10: no word is left here; expected `end`\n  DWR hop 1\n           ^\n",
+    );
+    is_noted(
+        &rt,
+        "DWR hop 1 end 2\nOrigin-Host a.b",
+        "m.txt:2:13: found \"a.b\"; expected a text in double quotes, or `x` and pairs of hexadecimal digits\n  Origin-Host a.b\n              ^\nhint: a text stands in double quotes, as \"a.b\"\n",
+    );
+    is_noted(
+        &rt,
+        "DWR hop 1 end 2\nOrigin-Host \"a # b",
+        "m.txt:2:13: found \"\"a # b\"; expected a text in double quotes, or `x` and pairs of hexadecimal digits\n  Origin-Host \"a # b\n              ^\nhint: the closing quote is missing on this line\n",
     );
 }
