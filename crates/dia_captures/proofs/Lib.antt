@@ -1,9 +1,9 @@
 mod Counting
 mod Endings
 mod LinesOfMessages
-mod OneMessage
+pub mod OneMessage
 mod ReasonsCounted
-mod RefusedRuns
+pub mod RefusedRuns
 mod StreamOfMessages
-mod Summed
-mod Tallies
+pub mod Summed
+pub mod Tallies

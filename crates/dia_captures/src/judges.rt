@@ -80,7 +80,7 @@ impl<'a, A: Book, B: Book> RefuteJudge<'a, A, B> {
     ghost use Rattle.dia_captures.specs.Verdicts.{IsLineRefuted};
 
     /// Both verdicts on the text of a message, which is decoded once.
-    fn refute_line(
+    pub fn refute_line(
         &self,
         alloc: Global,
         line: &Input,
@@ -136,8 +136,8 @@ impl<'a, B: Book> MessageJudge for CheckJudge<'a, B> {
     }
 }
 
-/// The verdict on the text of a message.
-fn check_line<B: Book>(
+/// The verdict on the text of a message. What the space holds means nothing.
+pub fn check_line<B: Book>(
     alloc: Global,
     book: &B,
     unknown: Unknown,
@@ -155,7 +155,7 @@ fn check_line<B: Book>(
 }
 
 /// The verdict on the bytes of a message.
-fn check_bytes<B: Book>(
+pub fn check_bytes<B: Book>(
     alloc: Global,
     book: &B,
     unknown: Unknown,

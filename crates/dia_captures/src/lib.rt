@@ -15,7 +15,7 @@ mod summaries;
 mod tally;
 mod verdicts;
 
-pub use judges::{CheckJudge, RefuteJudge};
+pub use judges::{CheckJudge, RefuteJudge, check_bytes, check_line};
 pub use laws::{
     check_of_line, one_check, one_check_of_lines, one_check_of_stream, one_refute,
     one_refute_of_lines, refute_of_line,

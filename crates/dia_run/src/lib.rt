@@ -22,6 +22,7 @@ mod inputs;
 mod running;
 
 pub use commands::check::{check_message, is_endless, push_subject, reason_word, verdict};
+pub use commands::show::show_message;
 pub use commands::{Outcome, answer_of, outcome_of, told};
 pub use dia_io::{
     Command, Exit, Failed, Feed, FromReader, Input, InputFault, Inputs, RunFault, Sink, ToWriter,

@@ -38,8 +38,8 @@ pub fn show(alloc: Global, inputs: &Inputs) -> Result<Answered, Refused>
     Ok(Answered { text, exit, report })
 }
 
-/// The lines of a message.
-fn show_message<B: Book>(alloc: Global, book: &B, bytes: &[u8]) -> Result<Outcome, Refused>
+/// The lines of a message, with the names of a dictionary.
+pub fn show_message<B: Book>(alloc: Global, book: &B, bytes: &[u8]) -> Result<Outcome, Refused>
     ensures outcome { Ends (IsMessageShown (B.meaning book.now) bytes.now) result }
     ensures exit { IfOk result (λ outcome. outcome.exit ≢ Exit.Bad) }
 {
