@@ -3,26 +3,25 @@
  * docs/LIBRARY.md shows how a program begins. What each function answers is proved of the code behind it: the comments say it
  * in words, the clauses of crates/dia_c/src say it exactly.
  *
- * RULES FOR ALL FUNCTIONS
- *  - No pointer is NULL, not even where its length is 0, and each is aligned for its type. Nothing writes the memory behind a
- *    const pointer during the call. Nothing else touches the memory behind another pointer during the call, and it overlaps
- *    no other argument.
+ * WHAT A PROGRAM OWES
+ *  1. No pointer is NULL, not even where its length is 0, and each is aligned for its type. Nothing writes the memory behind a
+ *     const pointer during the call. Nothing else touches the memory behind another pointer during the call, and it overlaps
+ *     no other argument.
+ *  2. A handle is all zero bytes before its first call (DIA_.._INIT), and only the library changes it. It may be moved as bytes,
+ *     and then only one of the copies is used.
+ *  3. One call at a time for each handle. Threads use different handles at once, also of one dictionary (dia_dict_share).
+ *     A handle goes to another thread behind a lock, or a thread's start or join.
+ *  4. No call from a signal handler, nor in the forked child of a process with threads. malloc, realloc and free are of one
+ *     allocator, and align to 16.
+ *  5. Nothing leaves a call by longjmp or by unwinding.
+ *
+ * WHAT ALL FUNCTIONS KEEP
  *  - Nothing that is passed is kept after the call. Lengths and places are in bytes.
  *  - A function that may fail answers a status, DIA_OK or another. On any other than DIA_OK it has changed nothing that its
  *    comment does not name.
  *  - A function may answer DIA_NO_MEMORY, where malloc or realloc refused, unless its comment says "takes no memory".
  *  - No function waits, prints, calls back, reads a clock or a file, or keeps anything outside its handles.
- *  - Not from a signal handler, and not in the forked child of a process with threads. malloc, realloc and free are of one
- *    allocator, and align to 16.
- *
- * HANDLES
- *  A handle is a struct of the caller's. Its DIA_.._INIT, which is zero bytes, makes a closed one. An open one
- *  holds a pointer to what the library owns, and is closed once; closing a closed handle does nothing. Its fields are the
- *  library's. It may be moved as bytes, and then only one of the copies is used.
- *
- * THREADS
- *  One call at a time for each handle. Threads use different handles at once, also of one dictionary (dia_dict_share).
- *  A handle goes to another thread behind a lock, or a thread's start or join.
+ *  - An open handle holds a pointer to what the library owns, and is closed once; closing a closed handle does nothing.
  */
 #ifndef DIA_H
 #define DIA_H
@@ -50,7 +49,8 @@ enum {
     DIA_IS_OPEN = 5,     /* the handle to be opened is open already */
     DIA_IS_CLOSED = 6,   /* the handle to be used is closed */
     DIA_BAD_ARGUMENT = 7, /* a number among the arguments has no meaning */
-    DIA_OUTPUTS_LEFT = 8 /* outputs of the last event are left to be taken */
+    DIA_OUTPUTS_LEFT = 8, /* outputs of the last event are left to be taken */
+    DIA_SPENT = 9         /* the stream was refused memory before: close it */
 };
 
 #define DIA_MAX_NAME 128u     /* the most bytes of a name */
@@ -205,6 +205,41 @@ dia_status dia_check(dia_dict *dict, uint32_t unknown, uint32_t levels, const ui
  * Takes no memory. */
 dia_status dia_message_length(const uint8_t *header, size_t header_len, uint32_t *length, dia_verdict *verdict);
 
+/* ---- messages that come in pieces ---- */
+
+/* A message that comes in pieces, and is checked while it comes. It keeps its dictionary alive, at most 20 bytes of the message,
+ * and the levels of grouped AVPs that are open. */
+typedef struct dia_stream {
+    void *dia_private;
+    uint32_t dia_state;
+} dia_stream;
+#define DIA_STREAM_INIT { NULL, 0 }
+
+typedef struct dia_fed {
+    size_t taken;  /* how many of the piece's first bytes belong to the message */
+    uint32_t done; /* 1 where the message takes no more, else 0 */
+} dia_fed;
+
+/* Opens a closed handle with a message of which nothing came yet. `unknown` and `levels` are those of dia_check.
+ * DIA_BAD_ARGUMENT: `unknown` is neither of its two values. */
+dia_status dia_stream_open(dia_dict *dict, uint32_t unknown, uint32_t levels, dia_stream *stream);
+
+/* Takes the next piece of the message, as far as it belongs to it: until Message Length bytes were taken, also behind a fault, or
+ * until 20 were where the version or the Message Length is at fault. The bytes behind begin the next message.
+ * DIA_NO_MEMORY: the stream is spent. DIA_SPENT: it was before. *fed is written on DIA_OK alone. */
+dia_status dia_stream_feed(dia_stream *stream, const uint8_t *piece, size_t piece_len, dia_fed *fed);
+
+/* How many levels are open: those that began at or before the last byte taken, and end behind it. None are once the message takes
+ * no more. Takes no memory. */
+dia_status dia_stream_levels(dia_stream *stream, size_t *levels);
+
+/* Says of all bytes that were taken what dia_check says of them, and closes the handle, on any status. Before the end of the
+ * message it is DIA_TRUNCATED. DIA_SPENT: memory was refused before. Takes no memory. */
+dia_status dia_stream_finish(dia_stream *stream, dia_verdict *verdict);
+
+/* Closes the handle. Takes no memory. */
+void dia_stream_close(dia_stream *stream);
+
 /* ---- texts ---- */
 
 typedef struct dia_text {
@@ -216,6 +251,13 @@ typedef struct dia_text {
 /* Opens a closed handle with the text that `diacmd render` writes of a dictionary's text. Definitions need not fit together.
  * DIA_REFUSED: *problem says why; it is written on no other status. */
 dia_status dia_render(const uint8_t *source, size_t source_len, dia_text *text, dia_problem *problem);
+
+/* Opens the closed handle `text` with the lines that `diacmd show` writes of a message, with the names of the dictionary. *whole is
+ * 1 where they are all, and 0 where an AVP Length that no AVP can have ends them.
+ * DIA_REFUSED: the bytes are no message. *verdict says why, and is written on no other status: DIA_TRUNCATED, DIA_TRAILING, or the
+ * fault of the version or of the Message Length. */
+dia_status dia_show(dia_dict *dict, const uint8_t *message, size_t message_len, dia_text *text, uint32_t *whole,
+                    dia_verdict *verdict);
 
 /* Copies the text's bytes from place `from` on, as many as there is room for: *count of them, 0 at the end.
  * Takes no memory. */

@@ -60,3 +60,11 @@ AT(dia_numbers, has_state_id, 4);
 AT(dia_numbers, state_id, 8);
 AT(dia_numbers, hop, 12);
 AT(dia_numbers, e2e, 16);
+
+_Static_assert(sizeof(dia_stream) == 16, "dia_stream");
+AT(dia_stream, dia_private, 0);
+AT(dia_stream, dia_state, 8);
+
+_Static_assert(sizeof(dia_fed) == 16, "dia_fed");
+AT(dia_fed, taken, 0);
+AT(dia_fed, done, 8);

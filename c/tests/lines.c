@@ -1,4 +1,5 @@
-/* lines DICTIONARY MESSAGES: writes of each line of hexadecimal digits what `diacmd check --lines` writes. */
+/* lines DICTIONARY MESSAGES: writes of each line of hexadecimal digits what `diacmd check --lines` writes. Each message is checked
+ * in pieces, too, which has to say the same. */
 #include "dia.h"
 #include <stdio.h>
 #include <stdlib.h>
@@ -11,6 +12,7 @@ static const char *const reasons[] = {
 
 static uint8_t source[DIA_MAX_TEXT + 1];
 static char line[1 << 17];
+static size_t piece = 1;
 
 static void tell_subject(dia_dict *dict, const dia_verdict *v) {
     uint8_t name[DIA_MAX_NAME];
@@ -49,6 +51,24 @@ static int tell(dia_dict *dict, const dia_verdict *v) {
     }
 }
 
+/* Whether pieces of one size say the same; of bytes behind the message they can't tell. */
+static int is_same_in_pieces(dia_dict *dict, const uint8_t *message, size_t len, const dia_verdict *whole) {
+    dia_stream stream = DIA_STREAM_INIT;
+    dia_fed fed = {0, 0};
+    dia_verdict verdict;
+    size_t at = 0;
+    dia_status status = dia_stream_open(dict, DIA_KEPT, DIA_ANY_LEVELS, &stream);
+    piece = piece % 61 + 1;
+    while (status == DIA_OK && at < len && !fed.done) {
+        status = dia_stream_feed(&stream, message + at, len - at < piece ? len - at : piece, &fed);
+        at += fed.taken;
+    }
+    if (status != DIA_OK || dia_stream_finish(&stream, &verdict) != DIA_OK) {
+        return 0;
+    }
+    return whole->outcome == DIA_TRAILING ? at < len : memcmp(whole, &verdict, sizeof verdict) == 0;
+}
+
 static int check_line(dia_dict *dict) {
     size_t len = strcspn(line, "\n") / 2;
     uint8_t *message = malloc(len != 0 ? len : 1); /* of just this length, so that a sanitizer sees a read behind it */
@@ -65,7 +85,8 @@ static int check_line(dia_dict *dict) {
         }
         message[i] = (uint8_t)byte;
     }
-    told = dia_check(dict, DIA_KEPT, DIA_ANY_LEVELS, message, len, &verdict) == DIA_OK && tell(dict, &verdict);
+    told = dia_check(dict, DIA_KEPT, DIA_ANY_LEVELS, message, len, &verdict) == DIA_OK && tell(dict, &verdict)
+        && is_same_in_pieces(dict, message, len, &verdict);
     free(message);
     return told;
 }

@@ -46,6 +46,7 @@ static dia_dict dict, other;
 static dia_text text, line;
 static dia_faults faults;
 static dia_peer peer;
+static dia_stream stream;
 static dia_problem problem;
 static dia_verdict verdict;
 static const char source[] = "%avp A 1 OctetString any\n%avp B 2 Grouped any\nB ::= < AVP Header: 2 > { A }\n"
@@ -79,6 +80,30 @@ static dia_status renders(void) {
 static dia_status compares(void) {
     uint32_t holds;
     return dia_compare(&dict, &other, DIA_KEPT, (const uint8_t *)table, strlen(table), &line, &holds, &problem);
+}
+
+static dia_status shows(void) {
+    uint32_t whole;
+    return dia_show(&dict, watchdog, sizeof watchdog, &line, &whole, &verdict);
+}
+
+/* A stream is spent once memory was refused, and a finish lets it go. */
+static dia_status streams(void) {
+    dia_fed fed = {9, 9};
+    size_t levels = 9;
+    dia_status status = dia_stream_open(&dict, DIA_KEPT, DIA_ANY_LEVELS, &stream);
+    if (status != DIA_OK) {
+        return status;
+    }
+    status = dia_stream_feed(&stream, grouped, sizeof grouped, &fed);
+    if (status == DIA_OK) {
+        EXPECT(fed.taken == sizeof grouped && fed.done == 1);
+        return dia_stream_finish(&stream, &verdict);
+    }
+    EXPECT(fed.taken == 9 && dia_stream_feed(&stream, grouped, sizeof grouped, &fed) == DIA_SPENT && fed.taken == 9);
+    EXPECT(dia_stream_levels(&stream, &levels) == DIA_OK && levels == 0);
+    EXPECT(dia_stream_finish(&stream, &verdict) == DIA_SPENT && stream.dia_state == 0);
+    return status;
 }
 
 static dia_status finds_faults(void) {
@@ -160,6 +185,7 @@ static void take_no_memory(void) {
     size_t column;
     uint32_t length, state, output, why;
     dia_fault fault;
+    dia_verdict told;
     long before = asked;
     EXPECT(dia_abi_version() == DIA_ABI_VERSION);
     EXPECT(dia_avp_name(&dict, 264, 0, name, sizeof name, &count) == DIA_OK);
@@ -167,6 +193,9 @@ static void take_no_memory(void) {
     EXPECT(dia_message_length(watchdog, 20, &length, &verdict) == DIA_OK);
     EXPECT(dia_text_length(&text, &count) == DIA_OK);
     EXPECT(dia_text_read(&text, 0, name, sizeof name, &count) == DIA_OK);
+    EXPECT(dia_stream_levels(&stream, &count) == DIA_OK && count == 0);
+    EXPECT(dia_stream_finish(&stream, &told) == DIA_OK && told.outcome == DIA_TRUNCATED);
+    dia_stream_close(&stream);
     dia_dict_close(&dict);
     dia_dict_close(&other);
     dia_text_close(&text);
@@ -190,10 +219,15 @@ int main(void) {
     refuse_each("share", shares, close_nothing, 1);
     refuse_each("check", checks, close_nothing, 1);
     refuse_each("compare", compares, close_line, 3);
+    dia_text_close(&line);
+    refuse_each("show", shows, close_line, 2);
+    dia_text_close(&line);
+    refuse_each("stream", streams, close_nothing, 3);
     refuse_each("render", renders, close_nothing, 2);
     refuse_each("faults_open", finds_faults, close_faults, 4);
     refuse_each("peer_open", opens_peer, close_peer, 100);
     refuse_each("peer_event", starts, close_nothing, 2);
+    EXPECT(dia_stream_open(&dict, DIA_KEPT, DIA_ANY_LEVELS, &stream) == DIA_OK);
     take_no_memory();
     EXPECT(blocks == 0);
     return tell_counts();

@@ -23,6 +23,13 @@ pub dict_of : (held lent : Held) (owner : Arc IndexedBook Global) (book : Indexe
 dict_of held lent owner book same is at =
     ap (λ (h : Held). dict_in (Some h)) (sym same ∙ is) ∙ ap (λ (b : IndexedBook). Some (ghosts.meaning b)) (sym at)
 
+module _ (P : Dictionary → List ℕ → Type 0) where
+  pub in_one : (a l : Option Held) (first told : Held) (A : Dictionary) → a ≡ Some first → l ≡ Some told → dict_in (Some first) ≡ Some A
+      → IfSome (text_in (Some told)) (P A) → IfSome (dict_in a) (λ x. IfSome (text_in l) (P x))
+  in_one a l first told A is_a is_l is_A done =
+      subst (λ (o : Option Dictionary). IfSome o (λ x. IfSome (text_in l) (P x))) (sym (ap dict_in is_a ∙ is_A))
+      (subst (λ (o : Option Held). IfSome (text_in o) (P A)) (sym is_l) done)
+
 pub compared_in : (a b l : Option Held) (first second told : Held) (A B : Dictionary) (u v : Unknown) (text : List ℕ) (holds : ℕ)
     → a ≡ Some first → b ≡ Some second → l ≡ Some told → dict_in (Some first) ≡ Some A → dict_in (Some second) ≡ Some B → u ≡ v
     → IfSome (text_in (Some told)) (λ line. HasCompared A B u text line holds)

@@ -1,9 +1,11 @@
 pub mod AllFound
 pub mod AsBox
 pub mod ComparedHandles
+pub mod FedStreams
 pub mod Next
 pub mod PeerCalls
 pub mod NoTables
 pub mod Places
 pub mod Told
+pub mod Unread
 pub mod YesLines

@@ -1,9 +1,12 @@
 -- What handles hold.
 use Rattle.std.specs.Prelude.{◌≡◌, ℕ, List, Option, None, Some, ⊤, map, string_bytes}
 use Rattle.dia_book.specs.Dictionary.{Dictionary}
+use Rattle.dia_policy.specs.declared.Unknown.{Unknown}
+use Rattle.dia_policy.specs.declared.Levels.{Levels}
 use Rattle.dia_dict.specs.contracts.indexed_book.IndexedBookBook.TheImpl.{ghosts}
 use Rattle.dia_c.specs.declared.held.Held.{Held}
-use Rattle.dia_c.specs.declared.held.Held.TheVariants.{Dict, Text, Faults, Peer}
+use Rattle.dia_c.specs.declared.held.Held.TheVariants.{Dict, Text, Faults, Peer, Stream, Nothing}
+use Rattle.dia_c.specs.Feedings.{FeedsFor}
 use Rattle.dia_c.specs.PlainFaults.{PlainFault, plain_fault}
 use Rattle.dia_c.specs.PeerSteps.{PlainEnd, IsTaken, plain_end}
 use Rattle.dia_peer.specs.Outputs.{PlainOutput}
@@ -15,6 +18,8 @@ MayBeDict (Some (Dict owner)) = ⊤
 MayBeDict (Some (Text text)) = ⊥
 MayBeDict (Some (Faults faults)) = ⊥
 MayBeDict (Some (Peer peer)) = ⊥
+MayBeDict (Some (Stream feeding)) = ⊥
+MayBeDict (Some Nothing) = ⊥
 
 -- nothing but a text
 abbrev pub MayBeText : Option Held → Type 0
@@ -23,6 +28,8 @@ MayBeText (Some (Dict owner)) = ⊥
 MayBeText (Some (Text text)) = ⊤
 MayBeText (Some (Faults faults)) = ⊥
 MayBeText (Some (Peer peer)) = ⊥
+MayBeText (Some (Stream feeding)) = ⊥
+MayBeText (Some Nothing) = ⊥
 
 -- nothing but a list of faults
 abbrev pub MayBeFaults : Option Held → Type 0
@@ -31,6 +38,8 @@ MayBeFaults (Some (Dict owner)) = ⊥
 MayBeFaults (Some (Text text)) = ⊥
 MayBeFaults (Some (Faults faults)) = ⊤
 MayBeFaults (Some (Peer peer)) = ⊥
+MayBeFaults (Some (Stream feeding)) = ⊥
+MayBeFaults (Some Nothing) = ⊥
 
 -- nothing but an end of a connection
 abbrev pub MayBePeer : Option Held → Type 0
@@ -39,6 +48,18 @@ MayBePeer (Some (Dict owner)) = ⊥
 MayBePeer (Some (Text text)) = ⊥
 MayBePeer (Some (Faults faults)) = ⊥
 MayBePeer (Some (Peer peer)) = ⊤
+MayBePeer (Some (Stream feeding)) = ⊥
+MayBePeer (Some Nothing) = ⊥
+
+-- nothing but a message that comes in pieces
+abbrev pub MayBeStream : Option Held → Type 0
+MayBeStream None = ⊤
+MayBeStream (Some (Dict owner)) = ⊥
+MayBeStream (Some (Text text)) = ⊥
+MayBeStream (Some (Faults faults)) = ⊥
+MayBeStream (Some (Peer peer)) = ⊥
+MayBeStream (Some (Stream feeding)) = ⊤
+MayBeStream (Some Nothing) = ⊥
 
 -- the dictionary that is held
 abbrev pub dict_in : Option Held → Option Dictionary
@@ -47,6 +68,8 @@ dict_in (Some (Dict owner)) = Some (ghosts.meaning owner.value)
 dict_in (Some (Text text)) = None
 dict_in (Some (Faults faults)) = None
 dict_in (Some (Peer peer)) = None
+dict_in (Some (Stream feeding)) = None
+dict_in (Some Nothing) = None
 
 -- the bytes of the text that is held
 abbrev pub text_in : Option Held → Option (List ℕ)
@@ -55,6 +78,8 @@ text_in (Some (Dict owner)) = None
 text_in (Some (Text text)) = Some (string_bytes text)
 text_in (Some (Faults faults)) = None
 text_in (Some (Peer peer)) = None
+text_in (Some (Stream feeding)) = None
+text_in (Some Nothing) = None
 
 -- the faults that are held
 abbrev pub faults_in : Option Held → Option (List PlainFault)
@@ -63,6 +88,8 @@ faults_in (Some (Dict owner)) = None
 faults_in (Some (Text text)) = None
 faults_in (Some (Faults faults)) = Some (map plain_fault faults.items)
 faults_in (Some (Peer peer)) = None
+faults_in (Some (Stream feeding)) = None
+faults_in (Some Nothing) = None
 
 -- the end of a connection that is held
 abbrev pub peer_in : Option Held → Option PlainEnd
@@ -71,6 +98,18 @@ peer_in (Some (Dict owner)) = None
 peer_in (Some (Text text)) = None
 peer_in (Some (Faults faults)) = None
 peer_in (Some (Peer peer)) = Some (plain_end peer.value)
+peer_in (Some (Stream feeding)) = None
+peer_in (Some Nothing) = None
+
+-- these bytes came of the message that is held, and are checked against this dictionary
+abbrev pub StandsFor : Option Held → Dictionary → Unknown → Levels → List ℕ → Type 0
+StandsFor None d u most bytes = ⊥
+StandsFor (Some (Dict owner)) d u most bytes = ⊥
+StandsFor (Some (Text text)) d u most bytes = ⊥
+StandsFor (Some (Faults faults)) d u most bytes = ⊥
+StandsFor (Some (Peer peer)) d u most bytes = ⊥
+StandsFor (Some (Stream feeding)) d u most bytes = FeedsFor feeding d u most bytes
+StandsFor (Some Nothing) d u most bytes = ⊥
 
 -- the next output of the end was taken
 pub data Takes (old new : Option PlainEnd) (output : PlainOutput) : Type 0 where

@@ -1,10 +1,13 @@
 pub mod AllFaults
 pub mod Comparisons
+pub mod Feedings
 pub mod Handles
 pub mod Held
+pub mod Listings
 pub mod Names
 pub mod Openings
 pub mod PeerSteps
 pub mod Peers
 pub mod PlainFaults
+pub mod Streams
 pub mod Verdicts

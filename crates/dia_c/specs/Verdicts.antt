@@ -12,7 +12,9 @@ use Rattle.dia_check.specs.declared.fault.Selected.{Selected}
 use Rattle.dia_check.specs.declared.fault.Refusal.{Refusal}
 use Rattle.dia_check.specs.declared.fault.Refusal.TheVariants as refusal
 use Rattle.dia_wire.specs.Number.{number}
-use Rattle.dia_wire.specs.Wire.{IsMessageLength}
+use Rattle.dia_wire.specs.Wire.{BeginsMessage, IsMessageLength}
+use Rattle.dia_wire.specs.declared.header.MessageFault.{MessageFault}
+use Rattle.dia_wire.specs.declared.header.MessageFault.TheVariants as message
 use Rattle.dia_check.specs.declared.fault.Reason.TheVariants as reason
 use Rattle.dia_check.specs.Faults.{IsAnswer, row_of, simple}
 use Rattle.dia_c.specs.declared.verdict.Verdict.{Verdict}
@@ -59,3 +61,17 @@ pub data IsHeadVerdict (bytes : List ℕ) (verdict : Verdict) : Type 0 where
   version : 20 ≤ length bytes → slice_index bytes 0 ≢ 1 → verdict ≡ fault_verdict (simple 0 reason.Version) → IsHeadVerdict bytes verdict
   message_length : 20 ≤ length bytes → slice_index bytes 0 ≡ 1 → ¬ IsMessageLength (number (take 3 (drop 1 bytes)))
       → verdict ≡ fault_verdict (simple 1 reason.Length) → IsHeadVerdict bytes verdict
+
+-- the verdict on bytes that have this fault
+abbrev pub no_message : MessageFault → Verdict
+no_message message.Short = said 2 0
+no_message message.Version = fault_verdict (simple 0 reason.Version)
+no_message message.Length = fault_verdict (simple 1 reason.Length)
+no_message message.Truncated = said 2 0
+no_message message.Trailing = said 3 0
+
+-- the bytes are no message: none begins with them, or one does that has more or fewer bytes
+pub data IsNoMessage (bytes : List ℕ) (verdict : Verdict) : Type 0 where
+  head : IsHeadVerdict bytes verdict → IsNoMessage bytes verdict
+  truncated : (n : ℕ) → BeginsMessage bytes n → length bytes < n → verdict ≡ said 2 0 → IsNoMessage bytes verdict
+  trailing : (n : ℕ) → BeginsMessage bytes n → n < length bytes → verdict ≡ said 3 0 → IsNoMessage bytes verdict

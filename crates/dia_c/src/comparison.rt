@@ -3,23 +3,16 @@
 ghost use Rattle.std.specs.Prelude.{◌≡◌, ◌≢◌, IfErr, IfOk, IfSome, IsSome, Some, string_bytes};
 ghost use Rattle.dia_compat.specs.TableText.{plain_pair, plain_table};
 ghost use Rattle.dia_run.specs.Pairs.{IsAnswerText, NamesPair, failure_line, test_word};
-ghost use Rattle.dia_c.specs.Comparisons.{HasCompared, IsCompared, IsComparedBy, IsNoTable, holds_of, table_problem};
+ghost use Rattle.dia_c.specs.Comparisons.{HasCompared, IsCompared, IsComparedBy, IsNoTable, table_problem};
 ghost use Rattle.dia_c.specs.Held.{MayBeText, text_in};
 
-use crate::held::Held;
-use crate::opening::{NOT_TEXT, Problem, Refused, boxed};
+use crate::answer::{AnswerText, answer_text};
+use crate::opening::{NOT_TEXT, Problem, Refused};
 use dia_book::Book;
 use dia_check::Unknown;
 use dia_compat::{Answer, PairKind, Table, TableFault, Test, check_table, parse_table};
 use dia_run::{Exit, Outcome, told};
 use std::alloc::{AllocError, Global};
-
-/// What was answered: the line in a box, and 1 for yes.
-#[derive(Drop)]
-pub struct AnswerLine {
-    pub line: Box<Held>,
-    pub holds: u32,
-}
 
 /// What `diacmd compare` answers for two dictionaries and the text of a table.
 pub fn compared<A: Book, B: Book>(
@@ -28,26 +21,14 @@ pub fn compared<A: Book, B: Book>(
     b: &B,
     unknown: Unknown,
     text: &[u8],
-) -> Result<AnswerLine, Refused>
-    ensures done { IfOk result (λ found. IfSome (text_in (Some found.line.value))
+) -> Result<AnswerText, Refused>
+    ensures done { IfOk result (λ found. IfSome (text_in (Some found.text.value))
         (λ line. HasCompared (A.meaning a.now) (B.meaning b.now) unknown text.now line found.holds)) }
-    ensures is_text { IfOk result (λ found. IsSome (text_in (Some found.line.value)) × ∥ MayBeText (Some found.line.value) ∥₁) }
+    ensures is_text { IfOk result (λ found. IsSome (text_in (Some found.text.value)) × ∥ MayBeText (Some found.text.value) ∥₁) }
     ensures problem { IfErr result (λ e. (p : Problem) → e ≡ Refused.Bad p → IsNoTable text.now p) }
 {
-    let Outcome { text: line, exit } = outcome_of(alloc, a, b, unknown, text)?;
-    let line = boxed(alloc, Held::Text(line))?;
-    let holds = holds_of(exit);
-    Ok(AnswerLine { line, holds })
-}
-
-fn holds_of(exit: Exit) -> u32
-    ensures { result ≡ holds_of exit }
-{
-    match exit {
-        Exit::Yes => 1,
-        Exit::No => 0,
-        Exit::Bad => 0,
-    }
+    let outcome = outcome_of(alloc, a, b, unknown, text)?;
+    Ok(answer_text(alloc, outcome)?)
 }
 
 /// The line of the answer for the text of a table.

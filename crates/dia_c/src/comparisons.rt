@@ -69,7 +69,7 @@ pub extern "C" fn dia_compare(
     match answer {
         Ok(found) => {
             *holds = found.holds;
-            line.put(found.line);
+            line.put(found.text);
             DONE
         }
         Err(refused) => match refused {

@@ -1,4 +1,4 @@
-//! What C keeps of a dictionary, of a text, of its faults or of a connection.
+//! What C keeps of a dictionary, of a text, of its faults, of a connection or of a stream.
 
 mod dict;
 mod end;
@@ -7,10 +7,12 @@ mod parts;
 mod peer;
 mod seal;
 mod slot;
+mod stream;
 mod text;
 
 pub use dict::{DictHandle, owner_in};
 pub use end::{give_in, peer_in, tell_in};
 pub use faults::{FaultsHandle, faults_in};
 pub use peer::PeerHandle;
+pub use stream::{StreamHandle, feeding_in};
 pub use text::{TextHandle, words_in};

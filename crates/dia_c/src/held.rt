@@ -1,5 +1,6 @@
 //! What a handle may hold.
 
+use crate::feeding::Feeding;
 use crate::findings::TextFault;
 use crate::peer::Peer;
 use dia_dict::IndexedBook;
@@ -15,4 +16,8 @@ pub enum Held {
     Faults(Vec<TextFault>),
     /// One end of a connection.
     Peer(Box<Peer>),
+    /// A message that comes in pieces.
+    Stream(Feeding),
+    /// What was held is out during a call.
+    Nothing,
 }

@@ -1,8 +1,9 @@
 //! The sizes that `c/tests/layout.c` has, too.
 
-use crate::handle::{DictHandle, FaultsHandle, PeerHandle, TextHandle};
+use crate::handle::{DictHandle, FaultsHandle, PeerHandle, StreamHandle, TextHandle};
 use crate::opening::Problem;
 use crate::peer_config::{PeerAddress, PeerApp, PeerNumbers};
+use crate::streams::Fed;
 use crate::told_fault::ToldFault;
 use crate::verdict::Verdict;
 
@@ -13,6 +14,8 @@ const _: () = prove!(size_of::<TextHandle>() == 16);
 const _: () = prove!(size_of::<FaultsHandle>() == 16);
 
 const _: () = prove!(size_of::<PeerHandle>() == 16);
+
+const _: () = prove!(size_of::<StreamHandle>() == 16);
 
 const _: () = prove!(size_of::<Problem>() == 12);
 
@@ -25,3 +28,5 @@ const _: () = prove!(size_of::<PeerAddress>() == 20);
 const _: () = prove!(size_of::<PeerApp>() == 16);
 
 const _: () = prove!(size_of::<PeerNumbers>() == 20);
+
+const _: () = prove!(size_of::<Fed>() == 16);

@@ -4,15 +4,19 @@
 
 ghost use Rattle.std.specs.Prelude.{◌≡◌};
 
+mod answer;
 mod checks;
 mod comparison;
 mod comparisons;
 mod dictionaries;
 mod fault_lists;
+mod feeding;
 mod findings;
 mod handle;
 mod held;
 mod layout;
+mod listing;
+mod listings;
 mod names;
 mod opening;
 mod peer;
@@ -20,6 +24,7 @@ mod peer_config;
 mod peer_numbers;
 mod peers;
 mod status;
+mod streams;
 mod texts;
 mod told_fault;
 mod verdict;
@@ -31,11 +36,15 @@ pub use dictionaries::{
     dia_dict_share,
 };
 pub use fault_lists::{dia_faults_close, dia_faults_get, dia_faults_open, dia_line_column};
-pub use handle::{DictHandle, FaultsHandle, PeerHandle, TextHandle};
+pub use handle::{DictHandle, FaultsHandle, PeerHandle, StreamHandle, TextHandle};
+pub use listings::dia_show;
 pub use opening::Problem;
 pub use peer_config::{PeerAddress, PeerApp, PeerNumbers};
 pub use peers::{
     dia_peer_close, dia_peer_common, dia_peer_event, dia_peer_open, dia_peer_output, dia_peer_state,
+};
+pub use streams::{
+    Fed, dia_stream_close, dia_stream_feed, dia_stream_finish, dia_stream_levels, dia_stream_open,
 };
 pub use texts::{dia_render, dia_text_close, dia_text_length, dia_text_read};
 pub use told_fault::ToldFault;
@@ -58,7 +67,19 @@ fn sent<T: Send>(x: T) -> T {
 
 /// C may give a handle to another thread: this asks for the proofs.
 pub fn crossed(
-    handles: (DictHandle, TextHandle, FaultsHandle, PeerHandle),
-) -> (DictHandle, TextHandle, FaultsHandle, PeerHandle) {
+    handles: (
+        DictHandle,
+        TextHandle,
+        FaultsHandle,
+        PeerHandle,
+        StreamHandle,
+    ),
+) -> (
+    DictHandle,
+    TextHandle,
+    FaultsHandle,
+    PeerHandle,
+    StreamHandle,
+) {
     sent(handles)
 }

@@ -26,3 +26,6 @@ pub const BAD_ARGUMENT: u32 = 7;
 
 /// Outputs of the last event are left to be taken.
 pub const OUTPUTS_LEFT: u32 = 8;
+
+/// The stream was refused memory before.
+pub const SPENT: u32 = 9;

@@ -1,12 +1,12 @@
 //! What is said of a message.
 
-ghost use Rattle.std.specs.Prelude.{◌≡◌, None, IfOk, IfErr, IfSome, Result};
+ghost use Rattle.std.specs.Prelude.{◌≡◌, None, Err, IfOk, IfErr, IfSome, Result};
 ghost use Rattle.dia_check.specs.Faults.{HasLength, IsAnswer, code_of, row_of, simple};
-ghost use Rattle.dia_c.specs.Verdicts.{IsHeadVerdict, IsUnknownPolicy, IsVerdict, fault_verdict, limit_of, policy_of};
+ghost use Rattle.dia_c.specs.Verdicts.{IsHeadVerdict, IsUnknownPolicy, IsVerdict, fault_verdict, limit_of, no_message, policy_of};
 
 use dia_book::Book;
 use dia_check::{Fault, Levels, Reason, Refusal, Selected, Subject, Unknown, check};
-use dia_wire::{HeadFault, read_header};
+use dia_wire::{HeadFault, MessageFault, read_header};
 use std::alloc::{AllocError, Global};
 
 /// What is said of a message.
@@ -46,6 +46,12 @@ const TRUNCATED: Verdict = Verdict {
     ..ALL_ZERO
 };
 
+/// There are more bytes than Message Length.
+const TRAILING: Verdict = Verdict {
+    outcome: 3,
+    ..ALL_ZERO
+};
+
 /// The policy of a number.
 pub fn policy_of(unknown: u32) -> Option<Unknown>
     ensures some { IfSome result (λ policy. (policy ≡ policy_of unknown) × IsUnknownPolicy unknown) }
@@ -79,19 +85,37 @@ pub fn checked<B: Book>(
     ensures { IfOk result (λ verdict. (answer : Result Selected Refusal)
         × IsAnswer (B.meaning book.now) unknown levels message.now answer × IsVerdict answer verdict) }
 {
-    match check(alloc, book, unknown, levels, message) {
+    match verdict_of(check(alloc, book, unknown, levels, message)) {
+        Ok(verdict) => Ok(verdict),
+        Err(Untold::NoMemory) => Err(AllocError),
+        Err(Untold::Spent) => unreachable!(),
+    }
+}
+
+/// Why there is no verdict.
+#[derive(Clone, Copy)]
+pub enum Untold {
+    NoMemory,
+    /// The stream was refused memory before.
+    Spent,
+}
+
+/// The verdict of an answer.
+pub fn verdict_of(answer: Result<Selected, Refusal>) -> Result<Verdict, Untold>
+    ensures told { IfOk result (IsVerdict answer) }
+    ensures no_memory { result ≡ Err Untold.NoMemory → answer ≡ Err Refusal.NoMemory }
+    ensures spent { result ≡ Err Untold.Spent → answer ≡ Err Refusal.Spent }
+{
+    match answer {
         Ok(found) => Ok(Verdict {
             command: found.def.index() as u32,
             ..ALL_ZERO
         }),
         Err(Refusal::Fault(fault)) => Ok(faulty(fault)),
         Err(Refusal::Truncated) => Ok(TRUNCATED),
-        Err(Refusal::Trailing) => Ok(Verdict {
-            outcome: 3,
-            ..ALL_ZERO
-        }),
-        Err(Refusal::NoMemory) => Err(AllocError),
-        Err(Refusal::Spent) => unreachable!(),
+        Err(Refusal::Trailing) => Ok(TRAILING),
+        Err(Refusal::NoMemory) => Err(Untold::NoMemory),
+        Err(Refusal::Spent) => Err(Untold::Spent),
     }
 }
 
@@ -105,6 +129,19 @@ pub fn message_length(bytes: &[u8]) -> Result<u32, Verdict>
         Err(HeadFault::Short) => Err(TRUNCATED),
         Err(HeadFault::Version) => Err(header_fault(0, 5011, Reason::Version)),
         Err(HeadFault::Length) => Err(header_fault(1, 5015, Reason::Length)),
+    }
+}
+
+/// The verdict on bytes that are no message.
+pub fn no_message(fault: MessageFault) -> Verdict
+    ensures { result ≡ no_message fault }
+{
+    match fault {
+        MessageFault::Short => TRUNCATED,
+        MessageFault::Version => header_fault(0, 5011, Reason::Version),
+        MessageFault::Length => header_fault(1, 5015, Reason::Length),
+        MessageFault::Truncated => TRUNCATED,
+        MessageFault::Trailing => TRAILING,
     }
 }
 

@@ -56,5 +56,7 @@ pub fn owner_in(held: &Held) -> &Arc<IndexedBook>
         Held::Text(_) => unreachable!(),
         Held::Faults(_) => unreachable!(),
         Held::Peer(_) => unreachable!(),
+        Held::Stream(_) => unreachable!(),
+        Held::Nothing => unreachable!(),
     }
 }

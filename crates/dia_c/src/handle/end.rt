@@ -21,6 +21,8 @@ pub fn peer_in(held: &Held) -> &Peer
         Held::Dict(_) => unreachable!(),
         Held::Text(_) => unreachable!(),
         Held::Faults(_) => unreachable!(),
+        Held::Stream(_) => unreachable!(),
+        Held::Nothing => unreachable!(),
     }
 }
 
@@ -40,6 +42,8 @@ pub fn tell_in(held: &mut Held, event: Event<'_>) -> u32
         Held::Dict(_) => unreachable!(),
         Held::Text(_) => unreachable!(),
         Held::Faults(_) => unreachable!(),
+        Held::Stream(_) => unreachable!(),
+        Held::Nothing => unreachable!(),
     }
 }
 
@@ -66,5 +70,7 @@ pub fn give_in(held: &mut Held, out: &mut [u8]) -> Given
         Held::Dict(_) => unreachable!(),
         Held::Text(_) => unreachable!(),
         Held::Faults(_) => unreachable!(),
+        Held::Stream(_) => unreachable!(),
+        Held::Nothing => unreachable!(),
     }
 }

@@ -55,5 +55,7 @@ pub fn faults_in(held: &Held) -> &Vec<TextFault>
         Held::Dict(_) => unreachable!(),
         Held::Text(_) => unreachable!(),
         Held::Peer(_) => unreachable!(),
+        Held::Stream(_) => unreachable!(),
+        Held::Nothing => unreachable!(),
     }
 }

@@ -54,5 +54,7 @@ pub fn words_in(held: &Held) -> &String
         Held::Dict(_) => unreachable!(),
         Held::Faults(_) => unreachable!(),
         Held::Peer(_) => unreachable!(),
+        Held::Stream(_) => unreachable!(),
+        Held::Nothing => unreachable!(),
     }
 }

@@ -17,6 +17,12 @@ unreachable-requires-in-Text c = ∥∥₁_elim c.requires (λ a b. absurd a) (�
 pub unreachable-requires-in-Faults : goal.unreachable-requires-in-Faults
 unreachable-requires-in-Faults c = ∥∥₁_elim c.requires (λ a b. absurd a) (λ may. subst (λ (h : Held). MayBePeer (Some h)) c.in-Faults.is may)
 
+pub unreachable-requires-in-Stream : goal.unreachable-requires-in-Stream
+unreachable-requires-in-Stream c = ∥∥₁_elim c.requires (λ a b. absurd a) (λ may. subst (λ (h : Held). MayBePeer (Some h)) c.in-Stream.is may)
+
+pub unreachable-requires-in-Nothing : goal.unreachable-requires-in-Nothing
+unreachable-requires-in-Nothing c = ∥∥₁_elim c.requires (λ a b. absurd a) (λ may. subst (λ (h : Held). MayBePeer (Some h)) c.in-Nothing.is may)
+
 pub returns-clause-sent : goal.returns-clause-sent
 returns-clause-sent c count is =
     takes_held c.args.held.now c.in-Peer.peer c.deref_mut.result.now c.give.new.self (SentBytes (take count c.give.new.out)) c.in-Peer.is c.deref_mut.ensures.value (c.give.ensures.sent count is)

@@ -12,3 +12,9 @@ unreachable-requires-in-Text c = ∥∥₁_elim c.requires (λ a b. absurd a) (�
 
 pub unreachable-requires-in-Peer : goal.unreachable-requires-in-Peer
 unreachable-requires-in-Peer c = ∥∥₁_elim c.requires (λ a b. absurd a) (λ may. subst (λ (h : Held). MayBeFaults (Some h)) c.in-Peer.is may)
+
+pub unreachable-requires-in-Stream : goal.unreachable-requires-in-Stream
+unreachable-requires-in-Stream c = ∥∥₁_elim c.requires (λ a b. absurd a) (λ may. subst (λ (h : Held). MayBeFaults (Some h)) c.in-Stream.is may)
+
+pub unreachable-requires-in-Nothing : goal.unreachable-requires-in-Nothing
+unreachable-requires-in-Nothing c = ∥∥₁_elim c.requires (λ a b. absurd a) (λ may. subst (λ (h : Held). MayBeFaults (Some h)) c.in-Nothing.is may)
