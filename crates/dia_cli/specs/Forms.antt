@@ -24,24 +24,24 @@ pub data Manner : Type 0 where
   in_stream : Manner
 
 -- a command with its options and the words of its inputs. `--levels`, `--dict` and `--accepted` are their words; `show` has `--as-text`,
--- `refute` has `--lines`, and `breaking` has `--messages`, `--once` and `--meaning`, or not
+-- `check` has `--json`, `refute` has `--lines` and `--json`, and `breaking` has `--messages`, `--once` and `--meaning`, or not
 pub data Form : Type 0 where
   show : Bool → Option Text → Text → Form
   make : Option Text → Text → Form
-  check : Manner → Unknown → Option Text → Text → Text → Form
+  check : Manner → Bool → Unknown → Option Text → Text → Text → Form
   render : Text → Form
   compare : Unknown → Text → Text → Text → Form
-  refute : Bool → Unknown → Option Text → Text → Text → Text → Form
+  refute : Bool → Bool → Unknown → Option Text → Text → Text → Text → Form
   propose : Unknown → Text → Text → Text → List Text → Form
   breaking : Sends → Unknown → Bool → Bool → Bool → Option Text → Text → Text → List Text → Form
 
 abbrev pub form_name : Form → Text
 form_name (show as_text dictionary message) = codes "show"
 form_name (make dictionary written) = codes "make"
-form_name (check manner unknown levels dictionary message) = codes "check"
+form_name (check manner json unknown levels dictionary message) = codes "check"
 form_name (render dictionary) = codes "render"
 form_name (compare unknown first second table) = codes "compare"
-form_name (refute many unknown levels first second message) = codes "refute"
+form_name (refute many json unknown levels first second message) = codes "refute"
 form_name (propose unknown first second name names) = codes "propose"
 form_name (breaking sends unknown messages once meaning accepted first second names) = codes "breaking"
 
@@ -69,12 +69,13 @@ unknown_slot unknown = choice (codes "unknown") (policy_given unknown)
 abbrev pub form_options : Form → List Slot
 form_options (show as_text dictionary message) = text (codes "dict") dictionary ∷ flag (codes "as-text") as_text ∷ []
 form_options (make dictionary written) = text (codes "dict") dictionary ∷ []
-form_options (check manner unknown levels dictionary message) =
-    unknown_slot unknown ∷ flag (codes "lines") (is_lines manner) ∷ flag (codes "stream") (is_stream manner) ∷ number (codes "levels") levels ∷ []
+form_options (check manner json unknown levels dictionary message) =
+    unknown_slot unknown ∷ flag (codes "lines") (is_lines manner) ∷ flag (codes "stream") (is_stream manner)
+    ∷ flag (codes "json") json ∷ number (codes "levels") levels ∷ []
 form_options (render dictionary) = []
 form_options (compare unknown first second table) = unknown_slot unknown ∷ []
-form_options (refute many unknown levels first second message) =
-    unknown_slot unknown ∷ flag (codes "lines") many ∷ number (codes "levels") levels ∷ []
+form_options (refute many json unknown levels first second message) =
+    unknown_slot unknown ∷ flag (codes "lines") many ∷ flag (codes "json") json ∷ number (codes "levels") levels ∷ []
 form_options (propose unknown first second name names) = unknown_slot unknown ∷ []
 form_options (breaking sends unknown messages once meaning accepted first second names) =
     unknown_slot unknown ∷ choice (codes "sends") (sender_given sends) ∷ flag (codes "messages") messages
@@ -86,10 +87,10 @@ pair_slots first second third = word (codes "A") first ∷ word (codes "B") seco
 abbrev pub form_inputs : Form → List Slot
 form_inputs (show as_text dictionary message) = word (codes "MESSAGE") message ∷ []
 form_inputs (make dictionary written) = word (codes "TEXT") written ∷ []
-form_inputs (check manner unknown levels dictionary message) = word (codes "D") dictionary ∷ word (codes "MESSAGE") message ∷ []
+form_inputs (check manner json unknown levels dictionary message) = word (codes "D") dictionary ∷ word (codes "MESSAGE") message ∷ []
 form_inputs (render dictionary) = word (codes "D") dictionary ∷ []
 form_inputs (compare unknown first second table) = pair_slots first second (word (codes "TABLE") table)
-form_inputs (refute many unknown levels first second message) = pair_slots first second (word (codes "MESSAGE") message)
+form_inputs (refute many json unknown levels first second message) = pair_slots first second (word (codes "MESSAGE") message)
 form_inputs (propose unknown first second name names) = pair_slots first second (words (codes "COMMAND") (name ∷ names))
 form_inputs (breaking sends unknown messages once meaning accepted first second names) = pair_slots first second (words (codes "COMMAND") names)
 
@@ -100,22 +101,28 @@ words_of quiet form = words_of_slots (flag (codes "quiet") quiet ∷ form_option
 abbrev pub is_plain_form : Form → Bool
 is_plain_form form = list_all is_plain_slot (form_options form ++ form_inputs form)
 
+-- `--json`, or not. Other commands don't have it
+abbrev pub form_json : Form → Bool
+form_json (check manner json unknown levels dictionary message) = json
+form_json (refute many json unknown levels first second message) = json
+form_json form = false
+
 -- the task is the form's
 abbrev pub IsTaskOfForm : Form → Task → Type 0
 IsTaskOfForm (show false dictionary message) (Whole command.Show) = ⊤
 IsTaskOfForm (show true dictionary message) ShowText = ⊤
 IsTaskOfForm (make dictionary written) Make = ⊤
-IsTaskOfForm (check alone unknown levels dictionary message) (Whole (command.Check policy limit)) =
+IsTaskOfForm (check alone json unknown levels dictionary message) (Whole (command.Check policy limit)) =
     (policy ≡ unknown) × IsLimitOf levels limit
-IsTaskOfForm (check in_lines unknown levels dictionary messages) (CheckLines policy limit) =
+IsTaskOfForm (check in_lines json unknown levels dictionary messages) (CheckLines policy limit) =
     (policy ≡ unknown) × IsLimitOf levels limit
-IsTaskOfForm (check in_stream unknown levels dictionary bytes) (CheckStream policy limit) =
+IsTaskOfForm (check in_stream json unknown levels dictionary bytes) (CheckStream policy limit) =
     (policy ≡ unknown) × IsLimitOf levels limit
 IsTaskOfForm (render dictionary) (Whole command.Render) = ⊤
 IsTaskOfForm (compare unknown first second table) (Whole (command.Compare policy)) = policy ≡ unknown
-IsTaskOfForm (refute false unknown levels first second message) (Whole (command.Refute policy limit)) =
+IsTaskOfForm (refute false json unknown levels first second message) (Whole (command.Refute policy limit)) =
     (policy ≡ unknown) × IsLimitOf levels limit
-IsTaskOfForm (refute true unknown levels first second messages) (RefuteLines policy limit) =
+IsTaskOfForm (refute true json unknown levels first second messages) (RefuteLines policy limit) =
     (policy ≡ unknown) × IsLimitOf levels limit
 IsTaskOfForm (propose unknown first second name names) (Whole (command.Propose policy commands)) =
     (policy ≡ unknown) × (map string_bytes commands.items ≡ name ∷ names)
@@ -128,13 +135,13 @@ abbrev pub form_words : Form → InputTexts
 form_words (show as_text dictionary message) =
     record (one_text (unwrap_or dictionary (codes "@base"))) { message = Some message }
 form_words (make dictionary written) = record (one_text (unwrap_or dictionary (codes "@base"))) { message = Some written }
-form_words (check alone unknown levels dictionary message) = record (one_text dictionary) { message = Some message }
-form_words (check in_lines unknown levels dictionary messages) = record (one_text dictionary) { messages = Some messages }
-form_words (check in_stream unknown levels dictionary bytes) = record (one_text dictionary) { messages = Some bytes }
+form_words (check alone json unknown levels dictionary message) = record (one_text dictionary) { message = Some message }
+form_words (check in_lines json unknown levels dictionary messages) = record (one_text dictionary) { messages = Some messages }
+form_words (check in_stream json unknown levels dictionary bytes) = record (one_text dictionary) { messages = Some bytes }
 form_words (render dictionary) = one_text dictionary
 form_words (compare unknown first second table) = record (pair_texts first second) { table = Some table }
-form_words (refute false unknown levels first second message) = record (pair_texts first second) { message = Some message }
-form_words (refute true unknown levels first second messages) = record (pair_texts first second) { messages = Some messages }
+form_words (refute false json unknown levels first second message) = record (pair_texts first second) { message = Some message }
+form_words (refute true json unknown levels first second messages) = record (pair_texts first second) { messages = Some messages }
 form_words (propose unknown first second name names) = pair_texts first second
 form_words (breaking sends unknown messages once meaning accepted first second names) =
     record (pair_texts first second) { table = Some (unwrap_or accepted (codes "@none")) }
@@ -146,7 +153,7 @@ IsOfForm form request = IsTaskOfForm form request.task × AreNamed (form_words f
 -- the words are accepted, and ask for the form's task. They are refused only where they name standard input twice, or where
 -- memory is
 abbrev pub IsAccepted : Bool → Form → Result Request Ending → Type 0
-IsAccepted quiet form (Ok request) = IsOfForm form request × (request.quiet ≡ quiet)
+IsAccepted quiet form (Ok request) = IsOfForm form request × (request.quiet ≡ quiet) × (request.json ≡ form_json form)
 IsAccepted quiet form (Err ending.ReadTwice) =
     (request : Request) × IsOfForm form request × (reads_twice request.origins ≡ true)
 IsAccepted quiet form (Err ending.NoMemory) = ⊤

@@ -55,6 +55,9 @@ unknown_option = option (codes "unknown") policy
 abbrev pub levels_option : OptionRow
 levels_option = option (codes "levels") a_number
 
+abbrev pub json_option : OptionRow
+json_option = option (codes "json") no_value
+
 abbrev pub dict_option : OptionRow
 dict_option = option (codes "dict") (any_word (codes "@base"))
 
@@ -71,7 +74,8 @@ make_row = record { name = codes "make"; options = quiet_option ∷ dict_option 
 abbrev pub check_row : CommandRow
 check_row = record {
   name = codes "check";
-  options = quiet_option ∷ unknown_option ∷ levels_option ∷ option (codes "lines") no_value ∷ option (codes "stream") no_value ∷ [];
+  options = quiet_option ∷ unknown_option ∷ levels_option ∷ option (codes "lines") no_value ∷ option (codes "stream") no_value
+      ∷ json_option ∷ [];
   inputs = input (codes "D") one ∷ input (codes "MESSAGE") one ∷ [];
 }
 
@@ -88,7 +92,7 @@ compare_row = record {
 abbrev pub refute_row : CommandRow
 refute_row = record {
   name = codes "refute";
-  options = quiet_option ∷ unknown_option ∷ levels_option ∷ option (codes "lines") no_value ∷ [];
+  options = quiet_option ∷ unknown_option ∷ levels_option ∷ option (codes "lines") no_value ∷ json_option ∷ [];
   inputs = input (codes "A") one ∷ input (codes "B") one ∷ input (codes "MESSAGE") one ∷ [];
 }
 

@@ -1,6 +1,8 @@
 -- What the words of the command line mean, by what clap says of a command line of this shape.
 use Rattle.std.specs.Prelude.{◌≡◌, ◌<◌, ◌^◌, Bool, true, false, List, [], ◌∷◌, map, unwrap_or, Option, Some, None, codes, string_bytes, IsSomeAnd}
 use Rattle.std.specs.Borrow.{Bor}
+use Rattle.std.specs.Option.{option_map_or}
+use Rattle.std.specs.Str.{bytes_eq}
 use Rattle.std.specs.Str.Parse.{IsNumeral, digits_value, without_leading_plus}
 use Rattle.clap.specs.Walk.{Row, Text, all_of, first_of, texts}
 use Rattle.clap.specs.Simple.{App, subcommand_of}
@@ -52,6 +54,10 @@ AreJudged unknown levels rows = IsPolicy unknown rows × IsLimitOf (first_of (co
 -- whether an option without a value was found
 abbrev pub IsFlag : Text → Bool → List Row → Type 0
 IsFlag id given rows = first_of id rows ≡ Some (flag_word given)
+
+-- whether an option without a value was given. A command that has no such option isn't given it
+abbrev pub is_given : Option Text → Bool
+is_given word = option_map_or (λ w. bytes_eq w (codes "true")) word false
 
 -- `check` with `--lines` and `--stream`, or without them
 abbrev pub IsCheck : Bool → Bool → Unknown → Levels → Text × List Row → Type 0
@@ -116,6 +122,7 @@ IsAsked task origins found = IsTaskOf task found × AreFound (arguments_of task)
 abbrev pub IsRequestOf : Request → Text × List Row → Type 0
 IsRequestOf request found =
     IsAsked request.task request.origins found × IsFlag (codes "quiet") request.quiet found.1
+    × (request.json ≡ is_given (first_of (codes "json") found.1))
 
 -- the program's line, where `--unknown` is one of the two policies and `--sends` one of the three senders
 pub record IsProgram (line : App) : Type 0 where

@@ -22,8 +22,8 @@ use crate::rows::ROWS;
 use crate::shown::{Shown, shown_of};
 use crate::task::Task;
 use crate::values::{
-    copies_of, dictionary_of, flag_of, limit_of, message_of, messages_of, names_of, policy_of,
-    sends_of, table_of, word_of, words_of,
+    copies_of, dictionary_of, flag_of, is_given, limit_of, message_of, messages_of, names_of,
+    policy_of, sends_of, table_of, word_of, words_of,
 };
 use clap::ArgMatches;
 use clap::error::ErrorKind;
@@ -155,11 +155,13 @@ fn request_of<'a>(alloc: Global, matches: &ArgMatches<'a>) -> Result<Request<'a>
 {
     let (name, found) = matches.subcommand().ok_or(Unasked::Nothing)?;
     let quiet = flag_of(found, "quiet").ok_or(Unasked::Nothing)?;
+    let json = is_given(found, "json");
     let Asked { task, origins } = task_of(alloc, name, found)?;
     Ok(Request {
         task,
         origins,
         quiet,
+        json,
     })
 }
 

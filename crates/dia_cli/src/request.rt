@@ -10,4 +10,6 @@ pub struct Request<'a> {
     pub origins: Origins<'a>,
     /// Nothing is to be told on standard error of a run that ended with an outcome.
     pub quiet: bool,
+    /// The answer is told as JSON.
+    pub json: bool,
 }

@@ -68,6 +68,12 @@ const LEVELS: OptionRow<'static> = OptionRow {
     help: "How many levels of Grouped AVPs may stand in one another; without it, any number",
 };
 
+const JSON: OptionRow<'static> = OptionRow {
+    id: "json",
+    value: Value::Nothing,
+    help: "Prints each answer as a JSON object, a line each",
+};
+
 const DICT: OptionRow<'static> = OptionRow {
     id: "dict",
     value: Value::Word {
@@ -141,6 +147,7 @@ pub(crate) static ROWS: [CommandRow<'static>; 8] = [
                 value: Value::Nothing,
                 help: "Tells of each message of a stream, with its place, whether it is valid",
             },
+            JSON,
         ],
         inputs: &[
             D,
@@ -183,6 +190,7 @@ pub(crate) static ROWS: [CommandRow<'static>; 8] = [
                 value: Value::Nothing,
                 help: "Tells of each line, a message, whether it is valid for A and not for B",
             },
+            JSON,
         ],
         inputs: &[
             A,

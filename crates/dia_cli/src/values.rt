@@ -7,7 +7,7 @@ ghost use Rattle.clap.specs.Words.{all_of, first_of, found_of, rows_of};
 ghost use Rattle.dia_cli.specs.Asking.{has_word, is_flag, is_limit, is_policy, is_sender};
 ghost use Rattle.dia_cli.specs.InputWords.{IsFound};
 ghost use Rattle.dia_cli.specs.Origins.{dictionary_origin, message_origin, messages_origin, table_origin};
-ghost use Rattle.dia_cli.specs.Words.{IsLimitOf, flag_word, policy_word, sends_word};
+ghost use Rattle.dia_cli.specs.Words.{IsLimitOf, flag_word, is_given, policy_word, sends_word};
 
 use crate::origin::Origin;
 use clap::ArgMatches;
@@ -106,6 +106,16 @@ pub(crate) fn flag_of(found: &ArgMatches<'_>, id: &str) -> Option<bool>
         "true" => Some(true),
         "false" => Some(false),
         _ => None,
+    }
+}
+
+/// Whether the option of this id was given. A command that has no such option isn't given it.
+pub(crate) fn is_given(found: &ArgMatches<'_>, id: &str) -> bool
+    ensures { result ≡ is_given (first_of id.now (rows_of (found_of found.now))) }
+{
+    match word_of(found, id) {
+        Some("true") => true,
+        _ => false,
     }
 }
 

@@ -5,7 +5,7 @@ use Rattle.clap.specs.Walk.{Row, Text}
 use Rattle.clap.specs.Words.{App, IsAmong, Kinds, fault_of, kind_of, subcommand_of}
 use Rattle.clap.specs.declared.error.kind.ErrorKind.{ErrorKind}
 use Rattle.dia_cli.specs.Asking.{HasLinesAndStream, IsRefused, is_asked}
-use Rattle.dia_cli.specs.Forms.{Form, IsAccepted, IsOfForm, form_name, is_plain_form, words_of}
+use Rattle.dia_cli.specs.Forms.{Form, IsAccepted, IsOfForm, form_json, form_name, is_plain_form, words_of}
 use Rattle.dia_cli.specs.Words.{IsAskedBy, IsProgram, IsRequestOf}
 use Rattle.dia_cli.specs.declared.ending.Ending.{Ending}
 use Rattle.dia_cli.specs.declared.ending.Ending.TheVariants as ending
@@ -30,7 +30,7 @@ none_among (k ∷ ks) is kind among = absurd cc
 -- where a parse takes the words of a form
 module _ (line : App) (words : List Text) (quiet : Bool) (form : Form) (rows : List Row) (fine : fault_of line words ≡ [])
     (finds : subcommand_of line words ≡ Some (form_name form, rows)) (plain : is_plain_form form ≡ true) (found : Says quiet form rows) where
-  request_of_form : (request : Request) → IsSomeAnd (subcommand_of line words) (IsRequestOf request) → IsOfForm form request × (request.quiet ≡ quiet)
+  request_of_form : (request : Request) → IsSomeAnd (subcommand_of line words) (IsRequestOf request) → IsOfForm form request × (request.quiet ≡ quiet) × (request.json ≡ form_json form)
   request_of_form request is =
       request_is quiet form rows request found (subst (λ (s : Option (Text × List Row)). IsSomeAnd s (IsRequestOf request)) finds is)
 

@@ -17,7 +17,7 @@ use Rattle.dia_policy.specs.declared.Sends.TheVariants.{Any, Known, Listed}
 use Rattle.dia_policy.specs.declared.Unknown.{Unknown}
 use Rattle.dia_policy.specs.declared.Unknown.TheVariants.{Kept, Refused}
 use Rattle.dia_cli.specs.Asking.{HasLinesAndStream, has_pair, is_asked, is_flag, is_limit, is_policy, is_sender}
-use Rattle.dia_cli.specs.Forms.{Form, IsOfForm, IsTaskOfForm, alone, breaking, check, compare, form_inputs, form_name, form_words, in_lines, in_stream, is_lines, is_plain_form, is_stream, make, propose, refute, render, show}
+use Rattle.dia_cli.specs.Forms.{Form, IsOfForm, IsTaskOfForm, alone, breaking, check, compare, form_inputs, form_json, form_name, form_words, in_lines, in_stream, is_lines, is_plain_form, is_stream, make, propose, refute, render, show}
 use Rattle.dia_cli.specs.Slots.{Slot, is_plain, is_plain_slot, number}
 use Rattle.dia_cli.specs.InputWords.{AreFound, AreNamed, IsFound, IsNamed, one_text, pair_texts}
 use Rattle.dia_cli.specs.Words.{IsLimitOf, IsRequestOf, IsTaskOf, arguments_of, flag_word, policy_word, sends_word}
@@ -112,16 +112,16 @@ form_is_asked quiet (show as_text dictionary message) rows plain says =
     also (has_flag _ quiet says.0) (also (has_some _ (unwrap_or dictionary (codes "@base")) says.1.0) (also (has_some _ message says.1.1) (has_flag _ as_text says.1.2)))
 form_is_asked quiet (make dictionary written) rows plain says =
     also (has_flag _ quiet says.0) (also (has_some _ (unwrap_or dictionary (codes "@base")) says.1.0) (has_some _ written says.1.1))
-form_is_asked quiet (check manner unknown levels first second) rows plain says =
+form_is_asked quiet (check manner json unknown levels first second) rows plain says =
     also (has_flag _ quiet says.0) (also (has_flag _ (is_lines manner) says.1.0) (also (has_flag _ (is_stream manner) says.1.1)
-    (also (also (also (has_policy _ unknown says.1.2) (has_limit _ levels says.1.3 (number_passes levels (form_inputs (check manner unknown levels first second)) plain)))
+    (also (also (also (has_policy _ unknown says.1.2) (has_limit _ levels says.1.3 (number_passes levels (form_inputs (check manner json unknown levels first second)) plain)))
     (has_some _ first says.1.4)) (has_some _ second says.1.5))))
 form_is_asked quiet (render first) rows plain says = also (has_flag _ quiet says.0) (has_some _ first says.1)
 form_is_asked quiet (compare unknown first second table) rows plain says =
     also (has_flag _ quiet says.0) (also (has_policy _ unknown says.1.0.0) (also (pair_passes first second rows says.1.0.1 says.1.0.2) (has_some _ table says.1.1)))
-form_is_asked quiet (refute many unknown levels first second third) rows plain says =
+form_is_asked quiet (refute many json unknown levels first second third) rows plain says =
     also (has_flag _ quiet says.0)
-    (also (also (has_policy _ unknown says.1.0.0) (has_limit _ levels says.1.2 (number_passes levels (form_inputs (refute many unknown levels first second third)) plain)))
+    (also (also (has_policy _ unknown says.1.0.0) (has_limit _ levels says.1.2 (number_passes levels (form_inputs (refute many json unknown levels first second third)) plain)))
     (also (pair_passes first second rows says.1.0.1 says.1.0.2) (also (has_flag _ many says.1.1) (has_some _ third says.1.3))))
 form_is_asked quiet (propose unknown first second name names) rows plain says =
     also (has_flag _ quiet says.0) (also (has_policy _ unknown says.1.0.0) (also (pair_passes first second rows says.1.0.1 says.1.0.2) (has_some _ (name ∷ names) says.1.1)))
@@ -132,9 +132,9 @@ form_is_asked quiet (breaking sends unknown messages once meaning accepted first
 
 -- `--lines` and `--stream` stand together in no form
 pub form_reads_one_way : (quiet : Bool) (form : Form) (rows : List Row) → Says quiet form rows → (form_name form ≡ codes "check") × HasLinesAndStream rows → ⊥
-form_reads_one_way quiet (check alone unknown levels first second) rows says bad = let lines = sym says.1.0 ∙ bad.1.0 in absurd cc
-form_reads_one_way quiet (check in_lines unknown levels first second) rows says bad = let stream = sym says.1.1 ∙ bad.1.1 in absurd cc
-form_reads_one_way quiet (check in_stream unknown levels first second) rows says bad = let lines = sym says.1.0 ∙ bad.1.0 in absurd cc
+form_reads_one_way quiet (check alone json unknown levels first second) rows says bad = let lines = sym says.1.0 ∙ bad.1.0 in absurd cc
+form_reads_one_way quiet (check in_lines json unknown levels first second) rows says bad = let stream = sym says.1.1 ∙ bad.1.1 in absurd cc
+form_reads_one_way quiet (check in_stream json unknown levels first second) rows says bad = let lines = sym says.1.0 ∙ bad.1.0 in absurd cc
 form_reads_one_way quiet form rows says bad = unlike (form_name form) (codes "check") refl bad.0
 
 -- ---- the task
@@ -249,26 +249,26 @@ asked_is (show true dictionary message) rows (Whole command.Show) origins says i
 asked_is (make dictionary written) rows Make origins says is found =
     (tt, message_named origins rows (codes "dict") (unwrap_or dictionary (codes "@base")) (codes "TEXT") written says.0 says.1 found)
 asked_is (render dictionary) rows (Whole command.Render) origins says is found = (tt, one_named origins rows (codes "D") dictionary says found)
-asked_is (check alone unknown levels first second) rows (Whole (command.Check policy limit)) origins says is found =
+asked_is (check alone json unknown levels first second) rows (Whole (command.Check policy limit)) origins says is found =
     ((same_policy _ _ _ is.3.0 says.2, same_limit _ _ limit says.3 is.3.1), message_named origins rows (codes "D") first (codes "MESSAGE") second says.4 says.5 found)
-asked_is (check in_lines unknown levels first second) rows (CheckLines policy limit) origins says is found =
+asked_is (check in_lines json unknown levels first second) rows (CheckLines policy limit) origins says is found =
     ((same_policy _ _ _ is.3.0 says.2, same_limit _ _ limit says.3 is.3.1), messages_named origins rows (codes "D") first second says.4 says.5 found)
-asked_is (check in_stream unknown levels first second) rows (CheckStream policy limit) origins says is found =
+asked_is (check in_stream json unknown levels first second) rows (CheckStream policy limit) origins says is found =
     ((same_policy _ _ _ is.3.0 says.2, same_limit _ _ limit says.3 is.3.1), messages_named origins rows (codes "D") first second says.4 says.5 found)
-asked_is (check alone unknown levels first second) rows (CheckLines policy limit) origins says is found = other_flag _ true false is.1 says.0 not_false
-asked_is (check alone unknown levels first second) rows (CheckStream policy limit) origins says is found = other_flag _ true false is.2 says.1 not_false
-asked_is (check in_lines unknown levels first second) rows (Whole (command.Check policy limit)) origins says is found = other_flag _ false true is.1 says.0 not_true
-asked_is (check in_lines unknown levels first second) rows (CheckStream policy limit) origins says is found = other_flag _ false true is.1 says.0 not_true
-asked_is (check in_stream unknown levels first second) rows (Whole (command.Check policy limit)) origins says is found = other_flag _ false true is.2 says.1 not_true
-asked_is (check in_stream unknown levels first second) rows (CheckLines policy limit) origins says is found = other_flag _ false true is.2 says.1 not_true
+asked_is (check alone json unknown levels first second) rows (CheckLines policy limit) origins says is found = other_flag _ true false is.1 says.0 not_false
+asked_is (check alone json unknown levels first second) rows (CheckStream policy limit) origins says is found = other_flag _ true false is.2 says.1 not_false
+asked_is (check in_lines json unknown levels first second) rows (Whole (command.Check policy limit)) origins says is found = other_flag _ false true is.1 says.0 not_true
+asked_is (check in_lines json unknown levels first second) rows (CheckStream policy limit) origins says is found = other_flag _ false true is.1 says.0 not_true
+asked_is (check in_stream json unknown levels first second) rows (Whole (command.Check policy limit)) origins says is found = other_flag _ false true is.2 says.1 not_true
+asked_is (check in_stream json unknown levels first second) rows (CheckLines policy limit) origins says is found = other_flag _ false true is.2 says.1 not_true
 asked_is (compare unknown first second table) rows (Whole (command.Compare policy)) origins says is found =
     (same_policy _ _ _ is.1 says.0.0, table_named origins rows first second says.0.1 says.0.2 (codes "TABLE") table says.1 found)
-asked_is (refute false unknown levels first second third) rows (Whole (command.Refute policy limit)) origins says is found =
+asked_is (refute false json unknown levels first second third) rows (Whole (command.Refute policy limit)) origins says is found =
     ((same_policy _ _ _ is.2.0 says.0.0, same_limit _ _ limit says.2 is.2.1), pair_message_named origins rows first second says.0.1 says.0.2 third says.3 found)
-asked_is (refute true unknown levels first second third) rows (RefuteLines policy limit) origins says is found =
+asked_is (refute true json unknown levels first second third) rows (RefuteLines policy limit) origins says is found =
     ((same_policy _ _ _ is.2.0 says.0.0, same_limit _ _ limit says.2 is.2.1), pair_messages_named origins rows first second says.0.1 says.0.2 third says.3 found)
-asked_is (refute false unknown levels first second third) rows (RefuteLines policy limit) origins says is found = other_flag _ true false is.1 says.1 not_false
-asked_is (refute true unknown levels first second third) rows (Whole (command.Refute policy limit)) origins says is found = other_flag _ false true is.1 says.1 not_true
+asked_is (refute false json unknown levels first second third) rows (RefuteLines policy limit) origins says is found = other_flag _ true false is.1 says.1 not_false
+asked_is (refute true json unknown levels first second third) rows (Whole (command.Refute policy limit)) origins says is found = other_flag _ false true is.1 says.1 not_true
 asked_is (propose unknown first second name names) rows (Whole (command.Propose policy commands)) origins says is found =
     ((same_policy _ _ _ is.1 says.0.0, sym (same_value _ _ _ says.1 is.2)), pair_named origins rows first second says.0.1 says.0.2 found)
 asked_is (breaking sends unknown messages once meaning accepted first second names) rows (Breaking sender policy shown counted meant commands) origins says is found = (
@@ -287,6 +287,6 @@ asked_is (make dictionary written) rows (Whole command.Show) origins says is fou
 asked_is form rows task origins says is found = unlike (form_name form) (task_name task) refl (name_found task (form_name form, rows) is)
 
 pub request_is : (quiet : Bool) (form : Form) (rows : List Row) (request : Request) → Says quiet form rows → IsRequestOf request (form_name form, rows)
-    → IsOfForm form request × (request.quiet ≡ quiet)
+    → IsOfForm form request × (request.quiet ≡ quiet) × (request.json ≡ form_json form)
 request_is quiet form rows request says is =
-    (asked_is form rows request.task request.origins says.1 is.0.0 is.0.1, same_flag (first_of (codes "quiet") rows) request.quiet quiet is.1 says.0)
+    (asked_is form rows request.task request.origins says.1 is.0.0 is.0.1, same_flag (first_of (codes "quiet") rows) request.quiet quiet is.1 says.0, is.2 ∙ sym says.2)

@@ -1,5 +1,5 @@
 -- What is found of the words of a form.
-use Rattle.std.proofs.Common.{◌≡◌, ◌∙◌, Bool, true, false, List, [], ◌∷◌, ◌++◌, Option, Some, None, refl, ap, codes}
+use Rattle.std.proofs.Common.{◌≡◌, ◌∙◌, Bool, true, false, List, [], ◌∷◌, ◌++◌, Option, Some, None, refl, sym, ap, codes}
 use Rattle.std.specs.Prelude.{option_and_then, option_map, slice_get, unwrap_or}
 use Rattle.std.specs.Borrow.{Bor}
 use Rattle.clap.specs.Simple.{Shape}
@@ -9,9 +9,9 @@ use Rattle.dia_policy.specs.declared.Sends.{Sends}
 use Rattle.dia_policy.specs.declared.Sends.TheVariants.{Any, Known, Listed}
 use Rattle.dia_policy.specs.declared.Unknown.{Unknown}
 use Rattle.dia_policy.specs.declared.Unknown.TheVariants.{Kept, Refused}
-use Rattle.dia_cli.specs.Forms.{Form, breaking, check, compare, form_inputs, is_lines, is_stream, make, policy_given, propose, refute, render, sender_given, show}
+use Rattle.dia_cli.specs.Forms.{Form, breaking, check, compare, form_inputs, form_json, is_lines, is_stream, make, policy_given, propose, refute, render, sender_given, show}
 use Rattle.dia_cli.specs.Slots.{Slot}
-use Rattle.dia_cli.specs.Words.{flag_word, policy_word, sends_word}
+use Rattle.dia_cli.specs.Words.{flag_word, is_given, policy_word, sends_word}
 use Rattle.dia_cli.proofs.Forms.Ends.{Finds}
 use Rattle.dia_cli.proofs.Forms.FormRows.{all_options, form_row, shape}
 use Rattle.dia_cli.proofs.Forms.Lookup.{Found, all_found, default_found, first_found, or_found, values_from}
@@ -33,13 +33,13 @@ SaysForm (show as_text dictionary message) rows =
     (first_of (codes "dict") rows ≡ Some (unwrap_or dictionary (codes "@base"))) × (first_of (codes "MESSAGE") rows ≡ Some message)
     × (first_of (codes "as-text") rows ≡ Some (flag_word as_text))
 SaysForm (make dictionary written) rows = (first_of (codes "dict") rows ≡ Some (unwrap_or dictionary (codes "@base"))) × (first_of (codes "TEXT") rows ≡ Some written)
-SaysForm (check manner unknown levels dictionary message) rows =
+SaysForm (check manner json unknown levels dictionary message) rows =
     (first_of (codes "lines") rows ≡ Some (flag_word (is_lines manner))) × (first_of (codes "stream") rows ≡ Some (flag_word (is_stream manner)))
     × (first_of (codes "unknown") rows ≡ Some (policy_word unknown)) × (first_of (codes "levels") rows ≡ levels)
     × (first_of (codes "D") rows ≡ Some dictionary) × (first_of (codes "MESSAGE") rows ≡ Some message)
 SaysForm (render dictionary) rows = first_of (codes "D") rows ≡ Some dictionary
 SaysForm (compare unknown first second table) rows = SaysPair unknown first second rows × (first_of (codes "TABLE") rows ≡ Some table)
-SaysForm (refute many unknown levels first second message) rows =
+SaysForm (refute many json unknown levels first second message) rows =
     SaysPair unknown first second rows × (first_of (codes "lines") rows ≡ Some (flag_word many)) × (first_of (codes "levels") rows ≡ levels)
     × (first_of (codes "MESSAGE") rows ≡ Some message)
 SaysForm (propose unknown first second name names) rows = SaysPair unknown first second rows × (all_of (codes "COMMAND") rows ≡ Some (name ∷ names))
@@ -50,6 +50,7 @@ SaysForm (breaking sends unknown messages once meaning accepted first second nam
 
 abbrev pub Says : Bool → Form → List Row → Type 0
 Says quiet form rows = (first_of (codes "quiet") rows ≡ Some (flag_word quiet)) × SaysForm form rows
+    × (form_json form ≡ is_given (first_of (codes "json") rows))
 
 -- ---- values, given or not
 
@@ -62,6 +63,15 @@ default word = Some (word ∷ [], Some DefaultValue)
 flag_found : (given : Bool) → first_value (or_found (values_from CommandLine (flag_values given)) (default (codes "false"))) ≡ Some (flag_word given)
 flag_found false = refl
 flag_found true = refl
+
+-- `--json` is given, or not
+flag_given : (given : Bool) {word : Option Text} → word ≡ Some (flag_word given) → given ≡ is_given word
+flag_given false is = sym (ap is_given is)
+flag_given true is = sym (ap is_given is)
+
+-- or its command doesn't have it
+not_given : {word : Option Text} → word ≡ None → false ≡ is_given word
+not_given is = sym (ap is_given is)
 
 policy_found : (unknown : Unknown) → first_value (or_found (values_from CommandLine (option_values (policy_given unknown))) (default (codes "kept"))) ≡ Some (policy_word unknown)
 policy_found Kept = refl
@@ -102,10 +112,11 @@ module _ (policies senders : Bor (List (Bor Text))) (quiet : Bool) (rows : List 
   form_says (show as_text dictionary message) first all = (
     first (codes "quiet") ∙ flag_found quiet,
     (first (codes "dict") ∙ text_found dictionary (codes "@base"), first (codes "MESSAGE"), first (codes "as-text") ∙ flag_found as_text),
+    not_given (first (codes "json")),
   )
   form_says (make dictionary written) first all =
-      (first (codes "quiet") ∙ flag_found quiet, (first (codes "dict") ∙ text_found dictionary (codes "@base"), first (codes "TEXT")))
-  form_says (check manner unknown levels dictionary message) first all = (
+      (first (codes "quiet") ∙ flag_found quiet, (first (codes "dict") ∙ text_found dictionary (codes "@base"), first (codes "TEXT")), not_given (first (codes "json")))
+  form_says (check manner json unknown levels dictionary message) first all = (
     first (codes "quiet") ∙ flag_found quiet,
     (
       first (codes "lines") ∙ flag_found (is_lines manner),
@@ -115,11 +126,12 @@ module _ (policies senders : Bor (List (Bor Text))) (quiet : Bool) (rows : List 
       first (codes "D"),
       first (codes "MESSAGE"),
     ),
+    flag_given json (first (codes "json") ∙ flag_found json),
   )
-  form_says (render dictionary) first all = (first (codes "quiet") ∙ flag_found quiet, first (codes "D"))
+  form_says (render dictionary) first all = (first (codes "quiet") ∙ flag_found quiet, first (codes "D"), not_given (first (codes "json")))
   form_says (compare unknown one two table) first all =
-      (first (codes "quiet") ∙ flag_found quiet, ((first (codes "unknown") ∙ policy_found unknown, first (codes "A"), first (codes "B")), first (codes "TABLE")))
-  form_says (refute many unknown levels one two message) first all = (
+      (first (codes "quiet") ∙ flag_found quiet, ((first (codes "unknown") ∙ policy_found unknown, first (codes "A"), first (codes "B")), first (codes "TABLE")), not_given (first (codes "json")))
+  form_says (refute many json unknown levels one two message) first all = (
     first (codes "quiet") ∙ flag_found quiet,
     (
       (first (codes "unknown") ∙ policy_found unknown, first (codes "A"), first (codes "B")),
@@ -127,9 +139,10 @@ module _ (policies senders : Bor (List (Bor Text))) (quiet : Bool) (rows : List 
       first (codes "levels") ∙ number_found levels,
       first (codes "MESSAGE"),
     ),
+    flag_given json (first (codes "json") ∙ flag_found json),
   )
   form_says (propose unknown one two name names) first all =
-      (first (codes "quiet") ∙ flag_found quiet, ((first (codes "unknown") ∙ policy_found unknown, first (codes "A"), first (codes "B")), all (codes "COMMAND")))
+      (first (codes "quiet") ∙ flag_found quiet, ((first (codes "unknown") ∙ policy_found unknown, first (codes "A"), first (codes "B")), all (codes "COMMAND")), not_given (first (codes "json")))
   form_says (breaking sends unknown messages once meaning accepted one two names) first all = (
     first (codes "quiet") ∙ flag_found quiet,
     (
@@ -141,6 +154,7 @@ module _ (policies senders : Bor (List (Bor Text))) (quiet : Bool) (rows : List 
       first (codes "once") ∙ flag_found once,
       first (codes "meaning") ∙ flag_found meaning,
     ),
+    not_given (first (codes "json")),
   )
 
   pub found_says : (form : Form) → Finds (shape policies senders (form_row form)) (all_options quiet form ++ form_inputs form) rows → Says quiet form rows

@@ -1,0 +1,3 @@
+mod Members
+mod Refusing
+mod ManyMessages

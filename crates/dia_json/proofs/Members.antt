@@ -1,0 +1,171 @@
+-- The texts of members.
+use Rattle.std.proofs.Common.{◌≡◌, ◌∙◌, ℕ, List, [], ◌∷◌, ◌++◌, Bool, false, true, append_assoc, ap, refl, sym, codes}
+use Rattle.std.specs.Fmt.{decimal}
+use Rattle.std.specs.Prelude.{if◌then◌else◌}
+use Rattle.json.specs.Print.{quoted}
+use Rattle.serde_json.specs.Data.{Members, boolean, member, no_members, object}
+use Rattle.serde_json.specs.Written.{members_text}
+use Rattle.serde_json.proofs.OnLiterals.{serde_json_on_literals}
+use Rattle.dia_wire.specs.declared.Key.{Key}
+use Rattle.dia_dict.specs.Dictionary.{Dictionary}
+use Rattle.dia_check.specs.declared.Fault.{Fault}
+use Rattle.dia_check.specs.declared.Reason.{Reason}
+use Rattle.dia_check.specs.declared.Reason.TheVariants as reason
+use Rattle.dia_captures.specs.declared.verdicts.Checked.{Checked}
+use Rattle.dia_captures.specs.declared.verdicts.Checked.TheVariants.{Valid, Wrong}
+use Rattle.dia_captures.specs.declared.verdicts.Flaw.TheVariants as flaw
+use Rattle.dia_captures.specs.declared.verdicts.Refuted.{Refuted}
+use Rattle.dia_captures.specs.Verdicts.{refutes}
+use Rattle.dia_run.specs.Verdict.{reason_word}
+use Rattle.dia_json.specs.Values.{about, both_members, checked_json, checked_members, fault_members, json_line, named_members, not_hexadecimal_members, placed_json, subject_members}
+
+-- ---- an AVP, whose name is quoted so
+
+abbrev named_text : List ℕ → Key → List ℕ → List ℕ
+named_text q key rest =
+    codes "{\"name\":" ++ (q ++ (codes ",\"code\":" ++ (decimal key.code ++ (codes ",\"vendor\":" ++ (decimal key.vendor ++ 125 ∷ rest)))))
+
+named_ends : (q : List ℕ) (key : Key) (rest : List ℕ) → named_text q key rest ≡ named_text q key [] ++ rest
+named_ends q key rest = simp append_assoc
+
+named_is : (name : List ℕ) (key : Key) → members_text true (about (named_members name key)) ≡ codes ",\"avp\":" ++ (named_text (quoted name) key [] ++ 125 ∷ [])
+unfolding serde_json_on_literals
+named_is name key = refl
+
+pub named_told : (old new written name : List ℕ) (key : Key) → written ≡ quoted name → new ≡ old ++ (codes ",\"avp\":" ++ named_text written key (125 ∷ []))
+    → new ≡ old ++ members_text true (about (named_members name key))
+named_told old new written name key is_quoted is_new =
+    is_new ∙ ap (λ (q : List ℕ). old ++ (codes ",\"avp\":" ++ named_text q key (125 ∷ []))) is_quoted
+    ∙ ap (λ (t : List ℕ). old ++ (codes ",\"avp\":" ++ t)) (named_ends (quoted name) key (125 ∷ [])) ∙ ap (λ (t : List ℕ). old ++ t) (sym (named_is name key))
+
+-- ---- a fault
+
+-- no byte of a reason's word is escaped
+reason_is_plain : (r : Reason) → quoted (reason_word r) ≡ codes "\"" ++ reason_word r ++ codes "\""
+unfolding serde_json_on_literals
+reason_is_plain reason.Version = refl
+reason_is_plain reason.Length = refl
+reason_is_plain reason.Bits = refl
+reason_is_plain reason.Command = refl
+reason_is_plain reason.Application = refl
+reason_is_plain reason.Proxiable = refl
+reason_is_plain reason.AvpLength = refl
+reason_is_plain reason.Unknown = refl
+reason_is_plain reason.MBit = refl
+reason_is_plain reason.Missing = refl
+reason_is_plain reason.NotAllowed = refl
+reason_is_plain reason.TooMany = refl
+reason_is_plain reason.LeafLength = refl
+reason_is_plain reason.LeafValue = refl
+reason_is_plain reason.Depth = refl
+
+-- up to the reason's word
+abbrev fault_front : ℕ → ℕ → List ℕ → List ℕ
+fault_front code place rest =
+    codes "\"verdict\":\"fault\",\"code\":" ++ (decimal code ++ (codes ",\"at\":" ++ (decimal place ++ (codes ",\"reason\":" ++ rest))))
+
+fault_joined : (code place : ℕ) (word rest : List ℕ)
+    → fault_front code place (codes "\"" ++ (word ++ codes "\"")) ++ rest ≡ fault_front code place ((codes "\"" ++ word ++ codes "\"") ++ rest)
+fault_joined code place word rest = simp append_assoc
+
+fault_is : (d : Dictionary) (fault : Fault)
+    → members_text false (fault_members d fault) ≡ fault_front fault.code fault.place (quoted (reason_word fault.reason) ++ members_text true (subject_members d fault.subject))
+unfolding serde_json_on_literals
+fault_is d fault = refl
+
+pub fault_told : (d : Dictionary) (fault : Fault) (old front new word : List ℕ) → word ≡ reason_word fault.reason
+    → front ≡ old ++ fault_front fault.code fault.place (codes "\"" ++ (word ++ codes "\"")) → new ≡ front ++ members_text true (subject_members d fault.subject)
+    → new ≡ old ++ members_text false (fault_members d fault)
+fault_told d fault old front new word is_word is_front is_new =
+    let rest = members_text true (subject_members d fault.subject) in
+    let own = reason_word fault.reason in
+    is_new ∙ ap (λ (t : List ℕ). t ++ rest) (is_front ∙ ap (λ (w : List ℕ). old ++ fault_front fault.code fault.place (codes "\"" ++ (w ++ codes "\""))) is_word)
+    ∙ append_assoc old (fault_front fault.code fault.place (codes "\"" ++ (own ++ codes "\""))) rest
+    ∙ ap (λ (t : List ℕ). old ++ t)
+    (fault_joined fault.code fault.place own rest ∙ ap (λ (q : List ℕ). fault_front fault.code fault.place (q ++ rest)) (sym (reason_is_plain fault.reason)) ∙ sym (fault_is d fault))
+
+-- ---- lines
+
+-- the members of a verdict behind another one
+behind : (d : Dictionary) (verdict : Checked) → members_text true (checked_members d verdict) ≡ 44 ∷ members_text false (checked_members d verdict)
+behind d (Valid found) = refl
+behind d (Wrong (flaw.Fault fault)) = refl
+behind d (Wrong flaw.Truncated) = refl
+behind d (Wrong flaw.Trailing) = refl
+behind d (Wrong flaw.TooLong) = refl
+behind d (Wrong flaw.NotHexadecimal) = refl
+
+pub checked_told : (d : Dictionary) (verdict : Checked) (old begun members new : List ℕ) → begun ≡ old ++ codes "{" → members ≡ begun ++ members_text false (checked_members d verdict)
+    → new ≡ members ++ codes "\n" → new ≡ old ++ checked_json d verdict
+checked_told d verdict old begun members new is_begun is_members is_new =
+    is_new ∙ ap (λ (t : List ℕ). t ++ codes "\n") (is_members ∙ ap (λ (t : List ℕ). t ++ members_text false (checked_members d verdict)) is_begun)
+    ∙ simp append_assoc
+
+abbrev place_text : ℕ → List ℕ → List ℕ
+place_text at rest = codes "{\"place\":" ++ (decimal at ++ rest)
+
+placed_is : (d : Dictionary) (at : ℕ) (verdict : Checked) → placed_json d (at, verdict) ≡ place_text at (members_text true (checked_members d verdict)) ++ codes "\n"
+unfolding serde_json_on_literals
+placed_is d at verdict = refl
+
+placed_joined : (at : ℕ) (old members : List ℕ) → ((old ++ place_text at (codes ",")) ++ members) ++ codes "\n" ≡ old ++ (place_text at (44 ∷ members) ++ codes "\n")
+placed_joined at old members = simp append_assoc
+
+pub placed_told : (d : Dictionary) (at : ℕ) (verdict : Checked) (old begun members new : List ℕ) → begun ≡ old ++ place_text at (codes ",")
+    → members ≡ begun ++ members_text false (checked_members d verdict) → new ≡ members ++ codes "\n" → new ≡ old ++ placed_json d (at, verdict)
+placed_told d at verdict old begun members new is_begun is_members is_new =
+    is_new ∙ ap (λ (t : List ℕ). t ++ codes "\n") (is_members ∙ ap (λ (t : List ℕ). t ++ members_text false (checked_members d verdict)) is_begun)
+    ∙ placed_joined at old (members_text false (checked_members d verdict))
+    ∙ ap (λ (t : List ℕ). old ++ (place_text at t ++ codes "\n")) (sym (behind d verdict)) ∙ ap (λ (t : List ℕ). old ++ t) (sym (placed_is d at verdict))
+
+-- what isn't hexadecimal, which has no names
+no_digits_joined : (at : ℕ) → codes "{\"place\":" ++ (decimal at ++ codes ",\"error\":\"message\",\"kind\":\"not hexadecimal\"}\n")
+    ≡ place_text at (members_text true not_hexadecimal_members) ++ codes "\n"
+unfolding serde_json_on_literals
+no_digits_joined at = simp append_assoc
+
+pub no_digits_told : (d : Dictionary) (at : ℕ) (old new : List ℕ)
+    → new ≡ old ++ (codes "{\"place\":" ++ (decimal at ++ codes ",\"error\":\"message\",\"kind\":\"not hexadecimal\"}\n"))
+    → new ≡ old ++ placed_json d (at, Wrong flaw.NotHexadecimal)
+no_digits_told d at old new is_new =
+    is_new ∙ ap (λ (t : List ℕ). old ++ t) (no_digits_joined at ∙ sym (placed_is d at (Wrong flaw.NotHexadecimal)))
+
+-- ---- both verdicts
+
+abbrev bool_text : Bool → List ℕ
+bool_text b = if b then codes "true" else codes "false"
+
+abbrev both_text : Bool → List ℕ → List ℕ → List ℕ
+both_text b one two = codes "{\"refutes\":" ++ (bool_text b ++ (codes ",\"first\":{" ++ (one ++ (codes ",\"second\":{" ++ (two ++ codes "}\n")))))
+
+abbrev both_as : Bool → Members → Members → Members
+both_as t one two = member (codes "refutes") (boolean t) (member (codes "first") (object one) (member (codes "second") (object two) no_members))
+
+both_parts : (t : Bool) (one two : Members) → json_line (both_as t one two)
+    ≡ (codes "{\"refutes\":" ++ (bool_text t ++ (codes ",\"first\":" ++ ((123 ∷ members_text false one) ++ (codes ",\"second\":" ++ ((123 ∷ members_text false two) ++ 125 ∷ [])))))) ++ codes "\n"
+unfolding serde_json_on_literals
+both_parts true one two = refl
+both_parts false one two = refl
+
+regroup : (word one two : List ℕ)
+    → (codes "{\"refutes\":" ++ (word ++ (codes ",\"first\":" ++ ((123 ∷ one) ++ (codes ",\"second\":" ++ ((123 ∷ two) ++ 125 ∷ [])))))) ++ codes "\n"
+    ≡ codes "{\"refutes\":" ++ (word ++ (codes ",\"first\":{" ++ (one ++ (codes ",\"second\":{" ++ (two ++ codes "}\n")))))
+regroup word one two = simp append_assoc
+
+both_is : (t : Bool) (one two : Members) → json_line (both_as t one two) ≡ both_text t (members_text false one) (members_text false two)
+both_is t one two = both_parts t one two ∙ regroup (bool_text t) (members_text false one) (members_text false two)
+
+both_joined : (t : Bool) (old one two : List ℕ)
+    → (((old ++ (codes "{\"refutes\":" ++ (bool_text t ++ codes ",\"first\":{"))) ++ one) ++ codes ",\"second\":{" ++ two) ++ codes "}\n" ≡ old ++ both_text t one two
+both_joined t old one two = simp append_assoc
+
+pub both_told : (a b : Dictionary) (verdict : Refuted) (t : Bool) (old begun first second last new : List ℕ) → t ≡ refutes verdict
+    → begun ≡ old ++ (codes "{\"refutes\":" ++ (bool_text t ++ codes ",\"first\":{")) → first ≡ begun ++ members_text false (checked_members a verdict.first)
+    → second ≡ first ++ codes ",\"second\":{" → last ≡ second ++ members_text false (checked_members b verdict.second) → new ≡ last ++ codes "}\n"
+    → new ≡ old ++ json_line (both_members a b verdict)
+both_told a b verdict t old begun first second last new is_t is_begun is_first is_second is_last is_new =
+    let one = members_text false (checked_members a verdict.first) in
+    let two = members_text false (checked_members b verdict.second) in
+    is_new ∙ ap (λ (s : List ℕ). s ++ codes "}\n") (is_last ∙ ap (λ (s : List ℕ). s ++ two) (is_second ∙ ap (λ (s : List ℕ). s ++ codes ",\"second\":{") (is_first ∙ ap (λ (s : List ℕ). s ++ one) is_begun)))
+    ∙ both_joined t old one two
+    ∙ ap (λ (s : List ℕ). old ++ s) (sym (both_is t (checked_members a verdict.first) (checked_members b verdict.second)) ∙ ap (λ (r : Bool). json_line (both_as r (checked_members a verdict.first) (checked_members b verdict.second))) is_t)

@@ -1,0 +1,16 @@
+use Rattle.std.proofs.Common.{inl, inr}
+use Rattle.std.specs.Prelude.{string_bytes}
+use Rattle.std.proofs.lemmas.Result.{IfOk-weaker}
+use Rattle.dia_captures.specs.Lines.{checks}
+use Rattle.dia_json.proofs.ManyMessages.{refusal}
+use Rattle.dia_json.proofs.answers.check.Goals as goal
+
+pub returns-in-Err : goal.returns-in-Err
+returns-in-Err c =
+    IfOk-weaker c.refuse.result _ _
+    (λ answered is. inr (refusal ((checks c.args.unknown c.args.levels).refuses c.args.inputs.now) c.in-Err.refused c.in-Err.ensures.told (string_bytes answered.text) answered.exit is)) c.refuse.ensures
+
+pub returns : goal.returns
+returns c =
+    let (says, text) = c.in_ok-verdict.ensures in
+    inl (_, _, (rw (← c.deref.ensures) at c.in-Ok.ensures.book), says, (rw c.new-text.ensures.bytes at text), c.exit.ensures)

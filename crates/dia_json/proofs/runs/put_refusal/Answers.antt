@@ -1,0 +1,15 @@
+use Rattle.std.proofs.Common.{subst}
+use Rattle.dia_json.proofs.ManyMessages.{ends_badly}
+use Rattle.dia_json.specs.Runs.{TellsBad}
+use Rattle.dia_json.proofs.runs.put_refusal.Goals as goal
+
+pub returns-in_err-put_all-clause-front : goal.returns-in_err-put_all-clause-front
+returns-in_err-put_all-clause-front g c = λ _.
+    let tells = c.in_ok-text.ensures in
+    (_, subst (TellsBad c.args.refused _) (ends_badly c.args.refused _ _ tells) tells, (rw c.as_bytes.ensures.value at c.put_all.ensures.front))
+
+pub returns-clause-exit : goal.returns-clause-exit
+returns-clause-exit g c = ends_badly c.args.refused _ _ c.in_ok-text.ensures
+
+pub returns-clause-told : goal.returns-clause-told
+returns-clause-told g c = (_, c.in_ok-text.ensures, (rw c.as_bytes.ensures.value at c.in_ok-put_all.ensures.ok))

@@ -1,0 +1,100 @@
+-- The answers of `check` and `refute` as JSON values (RFC 8259), whose members stand in this order. `compact_text` is the text of a
+-- value without blanks, and `quoted` escapes its strings.
+use Rattle.std.specs.Prelude.{ℕ, List, Option, None, Some, codes, slice_get}
+use Rattle.serde_json.specs.Data.{Members, boolean, member, no_members, number, object, string, unsigned}
+use Rattle.serde_json.specs.Written.{compact_text}
+use Rattle.dia_wire.specs.declared.Key.{Key}
+use Rattle.dia_dict.specs.Dictionary.{Dictionary, DictEntry, definitions}
+use Rattle.dia_check.specs.declared.Fault.{Fault}
+use Rattle.dia_check.specs.declared.Subject.{Subject}
+use Rattle.dia_check.specs.declared.Subject.TheVariants.{Nothing, Avp, Wildcard}
+use Rattle.dia_check.specs.Valid.{known}
+use Rattle.dia_run.specs.Texts.{line}
+use Rattle.dia_run.specs.Verdict.{reason_word}
+use Rattle.dia_captures.specs.declared.verdicts.Checked.{Checked}
+use Rattle.dia_captures.specs.declared.verdicts.Checked.TheVariants.{Valid, Wrong}
+use Rattle.dia_captures.specs.declared.verdicts.Flaw.TheVariants as flaw
+use Rattle.dia_captures.specs.declared.verdicts.Refuted.{Refuted}
+use Rattle.dia_captures.specs.Verdicts.{name_of, refutes, unless_refused}
+
+-- the object of these members, on a line
+abbrev pub json_line : Members → List ℕ
+json_line members = line (compact_text (object members))
+
+-- ---- what a fault is about
+
+-- an AVP by its code and vendor, which is 0 for none
+abbrev pub key_members : Key → Members
+key_members key = member (codes "code") (number (unsigned key.code)) (member (codes "vendor") (number (unsigned key.vendor)) no_members)
+
+abbrev pub named_members : List ℕ → Key → Members
+named_members name key = member (codes "name") (string name) (key_members key)
+
+-- with its name, if the dictionary knows it
+abbrev pub avp_members : Key → Option DictEntry → Members
+avp_members key None = key_members key
+avp_members key (Some e) = named_members e.name key
+
+abbrev pub about : Members → Members
+about avp = member (codes "avp") (object avp) no_members
+
+-- the AVP, if there is one. The wildcard is called AVP
+abbrev pub subject_members : Dictionary → Subject → Members
+subject_members d Nothing = no_members
+subject_members d (Avp key) = about (avp_members key (known d key))
+subject_members d Wildcard = about (member (codes "name") (string (codes "AVP")) no_members)
+
+-- ---- verdicts
+
+abbrev pub verdict_members : List ℕ → Members → Members
+verdict_members word rest = member (codes "verdict") (string word) rest
+
+abbrev pub valid_members : List ℕ → Members
+valid_members name = verdict_members (codes "valid") (member (codes "command") (string name) no_members)
+
+abbrev pub fault_members : Dictionary → Fault → Members
+fault_members d fault = verdict_members (codes "fault") (member (codes "code") (number (unsigned fault.code))
+    (member (codes "at") (number (unsigned fault.place)) (member (codes "reason") (string (reason_word fault.reason)) (subject_members d fault.subject))))
+
+-- an input that is refused, and the kind of what is wrong
+abbrev pub refused_members : (input kind : List ℕ) → Members → Members
+refused_members input kind rest = member (codes "error") (string input) (member (codes "kind") (string kind) rest)
+
+-- a text that spells no message
+abbrev pub too_long_members : Members
+too_long_members = refused_members (codes "message") (codes "too long") no_members
+
+abbrev pub not_hexadecimal_members : Members
+not_hexadecimal_members = refused_members (codes "message") (codes "not hexadecimal") no_members
+
+-- a verdict of `check`
+abbrev pub checked_members : Dictionary → Checked → Members
+checked_members d (Valid found) = valid_members (name_of (slice_get (definitions d) found.def))
+checked_members d (Wrong (flaw.Fault fault)) = fault_members d fault
+checked_members d (Wrong flaw.Truncated) = verdict_members (codes "truncated") no_members
+checked_members d (Wrong flaw.Trailing) = verdict_members (codes "trailing") no_members
+checked_members d (Wrong flaw.TooLong) = too_long_members
+checked_members d (Wrong flaw.NotHexadecimal) = not_hexadecimal_members
+
+-- that on a message of a stream, behind its place
+abbrev pub placed_members : Dictionary → ℕ × Checked → Members
+placed_members d verdict = member (codes "place") (number (unsigned verdict.0)) (checked_members d verdict.1)
+
+-- both verdicts of `refute`, behind what they say together. A text that spells no message is told once
+abbrev pub both_members : Dictionary → Dictionary → Refuted → Members
+both_members a b verdict = member (codes "refutes") (boolean (refutes verdict))
+    (member (codes "first") (object (checked_members a verdict.first)) (member (codes "second") (object (checked_members b verdict.second)) no_members))
+
+abbrev pub refuted_members : Dictionary → Dictionary → Refuted → Members
+refuted_members a b verdict = unless_refused too_long_members not_hexadecimal_members (both_members a b verdict) verdict.first
+
+-- ---- their lines
+
+abbrev pub checked_json : Dictionary → Checked → List ℕ
+checked_json d verdict = json_line (checked_members d verdict)
+
+abbrev pub placed_json : Dictionary → ℕ × Checked → List ℕ
+placed_json d verdict = json_line (placed_members d verdict)
+
+abbrev pub refuted_json : Dictionary → Dictionary → Refuted → List ℕ
+refuted_json a b verdict = json_line (refuted_members a b verdict)

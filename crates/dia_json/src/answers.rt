@@ -1,0 +1,125 @@
+//! The answers for one message.
+
+ghost use Rattle.std.specs.Prelude.{◌≡◌, ◌++◌, IfOk, string_bytes};
+ghost use Rattle.dia_json.specs.Runs.{IsCheckJson, IsRefuteJson, TellsBad, TellsRefuted};
+
+use crate::judges::JsonCheck;
+use crate::refusals::bad_input_line;
+use crate::verdicts::push_refuted;
+use dia_captures::{CheckJudge, RefuteJudge};
+use dia_check::{Levels, Unknown};
+use dia_dict::Book;
+use dia_io::{Exit, Input, Inputs};
+use dia_lines::Judge;
+use dia_report::{Answered, Refused, Report};
+use dia_run::read_dictionary;
+use std::alloc::{AllocError, Global};
+
+/// `check` of the message.
+pub fn check(
+    alloc: Global,
+    unknown: Unknown,
+    levels: Levels,
+    inputs: &Inputs,
+) -> Result<Answered, AllocError>
+    ensures { IfOk result (λ answered. IsCheckJson unknown levels inputs.now
+        (string_bytes answered.text) answered.exit) }
+{
+    let first = match read_dictionary(alloc, 1, &inputs.first) {
+        Ok(read) => read,
+        Err(refused) => return refuse(alloc, refused),
+    };
+    let judge = JsonCheck {
+        check: CheckJudge {
+            book: &first.book,
+            unknown,
+            levels,
+        },
+    };
+    let mut text = String::new(alloc);
+    let verdict = judge_input(alloc, &judge, &inputs.message, &mut text)?;
+    Ok(Answered {
+        text,
+        exit: verdict.exit(),
+        report: Report::Done,
+    })
+}
+
+/// `refute` of the message.
+pub fn refute(
+    alloc: Global,
+    unknown: Unknown,
+    levels: Levels,
+    inputs: &Inputs,
+) -> Result<Answered, AllocError>
+    ensures { IfOk result (λ answered. IsRefuteJson unknown levels inputs.now
+        (string_bytes answered.text) answered.exit) }
+{
+    let first = match read_dictionary(alloc, 1, &inputs.first) {
+        Ok(read) => read,
+        Err(refused) => return refuse(alloc, refused),
+    };
+    let second = match read_dictionary(alloc, 2, &inputs.second) {
+        Ok(read) => read,
+        Err(refused) => return refuse(alloc, refused),
+    };
+    let judge = RefuteJudge {
+        first: &first.book,
+        second: &second.book,
+        unknown,
+        levels,
+    };
+    refuted(alloc, &judge, &inputs.message)
+}
+
+/// The answer of an input that is refused.
+pub fn refuse(alloc: Global, refused: Refused) -> Result<Answered, AllocError>
+    ensures { IfOk result (λ answered. TellsBad refused (string_bytes answered.text) answered.exit) }
+{
+    match refused {
+        Refused::Bad(bad) => {
+            let text = bad_input_line(alloc, &bad)?;
+            Ok(Answered {
+                text,
+                exit: Exit::Bad,
+                report: Report::Refused(bad),
+            })
+        }
+        Refused::NoMemory => Err(AllocError),
+    }
+}
+
+/// Judges an input as a line.
+fn judge_input<J: Judge>(
+    alloc: Global,
+    judge: &J,
+    input: &Input,
+    text: &mut String,
+) -> Result<J::Verdict, AllocError>
+    ensures { IfOk result (λ verdict. J.says judge.now input.now verdict
+        × (string_bytes text.new ≡ string_bytes text.old ++ J.told judge.now verdict)) }
+{
+    let mut space = Vec::new(alloc);
+    judge.judge(alloc, input, &mut space, text)
+}
+
+/// Both verdicts on a message.
+fn refuted<A: Book, B: Book>(
+    alloc: Global,
+    judge: &RefuteJudge<'_, A, B>,
+    message: &Input,
+) -> Result<Answered, AllocError>
+    ensures { IfOk result (λ answered. TellsRefuted judge.now.unknown judge.now.levels
+        (A.meaning judge.now.first.now) (B.meaning judge.now.second.now) message.now
+        (string_bytes answered.text) answered.exit) }
+{
+    let mut space = Vec::new(alloc);
+    let verdict = judge.refute_line(alloc, message, &mut space)?;
+    let mut text = String::new(alloc);
+    push_refuted(alloc, &mut text, judge.first, judge.second, &verdict)?;
+    Ok(Answered {
+        text,
+        exit: verdict.exit(),
+        report: Report::Done,
+    })
+}

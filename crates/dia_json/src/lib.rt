@@ -1,0 +1,20 @@
+//! The answers of `check` and `refute` as JSON (RFC 8259): an object a line.
+//!
+//! `check` and `refute` answer for one message. `check_lines`, `refute_lines` and `check_stream` read their messages a piece at a
+//! time, as those of dia_captures do, and put an object for each.
+#![tactic(auto)]
+
+mod answers;
+mod judges;
+mod laws;
+mod refusals;
+mod runs;
+mod strings;
+mod verdicts;
+
+pub use answers::{check, refute};
+pub use judges::{JsonCheck, JsonRefute};
+pub use laws::text_is_value;
+pub use refusals::bad_input_line;
+pub use runs::{check_lines, check_stream, refute_lines};
+pub use verdicts::{push_checked, push_placed, push_refuted};

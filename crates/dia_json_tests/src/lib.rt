@@ -1,0 +1,7 @@
+//! The tests of `dia_json`: what is put as JSON. They go through public calls alone. There is nothing but tests.
+#![tactic(auto)]
+
+#[cfg(test)]
+mod answers;
+#[cfg(test)]
+mod many;
