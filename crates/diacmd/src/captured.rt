@@ -1,12 +1,14 @@
 //! Commands that read their messages a piece at a time.
 
+ghost use Rattle.std.specs.Prelude.{IsTrue};
+
 use crate::front::Front;
-use crate::word_of;
-use dia_captures::{Lines, check_lines, check_stream, refute_lines};
+use crate::{Manner, word_of};
+use dia_captures::{Captured, Lines, check_lines, check_stream, refute_lines};
 use dia_cli::{Ending, Origin, Origins};
 use dia_explain_answers::{Asked, push_check_alone, push_refute_alone};
 use dia_explain_inputs::push_front;
-use dia_io::{Exit, FromReader, Inputs, ToWriter};
+use dia_io::{Exit, Feed, FromReader, Inputs, Sink, ToWriter};
 use dia_lines::LinesFault;
 use dia_policy::{Levels, Unknown};
 use dia_report::Reported;
@@ -34,6 +36,52 @@ impl Capture {
             levels,
         }
     }
+
+    /// Puts a line of text for each message.
+    fn run<F: Feed, S: Sink>(
+        self,
+        alloc: Global,
+        inputs: &Inputs,
+        feed: &mut F,
+        sink: &mut S,
+    ) -> Result<Captured, LinesFault>
+        requires sound_feed { ¬ IsTrue (F.has_failed feed.old) }
+        requires sound_sink { ¬ IsTrue (S.has_failed sink.old) }
+    {
+        let Capture {
+            lines,
+            unknown,
+            levels,
+        } = self;
+        match lines {
+            Lines::Checked => check_lines(alloc, unknown, levels, inputs, feed, sink),
+            Lines::Refuted => refute_lines(alloc, unknown, levels, inputs, feed, sink),
+            Lines::Placed => check_stream(alloc, unknown, levels, inputs, feed, sink),
+        }
+    }
+
+    /// Puts a JSON object for each message, a line each.
+    fn run_json<F: Feed, S: Sink>(
+        self,
+        alloc: Global,
+        inputs: &Inputs,
+        feed: &mut F,
+        sink: &mut S,
+    ) -> Result<Captured, LinesFault>
+        requires sound_feed { ¬ IsTrue (F.has_failed feed.old) }
+        requires sound_sink { ¬ IsTrue (S.has_failed sink.old) }
+    {
+        let Capture {
+            lines,
+            unknown,
+            levels,
+        } = self;
+        match lines {
+            Lines::Checked => dia_json::check_lines(alloc, unknown, levels, inputs, feed, sink),
+            Lines::Refuted => dia_json::refute_lines(alloc, unknown, levels, inputs, feed, sink),
+            Lines::Placed => dia_json::check_stream(alloc, unknown, levels, inputs, feed, sink),
+        }
+    }
 }
 
 /// Runs a command that reads its messages a piece at a time, and tells on standard error what came of them, unless it is to be
@@ -43,13 +91,13 @@ pub(crate) fn captured<'a, R>(
     capture: Capture,
     inputs: &Inputs,
     origins: &Origins<'a>,
-    quiet: bool,
+    manner: Manner,
 ) -> Result<Reported, Ending<'a>>
 where
     R: AllocGlobal + Files + Input + Print + Eprint,
 {
-    let reported = opened(rt, capture, inputs, origins.messages, quiet)?;
-    if !quiet && reported.exit == Exit::No {
+    let reported = opened(rt, capture, inputs, origins.messages, manner)?;
+    if !manner.quiet && reported.exit == Exit::No {
         advise(rt, capture, origins);
     }
     Ok(reported)
@@ -61,20 +109,20 @@ fn opened<'a, R>(
     capture: Capture,
     inputs: &Inputs,
     messages: Origin<'a>,
-    quiet: bool,
+    manner: Manner,
 ) -> Result<Reported, Ending<'a>>
 where
     R: AllocGlobal + Files + Input + Print + Eprint,
 {
     match messages {
         Origin::File { path, .. } => match fs::open(rt, path) {
-            Ok(file) => answer(rt, capture, inputs, file, path, quiet),
+            Ok(file) => answer(rt, capture, inputs, file, path, manner),
             Err(error) => Err(Ending::Device {
                 name: path,
                 error: Some(error),
             }),
         },
-        _ => answer(rt, capture, inputs, rt.reader(), "-", quiet),
+        _ => answer(rt, capture, inputs, rt.reader(), "-", manner),
     }
 }
 
@@ -85,7 +133,7 @@ fn answer<'a, R, D>(
     inputs: &Inputs,
     reader: D,
     name: &'a str,
-    quiet: bool,
+    manner: Manner,
 ) -> Result<Reported, Ending<'a>>
 where
     R: AllocGlobal + Print + Eprint,
@@ -93,23 +141,18 @@ where
 {
     let alloc = rt.alloc();
     let mut feed = Front::new(alloc, FromReader::new(reader));
-    let Capture {
-        lines,
-        unknown,
-        levels,
-    } = capture;
     let mut sink = ToWriter::new(io::writer(rt));
-    let ended = match lines {
-        Lines::Checked => check_lines(alloc, unknown, levels, inputs, &mut feed, &mut sink),
-        Lines::Refuted => refute_lines(alloc, unknown, levels, inputs, &mut feed, &mut sink),
-        Lines::Placed => check_stream(alloc, unknown, levels, inputs, &mut feed, &mut sink),
+    let ended = if manner.json {
+        capture.run_json(alloc, inputs, &mut feed, &mut sink)
+    } else {
+        capture.run(alloc, inputs, &mut feed, &mut sink)
     };
     match ended {
-        Ok(dia_captures::Captured { reported, summary }) => {
-            if !quiet && reported.exit != Exit::Bad {
+        Ok(Captured { reported, summary }) => {
+            if !manner.quiet && reported.exit != Exit::Bad {
                 summarize(rt, summary);
                 if feed.is_telling() {
-                    tell_front(rt, name, lines, &feed.kept);
+                    tell_front(rt, name, capture.lines, &feed.kept);
                 }
             }
             Ok(reported)

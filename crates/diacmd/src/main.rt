@@ -10,8 +10,6 @@ mod built;
 mod captured;
 mod front;
 mod notes;
-#[cfg(test)]
-mod tests;
 mod text;
 mod tips;
 
@@ -24,14 +22,25 @@ use dia_cli::{
     open_inputs, parse_words,
 };
 use dia_explain_places::{InputTexts, NamedText};
-use dia_report::{Report, Reported};
-use dia_run::{Command, Exit, Inputs, ToWriter, run_reporting};
+use dia_io::put_all;
+use dia_report::{Answered, Report, Reported};
+use dia_run::{Command, Exit, Inputs, RunFault, ToWriter, run_reporting};
 use dia_upgrades::{Asked, breaking};
 use notes::{explain, explain_upgrade, unnamed};
+use std::alloc::AllocError;
 use std::process::ExitCode;
 use std::rt::{Env, Files};
 use std::{env, io};
 use text::{made, shown};
+
+/// How the answer is told.
+#[derive(Clone, Copy)]
+pub(crate) struct Manner {
+    /// Nothing is explained.
+    pub quiet: bool,
+    /// It is told as JSON.
+    pub json: bool,
+}
 
 /// The status where a device failed, as `finish` answers it.
 const FAILED: u8 = 3;
@@ -79,9 +88,11 @@ where
         task,
         origins,
         quiet,
+        json,
     } = request;
     let inputs = open_inputs(rt.alloc(), &OfProcess::new(rt), &origins)?;
-    let reported = run_task(rt, &task, &inputs, &origins, quiet)?;
+    let manner = Manner { quiet, json };
+    let reported = run_task(rt, &task, &inputs, &origins, manner)?;
     if !quiet && !matches!(&task, Task::Breaking { .. }) {
         let texts = texts_of(&origins, &inputs);
         note(rt, &texts, names_of(&task), &reported.report);
@@ -98,12 +109,19 @@ fn run_task<'a, R>(
     task: &Task,
     inputs: &Inputs,
     origins: &Origins<'a>,
-    quiet: bool,
+    manner: Manner,
 ) -> Result<Reported, Ending<'a>>
 where
     R: AllocGlobal + Files + Input + Print + Eprint,
 {
+    let Manner { quiet, json } = manner;
     match task {
+        Task::Whole(Command::Check { unknown, levels }) if json => {
+            put_answer(rt, dia_json::check(rt.alloc(), *unknown, *levels, inputs))
+        }
+        Task::Whole(Command::Refute { unknown, levels }) if json => {
+            put_answer(rt, dia_json::refute(rt.alloc(), *unknown, *levels, inputs))
+        }
         Task::Whole(command) => answer(rt, command, inputs),
         Task::Make => made(rt, inputs, origins.message, quiet),
         Task::ShowText => shown(rt, inputs, origins.message, quiet),
@@ -127,15 +145,15 @@ where
         }
         Task::CheckLines { unknown, levels } => {
             let capture = Capture::new(Lines::Checked, *unknown, *levels);
-            captured(rt, capture, inputs, origins, quiet)
+            captured(rt, capture, inputs, origins, manner)
         }
         Task::RefuteLines { unknown, levels } => {
             let capture = Capture::new(Lines::Refuted, *unknown, *levels);
-            captured(rt, capture, inputs, origins, quiet)
+            captured(rt, capture, inputs, origins, manner)
         }
         Task::CheckStream { unknown, levels } => {
             let capture = Capture::new(Lines::Placed, *unknown, *levels);
-            captured(rt, capture, inputs, origins, quiet)
+            captured(rt, capture, inputs, origins, manner)
         }
     }
 }
@@ -149,6 +167,23 @@ where
     match run_reporting(rt.alloc(), command, inputs, &mut sink) {
         Ok(reported) => Ok(reported),
         Err(fault) => Err(Ending::of_run(fault, "standard output", sink.failure())),
+    }
+}
+
+/// Writes what was answered.
+fn put_answer<'a, R>(rt: &R, made: Result<Answered, AllocError>) -> Result<Reported, Ending<'a>>
+where
+    R: AllocGlobal + Print,
+{
+    let Answered { text, exit, report } = made?;
+    let mut sink = ToWriter::new(io::writer(rt));
+    match put_all(&mut sink, text.as_bytes()) {
+        Ok(()) => Ok(Reported { exit, report }),
+        Err(failed) => Err(Ending::of_run(
+            RunFault::from(failed),
+            "standard output",
+            sink.failure(),
+        )),
     }
 }
 
