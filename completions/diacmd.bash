@@ -19,10 +19,10 @@ _diacmd() {
         *) case $command:$word in
             show:-*) words='--quiet --dict --as-text -h --help' ;;
             make:-*) words='--quiet --dict -h --help' ;;
-            check:-*) words='--quiet --unknown --levels --lines --stream -h --help' ;;
+            check:-*) words='--quiet --unknown --levels --lines --stream --json -h --help' ;;
             render:-*) words='--quiet -h --help' ;;
             compare:-*) words='--quiet --unknown -h --help' ;;
-            refute:-*) words='--quiet --unknown --levels --lines -h --help' ;;
+            refute:-*) words='--quiet --unknown --levels --lines --json -h --help' ;;
             propose:-*) words='--quiet --unknown -h --help' ;;
             breaking:-*) words='--quiet --unknown --sends --messages --once --meaning --accepted -h --help' ;;
         esac ;;

@@ -28,6 +28,7 @@ complete -c diacmd -n '__fish_seen_subcommand_from check' -l unknown -x -a 'kept
 complete -c diacmd -n '__fish_seen_subcommand_from check' -l levels -x -d 'How many levels of Grouped AVPs may stand in one another; without it, any number'
 complete -c diacmd -n '__fish_seen_subcommand_from check' -l lines -d 'Tells of each line, a message, whether it is valid'
 complete -c diacmd -n '__fish_seen_subcommand_from check' -l stream -d 'Tells of each message of a stream, with its place, whether it is valid'
+complete -c diacmd -n '__fish_seen_subcommand_from check' -l json -d 'Prints each answer as a JSON object, a line each'
 complete -c diacmd -n '__fish_seen_subcommand_from check' -s h -l help -d 'Print help'
 complete -c diacmd -n '__fish_seen_subcommand_from render' -F
 complete -c diacmd -n '__fish_seen_subcommand_from render' -a @base -d 'The built-in base dictionary'
@@ -44,6 +45,7 @@ complete -c diacmd -n '__fish_seen_subcommand_from refute' -l quiet -d 'Prints n
 complete -c diacmd -n '__fish_seen_subcommand_from refute' -l unknown -x -a 'kept refused' -d 'Whether an AVP that isn\'t in the dictionary, with its M flag clear, is kept or refused'
 complete -c diacmd -n '__fish_seen_subcommand_from refute' -l levels -x -d 'How many levels of Grouped AVPs may stand in one another; without it, any number'
 complete -c diacmd -n '__fish_seen_subcommand_from refute' -l lines -d 'Tells of each line, a message, whether it is valid for A and not for B'
+complete -c diacmd -n '__fish_seen_subcommand_from refute' -l json -d 'Prints each answer as a JSON object, a line each'
 complete -c diacmd -n '__fish_seen_subcommand_from refute' -s h -l help -d 'Print help'
 complete -c diacmd -n '__fish_seen_subcommand_from propose' -F
 complete -c diacmd -n '__fish_seen_subcommand_from propose' -a @base -d 'The built-in base dictionary'
