@@ -75,7 +75,7 @@ pub(crate) fn steps_by(
     Ok(steps)
 }
 
-/// Those of some steps that lead to a level, and by a way within the room.
+/// The steps that lead to a level by a way that isn't longer than the room.
 pub(crate) fn within_room(
     alloc: Global,
     ways: Ways<'_>,

@@ -31,7 +31,7 @@ const LAID_OUT_OF_GROUP: usize = 8;
 
 /// How many more rules the first list of tallies has room for than the body's, so that the groups of most messages take no
 /// memory for theirs.
-const ROOM_FOR_GROUPS: usize = 64;
+const ROOM_FOR_GROUPS: usize = 32;
 
 /// An open level.
 #[derive(Clone, Copy)]

@@ -64,8 +64,8 @@ pub enum Failing {
     NotBeside { second: usize },
 }
 
-/// All that fails a test of a pair of the table, in the order of the rules, AVPs and commands that the test goes over. A pair that
-/// the table doesn't have fails nothing, and neither do names that no definition has, but for the test N10.
+/// All that fails a test of a pair of the table, in the order of the rules, AVPs and commands that the test goes over. A pair
+/// that the table doesn't have fails nothing, and neither do names that no definition has, but for the test N10.
 pub fn failings<A: Book, B: Book>(
     alloc: Global,
     a: &A,

@@ -1,5 +1,5 @@
-//! What `make` and `show --as-text` write and what is told of it, over the base dictionary. The message was worked out by hand from RFC 6733
-//! sections 3, 4.1 and 5.5.1.
+//! What `make` and `show --as-text` write and what is told of it, over the base dictionary. The message was worked out by hand
+//! from RFC 6733 sections 3, 4.1 and 5.5.1.
 
 use dia_dict::base_text;
 use dia_io::{Exit, Input, Inputs, ToWriter};

@@ -45,8 +45,8 @@ fn may_follow(rest: &[u8], is_within: bool) -> bool {
     is_within && (rest.is_empty() || head_of(rest).is_some())
 }
 
-/// The head of the AVP at the front of some bytes, if it looks like one: no reserved flag is set, and the length is that of an AVP
-/// which ends among these bytes.
+/// The head of the AVP at the front of some bytes, if it looks like one: no reserved flag is set, and the length is that of
+/// an AVP which ends among these bytes.
 fn head_of(rest: &[u8]) -> Option<Head> {
     let flags = *rest.get(4)?;
     let code = number(rest.get(..4)?);

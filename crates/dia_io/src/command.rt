@@ -19,8 +19,8 @@ pub enum Command {
         unknown: Unknown,
         levels: Levels,
     },
-    /// Tells whether a table of pairs shows that each valid message of a command that it lists is valid under the second dictionary,
-    /// too.
+    /// Tells whether a table of pairs shows that each valid message of a command that it lists is valid under the second
+    /// dictionary, too.
     Compare {
         unknown: Unknown,
     },

@@ -1,8 +1,8 @@
 //! `diacmd`: the workbench for Diameter dictionaries and messages, on the command line.
 //!
 //! `main` reads the command line and the inputs, does what is asked for with standard output, explains the answer on standard
-//! error, and returns the status. `run_reporting`, `breaking`, `check_lines` and their like decide what is written and how the program
-//! ends. They are functions over values, and so are those that decide the rest.
+//! error, and returns the status. `run_reporting`, `breaking`, `check_lines` and their like decide what is written and how the
+//! program ends. They are functions over values, and so are those that decide the rest.
 #![tactic(auto)]
 
 mod advice;
