@@ -12,9 +12,10 @@ use Rattle.dia_io.specs.declared.Exit.{Exit}
 use Rattle.dia_io.specs.declared.Exit.TheVariants as exits
 use Rattle.dia_io.specs.declared.Command.TheVariants as command
 use Rattle.dia_io.specs.Writing.{AppendsFront}
-use Rattle.dia_lines.specs.Lines.{IsLineInput, LineHasOneAnswer}
+use Rattle.dia_lines.specs.Lines.{IsLineInput, LineHasOneAnswer, told_lines}
 use Rattle.dia_lines.specs.Lines as lines
 use Rattle.dia_lines.specs.FeedToSink.{AllAnswered, FrontAnswered, LinesAnswered}
+use Rattle.dia_lines.proofs.LineNumbers.{without_numbers}
 use Rattle.dia_lines.proofs.OneAnswer.{text_once}
 use Rattle.dia_lines.proofs.OtherAnswers.{IsAnswered-map, FrontAnswered-map, LinesAnswered-map, same_text}
 use Rattle.dia_report.specs.declared.refusing.Refused.{Refused}
@@ -42,29 +43,33 @@ module _ {V : Type 0} (command : MessageCommand) (inputs : Inputs) (P : Input �
   abbrev answer : V → Answer
   answer verdict = (told verdict, exit_of verdict)
 
-  same : (verdict : V) → told verdict ≡ text_of (answer verdict)
-  same verdict = refl
+  -- no number is told
+  abbrev text : List V → List ℕ
+  text = told_lines (λ number verdict. told verdict)
+
+  same : (verdicts : List V) → text verdicts ≡ flat_map text_of (map answer verdicts)
+  same verdicts = without_numbers told 1 verdicts ∙ same_text answer told text_of (λ verdict. refl) verdicts
 
   pub all_answered : {W : Type 0} (saw : W → List V → Type 0) (fed_old fed put_old put : Option (List ℕ)) (w x : W)
-      → AllAnswered P told saw fed_old fed put_old put w x → (ended : Ended) (exit : Exit)
+      → AllAnswered P text saw fed_old fed put_old put w x → (ended : Ended) (exit : Exit)
       → ((told : List ℕ) → ¬ command.refuses inputs told) → exit ≡ command.exit_of ended → saw w []
       → ((verdicts : List V) → saw x verdicts → ended ≡ ended_of (map exit_of verdicts)) → AreLinesAnswered command inputs fed_old fed put_old put exit
   all_answered saw fed_old fed put_old put w x h ended exit sound is nothing counts = record {
     bytes = h.bytes;
-    text = flat_map told h.verdicts;
+    text = text h.verdicts;
     consumed = h.consumed;
     outcome = answered (map answer h.verdicts) sound (IsAnswered-map P (OfLine command inputs) answer f h.bytes h.verdicts h.answered)
-        (same_text P (OfLine command inputs) answer f told text_of same h.verdicts)
+        (same h.verdicts)
         (is ∙ ap command.exit_of (counts h.verdicts (h.seen [] nothing) ∙ ap ended_of (same_exits answer (λ (a : Answer). a.1) exit_of (λ verdict. refl) h.verdicts)));
     is_put = h.is_put;
   }
 
-  pub front_put : (fed_old fed put_old put : Option (List ℕ)) → FrontAnswered P told fed_old fed put_old put → IsFrontPut command inputs fed_old fed put_old put
-  front_put fed_old fed put_old put h = inl (FrontAnswered-map P (OfLine command inputs) answer f told text_of same fed_old fed put_old put h)
+  pub front_put : (fed_old fed put_old put : Option (List ℕ)) → FrontAnswered P text fed_old fed put_old put → IsFrontPut command inputs fed_old fed put_old put
+  front_put fed_old fed put_old put h = inl (FrontAnswered-map P (OfLine command inputs) answer f text (flat_map text_of) same fed_old fed put_old put h)
 
-  pub lines_answered : (fed_old fed put_old put : Option (List ℕ)) → LinesAnswered P told fed_old fed put_old put
-      → LinesAnswered (OfLine command inputs) text_of fed_old fed put_old put
-  lines_answered fed_old fed put_old put h = LinesAnswered-map P (OfLine command inputs) answer f told text_of same fed_old fed put_old put h
+  pub lines_answered : (fed_old fed put_old put : Option (List ℕ)) → LinesAnswered P text fed_old fed put_old put
+      → LinesAnswered (OfLine command inputs) (flat_map text_of) fed_old fed put_old put
+  lines_answered fed_old fed put_old put h = LinesAnswered-map P (OfLine command inputs) answer f text (flat_map text_of) same fed_old fed put_old put h
 
 -- ---- dictionaries that are refused
 
@@ -86,7 +91,7 @@ module _ (command : MessageCommand) (inputs : Inputs) where
   front_refused fed put_old put NoMemory some tells is_put = absurd (some refl)
 
   -- no memory for a dictionary
-  pub nothing_answered : (fed put : Option (List ℕ)) → LinesAnswered (OfLine command inputs) text_of fed fed put put
+  pub nothing_answered : (fed put : Option (List ℕ)) → LinesAnswered (OfLine command inputs) (flat_map text_of) fed fed put put
   nothing_answered fed put = record {
     lines = [];
     rest = [];

@@ -1,6 +1,7 @@
 -- Runs of which a dictionary is refused.
 use Rattle.std.proofs.Common.{◌≡◌, ◌≢◌, ℕ, List, Option, Result, Ok, Err, refl, sym, subst, inl, inr}
 use Rattle.std.specs.Prelude.{IfOk, IsErr, IsOk, string_bytes}
+use Rattle.std.specs.List.{flat_map}
 use Rattle.std.specs.Io.KnownBytes.{Appends}
 use Rattle.std.proofs.lemmas.Bool.{false≢true}
 use Rattle.dia_dict.specs.Dictionary.{Dictionary}
@@ -70,6 +71,6 @@ module _ (command : MessageCommand) (inputs : Inputs) (fed old new : Option (Lis
   refusal_front (Err faults.Endless) tells memory front nothing counted err = absurd (counted refl)
 
 -- no memory for a dictionary
-pub refusal_nothing : (command : MessageCommand) (inputs : Inputs) (fed old new : Option (List ℕ)) → new ≡ old → LinesAnswered (OfLine command inputs) text_of fed fed old new
+pub refusal_nothing : (command : MessageCommand) (inputs : Inputs) (fed old new : Option (List ℕ)) → new ≡ old → LinesAnswered (OfLine command inputs) (flat_map text_of) fed fed old new
 refusal_nothing command inputs fed old new same =
-    subst (λ (p : Option (List ℕ)). LinesAnswered (OfLine command inputs) text_of fed fed old p) (sym same) (nothing_answered command inputs fed old)
+    subst (λ (p : Option (List ℕ)). LinesAnswered (OfLine command inputs) (flat_map text_of) fed fed old p) (sym same) (nothing_answered command inputs fed old)

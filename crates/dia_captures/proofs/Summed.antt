@@ -8,6 +8,9 @@ use Rattle.dia_policy.specs.declared.Levels.{Levels}
 use Rattle.dia_io.specs.declared.Input.{Input}
 use Rattle.dia_io.specs.declared.Inputs.{Inputs}
 use Rattle.dia_lines.specs.FeedToSink.{AllAnswered}
+use Rattle.dia_lines.specs.Lines.{told_lines}
+use Rattle.dia_lines.proofs.LineNumbers.{without_numbers}
+use Rattle.dia_lines.proofs.OtherAnswers.{AllAnswered-text}
 use Rattle.dia_streams.specs.Streams.{AllTold}
 use Rattle.dia_run.specs.Texts.{IsDictionaryText}
 use Rattle.dia_captures.specs.declared.verdicts.Checked.{Checked}
@@ -29,7 +32,7 @@ unsummed sum (Err e) P none = tt
 -- ---- one
 
 module _ {T : Type 0} (text_of : T → List ℕ) (fed_old fed put_old put : Option (List ℕ)) where
-  lines_summed : {V W : Type 0} (P : Input → V → Type 0) (told : V → List ℕ) (items_of : List V → List Item) (d : Dictionary) (l : Lines) (saw : W → List V → Type 0) (w x : W)
+  lines_summed : {V W : Type 0} (P : Input → V → Type 0) (told : List V → List ℕ) (items_of : List V → List Item) (d : Dictionary) (l : Lines) (saw : W → List V → Type 0) (w x : W)
       → AllAnswered P told saw fed_old fed put_old put w x → saw w [] → (sum : Option T)
       → ((verdicts : List V) → saw x verdicts → IfSome sum (λ text. IsSummary d l (items_of verdicts) (text_of text)))
       → IfSome sum (λ text. AreLinesSummed P told items_of d l fed_old fed put_old put (text_of text))
@@ -49,24 +52,28 @@ module _ {T : Type 0} (text_of : T → List ℕ) (fed_old fed put_old put : Opti
 
   module _ (u : Unknown) (most : Levels) (inputs : Inputs) (a : Dictionary) (is_a : IsDictionaryText inputs.first a) where
     pub check_summed : {W : Type 0} (saw : W → List Checked → Type 0) (w x : W)
-        → AllAnswered (IsLineChecked u most a) (checked_line a) saw fed_old fed put_old put w x → saw w [] → (sum now : Option T) → now ≡ sum
+        → AllAnswered (IsLineChecked u most a) (told_lines (λ number verdict. checked_line a verdict)) saw fed_old fed put_old put w x → saw w [] → (sum now : Option T) → now ≡ sum
         → ((verdicts : List Checked) → saw x verdicts → IfSome sum (λ text. IsSummary a lines.Checked (checked_items verdicts) (text_of text)))
         → IfSome now (λ text. IsCheckSummary u most inputs fed_old fed put_old put (text_of text))
     check_summed saw w x h nothing sum now same is =
         subst (λ (s : Option T). IfSome s (λ text. IsCheckSummary u most inputs fed_old fed put_old put (text_of text))) (sym same)
-        (with_first (λ text. AreLinesSummed (IsLineChecked u most a) (checked_line a) checked_items a lines.Checked fed_old fed put_old put (text_of text))
+        (with_first (λ text. AreLinesSummed (IsLineChecked u most a) (flat_map (checked_line a)) checked_items a lines.Checked fed_old fed put_old put (text_of text))
         (λ text. IsCheckSummary u most inputs fed_old fed put_old put (text_of text)) sum (λ text s. (a, is_a, s))
-        (lines_summed (IsLineChecked u most a) (checked_line a) checked_items a lines.Checked saw w x h nothing sum is))
+        (lines_summed (IsLineChecked u most a) (flat_map (checked_line a)) checked_items a lines.Checked saw w x
+        (AllAnswered-text (IsLineChecked u most a) (told_lines (λ number verdict. checked_line a verdict)) (flat_map (checked_line a)) saw fed_old fed put_old put w x
+        (without_numbers (checked_line a) 1) h) nothing sum is))
 
     pub refute_summed : (b : Dictionary) → IsDictionaryText inputs.second b → {W : Type 0} (saw : W → List Refuted → Type 0) (w x : W)
-        → AllAnswered (IsLineRefuted u most a b) refuted_line saw fed_old fed put_old put w x → saw w [] → (sum now : Option T) → now ≡ sum
+        → AllAnswered (IsLineRefuted u most a b) (told_lines (λ number verdict. refuted_line verdict)) saw fed_old fed put_old put w x → saw w [] → (sum now : Option T) → now ≡ sum
         → ((verdicts : List Refuted) → saw x verdicts → IfSome sum (λ text. IsSummary a lines.Refuted (refuted_items verdicts) (text_of text)))
         → IfSome now (λ text. IsRefuteSummary u most inputs fed_old fed put_old put (text_of text))
     refute_summed b is_b saw w x h nothing sum now same is =
         subst (λ (s : Option T). IfSome s (λ text. IsRefuteSummary u most inputs fed_old fed put_old put (text_of text))) (sym same)
-        (with_first (λ text. AreLinesSummed (IsLineRefuted u most a b) refuted_line refuted_items a lines.Refuted fed_old fed put_old put (text_of text))
+        (with_first (λ text. AreLinesSummed (IsLineRefuted u most a b) (flat_map refuted_line) refuted_items a lines.Refuted fed_old fed put_old put (text_of text))
         (λ text. IsRefuteSummary u most inputs fed_old fed put_old put (text_of text)) sum (λ text s. (a, b, is_a, is_b, s))
-        (lines_summed (IsLineRefuted u most a b) refuted_line refuted_items a lines.Refuted saw w x h nothing sum is))
+        (lines_summed (IsLineRefuted u most a b) (flat_map refuted_line) refuted_items a lines.Refuted saw w x
+        (AllAnswered-text (IsLineRefuted u most a b) (told_lines (λ number verdict. refuted_line verdict)) (flat_map refuted_line) saw fed_old fed put_old put w x
+        (without_numbers refuted_line 1) h) nothing sum is))
 
     pub stream_summed : {W : Type 0} (saw : W → List (ℕ × Checked) → Type 0) (w x : W)
         → AllTold (IsPieceChecked u most a) (placed_line a) saw fed_old fed put_old put w x → saw w [] → (sum now : Option T) → now ≡ sum

@@ -80,5 +80,5 @@ pub record AreLinesAnswered (command : MessageCommand) (inputs : Inputs) (fed_ol
 
 -- a beginning of the text was put
 abbrev pub IsFrontPut : MessageCommand → Inputs → (fed_old fed put_old put : Option (List ℕ)) → Type 0
-IsFrontPut command inputs fed_old fed put_old put = FrontAnswered (OfLine command inputs) text_of fed_old fed put_old put
+IsFrontPut command inputs fed_old fed put_old put = FrontAnswered (OfLine command inputs) (flat_map text_of) fed_old fed put_old put
     ⊎ ((told : List ℕ) × command.refuses inputs told × Consumes fed_old fed [] × AppendsFront put_old put (line told))

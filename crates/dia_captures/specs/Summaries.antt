@@ -77,23 +77,23 @@ pub record IsSummary (d : Dictionary) (lines : Lines) (items : List Item) (text 
 
 -- ---- of the verdicts that were shown
 
--- the verdicts on the lines that were read, whose lines were put. P says which verdict a line has
-pub record AreLinesSummed {V : Type 0} (P : Input → V → Type 0) (told : V → List ℕ) (items_of : List V → List Item) (d : Dictionary) (lines : Lines)
+-- the verdicts on the lines that were read, whose text was put. P says which verdict a line has
+pub record AreLinesSummed {V : Type 0} (P : Input → V → Type 0) (told : List V → List ℕ) (items_of : List V → List Item) (d : Dictionary) (lines : Lines)
     (fed_old fed put_old put : Option (List ℕ)) (text : List ℕ) : Type 0 where
   pub bytes : List ℕ
   pub verdicts : List V
   pub consumed : Consumes fed_old fed bytes
   pub answered : IsAnswered P bytes verdicts
-  pub is_put : Appends put_old put (flat_map told verdicts)
+  pub is_put : Appends put_old put (told verdicts)
   pub summary : IsSummary d lines (items_of verdicts) text
 
 abbrev pub IsCheckSummary : Unknown → Levels → Inputs → (fed_old fed put_old put : Option (List ℕ)) → List ℕ → Type 0
 IsCheckSummary u most inputs fed_old fed put_old put text = (d : Dictionary) × IsDictionaryText inputs.first d
-    × AreLinesSummed (IsLineChecked u most d) (checked_line d) checked_items d lines.Checked fed_old fed put_old put text
+    × AreLinesSummed (IsLineChecked u most d) (flat_map (checked_line d)) checked_items d lines.Checked fed_old fed put_old put text
 
 abbrev pub IsRefuteSummary : Unknown → Levels → Inputs → (fed_old fed put_old put : Option (List ℕ)) → List ℕ → Type 0
 IsRefuteSummary u most inputs fed_old fed put_old put text = (a : Dictionary) × (b : Dictionary) × IsDictionaryText inputs.first a × IsDictionaryText inputs.second b
-    × AreLinesSummed (IsLineRefuted u most a b) refuted_line refuted_items a lines.Refuted fed_old fed put_old put text
+    × AreLinesSummed (IsLineRefuted u most a b) (flat_map refuted_line) refuted_items a lines.Refuted fed_old fed put_old put text
 
 -- the verdicts on all messages of a stream
 pub record IsStreamSummary (u : Unknown) (most : Levels) (inputs : Inputs) (fed_old fed put_old put : Option (List ℕ)) (text : List ℕ) : Type 0 where

@@ -37,11 +37,12 @@ impl<'a, B: Book> Judge for CheckJudge<'a, B> {
     ghost says = { λ judge line verdict.
         IsLineChecked judge.unknown judge.levels (B.Book.meaning judge.book.now) line verdict };
 
-    ghost told = { λ judge verdict. checked_line (B.Book.meaning judge.book.now) verdict };
+    ghost told = { λ judge _ verdict. checked_line (B.Book.meaning judge.book.now) verdict };
 
     fn judge(
         &self,
         alloc: Global,
+        _number: u64,
         line: &Input,
         space: &mut Vec<u8>,
         text: &mut String,
@@ -60,11 +61,12 @@ impl<'a, A: Book, B: Book> Judge for RefuteJudge<'a, A, B> {
     ghost says = { λ judge line verdict. IsLineRefuted judge.unknown judge.levels
         (A.Book.meaning judge.first.now) (B.Book.meaning judge.second.now) line verdict };
 
-    ghost told = { λ _ verdict. refuted_line verdict };
+    ghost told = { λ _ _ verdict. refuted_line verdict };
 
     fn judge(
         &self,
         alloc: Global,
+        _number: u64,
         line: &Input,
         space: &mut Vec<u8>,
         text: &mut String,

@@ -2,6 +2,7 @@
 
 ghost use Rattle.std.specs.Prelude.{◌≡◌, ◌≢◌, ◌↔◌, ◌≤◌, ◌⊎◌, if◌then◌else◌, length};
 ghost use Rattle.std.specs.Prelude.{Ok, Err, IfOk, IfSome, IsErr, IsOk, IsTrue, None, string_bytes};
+ghost use Rattle.std.specs.List.{flat_map};
 ghost use Rattle.std.specs.Io.KnownBytes.{Appends, IsAtEnd};
 ghost use Rattle.dia_io.specs.Writing.{AppendsFront};
 ghost use Rattle.dia_lines.specs.declared.fault.LinesFault.TheVariants.{NoMemory, Device, Endless};
@@ -60,9 +61,9 @@ pub fn check_lines<F: Feed, S: Sink>(
     ensures front { IsErr result → IsFrontPut (checks unknown levels) inputs.now
         (F.remaining feed.old) (F.remaining feed.new) (S.written sink.old) (S.written sink.new) }
     ensures no_memory { result ≡ Err NoMemory → LinesAnswered (OfLine (checks unknown levels) inputs.now)
-        text_of (F.remaining feed.old) (F.remaining feed.new) (S.written sink.old) (S.written sink.new) }
+        (flat_map text_of) (F.remaining feed.old) (F.remaining feed.new) (S.written sink.old) (S.written sink.new) }
     ensures endless { result ≡ Err Endless → LinesAnswered (OfLine (checks unknown levels) inputs.now)
-        text_of (F.remaining feed.old) (F.remaining feed.new) (S.written sink.old) (S.written sink.new) }
+        (flat_map text_of) (F.remaining feed.old) (F.remaining feed.new) (S.written sink.old) (S.written sink.new) }
     ensures pieces { result ≡ Err Endless
         → IfSome (F.remaining feed.old) (λ bytes. most_pieces ≤ length bytes) }
 {
@@ -109,10 +110,10 @@ pub fn refute_lines<F: Feed, S: Sink>(
         (F.remaining feed.old) (F.remaining feed.new) (S.written sink.old) (S.written sink.new) }
     ensures no_memory { result ≡ Err NoMemory
         → LinesAnswered (OfLine (refutations unknown levels) inputs.now)
-        text_of (F.remaining feed.old) (F.remaining feed.new) (S.written sink.old) (S.written sink.new) }
+        (flat_map text_of) (F.remaining feed.old) (F.remaining feed.new) (S.written sink.old) (S.written sink.new) }
     ensures endless { result ≡ Err Endless
         → LinesAnswered (OfLine (refutations unknown levels) inputs.now)
-        text_of (F.remaining feed.old) (F.remaining feed.new) (S.written sink.old) (S.written sink.new) }
+        (flat_map text_of) (F.remaining feed.old) (F.remaining feed.new) (S.written sink.old) (S.written sink.new) }
     ensures pieces { result ≡ Err Endless
         → IfSome (F.remaining feed.old) (λ bytes. most_pieces ≤ length bytes) }
 {

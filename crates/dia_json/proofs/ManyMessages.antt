@@ -67,7 +67,7 @@ module _ (refuses : List ℕ → Type 0) (why : Refused) (tells : TellsOf refuse
 
 -- ---- lines
 
-module _ {V W : Type 0} (P : Input → V → Type 0) (told : V → List ℕ) (saw : W → List V → Type 0) (fed_old fed put_old put : Option (List ℕ)) (w x : W)
+module _ {V W : Type 0} (P : Input → V → Type 0) (told : List V → List ℕ) (saw : W → List V → Type 0) (fed_old fed put_old put : Option (List ℕ)) (w x : W)
     (h : AllAnswered P told saw fed_old fed put_old put w x) (nothing_seen : saw w []) where
   pub lines_told : (exit_of : V → Exit) (ends : Ended → Exit) (ended : Ended) (exit : Exit) → exit ≡ ends ended
       → ((verdicts : List V) → saw x verdicts → ended ≡ ended_of (map exit_of verdicts)) → AreLinesTold P told exit_of ends fed_old fed put_old put exit

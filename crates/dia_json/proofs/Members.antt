@@ -15,9 +15,10 @@ use Rattle.dia_captures.specs.declared.verdicts.Checked.{Checked}
 use Rattle.dia_captures.specs.declared.verdicts.Checked.TheVariants.{Valid, Wrong}
 use Rattle.dia_captures.specs.declared.verdicts.Flaw.TheVariants as flaw
 use Rattle.dia_captures.specs.declared.verdicts.Refuted.{Refuted}
-use Rattle.dia_captures.specs.Verdicts.{refutes}
+use Rattle.dia_captures.specs.Verdicts.{refutes, unless_refused}
 use Rattle.dia_run.specs.Verdict.{reason_word}
-use Rattle.dia_json.specs.Values.{about, both_members, checked_json, checked_members, fault_members, json_line, named_members, not_hexadecimal_members, placed_json, subject_members}
+use Rattle.dia_json.specs.Values.{about, both_members, checked_members, fault_members, json_line, named_members, not_hexadecimal_members, numbered, placed_json, refuted_members}
+use Rattle.dia_json.specs.Values.{subject_members, too_long_members}
 
 -- ---- an AVP, whose name is quoted so
 
@@ -86,20 +87,37 @@ fault_told d fault old front new word is_word is_front is_new =
 
 -- ---- lines
 
--- the members of a verdict behind another one
-behind : (d : Dictionary) (verdict : Checked) → members_text true (checked_members d verdict) ≡ 44 ∷ members_text false (checked_members d verdict)
-behind d (Valid found) = refl
-behind d (Wrong (flaw.Fault fault)) = refl
-behind d (Wrong flaw.Truncated) = refl
-behind d (Wrong flaw.Trailing) = refl
-behind d (Wrong flaw.TooLong) = refl
-behind d (Wrong flaw.NotHexadecimal) = refl
-
-pub checked_told : (d : Dictionary) (verdict : Checked) (old begun members new : List ℕ) → begun ≡ old ++ codes "{" → members ≡ begun ++ members_text false (checked_members d verdict)
-    → new ≡ members ++ codes "\n" → new ≡ old ++ checked_json d verdict
-checked_told d verdict old begun members new is_begun is_members is_new =
-    is_new ∙ ap (λ (t : List ℕ). t ++ codes "\n") (is_members ∙ ap (λ (t : List ℕ). t ++ members_text false (checked_members d verdict)) is_begun)
+-- the line of members
+pub line_told : (members : Members) (old begun inside new : List ℕ) → begun ≡ old ++ codes "{" → inside ≡ begun ++ members_text false members
+    → new ≡ inside ++ codes "\n" → new ≡ old ++ json_line members
+line_told members old begun inside new is_begun is_inside is_new =
+    is_new ∙ ap (λ (t : List ℕ). t ++ codes "\n") (is_inside ∙ ap (λ (t : List ℕ). t ++ members_text false members) is_begun)
     ∙ simp append_assoc
+
+-- members that stand behind another one
+abbrev IsBehind : Members → Type 0
+IsBehind members = members_text true members ≡ 44 ∷ members_text false members
+
+pub checked_behind : (d : Dictionary) (verdict : Checked) → IsBehind (checked_members d verdict)
+checked_behind d (Valid found) = refl
+checked_behind d (Wrong (flaw.Fault fault)) = refl
+checked_behind d (Wrong flaw.Truncated) = refl
+checked_behind d (Wrong flaw.Trailing) = refl
+checked_behind d (Wrong flaw.TooLong) = refl
+checked_behind d (Wrong flaw.NotHexadecimal) = refl
+
+pub refuted_behind : (a b : Dictionary) (verdict : Refuted) → IsBehind (refuted_members a b verdict)
+refuted_behind a b verdict = by verdict.first
+  where
+    by : (first : Checked) → IsBehind (unless_refused too_long_members not_hexadecimal_members (both_members a b verdict) first)
+    by (Valid found) = refl
+    by (Wrong (flaw.Fault fault)) = refl
+    by (Wrong flaw.Truncated) = refl
+    by (Wrong flaw.Trailing) = refl
+    by (Wrong flaw.TooLong) = refl
+    by (Wrong flaw.NotHexadecimal) = refl
+
+-- behind the place of a message
 
 abbrev place_text : ℕ → List ℕ → List ℕ
 place_text at rest = codes "{\"place\":" ++ (decimal at ++ rest)
@@ -116,7 +134,26 @@ pub placed_told : (d : Dictionary) (at : ℕ) (verdict : Checked) (old begun mem
 placed_told d at verdict old begun members new is_begun is_members is_new =
     is_new ∙ ap (λ (t : List ℕ). t ++ codes "\n") (is_members ∙ ap (λ (t : List ℕ). t ++ members_text false (checked_members d verdict)) is_begun)
     ∙ placed_joined at old (members_text false (checked_members d verdict))
-    ∙ ap (λ (t : List ℕ). old ++ (place_text at t ++ codes "\n")) (sym (behind d verdict)) ∙ ap (λ (t : List ℕ). old ++ t) (sym (placed_is d at verdict))
+    ∙ ap (λ (t : List ℕ). old ++ (place_text at t ++ codes "\n")) (sym (checked_behind d verdict)) ∙ ap (λ (t : List ℕ). old ++ t) (sym (placed_is d at verdict))
+
+-- behind the number of a line
+
+abbrev number_text : ℕ → List ℕ → List ℕ
+number_text n rest = codes "{\"line\":" ++ (decimal n ++ rest)
+
+numbered_is : (n : ℕ) (members : Members) → json_line (numbered n members) ≡ number_text n (members_text true members) ++ codes "\n"
+unfolding serde_json_on_literals
+numbered_is n members = refl
+
+numbered_joined : (n : ℕ) (old inside : List ℕ) → ((old ++ number_text n (codes ",")) ++ inside) ++ codes "\n" ≡ old ++ (number_text n (44 ∷ inside) ++ codes "\n")
+numbered_joined n old inside = simp append_assoc
+
+pub numbered_told : (n : ℕ) (members : Members) (old begun inside new : List ℕ) → IsBehind members → begun ≡ old ++ number_text n (codes ",")
+    → inside ≡ begun ++ members_text false members → new ≡ inside ++ codes "\n" → new ≡ old ++ json_line (numbered n members)
+numbered_told n members old begun inside new behind is_begun is_inside is_new =
+    is_new ∙ ap (λ (t : List ℕ). t ++ codes "\n") (is_inside ∙ ap (λ (t : List ℕ). t ++ members_text false members) is_begun)
+    ∙ numbered_joined n old (members_text false members)
+    ∙ ap (λ (t : List ℕ). old ++ (number_text n t ++ codes "\n")) (sym behind) ∙ ap (λ (t : List ℕ). old ++ t) (sym (numbered_is n members))
 
 -- what isn't hexadecimal, which has no names
 no_digits_joined : (at : ℕ) → codes "{\"place\":" ++ (decimal at ++ codes ",\"error\":\"message\",\"kind\":\"not hexadecimal\"}\n")
@@ -136,36 +173,29 @@ abbrev bool_text : Bool → List ℕ
 bool_text b = if b then codes "true" else codes "false"
 
 abbrev both_text : Bool → List ℕ → List ℕ → List ℕ
-both_text b one two = codes "{\"refutes\":" ++ (bool_text b ++ (codes ",\"first\":{" ++ (one ++ (codes ",\"second\":{" ++ (two ++ codes "}\n")))))
+both_text b one two = codes "\"refutes\":" ++ (bool_text b ++ (codes ",\"first\":{" ++ (one ++ (codes ",\"second\":{" ++ (two ++ codes "}")))))
 
 abbrev both_as : Bool → Members → Members → Members
 both_as t one two = member (codes "refutes") (boolean t) (member (codes "first") (object one) (member (codes "second") (object two) no_members))
 
-both_parts : (t : Bool) (one two : Members) → json_line (both_as t one two)
-    ≡ (codes "{\"refutes\":" ++ (bool_text t ++ (codes ",\"first\":" ++ ((123 ∷ members_text false one) ++ (codes ",\"second\":" ++ ((123 ∷ members_text false two) ++ 125 ∷ [])))))) ++ codes "\n"
+both_is : (t : Bool) (one two : Members) → members_text false (both_as t one two) ≡ both_text t (members_text false one) (members_text false two)
 unfolding serde_json_on_literals
-both_parts true one two = refl
-both_parts false one two = refl
-
-regroup : (word one two : List ℕ)
-    → (codes "{\"refutes\":" ++ (word ++ (codes ",\"first\":" ++ ((123 ∷ one) ++ (codes ",\"second\":" ++ ((123 ∷ two) ++ 125 ∷ [])))))) ++ codes "\n"
-    ≡ codes "{\"refutes\":" ++ (word ++ (codes ",\"first\":{" ++ (one ++ (codes ",\"second\":{" ++ (two ++ codes "}\n")))))
-regroup word one two = simp append_assoc
-
-both_is : (t : Bool) (one two : Members) → json_line (both_as t one two) ≡ both_text t (members_text false one) (members_text false two)
-both_is t one two = both_parts t one two ∙ regroup (bool_text t) (members_text false one) (members_text false two)
+both_is true one two = refl
+both_is false one two = refl
 
 both_joined : (t : Bool) (old one two : List ℕ)
-    → (((old ++ (codes "{\"refutes\":" ++ (bool_text t ++ codes ",\"first\":{"))) ++ one) ++ codes ",\"second\":{" ++ two) ++ codes "}\n" ≡ old ++ both_text t one two
+    → (((old ++ (codes "\"refutes\":" ++ (bool_text t ++ codes ",\"first\":{"))) ++ one) ++ codes ",\"second\":{" ++ two) ++ codes "}" ≡ old ++ both_text t one two
 both_joined t old one two = simp append_assoc
 
 pub both_told : (a b : Dictionary) (verdict : Refuted) (t : Bool) (old begun first second last new : List ℕ) → t ≡ refutes verdict
-    → begun ≡ old ++ (codes "{\"refutes\":" ++ (bool_text t ++ codes ",\"first\":{")) → first ≡ begun ++ members_text false (checked_members a verdict.first)
-    → second ≡ first ++ codes ",\"second\":{" → last ≡ second ++ members_text false (checked_members b verdict.second) → new ≡ last ++ codes "}\n"
-    → new ≡ old ++ json_line (both_members a b verdict)
+    → begun ≡ old ++ (codes "\"refutes\":" ++ (bool_text t ++ codes ",\"first\":{")) → first ≡ begun ++ members_text false (checked_members a verdict.first)
+    → second ≡ first ++ codes ",\"second\":{" → last ≡ second ++ members_text false (checked_members b verdict.second) → new ≡ last ++ codes "}"
+    → new ≡ old ++ members_text false (both_members a b verdict)
 both_told a b verdict t old begun first second last new is_t is_begun is_first is_second is_last is_new =
     let one = members_text false (checked_members a verdict.first) in
     let two = members_text false (checked_members b verdict.second) in
-    is_new ∙ ap (λ (s : List ℕ). s ++ codes "}\n") (is_last ∙ ap (λ (s : List ℕ). s ++ two) (is_second ∙ ap (λ (s : List ℕ). s ++ codes ",\"second\":{") (is_first ∙ ap (λ (s : List ℕ). s ++ one) is_begun)))
+    is_new ∙ ap (λ (s : List ℕ). s ++ codes "}") (is_last ∙ ap (λ (s : List ℕ). s ++ two) (is_second ∙ ap (λ (s : List ℕ). s ++ codes ",\"second\":{") (is_first ∙ ap (λ (s : List ℕ). s ++ one) is_begun)))
     ∙ both_joined t old one two
-    ∙ ap (λ (s : List ℕ). old ++ s) (sym (both_is t (checked_members a verdict.first) (checked_members b verdict.second)) ∙ ap (λ (r : Bool). json_line (both_as r (checked_members a verdict.first) (checked_members b verdict.second))) is_t)
+    ∙ ap (λ (s : List ℕ). old ++ s)
+    (sym (both_is t (checked_members a verdict.first) (checked_members b verdict.second))
+    ∙ ap (λ (r : Bool). members_text false (both_as r (checked_members a verdict.first) (checked_members b verdict.second))) is_t)

@@ -10,7 +10,7 @@ use Rattle.dia_io.specs.declared.Inputs.{Inputs}
 use Rattle.dia_io.specs.declared.Exit.{Exit}
 use Rattle.dia_io.specs.declared.Exit.TheVariants.{Bad}
 use Rattle.dia_io.specs.Writing.{AppendsFront}
-use Rattle.dia_lines.specs.Lines.{IsAnswered}
+use Rattle.dia_lines.specs.Lines.{IsAnswered, told_lines}
 use Rattle.dia_lines.specs.FeedToSink.{FrontAnswered, LinesAnswered}
 use Rattle.dia_streams.specs.Streams.{IsStreamTold, SomeTold, StillGives, WholeTold}
 use Rattle.dia_report.specs.declared.bad_input.BadInput.{BadInput}
@@ -28,7 +28,7 @@ use Rattle.dia_captures.specs.Lines.{checks, refutations}
 use Rattle.dia_captures.specs.Summaries.{AreLinesSummed, IsSummary}
 use Rattle.dia_captures.specs.Verdicts.{IsLineChecked, IsLineRefuted, IsPieceChecked, checked_exit, refuted_exit}
 use Rattle.dia_json.specs.Refusals.{bad_input_json}
-use Rattle.dia_json.specs.Values.{checked_json, placed_json, refuted_json}
+use Rattle.dia_json.specs.Values.{checked_json, numbered_json, numbered_refuted_json, placed_json, refuted_json}
 
 -- ---- one message
 
@@ -41,10 +41,14 @@ TellsBad refused.NoMemory text exit = ⊥
 abbrev pub IsRefusal : (List ℕ → Type 0) → List ℕ → Exit → Type 0
 IsRefusal refuses text exit = (bad : BadInput) × refuses (bad_input_text bad) × (text ≡ bad_input_json bad) × (exit ≡ Bad)
 
+-- the verdict on a message
+abbrev pub TellsChecked : Unknown → Levels → Dictionary → Input → List ℕ → Exit → Type 0
+TellsChecked u most d message text exit =
+    (verdict : Checked) × IsLineChecked u most d message verdict × (text ≡ checked_json d verdict) × (exit ≡ checked_exit verdict)
+
 -- `check` of the message
 abbrev pub IsCheckJson : Unknown → Levels → Inputs → List ℕ → Exit → Type 0
-IsCheckJson u most inputs text exit = ((d : Dictionary) × (verdict : Checked) × IsDictionaryText inputs.first d
-    × IsLineChecked u most d inputs.message verdict × (text ≡ checked_json d verdict) × (exit ≡ checked_exit verdict))
+IsCheckJson u most inputs text exit = ((d : Dictionary) × IsDictionaryText inputs.first d × TellsChecked u most d inputs.message text exit)
     ⊎ IsRefusal ((checks u most).refuses inputs) text exit
 
 -- both verdicts on a message
@@ -71,13 +75,13 @@ abbrev pub IsNothing : (fed_old fed put_old put : Option (List ℕ)) → Type 0
 IsNothing fed_old fed put_old put = Consumes fed_old fed [] × Appends put_old put []
 
 -- each line has a verdict, whose text was put
-pub record AreLinesTold {V : Type 0} (P : Input → V → Type 0) (told : V → List ℕ) (exit_of : V → Exit) (ends : Ended → Exit)
+pub record AreLinesTold {V : Type 0} (P : Input → V → Type 0) (told : List V → List ℕ) (exit_of : V → Exit) (ends : Ended → Exit)
     (fed_old fed put_old put : Option (List ℕ)) (exit : Exit) : Type 0 where
   pub bytes : List ℕ
   pub verdicts : List V
   pub consumed : Consumes fed_old fed bytes
   pub answered : IsAnswered P bytes verdicts
-  pub is_put : Appends put_old put (flat_map told verdicts)
+  pub is_put : Appends put_old put (told verdicts)
   pub is_exit : exit ≡ ends (ended_of (map exit_of verdicts))
 
 -- each message of a stream has a verdict, whose text was put. Not all may have been read
@@ -92,12 +96,12 @@ pub record IsStreamPut (u : Unknown) (most : Levels) (d : Dictionary) (fed_old f
 module _ (u : Unknown) (most : Levels) (inputs : Inputs) (fed_old fed put_old put : Option (List ℕ)) where
   abbrev pub ChecksLines : Exit → Type 0
   ChecksLines exit = ((d : Dictionary) × IsDictionaryText inputs.first d
-      × AreLinesTold (IsLineChecked u most d) (checked_json d) checked_exit (checks u most).exit_of fed_old fed put_old put exit)
+      × AreLinesTold (IsLineChecked u most d) (told_lines (numbered_json d)) checked_exit (checks u most).exit_of fed_old fed put_old put exit)
       ⊎ IsRefusalPut ((checks u most).refuses inputs) fed_old fed put_old put exit
 
   abbrev pub RefutesLines : Exit → Type 0
   RefutesLines exit = ((a : Dictionary) × (b : Dictionary) × IsDictionaryText inputs.first a × IsDictionaryText inputs.second b
-      × AreLinesTold (IsLineRefuted u most a b) (refuted_json a b) refuted_exit (refutations u most).exit_of fed_old fed put_old put exit)
+      × AreLinesTold (IsLineRefuted u most a b) (told_lines (numbered_refuted_json a b)) refuted_exit (refutations u most).exit_of fed_old fed put_old put exit)
       ⊎ IsRefusalPut ((refutations u most).refuses inputs) fed_old fed put_old put exit
 
   abbrev pub ChecksStream : Exit → Type 0
@@ -106,12 +110,12 @@ module _ (u : Unknown) (most : Levels) (inputs : Inputs) (fed_old fed put_old pu
 
   -- a beginning of that was put
   abbrev pub ChecksFront : Type 0
-  ChecksFront = ((d : Dictionary) × IsDictionaryText inputs.first d × FrontAnswered (IsLineChecked u most d) (checked_json d) fed_old fed put_old put)
+  ChecksFront = ((d : Dictionary) × IsDictionaryText inputs.first d × FrontAnswered (IsLineChecked u most d) (told_lines (numbered_json d)) fed_old fed put_old put)
       ⊎ (IsRefusalFront ((checks u most).refuses inputs) fed_old fed put_old put ⊎ IsNothing fed_old fed put_old put)
 
   abbrev pub RefutesFront : Type 0
   RefutesFront = ((a : Dictionary) × (b : Dictionary) × IsDictionaryText inputs.first a × IsDictionaryText inputs.second b
-      × FrontAnswered (IsLineRefuted u most a b) (refuted_json a b) fed_old fed put_old put)
+      × FrontAnswered (IsLineRefuted u most a b) (told_lines (numbered_refuted_json a b)) fed_old fed put_old put)
       ⊎ (IsRefusalFront ((refutations u most).refuses inputs) fed_old fed put_old put ⊎ IsNothing fed_old fed put_old put)
 
   abbrev pub StreamFront : Type 0
@@ -120,12 +124,12 @@ module _ (u : Unknown) (most : Levels) (inputs : Inputs) (fed_old fed put_old pu
 
   -- the lines of whole messages were put, and nothing else
   abbrev pub ChecksWhole : Type 0
-  ChecksWhole = ((d : Dictionary) × IsDictionaryText inputs.first d × LinesAnswered (IsLineChecked u most d) (checked_json d) fed_old fed put_old put)
+  ChecksWhole = ((d : Dictionary) × IsDictionaryText inputs.first d × LinesAnswered (IsLineChecked u most d) (told_lines (numbered_json d)) fed_old fed put_old put)
       ⊎ IsNothing fed_old fed put_old put
 
   abbrev pub RefutesWhole : Type 0
   RefutesWhole = ((a : Dictionary) × (b : Dictionary) × IsDictionaryText inputs.first a × IsDictionaryText inputs.second b
-      × LinesAnswered (IsLineRefuted u most a b) (refuted_json a b) fed_old fed put_old put) ⊎ IsNothing fed_old fed put_old put
+      × LinesAnswered (IsLineRefuted u most a b) (told_lines (numbered_refuted_json a b)) fed_old fed put_old put) ⊎ IsNothing fed_old fed put_old put
 
   abbrev pub StreamWhole : Type 0
   StreamWhole = ((d : Dictionary) × IsDictionaryText inputs.first d × WholeTold (IsPieceChecked u most d) (placed_json d) fed_old fed put_old put)
@@ -135,11 +139,11 @@ module _ (u : Unknown) (most : Levels) (inputs : Inputs) (fed_old fed put_old pu
 
   abbrev pub ChecksSummary : List ℕ → Type 0
   ChecksSummary text = (d : Dictionary) × IsDictionaryText inputs.first d
-      × AreLinesSummed (IsLineChecked u most d) (checked_json d) checked_items d lines.Checked fed_old fed put_old put text
+      × AreLinesSummed (IsLineChecked u most d) (told_lines (numbered_json d)) checked_items d lines.Checked fed_old fed put_old put text
 
   abbrev pub RefutesSummary : List ℕ → Type 0
   RefutesSummary text = (a : Dictionary) × (b : Dictionary) × IsDictionaryText inputs.first a × IsDictionaryText inputs.second b
-      × AreLinesSummed (IsLineRefuted u most a b) (refuted_json a b) refuted_items a lines.Refuted fed_old fed put_old put text
+      × AreLinesSummed (IsLineRefuted u most a b) (told_lines (numbered_refuted_json a b)) refuted_items a lines.Refuted fed_old fed put_old put text
 
   pub record StreamSummary (text : List ℕ) : Type 0 where
     pub d : Dictionary

@@ -80,6 +80,10 @@ checked_members d (Wrong flaw.NotHexadecimal) = not_hexadecimal_members
 abbrev pub placed_members : Dictionary → ℕ × Checked → Members
 placed_members d verdict = member (codes "place") (number (unsigned verdict.0)) (checked_members d verdict.1)
 
+-- the members behind the number of a line
+abbrev pub numbered : ℕ → Members → Members
+numbered n members = member (codes "line") (number (unsigned n)) members
+
 -- both verdicts of `refute`, behind what they say together. A text that spells no message is told once
 abbrev pub both_members : Dictionary → Dictionary → Refuted → Members
 both_members a b verdict = member (codes "refutes") (boolean (refutes verdict))
@@ -88,13 +92,19 @@ both_members a b verdict = member (codes "refutes") (boolean (refutes verdict))
 abbrev pub refuted_members : Dictionary → Dictionary → Refuted → Members
 refuted_members a b verdict = unless_refused too_long_members not_hexadecimal_members (both_members a b verdict) verdict.first
 
--- ---- their lines
+-- ---- their lines, and those of messages that stand in the n-th line of a text
 
 abbrev pub checked_json : Dictionary → Checked → List ℕ
 checked_json d verdict = json_line (checked_members d verdict)
+
+abbrev pub numbered_json : Dictionary → ℕ → Checked → List ℕ
+numbered_json d n verdict = json_line (numbered n (checked_members d verdict))
 
 abbrev pub placed_json : Dictionary → ℕ × Checked → List ℕ
 placed_json d verdict = json_line (placed_members d verdict)
 
 abbrev pub refuted_json : Dictionary → Dictionary → Refuted → List ℕ
 refuted_json a b verdict = json_line (refuted_members a b verdict)
+
+abbrev pub numbered_refuted_json : Dictionary → Dictionary → ℕ → Refuted → List ℕ
+numbered_refuted_json a b n verdict = json_line (numbered n (refuted_members a b verdict))

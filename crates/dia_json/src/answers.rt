@@ -1,16 +1,14 @@
 //! The answers for one message.
 
-ghost use Rattle.std.specs.Prelude.{◌≡◌, ◌++◌, IfOk, string_bytes};
-ghost use Rattle.dia_json.specs.Runs.{IsCheckJson, IsRefuteJson, TellsBad, TellsRefuted};
+ghost use Rattle.std.specs.Prelude.{IfOk, string_bytes};
+ghost use Rattle.dia_json.specs.Runs.{IsCheckJson, IsRefuteJson, TellsBad, TellsChecked, TellsRefuted};
 
-use crate::judges::JsonCheck;
 use crate::refusals::bad_input_line;
-use crate::verdicts::push_refuted;
-use dia_captures::{CheckJudge, RefuteJudge};
+use crate::verdicts::{push_checked, push_refuted};
+use dia_captures::{RefuteJudge, check_line};
 use dia_check::{Levels, Unknown};
 use dia_dict::Book;
 use dia_io::{Exit, Input, Inputs};
-use dia_lines::Judge;
 use dia_report::{Answered, Refused, Report};
 use dia_run::read_dictionary;
 use std::alloc::{AllocError, Global};
@@ -29,20 +27,7 @@ pub fn check(
         Ok(read) => read,
         Err(refused) => return refuse(alloc, refused),
     };
-    let judge = JsonCheck {
-        check: CheckJudge {
-            book: &first.book,
-            unknown,
-            levels,
-        },
-    };
-    let mut text = String::new(alloc);
-    let verdict = judge_input(alloc, &judge, &inputs.message, &mut text)?;
-    Ok(Answered {
-        text,
-        exit: verdict.exit(),
-        report: Report::Done,
-    })
+    checked(alloc, &first.book, unknown, levels, &inputs.message)
 }
 
 /// `refute` of the message.
@@ -89,18 +74,26 @@ pub fn refuse(alloc: Global, refused: Refused) -> Result<Answered, AllocError>
     }
 }
 
-/// Judges an input as a line.
-fn judge_input<J: Judge>(
+/// The verdict on a message.
+fn checked<B: Book>(
     alloc: Global,
-    judge: &J,
-    input: &Input,
-    text: &mut String,
-) -> Result<J::Verdict, AllocError>
-    ensures { IfOk result (λ verdict. J.says judge.now input.now verdict
-        × (string_bytes text.new ≡ string_bytes text.old ++ J.told judge.now verdict)) }
+    book: &B,
+    unknown: Unknown,
+    levels: Levels,
+    message: &Input,
+) -> Result<Answered, AllocError>
+    ensures { IfOk result (λ answered. TellsChecked unknown levels (B.meaning book.now) message.now
+        (string_bytes answered.text) answered.exit) }
 {
     let mut space = Vec::new(alloc);
-    judge.judge(alloc, input, &mut space, text)
+    let verdict = check_line(alloc, book, unknown, levels, message, &mut space)?;
+    let mut text = String::new(alloc);
+    push_checked(alloc, &mut text, book, &verdict)?;
+    Ok(Answered {
+        text,
+        exit: verdict.exit(),
+        report: Report::Done,
+    })
 }
 
 /// Both verdicts on a message.

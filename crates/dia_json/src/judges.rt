@@ -1,6 +1,6 @@
 //! Judges that tell their verdicts as JSON.
 
-use crate::verdicts::{push_checked, push_placed, push_refuted};
+use crate::verdicts::{push_numbered, push_numbered_refuted, push_placed};
 use dia_captures::{CheckJudge, Checked, Flaw, RefuteJudge, Refuted, check_bytes, check_line};
 use dia_dict::Book;
 use dia_io::Input;
@@ -22,18 +22,20 @@ pub struct JsonRefute<'a, A: Book, B: Book> {
 
 impl<'a, B: Book> Judge for JsonCheck<'a, B> {
     ghost use Rattle.dia_captures.specs.Verdicts.{IsLineChecked};
-    ghost use Rattle.dia_json.specs.Values.{checked_json};
+    ghost use Rattle.dia_json.specs.Values.{numbered_json};
 
     type Verdict = Checked;
 
     ghost says = { λ judge line verdict. IsLineChecked judge.check.unknown judge.check.levels
         (B.Book.meaning judge.check.book.now) line verdict };
 
-    ghost told = { λ judge verdict. checked_json (B.Book.meaning judge.check.book.now) verdict };
+    ghost told = { λ judge number verdict.
+        numbered_json (B.Book.meaning judge.check.book.now) number verdict };
 
     fn judge(
         &self,
         alloc: Global,
+        number: u64,
         line: &Input,
         space: &mut Vec<u8>,
         text: &mut String,
@@ -46,7 +48,7 @@ impl<'a, B: Book> Judge for JsonCheck<'a, B> {
             line,
             space,
         )?;
-        push_checked(alloc, text, self.check.book, &verdict)?;
+        push_numbered(alloc, text, self.check.book, number, &verdict)?;
         Ok(verdict)
     }
 }
@@ -91,25 +93,33 @@ impl<'a, B: Book> MessageJudge for JsonCheck<'a, B> {
 
 impl<'a, A: Book, B: Book> Judge for JsonRefute<'a, A, B> {
     ghost use Rattle.dia_captures.specs.Verdicts.{IsLineRefuted};
-    ghost use Rattle.dia_json.specs.Values.{refuted_json};
+    ghost use Rattle.dia_json.specs.Values.{numbered_refuted_json};
 
     type Verdict = Refuted;
 
     ghost says = { λ judge line verdict. IsLineRefuted judge.refute.unknown judge.refute.levels
         (A.Book.meaning judge.refute.first.now) (B.Book.meaning judge.refute.second.now) line verdict };
 
-    ghost told = { λ judge verdict. refuted_json
-        (A.Book.meaning judge.refute.first.now) (B.Book.meaning judge.refute.second.now) verdict };
+    ghost told = { λ judge number verdict. numbered_refuted_json
+        (A.Book.meaning judge.refute.first.now) (B.Book.meaning judge.refute.second.now) number verdict };
 
     fn judge(
         &self,
         alloc: Global,
+        number: u64,
         line: &Input,
         space: &mut Vec<u8>,
         text: &mut String,
     ) -> Result<Refuted, AllocError> {
         let verdict = self.refute.refute_line(alloc, line, space)?;
-        push_refuted(alloc, text, self.refute.first, self.refute.second, &verdict)?;
+        push_numbered_refuted(
+            alloc,
+            text,
+            self.refute.first,
+            self.refute.second,
+            number,
+            &verdict,
+        )?;
         Ok(verdict)
     }
 }

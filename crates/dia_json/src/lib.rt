@@ -17,4 +17,4 @@ pub use judges::{JsonCheck, JsonRefute};
 pub use laws::text_is_value;
 pub use refusals::bad_input_line;
 pub use runs::{check_lines, check_stream, refute_lines};
-pub use verdicts::{push_checked, push_placed, push_refuted};
+pub use verdicts::{push_checked, push_numbered, push_numbered_refuted, push_placed, push_refuted};

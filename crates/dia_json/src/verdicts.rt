@@ -4,8 +4,8 @@ ghost use Rattle.std.specs.Prelude.{◌≡◌, ◌++◌, OnOk, false, true, stri
 ghost use Rattle.serde_json.specs.Written.{members_text};
 ghost use Rattle.dia_captures.specs.Verdicts.{IsNamed};
 ghost use Rattle.dia_json.specs.Values.{about, both_members, checked_json, checked_members, fault_members};
-ghost use Rattle.dia_json.specs.Values.{json_line, key_members, named_members, placed_json, refuted_json};
-ghost use Rattle.dia_json.specs.Values.{subject_members, valid_members};
+ghost use Rattle.dia_json.specs.Values.{key_members, named_members, numbered_json, numbered_refuted_json, placed_json};
+ghost use Rattle.dia_json.specs.Values.{refuted_json, refuted_members, subject_members, valid_members};
 
 use crate::strings::quoted;
 use dia_captures::{Checked, Flaw, Refuted};
@@ -27,6 +27,23 @@ pub fn push_checked<B: Book>(
         ≡ string_bytes text.old ++ checked_json (B.meaning book.now) verdict.now) }
 {
     write!(text, "{{")?;
+    push_members(alloc, text, book, verdict)?;
+    write!(text, "\n")
+}
+
+/// Adds the line of a verdict on the message in the line of this number.
+pub fn push_numbered<B: Book>(
+    alloc: Global,
+    text: &mut String,
+    book: &B,
+    number: u64,
+    verdict: &Checked,
+) -> Result<(), AllocError>
+    requires { IsNamed (B.meaning book.now) verdict.now }
+    ensures { OnOk result (string_bytes text.new
+        ≡ string_bytes text.old ++ numbered_json (B.meaning book.now) number verdict.now) }
+{
+    write!(text, "{{\"line\":{number},")?;
     push_members(alloc, text, book, verdict)?;
     write!(text, "\n")
 }
@@ -61,18 +78,55 @@ pub fn push_refuted<A: Book, B: Book>(
     ensures { OnOk result (string_bytes text.new
         ≡ string_bytes text.old ++ refuted_json (A.meaning first.now) (B.meaning second.now) verdict.now) }
 {
+    write!(text, "{{")?;
+    push_refuted_members(alloc, text, first, second, verdict)?;
+    write!(text, "\n")
+}
+
+/// Adds the line of both verdicts on the message in the line of this number.
+pub fn push_numbered_refuted<A: Book, B: Book>(
+    alloc: Global,
+    text: &mut String,
+    first: &A,
+    second: &B,
+    number: u64,
+    verdict: &Refuted,
+) -> Result<(), AllocError>
+    requires first { IsNamed (A.meaning first.now) verdict.now.first }
+    requires second { IsNamed (B.meaning second.now) verdict.now.second }
+    ensures { OnOk result (string_bytes text.new ≡ string_bytes text.old
+        ++ numbered_refuted_json (A.meaning first.now) (B.meaning second.now) number verdict.now) }
+{
+    write!(text, "{{\"line\":{number},")?;
+    push_refuted_members(alloc, text, first, second, verdict)?;
+    write!(text, "\n")
+}
+
+/// Adds the members of both verdicts of `refute`, and the brace at their end.
+fn push_refuted_members<A: Book, B: Book>(
+    alloc: Global,
+    text: &mut String,
+    first: &A,
+    second: &B,
+    verdict: &Refuted,
+) -> Result<(), AllocError>
+    requires first { IsNamed (A.meaning first.now) verdict.now.first }
+    requires second { IsNamed (B.meaning second.now) verdict.now.second }
+    ensures { OnOk result (string_bytes text.new ≡ string_bytes text.old
+        ++ members_text false (refuted_members (A.meaning first.now) (B.meaning second.now) verdict.now)) }
+{
     match &verdict.first {
         Checked::Wrong(Flaw::TooLong) => {
-            text.push_str("{\"error\":\"message\",\"kind\":\"too long\"}\n")
+            text.push_str("\"error\":\"message\",\"kind\":\"too long\"}")
         }
         Checked::Wrong(Flaw::NotHexadecimal) => {
-            text.push_str("{\"error\":\"message\",\"kind\":\"not hexadecimal\"}\n")
+            text.push_str("\"error\":\"message\",\"kind\":\"not hexadecimal\"}")
         }
         _ => push_both(alloc, text, first, second, verdict),
     }
 }
 
-/// Adds both verdicts of `refute` on a text that spells a message.
+/// Adds the members of both verdicts on a text that spells a message, and the brace at their end.
 fn push_both<A: Book, B: Book>(
     alloc: Global,
     text: &mut String,
@@ -83,14 +137,14 @@ fn push_both<A: Book, B: Book>(
     requires first { IsNamed (A.meaning first.now) verdict.now.first }
     requires second { IsNamed (B.meaning second.now) verdict.now.second }
     ensures { OnOk result (string_bytes text.new ≡ string_bytes text.old
-        ++ json_line (both_members (A.meaning first.now) (B.meaning second.now) verdict.now)) }
+        ++ members_text false (both_members (A.meaning first.now) (B.meaning second.now) verdict.now)) }
 {
     let refutes = verdict.refutes();
-    write!(text, "{{\"refutes\":{refutes},\"first\":{{")?;
+    write!(text, "\"refutes\":{refutes},\"first\":{{")?;
     push_members(alloc, text, first, &verdict.first)?;
     write!(text, ",\"second\":{{")?;
     push_members(alloc, text, second, &verdict.second)?;
-    write!(text, "}}\n")
+    write!(text, "}}")
 }
 
 /// Adds the members of a verdict, and the brace at their end.

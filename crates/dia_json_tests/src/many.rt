@@ -18,12 +18,12 @@ x
 010000348000011800000000000000010000000200ffffff00000008000001084000000b612e6200000001284000000962000000
 ";
 
-const CHECKED: &str = r#"{"verdict":"valid","command":"DWR"}
-{"verdict":"fault","code":5005,"at":32,"reason":"missing","avp":{"name":"Origin-Realm","code":296,"vendor":0}}
-{"verdict":"truncated"}
-{"verdict":"trailing"}
-{"error":"message","kind":"not hexadecimal"}
-{"verdict":"fault","code":5001,"at":20,"reason":"unknown","avp":{"code":16777215,"vendor":0}}
+const CHECKED: &str = r#"{"line":1,"verdict":"valid","command":"DWR"}
+{"line":2,"verdict":"fault","code":5005,"at":32,"reason":"missing","avp":{"name":"Origin-Realm","code":296,"vendor":0}}
+{"line":3,"verdict":"truncated"}
+{"line":4,"verdict":"trailing"}
+{"line":5,"error":"message","kind":"not hexadecimal"}
+{"line":6,"verdict":"fault","code":5001,"at":20,"reason":"unknown","avp":{"code":16777215,"vendor":0}}
 "#;
 
 #[test]
@@ -39,8 +39,8 @@ fn checks_lines(rt: HostRuntime) -> Result<(), Fail> {
 }
 
 const REFUTED: &str =
-    r#"{"refutes":false,"first":{"verdict":"truncated"},"second":{"verdict":"truncated"}}
-{"error":"message","kind":"not hexadecimal"}
+    r#"{"line":1,"refutes":false,"first":{"verdict":"truncated"},"second":{"verdict":"truncated"}}
+{"line":2,"error":"message","kind":"not hexadecimal"}
 "#;
 
 #[test]

@@ -1,8 +1,6 @@
 -- Lines that are answered from a feed into a sink.
-use Rattle.std.proofs.Common.{◌≡◌, ◌≢◌, ℕ, ◌+◌, ◌<◌, ◌≤◌, List, [], ◌++◌, Option, None, Some, length, refl, sym, ap, subst, ◌∙◌, append_assoc, inl, inr, arith}
+use Rattle.std.proofs.Common.{◌≡◌, ◌≢◌, ℕ, suc, ◌+◌, ◌<◌, ◌≤◌, List, [], ◌++◌, Option, None, Some, length, refl, sym, ap, subst, ◌∙◌, append_assoc, inl, inr, arith}
 use Rattle.std.specs.Prelude.{string_bytes, IfSome}
-use Rattle.std.specs.List.{flat_map}
-use Rattle.std.proofs.lemmas.Grind.{flat_map-append}
 use Rattle.std.specs.Io.KnownBytes.{Appends, Consumes, Keeps, IsAtEnd}
 use Rattle.std.proofs.KnownBytes.{Appends-nil, Appends-trans, Consumes-nil, Consumes-trans, Consumes-kept}
 use Rattle.std.proofs.lemmas.List.{append-nil, length-append}
@@ -10,9 +8,10 @@ use Rattle.std.proofs.lemmas.List.Elements.{All-nil}
 use Rattle.dia_io.specs.declared.Input.{Input}
 use Rattle.dia_io.specs.Writing.{AppendsFront}
 use Rattle.dia_lines.specs.declared.answered.Answered.{Answered}
-use Rattle.dia_lines.specs.Lines.{none, IsLineInput, line_feed}
+use Rattle.dia_lines.specs.Lines.{none, IsLineInput, line_feed, told_from, told_lines}
 use Rattle.dia_lines.specs.UnderWay.{Ends, IsUnderWay, Reads, AreRead}
 use Rattle.dia_lines.specs.FeedToSink.{AllAnswered, LinesAnswered, FrontAnswered}
+use Rattle.dia_lines.proofs.LineNumbers.{told_lines-append}
 use Rattle.dia_lines.proofs.LinesUnderWay.{Sees-both, Sees-nothing}
 
 -- so many bytes were given
@@ -27,46 +26,47 @@ front_behind : (a b c : Option (List ℕ)) (x y : List ℕ) → Appends a b x �
 front_behind a b c x y h (front, rest, parts, k) =
     (x ++ front, rest, ap (λ (t : List ℕ). x ++ t) parts ∙ sym (append_assoc x front rest), Appends-trans a b c x front h k)
 
--- what was put of verdicts, and then of more
-pub put_both : {V : Type 0} (told : V → List ℕ) (xs ys : List V) (a b c : Option (List ℕ)) → Appends a b (flat_map told xs) → Appends b c (flat_map told ys)
-    → Appends a c (flat_map told (xs ++ ys))
-put_both told xs ys a b c h k = subst (Appends a c) (sym (flat_map-append told xs ys)) (Appends-trans a b c (flat_map told xs) (flat_map told ys) h k)
+-- what was put, and then more
+pub put_both : (x y whole : List ℕ) (a b c : Option (List ℕ)) → whole ≡ x ++ y → Appends a b x → Appends b c y → Appends a c whole
+put_both x y whole a b c parts h k = subst (Appends a c) (sym parts) (Appends-trans a b c x y h k)
 
-pub front_both : {V : Type 0} (told : V → List ℕ) (xs ys : List V) (a b c : Option (List ℕ)) → Appends a b (flat_map told xs) → AppendsFront b c (flat_map told ys)
-    → AppendsFront a c (flat_map told (xs ++ ys))
-front_both told xs ys a b c h k = subst (AppendsFront a c) (sym (flat_map-append told xs ys)) (front_behind a b c (flat_map told xs) (flat_map told ys) h k)
+pub front_both : (x y whole : List ℕ) (a b c : Option (List ℕ)) → whole ≡ x ++ y → Appends a b x → AppendsFront b c y → AppendsFront a c whole
+front_both x y whole a b c parts h k = subst (AppendsFront a c) (sym parts) (front_behind a b c x y h k)
 
-module _ {V W : Type 0} (P : Input → V → Type 0) (told : V → List ℕ) (saw : W → List V → Type 0) where
+module _ {V W : Type 0} (P : Input → V → Type 0) (told : ℕ → V → List ℕ) (saw : W → List V → Type 0) where
   -- nothing was read
-  begun : (now : Answered) → IsLineInput now.line [] → IsUnderWay P now [] []
-  begun now whole = record {
+  begun : (now : Answered) → IsLineInput now.line [] → now.count ≡ 0 → IsUnderWay P now [] []
+  begun now whole none_yet = record {
     lines = [];
     rest = [];
     answered = none;
     parts = refl;
     is_line = All-nil (λ c. c ≢ line_feed);
     whole = whole;
+    counted = none_yet;
   }
 
   -- the text was put, and is forgotten
-  forgotten : (old new : Answered) (read : List ℕ) (verdicts : List V) → new.line ≡ old.line → IsUnderWay P old read verdicts → IsUnderWay P new read verdicts
-  forgotten old new read verdicts line u = record {
+  forgotten : (old new : Answered) (read : List ℕ) (verdicts : List V) → new.line ≡ old.line → new.count ≡ old.count
+      → IsUnderWay P old read verdicts → IsUnderWay P new read verdicts
+  forgotten old new read verdicts line count u = record {
     lines = u.lines;
     rest = u.rest;
     answered = u.answered;
     parts = u.parts;
     is_line = u.is_line;
     whole = subst (λ (i : Input). IsLineInput i u.rest) (sym line) u.whole;
+    counted = count ∙ u.counted;
   }
 
   -- no piece was read
-  pub first_read : (fed put : Option (List ℕ)) (w : W) (now : Answered) → IsLineInput now.line [] → string_bytes now.text ≡ []
+  pub first_read : (fed put : Option (List ℕ)) (w : W) (now : Answered) → IsLineInput now.line [] → now.count ≡ 0 → string_bytes now.text ≡ []
       → AreRead P told saw fed fed put put w w now 0
-  first_read fed put w now whole nothing = record {
+  first_read fed put w now whole none_yet nothing = record {
     read = [];
     verdicts = [];
     consumed = Consumes-nil fed;
-    under_way = begun now whole;
+    under_way = begun now whole none_yet;
     is_put = Appends-nil put;
     seen = Sees-nothing saw w;
     nothing = nothing;
@@ -75,7 +75,7 @@ module _ {V W : Type 0} (P : Input → V → Type 0) (told : V → List ℕ) (sa
 
   -- the lines of what was read are a front
   pub lines_before : (fed f f' put p : Option (List ℕ)) (w x : W) (old : Answered) (n : ℕ) (piece : List ℕ) → Consumes f f' piece
-      → AreRead P told saw fed f put p w x old n → LinesAnswered P told fed f' put p
+      → AreRead P told saw fed f put p w x old n → LinesAnswered P (told_lines told) fed f' put p
   lines_before fed f f' put p w x old n piece consumed a =
       let u = a.under_way in record {
         lines = u.lines;
@@ -88,19 +88,19 @@ module _ {V W : Type 0} (P : Input → V → Type 0) (told : V → List ℕ) (sa
       }
 
   -- whole lines are a front
-  pub front_of_lines : (fed f put p : Option (List ℕ)) → LinesAnswered P told fed f put p → FrontAnswered P told fed f put p
+  pub front_of_lines : (fed f put p : Option (List ℕ)) → LinesAnswered P (told_lines told) fed f put p → FrontAnswered P (told_lines told) fed f put p
   front_of_lines fed f put p a = record {
     front = a.lines;
     rest = a.rest;
     verdicts = a.verdicts;
     consumed = a.consumed;
     answered = inl a.answered;
-    is_put = (flat_map told a.verdicts, [], sym (append-nil (flat_map told a.verdicts)), a.is_put);
+    is_put = (told_lines told a.verdicts, [], sym (append-nil (told_lines told a.verdicts)), a.is_put);
   }
 
   -- the feed failed
   pub feed_failed : (fed f f' put p : Option (List ℕ)) (w x : W) (old : Answered) (n : ℕ) → Keeps f f' → AreRead P told saw fed f put p w x old n
-      → FrontAnswered P told fed f' put p
+      → FrontAnswered P (told_lines told) fed f' put p
   feed_failed fed f f' put p w x old n kept a =
       let u = a.under_way in
       front_of_lines fed f' put p (record {
@@ -115,26 +115,30 @@ module _ {V W : Type 0} (P : Input → V → Type 0) (told : V → List ℕ) (sa
   -- a piece was answered
   module _ (fed f f' put p p' : Option (List ℕ)) (w x y : W) (old now : Answered) (n : ℕ) (piece : List ℕ) (more : List V)
       (consumed : Consumes f f' piece) (reads : Reads P told saw old now x y piece more) (a : AreRead P told saw fed f put p w x old n) where
-    all_told : string_bytes now.text ≡ flat_map told more
-    all_told = reads.text ∙ ap (λ (t : List ℕ). t ++ flat_map told more) a.nothing
+    abbrev behind : List ℕ
+    behind = told_from told (suc (length a.verdicts)) more
 
-    pub piece_read : (new : Answered) → 0 < length piece → Appends p p' (string_bytes now.text) → new.line ≡ now.line → string_bytes new.text ≡ []
+    all_told : string_bytes now.text ≡ behind
+    all_told = reads.text a.read a.verdicts a.under_way ∙ ap (λ (t : List ℕ). t ++ behind) a.nothing
+
+    pub piece_read : (new : Answered) → 0 < length piece → Appends p p' (string_bytes now.text) → new.line ≡ now.line → new.count ≡ now.count → string_bytes new.text ≡ []
         → AreRead P told saw fed f' put p' w y new (n + 1)
-    piece_read new some is_put line nothing =
+    piece_read new some is_put line count nothing =
         let lengths = length-append a.read piece in
         let counted = a.counted in record {
           read = a.read ++ piece;
           verdicts = a.verdicts ++ more;
           consumed = Consumes-trans fed f f' a.read piece a.consumed consumed;
-          under_way = forgotten now new (a.read ++ piece) (a.verdicts ++ more) line (reads.reads a.read a.verdicts a.under_way);
-          is_put = put_both told a.verdicts more put p p' a.is_put (subst (Appends p p') all_told is_put);
+          under_way = forgotten now new (a.read ++ piece) (a.verdicts ++ more) line count (reads.reads a.read a.verdicts a.under_way);
+          is_put = put_both (told_lines told a.verdicts) behind (told_lines told (a.verdicts ++ more)) put p p' (told_lines-append told a.verdicts more) a.is_put
+              (subst (Appends p p') all_told is_put);
           seen = Sees-both saw w x y a.verdicts more a.seen reads.seen;
           nothing = nothing;
           counted = omega arith;
         }
 
     -- the sink failed behind it
-    pub sink_failed : AppendsFront p p' (string_bytes now.text) → FrontAnswered P told fed f' put p'
+    pub sink_failed : AppendsFront p p' (string_bytes now.text) → FrontAnswered P (told_lines told) fed f' put p'
     sink_failed is_put =
         let u = reads.reads a.read a.verdicts a.under_way in record {
           front = u.lines;
@@ -142,32 +146,38 @@ module _ {V W : Type 0} (P : Input → V → Type 0) (told : V → List ℕ) (sa
           verdicts = a.verdicts ++ more;
           consumed = subst (Consumes fed f') u.parts (Consumes-trans fed f f' a.read piece a.consumed consumed);
           answered = inl u.answered;
-          is_put = front_both told a.verdicts more put p p' a.is_put (subst (AppendsFront p p') all_told is_put);
+          is_put = front_both (told_lines told a.verdicts) behind (told_lines told (a.verdicts ++ more)) put p p' (told_lines-append told a.verdicts more) a.is_put
+              (subst (AppendsFront p p') all_told is_put);
         }
 
   -- the last line was answered
   module _ (fed f f' put p p' : Option (List ℕ)) (w x y : W) (old now : Answered) (n : ℕ) (more : List V)
       (consumed : Consumes f f' []) (ends : Ends P told saw old now x y more) (a : AreRead P told saw fed f put p w x old n) where
-    all_told_at_end : string_bytes now.text ≡ flat_map told more
-    all_told_at_end = ends.text ∙ ap (λ (t : List ℕ). t ++ flat_map told more) a.nothing
+    abbrev last : List ℕ
+    last = told_from told (suc (length a.verdicts)) more
 
-    pub all_read : Appends p p' (string_bytes now.text) → AllAnswered P told saw fed f' put p' w y
+    all_told_at_end : string_bytes now.text ≡ last
+    all_told_at_end = ends.text a.read a.verdicts a.under_way ∙ ap (λ (t : List ℕ). t ++ last) a.nothing
+
+    pub all_read : Appends p p' (string_bytes now.text) → AllAnswered P (told_lines told) saw fed f' put p' w y
     all_read is_put = record {
       bytes = a.read;
       verdicts = a.verdicts ++ more;
       consumed = subst (Consumes fed f') (append-nil a.read) (Consumes-trans fed f f' a.read [] a.consumed consumed);
       answered = ends.ends a.read a.verdicts a.under_way;
-      is_put = put_both told a.verdicts more put p p' a.is_put (subst (Appends p p') all_told_at_end is_put);
+      is_put = put_both (told_lines told a.verdicts) last (told_lines told (a.verdicts ++ more)) put p p' (told_lines-append told a.verdicts more) a.is_put
+          (subst (Appends p p') all_told_at_end is_put);
       seen = Sees-both saw w x y a.verdicts more a.seen ends.seen;
     }
 
     -- the sink failed behind it
-    pub sink_failed_at_end : IsAtEnd f' → AppendsFront p p' (string_bytes now.text) → FrontAnswered P told fed f' put p'
+    pub sink_failed_at_end : IsAtEnd f' → AppendsFront p p' (string_bytes now.text) → FrontAnswered P (told_lines told) fed f' put p'
     sink_failed_at_end at_end is_put = record {
       front = a.read;
       rest = [];
       verdicts = a.verdicts ++ more;
       consumed = Consumes-trans fed f f' a.read [] a.consumed consumed;
       answered = inr (at_end, refl, ends.ends a.read a.verdicts a.under_way);
-      is_put = front_both told a.verdicts more put p p' a.is_put (subst (AppendsFront p p') all_told_at_end is_put);
+      is_put = front_both (told_lines told a.verdicts) last (told_lines told (a.verdicts ++ more)) put p p' (told_lines-append told a.verdicts more) a.is_put
+          (subst (AppendsFront p p') all_told_at_end is_put);
     }

@@ -1,13 +1,12 @@
 -- Where each line has one verdict, each text has one list of them.
-use Rattle.std.proofs.Common.{◌≡◌, ◌≢◌, ℕ, ◌<◌, List, [], ◌∷◌, ◌++◌, length, refl, sym, ap, subst, ◌∙◌, append_assoc, inl, inr, arith}
+use Rattle.std.proofs.Common.{◌≡◌, ◌≢◌, ℕ, suc, ◌<◌, List, [], ◌∷◌, ◌++◌, length, refl, sym, ap, subst, ◌∙◌, append_assoc, inl, inr, arith}
 use Rattle.std.specs.Prelude.{⊤, ◌⊎◌}
-use Rattle.std.specs.List.{flat_map}
-use Rattle.std.proofs.lemmas.Grind.{flat_map-append}
 use Rattle.std.proofs.lemmas.List.{append-nil, append_cancel_right}
 use Rattle.std.proofs.lemmas.List.Elements.{All-head, All-tail}
 use Rattle.dia_io.specs.declared.Input.{Input}
 use Rattle.dia_lines.specs.FeedToSink.{FrontIsBeginning}
-use Rattle.dia_lines.specs.Lines.{AreAnswered, none, one_more, EndsInLine, IsAnswered, IsLine, IsLineInput, LineHasOneAnswer, TextHasOneAnswer, line_feed}
+use Rattle.dia_lines.specs.Lines.{AreAnswered, none, one_more, EndsInLine, IsAnswered, IsLine, IsLineInput, LineHasOneAnswer, TextHasOneAnswer, line_feed, told_from, told_lines}
+use Rattle.dia_lines.proofs.LineNumbers.{told_lines-append}
 
 -- the last byte, if there is one, is a line feed
 abbrev Ends : List ℕ → Type 0
@@ -145,10 +144,10 @@ module _ {V : Type 0} (P : Input → V → Type 0) (once : LineHasOneAnswer P) w
       let same : bytes ≡ front = parts ∙ ap (λ (l : List ℕ). (front ++ rest) ++ l) k.0 ∙ append-nil (front ++ rest) ∙ ap (λ (l : List ℕ). front ++ l) k.1 ∙ append-nil front in
       ([], text_once front all verdicts (subst (λ (l : List ℕ). IsAnswered P l all) same h) k.2 ∙ sym (append-nil verdicts))
 
-  pub put_is_beginning : (told : V → List ℕ) → FrontIsBeginning P told
+  pub put_is_beginning : (told : ℕ → V → List ℕ) → FrontIsBeginning P (told_lines told)
   put_is_beginning told bytes left before now all a h =
       let (put, unput, texts, is_put) = a.is_put in
       let more = verdicts_in_front bytes left a.front a.rest a.verdicts all a.consumed a.answered h in
-      let whole : flat_map told all ≡ flat_map told a.verdicts ++ flat_map told more.0 =
-      ap (λ (vs : List V). flat_map told vs) more.1 ∙ flat_map-append told a.verdicts more.0 in
-      (put, unput ++ flat_map told more.0, is_put, whole ∙ ap (λ (t : List ℕ). t ++ flat_map told more.0) texts ∙ append_assoc put unput (flat_map told more.0))
+      let behind = told_from told (suc (length a.verdicts)) more.0 in
+      let whole : told_lines told all ≡ told_lines told a.verdicts ++ behind = ap (told_lines told) more.1 ∙ told_lines-append told a.verdicts more.0 in
+      (put, unput ++ behind, is_put, whole ∙ ap (λ (t : List ℕ). t ++ behind) texts ∙ append_assoc put unput behind)

@@ -1,5 +1,5 @@
 -- The lines of a text and their verdicts. P says which verdict a line has.
-use Rattle.std.specs.Prelude.{◌≡◌, ◌≢◌, ℕ, ◌<◌, ◌⊎◌, List, [], ◌∷◌, ◌++◌, length}
+use Rattle.std.specs.Prelude.{◌≡◌, ◌≢◌, ℕ, suc, ◌<◌, ◌⊎◌, min, List, [], ◌∷◌, ◌++◌, length}
 use Rattle.std.specs.List.{All}
 use Rattle.dia_io.specs.declared.Input.{Input}
 use Rattle.dia_io.specs.Inputs.{IsWhole}
@@ -37,6 +37,23 @@ pub record EndsInLine (bytes : List ℕ) : Type 0 where
 abbrev pub IsAnswered : {V : Type 0} → (Input → V → Type 0) → List ℕ → List V → Type 0
 IsAnswered P bytes verdicts = AreAnswered P bytes verdicts
     ⊎ (EndsInLine bytes × AreAnswered P (bytes ++ line_feed ∷ []) verdicts)
+
+-- ---- what is told of them, behind the numbers of their lines
+
+-- lines are numbered from 1. All lines behind the one with the greatest number of 64 bits have this number, too
+abbrev pub line_number : ℕ → ℕ
+line_number n = min n 18446744073709551615
+
+-- what is told of these verdicts, the first of which is on the n-th line
+abbrev pub told_from : {V : Type 0} → (ℕ → V → List ℕ) → ℕ → List V → List ℕ
+told_from told n [] = []
+told_from told n (v ∷ vs) = told (line_number n) v ++ told_from told (suc n) vs
+
+-- what is told of the verdicts on all lines
+abbrev pub told_lines : {V : Type 0} → (ℕ → V → List ℕ) → List V → List ℕ
+told_lines told verdicts = told_from told 1 verdicts
+
+-- ---- one answer
 
 -- a line has one verdict
 abbrev pub LineHasOneAnswer : {V : Type 0} → (Input → V → Type 0) → Type 0

@@ -12,6 +12,8 @@ use std::alloc::{AllocError, Global};
 pub struct Answered {
     /// The line that isn't at its end yet.
     pub line: Input,
+    /// How many lines were answered, up to the greatest number.
+    pub count: u64,
     /// Memory for the judge.
     pub space: Vec<u8>,
     /// The answers that weren't put yet.
@@ -19,18 +21,20 @@ pub struct Answered {
 }
 
 impl Answered {
-    ghost use Rattle.std.specs.Prelude.{◌≡◌, ◌++◌, ◌∷◌, List, [], OnOk, string_bytes};
+    ghost use Rattle.std.specs.Prelude.{◌≡◌, ◌+◌, ◌++◌, ◌∷◌, List, [], OnOk, string_bytes};
     ghost use Rattle.dia_lines.specs.FeedToSink.{Sees};
-    ghost use Rattle.dia_lines.specs.Lines.{IsLine, IsLineInput, line_feed};
+    ghost use Rattle.dia_lines.specs.Lines.{IsLine, IsLineInput, line_feed, line_number};
     ghost use Rattle.dia_lines.specs.UnderWay.{Ends, Reads};
 
     /// Nothing was read yet.
     pub fn new(alloc: Global) -> Answered
         ensures line { IsLineInput result.line [] }
+        ensures count { result.count ≡ 0 }
         ensures text { string_bytes result.text ≡ [] }
     {
         Answered {
             line: Input::Bytes(Vec::new(alloc)),
+            count: 0,
             space: Vec::new(alloc),
             text: String::new(alloc),
         }
@@ -97,11 +101,19 @@ impl Answered {
     ) -> Result<(), AllocError>
         ensures { OnOk result ((verdict : J.Verdict)
             × J.says judge.now self.old.line verdict
-            × (string_bytes self.new.text ≡ string_bytes self.old.text ++ J.told judge.now verdict)
+            × (string_bytes self.new.text ≡ string_bytes self.old.text ++ J.told judge.now self.new.count verdict)
+            × (self.new.count ≡ line_number (self.old.count + 1))
             × Sees W.saw watch.old watch.new (verdict ∷ [])
             × IsLineInput self.new.line []) }
     {
-        let verdict = judge.judge(alloc, &self.line, &mut self.space, &mut self.text)?;
+        self.count = self.count.saturating_add(1);
+        let verdict = judge.judge(
+            alloc,
+            self.count,
+            &self.line,
+            &mut self.space,
+            &mut self.text,
+        )?;
         watch.see(verdict);
         clear(alloc, &mut self.line);
         Ok(())

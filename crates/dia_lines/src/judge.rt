@@ -12,18 +12,19 @@ pub trait Judge {
     // Whether a line has this verdict.
     ghost says: { Self → AnyInput → Self.Verdict → Type 0 };
 
-    // The text for a verdict.
-    ghost told: { Self → Self.Verdict → List ℕ };
+    // The text for a verdict on the line of this number.
+    ghost told: { Self → ℕ → Self.Verdict → List ℕ };
 
-    /// The verdict on a line. Its text is added to another. What the space holds means nothing: it is memory that is kept from
-    /// line to line.
+    /// The verdict on the line of this number. Its text is added to another. What the space holds means nothing: it is memory that
+    /// is kept from line to line.
     fn judge(
         &self,
         alloc: Global,
+        number: u64,
         line: &Input,
         space: &mut Vec<u8>,
         text: &mut String,
     ) -> Result<Self::Verdict, AllocError>
         ensures { IfOk result (λ verdict. says self.now line.now verdict
-            × (string_bytes text.new ≡ string_bytes text.old ++ told self.now verdict)) };
+            × (string_bytes text.new ≡ string_bytes text.old ++ told self.now number verdict)) };
 }

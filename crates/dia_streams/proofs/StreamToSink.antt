@@ -4,6 +4,7 @@ use Rattle.std.specs.Prelude.{string_bytes, ◌⊎◌}
 use Rattle.std.specs.List.{flat_map}
 use Rattle.std.specs.Io.KnownBytes.{Appends, Consumes, Keeps, IsAtEnd}
 use Rattle.std.proofs.KnownBytes.{Appends-nil, Consumes-nil, Consumes-trans, Consumes-kept}
+use Rattle.std.proofs.lemmas.Grind.{flat_map-append}
 use Rattle.std.proofs.lemmas.List.{append-nil, length-append}
 use Rattle.dia_io.specs.Writing.{AppendsFront}
 use Rattle.dia_lines.specs.FeedToSink.{Sees}
@@ -124,7 +125,8 @@ module _ {V W : Type 0} (P : Option (List ℕ) → V → Type 0) (text : ℕ × 
     all_consumed = Consumes-trans fed f f' a.read piece a.consumed consumed
 
     all_put : Appends p p' (string_bytes now.told.text) → Appends put p' (flat_map text (a.verdicts ++ reads.verdicts))
-    all_put is_put = put_both text a.verdicts reads.verdicts put p p' a.is_put (subst (Appends p p') all_lines is_put)
+    all_put is_put = put_both (flat_map text a.verdicts) (flat_map text reads.verdicts) (flat_map text (a.verdicts ++ reads.verdicts)) put p p'
+        (flat_map-append text a.verdicts reads.verdicts) a.is_put (subst (Appends p p') all_lines is_put)
 
     all_seen : Sees saw w y (a.verdicts ++ reads.verdicts)
     all_seen = Sees-both saw w x y a.verdicts reads.verdicts a.seen reads.seen
@@ -164,7 +166,8 @@ module _ {V W : Type 0} (P : Option (List ℕ) → V → Type 0) (text : ℕ × 
       verdicts = a.verdicts ++ reads.verdicts;
       consumed = all_consumed;
       told = by goes_on (reads.reads a.read a.verdicts a.under_way);
-      is_put = front_both text a.verdicts reads.verdicts put p p' a.is_put (subst (AppendsFront p p') all_lines is_put);
+      is_put = front_both (flat_map text a.verdicts) (flat_map text reads.verdicts) (flat_map text (a.verdicts ++ reads.verdicts)) put p p'
+          (flat_map-append text a.verdicts reads.verdicts) a.is_put (subst (AppendsFront p p') all_lines is_put);
     }
       where
         by : (on : Bool) → Goes P on now (a.read ++ piece) (a.verdicts ++ reads.verdicts)
@@ -193,7 +196,8 @@ module _ {V W : Type 0} (P : Option (List ℕ) → V → Type 0) (text : ℕ × 
       verdicts = a.verdicts ++ ends.verdicts;
       consumed = end_consumed;
       told = end_told;
-      is_put = put_both text a.verdicts ends.verdicts put p p' a.is_put (subst (Appends p p') end_lines is_put);
+      is_put = put_both (flat_map text a.verdicts) (flat_map text ends.verdicts) (flat_map text (a.verdicts ++ ends.verdicts)) put p p'
+          (flat_map-append text a.verdicts ends.verdicts) a.is_put (subst (Appends p p') end_lines is_put);
       seen = Sees-both saw w x y a.verdicts ends.verdicts a.seen ends.seen;
     }
 
@@ -204,7 +208,8 @@ module _ {V W : Type 0} (P : Option (List ℕ) → V → Type 0) (text : ℕ × 
       verdicts = a.verdicts ++ ends.verdicts;
       consumed = end_consumed;
       told = inr end_told;
-      is_put = front_both text a.verdicts ends.verdicts put p p' a.is_put (subst (AppendsFront p p') end_lines is_put);
+      is_put = front_both (flat_map text a.verdicts) (flat_map text ends.verdicts) (flat_map text (a.verdicts ++ ends.verdicts)) put p p'
+          (flat_map-append text a.verdicts ends.verdicts) a.is_put (subst (AppendsFront p p') end_lines is_put);
     }
 
 pub ok_same : {E : Type 0} (a b : Bool) → ◌≡◌ {A = Result Bool E} (Ok a) (Ok b) → a ≡ b

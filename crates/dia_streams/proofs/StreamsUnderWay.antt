@@ -2,14 +2,27 @@
 use Rattle.std.proofs.Common.{◌≡◌, ◌≢◌, ℕ, ◌+◌, ◌<◌, Bool, true, false, not, cond, List, [], ◌∷◌, ◌++◌, length, take, Option, None, Some, refl, sym, ap, subst, ◌∙◌, append_assoc, arith, inl, inr, ◌≤◌}
 use Rattle.std.specs.Prelude.{string_bytes, ◌==◌, is_some}
 use Rattle.std.proofs.lemmas.Bool.{eqb-true}
+use Rattle.std.specs.List.{flat_map}
+use Rattle.std.proofs.lemmas.Grind.{flat_map-append}
 use Rattle.std.proofs.lemmas.List.{append-nil, length-append, take-append-le}
-use Rattle.dia_lines.proofs.LinesUnderWay.{Sees-both, Sees-nothing, both_told, one_told}
+use Rattle.std.proofs.lemmas.List.Concat.{flat_map-cons}
+use Rattle.dia_lines.proofs.LinesUnderWay.{Sees-both, Sees-nothing}
 use Rattle.dia_streams.specs.declared.told.Told.{Told}
 use Rattle.dia_streams.specs.declared.streamed.Streamed.{Streamed}
 use Rattle.dia_streams.specs.Streams.{AreSpelled, AreTold, none, message, IsEndTold, nothing, part, endless, no_digits, IsEndless, IsMessage, IsPart, IsStreamTold, Spells, digits_of, is_white}
 use Rattle.dia_streams.specs.UnderWay.{AreDigits, AreTaken, Takes, HasTold, Adds, TellsWhole, BeginsNone, IsUnderWay, Reads, Ends}
 use Rattle.dia_streams.proofs.DigitsTaken.{digits_both, spelled_both, spelled_front, stops_half}
 use Rattle.dia_streams.proofs.Fronts.{endless_on}
+
+-- what is told of one verdict
+one_told : {V : Type 0} (told : V → List ℕ) (verdict : V) (old new : List ℕ) → new ≡ old ++ told verdict → new ≡ old ++ flat_map told (verdict ∷ [])
+one_told told verdict old new h = h ∙ ap (λ (t : List ℕ). old ++ t) (sym (flat_map-cons told verdict [] ∙ append-nil (told verdict)))
+
+-- what is told of verdicts, and then of more
+both_told : {V : Type 0} (told : V → List ℕ) (xs ys : List V) (a b c : List ℕ) → b ≡ a ++ flat_map told xs → c ≡ b ++ flat_map told ys
+    → c ≡ a ++ flat_map told (xs ++ ys)
+both_told told xs ys a b c h k = k ∙ ap (λ (t : List ℕ). t ++ flat_map told ys) h ∙ append_assoc a (flat_map told xs) (flat_map told ys)
+    ∙ ap (λ (t : List ℕ). a ++ t) (sym (flat_map-append told xs ys))
 
 -- what digits that were taken spell
 record SpelledSoFar (read bytes : List ℕ) : Type 0 where

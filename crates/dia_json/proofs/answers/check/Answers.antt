@@ -12,5 +12,4 @@ returns-in-Err c =
 
 pub returns : goal.returns
 returns c =
-    let (says, text) = c.in_ok-verdict.ensures in
-    inl (_, _, (rw (← c.deref.ensures) at c.in-Ok.ensures.book), says, (rw c.new-text.ensures.bytes at text), c.exit.ensures)
+    IfOk-weaker c.checked.result _ _ (λ answered told. inl (_, (rw (← c.deref.ensures) at c.in-Ok.ensures.book), told)) c.checked.ensures

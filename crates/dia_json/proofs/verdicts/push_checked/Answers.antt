@@ -1,6 +1,9 @@
 use Rattle.std.proofs.lemmas.Result.{on_ok_weaker}
-use Rattle.dia_json.proofs.Members.{checked_told}
+use Rattle.dia_json.specs.Values.{checked_members}
+use Rattle.dia_json.proofs.Members.{line_told}
 use Rattle.dia_json.proofs.verdicts.push_checked.Goals as goal
 
 pub returns : goal.returns
-returns g c = on_ok_weaker c.write-2.result (λ e. checked_told (g.B.Book.meaning c.args.book.now) c.args.verdict.now _ _ _ _ c.in_ok-write.ensures.bytes c.in_ok-push_members.ensures e) c.write-2.ensures.bytes
+returns g c =
+    on_ok_weaker c.write-2.result
+    (λ e. line_told (checked_members (g.B.Book.meaning c.args.book.now) c.args.verdict.now) _ _ _ _ c.in_ok-write.ensures.bytes c.in_ok-push_members.ensures e) c.write-2.ensures.bytes

@@ -44,4 +44,4 @@ returns-in_ok-put_answers-2-clause-more g c = λ fed put begun n _ a.
     let some : 0 < length (take c.in_ok-count.count c.get.new.buffer) = omega (arith, length-take c.in_ok-count.count c.get.new.buffer, c.in_ok-count.ensures.within, c.if-count-eq0.false) in
     piece_read (g.J.Judge.says c.args.judge.now) (g.J.Judge.told c.args.judge.now) g.W.Watch.saw fed _ _ put _ _ begun c.args.watch.now c.read.new.watch
     c.args.answered.now c.read.new.self n (take c.in_ok-count.count c.get.new.buffer) more c.in_ok-count.ensures.bytes.0 reads a c.put_answers-else-count-eq0.new.answered
-    some c.in_ok-put_answers-2.ensures.put c.in_ok-put_answers-2.ensures.line c.in_ok-put_answers-2.ensures.nothing
+    some c.in_ok-put_answers-2.ensures.put c.in_ok-put_answers-2.ensures.line c.in_ok-put_answers-2.ensures.count c.in_ok-put_answers-2.ensures.nothing

@@ -12,9 +12,9 @@ returns-then-is_empty g c = (
 pub returns : goal.returns
 returns g c = on_ok_map c.answer.result
     (λ h.
-    let (verdict, says, text, seen, whole) = h in (
+    let (verdict, says, text, more, seen, whole) = h in (
       verdict ∷ [],
       Ends-line (g.J.Judge.says c.args.judge.now) (g.J.Judge.told c.args.judge.now) g.W.Watch.saw c.args.self.now c.answer.new.self c.args.watch.now c.answer.new.watch verdict
-          (λ all line. is_some _ _ (c.is_empty.ensures all line) c.if-is_empty.false) says text seen,
+          (λ all line. is_some _ _ (c.is_empty.ensures all line) c.if-is_empty.false) says text more seen,
     ))
     c.answer.ensures

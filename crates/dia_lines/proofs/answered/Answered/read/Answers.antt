@@ -26,12 +26,12 @@ loop-line-preserved g c =
 pub returns : goal.returns
 returns g c =
     let (done, told, parts, reads) = c.loop-line.invariant.reads in
-    let new : Answered = record { line = c.extend.new.line; space = c.loop-line.self.space; text = c.loop-line.self.text } in
+    let new : Answered = record { line = c.extend.new.line; count = c.loop-line.self.count; space = c.loop-line.self.space; text = c.loop-line.self.text } in
     let P = g.J.Judge.says c.args.judge.now in
     let T = g.J.Judge.told c.args.judge.now in
     on_ok_map c.extend.result
     (λ longer.
-    let rest = Reads-rest P T g.W.Watch.saw c.loop-line.self new c.loop-line.watch c.loop-line.rest.now (c.in_default.ensures.none refl) longer refl in
+    let rest = Reads-rest P T g.W.Watch.saw c.loop-line.self new c.loop-line.watch c.loop-line.rest.now (c.in_default.ensures.none refl) longer refl refl in
     let both = Reads-both P T g.W.Watch.saw c.args.self.now c.loop-line.self new c.args.watch.now c.loop-line.watch c.loop-line.watch done c.loop-line.rest.now told [] reads rest in
     (told ++ [], subst (λ (bytes : List ℕ). Reads P T g.W.Watch.saw c.args.self.now new c.args.watch.now c.loop-line.watch bytes (told ++ [])) (sym parts) both))
     c.extend.ensures
