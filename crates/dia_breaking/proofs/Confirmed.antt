@@ -1,5 +1,5 @@
 -- What two checks of a message show.
-use Rattle.std.proofs.Common.{◌≡◌, ℕ, suc, ◌<◌, Bool, true, false, not, List, [], ◌∷◌, length, get_or, subst}
+use Rattle.std.proofs.Common.{◌≡◌, ℕ, suc, ◌<◌, Bool, true, false, not, List, [], ◌∷◌, length, get_or, refl, sym, subst, ◌∙◌}
 use Rattle.std.specs.Prelude.{◌↔◌, IsTrue}
 use Rattle.std.proofs.lemmas.Option.{slice_get_within}
 use Rattle.dia_book.specs.Dictionary.{Dictionary, definitions}
@@ -38,6 +38,19 @@ pub valid_of : (da db : Dictionary) (who : Sends) (u : Unknown) (bytes : List �
 valid_of da db Any u bytes c h = (sent_valid da Any bytes c h.0, h.1)
 valid_of da db Known u bytes c h = (sent_valid da Known bytes c h.0, h.1)
 valid_of da db Listed u bytes c h = h
+
+-- a message that breaks isn't accepted, and is one that is sent
+pub not_accepted : (da db : Dictionary) (who : Sends) (u : Unknown) (bytes : List ℕ) (c : ℕ) (accepted : Bool) → (IsTrue accepted ↔ IsValid db u levels.Any bytes) → IsConfirmed (sides da db who u) bytes c
+    → IsTrue (not accepted)
+not_accepted da db who u bytes c true iff h = absurd ((valid_of da db who u bytes c h).1 (iff.0 refl))
+not_accepted da db who u bytes c false iff h = refl
+
+pub unsent : (da db : Dictionary) (who : Sends) (u : Unknown) (bytes : List ℕ) (c : ℕ) (own : Unknown) → own ≡ own_policy who → (sent : Bool) → sent ≡ false
+    → (IsTrue sent ↔ IsValidOf da own levels.Any bytes c) → IsTrue sent ↔ IsConfirmed (sides da db who u) bytes c
+unsent da db who u bytes c own same sent none iff = (
+  (λ h. absurd (let e : false ≡ true = sym none ∙ h in cc)),
+  (λ h. iff.1 (subst (λ (p : Unknown). IsValidOf da p levels.Any bytes c) (sym same) (valid_of da db who u bytes c h).0)),
+)
 
 -- the command is one of the sender's
 pub command_within : (da db : Dictionary) (who : Sends) (u : Unknown) (bytes : List ℕ) (c : ℕ) → IsConfirmed (sides da db who u) bytes c → c < length (definitions da)

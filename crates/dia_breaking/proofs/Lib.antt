@@ -31,6 +31,9 @@ pub mod TooLong
 mod MendedHeaders
 mod MendedLines
 mod MendedMessages
+mod Nested
+mod OneMessage
+mod OnceMended
 pub mod FreeOfLines
 mod Paths
 mod ValueTexts

@@ -49,7 +49,7 @@ use Rattle.dia_breaking.proofs.Tellings.{no_group}
 begun : (v : PlainAvp) (front : List ℕ) → Spells v front → 0 < length front
 begun v front s = let o = opened v front [] s in omega (arith, o.front_length, rounded-le (avp_length v), at_least_8 v.vendor)
 
-one_list : (vs ws : List PlainAvp) (b : List ℕ) → SpellsAll vs b → SpellsAll ws b → vs ≡ ws
+pub one_list : (vs ws : List PlainAvp) (b : List ℕ) → SpellsAll vs b → SpellsAll ws b → vs ≡ ws
 one_list [] [] b h k = refl
 one_list [] (w ∷ ws) b h (front, rest, s, parts, all) = absurd (omega (arith, begun w front s, ap length h, ap length parts, length-append front rest))
 one_list (v ∷ vs) [] b (front, rest, s, parts, all) k = absurd (omega (arith, begun v front s, ap length k, ap length parts, length-append front rest))

@@ -13,6 +13,8 @@ pub mod LevelCosts
 pub mod Listing
 pub mod Meanings
 pub mod Mended
+pub mod Messages
+pub mod Nested
 pub mod Nodes
 pub mod Orders
 pub mod Outlooks
@@ -27,6 +29,7 @@ pub mod Telling
 pub mod TheLines
 pub mod TheMeanings
 pub mod ToldApps
+pub mod ToldMessages
 pub mod Upgrades
 pub mod Words
 pub mod Gaps

@@ -8,6 +8,7 @@ use Rattle.dia_breaking.specs.declared.line.Line.{Line}
 use Rattle.dia_breaking.specs.declared.sites.Numbers.{Numbers}
 use Rattle.dia_breaking_ways.specs.declared.graph.Walk.{Walk}
 use Rattle.dia_breaking.specs.Listing.{Basis, Told, basis_of, lines_of}
+use Rattle.dia_breaking.specs.Messages.{Stock, stock}
 use Rattle.dia_breaking.specs.OwnBreaks.{HaveDataBreaks, KeepsData}
 use Rattle.dia_breaking.specs.Sender.{costs_of, sender_in}
 use Rattle.dia_breaking.specs.Sides.{Sides, sides}
@@ -23,6 +24,10 @@ module _ {A B : Type 0} {a : Reads A} {b : Reads B} where
 
   abbrev pub sides_of : Upgrade A B a b → Sides
   sides_of up = sides (sender_in up.lengths) (b.meaning up.b.now) up.lengths.sends up.unknown
+
+  -- what messages are made of
+  abbrev pub stock_of : Upgrade A B a b → Stock
+  stock_of up = stock up.lengths.least (costs_of up.lengths)
 
   -- what an AVP of a key takes where a wildcard lets it in
   abbrev pub other_length_of : Upgrade A B a b → Key → ℕ

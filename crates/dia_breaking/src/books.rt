@@ -8,6 +8,7 @@ ghost use Rattle.dia_check.specs.Valid.{is_listed};
 ghost use Rattle.dia_rules.specs.Rules.{rule_of, rules_in, wildcard_of};
 ghost use Rattle.dia_breaking_avps.specs.Sent.{group_of};
 ghost use Rattle.dia_breaking.specs.Meanings.{m_rule_in};
+ghost use Rattle.dia_breaking.specs.Messages.{group_number};
 ghost use Rattle.dia_breaking.specs.Words.{format_in, name_in};
 
 use dia_book::{Book, Class, DRule, DefId, Format, Key, MRule, Slot};
@@ -18,6 +19,7 @@ pub(crate) fn group_of<B: Book>(book: &B, key: Key) -> Option<DefId>
     ensures group { is_some result ≡ is_some (group_of (B.meaning book.now) key) }
     ensures definition { option_and_then (slice_get (definitions (B.meaning book.now))) result
         ≡ group_of (B.meaning book.now) key }
+    ensures number { result ≡ group_number (B.meaning book.now) key }
 {
     let entry = book.avp(key)?;
     book.group(entry)

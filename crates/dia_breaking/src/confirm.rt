@@ -1,5 +1,6 @@
 //! Messages of lines, checked under both dictionaries.
-ghost use Rattle.std.specs.Prelude.{◌≡◌, ◌↔◌, ℕ, IfOk, IfSome, IsTrue, List, map};
+ghost use Rattle.std.specs.Prelude.{◌≡◌, ◌↔◌, ◌+◌, ℕ, IfNone, IfOk, IfSome, IsTrue, List, length, map};
+ghost use Rattle.dia_wire.specs.Lengths.{header_length};
 ghost use Rattle.dia_policy.specs.declared.Levels.TheVariants.{Any};
 ghost use Rattle.dia_check.specs.Valid.{IsValid, IsValidOf};
 ghost use Rattle.dia_breaking_sites.specs.Sent.{own_policy};
@@ -7,14 +8,17 @@ ghost use Rattle.dia_breaking.specs.Confirmed.{EachConfirmedBreaks, HaveStanding
 ghost use Rattle.dia_breaking.specs.Confirmed.{IsStandingOf, has_no_message, is_checked, left_after, left_behind};
 ghost use Rattle.dia_breaking.specs.Listing.{unchecked};
 ghost use Rattle.dia_breaking.specs.Mended.{BreaksBehind, EachHasMessage, HasMessage};
+ghost use Rattle.dia_breaking.specs.Messages.{IsLineMessage};
 ghost use Rattle.dia_breaking.specs.TheLines.{HaveSameSites};
-ghost use Rattle.dia_breaking.specs.Upgrades.{sides_of};
+ghost use Rattle.dia_breaking.specs.ToldMessages.{AreConfirmedWhere, BreaksAsTold, IsBroken, IsConfirmedWhere};
+ghost use Rattle.dia_breaking.specs.Upgrades.{sides_of, stock_of};
 
 use crate::line::{Breaks, Cause, Line, Standing};
 use crate::upgrade::Upgrade;
 use dia_book::{Book, DefId};
 use dia_check::{Levels, Refusal, check};
 use dia_policy::{Sends, Unknown};
+use dia_wire::HEADER_LENGTH;
 use std::alloc::{AllocError, Global};
 
 /// The most bytes of a message that is checked.
@@ -24,9 +28,10 @@ const MOST_CHECKED: u64 = 1 << 20;
 pub const MOST_CHECKED_TOGETHER: u64 = 1 << 26;
 
 impl<'a, A: Book, B: Book> Upgrade<'a, A, B> {
-    /// The message of a line, where checks under both dictionaries show that it is valid under A, as one of the command, and not
-    /// under B; for a line that isn't of the header also not with its header mended for B's definition. For `Listed` it is
-    /// checked only that A knows its AVPs, and not that its rules list them. The error comes only where memory was refused.
+    /// The message of a line (`IsLineMessage`), where it has the length that the line tells, and checks under both dictionaries
+    /// show that it is valid under A, as one of the command, and not under B; for a line that isn't of the header also not with
+    /// its header mended for B's definition. There is none, where the line's message doesn't break so. For `Listed` it is checked
+    /// only that A knows its AVPs, and not that its rules list them. The error comes only where memory was refused.
     pub fn confirmed_message(
         &self,
         alloc: Global,
@@ -37,18 +42,52 @@ impl<'a, A: Book, B: Book> Upgrade<'a, A, B> {
             (λ found. IfSome found (λ bytes. IsConfirmed (sides_of self.now) bytes.items breaks.now.command)) }
         ensures mended { IfOk result (λ found. IfSome found (λ bytes. BreaksBehind (sides_of self.now)
             breaks.now.command breaks.now.sites.items line.now bytes.items)) }
+        ensures told { IfOk result (λ found. IfSome found (λ bytes. BreaksAsTold (sides_of self.now) (stock_of self.now)
+            breaks.now.command breaks.now.sites.items line.now bytes.items)) }
+        ensures none { IfOk result (λ found. IfNone found (¬ IsBroken (sides_of self.now) (stock_of self.now)
+            breaks.now.command breaks.now.sites.items line.now)) }
     {
         let bytes = self.message(alloc, breaks, line)?;
-        let confirmed = self.is_confirmed(alloc, breaks.command, &bytes)?;
-        if confirmed && self.breaks_mended(alloc, breaks, line, &bytes)? {
+        if self.breaks_as_told(alloc, breaks, line, &bytes)? {
             Ok(Some(bytes))
         } else {
             Ok(None)
         }
     }
 
+    /// Whether the message of a line breaks as the line tells.
+    fn is_broken(&self, alloc: Global, breaks: &Breaks, line: &Line) -> Result<bool, AllocError>
+        ensures { IfOk result (λ yes. IsTrue yes ↔ IsBroken (sides_of self.now) (stock_of self.now)
+            breaks.now.command breaks.now.sites.items line.now) }
+    {
+        let message = self.message(alloc, breaks, line)?;
+        self.breaks_as_told(alloc, breaks, line, &message)
+    }
+
+    fn breaks_as_told(
+        &self,
+        alloc: Global,
+        breaks: &Breaks,
+        line: &Line,
+        bytes: &[u8],
+    ) -> Result<bool, AllocError>
+        requires { IsLineMessage (sides_of self.now) (stock_of self.now)
+            breaks.now.command breaks.now.sites.items line.now bytes.now }
+        ensures { IfOk result (λ yes. IsTrue yes ↔ BreaksAsTold (sides_of self.now) (stock_of self.now)
+            breaks.now.command breaks.now.sites.items line.now bytes.now) }
+    {
+        if !has_length(bytes, line.length) {
+            return Ok(false);
+        }
+        if self.is_confirmed(alloc, breaks.command, bytes)? {
+            self.breaks_mended(alloc, breaks, line, bytes)
+        } else {
+            Ok(false)
+        }
+    }
+
     fn is_confirmed(&self, alloc: Global, command: DefId, bytes: &[u8]) -> Result<bool, AllocError>
-        ensures { IfOk result (λ yes. IsTrue yes → IsConfirmed (sides_of self.now) bytes.now command) }
+        ensures { IfOk result (λ yes. IsTrue yes ↔ IsConfirmed (sides_of self.now) bytes.now command) }
     {
         let sent = is_message_of(
             alloc,
@@ -75,6 +114,8 @@ impl<'a, A: Book, B: Book> Upgrade<'a, A, B> {
         ensures each_mended { IfOk result
             (λ told. EachHasMessage (sides_of self.now) breaks.command breaks.sites.items told.lines.items) }
         ensures standings { IfOk result (λ told. HaveStandings left.old told.lines.items) }
+        ensures exactly { IfOk result (λ told. AreConfirmedWhere (sides_of self.now) (stock_of self.now)
+            breaks.command breaks.sites.items left.old told.lines.items) }
         ensures left { IfOk result (λ told. left.new ≡ left_after left.old told.lines.items) }
     {
         let mut lines = Vec::new(alloc);
@@ -99,6 +140,8 @@ impl<'a, A: Book, B: Book> Upgrade<'a, A, B> {
         ensures mended { IfOk result (λ standing. standing ≡ Standing.Confirmed
             → HasMessage (sides_of self.now) breaks.now.command breaks.now.sites.items line.now) }
         ensures standing { IfOk result (IsStandingOf left line.now) }
+        ensures exactly { IfOk result (IsConfirmedWhere (sides_of self.now) (stock_of self.now)
+            breaks.now.command breaks.now.sites.items left line.now) }
     {
         if has_no_message(&line.cause) {
             return Ok(Standing::Undecided);
@@ -106,11 +149,19 @@ impl<'a, A: Book, B: Book> Upgrade<'a, A, B> {
         if !is_checked(line, left) {
             return Ok(Standing::Unchecked);
         }
-        match self.confirmed_message(alloc, breaks, line)? {
-            Some(_) => Ok(Standing::Confirmed),
-            None => Ok(Standing::Undecided),
+        if self.is_broken(alloc, breaks, line)? {
+            Ok(Standing::Confirmed)
+        } else {
+            Ok(Standing::Undecided)
         }
     }
+}
+
+/// Whether a message has the length that its line tells.
+fn has_length(bytes: &[u8], size: u64) -> bool
+    ensures { IsTrue result ↔ (length bytes.now ≡ header_length + size) }
+{
+    bytes.len() >= HEADER_LENGTH && (bytes.len() - HEADER_LENGTH) as u64 == size
 }
 
 /// Whether no message is known that breaks as the line tells.
@@ -157,7 +208,7 @@ fn is_message_of<B: Book>(
     command: DefId,
     bytes: &[u8],
 ) -> Result<bool, AllocError>
-    ensures { IfOk result (λ yes. IsTrue yes → IsValidOf (B.meaning book.now) unknown Any bytes.now command) }
+    ensures { IfOk result (λ yes. IsTrue yes ↔ IsValidOf (B.meaning book.now) unknown Any bytes.now command) }
 {
     match check(alloc, book, unknown, Levels::Any, bytes) {
         Ok(found) => {

@@ -2,6 +2,7 @@
 ghost use Rattle.dia_breaking.specs.Closed.{ClosedSitesAreSafe};
 ghost use Rattle.dia_breaking.specs.Confirmed.{IncludedBreakNothing, IncludedHaveNoLines};
 ghost use Rattle.dia_breaking.specs.Listing.{ListingsAreOne};
+ghost use Rattle.dia_breaking.specs.Messages.{LineMessagesAreOne};
 ghost use Rattle.dia_breaking.specs.TheLines.{TheLinesAreOne};
 ghost use Rattle.dia_breaking.specs.TheMeanings.{TheMeaningsAreOne};
 
@@ -20,6 +21,11 @@ pub fn included_commands_break_nothing()
 /// From one basis there is one list of sites, and one of lines.
 pub fn listings_are_one()
     ensures { ListingsAreOne }
+{}
+
+/// The message that is written for a line is one.
+pub fn line_messages_are_one()
+    ensures { LineMessagesAreOne }
 {}
 
 /// Two dictionaries have one list of sites and one of lines for a command, by what is sent and by the receiver's policy.

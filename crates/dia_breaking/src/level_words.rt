@@ -5,6 +5,7 @@ ghost use Rattle.std.specs.Option.{option_map_or};
 ghost use Rattle.dia_book.specs.Dictionary.{definitions, selected};
 ghost use Rattle.dia_rules.specs.Rules.{rules_in};
 ghost use Rattle.dia_breaking_levels.specs.LevelTests.{too_long};
+ghost use Rattle.dia_breaking.specs.Messages.{read_number, sent_number};
 ghost use Rattle.dia_breaking.specs.Upgrades.{other_length_of, sides_of};
 ghost use Rattle.dia_breaking.specs.Words.{accepted_bounds, accepted_rules, bounds_text, head_at};
 ghost use Rattle.dia_breaking.specs.Words.{level_detail, level_text, no_bounds, sent_bounds};
@@ -130,11 +131,12 @@ impl<'a, A: Book, B: Book> Upgrade<'a, A, B> {
     }
 
     /// The definition of A by which the level at a place is read, in messages of a command.
-    fn sent_definition(&self, command: DefId, place: Place) -> Option<DefId>
+    pub(crate) fn sent_definition(&self, command: DefId, place: Place) -> Option<DefId>
         requires { command < length (definitions (sides_of self.now).sender) }
         ensures within { IfSome result (λ def. def < length (definitions (sides_of self.now).sender)) }
         ensures rules { option_map_or (rules_in (sides_of self.now).sender) result []
             ≡ sent_rules (sides_of self.now).sender command place }
+        ensures number { result ≡ sent_number (sides_of self.now) command place }
     {
         match place {
             Place::Command { .. } => Some(command),
@@ -143,11 +145,12 @@ impl<'a, A: Book, B: Book> Upgrade<'a, A, B> {
     }
 
     /// The definition by which B reads the level.
-    fn accepted_definition(&self, command: DefId, place: Place) -> Option<DefId>
+    pub(crate) fn accepted_definition(&self, command: DefId, place: Place) -> Option<DefId>
         requires { command < length (definitions (sides_of self.now).sender) }
         ensures within { IfSome result (λ def. def < length (definitions (sides_of self.now).receiver)) }
         ensures rules { option_map_or (rules_in (sides_of self.now).receiver) result []
             ≡ accepted_rules (sides_of self.now) command place }
+        ensures number { result ≡ read_number (sides_of self.now) command place }
     {
         match place {
             Place::Command { read_as, .. } => self.selected_for(command, read_as),

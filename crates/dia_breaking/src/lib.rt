@@ -25,11 +25,14 @@ mod lines;
 mod meanings;
 mod mending;
 mod message;
+mod message_headers;
 mod nodes;
 mod number_lists;
 mod own_breaks;
 mod own_lines;
+mod parts;
 mod readings;
+mod shown;
 mod sites;
 mod start;
 mod told;
@@ -40,8 +43,8 @@ mod words;
 pub use confirm::MOST_CHECKED_TOGETHER;
 pub use dia_policy::{Sends, Unknown};
 pub use laws::{
-    closed_sites_are_safe, included_commands_break_nothing, listings_are_one, the_lines_are_one,
-    the_meanings_are_one,
+    closed_sites_are_safe, included_commands_break_nothing, line_messages_are_one,
+    listings_are_one, the_lines_are_one, the_meanings_are_one,
 };
 pub use line::{Breaks, Cause, Line, Place, Site, Standing};
 pub use upgrade::Upgrade;

@@ -17,7 +17,8 @@ ghost use Rattle.dia_breaking.specs.Sites.{group_sites};
 ghost use Rattle.dia_breaking.specs.TheLines.{AreAllOrUnproved, AreLinesOrUnproved, IsOfHead, IsStartOf};
 ghost use Rattle.dia_breaking.specs.Sender.{costs_of};
 ghost use Rattle.dia_breaking.specs.TheMeanings.{AreMeaningsOf, AreMeant, HoldsOfLevels};
-ghost use Rattle.dia_breaking.specs.Upgrades.{basis_for, lines_for, sides_of};
+ghost use Rattle.dia_breaking.specs.ToldMessages.{AreConfirmedWhere};
+ghost use Rattle.dia_breaking.specs.Upgrades.{basis_for, lines_for, sides_of, stock_of};
 ghost use Rattle.dia_breaking.specs.declared.line.Line.{Line as AnyLine};
 
 use crate::header_lines::push_header_lines;
@@ -53,6 +54,8 @@ impl<'a, A: Book, B: Book> Upgrade<'a, A, B> {
         ensures each_mended { IfOk result
             (λ breaks. EachHasMessage (sides_of self.now) command breaks.sites.items breaks.lines.items) }
         ensures standings { IfOk result (λ breaks. HaveStandings left.old breaks.lines.items) }
+        ensures exactly { IfOk result (λ breaks. AreConfirmedWhere (sides_of self.now) (stock_of self.now)
+            command breaks.sites.items left.old breaks.lines.items) }
         ensures left { IfOk result (λ breaks. left.new ≡ left_after left.old breaks.lines.items) }
         ensures formats { IfOk result (λ breaks. ∥ TellData (sides_of self.now) breaks.lines.items ∥₁) }
         ensures lines { IfOk result (λ breaks. AreLinesOrUnproved (sides_of self.now) (answer_of breaks)) }

@@ -1,9 +1,11 @@
 //! Messages whose headers are mended: their P flag and their application are such as a definition of B takes.
-ghost use Rattle.std.specs.Prelude.{◌≡◌, ◌≢◌, ◌≤◌, ◌<◌, ◌↔◌, ℕ, IfOk, IfSome, IsTrue, List, Some, length, slice_get};
+ghost use Rattle.std.specs.Prelude.{◌≡◌, ◌≢◌, ◌≤◌, ◌<◌, ◌↔◌, ℕ, IfOk, IfSome, IsTrue, List, None, Some, length, slice_get, take};
 ghost use Rattle.std.specs.Int.{IsBitSet};
 ghost use Rattle.dia_wire.specs.declared.Header.{Header as AnyHeader};
-ghost use Rattle.dia_wire.specs.Wire.{IsMessage, PlainAvp};
+ghost use Rattle.dia_wire.specs.Lengths.{header_length};
+ghost use Rattle.dia_wire.specs.Wire.{IsHead, IsMessage, PlainAvp};
 ghost use Rattle.dia_book.specs.Dictionary.{definitions, selected};
+ghost use Rattle.dia_check.specs.Faults.{HasLength};
 ghost use Rattle.dia_check.specs.Valid.{PHolds, class_of};
 ghost use Rattle.dia_breaking.specs.Confirmed.{IsConfirmed};
 ghost use Rattle.dia_breaking.specs.Mended.{BreaksBehind, BreaksOnceMended, IsMendedAt, is_of_header, p_bit};
@@ -20,7 +22,7 @@ use std::alloc::{AllocError, Global};
 
 impl<'a, A: Book, B: Book> Upgrade<'a, A, B> {
     /// Whether the message of a line, which B's side refuses, is refused once its header is mended, too. A line of the header
-    /// needs no such message.
+    /// asks nothing more.
     pub(crate) fn breaks_mended(
         &self,
         alloc: Global,
@@ -29,17 +31,17 @@ impl<'a, A: Book, B: Book> Upgrade<'a, A, B> {
         bytes: &[u8],
     ) -> Result<bool, AllocError>
         requires { IsConfirmed (sides_of self.now) bytes.now breaks.now.command }
-        ensures { IfOk result (λ yes. IsTrue yes → BreaksBehind (sides_of self.now) breaks.now.command
+        ensures { IfOk result (λ yes. IsTrue yes ↔ BreaksBehind (sides_of self.now) breaks.now.command
             breaks.now.sites.items line.now bytes.now) }
     {
         if is_of_header(&line.cause) {
             return Ok(true);
         }
         let path = breaks.path(alloc, line.site)?;
-        match first_of(&path) {
-            Some(site) => self.breaks_at(alloc, breaks.command, site.place, bytes),
-            None => Ok(false),
-        }
+        let Some(site) = first_of(&path) else {
+            return Ok(false);
+        };
+        self.breaks_at(alloc, breaks.command, site.place, bytes)
     }
 
     /// Whether it is refused once its header is mended for B's definition at a place of the command.
@@ -51,11 +53,9 @@ impl<'a, A: Book, B: Book> Upgrade<'a, A, B> {
         bytes: &[u8],
     ) -> Result<bool, AllocError>
         requires { IsConfirmed (sides_of self.now) bytes.now command }
-        ensures { IfOk result (λ yes. IsTrue yes → BreaksOnceMended (sides_of self.now) command place bytes.now) }
+        ensures { IfOk result (λ yes. IsTrue yes ↔ BreaksOnceMended (sides_of self.now) command place bytes.now) }
     {
-        let Ok((header, _)) = split_message(bytes) else {
-            return Ok(false);
-        };
+        let header = header_of(bytes);
         let Some(mended) = self.mended_header(command, place, &header) else {
             return Ok(false);
         };
@@ -66,11 +66,13 @@ impl<'a, A: Book, B: Book> Upgrade<'a, A, B> {
         Ok(!is_valid(alloc, self.b, self.unknown, &message)?)
     }
 
-    /// The header with a P flag and an application that B's definition at a place of the command takes; none, where B selects
-    /// another definition for it.
+    /// The header with a P flag and an application that B's definition at a place of the command takes; none, where no header
+    /// is so.
     fn mended_header(&self, command: DefId, place: Place, header: &Header) -> Option<Header>
         requires { command < length (definitions (sides_of self.now).sender) }
-        ensures { IfSome result (IsMendedAt (sides_of self.now) command place header.now) }
+        ensures some { IfSome result (IsMendedAt (sides_of self.now) command place header.now) }
+        ensures none { result ≡ None → (mended : AnyHeader)
+            → ¬ IsMendedAt (sides_of self.now) command place header.now mended }
     {
         let Place::Command { read_as, .. } = place else {
             return None;
@@ -91,10 +93,22 @@ impl<'a, A: Book, B: Book> Upgrade<'a, A, B> {
     }
 }
 
+/// The header of a message.
+fn header_of(bytes: &[u8]) -> Header
+    requires { HasLength bytes.now (length bytes.now) }
+    ensures head { IsHead result (length bytes.now) (take header_length bytes.now) }
+    ensures long { 20 ≤ length bytes.now }
+{
+    match split_message(bytes) {
+        Ok((header, _)) => header,
+        Err(_) => unreachable!(),
+    }
+}
+
 /// Whether the dictionary selects the definition for the header.
 fn selects<B: Book>(b: &B, header: &Header, def: DefId) -> bool
     ensures { IsTrue result
-        → selected (B.meaning b.now) header.now.code (class_of header.now.flags) header.now.app ≡ Some def }
+        ↔ (selected (B.meaning b.now) header.now.code (class_of header.now.flags) header.now.app ≡ Some def) }
 {
     match command_of(b, header.code, class_of(header.flags), header.app) {
         Some(found) => found == def,
@@ -138,9 +152,9 @@ fn first_of(path: &[Site]) -> Option<Site>
 /// The message with the Command Flags and the application of this header.
 fn with_header(alloc: Global, bytes: &[u8], header: &Header) -> Result<Vec<u8>, AllocError>
     requires { 20 ≤ length bytes.now }
-    ensures { IfOk result (λ mended. (old : AnyHeader) (avps : List PlainAvp) → IsMessage old avps bytes.now
+    ensures { IfOk result (λ message. (old : AnyHeader) (avps : List PlainAvp) → IsMessage old avps bytes.now
         → header.now.code ≡ old.code → header.now.hop ≡ old.hop → header.now.e2e ≡ old.e2e
-        → IsMessage header.now avps mended.items) }
+        → IsMessage header.now avps message.items) }
 {
     let mut mended = Vec::new(alloc);
     mended.extend_from_slice(&bytes[..4])?;

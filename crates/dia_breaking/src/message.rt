@@ -1,182 +1,289 @@
 //! The message of a line.
-ghost use Rattle.std.specs.Prelude.{◌<◌, length};
+ghost use Rattle.std.specs.Prelude.{◌≡◌, ◌<◌, ◌++◌, IfOk, IfSome, None, OnOk, length, reverse, slice_get};
 ghost use Rattle.dia_book.specs.Dictionary.{definitions};
-ghost use Rattle.dia_breaking.specs.Upgrades.{sides_of};
+ghost use Rattle.dia_breaking.specs.Messages.{AreParts, IsAlone, IsInnermost, IsLineMessage, IsMessageFor, IsShowingLevel};
+ghost use Rattle.dia_breaking.specs.Messages.{command_head, group_head, level_round, levels_on, parts_round};
+ghost use Rattle.dia_breaking.specs.Nested.{fronts, group_front, group_rest, rests, site_front, site_rest};
+ghost use Rattle.dia_breaking.specs.Upgrades.{sides_of, stock_of};
 
-use crate::books::m_rule_of;
+use crate::heads::{Head, head_of};
 use crate::line::{Breaks, Cause, Line, Place, Site};
+use crate::message_headers::push_header;
+use crate::parts::{front_parts, rest_parts};
+use crate::shown::ShownAvp;
 use crate::upgrade::Upgrade;
-use dia_book::{Book, Class, DefId, Key, MRule};
-use dia_breaking_data::Witness;
-use dia_breaking_levels::{Part, length_least, level_least, level_with, line_level};
-use dia_breaking_shortest::{push_least, shortest_head};
-use dia_wire::{
-    AVP_MANDATORY, AVP_VENDOR, COMMAND_ERROR, COMMAND_PROXIABLE, COMMAND_REQUEST, HEADER_LENGTH,
-};
+use crate::words::{is_command, site_at};
+use dia_book::{Book, DefId, Key};
+use dia_breaking_levels::{Part, level_least, level_with, line_level};
+use dia_breaking_shortest::{push_head, shortest_head};
 use std::alloc::{AllocError, Global};
 
-/// A level within which a group is being written, with the parts that follow the group.
-#[derive(Drop)]
-struct Open {
-    rest: Vec<Part>,
-}
-
-/// The AVP of a line, among the least AVPs around it.
-#[derive(Clone, Copy, Debug)]
-enum Shown {
-    /// None: the level itself shows the line.
-    Level,
-    /// A least one, with this M flag.
-    Flag { key: Key, m: bool },
-    /// One with these data.
-    Data { key: Key, data: Witness },
-    /// A least one.
-    Least { key: Key },
-    /// A least one, with an M flag that both rules allow.
-    Read { key: Key },
-}
-
-impl Shown {
-    fn of(cause: &Cause) -> Shown {
-        match *cause {
-            Cause::Unknown { key, m } => Shown::Flag { key, m },
-            Cause::MBit { key, m } => Shown::Flag { key, m },
-            Cause::Format {
-                key,
-                data: Some(data),
-            } => Shown::Data { key, data },
-            Cause::Format { key, data: None } => Shown::Least { key },
-            Cause::LevelAsLeaf { key } => Shown::Least { key },
-            Cause::Meaning { key } => Shown::Read { key },
-            Cause::Command => Shown::Level,
-            Cause::Application => Shown::Level,
-            Cause::Proxiable { .. } => Shown::Level,
-            Cause::Level(_) => Shown::Level,
-            Cause::Unproved => Shown::Level,
-        }
-    }
-
-    fn key(&self) -> Option<Key> {
-        match *self {
-            Shown::Level => None,
-            Shown::Flag { key, .. } => Some(key),
-            Shown::Data { key, .. } => Some(key),
-            Shown::Least { key } => Some(key),
-            Shown::Read { key } => Some(key),
-        }
-    }
-}
-
 impl<'a, A: Book, B: Book> Upgrade<'a, A, B> {
-    /// A message for a line of a command, or for one of its meanings: the levels around the line, from the command inwards, with
-    /// least AVPs beside them. That it breaks so, and that none that does is shorter, isn't proved; nor that a meaning's breaks
-    /// nothing. The error comes only where memory was refused.
+    /// The message of a line of a command, or of one of its meanings: the levels around the line, from the command inwards, with
+    /// least AVPs beside them. There is one such message (`line_messages_are_one`). That none that breaks so is shorter isn't
+    /// proved; nor that a meaning's breaks nothing. Where A has no such command, there are no bytes. The error comes only where
+    /// memory was refused.
     pub fn message(
         &self,
         alloc: Global,
         breaks: &Breaks,
         line: &Line,
-    ) -> Result<Vec<u8>, AllocError> {
-        let path = breaks.path(alloc, line.site)?;
-        let mut out = Vec::new(alloc);
-        push_header(&mut out, breaks, line, &path)?;
-        let mut open = Vec::new(alloc);
-        self.push_fronts(alloc, &mut out, &mut open, breaks, line, &path)?;
-        self.push_innermost(alloc, &mut out, breaks, line)?;
-        for level in open.iter().rev() {
-            self.push_parts(&mut out, &level.rest)?;
+    ) -> Result<Vec<u8>, AllocError>
+        ensures { IfOk result (λ bytes. IsLineMessage (sides_of self.now) (stock_of self.now)
+            breaks.now.command breaks.now.sites.items line.now bytes.items) }
+    {
+        match command_head(self.lengths.book, breaks.command) {
+            Some(head) => self.message_for(alloc, breaks, line, &head),
+            None => Ok(Vec::new(alloc)),
         }
+    }
+
+    /// The message of a command with this head.
+    fn message_for(
+        &self,
+        alloc: Global,
+        breaks: &Breaks,
+        line: &Line,
+        head: &Head,
+    ) -> Result<Vec<u8>, AllocError>
+        requires { breaks.now.command < length (definitions (sides_of self.now).sender) }
+        ensures { IfOk result (λ bytes. IsMessageFor (sides_of self.now) (stock_of self.now)
+            breaks.now.command breaks.now.sites.items line.now head.now bytes.items) }
+    {
+        let path = breaks.path(alloc, line.site)?;
+        let inner = self.innermost(alloc, breaks, line)?;
+        let (sites, level) = (path.as_slice(), inner.as_slice());
+        let mut out = Vec::new(alloc);
+        push_header(&mut out, head, line, first_of(sites))?;
+        self.push_levels(alloc, &mut out, breaks.command, line.length, sites, level)?;
         Ok(out)
     }
 
-    /// Writes what stands before each group of the path, with its head.
+    /// Adds the levels of the path, each in a group of the one before; the last one has these bytes.
+    fn push_levels(
+        &self,
+        alloc: Global,
+        out: &mut Vec<u8>,
+        command: DefId,
+        size: u64,
+        path: &[Site],
+        inner: &[u8],
+    ) -> Result<(), AllocError>
+        requires { command < length (definitions (sides_of self.now).sender) }
+        ensures { OnOk result (out.new.items ≡ out.old.items
+            ++ levels_on (sides_of self.now) (stock_of self.now) command size path.now inner.now) }
+    {
+        let mut behind = Vec::new(alloc);
+        self.push_fronts(alloc, out, &mut behind, command, size, path)?;
+        out.extend_from_slice(inner)?;
+        behind.reverse();
+        self.push_parts(out, behind.as_slice())?;
+        Ok(())
+    }
+
+    /// Adds what stands before each group of the path, and its head. What stands behind is left, the last part first.
     fn push_fronts(
         &self,
         alloc: Global,
         out: &mut Vec<u8>,
-        open: &mut Vec<Open>,
-        breaks: &Breaks,
-        line: &Line,
+        behind: &mut Vec<Part>,
+        command: DefId,
+        size: u64,
         path: &[Site],
-    ) -> Result<(), AllocError> {
-        for pair in path.windows(2) {
-            if let [outer, inner] = pair {
-                let rest = self.push_front(alloc, out, breaks, line, outer, inner)?;
-                open.push(Open { rest })?;
-            }
+    ) -> Result<(), AllocError>
+        requires { command < length (definitions (sides_of self.now).sender) }
+        ensures fronts { OnOk result (out.new.items ≡ out.old.items
+            ++ fronts (sides_of self.now) (stock_of self.now) command size None path.now) }
+        ensures rests { OnOk result (reverse behind.new.items
+            ≡ rests (sides_of self.now) (stock_of self.now) command None path.now ++ reverse behind.old.items) }
+    {
+        let mut outer = None;
+        for site in path {
+            self.push_front(alloc, out, behind, command, size, outer, *site)?;
+            outer = Some(*site);
         }
         Ok(())
     }
 
-    /// Writes what stands in the outer level before the group of the inner one, and its head. What is left to write comes back.
+    /// Adds what stands in the outer level before the group of a site, and its head.
     fn push_front(
         &self,
         alloc: Global,
         out: &mut Vec<u8>,
-        breaks: &Breaks,
-        line: &Line,
-        outer: &Site,
-        inner: &Site,
-    ) -> Result<Vec<Part>, AllocError> {
-        let Place::Group { key, .. } = inner.place else {
-            return Ok(Vec::new(alloc));
-        };
-        let Some(def) = self.definition_of_a(breaks.code, breaks.class, outer.place) else {
-            return Ok(Vec::new(alloc));
-        };
-        let parts = level_with(alloc, self.lengths.book, def, &self.lengths, key)?;
-        let (front, rest) = around(alloc, &parts, key)?;
-        self.push_parts(out, &front)?;
-        let length = line.length.saturating_sub(inner.way);
-        self.push_group_head(out, key, length)?;
-        Ok(rest)
-    }
-
-    /// Writes the level of the line.
-    fn push_innermost(
-        &self,
-        alloc: Global,
-        out: &mut Vec<u8>,
-        breaks: &Breaks,
-        line: &Line,
-    ) -> Result<(), AllocError> {
-        let Some(site) = breaks.sites.get(line.site) else {
+        behind: &mut Vec<Part>,
+        command: DefId,
+        size: u64,
+        outer: Option<Site>,
+        site: Site,
+    ) -> Result<(), AllocError>
+        requires { command < length (definitions (sides_of self.now).sender) }
+        ensures front { OnOk result (out.new.items ≡ out.old.items
+            ++ site_front (sides_of self.now) (stock_of self.now) command size outer site) }
+        ensures rest { OnOk result (reverse behind.new.items
+            ≡ site_rest (sides_of self.now) (stock_of self.now) command outer site ++ reverse behind.old.items) }
+    {
+        let Some(outer) = outer else {
             return Ok(());
         };
-        let Some(def) = self.definition_of_a(breaks.code, breaks.class, site.place) else {
-            return Ok(());
-        };
-        let shown = Shown::of(&line.cause);
-        match shown.key() {
-            Some(key) => {
-                let parts = level_with(alloc, self.lengths.book, def, &self.lengths, key)?;
-                let (front, rest) = around(alloc, &parts, key)?;
-                self.push_parts(out, &front)?;
-                self.push_shown(out, &shown)?;
-                self.push_parts(out, &rest)
-            }
-            None => {
-                let parts = self.level_of(alloc, breaks, site.place, def, &line.cause)?;
-                self.push_parts(out, &parts)
+        match site.place {
+            Place::Command { .. } => Ok(()),
+            Place::Group { key, .. } => {
+                self.push_group(alloc, out, behind, command, size, outer.place, site, key)
             }
         }
     }
 
-    /// The parts of a level that shows a line by itself.
-    fn level_of(
+    fn push_group(
         &self,
         alloc: Global,
-        breaks: &Breaks,
+        out: &mut Vec<u8>,
+        behind: &mut Vec<Part>,
+        command: DefId,
+        size: u64,
+        outer: Place,
+        site: Site,
+        key: Key,
+    ) -> Result<(), AllocError>
+        requires { command < length (definitions (sides_of self.now).sender) }
+        ensures front { OnOk result (out.new.items ≡ out.old.items
+            ++ group_front (sides_of self.now) (stock_of self.now) command size outer site key) }
+        ensures rest { OnOk result (reverse behind.new.items
+            ≡ group_rest (sides_of self.now) (stock_of self.now) command outer key ++ reverse behind.old.items) }
+    {
+        let parts = self.parts_round(alloc, command, outer, key)?;
+        self.push_parts(out, front_parts(&parts, key))?;
+        self.push_group_head(out, size, site, key)?;
+        let mut rest = rest_parts(alloc, &parts, key)?;
+        rest.reverse();
+        behind.extend_from_slice(rest.as_slice())?;
+        Ok(())
+    }
+
+    /// Adds the head of the group whose data the level at a site is. M is as both rules want it, where they can be met together.
+    fn push_group_head(
+        &self,
+        out: &mut Vec<u8>,
+        size: u64,
+        site: Site,
+        key: Key,
+    ) -> Result<(), AllocError>
+        ensures { OnOk result (out.new.items ≡ out.old.items ++ group_head (sides_of self.now) size site key) }
+    {
+        let length = size
+            .saturating_sub(site.way)
+            .saturating_add(shortest_head(key));
+        push_head(out, key, self.wants_m(key), length)
+    }
+
+    /// The shortest level at a place that has an AVP of the key.
+    fn parts_round(
+        &self,
+        alloc: Global,
+        command: DefId,
+        place: Place,
+        key: Key,
+    ) -> Result<Vec<Part>, AllocError>
+        requires { command < length (definitions (sides_of self.now).sender) }
+        ensures { IfOk result (λ parts. parts.items
+            ≡ parts_round (sides_of self.now) (stock_of self.now) command place key) }
+    {
+        match self.sent_definition(command, place) {
+            Some(def) => level_with(alloc, self.lengths.book, def, &self.lengths, key),
+            None => Ok(Vec::new(alloc)),
+        }
+    }
+
+    /// The level of the line.
+    fn innermost(&self, alloc: Global, breaks: &Breaks, line: &Line) -> Result<Vec<u8>, AllocError>
+        requires { breaks.now.command < length (definitions (sides_of self.now).sender) }
+        ensures { IfOk result (λ inner. IsInnermost (sides_of self.now) (stock_of self.now)
+            breaks.now.command line.now.cause (slice_get breaks.now.sites.items line.now.site) inner.items) }
+    {
+        match site_at(&breaks.sites, line.site) {
+            Some(site) => self.showing_level(alloc, breaks.command, &line.cause, site.place),
+            None => Ok(Vec::new(alloc)),
+        }
+    }
+
+    /// A level at a place that shows a line.
+    fn showing_level(
+        &self,
+        alloc: Global,
+        command: DefId,
+        cause: &Cause,
+        place: Place,
+    ) -> Result<Vec<u8>, AllocError>
+        requires { command < length (definitions (sides_of self.now).sender) }
+        ensures { IfOk result (λ bytes. IsShowingLevel (sides_of self.now) (stock_of self.now)
+            command cause.now place bytes.items) }
+    {
+        let found = self.shown_avp(alloc, cause)?;
+        match found {
+            Some(shown) => self.level_round(alloc, command, place, &shown),
+            None => self.level_alone(alloc, command, cause, place),
+        }
+    }
+
+    /// The shortest level at a place with the AVP of a line.
+    fn level_round(
+        &self,
+        alloc: Global,
+        command: DefId,
+        place: Place,
+        shown: &ShownAvp,
+    ) -> Result<Vec<u8>, AllocError>
+        requires { command < length (definitions (sides_of self.now).sender) }
+        ensures { IfOk result (λ bytes. bytes.items ≡ level_round (sides_of self.now) (stock_of self.now)
+            command place shown.now.key shown.now.bytes.items) }
+    {
+        let parts = self.parts_round(alloc, command, place, shown.key)?;
+        let mut out = Vec::new(alloc);
+        self.push_parts(&mut out, front_parts(&parts, shown.key))?;
+        out.extend_from_slice(&shown.bytes)?;
+        let rest = rest_parts(alloc, &parts, shown.key)?;
+        self.push_parts(&mut out, &rest)?;
+        Ok(out)
+    }
+
+    /// A level at a place that shows a line by itself.
+    fn level_alone(
+        &self,
+        alloc: Global,
+        command: DefId,
+        cause: &Cause,
+        place: Place,
+    ) -> Result<Vec<u8>, AllocError>
+        requires { command < length (definitions (sides_of self.now).sender) }
+        ensures { IfOk result (λ bytes. IsAlone (sides_of self.now) (stock_of self.now)
+            command place cause.now bytes.items) }
+    {
+        let Some(def) = self.sent_definition(command, place) else {
+            return Ok(Vec::new(alloc));
+        };
+        let parts = self.parts_alone(alloc, command, cause, place, def)?;
+        let mut out = Vec::new(alloc);
+        self.push_parts(&mut out, parts.as_slice())?;
+        Ok(out)
+    }
+
+    /// Its AVPs, by this definition of A.
+    fn parts_alone(
+        &self,
+        alloc: Global,
+        command: DefId,
+        cause: &Cause,
         place: Place,
         def: DefId,
-        cause: &Cause,
     ) -> Result<Vec<Part>, AllocError>
-        requires { def < length (definitions (sides_of self.now).sender) }
+        requires command { command < length (definitions (sides_of self.now).sender) }
+        requires definition { def < length (definitions (sides_of self.now).sender) }
+        ensures { IfOk result (λ parts. AreParts (sides_of self.now) (stock_of self.now)
+            command place def cause.now parts.items) }
     {
         let Cause::Level(line) = cause else {
             return level_least(alloc, self.lengths.book, def, &self.lengths);
         };
-        match self.definition_of_b(breaks.code, breaks.class, place) {
+        match self.accepted_definition(command, place) {
             Some(other) => line_level(
                 alloc,
                 self.lengths.book,
@@ -189,155 +296,22 @@ impl<'a, A: Book, B: Book> Upgrade<'a, A, B> {
             None => level_least(alloc, self.lengths.book, def, &self.lengths),
         }
     }
-
-    /// Writes least AVPs.
-    fn push_parts(&self, out: &mut Vec<u8>, parts: &[Part]) -> Result<(), AllocError> {
-        for part in parts {
-            self.push_part(out, part)?;
-        }
-        Ok(())
-    }
-
-    fn push_part(&self, out: &mut Vec<u8>, part: &Part) -> Result<(), AllocError> {
-        for _ in 0..part.count {
-            push_least(out, self.lengths.book, &self.lengths.least, part.key)?;
-        }
-        Ok(())
-    }
-
-    /// Writes the AVP of a line.
-    fn push_shown(&self, out: &mut Vec<u8>, shown: &Shown) -> Result<(), AllocError> {
-        match *shown {
-            Shown::Level => Ok(()),
-            Shown::Least { key } => push_least(out, self.lengths.book, &self.lengths.least, key),
-            Shown::Flag { key, m } => self.push_with_m(out, key, m),
-            Shown::Read { key } => self.push_with_m(out, key, self.wants_m(key)),
-            Shown::Data { key, data } => {
-                let bytes = data.as_slice();
-                self.push_group_head(out, key, bytes.len() as u64)?;
-                out.extend_from_slice(bytes)?;
-                push_padding(out, bytes.len())
-            }
-        }
-    }
-
-    /// Writes a least AVP with this M flag.
-    fn push_with_m(&self, out: &mut Vec<u8>, key: Key, m: bool) -> Result<(), AllocError> {
-        let place = out.len();
-        push_least(out, self.lengths.book, &self.lengths.least, key)?;
-        set_m(out, place, m);
-        Ok(())
-    }
-
-    /// Writes the head of an AVP with so many bytes of data. M is as both rules want it, where they can be met together.
-    fn push_group_head(&self, out: &mut Vec<u8>, key: Key, length: u64) -> Result<(), AllocError> {
-        push_head(out, key, self.wants_m(key), length)
-    }
-
-    fn wants_m(&self, key: Key) -> bool {
-        match m_rule_of(self.lengths.book, key) {
-            Some(MRule::Must) => true,
-            Some(MRule::MustNot) => false,
-            Some(MRule::Any) => m_rule_of(self.b, key) == Some(MRule::Must),
-            None => false,
-        }
-    }
 }
 
-/// The parts of a level before an AVP of the key, and those behind it.
-fn around(alloc: Global, parts: &[Part], key: Key) -> Result<(Vec<Part>, Vec<Part>), AllocError> {
-    let mut front = Vec::new(alloc);
-    let mut rest = Vec::new(alloc);
-    let mut is_behind = false;
-    for part in parts {
-        if is_behind {
-            rest.push(*part)?;
-        } else if part.key == key {
-            is_behind = true;
-            rest.push(Part {
-                key,
-                count: part.count.saturating_sub(1),
-            })?;
-        } else {
-            front.push(*part)?;
-        }
-    }
-    Ok((front, rest))
-}
-
-fn push_header(
-    out: &mut Vec<u8>,
-    breaks: &Breaks,
-    line: &Line,
-    path: &[Site],
-) -> Result<(), AllocError> {
-    let (app, proxiable) = match path.first() {
-        Some(
-            Site {
-                place: Place::Command { app, proxiable, .. },
-                ..
-            },
-        ) => (*app, *proxiable),
-        _ => (0, false),
-    };
-    let proxiable = match line.cause {
-        Cause::Proxiable { set } => set,
-        _ => proxiable,
-    };
-    let length = line.length.saturating_add(HEADER_LENGTH as u64);
-    out.push(1)?;
-    push_u24(out, length)?;
-    out.push(flags_of(breaks.class, proxiable))?;
-    push_u24(out, u64::from(breaks.code))?;
-    out.extend_from_slice(&app.to_be_bytes())?;
-    out.extend_from_slice(&[0; 8])
-}
-
-/// The Command Flags (RFC 6733 section 3).
-fn flags_of(class: Class, proxiable: bool) -> u8 {
-    let flags = match class {
-        Class::Request => COMMAND_REQUEST,
-        Class::Answer => 0,
-        Class::Error => COMMAND_ERROR,
-    };
-    if proxiable {
-        flags | COMMAND_PROXIABLE
+/// The head of a command of the dictionary, if the number is that of one.
+fn command_head<B: Book>(book: &B, number: DefId) -> Option<Head>
+    ensures within { IfSome result (λ head. number < length (definitions (B.meaning book.now))) }
+    ensures head { result ≡ command_head (B.meaning book.now) number }
+{
+    if is_command(book, number) {
+        head_of(book, number)
     } else {
-        flags
+        None
     }
 }
 
-/// Writes the head of an AVP (RFC 6733 section 4.1).
-fn push_head(out: &mut Vec<u8>, key: Key, m: bool, length: u64) -> Result<(), AllocError> {
-    let m_flag = if m { AVP_MANDATORY } else { 0 };
-    let v_flag = if key.vendor == 0 { 0 } else { AVP_VENDOR };
-    out.extend_from_slice(&key.code.to_be_bytes())?;
-    out.push(m_flag | v_flag)?;
-    push_u24(out, length.saturating_add(shortest_head(key)))?;
-    if key.vendor != 0 {
-        out.extend_from_slice(&key.vendor.to_be_bytes())?;
-    }
-    Ok(())
-}
-
-fn push_u24(out: &mut Vec<u8>, number: u64) -> Result<(), AllocError> {
-    let bytes = number.to_be_bytes();
-    out.extend_from_slice(&bytes[5..])
-}
-
-/// Writes the zero bytes behind data of this length.
-fn push_padding(out: &mut Vec<u8>, length: usize) -> Result<(), AllocError> {
-    let zeros = [0; 3];
-    out.extend_from_slice(&zeros[..(4 - length % 4) % 4])
-}
-
-/// Sets or clears the M flag of the AVP at a place.
-fn set_m(out: &mut Vec<u8>, place: usize, m: bool) {
-    if let Some(flags) = out.get_mut(place.saturating_add(4)) {
-        *flags = if m {
-            *flags | AVP_MANDATORY
-        } else {
-            *flags & !AVP_MANDATORY
-        };
-    }
+fn first_of(path: &[Site]) -> Option<Site>
+    ensures { result ≡ slice_get path.now 0 }
+{
+    path.first().copied()
 }

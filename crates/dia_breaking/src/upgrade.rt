@@ -21,12 +21,11 @@ ghost use Rattle.dia_breaking.specs.TheMeanings.{AreMeaningsOf, AreMeant, HoldsO
 ghost use Rattle.dia_breaking.specs.Words.{head_at};
 
 use crate::apps::BothApps;
-use crate::books::{command_of, group_of};
 use crate::exits::{Outlook, outlooks};
 use crate::heads::{Head, head_of};
 use crate::keys::Telling;
 use crate::lengths::Lengths;
-use crate::line::{Breaks, Place};
+use crate::line::Breaks;
 use crate::nodes::nodes_of;
 use crate::own_breaks::{OwnBreaks, own_breaks};
 use crate::readings::OtherApps;
@@ -62,7 +61,8 @@ pub struct Upgrade<'a, A: Book, B: Book> {
 }
 
 impl<'a, A: Book, B: Book> Upgrade<'a, A, B> {
-    ghost use Rattle.dia_breaking.specs.Upgrades.{receiver_of, sender_of, sides_of};
+    ghost use Rattle.dia_breaking.specs.ToldMessages.{AreConfirmedWhere};
+    ghost use Rattle.dia_breaking.specs.Upgrades.{receiver_of, sender_of, sides_of, stock_of};
 
     /// What A's side sends, read under B by a side that has this policy for AVPs that it doesn't know. The error comes only where
     /// memory was refused.
@@ -135,9 +135,9 @@ impl<'a, A: Book, B: Book> Upgrade<'a, A, B> {
     /// The standings are told line by line. A line without message is undecided; the message of another is checked, unless it
     /// has more than 2^20 bytes, or more than are left. `left` is how many bytes may be checked, and then how many of them
     /// weren't. A caller that goes over many commands begins with [`MOST_CHECKED_TOGETHER`](crate::MOST_CHECKED_TOGETHER), so
-    /// that the time for checks is bounded. A line that is confirmed has a message that is valid under A, as one of the command,
-    /// and not under B (`IsConfirmed`), and, unless the line is of the header, not once its header is mended, too
-    /// (`HasMessage`).
+    /// that the time for checks is bounded. A line is confirmed exactly where its message (`IsLineMessage`) is checked and breaks as
+    /// the line tells (`BreaksAsTold`): it has the length that is told, it is valid under A, as one of the command, and not under
+    /// B (`IsConfirmed`), and, unless the line is of the header, not once its header is mended, too (`BreaksBehind`).
     ///
     /// The meanings are the one list of AVPs that B's side reads as another format, though it accepts all of their data
     /// (`AreTheMeanings`). Each key stands once, at the site to which the shortest way leads. They are no lines, and break
@@ -157,6 +157,8 @@ impl<'a, A: Book, B: Book> Upgrade<'a, A, B> {
         ensures each_mended { IfOk result
             (λ breaks. EachHasMessage (sides_of self.now) command breaks.sites.items breaks.lines.items) }
         ensures standings { IfOk result (λ breaks. HaveStandings left.old breaks.lines.items) }
+        ensures exactly { IfOk result (λ breaks. AreConfirmedWhere (sides_of self.now) (stock_of self.now)
+            command breaks.sites.items left.old breaks.lines.items) }
         ensures left { IfOk result (λ breaks. left.new ≡ left_after left.old breaks.lines.items) }
         ensures formats { IfOk result (λ breaks. ∥ TellData (sides_of self.now) breaks.lines.items ∥₁) }
         ensures command { IfOk result (λ breaks. breaks.command ≡ command) }
@@ -187,26 +189,6 @@ impl<'a, A: Book, B: Book> Upgrade<'a, A, B> {
                     meanings,
                 })
             }
-        }
-    }
-
-    /// The definition of A by which the level at a place is read.
-    pub(crate) fn definition_of_a(&self, code: u32, class: Class, place: Place) -> Option<DefId>
-        ensures { IfSome result (λ def. def < length (definitions (sides_of self.now).sender)) }
-    {
-        match place {
-            Place::Command { app, .. } => command_of(self.lengths.book, code, class, app),
-            Place::Group { key, .. } => group_of(self.lengths.book, key),
-        }
-    }
-
-    /// The definition of B by which the level at a place is read.
-    pub(crate) fn definition_of_b(&self, code: u32, class: Class, place: Place) -> Option<DefId>
-        ensures { IfSome result (λ def. def < length (definitions (sides_of self.now).receiver)) }
-    {
-        match place {
-            Place::Command { read_as, .. } => command_of(self.b, code, class, read_as),
-            Place::Group { key, .. } => group_of(self.b, key),
         }
     }
 

@@ -199,7 +199,7 @@ impl<'a, A: Book, B: Book> Upgrade<'a, A, B> {
 }
 
 /// Whether the number is that of a command of the dictionary.
-fn is_command<B: Book>(book: &B, number: DefId) -> bool
+pub(crate) fn is_command<B: Book>(book: &B, number: DefId) -> bool
     ensures { result ≡ is_command (B.meaning book.now) number }
 {
     let count = book.commands();
@@ -217,7 +217,7 @@ fn command_name<B: Book>(book: &B, command: DefId) -> &str
     book.def(command).name.as_str()
 }
 
-fn site_at(sites: &[Site], site: usize) -> Option<Site>
+pub(crate) fn site_at(sites: &[Site], site: usize) -> Option<Site>
     ensures { result ≡ slice_get sites.now site }
 {
     sites.get(site).copied()

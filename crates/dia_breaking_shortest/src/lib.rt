@@ -19,4 +19,4 @@ pub use laws::{
 };
 pub use lengths::shortest_head;
 pub use lookup::Least;
-pub use writing::push_least;
+pub use writing::{push_avp, push_head, push_least, push_length};

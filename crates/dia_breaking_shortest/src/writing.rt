@@ -135,7 +135,7 @@ fn push_leaf(out: &mut Vec<u8>, key: Key, m: bool, found: Option<Witness>) -> Re
 
 /// Adds an AVP with these data, and its padding (RFC 6733 section 4.1).
 #[tactic(auto, using(crate::proofs::BytesInParts::three_parts))]
-fn push_avp(out: &mut Vec<u8>, key: Key, m: bool, bytes: &[u8]) -> Result<(), AllocError>
+pub fn push_avp(out: &mut Vec<u8>, key: Key, m: bool, bytes: &[u8]) -> Result<(), AllocError>
     ensures { OnOk result (out.new.items ≡ out.old.items ++ avp_bytes key m bytes.now) }
 {
     push_head(out, key, m, shortest_head(key) + bytes.len() as u64)?;
@@ -145,7 +145,7 @@ fn push_avp(out: &mut Vec<u8>, key: Key, m: bool, bytes: &[u8]) -> Result<(), Al
 
 /// Adds the head of an AVP of this length, with no Vendor-ID for the vendor 0 (RFC 6733 section 4.1).
 #[tactic(auto, using(crate::proofs::BytesInParts::four_parts))]
-fn push_head(out: &mut Vec<u8>, key: Key, m: bool, length: u64) -> Result<(), AllocError>
+pub fn push_head(out: &mut Vec<u8>, key: Key, m: bool, length: u64) -> Result<(), AllocError>
     ensures { OnOk result (out.new.items ≡ out.old.items ++ head_bytes key m length) }
 {
     out.extend_from_slice(&key.code.to_be_bytes())?;
@@ -167,8 +167,8 @@ fn avp_flags(vendor: u32, m: bool) -> u8
     }
 }
 
-/// Adds the three bytes of a length.
-fn push_length(out: &mut Vec<u8>, length: u64) -> Result<(), AllocError>
+/// Adds the three bytes of a length, or of another such number.
+pub fn push_length(out: &mut Vec<u8>, length: u64) -> Result<(), AllocError>
     ensures { OnOk result (out.new.items ≡ out.old.items ++ length_bytes length) }
 {
     let bytes = length.to_be_bytes();

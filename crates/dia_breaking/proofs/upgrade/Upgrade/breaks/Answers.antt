@@ -10,7 +10,8 @@ use Rattle.dia_breaking.specs.Headers.{head_in}
 use Rattle.dia_breaking.specs.Mended.{HasMessage}
 use Rattle.dia_breaking.specs.OwnBreaks.{TellsData}
 use Rattle.dia_breaking.specs.TheLines.{IsOfHead}
-use Rattle.dia_breaking.specs.Upgrades.{sides_of}
+use Rattle.dia_breaking.specs.ToldMessages.{AreConfirmedWhere}
+use Rattle.dia_breaking.specs.Upgrades.{sides_of, stock_of}
 use Rattle.dia_breaking.specs.declared.line.Line.{Line}
 use Rattle.dia_breaking.specs.declared.line.Standing.TheVariants.{Confirmed, Unchecked}
 use Rattle.dia_breaking.specs.Words.{head_at}
@@ -77,6 +78,7 @@ returns-in-None g c =
       each = none_of (λ (line : Line). line.standing ≡ Confirmed → (bytes : List ℕ) × IsConfirmed s bytes c.args.command) c.new-lines.result.items c.new-lines.ensures.items;
       each_mended = none_of (λ (line : Line). line.standing ≡ Confirmed → HasMessage s c.args.command c.new.result.items line) c.new-lines.result.items c.new-lines.ensures.items;
       standings = subst (HaveStandings c.args.left.now) (sym c.new-lines.ensures.items) tt;
+      exactly = subst (AreConfirmedWhere s (stock_of c.args.self.now) c.args.command c.new.result.items c.args.left.now) (sym c.new-lines.ensures.items) tt;
       left = ap (left_after c.args.left.now) (sym c.new-lines.ensures.items);
       formats = ∣ none_of (λ (line : Line). TellsData s line.cause) c.new-lines.result.items c.new-lines.ensures.items ∣₁;
       command = refl;

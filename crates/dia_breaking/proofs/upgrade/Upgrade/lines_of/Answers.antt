@@ -10,7 +10,8 @@ use Rattle.dia_breaking.specs.Listing.{tells}
 use Rattle.dia_breaking.specs.Sides.{answer, answer_of}
 use Rattle.dia_breaking.specs.TheLines.{AreLinesOrUnproved, AreTheLines}
 use Rattle.dia_breaking.specs.TheMeanings.{AreMeaningsOf, AreMeant, AreTheMeanings, HoldsOfLevels}
-use Rattle.dia_breaking.specs.Upgrades.{sides_of}
+use Rattle.dia_breaking.specs.ToldMessages.{AreConfirmedWhere}
+use Rattle.dia_breaking.specs.Upgrades.{sides_of, stock_of}
 use Rattle.dia_breaking.proofs.FormatData.{data_kept}
 use Rattle.dia_breaking.proofs.FoundLines.{lines_kept}
 use Rattle.dia_breaking.proofs.FreeOfLines.{still_mended, still_valid}
@@ -61,6 +62,10 @@ returns g c =
           (subst (λ (number : ℕ). EachHasMessage s number found.sites.items told.lines.items) own has))
           c.with_standings.ensures.same c.with_standings.ensures.each_mended;
       standings = c.with_standings.ensures.standings;
+      exactly = when_two _ _ _ c.with_standings.result
+          (λ told same are. subst (λ (at : List Site). AreConfirmedWhere s (stock_of c.args.self.now) c.args.command at c.args.left.now told.lines.items) (sym same.3)
+          (subst (λ (number : ℕ). AreConfirmedWhere s (stock_of c.args.self.now) number found.sites.items c.args.left.now told.lines.items) own are))
+          c.with_standings.ensures.same c.with_standings.ensures.exactly;
       left = c.with_standings.ensures.left;
       unchecked = when_ok _ _ c.with_standings.result (λ told same. subst AreUnchecked (sym same.4) c.in_ok-found.ensures.unchecked) c.with_standings.ensures.same;
       formats = when_ok _ _ c.with_standings.result

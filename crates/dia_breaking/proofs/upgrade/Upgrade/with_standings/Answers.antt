@@ -5,9 +5,10 @@ use Rattle.dia_breaking.specs.Listing.{unchecked}
 use Rattle.dia_breaking.specs.Mended.{HasMessage}
 use Rattle.dia_breaking.specs.declared.line.Line.{Line}
 use Rattle.dia_breaking.specs.declared.line.Standing.TheVariants.{Confirmed}
-use Rattle.dia_breaking.specs.Upgrades.{sides_of}
+use Rattle.dia_breaking.specs.ToldMessages.{AreConfirmedWhere, IsConfirmedWhere}
+use Rattle.dia_breaking.specs.Upgrades.{sides_of, stock_of}
 use Rattle.dia_breaking.proofs.Lists.{all_more, image_more, none_of}
-use Rattle.dia_breaking.proofs.Standings.{left_more, so_told, standings_more}
+use Rattle.dia_breaking.proofs.Standings.{left_more, so_told, so_where, standings_more, where_more}
 use Rattle.dia_breaking.proofs.upgrade.Upgrade.with_standings.Goals as goal
 
 pub loop-line-init : goal.loop-line-init
@@ -20,6 +21,7 @@ loop-line-init g c =
           → (bytes : List ℕ) × IsConfirmed (sides_of up) bytes c.args.breaks.command) c.new-lines.result.items none;
       each_mended = none_of (λ (line : Line). line.standing ≡ Confirmed → HasMessage (sides_of up) c.args.breaks.command c.args.breaks.sites.items line) c.new-lines.result.items none;
       standings = subst (HaveStandings c.args.left.now) (sym none) tt;
+      exactly = subst (AreConfirmedWhere (sides_of up) (stock_of up) c.args.breaks.command c.args.breaks.sites.items c.args.left.now) (sym none) tt;
       left = ap (left_after c.args.left.now) (sym none);
     }
 
@@ -40,6 +42,10 @@ loop-line-preserved g c =
           c.loop-line.invariant.each_mended c.in_ok-standing.ensures.mended;
       standings = subst (HaveStandings c.args.left.now) (sym is) (standings_more c.args.left.now old told c.loop-line.invariant.standings
           (subst (λ left. IsStandingOf left told told.standing) c.loop-line.invariant.left (so_told c.loop-line.left line told.standing c.in_ok-standing.ensures.standing)));
+      exactly = subst (AreConfirmedWhere (sides_of up) (stock_of up) c.args.breaks.command c.args.breaks.sites.items c.args.left.now) (sym is)
+          (where_more (sides_of up) (stock_of up) c.args.breaks.command c.args.breaks.sites.items c.args.left.now old told c.loop-line.invariant.exactly
+          (subst (λ left. IsConfirmedWhere (sides_of up) (stock_of up) c.args.breaks.command c.args.breaks.sites.items left told told.standing) c.loop-line.invariant.left
+          (so_where (sides_of up) (stock_of up) c.args.breaks.command c.args.breaks.sites.items c.loop-line.left line told.standing c.in_ok-standing.ensures.exactly)));
       left = c.left_behind.ensures ∙ ap (λ left. left_behind left line) c.loop-line.invariant.left
           ∙ sym (left_more c.args.left.now old told) ∙ ap (left_after c.args.left.now) (sym is);
     }
@@ -55,6 +61,9 @@ returns-clause-each_mended g c = c.loop-line.invariant.each_mended
 
 pub returns-clause-standings : goal.returns-clause-standings
 returns-clause-standings g c = c.loop-line.invariant.standings
+
+pub returns-clause-exactly : goal.returns-clause-exactly
+returns-clause-exactly g c = c.loop-line.invariant.exactly
 
 pub returns-clause-left : goal.returns-clause-left
 returns-clause-left g c = c.loop-line.invariant.left

@@ -1,0 +1,19 @@
+use Rattle.std.proofs.Common.{◌≡◌, true, false, sym, ◌∙◌}
+use Rattle.std.proofs.lemmas.Bool.{eq-eqb}
+use Rattle.dia_rules.proofs.KindsOfRefusal.{no_want_fault, no_want_truncated, no_want_trailing}
+use Rattle.dia_breaking.proofs.confirm.is_message_of.Goals as goal
+
+pub returns-in-Err-Fault : goal.returns-in-Err-Fault
+returns-in-Err-Fault g c = ((λ h. absurd cc), (λ valid. absurd (no_want_fault _ _ c.in-Err-Fault.field-0-is (c.in-Err-Fault.ensures.valid c.args.command valid))))
+
+pub returns-in-Err-Truncated : goal.returns-in-Err-Truncated
+returns-in-Err-Truncated g c = ((λ h. absurd cc), (λ valid. absurd (no_want_truncated _ c.in-Err-Truncated.field-0-is (c.in-Err-Truncated.ensures.valid c.args.command valid))))
+
+pub returns-in-Err-Trailing : goal.returns-in-Err-Trailing
+returns-in-Err-Trailing g c = ((λ h. absurd cc), (λ valid. absurd (no_want_trailing _ c.in-Err-Trailing.field-0-is (c.in-Err-Trailing.ensures.valid c.args.command valid))))
+
+pub returns-else-eq : goal.returns-else-eq
+returns-else-eq g c = (
+  (λ h. absurd cc),
+  (λ valid. absurd (let e : false ≡ true = sym c.if-eq.false ∙ c.eq.ensures ∙ eq-eqb c.in-Ok.found.def c.args.command (c.in-Ok.ensures.valid c.args.command valid) in cc)),
+)
