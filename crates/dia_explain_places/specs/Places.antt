@@ -1,6 +1,6 @@
 -- Places of a text as a reader looks for them. A place counts the bytes in front of it.
 use Rattle.std.specs.Prelude.{◌≡◌, ℕ, ◌+◌, ◌-◌, ◌*◌, ◌==◌, ◌&&◌, ◌||◌, nat_lt, not, if◌then◌else◌, Bool, false, List, ◌++◌, length, take, drop, replicate, count_by}
-use Rattle.std.specs.Prelude.{Option, Some, slice_get, find, flat_map, unwrap_or, codes}
+use Rattle.std.specs.Prelude.{Option, Some, None, slice_get, find, flat_map, unwrap_or, codes}
 use Rattle.std.specs.Option.{option_map}
 use Rattle.std.specs.List.{prefix_len, suffix_len, take_while}
 use Rattle.std.specs.Char.{encode_utf8}
@@ -48,6 +48,11 @@ line_column text at = decimal (line_at text at) ++ codes ":" ++ decimal (column_
 -- how a note begins: the word that names the text, and the place
 abbrev pub place_text : List ℕ → List ℕ → ℕ → List ℕ
 place_text name text at = name ++ codes ":" ++ line_column text at ++ codes ": "
+
+-- how a line begins that is about a place of a text, or about the whole text
+abbrev pub start_text : List ℕ → List ℕ → Option ℕ → List ℕ
+start_text name text None = name ++ codes ": "
+start_text name text (Some at) = place_text name text at
 
 -- the place of the first name from a place on, or that place where there is none
 abbrev pub name_place : List ℕ → ℕ → ℕ

@@ -18,6 +18,8 @@ pub use input_texts::{InputTexts, NamedText};
 pub use lines::{PairWords, Word, start_of_line, words_of};
 pub use nearest::{nearest_command, nearest_name};
 pub use padding::{Unpadded, find_unpadded};
-pub use place::{Place, back, place_of, push_excerpt, push_line_column, push_place, push_shown};
+pub use place::{
+    Place, back, place_of, push_excerpt, push_line_column, push_place, push_shown, push_start,
+};
 pub use runs::{front_of_run, is_white};
-pub use sites::{DefSite, Sites, name_from, sites_of};
+pub use sites::{DefSite, Sites, name_from, part_place, sites_of};

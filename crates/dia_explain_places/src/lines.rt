@@ -1,9 +1,12 @@
 //! The lines of a table, and their words with their places.
 
-ghost use Rattle.std.specs.Prelude.{◌≡◌, ◌<◌, ℕ, length};
+ghost use Rattle.std.specs.Prelude.{◌≡◌, ◌<◌, ◌≤◌, ◌+◌, ◌^◌, ℕ, List, length};
+ghost use Rattle.std.specs.List.{prefix_len};
+ghost use Rattle.std.specs.Prelude.{not, ◌==◌};
 ghost use Rattle.dia_explain_places.specs.Places.{line_at};
+ghost use Rattle.dia_explain_places.specs.Words.{AreOnLine, IsOnLine};
 
-use crate::place::back;
+use crate::place::{back, front};
 use crate::runs::is_name_run;
 
 /// A word of a line, and the place where it begins. Where there is none it is empty, and its place is the end of the line.
@@ -35,13 +38,17 @@ impl Word<'_> {
     }
 
     /// The place behind the word.
-    fn end(&self) -> usize {
+    fn end(&self) -> usize
+        ensures { (text : List ℕ) (n : ℕ) → IsOnLine text n self.now → line_at text result ≡ n }
+    {
         self.at.saturating_add(self.text.len())
     }
 }
 
 /// The words of the line that begins at a place.
-pub fn words_of(text: &[u8], start: usize) -> PairWords<'_> {
+pub fn words_of(text: &[u8], start: usize) -> PairWords<'_>
+    ensures { AreOnLine text.entry.now (line_at text.entry.now start) result }
+{
     let kind = next_word(text, start);
     let first = next_word(text, kind.end());
     let sign = next_word(text, first.end());
@@ -57,18 +64,32 @@ pub fn words_of(text: &[u8], start: usize) -> PairWords<'_> {
 }
 
 /// The first word of a line from a place on. Spaces and tabs separate words, and a semicolon ends the line.
-fn next_word(text: &[u8], from: usize) -> Word<'_> {
+fn next_word(text: &[u8], from: usize) -> Word<'_>
+    ensures { IsOnLine text.entry.now (line_at text.entry.now from) result }
+{
     let line = line_from(text, from);
-    let blanks = line.iter().take_while(|byte| is_blank(**byte)).count();
-    let rest = back(line, blanks);
+    let blanks = blanks_before(line);
+    let word = front_word(back(line, blanks));
+    Word {
+        text: word,
+        at: from.saturating_add(blanks),
+    }
+}
+
+fn blanks_before(line: &[u8]) -> usize
+    ensures { result ≤ length line.now }
+{
+    line.iter().take_while(|byte| is_blank(**byte)).count()
+}
+
+fn front_word(rest: &[u8]) -> &[u8]
+    ensures { length result.now ≤ length rest.entry.now }
+{
     let length = rest
         .iter()
         .take_while(|byte| !is_blank(**byte) && **byte != b';')
         .count();
-    Word {
-        text: rest.get(..length).unwrap_or(rest),
-        at: from.saturating_add(blanks),
-    }
+    rest.get(..length).unwrap_or(rest)
 }
 
 fn is_blank(byte: u8) -> bool {
@@ -76,19 +97,37 @@ fn is_blank(byte: u8) -> bool {
 }
 
 /// What stands on a line from a place on, without the end of the line.
-fn line_from(text: &[u8], from: usize) -> &[u8] {
+fn line_from(text: &[u8], from: usize) -> &[u8]
+    ensures within { from + length result.now < 2 ^ 64 }
+    ensures on_line { (k : ℕ) → k ≤ length result.now → line_at text.entry.now (from + k) ≡ line_at text.entry.now from }
+{
     let rest = back(text, from);
-    let length = rest.iter().take_while(|byte| **byte != b'\n').count();
-    let line = rest.get(..length).unwrap_or(rest);
+    let length = line_length(rest);
+    let line = front(rest, length);
+    without_return(line)
+}
+
+/// A line without the carriage return at its end.
+fn without_return(line: &[u8]) -> &[u8]
+    ensures { length result.now ≤ length line.entry.now }
+{
     match line {
         [front @ .., b'\r'] => front,
         _ => line,
     }
 }
 
+/// How many bytes stand before the first line feed.
+fn line_length(bytes: &[u8]) -> usize
+    ensures { result ≡ prefix_len (λ c. not (c == 10)) bytes.now }
+{
+    bytes.iter().take_while(|byte| **byte != b'\n').count()
+}
+
 /// The place where a line begins, by its number from 1: the end of the text where there is none.
 pub fn start_of_line(text: &[u8], number: u32) -> usize
     ensures line { result < length text.now → line_at text.now result ≡ number }
+    ensures there { (k : ℕ) → k ≤ length text.now → line_at text.now k ≡ number → line_at text.now result ≡ number }
     ensures first { (k : ℕ) → k < result → ¬ (line_at text.now k ≡ number) }
 {
     let wanted = number as usize;

@@ -4,7 +4,7 @@ ghost use Rattle.std.specs.Prelude.{◌≡◌, ◌==◌, ◌&&◌, ◌++◌, not
 ghost use Rattle.std.specs.List.{prefix_len, suffix_len};
 ghost use Rattle.std.specs.Prelude.{flat_map};
 ghost use Rattle.std.specs.Str.{chars};
-ghost use Rattle.dia_explain_places.specs.Places.{line_column, place_text, excerpt, shown, shown_char};
+ghost use Rattle.dia_explain_places.specs.Places.{line_column, place_text, start_text, excerpt, shown, shown_char};
 ghost use Rattle.dia_explain_places.specs.Places.{line_at, column_at, line_front, line_rest};
 ghost use Rattle.dia_explain_places.specs.Places.{characters, is_inner, shown_front};
 
@@ -37,7 +37,7 @@ impl fmt::Display for Place {
 }
 
 /// The bytes before a place.
-fn front(text: &[u8], at: usize) -> &[u8]
+pub(crate) fn front(text: &[u8], at: usize) -> &[u8]
     ensures { result.now ≡ take at text.now }
 {
     text.get(..at).unwrap_or(text)
@@ -123,6 +123,21 @@ pub fn push_place(out: &mut String, name: &str, text: &[u8], at: usize) -> Resul
     write!(out, "{name}:")?;
     push_line_column(out, text, at)?;
     out.push_str(": ")
+}
+
+/// Begins a line about a place of a text, or about the whole text: `NAME: `.
+pub fn push_start(
+    out: &mut String,
+    name: &str,
+    text: &[u8],
+    at: Option<usize>,
+) -> Result<(), AllocError>
+    ensures { OnOk result (string_bytes out.new ≡ string_bytes out.old ++ start_text name.now text.now at) }
+{
+    match at {
+        Some(at) => push_place(out, name, text, at),
+        None => write!(out, "{name}: "),
+    }
 }
 
 /// Adds a place as `LINE:COLUMN`.
