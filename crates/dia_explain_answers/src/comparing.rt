@@ -6,9 +6,9 @@ mod pairing;
 mod parts;
 
 use crate::sides::{Side, sites_of};
-use crate::texts::{Added, push_hint, push_start};
+use crate::texts::{Added, push_hint};
 use dia_compat::{Answer, Failing, PairKind, Test, failings};
-use dia_explain_places::InputTexts;
+use dia_explain_places::{InputTexts, push_start};
 use dia_report::Compared;
 use failings::told_of;
 use pair::Pair;

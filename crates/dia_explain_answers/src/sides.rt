@@ -1,10 +1,10 @@
 //! Dictionaries with the texts that they were read from, and where the parts of these stand.
 
 use crate::books::avp_of;
-use crate::texts::{Added, Scene, push_start, push_text};
+use crate::texts::{Added, Scene, push_text};
 use dia_book::{DefHead, Definition, Key};
 use dia_dict::IndexedBook;
-use dia_explain_places::{DefSite, NamedText, Sites, back, push_excerpt};
+use dia_explain_places::{DefSite, NamedText, Sites, back, push_excerpt, push_start};
 use dia_report::ReadBook;
 use std::alloc::{AllocError, Global};
 

@@ -1,6 +1,5 @@
 //! Texts with words in braces, which stand for values of what the text is about.
 
-use dia_explain_places::push_place;
 use std::alloc::AllocError;
 
 /// What adding to a note answers.
@@ -31,14 +30,6 @@ pub fn push_hint<S: Scene>(out: &mut String, scene: &S, text: &str) -> Added {
     out.push_str("hint: ")?;
     push_text(out, scene, text)?;
     out.push('\n')
-}
-
-/// Begins a line about a place of a text, or about the text.
-pub fn push_start(out: &mut String, name: &str, text: &[u8], at: Option<usize>) -> Added {
-    match at {
-        Some(at) => push_place(out, name, text, at),
-        None => write!(out, "{name}: "),
-    }
 }
 
 pub fn push_number(out: &mut String, number: usize) -> Added {

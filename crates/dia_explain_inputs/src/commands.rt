@@ -2,12 +2,13 @@
 
 use crate::names::{Named, NamedSource, Vocabulary};
 use crate::notes::Added;
-use std::alloc::{AllocError, Global};
+use dia_ccf::Def;
+use std::alloc::Global;
 
 /// The most commands of a dictionary that are listed.
 const MOST_LISTED: usize = 30;
 
-/// The most names that are told.
+/// The most names that are told, and that are looked for in the second dictionary.
 const MOST: usize = 50;
 
 /// Adds the names that no command of the first dictionary has, what may be meant, and how to list the commands.
@@ -19,42 +20,30 @@ pub fn push_unknown_commands(
     second: &NamedSource<'_>,
 ) -> Added {
     let known = Vocabulary::of(alloc, first)?;
-    let missing = missing_of(alloc, names, &known)?;
-    if missing.is_empty() {
-        return Ok(());
-    }
-    push_missing(out, &missing, &known)?;
-    push_list(out, known.dictionary, known.commands())?;
-    push_found(alloc, out, &missing, second)
-}
-
-/// The first of the names that no command has.
-fn missing_of<'n>(
-    alloc: Global,
-    names: &'n [String],
-    known: &Vocabulary<'_>,
-) -> Result<Vec<&'n str>, AllocError> {
-    let mut missing = Vec::new(alloc);
+    let mut count = 0usize;
     for name in names {
-        if missing.len() < MOST && !known.has(Named::Command, name) {
-            missing.push(name.as_str())?;
+        if count < MOST && !known.has(Named::Command, name) {
+            push_missing(out, &known, name)?;
+            count = count.saturating_add(1);
         }
     }
-    Ok(missing)
+    if count == 0 {
+        return Ok(());
+    }
+    push_list(out, first.name, &first.source.commands)?;
+    push_found(out, names.get(..MOST).unwrap_or(names), &known, second)
 }
 
-fn push_missing(out: &mut String, missing: &[&str], known: &Vocabulary<'_>) -> Added {
-    let dictionary = known.dictionary;
+fn push_missing(out: &mut String, known: &Vocabulary<'_>, name: &str) -> Added {
+    let dictionary = known.dictionary.name;
+    write!(out, "{dictionary}: there is no command {name}\n")?;
     let instead = "an AVP there, and commands are asked for";
-    for name in missing {
-        write!(out, "{dictionary}: there is no command {name}\n")?;
-        known.push_meant(out, Named::Command, name, instead)?;
-    }
+    known.push_meant(out, Named::Command, name, instead)?;
     Ok(())
 }
 
 /// Adds the first commands, and how to list all.
-fn push_list(out: &mut String, dictionary: &str, commands: &[&str]) -> Added {
+fn push_list(out: &mut String, dictionary: &str, commands: &[Def]) -> Added {
     if commands.is_empty() {
         let what = "a command is <NAME> ::= < Diameter Header: CODE, REQ > and its rules";
         return write!(out, "hint: {dictionary} has no commands; {what}\n");
@@ -62,7 +51,8 @@ fn push_list(out: &mut String, dictionary: &str, commands: &[&str]) -> Added {
     let mut between = "hint: its commands are ";
     let listed = commands.get(..MOST_LISTED).unwrap_or(commands);
     for command in listed {
-        write!(out, "{between}{command}")?;
+        out.push_str(between)?;
+        out.push_str(&command.name)?;
         between = ", ";
     }
     let more = commands.len().saturating_sub(MOST_LISTED);
@@ -72,20 +62,31 @@ fn push_list(out: &mut String, dictionary: &str, commands: &[&str]) -> Added {
     write!(out, "; `diacmd render {dictionary}` prints them\n")
 }
 
-/// Adds the first of the missing names that the second dictionary has.
+/// Adds the first command of the second dictionary that is among the names, and is none of the first.
 fn push_found(
-    alloc: Global,
     out: &mut String,
-    missing: &[&str],
+    names: &[String],
+    known: &Vocabulary<'_>,
     second: &NamedSource<'_>,
 ) -> Added {
-    let known = Vocabulary::of(alloc, second)?;
     let dictionary = second.name;
-    match missing.iter().find(|name| known.has(Named::Command, name)) {
-        Some(name) => write!(
-            out,
-            "hint: {dictionary} has a command {name}; the dictionary of the side that sends stands first\n"
-        ),
-        None => Ok(()),
+    for command in &second.source.commands {
+        let name = command.name.as_str();
+        if !known.has(Named::Command, name) && has_name(names, name) {
+            return write!(
+                out,
+                "hint: {dictionary} has a command {name}; the dictionary of the side that sends stands first\n"
+            );
+        }
     }
+    Ok(())
+}
+
+fn has_name(names: &[String], name: &str) -> bool {
+    for own in names {
+        if own.as_str() == name {
+            return true;
+        }
+    }
+    false
 }

@@ -1,5 +1,9 @@
 //! What is told of a dictionary that is refused, and of one that says nothing.
 
+ghost use Rattle.std.specs.Prelude.{◌≡◌, OnOk, string_bytes};
+ghost use Rattle.std.specs.Str.{IsUtf8};
+ghost use Rattle.dia_explain_inputs.specs.Beginnings.{DictionaryBegins, MisfitBegins, TellsFirst};
+
 mod causes;
 mod expecting;
 mod formats;
@@ -10,9 +14,9 @@ use crate::kinds::{RETURNS, is_capture, is_cut_by_comment};
 use crate::messages::push_capture;
 use crate::notes::{Added, push_hint, push_not_text, push_told};
 use causes::push_cause;
-use dia_ccf::{MAX_TEXT, next_lexeme};
+use dia_ccf::{MAX_TEXT, Misfit, next_lexeme};
 use dia_explain_places::NamedText;
-use dia_report::BadDictionary;
+use dia_report::{BadDictionary, WrongSource};
 use meaning::push_meaning;
 use scene::Scene;
 use std::alloc::Global;
@@ -26,20 +30,39 @@ pub fn push_dictionary(
     out: &mut String,
     dictionary: &NamedText<'_>,
     why: &BadDictionary,
-) -> Added {
-    let NamedText { name, text } = *dictionary;
-    if is_capture(text) {
-        return push_capture(alloc, out, dictionary, "the text of a dictionary", CAPTURED);
-    }
-    let spelt = str::from_utf8(text).unwrap_or("");
+) -> Added
+    ensures { IsUtf8 dictionary.now.text.now → OnOk result (DictionaryBegins
+        dictionary.now.name.now dictionary.now.text.now why.now (string_bytes out.old) (string_bytes out.new)) }
+{
     match why {
-        BadDictionary::TooLong => push_too_long(out, name),
-        BadDictionary::NotText { at } => push_not_text(out, dictionary, *at),
-        BadDictionary::NoSource(misfit) => {
-            push_syntax(out, dictionary, &Scene::new(spelt, misfit))
+        BadDictionary::Wrong(wrong) => push_wrong(alloc, out, dictionary, wrong),
+        BadDictionary::NoSource(misfit) => push_syntax(out, dictionary, misfit),
+        BadDictionary::NotText { .. } if is_capture(dictionary.text) => {
+            push_capture(alloc, out, dictionary, "the text of a dictionary", CAPTURED)
         }
-        BadDictionary::Wrong(wrong) => push_meaning(alloc, out, name, spelt, wrong),
+        BadDictionary::NotText { at } => push_not_text(out, dictionary, *at),
+        BadDictionary::TooLong => push_too_long(out, dictionary.name),
     }
+}
+
+/// Adds the note of a text that spells a source which names no dictionary.
+fn push_wrong(
+    alloc: Global,
+    out: &mut String,
+    dictionary: &NamedText<'_>,
+    wrong: &WrongSource,
+) -> Added
+    ensures { IsUtf8 dictionary.now.text.now → OnOk result (TellsFirst
+        dictionary.now.name.now dictionary.now.text.now wrong.now (string_bytes out.old) (string_bytes out.new)) }
+{
+    push_meaning(alloc, out, dictionary.name, spelt(dictionary.text), wrong)
+}
+
+/// The text that bytes are in UTF-8, or none.
+fn spelt(text: &[u8]) -> &str
+    ensures { IsUtf8 text.entry.now → result.now ≡ text.entry.now }
+{
+    str::from_utf8(text).unwrap_or("")
 }
 
 fn push_too_long(out: &mut String, name: &str) -> Added {
@@ -52,11 +75,18 @@ fn push_too_long(out: &mut String, name: &str) -> Added {
 }
 
 /// Adds the note of a text that the grammar doesn't derive: the token, what was expected, its line, and a hint.
-fn push_syntax(out: &mut String, dictionary: &NamedText<'_>, scene: &Scene<'_>) -> Added {
+fn push_syntax(out: &mut String, dictionary: &NamedText<'_>, misfit: &Misfit) -> Added
+    ensures { OnOk result (MisfitBegins dictionary.now.name.now dictionary.now.text.now misfit.now
+        (string_bytes out.old) (string_bytes out.new)) }
+{
+    let scene = Scene::new(spelt(dictionary.text), misfit);
     let mut told = String::new(*out.allocator());
     scene.push_fault(&mut told)?;
-    push_told(out, dictionary, scene.misfit.at, told.as_str())?;
-    push_cause(out, scene)
+    let mut cause = String::new(*out.allocator());
+    push_cause(&mut cause, &scene)?;
+    push_told(out, dictionary, misfit.at, told.as_str())?;
+    out.push_str(cause.as_str())?;
+    Ok(())
 }
 
 /// Adds that a dictionary's text has neither declarations nor definitions, or that a comment takes its rest. Of an input that

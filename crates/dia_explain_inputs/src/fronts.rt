@@ -3,7 +3,7 @@
 use crate::kinds::{first_line, is_capture};
 use crate::messages::{bytes_of, dump_of, first_bad, push_bad};
 use crate::notes::{Added, push_whole};
-use dia_explain_places::{NamedText, count_digits, is_white};
+use dia_explain_places::{NamedText, count_digits};
 use std::alloc::{AllocError, Global};
 
 /// How many bytes of a header tell the version and the Message Length.
@@ -19,7 +19,7 @@ pub fn push_front(
 ) -> Added {
     let input = NamedText { name, text: front };
     let line = first_line(front);
-    if front.iter().all(|byte| is_white(*byte)) && (front.is_empty() || !in_lines) {
+    if count_digits(front) == 0 && (front.is_empty() || !in_lines) {
         let hint = "docs/CAPTURES.md says what to look at where a capture gives none";
         return push_whole(out, &input, "there is no message", hint);
     }

@@ -13,7 +13,7 @@
 
 use crate::kinds::has_part;
 
-static HINTS: [&str; 118] = [
+static HINTS: [&str; 128] = [
     // whole texts
     "dictionary message: \u{feff}.. => the text begins with a byte order mark: save it as UTF-8 without one",
     "dictionary: <!doctype html.. or <!DOCTYPE html.. or <!DOCTYPE HTML.. or <html.. or <HTML.. => this is a web page: save it \
@@ -106,6 +106,16 @@ static HINTS: [&str; 118] = [
     "Code: a name => a name has no spaces: join its words by a dash; the code stands behind it",
     "Code: . => a name has letters, digits and dashes",
     "Vendor: a name => the vendor is told by its number, as vendor 10415 for 3GPP",
+    "VendorOrFormat Format: String or Text => did you mean UTF8String?",
+    "VendorOrFormat Format: Octets or Bytes or Binary => did you mean OctetString?",
+    "VendorOrFormat Format: DiamIdent => did you mean DiameterIdentity?",
+    "VendorOrFormat Format: DiamURI or URI => did you mean DiameterURI?",
+    "VendorOrFormat Format: Enum => did you mean Enumerated?",
+    "VendorOrFormat Format: UInt32 => did you mean Unsigned32?",
+    "VendorOrFormat Format: UInt64 => did you mean Unsigned64?",
+    "VendorOrFormat Format: Int32 => did you mean Integer32?",
+    "VendorOrFormat Format: Int64 => did you mean Integer64?",
+    "VendorOrFormat Format: Date => did you mean Time?",
     "VendorOrFormat: a number => write vendor before the number of the vendor",
     "VendorOrFormat Vendor: ( => a vendor stands without brackets, as vendor 10415",
     "VendorOrFormat Vendor: : or = or / => a vendor is written behind the code, as vendor 10415",
@@ -175,13 +185,22 @@ pub struct Sight<'a> {
 /// The first hint for one of these places of which a sign is seen.
 pub fn hint_of(places: &[&str], sight: &Sight<'_>) -> Option<&'static str> {
     for row in HINTS.iter().copied() {
-        let (named, rest) = row.split_once(": ")?;
-        let (signs, hint) = rest.split_once(" => ")?;
-        if is_named(places, named) && signs.split(" or ").any(|sign| is_seen(sign, sight)) {
+        if let Some(hint) = hint_in(row, places, sight) {
             return Some(hint);
         }
     }
     None
+}
+
+/// The hint of a row, if it is for one of these places, and one of its signs is seen.
+fn hint_in(row: &'static str, places: &[&str], sight: &Sight<'_>) -> Option<&'static str> {
+    let (named, rest) = row.split_once(": ")?;
+    let (signs, hint) = rest.split_once(" => ")?;
+    if is_named(places, named) && signs.split(" or ").any(|sign| is_seen(sign, sight)) {
+        Some(hint)
+    } else {
+        None
+    }
 }
 
 fn is_named(places: &[&str], named: &str) -> bool {

@@ -7,17 +7,15 @@ use dia_explain_places::{back, is_white};
 pub const RETURNS: &str = "the lines end in CR alone, and a comment ends at a line feed: \
     `tr '\\r' '\\n'` writes line feeds";
 
-/// How files of packets begin (pcap or pcapng).
-static CAPTURES: [&[u8]; 5] = [
-    b"\xd4\xc3\xb2\xa1",
-    b"\xa1\xb2\xc3\xd4",
-    b"\x4d\x3c\xb2\xa1",
-    b"\xa1\xb2\x3c\x4d",
-    b"\x0a\x0d\x0d\x0a",
-];
-
+/// Whether bytes begin as a file of packets does (pcap or pcapng).
 pub fn is_capture(bytes: &[u8]) -> bool {
-    CAPTURES.iter().any(|front| bytes.starts_with(front))
+    let [a, b, c, d, ..] = bytes else {
+        return false;
+    };
+    matches!(
+        u32::from_be_bytes([*a, *b, *c, *d]),
+        0xd4c3_b2a1 | 0xa1b2_c3d4 | 0x4d3c_b2a1 | 0xa1b2_3c4d | 0x0a0d_0d0a
+    )
 }
 
 /// What is told of a whole text at the place of an input.

@@ -2,8 +2,10 @@
 
 use crate::hints::{Sight, hint_of};
 use crate::kinds::{first_line, hint_of_text, is_capture, kind_of_byte};
-use crate::notes::{Added, SAVE, push_hint, push_told, push_whole};
-use dia_explain_places::{NamedText, back, count_digits, find_unpadded, is_white, place_of_byte};
+use crate::notes::{Added, SAVE, push_noted, push_whole};
+use dia_explain_places::{
+    NamedText, Unpadded, back, count_digits, find_unpadded, is_white, place_of_byte,
+};
 use dia_policy::MAX_MESSAGE_TEXT;
 use dia_report::BadMessage;
 use dia_wire::{HEADER_LENGTH, HeadFault, read_header};
@@ -37,7 +39,10 @@ pub fn push_message(
             Some(at) => push_bad(alloc, out, message, "the hexadecimal text of a message", at),
             None => push_odd(alloc, out, message),
         },
-        BadMessage::NoMessage(_) => push_length(alloc, out, message),
+        BadMessage::NoMessage(_) => {
+            let bytes = bytes_of(alloc, message.text, message.text.len())?;
+            push_length(out, message, &bytes)
+        }
     }
 }
 
@@ -71,11 +76,8 @@ pub fn push_bad(
     if is_binary(first_line(back(text, at))) {
         return push_binary(alloc, out, message);
     }
-    push_told(out, message, at, "this is no hexadecimal digit")?;
-    match hint_at(text, at) {
-        Some(hint) => push_hint(out, hint),
-        None => Ok(()),
-    }
+    let hint = hint_at(text, at);
+    push_noted(out, message, at, "this is no hexadecimal digit", hint)
 }
 
 /// Adds that an input is a file of packets, and what to do.
@@ -161,50 +163,42 @@ pub fn dump_of(text: &[u8]) -> Option<&'static str> {
 }
 
 /// Adds the note of a text whose bytes are no message, or are more or fewer than one.
-pub fn push_length(alloc: Global, out: &mut String, message: &NamedText<'_>) -> Added {
-    let NamedText { name, text } = *message;
-    if let Some(hint) = dump_of(text) {
-        return push_whole(
+pub fn push_length(out: &mut String, message: &NamedText<'_>, bytes: &[u8]) -> Added {
+    let name = message.name;
+    if let Some(hint) = dump_of(message.text) {
+        let told = "the first bytes are no header of a message";
+        return push_whole(out, message, told, hint);
+    }
+    let count = bytes.len();
+    match read_header(bytes) {
+        Ok((_, length)) if count < length as usize => push_cut(out, name, count, length),
+        Ok((_, length)) => push_more(out, message, count, length as usize),
+        Err(HeadFault::Length) => push_odd_length(out, message, bytes),
+        Err(HeadFault::Version) => push_version(out, name, bytes.first().copied().unwrap_or(0)),
+        Err(HeadFault::Short) => write!(
             out,
-            message,
-            "the first bytes are no header of a message",
-            hint,
-        );
-    }
-    let bytes = count_digits(text) / 2;
-    if bytes < HEADER_LENGTH {
-        let told = "bytes; a message has at least 20, those of its header";
-        return write!(out, "{name}: {bytes} {told}\n");
-    }
-    let head = bytes_of(alloc, text, HEADER_LENGTH)?;
-    match read_header(head.as_slice()) {
-        Ok((_, length)) => push_more_or_less(alloc, out, message, bytes, length as usize),
-        Err(HeadFault::Length) => push_odd_length(alloc, out, message),
-        Err(_) => {
-            let version = head.first().copied().unwrap_or(0);
-            let hint =
-                "a message begins with 01 and its length; the headers of IP, TCP or SCTP before it have to be taken out";
-            write!(
-                out,
-                "{name}: the first byte is {version}, and the version of Diameter is 1\n"
-            )?;
-            push_hint(out, hint)
-        }
+            "{name}: {count} bytes; a message has at least 20, those of its header\n"
+        ),
     }
 }
 
+fn push_version(out: &mut String, name: &str, version: u8) -> Added {
+    write!(
+        out,
+        "{name}: the first byte is {version}, and the version of Diameter is 1\n\
+         hint: a message begins with 01 and its length; the headers of IP, TCP or SCTP before it have to be taken out\n"
+    )
+}
+
 /// Adds that a Message Length is none, and the first AVP that seems to have no padding, if there is one.
-fn push_odd_length(alloc: Global, out: &mut String, message: &NamedText<'_>) -> Added {
+fn push_odd_length(out: &mut String, message: &NamedText<'_>, bytes: &[u8]) -> Added {
     let told = "the Message Length, bytes 1 to 3, is under 20 or no multiple of four";
     let hint = "mend the sender: it counts the header, and the AVPs with their padding";
     push_whole(out, message, told, hint)?;
-    let bytes = bytes_of(alloc, message.text, message.text.len())?;
-    let Some(unpadded) = find_unpadded(back(&bytes, HEADER_LENGTH)) else {
+    let Some(Unpadded { at, code, length }) = find_unpadded(back(bytes, HEADER_LENGTH)) else {
         return Ok(());
     };
-    let place = unpadded.at.saturating_add(HEADER_LENGTH);
-    let code = unpadded.code;
-    let length = unpadded.length;
+    let place = at.saturating_add(HEADER_LENGTH);
     write!(
         out,
         "hint: the AVP at {place}, of code {code}, has the AVP Length {length}, and what follows stands right behind it, without \
@@ -212,46 +206,42 @@ fn push_odd_length(alloc: Global, out: &mut String, message: &NamedText<'_>) -> 
     )
 }
 
-/// Adds that bytes are missing, or the place of those that are too many.
-fn push_more_or_less(
-    alloc: Global,
-    out: &mut String,
-    message: &NamedText<'_>,
-    bytes: usize,
-    length: usize,
-) -> Added {
+/// Adds that bytes are missing.
+fn push_cut(out: &mut String, name: &str, count: usize, length: u32) -> Added {
+    write!(
+        out,
+        "{name}: {count} bytes; the Message Length is {length}, so the message is cut off\n\
+         hint: its end may be in the next packet, or the capture has cut the packet: \
+         docs/CAPTURES.md says how to take whole messages out\n"
+    )
+}
+
+/// Adds the place of the bytes that are too many, if there are some.
+fn push_more(out: &mut String, message: &NamedText<'_>, count: usize, length: usize) -> Added {
     let text = message.text;
-    if bytes < length {
-        let told = format!(in alloc;
-            "{bytes} bytes; the Message Length is {length}, so the message is cut off"
-        )?;
-        let hint = "its end may be in the next packet, or the capture has cut the packet: \
-            docs/CAPTURES.md says how to take whole messages out";
-        return push_whole(out, message, told.as_str(), hint);
-    }
     let Some(at) = place_of_byte(text, length) else {
         return Ok(());
     };
+    let hint = if back(text, at).starts_with(b"01") {
+        "a second message seems to begin here: give one message at a time"
+    } else {
+        "take out what stands behind the message, or mend its Message Length, bytes 1 to 3"
+    };
+    let alloc = *out.allocator();
     let told = format!(in alloc;
-        "the message ends before this place, after the {length} bytes of its Message Length; {bytes} bytes are here"
+        "the message ends before this place, after the {length} bytes of its Message Length; {count} bytes are here"
     )?;
-    push_told(out, message, at, told.as_str())?;
-    push_hint(
-        out,
-        if back(text, at).starts_with(b"01") {
-            "a second message seems to begin here: give one message at a time"
-        } else {
-            "take out what stands behind the message, or mend its Message Length, bytes 1 to 3"
-        },
-    )
+    push_noted(out, message, at, told.as_str(), Some(hint))
 }
 
 /// The first bytes that the digits of a text spell, at most this many.
 pub fn bytes_of(alloc: Global, text: &[u8], most: usize) -> Result<Vec<u8>, AllocError> {
     let mut bytes = Vec::new(alloc);
     let mut high: Option<u8> = None;
-    let digits = text.iter().filter(|byte| !is_white(**byte));
-    for digit in digits.take(most.saturating_mul(2)) {
+    for digit in text {
+        if bytes.len() == most || is_white(*digit) {
+            continue;
+        }
         let value = (char::from(*digit).to_digit(16).unwrap_or(0) & 0x0f) as u8;
         match high {
             None => high = Some(value),

@@ -1,6 +1,6 @@
 //! The names that a dictionary has.
 
-use dia_ccf::{Def, Source};
+use dia_ccf::{Decl, Source};
 use dia_explain_places::{nearest_command, nearest_name};
 use indexmap::IndexSet;
 use std::alloc::{AllocError, Global};
@@ -19,68 +19,63 @@ pub enum Named {
     Avp,
 }
 
-/// Names, each once.
-#[derive(Drop)]
-struct Names<'a> {
-    list: Vec<&'a str>,
-    set: Box<IndexSet<&'a str>>,
-}
-
-/// The names of the commands and of the AVPs of a dictionary, and the word that names its text.
+/// The names of a dictionary, to look them up.
 #[derive(Drop)]
 pub struct Vocabulary<'a> {
-    pub dictionary: &'a str,
-    commands: Names<'a>,
-    avps: Names<'a>,
+    pub dictionary: NamedSource<'a>,
+    commands: Box<IndexSet<&'a str>>,
+    avps: Box<IndexSet<&'a str>>,
 }
 
-fn names_of<'a>(alloc: Global, list: Vec<&'a str>) -> Result<Names<'a>, AllocError> {
-    let mut set = Box::new(alloc, IndexSet::new(alloc))?;
-    for name in &list {
-        set.insert(*name)?;
-    }
-    Ok(Names { list, set })
-}
-
-/// Adds the names of definitions.
-fn with_defs<'a>(mut names: Vec<&'a str>, defs: &'a [Def]) -> Result<Vec<&'a str>, AllocError> {
+/// The names of commands, or those of declarations and groups.
+pub fn names_of<'a>(
+    alloc: Global,
+    source: &'a Source,
+    named: Named,
+) -> Result<Vec<&'a str>, AllocError> {
+    let (mut names, defs) = match named {
+        Named::Command => (Vec::new(alloc), &source.commands),
+        Named::Avp => (declared(alloc, &source.avps)?, &source.groups),
+    };
     for def in defs {
         names.push(def.name.as_str())?;
     }
     Ok(names)
 }
 
-/// The names of the declarations and of the groups.
-pub fn avps_of(alloc: Global, source: &Source) -> Result<Vec<&str>, AllocError> {
+fn declared(alloc: Global, decls: &[Decl]) -> Result<Vec<&str>, AllocError> {
     let mut names = Vec::new(alloc);
-    for decl in &source.avps {
+    for decl in decls {
         names.push(decl.name.as_str())?;
     }
-    with_defs(names, &source.groups)
+    Ok(names)
+}
+
+fn set_of<'a>(
+    alloc: Global,
+    source: &'a Source,
+    named: Named,
+) -> Result<Box<IndexSet<&'a str>>, AllocError> {
+    let mut set = Box::new(alloc, IndexSet::new(alloc))?;
+    for name in &names_of(alloc, source, named)? {
+        set.insert(*name)?;
+    }
+    Ok(set)
 }
 
 impl<'a> Vocabulary<'a> {
     pub fn of(alloc: Global, dictionary: &NamedSource<'a>) -> Result<Self, AllocError> {
-        let commands = names_of(
-            alloc,
-            with_defs(Vec::new(alloc), &dictionary.source.commands)?,
-        )?;
-        let avps = names_of(alloc, avps_of(alloc, dictionary.source)?)?;
         Ok(Vocabulary {
-            dictionary: dictionary.name,
-            commands,
-            avps,
+            dictionary: *dictionary,
+            commands: set_of(alloc, dictionary.source, Named::Command)?,
+            avps: set_of(alloc, dictionary.source, Named::Avp)?,
         })
-    }
-
-    pub fn commands(&self) -> &[&'a str] {
-        &self.commands.list
     }
 
     pub fn has(&self, named: Named, name: &str) -> bool {
         match named {
-            Named::Command => self.commands.set.contains(&name),
-            Named::Avp => self.avps.set.contains(&name),
+            Named::Command => self.commands.contains(&name),
+            Named::Avp => self.avps.contains(&name),
         }
     }
 
@@ -93,14 +88,24 @@ impl<'a> Vocabulary<'a> {
         name: &str,
         instead: &str,
     ) -> Result<bool, AllocError> {
-        let (other, near) = match named {
-            Named::Command => (Named::Avp, nearest_command(name, &self.commands.list)),
-            Named::Avp => (Named::Command, nearest_name(name, &self.avps.list)),
+        let other = match named {
+            Named::Command => Named::Avp,
+            Named::Avp => Named::Command,
         };
         if self.has(other, name) {
             write!(out, "hint: {name} is {instead}\n")?;
             return Ok(true);
         }
+        self.push_near(out, named, name)
+    }
+
+    /// Adds the name that is nearest, and tells whether there is one.
+    fn push_near(&self, out: &mut String, named: Named, name: &str) -> Result<bool, AllocError> {
+        let names = names_of(*out.allocator(), self.dictionary.source, named)?;
+        let near = match named {
+            Named::Command => nearest_command(name, &names),
+            Named::Avp => nearest_name(name, &names),
+        };
         match near {
             Some(near) => write!(out, "hint: did you mean {near}?\n")?,
             None => return Ok(false),

@@ -56,7 +56,7 @@ fn push_side(
         }
         start = start.saturating_add(line.len()).saturating_add(1);
     }
-    push_rest(out, known.dictionary, count)?;
+    push_rest(out, known.dictionary.name, count)?;
     Ok(is_odd)
 }
 
@@ -87,7 +87,7 @@ fn push_stranger(
     stranger: &Stranger<'_>,
 ) -> Result<bool, AllocError> {
     let Stranger { named, name, .. } = *stranger;
-    let dictionary = known.dictionary;
+    let dictionary = known.dictionary.name;
     let (what, instead) = match named {
         Named::Command => ("command", "an AVP there: write avp for command"),
         Named::Avp => ("AVP", "a command there: write command for avp"),

@@ -1,11 +1,13 @@
 //! Notes: what is told on standard error of a text that is refused, and of a message that has no text.
 
+use crate::notes::names::NamesOf;
 use crate::notes::spots::{Meant, Spot, spot_of};
+use crate::notes::tests_of_words::number_of;
 use crate::reporting::{BadText, Report};
-use dia_data::{Format, push_value};
-use dia_dict::Book;
-use dia_explain_places::{nearest_command, nearest_name, push_excerpt, push_place, push_shown};
-use dia_io::Inputs;
+use dia_data::{Format, push_hex_byte, push_value};
+use dia_dict::base_text;
+use dia_explain_places::{push_excerpt, push_place, push_shown};
+use dia_io::{Input, Inputs};
 use dia_policy::MAX_MESSAGE_TEXT;
 use dia_report::Refused;
 use dia_run::read_dictionary;
@@ -14,6 +16,7 @@ use std::alloc::{AllocError, Global};
 
 mod avp_spots;
 mod header_spots;
+mod names;
 mod spots;
 mod tests_of_words;
 mod words;
@@ -57,26 +60,38 @@ fn fault_note(
         return Ok(out);
     };
     match read_dictionary(alloc, 1, &inputs.first) {
-        Ok(first) => push_fault(alloc, &mut out, name, &first.book, text, fault)?,
+        Ok(first) => {
+            let names = NamesOf {
+                book: &first.book,
+                is_base: is_base(&inputs.first),
+            };
+            push_fault(&mut out, name, &names, text, fault)?;
+        }
         Err(Refused::Bad(_bad)) => {}
         Err(Refused::NoMemory) => return Err(AllocError),
     }
     Ok(out)
 }
 
-fn push_fault<B: Book>(
-    alloc: Global,
+fn is_base(dictionary: &Input) -> bool {
+    match dictionary {
+        Input::Bytes(text) => text.as_slice() == base_text().as_bytes(),
+        Input::TooLong => false,
+    }
+}
+
+fn push_fault(
     out: &mut String,
     name: &str,
-    book: &B,
+    names: &NamesOf<'_>,
     text: &[u8],
     fault: &Fault,
 ) -> Added {
-    let spot = spot_of(book, text, fault);
+    let spot = spot_of(names.book, text, fault);
     push_place(out, name, text, spot.word.at)?;
-    push_found(alloc, out, &spot)?;
-    push_excerpt(alloc, out, text, spot.word.at)?;
-    push_meant(alloc, out, book, &spot)
+    push_found(*out.allocator(), out, &spot)?;
+    push_excerpt(*out.allocator(), out, text, spot.word.at)?;
+    push_meant(out, names, &spot)
 }
 
 /// Adds what stands at the place, and what could.
@@ -98,19 +113,16 @@ fn front(word: &[u8]) -> &[u8] {
 }
 
 /// Adds what may be meant.
-fn push_meant<B: Book>(alloc: Global, out: &mut String, book: &B, spot: &Spot<'_>) -> Added {
+fn push_meant(out: &mut String, names: &NamesOf<'_>, spot: &Spot<'_>) -> Added {
     match spot.meant {
-        Meant::Command => {
-            push_near(
-                out,
-                nearest_command(&name_of(alloc, spot)?, &commands_of(alloc, book)?),
-            )
-        }
-        Meant::Avp => push_near(
-            out,
-            nearest_name(&name_of(alloc, spot)?, &avps_of(alloc, book)?),
+        Meant::Command => names.push_command(out, &name_of(out, spot)?),
+        Meant::Avp => names.push_avp(out, &name_of(out, spot)?),
+        Meant::Text => push_quoted(out, spot.word.text, false),
+        Meant::Address => push_quoted(out, spot.word.text, true),
+        Meant::Returns => out.push_str(
+            "hint: an empty line ends a message, and the line before this one has a carriage return: \
+             `tr -d '\\r'` takes it out\n",
         ),
-        Meant::Text => push_quoted(out, spot.word.text),
         Meant::Pairs => out.push_str(
             "hint: a byte is two hexadecimal digits: behind x their number is even\n",
         ),
@@ -122,41 +134,31 @@ fn push_meant<B: Book>(alloc: Global, out: &mut String, book: &B, spot: &Spot<'_
     }
 }
 
-fn push_near(out: &mut String, near: Option<&str>) -> Added {
-    match near {
-        Some(near) => write!(out, "hint: did you mean {near}?\n"),
-        None => Ok(()),
-    }
-}
-
-/// Adds how a word is written as a text.
-fn push_quoted(out: &mut String, word: &[u8]) -> Added {
+/// Adds how a word is written as a text. Of an address its bytes are told, too.
+fn push_quoted(out: &mut String, word: &[u8], is_address: bool) -> Added {
     out.push_str("hint: a text stands in double quotes")?;
     if word.len() <= SHOWN {
         out.push_str(", as ")?;
         push_value(out, &Format::Utf8String, word)?;
     }
+    if is_address {
+        push_address(out, word)?;
+    }
     out.push('\n')
 }
 
-fn name_of(alloc: Global, spot: &Spot<'_>) -> Result<String, AllocError> {
+/// Adds the bytes of an address of four numbers.
+fn push_address(out: &mut String, address: &[u8]) -> Added {
+    out.push_str("; the bytes of this address are x")?;
+    for part in address.split(|byte| *byte == b'.') {
+        push_hex_byte(out, (number_of(part).unwrap_or(0) & 0xff) as u8)?;
+    }
+    Ok(())
+}
+
+fn name_of(out: &String, spot: &Spot<'_>) -> Result<String, AllocError> {
+    let alloc = *out.allocator();
     let mut name = String::new(alloc);
     push_shown(alloc, &mut name, spot.word.text)?;
     Ok(name)
-}
-
-fn avps_of<B: Book>(alloc: Global, book: &B) -> Result<Vec<&str>, AllocError> {
-    let mut names = Vec::new(alloc);
-    for index in 0..book.entries() {
-        names.push(book.entry_name(book.entry_at(index)))?;
-    }
-    Ok(names)
-}
-
-fn commands_of<B: Book>(alloc: Global, book: &B) -> Result<Vec<&str>, AllocError> {
-    let mut names = Vec::new(alloc);
-    for index in 0..book.commands() {
-        names.push(book.def(book.command_at(index)).name.as_str())?;
-    }
-    Ok(names)
 }

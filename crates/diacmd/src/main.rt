@@ -96,8 +96,8 @@ where
     if !quiet && !matches!(&task, Task::Breaking { .. }) {
         let texts = texts_of(&origins, &inputs);
         note(rt, &texts, names_of(&task), &reported.report);
-        if let (Task::Whole(Command::Show), Origin::Base) = (&task, origins.first) {
-            note_unnamed(rt, &inputs);
+        if let (Some(sign), Origin::Base) = (sign_of(&task), origins.first) {
+            note_unnamed(rt, &inputs, sign);
         }
     }
     Ok(reported.exit)
@@ -238,9 +238,18 @@ fn note<R: AllocGlobal + Eprint>(
     }
 }
 
+/// How an AVP without a name stands in what is shown of a message.
+fn sign_of(task: &Task) -> Option<&'static str> {
+    match task {
+        Task::Whole(Command::Show) => Some("?"),
+        Task::ShowText => Some("a number in place of a name"),
+        _ => None,
+    }
+}
+
 /// Tells how AVPs are named that the base dictionary doesn't have. Where memory or the device fails, nothing is told.
-fn note_unnamed<R: AllocGlobal + Eprint>(rt: &R, inputs: &Inputs) {
-    if let Ok(text) = unnamed(rt.alloc(), inputs) {
+fn note_unnamed<R: AllocGlobal + Eprint>(rt: &R, inputs: &Inputs, sign: &str) {
+    if let Ok(text) = unnamed(rt.alloc(), inputs, sign) {
         let _ = eprint!(rt; "{text}");
     }
 }

@@ -40,9 +40,8 @@ pub(crate) fn explain(
     match report {
         Report::Refused(bad) => push_refused(alloc, &mut out, texts, bad)?,
         Report::NoCommand(books) => push_missing(alloc, &mut out, texts, names, books)?,
-        Report::Invalid(_) | Report::Unrefuting(_) => {
-            push_length(alloc, &mut out, &texts.message)?;
-        }
+        Report::Invalid(found) => push_length(&mut out, &texts.message, &found.message)?,
+        Report::Unrefuting(found) => push_length(&mut out, &texts.message, &found.message)?,
         Report::Compared(found) => push_table(alloc, &mut out, texts, found)?,
         Report::Done | Report::Cut(_) => {}
     }
@@ -68,11 +67,12 @@ pub(crate) fn explain_upgrade(
     Ok(out)
 }
 
-/// What is told on standard error of a message that was shown by the base dictionary.
-pub(crate) fn unnamed(alloc: Global, inputs: &Inputs) -> Result<String, AllocError> {
+/// What is told on standard error of a message that was shown by the base dictionary. `sign` is what stands for a name that it
+/// doesn't have.
+pub(crate) fn unnamed(alloc: Global, inputs: &Inputs, sign: &str) -> Result<String, AllocError> {
     let mut out = String::new(alloc);
     if let Ok(message) = read_message(alloc, &inputs.message) {
-        push_unnamed(alloc, &mut out, &message)?;
+        push_unnamed(alloc, &mut out, &message, sign)?;
     }
     Ok(out)
 }

@@ -48,15 +48,19 @@ pub fn push_show(
     scene.push(out)
 }
 
-/// Adds how all AVPs of a message are named, where the base dictionary, by which it was listed, doesn't have each of them.
-pub fn push_unnamed(alloc: Global, out: &mut String, message: &[u8]) -> Added {
+/// Adds how all AVPs of a message are named, where the base dictionary, by which it was shown, doesn't have each of them. `sign`
+/// is what stands for a name.
+pub fn push_unnamed(alloc: Global, out: &mut String, message: &[u8], sign: &str) -> Added {
     let Ok((header, _)) = read_header(message) else {
         return Ok(());
     };
     if !has_unnamed(alloc, message)? {
         return Ok(());
     }
-    out.push_str("hint: ? is an AVP that the base dictionary doesn't have; --dict ")?;
+    write!(
+        out,
+        "hint: {sign} is an AVP that the base dictionary doesn't have; --dict "
+    )?;
     match application_of(header.app) {
         Some(Application { id, name, file }) => {
             write!(

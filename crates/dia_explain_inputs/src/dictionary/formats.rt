@@ -22,26 +22,6 @@ static FORMATS: [&str; 16] = [
     "QoSFilterRule",
 ];
 
-/// Words for formats in other places, and the format that is meant.
-static OTHERS: [(&str, &str); 16] = [
-    ("String", "UTF8String"),
-    ("Text", "UTF8String"),
-    ("Octets", "OctetString"),
-    ("Bytes", "OctetString"),
-    ("Binary", "OctetString"),
-    ("DiamIdent", "DiameterIdentity"),
-    ("DiamURI", "DiameterURI"),
-    ("URI", "DiameterURI"),
-    ("IPAddress", "Address"),
-    ("Enum", "Enumerated"),
-    ("UInt32", "Unsigned32"),
-    ("UInt64", "Unsigned64"),
-    ("Int32", "Integer32"),
-    ("Int64", "Integer64"),
-    ("Group", "Grouped"),
-    ("Date", "Time"),
-];
-
 /// Adds the words of all formats.
 pub fn push_formats(out: &mut String) -> Added {
     for (index, format) in FORMATS.iter().enumerate() {
@@ -57,13 +37,7 @@ pub fn push_formats(out: &mut String) -> Added {
     Ok(())
 }
 
-/// The format that is meant by another word.
+/// The format whose word is nearest.
 pub fn format_meant(word: &[u8]) -> Option<&'static str> {
-    let other = OTHERS
-        .iter()
-        .find(|row| word.eq_ignore_ascii_case(row.0.as_bytes()));
-    match other {
-        Some(row) => Some(row.1),
-        None => nearest_name(str::from_utf8(word).ok()?, FORMATS.as_slice()),
-    }
+    nearest_name(str::from_utf8(word).ok()?, FORMATS.as_slice())
 }

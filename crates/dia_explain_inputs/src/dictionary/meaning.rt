@@ -1,13 +1,17 @@
 //! What is told of a dictionary text that is well formed, and names no dictionary.
 
+ghost use Rattle.std.specs.Prelude.{OnOk, string_bytes};
+ghost use Rattle.dia_explain_inputs.specs.Beginnings.{TellsFirst};
+
 mod notes;
 mod parts;
 mod texts;
+mod values;
 
-use crate::names::avps_of;
+use crate::names::{Named, names_of};
 use crate::notes::Added;
-use dia_dict::{DictKind, base_text, faults};
-use dia_explain_places::{nearest_name, push_place};
+use dia_dict::{DictKind, Finding, base_text, faults};
+use dia_explain_places::{nearest_name, push_start};
 use dia_report::WrongSource;
 use notes::{Note, notes_of};
 use parts::Parts;
@@ -20,64 +24,86 @@ const MOST: usize = 50;
 /// The most names that are listed where they are too many for a fault each.
 const MOST_NAMES: usize = 200;
 
-/// Adds the faults of meaning of a text that spells a source.
-pub fn push_meaning<'a>(
+/// Adds the faults of meaning of a text that spells a source, the one of the report first.
+pub fn push_meaning(
     alloc: Global,
     out: &mut String,
     name: &str,
-    text: &'a str,
-    wrong: &'a WrongSource,
-) -> Added {
+    text: &str,
+    wrong: &WrongSource,
+) -> Added
+    ensures { OnOk result (TellsFirst name.now text.now wrong.now (string_bytes out.old) (string_bytes out.new)) }
+{
     let source = &*wrong.source;
+    let parts = Parts { source, name, text };
     let findings = faults(alloc, source)?;
-    let notes = notes_of(alloc, &findings)?;
-    let names = avps_of(alloc, source)?;
-    push_first(out, name, &Parts { source, text }, &names, &notes)?;
-    push_rest(out, name, &notes)
+    let told = told_of(alloc, &parts, &findings)?;
+    let Some(first) = findings.first() else {
+        unreachable!();
+    };
+    push_start(out, name, text.as_bytes(), parts.at(first.part))?;
+    out.push_str(told.as_str())?;
+    Ok(())
 }
 
-/// Adds the first faults one by one. What helps with each fault of a kind is told once.
-fn push_first<'a>(
-    out: &mut String,
-    name: &str,
+/// What is told of all faults, behind the place of the first.
+fn told_of<'a>(
+    alloc: Global,
     parts: &Parts<'a>,
-    names: &[&str],
-    notes: &[Note<'a>],
-) -> Added {
+    findings: &[Finding<'a>],
+) -> Result<String, AllocError> {
+    let notes = notes_of(alloc, findings)?;
+    let names = names_of(alloc, parts.source, Named::Avp)?;
+    let mut told = String::new(alloc);
+    push_first(&mut told, parts, &names, &notes)?;
+    push_rest(&mut told, parts.name, &notes)?;
+    Ok(told)
+}
+
+/// Adds the first faults one by one, the place of the very first left out. What helps with each fault of a kind is told once.
+fn push_first(out: &mut String, parts: &Parts<'_>, names: &[&str], notes: &[Note<'_>]) -> Added {
     let mut advised = None;
-    for note in notes.iter().take(MOST) {
-        let Some((fault, advice)) = texts_of(parts, note) else {
-            continue;
-        };
-        push_fault(out, name, parts, note, fault)?;
-        let kind = note.finding.told.kind;
-        let is_new = advised != Some(kind) || kind == DictKind::NoGroupFormat;
-        if !push_meant(out, names, note)? && is_new {
-            out.push_str("hint: ")?;
-            push_filled(out, parts, note, advice)?;
-            out.push('\n')?;
-            advised = Some(kind);
+    for (index, note) in notes.iter().take(MOST).enumerate() {
+        if index > 0 {
+            let at = parts.at(note.finding.part);
+            push_start(out, parts.name, parts.text.as_bytes(), at)?;
         }
+        advised = push_note(out, parts, names, note, advised)?;
     }
     Ok(())
 }
 
-fn push_fault<'a>(
+/// Adds a fault, and what helps, unless faults of the kind have it already. Answers the kind that has it.
+fn push_note(
     out: &mut String,
-    name: &str,
-    parts: &Parts<'a>,
-    note: &Note<'a>,
-    fault: &str,
-) -> Added {
-    match note.finding.part {
-        Some(part) => push_place(out, name, parts.text.as_bytes(), parts.at(part))?,
-        None => write!(out, "{name}: ")?,
+    parts: &Parts<'_>,
+    names: &[&str],
+    note: &Note<'_>,
+    advised: Option<DictKind>,
+) -> Result<Option<DictKind>, AllocError> {
+    let (fault, advice) = texts_of(parts, note);
+    let kind = note.finding.told.kind;
+    push_fault(out, parts, note, fault)?;
+    if push_meant(out, names, note)? || advised == Some(kind) && kind != DictKind::NoGroupFormat {
+        return Ok(advised);
     }
+    push_advice(out, parts, note, advice)?;
+    Ok(Some(kind))
+}
+
+/// Adds a fault, and the place of what it doesn't go with.
+fn push_fault(out: &mut String, parts: &Parts<'_>, note: &Note<'_>, fault: &str) -> Added {
     push_filled(out, parts, note, fault)?;
-    if let Some(other) = note.finding.other {
-        let place = parts.place(other);
-        write!(out, " at {place}")?;
+    match parts.place(note.finding.other) {
+        Some(place) => write!(out, " at {place}\n"),
+        None => out.push('\n'),
     }
+}
+
+/// Adds what helps.
+fn push_advice(out: &mut String, parts: &Parts<'_>, note: &Note<'_>, advice: &str) -> Added {
+    out.push_str("hint: ")?;
+    push_filled(out, parts, note, advice)?;
     out.push('\n')
 }
 
@@ -87,14 +113,9 @@ fn push_meant(out: &mut String, names: &[&str], note: &Note<'_>) -> Result<bool,
     if note.finding.told.kind != DictKind::UndefinedName {
         return Ok(false);
     }
-    if let Some(line) = base_text()
-        .lines()
-        .find(|line| is_of(line, "%avp ", name, b' '))
-    {
+    if let Some(line) = line_of_base("%avp ", name, " ") {
         write!(out, "hint: the base dictionary declares it: {line}\n")?;
-    } else if base_text().lines().any(|line| is_of(line, "<", name, b'>')
-        && line.contains("AVP Header"))
-    {
+    } else if line_of_base("<", name, "> ::= < AVP ").is_some() {
         out.push_str(
             "hint: the base dictionary has this group: `diacmd render @base` prints it\n",
         )?;
@@ -106,13 +127,22 @@ fn push_meant(out: &mut String, names: &[&str], note: &Note<'_>) -> Result<bool,
     Ok(true)
 }
 
-/// Whether a line begins with a sign, a name and the byte that ends it.
-fn is_of(line: &str, sign: &str, name: &str, end: u8) -> bool {
-    match line.strip_prefix(sign) {
-        Some(rest) => {
-            let rest = rest.as_bytes();
-            rest.starts_with(name.as_bytes()) && rest.get(name.len()) == Some(&end)
+/// The line of the base dictionary that has this in front of a name, and this behind it.
+fn line_of_base(front: &str, name: &str, behind: &str) -> Option<&'static str> {
+    for line in base_text().lines() {
+        if is_line_of(line, front, name, behind) {
+            return Some(line);
         }
+    }
+    None
+}
+
+fn is_line_of(line: &str, front: &str, name: &str, behind: &str) -> bool {
+    let Some(named) = line.strip_prefix(front) else {
+        return false;
+    };
+    match named.strip_prefix(name) {
+        Some(rest) => rest.starts_with(behind),
         None => false,
     }
 }

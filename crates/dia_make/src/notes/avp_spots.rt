@@ -2,8 +2,8 @@
 
 use crate::notes::spots::{Meant, Spot};
 use crate::notes::tests_of_words::{
-    are_flags, inside_quotes, is_address, is_bytes, is_number, is_signed, is_text, is_uneven,
-    number_of,
+    are_flags, inside_quotes, is_address, is_bytes, is_dotted, is_number, is_signed, is_text,
+    is_uneven, number_of,
 };
 use crate::notes::words::{Word, Words};
 use dia_dict::{Book, Format, Key};
@@ -114,6 +114,7 @@ fn meant_of(format: Option<&Format>, word: &[u8]) -> Meant {
         [b'x', ..] => Meant::Nothing,
         [b'"', ..] if inside_quotes(word).is_none() => Meant::Closed,
         [b'"', ..] => Meant::Escaped,
+        _ if matches!(format, Some(Format::OctetString)) && is_dotted(word) => Meant::Address,
         _ => Meant::Text,
     }
 }

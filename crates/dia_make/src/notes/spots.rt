@@ -25,6 +25,10 @@ pub enum Meant {
     Avp,
     /// A text without its quotes.
     Text,
+    /// The same, or an address of four numbers as bytes.
+    Address,
+    /// The next message, behind a line that a carriage return keeps from being empty.
+    Returns,
     /// A text that has no closing quote.
     Closed,
     /// A text in which a backslash has no two digits.
@@ -73,9 +77,18 @@ pub fn spot_of<'a, B: Book>(book: &B, text: &'a [u8], fault: &Fault) -> Spot<'a>
         header_spot(book, words)
     };
     match found {
+        Some(spot) if matches!(spot.meant, Meant::Avp) && is_behind_return(text, start) => {
+            spot.meaning(Meant::Returns)
+        }
         Some(spot) => spot,
         None => end_spot(words, fault.kind, before),
     }
+}
+
+/// Whether the line before a place has nothing but a carriage return.
+fn is_behind_return(text: &[u8], start: usize) -> bool {
+    let front = text.get(..start).unwrap_or(text);
+    front.ends_with(b"\n\r\n")
 }
 
 /// The word of a line that could stand by itself.

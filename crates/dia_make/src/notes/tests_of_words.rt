@@ -74,12 +74,17 @@ fn is_escaped(part: &[u8]) -> bool {
 
 /// Four numbers with dots between them, or eight groups of four hexadecimal digits with colons.
 pub fn is_address(word: &[u8]) -> bool {
-    if word.split(|byte| *byte == b'.').count() == 4 {
-        return word
+    let groups = word.split(|byte| *byte == b':').count();
+    is_dotted(word) || groups == 8 && word.split(|byte| *byte == b':').all(is_group)
+}
+
+/// Four numbers with dots between them.
+pub fn is_dotted(word: &[u8]) -> bool {
+    let parts = word.split(|byte| *byte == b'.').count();
+    parts == 4
+        && word
             .split(|byte| *byte == b'.')
-            .all(|part| is_number(part, 256));
-    }
-    word.split(|byte| *byte == b':').count() == 8 && word.split(|byte| *byte == b':').all(is_group)
+            .all(|part| is_number(part, 256))
 }
 
 fn is_group(part: &[u8]) -> bool {
