@@ -12,7 +12,7 @@ use Rattle.dia_io.specs.declared.Exit.{Exit}
 use Rattle.dia_io.specs.declared.Exit.TheVariants as exits
 use Rattle.dia_io.specs.declared.Command.TheVariants as command
 use Rattle.dia_io.specs.Writing.{AppendsFront}
-use Rattle.dia_lines.specs.Lines.{IsLineInput, LineHasOneAnswer, told_lines}
+use Rattle.dia_lines.specs.Lines.{LineHasOneAnswer, told_lines}
 use Rattle.dia_lines.specs.Lines as lines
 use Rattle.dia_lines.specs.FeedToSink.{AllAnswered, FrontAnswered, LinesAnswered}
 use Rattle.dia_lines.proofs.LineNumbers.{without_numbers}

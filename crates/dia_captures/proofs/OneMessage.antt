@@ -1,16 +1,16 @@
 -- What is found of one message, and what the commands write for it.
-use Rattle.std.proofs.Common.{◌≡◌, ◌≢◌, ℕ, ◌<◌, ◌&&◌, not, Bool, true, false, List, ◌++◌, length, Option, None, Some, Result, Ok, Err, refl, sym, ap, subst, ◌∙◌, codes, arith, inl, inr}
-use Rattle.std.specs.Prelude.{IfOk, IfSome, slice_get, take, if◌then◌else◌}
+use Rattle.std.proofs.Common.{◌≡◌, ℕ, ◌<◌, ◌&&◌, not, Bool, true, false, List, ◌++◌, length, Option, None, Some, Result, Ok, Err, refl, sym, ap, subst, ◌∙◌, codes, arith, inl, inr}
+use Rattle.std.specs.Prelude.{IfOk, IfSome, take, if◌then◌else◌}
 use Rattle.hex.specs.Hex.{decode_of}
 use Rattle.std.proofs.lemmas.Option.{same_Some}
-use Rattle.dia_dict.specs.Dictionary.{Dictionary, IsDictionary, PlainDefinition, definitions}
+use Rattle.dia_dict.specs.Dictionary.{Dictionary, IsDictionary, PlainDefinition}
 use Rattle.dia_policy.specs.declared.Unknown.{Unknown}
 use Rattle.dia_policy.specs.declared.Levels.{Levels}
 use Rattle.dia_policy.specs.Limits.{max_message_text}
 use Rattle.dia_check.specs.declared.Selected.{Selected}
 use Rattle.dia_check.specs.declared.Refusal.{Refusal}
 use Rattle.dia_check.specs.declared.Refusal.TheVariants as refusal
-use Rattle.dia_check.specs.Valid.{IsValid, IsValidOf}
+use Rattle.dia_check.specs.Valid.{IsValid}
 use Rattle.dia_check.specs.Faults.{IsAnswer}
 use Rattle.dia_check.proofs.OneAnswer.{one_answer}
 use Rattle.dia_io.specs.declared.Input.{Input}
@@ -33,7 +33,7 @@ use Rattle.dia_captures.specs.declared.verdicts.Checked.TheVariants.{Valid, Wron
 use Rattle.dia_captures.specs.declared.verdicts.Flaw.{Flaw}
 use Rattle.dia_captures.specs.declared.verdicts.Flaw.TheVariants as flaw
 use Rattle.dia_captures.specs.declared.verdicts.Refuted.{Refuted}
-use Rattle.dia_captures.specs.Verdicts.{answer_of, name_of, checked_exit, checked_line, is_valid, refuted_exit, refuted_line, unless_refused}
+use Rattle.dia_captures.specs.Verdicts.{name_of, checked_exit, checked_line, is_valid, refuted_exit, refuted_line, unless_refused}
 use Rattle.dia_captures.specs.Verdicts.{IsLineChecked, IsLineRefuted, IsMessageChecked, IsNamed, IsPieceChecked, IsTextRefused}
 use Rattle.dia_captures.specs.Lines.{Answer, OfLine, checks, refutations}
 use Rattle.dia_captures.specs.Streams.{OfMessage}

@@ -1,5 +1,5 @@
 -- The reasons that were met, with one more.
-use Rattle.std.proofs.Common.{◌≡◌, ℕ, ◌+◌, ◌<◌, ◌≤◌, ◌||◌, ◌&&◌, ◌==◌, Bool, true, false, List, [], ◌∷◌, ◌++◌, length, map, take, drop, set, get_or, Option, Some, Result, Ok, Err, refl, sym}
+use Rattle.std.proofs.Common.{◌≡◌, ℕ, ◌+◌, ◌<◌, ◌≤◌, ◌||◌, ◌&&◌, ◌==◌, Bool, true, false, List, [], ◌∷◌, ◌++◌, length, map, take, drop, set, get_or, Result, Ok, Err, refl, sym}
 use Rattle.std.proofs.Common.{ap, ap₂, subst, ◌∙◌, arith}
 use Rattle.std.specs.Prelude.{is_err, is_ok, if◌then◌else◌}
 use Rattle.std.specs.List.{list_any}
@@ -7,7 +7,6 @@ use Rattle.std.proofs.lemmas.Bool.{and_parts, eq-eqb, eqb-true, false≢true}
 use Rattle.std.proofs.lemmas.List.{append-nil, drop-drop, drop-set-lt, drop_all, get_or-drop, length-map, length-set, map_push, take_all}
 use Rattle.std.proofs.lemmas.List.Edits.{map_over_more}
 use Rattle.std.proofs.lemmas.List.Folds.{list_any_more}
-use Rattle.dia_wire.specs.declared.Key.{Key}
 use Rattle.dia_check.specs.declared.Fault.{Fault}
 use Rattle.dia_check.specs.declared.Subject.{Subject}
 use Rattle.dia_check.specs.declared.Subject.TheVariants.{Nothing, Avp, Wildcard}
@@ -20,7 +19,7 @@ use Rattle.dia_captures.specs.declared.reasons.Met.{Met}
 use Rattle.dia_captures.specs.declared.reasons.Reasons.{Reasons}
 use Rattle.dia_captures.specs.Counts.{AreCounted, again, again_if, is_same, is_same_subject, most_reasons, once, other_places, others_seen, places, seen, seen_if_any, seen_more, told_mets}
 use Rattle.dia_captures.specs.Counts.{told_reasons}
-use Rattle.dia_captures.proofs.Counting.{Each, Each-map, Each-told, either_false, is_among, map_each, others_full, others_known, others_new, seen_if_more, seen_new, told_full, told_known, told_new}
+use Rattle.dia_captures.proofs.Counting.{Each-map, Each-told, either_false, is_among, map_each, others_full, others_known, others_new, seen_if_more, seen_new, told_full, told_known, told_new}
 
 -- ---- flaws that are the same are equal
 

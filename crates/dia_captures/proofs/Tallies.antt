@@ -1,16 +1,14 @@
 -- The tally of a run, with one more verdict.
-use Rattle.std.proofs.Common.{◌≡◌, ℕ, suc, ◌+◌, Bool, true, false, List, [], ◌∷◌, ◌++◌, length, map, Option, None, Some, refl, sym, ap, ap₂, subst, ◌∙◌, arith}
+use Rattle.std.proofs.Common.{◌≡◌, ℕ, suc, ◌+◌, Bool, true, false, List, [], ◌∷◌, ◌++◌, length, map, Option, refl, sym, ap, ap₂, subst, ◌∙◌, arith}
 use Rattle.std.specs.Prelude.{if◌then◌else◌, unwrap_or}
-use Rattle.std.specs.List.{count_by, flat_map}
 use Rattle.std.proofs.lemmas.List.{append-nil, length-append, map_push}
 use Rattle.std.proofs.lemmas.List.Sums.{sum_by-append}
 use Rattle.std.proofs.lemmas.List.Concat.{flat_map-append}
 use Rattle.dia_io.specs.declared.Exit.{Exit}
-use Rattle.dia_captures.specs.declared.ended.Ended.{Ended}
 use Rattle.dia_captures.specs.declared.verdicts.Checked.{Checked}
 use Rattle.dia_captures.specs.declared.verdicts.Flaw.{Flaw}
 use Rattle.dia_captures.specs.declared.tally.Tally.{Tally}
-use Rattle.dia_captures.specs.Ending.{ended_of, ended_with, is_yes}
+use Rattle.dia_captures.specs.Ending.{ended_with, is_yes}
 use Rattle.dia_captures.specs.Counts.{AreCounted, HasCounted, Item, checked_flaw, counted, in_lines, mets_at, mets_of, placed_item, placed_items, yes_of}
 use Rattle.dia_captures.specs.Verdicts.{checked_exit}
 use Rattle.dia_captures.proofs.Counting.{counted_more}

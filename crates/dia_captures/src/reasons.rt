@@ -78,7 +78,7 @@ impl Met {
 }
 
 impl Reasons {
-    ghost use Rattle.std.specs.Prelude.{◌≡◌, ◌≢◌, ◌++◌, ◌∷◌, List, [], ℕ, Option, false};
+    ghost use Rattle.std.specs.Prelude.{◌≡◌, ◌++◌, ◌∷◌, List, [], ℕ, Option, false};
     ghost use Rattle.std.specs.List.{list_any};
     ghost use Rattle.dia_captures.specs.declared.verdicts.Flaw.{Flaw as AnyFlaw};
     ghost use Rattle.dia_captures.specs.Counts.{AreCounted, is_same, mets_at};

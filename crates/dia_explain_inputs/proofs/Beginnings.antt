@@ -1,17 +1,16 @@
 -- The first of what is told of a dictionary, and its line.
-use Rattle.std.proofs.Common.{◌≡◌, ℕ, suc, ◌+◌, ◌<◌, ◌≤◌, List, [], ◌∷◌, ◌++◌, length, map, take, drop, Option, Some, None, slice_get, refl, sym, ap, subst, ◌∙◌, append_assoc, ⊎_elim, arith}
+use Rattle.std.proofs.Common.{◌≡◌, ℕ, ◌+◌, ◌<◌, ◌≤◌, List, [], ◌∷◌, ◌++◌, length, map, take, drop, Option, Some, slice_get, sym, ap, subst, ◌∙◌, append_assoc, ⊎_elim, arith}
 use Rattle.std.proofs.lemmas.Bool.{cases_order}
 use Rattle.std.proofs.lemmas.List.{take-append-drop, take-take}
 use Rattle.dia_ccf.specs.declared.fault.CcfFault.{CcfFault}
 use Rattle.dia_ccf.specs.declared.fault.CcfFault.TheVariants as fault
 use Rattle.dia_ccf.specs.declared.refused.Misfit.{Misfit}
-use Rattle.dia_ccf.specs.Plain.{PlainSource}
 use Rattle.dia_ccf.specs.Tokens.{Token, tokens}
 use Rattle.dia_ccf.specs.Grammar.{Derives}
 use Rattle.dia_ccf.specs.Faults.{CanBegin, IsFirstFault, IsFault, line_of}
 use Rattle.dia_ccf.specs.Refusals.{IsMisfit}
 use Rattle.dia_dict.specs.declared.findings.Finding.{Finding}
-use Rattle.dia_dict.specs.Resolution.{Wrong, PlainFinding, all_findings, first_wrong}
+use Rattle.dia_dict.specs.Resolution.{Wrong, PlainFinding}
 use Rattle.dia_dict.specs.SourceChecks.{plain_finding}
 use Rattle.std.specs.Prelude.{codes}
 use Rattle.dia_ccf.specs.declared.source.Source.{Source}

@@ -1,5 +1,5 @@
 -- Places of a text as a reader looks for them. A place counts the bytes in front of it.
-use Rattle.std.specs.Prelude.{◌≡◌, ℕ, ◌+◌, ◌-◌, ◌*◌, ◌==◌, ◌&&◌, ◌||◌, nat_lt, not, if◌then◌else◌, Bool, false, List, ◌++◌, length, take, drop, replicate, count_by}
+use Rattle.std.specs.Prelude.{◌≡◌, ℕ, ◌+◌, ◌-◌, ◌*◌, ◌==◌, ◌&&◌, nat_lt, not, if◌then◌else◌, Bool, false, List, ◌++◌, length, take, drop, replicate, count_by}
 use Rattle.std.specs.Prelude.{Option, Some, None, slice_get, find, flat_map, unwrap_or, codes}
 use Rattle.std.specs.Option.{option_map}
 use Rattle.std.specs.List.{prefix_len, suffix_len, take_while}

@@ -1,6 +1,6 @@
 //! Inputs that are refused, as JSON.
 
-ghost use Rattle.std.specs.Prelude.{◌≡◌, IfOk, codes, string_bytes};
+ghost use Rattle.std.specs.Prelude.{◌≡◌, IfOk, string_bytes};
 ghost use Rattle.serde_json.specs.Data.{no_members};
 ghost use Rattle.serde_json.specs.Written.{compact_text};
 ghost use Rattle.dia_json.specs.Values.{json_line, refused_members};

@@ -1,4 +1,3 @@
-use Rattle.std.proofs.Common.{length}
 use Rattle.dia_captures.proofs.ReasonsCounted.{AreAgain}
 use Rattle.dia_captures.proofs.reasons.count_again.Given as goal
 

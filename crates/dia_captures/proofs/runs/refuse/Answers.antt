@@ -1,4 +1,3 @@
-use Rattle.std.specs.Prelude.{string_bytes}
 use Rattle.std.specs.Io.KnownBytes.{Appends}
 use Rattle.dia_io.specs.Writing.{AppendsFront}
 use Rattle.dia_captures.proofs.RefusedRuns.{tells_line, ends_badly, has_memory}

@@ -1,5 +1,4 @@
-use Rattle.std.proofs.Common.{List, [], ◌∷◌, ◌++◌, refl, Some, ap, ◌∙◌, arith}
-use Rattle.dia_captures.specs.declared.reasons.Met.{Met}
+use Rattle.std.proofs.Common.{[], ◌∷◌, ◌++◌, refl, Some, ap, ◌∙◌, arith}
 use Rattle.dia_captures.specs.declared.reasons.Reasons.{Reasons}
 use Rattle.dia_captures.specs.declared.reasons.Seen.{Seen}
 use Rattle.dia_captures.proofs.ReasonsCounted.{counted_full, counted_new, pushed}
