@@ -40,8 +40,8 @@ valid_of da db Known u bytes c h = (sent_valid da Known bytes c h.0, h.1)
 valid_of da db Listed u bytes c h = h
 
 -- a message that breaks isn't accepted, and is one that is sent
-pub not_accepted : (da db : Dictionary) (who : Sends) (u : Unknown) (bytes : List ℕ) (c : ℕ) (accepted : Bool) → (IsTrue accepted ↔ IsValid db u levels.Any bytes) → IsConfirmed (sides da db who u) bytes c
-    → IsTrue (not accepted)
+pub not_accepted : (da db : Dictionary) (who : Sends) (u : Unknown) (bytes : List ℕ) (c : ℕ) (accepted : Bool) → (IsTrue accepted ↔ IsValid db u levels.Any bytes)
+    → IsConfirmed (sides da db who u) bytes c → IsTrue (not accepted)
 not_accepted da db who u bytes c true iff h = absurd ((valid_of da db who u bytes c h).1 (iff.0 refl))
 not_accepted da db who u bytes c false iff h = refl
 

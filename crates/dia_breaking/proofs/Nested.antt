@@ -4,7 +4,7 @@ use Rattle.std.specs.Prelude.{reverse, slice_get, MatchOption}
 use Rattle.std.specs.Int.{w32, to_be_bytes}
 use Rattle.std.specs.Option.{option_map, option_map_or}
 use Rattle.std.proofs.lemmas.Grind.{flat_map-append}
-use Rattle.std.proofs.lemmas.List.{append-nil, reverse-append, reverse-reverse}
+use Rattle.std.proofs.lemmas.List.{append-nil}
 use Rattle.dia_wire.specs.declared.Key.{Key}
 use Rattle.dia_wire.specs.Lengths.{header_length}
 use Rattle.dia_breaking_levels.specs.declared.line.Part.{Part}
@@ -17,7 +17,7 @@ use Rattle.dia_breaking.specs.declared.line.Site.{Site}
 use Rattle.dia_breaking.specs.declared.shown.ShownAvp.{ShownAvp}
 use Rattle.dia_breaking.specs.Messages.{AreParts, IsAlone, IsInnermost, IsMessageFor, IsShowingLevel, Shown, Stock, app_at, command_flags, front_parts, group_head, header_bytes, key_at, level_round}
 use Rattle.dia_breaking.specs.Messages.{levels_from, levels_on, line_p, parts_round, sent_number, shortest_avp, shown_avp, site_round, sum_64}
-use Rattle.dia_breaking.specs.Nested.{fronts, group_front, group_rest, plain_shown, rests, site_front, site_rest}
+use Rattle.dia_breaking.specs.Nested.{fronts, group_front, group_rest, plain_shown, rests}
 use Rattle.dia_breaking.specs.Sides.{Sides}
 use Rattle.dia_breaking.specs.Words.{path_to}
 
@@ -42,7 +42,8 @@ pub header_written : (head : Head) (line : Line) (site : Option Site) (old first
     → second ≡ first ++ length_bytes size → size ≡ sum_64 line.length header_length → third ≡ second ++ flags ∷ [] → flags ≡ command_flags head.class p → p ≡ line_p line.cause site
     → fourth ≡ third ++ length_bytes code → code ≡ head.code → fifth ≡ fourth ++ app → app ≡ to_be_bytes w32 number → number ≡ option_map_or (λ at. app_at at.place) site 0
     → last ≡ fifth ++ (0 ∷ 0 ∷ 0 ∷ 0 ∷ 0 ∷ 0 ∷ 0 ∷ 0 ∷ []) → last ≡ old ++ header_bytes head line site
-header_written head line site old first second third fourth fifth last app size flags code number p is_first is_second is_size is_third is_flags is_p is_fourth is_code is_fifth is_app is_number is_last =
+header_written head line site old first second third fourth fifth last app size flags code number p is_first is_second is_size is_third is_flags is_p is_fourth is_code is_fifth is_app is_number
+    is_last =
     header_parts old 1 (length_bytes (sum_64 line.length header_length)) (command_flags head.class (line_p line.cause site)) (length_bytes head.code)
     (to_be_bytes w32 (option_map_or (λ at. app_at at.place) site 0)) (0 ∷ 0 ∷ 0 ∷ 0 ∷ 0 ∷ 0 ∷ 0 ∷ 0 ∷ []) first second third fourth fifth last is_first
     (is_second ∙ ap (λ (n : ℕ). first ++ length_bytes n) is_size) (is_third ∙ ap (λ (n : ℕ). second ++ n ∷ []) (is_flags ∙ ap (command_flags head.class) is_p))
@@ -68,7 +69,8 @@ regrouped f h fs b rs r = simp append_assoc refl
 
 module _ (s : Sides) (k : Stock) (c size : ℕ) where
   one_apart : (outer site : Site) (key : Option Key) (fs bytes : List ℕ) (rs : List Part)
-      → option_map_or (λ (at : Key). level_round s k c outer.place at (group_head s size site at ++ ((fs ++ bytes) ++ parts_bytes (shortest_avp s k) rs))) key ((fs ++ bytes) ++ parts_bytes (shortest_avp s k) rs)
+      → option_map_or (λ (at : Key). level_round s k c outer.place at (group_head s size site at ++ ((fs ++ bytes) ++ parts_bytes (shortest_avp s k) rs))) key
+      ((fs ++ bytes) ++ parts_bytes (shortest_avp s k) rs)
       ≡ ((option_map_or (group_front s k c size outer.place site) key [] ++ fs) ++ bytes) ++ parts_bytes (shortest_avp s k) (rs ++ option_map_or (group_rest s k c outer.place) key [])
   one_apart outer site None fs bytes rs = ap (λ (ps : List Part). (fs ++ bytes) ++ parts_bytes (shortest_avp s k) ps) (sym (append-nil rs))
   one_apart outer site (Some key) fs bytes rs =
@@ -90,32 +92,15 @@ module _ (s : Sides) (k : Stock) (c size : ℕ) where
       levels_apart site path bytes ∙ ap (λ (ps : List Part). (fronts s k c size (Some site) path ++ bytes) ++ parts_bytes (shortest_avp s k) ps) (sym (append-nil (rests s k c (Some site) path)))
 
   -- a path written: what stands before, the innermost level, and what stands behind
-  pub path_written : (path : List Site) (bytes old first second last : List ℕ) (waiting turned none : List Part) → none ≡ [] → first ≡ old ++ fronts s k c size None path → reverse waiting ≡ rests s k c None path ++ reverse none
-      → second ≡ first ++ bytes → turned ≡ reverse waiting → last ≡ second ++ parts_bytes (shortest_avp s k) turned → last ≡ old ++ levels_on s k c size path bytes
+  pub path_written : (path : List Site) (bytes old first second last : List ℕ) (waiting turned none : List Part) → none ≡ [] → first ≡ old ++ fronts s k c size None path
+      → reverse waiting ≡ rests s k c None path ++ reverse none → second ≡ first ++ bytes → turned ≡ reverse waiting → last ≡ second ++ parts_bytes (shortest_avp s k) turned
+      → last ≡ old ++ levels_on s k c size path bytes
   path_written path bytes old first second last waiting turned none empty is_first is_open is_second is_turned is_last =
       let avp = shortest_avp s k in
       let parts : turned ≡ rests s k c None path = is_turned ∙ is_open ∙ ap (λ (ps : List Part). rests s k c None path ++ reverse ps) empty ∙ append-nil (rests s k c None path) in
       is_last ∙ ap (λ (ps : List Part). second ++ parts_bytes avp ps) parts
       ∙ ap (λ (xs : List ℕ). xs ++ parts_bytes avp (rests s k c None path)) (is_second ∙ ap (λ (xs : List ℕ). xs ++ bytes) is_first ∙ append_assoc old (fronts s k c size None path) bytes)
       ∙ append_assoc old (fronts s k c size None path ++ bytes) (parts_bytes avp (rests s k c None path)) ∙ ap (λ (xs : List ℕ). old ++ xs) (sym (all_apart path bytes))
-
-  -- one site more
-  pub front_more : (outer : Option Site) (site : Site) (path left : List Site) (old out new all : List ℕ) → left ≡ site ∷ path → out ++ fronts s k c size outer left ≡ all → new ≡ out ++ site_front s k c size outer site
-      → new ++ fronts s k c size (Some site) path ≡ all
-  front_more outer site path left old out new all is before more =
-      ap (λ (xs : List ℕ). xs ++ fronts s k c size (Some site) path) more ∙ append_assoc out (site_front s k c size outer site) (fronts s k c size (Some site) path)
-      ∙ ap (λ (sites : List Site). out ++ fronts s k c size outer sites) (sym is) ∙ before
-
-  pub rest_more : (outer : Option Site) (site : Site) (path left : List Site) (waiting new all : List Part) → left ≡ site ∷ path → rests s k c outer left ++ reverse waiting ≡ all
-      → reverse new ≡ site_rest s k c outer site ++ reverse waiting → rests s k c (Some site) path ++ reverse new ≡ all
-  rest_more outer site path left waiting new all is before more =
-      ap (λ (ps : List Part). rests s k c (Some site) path ++ ps) more ∙ sym (append_assoc (rests s k c (Some site) path) (site_rest s k c outer site) (reverse waiting))
-      ∙ ap (λ (sites : List Site). rests s k c outer sites ++ reverse waiting) (sym is) ∙ before
-
--- what is put behind others and turned round
-pub turned_more : (waiting rest turned new goal : List Part) → turned ≡ reverse rest → rest ≡ goal → new ≡ waiting ++ turned → reverse new ≡ goal ++ reverse waiting
-turned_more waiting rest turned new goal is_turned is_rest is_new =
-    ap reverse is_new ∙ reverse-append waiting turned ∙ ap (λ (ps : List Part). ps ++ reverse waiting) (ap reverse is_turned ∙ reverse-reverse rest ∙ is_rest)
 
 -- ---- the innermost level, and the message
 

@@ -1,6 +1,6 @@
 -- A message is refused once its header is mended, however it is mended for the place; or it isn't.
 use Rattle.std.proofs.Common.{◌≡◌, ◌≢◌, ℕ, zero, suc, ◌+◌, ◌<◌, ◌≤◌, Bool, true, false, bit_and, List, ◌++◌, length, map, take, drop, Option, Some, None, refl, sym, ap, subst, ◌∙◌, arith, inl, inr}
-use Rattle.std.specs.Prelude.{◌↔◌, ◌⊎◌, ◌==◌, IfSome, IsTrue, not, if◌then◌else◌, slice_get, slice_index}
+use Rattle.std.specs.Prelude.{◌↔◌, ◌⊎◌, ◌==◌, IsTrue, not, if◌then◌else◌, slice_get, slice_index}
 use Rattle.std.specs.Int.{IsBitSet}
 use Rattle.std.proofs.Math.Seq.{take-append_seam}
 use Rattle.std.proofs.lemmas.Bool.{ne_eqb}
@@ -10,20 +10,16 @@ use Rattle.dia_wire.specs.declared.Header.{Header}
 use Rattle.dia_wire.specs.declared.MessageFault.{MessageFault}
 use Rattle.dia_wire.specs.declared.MessageFault.TheVariants as faults
 use Rattle.dia_wire.specs.Number.{number}
-use Rattle.dia_wire.specs.declared.Key.{Key}
 use Rattle.dia_wire.specs.Wire.{PlainAvp, key_of, BeginsMessage, IsHead, IsMessage, IsMessageLength, SpellsAll}
 use Rattle.dia_wire.proofs.OneHeader.{head_says}
 use Rattle.dia_book.specs.declared.Class.{Class}
 use Rattle.dia_book.specs.declared.Class.TheVariants.{Request, Answer, Error as ErrorClass}
-use Rattle.dia_book.specs.declared.DefHead.{DefHead}
-use Rattle.dia_book.specs.declared.DefHead.TheVariants.{Group, Command, Error}
 use Rattle.dia_book.specs.Dictionary.{Dictionary, IsDictionary, PlainDefinition, definitions, groups, selected}
 use Rattle.dia_policy.specs.declared.Sends.{Sends}
 use Rattle.dia_policy.specs.declared.Unknown.{Unknown}
 use Rattle.dia_policy.specs.declared.Levels.TheVariants as levels
 use Rattle.dia_check.specs.Faults.{HasLength}
 use Rattle.dia_check.specs.Valid.{AllFit, AllowsP, IsValid, Placed, class_of}
-use Rattle.dia_rules.proofs.Members.{at_some}
 use Rattle.dia_rules.proofs.SelectedCommands.{Choice, NoChoice, choose, command_at}
 use Rattle.dia_breaking.specs.declared.heads.Head.{Head}
 use Rattle.dia_breaking.specs.declared.line.Place.{Place}
@@ -110,8 +106,8 @@ selected_at d code class app n is = by (choose d code class app)
     by (inr none) = absurd (none-some n (sym none.is_none ∙ is))
 
 -- one definition has one number
-pub one_number : (d : Dictionary) → IsDictionary d → (code other : ℕ) (class kind : Class) (app its n m : ℕ) (y : PlainDefinition) → selected d code class app ≡ Some n → selected d other kind its ≡ Some m
-    → slice_get (definitions d) n ≡ Some y → slice_get (definitions d) m ≡ Some y → n ≡ m
+pub one_number : (d : Dictionary) → IsDictionary d → (code other : ℕ) (class kind : Class) (app its n m : ℕ) (y : PlainDefinition) → selected d code class app ≡ Some n
+    → selected d other kind its ≡ Some m → slice_get (definitions d) n ≡ Some y → slice_get (definitions d) m ≡ Some y → n ≡ m
 one_number d sound code other class kind app its n m y first second at_first at_second =
     let (i, is) = selected_at d code class app n first in
     let (j, are) = selected_at d other kind its m second in
@@ -119,12 +115,6 @@ one_number d sound code other class kind app its n m y first second at_first at_
     is ∙ ap (λ (k : ℕ). length (groups d) + k) same ∙ sym are
 
 -- ---- mended headers
-
--- what takes some P flag has a head
-no_head : (h : DefHead) (flags : ℕ) → AllowsP h flags → head_in h ≡ None → ⊥
-no_head (Group key) flags allowed none = allowed
-no_head (Command code class app p) flags allowed none = absurd cc
-no_head (Error p) flags allowed none = absurd cc
 
 module _ (da db : Dictionary) (who : Sends) (u : Unknown) (sound : IsDictionary da) (sound_b : IsDictionary db) (c : ℕ) (place : Place) where
   -- two headers that are mended for a place select one definition
@@ -162,33 +152,6 @@ module _ (da db : Dictionary) (who : Sends) (u : Unknown) (sound : IsDictionary 
       let app_is : read_as ≡ new.app = subst (λ (p : Place). IsCommandPlace new.app p) is m.at in
       not_so (ap (λ (k : ℕ). selected db k (class_of tried) read_as) (sym m.mends.code) ∙ ap (λ (k : Class). selected db new.code k read_as) class
       ∙ ap (λ (k : ℕ). selected db new.code (class_of new.flags) k) app_is ∙ selects_n ∙ ap (λ (k : ℕ). Some k) (its ∙ sym same))
-
-  -- it is no place of a command
-  pub none_at_group : (key : Key) (outer : ℕ) (old new : Header) → place ≡ places.Group key outer → ¬ IsMendedAt (sides da db who u) c place old new
-  none_at_group key outer old new is m = subst (λ (p : Place). IsCommandPlace new.app p) is m.at
-
-  -- A's command has no head, B selects no definition, or that has no head
-  module _ (app read_as : ℕ) (is_told proxiable : Bool) (old new : Header) (is : place ≡ places.Command app read_as is_told proxiable) where
-    pub none_own : (o : Option Head) → o ≡ None → IfSome (slice_get (definitions da) c) (λ x. o ≡ head_in x.head) → ¬ IsMendedAt (sides da db who u) c place old new
-    none_own o none own m =
-        let (at_c, (h, number, head_is, selects, at_number)) = subst (λ (p : Place). IsReadBy da db c p m.command m.other) is m.read in
-        absurd (none-some h (sym none ∙ at_some (λ (x : PlainDefinition). o ≡ head_in x.head) (slice_get (definitions da) c) m.command own at_c ∙ head_is))
-
-    pub none_read : (own : Head) → IfSome (slice_get (definitions da) c) (λ x. Some own ≡ head_in x.head) → (o : Option ℕ) → o ≡ None → o ≡ selected db own.code own.class read_as
-        → ¬ IsMendedAt (sides da db who u) c place old new
-    none_read own own_is o none found m =
-        let (at_c, (h, number, head_is, selects, at_number)) = subst (λ (p : Place). IsReadBy da db c p m.command m.other) is m.read in
-        let head : own ≡ h = same_Some own h (at_some (λ (x : PlainDefinition). Some own ≡ head_in x.head) (slice_get (definitions da) c) m.command own_is at_c ∙ head_is) in
-        absurd (none-some number (sym none ∙ found ∙ subst (λ (z : Head). selected db z.code z.class read_as ≡ Some number) (sym head) selects))
-
-    pub none_other : (own : Head) → IfSome (slice_get (definitions da) c) (λ x. Some own ≡ head_in x.head) → (def : ℕ) → Some def ≡ selected db own.code own.class read_as → (o : Option Head) → o ≡ None
-        → IfSome (slice_get (definitions db) def) (λ x. o ≡ head_in x.head) → ¬ IsMendedAt (sides da db who u) c place old new
-    none_other own own_is def found o none other m =
-        let (at_c, (h, number, head_is, selects, at_number)) = subst (λ (p : Place). IsReadBy da db c p m.command m.other) is m.read in
-        let head : own ≡ h = same_Some own h (at_some (λ (x : PlainDefinition). Some own ≡ head_in x.head) (slice_get (definitions da) c) m.command own_is at_c ∙ head_is) in
-        let same : number ≡ def = same_Some number def (sym (subst (λ (z : Head). selected db z.code z.class read_as ≡ Some number) (sym head) selects) ∙ sym found) in
-        let at_def : slice_get (definitions db) def ≡ Some m.other = subst (λ (k : ℕ). slice_get (definitions db) k ≡ Some m.other) same at_number in
-        no_head m.other.head new.flags m.mends.allowed (sym (at_some (λ (x : PlainDefinition). o ≡ head_in x.head) (slice_get (definitions db) def) m.other other at_def) ∙ none)
 
   -- ---- both answers
 
@@ -255,7 +218,8 @@ module _ (s : Sides) (c : ℕ) (sites : List Site) (line : Line) (bytes : List �
     pub behind_none : slice_get (path_to sites line.site) 0 ≡ None → IsTrue false ↔ BreaksBehind s c sites line bytes
     behind_none none = ((λ yes. absurd cc), (λ behind. let (site, at, breaks) = behind other in absurd (none-some site (sym none ∙ at))))
 
-    pub behind_place : (site : Site) → slice_get (path_to sites line.site) 0 ≡ Some site → (b : Bool) → (IsTrue b ↔ BreaksOnceMended s c site.place bytes) → IsTrue b ↔ BreaksBehind s c sites line bytes
+    pub behind_place : (site : Site) → slice_get (path_to sites line.site) 0 ≡ Some site → (b : Bool) → (IsTrue b ↔ BreaksOnceMended s c site.place bytes)
+        → IsTrue b ↔ BreaksBehind s c sites line bytes
     behind_place site at b iff = (
       (λ yes. λ none. (site, at, iff.0 yes)),
       (λ behind. let (its, its_at, breaks) = behind other in

@@ -6,12 +6,14 @@ use Rattle.clap.specs.ValueTests.{is_unsigned_in}
 use Rattle.clap.specs.Walk.{Row, Text, all_of, first_of}
 use Rattle.clap.specs.Words.{App, IsAmong, Kinds, fault_of, kind_of, subcommand_of}
 use Rattle.dia_cli.specs.Origins.{reads_twice}
-use Rattle.dia_cli.specs.Words.{IsProgram, IsRequestOf, flag_word}
+use Rattle.dia_cli.specs.Words.{IsProgram, IsRequestOf, apart_in, flag_word}
 use Rattle.dia_cli.specs.declared.ending.Ending.{Ending}
 use Rattle.dia_cli.specs.declared.ending.Ending.TheVariants as ending
 use Rattle.dia_cli.specs.declared.request.Request.{Request}
 use Rattle.dia_cli.specs.declared.arguments.Unasked.{Unasked}
-use Rattle.dia_cli.specs.declared.arguments.Unasked.TheVariants.{Nothing, LinesAndStream, NoMemory}
+use Rattle.dia_cli.specs.declared.arguments.Unasked.TheVariants as unasked
+use Rattle.dia_cli.specs.declared.apart.Apart.{Apart}
+use Rattle.dia_cli.specs.declared.apart.Apart.TheVariants.{LinesAndStream}
 
 abbrev pub is_flag : Option Text → Bool
 is_flag word = option_map_or (λ w. bytes_eq w (codes "true") || bytes_eq w (codes "false")) word false
@@ -48,7 +50,7 @@ abbrev pub has_judged : List Row → Bool
 has_judged rows = is_judged rows && has_word (codes "D") rows
 
 abbrev pub has_shown : List Row → Bool
-has_shown rows = has_word (codes "dict") rows && (has_word (codes "MESSAGE") rows && is_flag (first_of (codes "as-text") rows))
+has_shown rows = has_word (codes "dict") rows && (has_word (codes "MESSAGE") rows && has_word (codes "values") rows)
 
 abbrev pub has_made : List Row → Bool
 has_made rows = has_word (codes "dict") rows && has_word (codes "TEXT") rows
@@ -98,24 +100,29 @@ abbrev pub HasLinesAndStream : List Row → Type 0
 HasLinesAndStream rows =
     (first_of (codes "lines") rows ≡ Some (flag_word true)) × (first_of (codes "stream") rows ≡ Some (flag_word true))
 
+-- two options are given that don't go together
+abbrev pub IsApart : Apart → Text × List Row → Type 0
+IsApart LinesAndStream found = (found.0 ≡ codes "check") × HasLinesAndStream found.1
+IsApart apart found = (found.0 ≡ codes "show") × (apart_in found.1 ≡ Some apart)
+
 -- why what was found for a subcommand is none that the program runs
 abbrev pub IsWanting : Text → List Row → Unasked → Type 0
-IsWanting name rows Nothing = has_arguments name rows ≡ false
-IsWanting name rows LinesAndStream = (name ≡ codes "check") × HasLinesAndStream rows
-IsWanting name rows NoMemory = ⊤
+IsWanting name rows unasked.Nothing = has_arguments name rows ≡ false
+IsWanting name rows (unasked.Apart apart) = IsApart apart (name, rows)
+IsWanting name rows unasked.NoMemory = ⊤
 
 -- why what was found is no request
 abbrev pub IsUnasked : Option (Text × List Row) → Unasked → Type 0
-IsUnasked found Nothing = is_asked found ≡ false
-IsUnasked found LinesAndStream = IsSomeAnd found (λ f. (f.0 ≡ codes "check") × HasLinesAndStream f.1)
-IsUnasked found NoMemory = ⊤
+IsUnasked found unasked.Nothing = is_asked found ≡ false
+IsUnasked found (unasked.Apart apart) = IsSomeAnd found (IsApart apart)
+IsUnasked found unasked.NoMemory = ⊤
 
 -- why what was found isn't run
 abbrev pub IsUnrun : Option (Text × List Row) → Ending → Type 0
 IsUnrun found (ending.Told error) = is_asked found ≡ false
 IsUnrun found ending.ReadTwice =
     (request : Request) × IsSomeAnd found (IsRequestOf request) × (reads_twice request.origins ≡ true)
-IsUnrun found ending.LinesAndStream = IsSomeAnd found (λ f. (f.0 ≡ codes "check") × HasLinesAndStream f.1)
+IsUnrun found (ending.Apart apart) = IsSomeAnd found (IsApart apart)
 IsUnrun found ending.NoMemory = ⊤
 IsUnrun found made = ⊥
 
@@ -125,7 +132,7 @@ IsAtFault kinds (ending.Told error) = IsAmong (kind_of error) kinds
 IsAtFault kinds made = ⊥
 
 -- why words are refused. Where clap finds no fault in them, and they are a subcommand with its arguments, nothing is told of
--- them: they are run, unless they name standard input twice, have both `--lines` and `--stream`, or memory is refused
+-- them: they are run, unless they name standard input twice, have two options that don't go together, or memory is refused
 abbrev pub IsRefused : List Text → Ending → Type 0
 IsRefused words made =
     (line : App) × IsProgram line × (IsAtFault (fault_of line words) made ⊎ IsUnrun (subcommand_of line words) made)

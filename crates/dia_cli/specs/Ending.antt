@@ -10,6 +10,7 @@ use Rattle.clap.specs.declared.error.kind.ErrorKind.TheVariants.{DisplayHelp, Di
 use Rattle.clap.specs.Words.{kind_of}
 use Rattle.dia_io.specs.declared.RunFault.{RunFault}
 use Rattle.dia_io.specs.declared.RunFault.TheVariants as fault
+use Rattle.dia_cli.specs.Apart.{first_option, second_option}
 use Rattle.dia_cli.specs.declared.ending.Ending.{Ending}
 use Rattle.dia_cli.specs.declared.ending.Ending.TheVariants as ending
 
@@ -42,7 +43,7 @@ abbrev pub EndsWith : Ending → ℕ → Type 0
 EndsWith (ending.Told error) status = (IsHelp error → status ≡ 0) × (¬ IsHelp error → status ≡ 2)
 EndsWith ending.NotText status = status ≡ 2
 EndsWith ending.ReadTwice status = status ≡ 2
-EndsWith ending.LinesAndStream status = status ≡ 2
+EndsWith (ending.Apart apart) status = status ≡ 2
 EndsWith (ending.Device name error) status = status ≡ 3
 EndsWith ending.NoMemory status = status ≡ 3
 
@@ -60,13 +61,17 @@ no_memory_text = codes "no memory" ++ 10 ∷ []
 abbrev pub IsDeviceText : List ℕ → List ℕ → Type 0
 IsDeviceText name text = (said : List ℕ) × (text ≡ device_failed ++ name ++ codes ": " ++ said ++ 10 ∷ [])
 
+-- two options don't go together
+abbrev pub apart_text : List ℕ → List ℕ → List ℕ
+apart_text first second = codes "error: the argument '--" ++ first ++ codes "' cannot be used with '--" ++ second ++ (codes "'" ++ try_help)
+
 -- what is told. The words of clap and of the system are any
 abbrev pub IsTextOf : Ending → List ℕ → Type 0
 IsTextOf (ending.Told error) text = ⊤
 IsTextOf ending.NotText text = text ≡ codes "error: a word of the command line isn't UTF-8" ++ try_help
 IsTextOf ending.ReadTwice text =
     text ≡ codes "error: '-' is given twice, and standard input can be read once: name a file for one of the two" ++ try_help
-IsTextOf ending.LinesAndStream text = text ≡ codes "error: the argument '--lines' cannot be used with '--stream'" ++ try_help
+IsTextOf (ending.Apart apart) text = text ≡ apart_text (first_option apart) (second_option apart)
 IsTextOf (ending.Device name (Some error)) text = IsDeviceText name.now text
 IsTextOf (ending.Device name None) text = text ≡ device_failed
 IsTextOf ending.NoMemory text = text ≡ no_memory_text

@@ -64,7 +64,8 @@ dict_option = option (codes "dict") (any_word (codes "@base"))
 abbrev pub show_row : CommandRow
 show_row = record {
   name = codes "show";
-  options = quiet_option ∷ dict_option ∷ option (codes "as-text") no_value ∷ [];
+  options = quiet_option ∷ dict_option ∷ option (codes "as-text") no_value ∷ option (codes "names") no_value
+      ∷ option (codes "values") (any_word (codes "@none")) ∷ json_option ∷ [];
   inputs = input (codes "MESSAGE") one ∷ [];
 }
 
@@ -85,7 +86,7 @@ render_row = record { name = codes "render"; options = quiet_option ∷ []; inpu
 abbrev pub compare_row : CommandRow
 compare_row = record {
   name = codes "compare";
-  options = quiet_option ∷ unknown_option ∷ [];
+  options = quiet_option ∷ unknown_option ∷ json_option ∷ [];
   inputs = input (codes "A") one ∷ input (codes "B") one ∷ input (codes "TABLE") one ∷ [];
 }
 
@@ -99,7 +100,7 @@ refute_row = record {
 abbrev pub propose_row : CommandRow
 propose_row = record {
   name = codes "propose";
-  options = quiet_option ∷ unknown_option ∷ [];
+  options = quiet_option ∷ unknown_option ∷ json_option ∷ [];
   inputs = input (codes "A") one ∷ input (codes "B") one ∷ input (codes "COMMAND") some ∷ [];
 }
 

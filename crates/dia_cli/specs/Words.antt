@@ -1,5 +1,5 @@
 -- What the words of the command line mean, by what clap says of a command line of this shape.
-use Rattle.std.specs.Prelude.{◌≡◌, ◌<◌, ◌^◌, Bool, true, false, List, [], ◌∷◌, map, unwrap_or, Option, Some, None, codes, string_bytes, IsSomeAnd}
+use Rattle.std.specs.Prelude.{◌≡◌, ◌<◌, ◌^◌, Bool, true, false, not, List, [], ◌∷◌, map, unwrap_or, Option, Some, None, codes, string_bytes, IsSomeAnd}
 use Rattle.std.specs.Borrow.{Bor}
 use Rattle.std.specs.Option.{option_map_or}
 use Rattle.std.specs.Str.{bytes_eq}
@@ -8,16 +8,18 @@ use Rattle.clap.specs.Walk.{Row, Text, all_of, first_of, texts}
 use Rattle.clap.specs.Simple.{App, subcommand_of}
 use Rattle.dia_io.specs.declared.Command.TheVariants as command
 use Rattle.dia_cli.specs.declared.task.Task.{Task}
-use Rattle.dia_cli.specs.declared.task.Task.TheVariants.{Whole, Make, ShowText, Breaking, CheckLines, RefuteLines, CheckStream}
+use Rattle.dia_cli.specs.declared.task.Task.TheVariants.{Whole, Make, ShowText, ShowNamed, Breaking, CheckLines, RefuteLines, CheckStream}
 use Rattle.dia_policy.specs.declared.Levels.{Levels}
 use Rattle.dia_policy.specs.declared.Levels.TheVariants.{Any, AtMost}
 use Rattle.dia_policy.specs.declared.Sends.{Sends}
 use Rattle.dia_policy.specs.declared.Sends.TheVariants as sent
 use Rattle.dia_policy.specs.declared.Unknown.{Unknown}
 use Rattle.dia_policy.specs.declared.Unknown.TheVariants.{Kept, Refused}
+use Rattle.dia_cli.specs.Apart.{show_apart}
 use Rattle.dia_cli.specs.InputWords.{AreFound, InputTexts, one_text, pair_texts}
 use Rattle.dia_cli.specs.Lines.{program_app}
 use Rattle.dia_cli.specs.Rows.{command_rows, with_commands}
+use Rattle.dia_cli.specs.declared.apart.Apart.{Apart}
 use Rattle.dia_cli.specs.declared.request.Request.{Request}
 use Rattle.dia_cli.specs.declared.origin.Origins.{Origins}
 
@@ -70,14 +72,25 @@ abbrev pub IsRefute : Bool → Unknown → Levels → Text × List Row → Type 
 IsRefute lines unknown levels found =
     (found.0 ≡ codes "refute") × IsFlag (codes "lines") lines found.1 × AreJudged unknown levels found.1
 
--- `show` with `--as-text`, or without it
-abbrev pub IsShow : Bool → Text × List Row → Type 0
-IsShow as_text found = (found.0 ≡ codes "show") × IsFlag (codes "as-text") as_text found.1
+-- a word that isn't `@none`
+abbrev pub is_file : Option Text → Bool
+is_file word = option_map_or (λ w. not (bytes_eq w (codes "@none"))) word false
+
+-- two options of `show` that are given, and don't go together
+abbrev pub apart_in : List Row → Option Apart
+apart_in rows = show_apart (is_given (first_of (codes "as-text") rows)) (is_given (first_of (codes "names") rows))
+    (is_file (first_of (codes "values") rows)) (is_given (first_of (codes "json") rows))
+
+-- `show` with `--as-text` and `--names`, or without them, and with no two options that don't go together
+abbrev pub IsShow : Bool → Bool → Text × List Row → Type 0
+IsShow as_text names found = (found.0 ≡ codes "show") × (as_text ≡ is_given (first_of (codes "as-text") found.1))
+    × (names ≡ is_given (first_of (codes "names") found.1)) × (apart_in found.1 ≡ None)
 
 -- the task that was found: the name of its command, the first values of its options, and all names of commands
 abbrev pub IsTaskOf : Task → Text × List Row → Type 0
-IsTaskOf (Whole command.Show) found = IsShow false found
-IsTaskOf ShowText found = IsShow true found
+IsTaskOf (Whole command.Show) found = IsShow false false found
+IsTaskOf ShowText found = IsShow true false found
+IsTaskOf ShowNamed found = IsShow false true found
 IsTaskOf Make found = found.0 ≡ codes "make"
 IsTaskOf (Whole command.Render) found = found.0 ≡ codes "render"
 IsTaskOf (Whole (command.Check unknown levels)) found = IsCheck false false unknown levels found
@@ -97,7 +110,8 @@ IsTaskOf (Breaking sends unknown messages once meaning names) found =
 
 -- the arguments that take the words of a task's inputs
 abbrev pub arguments_of : Task → InputTexts
-arguments_of (Whole command.Show) = record (one_text (codes "dict")) { message = Some (codes "MESSAGE") }
+arguments_of (Whole command.Show) = record (one_text (codes "dict")) { table = Some (codes "values"); message = Some (codes "MESSAGE") }
+arguments_of ShowNamed = record (one_text (codes "dict")) { table = Some (codes "values"); message = Some (codes "MESSAGE") }
 arguments_of ShowText = record (one_text (codes "dict")) { message = Some (codes "MESSAGE") }
 arguments_of Make = record (one_text (codes "dict")) { message = Some (codes "TEXT") }
 arguments_of (Whole command.Render) = one_text (codes "D")

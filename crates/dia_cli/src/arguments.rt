@@ -4,8 +4,8 @@ ghost use Rattle.std.specs.Prelude.{◌≡◌, IfOk, IfSome, IsSomeAnd, Some, co
 ghost use Rattle.std.specs.Prelude.{[], ◌∷◌, true, Bool, ℕ, IfErr, List, None, Option, false, map, option_map, string_bytes, unwrap_or};
 ghost use Rattle.clap.specs.Walk.{Row, Text, texts};
 ghost use Rattle.clap.specs.Words.{all_of, found_of, first_of, rows_of, subcommand_rows_of};
-ghost use Rattle.dia_cli.specs.Asking.{HasLinesAndStream, IsRefused, IsUnasked, IsUnrun, IsWanting, has_judged, has_pair};
-ghost use Rattle.dia_cli.specs.Asking.{has_compared, has_made, has_refuted, has_shown, has_word, is_asked, is_judged};
+ghost use Rattle.dia_cli.specs.Asking.{IsApart, IsRefused, IsUnasked, IsUnrun, IsWanting, has_judged, has_pair};
+ghost use Rattle.dia_cli.specs.Asking.{has_compared, has_made, has_refuted, has_word, is_asked, is_judged};
 ghost use Rattle.dia_cli.specs.Asking.{is_policy, is_sender};
 ghost use Rattle.dia_cli.specs.Forms.{Form, IsAccepted, form_name, is_plain_form, words_of};
 ghost use Rattle.dia_cli.specs.Origins.{reads_twice};
@@ -14,6 +14,8 @@ ghost use Rattle.dia_cli.specs.Request.{read_once};
 ghost use Rattle.dia_cli.specs.Words.{IsAsked, IsAskedBy, IsPolicy, IsRequestOf};
 ghost use Rattle.dia_cli.specs.Words.{AreJudged, sends_word};
 
+use crate::apart::Apart;
+use crate::arguments::showing::show_of;
 use crate::ending::Ending;
 use crate::line::{Words, command_line};
 use crate::origin::Origins;
@@ -31,6 +33,8 @@ use dia_io::Command;
 use dia_policy::{Levels, Sends, Unknown};
 use std::alloc::{AllocError, Global};
 use std::convert::AsStr;
+
+mod showing;
 
 /// The values of `--unknown`, the policies for AVPs that the dictionary doesn't know.
 static POLICIES: [&str; 2] = ["kept", "refused"];
@@ -87,7 +91,7 @@ fn requested<'a>(
 {
     match request_of(alloc, matches) {
         Ok(request) => read_once(request),
-        Err(Unasked::LinesAndStream) => Err(Ending::LinesAndStream),
+        Err(Unasked::Apart(apart)) => Err(Ending::Apart(apart)),
         Err(Unasked::NoMemory) => Err(Ending::NoMemory),
         // Never reached: the command line requires a subcommand, and each subcommand requires its arguments.
         Err(Unasked::Nothing) => Err(refused(
@@ -110,8 +114,8 @@ struct Asked<'a> {
 enum Unasked {
     /// They are no subcommand with its arguments.
     Nothing,
-    /// `--lines` and `--stream`.
-    LinesAndStream,
+    /// Two of them don't go together.
+    Apart(Apart),
     NoMemory,
 }
 
@@ -172,7 +176,7 @@ fn task_of<'a>(alloc: Global, name: &str, found: &ArgMatches<'a>) -> Result<Aske
     ensures wanting { IfErr result (IsWanting name.now (rows_of (found_of found.now))) }
 {
     match name {
-        "show" => show_of(found).ok_or(Unasked::Nothing),
+        "show" => show_of(found),
         "make" => make_of(found).ok_or(Unasked::Nothing),
         "check" => check_of(found),
         "render" => render_of(found).ok_or(Unasked::Nothing),
@@ -182,25 +186,6 @@ fn task_of<'a>(alloc: Global, name: &str, found: &ArgMatches<'a>) -> Result<Aske
         "breaking" => breaking_of(alloc, found),
         _ => Err(Unasked::Nothing),
     }
-}
-
-/// `show` with the arguments that were found.
-fn show_of<'a>(found: &ArgMatches<'a>) -> Option<Asked<'a>>
-    ensures made { IfSome result
-        (λ made. IsAsked made.task made.origins (codes "show", rows_of (found_of found.now))) }
-    ensures none { result ≡ None → has_shown (rows_of (found_of found.now)) ≡ false }
-{
-    let origins = Origins::of_one(dictionary_of(found, "dict")?);
-    let message = message_of(found, "MESSAGE")?;
-    let task = if flag_of(found, "as-text")? {
-        Task::ShowText
-    } else {
-        Task::Whole(Command::Show)
-    };
-    Some(Asked {
-        task,
-        origins: Origins { message, ..origins },
-    })
 }
 
 /// `make` with the arguments that were found. Its text is the message's input.
@@ -247,7 +232,7 @@ fn check_of<'a>(found: &ArgMatches<'a>) -> Result<Asked<'a>, Unasked>
                 ..origins
             },
         }),
-        (true, true) => Err(Unasked::LinesAndStream),
+        (true, true) => Err(Unasked::Apart(Apart::LinesAndStream)),
     }
 }
 

@@ -1,13 +1,14 @@
 //! How the program ends where nothing ran, or a run failed.
 
-ghost use Rattle.std.specs.Prelude.{◌≡◌, ◌↔◌, Err, IfOk, IfErr, IsOkAnd, IsTrue, string_bytes};
+ghost use Rattle.std.specs.Prelude.{◌≡◌, ◌↔◌, Err, IfOk, IfErr, IsErr, IsOkAnd, IsTrue, OnOk, string_bytes};
 ghost use Rattle.std.specs.Io.KnownBytes.{Appends};
 ghost use Rattle.dia_io.specs.Exit.{status_of};
 ghost use Rattle.dia_cli.specs.Ending.{IsDeviceText, IsShown, IsTold, ShowsHelp};
-ghost use Rattle.dia_cli.specs.Ending.{no_memory_text, stream};
+ghost use Rattle.dia_cli.specs.Ending.{apart_text, no_memory_text, stream};
 
+use crate::apart::Apart;
 use clap::error::ErrorKind;
-use dia_io::{Exit, RunFault, Sink, ToWriter, put_all};
+use dia_io::{Exit, Failed, RunFault, Sink, ToWriter, put_all};
 use std::alloc::{AllocError, Global};
 use std::io;
 use std::io::Write;
@@ -21,8 +22,8 @@ pub enum Ending<'a> {
     NotText,
     /// The command line names standard input twice: status 2.
     ReadTwice,
-    /// The command line has both `--lines` and `--stream`: status 2.
-    LinesAndStream,
+    /// The command line has two options that don't go together: status 2.
+    Apart(Apart),
     /// A file couldn't be opened, or a device failed: status 3.
     Device {
         /// The input as the command line names it, or a stream by its name.
@@ -168,7 +169,7 @@ impl<'a> Ending<'a> {
         match self {
             Ending::Told(error) if error.use_stderr() => 2,
             Ending::Told(_) => 0,
-            Ending::NotText | Ending::ReadTwice | Ending::LinesAndStream => 2,
+            Ending::NotText | Ending::ReadTwice | Ending::Apart(_) => 2,
             Ending::Device { .. } | Ending::NoMemory => FAILED,
         }
     }
@@ -196,7 +197,7 @@ impl<'a> Ending<'a> {
             Ending::Told(error) => put_made(sink, format!(in alloc; "{error}")),
             Ending::NotText => Ok(put_all(sink, NOT_TEXT.as_bytes())?),
             Ending::ReadTwice => Ok(put_all(sink, READ_TWICE.as_bytes())?),
-            Ending::LinesAndStream => Ok(put_all(sink, LINES_AND_STREAM.as_bytes())?),
+            Ending::Apart(apart) => Ok(put_apart(sink, apart.first(), apart.second())?),
             Ending::Device {
                 name,
                 error: Some(error),
@@ -205,6 +206,20 @@ impl<'a> Ending<'a> {
             Ending::NoMemory => Ok(put_all(sink, NO_MEMORY.as_bytes())?),
         }
     }
+}
+
+/// Writes that two options don't go together.
+fn put_apart<S: Sink>(sink: &mut S, first: &str, second: &str) -> Result<(), Failed>
+    requires { ¬ IsTrue (S.has_failed sink.old) }
+    ensures text { OnOk result
+        (Appends (S.written sink.old) (S.written sink.new) (apart_text first.now second.now)) }
+    ensures failed { IsErr result ↔ IsTrue (S.has_failed sink.new) }
+{
+    put_all(sink, APART.as_bytes())?;
+    put_all(sink, first.as_bytes())?;
+    put_all(sink, CANNOT_BE.as_bytes())?;
+    put_all(sink, second.as_bytes())?;
+    put_all(sink, CLOSED.as_bytes())
 }
 
 /// Writes a text, if there was memory for it.
@@ -248,7 +263,11 @@ const READ_TWICE: &str =
 For more information, try '--help'.
 ";
 
-const LINES_AND_STREAM: &str = "error: the argument '--lines' cannot be used with '--stream'
+const APART: &str = "error: the argument '--";
+
+const CANNOT_BE: &str = "' cannot be used with '--";
+
+const CLOSED: &str = "'
 
 For more information, try '--help'.
 ";

@@ -20,6 +20,7 @@
 //! An `Ending` says why there is no outcome. `finish` prints it, and answers the status of the process.
 #![tactic(auto)]
 
+mod apart;
 mod arguments;
 mod ending;
 mod line;
@@ -32,6 +33,7 @@ mod shown;
 mod task;
 mod values;
 
+pub use apart::Apart;
 pub use arguments::parse_words;
 pub use ending::{Ending, finish};
 pub use opened_inputs::open_inputs;

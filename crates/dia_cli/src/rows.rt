@@ -113,6 +113,20 @@ pub(crate) static ROWS: [CommandRow<'static>; 8] = [
                 value: Value::Nothing,
                 help: "Prints the message as a text that make reads",
             },
+            OptionRow {
+                id: "names",
+                value: Value::Nothing,
+                help: "Prints flags as letters, the name of the command, dates, and texts as texts, with levels indented",
+            },
+            OptionRow {
+                id: "values",
+                value: Value::Word {
+                    name: "FILE",
+                    default: NO_TABLE,
+                },
+                help: "The words of numbers, as lines AVP-NAME NUMBER WORD: a file, @none, or - for standard input",
+            },
+            JSON,
         ],
         inputs: &[InputRow {
             id: "MESSAGE",
@@ -167,7 +181,7 @@ pub(crate) static ROWS: [CommandRow<'static>; 8] = [
     CommandRow {
         name: "compare",
         about: "Tells whether a table of pairs shows that what is valid for A is valid for B",
-        options: &[QUIET, UNKNOWN],
+        options: &[QUIET, UNKNOWN, JSON],
         inputs: &[
             A,
             B,
@@ -205,7 +219,7 @@ pub(crate) static ROWS: [CommandRow<'static>; 8] = [
     CommandRow {
         name: "propose",
         about: "Prints the least table of pairs for commands of A",
-        options: &[QUIET, UNKNOWN],
+        options: &[QUIET, UNKNOWN, JSON],
         inputs: &[
             A,
             B,

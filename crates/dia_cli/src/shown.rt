@@ -1,11 +1,13 @@
-//! What `breaking` is to print.
+//! What `breaking` and `show` are to print.
 
-ghost use Rattle.std.specs.Prelude.{◌≡◌, IfSome, None, codes, false};
+ghost use Rattle.std.specs.Prelude.{◌≡◌, IfSome, None, codes, false, option_map};
 ghost use Rattle.clap.specs.Words.{found_of, rows_of};
 ghost use Rattle.dia_cli.specs.Asking.{has_flags};
-ghost use Rattle.dia_cli.specs.Words.{IsFlag};
+ghost use Rattle.dia_cli.specs.Words.{IsFlag, apart_in, is_file};
 
-use crate::values::flag_of;
+use crate::apart::{Apart, show_apart};
+use crate::origin::NO_TABLE;
+use crate::values::{flag_of, is_given, word_of};
 use clap::ArgMatches;
 
 /// What `breaking` prints beside its lines, or in their place.
@@ -34,4 +36,26 @@ pub(crate) fn shown_of(found: &ArgMatches<'_>) -> Option<Shown>
         once,
         meaning,
     })
+}
+
+/// The first two options of `show` that are given, and don't go together.
+pub(crate) fn apart_in(found: &ArgMatches<'_>) -> Option<Apart>
+    ensures { result ≡ apart_in (rows_of (found_of found.now)) }
+{
+    show_apart(
+        is_given(found, "as-text"),
+        is_given(found, "names"),
+        is_file(word_of(found, "values")),
+        is_given(found, "json"),
+    )
+}
+
+/// Whether a word isn't that for a text without lines.
+fn is_file(word: Option<&str>) -> bool
+    ensures { result ≡ is_file (option_map (λ text. text.now) word.entry) }
+{
+    match word {
+        Some(word) => word != NO_TABLE,
+        None => false,
+    }
 }

@@ -10,6 +10,8 @@ pub enum Task {
     Make,
     /// Prints the text that `Make` reads as the message.
     ShowText,
+    /// Prints a message, an AVP a line, with names of flags, commands and dates.
+    ShowNamed,
     /// Prints each way in which messages that A's side sends break under B, for these commands of A, or for all.
     Breaking {
         sends: Sends,

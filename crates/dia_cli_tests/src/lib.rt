@@ -7,6 +7,8 @@ mod endings;
 #[cfg(test)]
 mod example;
 #[cfg(test)]
+mod named;
+#[cfg(test)]
 mod opened_inputs;
 #[cfg(test)]
 mod printed;

@@ -10,6 +10,7 @@ mod built;
 mod captured;
 mod front;
 mod notes;
+mod showing;
 mod text;
 mod tips;
 
@@ -27,6 +28,7 @@ use dia_report::{Answered, Report, Reported};
 use dia_run::{Command, Exit, Inputs, RunFault, ToWriter, run_reporting};
 use dia_upgrades::{Asked, breaking};
 use notes::{explain, explain_upgrade, unnamed};
+use showing::show_named;
 use std::alloc::AllocError;
 use std::process::ExitCode;
 use std::rt::{Env, Files};
@@ -103,6 +105,11 @@ where
     Ok(reported.exit)
 }
 
+/// Whether words of values are given.
+fn has_values(origins: &Origins<'_>) -> bool {
+    !matches!(origins.table, Origin::Nowhere)
+}
+
 /// Does what is asked for.
 fn run_task<'a, R>(
     rt: &R,
@@ -122,7 +129,11 @@ where
         Task::Whole(Command::Refute { unknown, levels }) if json => {
             put_answer(rt, dia_json::refute(rt.alloc(), *unknown, *levels, inputs))
         }
+        Task::Whole(Command::Show) if has_values(origins) => {
+            show_named(rt, false, inputs, origins, quiet)
+        }
         Task::Whole(command) => answer(rt, command, inputs),
+        Task::ShowNamed => show_named(rt, true, inputs, origins, quiet),
         Task::Make => made(rt, inputs, origins.message, quiet),
         Task::ShowText => shown(rt, inputs, origins.message, quiet),
         Task::Breaking {
@@ -241,7 +252,7 @@ fn note<R: AllocGlobal + Eprint>(
 /// How an AVP without a name stands in what is shown of a message.
 fn sign_of(task: &Task) -> Option<&'static str> {
     match task {
-        Task::Whole(Command::Show) => Some("?"),
+        Task::Whole(Command::Show) | Task::ShowNamed => Some("?"),
         Task::ShowText => Some("a number in place of a name"),
         _ => None,
     }

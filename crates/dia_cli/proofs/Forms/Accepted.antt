@@ -1,17 +1,17 @@
 -- The words of a form are accepted.
-use Rattle.std.proofs.Common.{◌≡◌, ◌∙◌, Bool, true, List, [], ◌∷◌, Option, Some, Result, Ok, Err, sym, ap, subst, codes, inl, inr}
+use Rattle.std.proofs.Common.{◌≡◌, ◌∙◌, Bool, true, List, [], ◌∷◌, Option, Some, Result, Ok, Err, sym, ap, subst, inl, inr}
 use Rattle.std.specs.Prelude.{IfErr, IfOk, IsSomeAnd}
 use Rattle.clap.specs.Walk.{Row, Text}
 use Rattle.clap.specs.Words.{App, IsAmong, Kinds, fault_of, kind_of, subcommand_of}
 use Rattle.clap.specs.declared.error.kind.ErrorKind.{ErrorKind}
-use Rattle.dia_cli.specs.Asking.{HasLinesAndStream, IsRefused, is_asked}
+use Rattle.dia_cli.specs.Asking.{IsApart, IsRefused, is_asked}
 use Rattle.dia_cli.specs.Forms.{Form, IsAccepted, IsOfForm, form_json, form_name, is_plain_form, words_of}
 use Rattle.dia_cli.specs.Words.{IsAskedBy, IsProgram, IsRequestOf}
 use Rattle.dia_cli.specs.declared.ending.Ending.{Ending}
 use Rattle.dia_cli.specs.declared.ending.Ending.TheVariants as ending
 use Rattle.dia_cli.specs.declared.request.Request.{Request}
 use Rattle.dia_cli.proofs.Forms.FormRows.{form_taken}
-use Rattle.dia_cli.proofs.Forms.Requests.{form_is_asked, form_reads_one_way, request_is}
+use Rattle.dia_cli.proofs.Forms.Requests.{form_goes_together, form_is_asked, request_is}
 use Rattle.dia_cli.proofs.Forms.Says.{Says, found_says}
 use Rattle.dia_cli.proofs.Forms.Walked.{IsTaken}
 
@@ -58,14 +58,13 @@ accepted words program quiet form (Err ending.ReadTwice) are plain asked refused
           let is = request_of_form refused.0 words quiet form t.0 (ap (fault_of refused.0) are ∙ t.1.fine) (ap (subcommand_of refused.0) are ∙ t.1.finds) plain t.2 twice.0 twice.1 in
           (twice.0, is.0, twice.2)
     ]
-accepted words program quiet form (Err ending.LinesAndStream) are plain asked refused =
+accepted words program quiet form (Err (ending.Apart apart)) are plain asked refused =
     let t = program_taken refused.0 program quiet form refused.1 plain in
     elim refused.2 [
       | inl bad ↦ bad
       | inr both ↦
           let found = ap (subcommand_of refused.0) are ∙ t.1.finds in
-          form_reads_one_way quiet form t.0 t.2
-          (subst (λ (s : Option (Text × List Row)). IsSomeAnd s (λ f. (f.0 ≡ codes "check") × HasLinesAndStream f.1)) found both)
+          form_goes_together quiet form t.0 t.2 apart (subst (λ (s : Option (Text × List Row)). IsSomeAnd s (IsApart apart)) found both)
     ]
 accepted words program quiet form (Err (ending.Device name error)) are plain asked refused = elim refused.2 [ inl bad ↦ bad | inr bad ↦ bad ]
 accepted words program quiet form (Err ending.NoMemory) are plain asked refused = tt

@@ -24,13 +24,13 @@ use Rattle.dia_cli.proofs.Forms.Walked.{IsTaken, Names_at, leaf_of}
 use Rattle.dia_cli.proofs.Forms.Walks.{FitInputs, Passes, are_apart, behind}
 
 abbrev pub form_row : Form → CommandRow
-form_row (show as_text dictionary message) = show_row
+form_row (show telling dictionary message) = show_row
 form_row (make dictionary written) = make_row
 form_row (check manner json unknown levels dictionary message) = check_row
 form_row (render dictionary) = render_row
-form_row (compare unknown first second table) = compare_row
+form_row (compare json unknown first second table) = compare_row
 form_row (refute many json unknown levels first second message) = refute_row
-form_row (propose unknown first second name names) = propose_row
+form_row (propose json unknown first second name names) = propose_row
 form_row (breaking sends unknown messages once meaning accepted first second names) = breaking_row
 
 -- the options with `--quiet` or without it
@@ -77,24 +77,24 @@ module _ (policies senders : Bor (List (Bor Text))) (two : texts policies.now �
   }
 
   form_fits : (quiet : Bool) (form : Form) → IsRow (shape policies senders (form_row form)) (all_options quiet form) (form_inputs form)
-  form_fits quiet (show as_text dictionary message) =
-      row_fits show_row _ _ refl (refl, tt, (refl, tt, (refl, tt, tt))) (record { by_index = refl; by_id = refl; next = refl }, tt) refl refl refl refl
+  form_fits quiet (show telling dictionary message) =
+      row_fits show_row _ _ refl (refl, tt, (refl, tt, (refl, tt, (refl, tt, (refl, tt, (refl, tt, tt)))))) (record { by_index = refl; by_id = refl; next = refl }, tt) refl refl refl refl
   form_fits quiet (make dictionary written) =
       row_fits make_row _ _ refl (refl, tt, (refl, tt, tt)) (record { by_index = refl; by_id = refl; next = refl }, tt) refl refl refl refl
   form_fits quiet (check manner json unknown levels dictionary message) =
       row_fits check_row _ _ refl (refl, tt, (refl, policy_passes unknown, (refl, tt, (refl, tt, (refl, tt, (refl, tt, tt))))))
       (record { by_index = refl; by_id = refl; next = refl }, (record { by_index = refl; by_id = refl; next = refl }, tt)) refl refl refl refl
   form_fits quiet (render dictionary) = row_fits render_row _ _ refl (refl, tt, tt) (record { by_index = refl; by_id = refl; next = refl }, tt) refl refl refl refl
-  form_fits quiet (compare unknown first second table) =
-      row_fits compare_row _ _ refl (refl, tt, (refl, policy_passes unknown, tt))
+  form_fits quiet (compare json unknown first second table) =
+      row_fits compare_row _ _ refl (refl, tt, (refl, policy_passes unknown, (refl, tt, tt)))
       (record { by_index = refl; by_id = refl; next = refl }, (record { by_index = refl; by_id = refl; next = refl }, (record { by_index = refl; by_id = refl; next = refl }, tt)))
       refl refl refl refl
   form_fits quiet (refute many json unknown levels first second message) =
       row_fits refute_row _ _ refl (refl, tt, (refl, policy_passes unknown, (refl, tt, (refl, tt, (refl, tt, tt)))))
       (record { by_index = refl; by_id = refl; next = refl }, (record { by_index = refl; by_id = refl; next = refl }, (record { by_index = refl; by_id = refl; next = refl }, tt)))
       refl refl refl refl
-  form_fits quiet (propose unknown first second name names) =
-      row_fits propose_row _ _ refl (refl, tt, (refl, policy_passes unknown, tt))
+  form_fits quiet (propose json unknown first second name names) =
+      row_fits propose_row _ _ refl (refl, tt, (refl, policy_passes unknown, (refl, tt, tt)))
       (record { by_index = refl; by_id = refl; next = refl }, (record { by_index = refl; by_id = refl; next = refl }, (true, record { by_index = refl; by_id = refl; next = refl })))
       refl refl refl refl
   form_fits quiet (breaking sends unknown messages once meaning accepted first second names) =
@@ -104,23 +104,23 @@ module _ (policies senders : Bor (List (Bor Text))) (two : texts policies.now �
 
   form_named : (form : Form) → Names_at (built (line_shape policies senders)) (form_name form) (shape policies senders (form_row form))
   unfolding clap_on_literals
-  form_named (show as_text dictionary message) = record { stops = refl; fine = refl; finds = refl; rest = refl }
+  form_named (show telling dictionary message) = record { stops = refl; fine = refl; finds = refl; rest = refl }
   form_named (make dictionary written) = record { stops = refl; fine = refl; finds = refl; rest = refl }
   form_named (check manner json unknown levels dictionary message) = record { stops = refl; fine = refl; finds = refl; rest = refl }
   form_named (render dictionary) = record { stops = refl; fine = refl; finds = refl; rest = refl }
-  form_named (compare unknown first second table) = record { stops = refl; fine = refl; finds = refl; rest = refl }
+  form_named (compare json unknown first second table) = record { stops = refl; fine = refl; finds = refl; rest = refl }
   form_named (refute many json unknown levels first second message) = record { stops = refl; fine = refl; finds = refl; rest = refl }
-  form_named (propose unknown first second name names) = record { stops = refl; fine = refl; finds = refl; rest = refl }
+  form_named (propose json unknown first second name names) = record { stops = refl; fine = refl; finds = refl; rest = refl }
   form_named (breaking sends unknown messages once meaning accepted first second names) = record { stops = refl; fine = refl; finds = refl; rest = refl }
 
   shape_name : (form : Form) → (shape policies senders (form_row form)).name ≡ form_name form
-  shape_name (show as_text dictionary message) = refl
+  shape_name (show telling dictionary message) = refl
   shape_name (make dictionary written) = refl
   shape_name (check manner json unknown levels dictionary message) = refl
   shape_name (render dictionary) = refl
-  shape_name (compare unknown first second table) = refl
+  shape_name (compare json unknown first second table) = refl
   shape_name (refute many json unknown levels first second message) = refl
-  shape_name (propose unknown first second name names) = refl
+  shape_name (propose json unknown first second name names) = refl
   shape_name (breaking sends unknown messages once meaning accepted first second names) = refl
 
   -- the words of a form are taken

@@ -10,17 +10,20 @@ use Rattle.clap.specs.Walk.{Row, Text, first_of}
 use Rattle.clap.proofs.WalkLemmas.{both}
 use Rattle.dia_io.specs.declared.Command.TheVariants as command
 use Rattle.dia_cli.specs.declared.task.Task.{Task}
-use Rattle.dia_cli.specs.declared.task.Task.TheVariants.{Whole, Make, ShowText, Breaking, CheckLines, RefuteLines, CheckStream}
+use Rattle.dia_cli.specs.declared.task.Task.TheVariants.{Whole, Make, ShowText, ShowNamed, Breaking, CheckLines, RefuteLines, CheckStream}
 use Rattle.dia_policy.specs.declared.Levels.{Levels}
 use Rattle.dia_policy.specs.declared.Sends.{Sends}
 use Rattle.dia_policy.specs.declared.Sends.TheVariants.{Any, Known, Listed}
 use Rattle.dia_policy.specs.declared.Unknown.{Unknown}
 use Rattle.dia_policy.specs.declared.Unknown.TheVariants.{Kept, Refused}
-use Rattle.dia_cli.specs.Asking.{HasLinesAndStream, has_pair, is_asked, is_flag, is_limit, is_policy, is_sender}
-use Rattle.dia_cli.specs.Forms.{Form, IsOfForm, IsTaskOfForm, alone, breaking, check, compare, form_inputs, form_json, form_name, form_words, in_lines, in_stream, is_lines, is_plain_form, is_stream, make, propose, refute, render, show}
+use Rattle.dia_cli.specs.Apart.{show_apart}
+use Rattle.dia_cli.specs.Asking.{HasLinesAndStream, IsApart, has_pair, is_asked, is_flag, is_limit, is_policy, is_sender}
+use Rattle.dia_cli.specs.Forms.{Form, IsOfForm, IsTaskOfForm, alone, as_json, as_lines, as_text, breaking, check, compare, form_inputs, form_json, form_name, form_words, has_names, in_lines, in_stream, is_json, is_lines, is_plain_form, is_stream, is_text, make, propose, refute, render, show, values_given, Telling}
 use Rattle.dia_cli.specs.Slots.{Slot, is_plain, is_plain_slot, number}
 use Rattle.dia_cli.specs.InputWords.{AreFound, AreNamed, IsFound, IsNamed, one_text, pair_texts}
-use Rattle.dia_cli.specs.Words.{IsLimitOf, IsRequestOf, IsTaskOf, arguments_of, flag_word, policy_word, sends_word}
+use Rattle.dia_cli.specs.Words.{IsLimitOf, IsRequestOf, IsTaskOf, apart_in, arguments_of, flag_word, is_file, is_given, policy_word, sends_word}
+use Rattle.dia_cli.specs.declared.apart.Apart.{Apart}
+use Rattle.dia_cli.specs.declared.apart.Apart.TheVariants.{LinesAndStream, AsTextAndNames, AsTextAndValues, AsTextAndJson, JsonAndNames, JsonAndValues}
 use Rattle.dia_cli.specs.declared.request.Request.{Request}
 use Rattle.dia_cli.specs.declared.origin.Origin.{Origin}
 use Rattle.dia_cli.specs.declared.origin.Origins.{Origins}
@@ -108,8 +111,9 @@ pair_passes : (first second : Text) (rows : List Row) → first_of (codes "A") r
 pair_passes first second rows one two = also (has_some _ first one) (has_some _ second two)
 
 pub form_is_asked : (quiet : Bool) (form : Form) (rows : List Row) → is_plain_form form ≡ true → Says quiet form rows → is_asked (Some (form_name form, rows)) ≡ true
-form_is_asked quiet (show as_text dictionary message) rows plain says =
-    also (has_flag _ quiet says.0) (also (has_some _ (unwrap_or dictionary (codes "@base")) says.1.0) (also (has_some _ message says.1.1) (has_flag _ as_text says.1.2)))
+form_is_asked quiet (show telling dictionary message) rows plain says =
+    also (has_flag _ quiet says.0)
+    (also (has_some _ (unwrap_or dictionary (codes "@base")) says.1.0) (also (has_some _ message says.1.1) (has_some _ (unwrap_or (values_given telling) (codes "@none")) says.1.4)))
 form_is_asked quiet (make dictionary written) rows plain says =
     also (has_flag _ quiet says.0) (also (has_some _ (unwrap_or dictionary (codes "@base")) says.1.0) (has_some _ written says.1.1))
 form_is_asked quiet (check manner json unknown levels first second) rows plain says =
@@ -117,13 +121,13 @@ form_is_asked quiet (check manner json unknown levels first second) rows plain s
     (also (also (also (has_policy _ unknown says.1.2) (has_limit _ levels says.1.3 (number_passes levels (form_inputs (check manner json unknown levels first second)) plain)))
     (has_some _ first says.1.4)) (has_some _ second says.1.5))))
 form_is_asked quiet (render first) rows plain says = also (has_flag _ quiet says.0) (has_some _ first says.1)
-form_is_asked quiet (compare unknown first second table) rows plain says =
+form_is_asked quiet (compare json unknown first second table) rows plain says =
     also (has_flag _ quiet says.0) (also (has_policy _ unknown says.1.0.0) (also (pair_passes first second rows says.1.0.1 says.1.0.2) (has_some _ table says.1.1)))
 form_is_asked quiet (refute many json unknown levels first second third) rows plain says =
     also (has_flag _ quiet says.0)
     (also (also (has_policy _ unknown says.1.0.0) (has_limit _ levels says.1.2 (number_passes levels (form_inputs (refute many json unknown levels first second third)) plain)))
     (also (pair_passes first second rows says.1.0.1 says.1.0.2) (also (has_flag _ many says.1.1) (has_some _ third says.1.3))))
-form_is_asked quiet (propose unknown first second name names) rows plain says =
+form_is_asked quiet (propose json unknown first second name names) rows plain says =
     also (has_flag _ quiet says.0) (also (has_policy _ unknown says.1.0.0) (also (pair_passes first second rows says.1.0.1 says.1.0.2) (has_some _ (name ∷ names) says.1.1)))
 form_is_asked quiet (breaking sends unknown messages once meaning accepted first second names) rows plain says =
     also (has_flag _ quiet says.0) (also (has_policy _ unknown says.1.0.0) (also (pair_passes first second rows says.1.0.1 says.1.0.2)
@@ -131,17 +135,51 @@ form_is_asked quiet (breaking sends unknown messages once meaning accepted first
     (also (also (has_flag _ messages says.1.2) (also (has_flag _ once says.1.5) (has_flag _ meaning says.1.6))) (has_some _ (unwrap_or accepted (codes "@none")) says.1.4)))))
 
 -- `--lines` and `--stream` stand together in no form
-pub form_reads_one_way : (quiet : Bool) (form : Form) (rows : List Row) → Says quiet form rows → (form_name form ≡ codes "check") × HasLinesAndStream rows → ⊥
+form_reads_one_way : (quiet : Bool) (form : Form) (rows : List Row) → Says quiet form rows → (form_name form ≡ codes "check") × HasLinesAndStream rows → ⊥
 form_reads_one_way quiet (check alone json unknown levels first second) rows says bad = let lines = sym says.1.0 ∙ bad.1.0 in absurd cc
 form_reads_one_way quiet (check in_lines json unknown levels first second) rows says bad = let stream = sym says.1.1 ∙ bad.1.1 in absurd cc
 form_reads_one_way quiet (check in_stream json unknown levels first second) rows says bad = let lines = sym says.1.0 ∙ bad.1.0 in absurd cc
 form_reads_one_way quiet form rows says bad = unlike (form_name form) (codes "check") refl bad.0
+
+-- a flag as it is given
+same_given : (word : Option Text) (x y : Bool) → word ≡ Some (flag_word x) → y ≡ is_given word → y ≡ x
+same_given word false y one two = two ∙ ap is_given one
+same_given word true y one two = two ∙ ap is_given one
+
+-- what a form says of `show` goes together
+module _ (rows : List Row) where
+  told_together : (telling : Telling) → show_apart (is_text telling) (has_names telling) (is_file (Some (unwrap_or (values_given telling) (codes "@none")))) (is_json telling) ≡ None
+  told_together as_text = refl
+  told_together as_json = refl
+  told_together (as_lines names values) = refl
+
+  shown_together : (telling : Telling) → first_of (codes "as-text") rows ≡ Some (flag_word (is_text telling)) → first_of (codes "names") rows ≡ Some (flag_word (has_names telling))
+      → first_of (codes "values") rows ≡ Some (unwrap_or (values_given telling) (codes "@none")) → is_json telling ≡ is_given (first_of (codes "json") rows) → apart_in rows ≡ None
+  shown_together telling text names values json =
+      let t = same_given (first_of (codes "as-text") rows) (is_text telling) (is_given (first_of (codes "as-text") rows)) text refl in
+      let n = same_given (first_of (codes "names") rows) (has_names telling) (is_given (first_of (codes "names") rows)) names refl in
+      let v = ap is_file values in (λ i. show_apart (t i) (n i) (v i) (sym json i)) ∙ told_together telling
+
+  show_goes_together : (quiet : Bool) (form : Form) (apart : Apart) → Says quiet form rows → (form_name form ≡ codes "show") × (apart_in rows ≡ Some apart) → ⊥
+  show_goes_together quiet (show telling dictionary message) apart says bad =
+      let none = sym (shown_together telling says.1.2 says.1.3 says.1.4 says.2) ∙ bad.1 in absurd cc
+  show_goes_together quiet form apart says bad = unlike (form_name form) (codes "show") refl bad.0
+
+-- no form has two options that don't go together
+pub form_goes_together : (quiet : Bool) (form : Form) (rows : List Row) → Says quiet form rows → (apart : Apart) → IsApart apart (form_name form, rows) → ⊥
+form_goes_together quiet form rows says LinesAndStream bad = form_reads_one_way quiet form rows says bad
+form_goes_together quiet form rows says AsTextAndNames bad = show_goes_together rows quiet form AsTextAndNames says bad
+form_goes_together quiet form rows says AsTextAndValues bad = show_goes_together rows quiet form AsTextAndValues says bad
+form_goes_together quiet form rows says AsTextAndJson bad = show_goes_together rows quiet form AsTextAndJson says bad
+form_goes_together quiet form rows says JsonAndNames bad = show_goes_together rows quiet form JsonAndNames says bad
+form_goes_together quiet form rows says JsonAndValues bad = show_goes_together rows quiet form JsonAndValues says bad
 
 -- ---- the task
 
 abbrev task_name : Task → Text
 task_name (Whole command.Show) = codes "show"
 task_name ShowText = codes "show"
+task_name ShowNamed = codes "show"
 task_name Make = codes "make"
 task_name (Whole command.Render) = codes "render"
 task_name (Whole (command.Check unknown levels)) = codes "check"
@@ -156,6 +194,7 @@ task_name (Breaking sends unknown messages once meaning names) = codes "breaking
 name_found : (task : Task) (found : Text × List Row) → IsTaskOf task found → found.0 ≡ task_name task
 name_found (Whole command.Show) found is = is.0
 name_found ShowText found is = is.0
+name_found ShowNamed found is = is.0
 name_found Make found is = is
 name_found (Whole command.Render) found is = is
 name_found (Whole (command.Check unknown levels)) found is = is.0
@@ -169,6 +208,9 @@ name_found (Breaking sends unknown messages once meaning names) found is = is.0
 
 other_flag : {X : Type 0} (word : Option Text) (x y : Bool) → word ≡ Some (flag_word x) → word ≡ Some (flag_word y) → x ≢ y → X
 other_flag word x y one two differ = absurd (differ (same_flag word x y one two))
+
+other_given : {X : Type 0} (word : Option Text) (x y : Bool) → word ≡ Some (flag_word x) → y ≡ is_given word → y ≢ x → X
+other_given word x y one two differ = absurd (differ (same_given word x y one two))
 
 not_false : true ≢ false
 not_false e = absurd cc
@@ -194,6 +236,17 @@ module _ (origins : Origins) (rows : List Row) where
       → AreFound (record (one_text id) { message = Some input }) origins rows → AreNamed (record (one_text dictionary) { message = Some message }) origins
   message_named id dictionary input message says text found =
       (named _ id dictionary origins.first rows says found.0, found.1, found.2, named _ input message origins.message rows text found.3, found.4)
+
+  listing_named : (dictionary message values : Text) → first_of (codes "dict") rows ≡ Some dictionary → first_of (codes "MESSAGE") rows ≡ Some message → first_of (codes "values") rows ≡ Some values
+      → AreFound (record (one_text (codes "dict")) { table = Some (codes "values"); message = Some (codes "MESSAGE") }) origins rows
+      → AreNamed (record (one_text dictionary) { table = Some values; message = Some message }) origins
+  listing_named dictionary message values says text file found = (
+    named _ (codes "dict") dictionary origins.first rows says found.0,
+    found.1,
+    named _ (codes "values") values origins.table rows file found.2,
+    named _ (codes "MESSAGE") message origins.message rows text found.3,
+    found.4,
+  )
 
   messages_named : (id dictionary messages : Text) → first_of id rows ≡ Some dictionary → first_of (codes "MESSAGE") rows ≡ Some messages
       → AreFound (record (one_text id) { messages = Some (codes "MESSAGE") }) origins rows → AreNamed (record (one_text dictionary) { messages = Some messages }) origins
@@ -240,12 +293,22 @@ module _ (origins : Origins) (rows : List Row) where
 
 asked_is : (form : Form) (rows : List Row) (task : Task) (origins : Origins) → SaysForm form rows → IsTaskOf task (form_name form, rows) → AreFound (arguments_of task) origins rows
     → IsAskedOf form task origins
-asked_is (show false dictionary message) rows (Whole command.Show) origins says is found =
+asked_is (show as_text dictionary message) rows ShowText origins says is found =
     (tt, message_named origins rows (codes "dict") (unwrap_or dictionary (codes "@base")) (codes "MESSAGE") message says.0 says.1 found)
-asked_is (show true dictionary message) rows ShowText origins says is found =
-    (tt, message_named origins rows (codes "dict") (unwrap_or dictionary (codes "@base")) (codes "MESSAGE") message says.0 says.1 found)
-asked_is (show false dictionary message) rows ShowText origins says is found = other_flag _ true false is.1 says.2 not_false
-asked_is (show true dictionary message) rows (Whole command.Show) origins says is found = other_flag _ false true is.1 says.2 not_true
+asked_is (show as_json dictionary message) rows (Whole command.Show) origins says is found =
+    (tt, listing_named origins rows (unwrap_or dictionary (codes "@base")) message (codes "@none") says.0 says.1 says.4 found)
+asked_is (show (as_lines false values) dictionary message) rows (Whole command.Show) origins says is found =
+    (tt, listing_named origins rows (unwrap_or dictionary (codes "@base")) message (unwrap_or values (codes "@none")) says.0 says.1 says.4 found)
+asked_is (show (as_lines true values) dictionary message) rows ShowNamed origins says is found =
+    (tt, listing_named origins rows (unwrap_or dictionary (codes "@base")) message (unwrap_or values (codes "@none")) says.0 says.1 says.4 found)
+asked_is (show as_text dictionary message) rows (Whole command.Show) origins says is found = other_given _ true false says.2 is.1 not_true
+asked_is (show as_text dictionary message) rows ShowNamed origins says is found = other_given _ true false says.2 is.1 not_true
+asked_is (show as_json dictionary message) rows ShowText origins says is found = other_given _ false true says.2 is.1 not_false
+asked_is (show as_json dictionary message) rows ShowNamed origins says is found = other_given _ false true says.3 is.2 not_false
+asked_is (show (as_lines false values) dictionary message) rows ShowText origins says is found = other_given _ false true says.2 is.1 not_false
+asked_is (show (as_lines false values) dictionary message) rows ShowNamed origins says is found = other_given _ false true says.3 is.2 not_false
+asked_is (show (as_lines true values) dictionary message) rows (Whole command.Show) origins says is found = other_given _ true false says.3 is.2 not_true
+asked_is (show (as_lines true values) dictionary message) rows ShowText origins says is found = other_given _ false true says.2 is.1 not_false
 asked_is (make dictionary written) rows Make origins says is found =
     (tt, message_named origins rows (codes "dict") (unwrap_or dictionary (codes "@base")) (codes "TEXT") written says.0 says.1 found)
 asked_is (render dictionary) rows (Whole command.Render) origins says is found = (tt, one_named origins rows (codes "D") dictionary says found)
@@ -261,7 +324,7 @@ asked_is (check in_lines json unknown levels first second) rows (Whole (command.
 asked_is (check in_lines json unknown levels first second) rows (CheckStream policy limit) origins says is found = other_flag _ false true is.1 says.0 not_true
 asked_is (check in_stream json unknown levels first second) rows (Whole (command.Check policy limit)) origins says is found = other_flag _ false true is.2 says.1 not_true
 asked_is (check in_stream json unknown levels first second) rows (CheckLines policy limit) origins says is found = other_flag _ false true is.2 says.1 not_true
-asked_is (compare unknown first second table) rows (Whole (command.Compare policy)) origins says is found =
+asked_is (compare json unknown first second table) rows (Whole (command.Compare policy)) origins says is found =
     (same_policy _ _ _ is.1 says.0.0, table_named origins rows first second says.0.1 says.0.2 (codes "TABLE") table says.1 found)
 asked_is (refute false json unknown levels first second third) rows (Whole (command.Refute policy limit)) origins says is found =
     ((same_policy _ _ _ is.2.0 says.0.0, same_limit _ _ limit says.2 is.2.1), pair_message_named origins rows first second says.0.1 says.0.2 third says.3 found)
@@ -269,7 +332,7 @@ asked_is (refute true json unknown levels first second third) rows (RefuteLines 
     ((same_policy _ _ _ is.2.0 says.0.0, same_limit _ _ limit says.2 is.2.1), pair_messages_named origins rows first second says.0.1 says.0.2 third says.3 found)
 asked_is (refute false json unknown levels first second third) rows (RefuteLines policy limit) origins says is found = other_flag _ true false is.1 says.1 not_false
 asked_is (refute true json unknown levels first second third) rows (Whole (command.Refute policy limit)) origins says is found = other_flag _ false true is.1 says.1 not_true
-asked_is (propose unknown first second name names) rows (Whole (command.Propose policy commands)) origins says is found =
+asked_is (propose json unknown first second name names) rows (Whole (command.Propose policy commands)) origins says is found =
     ((same_policy _ _ _ is.1 says.0.0, sym (same_value _ _ _ says.1 is.2)), pair_named origins rows first second says.0.1 says.0.2 found)
 asked_is (breaking sends unknown messages once meaning accepted first second names) rows (Breaking sender policy shown counted meant commands) origins says is found = (
   (

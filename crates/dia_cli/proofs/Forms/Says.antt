@@ -9,7 +9,7 @@ use Rattle.dia_policy.specs.declared.Sends.{Sends}
 use Rattle.dia_policy.specs.declared.Sends.TheVariants.{Any, Known, Listed}
 use Rattle.dia_policy.specs.declared.Unknown.{Unknown}
 use Rattle.dia_policy.specs.declared.Unknown.TheVariants.{Kept, Refused}
-use Rattle.dia_cli.specs.Forms.{Form, breaking, check, compare, form_inputs, form_json, is_lines, is_stream, make, policy_given, propose, refute, render, sender_given, show}
+use Rattle.dia_cli.specs.Forms.{Form, breaking, check, compare, form_inputs, form_json, has_names, is_json, is_lines, is_stream, is_text, make, policy_given, propose, refute, render, sender_given, show, values_given}
 use Rattle.dia_cli.specs.Slots.{Slot}
 use Rattle.dia_cli.specs.Words.{flag_word, is_given, policy_word, sends_word}
 use Rattle.dia_cli.proofs.Forms.Ends.{Finds}
@@ -29,20 +29,21 @@ SaysPair unknown first second rows = (first_of (codes "unknown") rows ≡ Some (
 
 -- what is found of the options and inputs of a form
 abbrev pub SaysForm : Form → List Row → Type 0
-SaysForm (show as_text dictionary message) rows =
+SaysForm (show telling dictionary message) rows =
     (first_of (codes "dict") rows ≡ Some (unwrap_or dictionary (codes "@base"))) × (first_of (codes "MESSAGE") rows ≡ Some message)
-    × (first_of (codes "as-text") rows ≡ Some (flag_word as_text))
+    × (first_of (codes "as-text") rows ≡ Some (flag_word (is_text telling))) × (first_of (codes "names") rows ≡ Some (flag_word (has_names telling)))
+    × (first_of (codes "values") rows ≡ Some (unwrap_or (values_given telling) (codes "@none")))
 SaysForm (make dictionary written) rows = (first_of (codes "dict") rows ≡ Some (unwrap_or dictionary (codes "@base"))) × (first_of (codes "TEXT") rows ≡ Some written)
 SaysForm (check manner json unknown levels dictionary message) rows =
     (first_of (codes "lines") rows ≡ Some (flag_word (is_lines manner))) × (first_of (codes "stream") rows ≡ Some (flag_word (is_stream manner)))
     × (first_of (codes "unknown") rows ≡ Some (policy_word unknown)) × (first_of (codes "levels") rows ≡ levels)
     × (first_of (codes "D") rows ≡ Some dictionary) × (first_of (codes "MESSAGE") rows ≡ Some message)
 SaysForm (render dictionary) rows = first_of (codes "D") rows ≡ Some dictionary
-SaysForm (compare unknown first second table) rows = SaysPair unknown first second rows × (first_of (codes "TABLE") rows ≡ Some table)
+SaysForm (compare json unknown first second table) rows = SaysPair unknown first second rows × (first_of (codes "TABLE") rows ≡ Some table)
 SaysForm (refute many json unknown levels first second message) rows =
     SaysPair unknown first second rows × (first_of (codes "lines") rows ≡ Some (flag_word many)) × (first_of (codes "levels") rows ≡ levels)
     × (first_of (codes "MESSAGE") rows ≡ Some message)
-SaysForm (propose unknown first second name names) rows = SaysPair unknown first second rows × (all_of (codes "COMMAND") rows ≡ Some (name ∷ names))
+SaysForm (propose json unknown first second name names) rows = SaysPair unknown first second rows × (all_of (codes "COMMAND") rows ≡ Some (name ∷ names))
 SaysForm (breaking sends unknown messages once meaning accepted first second names) rows =
     SaysPair unknown first second rows × (first_of (codes "sends") rows ≡ Some (sends_word sends)) × (first_of (codes "messages") rows ≡ Some (flag_word messages))
     × (all_of (codes "COMMAND") rows ≡ some_names names) × (first_of (codes "accepted") rows ≡ Some (unwrap_or accepted (codes "@none")))
@@ -109,10 +110,16 @@ module _ (policies senders : Bor (List (Bor Text))) (quiet : Bool) (rows : List 
       → ((id : Text) → all_of id rows ≡ option_map (λ (f : Found). f.0) (or_found (values_from CommandLine (values_of id (behind (all_options quiet form ++ form_inputs form) [])))
       (default_found id (shape policies senders (form_row form)).rules)))
       → Says quiet form rows
-  form_says (show as_text dictionary message) first all = (
+  form_says (show telling dictionary message) first all = (
     first (codes "quiet") ∙ flag_found quiet,
-    (first (codes "dict") ∙ text_found dictionary (codes "@base"), first (codes "MESSAGE"), first (codes "as-text") ∙ flag_found as_text),
-    not_given (first (codes "json")),
+    (
+      first (codes "dict") ∙ text_found dictionary (codes "@base"),
+      first (codes "MESSAGE"),
+      first (codes "as-text") ∙ flag_found (is_text telling),
+      first (codes "names") ∙ flag_found (has_names telling),
+      first (codes "values") ∙ text_found (values_given telling) (codes "@none"),
+    ),
+    flag_given (is_json telling) (first (codes "json") ∙ flag_found (is_json telling)),
   )
   form_says (make dictionary written) first all =
       (first (codes "quiet") ∙ flag_found quiet, (first (codes "dict") ∙ text_found dictionary (codes "@base"), first (codes "TEXT")), not_given (first (codes "json")))
@@ -129,8 +136,11 @@ module _ (policies senders : Bor (List (Bor Text))) (quiet : Bool) (rows : List 
     flag_given json (first (codes "json") ∙ flag_found json),
   )
   form_says (render dictionary) first all = (first (codes "quiet") ∙ flag_found quiet, first (codes "D"), not_given (first (codes "json")))
-  form_says (compare unknown one two table) first all =
-      (first (codes "quiet") ∙ flag_found quiet, ((first (codes "unknown") ∙ policy_found unknown, first (codes "A"), first (codes "B")), first (codes "TABLE")), not_given (first (codes "json")))
+  form_says (compare json unknown one two table) first all = (
+    first (codes "quiet") ∙ flag_found quiet,
+    ((first (codes "unknown") ∙ policy_found unknown, first (codes "A"), first (codes "B")), first (codes "TABLE")),
+    flag_given json (first (codes "json") ∙ flag_found json),
+  )
   form_says (refute many json unknown levels one two message) first all = (
     first (codes "quiet") ∙ flag_found quiet,
     (
@@ -141,8 +151,11 @@ module _ (policies senders : Bor (List (Bor Text))) (quiet : Bool) (rows : List 
     ),
     flag_given json (first (codes "json") ∙ flag_found json),
   )
-  form_says (propose unknown one two name names) first all =
-      (first (codes "quiet") ∙ flag_found quiet, ((first (codes "unknown") ∙ policy_found unknown, first (codes "A"), first (codes "B")), all (codes "COMMAND")), not_given (first (codes "json")))
+  form_says (propose json unknown one two name names) first all = (
+    first (codes "quiet") ∙ flag_found quiet,
+    ((first (codes "unknown") ∙ policy_found unknown, first (codes "A"), first (codes "B")), all (codes "COMMAND")),
+    flag_given json (first (codes "json") ∙ flag_found json),
+  )
   form_says (breaking sends unknown messages once meaning accepted one two names) first all = (
     first (codes "quiet") ∙ flag_found quiet,
     (

@@ -1,0 +1,132 @@
+"""Cases of `show --values` and `show --names`, for .ci/cases. Flags and dates are worked out by hand from RFC 6733; the rest of the
+dates is computed by Python's calendar."""
+
+import datetime
+
+from room import REQUEST, missing
+
+HEAD = "0100002{}{}00011a000000000000000100000002"
+"""A header with a length below 48, flags, and the code 282."""
+CAUSE = HEAD.format("0", "80") + "000001114000000c00000000"
+"""A Disconnect-Peer-Request with the Disconnect-Cause 0, which is REBOOTING (RFC 6733 section 5.4.3)."""
+CAUSE_LINES = "header flags 80 code 282 app 0 hop 1 end 2 length 32\n20 0 273 - 40 12 Disconnect-Cause 0"
+CAUSE_NAMED = "header flags R--- code 282 DPR app 0 hop 1 end 2 length 32\n20 0 273 - -M- 12 Disconnect-Cause 0"
+WORDS = "# RFC 6733 section 5.4.3\n\nDisconnect-Cause 0 REBOOTING\nDisconnect-Cause 1 BUSY"
+
+TIMES = {
+    # the first numbers of both counts, and the last ones (RFC 6733 section 4.3.1: the 32 bits are full at 6h 28m 16s UTC, 7 February 2036)
+    0x00000000: "2036-02-07T06:28:16Z",
+    0x80000000: "1968-01-20T03:14:08Z",
+    0xFFFFFFFF: "2036-02-07T06:28:15Z",
+    0x7FFFFFFF: "2104-02-26T09:42:23Z",
+    # 1 January 1970 is 2,208,988,800 seconds after 1 January 1900 (RFC 868)
+    2208988800: "1970-01-01T00:00:00Z",
+}
+
+
+def computed():
+    """The days round the ends of months and the leap days of the years from 1968 to 2104."""
+    first, start = datetime.datetime(1900, 1, 1), datetime.datetime(1968, 2, 1)
+    for days in range(0, 49600, 5):
+        for day in (start + datetime.timedelta(days), (start + datetime.timedelta(days)).replace(day=1), (start + datetime.timedelta(days)).replace(month=3, day=1) - datetime.timedelta(seconds=1)):
+            yield int((day - first).total_seconds()) % 2**32, day.strftime("%Y-%m-%dT%H:%M:%SZ")
+
+
+def times(room):
+    """Each date in a message of its own AVPs."""
+    wanted = {**TIMES, **dict(computed())}
+    avps = "".join(f"000000370000000c{number:08x}" for number in wanted)
+    message = f"01{20 + len(avps) // 2:06x}8000011a000000000000000100000002{avps}"
+    lines = [f"{20 + 12 * at} 0 55 - --- 12 When {number} {date}" for at, (number, date) in enumerate(wanted.items())]
+    head = f"header flags R--- code 282 ? app 0 hop 1 end 2 length {20 + len(avps) // 2}"
+    room.write("when.txt", "%avp When 55 Time any\n")
+    room.check("show --names --dict when.txt -", 0, "\n".join([head, *lines]), stdin=message, shown="show --names: dates")
+
+
+def texts(room):
+    """Octets and filter rules as texts, and data that is none."""
+    room.write("texts.txt", "%avp O 9003 OctetString any\n%avp R 9004 IPFilterRule any\n%avp Q 9005 QoSFilterRule any\n%avp W 9006 Time any\n")
+    rows = [
+        (9003, "abc", 'O "abc"'),
+        (9003, 'a "b\\', 'O "a \\x22b\\x5c"'),
+        (9003, b"a\x00", "O x6100"),
+        (9003, b"", "O x"),
+        (9003, b"a\x7f", "O x617f"),
+        (9004, "permit in ip from any to any", 'R "permit in ip from any to any"'),
+        (9005, b"\xc3\xa9", 'Q "\\xc3\\xa9"'),
+        (9004, b"\xff", "R xff"),
+        (9006, b"abc", "W x616263"),
+        (9999, "abc", '? "abc"'),
+    ]
+    body, lines = "", []
+    for code, data, told in rows:
+        data = data.encode() if isinstance(data, str) else data
+        lines.append(f"{20 + len(body) // 2} 0 {code} - -M-+01 {8 + len(data)} {told}")
+        body += f"{code:08x}41{8 + len(data):06x}{data.hex()}{'00' * (-len(data) % 4)}"
+    head = f"01{20 + len(body) // 2:06x}f100011a000000000000000100000002"
+    wanted = "\n".join([f"header flags RPET+01 code 282 ? app 0 hop 1 end 2 length {20 + len(body) // 2}", *lines])
+    room.check("show --names --dict texts.txt -", 0, wanted, stdin=head + body, shown="show --names: texts")
+
+
+def levels(room):
+    """Levels are indented, a word stands behind a number in a group, and the place of a bad length isn't."""
+    inner = "000001114000000c00000001"
+    body = f"0000011740000024000001174000001c{inner}0000011140000007"
+    message = f"0100003880000118000000000000000100000002{body}"
+    lines = [
+        "header flags R--- code 280 DWR app 0 hop 1 end 2 length 56",
+        "20 0 279 - -M- 36 Failed-AVP group",
+        "  28 1 279 - -M- 28 Failed-AVP group",
+        "    36 2 273 - -M- 12 Disconnect-Cause 1 BUSY",
+        "fault 5014 at 48 avp-length -",
+    ]
+    room.check("show --names --values words.txt -", 1, "\n".join(lines), stdin=message)
+
+
+def refused(room):
+    """Texts of words that are none: the first line that is wrong is told. The dictionary is judged before, and the message behind."""
+    cases = {
+        "Disconnect-Cause 0": "syntax at line 1",
+        "# words\nDisconnect-Cause 00 X": "syntax at line 2",
+        "Disconnect-Cause -0 X": "syntax at line 1",
+        "Disconnect-Cause +1 X": "syntax at line 1",
+        "Disconnect-Cause  0 X": "syntax at line 1",
+        "Disconnect-Cause 0 X Y": "syntax at line 1",
+        " Disconnect-Cause 0 X": "syntax at line 1",
+        "Disconnect_Cause 0 X": "syntax at line 1",
+        "A 0 X\nA 1 Y\r\nA 0 Z": "duplicate at line 3",
+        65537 * "\n": "limit at line 65537",
+        "#" + 4194304 * "x": "too long",
+    }
+    for text, why in cases.items():
+        room.check("show --values - cause.hex", 2, f"values: {why}", stdin=text, shown=f"show --values: {why}")
+    (room.files / "bytes.txt").write_bytes(b"# \xff\n")
+    room.check("show --names --values bytes.txt cause.hex", 2, "values: not text", err="bytes.txt: byte 2 and those behind it are no UTF-8")
+    room.write("twice.txt", "A 0 X\nA 0 X\n")
+    room.check("show --values twice.txt cause.hex", 2, "values: duplicate at line 2", err="twice.txt:2: a line before has the same AVP and number")
+    room.check("show --values bytes.txt --dict wrong.txt cause.hex", 2, "dictionary 1: syntax at line 1")
+    room.check("show --values bytes.txt empty.txt", 2, "values: not text")
+    room.check("show --quiet --values bytes.txt empty.txt", 2, "values: not text", err="")
+    room.check("show --values words.txt empty.txt", 2, "message: short")
+    room.check("show --values nofile.txt cause.hex", 3, "", err=missing("nofile.txt"))
+
+
+def named(room):
+    room.write("cause.hex", CAUSE + "\n")
+    room.write("words.txt", WORDS + "\n")
+    room.check("show cause.hex", 0, CAUSE_LINES)
+    room.check("show --values words.txt cause.hex", 0, CAUSE_LINES + " REBOOTING")
+    room.check("show --values - cause.hex", 0, CAUSE_LINES + " REBOOTING", stdin=WORDS.replace("\n", "\r\n"))
+    room.check("show --values @none cause.hex", 0, CAUSE_LINES)
+    room.check("show --values=empty.txt cause.hex", 0, CAUSE_LINES)
+    # a word of another number, of another AVP, and of a negative number
+    room.check("show --values - cause.hex", 0, CAUSE_LINES, stdin="Disconnect-Cause 1 BUSY\nDisconnect-Causes 0 X\nDisconnect-Cause -1 Y")
+    room.write("signed.txt", "%avp N 273 Integer32 any\n")
+    room.write("minus.hex", CAUSE[:-8] + "ffffffff\n")
+    room.check("show --values - --dict signed.txt minus.hex", 0, "header flags 80 code 282 app 0 hop 1 end 2 length 32\n20 0 273 - 40 12 N -1 MINUS", stdin="N -1 MINUS\nN 4294967295 X")
+    room.check("show --names cause.hex", 0, CAUSE_NAMED)
+    room.check("show cause.hex --names --values words.txt", 0, CAUSE_NAMED + " REBOOTING")
+    room.check("show --names request.hex", 0, 'header flags R--- code 280 DWR app 0 hop 1 end 2 length 44\n20 0 264 - -M- 11 Origin-Host "a.b"\n32 0 296 - -M- 9 Origin-Realm "b"')
+    room.check("show --names -", 2, "message: version", stdin="02" + REQUEST[2:])
+    for part in (times, texts, levels, refused):
+        part(room)

@@ -1,0 +1,50 @@
+//! The arguments of `show`.
+
+ghost use Rattle.std.specs.Prelude.{◌≡◌, IfErr, IfOk, codes, if◌then◌else◌};
+ghost use Rattle.clap.specs.Words.{found_of, rows_of};
+ghost use Rattle.dia_cli.specs.Asking.{IsWanting};
+ghost use Rattle.dia_cli.specs.Words.{IsAsked};
+
+use crate::arguments::{Asked, Unasked};
+use crate::origin::Origins;
+use crate::shown::apart_in;
+use crate::task::Task;
+use crate::values::{dictionary_of, is_given, message_of, table_of};
+use clap::ArgMatches;
+use dia_io::Command;
+
+/// `show` with the arguments that were found.
+pub(super) fn show_of<'a>(found: &ArgMatches<'a>) -> Result<Asked<'a>, Unasked>
+    ensures made { IfOk result
+        (λ made. IsAsked made.task made.origins (codes "show", rows_of (found_of found.now))) }
+    ensures wanting { IfErr result (IsWanting (codes "show") (rows_of (found_of found.now))) }
+{
+    let origins = Origins::of_one(dictionary_of(found, "dict").ok_or(Unasked::Nothing)?);
+    let message = message_of(found, "MESSAGE").ok_or(Unasked::Nothing)?;
+    let table = table_of(found, "values").ok_or(Unasked::Nothing)?;
+    if let Some(apart) = apart_in(found) {
+        return Err(Unasked::Apart(apart));
+    }
+    let origins = Origins { message, ..origins };
+    if is_given(found, "as-text") {
+        return Ok(Asked {
+            task: Task::ShowText,
+            origins,
+        });
+    }
+    Ok(Asked {
+        task: listing_of(is_given(found, "names")),
+        origins: Origins { table, ..origins },
+    })
+}
+
+/// The task that lists a message, with names or without.
+fn listing_of(names: bool) -> Task
+    ensures { result ≡ (if names then Task.ShowNamed else Task.Whole Command.Show) }
+{
+    if names {
+        Task::ShowNamed
+    } else {
+        Task::Whole(Command::Show)
+    }
+}

@@ -1,0 +1,6 @@
+pub mod Words
+pub mod Dates
+pub mod Listing
+pub mod Manners
+pub mod Outcome
+pub mod Report

@@ -1,0 +1,38 @@
+//! `show` for readers: numbers with their words, flags as letters, dates, and texts as texts, as a function over values.
+//!
+//! ```text
+//! let inputs = Inputs {
+//!     first: Input::Bytes(Vec::from_slice(alloc, base_text().as_bytes())?),
+//!     second: Input::Bytes(Vec::new(alloc)),
+//!     table: Input::Bytes(Vec::from_slice(alloc, b"Disconnect-Cause 0 REBOOTING\n")?),
+//!     message: Input::Bytes(Vec::from_slice(
+//!         alloc,
+//!         b"010000208000011a000000000000000100000002000001114000000c00000000",
+//!     )?),
+//! };
+//! let mut sink = ToWriter::new(Vec::new(alloc));
+//! show(alloc, true, &inputs, &mut sink)?;
+//! // header flags R--- code 282 DPR app 0 hop 1 end 2 length 32
+//! // 20 0 273 - -M- 12 Disconnect-Cause 0 REBOOTING
+//! ```
+#![tactic(auto)]
+
+mod command;
+mod dates;
+mod flags;
+mod header;
+mod laws;
+mod listing;
+mod manner;
+mod parts;
+mod reading;
+mod reporting;
+mod values;
+mod words;
+
+pub use command::{show, show_message};
+pub use laws::plain_is_show;
+pub use manner::Manner;
+pub use reading::BadValues;
+pub use reporting::{Report, Reported};
+pub use words::{MAX_LINES, MAX_VALUES, ValuesFault, Words, read_words};

@@ -1,0 +1,116 @@
+//! The parts of a line of words.
+
+ghost use Rattle.std.specs.Prelude.{◌≡◌, IfSome, None, false, true};
+ghost use Rattle.std.specs.List.{list_all};
+ghost use Rattle.std.specs.Char.{is_ascii_digit, is_ascii_graphic};
+ghost use Rattle.dia_terms.specs.Names.{is_run_byte};
+ghost use Rattle.dia_show.specs.Words.{behind_part, front_part, has_form, is_blank, is_comment, is_name};
+ghost use Rattle.dia_show.specs.Words.{is_number, is_positive, is_skipped, is_word};
+
+/// A word, and what it stands for.
+#[derive(Clone, Copy)]
+pub(crate) struct Entry<'a> {
+    pub name: &'a str,
+    pub number: &'a str,
+    pub word: &'a str,
+}
+
+/// What a line `NAME NUMBER WORD` says, or none of another line.
+pub(crate) fn entry_of(line: &str) -> Option<Entry<'_>>
+    ensures form { IfSome result (λ entry. has_form line.now ≡ true) }
+    ensures name { IfSome result (λ entry. entry.name.now ≡ front_part line.now) }
+    ensures number { IfSome result (λ entry. entry.number.now ≡ front_part (behind_part line.now)) }
+    ensures word { IfSome result (λ entry. entry.word.now ≡ behind_part (behind_part line.now)) }
+    ensures none { result ≡ None → has_form line.now ≡ false }
+{
+    let (name, rest) = parts(line);
+    let (number, word) = parts(rest);
+    if is_name(name.as_bytes()) && is_number(number.as_bytes()) && is_word(word.as_bytes()) {
+        Some(Entry { name, number, word })
+    } else {
+        None
+    }
+}
+
+/// Whether a line says nothing: it is blank, or a comment.
+pub(crate) fn is_skipped(line: &[u8]) -> bool
+    ensures { result ≡ is_skipped line.now }
+{
+    is_comment(line) || is_empty(line)
+}
+
+fn is_comment(line: &[u8]) -> bool
+    ensures { result ≡ is_comment line.now }
+{
+    match line {
+        [first, ..] => *first == b'#',
+        [] => false,
+    }
+}
+
+fn is_empty(line: &[u8]) -> bool
+    ensures { result ≡ list_all is_blank line.now }
+{
+    line.iter().all(|b| *b == b' ' || *b == b'\t')
+}
+
+/// What stands before the first blank, and what behind it.
+fn parts(text: &str) -> (&str, &str)
+    ensures front { result.0.now ≡ front_part text.now }
+    ensures behind { result.1.now ≡ behind_part text.now }
+{
+    match text.split_once(' ') {
+        Some((front, behind)) => (front, behind),
+        None => (text, ""),
+    }
+}
+
+fn is_name(text: &[u8]) -> bool
+    ensures { result ≡ is_name text.now }
+{
+    !text.is_empty() && is_run(text)
+}
+
+fn is_run(text: &[u8]) -> bool
+    ensures { result ≡ list_all is_run_byte text.now }
+{
+    text.iter().all(|b| b.is_ascii_alphanumeric() || *b == b'-')
+}
+
+fn is_word(text: &[u8]) -> bool
+    ensures { result ≡ is_word text.now }
+{
+    !text.is_empty() && is_graphic(text)
+}
+
+fn is_graphic(text: &[u8]) -> bool
+    ensures { result ≡ list_all is_ascii_graphic text.now }
+{
+    text.iter().all(|b| b.is_ascii_graphic())
+}
+
+/// Whether this is a number as it is printed.
+fn is_number(text: &[u8]) -> bool
+    ensures { result ≡ is_number text.now }
+{
+    match text {
+        [b'-', digits @ ..] => is_positive(digits),
+        _ => is_positive(text) || text == b"0".as_slice(),
+    }
+}
+
+/// Whether these are digits that begin with no zero.
+fn is_positive(digits: &[u8]) -> bool
+    ensures { result ≡ is_positive digits.now }
+{
+    match digits {
+        [first, ..] => *first != b'0' && are_digits(digits),
+        [] => false,
+    }
+}
+
+fn are_digits(text: &[u8]) -> bool
+    ensures { result ≡ list_all is_ascii_digit text.now }
+{
+    text.iter().all(|b| b.is_ascii_digit())
+}

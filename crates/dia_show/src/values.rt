@@ -1,0 +1,126 @@
+//! The data of an AVP: its value, its word and its date.
+
+ghost use Rattle.std.specs.Prelude.{◌≡◌, ◌++◌, IfOk, OnOk, string_bytes};
+ghost use Rattle.std.specs.List.{list_all};
+ghost use Rattle.dia_data.specs.Plain.{plain_format};
+ghost use Rattle.dia_data.specs.Shown.{IsValueText};
+ghost use Rattle.dia_show.specs.Listing.{AddsDateNote, AddsTold, has_date, is_printable, is_printing, is_text};
+ghost use Rattle.dia_show.specs.Listing.{told_format, word_note};
+ghost use Rattle.dia_show.specs.Manners.{plain_manner_of};
+ghost use Rattle.dia_show.specs.Words.{plain_words, word_of};
+
+use crate::dates::push_time;
+use crate::manner::Manner;
+use crate::words::Words;
+use byteorder::{BigEndian, ByteOrder};
+use dia_data::print_value;
+use dia_dict::Format;
+use std::alloc::{AllocError, Global};
+
+/// The bytes of a Time.
+const TIME_LENGTH: usize = 4;
+
+/// Adds what is told of the data of an AVP.
+pub(crate) fn push_told(
+    alloc: Global,
+    text: &mut String,
+    manner: &Manner<'_>,
+    name: &str,
+    format: &Format,
+    bytes: &[u8],
+) -> Result<(), AllocError>
+    ensures { OnOk result (AddsTold (plain_manner_of manner.now) name.now (plain_format format.now) bytes.now
+        (string_bytes text.old) (string_bytes text.new)) }
+{
+    let value = value_of(alloc, manner.names, format, bytes)?;
+    text.push_str(value.as_str())?;
+    push_word(text, &manner.words, name, value.as_str())?;
+    push_date(text, manner.names, format, bytes)
+}
+
+/// The value of the data, as `show` prints it, or as a text.
+fn value_of(alloc: Global, names: bool, format: &Format, bytes: &[u8]) -> Result<String, AllocError>
+    ensures { IfOk result (λ value. IsValueText (told_format names (plain_format format.now) bytes.now)
+        bytes.now (string_bytes value)) }
+{
+    if is_text(names, format, bytes) {
+        print_value(alloc, &Format::Utf8String, bytes)
+    } else {
+        print_value(alloc, format, bytes)
+    }
+}
+
+/// Whether data is told as a text would be.
+fn is_text(names: bool, format: &Format, bytes: &[u8]) -> bool
+    ensures { result ≡ is_text names (plain_format format.now) bytes.now }
+{
+    if !names {
+        return false;
+    }
+    match format {
+        Format::OctetString => is_printable(bytes),
+        Format::IpFilterRule | Format::QosFilterRule => true,
+        _ => false,
+    }
+}
+
+fn is_printable(bytes: &[u8]) -> bool
+    ensures { result ≡ is_printable bytes.now }
+{
+    !bytes.is_empty() && are_printing(bytes)
+}
+
+fn are_printing(bytes: &[u8]) -> bool
+    ensures { result ≡ list_all is_printing bytes.now }
+{
+    bytes.iter().all(|b| b' ' <= *b && *b <= b'~')
+}
+
+/// Adds the word of a value, if it has one.
+fn push_word(
+    text: &mut String,
+    words: &Words<'_>,
+    name: &str,
+    value: &str,
+) -> Result<(), AllocError>
+    ensures { OnOk result (string_bytes text.new
+        ≡ string_bytes text.old ++ word_note (word_of (plain_words words.now) name.now value.now)) }
+{
+    match words.get(name, value) {
+        Some(word) => {
+            text.push(' ')?;
+            text.push_str(word)
+        }
+        None => Ok(()),
+    }
+}
+
+/// Adds the date of a Time, if the data is one.
+fn push_date(
+    text: &mut String,
+    names: bool,
+    format: &Format,
+    bytes: &[u8],
+) -> Result<(), AllocError>
+    ensures { OnOk result (AddsDateNote names (plain_format format.now) bytes.now
+        (string_bytes text.old) (string_bytes text.new)) }
+{
+    if has_date(names, format, bytes) {
+        text.push_str(" ")?;
+        push_time(text, BigEndian::read_u32(bytes))
+    } else {
+        Ok(())
+    }
+}
+
+fn has_date(names: bool, format: &Format, bytes: &[u8]) -> bool
+    ensures { result ≡ has_date names (plain_format format.now) bytes.now }
+{
+    if !names {
+        return false;
+    }
+    match format {
+        Format::Time => bytes.len() == TIME_LENGTH,
+        _ => false,
+    }
+}
