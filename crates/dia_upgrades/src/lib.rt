@@ -8,6 +8,7 @@ mod judging;
 mod lines;
 mod list;
 mod naming;
+mod over_books;
 mod reporting;
 
 pub use asked::Asked;
@@ -15,4 +16,6 @@ pub use command::breaking;
 pub use counting::lines_left;
 pub use dia_accepted::{MAX_LINES, MAX_LIST, Told};
 pub use list::BadList;
+pub use naming::named;
+pub use over_books::{Listed, breaking_of};
 pub use reporting::{Found, Report, Reported};

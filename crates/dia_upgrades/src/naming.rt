@@ -13,7 +13,7 @@ use std::alloc::{AllocError, Global};
 
 /// The places of the commands of these names, in their order, or of all where there is no name; or the first name that no
 /// command has.
-pub(crate) fn named<'a, A: Book>(
+pub fn named<'a, A: Book>(
     alloc: Global,
     a: &A,
     names: &'a [String],
