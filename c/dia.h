@@ -1,4 +1,4 @@
-/* libdia: dictionaries of Diameter (RFC 6733), checks of messages against them, and connections, proved.
+/* libdia: dictionaries of Diameter (RFC 6733), what breaks between two of them, checks of messages, and connections, proved.
  *
  * docs/LIBRARY.md shows how a program begins. What each function answers is proved of the code behind it: the comments say it
  * in words, the clauses of crates/dia_c/src say it exactly.
@@ -81,12 +81,15 @@ enum {
     DIA_REPEATED_SLOT = 17,
     DIA_MIN_OVER_MAX = 18,
     DIA_REQUIRED_MIN = 19,
-    DIA_OPTIONAL_MIN = 20
+    DIA_OPTIONAL_MIN = 20,
+    /* Of dia_breaking alone. */
+    DIA_NO_COMMANDS = 30, /* the first dictionary has no command */
+    DIA_NO_COMMAND = 31   /* no command of it has the name on this line; on line 0, the names are not UTF-8 */
 };
 
 typedef struct dia_problem {
     uint32_t kind;
-    uint32_t line;  /* from 1, of DIA_SYNTAX, DIA_NUMBER and DIA_LIMIT; else 0 */
+    uint32_t line;  /* from 1, of DIA_SYNTAX, DIA_NUMBER, DIA_LIMIT and DIA_NO_COMMAND; else 0 */
     uint32_t token; /* from 1, of DIA_SYNTAX; else 0 */
 } dia_problem;
 
@@ -259,6 +262,11 @@ dia_status dia_render(const uint8_t *source, size_t source_len, dia_text *text, 
 dia_status dia_show(dia_dict *dict, const uint8_t *message, size_t message_len, dia_text *text, uint32_t *whole,
                     dia_verdict *verdict);
 
+/* Checks the bytes of one message as dia_check does, and opens the closed handle `line` with the line that `diacmd check --json`
+ * writes: a JSON object (docs/JSON.md) and a line feed. DIA_BAD_ARGUMENT: `unknown` is neither of its two values. */
+dia_status dia_check_json(dia_dict *dict, uint32_t unknown, uint32_t levels, const uint8_t *message, size_t message_len,
+                          dia_text *line);
+
 /* Copies the text's bytes from place `from` on, as many as there is room for: *count of them, 0 at the end.
  * Takes no memory. */
 dia_status dia_text_read(dia_text *text, size_t from, uint8_t *out, size_t out_len, size_t *count);
@@ -280,6 +288,35 @@ void dia_text_close(dia_text *text);
  * DIA_BAD_ARGUMENT: `unknown` is neither of its two values. */
 dia_status dia_compare(dia_dict *a, dia_dict *b, uint32_t unknown, const uint8_t *table, size_t table_len, dia_text *line,
                        uint32_t *holds, dia_problem *problem);
+
+/* Which messages a side sends that goes by its dictionary. */
+enum {
+    DIA_SENDS_ANY = 0,   /* also AVPs that the dictionary does not know, with M clear, where a rule lets any in */
+    DIA_SENDS_KNOWN = 1, /* AVPs that the dictionary knows */
+    DIA_SENDS_LISTED = 2 /* AVPs that a rule of their level names */
+};
+
+/* How what breaks is listed: options that are added up, or 0. */
+enum {
+    DIA_WITH_MESSAGES = 1, /* behind each line a message that shows it */
+    DIA_ONCE = 2,          /* one line for each cause */
+    DIA_MEANING = 4        /* also a line for each AVP that is read as another format */
+};
+
+/* Lists all that can break where the side of `a` sends and the side of `b` reads, and opens the closed handle `text` with what
+ * `diacmd breaking` writes. *safe is 1 where nothing breaks, or nothing but what the list accepts, and the text says which: then
+ * each message that the side of `a` sends is valid under `b`, but for what is accepted. Else *safe is 0, and the text has a line
+ * for each way in which messages break.
+ * `unknown` is that of dia_check, for the side of `b`. `commands` has a line with the name of each command that is asked for;
+ * where it has no line, all are. `accepted` is the text of a list of accepted lines (docs/FORMATS.md), or empty.
+ * One dictionary takes two handles (dia_dict_share). The time grows with what is listed, and so does the memory.
+ * DIA_REFUSED: *problem says why, and is written on no other status. Of `accepted` it is DIA_NOT_TEXT; DIA_SYNTAX, of the line;
+ * or DIA_LIMIT, of the line, or of line 0 where the text is too long. Else it is DIA_NO_COMMANDS or DIA_NO_COMMAND. Its token
+ * is 0.
+ * DIA_BAD_ARGUMENT: `sends`, `unknown` or `options` has none of its values. */
+dia_status dia_breaking(dia_dict *a, dia_dict *b, uint32_t sends, uint32_t unknown, uint32_t options, const uint8_t *commands,
+                        size_t commands_len, const uint8_t *accepted, size_t accepted_len, dia_text *text, uint32_t *safe,
+                        dia_problem *problem);
 
 /* ---- one end of a connection (RFC 6733 section 5; docs/CONNECTION.md) ---- */
 

@@ -1,5 +1,5 @@
-/* lines DICTIONARY MESSAGES: writes of each line of hexadecimal digits what `diacmd check --lines` writes. Each message is checked
- * in pieces, too, which has to say the same. */
+/* lines DICTIONARY MESSAGES [json]: writes of each line of hexadecimal digits what `diacmd check --lines` writes, or what
+ * `diacmd check --json` writes of the message. Each message is checked in pieces, too, which has to say the same. */
 #include "dia.h"
 #include <stdio.h>
 #include <stdlib.h>
@@ -13,6 +13,7 @@ static const char *const reasons[] = {
 static uint8_t source[DIA_MAX_TEXT + 1];
 static char line[1 << 17];
 static size_t piece = 1;
+static int as_json;
 
 static void tell_subject(dia_dict *dict, const dia_verdict *v) {
     uint8_t name[DIA_MAX_NAME];
@@ -51,6 +52,16 @@ static int tell(dia_dict *dict, const dia_verdict *v) {
     }
 }
 
+static int tell_json(dia_dict *dict, const uint8_t *message, size_t len) {
+    dia_text text = DIA_TEXT_INIT;
+    uint8_t json[1024];
+    size_t count = 0, length = 0;
+    int told = dia_check_json(dict, DIA_KEPT, DIA_ANY_LEVELS, message, len, &text) == DIA_OK
+        && dia_text_length(&text, &length) == DIA_OK && dia_text_read(&text, 0, json, sizeof json, &count) == DIA_OK;
+    dia_text_close(&text);
+    return told && count == length && fwrite(json, 1, count, stdout) == count;
+}
+
 /* Whether pieces of one size say the same; of bytes behind the message they can't tell. */
 static int is_same_in_pieces(dia_dict *dict, const uint8_t *message, size_t len, const dia_verdict *whole) {
     dia_stream stream = DIA_STREAM_INIT;
@@ -85,8 +96,8 @@ static int check_line(dia_dict *dict) {
         }
         message[i] = (uint8_t)byte;
     }
-    told = dia_check(dict, DIA_KEPT, DIA_ANY_LEVELS, message, len, &verdict) == DIA_OK && tell(dict, &verdict)
-        && is_same_in_pieces(dict, message, len, &verdict);
+    told = dia_check(dict, DIA_KEPT, DIA_ANY_LEVELS, message, len, &verdict) == DIA_OK
+        && (as_json ? tell_json(dict, message, len) : tell(dict, &verdict)) && is_same_in_pieces(dict, message, len, &verdict);
     free(message);
     return told;
 }
@@ -96,7 +107,8 @@ int main(int argc, char **argv) {
     dia_problem problem;
     FILE *file;
     size_t len;
-    if (argc != 3 || (file = fopen(argv[1], "rb")) == NULL) {
+    as_json = argc == 4 && strcmp(argv[3], "json") == 0;
+    if (argc < 3 || (file = fopen(argv[1], "rb")) == NULL) {
         return 2;
     }
     len = fread(source, 1, sizeof source, file);

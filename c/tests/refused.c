@@ -42,7 +42,7 @@ void rattle_dealloc(void *memory) {
     free(memory);
 }
 
-static dia_dict dict, other;
+static dia_dict dict, other, own;
 static dia_text text, line;
 static dia_faults faults;
 static dia_peer peer;
@@ -80,6 +80,30 @@ static dia_status renders(void) {
 static dia_status compares(void) {
     uint32_t holds;
     return dia_compare(&dict, &other, DIA_KEPT, (const uint8_t *)table, strlen(table), &line, &holds, &problem);
+}
+
+/* What breaks between the base dictionary and one with a command of its own. */
+static dia_status lists(void) {
+    const uint8_t *names = (const uint8_t *)"C\n", *accepted = (const uint8_t *)"D: not-allowed A: 1 sent\n";
+    uint32_t safe;
+    return dia_breaking(&own, &other, DIA_SENDS_ANY, DIA_KEPT, DIA_WITH_MESSAGES | DIA_ONCE, names, 2, accepted, 25, &line, &safe,
+                        &problem);
+}
+
+/* A name that no command has. */
+static dia_status finds_no_command(void) {
+    const uint8_t *names = (const uint8_t *)"C\nD\n";
+    uint32_t safe = 9;
+    dia_status status = dia_breaking(&own, &other, DIA_SENDS_ANY, DIA_KEPT, 0, names, 4, names, 0, &line, &safe, &problem);
+    if (status == DIA_REFUSED) {
+        EXPECT(problem.kind == DIA_NO_COMMAND && problem.line == 2 && safe == 9);
+        return DIA_OK;
+    }
+    return status;
+}
+
+static dia_status tells(void) {
+    return dia_check_json(&dict, DIA_KEPT, DIA_ANY_LEVELS, watchdog, sizeof watchdog, &line);
 }
 
 static dia_status shows(void) {
@@ -222,6 +246,13 @@ int main(void) {
     dia_text_close(&line);
     refuse_each("show", shows, close_line, 2);
     dia_text_close(&line);
+    refuse_each("check_json", tells, close_line, 2);
+    dia_text_close(&line);
+    EXPECT(open_text(source, &own, &problem) == DIA_OK);
+    refuse_each("breaking", lists, close_line, 20);
+    dia_text_close(&line);
+    refuse_each("breaking, of no command", finds_no_command, close_nothing, 3);
+    dia_dict_close(&own);
     refuse_each("stream", streams, close_nothing, 3);
     refuse_each("render", renders, close_nothing, 2);
     refuse_each("faults_open", finds_faults, close_faults, 4);

@@ -9,8 +9,10 @@ use Rattle.dia_dict.specs.declared.indexed_book.IndexedBook.{IndexedBook}
 use Rattle.dia_dict.specs.contracts.indexed_book.IndexedBookBook.TheImpl.{ghosts}
 use Rattle.dia_c.specs.declared.held.Held.{Held}
 use Rattle.dia_c.specs.declared.held.Held.TheVariants.{Dict}
+use Rattle.dia_c.specs.declared.wanted.Wanted.{Wanted}
 use Rattle.dia_c.specs.Comparisons.{HasCompared}
 use Rattle.dia_c.specs.Held.{dict_in, text_in}
+use Rattle.dia_c.specs.Upgrades.{HasListed}
 
 module _ {A E : Type 0} (P : E → Type 0) where
   -- what holds of an error holds of the one that there is
@@ -30,12 +32,29 @@ module _ (P : Dictionary → List ℕ → Type 0) where
       subst (λ (o : Option Dictionary). IfSome o (λ x. IfSome (text_in l) (P x))) (sym (ap dict_in is_a ∙ is_A))
       (subst (λ (o : Option Held). IfSome (text_in o) (P A)) (sym is_l) done)
 
+module _ (P : Dictionary → Type 0) where
+  pub in_dict : (a : Option Held) (first : Held) (A : Dictionary) → a ≡ Some first → dict_in (Some first) ≡ Some A → P A → IfSome (dict_in a) P
+  in_dict a first A is_a is_A done = subst (λ (o : Option Dictionary). IfSome o P) (sym (ap dict_in is_a ∙ is_A)) done
+
+module _ (P : Dictionary → Dictionary → List ℕ → Type 0) where
+  pub in_two : (a b l : Option Held) (first second told : Held) (A B : Dictionary) → a ≡ Some first → b ≡ Some second → l ≡ Some told → dict_in (Some first) ≡ Some A
+      → dict_in (Some second) ≡ Some B → IfSome (text_in (Some told)) (P A B) → IfSome (dict_in a) (λ x. IfSome (dict_in b) (λ y. IfSome (text_in l) (P x y)))
+  in_two a b l first second told A B is_a is_b is_l is_A is_B done =
+      in_dict (λ x. IfSome (dict_in b) (λ y. IfSome (text_in l) (P x y))) a first A is_a is_A
+      (in_dict (λ y. IfSome (text_in l) (P A y)) b second B is_b is_B (subst (λ (o : Option Held). IfSome (text_in o) (P A B)) (sym is_l) done))
+
 pub compared_in : (a b l : Option Held) (first second told : Held) (A B : Dictionary) (u v : Unknown) (text : List ℕ) (holds : ℕ)
     → a ≡ Some first → b ≡ Some second → l ≡ Some told → dict_in (Some first) ≡ Some A → dict_in (Some second) ≡ Some B → u ≡ v
     → IfSome (text_in (Some told)) (λ line. HasCompared A B u text line holds)
     → IfSome (dict_in a) (λ x. IfSome (dict_in b) (λ y. IfSome (text_in l) (λ line. HasCompared x y v text line holds)))
 compared_in a b l first second told A B u v text holds is_a is_b is_l is_A is_B same done =
-    subst (λ (o : Option Dictionary). IfSome o (λ x. IfSome (dict_in b) (λ y. IfSome (text_in l) (λ line. HasCompared x y v text line holds)))) (sym (ap dict_in is_a ∙ is_A))
-    (subst (λ (o : Option Dictionary). IfSome o (λ y. IfSome (text_in l) (λ line. HasCompared A y v text line holds))) (sym (ap dict_in is_b ∙ is_B))
-    (subst (λ (o : Option Held). IfSome (text_in o) (λ line. HasCompared A B v text line holds)) (sym is_l)
-    (subst (λ (w : Unknown). IfSome (text_in (Some told)) (λ line. HasCompared A B w text line holds)) same done)))
+    in_two (λ x y line. HasCompared x y v text line holds) a b l first second told A B is_a is_b is_l is_A is_B
+    (subst (λ (w : Unknown). IfSome (text_in (Some told)) (λ line. HasCompared A B w text line holds)) same done)
+
+pub listed_in : (a b l : Option Held) (first second told : Held) (A B : Dictionary) (w v : Wanted) (commands accepted : List ℕ) (safe : ℕ)
+    → a ≡ Some first → b ≡ Some second → l ≡ Some told → dict_in (Some first) ≡ Some A → dict_in (Some second) ≡ Some B → w ≡ v
+    → IfSome (text_in (Some told)) (λ text. HasListed A B w commands accepted text safe)
+    → IfSome (dict_in a) (λ x. IfSome (dict_in b) (λ y. IfSome (text_in l) (λ text. HasListed x y v commands accepted text safe)))
+listed_in a b l first second told A B w v commands accepted safe is_a is_b is_l is_A is_B same done =
+    in_two (λ x y text. HasListed x y v commands accepted text safe) a b l first second told A B is_a is_b is_l is_A is_B
+    (subst (λ (z : Wanted). IfSome (text_in (Some told)) (λ text. HasListed A B z commands accepted text safe)) same done)

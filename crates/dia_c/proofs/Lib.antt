@@ -8,4 +8,5 @@ pub mod NoTables
 pub mod Places
 pub mod Told
 pub mod Unread
+pub mod WhatBreaks
 pub mod YesLines

@@ -1,5 +1,5 @@
 -- What handles hold.
-use Rattle.std.specs.Prelude.{◌≡◌, ℕ, List, Option, None, Some, ⊤, map, string_bytes}
+use Rattle.std.specs.Prelude.{◌≡◌, ℕ, List, Option, None, Some, ⊤, map}
 use Rattle.dia_book.specs.Dictionary.{Dictionary}
 use Rattle.dia_policy.specs.declared.Unknown.{Unknown}
 use Rattle.dia_policy.specs.declared.Levels.{Levels}
@@ -75,7 +75,7 @@ dict_in (Some Nothing) = None
 abbrev pub text_in : Option Held → Option (List ℕ)
 text_in None = None
 text_in (Some (Dict owner)) = None
-text_in (Some (Text text)) = Some (string_bytes text)
+text_in (Some (Text text)) = Some text.items
 text_in (Some (Faults faults)) = None
 text_in (Some (Peer peer)) = None
 text_in (Some (Stream feeding)) = None

@@ -10,4 +10,6 @@ pub mod PeerSteps
 pub mod Peers
 pub mod PlainFaults
 pub mod Streams
+pub mod Upgrades
+pub mod VerdictLines
 pub mod Verdicts

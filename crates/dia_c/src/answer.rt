@@ -21,7 +21,15 @@ pub fn answer_text(alloc: Global, outcome: Outcome) -> Result<AnswerText, AllocE
     ensures is_text { IfOk result (λ answer. ∥ MayBeText (Some answer.text.value) ∥₁) }
     ensures holds { IfOk result (λ answer. answer.holds ≡ holds_of outcome.exit) }
 {
-    let Outcome { text, exit } = outcome;
+    answer_bytes(alloc, outcome.text.into_bytes(), outcome.exit)
+}
+
+/// A text, in a box, and how the command that wrote it ended.
+pub fn answer_bytes(alloc: Global, text: Vec<u8>, exit: Exit) -> Result<AnswerText, AllocError>
+    ensures text { IfOk result (λ answer. text_in (Some answer.text.value) ≡ Some text.items) }
+    ensures is_text { IfOk result (λ answer. ∥ MayBeText (Some answer.text.value) ∥₁) }
+    ensures holds { IfOk result (λ answer. answer.holds ≡ holds_of exit) }
+{
     let text = Box::new(alloc, Held::Text(text))?;
     let holds = holds_of(exit);
     Ok(AnswerText { text, holds })

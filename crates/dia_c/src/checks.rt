@@ -2,12 +2,14 @@
 
 ghost use Rattle.std.specs.Prelude.{◌⊎◌, ◌≡◌, ◌≢◌, None, IfSome, IsSome};
 ghost use Rattle.dia_check.specs.Faults.{HasLength};
-ghost use Rattle.dia_c.specs.Held.{dict_in};
-ghost use Rattle.dia_c.specs.Verdicts.{Answers, IsHeadVerdict, IsUnknownPolicy};
+ghost use Rattle.dia_c.specs.Held.{dict_in, text_in};
+ghost use Rattle.dia_c.specs.VerdictLines.{IsVerdictLine};
+ghost use Rattle.dia_c.specs.Verdicts.{Answers, IsHeadVerdict, IsUnknownPolicy, limit_of, policy_of};
 
-use crate::handle::{DictHandle, owner_in};
-use crate::status::{BAD_ARGUMENT, DONE, IS_CLOSED, NO_MEMORY, REFUSED};
+use crate::handle::{DictHandle, TextHandle, owner_in};
+use crate::status::{BAD_ARGUMENT, DONE, IS_CLOSED, IS_OPEN, NO_MEMORY, REFUSED};
 use crate::verdict::{Verdict, checked, limit_of, message_length, policy_of};
+use crate::verdict_line::verdict_line;
 use std::alloc::{AllocError, Global};
 
 /// What `diacmd check` says of a message.
@@ -42,6 +44,50 @@ pub extern "C" fn dia_check(
     match answer {
         Ok(told) => {
             *verdict = told;
+            DONE
+        }
+        Err(AllocError) => NO_MEMORY,
+    }
+}
+
+/// The line that `diacmd check --json` writes of a message.
+#[unsafe(no_mangle)]
+pub extern "C" fn dia_check_json(
+    alloc: Global,
+    handle: &mut DictHandle,
+    unknown: u32,
+    levels: u32,
+    message: &[u8],
+    line: &mut TextHandle,
+) -> u32
+    ensures ends { (result ≡ DONE) ⊎ (result ≡ NO_MEMORY) ⊎ (result ≡ IS_OPEN) ⊎ (result ≡ IS_CLOSED) ⊎ (result ≡ BAD_ARGUMENT) }
+    ensures kept_dict { handle.new.slot.seal.held ≡ handle.old.slot.seal.held }
+    ensures done { result ≡ DONE → IfSome (dict_in handle.old.slot.seal.held) (λ d. IfSome (text_in line.new.slot.seal.held)
+        (λ text. IsVerdictLine d (policy_of unknown) (limit_of levels) message.now text)) }
+    ensures is_open { result ≡ DONE → IsSome (text_in line.new.slot.seal.held) }
+    ensures kept { result ≢ DONE → line.new.slot.seal.held ≡ line.old.slot.seal.held }
+    ensures was_closed { result ≢ IS_OPEN → result ≢ BAD_ARGUMENT → line.old.slot.seal.held ≡ None }
+    ensures was_open { result ≡ IS_OPEN → IsSome line.old.slot.seal.held }
+    ensures closed { result ≡ IS_CLOSED → handle.old.slot.seal.held ≡ None }
+    ensures dict_is_open { (result ≡ DONE) ⊎ (result ≡ NO_MEMORY) → IsSome (dict_in handle.old.slot.seal.held) }
+    ensures bad { result ≡ BAD_ARGUMENT → ¬ IsUnknownPolicy unknown }
+    ensures good { result ≢ BAD_ARGUMENT → IsUnknownPolicy unknown }
+{
+    let Some(unknown) = policy_of(unknown) else {
+        return BAD_ARGUMENT;
+    };
+    if line.is_open() {
+        return IS_OPEN;
+    }
+    let levels = limit_of(levels);
+    let Some(held) = handle.take(alloc) else {
+        return IS_CLOSED;
+    };
+    let made = verdict_line(alloc, &**owner_in(&held), unknown, levels, message);
+    handle.put(held);
+    match made {
+        Ok(text) => {
+            line.put(text);
             DONE
         }
         Err(AllocError) => NO_MEMORY,

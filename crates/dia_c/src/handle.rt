@@ -15,4 +15,4 @@ pub use end::{give_in, peer_in, tell_in};
 pub use faults::{FaultsHandle, faults_in};
 pub use peer::PeerHandle;
 pub use stream::{StreamHandle, feeding_in};
-pub use text::{TextHandle, words_in};
+pub use text::{TextHandle, bytes_in};

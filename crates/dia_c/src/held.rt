@@ -11,7 +11,8 @@ use std::sync::Arc;
 pub enum Held {
     /// An owner of a dictionary, which other handles may have too.
     Dict(Arc<IndexedBook>),
-    Text(String),
+    /// The bytes of a text.
+    Text(Vec<u8>),
     /// The faults of a dictionary's text.
     Faults(Vec<TextFault>),
     /// One end of a connection.

@@ -23,13 +23,18 @@ mod peer;
 mod peer_config;
 mod peer_numbers;
 mod peers;
+mod sink;
 mod status;
 mod streams;
 mod texts;
 mod told_fault;
+mod upgrade;
+mod upgrades;
 mod verdict;
+mod verdict_line;
+mod wanted;
 
-pub use checks::{dia_check, dia_message_length};
+pub use checks::{dia_check, dia_check_json, dia_message_length};
 pub use comparisons::dia_compare;
 pub use dictionaries::{
     dia_avp_name, dia_command_name, dia_dict_close, dia_dict_open, dia_dict_open_base,
@@ -48,6 +53,7 @@ pub use streams::{
 };
 pub use texts::{dia_render, dia_text_close, dia_text_length, dia_text_read};
 pub use told_fault::ToldFault;
+pub use upgrades::dia_breaking;
 pub use verdict::Verdict;
 
 /// The version of this interface, which a program compares with `DIA_ABI_VERSION` of its header.

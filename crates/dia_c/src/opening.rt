@@ -187,7 +187,7 @@ pub fn canonical(alloc: Global, text: &[u8]) -> Result<Box<Held>, Refused>
     match parse(alloc, words) {
         Ok(source) => {
             let rendered = render(alloc, &source)?;
-            boxed(alloc, Held::Text(rendered))
+            boxed(alloc, Held::Text(rendered.into_bytes()))
         }
         Err(fault) => Err(problem_of(fault)),
     }

@@ -4,7 +4,7 @@ ghost use Rattle.std.specs.Prelude.{◌⊎◌, ◌≡◌, ◌≢◌, ◌-◌, le
 ghost use Rattle.dia_c.specs.Held.{text_in};
 ghost use Rattle.dia_c.specs.Openings.{IsUnread, IsRenderedOf};
 
-use crate::handle::{TextHandle, words_in};
+use crate::handle::{TextHandle, bytes_in};
 use crate::names::copied_from;
 use crate::opening::{Problem, Refused, canonical};
 use crate::status::{DONE, IS_CLOSED, IS_OPEN, NO_MEMORY, REFUSED};
@@ -64,7 +64,7 @@ pub extern "C" fn dia_text_read(
     let Some(held) = handle.take(alloc) else {
         return IS_CLOSED;
     };
-    *count = copied_from(words_in(&held).as_bytes(), from, out);
+    *count = copied_from(bytes_in(&held).as_slice(), from, out);
     handle.put(held);
     DONE
 }
@@ -83,7 +83,7 @@ pub extern "C" fn dia_text_length(alloc: Global, handle: &mut TextHandle, count:
     let Some(held) = handle.take(alloc) else {
         return IS_CLOSED;
     };
-    *count = words_in(&held).len();
+    *count = bytes_in(&held).len();
     handle.put(held);
     DONE
 }

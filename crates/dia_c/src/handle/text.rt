@@ -44,8 +44,8 @@ impl TextHandle {
     }
 }
 
-/// The text that a handle of a text holds.
-pub fn words_in(held: &Held) -> &String
+/// The bytes of the text that a handle of a text holds.
+pub fn bytes_in(held: &Held) -> &Vec<u8>
     requires { ∥ MayBeText (Some held.now) ∥₁ }
     ensures { held.now ≡ Held.Text result.now }
 {
