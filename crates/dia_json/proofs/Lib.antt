@@ -1,3 +1,7 @@
-mod Members
-mod Refusing
+mod DataValues
 mod ManyMessages
+mod Members
+mod Objects
+mod ObjectsOfLevels
+mod Pairs
+mod Refusing

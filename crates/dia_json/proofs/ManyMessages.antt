@@ -18,52 +18,76 @@ use Rattle.dia_lines.specs.FeedToSink.{AllAnswered}
 use Rattle.dia_streams.specs.Streams.{AllTold}
 use Rattle.dia_report.specs.declared.refusing.Refused.{Refused}
 use Rattle.dia_report.specs.declared.refusing.Refused.TheVariants.{Bad, NoMemory}
-use Rattle.dia_report.specs.Refusals.{TellsOf}
-use Rattle.dia_run.specs.Texts.{IsDictionaryText}
+use Rattle.dia_report.specs.Refusals.{TellsOf, dictionary_line}
+use Rattle.dia_report.specs.declared.bad_input.BadInput.{BadInput}
+use Rattle.dia_report.specs.declared.bad_input.BadInput.TheVariants as bads
+use Rattle.dia_report.specs.declared.bad_input.BadDictionary.TheVariants as dictionary
+use Rattle.dia_ccf.specs.Plain.{plain_source}
+use Rattle.dia_run.specs.Report.{HasFinding}
+use Rattle.dia_run.specs.Texts.{IsDictionaryText, IsNoDictionaryText}
 use Rattle.dia_captures.specs.declared.ended.Ended.{Ended}
 use Rattle.dia_captures.specs.declared.summaries.Lines.{Lines}
 use Rattle.dia_captures.specs.declared.summaries.Lines.TheVariants as lines
 use Rattle.dia_captures.specs.declared.verdicts.Checked.{Checked}
 use Rattle.dia_captures.specs.Counts.{Item, placed_items}
 use Rattle.dia_captures.specs.Ending.{ended_of}
-use Rattle.dia_captures.specs.Lines.{checks}
+use Rattle.dia_captures.specs.Lines.{RefusesSecond, checks}
 use Rattle.dia_captures.specs.Summaries.{AreLinesSummed, IsSummary}
 use Rattle.dia_captures.specs.Verdicts.{IsPieceChecked, checked_exit}
-use Rattle.dia_json.specs.Runs.{AreLinesTold, IsNothing, IsRefusal, IsRefusalFront, IsRefusalPut, IsStreamPut, StreamSummary, TellsBad}
+use Rattle.dia_json.specs.Refusals.{IsFoundIn}
+use Rattle.dia_json.specs.Runs.{AreLinesTold, IsDictionaryRefusal, IsNothing, IsRefusal, IsRefusalFront, IsRefusalPut, IsStreamPut, StreamSummary, TellsBad}
 use Rattle.dia_json.specs.Values.{placed_json}
 
--- ---- dictionaries that are refused
+-- ---- inputs that are refused
 
-pub ends_badly : (refused : Refused) (text : List ℕ) (exit : Exit) → TellsBad refused text exit → exit ≡ exits.Bad
-ends_badly (Bad bad) text exit is = is.1
-ends_badly NoMemory text exit none = absurd none
+pub ends_badly : (input : Input) (refused : Refused) (text : List ℕ) (exit : Exit) → TellsBad input refused text exit → exit ≡ exits.Bad
+ends_badly input (Bad bad) text exit is = is.1
+ends_badly input NoMemory text exit none = absurd none
+
+pub input_refused : (refuses : List ℕ → Type 0) (input : Input) (refused : Refused) → TellsOf refuses refused → (text : List ℕ) (exit : Exit) → TellsBad input refused text exit
+    → IsRefusal refuses input text exit
+input_refused refuses input (Bad bad) tells text exit is = (bad, tells, is.0, is.1)
+input_refused refuses input NoMemory tells text exit none = absurd none
+
+found_in : (input : Input) (bad : BadInput) → HasFinding input (Bad bad) → IsFoundIn input bad
+found_in input (bads.Dictionary n (dictionary.NoSource misfit)) h = h
+found_in input (bads.Dictionary n (dictionary.Wrong found)) h = (plain_source found.source.value, h, found.first)
+found_in input (bads.Dictionary n dictionary.TooLong) h = tt
+found_in input (bads.Dictionary n (dictionary.NotText at)) h = tt
+found_in input (bads.Table why) h = tt
+found_in input (bads.Message why) h = tt
+
+pub dictionary_refused : (refuses : List ℕ → Type 0) (input : Input) (refused : Refused) → TellsOf refuses refused → HasFinding input refused
+    → (text : List ℕ) (exit : Exit) → TellsBad input refused text exit → IsDictionaryRefusal refuses input text exit
+dictionary_refused refuses input (Bad bad) tells kept text exit is = (bad, found_in input bad kept, tells, is.0, is.1)
+dictionary_refused refuses input NoMemory tells kept text exit none = absurd none
+
+-- the second dictionary is refused, behind a first one that is read
+pub second_refused : (inputs : Inputs) (a : Dictionary) (r : Refused) → IsDictionaryText inputs.first a
+    → TellsOf (λ told. (why : List ℕ) × IsNoDictionaryText inputs.second why × (told ≡ dictionary_line 2 why)) r → TellsOf (RefusesSecond inputs) r
+second_refused inputs a (Bad bad) is_a h = (a, is_a, h)
+second_refused inputs a NoMemory is_a h = tt
 
 nothing : (fed old new : Option (List ℕ)) → new ≡ old → IsNothing fed fed old new
 nothing fed old new same = (Consumes-nil fed, subst (λ (p : Option (List ℕ)). Appends old p []) (sym same) (Appends-nil old))
 
-module _ (refuses : List ℕ → Type 0) (why : Refused) (tells : TellsOf refuses why) where
-  refusal_of : (refused : Refused) → TellsOf refuses refused → (text : List ℕ) (exit : Exit) → TellsBad refused text exit → IsRefusal refuses text exit
-  refusal_of (Bad bad) tells text exit is = (bad, tells, is.0, is.1)
-  refusal_of NoMemory tells text exit none = absurd none
+-- R holds of the line of this refusal
+module _ (R : List ℕ → Exit → Type 0) (input : Input) (why : Refused) (told : (text : List ℕ) (exit : Exit) → TellsBad input why text exit → R text exit)
+    (fed old new : Option (List ℕ)) {X : Type 0} where
+  pub refusal_put : (exit : Exit) → (text : List ℕ) × TellsBad input why text exit × Appends old new text → X ⊎ IsRefusalPut R fed fed old new exit
+  refusal_put exit (text, is, put) = inr (text, told text exit is, Consumes-nil fed, put)
 
-  pub refusal : (text : List ℕ) (exit : Exit) → TellsBad why text exit → IsRefusal refuses text exit
-  refusal text exit is = refusal_of why tells text exit is
+  pub refusal_whole : new ≡ old → X ⊎ IsNothing fed fed old new
+  refusal_whole same = inr (nothing fed old new same)
 
-  module _ (fed old new : Option (List ℕ)) {X : Type 0} where
-    pub refusal_put : (exit : Exit) → (text : List ℕ) × TellsBad why text exit × Appends old new text → X ⊎ IsRefusalPut refuses fed fed old new exit
-    refusal_put exit (text, is, put) = inr (text, refusal text exit is, Consumes-nil fed, put)
-
-    pub refusal_whole : new ≡ old → X ⊎ IsNothing fed fed old new
-    refusal_whole same = inr (nothing fed old new same)
-
-    pub refusal_front : {T : Type 0} (r : Result T LinesFault) → (r ≡ Err faults.Device → (text : List ℕ) × TellsBad why text exits.Bad × AppendsFront old new text)
-        → (r ≡ Err faults.NoMemory → new ≡ old) → r ≢ Err faults.Endless → IsErr r
-        → X ⊎ (IsRefusalFront refuses fed fed old new ⊎ IsNothing fed fed old new)
-    refusal_front (Ok x) front same counted err = absurd (false≢true err)
-    refusal_front (Err faults.Device) front same counted err =
-        let (text, is, put) = front refl in inr (inl (text, refusal text exits.Bad is, Consumes-nil fed, put))
-    refusal_front (Err faults.NoMemory) front same counted err = inr (inr (nothing fed old new (same refl)))
-    refusal_front (Err faults.Endless) front same counted err = absurd (counted refl)
+  pub refusal_front : {T : Type 0} (r : Result T LinesFault) → (r ≡ Err faults.Device → (text : List ℕ) × TellsBad input why text exits.Bad × AppendsFront old new text)
+      → (r ≡ Err faults.NoMemory → new ≡ old) → r ≢ Err faults.Endless → IsErr r
+      → X ⊎ (IsRefusalFront R fed fed old new ⊎ IsNothing fed fed old new)
+  refusal_front (Ok x) front same counted err = absurd (false≢true err)
+  refusal_front (Err faults.Device) front same counted err =
+      let (text, is, put) = front refl in inr (inl (text, told text exits.Bad is, Consumes-nil fed, put))
+  refusal_front (Err faults.NoMemory) front same counted err = inr (inr (nothing fed old new (same refl)))
+  refusal_front (Err faults.Endless) front same counted err = absurd (counted refl)
 
 -- ---- lines
 

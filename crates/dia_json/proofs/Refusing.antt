@@ -9,7 +9,8 @@ use Rattle.serde_json.proofs.OnLiterals.{serde_json_on_literals}
 use Rattle.dia_dict.specs.Words.{kind_word}
 use Rattle.dia_report.specs.declared.wrong_source.WrongSource.{WrongSource}
 use Rattle.dia_json.specs.Values.{json_line, refused_members}
-use Rattle.dia_json.specs.Refusals.{at_line, name_value, wrong_members}
+use Rattle.dia_explain_places.specs.Places.{column_at}
+use Rattle.dia_json.specs.Refusals.{at_line, name_value, on_line, wrong_members}
 
 -- an input and a kind that are quoted so, and more behind them
 abbrev front : List ℕ → List ℕ → List ℕ → List ℕ
@@ -49,6 +50,26 @@ pub at_told : (input kind a b text : List ℕ) (n : ℕ) → a ≡ quoted input 
     → text ≡ json_line (refused_members input kind (at_line n))
 at_told input kind a b text n is_a is_b is =
     is ∙ ap₂ (λ (x y : List ℕ). front x y (codes ",\"line\":" ++ (decimal n ++ codes "}\n"))) is_a is_b ∙ at_ends (quoted input) (quoted kind) n ∙ sym (at_is input kind n)
+
+-- on a line, at a column
+
+abbrev on_text : ℕ → ℕ → List ℕ → List ℕ
+on_text n column rest = codes ",\"line\":" ++ (decimal n ++ (codes ",\"column\":" ++ (decimal column ++ rest)))
+
+on_is : (input kind : List ℕ) (n : ℕ) (text : List ℕ) (at : ℕ)
+    → json_line (refused_members input kind (on_line n text at)) ≡ front (quoted input) (quoted kind) (on_text n (column_at text at) (codes "}")) ++ codes "\n"
+unfolding serde_json_on_literals
+on_is input kind n text at = refl
+
+on_ends : (input kind : List ℕ) (n column : ℕ) → front input kind (on_text n column (codes "}\n")) ≡ front input kind (on_text n column (codes "}")) ++ codes "\n"
+on_ends input kind n column = simp append_assoc
+
+pub on_told : (input kind a b written : List ℕ) (n : ℕ) (text : List ℕ) (at column : ℕ) → a ≡ quoted input → b ≡ quoted kind → column ≡ column_at text at
+    → written ≡ front a b (on_text n column (codes "}\n")) → written ≡ json_line (refused_members input kind (on_line n text at))
+on_told input kind a b written n text at column is_a is_b is_column is =
+    is ∙ ap₂ (λ (x y : List ℕ). front x y (on_text n column (codes "}\n"))) is_a is_b
+    ∙ ap (λ (k : ℕ). front (quoted input) (quoted kind) (on_text n k (codes "}\n"))) is_column
+    ∙ on_ends (quoted input) (quoted kind) n (column_at text at) ∙ sym (on_is input kind n text at)
 
 pub wrong_told : (input : List ℕ) (found : WrongSource) (kind a b name slot text : List ℕ) → kind ≡ kind_word found.kind → a ≡ quoted input → b ≡ quoted kind
     → name ≡ compact_text (name_value (string_bytes found.name)) → slot ≡ compact_text (name_value (string_bytes found.slot))

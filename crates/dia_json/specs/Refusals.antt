@@ -1,5 +1,5 @@
 -- Inputs that are refused, as JSON values.
-use Rattle.std.specs.Prelude.{ℕ, List, [], ◌∷◌, ◌++◌, codes, string_bytes}
+use Rattle.std.specs.Prelude.{◌≡◌, ℕ, not, ◌&&◌, position, List, [], ◌∷◌, ◌++◌, Option, None, Some, codes, string_bytes, ⊤}
 use Rattle.std.specs.Fmt.{decimal}
 use Rattle.serde_json.specs.Data.{Data, Members, member, no_members, null, number, string, unsigned}
 use Rattle.dia_ccf.specs.declared.CcfFault.{CcfFault}
@@ -12,12 +12,37 @@ use Rattle.dia_report.specs.declared.bad_input.BadDictionary.TheVariants as dict
 use Rattle.dia_report.specs.declared.bad_input.BadTable.{BadTable}
 use Rattle.dia_report.specs.declared.bad_input.BadTable.TheVariants as table
 use Rattle.dia_report.specs.declared.wrong_source.WrongSource.{WrongSource}
-use Rattle.dia_report.specs.Refusals.{bad_message_word}
+use Rattle.dia_report.specs.declared.bad_input.BadMessage.{BadMessage}
+use Rattle.dia_report.specs.declared.bad_input.BadMessage.TheVariants as message
+use Rattle.dia_report.specs.Refusals.{message_fault_word}
+use Rattle.dia_explain_places.specs.Places.{column_at, is_white, line_at}
+use Rattle.dia_io.specs.declared.Input.{Input}
+use Rattle.dia_io.specs.declared.Input.TheVariants.{Bytes, TooLong}
+use Rattle.dia_io.specs.Inputs.{Holds}
+use Rattle.dia_ccf.specs.declared.Refused.TheVariants.{At}
+use Rattle.dia_ccf.specs.Limits.{max_text}
+use Rattle.dia_ccf.specs.Plain.{PlainSource}
+use Rattle.dia_ccf.specs.Refusals.{IsRefused}
+use Rattle.dia_dict.specs.Resolution.{first_wrong, wrong}
+use Rattle.dia_run.specs.Texts.{IsSourceText}
+use Rattle.std.specs.Char.{is_ascii_hexdigit}
 use Rattle.dia_json.specs.Values.{json_line, refused_members}
+
+-- the text of an input. One that is too long has none
+abbrev pub text_of : Input → List ℕ
+text_of (Bytes v) = v.items
+text_of TooLong = []
 
 -- the line of a text on which a fault stands
 abbrev pub at_line : ℕ → Members
 at_line n = member (codes "line") (number (unsigned n)) no_members
+
+-- the line, and the column of a place, as standard error tells it
+abbrev pub on_line : ℕ → List ℕ → ℕ → Members
+on_line n text at = member (codes "line") (number (unsigned n)) (member (codes "column") (number (unsigned (column_at text at))) no_members)
+
+abbrev pub at_place : List ℕ → ℕ → Members
+at_place text at = on_line (line_at text at) text at
 
 -- a name, or null for none
 abbrev pub name_value : List ℕ → Data
@@ -25,34 +50,56 @@ name_value [] = null
 name_value (c ∷ cs) = string (c ∷ cs)
 
 -- the grammar refuses the text, for which memory wasn't refused
-abbrev pub misfit_members : List ℕ → CcfFault → Members
-misfit_members input (ccf.Syntax token n) = refused_members input (codes "syntax") (at_line n)
-misfit_members input (ccf.Number n) = refused_members input (codes "number") (at_line n)
-misfit_members input (ccf.Limit n) = refused_members input (codes "limit") (at_line n)
-misfit_members input ccf.NoMemory = refused_members input (codes "no memory") no_members
+abbrev pub misfit_members : (input text : List ℕ) → ℕ → CcfFault → Members
+misfit_members input text at (ccf.Syntax token n) = refused_members input (codes "syntax") (on_line n text at)
+misfit_members input text at (ccf.Number n) = refused_members input (codes "number") (on_line n text at)
+misfit_members input text at (ccf.Limit n) = refused_members input (codes "limit") (on_line n text at)
+misfit_members input text at ccf.NoMemory = refused_members input (codes "no memory") no_members
 
 -- the source names no dictionary: the kind of its first fault, and where it is
 abbrev pub wrong_members : List ℕ → WrongSource → Members
 wrong_members input found = refused_members input (kind_word found.kind)
     (member (codes "name") (name_value (string_bytes found.name)) (member (codes "slot") (name_value (string_bytes found.slot)) no_members))
 
-abbrev pub dictionary_members : List ℕ → BadDictionary → Members
-dictionary_members input dictionary.TooLong = refused_members input (codes "too long") no_members
-dictionary_members input (dictionary.NotText place) = refused_members input (codes "not text") no_members
-dictionary_members input (dictionary.NoSource misfit) = misfit_members input misfit.fault
-dictionary_members input (dictionary.Wrong found) = wrong_members input found
+abbrev pub dictionary_members : (input text : List ℕ) → BadDictionary → Members
+dictionary_members input text dictionary.TooLong = refused_members input (codes "too long") no_members
+dictionary_members input text (dictionary.NotText at) = refused_members input (codes "not text") (at_place text at)
+dictionary_members input text (dictionary.NoSource misfit) = misfit_members input text misfit.at misfit.fault
+dictionary_members input text (dictionary.Wrong found) = wrong_members input found
 
-abbrev pub table_members : BadTable → Members
-table_members table.TooLong = refused_members (codes "table") (codes "too long") no_members
-table_members (table.NotText place) = refused_members (codes "table") (codes "not text") no_members
-table_members (table.Syntax n) = refused_members (codes "table") (codes "syntax") (at_line n)
-table_members (table.Limit n) = refused_members (codes "table") (codes "limit") (at_line n)
+abbrev pub table_members : List ℕ → BadTable → Members
+table_members text table.TooLong = refused_members (codes "table") (codes "too long") no_members
+table_members text (table.NotText at) = refused_members (codes "table") (codes "not text") (at_place text at)
+table_members text (table.Syntax n) = refused_members (codes "table") (codes "syntax") (at_line n)
+table_members text (table.Limit n) = refused_members (codes "table") (codes "limit") (at_line n)
 
--- an input that is refused: a dictionary by its number in the command
-abbrev pub bad_input_members : BadInput → Members
-bad_input_members (Dictionary n why) = dictionary_members (codes "dictionary " ++ decimal n) why
-bad_input_members (Table why) = table_members why
-bad_input_members (Message why) = refused_members (codes "message") (bad_message_word why) no_members
+-- the first byte that is neither a digit nor white space. Without one the digits are odd in number
+abbrev pub stranger_at : List ℕ → Option ℕ
+stranger_at text = position (λ c. not (is_ascii_hexdigit c) && not (is_white c)) text
 
-abbrev pub bad_input_json : BadInput → List ℕ
-bad_input_json bad = json_line (bad_input_members bad)
+abbrev pub place_of_stranger : List ℕ → Option ℕ → Members
+place_of_stranger text None = no_members
+place_of_stranger text (Some at) = at_place text at
+
+abbrev pub message_members : List ℕ → BadMessage → Members
+message_members text message.TooLong = refused_members (codes "message") (codes "too long") no_members
+message_members text message.NotHexadecimal = refused_members (codes "message") (codes "not hexadecimal") (place_of_stranger text (stranger_at text))
+message_members text (message.NoMessage fault) = refused_members (codes "message") (message_fault_word fault) no_members
+
+-- an input that is refused, by its text: a dictionary by its number in the command
+abbrev pub bad_input_members : List ℕ → BadInput → Members
+bad_input_members text (Dictionary n why) = dictionary_members (codes "dictionary " ++ decimal n) text why
+bad_input_members text (Table why) = table_members text why
+bad_input_members text (Message why) = message_members text why
+
+abbrev pub bad_input_json : Input → BadInput → List ℕ
+bad_input_json input bad = json_line (bad_input_members (text_of input) bad)
+
+-- ---- what was found of an input
+
+-- the input is refused for this: where the grammar refuses its text, or the first fault of what the text says
+abbrev pub IsFoundIn : Input → BadInput → Type 0
+IsFoundIn input (Dictionary n (dictionary.NoSource misfit)) = (text : List ℕ) × Holds input max_text text × IsRefused text (At misfit)
+IsFoundIn input (Dictionary n (dictionary.Wrong found)) = (source : PlainSource) × IsSourceText input source
+    × (first_wrong source ≡ Some (wrong found.kind (string_bytes found.name) (string_bytes found.slot)))
+IsFoundIn input bad = ⊤

@@ -24,22 +24,34 @@ use Rattle.dia_captures.specs.declared.ended.Ended.{Ended}
 use Rattle.dia_captures.specs.Ending.{ended_of}
 use Rattle.dia_captures.specs.declared.summaries.Lines.TheVariants as lines
 use Rattle.dia_captures.specs.Counts.{checked_items, placed_items, refuted_items}
-use Rattle.dia_captures.specs.Lines.{checks, refutations}
+use Rattle.dia_captures.specs.Lines.{RefusesFirst, RefusesSecond, checks, refutations}
 use Rattle.dia_captures.specs.Summaries.{AreLinesSummed, IsSummary}
 use Rattle.dia_captures.specs.Verdicts.{IsLineChecked, IsLineRefuted, IsPieceChecked, checked_exit, refuted_exit}
-use Rattle.dia_json.specs.Refusals.{bad_input_json}
+use Rattle.dia_json.specs.Refusals.{IsFoundIn, bad_input_json}
 use Rattle.dia_json.specs.Values.{checked_json, numbered_json, numbered_refuted_json, placed_json, refuted_json}
 
 -- ---- one message
 
 -- the line of an input that is refused. Where memory was refused there is none
-abbrev pub TellsBad : Refused → List ℕ → Exit → Type 0
-TellsBad (refused.Bad bad) text exit = (text ≡ bad_input_json bad) × (exit ≡ Bad)
-TellsBad refused.NoMemory text exit = ⊥
+abbrev pub TellsBad : Input → Refused → List ℕ → Exit → Type 0
+TellsBad input (refused.Bad bad) text exit = (text ≡ bad_input_json input bad) × (exit ≡ Bad)
+TellsBad input refused.NoMemory text exit = ⊥
 
 -- an input is refused, of which the command tells this as text
-abbrev pub IsRefusal : (List ℕ → Type 0) → List ℕ → Exit → Type 0
-IsRefusal refuses text exit = (bad : BadInput) × refuses (bad_input_text bad) × (text ≡ bad_input_json bad) × (exit ≡ Bad)
+abbrev pub IsRefusal : (List ℕ → Type 0) → Input → List ℕ → Exit → Type 0
+IsRefusal refuses input text exit = (bad : BadInput) × refuses (bad_input_text bad) × (text ≡ bad_input_json input bad) × (exit ≡ Bad)
+
+-- a dictionary is refused, for what was found of it
+abbrev pub IsDictionaryRefusal : (List ℕ → Type 0) → Input → List ℕ → Exit → Type 0
+IsDictionaryRefusal refuses input text exit =
+    (bad : BadInput) × IsFoundIn input bad × refuses (bad_input_text bad) × (text ≡ bad_input_json input bad) × (exit ≡ Bad)
+
+-- the only dictionary is refused, or one of two
+abbrev pub RefusedDictionary : Inputs → List ℕ → Exit → Type 0
+RefusedDictionary inputs text exit = IsDictionaryRefusal (RefusesFirst inputs) inputs.first text exit
+
+abbrev pub RefusedDictionaries : Inputs → List ℕ → Exit → Type 0
+RefusedDictionaries inputs text exit = RefusedDictionary inputs text exit ⊎ IsDictionaryRefusal (RefusesSecond inputs) inputs.second text exit
 
 -- the verdict on a message
 abbrev pub TellsChecked : Unknown → Levels → Dictionary → Input → List ℕ → Exit → Type 0
@@ -49,7 +61,7 @@ TellsChecked u most d message text exit =
 -- `check` of the message
 abbrev pub IsCheckJson : Unknown → Levels → Inputs → List ℕ → Exit → Type 0
 IsCheckJson u most inputs text exit = ((d : Dictionary) × IsDictionaryText inputs.first d × TellsChecked u most d inputs.message text exit)
-    ⊎ IsRefusal ((checks u most).refuses inputs) text exit
+    ⊎ RefusedDictionary inputs text exit
 
 -- both verdicts on a message
 abbrev pub TellsRefuted : Unknown → Levels → Dictionary → Dictionary → Input → List ℕ → Exit → Type 0
@@ -59,16 +71,16 @@ TellsRefuted u most a b message text exit =
 -- `refute` of the message
 abbrev pub IsRefuteJson : Unknown → Levels → Inputs → List ℕ → Exit → Type 0
 IsRefuteJson u most inputs text exit = ((a : Dictionary) × (b : Dictionary) × IsDictionaryText inputs.first a × IsDictionaryText inputs.second b
-    × TellsRefuted u most a b inputs.message text exit) ⊎ IsRefusal ((refutations u most).refuses inputs) text exit
+    × TellsRefuted u most a b inputs.message text exit) ⊎ RefusedDictionaries inputs text exit
 
 -- ---- many messages
 
--- nothing was read, and a refusal was put, or a beginning of it
-abbrev pub IsRefusalPut : (List ℕ → Type 0) → (fed_old fed put_old put : Option (List ℕ)) → Exit → Type 0
-IsRefusalPut refuses fed_old fed put_old put exit = (text : List ℕ) × IsRefusal refuses text exit × Consumes fed_old fed [] × Appends put_old put text
+-- nothing was read, and the line of a dictionary that is refused was put, or a beginning of it
+abbrev pub IsRefusalPut : (List ℕ → Exit → Type 0) → (fed_old fed put_old put : Option (List ℕ)) → Exit → Type 0
+IsRefusalPut refused fed_old fed put_old put exit = (text : List ℕ) × refused text exit × Consumes fed_old fed [] × Appends put_old put text
 
-abbrev pub IsRefusalFront : (List ℕ → Type 0) → (fed_old fed put_old put : Option (List ℕ)) → Type 0
-IsRefusalFront refuses fed_old fed put_old put = (text : List ℕ) × IsRefusal refuses text Bad × Consumes fed_old fed [] × AppendsFront put_old put text
+abbrev pub IsRefusalFront : (List ℕ → Exit → Type 0) → (fed_old fed put_old put : Option (List ℕ)) → Type 0
+IsRefusalFront refused fed_old fed put_old put = (text : List ℕ) × refused text Bad × Consumes fed_old fed [] × AppendsFront put_old put text
 
 -- nothing was read, and nothing put
 abbrev pub IsNothing : (fed_old fed put_old put : Option (List ℕ)) → Type 0
@@ -97,30 +109,30 @@ module _ (u : Unknown) (most : Levels) (inputs : Inputs) (fed_old fed put_old pu
   abbrev pub ChecksLines : Exit → Type 0
   ChecksLines exit = ((d : Dictionary) × IsDictionaryText inputs.first d
       × AreLinesTold (IsLineChecked u most d) (told_lines (numbered_json d)) checked_exit (checks u most).exit_of fed_old fed put_old put exit)
-      ⊎ IsRefusalPut ((checks u most).refuses inputs) fed_old fed put_old put exit
+      ⊎ IsRefusalPut (RefusedDictionary inputs) fed_old fed put_old put exit
 
   abbrev pub RefutesLines : Exit → Type 0
   RefutesLines exit = ((a : Dictionary) × (b : Dictionary) × IsDictionaryText inputs.first a × IsDictionaryText inputs.second b
       × AreLinesTold (IsLineRefuted u most a b) (told_lines (numbered_refuted_json a b)) refuted_exit (refutations u most).exit_of fed_old fed put_old put exit)
-      ⊎ IsRefusalPut ((refutations u most).refuses inputs) fed_old fed put_old put exit
+      ⊎ IsRefusalPut (RefusedDictionaries inputs) fed_old fed put_old put exit
 
   abbrev pub ChecksStream : Exit → Type 0
   ChecksStream exit = ((d : Dictionary) × IsDictionaryText inputs.first d × IsStreamPut u most d fed_old fed put_old put exit)
-      ⊎ IsRefusalPut ((checks u most).refuses inputs) fed_old fed put_old put exit
+      ⊎ IsRefusalPut (RefusedDictionary inputs) fed_old fed put_old put exit
 
   -- a beginning of that was put
   abbrev pub ChecksFront : Type 0
   ChecksFront = ((d : Dictionary) × IsDictionaryText inputs.first d × FrontAnswered (IsLineChecked u most d) (told_lines (numbered_json d)) fed_old fed put_old put)
-      ⊎ (IsRefusalFront ((checks u most).refuses inputs) fed_old fed put_old put ⊎ IsNothing fed_old fed put_old put)
+      ⊎ (IsRefusalFront (RefusedDictionary inputs) fed_old fed put_old put ⊎ IsNothing fed_old fed put_old put)
 
   abbrev pub RefutesFront : Type 0
   RefutesFront = ((a : Dictionary) × (b : Dictionary) × IsDictionaryText inputs.first a × IsDictionaryText inputs.second b
       × FrontAnswered (IsLineRefuted u most a b) (told_lines (numbered_refuted_json a b)) fed_old fed put_old put)
-      ⊎ (IsRefusalFront ((refutations u most).refuses inputs) fed_old fed put_old put ⊎ IsNothing fed_old fed put_old put)
+      ⊎ (IsRefusalFront (RefusedDictionaries inputs) fed_old fed put_old put ⊎ IsNothing fed_old fed put_old put)
 
   abbrev pub StreamFront : Type 0
   StreamFront = ((d : Dictionary) × IsDictionaryText inputs.first d × SomeTold (IsPieceChecked u most d) (placed_json d) fed_old fed put_old put)
-      ⊎ (IsRefusalFront ((checks u most).refuses inputs) fed_old fed put_old put ⊎ IsNothing fed_old fed put_old put)
+      ⊎ (IsRefusalFront (RefusedDictionary inputs) fed_old fed put_old put ⊎ IsNothing fed_old fed put_old put)
 
   -- the lines of whole messages were put, and nothing else
   abbrev pub ChecksWhole : Type 0

@@ -25,7 +25,7 @@ pub fn check(
 {
     let first = match read_dictionary(alloc, 1, &inputs.first) {
         Ok(read) => read,
-        Err(refused) => return refuse(alloc, refused),
+        Err(refused) => return refuse(alloc, &inputs.first, refused),
     };
     checked(alloc, &first.book, unknown, levels, &inputs.message)
 }
@@ -42,11 +42,11 @@ pub fn refute(
 {
     let first = match read_dictionary(alloc, 1, &inputs.first) {
         Ok(read) => read,
-        Err(refused) => return refuse(alloc, refused),
+        Err(refused) => return refuse(alloc, &inputs.first, refused),
     };
     let second = match read_dictionary(alloc, 2, &inputs.second) {
         Ok(read) => read,
-        Err(refused) => return refuse(alloc, refused),
+        Err(refused) => return refuse(alloc, &inputs.second, refused),
     };
     let judge = RefuteJudge {
         first: &first.book,
@@ -57,13 +57,13 @@ pub fn refute(
     refuted(alloc, &judge, &inputs.message)
 }
 
-/// The answer of an input that is refused.
-pub fn refuse(alloc: Global, refused: Refused) -> Result<Answered, AllocError>
-    ensures { IfOk result (λ answered. TellsBad refused (string_bytes answered.text) answered.exit) }
+/// The answer where this input is refused.
+pub fn refuse(alloc: Global, input: &Input, refused: Refused) -> Result<Answered, AllocError>
+    ensures { IfOk result (λ answered. TellsBad input.now refused (string_bytes answered.text) answered.exit) }
 {
     match refused {
         Refused::Bad(bad) => {
-            let text = bad_input_line(alloc, &bad)?;
+            let text = bad_input_line(alloc, input, &bad)?;
             Ok(Answered {
                 text,
                 exit: Exit::Bad,

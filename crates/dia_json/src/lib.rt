@@ -7,14 +7,20 @@
 mod answers;
 mod judges;
 mod laws;
+mod listing;
+mod proposing;
 mod refusals;
 mod runs;
+mod showing;
 mod strings;
+mod values;
 mod verdicts;
 
 pub use answers::{check, refute};
 pub use judges::{JsonCheck, JsonRefute};
 pub use laws::text_is_value;
+pub use proposing::propose;
 pub use refusals::bad_input_line;
 pub use runs::{check_lines, check_stream, refute_lines};
+pub use showing::show;
 pub use verdicts::{push_checked, push_numbered, push_numbered_refuted, push_placed, push_refuted};

@@ -3,62 +3,127 @@
 ghost use Rattle.std.specs.Prelude.{◌≡◌, IfOk, string_bytes};
 ghost use Rattle.serde_json.specs.Data.{no_members};
 ghost use Rattle.serde_json.specs.Written.{compact_text};
+ghost use Rattle.dia_report.specs.Refusals.{message_fault_word};
 ghost use Rattle.dia_json.specs.Values.{json_line, refused_members};
-ghost use Rattle.dia_json.specs.Refusals.{at_line, bad_input_json, dictionary_members, misfit_members, name_value};
-ghost use Rattle.dia_json.specs.Refusals.{table_members, wrong_members};
+ghost use Rattle.dia_json.specs.Refusals.{at_line, at_place, bad_input_json, dictionary_members, message_members};
+ghost use Rattle.dia_json.specs.Refusals.{misfit_members, name_value, on_line, stranger_at, table_members, text_of};
+ghost use Rattle.dia_json.specs.Refusals.{wrong_members};
 
 use crate::strings::quoted;
 use dia_ccf::CcfFault;
-use dia_report::{BadDictionary, BadInput, BadTable, WrongSource};
+use dia_explain_places::place_of;
+use dia_io::Input;
+use dia_report::{BadDictionary, BadInput, BadMessage, BadTable, WrongSource};
+use dia_run::is_white;
+use dia_wire::MessageFault;
 use std::alloc::{AllocError, Global};
 
-/// The line of an input that is refused.
-pub fn bad_input_line(alloc: Global, bad: &BadInput) -> Result<String, AllocError>
-    ensures { IfOk result (λ text. string_bytes text ≡ bad_input_json bad.now) }
+/// The line of an input that is refused for this.
+pub fn bad_input_line(alloc: Global, input: &Input, bad: &BadInput) -> Result<String, AllocError>
+    ensures { IfOk result (λ text. string_bytes text ≡ bad_input_json input.now bad.now) }
 {
+    let spelt = text_of(input);
     match bad {
         BadInput::Dictionary { number, why } => {
-            let input = format!(in alloc; "dictionary {number}")?;
-            dictionary_line(alloc, &input, why)
+            let name = format!(in alloc; "dictionary {number}")?;
+            dictionary_line(alloc, &name, spelt, why)
         }
-        BadInput::Table(why) => table_line(alloc, why),
-        BadInput::Message(why) => {
-            let kind = format!(in alloc; "{why}")?;
-            refused_line(alloc, "message", &kind)
-        }
+        BadInput::Table(why) => table_line(alloc, spelt, why),
+        BadInput::Message(why) => message_line(alloc, spelt, why),
     }
 }
 
-fn dictionary_line(alloc: Global, input: &str, why: &BadDictionary) -> Result<String, AllocError>
-    ensures { IfOk result (λ text. string_bytes text ≡ json_line (dictionary_members input.now why.now)) }
+/// The text of an input. One that is too long has none.
+fn text_of(input: &Input) -> &[u8]
+    ensures { result.now ≡ text_of input.entry.now }
+{
+    match input {
+        Input::Bytes(bytes) => bytes.as_slice(),
+        Input::TooLong => b"".as_slice(),
+    }
+}
+
+fn dictionary_line(
+    alloc: Global,
+    input: &str,
+    spelt: &[u8],
+    why: &BadDictionary,
+) -> Result<String, AllocError>
+    ensures { IfOk result (λ text. string_bytes text
+        ≡ json_line (dictionary_members input.now spelt.now why.now)) }
 {
     match why {
         BadDictionary::TooLong => refused_line(alloc, input, "too long"),
-        BadDictionary::NotText { .. } => refused_line(alloc, input, "not text"),
-        BadDictionary::NoSource(misfit) => misfit_line(alloc, input, misfit.fault),
+        BadDictionary::NotText { at } => refused_at(alloc, input, "not text", spelt, *at),
+        BadDictionary::NoSource(misfit) => {
+            misfit_line(alloc, input, spelt, misfit.at, misfit.fault)
+        }
         BadDictionary::Wrong(wrong) => wrong_line(alloc, input, wrong),
     }
 }
 
-fn misfit_line(alloc: Global, input: &str, fault: CcfFault) -> Result<String, AllocError>
-    ensures { IfOk result (λ text. string_bytes text ≡ json_line (misfit_members input.now fault)) }
+fn misfit_line(
+    alloc: Global,
+    input: &str,
+    spelt: &[u8],
+    at: usize,
+    fault: CcfFault,
+) -> Result<String, AllocError>
+    ensures { IfOk result (λ text. string_bytes text
+        ≡ json_line (misfit_members input.now spelt.now at fault)) }
 {
     match fault {
-        CcfFault::Syntax { line, .. } => refused_at(alloc, input, "syntax", line),
-        CcfFault::Number { line } => refused_at(alloc, input, "number", line),
-        CcfFault::Limit { line } => refused_at(alloc, input, "limit", line),
+        CcfFault::Syntax { line, .. } => {
+            refused_on(alloc, input, "syntax", line as usize, spelt, at)
+        }
+        CcfFault::Number { line } => refused_on(alloc, input, "number", line as usize, spelt, at),
+        CcfFault::Limit { line } => refused_on(alloc, input, "limit", line as usize, spelt, at),
         CcfFault::NoMemory => refused_line(alloc, input, "no memory"),
     }
 }
 
-fn table_line(alloc: Global, why: &BadTable) -> Result<String, AllocError>
-    ensures { IfOk result (λ text. string_bytes text ≡ json_line (table_members why.now)) }
+fn table_line(alloc: Global, spelt: &[u8], why: &BadTable) -> Result<String, AllocError>
+    ensures { IfOk result (λ text. string_bytes text ≡ json_line (table_members spelt.now why.now)) }
 {
     match why {
         BadTable::TooLong => refused_line(alloc, "table", "too long"),
-        BadTable::NotText { .. } => refused_line(alloc, "table", "not text"),
-        BadTable::Syntax { line } => refused_at(alloc, "table", "syntax", *line),
-        BadTable::Limit { line } => refused_at(alloc, "table", "limit", *line),
+        BadTable::NotText { at } => refused_at(alloc, "table", "not text", spelt, *at),
+        BadTable::Syntax { line } => refused_in(alloc, "table", "syntax", *line),
+        BadTable::Limit { line } => refused_in(alloc, "table", "limit", *line),
+    }
+}
+
+fn message_line(alloc: Global, spelt: &[u8], why: &BadMessage) -> Result<String, AllocError>
+    ensures { IfOk result (λ text. string_bytes text ≡ json_line (message_members spelt.now why.now)) }
+{
+    match why {
+        BadMessage::TooLong => refused_line(alloc, "message", "too long"),
+        BadMessage::NotHexadecimal => match stranger_at(spelt) {
+            Some(at) => refused_at(alloc, "message", "not hexadecimal", spelt, at),
+            None => refused_line(alloc, "message", "not hexadecimal"),
+        },
+        BadMessage::NoMessage(fault) => refused_line(alloc, "message", fault_word(*fault)),
+    }
+}
+
+/// The place of the first byte of a text that is neither a digit nor white space.
+fn stranger_at(spelt: &[u8]) -> Option<usize>
+    ensures { result ≡ stranger_at spelt.now }
+{
+    spelt
+        .iter()
+        .position(|byte| !byte.is_ascii_hexdigit() && !is_white(*byte))
+}
+
+fn fault_word(fault: MessageFault) -> &'static str
+    ensures { result.now ≡ message_fault_word fault }
+{
+    match fault {
+        MessageFault::Short => "short",
+        MessageFault::Version => "version",
+        MessageFault::Length => "length",
+        MessageFault::Truncated => "truncated",
+        MessageFault::Trailing => "trailing",
     }
 }
 
@@ -85,8 +150,41 @@ fn refused_line(alloc: Global, input: &str, kind: &str) -> Result<String, AllocE
     format!(in alloc; "{{\"error\":{input},\"kind\":{kind}}}\n")
 }
 
+/// The line of an input that is refused for what stands at a place of its text.
+fn refused_at(
+    alloc: Global,
+    input: &str,
+    kind: &str,
+    spelt: &[u8],
+    at: usize,
+) -> Result<String, AllocError>
+    ensures { IfOk result (λ text. string_bytes text
+        ≡ json_line (refused_members input.now kind.now (at_place spelt.now at))) }
+{
+    let line = place_of(spelt, at).line;
+    refused_on(alloc, input, kind, line, spelt, at)
+}
+
+/// The line of an input that is refused for what stands at a place of its text, on this line.
+fn refused_on(
+    alloc: Global,
+    input: &str,
+    kind: &str,
+    line: usize,
+    spelt: &[u8],
+    at: usize,
+) -> Result<String, AllocError>
+    ensures { IfOk result (λ text. string_bytes text
+        ≡ json_line (refused_members input.now kind.now (on_line line spelt.now at))) }
+{
+    let column = place_of(spelt, at).column;
+    let input = quoted(alloc, input)?;
+    let kind = quoted(alloc, kind)?;
+    format!(in alloc; "{{\"error\":{input},\"kind\":{kind},\"line\":{line},\"column\":{column}}}\n")
+}
+
 /// The line of an input that is refused for what stands on a line of its text.
-fn refused_at(alloc: Global, input: &str, kind: &str, line: u32) -> Result<String, AllocError>
+fn refused_in(alloc: Global, input: &str, kind: &str, line: u32) -> Result<String, AllocError>
     ensures { IfOk result (λ text. string_bytes text
         ≡ json_line (refused_members input.now kind.now (at_line line))) }
 {

@@ -15,7 +15,7 @@ use crate::answers::refuse;
 use crate::judges::{JsonCheck, JsonRefute};
 use dia_captures::{Captured, CheckJudge, Lines, RefuteJudge, Tally};
 use dia_check::{Levels, Unknown};
-use dia_io::{Exit, Feed, Inputs, Sink, put_all};
+use dia_io::{Exit, Feed, Input, Inputs, Sink, put_all};
 use dia_lines::{LinesFault, answer_lines};
 use dia_report::{Answered, Refused, Report, Reported};
 use dia_run::read_dictionary;
@@ -55,7 +55,7 @@ pub fn check_lines<F: Feed, S: Sink>(
 {
     let first = match read_dictionary(alloc, 1, &inputs.first) {
         Ok(read) => read,
-        Err(refused) => return put_refusal(alloc, refused, sink),
+        Err(refused) => return put_refusal(alloc, &inputs.first, refused, sink),
     };
     let judge = JsonCheck {
         check: CheckJudge {
@@ -103,11 +103,11 @@ pub fn refute_lines<F: Feed, S: Sink>(
 {
     let first = match read_dictionary(alloc, 1, &inputs.first) {
         Ok(read) => read,
-        Err(refused) => return put_refusal(alloc, refused, sink),
+        Err(refused) => return put_refusal(alloc, &inputs.first, refused, sink),
     };
     let second = match read_dictionary(alloc, 2, &inputs.second) {
         Ok(read) => read,
-        Err(refused) => return put_refusal(alloc, refused, sink),
+        Err(refused) => return put_refusal(alloc, &inputs.second, refused, sink),
     };
     let judge = JsonRefute {
         refute: RefuteJudge {
@@ -159,7 +159,7 @@ pub fn check_stream<F: Feed, S: Sink>(
 {
     let first = match read_dictionary(alloc, 1, &inputs.first) {
         Ok(read) => read,
-        Err(refused) => return put_refusal(alloc, refused, sink),
+        Err(refused) => return put_refusal(alloc, &inputs.first, refused, sink),
     };
     let judge = JsonCheck {
         check: CheckJudge {
@@ -177,21 +177,22 @@ pub fn check_stream<F: Feed, S: Sink>(
 /// Puts the line of a dictionary that is refused.
 fn put_refusal<S: Sink>(
     alloc: Global,
+    input: &Input,
     refused: Refused,
     sink: &mut S,
 ) -> Result<Captured, LinesFault>
     requires { ¬ IsTrue (S.has_failed sink.old) }
-    ensures told { IfOk result (λ captured. (text : List ℕ) × TellsBad refused text captured.reported.exit
+    ensures told { IfOk result (λ captured. (text : List ℕ) × TellsBad input.now refused text captured.reported.exit
         × Appends (S.written sink.old) (S.written sink.new) text) }
     ensures exit { IfOk result (λ captured. captured.reported.exit ≡ Exit.Bad) }
     ensures summary { IfOk result (λ captured. captured.summary ≡ None) }
     ensures device { (result ≡ Err Device) ↔ IsTrue (S.has_failed sink.new) }
-    ensures front { result ≡ Err Device → (text : List ℕ) × TellsBad refused text Exit.Bad
+    ensures front { result ≡ Err Device → (text : List ℕ) × TellsBad input.now refused text Exit.Bad
         × AppendsFront (S.written sink.old) (S.written sink.new) text }
     ensures nothing { result ≡ Err NoMemory → S.written sink.new ≡ S.written sink.old }
     ensures counted { result ≢ Err Endless }
 {
-    let Answered { text, exit, report } = refuse(alloc, refused)?;
+    let Answered { text, exit, report } = refuse(alloc, input, refused)?;
     put_all(sink, text.as_bytes())?;
     Ok(Captured {
         reported: Reported { exit, report },

@@ -5,3 +5,7 @@
 mod answers;
 #[cfg(test)]
 mod many;
+#[cfg(test)]
+mod shown;
+#[cfg(test)]
+mod tables;

@@ -123,12 +123,7 @@ where
 {
     let Manner { quiet, json } = manner;
     match task {
-        Task::Whole(Command::Check { unknown, levels }) if json => {
-            put_answer(rt, dia_json::check(rt.alloc(), *unknown, *levels, inputs))
-        }
-        Task::Whole(Command::Refute { unknown, levels }) if json => {
-            put_answer(rt, dia_json::refute(rt.alloc(), *unknown, *levels, inputs))
-        }
+        Task::Whole(command) if json => answer_as_json(rt, command, inputs),
         Task::Whole(Command::Show) if has_values(origins) => {
             show_named(rt, false, inputs, origins, quiet)
         }
@@ -179,6 +174,24 @@ where
         Ok(reported) => Ok(reported),
         Err(fault) => Err(Ending::of_run(fault, "standard output", sink.failure())),
     }
+}
+
+/// Runs a command whose inputs were read whole, and answers as JSON, if the command does.
+fn answer_as_json<'a, R>(rt: &R, command: &Command, inputs: &Inputs) -> Result<Reported, Ending<'a>>
+where
+    R: AllocGlobal + Print,
+{
+    let alloc = rt.alloc();
+    let made = match command {
+        Command::Show => dia_json::show(alloc, inputs),
+        Command::Check { unknown, levels } => dia_json::check(alloc, *unknown, *levels, inputs),
+        Command::Refute { unknown, levels } => dia_json::refute(alloc, *unknown, *levels, inputs),
+        Command::Propose { unknown, names } => {
+            dia_json::propose(alloc, *unknown, names.as_slice(), inputs)
+        }
+        Command::Compare { .. } | Command::Render => return answer(rt, command, inputs),
+    };
+    put_answer(rt, made)
 }
 
 /// Writes what was answered.

@@ -1,14 +1,15 @@
 use Rattle.std.proofs.Common.{inl, inr}
 use Rattle.std.specs.Prelude.{string_bytes}
 use Rattle.std.proofs.lemmas.Result.{IfOk-weaker}
-use Rattle.dia_captures.specs.Lines.{checks}
-use Rattle.dia_json.proofs.ManyMessages.{refusal}
+use Rattle.dia_captures.specs.Lines.{RefusesFirst}
+use Rattle.dia_json.proofs.ManyMessages.{dictionary_refused}
 use Rattle.dia_json.proofs.answers.check.Goals as goal
 
 pub returns-in-Err : goal.returns-in-Err
 returns-in-Err c =
     IfOk-weaker c.refuse.result _ _
-    (λ answered is. inr (refusal ((checks c.args.unknown c.args.levels).refuses c.args.inputs.now) c.in-Err.refused c.in-Err.ensures.told (string_bytes answered.text) answered.exit is)) c.refuse.ensures
+    (λ answered is. inr (dictionary_refused (RefusesFirst c.args.inputs.now) c.args.inputs.now.first c.in-Err.refused c.in-Err.ensures.told c.in-Err.ensures.kept (string_bytes answered.text)
+    answered.exit is)) c.refuse.ensures
 
 pub returns : goal.returns
 returns c =

@@ -7,24 +7,27 @@ use Rattle.dia_captures.specs.Ending.{ended_of}
 use Rattle.dia_captures.proofs.Summed.{unsummed}
 use Rattle.dia_captures.specs.declared.summaries.Lines.TheVariants as lines
 use Rattle.dia_captures.specs.Counts.{checked_flaw, checked_items}
-use Rattle.dia_captures.specs.Lines.{checks}
+use Rattle.dia_captures.specs.Lines.{RefusesFirst, checks}
 use Rattle.dia_captures.specs.Verdicts.{checked_exit}
 use Rattle.dia_captures.proofs.Tallies.{exits_in_lines}
-use Rattle.dia_json.specs.Runs.{ChecksSummary}
-use Rattle.dia_json.proofs.ManyMessages.{lines_summed, lines_told, refusal_front, refusal_put, refusal_whole}
+use Rattle.dia_json.specs.Runs.{ChecksSummary, RefusedDictionary}
+use Rattle.dia_json.proofs.ManyMessages.{dictionary_refused, lines_summed, lines_told, refusal_front, refusal_put, refusal_whole}
 use Rattle.dia_json.proofs.runs.check_lines.Goals as goal
 
 pub returns-in-Err-clause-told : goal.returns-in-Err-clause-told
 returns-in-Err-clause-told g c =
-    IfOk-weaker c.put_refusal.result _ _ (λ captured put. refusal_put ((checks c.args.unknown c.args.levels).refuses c.args.inputs.now) c.in-Err.refused (c.in-Err.ensures.told) (g.F.Feed.remaining c.args.feed.now) (g.S.Sink.written c.args.sink.now) (g.S.Sink.written c.put_refusal.new.sink) captured.reported.exit put) c.put_refusal.ensures.told
+    IfOk-weaker c.put_refusal.result _ _ (λ captured put. refusal_put (RefusedDictionary c.args.inputs.now) c.args.inputs.now.first c.in-Err.refused
+    (dictionary_refused (RefusesFirst c.args.inputs.now) c.args.inputs.now.first c.in-Err.refused c.in-Err.ensures.told c.in-Err.ensures.kept) (g.F.Feed.remaining c.args.feed.now) (g.S.Sink.written c.args.sink.now) (g.S.Sink.written c.put_refusal.new.sink) captured.reported.exit put) c.put_refusal.ensures.told
 
 pub returns-in-Err-clause-front : goal.returns-in-Err-clause-front
 returns-in-Err-clause-front g c =
-    refusal_front ((checks c.args.unknown c.args.levels).refuses c.args.inputs.now) c.in-Err.refused (c.in-Err.ensures.told) (g.F.Feed.remaining c.args.feed.now) (g.S.Sink.written c.args.sink.now) (g.S.Sink.written c.put_refusal.new.sink) c.put_refusal.result
+    refusal_front (RefusedDictionary c.args.inputs.now) c.args.inputs.now.first c.in-Err.refused
+    (dictionary_refused (RefusesFirst c.args.inputs.now) c.args.inputs.now.first c.in-Err.refused c.in-Err.ensures.told c.in-Err.ensures.kept) (g.F.Feed.remaining c.args.feed.now) (g.S.Sink.written c.args.sink.now) (g.S.Sink.written c.put_refusal.new.sink) c.put_refusal.result
     c.put_refusal.ensures.front c.put_refusal.ensures.nothing c.put_refusal.ensures.counted
 
 pub returns-in-Err-clause-no_memory : goal.returns-in-Err-clause-no_memory
-returns-in-Err-clause-no_memory g c = λ is. refusal_whole ((checks c.args.unknown c.args.levels).refuses c.args.inputs.now) c.in-Err.refused (c.in-Err.ensures.told) (g.F.Feed.remaining c.args.feed.now) (g.S.Sink.written c.args.sink.now) (g.S.Sink.written c.put_refusal.new.sink) (c.put_refusal.ensures.nothing is)
+returns-in-Err-clause-no_memory g c = λ is. refusal_whole (RefusedDictionary c.args.inputs.now) c.args.inputs.now.first c.in-Err.refused
+    (dictionary_refused (RefusesFirst c.args.inputs.now) c.args.inputs.now.first c.in-Err.refused c.in-Err.ensures.told c.in-Err.ensures.kept) (g.F.Feed.remaining c.args.feed.now) (g.S.Sink.written c.args.sink.now) (g.S.Sink.written c.put_refusal.new.sink) (c.put_refusal.ensures.nothing is)
 
 pub returns-in-Err-clause-summary : goal.returns-in-Err-clause-summary
 returns-in-Err-clause-summary g c = unsummed (λ (x : Captured). x.summary) c.put_refusal.result _ c.put_refusal.ensures.summary

@@ -6,22 +6,26 @@ use Rattle.dia_captures.specs.declared.runs.Captured.{Captured}
 use Rattle.dia_captures.specs.Ending.{ended_of}
 use Rattle.dia_captures.proofs.Summed.{unsummed}
 use Rattle.dia_captures.specs.Counts.{placed_items}
-use Rattle.dia_captures.specs.Lines.{checks}
+use Rattle.dia_captures.specs.Lines.{RefusesFirst}
 use Rattle.dia_captures.proofs.Tallies.{exits_placed}
-use Rattle.dia_json.proofs.ManyMessages.{refusal_front, refusal_put, refusal_whole, stream_summed, stream_told}
+use Rattle.dia_json.specs.Runs.{RefusedDictionary}
+use Rattle.dia_json.proofs.ManyMessages.{dictionary_refused, refusal_front, refusal_put, refusal_whole, stream_summed, stream_told}
 use Rattle.dia_json.proofs.runs.check_stream.Goals as goal
 
 pub returns-in-Err-clause-told : goal.returns-in-Err-clause-told
 returns-in-Err-clause-told g c =
-    IfOk-weaker c.put_refusal.result _ _ (λ captured put. refusal_put ((checks c.args.unknown c.args.levels).refuses c.args.inputs.now) c.in-Err.refused (c.in-Err.ensures.told) (g.F.Feed.remaining c.args.feed.now) (g.S.Sink.written c.args.sink.now) (g.S.Sink.written c.put_refusal.new.sink) captured.reported.exit put) c.put_refusal.ensures.told
+    IfOk-weaker c.put_refusal.result _ _ (λ captured put. refusal_put (RefusedDictionary c.args.inputs.now) c.args.inputs.now.first c.in-Err.refused
+    (dictionary_refused (RefusesFirst c.args.inputs.now) c.args.inputs.now.first c.in-Err.refused c.in-Err.ensures.told c.in-Err.ensures.kept) (g.F.Feed.remaining c.args.feed.now) (g.S.Sink.written c.args.sink.now) (g.S.Sink.written c.put_refusal.new.sink) captured.reported.exit put) c.put_refusal.ensures.told
 
 pub returns-in-Err-clause-front : goal.returns-in-Err-clause-front
 returns-in-Err-clause-front g c =
-    refusal_front ((checks c.args.unknown c.args.levels).refuses c.args.inputs.now) c.in-Err.refused (c.in-Err.ensures.told) (g.F.Feed.remaining c.args.feed.now) (g.S.Sink.written c.args.sink.now) (g.S.Sink.written c.put_refusal.new.sink) c.put_refusal.result
+    refusal_front (RefusedDictionary c.args.inputs.now) c.args.inputs.now.first c.in-Err.refused
+    (dictionary_refused (RefusesFirst c.args.inputs.now) c.args.inputs.now.first c.in-Err.refused c.in-Err.ensures.told c.in-Err.ensures.kept) (g.F.Feed.remaining c.args.feed.now) (g.S.Sink.written c.args.sink.now) (g.S.Sink.written c.put_refusal.new.sink) c.put_refusal.result
     c.put_refusal.ensures.front c.put_refusal.ensures.nothing c.put_refusal.ensures.counted
 
 pub returns-in-Err-clause-no_memory : goal.returns-in-Err-clause-no_memory
-returns-in-Err-clause-no_memory g c = λ is. refusal_whole ((checks c.args.unknown c.args.levels).refuses c.args.inputs.now) c.in-Err.refused (c.in-Err.ensures.told) (g.F.Feed.remaining c.args.feed.now) (g.S.Sink.written c.args.sink.now) (g.S.Sink.written c.put_refusal.new.sink) (c.put_refusal.ensures.nothing is)
+returns-in-Err-clause-no_memory g c = λ is. refusal_whole (RefusedDictionary c.args.inputs.now) c.args.inputs.now.first c.in-Err.refused
+    (dictionary_refused (RefusesFirst c.args.inputs.now) c.args.inputs.now.first c.in-Err.refused c.in-Err.ensures.told c.in-Err.ensures.kept) (g.F.Feed.remaining c.args.feed.now) (g.S.Sink.written c.args.sink.now) (g.S.Sink.written c.put_refusal.new.sink) (c.put_refusal.ensures.nothing is)
 
 pub returns-in-Err-clause-summary : goal.returns-in-Err-clause-summary
 returns-in-Err-clause-summary g c = unsummed (λ (x : Captured). x.summary) c.put_refusal.result _ c.put_refusal.ensures.summary

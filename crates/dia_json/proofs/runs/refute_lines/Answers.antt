@@ -1,4 +1,4 @@
-use Rattle.std.proofs.Common.{◌≡◌, ◌∙◌, Err, ap, inl, refl, rules}
+use Rattle.std.proofs.Common.{◌≡◌, ◌∙◌, Err, ap, inl, inr, refl, rules}
 use Rattle.std.specs.Prelude.{string_bytes}
 use Rattle.std.proofs.lemmas.Result.{IfOk-weaker}
 use Rattle.dia_lines.specs.declared.fault.LinesFault.TheVariants.{NoMemory, Endless}
@@ -7,25 +7,27 @@ use Rattle.dia_captures.specs.Ending.{ended_of}
 use Rattle.dia_captures.proofs.Summed.{unsummed}
 use Rattle.dia_captures.specs.declared.summaries.Lines.TheVariants as lines
 use Rattle.dia_captures.specs.Counts.{refuted_flaw, refuted_items}
-use Rattle.dia_captures.specs.Lines.{refutations}
+use Rattle.dia_captures.specs.Lines.{RefusesFirst, RefusesSecond, refutations}
 use Rattle.dia_captures.specs.Verdicts.{refuted_exit}
-use Rattle.dia_captures.proofs.RefusedRuns.{first_tells, second_tells}
 use Rattle.dia_captures.proofs.Tallies.{exits_in_lines}
-use Rattle.dia_json.specs.Runs.{RefutesSummary}
-use Rattle.dia_json.proofs.ManyMessages.{lines_summed, lines_told, refusal_front, refusal_put, refusal_whole}
+use Rattle.dia_json.specs.Runs.{RefusedDictionaries, RefutesSummary}
+use Rattle.dia_json.proofs.ManyMessages.{dictionary_refused, lines_summed, lines_told, refusal_front, refusal_put, refusal_whole, second_refused}
 use Rattle.dia_json.proofs.runs.refute_lines.Goals as goal
 
 pub returns-in-Err-clause-told : goal.returns-in-Err-clause-told
 returns-in-Err-clause-told g c =
-    IfOk-weaker c.put_refusal.result _ _ (λ captured put. refusal_put ((refutations c.args.unknown c.args.levels).refuses c.args.inputs.now) c.in-Err.refused (first_tells c.args.unknown c.args.levels c.args.inputs.now c.in-Err.refused c.in-Err.ensures.told) (g.F.Feed.remaining c.args.feed.now) (g.S.Sink.written c.args.sink.now) (g.S.Sink.written c.put_refusal.new.sink) captured.reported.exit put) c.put_refusal.ensures.told
+    IfOk-weaker c.put_refusal.result _ _ (λ captured put. refusal_put (RefusedDictionaries c.args.inputs.now) c.args.inputs.now.first c.in-Err.refused
+    (λ text exit is. inl (dictionary_refused (RefusesFirst c.args.inputs.now) c.args.inputs.now.first c.in-Err.refused c.in-Err.ensures.told c.in-Err.ensures.kept text exit is)) (g.F.Feed.remaining c.args.feed.now) (g.S.Sink.written c.args.sink.now) (g.S.Sink.written c.put_refusal.new.sink) captured.reported.exit put) c.put_refusal.ensures.told
 
 pub returns-in-Err-clause-front : goal.returns-in-Err-clause-front
 returns-in-Err-clause-front g c =
-    refusal_front ((refutations c.args.unknown c.args.levels).refuses c.args.inputs.now) c.in-Err.refused (first_tells c.args.unknown c.args.levels c.args.inputs.now c.in-Err.refused c.in-Err.ensures.told) (g.F.Feed.remaining c.args.feed.now) (g.S.Sink.written c.args.sink.now) (g.S.Sink.written c.put_refusal.new.sink) c.put_refusal.result
+    refusal_front (RefusedDictionaries c.args.inputs.now) c.args.inputs.now.first c.in-Err.refused
+    (λ text exit is. inl (dictionary_refused (RefusesFirst c.args.inputs.now) c.args.inputs.now.first c.in-Err.refused c.in-Err.ensures.told c.in-Err.ensures.kept text exit is)) (g.F.Feed.remaining c.args.feed.now) (g.S.Sink.written c.args.sink.now) (g.S.Sink.written c.put_refusal.new.sink) c.put_refusal.result
     c.put_refusal.ensures.front c.put_refusal.ensures.nothing c.put_refusal.ensures.counted
 
 pub returns-in-Err-clause-no_memory : goal.returns-in-Err-clause-no_memory
-returns-in-Err-clause-no_memory g c = λ is. refusal_whole ((refutations c.args.unknown c.args.levels).refuses c.args.inputs.now) c.in-Err.refused (first_tells c.args.unknown c.args.levels c.args.inputs.now c.in-Err.refused c.in-Err.ensures.told) (g.F.Feed.remaining c.args.feed.now) (g.S.Sink.written c.args.sink.now) (g.S.Sink.written c.put_refusal.new.sink) (c.put_refusal.ensures.nothing is)
+returns-in-Err-clause-no_memory g c = λ is. refusal_whole (RefusedDictionaries c.args.inputs.now) c.args.inputs.now.first c.in-Err.refused
+    (λ text exit is. inl (dictionary_refused (RefusesFirst c.args.inputs.now) c.args.inputs.now.first c.in-Err.refused c.in-Err.ensures.told c.in-Err.ensures.kept text exit is)) (g.F.Feed.remaining c.args.feed.now) (g.S.Sink.written c.args.sink.now) (g.S.Sink.written c.put_refusal.new.sink) (c.put_refusal.ensures.nothing is)
 
 pub returns-in-Err-clause-summary : goal.returns-in-Err-clause-summary
 returns-in-Err-clause-summary g c = unsummed (λ (x : Captured). x.summary) c.put_refusal.result _ c.put_refusal.ensures.summary
@@ -35,15 +37,21 @@ returns-in-Err-clause-no_summary g c = IfOk-weaker c.put_refusal.result _ _ (λ 
 
 pub returns-in-Err-read_dictionary-clause-told : goal.returns-in-Err-read_dictionary-clause-told
 returns-in-Err-read_dictionary-clause-told g c =
-    IfOk-weaker c.put_refusal-in-Err-read_dictionary.result _ _ (λ captured put. refusal_put ((refutations c.args.unknown c.args.levels).refuses c.args.inputs.now) c.in-Err-read_dictionary.refused (second_tells c.args.unknown c.args.levels c.args.inputs.now _ c.in-Err-read_dictionary.refused c.in-Ok.ensures.book c.in-Err-read_dictionary.ensures.told) (g.F.Feed.remaining c.args.feed.now) (g.S.Sink.written c.args.sink.now) (g.S.Sink.written c.put_refusal-in-Err-read_dictionary.new.sink) captured.reported.exit put) c.put_refusal-in-Err-read_dictionary.ensures.told
+    IfOk-weaker c.put_refusal-in-Err-read_dictionary.result _ _ (λ captured put. refusal_put (RefusedDictionaries c.args.inputs.now) c.args.inputs.now.second c.in-Err-read_dictionary.refused
+    (λ text exit is. inr (dictionary_refused (RefusesSecond c.args.inputs.now) c.args.inputs.now.second c.in-Err-read_dictionary.refused
+    (second_refused c.args.inputs.now _ c.in-Err-read_dictionary.refused c.in-Ok.ensures.book c.in-Err-read_dictionary.ensures.told) c.in-Err-read_dictionary.ensures.kept text exit is)) (g.F.Feed.remaining c.args.feed.now) (g.S.Sink.written c.args.sink.now) (g.S.Sink.written c.put_refusal-in-Err-read_dictionary.new.sink) captured.reported.exit put) c.put_refusal-in-Err-read_dictionary.ensures.told
 
 pub returns-in-Err-read_dictionary-clause-front : goal.returns-in-Err-read_dictionary-clause-front
 returns-in-Err-read_dictionary-clause-front g c =
-    refusal_front ((refutations c.args.unknown c.args.levels).refuses c.args.inputs.now) c.in-Err-read_dictionary.refused (second_tells c.args.unknown c.args.levels c.args.inputs.now _ c.in-Err-read_dictionary.refused c.in-Ok.ensures.book c.in-Err-read_dictionary.ensures.told) (g.F.Feed.remaining c.args.feed.now) (g.S.Sink.written c.args.sink.now) (g.S.Sink.written c.put_refusal-in-Err-read_dictionary.new.sink) c.put_refusal-in-Err-read_dictionary.result
+    refusal_front (RefusedDictionaries c.args.inputs.now) c.args.inputs.now.second c.in-Err-read_dictionary.refused
+    (λ text exit is. inr (dictionary_refused (RefusesSecond c.args.inputs.now) c.args.inputs.now.second c.in-Err-read_dictionary.refused
+    (second_refused c.args.inputs.now _ c.in-Err-read_dictionary.refused c.in-Ok.ensures.book c.in-Err-read_dictionary.ensures.told) c.in-Err-read_dictionary.ensures.kept text exit is)) (g.F.Feed.remaining c.args.feed.now) (g.S.Sink.written c.args.sink.now) (g.S.Sink.written c.put_refusal-in-Err-read_dictionary.new.sink) c.put_refusal-in-Err-read_dictionary.result
     c.put_refusal-in-Err-read_dictionary.ensures.front c.put_refusal-in-Err-read_dictionary.ensures.nothing c.put_refusal-in-Err-read_dictionary.ensures.counted
 
 pub returns-in-Err-read_dictionary-clause-no_memory : goal.returns-in-Err-read_dictionary-clause-no_memory
-returns-in-Err-read_dictionary-clause-no_memory g c = λ is. refusal_whole ((refutations c.args.unknown c.args.levels).refuses c.args.inputs.now) c.in-Err-read_dictionary.refused (second_tells c.args.unknown c.args.levels c.args.inputs.now _ c.in-Err-read_dictionary.refused c.in-Ok.ensures.book c.in-Err-read_dictionary.ensures.told) (g.F.Feed.remaining c.args.feed.now) (g.S.Sink.written c.args.sink.now) (g.S.Sink.written c.put_refusal-in-Err-read_dictionary.new.sink) (c.put_refusal-in-Err-read_dictionary.ensures.nothing is)
+returns-in-Err-read_dictionary-clause-no_memory g c = λ is. refusal_whole (RefusedDictionaries c.args.inputs.now) c.args.inputs.now.second c.in-Err-read_dictionary.refused
+    (λ text exit is. inr (dictionary_refused (RefusesSecond c.args.inputs.now) c.args.inputs.now.second c.in-Err-read_dictionary.refused
+    (second_refused c.args.inputs.now _ c.in-Err-read_dictionary.refused c.in-Ok.ensures.book c.in-Err-read_dictionary.ensures.told) c.in-Err-read_dictionary.ensures.kept text exit is)) (g.F.Feed.remaining c.args.feed.now) (g.S.Sink.written c.args.sink.now) (g.S.Sink.written c.put_refusal-in-Err-read_dictionary.new.sink) (c.put_refusal-in-Err-read_dictionary.ensures.nothing is)
 
 pub returns-in-Err-read_dictionary-clause-summary : goal.returns-in-Err-read_dictionary-clause-summary
 returns-in-Err-read_dictionary-clause-summary g c = unsummed (λ (x : Captured). x.summary) c.put_refusal-in-Err-read_dictionary.result _ c.put_refusal-in-Err-read_dictionary.ensures.summary

@@ -1,0 +1,157 @@
+//! `show` of a message as JSON.
+
+ghost use Rattle.std.specs.Prelude.{◌≡◌, ◌<◌, ◌^◌, ◌++◌, ◌∷◌, List, Bool, drop, length, take, true, IfOk, OnOk, string_bytes};
+ghost use Rattle.serde_json.specs.Data.{Members};
+ghost use Rattle.serde_json.specs.Written.{members_text};
+ghost use Rattle.dia_check.specs.Valid.{class_of};
+ghost use Rattle.dia_dict.specs.Dictionary.{selected};
+ghost use Rattle.dia_run.specs.Outcome.{listing_exit};
+ghost use Rattle.dia_json.specs.Values.{json_line};
+ghost use Rattle.dia_wire.specs.Wire.{IsHead, IsMessageLength};
+ghost use Rattle.dia_json.specs.Messages.{AreShown, TellsMessage, command_member, header_members, lines_of};
+ghost use Rattle.dia_json.specs.Whole.{IsShowJson};
+
+use crate::answers::refuse;
+use crate::listing::push_level;
+use crate::strings::quoted;
+use dia_book::Class;
+use dia_dict::Book;
+use dia_io::{Exit, Inputs};
+use dia_report::{Answered, CutListing, Refused, Report};
+use dia_run::{read_dictionary, read_message};
+use dia_wire::{HEADER_LENGTH, Header, split_message};
+use std::alloc::{AllocError, Global};
+
+/// The version of each message that is shown (RFC 6733 section 3).
+const VERSION: u8 = 1;
+
+/// The objects of a message, and how they end.
+#[derive(Drop)]
+struct Shown {
+    text: String,
+    exit: Exit,
+}
+
+/// `show` of the message, with the names of the first dictionary.
+pub fn show(alloc: Global, inputs: &Inputs) -> Result<Answered, AllocError>
+    ensures { IfOk result (λ answered. IsShowJson inputs.now (string_bytes answered.text) answered.exit) }
+{
+    let first = match read_dictionary(alloc, 1, &inputs.first) {
+        Ok(read) => read,
+        Err(refused) => return refuse(alloc, &inputs.first, refused),
+    };
+    let message = match read_message(alloc, &inputs.message) {
+        Ok(bytes) => bytes,
+        Err(refused) => return refuse(alloc, &inputs.message, refused),
+    };
+    let (header, body) = match split_message(message.as_slice()) {
+        Ok(parts) => parts,
+        Err(fault) => return refuse(alloc, &inputs.message, Refused::from(fault)),
+    };
+    let Shown { text, exit } = shown_of(alloc, &first.book, message.as_slice(), &header, body)?;
+    let report = match exit {
+        Exit::No => Report::Cut(CutListing { first, message }),
+        _ => Report::Done,
+    };
+    Ok(Answered { text, exit, report })
+}
+
+/// The objects of a message, which has this header and body, and how they end.
+fn shown_of<B: Book>(
+    alloc: Global,
+    book: &B,
+    bytes: &[u8],
+    header: &Header,
+    body: &[u8],
+) -> Result<Shown, AllocError>
+    requires head { IsHead header.now (length bytes.now) (take 20 bytes.now) }
+    requires long { IsMessageLength (length bytes.now) }
+    requires body { body.now ≡ drop 20 bytes.now }
+    requires room { length body.now < 2 ^ 62 }
+    ensures { IfOk result (λ shown. TellsMessage (B.meaning book.now) bytes.now (string_bytes shown.text) shown.exit) }
+{
+    objects_of(alloc, book, header, bytes.len(), body)
+}
+
+/// The objects of a message of this header and body. `size` is the Message Length.
+fn objects_of<B: Book>(
+    alloc: Global,
+    book: &B,
+    header: &Header,
+    size: usize,
+    body: &[u8],
+) -> Result<Shown, AllocError>
+    requires { length body.now < 2 ^ 62 }
+    ensures { IfOk result (λ shown. (avps : List Members) × (bad : Bool)
+        × AreShown (B.meaning book.now) (record { depth = 0; place = 20; bytes = body.now }) avps bad
+        × (string_bytes shown.text ≡ lines_of (header_members (B.meaning book.now) header.now size ∷ avps))
+        × (shown.exit ≡ listing_exit bad)) }
+{
+    let mut text = String::new(alloc);
+    push_header(alloc, &mut text, book, header, size)?;
+    let bad = push_level(alloc, &mut text, book, body, HEADER_LENGTH)?;
+    let exit = listing_exit(bad);
+    Ok(Shown { text, exit })
+}
+
+/// How a listing ends that may end at a bad length.
+fn listing_exit(bad: bool) -> Exit
+    ensures { result ≡ listing_exit bad }
+{
+    if bad { Exit::No } else { Exit::Yes }
+}
+
+/// Adds the object of a header. `size` is the Message Length.
+fn push_header<B: Book>(
+    alloc: Global,
+    text: &mut String,
+    book: &B,
+    header: &Header,
+    size: usize,
+) -> Result<(), AllocError>
+    ensures { OnOk result (string_bytes text.new
+        ≡ string_bytes text.old ++ json_line (header_members (B.meaning book.now) header.now size)) }
+{
+    let flags = header.flags;
+    let code = header.code;
+    let app = header.app;
+    let hop = header.hop;
+    let end = header.e2e;
+    let command = named_command(alloc, book, header)?;
+    write!(
+        text,
+        "{{\"version\":{VERSION},\"flags\":{flags},\"code\":{code},"
+    )?;
+    write!(
+        text,
+        "\"application\":{app},\"hop_by_hop\":{hop},\"end_to_end\":{end},"
+    )?;
+    write!(text, "\"length\":{size}{command}\n")
+}
+
+/// The member of the command, if the dictionary has one for the header, and the brace behind it.
+fn named_command<B: Book>(alloc: Global, book: &B, header: &Header) -> Result<String, AllocError>
+    ensures { IfOk result (λ text. string_bytes text ≡ members_text true (command_member (B.meaning book.now)
+        (selected (B.meaning book.now) header.now.code (class_of header.now.flags) header.now.app))) }
+{
+    match book.select(header.code, class_of(header), header.app) {
+        Some(def) => {
+            let name = quoted(alloc, book.def(def).name.as_str())?;
+            format!(in alloc; ",\"command\":{name}}}")
+        }
+        None => String::from_str(alloc, "}"),
+    }
+}
+
+/// The class of a message by its flags.
+fn class_of(header: &Header) -> Class
+    ensures { result ≡ class_of header.now.flags }
+{
+    if header.is_request() {
+        Class::Request
+    } else if header.is_error() {
+        Class::Error
+    } else {
+        Class::Answer
+    }
+}
