@@ -10,13 +10,15 @@ use std::test::Fail;
 const REQUEST: &str = "010000208000011a000000000000000100000002000001114000000c00000000";
 
 const BYTES: [u8; 32] = [
-    1, 0, 0, 32, 0x80, 0, 1, 26, 0, 0, 0, 0, 0, 0, 0, 1, 0, 0, 0, 2, 0, 0, 1, 17, 0x40, 0, 0, 12, 0, 0, 0, 0,
+    1, 0, 0, 32, 0x80, 0, 1, 26, 0, 0, 0, 0, 0, 0, 0, 1, 0, 0, 0, 2, 0, 0, 1, 17, 0x40, 0, 0, 12,
+    0, 0, 0, 0,
 ];
 
 const WORDS: &str = "# RFC 6733\nDisconnect-Cause 0 REBOOTING\n";
 
 /// What is shown of it.
-const LINES: &str = "header flags R--- code 282 DPR app 0 hop 1 end 2 length 32\n20 0 273 - -M- 12 Disconnect-Cause 0 REBOOTING\n";
+const LINES: &str =
+    "header flags R--- code 282 DPR app 0 hop 1 end 2 length 32\n20 0 273 - -M- 12 Disconnect-Cause 0 REBOOTING\n";
 
 fn input(alloc: Global, text: &str) -> Result<Input, Fail> {
     Ok(Input::Bytes(Vec::from_slice(alloc, text.as_bytes())?))
@@ -57,6 +59,9 @@ fn bytes_are_shown_so_too(rt: HostRuntime) -> Result<(), Fail> {
 
 #[test]
 fn a_text_that_is_none_of_words_is_refused(rt: HostRuntime) {
-    let read = read_words(rt.alloc(), "Disconnect-Cause 0 REBOOTING\n\nDisconnect-Cause 00 X\n");
+    let read = read_words(
+        rt.alloc(),
+        "Disconnect-Cause 0 REBOOTING\n\nDisconnect-Cause 00 X\n",
+    );
     assert!(rt; matches!(read, Err(ValuesFault::Syntax { line: 3 })));
 }

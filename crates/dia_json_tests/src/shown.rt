@@ -11,7 +11,8 @@ const REQUEST: &str = "010000388000011800000000000000010000000200000108400000\
     0b612e6200000001284000000962000000\
     00ffffff8000000c00000007";
 
-const SHOWN: &str = r#"{"version":1,"flags":128,"code":280,"application":0,"hop_by_hop":1,"end_to_end":2,"length":56,"command":"DWR"}
+const SHOWN: &str =
+    r#"{"version":1,"flags":128,"code":280,"application":0,"hop_by_hop":1,"end_to_end":2,"length":56,"command":"DWR"}
 {"at":20,"depth":0,"code":264,"vendor":null,"flags":64,"length":11,"name":"Origin-Host","value":"a.b"}
 {"at":32,"depth":0,"code":296,"vendor":null,"flags":64,"length":9,"name":"Origin-Realm","value":"b"}
 {"at":44,"depth":0,"code":16777215,"vendor":7,"flags":128,"length":12,"value":{"hex":""}}

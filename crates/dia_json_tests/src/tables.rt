@@ -7,11 +7,9 @@ use std::alloc::{AllocError, Global};
 use std::test::Fail;
 
 /// Two dictionaries, of which the second takes fewer X.
-const FIRST: &str =
-    "%avp X 9001 Unsigned32 any <T> ::= < Diameter Header: 302, REQ > * [ X ]";
+const FIRST: &str = "%avp X 9001 Unsigned32 any <T> ::= < Diameter Header: 302, REQ > * [ X ]";
 
-const SECOND: &str =
-    "%avp X 9001 Unsigned32 any <T> ::= < Diameter Header: 302, REQ > *3 [ X ]";
+const SECOND: &str = "%avp X 9001 Unsigned32 any <T> ::= < Diameter Header: 302, REQ > *3 [ X ]";
 
 const PROPOSED: &str = r#"{"kind":"command","first":"T","second":"T"}
 {"kind":"avp","first":"X","second":"X"}
