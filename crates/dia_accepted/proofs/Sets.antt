@@ -1,19 +1,20 @@
--- Sets of texts, and what a look-up in them tells.
-use Rattle.std.proofs.Common.{◌≡◌, ℕ, ◌+◌, ◌<◌, Bool, true, false, cond, List, [], ◌∷◌, ◌++◌, map, take, get_or, length, string_bytes, Bor, refl, sym, ap, subst, ◌∙◌, append_assoc}
+-- Look-ups of texts, and what they tell of the lines of a list.
+use Rattle.std.proofs.Common.{◌≡◌, ℕ, ◌+◌, ◌<◌, Bool, true, false, cond, List, [], ◌∷◌, ◌++◌, map, take, get_or, length, refl, sym, ap, subst, ◌∙◌, append_assoc}
 use Rattle.std.specs.Global.{Vec}
-use Rattle.std.specs.Prelude.{◌||◌, filter, not}
-use Rattle.std.specs.List.{list_any}
+use Rattle.std.specs.Prelude.{◌||◌, ◌&&◌, Option, Some, None, filter, is_some, not, unwrap_or}
+use Rattle.std.specs.List.{AllByRecursion, list_any}
 use Rattle.std.specs.Str.{bytes_eq}
 use Rattle.std.proofs.lemmas.Bool.Decides.{same_from_decides}
 use Rattle.std.proofs.lemmas.Slice.Eq.{bytes_eq-Decides}
 use Rattle.std.proofs.lemmas.List.{map-append, take_more}
 use Rattle.std.proofs.lemmas.List.Elements.{filter-append}
 use Rattle.std.proofs.lemmas.List.Folds.{list_any-append}
-use Rattle.indexmap.specs.IndexSet.{insert_key}
+use Rattle.indexmap.specs.IndexMap.{insert_entry}
+use Rattle.dia_accepted.specs.declared.accepting.Accepting.{Accepting}
 use Rattle.dia_accepted.specs.declared.list.Entry.{Entry}
-use Rattle.dia_accepted.specs.declared.told.Told.{Told}
-use Rattle.dia_accepted.specs.Accepted.{PlainEntry, PlainTold, accepts, is_accepted, is_stale, left_of, plain_entry, plain_told, stale_lines}
-use Rattle.dia_accepted.specs.Sets.{HasTexts, bytes_of, entry_texts, has, told_texts}
+use Rattle.dia_accepted.specs.Accepted.{PlainEntry, PlainTold, accepts, is_stale, plain_entry, stale_lines}
+use Rattle.dia_accepted.specs.Seen.{HasSeen, entry_with, mark, unmarked_lines}
+use Rattle.dia_accepted.specs.Sets.{bytes_of, found, has}
 use Rattle.dia_accepted.specs.Words.{anywhere, counted}
 
 -- ---- tests
@@ -31,152 +32,224 @@ pub or_false : (a : Bool) → (a || false) ≡ a
 or_false true = refl
 or_false false = refl
 
-swapped : (a b c d : Bool) → ((a || b) || (c || d)) ≡ ((a || c) || (b || d))
-swapped true b c d = refl
-swapped false true true d = refl
-swapped false true false d = refl
-swapped false false c d = refl
+and_false : (a : Bool) → (a && false) ≡ false
+and_false true = refl
+and_false false = refl
 
-regrouped : (a b c : Bool) → (a || (b || c)) ≡ ((a || b) || c)
-regrouped true b c = refl
-regrouped false b c = refl
+and_true : (a : Bool) → (a && true) ≡ a
+and_true true = refl
+and_true false = refl
 
--- ---- sets
+-- ---- what a map has
 
 abbrev pub same_vec : Vec ℕ → Vec ℕ → Bool
 same_vec a b = bytes_eq (bytes_of a) (bytes_of b)
 
--- where a key is in a set already, it adds nothing
-found : (x k : List ℕ) (ks : List (Vec ℕ)) → has ks k ≡ true → bytes_eq x k ≡ true → has ks x ≡ true
-found x k ks inside same = subst (λ (t : List ℕ). has ks t ≡ true) (sym ((bytes_eq-Decides x k).0 same)) inside
+module _ {X : Type 0} (k : Vec ℕ) (v : X) (x : List ℕ) where
+  here : (b : Bool) (w : X) (r : Option X) → cond b (Some v) r ≡ cond b (Some v) (cond b (Some w) r)
+  here true w r = refl
+  here false w r = refl
 
-pub set_more : (keys more : List (Vec ℕ)) (key : Vec ℕ) (texts : List (List ℕ)) (text : List ℕ) → bytes_of key ≡ text → more ≡ insert_key same_vec keys key → HasTexts keys texts
-    → HasTexts more (texts ++ text ∷ [])
-set_more keys more key texts text is inserted before x =
-    ap (λ (ks : List (Vec ℕ)). has ks x) inserted ∙ by (has keys (bytes_of key)) refl ∙ ap (λ (b : Bool). b || bytes_eq x (bytes_of key)) (before x)
-    ∙ ap (λ (t : List ℕ). list_any (bytes_eq x) texts || bytes_eq x t) is
-    ∙ ap (λ (b : Bool). list_any (bytes_eq x) texts || b) (sym (or_false (bytes_eq x text))) ∙ sym (list_any-append (bytes_eq x) texts (text ∷ []))
+  there : (b : Bool) (e : Vec ℕ × X) (es : List (Vec ℕ × X)) → bytes_eq x (bytes_of e.0) ≡ b → bytes_eq (bytes_of k) (bytes_of e.0) ≡ false
+      → found (insert_entry same_vec es k v) x ≡ cond (bytes_eq x (bytes_of k)) (Some v) (found es x)
+      → cond b (Some e.1) (found (insert_entry same_vec es k v) x) ≡ cond (bytes_eq x (bytes_of k)) (Some v) (cond b (Some e.1) (found es x))
+  there true e es g h rest =
+      let same = (bytes_eq-Decides x (bytes_of e.0)).0 g in
+      let not_k : bytes_eq x (bytes_of k) ≡ false = ap (λ (w : List ℕ). bytes_eq w (bytes_of k)) same ∙ same_either_way (bytes_of e.0) (bytes_of k) ∙ h in
+      sym (ap (λ (b : Bool). cond b (Some v) (Some e.1)) not_k)
+  there false e es g h rest = rest
+
+  by : (b : Bool) (e : Vec ℕ × X) (es : List (Vec ℕ × X)) → bytes_eq (bytes_of k) (bytes_of e.0) ≡ b
+      → found (insert_entry same_vec es k v) x ≡ cond (bytes_eq x (bytes_of k)) (Some v) (found es x)
+      → found (cond b ((e.0, v) ∷ es) (e ∷ insert_entry same_vec es k v)) x ≡ cond (bytes_eq x (bytes_of k)) (Some v) (found (e ∷ es) x)
+  by true e es h rest =
+      let same = (bytes_eq-Decides (bytes_of k) (bytes_of e.0)).0 h in
+      here (bytes_eq x (bytes_of e.0)) e.1 (found es x) ∙ ap (λ (w : List ℕ). cond (bytes_eq x w) (Some v) (found (e ∷ es) x)) (sym same)
+  by false e es h rest = there (bytes_eq x (bytes_of e.0)) e es refl h rest
+
+  -- once the pair is inserted
+  pub found_insert : (es : List (Vec ℕ × X)) → found (insert_entry same_vec es k v) x ≡ cond (bytes_eq x (bytes_of k)) (Some v) (found es x)
+  found_insert [] = refl
+  found_insert (e ∷ es) = by (bytes_eq (bytes_of k) (bytes_of e.0)) e es refl (found_insert es)
+
+-- ---- the texts of a list
+
+abbrev is_text : List ℕ → PlainEntry → Bool
+is_text x e = bytes_eq x e.counted
+
+-- what is known of a text, where it is so of those that lines have
+abbrev mark_by : List PlainEntry → (List ℕ → Bool) → List ℕ → Option Bool
+mark_by list m x = cond (list_any (is_text x) list) (Some (m x)) None
+
+abbrev told_as : List PlainTold → List ℕ → Bool
+told_as told x = list_any (λ t. accepts t.words (entry_with x)) told
+
+has_mark : (list : List PlainEntry) (m : List ℕ → Bool) (x : List ℕ) → is_some (mark_by list m x) ≡ list_any (is_text x) list
+has_mark list m x = by (list_any (is_text x) list)
   where
-    kept : (b : Bool) → bytes_eq x (bytes_of key) ≡ b → has keys (bytes_of key) ≡ true → has keys x ≡ (has keys x || bytes_eq x (bytes_of key))
-    kept true e inside = let here = found x (bytes_of key) keys inside e in here ∙ sym (ap (λ (b : Bool). b || bytes_eq x (bytes_of key)) here)
-    kept false e inside = sym (ap (λ (b : Bool). has keys x || b) e ∙ or_false (has keys x))
-
-    by : (b : Bool) → has keys (bytes_of key) ≡ b → has (insert_key same_vec keys key) x ≡ (has keys x || bytes_eq x (bytes_of key))
-    by true e = ap (λ (b : Bool). has (cond b keys (keys ++ key ∷ [])) x) e ∙ kept (bytes_eq x (bytes_of key)) refl e
-    by false e =
-        ap (λ (b : Bool). has (cond b keys (keys ++ key ∷ [])) x) e ∙ list_any-append (λ (k : Vec ℕ). bytes_eq x (bytes_of k)) keys (key ∷ [])
-        ∙ ap (λ (b : Bool). has keys x || b) (or_false (bytes_eq x (bytes_of key)))
-
--- ---- the texts of lists and answers
-
-pub entry_more : (list : List Entry) (i : ℕ) (e : Entry) → i < length list → entry_texts (take (i + 1) list) ≡ entry_texts (take i list) ++ (get_or list i e).counted.items ∷ []
-entry_more list i e less =
-    let text = λ (x : Entry). x.counted.items in
-    ap (map text) (take_more list i e less) ∙ map-append text (take i list) (get_or list i e ∷ [])
-
-texts_append : (xs ys : List Told) → told_texts (xs ++ ys) ≡ told_texts xs ++ told_texts ys
-texts_append [] ys = refl
-texts_append (x ∷ xs) ys = ap (λ (ts : List (List ℕ)). counted (string_bytes x.words) ∷ anywhere (string_bytes x.words) ∷ ts) (texts_append xs ys)
-
-told_append : (xs : List Told) (t : Told) → told_texts (xs ++ t ∷ []) ≡ (told_texts xs ++ counted (string_bytes t.words) ∷ []) ++ anywhere (string_bytes t.words) ∷ []
-told_append [] t = refl
-told_append (x ∷ xs) t =
-    ap (λ (ts : List (List ℕ)). counted (string_bytes x.words) ∷ anywhere (string_bytes x.words) ∷ ts) (told_append xs t)
-
-pub told_more : (told : List Told) (i : ℕ) (t : Told) → i < length told
-    → told_texts (take (i + 1) told) ≡ (told_texts (take i told) ++ counted (string_bytes (get_or told i t).words) ∷ []) ++ anywhere (string_bytes (get_or told i t).words) ∷ []
-told_more told i t less = ap told_texts (take_more told i t less) ∙ told_append (take i told) (get_or told i t)
-
--- the same behind texts that were there before
-pub told_behind : (before : List (List ℕ)) (told : List Told) (i : ℕ) (t : Told) → i < length told
-    → before ++ told_texts (take (i + 1) told)
-    ≡ ((before ++ told_texts (take i told)) ++ counted (string_bytes (get_or told i t).words) ∷ []) ++ anywhere (string_bytes (get_or told i t).words) ∷ []
-told_behind before told i t less =
-    let own = counted (string_bytes (get_or told i t).words) ∷ [] in
-    let any = anywhere (string_bytes (get_or told i t).words) ∷ [] in
-    ap (λ (ts : List (List ℕ)). before ++ ts) (told_more told i t less) ∙ sym (append_assoc before (told_texts (take i told) ++ own) any)
-    ∙ ap (λ (ts : List (List ℕ)). ts ++ any) (sym (append_assoc before (told_texts (take i told)) own))
-
--- ---- what look-ups tell
-
-any_either : (a b : List ℕ) (list : List Entry)
-    → (list_any (bytes_eq a) (entry_texts list) || list_any (bytes_eq b) (entry_texts list)) ≡ list_any (λ (e : PlainEntry). bytes_eq a e.counted || bytes_eq b e.counted) (map plain_entry list)
-any_either a b [] = refl
-any_either a b (e ∷ list) =
-    swapped (bytes_eq a e.counted.items) (list_any (bytes_eq a) (entry_texts list)) (bytes_eq b e.counted.items) (list_any (bytes_eq b) (entry_texts list))
-    ∙ ap (λ (r : Bool). (bytes_eq a e.counted.items || bytes_eq b e.counted.items) || r) (any_either a b list)
-
--- a line is accepted where the texts of the list have one of its two
-pub accepted_by : (keys : List (Vec ℕ)) (list : List Entry) (t : Told) → HasTexts keys (entry_texts list)
-    → (has keys (counted (string_bytes t.words)) || has keys (anywhere (string_bytes t.words))) ≡ is_accepted (map plain_entry list) (plain_told t)
-accepted_by keys list t holds =
-    let a = counted (string_bytes t.words) in
-    let b = anywhere (string_bytes t.words) in
-    ap (λ (r : Bool). r || has keys b) (holds a) ∙ ap (λ (r : Bool). list_any (bytes_eq a) (entry_texts list) || r) (holds b) ∙ any_either a b list
-
-any_told : (e : PlainEntry) (told : List Told) → list_any (bytes_eq e.counted) (told_texts told) ≡ list_any (λ (t : PlainTold). accepts t.words e) (map plain_told told)
-any_told e [] = refl
-any_told e (t ∷ told) =
-    let a = counted (string_bytes t.words) in
-    let b = anywhere (string_bytes t.words) in
-    regrouped (bytes_eq e.counted a) (bytes_eq e.counted b) (list_any (bytes_eq e.counted) (told_texts told))
-    ∙ ap (λ (r : Bool). (r || bytes_eq e.counted b) || list_any (bytes_eq e.counted) (told_texts told)) (same_either_way e.counted a)
-    ∙ ap (λ (r : Bool). (bytes_eq a e.counted || r) || list_any (bytes_eq e.counted) (told_texts told)) (same_either_way e.counted b)
-    ∙ ap (λ (r : Bool). (bytes_eq a e.counted || bytes_eq b e.counted) || r) (any_told e told)
-
--- a line of the list is stale where the texts of the lines don't have its own
-pub stale_by : (keys : List (Vec ℕ)) (told others : List Told) (e : Entry) → HasTexts keys (told_texts told ++ told_texts others)
-    → not (has keys e.counted.items) ≡ is_stale (map plain_told told ++ map plain_told others) (plain_entry e)
-stale_by keys told others e holds =
-    let all : told_texts told ++ told_texts others ≡ told_texts (told ++ others) = sym (texts_append told others) in
-    ap not (holds e.counted.items ∙ ap (list_any (bytes_eq e.counted.items)) all ∙ any_told (plain_entry e) (told ++ others))
-    ∙ ap (λ (ts : List PlainTold). is_stale ts (plain_entry e)) (map-append plain_told told others)
-
--- nothing was in the set before
-pub no_texts : HasTexts [] []
-no_texts x = refl
-
--- ---- one more
-
-pub left_more : (list : List PlainEntry) (told : List Told) (i : ℕ) (t : Told) (known : Bool) → i < length told → t ≡ get_or told i t → known ≡ is_accepted list (plain_told t)
-    → left_of list (map plain_told (take (i + 1) told)) ≡ left_of list (map plain_told (take i told)) ++ cond known [] (plain_told t ∷ [])
-left_more list told i t known less is test =
-    let keeps = λ (x : PlainTold). not (is_accepted list x) in
-    ap (left_of list) (ap (map plain_told) (take_more told i t less) ∙ map-append plain_told (take i told) (get_or told i t ∷ []))
-    ∙ filter-append keeps (map plain_told (take i told)) (plain_told (get_or told i t) ∷ [])
-    ∙ ap (λ (x : Told). left_of list (map plain_told (take i told)) ++ left_of list (plain_told x ∷ [])) (sym is)
-    ∙ ap (λ (c : Bool). left_of list (map plain_told (take i told)) ++ cond (not c) (plain_told t ∷ []) []) (sym test)
-    ∙ ap (λ (xs : List PlainTold). left_of list (map plain_told (take i told)) ++ xs) (turned known (plain_told t ∷ []))
-  where
-    turned : (c : Bool) (xs : List PlainTold) → cond (not c) xs [] ≡ cond c [] xs
-    turned true xs = refl
-    turned false xs = refl
-
-pub pushed_told : (old new : List (Bor Told)) (t : Bor Told) (known : Bool) → new ≡ old ++ cond known [] (t ∷ [])
-    → map (λ (x : Bor Told). plain_told x.now) new ≡ map (λ (x : Bor Told). plain_told x.now) old ++ cond known [] (plain_told t.now ∷ [])
-pushed_told old new t known pushed =
-    let text = λ (x : Bor Told). plain_told x.now in
-    ap (map text) pushed ∙ map-append text old (cond known [] (t ∷ [])) ∙ ap (λ (xs : List PlainTold). map text old ++ xs) (by known)
-  where
-    by : (b : Bool) → map (λ (x : Bor Told). plain_told x.now) (cond b [] (t ∷ [])) ≡ cond b [] (plain_told t.now ∷ [])
+    by : (b : Bool) → is_some (cond b (Some (m x)) None) ≡ b
     by true = refl
     by false = refl
 
-pub stale_more : (told : List PlainTold) (list : List Entry) (i : ℕ) (e : Entry) (known : Bool) → i < length list → e ≡ get_or list i e → not known ≡ is_stale told (plain_entry e)
-    → stale_lines (map plain_entry (take (i + 1) list)) told ≡ stale_lines (map plain_entry (take i list)) told ++ cond known [] (e.line ∷ [])
-stale_more told list i e known less is test =
+-- one line of the list more
+pub texts_more : (list : List Entry) (i : ℕ) (e : Entry) (k : Vec ℕ) (old new : List (Vec ℕ × Bool)) → i < length list → e ≡ get_or list i e → bytes_of k ≡ e.counted.items
+    → new ≡ insert_entry same_vec old k false → ((x : List ℕ) → found old x ≡ mark (map plain_entry (take i list)) [] x)
+    → (x : List ℕ) → found new x ≡ mark (map plain_entry (take (i + 1) list)) [] x
+texts_more list i e k old new less is text inserted before x =
+    let front = map plain_entry (take i list) in
+    let taken = ap (map plain_entry) (take_more list i e less ∙ ap (λ (y : Entry). take i list ++ y ∷ []) (sym is)) ∙ map-append plain_entry (take i list) (e ∷ []) in
+    ap (λ (es : List (Vec ℕ × Bool)). found es x) inserted ∙ found_insert k false x old
+    ∙ (λ j. cond (bytes_eq x (text j)) (Some false) (before x j)) ∙ by (bytes_eq x e.counted.items) (list_any (is_text x) front)
+    ∙ ap (λ (b : Bool). cond b (Some false) None) (sym (list_any-append (is_text x) front (plain_entry e ∷ [])))
+    ∙ ap (λ (es : List PlainEntry). mark es [] x) (sym taken)
+  where
+    by : (a b : Bool) → cond a (Some false) (cond b (Some false) None) ≡ cond (b || (a || false)) (Some false) None
+    by true true = refl
+    by true false = refl
+    by false true = refl
+    by false false = refl
+
+-- ---- a line that comes
+
+module _ (list : List PlainEntry) (m : List ℕ → Bool) (old new : List (Vec ℕ × Bool)) (text : List ℕ) where
+  abbrev also : List ℕ → Bool
+  also x = m x || bytes_eq x text
+
+  -- a text is marked, if it is there
+  text_marked : ((x : List ℕ) → found old x ≡ mark_by list m x) → ((x : List ℕ) → found new x ≡ cond (has old text && bytes_eq x text) (Some true) (found old x))
+      → (x : List ℕ) → found new x ≡ mark_by list also x
+  text_marked before made x =
+      made x ∙ (λ j. cond (is_some (before text j) && bytes_eq x text) (Some true) (before x j))
+      ∙ ap (λ (b : Bool). cond (b && bytes_eq x text) (Some true) (mark_by list m x)) (has_mark list m text) ∙ by (bytes_eq x text) refl
+    where
+      marked : (b c : Bool) → cond b (Some true) (cond b (Some c) None) ≡ cond b (Some (c || true)) None
+      marked true c = ap (λ (d : Bool). Some d) (sym (or_true c))
+      marked false c = refl
+
+      by : (b : Bool) → bytes_eq x text ≡ b → cond (list_any (is_text text) list && b) (Some true) (mark_by list m x) ≡ cond (list_any (is_text x) list) (Some (m x || b)) None
+      by true e =
+          let same = (bytes_eq-Decides x text).0 e in
+          ap (λ (b : Bool). cond b (Some true) (mark_by list m x)) (and_true (list_any (is_text text) list) ∙ ap (λ (t : List ℕ). list_any (is_text t) list) (sym same))
+          ∙ marked (list_any (is_text x) list) (m x)
+      by false e =
+          ap (λ (b : Bool). cond b (Some true) (mark_by list m x)) (and_false (list_any (is_text text) list))
+          ∙ ap (λ (b : Bool). cond (list_any (is_text x) list) (Some b) None) (sym (or_false (m x)))
+
+regrouped : (a b c : Bool) → ((a || b) || c) ≡ (a || ((b || c) || false))
+regrouped true b c = refl
+regrouped false true c = refl
+regrouped false false true = refl
+regrouped false false false = refl
+
+-- both texts of a line are marked
+pub line_marked : (list : List PlainEntry) (told : List PlainTold) (t : PlainTold) (own any : List ℕ) (old mid new : List (Vec ℕ × Bool)) → own ≡ counted t.words → any ≡ anywhere t.words
+    → ((x : List ℕ) → found old x ≡ mark list told x) → ((x : List ℕ) → found mid x ≡ cond (has old own && bytes_eq x own) (Some true) (found old x))
+    → ((x : List ℕ) → found new x ≡ cond (has mid any && bytes_eq x any) (Some true) (found mid x)) → (x : List ℕ) → found new x ≡ mark list (told ++ t ∷ []) x
+line_marked list told t own any old mid new own_is any_is before first second x =
+    text_marked list (λ y. told_as told y || bytes_eq y own) mid new any (text_marked list (told_as told) old mid own before first) second x
+    ∙ ap (λ (b : Bool). cond (list_any (is_text x) list) (Some b) None) (
+    (λ j. (told_as told x || bytes_eq x (own_is j)) || bytes_eq x (any_is j)) ∙ regrouped (told_as told x) (bytes_eq x (counted t.words)) (bytes_eq x (anywhere t.words))
+    ∙ (λ j. told_as told x || ((same_either_way x (counted t.words) j || same_either_way x (anywhere t.words) j) || false))
+    ∙ sym (list_any-append (λ (s : PlainTold). accepts s.words (entry_with x)) told (t ∷ []))
+    )
+
+-- without a list nothing is known
+pub none_known : (told : List PlainTold) (list : List PlainEntry) (es : List (Vec ℕ × Bool)) (others : List PlainTold) → list ≡ [] → ((x : List ℕ) → found es x ≡ mark list told x)
+    → (x : List ℕ) → found es x ≡ mark list others x
+none_known told list es others none before x = before x ∙ ap (λ (l : List PlainEntry). mark l told x) none ∙ ap (λ (l : List PlainEntry). mark l others x) (sym none)
+
+any_either : (a b : List ℕ) (list : List PlainEntry) → (list_any (is_text a) list || list_any (is_text b) list) ≡ list_any (λ (e : PlainEntry). bytes_eq a e.counted || bytes_eq b e.counted) list
+any_either a b [] = refl
+any_either a b (e ∷ list) =
+    swapped (bytes_eq a e.counted) (list_any (is_text a) list) (bytes_eq b e.counted) (list_any (is_text b) list) ∙ ap (λ (r : Bool). (bytes_eq a e.counted || bytes_eq b e.counted) || r) (any_either a b list)
+  where
+    swapped : (a b c d : Bool) → ((a || b) || (c || d)) ≡ ((a || c) || (b || d))
+    swapped true b c d = refl
+    swapped false true true d = refl
+    swapped false true false d = refl
+    swapped false false c d = refl
+
+-- a line is accepted where the list has one of its two texts
+pub accepted_by : (list : List PlainEntry) (told : List PlainTold) (words own any : List ℕ) (old mid : List (Vec ℕ × Bool)) (first second known : Bool) → own ≡ counted words → any ≡ anywhere words
+    → ((x : List ℕ) → found old x ≡ mark list told x) → ((x : List ℕ) → found mid x ≡ cond (has old own && bytes_eq x own) (Some true) (found old x))
+    → first ≡ has old own → second ≡ has mid any → known ≡ (first || second) → known ≡ list_any (accepts words) list
+accepted_by list told words own any old mid first second known own_is any_is before marked is_first is_second is =
+    let one = is_first ∙ ap is_some (before own) ∙ has_mark list (told_as told) own in
+    let two = is_second ∙ ap is_some (text_marked list (told_as told) old mid own before marked any) ∙ has_mark list (λ y. told_as told y || bytes_eq y own) any in
+    is ∙ (λ j. (one j || two j)) ∙ any_either own any list ∙ (λ j. list_any (λ (e : PlainEntry). bytes_eq (own_is j) e.counted || bytes_eq (any_is j) e.counted) list)
+
+-- ---- lines that accept nothing
+
+-- each line of a list is one of it
+each_in : (front list : List PlainEntry) → AllByRecursion (λ e. list_any (is_text e.counted) (front ++ list) ≡ true) list
+each_in front [] = tt
+each_in front (e ∷ list) = (
+  list_any-append (is_text e.counted) front (e ∷ list)
+      ∙ ap (λ (b : Bool). list_any (is_text e.counted) front || (b || list_any (is_text e.counted) list)) ((bytes_eq-Decides e.counted e.counted).1 refl)
+      ∙ or_true (list_any (is_text e.counted) front),
+  subst (λ (l : List PlainEntry). AllByRecursion (λ x. list_any (is_text x.counted) l ≡ true) list) (append_assoc front (e ∷ []) list) (each_in (front ++ e ∷ []) list),
+)
+
+unmarked_stale : (all list : List PlainEntry) (told : List PlainTold) (es : List (Vec ℕ × Bool)) → ((x : List ℕ) → found es x ≡ mark all told x)
+    → AllByRecursion (λ e. list_any (is_text e.counted) all ≡ true) list → unmarked_lines es list ≡ stale_lines list told
+unmarked_stale all [] told es marks inside = refl
+unmarked_stale all (e ∷ list) told es marks (here, inside) =
+    let known : unwrap_or (found es e.counted) false ≡ told_as told e.counted =
+    ap (λ (o : Option Bool). unwrap_or o false) (marks e.counted ∙ ap (λ (b : Bool). cond b (Some (told_as told e.counted)) None) here) in
+    ap (λ (b : Bool). map (λ (x : PlainEntry). x.line) (cond (not b) (e ∷ filter (λ (x : PlainEntry). not (unwrap_or (found es x.counted) false)) list) (filter (λ (x : PlainEntry). not (unwrap_or (found es x.counted) false)) list))) known
+    ∙ by (not (told_as told e.counted)) (unmarked_stale all list told es marks inside)
+  where
+    by : (b : Bool) → unmarked_lines es list ≡ stale_lines list told
+        → map (λ (x : PlainEntry). x.line) (cond b (e ∷ filter (λ (x : PlainEntry). not (unwrap_or (found es x.counted) false)) list) (filter (λ (x : PlainEntry). not (unwrap_or (found es x.counted) false)) list))
+        ≡ map (λ (x : PlainEntry). x.line) (cond b (e ∷ filter (is_stale told) list) (filter (is_stale told) list))
+    by true rest = ap (λ (ls : List ℕ). e.line ∷ ls) rest
+    by false rest = rest
+
+pub stale_by : (accepting : Accepting) (list : List PlainEntry) (told : List PlainTold) (lines : List ℕ) → lines ≡ unmarked_lines accepting.texts.entries (map plain_entry accepting.list.now)
+    → HasSeen accepting list told → lines ≡ stale_lines list told
+stale_by accepting list told lines is seen =
+    is ∙ ap (unmarked_lines accepting.texts.entries) seen.list_is ∙ unmarked_stale list list told accepting.texts.entries seen.marks_are (each_in [] list)
+
+-- one line of the list more
+pub unmarked_more : (es : List (Vec ℕ × Bool)) (list : List Entry) (i : ℕ) (e : Entry) (known : Bool) → i < length list → e ≡ get_or list i e → known ≡ unwrap_or (found es e.counted.items) false
+    → unmarked_lines es (map plain_entry (take (i + 1) list)) ≡ unmarked_lines es (map plain_entry (take i list)) ++ cond known [] (e.line ∷ [])
+unmarked_more es list i e known less is test =
     let line = λ (x : PlainEntry). x.line in
-    ap (λ (es : List PlainEntry). stale_lines es told) (ap (map plain_entry) (take_more list i e less) ∙ map-append plain_entry (take i list) (get_or list i e ∷ []))
-    ∙ ap (map line) (filter-append (is_stale told) (map plain_entry (take i list)) (plain_entry (get_or list i e) ∷ []))
-    ∙ map-append line (filter (is_stale told) (map plain_entry (take i list))) (filter (is_stale told) (plain_entry (get_or list i e) ∷ []))
-    ∙ ap (λ (x : Entry). stale_lines (map plain_entry (take i list)) told ++ stale_lines (plain_entry x ∷ []) told) (sym is)
-    ∙ ap (λ (c : Bool). stale_lines (map plain_entry (take i list)) told ++ map line (cond c (plain_entry e ∷ []) [])) (sym test)
-    ∙ ap (λ (ls : List ℕ). stale_lines (map plain_entry (take i list)) told ++ ls) (lines known)
+    let keeps = λ (x : PlainEntry). not (unwrap_or (found es x.counted) false) in
+    ap (unmarked_lines es) (ap (map plain_entry) (take_more list i e less) ∙ map-append plain_entry (take i list) (get_or list i e ∷ []))
+    ∙ ap (map line) (filter-append keeps (map plain_entry (take i list)) (plain_entry (get_or list i e) ∷ []))
+    ∙ map-append line (filter keeps (map plain_entry (take i list))) (filter keeps (plain_entry (get_or list i e) ∷ []))
+    ∙ ap (λ (x : Entry). unmarked_lines es (map plain_entry (take i list)) ++ unmarked_lines es (plain_entry x ∷ [])) (sym is)
+    ∙ ap (λ (c : Bool). unmarked_lines es (map plain_entry (take i list)) ++ map line (cond (not c) (plain_entry e ∷ []) [])) (sym test)
+    ∙ ap (λ (ls : List ℕ). unmarked_lines es (map plain_entry (take i list)) ++ ls) (lines known)
   where
     lines : (b : Bool) → map (λ (y : PlainEntry). y.line) (cond (not b) (plain_entry e ∷ []) []) ≡ cond b [] (e.line ∷ [])
     lines true = refl
     lines false = refl
 
--- two look-ups, of which the first finds nothing
-pub second_test : (first second a b : Bool) → first ≡ a → first ≡ false → second ≡ b → second ≡ (a || b)
-second_test first second a b e f g = g ∙ ap (λ (c : Bool). c || b) (sym f ∙ e)
+-- ---- the order in which lines come
+
+-- lines may come behind those of the first list
+pub seen_between : (accepting : Accepting) (list : List PlainEntry) (told others : List PlainTold) (t : PlainTold) → HasSeen accepting list ((told ++ others) ++ t ∷ [])
+    → HasSeen accepting list ((told ++ t ∷ []) ++ others)
+seen_between accepting list told others t seen =
+    record { list_is = seen.list_is; marks_are = λ x. seen.marks_are x ∙ ap (λ (b : Bool). cond (list_any (is_text x) list) (Some b) None) (same x) }
+  where
+    moved : (a b c : Bool) → ((a || b) || c) ≡ ((a || c) || b)
+    moved true b c = refl
+    moved false true true = refl
+    moved false true false = refl
+    moved false false true = refl
+    moved false false false = refl
+
+    same : (x : List ℕ) → told_as ((told ++ others) ++ t ∷ []) x ≡ told_as ((told ++ t ∷ []) ++ others) x
+    same x =
+        let test = λ (s : PlainTold). accepts s.words (entry_with x) in
+        list_any-append test (told ++ others) (t ∷ []) ∙ ap (λ (b : Bool). b || list_any test (t ∷ [])) (list_any-append test told others)
+        ∙ moved (list_any test told) (list_any test others) (list_any test (t ∷ []))
+        ∙ sym (list_any-append test (told ++ t ∷ []) others ∙ ap (λ (b : Bool). b || list_any test others) (list_any-append test told (t ∷ [])))
+
+-- and behind all
+pub seen_behind : (accepting : Accepting) (list : List PlainEntry) (told others : List PlainTold) (t : PlainTold) → HasSeen accepting list ((told ++ others) ++ t ∷ [])
+    → HasSeen accepting list (told ++ (others ++ t ∷ []))
+seen_behind accepting list told others t seen = subst (HasSeen accepting list) (append_assoc told others (t ∷ [])) seen

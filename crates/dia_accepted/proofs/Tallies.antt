@@ -1,17 +1,16 @@
 -- Lines of which each cause is kept once, and how often causes were counted.
-use Rattle.std.proofs.Common.{◌≡◌, ℕ, ◌+◌, ◌<◌, Bool, true, false, cond, List, [], ◌∷◌, ◌++◌, map, take, get_or, length, string_bytes, Bor, Result, Ok, Err, refl, sym, ap, subst, ◌∙◌, append_assoc, arith}
+use Rattle.std.proofs.Common.{◌≡◌, ℕ, ◌+◌, ◌-◌, ◌^◌, ◌<◌, ◌≤◌, Bool, true, false, cond, List, [], ◌∷◌, ◌++◌, map, take, get_or, length, string_bytes, Bor, Result, Ok, Err, refl, sym, ap, subst, ◌∙◌, append_assoc, arith, inl, inr}
 use Rattle.std.specs.declared.string.String.{String}
-use Rattle.std.specs.Prelude.{◌≢◌, ◌==◌, ◌&&◌, ◌||◌, IfOk, drop, filter, nat_eq, not, Some, None, Option, unwrap_or}
+use Rattle.std.specs.Prelude.{◌≢◌, ◌==◌, ◌⊎◌, ◌&&◌, ◌||◌, IfOk, drop, filter, is_some, nat_eq, not, Some, None, Option, unwrap_or}
 use Rattle.std.specs.Cmp.{IsEquivalence}
 use Rattle.std.specs.List.{count_by, list_any}
 use Rattle.std.specs.Global.{Vec}
-use Rattle.std.specs.Map.{lookup}
 use Rattle.std.specs.Option.{MatchOption}
 use Rattle.std.specs.Str.{bytes_eq}
 use Rattle.std.specs.Str.Pattern.{FindsCharPrefix}
 use Rattle.std.proofs.lemmas.Bool.{eqb-true}
 use Rattle.std.proofs.lemmas.Cmp.{nat_eq_equiv, nat_list_eq_equiv}
-use Rattle.std.proofs.lemmas.List.{map-append, take_more}
+use Rattle.std.proofs.lemmas.List.{append-nil, map-append, take_more}
 use Rattle.std.proofs.lemmas.List.Elements.{filter-append}
 use Rattle.std.proofs.lemmas.List.Folds.{list_any-append}
 use Rattle.std.proofs.lemmas.List.Sums.{sum_by_push}
@@ -20,15 +19,14 @@ use Rattle.std.proofs.lemmas.Slice.Eq.{bytes_eq-Decides}
 use Rattle.std.proofs.lemmas.Str.Pattern.{strip_prefix_char}
 use Rattle.indexmap.specs.IndexMap.{insert_entry}
 use Rattle.indexmap.specs.IndexSet.{insert_key}
+use Rattle.dia_accepted.specs.declared.counting.Causes.{Causes}
 use Rattle.dia_accepted.specs.declared.told.Told.{Told}
 use Rattle.dia_accepted.specs.Accepted.{PlainTold, plain_told}
 use Rattle.dia_accepted.specs.Causes.{causes_of, each_once, has_cause, once_line, once_of, same_cause, same_cause_of_command}
-use Rattle.dia_accepted.specs.Sets.{tally}
+use Rattle.dia_accepted.specs.Seen.{AreCauses, HaveCome, IsKeyOf, is_command, is_of, next_count, same_key}
+use Rattle.dia_accepted.specs.Sets.{bytes_of, found, has, tally}
 use Rattle.dia_accepted.specs.Words.{behind_space, cause_text}
-use Rattle.dia_accepted.proofs.Sets.{or_false, or_true, pushed_told, same_either_way}
-
-abbrev pub text : Bor Told → PlainTold
-text t = plain_told t.now
+use Rattle.dia_accepted.proofs.Sets.{found_insert, or_false, or_true, same_vec}
 
 -- ---- tests
 
@@ -43,8 +41,11 @@ not_twice : (b : Bool) → not (not b) ≡ b
 not_twice true = refl
 not_twice false = refl
 
-cause_in : PlainTold → List ℕ
-cause_in t = cause_text t.words
+either_way : (a b : Bool) → (a || b) ≡ (b || a)
+either_way true true = refl
+either_way true false = refl
+either_way false true = refl
+either_way false false = refl
 
 pub cause_laws : IsEquivalence same_cause
 cause_laws = record {
@@ -102,41 +103,8 @@ module _ {K : Type 0} {eq : K → K → Bool} {same : PlainTold → PlainTold �
           ap (λ (b : Bool). list_any (eq j) (cond b keys (keys ++ k ∷ []))) e ∙ list_any-append (eq j) keys (k ∷ [])
           ∙ (λ i. (before j y is_y i || (alike j k y x is_y made i || false)))
 
-  -- these are the first lines of the lines so far, and the keys are those of them
-  abbrev pub AreFirsts : List (Bor Told) → List K → List (Bor Told) → Type 0
-  AreFirsts told keys firsts = (map text firsts ≡ each_once same (map text told)) × AreKeys keys (map text told)
-
-  pub first_more : (told : List (Bor Told)) (i : ℕ) (t : Bor Told) (k : K) (keys more : List K) (old new : List (Bor Told)) (is_new : Bool) → i < length told → t ≡ get_or told i t
-      → is_key k (text t) → more ≡ insert_key eq keys k → is_new ≡ not (list_any (eq k) keys) → new ≡ old ++ cond (not is_new) [] (t ∷ []) → AreFirsts (take i told) keys old
-      → AreFirsts (take (i + 1) told) more new
-  first_more told i t k keys more old new is_new less is made inserted asked pushed before =
-      let xs = map text (take i told) in
-      let taken = ap (map text) (take_more told i t less) ∙ map-append text (take i told) (get_or told i t ∷ []) ∙ ap (λ (x : Bor Told). xs ++ text x ∷ []) (sym is) in
-      let known = ap not asked ∙ not_twice (list_any (eq k) keys) ∙ before.1 k (text t) made in
-      let keys_are = subst (λ (ks : List K). AreKeys ks (xs ++ text t ∷ [])) (sym inserted) (key_more keys k xs (text t) made before.1) in (
-        pushed_told old new t (not is_new) pushed ∙ ap (λ (ts : List PlainTold). ts ++ cond (not is_new) [] (text t ∷ [])) before.0
-            ∙ ap (λ (b : Bool). each_once same xs ++ cond b [] (text t ∷ [])) known ∙ sym (once_more laws xs (text t)) ∙ ap (each_once same) (sym taken),
-        subst (AreKeys more) (sym taken) keys_are,
-      )
-
--- the keys of causes, and of causes in commands
-abbrev pub same_text : Bor (List ℕ) → Bor (List ℕ) → Bool
-same_text a b = bytes_eq a.now b.now
-
-abbrev pub IsCause : Bor (List ℕ) → PlainTold → Type 0
-IsCause key t = key.now ≡ cause_text t.words
-
-pub causes_alike : (k j : Bor (List ℕ)) (x y : PlainTold) → IsCause k x → IsCause j y → same_text k j ≡ same_cause x y
-causes_alike k j x y e f = λ i. bytes_eq (e i) (f i)
-
-abbrev pub same_pair : ℕ × Bor (List ℕ) → ℕ × Bor (List ℕ) → Bool
-same_pair a b = nat_eq a.0 b.0 && bytes_eq a.1.now b.1.now
-
-abbrev pub IsCauseOfCommand : ℕ × Bor (List ℕ) → PlainTold → Type 0
-IsCauseOfCommand key t = (key.0 ≡ t.command) × (key.1.now ≡ cause_text t.words)
-
-pub pairs_alike : (k j : ℕ × Bor (List ℕ)) (x y : PlainTold) → IsCauseOfCommand k x → IsCauseOfCommand j y → same_pair k j ≡ same_cause_of_command x y
-pairs_alike k j x y e f = λ i. (nat_eq (e.0 i) (f.0 i) && bytes_eq (e.1 i) (f.1 i))
+pub keys_alike : (k j : ℕ × Vec ℕ) (x y : PlainTold) → IsKeyOf k x → IsKeyOf j y → same_key k j ≡ same_cause_of_command x y
+keys_alike k j x y e f = λ i. (nat_eq (e.0 i) (f.0 i) && bytes_eq (e.1 i) (f.1 i))
 
 -- ---- counts
 
@@ -147,82 +115,283 @@ count_more p xs x = sum_by_push (λ y. cond (p y) 1 0) xs x ∙ by (p x) (count_
     by true n = refl
     by false n = omega arith
 
--- the map has for each text how many of the lines have it as cause
-abbrev pub Tallies : List (Bor (List ℕ) × ℕ) → List PlainTold → Type 0
-Tallies entries told = (cause : List ℕ) → tally entries cause ≡ count_by (has_cause cause) told
-
-tally_insert : (es : List (Bor (List ℕ) × ℕ)) (k : Bor (List ℕ)) (v : ℕ) (x : List ℕ) → tally (insert_entry same_text es k v) x ≡ cond (bytes_eq x k.now) v (tally es x)
-tally_insert [] k v x = by (bytes_eq x k.now)
+-- an empty map has nothing
+pub has_insert : (es new : List (Vec ℕ × ℕ)) (k : Vec ℕ) (v : ℕ) (cause x : List ℕ) → bytes_of k ≡ cause → new ≡ insert_entry same_vec es k v → has new x ≡ (bytes_eq x cause || has es x)
+has_insert es new k v cause x is inserted =
+    ap (λ (o : List (Vec ℕ × ℕ)). has o x) inserted ∙ ap is_some (found_insert k v x es) ∙ by (bytes_eq x (bytes_of k)) (found es x) ∙ ap (λ (c : List ℕ). bytes_eq x c || has es x) is
   where
-    by : (b : Bool) → unwrap_or (cond b (Some v) None) 0 ≡ cond b v 0
+    by : (b : Bool) (o : Option ℕ) → is_some (cond b (Some v) o) ≡ (b || is_some o)
+    by true o = refl
+    by false o = refl
+
+pub tally_insert : (es new : List (Vec ℕ × ℕ)) (k : Vec ℕ) (v : ℕ) (cause x : List ℕ) → bytes_of k ≡ cause → new ≡ insert_entry same_vec es k v → tally new x ≡ cond (bytes_eq x cause) v (tally es x)
+tally_insert es new k v cause x is inserted =
+    ap (λ (o : List (Vec ℕ × ℕ)). tally o x) inserted ∙ ap (λ (o : Option ℕ). unwrap_or o 0) (found_insert k v x es) ∙ by (bytes_eq x (bytes_of k)) (found es x)
+    ∙ ap (λ (c : List ℕ). cond (bytes_eq x c) v (tally es x)) is
+  where
+    by : (b : Bool) (o : Option ℕ) → unwrap_or (cond b (Some v) o) 0 ≡ cond b v (unwrap_or o 0)
+    by true o = refl
+    by false o = refl
+
+-- ---- a line that comes
+
+-- where no line of the command came before
+none_of_command : (done : List PlainTold) (t : PlainTold) → list_any (is_command t.command) done ≡ false → list_any (same_cause_of_command t) done ≡ false
+none_of_command [] t none = refl
+none_of_command (s ∷ done) t none =
+    by (nat_eq t.command s.command) none (none_of_command done t)
+  where
+    by : (b : Bool) → (b || list_any (is_command t.command) done) ≡ false → (list_any (is_command t.command) done ≡ false → list_any (same_cause_of_command t) done ≡ false)
+        → ((b && same_cause t s) || list_any (same_cause_of_command t) done) ≡ false
+    by true e more = absurd (let z : true ≡ false = e in cc)
+    by false e more = more e
+
+small_next : (n visits : ℕ) → n + 1 ≤ visits + 1 → visits < 2 ^ 63 → next_count true n ≡ n + 1
+small_next n visits less small = omega (arith, less, small)
+
+module _ (done own : List PlainTold) (t : PlainTold) (visits : ℕ) (old new : Causes) (key : ℕ × Vec ℕ) (cause : List ℕ) (before : Bool) (cause_is : cause ≡ cause_text t.words)
+    (others : list_any (is_command t.command) done ≡ false) (came : HaveCome old done own t.command visits) (before_is : list_any (same_cause_of_command t) own ≡ before)
+    (counted : (x : List ℕ) → tally new.counts.entries x ≡ cond (bytes_eq x cause) (next_count (not before) (tally old.counts.entries cause)) (tally old.counts.entries x)) where
+  abbrev both : List PlainTold
+  both = done ++ own
+
+  abbrev count : List ℕ → ℕ
+  count x = count_by (has_cause x) (each_once same_cause_of_command both)
+
+  abbrev bound : List ℕ → Type 0
+  bound x = tally new.counts.entries x + cond (list_any (is_of t.command x) (own ++ t ∷ [])) 0 1 ≤ visits + 1
+
+  same_here : (x : List ℕ) → bytes_eq x cause ≡ true → x ≡ cause_text t.words
+  same_here x e = (bytes_eq-Decides x cause).0 e ∙ cause_is
+
+  -- of the cause itself a line of the command has come before or not
+  own_cause : (x : List ℕ) → bytes_eq x cause ≡ true → list_any (is_of t.command x) own ≡ before
+  own_cause x e = ap (λ (c : List ℕ). list_any (is_of t.command c) own) (same_here x e) ∙ before_is
+
+  once_line_more : each_once same_cause_of_command (both ++ t ∷ []) ≡ each_once same_cause_of_command both ++ cond before [] (t ∷ [])
+  once_line_more =
+      once_more command_laws both t
+      ∙ ap (λ (b : Bool). each_once same_cause_of_command both ++ cond b [] (t ∷ [])) (list_any-append (same_cause_of_command t) done own
+      ∙ ap (λ (b : Bool). b || list_any (same_cause_of_command t) own) (none_of_command done t others) ∙ before_is)
+
+  count_here : (x : List ℕ) → count_by (has_cause x) (each_once same_cause_of_command (both ++ t ∷ [])) ≡ cond before (count x) (cond (has_cause x t) (count x + 1) (count x))
+  count_here x = ap (count_by (has_cause x)) once_line_more ∙ by before
+    where
+      by : (b : Bool) → count_by (has_cause x) (each_once same_cause_of_command both ++ cond b [] (t ∷ [])) ≡ cond b (count x) (cond (has_cause x t) (count x + 1) (count x))
+      by true = ap (count_by (has_cause x)) (append-nil (each_once same_cause_of_command both))
+      by false = count_more (has_cause x) (each_once same_cause_of_command both) t
+
+  counts_more : (x : List ℕ) → visits < 2 ^ 63 → tally new.counts.entries x ≡ count_by (has_cause x) (each_once same_cause_of_command (both ++ t ∷ []))
+  counts_more x small = counted x ∙ by (bytes_eq x cause) before refl refl ∙ sym (count_here x)
+    where
+      by : (b c : Bool) → bytes_eq x cause ≡ b → before ≡ c
+          → cond b (next_count (not c) (tally old.counts.entries cause)) (tally old.counts.entries x) ≡ cond c (count x) (cond (has_cause x t) (count x + 1) (count x))
+      by true true e f = ap (tally old.counts.entries) (sym ((bytes_eq-Decides x cause).0 e)) ∙ came.counts_are x
+      by true false e f =
+          let here : bytes_eq x (cause_text t.words) ≡ true = ap (bytes_eq x) (sym cause_is) ∙ e in
+          let bounded = subst (λ (b : Bool). tally old.counts.entries x + cond b 0 1 ≤ visits + 1) (own_cause x e ∙ f) (came.bounded x) in
+          ap (λ (y : List ℕ). next_count true (tally old.counts.entries y)) (sym ((bytes_eq-Decides x cause).0 e)) ∙ small_next (tally old.counts.entries x) visits bounded small
+          ∙ ap (λ (n : ℕ). n + 1) (came.counts_are x) ∙ sym (ap (λ (b : Bool). cond b (count x + 1) (count x)) here)
+      by false true e f = came.counts_are x
+      by false false e f =
+          let here : bytes_eq x (cause_text t.words) ≡ false = ap (bytes_eq x) (sym cause_is) ∙ e in came.counts_are x ∙ sym (ap (λ (b : Bool). cond b (count x + 1) (count x)) here)
+
+  bounded_more : (x : List ℕ) → bound x
+  bounded_more x = by (bytes_eq x cause) before refl refl
+    where
+      at_most : (b : Bool) (n m : ℕ) → n ≤ m → n + cond (b || true) 0 1 ≤ m
+      at_most true n m le = omega (arith, le)
+      at_most false n m le = omega (arith, le)
+
+      below : (b : Bool) (n m : ℕ) → n + cond b 0 1 ≤ m → n ≤ m
+      below true n m le = omega (arith, le)
+      below false n m le = omega (arith, le)
+
+      next_below : (n m : ℕ) → n + 1 ≤ m → next_count true n ≤ m
+      next_below n m le = omega (arith, le)
+
+      behind : (b : Bool) → has_cause x t ≡ b → list_any (is_of t.command x) (own ++ t ∷ []) ≡ (list_any (is_of t.command x) own || b)
+      behind b e =
+          list_any-append (is_of t.command x) own (t ∷ [])
+          ∙ ap (λ (c : Bool). list_any (is_of t.command x) own || ((c && has_cause x t) || false)) (nat_eq_equiv.refl t.command) ∙ ap (λ (c : Bool). list_any (is_of t.command x) own || (c || false)) e
+          ∙ ap (λ (c : Bool). list_any (is_of t.command x) own || c) (or_false b)
+
+      old_bound : (b : Bool) → list_any (is_of t.command x) own ≡ b → tally old.counts.entries x + cond b 0 1 ≤ visits + 1
+      old_bound b e = subst (λ (c : Bool). tally old.counts.entries x + cond c 0 1 ≤ visits + 1) e (came.bounded x)
+
+      with_tally : (n : ℕ) (b : Bool) → tally new.counts.entries x ≡ n → list_any (is_of t.command x) (own ++ t ∷ []) ≡ b → n + cond b 0 1 ≤ visits + 1 → bound x
+      with_tally n b e f le = subst (λ (c : Bool). tally new.counts.entries x + cond c 0 1 ≤ visits + 1) (sym f) (subst (λ (m : ℕ). m + cond b 0 1 ≤ visits + 1) (sym e) le)
+
+      by : (b c : Bool) → bytes_eq x cause ≡ b → before ≡ c → bound x
+      by true true e f =
+          let here : has_cause x t ≡ true = ap (bytes_eq x) (sym cause_is) ∙ e in
+          let is : tally new.counts.entries x ≡ tally old.counts.entries x =
+          counted x ∙ (λ i. cond (e i) (next_count (not (f i)) (tally old.counts.entries cause)) (tally old.counts.entries x)) ∙ ap (tally old.counts.entries) (sym ((bytes_eq-Decides x cause).0 e)) in
+          with_tally (tally old.counts.entries x) (list_any (is_of t.command x) own || true) is (behind true here)
+          (at_most (list_any (is_of t.command x) own) (tally old.counts.entries x) (visits + 1) (below (list_any (is_of t.command x) own) (tally old.counts.entries x) (visits + 1) (came.bounded x)))
+      by true false e f =
+          let here : has_cause x t ≡ true = ap (bytes_eq x) (sym cause_is) ∙ e in
+          let is : tally new.counts.entries x ≡ next_count true (tally old.counts.entries x) =
+          counted x ∙ (λ i. cond (e i) (next_count (not (f i)) (tally old.counts.entries cause)) (tally old.counts.entries x))
+          ∙ ap (λ (y : List ℕ). next_count true (tally old.counts.entries y)) (sym ((bytes_eq-Decides x cause).0 e)) in
+          with_tally (next_count true (tally old.counts.entries x)) (list_any (is_of t.command x) own || true) is (behind true here)
+          (at_most (list_any (is_of t.command x) own) (next_count true (tally old.counts.entries x)) (visits + 1) (next_below (tally old.counts.entries x) (visits + 1) (old_bound false (own_cause x e ∙ f))))
+      by false c e f =
+          let here : has_cause x t ≡ false = ap (bytes_eq x) (sym cause_is) ∙ e in
+          let is : tally new.counts.entries x ≡ tally old.counts.entries x = counted x ∙ ap (λ (b : Bool). cond b (next_count (not before) (tally old.counts.entries cause)) (tally old.counts.entries x)) e in
+          with_tally (tally old.counts.entries x) (list_any (is_of t.command x) own) is (behind false here ∙ or_false (list_any (is_of t.command x) own)) (came.bounded x)
+
+  -- all of it
+  pub come_more : (known : Bool) (first : PlainTold) → IsKeyOf key t → visits < 2 ^ 63 → known ≡ has old.counts.entries cause → first.command ≡ t.command → first.words ≡ t.words
+      → (t.message ≡ first.message) ⊎ (list_any (has_cause cause) both ≡ true) → map plain_told new.firsts.items ≡ map plain_told old.firsts.items ++ cond known [] (first ∷ [])
+      → ((x : List ℕ) → has new.counts.entries x ≡ (bytes_eq x cause || has old.counts.entries x)) → new.own.keys ≡ insert_key same_key old.own.keys key
+      → HaveCome new done (own ++ t ∷ []) t.command visits
+  come_more known first is_key small known_is same_command same_words message pushed has_more inserted =
+      let joined : done ++ (own ++ t ∷ []) ≡ both ++ t ∷ [] = sym (append_assoc done own (t ∷ [])) in
+      let asked : known ≡ list_any (same_cause t) both = known_is ∙ came.known_are cause ∙ ap (λ (c : List ℕ). list_any (has_cause c) both) cause_is in record {
+        firsts_are = pushed ∙ ap (λ (xs : List PlainTold). xs ++ cond known [] (first ∷ [])) came.firsts_are ∙ ap (λ (xs : List PlainTold). causes_of both ++ xs) (added known asked)
+            ∙ ap (λ (b : Bool). causes_of both ++ cond b [] (t ∷ [])) asked ∙ sym (once_more cause_laws both t) ∙ ap causes_of (sym joined);
+        known_are = λ x. has_more x ∙ ap (λ (b : Bool). bytes_eq x cause || b) (came.known_are x) ∙ either_way (bytes_eq x cause) (list_any (has_cause x) both)
+            ∙ ap (λ (c : List ℕ). list_any (has_cause x) both || bytes_eq x c) cause_is ∙ ap (λ (b : Bool). list_any (has_cause x) both || b) (sym (or_false (has_cause x t)))
+            ∙ sym (list_any-append (has_cause x) both (t ∷ [])) ∙ ap (list_any (has_cause x)) (sym joined);
+        counts_are = λ x. counts_more x small ∙ ap (λ (xs : List PlainTold). count_by (has_cause x) (each_once same_cause_of_command xs)) (sym joined);
+        own_are = subst (λ (keys : List (ℕ × Vec ℕ)). AreKeys command_laws IsKeyOf keys_alike keys (own ++ t ∷ [])) (sym inserted) (key_more command_laws IsKeyOf keys_alike old.own.keys key own t is_key came.own_are);
+        bounded = bounded_more;
+      }
+    where
+      with_message : (m : List ℕ) → first.message ≡ m → first ≡ record { command = t.command; words = t.words; message = m }
+      with_message m e = (λ i. record { command = same_command i; words = same_words i; message = e i })
+
+      added : (b : Bool) → b ≡ list_any (same_cause t) both → cond b [] (first ∷ []) ≡ cond b [] (t ∷ [])
+      added true e = refl
+      added false e = by message
+        where
+          by : (t.message ≡ first.message) ⊎ (list_any (has_cause cause) both ≡ true) → first ∷ [] ≡ t ∷ []
+          by (inl same) = ap (λ (x : PlainTold). x ∷ []) (with_message t.message (sym same))
+          by (inr inside) = absurd (let z : false ≡ true = e ∙ ap (λ (c : List ℕ). list_any (has_cause c) both) (sym cause_is) ∙ inside in cc)
+
+pub pushed_told : (old new : List Told) (t : Told) (known : Bool) → new ≡ old ++ cond known [] (t ∷ []) → map plain_told new ≡ map plain_told old ++ cond known [] (plain_told t ∷ [])
+pushed_told old new t known pushed = ap (map plain_told) pushed ∙ map-append plain_told old (cond known [] (t ∷ [])) ∙ ap (λ (xs : List PlainTold). map plain_told old ++ xs) (by known)
+  where
+    by : (b : Bool) → map plain_told (cond b [] (t ∷ [])) ≡ cond b [] (plain_told t ∷ [])
     by true = refl
     by false = refl
-tally_insert (e ∷ es) k v x = by (bytes_eq k.now e.0.now) refl (tally_insert es k v x)
+
+-- a line of a command comes
+pub causes_more : (forgets : Bool) (old new : Causes) (told : List PlainTold) (t first : PlainTold) (command visits : ℕ) (words cause : List ℕ) (key : ℕ × Vec ℕ) (known is_new : Bool)
+    → visits < 2 ^ 63 → t.command ≡ command → t.words ≡ words → cause ≡ cause_text words → first.command ≡ command → first.words ≡ words
+    → (t.message ≡ first.message) ⊎ (list_any (has_cause (cause_text words)) told ≡ true) → key.0 ≡ command → bytes_of key.1 ≡ cause → known ≡ has old.counts.entries cause
+    → is_new ≡ not (list_any (same_key key) old.own.keys) → map plain_told new.firsts.items ≡ map plain_told old.firsts.items ++ cond known [] (first ∷ [])
+    → ((x : List ℕ) → has new.counts.entries x ≡ (bytes_eq x cause || has old.counts.entries x))
+    → ((x : List ℕ) → tally new.counts.entries x ≡ cond (bytes_eq x cause) (next_count is_new (tally old.counts.entries cause)) (tally old.counts.entries x))
+    → new.own.keys ≡ insert_key same_key old.own.keys key → AreCauses forgets old told command visits → AreCauses forgets new (told ++ t ∷ []) command visits
+causes_more forgets old new told t first command visits words cause key known is_new small command_is words_is cause_is first_command first_words message key_command key_cause known_is new_is pushed has_more counted inserted are =
+    let here = subst (λ (k : ℕ). AreCauses forgets old told k visits) (sym command_is) are in
+    let of_t : cause ≡ cause_text t.words = cause_is ∙ ap cause_text (sym words_is) in
+    let is_key : IsKeyOf key t = (key_command ∙ sym command_is, key_cause ∙ of_t) in
+    let before = list_any (same_cause_of_command t) here.own in
+    let new_so : is_new ≡ not before = new_is ∙ ap not (here.come.own_are key t is_key) in
+    let counts = λ (x : List ℕ). counted x ∙ ap (λ (b : Bool). cond (bytes_eq x cause) (next_count b (tally old.counts.entries cause)) (tally old.counts.entries x)) new_so in
+    let kept : (t.message ≡ first.message) ⊎ (list_any (has_cause cause) (here.done ++ here.own) ≡ true) = or_inside message here.told_are in
+    let come = come_more here.done here.own t visits old new key cause before of_t here.others here.come refl counts known first is_key small known_is (first_command ∙ sym command_is)
+    (first_words ∙ sym words_is) kept pushed has_more inserted in
+    subst (λ (k : ℕ). AreCauses forgets new (told ++ t ∷ []) k visits) command_is (record {
+      done = here.done;
+      own = here.own ++ t ∷ [];
+      told_are = ap (λ (xs : List PlainTold). xs ++ t ∷ []) here.told_are ∙ append_assoc here.done here.own (t ∷ []);
+      none_forgotten = here.none_forgotten;
+      come = come;
+      others = here.others;
+    })
   where
-    test : Bor (List ℕ) → Bool
-    test key = bytes_eq x key.now
+    or_inside : {P : Type 0} {all : List PlainTold} → P ⊎ (list_any (has_cause (cause_text words)) told ≡ true) → told ≡ all → P ⊎ (list_any (has_cause cause) all ≡ true)
+    or_inside (inl p) same = inl p
+    or_inside (inr inside) same = inr ((λ i. list_any (has_cause (cause_is i)) (sym same i)) ∙ inside)
 
-    here : (b : Bool) (r : Option ℕ) → unwrap_or (cond b (Some v) r) 0 ≡ cond b v (unwrap_or (cond b (Some e.1) r) 0)
-    here true r = refl
-    here false r = refl
+-- ---- commands
 
-    there : (b : Bool) → test e.0 ≡ b → bytes_eq k.now e.0.now ≡ false → tally (insert_entry same_text es k v) x ≡ cond (test k) v (tally es x)
-        → unwrap_or (cond b (Some e.1) (lookup test (insert_entry same_text es k v))) 0 ≡ cond (test k) v (unwrap_or (cond b (Some e.1) (lookup test es)) 0)
-    there true g h rest =
-        let same = (bytes_eq-Decides x e.0.now).0 g in
-        let not_k : test k ≡ false = ap (λ (w : List ℕ). bytes_eq w k.now) same ∙ same_either_way e.0.now k.now ∙ h in
-        sym (ap (λ (b : Bool). cond b v e.1) not_k)
-    there false g h rest = rest
+-- nothing has come
+pub none_come : (forgets : Bool) (causes : Causes) (command : ℕ) → causes.firsts.items ≡ [] → causes.counts.entries ≡ [] → causes.own.keys ≡ [] → AreCauses forgets causes [] command 0
+none_come forgets causes command no_firsts no_counts no_own = record {
+  done = [];
+  own = [];
+  told_are = refl;
+  none_forgotten = λ e. refl;
+  come = record {
+    firsts_are = ap (map plain_told) no_firsts;
+    known_are = λ x. ap (λ (es : List (Vec ℕ × ℕ)). has es x) no_counts;
+    counts_are = λ x. ap (λ (es : List (Vec ℕ × ℕ)). tally es x) no_counts;
+    own_are = λ key t is. ap (λ (ks : List (ℕ × Vec ℕ)). list_any (same_key key) ks) no_own;
+    bounded = λ x. let e = ap (λ (es : List (Vec ℕ × ℕ)). tally es x) no_counts in subst (λ (n : ℕ). n + 1 ≤ 1) (sym e) (omega arith);
+  };
+  others = refl;
+}
 
-    by : (b : Bool) → bytes_eq k.now e.0.now ≡ b → tally (insert_entry same_text es k v) x ≡ cond (test k) v (tally es x)
-        → tally (insert_entry same_text (e ∷ es) k v) x ≡ cond (bytes_eq x k.now) v (tally (e ∷ es) x)
-    by true h rest =
-        let same = (bytes_eq-Decides k.now e.0.now).0 h in
-        ap (λ (b : Bool). tally (cond b ((e.0, v) ∷ es) (e ∷ insert_entry same_text es k v)) x) h ∙ here (test e.0) (lookup test es)
-        ∙ ap (λ (w : List ℕ). cond (bytes_eq x w) v (tally (e ∷ es) x)) (sym same)
-    by false h rest = ap (λ (b : Bool). tally (cond b ((e.0, v) ∷ es) (e ∷ insert_entry same_text es k v)) x) h ∙ there (test e.0) refl h rest
+few : (b : Bool) (n visits : ℕ) → n + cond b 0 1 ≤ visits + 1 → (c : Bool) → n + cond c 0 1 ≤ (visits + 1) + 1
+few true n visits le true = omega (arith, le)
+few true n visits le false = omega (arith, le)
+few false n visits le true = omega (arith, le)
+few false n visits le false = omega (arith, le)
 
-pub tally_more : (lines : List (Bor Told)) (i : ℕ) (t : Bor Told) (k : Bor (List ℕ)) (n : ℕ) (old new : List (Bor (List ℕ) × ℕ)) → i < length lines → t ≡ get_or lines i t
-    → k.now ≡ cause_text (string_bytes t.now.words) → n ≡ tally old k.now → new ≡ insert_entry same_text old k (n + 1) → Tallies old (map text (take i lines))
-    → Tallies new (map text (take (i + 1) lines))
-tally_more lines i t k n old new less is made counted inserted before = λ x.
-    let xs = map text (take i lines) in
-    let taken = ap (map text) (take_more lines i t less) ∙ map-append text (take i lines) (get_or lines i t ∷ []) ∙ ap (λ (y : Bor Told). xs ++ text y ∷ []) (sym is) in
-    ap (λ (es : List (Bor (List ℕ) × ℕ)). tally es x) inserted ∙ tally_insert old k (n + 1) x ∙ by x (bytes_eq x k.now) refl
-    ∙ ap (λ (w : List ℕ). cond (bytes_eq x w) (count_by (has_cause x) xs + 1) (count_by (has_cause x) xs)) made
-    ∙ sym (count_more (has_cause x) xs (text t)) ∙ ap (count_by (has_cause x)) (sym taken)
-  where
-    by : (x : List ℕ) (b : Bool) → bytes_eq x k.now ≡ b → cond (bytes_eq x k.now) (n + 1) (tally old x)
-        ≡ cond (bytes_eq x k.now) (count_by (has_cause x) (map text (take i lines)) + 1) (count_by (has_cause x) (map text (take i lines)))
-    by x true e =
-        let same = (bytes_eq-Decides x k.now).0 e in
-        let count = counted ∙ ap (tally old) (sym same) ∙ before x in
-        ap (λ (m : ℕ). cond (bytes_eq x k.now) (m + 1) (tally old x)) count ∙ ap (λ (m : ℕ). cond (bytes_eq x k.now) (count_by (has_cause x) (map text (take i lines)) + 1) m) (before x)
-    by x false e =
-        ap (λ (b : Bool). cond b (n + 1) (tally old x)) e ∙ before x
-        ∙ sym (ap (λ (b : Bool). cond b (count_by (has_cause x) (map text (take i lines)) + 1) (count_by (has_cause x) (map text (take i lines)))) e)
+-- the commands so far are forgotten
+pub forgotten : (old new : Causes) (told : List PlainTold) (before command visits : ℕ) → list_any (is_command command) told ≡ false → new.firsts ≡ old.firsts → new.counts ≡ old.counts → new.own.keys ≡ []
+    → AreCauses true old told before visits → AreCauses true new told command (visits + 1)
+forgotten old new told before command visits none firsts counts no_own are =
+    let all : are.done ++ are.own ≡ told ++ [] = sym are.told_are ∙ sym (append-nil told) in record {
+      done = told;
+      own = [];
+      told_are = sym (append-nil told);
+      none_forgotten = λ e. absurd (let z : true ≡ false = e in cc);
+      come = record {
+        firsts_are = ap (λ (f : Vec Told). map plain_told f.items) firsts ∙ are.come.firsts_are ∙ ap causes_of all;
+        known_are = λ x. ap (λ c. has c.entries x) counts ∙ are.come.known_are x ∙ ap (list_any (has_cause x)) all;
+        counts_are = λ x. ap (λ c. tally c.entries x) counts ∙ are.come.counts_are x ∙ ap (λ (xs : List PlainTold). count_by (has_cause x) (each_once same_cause_of_command xs)) all;
+        own_are = λ key t is. ap (λ (ks : List (ℕ × Vec ℕ)). list_any (same_key key) ks) no_own;
+        bounded = λ x. subst (λ (n : ℕ). n + 1 ≤ (visits + 1) + 1) (sym (ap (λ c. tally c.entries x) counts))
+            (few (list_any (is_of before x) are.own) (tally old.counts.entries x) visits (are.come.bounded x) false);
+      };
+      others = none;
+    }
+
+-- or none is
+pub all_there : (causes : Causes) (told : List PlainTold) (before command visits : ℕ) → AreCauses false causes told before visits → AreCauses false causes told command (visits + 1)
+all_there causes told before command visits are =
+    record {
+      done = are.done;
+      own = are.own;
+      told_are = are.told_are;
+      none_forgotten = are.none_forgotten;
+      come = record {
+        firsts_are = are.come.firsts_are;
+        known_are = are.come.known_are;
+        counts_are = are.come.counts_are;
+        own_are = are.come.own_are;
+        bounded = λ x. few (list_any (is_of before x) are.own) (tally causes.counts.entries x) visits (are.come.bounded x) (list_any (is_of command x) are.own);
+      };
+      others = ap (list_any (is_command command)) (are.none_forgotten refl);
+    }
 
 -- ---- the lines that are told
 
--- one line more
-pub line_more : (line : PlainTold → PlainTold) (firsts : List (Bor Told)) (i : ℕ) (t : Bor Told) (made : Told) (old new : List Told) → i < length firsts → t ≡ get_or firsts i t
-    → new ≡ old ++ made ∷ [] → plain_told made ≡ line (text t) → map plain_told old ≡ map line (map text (take i firsts)) → map plain_told new ≡ map line (map text (take (i + 1) firsts))
-line_more line firsts i t made old new less is pushed one before =
-    let xs = map text (take i firsts) in
-    let taken = ap (map text) (take_more firsts i t less) ∙ map-append text (take i firsts) (get_or firsts i t ∷ []) ∙ ap (λ (x : Bor Told). xs ++ text x ∷ []) (sym is) in
-    ap (map plain_told) pushed ∙ map-append plain_told old (made ∷ []) ∙ ap (λ (ts : List PlainTold). ts ++ plain_told made ∷ []) before
-    ∙ ap (λ (x : PlainTold). map line xs ++ x ∷ []) one ∙ sym (map-append line xs (text t ∷ [])) ∙ ap (map line) (sym taken)
-
 -- the line of a cause, by what was counted
-abbrev pub line_by : List (Bor (List ℕ) × ℕ) → PlainTold → PlainTold
+abbrev pub line_by : List (Vec ℕ × ℕ) → PlainTold → PlainTold
 line_by entries t = once_line (tally entries (cause_text t.words)) t
 
-pub all_once : {E : Type 0} (told : List PlainTold) (entries : List (Bor (List ℕ) × ℕ)) (firsts : List PlainTold) (commands : List PlainTold) (r : Result (Vec Told) E)
-    → IfOk r (λ v. map plain_told v.items ≡ map (line_by entries) firsts) → firsts ≡ causes_of told → Tallies entries commands → commands ≡ each_once same_cause_of_command told
-    → IfOk r (λ v. map plain_told v.items ≡ once_of told)
-all_once told entries firsts commands (Err e) made first counts are = tt
-all_once told entries firsts commands (Ok v) made first counts are =
-    made ∙ (λ i. map (λ (t : PlainTold). once_line ((counts (cause_text t.words) ∙ ap (count_by (has_cause (cause_text t.words))) are) i) t) (first i))
+-- one line more
+pub line_more : (line : PlainTold → PlainTold) (firsts : List Told) (i : ℕ) (t made : Told) (old new : List Told) → i < length firsts → t ≡ get_or firsts i t
+    → new ≡ old ++ made ∷ [] → plain_told made ≡ line (plain_told t) → map plain_told old ≡ map line (map plain_told (take i firsts))
+    → map plain_told new ≡ map line (map plain_told (take (i + 1) firsts))
+line_more line firsts i t made old new less is pushed one before =
+    let xs = map plain_told (take i firsts) in
+    let taken = ap (map plain_told) (take_more firsts i t less) ∙ map-append plain_told (take i firsts) (get_or firsts i t ∷ []) ∙ ap (λ (x : Told). xs ++ plain_told x ∷ []) (sym is) in
+    ap (map plain_told) pushed ∙ map-append plain_told old (made ∷ []) ∙ ap (λ (ts : List PlainTold). ts ++ plain_told made ∷ []) before
+    ∙ ap (λ (x : PlainTold). map line xs ++ x ∷ []) one ∙ sym (map-append line xs (plain_told t ∷ [])) ∙ ap (map line) (sym taken)
+
+pub all_once : (forgets : Bool) (causes : Causes) (told once : List PlainTold) (command visits : ℕ) → once ≡ map (line_by causes.counts.entries) (map plain_told causes.firsts.items)
+    → AreCauses forgets causes told command visits → once ≡ once_of told
+all_once forgets causes told once command visits made are =
+    let come = are.come in
+    made ∙ (λ i. map (λ (t : PlainTold). once_line (come.counts_are (cause_text t.words) i) t) (come.firsts_are i)) ∙ ap once_of (sym are.told_are)
 
 -- ---- the text of a cause
 

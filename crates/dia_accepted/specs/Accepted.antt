@@ -66,6 +66,14 @@ pub record PlainTold : Type 0 where
 abbrev pub plain_told : Told → PlainTold
 plain_told t = record { command = t.command; words = string_bytes t.words; message = string_bytes t.message }
 
+-- the same line without its message
+abbrev pub bare : PlainTold → PlainTold
+bare t = record { command = t.command; words = t.words; message = [] }
+
+-- what is kept of a line for its cause: its message only where each cause is told once
+abbrev pub kept : Bool → PlainTold → PlainTold
+kept is_once t = if is_once then t else bare t
+
 -- a line of the list accepts one of the answer: what counts of the two is the same, or its path is `*` and the rest is the same
 abbrev pub accepts : List ℕ → PlainEntry → Bool
 accepts words e = bytes_eq (counted words) e.counted || bytes_eq (anywhere words) e.counted

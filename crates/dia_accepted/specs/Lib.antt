@@ -1,4 +1,5 @@
 pub mod Accepted
 pub mod Causes
+pub mod Seen
 pub mod Sets
 pub mod Words

@@ -1,54 +1,110 @@
-//! Which lines a list accepts, and which of its own lines accept nothing.
-ghost use Rattle.std.specs.Prelude.{◌≡◌, ◌++◌, ◌∷◌, ◌||◌, [], IfOk, List, OnOk, if◌then◌else◌, map, string_bytes, ℕ};
-ghost use Rattle.std.specs.List.{list_any};
+//! Which lines a list accepts, one by one, and which of its own lines accept nothing.
+ghost use Rattle.std.specs.Prelude.{◌≡◌, ◌&&◌, ◌++◌, ◌∷◌, List, ℕ, [], IfOk, OnOk, Some, if◌then◌else◌, map, unwrap_or, true, false};
 ghost use Rattle.std.specs.Str.{bytes_eq};
-ghost use Rattle.dia_accepted.specs.Accepted.{left_of, plain_entry, plain_told, stale_lines};
-ghost use Rattle.dia_accepted.specs.Sets.{HasTexts, entry_texts, has, told_texts};
-ghost use Rattle.dia_accepted.specs.Words.{anywhere, counted};
+ghost use Rattle.dia_accepted.specs.Accepted.{plain_entry};
+ghost use Rattle.dia_accepted.specs.Seen.{mark, unmarked_lines};
+ghost use Rattle.dia_accepted.specs.Sets.{found, has};
 
 use crate::list::Entry;
-use crate::told::Told;
 use crate::words::{anywhere, counted};
-use indexmap::IndexSet;
+use indexmap::IndexMap;
 use std::alloc::{AllocError, Global};
 
-/// The lines of an answer that the list doesn't accept, in their order.
-pub fn left<'t>(
-    alloc: Global,
-    list: &[Entry],
-    told: &'t [Told],
-) -> Result<Vec<&'t Told>, AllocError>
-    ensures { IfOk result (λ left. map (λ t. plain_told t.now) left.items
-        ≡ left_of (map plain_entry list.now) (map plain_told told.now)) }
-{
-    let texts = texts_of_list(alloc, list)?;
-    let mut left = Vec::new(alloc);
-    for line in told {
-        let known = is_accepted(alloc, &texts, line)?;
-        push_unless(&mut left, line, known)?;
-    }
-    Ok(left)
+/// A list of accepted lines that is asked for one line after another.
+#[derive(Drop)]
+pub struct Accepting<'l> {
+    pub(crate) list: &'l [Entry],
+    /// What counts of the lines of the list, each with whether a line came of which it counts.
+    pub(crate) texts: IndexMap<Vec<u8>, bool>,
 }
 
-/// The numbers of the lines of a list that accept none of these lines, neither of the first nor of the second, in their order.
-pub fn stale(
+impl<'l> Accepting<'l> {
+    ghost use Rattle.std.specs.Prelude.{◌≡◌, ◌++◌, ◌∷◌, List, [], IfOk, OnOk, map};
+    ghost use Rattle.std.specs.List.{list_any};
+    ghost use Rattle.dia_accepted.specs.Accepted.{PlainEntry, PlainTold, accepts, plain_entry, stale_lines};
+    ghost use Rattle.dia_accepted.specs.Seen.{HasSeen};
+
+    /// No line has come.
+    pub fn new(alloc: Global, list: &'l [Entry]) -> Result<Accepting<'l>, AllocError>
+        ensures { IfOk result (λ made. HasSeen made (map plain_entry list.now) []) }
+    {
+        let texts = texts_of(alloc, list)?;
+        Ok(Accepting { list, texts })
+    }
+
+    /// Whether the list accepts a line, which has come from now on.
+    pub fn accepts(&mut self, alloc: Global, words: &str) -> Result<bool, AllocError>
+        ensures accepted { IfOk result (λ known. (list : List PlainEntry) (told : List PlainTold) → HasSeen self.old list told
+            → known ≡ list_any (accepts words.now) list) }
+        ensures come { OnOk result ((list : List PlainEntry) (told : List PlainTold) (t : PlainTold) → t.words ≡ words.now
+            → HasSeen self.old list told → HasSeen self.new list (told ++ t ∷ [])) }
+    {
+        if self.list.is_empty() {
+            return Ok(false);
+        }
+        let words = words.as_bytes();
+        let own = mark_known(&mut self.texts, counted(alloc, words)?)?;
+        let any = mark_known(&mut self.texts, anywhere(alloc, words)?)?;
+        Ok(own || any)
+    }
+
+    /// The numbers of the lines of the list that accept none of the lines that have come, in their order.
+    pub fn stale(&self, alloc: Global) -> Result<Vec<u32>, AllocError>
+        ensures { IfOk result (λ stale. (list : List PlainEntry) (told : List PlainTold) → HasSeen self.now list told
+            → stale.items ≡ stale_lines list told) }
+    {
+        unmarked(alloc, self.list, &self.texts)
+    }
+}
+
+/// What counts of the lines of a list. None is marked.
+fn texts_of(alloc: Global, list: &[Entry]) -> Result<IndexMap<Vec<u8>, bool>, AllocError>
+    ensures { IfOk result (λ texts. (text : List ℕ) → found texts.entries text ≡ mark (map plain_entry list.now) [] text) }
+{
+    let mut texts = IndexMap::new(alloc);
+    for entry in list {
+        let counted = Vec::from_slice(alloc, entry.counted.as_slice())?;
+        texts.insert(counted, false)?;
+    }
+    Ok(texts)
+}
+
+/// Marks a text, if it is there, and answers whether it is.
+fn mark_known(texts: &mut IndexMap<Vec<u8>, bool>, text: Vec<u8>) -> Result<bool, AllocError>
+    ensures known { IfOk result (λ known. known ≡ has texts.old.entries text.items) }
+    ensures marked { OnOk result ((x : List ℕ) → found texts.new.entries x
+        ≡ (if has texts.old.entries text.items && bytes_eq x text.items then Some true else found texts.old.entries x)) }
+{
+    let known = texts.contains_key(text.as_slice());
+    if known {
+        texts.insert(text, true)?;
+    }
+    Ok(known)
+}
+
+/// The numbers of the lines of a list that aren't marked.
+fn unmarked(
     alloc: Global,
     list: &[Entry],
-    told: &[Told],
-    others: &[Told],
+    texts: &IndexMap<Vec<u8>, bool>,
 ) -> Result<Vec<u32>, AllocError>
-    ensures { IfOk result (λ stale. stale.items
-        ≡ stale_lines (map plain_entry list.now) (map plain_told told.now ++ map plain_told others.now)) }
+    ensures { IfOk result (λ lines. lines.items ≡ unmarked_lines texts.now.entries (map plain_entry list.now)) }
 {
-    let mut texts = IndexSet::new(alloc);
-    add_texts(alloc, &mut texts, told)?;
-    add_texts(alloc, &mut texts, others)?;
-    let mut stale = Vec::new(alloc);
+    let mut lines = Vec::new(alloc);
     for entry in list {
-        let known = texts.contains(entry.counted.as_slice());
-        push_unless(&mut stale, entry.line, known)?;
+        let known = is_marked(texts, entry.counted.as_slice());
+        push_unless(&mut lines, entry.line, known)?;
     }
-    Ok(stale)
+    Ok(lines)
+}
+
+fn is_marked(texts: &IndexMap<Vec<u8>, bool>, text: &[u8]) -> bool
+    ensures { result ≡ unwrap_or (found texts.now.entries text.now) false }
+{
+    match texts.get(text) {
+        Some(marked) => *marked,
+        None => false,
+    }
 }
 
 /// Adds an item, unless it is known.
@@ -63,43 +119,4 @@ pub(crate) fn push_unless<T: Drop>(
         items.push(item)?;
     }
     Ok(())
-}
-
-/// What counts of the lines of a list.
-fn texts_of_list(alloc: Global, list: &[Entry]) -> Result<IndexSet<Vec<u8>>, AllocError>
-    ensures { IfOk result (λ texts. HasTexts texts.keys (entry_texts list.now)) }
-{
-    let mut texts = IndexSet::new(alloc);
-    for entry in list {
-        let counted = Vec::from_slice(alloc, entry.counted.as_slice())?;
-        texts.insert(counted)?;
-    }
-    Ok(texts)
-}
-
-/// Adds what counts of lines of an answer, with their paths and with `*`.
-fn add_texts(alloc: Global, texts: &mut IndexSet<Vec<u8>>, told: &[Told]) -> Result<(), AllocError>
-    ensures { OnOk result ((before : List (List ℕ)) → HasTexts texts.old.keys before
-        → HasTexts texts.new.keys (before ++ told_texts told.now)) }
-{
-    for line in told {
-        let words = line.words.as_bytes();
-        texts.insert(counted(alloc, words)?)?;
-        texts.insert(anywhere(alloc, words)?)?;
-    }
-    Ok(())
-}
-
-/// Whether the list with these texts accepts a line.
-fn is_accepted(alloc: Global, texts: &IndexSet<Vec<u8>>, line: &Told) -> Result<bool, AllocError>
-    ensures { IfOk result (λ b. b ≡ (has texts.now.keys (counted (string_bytes line.now.words))
-        || has texts.now.keys (anywhere (string_bytes line.now.words)))) }
-{
-    let words = line.words.as_bytes();
-    let own = counted(alloc, words)?;
-    if texts.contains(own.as_slice()) {
-        return Ok(true);
-    }
-    let any = anywhere(alloc, words)?;
-    Ok(texts.contains(any.as_slice()))
 }

@@ -1,10 +1,10 @@
-//! The causes of lines, and the lines of `--once`.
-ghost use Rattle.std.specs.Prelude.{◌≡◌, IfOk, List, map, string_bytes, ℕ};
-ghost use Rattle.std.specs.List.{count_by};
+//! The causes of lines that come one by one, and the lines of `--once`.
+ghost use Rattle.std.specs.Prelude.{◌≡◌, ◌||◌, IfOk, List, OnOk, if◌then◌else◌, map, string_bytes, ℕ};
+ghost use Rattle.std.specs.Str.{bytes_eq};
 ghost use Rattle.dia_accepted.specs.Accepted.{plain_told};
-ghost use Rattle.dia_accepted.specs.Causes.{causes_of, each_once, has_cause, noun, once_line, once_of, once_words};
-ghost use Rattle.dia_accepted.specs.Causes.{same_cause_of_command};
-ghost use Rattle.dia_accepted.specs.Sets.{tally};
+ghost use Rattle.dia_accepted.specs.Causes.{noun, once_line, once_words};
+ghost use Rattle.dia_accepted.specs.Seen.{next_count};
+ghost use Rattle.dia_accepted.specs.Sets.{has, tally};
 ghost use Rattle.dia_accepted.specs.Words.{cause_text};
 
 use crate::accepting::push_unless;
@@ -13,83 +13,144 @@ use crate::words::path_and_cause;
 use indexmap::{IndexMap, IndexSet};
 use std::alloc::{AllocError, Global};
 
-/// A line for each cause, in the order of the first places, with how many commands have it.
-pub fn once(alloc: Global, told: &[&Told]) -> Result<Vec<Told>, AllocError>
-    ensures { IfOk result (λ once. map plain_told once.items ≡ once_of (map (λ t. plain_told t.now) told.now)) }
-{
-    let firsts = first_of_causes(alloc, told)?;
-    let of_commands = first_of_commands(alloc, told)?;
-    let counts = counts_of(alloc, of_commands.as_slice())?;
-    once_lines(alloc, &counts, firsts.as_slice())
+/// The causes of the lines that have come: of each the first line, and how many commands have it.
+#[derive(Drop)]
+pub struct Causes {
+    /// The first line of each cause, in their order.
+    pub(crate) firsts: Vec<Told>,
+    /// How many commands have each cause.
+    pub(crate) counts: IndexMap<Vec<u8>, usize>,
+    /// The causes of the commands that aren't forgotten.
+    pub(crate) own: IndexSet<(usize, Vec<u8>)>,
 }
 
-/// The first line of each cause.
-fn first_of_causes<'t>(alloc: Global, told: &[&'t Told]) -> Result<Vec<&'t Told>, AllocError>
-    ensures { IfOk result (λ firsts. map (λ t. plain_told t.now) firsts.items
-        ≡ causes_of (map (λ t. plain_told t.now) told.now)) }
-{
-    let mut seen = IndexSet::new(alloc);
-    let mut firsts = Vec::new(alloc);
-    for line in told {
-        let is_new = seen.insert(cause_of(line))?;
-        push_unless(&mut firsts, *line, !is_new)?;
+impl Causes {
+    ghost use Rattle.std.specs.Prelude.{◌≡◌, ◌<◌, ◌^◌, ◌+◌, ◌++◌, ◌∷◌, ◌⊎◌, List, ℕ, [], IfOk, OnOk, map, string_bytes, Bool, true, false};
+    ghost use Rattle.std.specs.List.{list_any};
+    ghost use Rattle.dia_accepted.specs.Accepted.{PlainTold, plain_told};
+    ghost use Rattle.dia_accepted.specs.Causes.{has_cause, once_of};
+    ghost use Rattle.dia_accepted.specs.Seen.{AreCauses, is_command};
+    ghost use Rattle.dia_accepted.specs.Words.{cause_text};
+
+    /// No line has come.
+    pub fn new(alloc: Global) -> Causes
+        ensures { (forgets : Bool) (command : ℕ) → AreCauses forgets result [] command 0 }
+    {
+        Causes {
+            firsts: Vec::new(alloc),
+            counts: IndexMap::new(alloc),
+            own: IndexSet::new(alloc),
+        }
     }
-    Ok(firsts)
+
+    /// Begins with the lines of a command. `forgets` says whether none of the commands so far comes again.
+    pub fn begin(&mut self, forgets: bool)
+        ensures { (told : List PlainTold) (before command visits : ℕ) → (forgets ≡ true → list_any (is_command command) told ≡ false)
+            → AreCauses forgets self.old told before visits → AreCauses forgets self.new told command (visits + 1) }
+    {
+        if forgets {
+            self.own.clear();
+        }
+    }
+
+    /// Whether a line has come with the cause of these words.
+    pub fn has(&self, words: &str) -> bool
+        ensures { (forgets : Bool) (told : List PlainTold) (command visits : ℕ) → AreCauses forgets self.now told command visits
+            → result ≡ list_any (has_cause (cause_text words.now)) told }
+    {
+        self.counts.contains_key(cause_of(words).as_bytes())
+    }
+
+    /// A line of the command comes. Where its cause is known already, its message isn't kept.
+    pub fn add(
+        &mut self,
+        alloc: Global,
+        command: usize,
+        words: &str,
+        message: String,
+    ) -> Result<(), AllocError>
+        ensures { OnOk result ((forgets : Bool) (told : List PlainTold) (t : PlainTold) (visits : ℕ) → visits < 2 ^ 63
+            → t.command ≡ command → t.words ≡ words.now
+            → (t.message ≡ string_bytes message) ⊎ (list_any (has_cause (cause_text words.now)) told ≡ true)
+            → AreCauses forgets self.old told command visits → AreCauses forgets self.new (told ++ t ∷ []) command visits) }
+    {
+        let cause = cause_of(words).as_bytes();
+        let known = self.counts.contains_key(cause);
+        let words = String::from_str(alloc, words)?;
+        let told = Told {
+            command,
+            words,
+            message,
+        };
+        push_unless(&mut self.firsts, told, known)?;
+        let key = (command, Vec::from_slice(alloc, cause)?);
+        let is_new = self.own.insert(key)?;
+        count_cause(alloc, &mut self.counts, cause, is_new)?;
+        Ok(())
+    }
+
+    /// A line for each cause, in the order of the first places, with how many commands have it.
+    pub fn lines(&self, alloc: Global) -> Result<Vec<Told>, AllocError>
+        ensures { IfOk result (λ once. (forgets : Bool) (told : List PlainTold) (command visits : ℕ)
+            → AreCauses forgets self.now told command visits → map plain_told once.items ≡ once_of told) }
+    {
+        once_lines(alloc, &self.counts, self.firsts.as_slice())
+    }
 }
 
-/// The first line of each cause in each command.
-fn first_of_commands<'t>(alloc: Global, told: &[&'t Told]) -> Result<Vec<&'t Told>, AllocError>
-    ensures { IfOk result (λ firsts. map (λ t. plain_told t.now) firsts.items
-        ≡ each_once same_cause_of_command (map (λ t. plain_told t.now) told.now)) }
+/// Counts a cause that a line has, if that isn't counted of its command yet.
+fn count_cause(
+    alloc: Global,
+    counts: &mut IndexMap<Vec<u8>, usize>,
+    cause: &[u8],
+    is_new: bool,
+) -> Result<(), AllocError>
+    ensures has { OnOk result ((x : List ℕ) → has counts.new.entries x ≡ (bytes_eq x cause.now || has counts.old.entries x)) }
+    ensures counted { OnOk result ((x : List ℕ) → tally counts.new.entries x
+        ≡ (if bytes_eq x cause.now then next_count is_new (tally counts.old.entries cause.now) else tally counts.old.entries x)) }
 {
-    let mut seen = IndexSet::new(alloc);
-    let mut firsts = Vec::new(alloc);
-    for line in told {
-        let is_new = seen.insert((line.command, cause_of(line)))?;
-        push_unless(&mut firsts, *line, !is_new)?;
-    }
-    Ok(firsts)
+    let count = next_count(count_of(counts, cause), is_new);
+    let key = Vec::from_slice(alloc, cause)?;
+    counts.insert(key, count)?;
+    Ok(())
 }
 
-/// How many lines have each cause.
-fn counts_of<'t>(alloc: Global, lines: &[&'t Told]) -> Result<IndexMap<&'t str, usize>, AllocError>
-    ensures { IfOk result (λ counts. (cause : List ℕ) → tally counts.entries cause
-        ≡ count_by (has_cause cause) (map (λ t. plain_told t.now) lines.now)) }
+/// How many commands have a cause, where one more has it or not.
+fn next_count(count: usize, one_more: bool) -> usize
+    ensures { result ≡ next_count one_more count }
 {
-    let mut counts = IndexMap::new(alloc);
-    for line in lines {
-        let cause = cause_of(line);
-        let count = count_of(&counts, cause);
-        counts.insert(cause, count + 1)?;
+    if one_more {
+        count.saturating_add(1)
+    } else {
+        count
     }
-    Ok(counts)
 }
 
 /// What was counted of a cause.
-fn count_of(counts: &IndexMap<&str, usize>, cause: &str) -> usize
+fn count_of(counts: &IndexMap<Vec<u8>, usize>, cause: &[u8]) -> usize
     ensures { result ≡ tally counts.now.entries cause.now }
 {
-    match counts.get(&cause) {
+    match counts.get(cause) {
         Some(count) => *count,
         None => 0,
     }
 }
 
 /// The reason, subject and detail of a line.
-fn cause_of(line: &Told) -> &str
-    ensures { result.now ≡ cause_text (string_bytes line.now.words) }
+fn cause_of(words: &str) -> &str
+    ensures { result.now ≡ cause_text words.now }
 {
-    path_and_cause(line.words.as_str()).1
+    path_and_cause(words).1
 }
 
 /// The lines of the causes that these lines have.
 fn once_lines(
     alloc: Global,
-    counts: &IndexMap<&str, usize>,
-    lines: &[&Told],
+    counts: &IndexMap<Vec<u8>, usize>,
+    lines: &[Told],
 ) -> Result<Vec<Told>, AllocError>
     ensures { IfOk result (λ once. map plain_told once.items
-        ≡ map (λ t. once_line (tally counts.now.entries (cause_text t.words)) t) (map (λ t. plain_told t.now) lines.now)) }
+        ≡ map (λ t. once_line (tally counts.now.entries (cause_text t.words)) t) (map plain_told lines.now)) }
 {
     let mut once = Vec::new(alloc);
     for line in lines {
@@ -100,11 +161,15 @@ fn once_lines(
 }
 
 /// The line of a cause, by its first line and what was counted.
-fn once_line(alloc: Global, counts: &IndexMap<&str, usize>, line: &Told) -> Result<Told, AllocError>
+fn once_line(
+    alloc: Global,
+    counts: &IndexMap<Vec<u8>, usize>,
+    line: &Told,
+) -> Result<Told, AllocError>
     ensures { IfOk result (λ made. plain_told made
         ≡ once_line (tally counts.now.entries (cause_text (string_bytes line.now.words))) (plain_told line.now)) }
 {
-    let commands = count_of(counts, cause_of(line));
+    let commands = count_of(counts, cause_of(line.words.as_str()).as_bytes());
     let words = once_words(alloc, commands, line.words.as_str())?;
     let message = String::from_str(alloc, line.message.as_str())?;
     Ok(Told {

@@ -8,7 +8,7 @@ mod list;
 mod told;
 mod words;
 
-pub use accepting::{left, stale};
-pub use counting::once;
+pub use accepting::Accepting;
+pub use counting::Causes;
 pub use list::{Entry, ListFault, MAX_LINES, MAX_LIST, read_list};
 pub use told::Told;

@@ -1,12 +1,12 @@
 //! The words of a line, `PATH: REASON SUBJECT: DETAIL`.
-ghost use Rattle.std.specs.Prelude.{◌≡◌, ◌≤◌, IfOk, drop, length, reverse, take};
+ghost use Rattle.std.specs.Prelude.{◌≡◌, ◌≤◌, IfOk, drop, length, reverse};
 ghost use Rattle.std.specs.Char.{is_ascii_digit};
 ghost use Rattle.std.specs.List.{prefix_len};
 ghost use Rattle.dia_accepted.specs.Words.{anywhere, begins, cause_of, command_of, counted, has_form};
 ghost use Rattle.dia_accepted.specs.Words.{has_level_reason, has_undecided_level, is_of_command, is_of_level};
 ghost use Rattle.dia_accepted.specs.Words.{before_last, cause_text, entry_words, has_once_form, is_count, is_counting};
 ghost use Rattle.dia_accepted.specs.Words.{is_noun, is_of_part, is_placing, last_part, told_once};
-ghost use Rattle.dia_accepted.specs.Words.{is_of_name, is_of_path, is_parted, is_skipped, last_of, path_of, scope, scoped};
+ghost use Rattle.dia_accepted.specs.Words.{is_of_name, is_of_path, is_parted, is_skipped, last_of, path_of, scoped};
 
 use std::alloc::{AllocError, Global};
 

@@ -1,6 +1,12 @@
+pub mod Answered
 pub mod AskedCommands
 pub mod CommandHeads
+pub mod Commands
 pub mod LinesToTell
+pub mod Listings
 pub mod Outcomes
 pub mod Parts
+pub mod Puts
+pub mod Reports
+pub mod ToldCommands
 pub mod ToldLines

@@ -1,22 +1,28 @@
--- Lines that are added one behind another, and their texts.
-use Rattle.std.proofs.Common.{◌≡◌, ℕ, ◌+◌, ◌<◌, Bool, List, [], ◌∷◌, ◌++◌, get_or, length, map, take, refl, sym, ap, ◌∙◌, append_assoc, string_bytes}
-use Rattle.std.proofs.lemmas.List.{append-nil, map-append, take_more}
-use Rattle.dia_accepted.specs.Accepted.{PlainTold, plain_told}
-use Rattle.dia_accepted.specs.declared.Told.{Told}
-use Rattle.dia_breaking.specs.declared.line.Line.{Line}
+-- Lines that are known one after another, and their texts.
+use Rattle.std.proofs.Common.{◌≡◌, ℕ, ◌+◌, ◌<◌, ◌^◌, Bool, true, false, cond, List, [], ◌∷◌, ◌++◌, Option, drop, get_or, length, map, take, refl, sym, ap, subst, ◌∙◌, append_assoc, string_bytes, arith}
+use Rattle.std.specs.Prelude.{◌||◌, codes, not}
+use Rattle.std.specs.List.{list_any}
+use Rattle.std.proofs.lemmas.Grind.{flat_map-append}
+use Rattle.std.proofs.lemmas.List.{append-nil, length-append, map-append, take-append-drop, take_more}
+use Rattle.std.proofs.lemmas.List.Elements.{filter-append}
+use Rattle.hex.specs.Hex.{encode_lower}
+use Rattle.dia_accepted.specs.declared.counting.Causes.{Causes}
+use Rattle.dia_accepted.specs.declared.told.Told.{Told}
+use Rattle.dia_accepted.specs.Accepted.{PlainEntry, PlainTold, accepts, is_accepted, kept, left_of, plain_told}
+use Rattle.dia_accepted.specs.Seen.{AreCauses, HasSeen, is_command}
+use Rattle.dia_accepted.proofs.Sets.{seen_behind, seen_between}
+use Rattle.dia_breaking.specs.declared.line.Standing.{Standing}
+use Rattle.dia_breaking.specs.declared.line.Standing.TheVariants.{Confirmed, Unchecked, Undecided}
+use Rattle.dia_io.specs.Writing.{AppendsFront}
 use Rattle.dia_run.specs.Texts.{line}
-use Rattle.dia_upgrades.specs.Places.{Adds}
-use Rattle.dia_upgrades.specs.Told.{IsBehind, IsLineTold, has_message, told_as, told_text}
+use Rattle.dia_upgrades.specs.declared.asked.Asked.{Asked}
+use Rattle.dia_upgrades.specs.declared.seen.Seen.{Seen}
+use Rattle.dia_upgrades.specs.Outcome.{counted}
+use Rattle.dia_upgrades.specs.Told.{IsBehind, has_message, told_text}
+use Rattle.dia_upgrades.specs.UnderWay.{AreJudged, Sees, SeesApart, is_any, lines_after, text_shown}
+use Rattle.dia_upgrades.proofs.Puts.{front_of_more}
 
--- a text of two parts and a line feed was added
-pub line_added : (first second start one two new : List ℕ) → one ≡ start ++ first → two ≡ one ++ second → new ≡ two ++ 10 ∷ [] → new ≡ start ++ line (first ++ second)
-line_added first second start one two new e f h =
-    h ∙ ap (λ (t : List ℕ). t ++ 10 ∷ []) (f ∙ ap (λ (t : List ℕ). t ++ second) e ∙ append_assoc start first second) ∙ append_assoc start (first ++ second) (10 ∷ [])
-
--- words and a line feed, and a text behind them
-pub words_added : (words behind start one two new : List ℕ) → one ≡ start ++ words → two ≡ one ++ 10 ∷ [] → new ≡ two ++ behind → new ≡ start ++ (line words ++ behind)
-words_added words behind start one two new e f h =
-    h ∙ ap (λ (t : List ℕ). t ++ behind) (f ∙ ap (λ (t : List ℕ). t ++ 10 ∷ []) e ∙ append_assoc start words (10 ∷ [])) ∙ append_assoc start (line words) behind
+-- ---- texts
 
 -- the text of one line more
 pub text_more : (xs : List PlainTold) (x : PlainTold) → told_text (xs ++ x ∷ []) ≡ told_text xs ++ (line x.words ++ x.message)
@@ -24,21 +30,183 @@ text_more [] x = append-nil (line x.words ++ x.message)
 text_more (y ∷ xs) x =
     ap (λ (t : List ℕ). (line y.words ++ y.message) ++ t) (text_more xs x) ∙ sym (append_assoc (line y.words ++ y.message) (told_text xs) (line x.words ++ x.message))
 
--- the text of lines, one line more
-pub text_next : {X : Type 0} (text : X → PlainTold) (lines : List X) (i : ℕ) (t : X) (old new : List ℕ) → i < length lines → t ≡ get_or lines i t
-    → new ≡ old ++ (line (text t).words ++ (text t).message) → old ≡ told_text (map text (take i lines)) → new ≡ told_text (map text (take (i + 1) lines))
-text_next {X} text lines i t old new less is pushed before =
-    let taken = take_more lines i t less ∙ ap (λ (x : X). take i lines ++ x ∷ []) (sym is) in
-    pushed ∙ ap (λ (o : List ℕ). o ++ (line (text t).words ++ (text t).message)) before
-    ∙ sym (text_more (map text (take i lines)) (text t)) ∙ ap told_text (sym (map-append text (take i lines) (t ∷ [])) ∙ ap (map text) (sym taken))
+-- the text of the lines up to one, one line more
+pub text_next : (lines : List Told) (i : ℕ) (t : Told) → i < length lines → t ≡ get_or lines i t
+    → told_text (map plain_told (take (i + 1) lines)) ≡ told_text (map plain_told (take i lines)) ++ (line (string_bytes t.words) ++ string_bytes t.message)
+text_next lines i t less is =
+    ap (λ (ts : List Told). told_text (map plain_told ts)) (take_more lines i t less ∙ ap (λ (x : Told). take i lines ++ x ∷ []) (sym is))
+    ∙ ap told_text (map-append plain_told (take i lines) (t ∷ [])) ∙ text_more (map plain_told (take i lines)) (plain_told t)
 
--- one line more
-pub told_added : (place : ℕ) (messages : Bool) (words : Line → List ℕ) (l : Line) (old new : List Told) (t : Told) → t.command ≡ place → string_bytes t.words ≡ words l
-    → IsBehind (has_message messages l.standing) (string_bytes t.message) → new ≡ old ++ t ∷ [] → Adds (IsLineTold place messages words l) (map plain_told old) (map plain_told new)
-told_added place messages words l old new t at is behind pushed =
-    let m = string_bytes t.message in
-    let same : plain_told t ≡ told_as place (words l) m = ap (λ (p : ℕ). told_as p (string_bytes t.words) m) at ∙ ap (λ (w : List ℕ). told_as place w m) is in (
-      told_as place (words l) m ∷ [],
-      (m, behind, refl),
-      ap (map plain_told) pushed ∙ map-append plain_told old (t ∷ []) ∙ ap (λ (x : PlainTold). map plain_told old ++ x ∷ []) same,
-    )
+-- all of a text begins with that of some lines
+text_both : (xs ys : List PlainTold) → told_text (xs ++ ys) ≡ told_text xs ++ told_text ys
+text_both xs ys = flat_map-append (λ (t : PlainTold). line t.words ++ t.message) xs ys
+
+pub front_of_lines : (old new : Option (List ℕ)) (lines : List Told) (i : ℕ) (t : Told) → i < length lines → t ≡ get_or lines i t
+    → AppendsFront old new (told_text (map plain_told (take i lines)) ++ (line (string_bytes t.words) ++ string_bytes t.message)) → AppendsFront old new (told_text (map plain_told lines))
+front_of_lines old new lines i t less is front =
+    let rest = told_text (map plain_told (drop (i + 1) lines)) in
+    let all : told_text (map plain_told (take (i + 1) lines)) ++ rest ≡ told_text (map plain_told lines) =
+    sym (text_both (map plain_told (take (i + 1) lines)) (map plain_told (drop (i + 1) lines))) ∙ ap told_text (sym (map-append plain_told (take (i + 1) lines) (drop (i + 1) lines)))
+    ∙ ap (λ (ts : List Told). told_text (map plain_told ts)) (take-append-drop (i + 1) lines) in
+    subst (AppendsFront old new) all (front_of_more old new (told_text (map plain_told (take (i + 1) lines))) rest (subst (AppendsFront old new) (sym (text_next lines i t less is)) front))
+
+-- where nothing is left, nothing is written
+pub nothing_shown : (is_once : Bool) → text_shown is_once [] ≡ []
+nothing_shown true = refl
+nothing_shown false = refl
+
+pub shown_more : (is_once : Bool) (xs ys : List PlainTold) → text_shown is_once (xs ++ ys) ≡ text_shown is_once xs ++ text_shown is_once ys
+shown_more true xs ys = refl
+shown_more false xs ys = flat_map-append (λ (t : PlainTold). line t.words ++ t.message) xs ys
+
+-- a line without message, or with no message at all
+abbrev pub any_message : Standing → Bool → List ℕ
+any_message s m = cond (has_message m s) (line (codes "  " ++ encode_lower [])) []
+
+pub any_behind : (b : Bool) → IsBehind b (cond b (line (codes "  " ++ encode_lower [])) [])
+any_behind true = ([], (λ i. omega arith), refl)
+any_behind false = refl
+
+-- a line whose messages aren't asked for has none
+pub no_message : (s : Standing) → IsBehind (has_message false s) []
+no_message Confirmed = refl
+no_message Unchecked = refl
+no_message Undecided = refl
+
+-- ---- lines that are left
+
+pub left_both : (list : List PlainEntry) (xs ys : List PlainTold) → left_of list (xs ++ ys) ≡ left_of list xs ++ left_of list ys
+left_both list xs ys = filter-append (λ (t : PlainTold). not (is_accepted list t)) xs ys
+
+pub left_one : (list : List PlainEntry) (t : PlainTold) (known : Bool) → is_accepted list t ≡ known → left_of list (t ∷ []) ≡ cond known [] (t ∷ [])
+left_one list t known e = ap (λ (b : Bool). cond (not b) (t ∷ []) []) e ∙ by known
+  where
+    by : (b : Bool) → cond (not b) (t ∷ []) [] ≡ cond b [] (t ∷ [])
+    by true = refl
+    by false = refl
+
+pub left_more : (list : List PlainEntry) (told : List PlainTold) (t : PlainTold) (known : Bool) → is_accepted list t ≡ known → left_of list (told ++ t ∷ []) ≡ left_of list told ++ cond known [] (t ∷ [])
+left_more list told t known e = left_both list told (t ∷ []) ∙ ap (λ (xs : List PlainTold). left_of list told ++ xs) (left_one list t known e)
+
+counted_more : (n : ℕ) → counted (n + 1) ≡ counted (counted n + 1)
+counted_more n = omega arith
+
+pub lines_more : (list : List PlainEntry) (told : List PlainTold) (t : PlainTold) (known : Bool) (old : ℕ) → is_accepted list t ≡ known → old ≡ counted (length (left_of list told))
+    → lines_after known old ≡ counted (length (left_of list (told ++ t ∷ [])))
+lines_more list told t known old e is =
+    ap (lines_after known) is ∙ by known ∙ ap (λ (xs : List PlainTold). counted (length xs)) (sym (left_more list told t known e))
+  where
+    by : (b : Bool) → lines_after b (counted (length (left_of list told))) ≡ counted (length (left_of list told ++ cond b [] (t ∷ [])))
+    by true = ap (λ (xs : List PlainTold). counted (length xs)) (sym (append-nil (left_of list told)))
+    by false = sym (ap counted (length-append (left_of list told) (t ∷ [])) ∙ counted_more (length (left_of list told)))
+
+any_more : (told : List PlainTold) (t : PlainTold) → is_any (told ++ t ∷ []) ≡ true
+any_more [] t = refl
+any_more (x ∷ told) t = refl
+
+-- where no line is of a command, none that is left is
+pub left_none : (list : List PlainEntry) (place : ℕ) (told : List PlainTold) → list_any (is_command place) told ≡ false → list_any (is_command place) (left_of list told) ≡ false
+left_none list place [] none = refl
+left_none list place (t ∷ told) none =
+    by (is_command place t) refl (is_accepted list t) none (left_none list place told)
+  where
+    by : (b : Bool) → is_command place t ≡ b → (c : Bool) → (b || list_any (is_command place) told) ≡ false → (list_any (is_command place) told ≡ false → list_any (is_command place) (left_of list told) ≡ false)
+        → list_any (is_command place) (cond (not c) (t ∷ left_of list told) (left_of list told)) ≡ false
+    by true e c none more = absurd (let z : true ≡ false = none in cc)
+    by false e true none more = more none
+    by false e false none more = ap (λ (b : Bool). b || list_any (is_command place) (left_of list told)) e ∙ more none
+
+pub kept_none : (is_once : Bool) (place : ℕ) (told : List PlainTold) → list_any (is_command place) told ≡ false → list_any (is_command place) (map (kept is_once) told) ≡ false
+kept_none is_once place told none = kept_any is_once place told ∙ none
+  where
+    kept_any : (b : Bool) (place : ℕ) (told : List PlainTold) → list_any (is_command place) (map (kept b) told) ≡ list_any (is_command place) told
+    kept_any b place [] = refl
+    kept_any true place (t ∷ told) = ap (λ (c : Bool). is_command place t || c) (kept_any true place told)
+    kept_any false place (t ∷ told) = ap (λ (c : Bool). is_command place t || c) (kept_any false place told)
+
+-- ---- a line that comes
+
+module _ (list : List PlainEntry) (told apart : List PlainTold) (t : PlainTold) where
+  pub judged_more : (old new : Seen) (known : Bool) → HasSeen new.accepting list ((told ++ apart) ++ t ∷ []) → is_accepted list t ≡ known → new.lines ≡ lines_after known old.lines → new.is_some ≡ true
+      → AreJudged list old told apart → AreJudged list new (told ++ t ∷ []) apart
+  judged_more old new known seen e lines some are = record {
+    accepting = seen_between new.accepting list told apart t seen;
+    lines_are = lines ∙ lines_more list told t known old.lines e are.lines_are;
+    is_some_is = some ∙ sym (any_more told t);
+  }
+
+-- the same is known of lines by another name
+pub judged_so : (list : List PlainEntry) (old new : Seen) (told apart : List PlainTold) → new.accepting ≡ old.accepting → new.lines ≡ old.lines → new.is_some ≡ old.is_some
+    → AreJudged list old told apart → AreJudged list new told apart
+judged_so list old new told apart same lines some are = record {
+  accepting = subst (λ a. HasSeen a list (told ++ apart)) (sym same) are.accepting;
+  lines_are = lines ∙ are.lines_are;
+  is_some_is = some ∙ are.is_some_is;
+}
+
+module _ (asked : Asked) (place : ℕ) (old mid : Seen) (t : PlainTold) (words : List ℕ) (known : Bool) (words_are : t.words ≡ words)
+    (accepted : (list : List PlainEntry) (told apart : List PlainTold) → AreJudged list old told apart → known ≡ list_any (accepts words) list)
+    (judged : (list : List PlainEntry) (told apart : List PlainTold) (x : PlainTold) → x.words ≡ words → AreJudged list old told apart → AreJudged list mid (told ++ x ∷ []) apart)
+    (causes : mid.causes ≡ old.causes) (meanings : mid.meanings ≡ old.meanings) where
+  is_known : (list : List PlainEntry) (told apart : List PlainTold) → AreJudged list old told apart → is_accepted list t ≡ known
+  is_known list told apart are = ap (λ (w : List ℕ). list_any (accepts w) list) words_are ∙ sym (accepted list told apart are)
+
+  -- the list accepts it
+  pub sees_accepted : known ≡ true → Sees asked place old mid t []
+  sees_accepted is_yes = λ forgets list visits told apart small are.
+      let e = is_known list told apart are.judged ∙ is_yes in
+      let same : left_of list told ≡ left_of list (told ++ t ∷ []) = sym (left_more list told t true e ∙ append-nil (left_of list told)) in (
+        record {
+          judged = judged list told apart t words_are are.judged;
+          are_kept = record {
+            causes = subst (λ (c : Causes). AreCauses forgets c (map (kept asked.once) (left_of list (told ++ t ∷ []))) place visits) (sym causes)
+                (subst (λ (xs : List PlainTold). AreCauses forgets old.causes (map (kept asked.once) xs) place visits) same are.are_kept.causes);
+            meanings = subst (λ (c : Causes). AreCauses forgets c (left_of list apart) place visits) (sym meanings) are.are_kept.meanings;
+          };
+        },
+        sym (ap (text_shown asked.once) (left_one list t true e) ∙ nothing_shown asked.once),
+      )
+
+  -- or it is left
+  pub sees_left : (new : Seen) (text : List ℕ) → known ≡ false → new.accepting ≡ mid.accepting → new.meanings ≡ mid.meanings → new.lines ≡ mid.lines → new.is_some ≡ mid.is_some
+      → ((forgets : Bool) (told : List PlainTold) (visits : ℕ) → visits < 2 ^ 63 → AreCauses forgets mid.causes told place visits → AreCauses forgets new.causes (told ++ kept asked.once t ∷ []) place visits)
+      → text ≡ text_shown asked.once (t ∷ []) → Sees asked place old new t text
+  sees_left new text is_no same_list same_meanings same_lines same_some added text_is = λ forgets list visits told apart small are.
+      let e = is_known list told apart are.judged ∙ is_no in
+      let more : map (kept asked.once) (left_of list told) ++ kept asked.once t ∷ [] ≡ map (kept asked.once) (left_of list (told ++ t ∷ [])) =
+      sym (map-append (kept asked.once) (left_of list told) (t ∷ [])) ∙ ap (map (kept asked.once)) (sym (left_more list told t false e)) in
+      let before = subst (λ (c : Causes). AreCauses forgets c (map (kept asked.once) (left_of list told)) place visits) (sym causes) are.are_kept.causes in (
+        record {
+          judged = judged_so list mid new (told ++ t ∷ []) apart same_list same_lines same_some (judged list told apart t words_are are.judged);
+          are_kept = record {
+            causes = subst (λ (xs : List PlainTold). AreCauses forgets new.causes xs place visits) more (added forgets (map (kept asked.once) (left_of list told)) visits small before);
+            meanings = subst (λ (c : Causes). AreCauses forgets c (left_of list apart) place visits) (sym (same_meanings ∙ meanings)) are.are_kept.meanings;
+          };
+        },
+        text_is ∙ ap (text_shown asked.once) (sym (left_one list t false e)),
+      )
+
+-- ---- a line of a meaning that comes
+
+module _ (asked : Asked) (place : ℕ) (old new : Seen) (t : PlainTold) (known : Bool)
+    (accepted : (list : List PlainEntry) (told : List PlainTold) → HasSeen old.accepting list told → known ≡ list_any (accepts t.words) list)
+    (come : (list : List PlainEntry) (told : List PlainTold) (x : PlainTold) → x.words ≡ t.words → HasSeen old.accepting list told → HasSeen new.accepting list (told ++ x ∷ []))
+    (causes : new.causes ≡ old.causes) (lines : new.lines ≡ old.lines) (some : new.is_some ≡ old.is_some) where
+  judged_apart : (list : List PlainEntry) (told apart : List PlainTold) → AreJudged list old told apart → AreJudged list new told (apart ++ t ∷ [])
+  judged_apart list told apart are = record {
+    accepting = seen_behind new.accepting list told apart t (come list (told ++ apart) t refl are.accepting);
+    lines_are = lines ∙ are.lines_are;
+    is_some_is = some ∙ are.is_some_is;
+  }
+
+  pub sees_apart : ((forgets : Bool) (told : List PlainTold) (visits : ℕ) → visits < 2 ^ 63 → AreCauses forgets old.meanings told place visits
+      → AreCauses forgets new.meanings (told ++ cond known [] (t ∷ [])) place visits) → SeesApart asked place old new (t ∷ [])
+  sees_apart added = λ forgets list visits told apart small are.
+      let e = sym (accepted list (told ++ apart) are.judged.accepting) in record {
+        judged = judged_apart list told apart are.judged;
+        are_kept = record {
+          causes = subst (λ (c : Causes). AreCauses forgets c (map (kept asked.once) (left_of list told)) place visits) (sym causes) are.are_kept.causes;
+          meanings = subst (λ (xs : List PlainTold). AreCauses forgets new.meanings xs place visits) (sym (left_more list apart t known e))
+              (added forgets (left_of list apart) visits small are.are_kept.meanings);
+        };
+      }

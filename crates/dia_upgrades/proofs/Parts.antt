@@ -1,14 +1,8 @@
 -- Lists that are made of parts, one behind another.
-use Rattle.std.proofs.Common.{◌≡◌, ℕ, ◌+◌, ◌<◌, List, [], ◌∷◌, ◌++◌, length, take, get_or, Result, Ok, Err, refl, sym, ap, subst, ◌∙◌, append_assoc}
-use Rattle.std.specs.Prelude.{OnOk}
+use Rattle.std.proofs.Common.{ℕ, ◌+◌, ◌<◌, List, [], ◌∷◌, ◌++◌, length, take, get_or, refl, sym, ap, subst, ◌∙◌, append_assoc}
 use Rattle.std.specs.List.{AllByRecursion}
 use Rattle.std.proofs.lemmas.List.{append-nil, take_more}
-use Rattle.dia_upgrades.specs.Places.{Adds, AddsBoth}
 use Rattle.dia_upgrades.specs.Told.{AreBothParts, AreParts}
-
-pub on_ok : {X E : Type 0} (P Q : Type 0) (r : Result X E) → (P → Q) → OnOk r P → OnOk r Q
-on_ok P Q (Ok x) f p = f p
-on_ok P Q (Err e) f p = tt
 
 pub split : {Y : Type 0} (P : Y → Type 0) (front rest : List Y) → AllByRecursion P (front ++ rest) → AllByRecursion P front × AllByRecursion P rest
 split P [] rest all = (tt, all)
@@ -20,16 +14,20 @@ module _ {X Y : Type 0} (is : X → List Y → Type 0) where
   one_behind (y ∷ xs) x old more (front, rest, is_y, are, e) is_x =
       (front, rest ++ more, is_y, one_behind xs x rest more are is_x, ap (λ (o : List Y). o ++ more) e ∙ append_assoc front rest more)
 
-  pub one_more : (xs : List X) (i : ℕ) (d : X) (old new : List Y) → i < length xs → AreParts is (take i xs) old → Adds (is (get_or xs i d)) old new → AreParts is (take (i + 1) xs) new
-  one_more xs i d old new less are (more, is_x, e) =
-      subst (AreParts is (take (i + 1) xs)) (sym e) (subst (λ (ys : List X). AreParts is ys (old ++ more)) (sym (take_more xs i d less)) (one_behind (take i xs) (get_or xs i d) old more are is_x))
+  pub one_more : (xs : List X) (i : ℕ) (d : X) (old more : List Y) → i < length xs → AreParts is (take i xs) old → is (get_or xs i d) more → AreParts is (take (i + 1) xs) (old ++ more)
+  one_more xs i d old more less are is_x =
+      subst (λ (ys : List X). AreParts is ys (old ++ more)) (sym (take_more xs i d less)) (one_behind (take i xs) (get_or xs i d) old more are is_x)
 
-  pub adds_more : (xs ys : List X) (i : ℕ) (d : X) (start old new : List Y) → ys ≡ xs → i < length ys → Adds (AreParts is (take i xs)) start old → Adds (is (get_or ys i d)) old new
-      → Adds (AreParts is (take (i + 1) xs)) start new
-  adds_more xs ys i d start old new same less (told, are, e) more =
-      let (added, is_x, f) = subst (λ (zs : List X). Adds (is (get_or zs i d)) old new) same more in
-      let next = one_more xs i d told (told ++ added) (subst (λ (zs : List X). i < length zs) same less) are (added, is_x, refl) in
-      (told ++ added, next, f ∙ ap (λ (o : List Y). o ++ added) e ∙ append_assoc start told added)
+  -- parts of the first members, and parts of the others
+  pub both_ends : (xs ys : List X) (old more : List Y) → AreParts is xs old → AreParts is ys more → AreParts is (xs ++ ys) (old ++ more)
+  both_ends [] ys old more none are = subst (AreParts is ys) (ap (λ (o : List Y). o ++ more) (sym none)) are
+  both_ends (x ∷ xs) ys old more (front, rest, is_x, are, e) others =
+      (front, rest ++ more, is_x, both_ends xs ys rest more are others, ap (λ (o : List Y). o ++ more) e ∙ append_assoc front rest more)
+
+  -- each member has a part
+  pub all_parts : (part : X → List Y) → ((x : X) → is x (part x)) → (xs : List X) → (ys : List Y) × AreParts is xs ys
+  all_parts part has [] = ([], refl)
+  all_parts part has (x ∷ xs) = let more = all_parts part has xs in (part x ++ more.0, (part x, more.0, has x, more.1, refl))
 
   -- what holds of all members holds of those of each part
   pub of_parts : (P : Y → Type 0) (Q : X → Type 0) → ((x : X) (ys : List Y) → is x ys → AllByRecursion P ys → Q x) → (xs : List X) (ys : List Y) → AreParts is xs ys → AllByRecursion P ys
@@ -66,13 +64,11 @@ module _ {X Y : Type 0} (is : X → ℕ → ℕ → List Y → List Y → Type 0
     ap (λ (o : List Y). o ++ others) f ∙ append_assoc first last others,
   )
 
-  pub both_more : (xs : List X) (i : ℕ) (d : X) (budget next behind : ℕ) (old other new changed : List Y) → i < length xs → AreBothParts is (take i xs) budget next old other
-      → AddsBoth (is (get_or xs i d) next behind) old other new changed → AreBothParts is (take (i + 1) xs) budget behind new changed
-  both_more xs i d budget next behind old other new changed less are (more, others, is_x, e, f) =
-      let all = subst (λ (ys : List X). AreBothParts is ys budget behind (old ++ more) (other ++ others)) (sym (take_more xs i d less))
-      (both_behind (take i xs) (get_or xs i d) budget next behind old other more others are is_x) in
-      let first = subst (λ (o : List Y). AreBothParts is (take (i + 1) xs) budget behind o (other ++ others)) (sym e) all in
-      subst (AreBothParts is (take (i + 1) xs) budget behind new) (sym f) first
+  pub both_more : (xs : List X) (i : ℕ) (d : X) (budget next behind : ℕ) (old other more others : List Y) → i < length xs → AreBothParts is (take i xs) budget next old other
+      → is (get_or xs i d) next behind more others → AreBothParts is (take (i + 1) xs) budget behind (old ++ more) (other ++ others)
+  both_more xs i d budget next behind old other more others less are is_x =
+      subst (λ (ys : List X). AreBothParts is ys budget behind (old ++ more) (other ++ others)) (sym (take_more xs i d less))
+      (both_behind (take i xs) (get_or xs i d) budget next behind old other more others are is_x)
 
   -- what holds of all members of the first holds of those of each of its parts
   pub of_both_parts : (P : Y → Type 0) (Q : X → Type 0) → ((x : X) (budget behind : ℕ) (ys zs : List Y) → is x budget behind ys zs → AllByRecursion P ys → Q x) → (xs : List X) (budget behind : ℕ)

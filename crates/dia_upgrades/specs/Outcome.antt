@@ -1,5 +1,5 @@
 -- What `breaking` writes for its inputs, and how it ends.
-use Rattle.std.specs.Prelude.{◌≡◌, ◌≢◌, ⊤, ℕ, Bool, true, if◌then◌else◌, List, [], ◌∷◌, ◌++◌, Some, Contains, length, map, slice_get, codes}
+use Rattle.std.specs.Prelude.{◌≡◌, ◌≢◌, ⊤, ℕ, Bool, true, false, if◌then◌else◌, List, [], ◌∷◌, ◌++◌, Some, Contains, length, map, min, slice_get, codes}
 use Rattle.std.specs.Global.{Vec}
 use Rattle.std.specs.List.{AllByRecursion, list_any}
 use Rattle.dia_book.specs.Dictionary.{Dictionary, PlainDefinition, definitions}
@@ -12,7 +12,7 @@ use Rattle.dia_io.specs.declared.Exit.{Exit}
 use Rattle.dia_io.specs.declared.Exit.TheVariants.{Yes, No, Bad}
 use Rattle.dia_run.specs.Texts.{line, IsDictionaryText, IsNoDictionaryText}
 use Rattle.dia_run.specs.Outcome.{IsPairOutcome, Refuses}
-use Rattle.dia_accepted.specs.Accepted.{PlainEntry, PlainTold, accepts, left_of, plain_told, stale_lines}
+use Rattle.dia_accepted.specs.Accepted.{PlainEntry, PlainTold, accepts, kept, left_of, plain_told, stale_lines}
 use Rattle.dia_accepted.specs.Causes.{once_of}
 use Rattle.dia_accepted.specs.declared.Told.{Told}
 use Rattle.dia_breaking.specs.declared.line.Line.{Line}
@@ -96,10 +96,14 @@ nothing_differs = codes "nothing differs"
 abbrev pub nothing_else_differs : List ℕ
 nothing_else_differs = codes "nothing else differs"
 
+-- where none is left of the lines, of which there are some or none
+abbrev pub nothing_for : Bool → Bool → List ℕ
+nothing_for meaning is_some = if is_some then (if meaning then nothing_else_differs else nothing_else_breaks) else (if meaning then nothing_differs else nothing_breaks)
+
 -- where none of these lines is left
 abbrev pub nothing_left : Bool → List PlainTold → List ℕ
-nothing_left meaning [] = if meaning then nothing_differs else nothing_breaks
-nothing_left meaning (told ∷ more) = if meaning then nothing_else_differs else nothing_else_breaks
+nothing_left meaning [] = nothing_for meaning false
+nothing_left meaning (told ∷ more) = nothing_for meaning true
 
 -- what is told of a dictionary without commands
 abbrev pub no_commands_line : List ℕ
@@ -118,17 +122,21 @@ pub record CanAsk (asked : Asked) (a : Dictionary) : Type 0 where
 abbrev pub shown : Bool → List PlainTold → List PlainTold
 shown is_once left = if is_once then once_of left else left
 
--- what was found tells which lines of the list accept none of these, how many of the first are left and their causes, and the causes of
--- the meanings that aren't asked for and that the list doesn't accept
-pub record TellsFound (list : List PlainEntry) (told apart : List PlainTold) (is : Found) : Type 0 where
+-- so many are counted of n lines: no more than the greatest number of 64 bits
+abbrev pub counted : ℕ → ℕ
+counted n = min n 18446744073709551615
+
+-- what was found tells which lines of the list accept none of these, how many of the first are left and their causes, with their messages
+-- where each cause is told once, and the causes of the meanings that aren't asked for and that the list doesn't accept
+pub record TellsFound (is_once : Bool) (list : List PlainEntry) (told apart : List PlainTold) (is : Found) : Type 0 where
   pub stale : Vec ℕ
   pub lines : ℕ
   pub causes : Vec Told
   pub meanings : Vec Told
   pub is_listed : is ≡ found.Listed stale lines causes meanings
   pub stale_are : stale.items ≡ stale_lines list (told ++ apart)
-  pub lines_are : lines ≡ length (left_of list told)
-  pub causes_are : map plain_told causes.items ≡ once_of (left_of list told)
+  pub lines_are : lines ≡ counted (length (left_of list told))
+  pub causes_are : map plain_told causes.items ≡ once_of (map (kept is_once) (left_of list told))
   pub meanings_are : map plain_told meanings.items ≡ once_of (left_of list apart)
 
 -- the inputs can be asked for, and the list and the lines are these
@@ -136,7 +144,7 @@ pub record IsAnswerable (asked : Asked) (input : Input) (a b : Dictionary) (list
   pub list_is : IsListText input list
   pub can_ask : CanAsk asked a
   pub all_told : AreAllTold asked a b told apart
-  pub tells : TellsFound list told apart is
+  pub tells : TellsFound asked.once list told apart is
 
 -- `breaking` of two dictionaries and a list: what is written, how it ends, and what was found
 pub data IsListed (asked : Asked) (input : Input) (a b : Dictionary) (text : List ℕ) (exit : Exit) (is : Found) : Type 0 where
@@ -170,7 +178,7 @@ HasNoLines found.NoCommand = ⊤
 -- so many lines are told that the list doesn't accept
 abbrev pub AreLeft : Asked → Input → Dictionary → Dictionary → ℕ → Type 0
 AreLeft asked input a b n = (list : List PlainEntry) × (told : List PlainTold) × (apart : List PlainTold) × IsListText input list × AreAllTold asked a b told apart
-    × (n ≡ length (left_of list told))
+    × (n ≡ counted (length (left_of list told)))
 
 -- the list is refused, or the commands can't be asked for: so it ends
 abbrev pub CannotAnswer : Asked → Input → Dictionary → Dictionary → Type 0

@@ -1,6 +1,6 @@
 -- The places of the commands that are asked for.
-use Rattle.std.specs.Prelude.{◌≡◌, ℕ, ◌+◌, List, [], ◌∷◌, ◌++◌, length, All}
-use Rattle.std.specs.List.{filter_map, range_with_len}
+use Rattle.std.specs.Prelude.{◌≡◌, ℕ, nat_eq, ◌+◌, ◌<◌, false, List, [], ◌∷◌, length, take, get_or, All}
+use Rattle.std.specs.List.{filter_map, list_any, range_with_len}
 use Rattle.dia_policy.specs.declared.sends.Sends.{Sends}
 use Rattle.dia_policy.specs.declared.Unknown.{Unknown}
 use Rattle.dia_book.specs.Dictionary.{Dictionary, groups}
@@ -16,12 +16,6 @@ asked_places d (name ∷ names) = filter_map (command_named d) (name ∷ names)
 abbrev pub AreAllValid : Dictionary → Dictionary → Sends → Unknown → List ℕ → Type 0
 AreAllValid a b sends unknown places = All (λ place. ∥ AreValid a b sends unknown (length (groups a) + place) ∥₁) places
 
--- ---- what is added
-
--- such a list was added
-abbrev pub Adds : {Y : Type 0} → (List Y → Type 0) → List Y → List Y → Type 0
-Adds {Y} is old new = (more : List Y) × is more × (new ≡ old ++ more)
-
--- so it was to two lists
-abbrev pub AddsBoth : {Y : Type 0} → (List Y → List Y → Type 0) → List Y → List Y → List Y → List Y → Type 0
-AddsBoth {Y} are old other new changed = (more : List Y) × (others : List Y) × are more others × (new ≡ old ++ more) × (changed ≡ other ++ others)
+-- no place stands before
+abbrev pub IsEachNew : List ℕ → Type 0
+IsEachNew places = (i d : ℕ) → i < length places → list_any (nat_eq (get_or places i d)) (take i places) ≡ false

@@ -1,22 +1,24 @@
 //! The command, from its inputs to what is written.
 
-ghost use Rattle.std.specs.Prelude.{◌≡◌, ◌↔◌, ℕ, List, IfErr, IfOk, Err, IsTrue, Ok, string_bytes};
+ghost use Rattle.std.specs.Prelude.{◌≡◌, ◌↔◌, ℕ, List, IfErr, IfOk, Err, IsTrue};
 ghost use Rattle.std.specs.Io.KnownBytes.{Appends};
-ghost use Rattle.dia_io.specs.declared.Exit.{Exit as AnyExit};
 ghost use Rattle.dia_io.specs.Writing.{AppendsFront};
-ghost use Rattle.dia_report.specs.Refusals.{bad_input_text};
+ghost use Rattle.dia_report.specs.Refusals.{TellsOf, bad_input_text};
+ghost use Rattle.dia_run.specs.Report.{AreReadFrom};
 ghost use Rattle.dia_run.specs.Texts.{line};
+ghost use Rattle.dia_upgrades.specs.Begun.{IsOutcomeBegun, IsOutcomeBegunOrWhole};
 ghost use Rattle.dia_upgrades.specs.Outcome.{AreRefused, IsBreakingOutcome, IsSafeUpgrade, IsUnsafeUpgrade};
-ghost use Rattle.dia_upgrades.specs.Report.{Answers, HasReport, IsReport, TellsRefusal};
+ghost use Rattle.dia_upgrades.specs.Report.{IsReport, IsRefusedText};
+ghost use Rattle.dia_upgrades.specs.UnderWay.{Reports};
 
 use crate::asked::Asked;
-use crate::judging::judged;
-use crate::reporting::{Answered, Judged, Report, Reported};
+use crate::judging::breaking_of;
+use crate::reporting::{Listed, Report, Reported};
 use dia_dict::{Book, IndexedBook};
 use dia_io::{Exit, Inputs, RunFault, Sink, put_all};
 use dia_report::{BadInput, BothBooks, Refused};
 use dia_run::read_dictionary;
-use std::alloc::{AllocError, Global};
+use std::alloc::Global;
 
 /// Writes a line for each way in which messages break: those that the side of the first dictionary sends, and the side of the
 /// second reads. With `meaning` AVPs that are read as another format have lines, too. Lines that the list of accepted ones, the
@@ -26,7 +28,8 @@ use std::alloc::{AllocError, Global};
 /// `nothing differs` and `nothing else differs`. It answers how it ended, and a report: how many lines and causes there are,
 /// which lines of the list accept nothing, and, without `meaning`, the AVPs that are read as another format.
 ///
-/// The text is made first, and then written in whatever pieces the sink takes.
+/// Lines are written as they are found, in whatever pieces the sink takes, and dropped: only their causes are kept. With `once`
+/// they are written behind all.
 pub fn breaking<S: Sink>(
     alloc: Global,
     asked: Asked<'_>,
@@ -49,64 +52,84 @@ pub fn breaking<S: Sink>(
     ensures bad { IfOk result
         (λ reported. (reported.exit ≡ Exit.Bad) ↔ AreRefused asked.entry inputs.now) }
     ensures device { (result ≡ Err RunFault.Device) ↔ IsTrue (S.has_failed sink.new) }
-    ensures front { result ≡ Err RunFault.Device
-        → (text : List ℕ) × (exit : AnyExit) × IsBreakingOutcome asked.entry inputs.now text exit
+    // Where the sink fails, a beginning was written: of all that is written, or of the lines that were found until then.
+    ensures front { result ≡ Err RunFault.Device → (text : List ℕ) × IsOutcomeBegunOrWhole asked.entry inputs.now text
         × AppendsFront (S.written sink.old) (S.written sink.new) text }
-    ensures no_memory { result ≡ Err RunFault.NoMemory → S.written sink.new ≡ S.written sink.old }
+    // Where memory is refused, nothing was written, or lines up to the end of one, from the first on.
+    ensures no_memory { result ≡ Err RunFault.NoMemory → (text : List ℕ) × IsOutcomeBegun asked.entry inputs.now text
+        × Appends (S.written sink.old) (S.written sink.new) text }
 {
-    let Answered { text, exit, report } = perform(alloc, asked, inputs)?;
-    put_all(sink, text.as_bytes())?;
-    Ok(Reported { exit, report })
+    reported(alloc, asked, inputs, sink)
 }
 
-/// The text for the inputs, how it ends, and a report of what was read and found.
-fn perform(alloc: Global, asked: Asked<'_>, inputs: &Inputs) -> Result<Answered, AllocError>
-    ensures outcome { IfOk result (λ answered. IsBreakingOutcome asked.entry inputs.now
-        (string_bytes answered.text) answered.exit) }
-    ensures report { IfOk result (HasReport ⟦<IndexedBook as Book>⟧.meaning asked.entry inputs.now) }
+/// The same, in one clause.
+fn reported<S: Sink>(
+    alloc: Global,
+    asked: Asked<'_>,
+    inputs: &Inputs,
+    sink: &mut S,
+) -> Result<Reported, RunFault>
+    requires { ¬ IsTrue (S.has_failed sink.old) }
+    ensures reports { Reports ⟦<IndexedBook as Book>⟧.meaning asked.entry inputs.now
+        (S.written sink.old) (S.written sink.new) result }
+    ensures device { (result ≡ Err RunFault.Device) ↔ IsTrue (S.has_failed sink.new) }
 {
-    answer_of(alloc, attempt(alloc, asked, inputs))
-}
-
-/// The answer, or why a dictionary is refused.
-fn attempt(alloc: Global, asked: Asked<'_>, inputs: &Inputs) -> Result<Answered, Refused>
-    ensures outcome { Answers (IsBreakingOutcome asked.entry inputs.now) result }
-    ensures report { IfOk result (HasReport ⟦<IndexedBook as Book>⟧.meaning asked.entry inputs.now) }
-{
-    let first = read_dictionary(alloc, 1, &inputs.first)?;
-    let second = read_dictionary(alloc, 2, &inputs.second)?;
-    let Judged { text, exit, found } = judged(
-        alloc,
-        asked,
-        &inputs.table,
-        &first.book,
-        &second.book,
-    )?;
-    let books = BothBooks { first, second };
-    let report = Report::Read { books, found };
-    Ok(Answered { text, exit, report })
-}
-
-/// What is answered: what was made, or the line of a dictionary that is refused.
-fn answer_of(alloc: Global, made: Result<Answered, Refused>) -> Result<Answered, AllocError>
-    ensures done { IfOk made (λ answered. result ≡ Ok answered) }
-    ensures refused { IfErr made (λ refused. IfOk result (TellsRefusal refused)) }
-{
-    match made {
-        Ok(answered) => Ok(answered),
-        Err(Refused::Bad(bad)) => refused(alloc, bad),
-        Err(Refused::NoMemory) => Err(AllocError),
+    match read_both(alloc, inputs) {
+        Ok(books) => over_books(alloc, asked, inputs, books, sink),
+        Err(Refused::Bad(bad)) => refused(alloc, bad, sink),
+        Err(Refused::NoMemory) => Err(RunFault::NoMemory),
     }
 }
 
-/// The answer of a dictionary that is refused.
-fn refused(alloc: Global, bad: BadInput) -> Result<Answered, AllocError>
-    ensures text { IfOk result (λ answered. string_bytes answered.text ≡ line (bad_input_text bad)) }
-    ensures exit { IfOk result (λ answered. answered.exit ≡ Exit.Bad) }
-    ensures report { IfOk result (λ answered. answered.report ≡ Report.Refused bad) }
+/// The dictionaries, or why one is refused.
+fn read_both(alloc: Global, inputs: &Inputs) -> Result<BothBooks, Refused>
+    ensures books { IfOk result (AreReadFrom ⟦<IndexedBook as Book>⟧.meaning inputs.now) }
+    ensures refused { IfErr result (TellsOf (IsRefusedText inputs.now)) }
+{
+    let first = read_dictionary(alloc, 1, &inputs.first)?;
+    let second = read_dictionary(alloc, 2, &inputs.second)?;
+    Ok(BothBooks { first, second })
+}
+
+/// Lists what breaks over dictionaries that were read.
+fn over_books<S: Sink>(
+    alloc: Global,
+    asked: Asked<'_>,
+    inputs: &Inputs,
+    books: BothBooks,
+    sink: &mut S,
+) -> Result<Reported, RunFault>
+    requires { ¬ IsTrue (S.has_failed sink.old) }
+    ensures reports { AreReadFrom ⟦<IndexedBook as Book>⟧.meaning inputs.now books
+        → Reports ⟦<IndexedBook as Book>⟧.meaning asked.entry inputs.now (S.written sink.old) (S.written sink.new) result }
+    ensures device { (result ≡ Err RunFault.Device) ↔ IsTrue (S.has_failed sink.new) }
+{
+    let Listed { exit, found } = breaking_of(
+        alloc,
+        asked,
+        &inputs.table,
+        &books.first.book,
+        &books.second.book,
+        sink,
+    )?;
+    let report = Report::Read { books, found };
+    Ok(Reported { exit, report })
+}
+
+/// Writes the line of a dictionary that is refused.
+fn refused<S: Sink>(alloc: Global, bad: BadInput, sink: &mut S) -> Result<Reported, RunFault>
+    requires { ¬ IsTrue (S.has_failed sink.old) }
+    ensures put { IfOk result (λ reported. Appends (S.written sink.old) (S.written sink.new) (line (bad_input_text bad))) }
+    ensures exit { IfOk result (λ reported. reported.exit ≡ Exit.Bad) }
+    ensures report { IfOk result (λ reported. reported.report ≡ Report.Refused bad) }
+    ensures front { result ≡ Err RunFault.Device
+        → AppendsFront (S.written sink.old) (S.written sink.new) (line (bad_input_text bad)) }
+    ensures device { (result ≡ Err RunFault.Device) ↔ IsTrue (S.has_failed sink.new) }
+    ensures no_memory { result ≡ Err RunFault.NoMemory → S.written sink.new ≡ S.written sink.old }
 {
     let text = format!(in alloc; "{bad}\n")?;
+    put_all(sink, text.as_bytes())?;
     let exit = Exit::Bad;
     let report = Report::Refused(bad);
-    Ok(Answered { text, exit, report })
+    Ok(Reported { exit, report })
 }

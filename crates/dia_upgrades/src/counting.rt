@@ -4,15 +4,17 @@ ghost use Rattle.std.specs.Prelude.{◌≡◌, ◌↔◌, IfOk, IfSome, IsNone, 
 ghost use Rattle.dia_upgrades.specs.Outcome.{AreLeft, CannotAnswer, HasLines, HasNoLines};
 
 use crate::asked::Asked;
-use crate::judging::judged;
+use crate::judging::breaking_of;
+use crate::nowhere::Nowhere;
 use crate::reporting::Found;
 use dia_dict::{Book, IndexedBook};
-use dia_io::Input;
+use dia_io::{Input, RunFault};
 use dia_report::BothBooks;
 use std::alloc::{AllocError, Global};
 
-/// How many lines an answer has over these dictionaries that the list in this input doesn't accept. There is none exactly where
-/// the answer is a refusal: of the list, of a dictionary without commands, or of a name.
+/// How many lines an answer has over these dictionaries that the list in this input doesn't accept; where there are more than can
+/// be counted, the greatest number. There is none exactly where the answer is a refusal: of the list, of a dictionary without
+/// commands, or of a name.
 pub fn lines_left(
     alloc: Global,
     asked: Asked<'_>,
@@ -26,8 +28,19 @@ pub fn lines_left(
         (⟦<IndexedBook as Book>⟧.meaning books.now.first.value.book)
         (⟦<IndexedBook as Book>⟧.meaning books.now.second.value.book)) }
 {
-    let judged = judged(alloc, asked, input, &books.first.book, &books.second.book)?;
-    Ok(count_of(&judged.found))
+    let mut nowhere = Nowhere;
+    match breaking_of(
+        alloc,
+        asked,
+        input,
+        &books.first.book,
+        &books.second.book,
+        &mut nowhere,
+    ) {
+        Ok(listed) => Ok(count_of(&listed.found)),
+        Err(RunFault::NoMemory) => Err(AllocError),
+        Err(RunFault::Device) => unreachable!(),
+    }
 }
 
 fn count_of(found: &Found) -> Option<usize>

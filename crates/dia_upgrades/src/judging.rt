@@ -1,69 +1,104 @@
-//! What is written of two dictionaries that were read, and how it ends.
+//! What is written of two dictionaries and the text of a list of accepted lines.
 
-ghost use Rattle.std.specs.Prelude.{◌≡◌, ◌++◌, ◌==◌, [], IfOk, OnOk, if◌then◌else◌, length, map, string_bytes};
+ghost use Rattle.std.specs.Prelude.{◌≡◌, ◌<◌, ◌↔◌, ◌==◌, All, IfOk, IsTrue, List, ℕ, Err, length, map, string_bytes};
+ghost use Rattle.std.specs.Io.KnownBytes.{Appends};
 ghost use Rattle.dia_io.specs.declared.Input.{Input as AnyInput};
+ghost use Rattle.dia_io.specs.declared.RunFault.TheVariants.{Device, NoMemory};
+ghost use Rattle.dia_io.specs.Writing.{AppendsFront};
+ghost use Rattle.dia_accepted.specs.Accepted.{plain_entry};
 ghost use Rattle.dia_run.specs.Texts.{line};
-ghost use Rattle.dia_accepted.specs.Accepted.{left_of, plain_entry, plain_told};
-ghost use Rattle.dia_accepted.specs.Causes.{once_of};
+ghost use Rattle.dia_upgrades.specs.Begun.{IsBegun, IsBegunOrWhole};
 ghost use Rattle.dia_upgrades.specs.Lists.{IsListText, list_line};
-ghost use Rattle.dia_upgrades.specs.Outcome.{IsListed, TellsFound, no_command_line, no_commands_line, nothing_left, shown};
-ghost use Rattle.dia_upgrades.specs.Told.{told_text};
+ghost use Rattle.dia_upgrades.specs.Asking.{names_of};
+ghost use Rattle.dia_upgrades.specs.Outcome.{CanAsk, IsListed, no_command_line};
+ghost use Rattle.dia_upgrades.specs.Places.{asked_places};
+ghost use Rattle.dia_upgrades.specs.UnderWay.{Answers};
 
 use crate::asked::Asked;
-use crate::lines::{Lines, lines_of};
+use crate::ending::{ended, refused};
+use crate::lines::put_lines;
 use crate::list::{BadList, read_accepted};
 use crate::naming::named;
-use crate::reporting::{Found, Judged};
-use dia_accepted::{Entry, Told, left, once, stale};
+use crate::reporting::{Found, Listed};
+use dia_accepted::Entry;
 use dia_breaking::Upgrade;
 use dia_dict::Book;
-use dia_io::{Exit, Input};
+use dia_io::{Input, RunFault, Sink};
 use std::alloc::{AllocError, Global};
 
-/// What is written of two dictionaries and the text of a list of accepted lines. The list is judged first, then the first
-/// dictionary's commands, then the names.
-pub(crate) fn judged<A: Book, B: Book>(
+/// Writes a line for each way in which messages break, over two dictionaries that were read and the text of a list of accepted
+/// lines, as [`breaking`](crate::breaking) does. The list is judged first, then the first dictionary's commands, then the names.
+pub fn breaking_of<A: Book, B: Book, S: Sink>(
     alloc: Global,
     asked: Asked<'_>,
-    input: &Input,
+    list: &Input,
     a: &A,
     b: &B,
-) -> Result<Judged, AllocError>
-    ensures { IfOk result (λ judged. IsListed asked.entry input.now (A.meaning a.now) (B.meaning b.now)
-        (string_bytes judged.text) judged.exit judged.found) }
+    sink: &mut S,
+) -> Result<Listed, RunFault>
+    requires { ¬ IsTrue (S.has_failed sink.old) }
+    ensures text { IfOk result (λ listed. (text : List ℕ)
+        × IsListed asked.entry list.now (A.meaning a.now) (B.meaning b.now) text listed.exit listed.found
+        × Appends (S.written sink.old) (S.written sink.new) text) }
+    ensures device { (result ≡ Err Device) ↔ IsTrue (S.has_failed sink.new) }
+    // What was written is a beginning of such lines, or of all that is written.
+    ensures front { result ≡ Err Device → (text : List ℕ)
+        × IsBegunOrWhole asked.entry list.now (A.meaning a.now) (B.meaning b.now) text
+        × AppendsFront (S.written sink.old) (S.written sink.new) text }
+    // Such lines were written, and nothing else.
+    ensures no_memory { result ≡ Err NoMemory → (text : List ℕ)
+        × IsBegun asked.entry list.now (A.meaning a.now) (B.meaning b.now) text
+        × Appends (S.written sink.old) (S.written sink.new) text }
 {
-    let read = read_accepted(alloc, input)?;
-    match read {
-        Ok(list) => {
-            let entries = list.as_slice();
-            listed(alloc, asked, entries, a, b)
+    answered(alloc, asked, list, a, b, sink)
+}
+
+/// The same, in one clause.
+fn answered<A: Book, B: Book, S: Sink>(
+    alloc: Global,
+    asked: Asked<'_>,
+    list: &Input,
+    a: &A,
+    b: &B,
+    sink: &mut S,
+) -> Result<Listed, RunFault>
+    requires { ¬ IsTrue (S.has_failed sink.old) }
+    ensures answers { Answers asked.entry list.now (A.meaning a.now) (B.meaning b.now)
+        (S.written sink.old) (S.written sink.new) result }
+    ensures device { (result ≡ Err Device) ↔ IsTrue (S.has_failed sink.new) }
+{
+    match read_accepted(alloc, list)? {
+        Ok(list) => listed(alloc, asked, list.as_slice(), a, b, sink),
+        Err(bad) => {
+            let text = no_list_text(alloc, bad)?;
+            refused(sink, text.as_str(), Found::NoList(bad))
         }
-        Err(bad) => no_list(alloc, bad),
     }
 }
 
 /// What is written of two dictionaries, where this is the list of accepted lines.
-fn listed<A: Book, B: Book>(
+fn listed<A: Book, B: Book, S: Sink>(
     alloc: Global,
     asked: Asked<'_>,
     list: &[Entry],
     a: &A,
     b: &B,
-) -> Result<Judged, AllocError>
-    ensures { (input : AnyInput) → IsListText input (map plain_entry list.now) → IfOk result (λ judged.
-        IsListed asked.entry input (A.meaning a.now) (B.meaning b.now)
-        (string_bytes judged.text) judged.exit judged.found) }
+    sink: &mut S,
+) -> Result<Listed, RunFault>
+    requires { ¬ IsTrue (S.has_failed sink.old) }
+    ensures answers { (input : AnyInput) → IsListText input (map plain_entry list.now)
+        → Answers asked.entry input (A.meaning a.now) (B.meaning b.now) (S.written sink.old) (S.written sink.new) result }
+    ensures device { (result ≡ Err Device) ↔ IsTrue (S.has_failed sink.new) }
 {
     if has_no_commands(a) {
-        return no_commands(alloc);
+        return refused(sink, "breaking: no command\n", Found::NoCommands);
     }
     match named(alloc, a, asked.names)? {
-        Ok(commands) => {
-            let upgrade = Upgrade::new(alloc, a, b, asked.sends, asked.unknown)?;
-            let lines = lines_of(alloc, &upgrade, &commands, asked)?;
-            compared(alloc, asked, list, &lines)
+        Ok(commands) => compared(alloc, asked, list, a, b, commands.as_slice(), sink),
+        Err(name) => {
+            let text = no_command_text(alloc, name)?;
+            refused(sink, text.as_str(), Found::NoCommand)
         }
-        Err(name) => no_command(alloc, name),
     }
 }
 
@@ -73,162 +108,36 @@ fn has_no_commands<A: Book>(a: &A) -> bool
     a.commands() == 0
 }
 
-/// What is written of lines, how much is left of them, and which lines of the list accept none of them.
-fn compared(
+/// What is written of the commands at these places.
+fn compared<A: Book, B: Book, S: Sink>(
     alloc: Global,
     asked: Asked<'_>,
     list: &[Entry],
-    lines: &Lines,
-) -> Result<Judged, AllocError>
-    ensures found { IfOk result (λ judged. TellsFound (map plain_entry list.now)
-        (map plain_told lines.now.told.items) (map plain_told lines.now.apart.items) judged.found) }
-    ensures none { left_of (map plain_entry list.now) (map plain_told lines.now.told.items) ≡ []
-        → IfOk result (λ judged. (judged.exit ≡ Exit.Yes)
-        × (string_bytes judged.text ≡ line (nothing_left asked.entry.meaning (map plain_told lines.now.told.items)))) }
-    ensures some { ¬ (left_of (map plain_entry list.now) (map plain_told lines.now.told.items) ≡ [])
-        → IfOk result (λ judged. (judged.exit ≡ Exit.No) × (string_bytes judged.text
-        ≡ told_text (shown asked.entry.once (left_of (map plain_entry list.now) (map plain_told lines.now.told.items))))) }
+    a: &A,
+    b: &B,
+    commands: &[usize],
+    sink: &mut S,
+) -> Result<Listed, RunFault>
+    requires sound { ¬ IsTrue (S.has_failed sink.old) }
+    requires places { All (λ place. place < length (A.meaning a.now).commands) commands.now }
+    ensures answers { (input : AnyInput) → IsListText input (map plain_entry list.now) → CanAsk asked.entry (A.meaning a.now)
+        → commands.now ≡ asked_places (A.meaning a.now) (names_of asked.entry)
+        → Answers asked.entry input (A.meaning a.now) (B.meaning b.now) (S.written sink.old) (S.written sink.new) result }
+    ensures device { (result ≡ Err Device) ↔ IsTrue (S.has_failed sink.new) }
 {
-    let told = lines.told.as_slice();
-    let apart = lines.apart.as_slice();
-    let left = left(alloc, list, told)?;
-    let rest = left.as_slice();
-    let causes = once(alloc, rest)?;
-    let text = text_shown(alloc, asked.once, rest, causes.as_slice())?;
-    let meanings = causes_left(alloc, list, apart)?;
-    let stale = stale(alloc, list, told, apart)?;
-    let found = Found::Listed {
-        stale,
-        lines: rest.len(),
-        causes,
-        meanings,
-    };
-    if rest.is_empty() {
-        return nothing_told(alloc, asked.meaning, told, found);
-    }
-    let exit = Exit::No;
-    Ok(Judged { text, exit, found })
+    let upgrade = Upgrade::new(alloc, a, b, asked.sends, asked.unknown)?;
+    let seen = put_lines(alloc, sink, &upgrade, commands, asked, list)?;
+    ended(alloc, asked, &seen, sink)
 }
 
-/// A line for each cause of the lines that the list doesn't accept.
-fn causes_left(alloc: Global, list: &[Entry], lines: &[Told]) -> Result<Vec<Told>, AllocError>
-    ensures { IfOk result (λ causes. map plain_told causes.items
-        ≡ once_of (left_of (map plain_entry list.now) (map plain_told lines.now))) }
+fn no_list_text(alloc: Global, bad: BadList) -> Result<String, AllocError>
+    ensures { IfOk result (λ text. string_bytes text ≡ line (list_line bad)) }
 {
-    let left = left(alloc, list, lines)?;
-    once(alloc, left.as_slice())
+    format!(in alloc; "accepted: {bad}\n")
 }
 
-/// What is written where no line is left of these.
-fn nothing_told(
-    alloc: Global,
-    meaning: bool,
-    lines: &[Told],
-    found: Found,
-) -> Result<Judged, AllocError>
-    ensures text { IfOk result (λ judged. string_bytes judged.text
-        ≡ line (nothing_left meaning (map plain_told lines.now))) }
-    ensures exit { IfOk result (λ judged. judged.exit ≡ Exit.Yes) }
-    ensures found { IfOk result (λ judged. judged.found ≡ found) }
+fn no_command_text(alloc: Global, name: &str) -> Result<String, AllocError>
+    ensures { IfOk result (λ text. string_bytes text ≡ line (no_command_line name.now)) }
 {
-    let text = String::from_str(alloc, nothing_left(lines, meaning))?;
-    let exit = Exit::Yes;
-    Ok(Judged { text, exit, found })
-}
-
-fn nothing_left(lines: &[Told], meaning: bool) -> &'static str
-    ensures { result.now ≡ line (nothing_left meaning (map plain_told lines.now)) }
-{
-    match (lines.is_empty(), meaning) {
-        (true, false) => "nothing breaks\n",
-        (true, true) => "nothing differs\n",
-        (false, false) => "nothing else breaks\n",
-        (false, true) => "nothing else differs\n",
-    }
-}
-
-/// The text of these lines, or of their causes.
-fn text_shown(
-    alloc: Global,
-    is_once: bool,
-    lines: &[&Told],
-    causes: &[Told],
-) -> Result<String, AllocError>
-    ensures { IfOk result (λ text. string_bytes text ≡ told_text
-        (if is_once then map plain_told causes.now else map (λ t. plain_told t.now) lines.now)) }
-{
-    if is_once {
-        text_of_causes(alloc, causes)
-    } else {
-        text_of(alloc, lines)
-    }
-}
-
-/// The text of lines, each with its message behind it, if it has one.
-fn text_of(alloc: Global, lines: &[&Told]) -> Result<String, AllocError>
-    ensures { IfOk result (λ text. string_bytes text ≡ told_text (map (λ t. plain_told t.now) lines.now)) }
-{
-    let mut text = String::new(alloc);
-    for told in lines {
-        push_line(&mut text, told)?;
-    }
-    Ok(text)
-}
-
-/// The text of a line for each cause.
-fn text_of_causes(alloc: Global, lines: &[Told]) -> Result<String, AllocError>
-    ensures { IfOk result (λ text. string_bytes text ≡ told_text (map plain_told lines.now)) }
-{
-    let mut text = String::new(alloc);
-    for told in lines {
-        push_line(&mut text, told)?;
-    }
-    Ok(text)
-}
-
-fn push_line(text: &mut String, told: &Told) -> Result<(), AllocError>
-    ensures { OnOk result (string_bytes text.new ≡ string_bytes text.old
-        ++ (line (string_bytes told.now.words) ++ string_bytes told.now.message)) }
-{
-    text.push_str(told.words.as_str())?;
-    text.push('\n')?;
-    text.push_str(told.message.as_str())?;
-    Ok(())
-}
-
-/// What is written of a text that is no list.
-fn no_list(alloc: Global, bad: BadList) -> Result<Judged, AllocError>
-    ensures text { IfOk result (λ judged. string_bytes judged.text ≡ line (list_line bad)) }
-    ensures exit { IfOk result (λ judged. judged.exit ≡ Exit.Bad) }
-    ensures found { IfOk result (λ judged. judged.found ≡ Found.NoList bad) }
-{
-    let text = format!(in alloc; "accepted: {bad}\n")?;
-    let exit = Exit::Bad;
-    let found = Found::NoList(bad);
-    Ok(Judged { text, exit, found })
-}
-
-/// What is written of a dictionary without commands.
-fn no_commands(alloc: Global) -> Result<Judged, AllocError>
-    ensures text { IfOk result (λ judged. string_bytes judged.text ≡ line no_commands_line) }
-    ensures exit { IfOk result (λ judged. judged.exit ≡ Exit.Bad) }
-    ensures found { IfOk result (λ judged. judged.found ≡ Found.NoCommands) }
-{
-    let text = String::from_str(alloc, "breaking: no command\n")?;
-    let exit = Exit::Bad;
-    let found = Found::NoCommands;
-    Ok(Judged { text, exit, found })
-}
-
-/// What is written of a name that is no command's.
-fn no_command(alloc: Global, name: &str) -> Result<Judged, AllocError>
-    ensures text { IfOk result
-        (λ judged. string_bytes judged.text ≡ line (no_command_line name.now)) }
-    ensures exit { IfOk result (λ judged. judged.exit ≡ Exit.Bad) }
-    ensures found { IfOk result (λ judged. judged.found ≡ Found.NoCommand) }
-{
-    let text = format!(in alloc; "breaking: no command {name}\n")?;
-    let exit = Exit::Bad;
-    let found = Found::NoCommand;
-    Ok(Judged { text, exit, found })
+    format!(in alloc; "breaking: no command {name}\n")
 }

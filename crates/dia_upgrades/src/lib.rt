@@ -4,18 +4,23 @@
 mod asked;
 mod command;
 mod counting;
+mod ending;
 mod judging;
 mod lines;
 mod list;
 mod naming;
-mod over_books;
+mod nowhere;
+mod pending;
 mod reporting;
+mod seen;
+mod showing;
+mod shown;
 
 pub use asked::Asked;
 pub use command::breaking;
 pub use counting::lines_left;
 pub use dia_accepted::{MAX_LINES, MAX_LIST, Told};
+pub use judging::breaking_of;
 pub use list::BadList;
 pub use naming::named;
-pub use over_books::{Listed, breaking_of};
-pub use reporting::{Found, Report, Reported};
+pub use reporting::{Found, Listed, Report, Reported};

@@ -1,225 +1,253 @@
-//! The lines of the commands.
+//! The lines of the commands, as they are found.
 
-ghost use Rattle.std.specs.Prelude.{◌≡◌, ◌<◌, All, IfOk, OnOk, length, map, string_bytes};
-ghost use Rattle.dia_breaking.specs.Orders.{IsInOrderOf};
+ghost use Rattle.std.specs.Prelude.{◌≡◌, ◌<◌, ◌↔◌, ◌∷◌, All, Err, IfErr, IfOk, IsOk, IsTrue, OnOk, List, ℕ, Option, [], length, map, true, false};
 ghost use Rattle.dia_breaking.specs.Upgrades.{facts_of, other_length_of, sides_of};
 ghost use Rattle.dia_breaking.specs.Words.{words_of};
-ghost use Rattle.dia_accepted.specs.Accepted.{plain_told};
-ghost use Rattle.dia_upgrades.specs.Places.{Adds, AddsBoth};
-ghost use Rattle.dia_upgrades.specs.Told.{AreParts, AreShown, AreTold, IsBehind, IsLineTold, IsMessageLine, IsToldOf};
-ghost use Rattle.dia_upgrades.specs.Told.{apart_of, has_message, place_of};
+ghost use Rattle.dia_breaking.specs.Confirmed.{most_checked_together};
+ghost use Rattle.std.specs.Io.KnownBytes.{Appends};
+ghost use Rattle.dia_io.specs.declared.RunFault.TheVariants.{Device};
+ghost use Rattle.dia_accepted.specs.Accepted.{PlainEntry, PlainTold, plain_entry};
+ghost use Rattle.dia_upgrades.specs.declared.asked.Asked.{Asked as AnyAsked};
+ghost use Rattle.dia_upgrades.specs.UnderWay.{AreAllPut, AreFirstLines, AreUnderWay, GoesOn, IsPut, IsUnderWay};
+ghost use Rattle.dia_upgrades.specs.UnderWay.{SeesApart, Stands, StandsBehind, StandsPut, StopsAmong, StopsIn, text_shown};
+ghost use Rattle.dia_upgrades.specs.Places.{IsEachNew};
+ghost use Rattle.dia_upgrades.specs.Told.{AreParts, IsLineTold, IsToldOf};
 
 use crate::asked::Asked;
-use dia_accepted::Told;
-use dia_breaking::{Breaks, Cause, Line, MOST_CHECKED_TOGETHER, Standing, Upgrade};
+use crate::naming::are_distinct;
+use crate::pending::Pending;
+use crate::seen::Seen;
+use crate::showing::{apart_of, see_line, shown_of};
+use crate::shown::{Shown, add_shown};
+use dia_accepted::Entry;
+use dia_breaking::{Breaks, Line, MOST_CHECKED_TOGETHER, Upgrade};
 use dia_dict::Book;
+use dia_io::{RunFault, Sink};
 use std::alloc::{AllocError, Global};
 
-/// The lines of the commands that are asked for.
+/// The lines so far.
 #[derive(Drop)]
-pub(crate) struct Lines {
-    /// The lines that are written.
-    pub told: Vec<Told>,
-    /// The meanings that are found and not asked for; they have no messages.
-    pub apart: Vec<Told>,
+pub(crate) struct Listing<'l> {
+    pub seen: Seen<'l>,
+    /// What wasn't put yet.
+    pub pending: Pending,
     /// How many bytes of messages may still be checked.
     pub budget: u64,
 }
 
-/// The lines of the commands at these places of A's commands.
-pub(crate) fn lines_of<A: Book, B: Book>(
+/// Puts the lines of the commands at these places of A's commands, as they are found, and answers what is known of them. Where
+/// memory is refused, the lines so far are put.
+pub(crate) fn put_lines<'l, A: Book, B: Book, S: Sink>(
     alloc: Global,
+    sink: &mut S,
     upgrade: &Upgrade<'_, A, B>,
     places: &[usize],
     asked: Asked<'_>,
-) -> Result<Lines, AllocError>
-    requires { All (λ place. place < length (sides_of upgrade.now).sender.commands) places.now }
-    ensures { IfOk result (λ lines. AreTold (sides_of upgrade.now) asked.entry.messages asked.entry.meaning places.now
-        (map plain_told lines.told.items) (map plain_told lines.apart.items)) }
+    list: &'l [Entry],
+) -> Result<Seen<'l>, RunFault>
+    requires sound { ¬ IsTrue (S.has_failed sink.old) }
+    requires places { All (λ place. place < length (sides_of upgrade.now).sender.commands) places.now }
+    ensures all { IfOk result (AreAllPut (sides_of upgrade.now) asked.entry (map plain_entry list.now) places.now
+        (S.written sink.old) (S.written sink.new)) }
+    ensures front { IfErr result (λ fault. (first : List PlainTold)
+        × AreFirstLines (sides_of upgrade.now) asked.entry (map plain_entry list.now) places.now first
+        × StandsPut fault (S.written sink.old) (S.written sink.new) (text_shown asked.entry.once first)) }
+    ensures device { (result ≡ Err Device) ↔ IsTrue (S.has_failed sink.new) }
 {
-    let told = Vec::new(alloc);
-    let apart = Vec::new(alloc);
-    let budget = MOST_CHECKED_TOGETHER;
-    let mut lines = Lines {
-        told,
-        apart,
-        budget,
+    let forgets = are_distinct(alloc, places)?;
+    let seen = Seen::new(alloc, list)?;
+    let mut listing = Listing {
+        seen,
+        pending: Pending::new(alloc),
+        budget: MOST_CHECKED_TOGETHER,
     };
-    for place in places {
-        push_command(alloc, &mut lines, upgrade, *place, asked)?;
-    }
-    Ok(lines)
+    let found = put_commands(alloc, &mut listing, sink, upgrade, places, asked, forgets);
+    put_rest(&mut listing.pending, sink, found)?;
+    Ok(listing.seen)
 }
 
-/// Adds the lines of a command of A, by its place among the commands.
-fn push_command<A: Book, B: Book>(
+/// Puts what is pending, unless the sink has failed.
+fn put_rest<S: Sink>(
+    pending: &mut Pending,
+    sink: &mut S,
+    found: Result<(), RunFault>,
+) -> Result<(), RunFault>
+    requires { IsTrue (S.has_failed sink.old) ↔ (found ≡ Err Device) }
+    ensures all { OnOk result (IsOk found × ((begun : Option (List ℕ)) (text : List ℕ)
+        → IsPut begun (S.written sink.old) pending.old text → Appends begun (S.written sink.new) text)) }
+    ensures front { IfErr result (λ fault. StandsBehind found fault (S.written sink.old) (S.written sink.new) pending.old) }
+    ensures device { (result ≡ Err Device) ↔ IsTrue (S.has_failed sink.new) }
+{
+    match found {
+        Ok(()) => {
+            pending.put(sink)?;
+            Ok(())
+        }
+        Err(RunFault::NoMemory) => {
+            pending.put(sink)?;
+            Err(RunFault::NoMemory)
+        }
+        Err(RunFault::Device) => Err(RunFault::Device),
+    }
+}
+
+/// Puts the lines of the commands at these places.
+fn put_commands<A: Book, B: Book, S: Sink>(
     alloc: Global,
-    lines: &mut Lines,
+    listing: &mut Listing<'_>,
+    sink: &mut S,
+    upgrade: &Upgrade<'_, A, B>,
+    places: &[usize],
+    asked: Asked<'_>,
+    forgets: bool,
+) -> Result<(), RunFault>
+    requires sound { ¬ IsTrue (S.has_failed sink.old) }
+    requires places { All (λ place. place < length (sides_of upgrade.now).sender.commands) places.now }
+    ensures all { OnOk result ((list : List PlainEntry) (begun : Option (List ℕ)) (place : ℕ) → (forgets ≡ true → IsEachNew places.now)
+        → listing.old.budget ≡ most_checked_together
+        → IsUnderWay asked.entry forgets list place 0 begun (S.written sink.old) listing.old [] []
+        → AreUnderWay (sides_of upgrade.now) asked.entry forgets list places.now begun (S.written sink.new) listing.new) }
+    ensures stops { IfErr result (λ fault. (list : List PlainEntry) (begun : Option (List ℕ)) (place : ℕ) → (forgets ≡ true → IsEachNew places.now)
+        → listing.old.budget ≡ most_checked_together
+        → IsUnderWay asked.entry forgets list place 0 begun (S.written sink.old) listing.old [] []
+        → (first : List PlainTold) × AreFirstLines (sides_of upgrade.now) asked.entry list places.now first
+        × Stands fault begun (S.written sink.new) listing.new.pending (text_shown asked.entry.once first)) }
+    ensures device { (result ≡ Err Device) ↔ IsTrue (S.has_failed sink.new) }
+{
+    for place in places {
+        listing.seen.begin(forgets);
+        put_command(alloc, listing, sink, upgrade, *place, asked)?;
+    }
+    Ok(())
+}
+
+/// Puts the lines of a command of A, by its place among the commands.
+fn put_command<A: Book, B: Book, S: Sink>(
+    alloc: Global,
+    listing: &mut Listing<'_>,
+    sink: &mut S,
     upgrade: &Upgrade<'_, A, B>,
     place: usize,
     asked: Asked<'_>,
-) -> Result<(), AllocError>
-    requires { place < length (sides_of upgrade.now).sender.commands }
-    ensures { OnOk result (AddsBoth
-        (IsToldOf (sides_of upgrade.now) asked.entry.messages asked.entry.meaning (facts_of upgrade.now).lengths place
-        lines.old.budget lines.new.budget)
-        (map plain_told lines.old.told.items) (map plain_told lines.old.apart.items)
-        (map plain_told lines.new.told.items) (map plain_told lines.new.apart.items)) }
+) -> Result<(), RunFault>
+    requires sound { ¬ IsTrue (S.has_failed sink.old) }
+    requires place { place < length (sides_of upgrade.now).sender.commands }
+    ensures all { OnOk result ((told apart : List PlainTold)
+        × IsToldOf (sides_of upgrade.now) asked.entry.messages asked.entry.meaning (facts_of upgrade.now).lengths place
+        listing.old.budget listing.new.budget told apart
+        × GoesOn asked.entry place (S.written sink.old) (S.written sink.new) listing.old listing.new told apart) }
+    ensures stops { IfErr result (λ fault. StopsIn (sides_of upgrade.now) asked.entry (facts_of upgrade.now).lengths place fault
+        (S.written sink.old) (S.written sink.new) listing.old listing.new) }
+    ensures device { (result ≡ Err Device) ↔ IsTrue (S.has_failed sink.new) }
 {
     let command = upgrade.sender().command_at(place);
-    let breaks = upgrade.breaks(alloc, command, &mut lines.budget)?;
+    let breaks = upgrade.breaks(alloc, command, &mut listing.budget)?;
     let shown = shown_of(alloc, &breaks, asked.meaning)?;
-    let rows = shown.as_slice();
+    let lines = shown.as_slice();
     let apart = apart_of(breaks.meanings.as_slice(), asked.meaning);
-    let messages = asked.messages;
-    push_lines(
-        alloc,
-        &mut lines.told,
-        upgrade,
-        &breaks,
-        rows,
-        place,
-        messages,
-    )?;
-    push_lines(
-        alloc,
-        &mut lines.apart,
-        upgrade,
-        &breaks,
-        apart,
-        place,
-        false,
-    )?;
+    put_each(alloc, listing, sink, upgrade, &breaks, lines, place, asked)?;
+    see_each_apart(alloc, &mut listing.seen, upgrade, &breaks, apart, place)?;
     Ok(())
 }
 
-/// The lines of a command that are shown: those of its meanings stand behind the others of their site.
-fn shown_of(alloc: Global, breaks: &Breaks, meaning: bool) -> Result<Vec<Line>, AllocError>
-    ensures { IfOk result (λ shown. AreShown meaning breaks.now.lines.items breaks.now.meanings.items shown.items) }
-{
-    let mut shown = Vec::from_slice(alloc, &breaks.lines)?;
-    if meaning {
-        shown.extend_from_slice(&breaks.meanings)?;
-        sort_by_place(&mut shown)?;
-    }
-    Ok(shown)
-}
-
-fn sort_by_place(lines: &mut Vec<Line>) -> Result<(), AllocError>
-    ensures { OnOk result (IsInOrderOf place_of lines.old.items lines.new.items) }
-{
-    lines.sort_by_key(|line| place_of(line))?;
-    Ok(())
-}
-
-/// Where a line stands: at its site, or, where it tells that not all is shown, last.
-fn place_of(line: &Line) -> usize
-    ensures { result ≡ place_of line.now }
-{
-    match line.cause {
-        Cause::Unproved => usize::MAX,
-        Cause::Command
-        | Cause::Application
-        | Cause::Proxiable { .. }
-        | Cause::Level(_)
-        | Cause::Unknown { .. }
-        | Cause::MBit { .. }
-        | Cause::Format { .. }
-        | Cause::LevelAsLeaf { .. }
-        | Cause::Meaning { .. } => line.site,
-    }
-}
-
-/// The meanings that aren't shown.
-fn apart_of(meanings: &[Line], meaning: bool) -> &[Line]
-    ensures { result.now ≡ apart_of meaning meanings.now }
-{
-    if meaning { &[] } else { meanings }
-}
-
-/// Adds these lines.
-fn push_lines<A: Book, B: Book>(
+/// Puts these lines of a command.
+fn put_each<A: Book, B: Book, S: Sink>(
     alloc: Global,
-    told: &mut Vec<Told>,
+    listing: &mut Listing<'_>,
+    sink: &mut S,
     upgrade: &Upgrade<'_, A, B>,
     breaks: &Breaks,
     lines: &[Line],
     place: usize,
-    messages: bool,
-) -> Result<(), AllocError>
-    ensures { OnOk result (Adds (AreParts (IsLineTold place messages
-        (words_of (sides_of upgrade.now) (other_length_of upgrade.now)
-        breaks.now.command breaks.now.sites.items)) lines.now)
-        (map plain_told told.old.items) (map plain_told told.new.items)) }
+    asked: Asked<'_>,
+) -> Result<(), RunFault>
+    requires { ¬ IsTrue (S.has_failed sink.old) }
+    ensures all { OnOk result ((told : List PlainTold)
+        × AreParts (IsLineTold place asked.entry.messages (words_of (sides_of upgrade.now) (other_length_of upgrade.now)
+        breaks.now.command breaks.now.sites.items)) lines.now told
+        × GoesOn asked.entry place (S.written sink.old) (S.written sink.new) listing.old listing.new told []) }
+    ensures stops { IfErr result (λ fault. StopsAmong asked.entry place fault (S.written sink.old) (S.written sink.new)
+        listing.old listing.new (IsLineTold place asked.entry.messages (words_of (sides_of upgrade.now)
+        (other_length_of upgrade.now) breaks.now.command breaks.now.sites.items)) lines.now) }
+    ensures budget { listing.new.budget ≡ listing.old.budget }
+    ensures device { (result ≡ Err Device) ↔ IsTrue (S.has_failed sink.new) }
 {
     for line in lines {
-        push_line(alloc, told, upgrade, breaks, line, place, messages)?;
+        put_line(alloc, listing, sink, upgrade, breaks, line, place, asked)?;
     }
     Ok(())
 }
 
-/// Adds a line, with its message where messages are asked for and it has one.
-fn push_line<A: Book, B: Book>(
+/// Puts a line of a command, unless the list accepts it or each cause is told once.
+fn put_line<A: Book, B: Book, S: Sink>(
     alloc: Global,
-    told: &mut Vec<Told>,
+    listing: &mut Listing<'_>,
+    sink: &mut S,
     upgrade: &Upgrade<'_, A, B>,
     breaks: &Breaks,
     line: &Line,
-    command: usize,
-    messages: bool,
+    place: usize,
+    asked: Asked<'_>,
+) -> Result<(), RunFault>
+    requires { ¬ IsTrue (S.has_failed sink.old) }
+    ensures all { OnOk result ((t : PlainTold)
+        × IsLineTold place asked.entry.messages (words_of (sides_of upgrade.now) (other_length_of upgrade.now)
+        breaks.now.command breaks.now.sites.items) line.now (t ∷ [])
+        × GoesOn asked.entry place (S.written sink.old) (S.written sink.new) listing.old listing.new (t ∷ []) []) }
+    ensures stops { IfErr result (λ fault. StopsAmong asked.entry place fault (S.written sink.old) (S.written sink.new)
+        listing.old listing.new (IsLineTold place asked.entry.messages (words_of (sides_of upgrade.now)
+        (other_length_of upgrade.now) breaks.now.command breaks.now.sites.items)) (line.now ∷ [])) }
+    ensures budget { listing.new.budget ≡ listing.old.budget }
+    ensures device { (result ≡ Err Device) ↔ IsTrue (S.has_failed sink.new) }
+{
+    let shown = see_line(
+        alloc,
+        &mut listing.seen,
+        upgrade,
+        breaks,
+        line,
+        place,
+        asked,
+    )?;
+    add_shown(&mut listing.pending, sink, &shown)?;
+    Ok(())
+}
+
+/// Sees these lines of meanings, which aren't put.
+fn see_each_apart<A: Book, B: Book>(
+    alloc: Global,
+    seen: &mut Seen<'_>,
+    upgrade: &Upgrade<'_, A, B>,
+    breaks: &Breaks,
+    lines: &[Line],
+    place: usize,
 ) -> Result<(), AllocError>
-    ensures { OnOk result (Adds (IsLineTold command messages
-        (words_of (sides_of upgrade.now) (other_length_of upgrade.now)
-        breaks.now.command breaks.now.sites.items) line.now)
-        (map plain_told told.old.items) (map plain_told told.new.items)) }
+    ensures { OnOk result ((others : List PlainTold)
+        × AreParts (IsLineTold place false (words_of (sides_of upgrade.now) (other_length_of upgrade.now)
+        breaks.now.command breaks.now.sites.items)) lines.now others
+        × ((asked : AnyAsked) → SeesApart asked place seen.old seen.new others)) }
+{
+    for line in lines {
+        see_apart(alloc, seen, upgrade, breaks, line, place)?;
+    }
+    Ok(())
+}
+
+/// Sees a line of a meaning.
+fn see_apart<A: Book, B: Book>(
+    alloc: Global,
+    seen: &mut Seen<'_>,
+    upgrade: &Upgrade<'_, A, B>,
+    breaks: &Breaks,
+    line: &Line,
+    place: usize,
+) -> Result<(), AllocError>
+    ensures { OnOk result ((others : List PlainTold)
+        × IsLineTold place false (words_of (sides_of upgrade.now) (other_length_of upgrade.now)
+        breaks.now.command breaks.now.sites.items) line.now others
+        × ((asked : AnyAsked) → SeesApart asked place seen.old seen.new others)) }
 {
     let mut words = String::new(alloc);
     upgrade.push_words(alloc, &mut words, breaks, line)?;
-    let message = message_of(alloc, upgrade, breaks, line, messages)?;
-    told.push(Told {
-        command,
-        words,
-        message,
-    })?;
-    Ok(())
-}
-
-/// The message of a line, on a line of its own, where messages are asked for and it has one; else nothing.
-fn message_of<A: Book, B: Book>(
-    alloc: Global,
-    upgrade: &Upgrade<'_, A, B>,
-    breaks: &Breaks,
-    line: &Line,
-    messages: bool,
-) -> Result<String, AllocError>
-    ensures { IfOk result (λ text. IsBehind (has_message messages line.now.standing) (string_bytes text)) }
-{
-    if has_message(messages, line.standing) {
-        let message = upgrade.message(alloc, breaks, line)?;
-        digits_of(alloc, &message)
-    } else {
-        Ok(String::new(alloc))
-    }
-}
-
-/// Whether a line has its message behind it.
-fn has_message(messages: bool, standing: Standing) -> bool
-    ensures { result ≡ has_message messages standing }
-{
-    match standing {
-        Standing::Confirmed | Standing::Unchecked => messages,
-        Standing::Undecided => false,
-    }
-}
-
-/// The bytes of a message in hexadecimal, on a line of their own.
-fn digits_of(alloc: Global, bytes: &[u8]) -> Result<String, AllocError>
-    ensures { IfOk result (λ text. IsMessageLine (string_bytes text)) }
-{
-    let digits = hex::encode(alloc, bytes)?;
-    let mut text = String::new(alloc);
-    text.push_str("  ")?;
-    text.push_str(digits.as_str())?;
-    text.push('\n')?;
-    Ok(text)
+    seen.see_apart(alloc, place, words.as_str())
 }

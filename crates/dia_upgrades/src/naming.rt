@@ -1,11 +1,11 @@
 //! The commands that are asked for.
 
-ghost use Rattle.std.specs.Prelude.{◌≡◌, IfOk, IfErr, map, position, string_bytes};
+ghost use Rattle.std.specs.Prelude.{◌≡◌, IfOk, IfErr, map, position, string_bytes, true};
 ghost use Rattle.std.specs.List.{range_with_len};
 ghost use Rattle.std.specs.Str.{bytes_eq};
 ghost use Rattle.dia_compat.specs.Proposed.{IsFirstUnknown};
 ghost use Rattle.dia_upgrades.specs.Asking.{AreCommands};
-ghost use Rattle.dia_upgrades.specs.Places.{asked_places};
+ghost use Rattle.dia_upgrades.specs.Places.{IsEachNew, asked_places};
 
 use dia_dict::Book;
 use indexmap::IndexSet;
@@ -38,6 +38,19 @@ pub fn named<'a, A: Book>(
         }
     }
     Ok(Ok(places))
+}
+
+/// Whether no place is named twice.
+pub(crate) fn are_distinct(alloc: Global, places: &[usize]) -> Result<bool, AllocError>
+    ensures { IfOk result (λ yes. yes ≡ true → IsEachNew places.now) }
+{
+    let mut seen = IndexSet::new(alloc);
+    for place in places {
+        if !seen.insert(*place)? {
+            return Ok(false);
+        }
+    }
+    Ok(true)
 }
 
 /// All places below a count, in order.

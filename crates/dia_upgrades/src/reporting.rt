@@ -1,4 +1,4 @@
-//! What is answered: its text, how it ends, and what was read and found.
+//! What is answered: how it ends, and what was read and found.
 
 use crate::list::BadList;
 use dia_accepted::Told;
@@ -12,9 +12,9 @@ pub enum Found {
     Listed {
         /// The lines of the list of accepted ones that accept nothing of it, by their numbers from 1.
         stale: Vec<u32>,
-        /// How many lines the list leaves.
+        /// How many lines the list leaves; where there are more than can be counted, the greatest number.
         lines: usize,
-        /// A line for each cause of these.
+        /// A line for each cause of these. It has its message only where each cause is told once.
         causes: Vec<Told>,
         /// Where meanings aren't asked for: a line for each AVP that the second side reads as another format, but for those
         /// that the list accepts.
@@ -36,14 +36,6 @@ pub enum Report {
     Read { books: BothBooks, found: Found },
 }
 
-/// What is written, how it ends, and the report.
-#[derive(Drop)]
-pub struct Answered {
-    pub text: String,
-    pub exit: Exit,
-    pub report: Report,
-}
-
 /// How it ended, once the text is written, and the report.
 #[derive(Drop)]
 pub struct Reported {
@@ -51,10 +43,9 @@ pub struct Reported {
     pub report: Report,
 }
 
-/// What is written of two dictionaries that were read, how it ends, and what was found.
+/// How it ended over two dictionaries that were read, once the text is written, and what was found.
 #[derive(Drop)]
-pub(crate) struct Judged {
-    pub text: String,
+pub struct Listed {
     pub exit: Exit,
     pub found: Found,
 }

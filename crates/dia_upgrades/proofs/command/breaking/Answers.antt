@@ -1,36 +1,21 @@
-use Rattle.std.proofs.Common.{string_bytes}
-use Rattle.dia_upgrades.proofs.Outcomes.{bad_is_refused, no_is_unsafe, yes_is_safe}
+use Rattle.dia_io.specs.declared.RunFault.TheVariants.{Device, NoMemory}
+use Rattle.dia_upgrades.proofs.Reports.{bad_of, fault_of, no_of, text_of, yes_of}
 use Rattle.dia_upgrades.proofs.command.breaking.Goals as goal
 
+pub returns-clause-text : goal.returns-clause-text
+returns-clause-text g c = text_of _ c.args.asked c.args.inputs.now _ _ c.reported.result c.reported.ensures.reports
+
 pub returns-clause-yes : goal.returns-clause-yes
-returns-clause-yes g c = λ is_yes. (
-  string_bytes c.in_ok-text.field-0.text,
-  yes_is_safe c.args.asked c.args.inputs.now _ _ c.in_ok-text.ensures.outcome is_yes,
-  rw c.as_bytes.ensures.value at c.in_ok-put_all.ensures.ok,
-)
+returns-clause-yes g c = yes_of _ c.args.asked c.args.inputs.now _ _ c.reported.result c.reported.ensures.reports
 
 pub returns-clause-no : goal.returns-clause-no
-returns-clause-no g c = λ is_no. (
-  string_bytes c.in_ok-text.field-0.text,
-  no_is_unsafe c.args.asked c.args.inputs.now _ _ c.in_ok-text.ensures.outcome is_no,
-  rw c.as_bytes.ensures.value at c.in_ok-put_all.ensures.ok,
-)
+returns-clause-no g c = no_of _ c.args.asked c.args.inputs.now _ _ c.reported.result c.reported.ensures.reports
 
 pub returns-clause-bad : goal.returns-clause-bad
-returns-clause-bad g c = bad_is_refused c.args.asked c.args.inputs.now _ _ c.in_ok-text.ensures.outcome
+returns-clause-bad g c = bad_of _ c.args.asked c.args.inputs.now _ _ c.reported.result c.reported.ensures.reports
 
-pub returns-clause-text : goal.returns-clause-text
-returns-clause-text g c = (
-  string_bytes c.in_ok-text.field-0.text,
-  c.in_ok-text.ensures.outcome,
-  c.in_ok-text.ensures.report,
-  rw c.as_bytes.ensures.value at c.in_ok-put_all.ensures.ok,
-)
+pub returns-clause-front : goal.returns-clause-front
+returns-clause-front g c = λ e. fault_of _ c.args.asked c.args.inputs.now _ _ c.reported.result Device c.reported.ensures.reports e
 
-pub returns-in_err-put_all-clause-front : goal.returns-in_err-put_all-clause-front
-returns-in_err-put_all-clause-front g c = λ device. (
-  string_bytes c.in_ok-text.field-0.text,
-  c.in_ok-text.field-0.exit,
-  c.in_ok-text.ensures.outcome,
-  rw c.as_bytes.ensures.value at c.put_all.ensures.front,
-)
+pub returns-clause-no_memory : goal.returns-clause-no_memory
+returns-clause-no_memory g c = λ e. fault_of _ c.args.asked c.args.inputs.now _ _ c.reported.result NoMemory c.reported.ensures.reports e

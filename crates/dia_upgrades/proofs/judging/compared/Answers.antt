@@ -1,72 +1,35 @@
-use Rattle.std.proofs.Common.{List, ap, length, map, refl, subst, sym, ◌++◌, ◌∙◌, ◌≡◌, Bor}
-use Rattle.std.specs.Prelude.{IfOk, string_bytes}
-use Rattle.dia_io.specs.declared.Exit.TheVariants.{Yes}
-use Rattle.dia_run.specs.Texts.{line}
-use Rattle.dia_accepted.specs.Accepted.{PlainTold, left_of, plain_entry, plain_told, stale_lines}
-use Rattle.dia_accepted.specs.Causes.{once_of}
-use Rattle.dia_accepted.specs.declared.told.Told.{Told}
-use Rattle.dia_upgrades.specs.Outcome.{nothing_left}
-use Rattle.dia_upgrades.specs.declared.reporting.Found.TheVariants.{Listed}
-use Rattle.dia_upgrades.proofs.Outcomes.{ends_so, made_found, none_left, shown_text, some_left, tells_found}
+use Rattle.std.proofs.Common.{◌≡◌, map, refl, subst}
+use Rattle.std.proofs.lemmas.Result.{err_from_is_err_and}
+use Rattle.dia_accepted.specs.Accepted.{plain_entry}
+use Rattle.dia_breaking.specs.Sides.{Sides, sides}
+use Rattle.dia_breaking.specs.Upgrades.{sides_of}
+use Rattle.dia_upgrades.specs.UnderWay.{AreAllPut, AreFirstLines}
+use Rattle.dia_upgrades.proofs.Answered.{all_answered, first_answered}
 use Rattle.dia_upgrades.proofs.judging.compared.Goals as goal
 
-abbrev texts : List (Bor Told) → List PlainTold
-texts ts = map (λ (t : Bor Told). plain_told t.now) ts
-
-abbrev plain : List Told → List PlainTold
-plain ts = map plain_told ts
-
-pub returns-then-is_empty-clause-found : goal.returns-then-is_empty-clause-found
-returns-then-is_empty-clause-found c =
+pub returns-in_err-seen-clause-answers : goal.returns-in_err-seen-clause-answers
+returns-in_err-seen-clause-answers g c = λ input is_list can places_are.
+    let p = err_from_is_err_and c.from_residual-in_err-seen.result c.from_residual-in_err-seen.ensures.1 in
+    let asked = c.args.asked in
+    let da = g.A.Book.meaning c.args.a.now in
+    let db = g.B.Book.meaning c.args.b.now in
     let list = map plain_entry c.args.list.now in
-    let told = c.as_slice-told.ensures.value in
-    let apart = c.as_slice-apart.ensures.value in
-    let is = ap texts c.as_slice-rest.ensures.value ∙ c.in_ok-left.ensures ∙ ap (λ (ts : List Told). left_of list (plain ts)) told in
-    let stale = c.in_ok-stale.ensures ∙ (λ i. stale_lines list (plain (told i) ++ plain (apart i))) in
-    let meanings = c.in_ok-meanings.ensures ∙ ap (λ (ts : List Told). once_of (left_of list (plain ts))) apart in
-    let count = length c.as_slice-rest.result.now in
-    tells_found list (plain c.args.lines.now.told.items) (plain c.args.lines.now.apart.items) (Listed c.in_ok-stale.stale count c.in_ok-causes.causes c.in_ok-meanings.meanings) c.nothing_told.result
-    c.nothing_told.ensures.found
-    (made_found list (plain c.args.lines.now.told.items) (plain c.args.lines.now.apart.items) c.in_ok-stale.stale count c.in_ok-causes.causes c.in_ok-meanings.meanings c.as_slice-rest.result.now stale is refl
-    c.in_ok-causes.ensures meanings)
+    let made = c.in_ok-upgrade.ensures in
+    let between : sides_of c.in_ok-upgrade.upgrade ≡ sides da db asked.sends asked.unknown =
+    λ i. sides (g.A.Book.meaning (made.sender i)) (g.B.Book.meaning (made.receiver i)) (made.sends i) (made.unknown i) in
+    let (first, are, stands) = c.in_err-seen.ensures.front in
+    let are_first = subst (λ (s : Sides). AreFirstLines s asked list c.args.commands.now first) between are in
+    rw (p.1, p.2) (first_answered asked input da db list is_list can c.args.commands.now (g.S.Sink.written c.args.sink.now) _ places_are _ first are_first stands)
 
-pub returns-then-is_empty-clause-none : goal.returns-then-is_empty-clause-none
-returns-then-is_empty-clause-none c = λ none.
-    let meaning = c.args.asked.meaning in
-    let r = c.nothing_told.result in
-    let ends = ends_so Yes (line (nothing_left meaning (plain c.as_slice-told.result.now))) r c.nothing_told.ensures.exit c.nothing_told.ensures.text in
-    subst (λ (ts : List Told). IfOk r (λ j. (j.exit ≡ Yes) × (string_bytes j.text ≡ line (nothing_left meaning (plain ts))))) c.as_slice-told.ensures.value ends
-
-pub returns-then-is_empty-clause-some : goal.returns-then-is_empty-clause-some
-returns-then-is_empty-clause-some c = λ some.
+pub returns-clause-answers : goal.returns-clause-answers
+returns-clause-answers g c = λ input is_list can places_are.
+    let asked = c.args.asked in
+    let da = g.A.Book.meaning c.args.a.now in
+    let db = g.B.Book.meaning c.args.b.now in
     let list = map plain_entry c.args.list.now in
-    let left = c.as_slice-rest.result.now in
-    let is = ap texts c.as_slice-rest.ensures.value ∙ c.in_ok-left.ensures ∙ ap (λ (ts : List Told). left_of list (plain ts)) c.as_slice-told.ensures.value in
-    absurd (some (none_left left _ is (sym c.is_empty.ensures ∙ c.if-is_empty.true)))
-
-pub returns-clause-found : goal.returns-clause-found
-returns-clause-found c =
-    let list = map plain_entry c.args.list.now in
-    let told = c.as_slice-told.ensures.value in
-    let apart = c.as_slice-apart.ensures.value in
-    let is = ap texts c.as_slice-rest.ensures.value ∙ c.in_ok-left.ensures ∙ ap (λ (ts : List Told). left_of list (plain ts)) told in
-    let stale = c.in_ok-stale.ensures ∙ (λ i. stale_lines list (plain (told i) ++ plain (apart i))) in
-    let meanings = c.in_ok-meanings.ensures ∙ ap (λ (ts : List Told). once_of (left_of list (plain ts))) apart in
-    made_found list (plain c.args.lines.now.told.items) (plain c.args.lines.now.apart.items) c.in_ok-stale.stale (length c.as_slice-rest.result.now) c.in_ok-causes.causes c.in_ok-meanings.meanings
-    c.as_slice-rest.result.now stale is refl c.in_ok-causes.ensures meanings
-
-pub returns-clause-none : goal.returns-clause-none
-returns-clause-none c = λ none.
-    let list = map plain_entry c.args.list.now in
-    let left = c.as_slice-rest.result.now in
-    let is = ap texts c.as_slice-rest.ensures.value ∙ c.in_ok-left.ensures ∙ ap (λ (ts : List Told). left_of list (plain ts)) c.as_slice-told.ensures.value in
-    absurd (some_left left _ is (sym c.is_empty.ensures ∙ c.if-is_empty.false) none)
-
-pub returns-clause-some : goal.returns-clause-some
-returns-clause-some c = λ some.
-    let list = map plain_entry c.args.list.now in
-    let is = ap texts c.as_slice-rest.ensures.value ∙ c.in_ok-left.ensures ∙ ap (λ (ts : List Told). left_of list (plain ts)) c.as_slice-told.ensures.value in
-    let causes = ap (map plain_told) c.as_slice.ensures.value ∙ c.in_ok-causes.ensures in (
-      refl,
-      shown_text c.args.asked.once (string_bytes c.in_ok-text.text) (map plain_told c.as_slice.result.now) (texts c.as_slice-rest.result.now) (texts c.as_slice-rest.result.now) _ c.in_ok-text.ensures causes is is,
-    )
+    let made = c.in_ok-upgrade.ensures in
+    let between : sides_of c.in_ok-upgrade.upgrade ≡ sides da db asked.sends asked.unknown =
+    λ i. sides (g.A.Book.meaning (made.sender i)) (g.B.Book.meaning (made.receiver i)) (made.sends i) (made.unknown i) in
+    let all = subst (λ (s : Sides). AreAllPut s asked list c.args.commands.now (g.S.Sink.written c.args.sink.now) (g.S.Sink.written c.put_lines.new.sink) c.in_ok-seen.seen) between c.in_ok-seen.ensures.all in
+    all_answered asked input da db list is_list (g.met.A.Book.sound c.args.a.now) can all.apart c.args.commands.now (g.S.Sink.written c.args.sink.now) (g.S.Sink.written c.put_lines.new.sink) c.in_ok-seen.seen places_are
+    all refl _ c.ended.result c.ended.ensures.ends

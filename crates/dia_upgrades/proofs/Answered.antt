@@ -1,0 +1,192 @@
+-- What `breaking` answers, by the lines that were found.
+use Rattle.std.proofs.Common.{◌≡◌, ◌≢◌, ℕ, suc, ◌<◌, ◌==◌, Bool, true, false, cond, List, [], ◌∷◌, ◌++◌, length, map, Result, Ok, Err, refl, sym, ap, subst, ◌∙◌, arith, inl, inr}
+use Rattle.std.specs.Prelude.{IfErr, IfOk, OnOk, Option}
+use Rattle.std.specs.Io.KnownBytes.{Appends}
+use Rattle.std.specs.List.{AllByRecursion}
+use Rattle.std.proofs.KnownBytes.{Appends-nil, Appends-trans}
+use Rattle.std.proofs.lemmas.Bool.{eqb-true}
+use Rattle.std.proofs.lemmas.List.{append-nil, map-id}
+use Rattle.std.proofs.lemmas.List.Elements.{All-contains, All-from_recursion}
+use Rattle.dia_book.specs.Dictionary.{Dictionary, IsDictionary}
+use Rattle.dia_breaking_sites.specs.Selection.{AreValid}
+use Rattle.dia_io.specs.declared.Input.{Input}
+use Rattle.dia_io.specs.declared.Exit.{Exit}
+use Rattle.dia_io.specs.declared.Exit.TheVariants.{Yes, No, Bad}
+use Rattle.dia_io.specs.declared.RunFault.{RunFault}
+use Rattle.dia_io.specs.declared.RunFault.TheVariants.{Device, NoMemory}
+use Rattle.dia_io.specs.Writing.{AppendsFront}
+use Rattle.dia_accepted.specs.Accepted.{PlainEntry, PlainTold, kept, left_of, plain_told}
+use Rattle.dia_accepted.specs.Causes.{once_of}
+use Rattle.dia_accepted.specs.Seen.{HasSeen}
+use Rattle.dia_run.specs.Texts.{line}
+use Rattle.dia_upgrades.specs.declared.asked.Asked.{Asked}
+use Rattle.dia_upgrades.specs.declared.reporting.Found.{Found}
+use Rattle.dia_upgrades.specs.declared.reporting.Listed.{Listed}
+use Rattle.dia_upgrades.specs.declared.seen.Seen.{Seen}
+use Rattle.dia_upgrades.specs.Asking.{names_of}
+use Rattle.dia_upgrades.specs.Begun.{IsBegun, nothing_yet, some_lines}
+use Rattle.dia_upgrades.specs.Lists.{IsListText}
+use Rattle.dia_upgrades.specs.Outcome.{AreAllTold, CanAsk, IsAcceptedWhole, IsAnswerable, IsListed, IsReadAlike, OfEach, TellsFound, counted, nothing_for, nothing_left, shown, sides_in}
+use Rattle.dia_upgrades.specs.Outcome.{nothing, nothing_else, lines}
+use Rattle.dia_upgrades.specs.Places.{asked_places}
+use Rattle.dia_upgrades.specs.Told.{AreTold, number_at, told_text}
+use Rattle.dia_upgrades.specs.UnderWay.{AreAllPut, AreFirstLines, Answers, Ends, Finds, StandsPut, end_text, exit_of, is_any, text_shown}
+use Rattle.dia_upgrades.proofs.AskedCommands.{asked_each, command_stands}
+use Rattle.dia_upgrades.proofs.LinesToTell.{nothing_shown}
+use Rattle.dia_upgrades.proofs.Puts.{front_behind}
+use Rattle.dia_upgrades.proofs.ToldLines.{told_accepted, told_alike, told_valid}
+
+-- ---- what is told of commands
+
+-- what holds of the places that are asked for holds of each command
+of_each : (asked : Asked) (a : Dictionary) (P : ℕ → Type 0) → IsDictionary a → AllByRecursion (λ place. P (number_at a place)) (asked_places a (names_of asked)) → OfEach asked a P
+of_each asked a P sound all = λ number command at is_asked.
+    let s = command_stands a sound number command is_asked.0 at in
+    let inside = asked_each a sound (names_of asked) s.place command s.at is_asked in
+    let places = asked_places a (names_of asked) in
+    subst P (sym s.number_is) (All-contains (λ place. P (number_at a place)) places s.place (All-from_recursion (λ place. P (number_at a place)) places all) inside)
+
+-- ---- what is answered
+
+is_nothing_left : (meaning : Bool) (told : List PlainTold) → nothing_for meaning (is_any told) ≡ nothing_left meaning told
+is_nothing_left meaning [] = refl
+is_nothing_left meaning (t ∷ told) = refl
+
+-- what is written in the end, where no line is left
+end_of_none : (asked : Asked) (told left causes : List PlainTold) (lines : ℕ) (is_some : Bool) → left ≡ [] → lines ≡ counted (length left) → is_some ≡ is_any told
+    → text_shown asked.once left ++ end_text asked lines is_some causes ≡ line (nothing_left asked.meaning told)
+end_of_none asked told left causes n is_some none counts some =
+    let zero : n ≡ 0 = counts ∙ ap (λ (xs : List PlainTold). counted (length xs)) none in
+    (λ i. text_shown asked.once (none i) ++ end_text asked (zero i) (some i) causes) ∙ ap (λ (x : List ℕ). x ++ line (nothing_for asked.meaning (is_any told))) (nothing_shown asked.once)
+    ∙ ap line (is_nothing_left asked.meaning told)
+
+some_lines_left : (lines : ℕ) (t : PlainTold) (left : List PlainTold) → lines ≡ counted (length (t ∷ left)) → (lines == 0) ≡ false
+some_lines_left n t left counts = ap (λ (m : ℕ). m == 0) counts ∙ by (length left)
+  where
+    test : (m : ℕ) → 0 < m → (b : Bool) → (m == 0) ≡ b → (m == 0) ≡ false
+    test m some true e = absurd (omega (arith, some, eqb-true m 0 e))
+    test m some false e = e
+
+    not_equal : (m : ℕ) → 0 < m → (m == 0) ≡ false
+    not_equal m some = test m some (m == 0) refl
+
+    by : (n : ℕ) → (counted (suc n) == 0) ≡ false
+    by n = not_equal (counted (suc n)) (omega arith)
+
+all_kept : (xs : List PlainTold) → map (kept true) xs ≡ xs
+all_kept xs = map-id xs
+
+end_of_some : (asked : Asked) (left causes : List PlainTold) (lines : ℕ) (is_some : Bool) → (lines == 0) ≡ false → causes ≡ once_of (map (kept asked.once) left)
+    → text_shown asked.once left ++ end_text asked lines is_some causes ≡ told_text (shown asked.once left)
+end_of_some asked left causes n is_some some causes_are =
+    ap (λ (b : Bool). text_shown asked.once left ++ cond b (line (nothing_for asked.meaning is_some)) (cond asked.once (told_text causes) [])) some
+    ∙ by asked.once causes_are
+  where
+    by : (b : Bool) → causes ≡ once_of (map (kept b) left) → text_shown b left ++ cond b (told_text causes) [] ≡ told_text (shown b left)
+    by true e = ap told_text (e ∙ ap once_of (all_kept left))
+    by false e = append-nil (told_text left)
+
+module _ (asked : Asked) (input : Input) (a b : Dictionary) (list : List PlainEntry) (is_list : IsListText input list) where
+  module _ (sound : IsDictionary a) (can : CanAsk asked a) (apart : List PlainTold) where
+    answerable : (told : List PlainTold) (is : Found) → AreAllTold asked a b told apart → TellsFound asked.once list told apart is → IsAnswerable asked input a b list told apart is
+    answerable told is all tells = record { list_is = is_list; can_ask = can; all_told = all; tells = tells }
+
+    by_left : (told left causes : List PlainTold) (lines : ℕ) (is_some : Bool) (exit : Exit) (is : Found) → AreAllTold asked a b told apart → TellsFound asked.once list told apart is → left_of list told ≡ left
+        → lines ≡ counted (length (left_of list told)) → is_some ≡ is_any told → causes ≡ once_of (map (kept asked.once) (left_of list told)) → exit ≡ exit_of lines
+        → IsListed asked input a b (text_shown asked.once (left_of list told) ++ end_text asked lines is_some causes) exit is
+    by_left [] [] causes count is_some exit is all tells none counts some causes_are ends =
+        let places = asked_places a (names_of asked) in
+        let breaks = of_each asked a (λ number. ∥ AreValid a b asked.sends asked.unknown number ∥₁) sound (told_valid a b asked.sends asked.unknown asked.messages asked.meaning places [] apart all refl) in
+        let differs = λ (wanted : asked.meaning ≡ true). of_each asked a (IsReadAlike (sides_in asked a b)) sound (told_alike a b asked.sends asked.unknown asked.messages asked.meaning places [] apart all refl wanted) in
+        nothing list apart (answerable [] is all tells) breaks differs (end_of_none asked [] (left_of list []) causes count is_some none counts some)
+        (ends ∙ ap exit_of (counts ∙ ap (λ (xs : List PlainTold). counted (length xs)) none))
+    by_left (t ∷ told) [] causes count is_some exit is all tells none counts some causes_are ends =
+        let places = asked_places a (names_of asked) in
+        let accepted = told_accepted a b asked.sends asked.unknown asked.messages asked.meaning list places (t ∷ told) apart all none in
+        nothing_else list (t ∷ told) apart (answerable (t ∷ told) is all tells) none (λ e. let z : t ∷ told ≡ [] = e in cc)
+        (of_each asked a (IsAcceptedWhole (sides_in asked a b) asked.meaning list) sound accepted) (end_of_none asked (t ∷ told) (left_of list (t ∷ told)) causes count is_some none counts some)
+        (ends ∙ ap exit_of (counts ∙ ap (λ (xs : List PlainTold). counted (length xs)) none))
+    by_left told (t ∷ left) causes count is_some exit is all tells same counts some causes_are ends =
+        let never : left_of list told ≡ [] → ⊥ = λ e. (let z : t ∷ left ≡ [] = sym same ∙ e in cc) in
+        let not_none = some_lines_left count t left (counts ∙ ap (λ (xs : List PlainTold). counted (length xs)) same) in
+        lines list told apart (answerable told is all tells) never (end_of_some asked (left_of list told) causes count is_some not_none causes_are) (ends ∙ ap (λ (b : Bool). cond b Yes No) not_none)
+
+    module _ (places : List ℕ) (old mid : Option (List ℕ)) (seen : Seen) (places_are : places ≡ asked_places a (names_of asked))
+        (all : AreAllPut (sides_in asked a b) asked list places old mid seen) (apart_is : all.apart ≡ apart) where
+      all_told : AreAllTold asked a b all.told apart
+      all_told =
+          subst (AreTold (sides_in asked a b) asked.messages asked.meaning (asked_places a (names_of asked)) all.told) apart_is
+          (subst (λ (ps : List ℕ). AreTold (sides_in asked a b) asked.messages asked.meaning ps all.told all.apart) places_are all.are_told)
+
+      kept_causes : (is : Found) (f : Finds seen is) → map plain_told f.causes.items ≡ once_of (map (kept asked.once) (left_of list all.told))
+      kept_causes is f = f.causes_are all.forgets (map (kept asked.once) (left_of list all.told)) all.place all.visits all.are_seen.are_kept.causes
+
+      finds_tell : (is : Found) → Finds seen is → TellsFound asked.once list all.told apart is
+      finds_tell is f = record {
+        stale = f.stale;
+        lines = seen.lines;
+        causes = f.causes;
+        meanings = f.meanings;
+        is_listed = f.found_is;
+        stale_are = f.stale_are list (all.told ++ apart) (subst (λ (xs : List PlainTold). HasSeen seen.accepting list (all.told ++ xs)) apart_is all.are_seen.judged.accepting);
+        lines_are = all.are_seen.judged.lines_are;
+        causes_are = kept_causes is f;
+        meanings_are = f.meanings_are all.forgets (left_of list all.apart) all.place all.visits all.are_seen.are_kept.meanings ∙ ap (λ (xs : List PlainTold). once_of (left_of list xs)) apart_is;
+      }
+
+      abbrev pub whole_text : (is : Found) → Finds seen is → List ℕ
+      whole_text is f = text_shown asked.once (left_of list all.told) ++ end_text asked seen.lines seen.is_some (map plain_told f.causes.items)
+
+      listed_so : (is : Found) (f : Finds seen is) (exit : Exit) → exit ≡ exit_of seen.lines → IsListed asked input a b (whole_text is f) exit is
+      listed_so is f exit ends =
+          let judged = all.are_seen.judged in
+          by_left all.told (left_of list all.told) (map plain_told f.causes.items) seen.lines seen.is_some exit is all_told (finds_tell is f) refl judged.lines_are judged.is_some_is (kept_causes is f) ends
+
+      begun_whole : (is_once : Bool) → asked.once ≡ is_once → IsBegun asked input a b (text_shown is_once (left_of list all.told))
+      begun_whole true e = nothing_yet refl
+      begun_whole false e =
+          some_lines list (asked_places a (names_of asked)) [] all.told apart (left_of list all.told) [] is_list can e (sym (append-nil (asked_places a (names_of asked)))) all_told
+          (sym (append-nil (left_of list all.told))) refl
+
+      -- where all lines were put, and it is known what stands behind them
+      pub all_answered : (new : Option (List ℕ)) (r : Result Listed RunFault) → Ends asked seen mid new r → Answers asked input a b old new r
+      all_answered new (Ok listed) (f, ends, put) =
+          (whole_text listed.found f, listed_so listed.found f listed.exit ends, Appends-trans old mid new (text_shown asked.once (left_of list all.told)) _ all.is_put put)
+      all_answered new (Err Device) (is, f, front) =
+          (whole_text is f, inr (exit_of seen.lines, (is, listed_so is f (exit_of seen.lines) refl)), front_behind old mid new (text_shown asked.once (left_of list all.told)) _ all.is_put front)
+      all_answered new (Err NoMemory) same =
+          (text_shown asked.once (left_of list all.told), begun_whole asked.once refl, subst (λ (o : Option (List ℕ)). Appends old o (text_shown asked.once (left_of list all.told))) (sym same) all.is_put)
+
+  -- where not all lines were put
+  module _ (can : CanAsk asked a) (places : List ℕ) (old new : Option (List ℕ)) (places_are : places ≡ asked_places a (names_of asked)) where
+    begun_so : (first : List PlainTold) → AreFirstLines (sides_in asked a b) asked list places first → (is_once : Bool) → asked.once ≡ is_once → IsBegun asked input a b (text_shown is_once first)
+    begun_so first f true e = nothing_yet refl
+    begun_so first f false e = some_lines list f.front f.back f.told f.apart first f.more is_list can e (sym places_are ∙ f.parts) f.are_told f.left_are refl
+
+    pub first_answered : (fault : RunFault) (first : List PlainTold) → AreFirstLines (sides_in asked a b) asked list places first → StandsPut fault old new (text_shown asked.once first)
+        → Answers asked input a b old new (Err fault)
+    first_answered Device first f stands = (text_shown asked.once first, inl (begun_so first f asked.once refl), stands)
+    first_answered NoMemory first f stands = (text_shown asked.once first, begun_so first f asked.once refl, stands)
+
+-- nothing is written where memory is refused before
+pub none_answered : (asked : Asked) (input : Input) (a b : Dictionary) (put : Option (List ℕ)) → Answers asked input a b put put (Err NoMemory)
+none_answered asked input a b put = ([], nothing_yet refl, Appends-nil put)
+
+-- a refusal is written
+pub refusal_answered : (asked : Asked) (input : Input) (a b : Dictionary) (old new : Option (List ℕ)) (text : List ℕ) (is : Found) (r : Result Listed RunFault) → IsListed asked input a b text Bad is
+    → OnOk r (Appends old new text) → IfOk r (λ listed. listed.exit ≡ Bad) → IfOk r (λ listed. listed.found ≡ is) → IfErr r (λ fault. fault ≡ Device) → AppendsFront old new text
+    → Answers asked input a b old new r
+refusal_answered asked input a b old new text is (Ok listed) refusal put exit found_is fault front =
+    (text, subst (λ (e : Exit). IsListed asked input a b text e listed.found) (sym exit) (subst (IsListed asked input a b text Bad) (sym found_is) refusal), put)
+refusal_answered asked input a b old new text is (Err Device) refusal put exit found_is fault front = (text, inr (Bad, (is, refusal)), front)
+refusal_answered asked input a b old new text is (Err NoMemory) refusal put exit found_is fault front = absurd (let z : NoMemory ≡ Device = fault in cc)
+
+pub no_items : {X : Type 0} (xs : List X) → length xs ≡ 0 → xs ≡ []
+no_items [] none = refl
+no_items (x ∷ xs) none = absurd (omega (arith, none))
+
+pub some_items : {X : Type 0} (xs : List X) → length xs ≢ 0 → xs ≢ []
+some_items xs some none = some (ap length none)
+
+pub not_zero : (n : ℕ) → (n == 0) ≡ false → n ≢ 0
+not_zero n e is_zero = let t : (n == 0) ≡ true = ap (λ (k : ℕ). k == 0) is_zero in cc

@@ -1,0 +1,189 @@
+-- The lines of all commands.
+use Rattle.std.proofs.Common.{◌≡◌, ℕ, ◌+◌, ◌<◌, ◌^◌, Bool, true, false, List, [], ◌∷◌, ◌++◌, Option, Result, Ok, Err, drop, get_or, length, take, refl, sym, ap, subst, ◌∙◌, append_assoc}
+use Rattle.std.specs.Prelude.{IfErr, IsOk, OnOk}
+use Rattle.std.specs.List.{list_any}
+use Rattle.std.specs.Io.KnownBytes.{Appends}
+use Rattle.std.proofs.KnownBytes.{Appends-nil}
+use Rattle.std.proofs.lemmas.List.{append-nil, length-append, take-append-drop, take_more}
+use Rattle.dia_io.specs.declared.RunFault.{RunFault}
+use Rattle.dia_io.specs.declared.RunFault.TheVariants.{Device, NoMemory}
+use Rattle.dia_io.specs.Writing.{AppendsFront}
+use Rattle.dia_accepted.specs.Accepted.{PlainEntry, PlainTold, left_of}
+use Rattle.dia_accepted.specs.Seen.{is_command}
+use Rattle.dia_breaking.specs.Confirmed.{most_checked_together}
+use Rattle.dia_breaking.specs.Sides.{Sides}
+use Rattle.dia_upgrades.specs.declared.asked.Asked.{Asked}
+use Rattle.dia_upgrades.specs.declared.lines.Listing.{Listing}
+use Rattle.dia_upgrades.specs.declared.pending.Pending.{Pending}
+use Rattle.dia_upgrades.specs.declared.seen.Seen.{Seen}
+use Rattle.dia_upgrades.specs.Places.{IsEachNew}
+use Rattle.dia_upgrades.specs.Told.{AreBothParts, AreShortest, IsToldOf}
+use Rattle.dia_upgrades.specs.UnderWay.{AreAllPut, AreFirstLines, AreSeen, AreUnderWay, GoesOn, IsPut, IsUnderWay, Stands, StandsBehind, StandsPut, StopsIn, among, before, text_shown}
+use Rattle.dia_upgrades.proofs.Listings.{none_of_place}
+use Rattle.dia_upgrades.proofs.LinesToTell.{left_both, nothing_shown}
+use Rattle.dia_upgrades.proofs.Parts.{both_more}
+use Rattle.dia_upgrades.proofs.Puts.{none_put}
+
+module _ (s : Sides) (asked : Asked) (lengths : List ℕ) (forgets : Bool) (list : List PlainEntry) (begun : Option (List ℕ)) where
+  abbrev Tells : ℕ → ℕ → ℕ → List PlainTold → List PlainTold → Type 0
+  Tells = IsToldOf s asked.messages asked.meaning lengths
+
+  -- the lines of the first commands are known, and put or pending
+  pub record AreSome (places : List ℕ) (put : Option (List ℕ)) (listing : Listing) : Type 0 where
+    pub told : List PlainTold
+    pub apart : List PlainTold
+    pub place : ℕ
+    pub are_both : AreBothParts (IsToldOf s asked.messages asked.meaning lengths) places most_checked_together listing.budget told apart
+    pub under_way : IsUnderWay asked forgets list place (length places) begun put listing told apart
+
+  pub none_yet : (put : Option (List ℕ)) (listing : Listing) (place : ℕ) → listing.budget ≡ most_checked_together → IsUnderWay asked forgets list place 0 begun put listing [] [] → AreSome [] put listing
+  none_yet put listing place all way = record { told = []; apart = []; place = place; are_both = (all, refl, refl); under_way = way }
+
+  length_next : (places : List ℕ) (i d : ℕ) → i < length places → length (take (i + 1) places) ≡ length (take i places) + 1
+  length_next places i d less = ap length (take_more places i d less) ∙ length-append (take i places) (get_or places i d ∷ [])
+
+  module _ (places : List ℕ) (i d : ℕ) (less : i < length places) (a c : Option (List ℕ)) (old begin new : Listing) (some : AreSome (take i places) a old) where
+    abbrev pub visits : ℕ
+    visits = length (take i places) + 1
+
+    -- the next command begins
+    module _ (next : (told apart : List PlainTold) → (forgets ≡ true → (list_any (is_command (get_or places i d)) told ≡ false) × (list_any (is_command (get_or places i d)) apart ≡ false))
+        → AreSeen asked forgets list some.place (length (take i places)) old.seen told apart → AreSeen asked forgets list (get_or places i d) visits begin.seen told apart)
+        (pending : begin.pending ≡ old.pending) (budget : begin.budget ≡ old.budget) (new_ones : forgets ≡ true → IsEachNew places) (small : visits < 2 ^ 63) where
+      begins : IsUnderWay asked forgets list (get_or places i d) visits begun a begin some.told some.apart
+      begins =
+          record {
+            seen = next some.told some.apart (λ e. none_of_place s asked.messages asked.meaning lengths (get_or places i d) (take i places) most_checked_together old.budget some.told some.apart some.are_both (new_ones e i d less))
+                some.under_way.seen;
+            is_put = subst (λ p. IsPut begun a p (text_shown asked.once (left_of list some.told))) (sym pending) some.under_way.is_put;
+          }
+
+      pub goes_next : (told apart : List PlainTold) → Tells (get_or places i d) begin.budget new.budget told apart → GoesOn asked (get_or places i d) a c begin new told apart → AreSome (take (i + 1) places) c new
+      goes_next told apart is goes = record {
+        told = some.told ++ told;
+        apart = some.apart ++ apart;
+        place = get_or places i d;
+        are_both = both_more Tells places i d most_checked_together old.budget new.budget some.told some.apart told apart less some.are_both
+            (subst (λ (n : ℕ). Tells (get_or places i d) n new.budget told apart) budget is);
+        under_way = subst (λ (n : ℕ). IsUnderWay asked forgets list (get_or places i d) n begun c new (some.told ++ told) (some.apart ++ apart)) (sym (length_next places i d less))
+            (goes forgets list visits begun some.told some.apart small begins);
+      }
+
+      -- or it stops there
+      pub stops_there : AreShortest s.sender s.sends lengths → (fault : RunFault) → StopsIn s asked lengths (get_or places i d) fault a c begin new
+          → (first : List PlainTold) × AreFirstLines s asked list places first × Stands fault begun c new.pending (text_shown asked.once first)
+      stops_there shortest fault (before stops) = (
+        left_of list some.told,
+        record {
+          front = take i places;
+          back = drop i places;
+          told = some.told;
+          apart = some.apart;
+          more = [];
+          parts = sym (take-append-drop i places);
+          are_told = record { lengths = lengths; behind = old.budget; are_shortest = shortest; each = some.are_both };
+          left_are = sym (append-nil (left_of list some.told));
+        },
+        subst (λ (xs : List PlainTold). Stands fault begun c new.pending (text_shown asked.once (left_of list xs))) (append-nil some.told)
+            (stops forgets list visits begun some.told some.apart small begins),
+      )
+      stops_there shortest fault (among behind more rest others is stops) = (
+        left_of list (some.told ++ more),
+        record {
+          front = take (i + 1) places;
+          back = drop (i + 1) places;
+          told = some.told ++ (more ++ rest);
+          apart = some.apart ++ others;
+          more = left_of list rest;
+          parts = sym (take-append-drop (i + 1) places);
+          are_told = record {
+            lengths = lengths;
+            behind = behind;
+            are_shortest = shortest;
+            each = both_more Tells places i d most_checked_together old.budget behind some.told some.apart (more ++ rest) others less some.are_both
+                (subst (λ (n : ℕ). Tells (get_or places i d) n behind (more ++ rest) others) budget is);
+          };
+          left_are = ap (left_of list) (sym (append_assoc some.told more rest)) ∙ left_both list (some.told ++ more) rest;
+        },
+        stops forgets list visits begun some.told some.apart small begins,
+      )
+
+  -- all of them
+  pub all_some : (places : List ℕ) (put : Option (List ℕ)) (listing : Listing) → AreShortest s.sender s.sends lengths → AreSome places put listing
+      → AreUnderWay s asked forgets list places begun put listing
+  all_some places put listing shortest some = record {
+    told = some.told;
+    apart = some.apart;
+    place = some.place;
+    are_told = record { lengths = lengths; behind = listing.budget; are_shortest = shortest; each = some.are_both };
+    under_way = some.under_way;
+  }
+
+-- ---- what is pending is put
+
+pub failed_behind : (U : Type 0) (fault : RunFault) (put new : Option (List ℕ)) (pending : Pending) → fault ≡ NoMemory
+    → ((begun : Option (List ℕ)) (text : List ℕ) → IsPut begun put pending text → AppendsFront begun new text) → StandsBehind {U = U} (Err fault) Device put new pending
+failed_behind U fault put new pending is front = subst (λ (f : RunFault). StandsBehind {U = U} (Err f) Device put new pending) (sym is) front
+
+module _ (s : Sides) (asked : Asked) (forgets : Bool) (list : List PlainEntry) (places : List ℕ) (begun put new : Option (List ℕ)) (listing : Listing) where
+  -- of all lines
+  all_first : (way : AreUnderWay s asked forgets list places begun put listing) → AreFirstLines s asked list places (left_of list way.told)
+  all_first way = record {
+    front = places;
+    back = [];
+    told = way.told;
+    apart = way.apart;
+    more = [];
+    parts = sym (append-nil places);
+    are_told = way.are_told;
+    left_are = sym (append-nil (left_of list way.told));
+  }
+
+  pub rest_stands : {U : Type 0} (found : Result U RunFault) → OnOk found (AreUnderWay s asked forgets list places begun put listing)
+      → IfErr found (λ fault. (first : List PlainTold) × AreFirstLines s asked list places first × Stands fault begun put listing.pending (text_shown asked.once first))
+      → (fault : RunFault) → StandsBehind found fault put new listing.pending → (first : List PlainTold) × AreFirstLines s asked list places first × StandsPut fault begun new (text_shown asked.once first)
+  rest_stands (Ok u) way stops Device front = (left_of list way.told, all_first way, front begun (text_shown asked.once (left_of list way.told)) way.under_way.is_put)
+  rest_stands (Ok u) way stops NoMemory never = absurd never
+  rest_stands (Err NoMemory) way (first, are, stands) fault behind = (first, are, behind begun (text_shown asked.once first) stands)
+  rest_stands (Err Device) way (first, are, stands) Device (same, put_same) =
+      (first, are, subst (λ (o : Option (List ℕ)). AppendsFront begun o (text_shown asked.once first)) (sym put_same) stands)
+  rest_stands (Err Device) way (first, are, stands) NoMemory (same, put_same) = absurd (let z : NoMemory ≡ Device = same in cc)
+
+  pub all_put : {U : Type 0} (found : Result U RunFault) → IsOk found → OnOk found (AreUnderWay s asked forgets list places begun put listing)
+      → ((start : Option (List ℕ)) (text : List ℕ) → IsPut start put listing.pending text → Appends start new text) → AreAllPut s asked list places begun new listing.seen
+  all_put (Ok u) ok way out = record {
+    told = way.told;
+    apart = way.apart;
+    forgets = forgets;
+    place = way.place;
+    visits = length places;
+    are_told = way.are_told;
+    are_seen = way.under_way.seen;
+    is_put = out begun (text_shown asked.once (left_of list way.told)) way.under_way.is_put;
+  }
+  all_put (Err fault) ok way out = absurd (let z : false ≡ true = ok in cc)
+
+-- ---- the beginning
+
+pub start : (asked : Asked) (forgets : Bool) (list : List PlainEntry) (put : Option (List ℕ)) (listing : Listing) → AreSeen asked forgets list 0 0 listing.seen [] [] → listing.pending.bytes.items ≡ []
+    → IsUnderWay asked forgets list 0 0 put put listing [] []
+start asked forgets list put listing seen nothing =
+    record { seen = seen; is_put = subst (IsPut put put listing.pending) (sym (nothing_shown asked.once)) (none_put put listing.pending nothing) }
+
+-- nothing was written of any line
+pub none_first : (s : Sides) (asked : Asked) (list : List PlainEntry) (lengths places : List ℕ) (put : Option (List ℕ)) → AreShortest s.sender s.sends lengths
+    → (first : List PlainTold) × AreFirstLines s asked list places first × StandsPut NoMemory put put (text_shown asked.once first)
+none_first s asked list lengths places put shortest = (
+  [],
+  record {
+    front = [];
+    back = places;
+    told = [];
+    apart = [];
+    more = [];
+    parts = refl;
+    are_told = record { lengths = lengths; behind = most_checked_together; are_shortest = shortest; each = (refl, refl, refl) };
+    left_are = refl;
+  },
+  subst (Appends put put) (sym (nothing_shown asked.once)) (Appends-nil put),
+)

@@ -1,0 +1,192 @@
+-- Lines that are known and put one after another.
+use Rattle.std.proofs.Common.{◌≡◌, ℕ, ◌+◌, ◌<◌, Bool, true, false, List, [], ◌∷◌, ◌++◌, Option, drop, get_or, length, take, refl, sym, ap, subst, ◌∙◌, append_assoc}
+use Rattle.std.specs.Prelude.{nat_eq, ◌||◌, ◌↔◌, Result, Ok, Err}
+use Rattle.std.specs.List.{list_any}
+use Rattle.std.proofs.lemmas.List.{append-nil, take-append-drop, take_more}
+use Rattle.std.proofs.lemmas.List.Folds.{list_any-append}
+use Rattle.dia_io.specs.declared.RunFault.{RunFault}
+use Rattle.dia_io.specs.declared.RunFault.TheVariants.{Device, NoMemory}
+use Rattle.dia_io.specs.Writing.{AppendsFront}
+use Rattle.dia_accepted.specs.Accepted.{PlainEntry, PlainTold, left_of}
+use Rattle.dia_accepted.specs.Seen.{is_command}
+use Rattle.dia_breaking.specs.declared.line.Line.{Line}
+use Rattle.dia_breaking.specs.Sides.{Sides}
+use Rattle.dia_upgrades.specs.declared.asked.Asked.{Asked}
+use Rattle.dia_upgrades.specs.declared.lines.Listing.{Listing}
+use Rattle.dia_upgrades.specs.declared.seen.Seen.{Seen}
+use Rattle.dia_upgrades.specs.Told.{AreBothParts, AreParts, IsLineTold, IsToldOf, told_as}
+use Rattle.dia_upgrades.specs.UnderWay.{AreSeen, GoesOn, IsPut, IsUnderWay, Sees, SeesApart, Stands, StopsAmong, StopsBehind, text_shown}
+use Rattle.dia_upgrades.proofs.LinesToTell.{any_behind, any_message, left_both, shown_more}
+use Rattle.dia_upgrades.proofs.Parts.{all_parts, both_ends}
+use Rattle.dia_upgrades.proofs.Puts.{same_put}
+
+module _ (asked : Asked) (place : ℕ) where
+  -- ---- one line
+
+  text_behind : (list : List PlainEntry) (told : List PlainTold) (t : PlainTold) (text : List ℕ) → text ≡ text_shown asked.once (left_of list (t ∷ []))
+      → text_shown asked.once (left_of list told) ++ text ≡ text_shown asked.once (left_of list (told ++ t ∷ []))
+  text_behind list told t text is =
+      ap (λ (x : List ℕ). text_shown asked.once (left_of list told) ++ x) is ∙ sym (shown_more asked.once (left_of list told) (left_of list (t ∷ [])))
+      ∙ ap (text_shown asked.once) (sym (left_both list told (t ∷ [])))
+
+  pub line_goes : (put_old put : Option (List ℕ)) (old new : Listing) (t : PlainTold) (text : List ℕ) → Sees asked place old.seen new.seen t text
+      → ((begun : Option (List ℕ)) (before : List ℕ) → IsPut begun put_old old.pending before → IsPut begun put new.pending (before ++ text)) → GoesOn asked place put_old put old new (t ∷ []) []
+  line_goes put_old put old new t text sees added = λ forgets list visits begun told apart small way.
+      let s = sees forgets list visits told apart small way.seen in record {
+        seen = subst (λ (xs : List PlainTold). AreSeen asked forgets list place visits new.seen (told ++ t ∷ []) xs) (sym (append-nil apart)) s.0;
+        is_put = subst (IsPut begun put new.pending) (text_behind list told t text s.1) (added begun (text_shown asked.once (left_of list told)) way.is_put);
+      }
+
+  pub line_stops : (put_old put : Option (List ℕ)) (old new : Listing) (seen : Seen) (t : PlainTold) (text : List ℕ) → Sees asked place old.seen seen t text
+      → ((begun : Option (List ℕ)) (before : List ℕ) → IsPut begun put_old old.pending before → AppendsFront begun put (before ++ text)) → StopsBehind asked place Device put_old put old new (t ∷ [])
+  line_stops put_old put old new seen t text sees front = λ forgets list visits begun told apart small way.
+      subst (AppendsFront begun put) (text_behind list told t text (sees forgets list visits told apart small way.seen).1) (front begun (text_shown asked.once (left_of list told)) way.is_put)
+
+  -- ---- nothing more
+
+  pub goes_nothing : (put : Option (List ℕ)) (now : Listing) → GoesOn asked place put put now now [] []
+  goes_nothing put now = λ forgets list visits begun told apart small way. subst (λ (xs : List PlainTold). IsUnderWay asked forgets list place visits begun put now xs (apart ++ [])) (sym (append-nil told))
+      (subst (λ (xs : List PlainTold). IsUnderWay asked forgets list place visits begun put now told xs) (sym (append-nil apart)) way)
+
+  -- where memory is refused, what was put and what is pending stay
+  pub stops_here : (put : Option (List ℕ)) (old new : Listing) → new.pending ≡ old.pending → StopsBehind asked place NoMemory put put old new []
+  stops_here put old new same = λ forgets list visits begun told apart small way.
+      subst (λ (xs : List PlainTold). IsPut begun put new.pending (text_shown asked.once (left_of list xs))) (sym (append-nil told))
+      (same_put begun put old.pending new.pending (text_shown asked.once (left_of list told)) (ap (λ p. p.bytes.items) same) way.is_put)
+
+  pub stops_behind : (put_old put : Option (List ℕ)) (old mid new : Listing) (more others : List PlainTold) → new.pending ≡ mid.pending → GoesOn asked place put_old put old mid more others
+      → StopsBehind asked place NoMemory put_old put old new more
+  stops_behind put_old put old mid new more others same goes = λ forgets list visits begun told apart small way.
+      same_put begun put mid.pending new.pending (text_shown asked.once (left_of list (told ++ more))) (ap (λ p. p.bytes.items) same) (goes forgets list visits begun told apart small way).is_put
+
+  from_there : (put : Option (List ℕ)) (old mid : Listing) → mid.seen ≡ old.seen → mid.pending ≡ old.pending → (forgets : Bool) (list : List PlainEntry) (visits : ℕ) (begun : Option (List ℕ))
+      (told apart : List PlainTold) → IsUnderWay asked forgets list place visits begun put old told apart → IsUnderWay asked forgets list place visits begun put mid told apart
+  from_there put old mid seen pending forgets list visits begun told apart way = record {
+    seen = subst (λ s. AreSeen asked forgets list place visits s told apart) (sym seen) way.seen;
+    is_put = same_put begun put old.pending mid.pending (text_shown asked.once (left_of list told)) (ap (λ p. p.bytes.items) pending) way.is_put;
+  }
+
+  -- what was known before the budget was used
+  pub goes_from : (a b : Option (List ℕ)) (old mid new : Listing) (more others : List PlainTold) → mid.seen ≡ old.seen → mid.pending ≡ old.pending → GoesOn asked place a b mid new more others
+      → GoesOn asked place a b old new more others
+  goes_from a b old mid new more others seen pending goes = λ forgets list visits begun told apart small way. goes forgets list visits begun told apart small (from_there a old mid seen pending forgets list visits begun told apart way)
+
+  pub stops_from : (fault : RunFault) (a b : Option (List ℕ)) (old mid new : Listing) (more : List PlainTold) → mid.seen ≡ old.seen → mid.pending ≡ old.pending → StopsBehind asked place fault a b mid new more
+      → StopsBehind asked place fault a b old new more
+  stops_from fault a b old mid new more seen pending stops = λ forgets list visits begun told apart small way. stops forgets list visits begun told apart small (from_there a old mid seen pending forgets list visits begun told apart way)
+
+  -- ---- one thing after another
+
+  pub goes_both : (a b c : Option (List ℕ)) (old mid new : Listing) (more last others rest : List PlainTold) → GoesOn asked place a b old mid more others → GoesOn asked place b c mid new last rest
+      → GoesOn asked place a c old new (more ++ last) (others ++ rest)
+  goes_both a b c old mid new more last others rest first second = λ forgets list visits begun told apart small way.
+      subst (λ (xs : List PlainTold). IsUnderWay asked forgets list place visits begun c new xs (apart ++ (others ++ rest))) (append_assoc told more last)
+      (subst (λ (xs : List PlainTold). IsUnderWay asked forgets list place visits begun c new ((told ++ more) ++ last) xs) (append_assoc apart others rest)
+      (second forgets list visits begun (told ++ more) (apart ++ others) small (first forgets list visits begun told apart small way)))
+
+  pub stops_later : (fault : RunFault) (a b c : Option (List ℕ)) (old mid new : Listing) (more last others : List PlainTold) → GoesOn asked place a b old mid more others
+      → StopsBehind asked place fault b c mid new last → StopsBehind asked place fault a c old new (more ++ last)
+  stops_later fault a b c old mid new more last others goes stops = λ forgets list visits begun told apart small way.
+      subst (λ (xs : List PlainTold). Stands fault begun c new.pending (text_shown asked.once (left_of list xs))) (append_assoc told more last)
+      (stops forgets list visits begun (told ++ more) (apart ++ others) small (goes forgets list visits begun told apart small way))
+
+  -- lines that aren't shown
+  pub apart_goes : (put : Option (List ℕ)) (old new : Listing) (others : List PlainTold) → new.pending ≡ old.pending → SeesApart asked place old.seen new.seen others
+      → GoesOn asked place put put old new [] others
+  apart_goes put old new others same sees = λ forgets list visits begun told apart small way.
+      subst (λ (xs : List PlainTold). IsUnderWay asked forgets list place visits begun put new xs (apart ++ others)) (sym (append-nil told)) (record {
+        seen = sees forgets list visits told apart small way.seen;
+        is_put = same_put begun put old.pending new.pending (text_shown asked.once (left_of list told)) (ap (λ p. p.bytes.items) same) way.is_put;
+      })
+
+  pub apart_both : (old mid new : Seen) (others rest : List PlainTold) → SeesApart asked place old mid others → SeesApart asked place mid new rest → SeesApart asked place old new (others ++ rest)
+  apart_both old mid new others rest first second = λ forgets list visits told apart small are.
+      subst (λ (xs : List PlainTold). AreSeen asked forgets list place visits new told xs) (append_assoc apart others rest)
+      (second forgets list visits told (apart ++ others) small (first forgets list visits told apart small are))
+
+  pub apart_nothing : (now : Seen) → SeesApart asked place now now []
+  apart_nothing now = λ forgets list visits told apart small are. subst (λ (xs : List PlainTold). AreSeen asked forgets list place visits now told xs) (sym (append-nil apart)) are
+
+-- ---- among lines
+
+-- each line could be told
+pub could_be : (place : ℕ) (messages : Bool) (words : Line → List ℕ) (x : Line) → IsLineTold place messages words x (told_as place (words x) (any_message x.standing messages) ∷ [])
+could_be place messages words x = (any_message x.standing messages, any_behind _, refl)
+
+pub any_told : (place : ℕ) (messages : Bool) (words : Line → List ℕ) (lines : List Line) → (told : List PlainTold) × AreParts (IsLineTold place messages words) lines told
+any_told place messages words lines =
+    all_parts (IsLineTold place messages words) (λ x. told_as place (words x) (any_message x.standing messages) ∷ []) (could_be place messages words) lines
+
+from_here : {X : Type 0} (xs : List X) (i : ℕ) (d : X) → i < length xs → take i xs ++ (get_or xs i d ∷ drop (i + 1) xs) ≡ xs
+from_here xs i d less =
+    sym (append_assoc (take i xs) (get_or xs i d ∷ []) (drop (i + 1) xs)) ∙ ap (λ ys. ys ++ drop (i + 1) xs) (sym (take_more xs i d less)) ∙ take-append-drop (i + 1) xs
+
+module _ (asked : Asked) (place : ℕ) (messages : Bool) (words : Line → List ℕ) where
+  -- it stops in the line at i
+  pub stops_at : (fault : RunFault) (a b c : Option (List ℕ)) (old mid new : Listing) (lines : List Line) (i : ℕ) (x : Line) (told : List PlainTold) → i < length lines → x ≡ get_or lines i x
+      → AreParts (IsLineTold place messages words) (take i lines) told → GoesOn asked place a b old mid told [] → StopsAmong asked place fault b c mid new (IsLineTold place messages words) (x ∷ [])
+      → StopsAmong asked place fault a c old new (IsLineTold place messages words) lines
+  stops_at fault a b c old mid new lines i x told less is_x are goes stops =
+      let rest = any_told place messages words (drop (i + 1) lines) in
+      let here : take i lines ++ (x ∷ drop (i + 1) lines) ≡ lines = ap (λ (y : Line). take i lines ++ (y ∷ drop (i + 1) lines)) is_x ∙ from_here lines i x less in
+      let parts = both_ends (IsLineTold place messages words) (take i lines) (x ∷ drop (i + 1) lines) told ((stops.more ++ stops.rest) ++ rest.0) are
+      (both_ends (IsLineTold place messages words) (x ∷ []) (drop (i + 1) lines) (stops.more ++ stops.rest) rest.0 stops.are_parts rest.1) in
+      let regrouped : told ++ ((stops.more ++ stops.rest) ++ rest.0) ≡ (told ++ stops.more) ++ (stops.rest ++ rest.0) =
+      ap (λ (xs : List PlainTold). told ++ xs) (append_assoc stops.more stops.rest rest.0) ∙ sym (append_assoc told stops.more (stops.rest ++ rest.0)) in record {
+        more = told ++ stops.more;
+        rest = stops.rest ++ rest.0;
+        are_parts = subst (AreParts (IsLineTold place messages words) lines) regrouped (subst (λ (xs : List Line). AreParts (IsLineTold place messages words) xs (told ++ ((stops.more ++ stops.rest) ++ rest.0))) here parts);
+        stops = stops_later asked place fault a b c old mid new told stops.more [] goes stops.stops;
+      }
+
+  -- it stops before a line
+  pub stops_before_line : (put : Option (List ℕ)) (old new : Listing) (x : Line) → new.pending ≡ old.pending → StopsAmong asked place NoMemory put put old new (IsLineTold place messages words) (x ∷ [])
+  stops_before_line put old new x same =
+      let one = told_as place (words x) (any_message x.standing messages) ∷ [] in
+      record { more = []; rest = one; are_parts = (one, [], could_be place messages words x, refl, sym (append-nil one)); stops = stops_here asked place put old new same }
+
+  pub stops_in_line : (put_old put : Option (List ℕ)) (old new : Listing) (x : Line) (t : PlainTold) → IsLineTold place messages words x (t ∷ []) → StopsBehind asked place Device put_old put old new (t ∷ [])
+      → StopsAmong asked place Device put_old put old new (IsLineTold place messages words) (x ∷ [])
+  stops_in_line put_old put old new x t is_t stops =
+      record { more = t ∷ []; rest = []; are_parts = (t ∷ [], [], is_t, refl, refl); stops = stops }
+
+-- a call that ended well leaves a sink that is sound
+pub sound_ok : {X : Type 0} (x : X) (P : Type 0) → (Ok x ≡ Err Device) ↔ P → ¬ P
+sound_ok x P device failed = let z : Ok x ≡ Err Device = device.1 failed in cc
+
+same_fault : {X : Type 0} (r : Result X RunFault) (a b : RunFault) → r ≡ Err a → r ≡ Err b → a ≡ b
+same_fault r a b e f = cc
+
+-- whose fault is handed on
+pub device_of : {X Y : Type 0} (r : Result X RunFault) (s : Result Y RunFault) (fault : RunFault) (P : Type 0) → r ≡ Err fault → s ≡ Err fault → (s ≡ Err Device) ↔ P → (r ≡ Err Device) ↔ P
+device_of r s fault P is is_other device =
+    (λ e. device.0 (is_other ∙ ap (λ f. Err f) (same_fault r fault Device is e)), λ p. (is ∙ ap (λ f. Err f) (same_fault s fault Device is_other (device.1 p))))
+
+pub never_failed : (P : Type 0) → (false ≡ true) ↔ P → ¬ P
+never_failed P failed was = let z : false ≡ true = failed.1 was in cc
+
+-- ---- the commands of lines
+
+or_none : (a b : Bool) → (a || b) ≡ false → (a ≡ false) × (b ≡ false)
+or_none true b e = absurd (let z : true ≡ false = e in cc)
+or_none false b e = (refl, e)
+
+both_none : (p : PlainTold → Bool) (xs ys : List PlainTold) → list_any p xs ≡ false → list_any p ys ≡ false → list_any p (xs ++ ys) ≡ false
+both_none p xs ys e f = list_any-append p xs ys ∙ (λ i. (e i || f i))
+
+lines_of_place : (k place : ℕ) (messages : Bool) (words : Line → List ℕ) (lines : List Line) (told : List PlainTold) → nat_eq k place ≡ false → AreParts (IsLineTold place messages words) lines told
+    → list_any (is_command k) told ≡ false
+lines_of_place k place messages words [] told other none = ap (list_any (is_command k)) none
+lines_of_place k place messages words (x ∷ lines) told other (front, rest, is_x, are, e) =
+    ap (list_any (is_command k)) e
+    ∙ both_none (is_command k) front rest (ap (list_any (is_command k)) is_x.2 ∙ ap (λ (b : Bool). b || false) other) (lines_of_place k place messages words lines rest other are)
+
+-- no line is of a command at another place
+pub none_of_place : (s : Sides) (messages meaning : Bool) (lengths : List ℕ) (k : ℕ) (places : List ℕ) (budget behind : ℕ) (told apart : List PlainTold)
+    → AreBothParts (IsToldOf s messages meaning lengths) places budget behind told apart → list_any (nat_eq k) places ≡ false → (list_any (is_command k) told ≡ false) × (list_any (is_command k) apart ≡ false)
+none_of_place s messages meaning lengths k [] budget behind told apart (same, none, no_other) other = (ap (list_any (is_command k)) none, ap (list_any (is_command k)) no_other)
+none_of_place s messages meaning lengths k (place ∷ places) budget behind told apart (next, front, first, rest, others, is_told, are, e, f) other =
+    let parts = or_none (nat_eq k place) (list_any (nat_eq k) places) other in let more = none_of_place s messages meaning lengths k places next behind rest others are parts.1 in (
+      ap (list_any (is_command k)) e ∙ both_none (is_command k) front rest (lines_of_place k place messages _ is_told.shown front parts.0 is_told.told_are) more.0,
+      ap (list_any (is_command k)) f ∙ both_none (is_command k) first others (lines_of_place k place false _ _ first parts.0 is_told.apart_are) more.1,
+    )

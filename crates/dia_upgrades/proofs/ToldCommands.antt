@@ -1,0 +1,51 @@
+-- What is told of a command, by what was found of it.
+use Rattle.std.proofs.Common.{◌≡◌, ℕ, Bool, false, List, [], subst}
+use Rattle.dia_accepted.specs.Accepted.{PlainTold}
+use Rattle.dia_breaking.specs.declared.line.Breaks.{Breaks}
+use Rattle.dia_breaking.specs.declared.line.Line.{Line}
+use Rattle.dia_breaking.specs.Confirmed.{EachConfirmedBreaks, HaveStandings, left_after}
+use Rattle.dia_breaking.specs.Free.{AreValidWhereFree}
+use Rattle.dia_breaking.specs.Listing.{AreUnchecked}
+use Rattle.dia_breaking.specs.OwnBreaks.{TellData}
+use Rattle.dia_breaking.specs.Sides.{Sides, answer}
+use Rattle.dia_breaking.specs.TheLines.{AreLinesOrUnproved}
+use Rattle.dia_breaking.specs.TheMeanings.{AreMeaningsOf, AreMeant, HoldsOfLevels, IsReadAsSent}
+use Rattle.dia_upgrades.specs.Told.{AreParts, AreShown, IsLineTold, IsToldOf, apart_of, number_at, words_at}
+
+-- what was found of a command, by its number
+pub record IsFound (s : Sides) (meaning : Bool) (number budget behind : ℕ) (breaks : Breaks) (shown : List Line) : Type 0 where
+  pub are_lines : AreLinesOrUnproved s (answer number breaks.sites.items breaks.lines.items)
+  pub free : ∥ AreValidWhereFree s (answer number breaks.sites.items breaks.lines.items) ∥₁
+  pub confirmed : EachConfirmedBreaks s number breaks.lines.items
+  pub standings : HaveStandings budget breaks.lines.items
+  pub behind_is : behind ≡ left_after budget breaks.lines.items
+  pub formats : ∥ TellData s breaks.lines.items ∥₁
+  pub are_meanings : AreMeaningsOf s (answer number breaks.sites.items breaks.lines.items) breaks.meanings.items
+  pub unchecked : AreUnchecked breaks.meanings.items
+  pub all_meant : ∥ HoldsOfLevels s (answer number breaks.sites.items breaks.lines.items) (AreMeant s breaks.meanings.items) ∥₁
+  pub read_alike : breaks.meanings.items ≡ [] → ∥ HoldsOfLevels s (answer number breaks.sites.items breaks.lines.items) (IsReadAsSent s) ∥₁
+  pub are_shown : AreShown meaning breaks.lines.items breaks.meanings.items shown
+
+pub told_so : (s : Sides) (messages meaning : Bool) (lengths : List ℕ) (place number budget behind : ℕ) (breaks : Breaks) (shown : List Line) (told apart : List PlainTold) → number ≡ number_at s.sender place
+    → IsFound s meaning number budget behind breaks shown → AreParts (IsLineTold place messages (words_at s lengths number breaks.sites.items)) shown told
+    → AreParts (IsLineTold place false (words_at s lengths number breaks.sites.items)) (apart_of meaning breaks.meanings.items) apart → IsToldOf s messages meaning lengths place budget behind told apart
+told_so s messages meaning lengths place number budget behind breaks shown told apart is found told_are apart_are =
+    let here = subst (λ (n : ℕ). IsFound s meaning n budget behind breaks shown) is found in record {
+      sites = breaks.sites.items;
+      lines = breaks.lines.items;
+      meanings = breaks.meanings.items;
+      shown = shown;
+      are_lines = here.are_lines;
+      free = here.free;
+      confirmed = here.confirmed;
+      standings = here.standings;
+      behind_is = here.behind_is;
+      formats = here.formats;
+      are_meanings = here.are_meanings;
+      unchecked = here.unchecked;
+      all_meant = here.all_meant;
+      read_alike = here.read_alike;
+      are_shown = here.are_shown;
+      told_are = subst (λ (n : ℕ). AreParts (IsLineTold place messages (words_at s lengths n breaks.sites.items)) shown told) is told_are;
+      apart_are = subst (λ (n : ℕ). AreParts (IsLineTold place false (words_at s lengths n breaks.sites.items)) (apart_of meaning breaks.meanings.items) apart) is apart_are;
+    }

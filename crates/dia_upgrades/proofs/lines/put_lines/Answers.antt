@@ -1,0 +1,53 @@
+use Rattle.std.proofs.Common.{[], Err, List, ap, map, refl, true, ◌∙◌}
+use Rattle.std.proofs.Math.Logic.{∥∥₁_map}
+use Rattle.std.proofs.lemmas.Result.{err_from_is_err_and, IfErr-weaker, on_ok_weaker}
+use Rattle.dia_accepted.specs.Accepted.{plain_entry}
+use Rattle.dia_breaking.specs.Upgrades.{facts_of, sides_of}
+use Rattle.dia_upgrades.specs.declared.lines.Listing.{Listing}
+use Rattle.dia_upgrades.specs.Told.{AreShortest}
+use Rattle.dia_upgrades.proofs.Commands.{all_put, none_first, rest_stands, start}
+use Rattle.dia_upgrades.proofs.Listings.{device_of}
+use Rattle.dia_upgrades.proofs.lines.put_lines.Goals as goal
+
+pub returns-in_err-forgets-clause-front : goal.returns-in_err-forgets-clause-front
+returns-in_err-forgets-clause-front g c =
+    let p = err_from_is_err_and c.from_residual.result c.from_residual.ensures.1 in
+    let up = c.args.upgrade.now in
+    let shortest : AreShortest (sides_of up).sender (sides_of up).sends (facts_of up).lengths = ∥∥₁_map up.known (λ known. (known.facts.least, known.facts.are_least, known.facts.are_lengths)) in
+    rw (p.1, p.2) (none_first (sides_of up) c.args.asked (map plain_entry c.args.list.now) (facts_of up).lengths c.args.places.now (g.S.Sink.written c.args.sink.now) shortest)
+
+pub returns-in_err-seen-clause-front : goal.returns-in_err-seen-clause-front
+returns-in_err-seen-clause-front g c =
+    let p = err_from_is_err_and c.from_residual-in_err-seen.result c.from_residual-in_err-seen.ensures.1 in
+    let up = c.args.upgrade.now in
+    let shortest : AreShortest (sides_of up).sender (sides_of up).sends (facts_of up).lengths = ∥∥₁_map up.known (λ known. (known.facts.least, known.facts.are_least, known.facts.are_lengths)) in
+    rw (p.1, p.2) (none_first (sides_of up) c.args.asked (map plain_entry c.args.list.now) (facts_of up).lengths c.args.places.now (g.S.Sink.written c.args.sink.now) shortest)
+
+pub returns-in_err-put_rest-clause-front : goal.returns-in_err-put_rest-clause-front
+returns-in_err-put_rest-clause-front g c =
+    let p = err_from_is_err_and c.from_residual-in_err-put_rest.result c.from_residual-in_err-put_rest.ensures.1 in
+    let up = c.args.upgrade.now in
+    let list = map plain_entry c.args.list.now in
+    let put = g.S.Sink.written c.args.sink.now in
+    let new = c.put_commands-found.new.listing in
+    let way = start c.args.asked c.in_ok-forgets.forgets list put _ (c.in_ok-seen.ensures c.args.asked c.in_ok-forgets.forgets 0) c.new-2.ensures in
+    let all = on_ok_weaker c.put_commands-found.result (λ f. f list put 0 c.in_ok-forgets.ensures refl way) c.put_commands-found.ensures.all in
+    let stops = IfErr-weaker c.put_commands-found.result _ _ (λ fault f. f list put 0 c.in_ok-forgets.ensures refl way) c.put_commands-found.ensures.stops in
+    rw (p.1, p.2) (rest_stands (sides_of up) c.args.asked c.in_ok-forgets.forgets list c.args.places.now put (g.S.Sink.written c.put_commands-found.new.sink) (g.S.Sink.written c.put_rest.new.sink) new c.put_commands-found.result
+    all stops _ c.in_err-put_rest.ensures.front)
+
+pub returns-clause-all : goal.returns-clause-all
+returns-clause-all g c =
+    let up = c.args.upgrade.now in
+    let list = map plain_entry c.args.list.now in
+    let put = g.S.Sink.written c.args.sink.now in
+    let new = c.put_commands-found.new.listing in
+    let way = start c.args.asked c.in_ok-forgets.forgets list put _ (c.in_ok-seen.ensures c.args.asked c.in_ok-forgets.forgets 0) c.new-2.ensures in
+    let all = on_ok_weaker c.put_commands-found.result (λ f. f list put 0 c.in_ok-forgets.ensures refl way) c.put_commands-found.ensures.all in
+    all_put (sides_of up) c.args.asked c.in_ok-forgets.forgets list c.args.places.now put (g.S.Sink.written c.put_commands-found.new.sink) (g.S.Sink.written c.put_rest.new.sink) new c.put_commands-found.result
+    c.in_ok-put_rest.ensures.all.0 all c.in_ok-put_rest.ensures.all.1
+
+pub returns-in_err-put_rest-clause-device : goal.returns-in_err-put_rest-clause-device
+returns-in_err-put_rest-clause-device g c =
+    let p = err_from_is_err_and c.from_residual-in_err-put_rest.result c.from_residual-in_err-put_rest.ensures.1 in
+    device_of c.from_residual-in_err-put_rest.result (Err c.in_err-put_rest.field-0.0) c.in_err-put_rest.field-0.0 _ (p.1 ∙ ap (λ f. Err f) p.2) refl c.in_err-put_rest.ensures.device

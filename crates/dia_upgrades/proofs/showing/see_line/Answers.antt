@@ -1,0 +1,69 @@
+use Rattle.std.proofs.Common.{[], ◌∷◌, ◌++◌, List, ℕ, Bool, ap, inl, refl, subst, sym, ◌∙◌}
+use Rattle.std.proofs.lemmas.List.{append-nil}
+use Rattle.dia_accepted.specs.Accepted.{bare, kept}
+use Rattle.dia_accepted.specs.Seen.{AreCauses}
+use Rattle.dia_breaking.specs.Words.{words_of}
+use Rattle.dia_breaking.specs.Upgrades.{other_length_of, sides_of}
+use Rattle.dia_run.specs.Texts.{line as with_feed}
+use Rattle.dia_upgrades.specs.Told.{told_as}
+use Rattle.dia_upgrades.specs.UnderWay.{digits_text, text_shown}
+use Rattle.dia_upgrades.proofs.LinesToTell.{any_message, sees_accepted, sees_left}
+use Rattle.dia_upgrades.proofs.Listings.{could_be}
+use Rattle.dia_upgrades.proofs.showing.see_line.Goals as goal
+
+pub returns-then-known : goal.returns-then-known
+returns-then-known g c =
+    let up = c.args.upgrade.now in
+    let place = c.args.place in
+    let asked = c.args.asked in
+    let line = c.args.line.now in
+    let words = words_of (sides_of up) (other_length_of up) c.args.breaks.now.command c.args.breaks.now.sites.items in
+    let made = rw c.new-words.ensures.bytes at c.in_ok-push_words.ensures.words in
+    let told = c.as_str-told.ensures.value ∙ made in
+    let t = told_as place (words line) (any_message line.standing asked.messages) in
+    let judged = c.in_ok-known.ensures in (
+      t,
+      could_be place asked.messages words line,
+      sees_accepted asked place c.args.seen.now c.judge.new.self t c.as_str-told.result.now c.in_ok-known.known (sym told) judged.accepted judged.judged judged.causes judged.meanings c.if-known.true,
+    )
+
+pub returns-then-asked : goal.returns-then-asked
+returns-then-asked g c =
+    let up = c.args.upgrade.now in
+    let place = c.args.place in
+    let asked = c.args.asked in
+    let line = c.args.line.now in
+    let words = words_of (sides_of up) (other_length_of up) c.args.breaks.now.command c.args.breaks.now.sites.items in
+    let made = rw c.new-words.ensures.bytes at c.in_ok-push_words.ensures.words in
+    let told = c.as_str-told.ensures.value ∙ made in
+    let keep = c.in_ok-message.ensures in
+    let t = told_as place (words line) keep.message in
+    let judged = c.in_ok-known.ensures in
+    let once = c.if-asked.true in (
+      t,
+      (keep.message, keep.is_behind, refl),
+      sees_left asked place c.args.seen.now c.judge.new.self t c.as_str-told.result.now c.in_ok-known.known (sym told) judged.accepted judged.judged judged.causes judged.meanings _ [] c.if-known.false refl refl refl refl
+          (λ forgets before visits small are. subst (λ (b : Bool). AreCauses forgets c.add.new.self (before ++ kept b t ∷ []) place visits) (sym once)
+          (c.in_ok-add.ensures forgets before t visits small refl (sym told) (keep.is_kept forgets before place visits are) are)) (sym (ap (λ (b : Bool). text_shown b (t ∷ [])) once)),
+    )
+
+pub returns : goal.returns
+returns g c =
+    let up = c.args.upgrade.now in
+    let place = c.args.place in
+    let asked = c.args.asked in
+    let line = c.args.line.now in
+    let words = words_of (sides_of up) (other_length_of up) c.args.breaks.now.command c.args.breaks.now.sites.items in
+    let made = rw c.new-words.ensures.bytes at c.in_ok-push_words.ensures.words in
+    let told = c.as_str-told.ensures.value ∙ made in
+    let behind = digits_text c.in_ok-digits.digits in
+    let t = told_as place (words line) behind in
+    let judged = c.in_ok-known.ensures in
+    let each = c.if-asked.false in (
+      t,
+      (behind, c.in_ok-digits.ensures, refl),
+      sees_left asked place c.args.seen.now c.judge.new.self t c.as_str-told.result.now c.in_ok-known.known (sym told) judged.accepted judged.judged judged.causes judged.meanings _ _ c.if-known.false refl refl refl refl
+          (λ forgets before visits small are. subst (λ (b : Bool). AreCauses forgets c.add-2.new.self (before ++ kept b t ∷ []) place visits) (sym each)
+          (c.in_ok-add-2.ensures forgets before (bare t) visits small refl (sym told) (inl (sym c.new-none.ensures.bytes)) are))
+          (ap (λ (w : List ℕ). with_feed w ++ behind) made ∙ sym (append-nil (with_feed (words line) ++ behind)) ∙ sym (ap (λ (b : Bool). text_shown b (t ∷ [])) each)),
+    )

@@ -1,0 +1,218 @@
+-- Lines that are found one after another: what is known of them, and what is written.
+use Rattle.std.specs.Prelude.{◌≡◌, ℕ, ◌⊎◌, ◌+◌, ◌<◌, ◌^◌, ◌==◌, Bool, true, false, if◌then◌else◌, List, [], ◌∷◌, ◌++◌, length, map, codes, string_bytes, Option, Some, None, Result, Ok, Err}
+use Rattle.std.specs.Global.{Global, Vec}
+use Rattle.std.specs.declared.string.String.{String}
+use Rattle.std.specs.List.{list_any}
+use Rattle.std.specs.Io.KnownBytes.{Appends}
+use Rattle.dia_book.specs.Dictionary.{Dictionary}
+use Rattle.dia_io.specs.declared.Exit.{Exit}
+use Rattle.dia_io.specs.declared.Exit.TheVariants.{Yes, No}
+use Rattle.dia_io.specs.declared.Input.{Input}
+use Rattle.dia_io.specs.declared.Inputs.{Inputs}
+use Rattle.dia_io.specs.declared.RunFault.{RunFault}
+use Rattle.dia_io.specs.declared.RunFault.TheVariants.{Device, NoMemory}
+use Rattle.dia_io.specs.Writing.{AppendsFront}
+use Rattle.dia_dict.specs.declared.IndexedBook.{IndexedBook}
+use Rattle.dia_run.specs.Texts.{line}
+use Rattle.dia_accepted.specs.Accepted.{PlainEntry, PlainTold, kept, left_of, plain_told, stale_lines}
+use Rattle.dia_accepted.specs.declared.told.Told.{Told}
+use Rattle.dia_accepted.specs.declared.counting.Causes.{Causes}
+use Rattle.dia_accepted.specs.Causes.{has_cause, once_of}
+use Rattle.dia_accepted.specs.Words.{cause_text}
+use Rattle.dia_accepted.specs.Seen.{AreCauses, HasSeen}
+use Rattle.dia_breaking.specs.declared.line.Line.{Line}
+use Rattle.dia_breaking.specs.Sides.{Sides}
+use Rattle.dia_upgrades.specs.declared.asked.Asked.{Asked}
+use Rattle.dia_upgrades.specs.declared.pending.Pending.{Pending}
+use Rattle.dia_upgrades.specs.declared.reporting.Found.{Found}
+use Rattle.dia_upgrades.specs.declared.reporting.Found.TheVariants as found
+use Rattle.dia_upgrades.specs.declared.reporting.Listed.{Listed}
+use Rattle.dia_upgrades.specs.declared.reporting.Reported.{Reported}
+use Rattle.dia_upgrades.specs.declared.seen.Seen.{Seen}
+use Rattle.dia_upgrades.specs.declared.shown.Shown.{Shown}
+use Rattle.dia_upgrades.specs.declared.lines.Listing.{Listing}
+use Rattle.dia_upgrades.specs.Begun.{IsBegun, IsBegunOrWhole, IsOutcomeBegun, IsOutcomeBegunOrWhole}
+use Rattle.dia_upgrades.specs.Outcome.{IsBreakingOutcome, IsListed, counted, nothing_for}
+use Rattle.dia_upgrades.specs.Report.{IsReport}
+use Rattle.dia_upgrades.specs.Told.{AreParts, AreTold, IsBehind, IsToldOf, told_text}
+
+-- ---- what is put
+
+-- since it began, so much was put that this text is put and pending
+abbrev pub IsPut : Option (List ℕ) → Option (List ℕ) → Pending → List ℕ → Type 0
+IsPut begun put pending text = (out : List ℕ) × Appends begun put out × (text ≡ out ++ pending.bytes.items)
+
+-- what stands where a call fails of a text that was to be put and to be pending
+abbrev pub Stands : RunFault → Option (List ℕ) → Option (List ℕ) → Pending → List ℕ → Type 0
+Stands Device begun put pending text = AppendsFront begun put text
+Stands NoMemory begun put pending text = IsPut begun put pending text
+
+-- and where nothing is pending any more
+abbrev pub StandsPut : RunFault → Option (List ℕ) → Option (List ℕ) → List ℕ → Type 0
+StandsPut Device begun put text = AppendsFront begun put text
+StandsPut NoMemory begun put text = Appends begun put text
+
+-- the same of a call that puts what is pending, behind one that ended so
+abbrev pub StandsBehind : {U : Type 0} → Result U RunFault → RunFault → Option (List ℕ) → Option (List ℕ) → Pending → Type 0
+StandsBehind (Err Device) fault put new pending = (fault ≡ Device) × (new ≡ put)
+StandsBehind (Err NoMemory) fault put new pending = (begun : Option (List ℕ)) (text : List ℕ) → IsPut begun put pending text → StandsPut fault begun new text
+StandsBehind (Ok u) Device put new pending = (begun : Option (List ℕ)) (text : List ℕ) → IsPut begun put pending text → AppendsFront begun new text
+StandsBehind (Ok u) NoMemory put new pending = ⊥
+
+-- the digits of a message, on a line of their own
+abbrev pub digits_text : Option (String Global) → List ℕ
+digits_text None = []
+digits_text (Some digits) = line (codes "  " ++ string_bytes digits)
+
+-- the text of a line that is written now
+abbrev pub shown_text : Option Shown → List ℕ
+shown_text None = []
+shown_text (Some shown) = line (string_bytes shown.words) ++ digits_text shown.digits
+
+-- what is written of lines as they are found: with `--once` nothing
+abbrev pub text_shown : Bool → List PlainTold → List ℕ
+text_shown is_once left = if is_once then [] else told_text left
+
+-- ---- what is known
+
+abbrev pub is_any : List PlainTold → Bool
+is_any [] = false
+is_any (t ∷ told) = true
+
+-- how many lines are left, where the list accepts one more or not
+abbrev pub lines_after : Bool → ℕ → ℕ
+lines_after known n = if known then n else counted (n + 1)
+
+-- the list was asked for these lines, and they are counted
+pub record AreJudged (list : List PlainEntry) (seen : Seen) (told apart : List PlainTold) : Type 0 where
+  pub accepting : HasSeen seen.accepting list (told ++ apart)
+  pub lines_are : seen.lines ≡ counted (length (left_of list told))
+  pub is_some_is : seen.is_some ≡ is_any told
+
+-- the causes of those that are left are kept
+pub record AreKept (asked : Asked) (forgets : Bool) (list : List PlainEntry) (place visits : ℕ) (seen : Seen) (told apart : List PlainTold) : Type 0 where
+  pub causes : AreCauses forgets seen.causes (map (kept asked.once) (left_of list told)) place visits
+  pub meanings : AreCauses forgets seen.meanings (left_of list apart) place visits
+
+-- so these lines are known, the last ones of the command at this place
+pub record AreSeen (asked : Asked) (forgets : Bool) (list : List PlainEntry) (place visits : ℕ) (seen : Seen) (told apart : List PlainTold) : Type 0 where
+  pub judged : AreJudged list seen told apart
+  pub are_kept : AreKept asked forgets list place visits seen told apart
+
+-- one more line is known, and this text is written of it
+abbrev pub Sees : Asked → ℕ → Seen → Seen → PlainTold → List ℕ → Type 0
+Sees asked place old new t text = (forgets : Bool) (list : List PlainEntry) (visits : ℕ) (told apart : List PlainTold) → visits < 2 ^ 63
+    → AreSeen asked forgets list place visits old told apart → AreSeen asked forgets list place visits new (told ++ t ∷ []) apart × (text ≡ text_shown asked.once (left_of list (t ∷ [])))
+
+-- these more lines are known, of meanings that aren't shown
+abbrev pub SeesApart : Asked → ℕ → Seen → Seen → List PlainTold → Type 0
+SeesApart asked place old new more = (forgets : Bool) (list : List PlainEntry) (visits : ℕ) (told apart : List PlainTold) → visits < 2 ^ 63
+    → AreSeen asked forgets list place visits old told apart → AreSeen asked forgets list place visits new told (apart ++ more)
+
+-- the message that is kept with the cause of these words, of a line that has one behind it or not: nothing, if the cause is known
+pub record IsMessageFor (causes : Causes) (words : List ℕ) (has : Bool) (text : List ℕ) : Type 0 where
+  pub message : List ℕ
+  pub is_behind : IsBehind has message
+  pub is_kept : (forgets : Bool) (told : List PlainTold) (command visits : ℕ) → AreCauses forgets causes told command visits
+      → (message ≡ text) ⊎ (list_any (has_cause (cause_text words)) told ≡ true)
+
+-- ---- both
+
+-- these lines are known, and what is to be written of them is put or pending
+pub record IsUnderWay (asked : Asked) (forgets : Bool) (list : List PlainEntry) (place visits : ℕ) (begun put : Option (List ℕ)) (listing : Listing) (told apart : List PlainTold) : Type 0 where
+  pub seen : AreSeen asked forgets list place visits listing.seen told apart
+  pub is_put : IsPut begun put listing.pending (text_shown asked.once (left_of list told))
+
+-- it goes on with these lines, and with these apart
+abbrev pub GoesOn : Asked → ℕ → Option (List ℕ) → Option (List ℕ) → Listing → Listing → List PlainTold → List PlainTold → Type 0
+GoesOn asked place put_old put old new more others = (forgets : Bool) (list : List PlainEntry) (visits : ℕ) (begun : Option (List ℕ)) (told apart : List PlainTold) → visits < 2 ^ 63
+    → IsUnderWay asked forgets list place visits begun put_old old told apart → IsUnderWay asked forgets list place visits begun put new (told ++ more) (apart ++ others)
+
+-- it stops behind these lines, or in the last of them
+abbrev pub StopsBehind : Asked → ℕ → RunFault → Option (List ℕ) → Option (List ℕ) → Listing → Listing → List PlainTold → Type 0
+StopsBehind asked place fault put_old put old new more = (forgets : Bool) (list : List PlainEntry) (visits : ℕ) (begun : Option (List ℕ)) (told apart : List PlainTold) → visits < 2 ^ 63
+    → IsUnderWay asked forgets list place visits begun put_old old told apart → Stands fault begun put new.pending (text_shown asked.once (left_of list (told ++ more)))
+
+-- among lines that tell these
+pub record StopsAmong (asked : Asked) (place : ℕ) (fault : RunFault) (put_old put : Option (List ℕ)) (old new : Listing) (is : Line → List PlainTold → Type 0) (lines : List Line) : Type 0 where
+  pub more : List PlainTold
+  pub rest : List PlainTold
+  pub are_parts : AreParts is lines (more ++ rest)
+  pub stops : StopsBehind asked place fault put_old put old new more
+
+-- before the lines of a command, or among them
+pub data StopsIn (s : Sides) (asked : Asked) (lengths : List ℕ) (place : ℕ) (fault : RunFault) (put_old put : Option (List ℕ)) (old new : Listing) : Type 0 where
+  before : StopsBehind asked place fault put_old put old new [] → StopsIn s asked lengths place fault put_old put old new
+  among : (behind : ℕ) (more rest others : List PlainTold) → IsToldOf s asked.messages asked.meaning lengths place old.budget behind (more ++ rest) others
+      → StopsBehind asked place fault put_old put old new more → StopsIn s asked lengths place fault put_old put old new
+
+-- among the lines of commands, of which these are left
+pub record AreFirstLines (s : Sides) (asked : Asked) (list : List PlainEntry) (places : List ℕ) (first : List PlainTold) : Type 0 where
+  pub front : List ℕ
+  pub back : List ℕ
+  pub told : List PlainTold
+  pub apart : List PlainTold
+  pub more : List PlainTold
+  pub parts : places ≡ front ++ back
+  pub are_told : AreTold s asked.messages asked.meaning front told apart
+  pub left_are : left_of list told ≡ first ++ more
+
+-- ---- all lines
+
+-- these are the lines of the commands, they are known, and what is to be written of them is put or pending
+pub record AreUnderWay (s : Sides) (asked : Asked) (forgets : Bool) (list : List PlainEntry) (places : List ℕ) (begun put : Option (List ℕ)) (listing : Listing) : Type 0 where
+  pub told : List PlainTold
+  pub apart : List PlainTold
+  pub place : ℕ
+  pub are_told : AreTold s asked.messages asked.meaning places told apart
+  pub under_way : IsUnderWay asked forgets list place (length places) begun put listing told apart
+
+-- these are the lines of the commands, they are known, and what is to be written of them is put
+pub record AreAllPut (s : Sides) (asked : Asked) (list : List PlainEntry) (places : List ℕ) (begun put : Option (List ℕ)) (seen : Seen) : Type 0 where
+  pub told : List PlainTold
+  pub apart : List PlainTold
+  pub forgets : Bool
+  pub place : ℕ
+  pub visits : ℕ
+  pub are_told : AreTold s asked.messages asked.meaning places told apart
+  pub are_seen : AreSeen asked forgets list place visits seen told apart
+  pub is_put : Appends begun put (text_shown asked.once (left_of list told))
+
+-- what is written behind all lines
+abbrev pub end_text : Asked → ℕ → Bool → List PlainTold → List ℕ
+end_text asked lines is_some causes = if lines == 0 then line (nothing_for asked.meaning is_some) else (if asked.once then told_text causes else [])
+
+abbrev pub exit_of : ℕ → Exit
+exit_of lines = if lines == 0 then Yes else No
+
+-- what was found of the lines that are known
+pub record Finds (seen : Seen) (is : Found) : Type 0 where
+  pub stale : Vec ℕ
+  pub causes : Vec Told
+  pub meanings : Vec Told
+  pub found_is : is ≡ found.Listed stale seen.lines causes meanings
+  pub stale_are : (list : List PlainEntry) (told : List PlainTold) → HasSeen seen.accepting list told → stale.items ≡ stale_lines list told
+  pub causes_are : (forgets : Bool) (told : List PlainTold) (command visits : ℕ) → AreCauses forgets seen.causes told command visits → map plain_told causes.items ≡ once_of told
+  pub meanings_are : (forgets : Bool) (told : List PlainTold) (command visits : ℕ) → AreCauses forgets seen.meanings told command visits → map plain_told meanings.items ≡ once_of told
+
+-- what was found, how it ends, and what was written behind all lines; or why not
+abbrev pub Ends : Asked → Seen → Option (List ℕ) → Option (List ℕ) → Result Listed RunFault → Type 0
+Ends asked seen old new (Ok listed) = (finds : Finds seen listed.found) × (listed.exit ≡ exit_of seen.lines)
+    × Appends old new (end_text asked seen.lines seen.is_some (map plain_told finds.causes.items))
+Ends asked seen old new (Err Device) = (is : Found) × (finds : Finds seen is) × AppendsFront old new (end_text asked seen.lines seen.is_some (map plain_told finds.causes.items))
+Ends asked seen old new (Err NoMemory) = new ≡ old
+
+-- ---- what is answered
+
+-- a call of `breaking` over two dictionaries and a list
+abbrev pub Answers : Asked → Input → Dictionary → Dictionary → Option (List ℕ) → Option (List ℕ) → Result Listed RunFault → Type 0
+Answers asked input a b old new (Ok listed) = (text : List ℕ) × IsListed asked input a b text listed.exit listed.found × Appends old new text
+Answers asked input a b old new (Err Device) = (text : List ℕ) × IsBegunOrWhole asked input a b text × AppendsFront old new text
+Answers asked input a b old new (Err NoMemory) = (text : List ℕ) × IsBegun asked input a b text × Appends old new text
+
+-- over the inputs
+abbrev pub Reports : (IndexedBook → Dictionary) → Asked → Inputs → Option (List ℕ) → Option (List ℕ) → Result Reported RunFault → Type 0
+Reports meaning asked inputs old new (Ok reported) =
+    (text : List ℕ) × IsBreakingOutcome asked inputs text reported.exit × IsReport meaning asked inputs reported.report text reported.exit × Appends old new text
+Reports meaning asked inputs old new (Err Device) = (text : List ℕ) × IsOutcomeBegunOrWhole asked inputs text × AppendsFront old new text
+Reports meaning asked inputs old new (Err NoMemory) = (text : List ℕ) × IsOutcomeBegun asked inputs text × Appends old new text

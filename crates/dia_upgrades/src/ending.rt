@@ -1,0 +1,134 @@
+//! What is written behind all lines, and of inputs that are refused.
+
+ghost use Rattle.std.specs.Prelude.{◌≡◌, ◌↔◌, IfErr, IfOk, IsErr, IsTrue, List, ℕ, Option, Err, OnOk, ◌++◌, map, string_bytes};
+ghost use Rattle.std.specs.Io.KnownBytes.{Appends};
+ghost use Rattle.dia_io.specs.declared.RunFault.TheVariants.{Device};
+ghost use Rattle.dia_io.specs.Writing.{AppendsFront};
+ghost use Rattle.dia_run.specs.Texts.{line};
+ghost use Rattle.dia_accepted.specs.Accepted.{plain_told};
+ghost use Rattle.dia_upgrades.specs.Outcome.{nothing_for};
+ghost use Rattle.dia_upgrades.specs.Told.{told_text};
+ghost use Rattle.dia_upgrades.specs.UnderWay.{Ends, IsPut, end_text, exit_of};
+
+use crate::asked::Asked;
+use crate::pending::Pending;
+use crate::reporting::{Found, Listed};
+use crate::seen::Seen;
+use dia_accepted::Told;
+use dia_io::{Exit, Failed, RunFault, Sink, put_all};
+use std::alloc::Global;
+
+/// Writes what stands behind all lines, and answers what was found.
+pub(crate) fn ended<S: Sink>(
+    alloc: Global,
+    asked: Asked<'_>,
+    seen: &Seen<'_>,
+    sink: &mut S,
+) -> Result<Listed, RunFault>
+    requires { ¬ IsTrue (S.has_failed sink.old) }
+    ensures ends { Ends asked.entry seen.now (S.written sink.old) (S.written sink.new) result }
+    ensures device { (result ≡ Err Device) ↔ IsTrue (S.has_failed sink.new) }
+{
+    let stale = seen.accepting.stale(alloc)?;
+    let causes = seen.causes.lines(alloc)?;
+    let meanings = seen.meanings.lines(alloc)?;
+    let lines = seen.lines;
+    put_end(alloc, asked, lines, seen.is_some, causes.as_slice(), sink)?;
+    let exit = exit_of(lines);
+    let found = Found::Listed {
+        stale,
+        lines,
+        causes,
+        meanings,
+    };
+    Ok(Listed { exit, found })
+}
+
+fn exit_of(lines: usize) -> Exit
+    ensures { result ≡ exit_of lines }
+{
+    if lines == 0 { Exit::Yes } else { Exit::No }
+}
+
+/// Writes that no line is left, or the causes where each is told once.
+fn put_end<S: Sink>(
+    alloc: Global,
+    asked: Asked<'_>,
+    lines: usize,
+    is_some: bool,
+    causes: &[Told],
+    sink: &mut S,
+) -> Result<(), Failed>
+    requires { ¬ IsTrue (S.has_failed sink.old) }
+    ensures put { OnOk result (Appends (S.written sink.old) (S.written sink.new)
+        (end_text asked.entry lines is_some (map plain_told causes.now))) }
+    ensures front { AppendsFront (S.written sink.old) (S.written sink.new)
+        (end_text asked.entry lines is_some (map plain_told causes.now)) }
+    ensures failed { IsErr result ↔ IsTrue (S.has_failed sink.new) }
+{
+    if lines == 0 {
+        return put_all(sink, nothing_left(is_some, asked.meaning).as_bytes());
+    }
+    if asked.once {
+        return put_causes(alloc, causes, sink);
+    }
+    Ok(())
+}
+
+fn nothing_left(is_some: bool, meaning: bool) -> &'static str
+    ensures { result.now ≡ line (nothing_for meaning is_some) }
+{
+    match (is_some, meaning) {
+        (false, false) => "nothing breaks\n",
+        (false, true) => "nothing differs\n",
+        (true, false) => "nothing else breaks\n",
+        (true, true) => "nothing else differs\n",
+    }
+}
+
+/// Writes a line for each cause, with its message behind it, if it has one.
+fn put_causes<S: Sink>(alloc: Global, causes: &[Told], sink: &mut S) -> Result<(), Failed>
+    requires { ¬ IsTrue (S.has_failed sink.old) }
+    ensures put { OnOk result (Appends (S.written sink.old) (S.written sink.new) (told_text (map plain_told causes.now))) }
+    ensures front { AppendsFront (S.written sink.old) (S.written sink.new) (told_text (map plain_told causes.now)) }
+    ensures failed { IsErr result ↔ IsTrue (S.has_failed sink.new) }
+{
+    let mut pending = Pending::new(alloc);
+    for told in causes {
+        add_told(&mut pending, sink, told)?;
+    }
+    pending.put(sink)
+}
+
+/// Adds a line, and its message.
+fn add_told<S: Sink>(pending: &mut Pending, sink: &mut S, told: &Told) -> Result<(), Failed>
+    requires { ¬ IsTrue (S.has_failed sink.old) }
+    ensures added { OnOk result ((begun : Option (List ℕ)) (before : List ℕ)
+        → IsPut begun (S.written sink.old) pending.old before
+        → IsPut begun (S.written sink.new) pending.new
+        (before ++ (line (string_bytes told.now.words) ++ string_bytes told.now.message))) }
+    ensures front { IsErr result → (begun : Option (List ℕ)) (before : List ℕ)
+        → IsPut begun (S.written sink.old) pending.old before
+        → AppendsFront begun (S.written sink.new)
+        (before ++ (line (string_bytes told.now.words) ++ string_bytes told.now.message)) }
+    ensures failed { IsErr result ↔ IsTrue (S.has_failed sink.new) }
+{
+    pending.add(sink, told.words.as_bytes())?;
+    pending.add(sink, b"\n")?;
+    pending.add(sink, told.message.as_bytes())
+}
+
+/// Writes the text of a refusal.
+pub(crate) fn refused<S: Sink>(sink: &mut S, text: &str, found: Found) -> Result<Listed, RunFault>
+    requires { ¬ IsTrue (S.has_failed sink.old) }
+    ensures put { OnOk result (Appends (S.written sink.old) (S.written sink.new) text.now) }
+    ensures exit { IfOk result (λ listed. listed.exit ≡ Exit.Bad) }
+    ensures found { IfOk result (λ listed. listed.found ≡ found) }
+    ensures fault { IfErr result (λ fault. fault ≡ Device) }
+    ensures front { AppendsFront (S.written sink.old) (S.written sink.new) text.now }
+    ensures device { (result ≡ Err Device) ↔ IsTrue (S.has_failed sink.new) }
+{
+    put_all(sink, text.as_bytes())?;
+    let exit = Exit::Bad;
+    Ok(Listed { exit, found })
+}

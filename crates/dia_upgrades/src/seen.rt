@@ -1,0 +1,95 @@
+//! What is known of the lines that were found.
+
+ghost use Rattle.std.specs.Prelude.{◌≡◌};
+ghost use Rattle.dia_upgrades.specs.UnderWay.{lines_after};
+
+use dia_accepted::{Accepting, Causes, Entry};
+use std::alloc::{AllocError, Global};
+
+/// What is known of the lines so far.
+#[derive(Drop)]
+pub(crate) struct Seen<'l> {
+    pub accepting: Accepting<'l>,
+    /// The causes of the lines that the list doesn't accept.
+    pub causes: Causes,
+    /// Those of the meanings that aren't asked for.
+    pub meanings: Causes,
+    /// How many lines the list doesn't accept.
+    pub lines: usize,
+    /// Whether there is a line.
+    pub is_some: bool,
+}
+
+impl<'l> Seen<'l> {
+    ghost use Rattle.std.specs.Prelude.{◌≡◌, ◌<◌, ◌+◌, ◌++◌, ◌∷◌, Bool, List, ℕ, [], IfOk, OnOk, map, true, false};
+    ghost use Rattle.std.specs.List.{list_any};
+    ghost use Rattle.dia_accepted.specs.Accepted.{PlainEntry, PlainTold, accepts, kept, plain_entry};
+    ghost use Rattle.dia_accepted.specs.Seen.{is_command};
+    ghost use Rattle.dia_upgrades.specs.declared.asked.Asked.{Asked as AnyAsked};
+    ghost use Rattle.dia_upgrades.specs.UnderWay.{AreJudged, AreSeen, SeesApart};
+    ghost use Rattle.dia_upgrades.specs.Told.{told_as};
+
+    /// No line is known.
+    pub fn new(alloc: Global, list: &'l [Entry]) -> Result<Seen<'l>, AllocError>
+        ensures { IfOk result (λ seen. (asked : AnyAsked) (forgets : Bool) (place : ℕ)
+            → AreSeen asked forgets (map plain_entry list.now) place 0 seen [] []) }
+    {
+        Ok(Seen {
+            accepting: Accepting::new(alloc, list)?,
+            causes: Causes::new(alloc),
+            meanings: Causes::new(alloc),
+            lines: 0,
+            is_some: false,
+        })
+    }
+
+    /// Begins with the lines of the command at a place. `forgets` says whether none of the places so far comes again.
+    pub fn begin(&mut self, forgets: bool)
+        ensures { (asked : AnyAsked) (list : List PlainEntry) (before place visits : ℕ) (told apart : List PlainTold)
+            → (forgets ≡ true → (list_any (is_command place) told ≡ false) × (list_any (is_command place) apart ≡ false))
+            → AreSeen asked forgets list before visits self.old told apart
+            → AreSeen asked forgets list place (visits + 1) self.new told apart }
+    {
+        self.causes.begin(forgets);
+        self.meanings.begin(forgets);
+    }
+
+    /// A line comes. Answers whether the list accepts it; its cause isn't kept yet.
+    pub fn judge(&mut self, alloc: Global, words: &str) -> Result<bool, AllocError>
+        ensures accepted { IfOk result (λ known. (list : List PlainEntry) (told apart : List PlainTold)
+            → AreJudged list self.old told apart → known ≡ list_any (accepts words.now) list) }
+        ensures judged { OnOk result ((list : List PlainEntry) (told apart : List PlainTold) (t : PlainTold) → t.words ≡ words.now
+            → AreJudged list self.old told apart → AreJudged list self.new (told ++ t ∷ []) apart) }
+        ensures causes { OnOk result (self.new.causes ≡ self.old.causes) }
+        ensures meanings { OnOk result (self.new.meanings ≡ self.old.meanings) }
+    {
+        let known = self.accepting.accepts(alloc, words)?;
+        self.is_some = true;
+        self.lines = lines_after(self.lines, known);
+        Ok(known)
+    }
+
+    /// A line of a meaning that isn't asked for comes.
+    pub fn see_apart(&mut self, alloc: Global, place: usize, words: &str) -> Result<(), AllocError>
+        ensures { OnOk result ((asked : AnyAsked) → SeesApart asked place self.old self.new (told_as place words.now [] ∷ [])) }
+    {
+        let known = self.accepting.accepts(alloc, words)?;
+        if known {
+            return Ok(());
+        }
+        let none = String::new(alloc);
+        self.meanings.add(alloc, place, words, none)?;
+        Ok(())
+    }
+}
+
+/// How many lines are left, where the list accepts one more or not.
+fn lines_after(lines: usize, known: bool) -> usize
+    ensures { result ≡ lines_after known lines }
+{
+    if known {
+        lines
+    } else {
+        lines.saturating_add(1)
+    }
+}

@@ -1,0 +1,168 @@
+//! A line of a command: its words and its message.
+
+ghost use Rattle.std.specs.Prelude.{◌≡◌, ◌∷◌, IfOk, OnOk, Some, [], string_bytes};
+ghost use Rattle.dia_breaking.specs.Orders.{IsInOrderOf};
+ghost use Rattle.dia_breaking.specs.Upgrades.{other_length_of, sides_of};
+ghost use Rattle.dia_breaking.specs.Words.{words_of};
+ghost use Rattle.dia_accepted.specs.Accepted.{PlainTold};
+ghost use Rattle.dia_upgrades.specs.Told.{AreShown, IsBehind, IsLineTold, IsMessageLine, apart_of, has_message, place_of};
+ghost use Rattle.dia_upgrades.specs.UnderWay.{IsMessageFor, Sees, digits_text, shown_text};
+
+use crate::asked::Asked;
+use crate::seen::Seen;
+use crate::shown::Shown;
+use dia_accepted::Causes;
+use dia_breaking::{Breaks, Cause, Line, Standing, Upgrade};
+use dia_dict::Book;
+use std::alloc::{AllocError, Global};
+
+/// Sees a line of a command, and answers what is written of it now: where the list accepts it, and where each cause is told once,
+/// nothing.
+pub(crate) fn see_line<A: Book, B: Book>(
+    alloc: Global,
+    seen: &mut Seen<'_>,
+    upgrade: &Upgrade<'_, A, B>,
+    breaks: &Breaks,
+    line: &Line,
+    place: usize,
+    asked: Asked<'_>,
+) -> Result<Option<Shown>, AllocError>
+    ensures { IfOk result (λ shown. (t : PlainTold)
+        × IsLineTold place asked.entry.messages (words_of (sides_of upgrade.now) (other_length_of upgrade.now)
+        breaks.now.command breaks.now.sites.items) line.now (t ∷ [])
+        × Sees asked.entry place seen.old seen.new t (shown_text shown)) }
+{
+    let mut words = String::new(alloc);
+    upgrade.push_words(alloc, &mut words, breaks, line)?;
+    let told = words.as_str();
+    let known = seen.judge(alloc, told)?;
+    if known {
+        return Ok(None);
+    }
+    let messages = asked.messages;
+    if asked.once {
+        let message = message_for(alloc, &seen.causes, upgrade, breaks, line, messages, told)?;
+        seen.causes.add(alloc, place, told, message)?;
+        return Ok(None);
+    }
+    let digits = digits_of(alloc, upgrade, breaks, line, messages)?;
+    let none = String::new(alloc);
+    seen.causes.add(alloc, place, told, none)?;
+    Ok(Some(Shown { words, digits }))
+}
+
+/// The message of a line that is to be kept for its cause: nothing where the cause is known.
+fn message_for<A: Book, B: Book>(
+    alloc: Global,
+    causes: &Causes,
+    upgrade: &Upgrade<'_, A, B>,
+    breaks: &Breaks,
+    line: &Line,
+    messages: bool,
+    words: &str,
+) -> Result<String, AllocError>
+    ensures { IfOk result (λ text. IsMessageFor causes.now words.now (has_message messages line.now.standing) (string_bytes text)) }
+{
+    if causes.has(words) {
+        return Ok(String::new(alloc));
+    }
+    let digits = digits_of(alloc, upgrade, breaks, line, messages)?;
+    text_of(alloc, &digits)
+}
+
+/// The digits of a message, on a line of their own.
+fn text_of(alloc: Global, digits: &Option<String>) -> Result<String, AllocError>
+    ensures { IfOk result (λ text. string_bytes text ≡ digits_text digits.now) }
+{
+    let mut text = String::new(alloc);
+    if let Some(digits) = digits {
+        text.push_str("  ")?;
+        text.push_str(digits.as_str())?;
+        text.push('\n')?;
+    }
+    Ok(text)
+}
+
+/// The digits of the message of a line, where messages are asked for and it has one.
+fn digits_of<A: Book, B: Book>(
+    alloc: Global,
+    upgrade: &Upgrade<'_, A, B>,
+    breaks: &Breaks,
+    line: &Line,
+    messages: bool,
+) -> Result<Option<String>, AllocError>
+    ensures { IfOk result (λ digits. IsBehind (has_message messages line.now.standing) (digits_text digits)) }
+{
+    if has_message(messages, line.standing) {
+        let message = upgrade.message(alloc, breaks, line)?;
+        let digits = encoded(alloc, &message)?;
+        Ok(Some(digits))
+    } else {
+        Ok(None)
+    }
+}
+
+/// The bytes of a message in hexadecimal.
+fn encoded(alloc: Global, bytes: &[u8]) -> Result<String, AllocError>
+    ensures { IfOk result (λ digits. IsMessageLine (digits_text (Some digits))) }
+{
+    hex::encode(alloc, bytes)
+}
+
+/// Whether a line has its message behind it.
+fn has_message(messages: bool, standing: Standing) -> bool
+    ensures { result ≡ has_message messages standing }
+{
+    match standing {
+        Standing::Confirmed | Standing::Unchecked => messages,
+        Standing::Undecided => false,
+    }
+}
+
+/// The lines of a command that are shown: those of its meanings stand behind the others of their site.
+pub(crate) fn shown_of(
+    alloc: Global,
+    breaks: &Breaks,
+    meaning: bool,
+) -> Result<Vec<Line>, AllocError>
+    ensures { IfOk result (λ shown. AreShown meaning breaks.now.lines.items breaks.now.meanings.items shown.items) }
+{
+    let mut shown = Vec::from_slice(alloc, &breaks.lines)?;
+    if meaning {
+        shown.extend_from_slice(&breaks.meanings)?;
+        sort_by_place(&mut shown)?;
+    }
+    Ok(shown)
+}
+
+fn sort_by_place(lines: &mut Vec<Line>) -> Result<(), AllocError>
+    ensures { OnOk result (IsInOrderOf place_of lines.old.items lines.new.items) }
+{
+    lines.sort_by_key(|line| place_of(line))?;
+    Ok(())
+}
+
+/// Where a line stands: at its site, or, where it tells that not all is shown, last.
+fn place_of(line: &Line) -> usize
+    ensures { result ≡ place_of line.now }
+{
+    match line.cause {
+        Cause::Unproved => usize::MAX,
+        Cause::Command
+        | Cause::Application
+        | Cause::Proxiable { .. }
+        | Cause::Level(_)
+        | Cause::Unknown { .. }
+        | Cause::MBit { .. }
+        | Cause::Format { .. }
+        | Cause::LevelAsLeaf { .. }
+        | Cause::Meaning { .. } => line.site,
+    }
+}
+
+/// The meanings that aren't shown.
+pub(crate) fn apart_of(meanings: &[Line], meaning: bool) -> &[Line]
+    ensures { result.now ≡ apart_of meaning meanings.now }
+{
+    if meaning { &[] } else { meanings }
+}
