@@ -13,7 +13,6 @@ use Rattle.dia_io.specs.declared.Input.TheVariants as inputs
 use Rattle.dia_io.specs.declared.Inputs.{Inputs}
 use Rattle.dia_io.specs.declared.Exit.{Exit}
 use Rattle.dia_io.specs.declared.Exit.TheVariants.{Yes, No, Bad}
-use Rattle.dia_io.specs.declared.RunFault.{RunFault}
 use Rattle.dia_io.specs.Inputs.{Holds, IsOver}
 use Rattle.dia_accepted.specs.Accepted.{PlainEntry, PlainTold, left_of, list_fault, max_list}
 use Rattle.dia_accepted.specs.declared.Told.{Told}

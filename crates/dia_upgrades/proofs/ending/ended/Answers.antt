@@ -1,4 +1,4 @@
-use Rattle.std.proofs.Common.{List, map, refl, ap, ◌∙◌, subst}
+use Rattle.std.proofs.Common.{List, map, refl, subst}
 use Rattle.std.specs.Io.KnownBytes.{Appends}
 use Rattle.std.proofs.lemmas.Result.{err_from_is_err_and}
 use Rattle.dia_accepted.specs.Accepted.{plain_told}

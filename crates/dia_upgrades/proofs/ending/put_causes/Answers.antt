@@ -1,4 +1,4 @@
-use Rattle.std.proofs.Common.{List, ap, map, refl, subst, sym, take, ◌∙◌}
+use Rattle.std.proofs.Common.{List, map, refl, subst, sym, take}
 use Rattle.std.proofs.lemmas.List.{take_all}
 use Rattle.std.proofs.lemmas.Result.{on_ok_weaker}
 use Rattle.std.specs.Io.KnownBytes.{Appends}

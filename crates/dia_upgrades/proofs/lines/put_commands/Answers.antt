@@ -1,12 +1,12 @@
-use Rattle.std.proofs.Common.{◌+◌, ◌<◌, ◌^◌, List, ℕ, arith, length, refl, subst, sym, take}
+use Rattle.std.proofs.Common.{List, ℕ, arith, length, refl, subst, take}
 use Rattle.std.proofs.Math.Logic.{∥∥₁_map}
 use Rattle.std.proofs.lemmas.List.{length-take, take_all}
 use Rattle.std.proofs.lemmas.Result.{err_from_is_err_and}
 use Rattle.dia_breaking.specs.Upgrades.{facts_of, sides_of}
 use Rattle.dia_upgrades.specs.declared.lines.Listing.{Listing}
-use Rattle.dia_upgrades.specs.Told.{AreShortest, IsToldOf}
-use Rattle.dia_upgrades.specs.UnderWay.{AreUnderWay, GoesOn, StopsIn}
-use Rattle.dia_upgrades.proofs.Commands.{AreSome, all_some, goes_next, none_yet, stops_there}
+use Rattle.dia_upgrades.specs.Told.{AreShortest}
+use Rattle.dia_upgrades.specs.UnderWay.{AreUnderWay}
+use Rattle.dia_upgrades.proofs.Commands.{all_some, goes_next, none_yet, stops_there}
 use Rattle.dia_upgrades.proofs.Listings.{sound_ok}
 use Rattle.dia_upgrades.proofs.lines.put_commands.Goals as goal
 

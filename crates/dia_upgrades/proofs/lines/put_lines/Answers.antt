@@ -1,9 +1,8 @@
-use Rattle.std.proofs.Common.{[], Err, List, ap, map, refl, true, ◌∙◌}
+use Rattle.std.proofs.Common.{[], Err, ap, map, refl, ◌∙◌}
 use Rattle.std.proofs.Math.Logic.{∥∥₁_map}
 use Rattle.std.proofs.lemmas.Result.{err_from_is_err_and, IfErr-weaker, on_ok_weaker}
 use Rattle.dia_accepted.specs.Accepted.{plain_entry}
 use Rattle.dia_breaking.specs.Upgrades.{facts_of, sides_of}
-use Rattle.dia_upgrades.specs.declared.lines.Listing.{Listing}
 use Rattle.dia_upgrades.specs.Told.{AreShortest}
 use Rattle.dia_upgrades.proofs.Commands.{all_put, none_first, rest_stands, start}
 use Rattle.dia_upgrades.proofs.Listings.{device_of}

@@ -1,9 +1,6 @@
-use Rattle.std.proofs.Common.{[], ◌∷◌, List, ℕ, refl, subst, ap, ◌∙◌}
+use Rattle.std.proofs.Common.{[], ◌∷◌, List, ℕ, ap, ◌∙◌}
 use Rattle.std.proofs.lemmas.Result.{on_ok_weaker}
-use Rattle.dia_accepted.specs.Accepted.{PlainTold}
-use Rattle.dia_breaking.specs.declared.line.Standing.{Standing}
 use Rattle.dia_upgrades.specs.Told.{told_as}
-use Rattle.dia_upgrades.specs.UnderWay.{SeesApart}
 use Rattle.dia_upgrades.proofs.LinesToTell.{no_message}
 use Rattle.dia_upgrades.proofs.lines.see_apart.Goals as goal
 

@@ -1,4 +1,4 @@
-use Rattle.std.proofs.Common.{List, ap, refl, cond, ◌++◌, ◌∙◌, ℕ}
+use Rattle.std.proofs.Common.{ap, refl, cond, ◌++◌, ◌∙◌}
 use Rattle.std.proofs.lemmas.Result.{on_ok_weaker}
 use Rattle.dia_upgrades.proofs.Puts.{both_out, front_behind, front_of_more, held, same_put}
 use Rattle.dia_upgrades.proofs.pending.Pending.add.Goals as goal

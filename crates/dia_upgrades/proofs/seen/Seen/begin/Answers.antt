@@ -1,7 +1,5 @@
-use Rattle.std.proofs.Common.{List, map, ap, true, ◌∙◌, sym, ◌≡◌, false, refl}
-use Rattle.std.specs.List.{list_any}
+use Rattle.std.proofs.Common.{List, map}
 use Rattle.dia_accepted.specs.Accepted.{kept, left_of}
-use Rattle.dia_accepted.specs.Seen.{is_command}
 use Rattle.dia_upgrades.proofs.LinesToTell.{kept_none, left_none}
 use Rattle.dia_upgrades.proofs.seen.Seen.begin.Goals as goal
 
