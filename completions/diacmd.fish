@@ -16,6 +16,9 @@ complete -c diacmd -n '__fish_seen_subcommand_from show' -F
 complete -c diacmd -n '__fish_seen_subcommand_from show' -l quiet -d 'Prints no notes on standard error'
 complete -c diacmd -n '__fish_seen_subcommand_from show' -l dict -r -F -d 'The dictionary that names the AVPs: a file, @base, or - for standard input'
 complete -c diacmd -n '__fish_seen_subcommand_from show' -l as-text -d 'Prints the message as a text that make reads'
+complete -c diacmd -n '__fish_seen_subcommand_from show' -l names -d 'Prints flags as letters, the name of the command, dates, and texts as texts, with levels indented'
+complete -c diacmd -n '__fish_seen_subcommand_from show' -l values -x -d 'The words of numbers, as lines AVP-NAME NUMBER WORD: a file, @none, or - for standard input'
+complete -c diacmd -n '__fish_seen_subcommand_from show' -l json -d 'Prints each answer as a JSON object, a line each'
 complete -c diacmd -n '__fish_seen_subcommand_from show' -s h -l help -d 'Print help'
 complete -c diacmd -n '__fish_seen_subcommand_from make' -F
 complete -c diacmd -n '__fish_seen_subcommand_from make' -l quiet -d 'Prints no notes on standard error'
@@ -51,6 +54,7 @@ complete -c diacmd -n '__fish_seen_subcommand_from propose' -F
 complete -c diacmd -n '__fish_seen_subcommand_from propose' -a @base -d 'The built-in base dictionary'
 complete -c diacmd -n '__fish_seen_subcommand_from propose' -l quiet -d 'Prints no notes on standard error'
 complete -c diacmd -n '__fish_seen_subcommand_from propose' -l unknown -x -a 'kept refused' -d 'Whether an AVP that isn\'t in the dictionary, with its M flag clear, is kept or refused'
+complete -c diacmd -n '__fish_seen_subcommand_from propose' -l json -d 'Prints each answer as a JSON object, a line each'
 complete -c diacmd -n '__fish_seen_subcommand_from propose' -s h -l help -d 'Print help'
 complete -c diacmd -n '__fish_seen_subcommand_from breaking' -F
 complete -c diacmd -n '__fish_seen_subcommand_from breaking' -a @base -d 'The built-in base dictionary'
